@@ -1,0 +1,13 @@
+use Rattle.std.proofs.Common.{◌≡◌, true, length}
+use Rattle.std.specs.List.{AllByRecursion}
+use Rattle.grid_core.specs.Clues.{is_clue}
+use Rattle.grid_core.specs.declared.limits.TheConstants.{LONGEST_SIDE}
+use Rattle.grid_core.proofs.puzzles.see_clues.Given as goal
+
+-- what is left is all that has to be seen
+abbrev pub invariant-seeing : goal.invariant-seeing
+invariant-seeing l =
+    AllByRecursion (λ clue. is_clue LONGEST_SIDE clue ≡ true) l.clues → AllByRecursion (λ clue. is_clue LONGEST_SIDE clue ≡ true) l.fn.clues
+
+abbrev pub decreases-seeing : goal.decreases-seeing
+decreases-seeing l = length l.clues

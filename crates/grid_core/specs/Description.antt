@@ -1,0 +1,55 @@
+-- The texts that describe a puzzle.
+use Rattle.std.specs.Prelude.{◌≡◌, ℕ, Bool, true, not, ◌&&◌, ◌==◌, nat_le, List, length, Option, Some, None, Vec}
+use Rattle.std.specs.List.{list_all}
+use Rattle.std.specs.declared.alloc.Global.{Global}
+use Rattle.grid_core.specs.declared.fields.Field.{Field}
+use Rattle.grid_core.specs.declared.fields.Field.TheVariants.{Catalogue, Title, By, Copyright, License}
+use Rattle.grid_core.specs.declared.limits.TheConstants.{LONGEST_TEXT}
+
+-- the texts of a puzzle as bytes, each perhaps absent
+pub record Description : Type 0 where
+  pub catalogue : Option (List ℕ)
+  pub title : Option (List ℕ)
+  pub by : Option (List ℕ)
+  pub copyright : Option (List ℕ)
+  pub license : Option (List ℕ)
+
+abbrev pub no_texts : Description
+no_texts = record { catalogue = None; title = None; by = None; copyright = None; license = None }
+
+abbrev pub bytes_of : Option (Vec ℕ Global) → Option (List ℕ)
+bytes_of None = None
+bytes_of (Some v) = Some v.items
+
+-- the text of a field
+abbrev pub text_of : Description → Field → Option (List ℕ)
+text_of d Catalogue = d.catalogue
+text_of d Title = d.title
+text_of d By = d.by
+text_of d Copyright = d.copyright
+text_of d License = d.license
+
+-- the description with another text of a field
+abbrev pub with_text : Description → Field → List ℕ → Description
+with_text d Catalogue text = record d { catalogue = Some text }
+with_text d Title text = record d { title = Some text }
+with_text d By text = record d { by = Some text }
+with_text d Copyright text = record d { copyright = Some text }
+with_text d License text = record d { license = Some text }
+
+-- whether bytes may stand in a field: not too many, and no line feed
+abbrev pub is_text : List ℕ → Bool
+is_text bytes = nat_le (length bytes) LONGEST_TEXT && list_all (λ byte. not (byte == 10)) bytes
+
+-- whether what a field has may stand there
+abbrev pub is_field : Option (List ℕ) → Bool
+is_field None = true
+is_field (Some bytes) = is_text bytes
+
+-- each text that is there may stand in its field
+pub record IsDescription (d : Description) : Type 0 where
+  pub catalogue : is_field d.catalogue ≡ true
+  pub title : is_field d.title ≡ true
+  pub by : is_field d.by ≡ true
+  pub copyright : is_field d.copyright ≡ true
+  pub license : is_field d.license ≡ true

@@ -1,0 +1,92 @@
+//! Clues.
+
+ghost use Rattle.std.specs.Prelude.{◌≡◌, ℕ, List, true, false, IfOk, OnOk, IsErrOf, ◌↔◌};
+ghost use Rattle.std.specs.List.{list_all};
+ghost use Rattle.grid_core.specs.Clues.{is_clue, is_run};
+
+use crate::NoMemory;
+use crate::limits::{LONGEST_SIDE, MOST_RUNS};
+use smallvec::SmallVec;
+use std::alloc::{AllocError, Global};
+use std::marker::Model;
+use thiserror::Error;
+
+/// Why numbers are no clue.
+#[derive(Clone, Copy, Debug, PartialEq, Eq, Error)]
+pub enum ClueFault {
+    #[error("a clue has at most 128 numbers, each from 1 to 128")]
+    BadNumber,
+    #[error("out of memory")]
+    NoMemory,
+}
+
+/// The lengths of the runs of filled cells of a line, in order: at most 128 numbers, each from 1 to 128.
+/// No number is the clue of a line with no filled cell.
+#[derive(Debug, Drop)]
+pub struct Clue {
+    numbers: SmallVec<u16, 8>,
+}
+
+impl Model for Clue {
+    ghost use Rattle.std.specs.Prelude.{◌≡◌, ℕ, List, true};
+    ghost use Rattle.grid_core.specs.Clues.{is_clue};
+    ghost use Rattle.grid_core.specs.declared.limits.TheConstants.{LONGEST_SIDE};
+
+    ghost Value = { List ℕ };
+
+    ghost view = { λ clue. clue.numbers.items };
+
+    ghost invariant = { λ clue. is_clue LONGEST_SIDE clue.numbers.items ≡ true };
+}
+
+impl Clue {
+    /// The clue of these numbers. `BadNumber` where there are more than 128, or one is 0 or over 128; else perhaps `NoMemory`.
+    pub fn from_numbers(alloc: Global, numbers: &[u16]) -> Result<Clue, ClueFault>
+        ensures ok { IfOk result (λ clue. clue ≡ numbers.now) }
+        ensures clue { OnOk result (is_clue LONGEST_SIDE numbers.now ≡ true) }
+        ensures bad_number { IsErrOf result ClueFault.BadNumber ↔ (is_clue LONGEST_SIDE numbers.now ≡ false) }
+    {
+        if !is_clue(numbers) {
+            return Err(ClueFault::BadNumber);
+        }
+        match SmallVec::from_slice(alloc, numbers) {
+            Ok(numbers) => Ok(Clue { numbers }),
+            Err(_) => Err(ClueFault::NoMemory),
+        }
+    }
+
+    /// The numbers, in order.
+    pub fn numbers(&self) -> &[u16]
+        ensures numbers { result.now ≡ self.now }
+        ensures clue { is_clue LONGEST_SIDE self.now ≡ true }
+    {
+        self.numbers.as_slice()
+    }
+
+    /// The same clue once more.
+    pub fn copy(&self, alloc: Global) -> Result<Clue, NoMemory>
+        ensures { IfOk result (λ clue. clue ≡ self.now) }
+    {
+        Ok(Clue {
+            numbers: SmallVec::from_slice(alloc, self.numbers.as_slice())?,
+        })
+    }
+}
+
+fn is_run(number: u16) -> bool
+    ensures { result ≡ is_run LONGEST_SIDE number }
+{
+    1 <= number && number <= LONGEST_SIDE
+}
+
+fn are_runs(numbers: &[u16]) -> bool
+    ensures { result ≡ list_all (is_run LONGEST_SIDE) numbers.now }
+{
+    numbers.iter().all(|number| is_run(*number))
+}
+
+fn is_clue(numbers: &[u16]) -> bool
+    ensures { result ≡ is_clue LONGEST_SIDE numbers.now }
+{
+    numbers.len() <= MOST_RUNS && are_runs(numbers)
+}

@@ -1,0 +1,137 @@
+//! The texts of a puzzle.
+
+ghost use Rattle.std.specs.Prelude.{◌≡◌, ◌==◌, not, true, false, OnErr, OnOk, IsErrOf, ◌↔◌, option_map};
+ghost use Rattle.std.specs.List.{list_all};
+ghost use Rattle.grid_core.specs.Description.{IsDescription, is_text, no_texts, text_of, with_text};
+
+use crate::limits::LONGEST_TEXT;
+use std::alloc::{AllocError, Global};
+use std::marker::Model;
+use thiserror::Error;
+
+/// Why a text is refused.
+#[derive(Clone, Copy, Debug, PartialEq, Eq, Error)]
+pub enum TextsFault {
+    #[error("a text has at most 65536 bytes and no line feed")]
+    BadText,
+    #[error("out of memory")]
+    NoMemory,
+}
+
+/// Which of a puzzle's texts.
+#[derive(Clone, Copy, Debug, PartialEq, Eq)]
+pub enum Field {
+    Catalogue,
+    Title,
+    By,
+    Copyright,
+    License,
+}
+
+/// The texts that describe a puzzle.
+#[derive(Debug, Drop)]
+pub struct Texts {
+    catalogue: Option<Vec<u8>>,
+    title: Option<Vec<u8>>,
+    by: Option<Vec<u8>>,
+    copyright: Option<Vec<u8>>,
+    license: Option<Vec<u8>>,
+}
+
+impl Model for Texts {
+    ghost use Rattle.grid_core.specs.Description.{Description, IsDescription, bytes_of};
+
+    ghost Value = { Description };
+
+    ghost view = { λ t. record {
+      catalogue = bytes_of t.catalogue;
+      title = bytes_of t.title;
+      by = bytes_of t.by;
+      copyright = bytes_of t.copyright;
+      license = bytes_of t.license;
+    } };
+
+    ghost invariant = { λ t. IsDescription (record {
+      catalogue = bytes_of t.catalogue;
+      title = bytes_of t.title;
+      by = bytes_of t.by;
+      copyright = bytes_of t.copyright;
+      license = bytes_of t.license;
+    }) };
+}
+
+impl Texts {
+    /// No text at all.
+    pub fn none() -> Texts
+        ensures { result ≡ no_texts }
+    {
+        Texts {
+            catalogue: None,
+            title: None,
+            by: None,
+            copyright: None,
+            license: None,
+        }
+    }
+
+    /// The text of a field, if it has one.
+    pub fn get(&self, field: Field) -> Option<&[u8]>
+        ensures text { option_map (λ bytes. bytes.now) result ≡ text_of self.now field }
+        ensures texts { IsDescription self.now }
+    {
+        let kept = match field {
+            Field::Catalogue => &self.catalogue,
+            Field::Title => &self.title,
+            Field::By => &self.by,
+            Field::Copyright => &self.copyright,
+            Field::License => &self.license,
+        };
+        match kept {
+            Some(bytes) => Some(bytes.as_slice()),
+            None => None,
+        }
+    }
+
+    // What the type keeps.
+    pub(crate) fn see(&self)
+        ensures { IsDescription self.now }
+    {
+        let _ = &self.title;
+    }
+
+    /// Sets the text of a field. `BadText` where the text holds a line feed or is longer than 65,536 bytes; else perhaps `NoMemory`. After an
+    /// error the texts are as they were.
+    pub fn set(&mut self, alloc: Global, field: Field, text: &[u8]) -> Result<(), TextsFault>
+        ensures ok { OnOk result (self.new ≡ with_text self.old field text.now) }
+        ensures text { OnOk result (is_text text.now ≡ true) }
+        ensures bad_text { IsErrOf result TextsFault.BadText ↔ (is_text text.now ≡ false) }
+        ensures err { OnErr result (self.new ≡ self.old) }
+    {
+        if !is_text(text) {
+            return Err(TextsFault::BadText);
+        }
+        let Ok(bytes) = text.to_vec(alloc) else {
+            return Err(TextsFault::NoMemory);
+        };
+        match field {
+            Field::Catalogue => self.catalogue = Some(bytes),
+            Field::Title => self.title = Some(bytes),
+            Field::By => self.by = Some(bytes),
+            Field::Copyright => self.copyright = Some(bytes),
+            Field::License => self.license = Some(bytes),
+        }
+        Ok(())
+    }
+}
+
+fn has_no_feed(text: &[u8]) -> bool
+    ensures { result ≡ list_all (λ byte. not (byte == 10)) text.now }
+{
+    text.iter().all(|byte| *byte != b'\n')
+}
+
+fn is_text(text: &[u8]) -> bool
+    ensures { result ≡ is_text text.now }
+{
+    text.len() <= LONGEST_TEXT && has_no_feed(text)
+}

@@ -1,0 +1,20 @@
+//! Clues, puzzles and partly known grids of nonograms.
+#![tactic(auto)]
+
+mod cells;
+mod clues;
+mod fields;
+mod grids;
+mod limits;
+mod memory;
+mod puzzles;
+mod runs;
+
+pub use cells::Cell;
+pub use clues::{Clue, ClueFault};
+pub use fields::{Field, Texts, TextsFault};
+pub use grids::Grid;
+pub use limits::{LONGEST_SIDE, LONGEST_TEXT, MOST_RUNS};
+pub use memory::NoMemory;
+pub use puzzles::{Puzzle, PuzzleFault};
+pub use runs::has_runs;
