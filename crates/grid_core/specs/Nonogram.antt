@@ -1,7 +1,7 @@
 -- Nonograms, and which grids meet their clues.
 use Rattle.std.specs.Prelude.{◌≡◌, ℕ, zero, suc, ◌+◌, ◌*◌, List, [], ◌∷◌, ◌++◌, map, length, All, Bool, true, false, Option, Some, None, ◌==◌, slice_index_or, Vec}
 use Rattle.std.specs.declared.alloc.Global.{Global}
-use Rattle.std.specs.List.{enumerate_from, AllByRecursion}
+use Rattle.std.specs.List.{enumerate_from, list_all, AllByRecursion}
 use Rattle.grid_core.specs.declared.limits.TheConstants.{LONGEST_SIDE}
 use Rattle.grid_core.specs.Clues.{is_clue}
 use Rattle.grid_core.specs.Description.{Description, IsDescription, no_texts}
@@ -69,18 +69,38 @@ column_line p numbered = record { places = places_from numbered.0 p.width p.heig
 abbrev pub lines_of : Nonogram → List GridLine
 lines_of p = map (row_line p) (enumerate_from 0 p.rows) ++ map (column_line p) (enumerate_from 0 p.columns)
 
+-- the row, and the column, of this number
+abbrev pub row_at : Nonogram → ℕ → GridLine
+row_at p y = row_line p (y, slice_index_or p.rows y [])
+
+abbrev pub column_at : Nonogram → ℕ → GridLine
+column_at p x = column_line p (x, slice_index_or p.columns x [])
+
 -- the cells at some places, d standing for one outside
 abbrev pub cells_at : {X : Type 0} → X → List X → List ℕ → List X
 cells_at d cells places = map (λ k. slice_index_or cells k d) places
 
--- a full grid has the size of the puzzle, and along each line its runs are the clue
+-- along the line the runs of a full grid are the clue
+abbrev pub MeetsLine : List Bool → GridLine → Type 0
+MeetsLine full line = runs (cells_at false full line.places) ≡ line.clue
+
+-- a full grid has the size of the puzzle, and meets the clue of each line
 pub record Meets (p : Nonogram) (full : List Bool) : Type 0 where
   pub size : length full ≡ p.width * p.height
-  pub clues : All (λ line. runs (cells_at false full line.places) ≡ line.clue) (lines_of p)
+  pub clues : All (MeetsLine full) (lines_of p)
 
 -- a grid that has the size of the puzzle, is full, and meets its clues
 pub record Solves (p : Nonogram) (g : PartialGrid) : Type 0 where
   pub width : g.width ≡ p.width
   pub height : g.height ≡ p.height
-  pub full : All (λ cell. is_known cell ≡ true) g.cells
+  pub full : list_all is_known g.cells ≡ true
   pub meets : Meets p (map is_filled g.cells)
+
+-- these values are there, and they meet the clues of all lines
+abbrev pub GivenMeets : Nonogram → Option (List Bool) → Type 0
+GivenMeets p None = ⊥
+GivenMeets p (Some values) = Meets p values
+
+-- there is a goal, and it meets the clues of all lines
+abbrev pub GoalMeets : Nonogram → Type 0
+GoalMeets p = GivenMeets p p.goal

@@ -1,9 +1,10 @@
 //! The texts of a puzzle.
 
-ghost use Rattle.std.specs.Prelude.{◌≡◌, ◌==◌, not, true, false, OnErr, OnOk, IsErrOf, ◌↔◌, option_map};
+ghost use Rattle.std.specs.Prelude.{◌≡◌, ◌==◌, not, true, false, IfOk, OnErr, OnOk, IsErrOf, ◌↔◌, option_map};
 ghost use Rattle.std.specs.List.{list_all};
-ghost use Rattle.grid_core.specs.Description.{IsDescription, is_text, no_texts, text_of, with_text};
+ghost use Rattle.grid_core.specs.Description.{IsDescription, bytes_of, is_text, no_texts, text_of, with_text};
 
+use crate::NoMemory;
 use crate::limits::LONGEST_TEXT;
 use std::alloc::{AllocError, Global};
 use std::marker::Model;
@@ -92,6 +93,19 @@ impl Texts {
         }
     }
 
+    /// The same texts once more.
+    pub(crate) fn copy(&self) -> Result<Texts, NoMemory>
+        ensures { IfOk result (λ texts. texts ≡ self.now) }
+    {
+        Ok(Texts {
+            catalogue: copy_text(&self.catalogue)?,
+            title: copy_text(&self.title)?,
+            by: copy_text(&self.by)?,
+            copyright: copy_text(&self.copyright)?,
+            license: copy_text(&self.license)?,
+        })
+    }
+
     // What the type keeps.
     pub(crate) fn see(&self)
         ensures { IsDescription self.now }
@@ -121,6 +135,15 @@ impl Texts {
             Field::License => self.license = Some(bytes),
         }
         Ok(())
+    }
+}
+
+fn copy_text(text: &Option<Vec<u8>>) -> Result<Option<Vec<u8>>, NoMemory>
+    ensures { IfOk result (λ copied. bytes_of copied ≡ bytes_of text.now) }
+{
+    match text {
+        Some(bytes) => Ok(Some(bytes.clone()?)),
+        None => Ok(None),
     }
 }
 

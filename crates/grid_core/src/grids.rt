@@ -70,6 +70,13 @@ impl Grid {
         self.cells[place] = cell;
     }
 
+    /// The cells, row by row.
+    pub(crate) fn cells(&self) -> &[Cell]
+        ensures { result.now ≡ self.now.cells }
+    {
+        &self.cells
+    }
+
     /// How many cells are known.
     pub fn known(&self) -> u32
         ensures { result ≡ count_by is_known self.now.cells }

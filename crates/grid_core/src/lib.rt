@@ -7,6 +7,7 @@ mod fields;
 mod grids;
 mod limits;
 mod memory;
+mod pictures;
 mod puzzles;
 mod runs;
 
@@ -16,5 +17,5 @@ pub use fields::{Field, Texts, TextsFault};
 pub use grids::Grid;
 pub use limits::{LONGEST_SIDE, LONGEST_TEXT, MOST_RUNS};
 pub use memory::NoMemory;
-pub use puzzles::{Puzzle, PuzzleFault};
+pub use puzzles::{GoalWord, Puzzle, PuzzleFault};
 pub use runs::has_runs;

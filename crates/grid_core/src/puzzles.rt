@@ -1,14 +1,17 @@
 //! Puzzles.
 
-ghost use Rattle.std.specs.Prelude.{◌≡◌, ◌*◌, ◌<◌, ◌↔◌, true, false, length, option_map, IfOk, IsErrOf, slice_index_or, []};
-ghost use Rattle.std.specs.List.{AllByRecursion};
+ghost use Rattle.std.specs.Prelude.{◌≡◌, ◌*◌, ◌<◌, ◌↔◌, true, false, length, option_map, IfOk, IsErrOf, IsTrue, IfSome, slice_index_or, []};
+ghost use Rattle.std.specs.List.{AllByRecursion, list_all};
+ghost use Rattle.grid_core.specs.Cells.{is_known};
 ghost use Rattle.grid_core.specs.Clues.{is_clue};
 ghost use Rattle.grid_core.specs.Description.{IsDescription};
-ghost use Rattle.grid_core.specs.Nonogram.{IsNonogram, HasClueForEachLine, bools_of, is_goal};
+ghost use Rattle.grid_core.specs.Nonogram.{GoalMeets, IsNonogram, HasClueForEachLine, Solves, bools_of, is_goal};
 ghost use Rattle.grid_core.specs.PartialGrid.{IsSize};
 
 use crate::limits::LONGEST_SIDE;
-use crate::{Clue, Texts};
+use crate::pictures::{Picture, is_met};
+use crate::{Cell, Clue, Grid, NoMemory, Texts};
+use std::alloc::Global;
 use std::marker::Model;
 use thiserror::Error;
 
@@ -57,6 +60,17 @@ impl Model for Puzzle {
       texts = p.texts;
       goal = bools_of p.goal;
     }) };
+}
+
+/// Whether a puzzle's goal meets its clues.
+#[derive(Clone, Copy, Debug, PartialEq, Eq)]
+pub enum GoalWord {
+    /// There is no goal.
+    Absent,
+    /// The goal meets the clues of all lines.
+    Meets,
+    /// It does not.
+    Misses,
 }
 
 impl Puzzle {
@@ -157,13 +171,83 @@ impl Puzzle {
 
     /// The goal's values, row by row, true for filled.
     pub fn goal(&self) -> Option<&[bool]>
-        ensures { option_map (λ cells. cells.now) result ≡ self.now.goal }
+        ensures goal { option_map (λ cells. cells.now) result ≡ self.now.goal }
+        ensures size { IfSome self.now.goal (λ values. length values ≡ self.now.width * self.now.height) }
     {
         match &self.goal {
             Some(cells) => Some(cells.as_slice()),
             None => None,
         }
     }
+
+    /// The same puzzle once more.
+    pub fn copy(&self, alloc: Global) -> Result<Puzzle, NoMemory>
+        ensures { IfOk result (λ p. p ≡ self.now) }
+    {
+        Ok(Puzzle {
+            width: self.width,
+            height: self.height,
+            rows: copy_clues(alloc, &self.rows)?,
+            columns: copy_clues(alloc, &self.columns)?,
+            texts: self.texts.copy()?,
+            goal: copy_goal(&self.goal)?,
+        })
+    }
+
+    /// Whether the grid solves the puzzle: it has the puzzle's sizes, is full, and along each line its runs are the clue.
+    pub fn solved_by(&self, grid: &Grid) -> bool
+        ensures { IsTrue result ↔ Solves self.now grid.now }
+    {
+        if grid.width() != self.width() || grid.height() != self.height() {
+            return false;
+        }
+        if !are_known(grid.cells()) {
+            return false;
+        }
+        is_met(self, Picture::Cells(grid.cells()))
+    }
+
+    /// Whether there is a goal, and whether it meets the clues of all lines.
+    pub fn goal_word(&self) -> GoalWord
+        ensures absent { (result ≡ GoalWord.Absent) ↔ (self.now.goal ≡ None) }
+        ensures meets { (result ≡ GoalWord.Meets) ↔ GoalMeets self.now }
+    {
+        match self.goal() {
+            None => GoalWord::Absent,
+            Some(values) => {
+                if is_met(self, Picture::Values(values)) {
+                    GoalWord::Meets
+                } else {
+                    GoalWord::Misses
+                }
+            }
+        }
+    }
+}
+
+fn copy_clues(alloc: Global, clues: &[Clue]) -> Result<Vec<Clue>, NoMemory>
+    ensures { IfOk result (λ copies. copies.items ≡ clues.now) }
+{
+    let mut copies = Vec::with_capacity(alloc, clues.len())?;
+    for clue in clues {
+        copies.push(clue.copy(alloc)?)?;
+    }
+    Ok(copies)
+}
+
+fn copy_goal(goal: &Option<Vec<bool>>) -> Result<Option<Vec<bool>>, NoMemory>
+    ensures { IfOk result (λ copied. bools_of copied ≡ bools_of goal.now) }
+{
+    match goal {
+        Some(values) => Ok(Some(values.clone()?)),
+        None => Ok(None),
+    }
+}
+
+fn are_known(cells: &[Cell]) -> bool
+    ensures { result ≡ list_all is_known cells.now }
+{
+    cells.iter().all(|cell| cell.is_known())
 }
 
 fn is_goal(count: usize, goal: &Option<Vec<bool>>) -> bool

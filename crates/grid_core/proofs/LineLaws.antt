@@ -1,0 +1,71 @@
+-- The lines of a puzzle by number, and the cells along a line.
+use Rattle.std.proofs.Common.{◌≡◌, refl, sym, ap, subst, ◌∙◌, ℕ, zero, suc, ◌+◌, ◌*◌, ◌<◌, List, [], ◌∷◌, ◌++◌, length, map, get_or, arith, add-zero, zero-add}
+use Rattle.std.specs.List.{All, AllByRecursion, enumerate_from}
+use Rattle.std.proofs.lemmas.List.Elements.{recursion_from_All, All-from_recursion}
+use Rattle.grid_core.specs.Nonogram.{GridLine, Nonogram, cells_at, column_at, column_line, lines_of, places_from, row_at, row_line}
+
+both_parts : (P : GridLine → Type 0) (xs ys : List GridLine) → AllByRecursion P xs → AllByRecursion P ys → AllByRecursion P (xs ++ ys)
+both_parts P [] ys h k = k
+both_parts P (x ∷ xs) ys h k = (h.0, both_parts P xs ys h.1 k)
+
+first_part : (P : GridLine → Type 0) (xs ys : List GridLine) → AllByRecursion P (xs ++ ys) → AllByRecursion P xs
+first_part P [] ys h = tt
+first_part P (x ∷ xs) ys h = (h.0, first_part P xs ys h.1)
+
+second_part : (P : GridLine → Type 0) (xs ys : List GridLine) → AllByRecursion P (xs ++ ys) → AllByRecursion P ys
+second_part P [] ys h = h
+second_part P (x ∷ xs) ys h = second_part P xs ys h.1
+
+all_numbered : (P : GridLine → Type 0) (f : ℕ × List ℕ → GridLine) (n : ℕ) (clues : List (List ℕ))
+    → ((k : ℕ) → k < length clues → P (f (n + k, get_or clues k []))) → AllByRecursion P (map f (enumerate_from n clues))
+all_numbered P f n [] h = tt
+all_numbered P f n (c ∷ clues) h = (
+  subst (λ (q : ℕ). P (f (q, c))) (add-zero n) (h 0 (omega arith)),
+  all_numbered P f (n + 1) clues (λ k l. let e : n + suc k ≡ n + 1 + k = omega arith in subst (λ (q : ℕ). P (f (q, get_or clues k []))) e (h (suc k) (omega arith))),
+)
+
+one_numbered : (P : GridLine → Type 0) (f : ℕ × List ℕ → GridLine) (n : ℕ) (clues : List (List ℕ)) → AllByRecursion P (map f (enumerate_from n clues))
+    → (k : ℕ) → k < length clues → P (f (n + k, get_or clues k []))
+one_numbered P f n [] h k l = absurd (omega arith)
+one_numbered P f n (c ∷ clues) h zero l = subst (λ (q : ℕ). P (f (q, c))) (sym (add-zero n)) h.0
+one_numbered P f n (c ∷ clues) h (suc k) l =
+    let e : n + 1 + k ≡ n + suc k = omega arith in
+    subst (λ (q : ℕ). P (f (q, get_or clues k []))) e (one_numbered P f (n + 1) clues h.1 k (omega arith))
+
+-- what holds of each row and of each column holds of each line
+pub all_lines : (P : GridLine → Type 0) (p : Nonogram) → ((y : ℕ) → y < length p.rows → P (row_at p y)) → ((x : ℕ) → x < length p.columns → P (column_at p x)) → All P (lines_of p)
+all_lines P p r c =
+    All-from_recursion P (lines_of p)
+    (both_parts P (map (row_line p) (enumerate_from 0 p.rows)) (map (column_line p) (enumerate_from 0 p.columns))
+    (all_numbered P (row_line p) 0 p.rows (λ k l. subst (λ (q : ℕ). P (row_line p (q, get_or p.rows k []))) (sym (zero-add k)) (r k l)))
+    (all_numbered P (column_line p) 0 p.columns (λ k l. subst (λ (q : ℕ). P (column_line p (q, get_or p.columns k []))) (sym (zero-add k)) (c k l))))
+
+-- what holds of each line holds of each row
+pub each_row : (P : GridLine → Type 0) (p : Nonogram) → All P (lines_of p) → (y : ℕ) → y < length p.rows → P (row_at p y)
+each_row P p h y l =
+    subst (λ (q : ℕ). P (row_line p (q, get_or p.rows y []))) (zero-add y)
+    (one_numbered P (row_line p) 0 p.rows
+    (first_part P (map (row_line p) (enumerate_from 0 p.rows)) (map (column_line p) (enumerate_from 0 p.columns)) (recursion_from_All P (lines_of p) h))
+    y l)
+
+-- and of each column
+pub each_column : (P : GridLine → Type 0) (p : Nonogram) → All P (lines_of p) → (x : ℕ) → x < length p.columns → P (column_at p x)
+each_column P p h x l =
+    subst (λ (q : ℕ). P (column_line p (q, get_or p.columns x []))) (zero-add x)
+    (one_numbered P (column_line p) 0 p.columns
+    (second_part P (map (row_line p) (enumerate_from 0 p.rows)) (map (column_line p) (enumerate_from 0 p.columns)) (recursion_from_All P (lines_of p) h))
+    x l)
+
+-- a list that has the cells of a line, place by place, is the cells along it
+pub cells-along : {X : Type 0} (d : X) (cells line : List X) (first step count : ℕ) → length line ≡ count
+    → ((k : ℕ) → k < count → get_or line k d ≡ get_or cells (first + k * step) d) → line ≡ cells_at d cells (places_from first step count)
+cells-along d cells [] first step zero e h = refl
+cells-along d cells [] first step (suc n) e h = absurd (omega arith)
+cells-along d cells (c ∷ line) first step zero e h = absurd (omega arith)
+cells-along {X = X} d cells (c ∷ line) first step (suc n) e h =
+    let start : first + 0 * step ≡ first = omega arith in
+    let head : c ≡ get_or cells first d = h 0 (omega arith) ∙ ap (λ (q : ℕ). get_or cells q d) start in
+    let rest : line ≡ cells_at d cells (places_from (first + step) step n) =
+    cells-along d cells line (first + step) step n (omega arith) (λ k l.
+    let next : first + suc k * step ≡ first + step + k * step = omega arith in h (suc k) (omega arith) ∙ ap (λ (q : ℕ). get_or cells q d) next) in
+    λ i. head i ∷ rest i

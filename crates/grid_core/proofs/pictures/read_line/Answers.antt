@@ -1,0 +1,9 @@
+use Rattle.std.proofs.Common.{◌≡◌, ◌+◌, ◌*◌, ◌<◌, ℕ, false, length, arith, get_or}
+use Rattle.grid_core.specs.Pictures.{values_of}
+use Rattle.grid_core.proofs.LineLaws.{cells-along}
+use Rattle.grid_core.proofs.pictures.read_line.Goals as goal
+
+pub returns : goal.returns
+returns c =
+    cells-along false (values_of c.args.picture) c.loop-i.line c.args.first c.args.step (length c.args.line.now) c.loop-i.invariant.size
+    (λ k l. c.loop-i.invariant.read k (omega (arith, c.loop-i-test.false, c.loop-i.auto.i-end)))

@@ -1,0 +1,91 @@
+//! Pictures: full grids and goals, and whether they meet clues.
+
+ghost use Rattle.std.specs.Prelude.{◌≡◌, ◌+◌, ◌*◌, ◌<◌, ◌≤◌, ◌↔◌, ℕ, false, length, IsTrue, slice_index_or};
+ghost use Rattle.grid_core.specs.Nonogram.{Meets, MeetsLine, cells_at, column_at, places_from, row_at};
+ghost use Rattle.grid_core.specs.Pictures.{values_of};
+
+use crate::limits::LONGEST_SIDE;
+use crate::runs::has_runs;
+use crate::{Cell, Clue, Puzzle};
+
+/// Which cells are filled, row by row: of a grid, or of a goal.
+#[derive(Clone, Copy)]
+pub(crate) enum Picture<'a> {
+    Cells(&'a [Cell]),
+    Values(&'a [bool]),
+}
+
+impl Picture<'_> {
+    fn is_filled(self, place: usize) -> bool
+        requires { place < length (values_of self) }
+        ensures { result ≡ slice_index_or (values_of self.entry) place false }
+    {
+        match self {
+            Picture::Cells(cells) => cells[place].is_filled(),
+            Picture::Values(values) => values[place],
+        }
+    }
+}
+
+// Reads the cells at places that lie a step apart.
+fn read_line(picture: Picture<'_>, first: usize, step: usize, line: &mut [bool])
+    requires within { (i : ℕ) → i < length line.old → first + i * step < length (values_of picture) }
+    ensures { line.new ≡ cells_at false (values_of picture.entry) (places_from first step (length line.old)) }
+{
+    for i in 0..line.len() {
+        line[i] = picture.is_filled(first + i * step);
+    }
+}
+
+// Whether the runs of a line are its clue.
+fn is_line_met(picture: Picture<'_>, first: usize, step: usize, count: u16, clue: &Clue) -> bool
+    requires short { count ≤ LONGEST_SIDE }
+    requires within { (i : ℕ) → i < count → first + i * step < length (values_of picture) }
+    ensures { IsTrue result ↔ MeetsLine (values_of picture.entry) (record { places = places_from first step count; clue = clue.now }) }
+{
+    let mut cells = [false; LONGEST_SIDE as usize];
+    let line = &mut cells[..usize::from(count)];
+    read_line(picture, first, step, line);
+    has_runs(line, clue.numbers())
+}
+
+fn are_rows_met(puzzle: &Puzzle, picture: Picture<'_>) -> bool
+    requires { length (values_of picture) ≡ puzzle.now.width * puzzle.now.height }
+    ensures { IsTrue result ↔ ((y : ℕ) → y < length puzzle.now.rows → MeetsLine (values_of picture.entry) (row_at puzzle.now y)) }
+{
+    let width = puzzle.width();
+    for y in 0..puzzle.height() {
+        let first = usize::from(y) * usize::from(width);
+        if !is_line_met(picture, first, 1, width, puzzle.row_clue(y)) {
+            return false;
+        }
+    }
+    true
+}
+
+fn are_columns_met(puzzle: &Puzzle, picture: Picture<'_>) -> bool
+    requires { length (values_of picture) ≡ puzzle.now.width * puzzle.now.height }
+    ensures { IsTrue result ↔ ((x : ℕ) → x < length puzzle.now.columns → MeetsLine (values_of picture.entry) (column_at puzzle.now x)) }
+{
+    let step = usize::from(puzzle.width());
+    for x in 0..puzzle.width() {
+        if !is_line_met(
+            picture,
+            usize::from(x),
+            step,
+            puzzle.height(),
+            puzzle.col_clue(x),
+        ) {
+            return false;
+        }
+    }
+    true
+}
+
+/// Whether a picture of the puzzle's size meets the clues of all lines.
+pub(crate) fn is_met(puzzle: &Puzzle, picture: Picture<'_>) -> bool
+    requires { length (values_of picture) ≡ puzzle.now.width * puzzle.now.height }
+    ensures { IsTrue result ↔ Meets puzzle.now (values_of picture.entry) }
+{
+    are_rows_met(puzzle, picture) && are_columns_met(puzzle, picture)
+}
