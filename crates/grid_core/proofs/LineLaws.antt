@@ -1,7 +1,11 @@
 -- The lines of a puzzle by number, and the cells along a line.
-use Rattle.std.proofs.Common.{◌≡◌, refl, sym, ap, subst, ◌∙◌, ℕ, zero, suc, ◌+◌, ◌*◌, ◌<◌, List, [], ◌∷◌, ◌++◌, length, map, get_or, arith, add-zero, zero-add}
+use Rattle.std.proofs.Common.{◌≡◌, refl, sym, ap, subst, ◌∙◌, ℕ, zero, suc, ◌+◌, ◌*◌, ◌<◌, ◌≤◌, false, List, [], ◌∷◌, ◌++◌, length, map, get_or, take, drop, arith, add-zero, zero-add, add-one}
+use Rattle.std.proofs.Math.Nat.{mul-le-mul_right}
+use Rattle.std.proofs.Math.Seq.{drop-cons}
+use Rattle.std.proofs.lemmas.List.{length-map}
 use Rattle.std.specs.List.{All, AllByRecursion, enumerate_from}
 use Rattle.std.proofs.lemmas.List.Elements.{recursion_from_All, All-from_recursion}
+use Rattle.grid_core.specs.Reading.{ColumnIsStride, RowIsRange}
 use Rattle.grid_core.specs.Nonogram.{GridLine, Nonogram, cells_at, column_at, column_line, lines_of, places_from, row_at, row_line}
 
 both_parts : (P : GridLine → Type 0) (xs ys : List GridLine) → AllByRecursion P xs → AllByRecursion P ys → AllByRecursion P (xs ++ ys)
@@ -69,3 +73,56 @@ cells-along {X = X} d cells (c ∷ line) first step (suc n) e h =
     cells-along d cells line (first + step) step n (omega arith) (λ k l.
     let next : first + suc k * step ≡ first + step + k * step = omega arith in h (suc k) (omega arith) ∙ ap (λ (q : ℕ). get_or cells q d) next) in
     λ i. head i ∷ rest i
+
+pub length-places_from : (first step n : ℕ) → length (places_from first step n) ≡ n
+length-places_from first step zero = refl
+length-places_from first step (suc n) = ap suc (length-places_from (first + step) step n)
+
+pub get_or-places_from : (first step n i : ℕ) → i < n → get_or (places_from first step n) i 0 ≡ first + i * step
+get_or-places_from first step zero i h = absurd (omega arith)
+get_or-places_from first step (suc n) zero h = omega arith
+get_or-places_from first step (suc n) (suc i) h =
+    let rest = get_or-places_from (first + step) step n i (omega arith) in
+    let sum : first + step + i * step ≡ first + suc i * step = omega arith in
+    rest ∙ sum
+
+pub length-cells_at : {X : Type 0} (d : X) (cells : List X) (places : List ℕ) → length (cells_at d cells places) ≡ length places
+length-cells_at d cells places = length-map places (λ k. get_or cells k d)
+
+pub get_or-cells_at : {X : Type 0} (d : X) (cells : List X) (places : List ℕ) (i : ℕ) → i < length places
+    → get_or (cells_at d cells places) i d ≡ get_or cells (get_or places i 0) d
+get_or-cells_at d cells [] i h = absurd (omega arith)
+get_or-cells_at d cells (p ∷ ps) zero h = refl
+get_or-cells_at d cells (p ∷ ps) (suc i) h = get_or-cells_at d cells ps i (omega arith)
+
+-- the cells from a place on, one after the other, are a range
+pub cells-range : {X : Type 0} (d : X) (cells : List X) (first count : ℕ) → first + count ≤ length cells
+    → cells_at d cells (places_from first 1 count) ≡ take count (drop first cells)
+cells-range d cells first zero h = refl
+cells-range d cells first (suc n) h =
+    let within : first < length cells = omega arith in
+    let rest : cells_at d cells (places_from (first + 1) 1 n) ≡ take n (drop (first + 1) cells) = cells-range d cells (first + 1) n (omega arith) in
+    let whole : drop first cells ≡ get_or cells first d ∷ drop (suc first) cells = drop-cons cells first d within in
+    rw (whole, ← add-one first) (ap (λ xs. get_or cells first d ∷ xs) rest)
+
+-- a row ends within the grid
+row-within : (w h y : ℕ) → y < h → y * w + w ≤ w * h
+row-within w h y l =
+    let more = mul-le-mul_right w l in
+    omega (arith, more)
+
+column-within : (w h x y : ℕ) → x < w → y < h → x + y * w < w * h
+column-within w h x y k l = omega (arith, row-within w h y l)
+
+pub row-is_range : (p : Nonogram) → RowIsRange p
+row-is_range p full y long l = cells-range false full (y * p.width) p.width (omega (arith, row-within p.width p.height y l))
+
+pub column-is_stride : (p : Nonogram) → ColumnIsStride p
+column-is_stride p full x long l = (
+  length-cells_at false full ((column_at p x).places) ∙ length-places_from x p.width p.height,
+  λ y k. (
+    omega (arith, column-within p.width p.height x y l k),
+    get_or-cells_at false full ((column_at p x).places) y (rw length-places_from k)
+        ∙ ap (λ (q : ℕ). get_or full q false) (get_or-places_from x p.width p.height y k),
+  ),
+)

@@ -12,37 +12,28 @@ pub enum Cell {
 }
 
 impl Cell {
+    /// Whether the cell is filled or blank.
     pub fn is_known(self) -> bool
         ensures { result ≡ is_known self }
     {
-        match self {
-            Cell::Unknown => false,
-            Cell::Filled => true,
-            Cell::Blank => true,
-        }
+        !matches!(&self, Cell::Unknown)
     }
 
+    /// Whether nothing is known of the cell.
     pub fn is_unknown(self) -> bool
         ensures { result ≡ is_unknown self }
     {
-        match self {
-            Cell::Unknown => true,
-            Cell::Filled => false,
-            Cell::Blank => false,
-        }
+        matches!(&self, Cell::Unknown)
     }
 
+    /// Whether the cell is known to be filled.
     pub fn is_filled(self) -> bool
         ensures { result ≡ is_filled self }
     {
-        match self {
-            Cell::Unknown => false,
-            Cell::Filled => true,
-            Cell::Blank => false,
-        }
+        matches!(&self, Cell::Filled)
     }
 
-    /// The colour of a cell of a full line.
+    /// The cell of a full grid: filled for true, blank for false.
     pub fn of_colour(filled: bool) -> Cell
         ensures { result ≡ colour filled }
     {

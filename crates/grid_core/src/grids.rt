@@ -9,7 +9,7 @@ use crate::{Cell, NoMemory};
 use std::alloc::Global;
 use std::marker::Model;
 
-/// A partly known grid.
+/// A partly known grid: a width and a height from 1 to 128, and what is known of each cell.
 #[derive(Debug, Drop)]
 pub struct Grid {
     width: u16,
@@ -26,7 +26,7 @@ impl Model for Grid {
 }
 
 impl Grid {
-    /// A grid of which nothing is known.
+    /// A grid of this size of which nothing is known.
     pub fn unknown(alloc: Global, width: u16, height: u16) -> Result<Grid, NoMemory>
         requires { IsSize width height }
         ensures { IfOk result (λ g. g ≡ record { width = width; height = height; cells = replicate (width * height) Unknown }) }
@@ -39,6 +39,7 @@ impl Grid {
         })
     }
 
+    /// How many cells a row has.
     pub fn width(&self) -> u16
         ensures width { result ≡ self.now.width }
         ensures size { IsSize self.now.width self.now.height }
@@ -47,12 +48,14 @@ impl Grid {
         self.width
     }
 
+    /// How many cells a column has.
     pub fn height(&self) -> u16
         ensures { result ≡ self.now.height }
     {
         self.height
     }
 
+    /// What is known of the cell in column x, from 0 at the left, and row y, from 0 at the top.
     pub fn get(&self, x: u16, y: u16) -> Cell
         requires column { x < self.now.width }
         requires row { y < self.now.height }
@@ -61,6 +64,7 @@ impl Grid {
         self.cells[usize::from(y) * usize::from(self.width) + usize::from(x)]
     }
 
+    /// Changes what is known of the cell in column x and row y, and nothing else.
     pub fn set(&mut self, x: u16, y: u16, cell: Cell)
         requires column { x < self.old.width }
         requires row { y < self.old.height }
@@ -90,7 +94,7 @@ impl Grid {
         count
     }
 
-    /// The column and the row of the first unknown cell in row order.
+    /// The column and the row of the first unknown cell, rows from the top, cells from the left. `None` exactly where the grid is full.
     pub fn first_unknown(&self) -> Option<(u16, u16)>
         ensures { result ≡ option_map (λ k. (k % self.now.width, k / self.now.width)) (position is_unknown self.now.cells) }
     {
@@ -103,6 +107,7 @@ impl Grid {
         }
     }
 
+    /// The same grid once more.
     pub fn copy(&self, alloc: Global) -> Result<Grid, NoMemory>
         ensures { IfOk result (λ g. g ≡ self.now) }
     {

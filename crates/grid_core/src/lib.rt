@@ -5,6 +5,7 @@ mod cells;
 mod clues;
 mod fields;
 mod grids;
+pub mod laws;
 mod limits;
 mod memory;
 mod pictures;
@@ -19,3 +20,6 @@ pub use limits::{LONGEST_SIDE, LONGEST_TEXT, MOST_RUNS};
 pub use memory::NoMemory;
 pub use puzzles::{GoalWord, Puzzle, PuzzleFault};
 pub use runs::has_runs;
+
+#[cfg(test)]
+mod tests;

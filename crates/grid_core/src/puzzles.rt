@@ -26,7 +26,8 @@ pub enum PuzzleFault {
     BadGoal,
 }
 
-/// A nonogram: its sizes, the clues of its lines, texts, and perhaps a goal.
+/// A nonogram: a width and a height from 1 to 128, the clue of each row and column, texts, and perhaps a goal, which says of each cell, row by
+/// row, whether it is to be filled. Nothing is demanded of the clues: they may not fit their lines, and their sums may differ.
 #[derive(Debug, Drop)]
 pub struct Puzzle {
     width: u16,

@@ -1,5 +1,4 @@
-use Rattle.std.proofs.Common.{◌≡◌}
-use Rattle.grid_core.specs.Nonogram.{Meets, MeetsLine}
+use Rattle.grid_core.specs.Nonogram.{MeetsLine}
 use Rattle.grid_core.specs.Pictures.{values_of}
 use Rattle.grid_core.proofs.LineLaws.{all_lines, each_row, each_column}
 use Rattle.grid_core.proofs.pictures.is_met.Goals as goal

@@ -1,4 +1,4 @@
-use Rattle.std.proofs.Common.{◌≡◌, ◌+◌, ◌*◌, ◌<◌, ℕ, false, length, arith, get_or}
+use Rattle.std.proofs.Common.{false, length, arith}
 use Rattle.grid_core.specs.Pictures.{values_of}
 use Rattle.grid_core.proofs.LineLaws.{cells-along}
 use Rattle.grid_core.proofs.pictures.read_line.Goals as goal
