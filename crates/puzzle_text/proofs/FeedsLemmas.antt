@@ -1,0 +1,197 @@
+-- No line has a line feed in it, so nor has the text of a field.
+use Rattle.std.proofs.Common.{◌≡◌, ℕ, zero, suc, ◌+◌, ◌-◌, ◌<◌, ◌≤◌, Bool, true, false, cond, not, ◌&&◌, eqb, leb, ltb, List, [], ◌∷◌, length, take, drop, get_or, reverse, map, codes, All, refl, sym, ap, subst, ◌∙◌, arith, inl, inr, Option, Some, None, Ok, Err}
+use Rattle.std.specs.Prelude.{option_and_then, slice_get, unwrap_or}
+use Rattle.std.specs.List.{filter, find, list_all, onto_first, prefix_len, AllByRecursion}
+use Rattle.std.specs.Option.{option_map}
+use Rattle.std.specs.Char.{is_ascii_alphabetic}
+use Rattle.std.proofs.lemmas.Bool.{and_from, cases_Bool, cond-true, cond-false, le-leb, ltb-true, ltb-false}
+use Rattle.std.proofs.lemmas.List.{get_or_default, get_or-reverse, get_or-take, length-take-le, length-reverse}
+use Rattle.std.proofs.lemmas.List.Elements.{All-take, All-drop}
+use Rattle.std.proofs.lemmas.List.Sums.{AllPass-from_list_all, list_all-from_AllPass}
+use Rattle.grid_core.specs.Description.{IsDescription, is_field}
+use Rattle.grid_core.specs.declared.limits.TheConstants.{LONGEST_TEXT}
+use Rattle.puzzle_text.specs.declared.faults.TextFault.TheVariants.{TooLong}
+use Rattle.puzzle_text.specs.declared.limits.TheConstants.{LONGEST_PUZZLE}
+use Rattle.puzzle_text.specs.Sizes.{lines_of}
+use Rattle.puzzle_text.specs.Lines.{Line, HaveNoFeed, has_no_feed, is_blank, lines, numbered_from, raw_lines, strip_last, trim, trim_start, without_ending}
+use Rattle.puzzle_text.specs.Keywords.{after_quote, before_quote, first_with, has_keyword, quoted, rest, text_of}
+use Rattle.puzzle_text.specs.Non.{bad_line, field_text, is_stray, least, long_text, number_of_line, placed, texts_of}
+
+abbrev IsOther : ℕ → Type 0
+IsOther byte = not (eqb byte 10) ≡ true
+
+-- no byte is a line feed
+abbrev IsClean : List ℕ → Type 0
+IsClean bytes = All IsOther bytes
+
+-- ---- parts of what has no line feed
+
+clean_reverse : (bytes : List ℕ) → IsClean bytes → IsClean (reverse bytes)
+clean_reverse bytes h k d lt =
+    let low : k < length bytes = omega (arith, length-reverse bytes) in
+    ap (λ (byte : ℕ). not (eqb byte 10)) (get_or-reverse bytes k d low) ∙ h (length bytes - 1 - k) d (omega arith)
+
+clean_cond : (b : Bool) (xs ys : List ℕ) → IsClean xs → IsClean ys → IsClean (cond b xs ys)
+clean_cond true xs ys p q = p
+clean_cond false xs ys p q = q
+
+clean_start : (bytes : List ℕ) → IsClean bytes → IsClean (trim_start bytes)
+clean_start [] h = h
+clean_start (byte ∷ bytes) h = clean_cond (is_blank byte) (trim_start bytes) (byte ∷ bytes) (clean_start bytes (All-drop IsOther 1 (byte ∷ bytes) h)) h
+
+clean_trim : (bytes : List ℕ) → IsClean bytes → IsClean (trim bytes)
+clean_trim bytes h =
+    let front = trim_start bytes in
+    clean_reverse (trim_start (reverse front)) (clean_start (reverse front) (clean_reverse front (clean_start bytes h)))
+
+clean_strip : (byte : ℕ) (bytes : List ℕ) → IsClean bytes → IsClean (strip_last byte bytes)
+clean_strip byte bytes h = clean_cond (eqb (get_or bytes (length bytes - 1) 0) byte) (take (length bytes - 1) bytes) bytes (All-take IsOther (length bytes - 1) bytes h) h
+
+-- what there is has no line feed
+abbrev IsCleanOption : Option (List ℕ) → Type 0
+IsCleanOption None = Unit {0}
+IsCleanOption (Some bytes) = IsClean bytes
+
+option_cond : (b : Bool) (o p : Option (List ℕ)) → IsCleanOption o → IsCleanOption p → IsCleanOption (cond b o p)
+option_cond true o p e f = e
+option_cond false o p e f = f
+
+clean_after : (bytes : List ℕ) → IsClean bytes → IsCleanOption (after_quote bytes)
+clean_after [] h = tt
+clean_after (byte ∷ bytes) h =
+    let others = All-drop IsOther 1 (byte ∷ bytes) h in
+    option_cond (eqb byte 34) (Some bytes) (after_quote bytes) others (clean_after bytes others)
+
+turned : (o : Option (List ℕ)) → IsCleanOption o → IsCleanOption (option_map reverse o)
+turned None h = tt
+turned (Some bytes) h = clean_reverse bytes h
+
+clean_between : (o : Option (List ℕ)) → IsCleanOption o → IsCleanOption (option_and_then before_quote o)
+clean_between None h = tt
+clean_between (Some bytes) h = turned (after_quote (reverse bytes)) (clean_after (reverse bytes) (clean_reverse bytes h))
+
+clean_or : (o : Option (List ℕ)) (bytes : List ℕ) → IsCleanOption o → IsClean bytes → IsClean (unwrap_or o bytes)
+clean_or None bytes h other = other
+clean_or (Some found) bytes h other = h
+
+clean_text : (line : Line) → has_no_feed line.text ≡ true → has_no_feed (text_of line) ≡ true
+clean_text line h =
+    let after = clean_trim (drop (prefix_len is_ascii_alphabetic line.text) line.text) (All-drop IsOther (prefix_len is_ascii_alphabetic line.text) line.text (AllPass-from_list_all _ line.text h)) in
+    list_all-from_AllPass _ (text_of line) (clean_or (option_and_then before_quote (after_quote (rest line))) (rest line) (clean_between (after_quote (rest line)) (clean_after (rest line) after)) after)
+
+-- ---- lines
+
+-- no byte but the last is a line feed
+abbrev IsRaw : List ℕ → Type 0
+IsRaw raw = (k : ℕ) → k + 1 < length raw → not (eqb (get_or raw k 0) 10) ≡ true
+
+longer : (byte : ℕ) (part : List ℕ) → not (eqb byte 10) ≡ true → IsRaw part → IsRaw (byte ∷ part)
+longer byte part other h zero lt = other
+longer byte part other h (suc k) lt = h k (omega arith)
+
+raw_onto : (byte : ℕ) (parts : List (List ℕ)) → not (eqb byte 10) ≡ true → AllByRecursion IsRaw parts → AllByRecursion IsRaw (onto_first byte parts)
+raw_onto byte [] other h = (λ k lt. absurd (omega arith), tt)
+raw_onto byte (part ∷ parts) other h = (longer byte part other h.0, h.1)
+
+raw_cond : (b : Bool) (xs ys : List (List ℕ)) → (b ≡ true → AllByRecursion IsRaw xs) → (b ≡ false → AllByRecursion IsRaw ys) → AllByRecursion IsRaw (cond b xs ys)
+raw_cond true xs ys p q = p refl
+raw_cond false xs ys p q = q refl
+
+all_raw : (bytes : List ℕ) → AllByRecursion IsRaw (raw_lines bytes)
+all_raw [] = tt
+all_raw (byte ∷ bytes) =
+    let others = raw_lines bytes in
+    raw_cond (eqb byte 10) ((byte ∷ []) ∷ others) (onto_first byte others) (λ feed. (λ k lt. absurd (omega arith), all_raw bytes)) (λ other. raw_onto byte others (ap not other) (all_raw bytes))
+
+clean_front : (raw : List ℕ) → IsRaw raw → IsClean (take (length raw - 1) raw)
+clean_front raw h k d lt =
+    let low : k < length raw - 1 = omega (arith, length-take-le (length raw - 1) raw) in
+    ap (λ (byte : ℕ). not (eqb byte 10)) (get_or_default (take (length raw - 1) raw) k d 0 lt ∙ get_or-take (length raw - 1) raw k 0 low) ∙ h k (omega arith)
+
+clean_whole : (raw : List ℕ) → IsRaw raw → eqb (get_or raw (length raw - 1) 0) 10 ≡ false → IsClean raw
+clean_whole raw h last k d lt =
+    let place = λ (byte : ℕ). not (eqb byte 10) in
+    elim (cases_Bool (ltb (k + 1) (length raw))) [
+      | inl before ↦ ap place (get_or_default raw k d 0 lt) ∙ h k (ltb-true _ _ before)
+      | inr at ↦ let end : k ≡ length raw - 1 = omega (arith, ltb-false _ _ at) in ap place (get_or_default raw k d 0 lt) ∙ ap (λ (j : ℕ). place (get_or raw j 0)) end ∙ ap not last
+    ]
+
+clean_line : (raw : List ℕ) → IsRaw raw → IsClean (strip_last 10 raw)
+clean_line raw h =
+    let front = take (length raw - 1) raw in
+    elim (cases_Bool (eqb (get_or raw (length raw - 1) 0) 10)) [ inl last ↦ rw last (clean_front raw h) | inr other ↦ rw other (clean_whole raw h other) ]
+
+clean_lines : (number : ℕ) (raws : List (List ℕ)) → AllByRecursion IsRaw raws → HaveNoFeed (numbered_from number raws)
+clean_lines number [] h = tt
+clean_lines number (raw ∷ raws) h = (list_all-from_AllPass _ (trim (without_ending raw)) (clean_trim (without_ending raw) (clean_strip 13 (strip_last 10 raw) (clean_line raw h.0))), clean_lines (number + 1) raws h.1)
+
+lines_clean : (bytes : List ℕ) → HaveNoFeed (lines bytes)
+lines_clean bytes = clean_lines 1 (raw_lines bytes) (all_raw bytes)
+
+unless_long : (long : Bool) (all text : List Line) → HaveNoFeed all → cond long (Err TooLong) (Ok all) ≡ Ok text → HaveNoFeed text
+unless_long true all text h e = absurd cc
+unless_long false all text h e = let same : all ≡ text = cc in subst HaveNoFeed same h
+
+-- no line of a text that isn't too long has a line feed
+pub lines_have_no_feed : (bytes : List ℕ) (text : List Line) → lines_of bytes ≡ Ok text → HaveNoFeed text
+lines_have_no_feed bytes text e = unless_long (ltb LONGEST_PUZZLE (length bytes)) (lines bytes) text (lines_clean bytes) e
+
+-- ---- fields
+
+clean_kept : (b : Bool) (line : Line) (others : List Line) → has_no_feed line.text ≡ true → HaveNoFeed others → HaveNoFeed (cond b (line ∷ others) others)
+clean_kept true line others here h = (here, h)
+clean_kept false line others here h = h
+
+clean_filter : (p : Line → Bool) (text : List Line) → HaveNoFeed text → HaveNoFeed (filter p text)
+clean_filter p [] h = tt
+clean_filter p (line ∷ text) h = clean_kept (p line) line (filter p text) h.0 (clean_filter p text h.1)
+
+-- the line's number, if its text is too long
+abbrev long_of : Option Line → Option ℕ
+long_of o = number_of_line (option_and_then (λ line. cond (ltb LONGEST_TEXT (length (text_of line))) (Some line) None) o)
+
+short : (line : Line) (b : Bool) → number_of_line (cond b (Some line) None) ≡ None → b ≡ false
+short line true e = absurd cc
+short line false e = refl
+
+lawful_field : (o : Option Line) → ((line : Line) → o ≡ Some line → has_no_feed line.text ≡ true) → long_of o ≡ None → is_field (option_map text_of o) ≡ true
+lawful_field None clean fits = refl
+lawful_field (Some line) clean fits =
+    let within = ltb-false _ _ (short line (ltb LONGEST_TEXT (length (text_of line))) fits) in
+    and_from (leb (length (text_of line)) LONGEST_TEXT) (has_no_feed (text_of line)) (le-leb _ _ within) (clean_text line (clean line refl))
+
+first_clean : (text : List Line) → HaveNoFeed text → (line : Line) → slice_get text 0 ≡ Some line → has_no_feed line.text ≡ true
+first_clean [] h line e = absurd cc
+first_clean (found ∷ text) h line e = let same : found ≡ line = cc in ap (λ (l : Line). has_no_feed l.text) (sym same) ∙ h.0
+
+lawful_text : (word : List ℕ) (text : List Line) → HaveNoFeed text → number_of_line (long_text text word) ≡ None → is_field (field_text word text) ≡ true
+lawful_text word text h fits = lawful_field (first_with word text) (first_clean (filter (has_keyword word) text) (clean_filter (has_keyword word) text h)) fits
+
+least_none : (m n : Option ℕ) → least m n ≡ None → (m ≡ None) × (n ≡ None)
+least_none None n e = (refl, e)
+least_none (Some m) None e = absurd cc
+least_none (Some m) (Some n) e = absurd cc
+
+-- where no line is bad, the texts may stand in their fields
+pub lawful_texts : (text : List Line) → HaveNoFeed text → bad_line text ≡ None → IsDescription (texts_of text)
+lawful_texts text h none =
+    let stray = option_map (λ (place : List ℕ × Line). place.1.number) (find is_stray (placed [] text)) in
+    let long = λ (word : List ℕ). number_of_line (long_text text word) in
+    let e = long (codes "license") in
+    let d = long (codes "copyright") in
+    let c = long (codes "by") in
+    let b = long (codes "title") in
+    let a = long (codes "catalogue") in
+    let from_a = (least_none stray (least a (least b (least c (least d (least e None))))) none).1 in
+    let in_a = least_none a (least b (least c (least d (least e None)))) from_a in
+    let in_b = least_none b (least c (least d (least e None))) in_a.1 in
+    let in_c = least_none c (least d (least e None)) in_b.1 in
+    let in_d = least_none d (least e None) in_c.1 in
+    let in_e = least_none e None in_d.1 in
+    record {
+      catalogue = lawful_text (codes "catalogue") text h in_a.0;
+      title = lawful_text (codes "title") text h in_b.0;
+      by = lawful_text (codes "by") text h in_c.0;
+      copyright = lawful_text (codes "copyright") text h in_d.0;
+      license = lawful_text (codes "license") text h in_e.0;
+    }

@@ -1,0 +1,18 @@
+mod Rows
+pub mod LinesLemmas
+pub mod NumbersLemmas
+pub mod EachLemmas
+pub mod SectionsLemmas
+pub mod MkLemmas
+pub mod KeywordsLemmas
+pub mod WritingLemmas
+pub mod ReadBack
+pub mod ReadClue
+pub mod ReadClues
+pub mod ReadMk
+pub mod ReadNin
+pub mod GreaterLimit
+pub mod NonText
+pub mod ReadNon
+pub mod CollectionsLemmas
+pub mod FeedsLemmas

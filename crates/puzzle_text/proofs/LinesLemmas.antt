@@ -1,0 +1,51 @@
+-- Lemmas on lines.
+use Rattle.std.proofs.Common.{◌≡◌, ℕ, suc, ◌+◌, ◌<◌, ◌≤◌, Bool, true, false, cond, eqb, ltb, List, [], ◌∷◌, length, take, drop, refl, sym, ap, ◌∙◌, arith, inl, inr, Some, None}
+use Rattle.std.specs.List.{position_or_len, position, onto_first}
+use Rattle.std.proofs.lemmas.Bool.{cases_Bool, cond-false, ltb-true, ltb-false}
+use Rattle.std.proofs.lemmas.List.{take_all, drop_all}
+use Rattle.puzzle_text.specs.Lines.{raw_lines}
+
+abbrev pub first_end : List ℕ → ℕ
+first_end bytes = position_or_len (λ byte. eqb byte 10) bytes
+
+-- the first line is the first n bytes
+abbrev CutsAt : List ℕ → ℕ → Type 0
+CutsAt bytes n = raw_lines bytes ≡ take n bytes ∷ raw_lines (drop n bytes)
+
+at_feed : (byte : ℕ) (bytes : List ℕ) → eqb byte 10 ≡ true → CutsAt (byte ∷ bytes) (first_end (byte ∷ bytes) + 1)
+at_feed byte bytes feed = rw feed refl
+
+at_other : (byte next : ℕ) (bytes : List ℕ) → eqb byte 10 ≡ false → CutsAt (next ∷ bytes) (first_end (next ∷ bytes) + 1) → CutsAt (byte ∷ next ∷ bytes) (first_end (byte ∷ next ∷ bytes) + 1)
+at_other byte next bytes other later =
+    let end : first_end (byte ∷ next ∷ bytes) + 1 ≡ suc (first_end (next ∷ bytes) + 1) = rw other (omega arith) in
+    let one : raw_lines (byte ∷ next ∷ bytes) ≡ onto_first byte (raw_lines (next ∷ bytes)) = cond-false (eqb byte 10) ((byte ∷ []) ∷ raw_lines (next ∷ bytes)) (onto_first byte (raw_lines (next ∷ bytes))) other in
+    one ∙ ap (onto_first byte) later ∙ sym (ap (λ (k : ℕ). take k (byte ∷ next ∷ bytes) ∷ raw_lines (drop k (byte ∷ next ∷ bytes))) end)
+
+at_last : (byte : ℕ) → eqb byte 10 ≡ false → CutsAt (byte ∷ []) (first_end (byte ∷ []) + 1)
+at_last byte other = rw other refl
+
+cut_at : (bytes : List ℕ) → 0 < length bytes → CutsAt bytes (first_end bytes + 1)
+cut_at [] h = absurd (omega arith)
+cut_at (byte ∷ []) h = elim (cases_Bool (eqb byte 10)) [ inl feed ↦ at_feed byte [] feed | inr other ↦ at_last byte other ]
+cut_at (byte ∷ next ∷ bytes) h = elim (cases_Bool (eqb byte 10)) [ inl feed ↦ at_feed byte (next ∷ bytes) feed | inr other ↦ at_other byte next bytes other (cut_at (next ∷ bytes) (omega arith)) ]
+
+pub chosen : (b : Bool) (m n : ℕ) → cond b (Some m) None ≡ Some n → (b ≡ true) × (m ≡ n)
+chosen true m n e = (refl, cc)
+chosen false m n e = absurd cc
+
+pub not_chosen : (b : Bool) (m : ℕ) → cond b (Some m) None ≡ None → b ≡ false
+not_chosen true m e = absurd cc
+not_chosen false m e = refl
+
+-- the first line ends at the first line feed
+pub cut_at_feed : (bytes : List ℕ) (i : ℕ) → position (λ byte. eqb byte 10) bytes ≡ Some i → raw_lines bytes ≡ take (i + 1) bytes ∷ raw_lines (drop (i + 1) bytes)
+cut_at_feed bytes i e =
+    let found = chosen (ltb (first_end bytes) (length bytes)) (first_end bytes) i e in
+    let inside : 0 < length bytes = omega (arith, ltb-true _ _ found.0) in
+    rw (← found.1) (cut_at bytes inside)
+
+-- and else with the text
+pub cut_at_end : (bytes : List ℕ) → 0 < length bytes → position (λ byte. eqb byte 10) bytes ≡ None → raw_lines bytes ≡ bytes ∷ []
+cut_at_end bytes h e =
+    let past : length bytes ≤ first_end bytes + 1 = omega (arith, ltb-false _ _ (not_chosen (ltb (first_end bytes) (length bytes)) (first_end bytes) e)) in
+    rw (cut_at bytes h, take_all (first_end bytes + 1) bytes past, drop_all (first_end bytes + 1) bytes past) refl

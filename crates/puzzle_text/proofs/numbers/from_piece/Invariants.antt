@@ -1,0 +1,9 @@
+use Rattle.std.proofs.Common.{◌≡◌, ◌≤◌, length}
+use Rattle.puzzle_text.specs.Numbers.{pieces}
+use Rattle.puzzle_text.proofs.numbers.from_piece.Given as goal
+
+abbrev pub invariant-loop-text : goal.invariant-loop-text
+invariant-loop-text l = (pieces l.text ≡ pieces l.fn.text) × (length l.text ≤ length l.fn.text)
+
+abbrev pub decreases-loop-text : goal.decreases-loop-text
+decreases-loop-text l = length l.text

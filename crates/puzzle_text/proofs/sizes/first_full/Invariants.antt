@@ -1,0 +1,10 @@
+use Rattle.std.proofs.Common.{◌≡◌, length, map}
+use Rattle.puzzle_text.specs.Sizes.{first_full}
+use Rattle.puzzle_text.specs.Shown.{shown_line}
+use Rattle.puzzle_text.proofs.sizes.first_full.Given as goal
+
+abbrev pub invariant-loop-rest : goal.invariant-loop-rest
+invariant-loop-rest l = first_full (map shown_line l.rest) ≡ first_full (map shown_line l.lines)
+
+abbrev pub decreases-loop-rest : goal.decreases-loop-rest
+decreases-loop-rest l = length l.rest

@@ -1,0 +1,6 @@
+use Rattle.std.proofs.Common.{◌≡◌, ◌++◌, map, take}
+use Rattle.puzzle_text.specs.Written.{goal_byte}
+use Rattle.puzzle_text.proofs.writing.push_cells.Given as goal
+
+abbrev pub invariant-loop-cell : goal.invariant-loop-cell
+invariant-loop-cell l = l.out.items ≡ l.fn.out.items ++ map goal_byte (take l.cell-index l.cells)

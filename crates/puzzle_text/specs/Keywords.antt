@@ -1,0 +1,58 @@
+-- Keyword lines.
+use Rattle.std.specs.Prelude.{ℕ, Bool, List, [], ◌∷◌, codes, drop, filter, Option, Some, None, option_and_then, ◌==◌, if◌then◌else◌, slice_get, take_while, reverse, unwrap_or}
+use Rattle.std.specs.Option.{option_map}
+use Rattle.std.specs.List.{prefix_len}
+use Rattle.std.specs.Str.{bytes_eq, str_to_ascii_lowercase}
+use Rattle.std.specs.Char.{is_ascii_alphabetic}
+use Rattle.grid_core.specs.declared.fields.Field.{Field}
+use Rattle.grid_core.specs.declared.fields.Field.TheVariants.{Catalogue, Title, By, Copyright, License}
+use Rattle.puzzle_text.specs.Lines.{Line, trim}
+
+-- the keyword of a text field
+abbrev pub field_word : Field → List ℕ
+field_word Catalogue = codes "catalogue"
+field_word Title = codes "title"
+field_word By = codes "by"
+field_word Copyright = codes "copyright"
+field_word License = codes "license"
+
+-- the letters that a line begins with, in lower case; none, if it is no keyword line
+abbrev pub keyword : Line → List ℕ
+keyword line = str_to_ascii_lowercase (take_while is_ascii_alphabetic line.text)
+
+-- what follows the keyword
+abbrev pub rest : Line → List ℕ
+rest line = trim (drop (prefix_len is_ascii_alphabetic line.text) line.text)
+
+-- whether a line's keyword is this word
+abbrev pub has_keyword : List ℕ → Line → Bool
+has_keyword word line = bytes_eq (keyword line) word
+
+-- the lines with this keyword
+abbrev pub with_keyword : List ℕ → List Line → List Line
+with_keyword word lines = filter (has_keyword word) lines
+
+-- the first line with this keyword
+abbrev pub first_with : List ℕ → List Line → Option Line
+first_with word lines = slice_get (with_keyword word lines) 0
+
+-- the second line with this keyword
+abbrev pub second_with : List ℕ → List Line → Option Line
+second_with word lines = slice_get (with_keyword word lines) 1
+
+-- what stands after the first double quote, if there is one
+abbrev pub after_quote : List ℕ → Option (List ℕ)
+after_quote [] = None
+after_quote (byte ∷ bytes) = if byte == 34 then Some bytes else after_quote bytes
+
+-- what stands before the last double quote, if there is one
+abbrev pub before_quote : List ℕ → Option (List ℕ)
+before_quote bytes = option_map reverse (after_quote (reverse bytes))
+
+-- what stands between the first and the last double quote, or all of it where there are not two
+abbrev pub quoted : List ℕ → List ℕ
+quoted bytes = unwrap_or (option_and_then before_quote (after_quote bytes)) bytes
+
+-- the text of a field's line
+abbrev pub text_of : Line → List ℕ
+text_of line = quoted (rest line)

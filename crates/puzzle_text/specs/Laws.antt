@@ -1,0 +1,34 @@
+-- Laws of the formats.
+use Rattle.std.specs.Prelude.{◌≡◌, ℕ, ◌≤◌, false, List, length, Result, Ok, Err}
+use Rattle.grid_core.specs.Nonogram.{Nonogram, IsNonogramWithin, plain}
+use Rattle.puzzle_text.specs.declared.faults.TextFault.{TextFault}
+use Rattle.puzzle_text.specs.declared.faults.TextFault.TheVariants.{BadSize, BadNumber}
+use Rattle.puzzle_text.specs.declared.limits.TheConstants.{LONGEST_PUZZLE}
+use Rattle.puzzle_text.specs.Mk.{read_mk}
+use Rattle.puzzle_text.specs.Nin.{read_nin}
+use Rattle.puzzle_text.specs.Non.{read_non}
+use Rattle.puzzle_text.specs.Written.{text_mk, text_nin, text_non, is_ambiguous}
+
+-- what is written in .mk is read again, without texts and goal
+abbrev pub MkIsReadBack : ℕ → Type 0
+MkIsReadBack limit = (p : Nonogram) → IsNonogramWithin limit p → read_mk limit (text_mk p) ≡ Ok (plain p.width p.height p.rows p.columns)
+
+-- what is written in .nin, and isn't ambiguous, is read again, without texts and goal
+abbrev pub NinIsReadBack : ℕ → Type 0
+NinIsReadBack limit = (p : Nonogram) → IsNonogramWithin limit p → is_ambiguous p ≡ false → read_nin limit (text_nin p) ≡ Ok (plain p.width p.height p.rows p.columns)
+
+-- what is written in .non is read again, texts and goal included
+abbrev pub NonIsReadBack : ℕ → Type 0
+NonIsReadBack limit = (p : Nonogram) → IsNonogramWithin limit p → read_non limit (text_non p) ≡ Ok p
+
+-- what is written in any format is short enough to be read
+abbrev pub WrittenIsShort : ℕ → Type 0
+WrittenIsShort limit = (p : Nonogram) → IsNonogramWithin limit p → (length (text_non p) ≤ LONGEST_PUZZLE) × (length (text_mk p) ≤ LONGEST_PUZZLE) × (length (text_nin p) ≤ LONGEST_PUZZLE)
+
+-- new is old, unless old is BadSize or BadNumber
+abbrev pub KeepsAnswer : {A : Type 0} → Result A TextFault → Result A TextFault → Type 0
+KeepsAnswer old new = (old ≡ Err BadSize → ⊥) → ((number : ℕ) → old ≡ Err (BadNumber number) → ⊥) → new ≡ old
+
+-- a greater limit keeps what a text says: the same puzzle, or the same fault, unless a size or a number was out of range
+abbrev pub GreaterLimitKeeps : ℕ → ℕ → Type 0
+GreaterLimitKeeps limit greater = (bytes : List ℕ) → KeepsAnswer (read_non limit bytes) (read_non greater bytes) × KeepsAnswer (read_mk limit bytes) (read_mk greater bytes) × KeepsAnswer (read_nin limit bytes) (read_nin greater bytes)

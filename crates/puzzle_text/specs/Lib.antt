@@ -1,0 +1,17 @@
+pub mod Lines
+pub mod Numbers
+pub mod Answers
+pub mod ClueLines
+pub mod Sections
+pub mod Sizes
+pub mod Readings
+pub mod Nin
+pub mod Mk
+pub mod Keywords
+pub mod Non
+pub mod Collections
+pub mod Formats
+pub mod Shown
+pub mod Words
+pub mod Written
+pub mod Laws

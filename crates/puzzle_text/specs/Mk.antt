@@ -1,0 +1,60 @@
+-- What a text in .mk says: the first check that fails, each over all lines, or the puzzle.
+use Rattle.std.specs.Prelude.{ℕ, ◌+◌, Bool, List, ◌++◌, take, drop, Option, Some, None, Result, Ok, option_and_then, ◌==◌, slice_index}
+use Rattle.std.specs.List.{position, before_first}
+use Rattle.std.specs.Option.{option_map}
+use Rattle.grid_core.specs.Nonogram.{Nonogram}
+use Rattle.puzzle_text.specs.declared.faults.TextFault.{TextFault}
+use Rattle.puzzle_text.specs.declared.faults.TextFault.TheVariants.{NoSection, BadCount}
+use Rattle.puzzle_text.specs.Lines.{Line}
+use Rattle.puzzle_text.specs.Answers.{◌>>=◌, or_fault}
+use Rattle.puzzle_text.specs.ClueLines.{clues_of}
+use Rattle.puzzle_text.specs.Sections.{choice}
+use Rattle.puzzle_text.specs.Sizes.{lines_of, size_line}
+use Rattle.puzzle_text.specs.Readings.{reading}
+
+-- whether a line begins with #
+abbrev pub is_hash : Line → Bool
+is_hash line = slice_index line.text 0 == 35
+
+-- the lines before the first that begins with #, and those after it
+abbrev pub at_hash : List Line → Option (List Line × List Line)
+at_hash lines = option_map (λ i. (take i lines, drop (i + 1) lines)) (position is_hash lines)
+
+-- the lines before the first that begins with #, or all of them
+abbrev pub before_hash : List Line → List Line
+before_hash lines = before_first is_hash lines
+
+-- the clue lines of both sections at these sizes
+abbrev pub both_choices : ℕ → ℕ → List Line → List Line → Option (List Line)
+both_choices width height rows columns = option_and_then (λ chosen. option_and_then (λ more. Some (chosen ++ more)) (choice width columns)) (choice height rows)
+
+-- sizes, and the clue lines chosen for them
+pub record Layout : Type 0 where
+  pub width : ℕ
+  pub height : ℕ
+  pub chosen : List Line
+
+-- these sizes with their clue lines, if both sections have as many
+abbrev pub layout : ℕ → ℕ → List Line → List Line → Option Layout
+layout width height rows columns = option_and_then (λ chosen. Some (record { width = width; height = height; chosen = chosen })) (both_choices width height rows columns)
+
+-- the first that is there
+abbrev pub or_else : {A : Type 0} → Option A → Option A → Option A
+or_else None other = other
+or_else (Some x) other = Some x
+
+-- the puzzle that these clue lines say, the first of which are its rows
+abbrev pub puzzle_of : ℕ → ℕ → ℕ → List Line → Result Nonogram TextFault
+puzzle_of limit width height chosen = clues_of limit chosen >>= λ clues. Ok (reading width height clues)
+
+-- the puzzle that these lines say: the height stands first in the size line, unless only the other order has clue lines in both sections
+abbrev pub mk_of : ℕ → List Line → Result Nonogram TextFault
+mk_of limit lines = do
+  size ← size_line limit lines
+  parts ← or_fault NoSection (at_hash size.1)
+  fitting ← or_fault BadCount (or_else (layout size.0.1 size.0.0 parts.0 (before_hash parts.1)) (layout size.0.0 size.0.1 parts.0 (before_hash parts.1)))
+  puzzle_of limit fitting.width fitting.height fitting.chosen
+
+-- the puzzle that a text says
+abbrev pub read_mk : ℕ → List ℕ → Result Nonogram TextFault
+read_mk limit bytes = lines_of bytes >>= mk_of limit

@@ -1,0 +1,166 @@
+-- What a text in .non says: the first check that fails, each over all lines, or the puzzle.
+use Rattle.std.specs.Prelude.{ℕ, ◌*◌, Bool, true, false, not, ◌&&◌, ◌||◌, List, [], ◌∷◌, length, map, filter, codes, Option, Some, None, Result, Ok, Err, option_and_then, nat_lt, ◌==◌, min, if◌then◌else◌}
+use Rattle.std.specs.Option.{option_map}
+use Rattle.std.specs.List.{find}
+use Rattle.std.specs.Str.{bytes_eq}
+use Rattle.grid_core.specs.Description.{Description}
+use Rattle.grid_core.specs.declared.fields.Field.{Field}
+use Rattle.grid_core.specs.declared.fields.Field.TheVariants.{Catalogue, Title, By, Copyright, License}
+use Rattle.grid_core.specs.Nonogram.{Nonogram}
+use Rattle.grid_core.specs.declared.limits.TheConstants.{LONGEST_TEXT}
+use Rattle.puzzle_text.specs.declared.faults.TextFault.{TextFault}
+use Rattle.puzzle_text.specs.declared.faults.TextFault.TheVariants.{NoSize, NoSection, BadLine, Twice, BadCount, BadGoal}
+use Rattle.puzzle_text.specs.Lines.{Line, is_empty, is_full}
+use Rattle.puzzle_text.specs.Answers.{◌>>=◌, or_fault, each_some}
+use Rattle.puzzle_text.specs.ClueLines.{clues_of}
+use Rattle.puzzle_text.specs.Sections.{choice}
+use Rattle.puzzle_text.specs.Sizes.{lines_of, size_of}
+use Rattle.puzzle_text.specs.Mk.{is_hash}
+use Rattle.puzzle_text.specs.Keywords.{field_word, keyword, rest, first_with, second_with, text_of}
+
+-- ---- sections
+
+-- whether a line is neither a keyword line nor a comment
+abbrev pub is_content : Line → Bool
+is_content line = is_empty (keyword line) && not (is_hash line)
+
+-- each such line, beside the nearest keyword before it; under is the keyword before all
+abbrev pub placed : List ℕ → List Line → List (List ℕ × Line)
+placed under [] = []
+placed under (line ∷ lines) =
+    let others = placed (if is_empty (keyword line) then under else keyword line) lines in
+    if is_content line then (under, line) ∷ others else others
+
+-- the lines of the section that a keyword opens
+abbrev pub section : List ℕ → List (List ℕ × Line) → List Line
+section word places = map (λ place. place.1) (filter (λ place. bytes_eq place.0 word) places)
+
+-- whether a line says something and stands in no section
+abbrev pub is_stray : List ℕ × Line → Bool
+is_stray place = is_full place.1 && not (bytes_eq place.0 (codes "rows") || bytes_eq place.0 (codes "columns"))
+
+-- ---- checks
+
+-- the lesser of two numbers, or the one that is there
+abbrev pub least : Option ℕ → Option ℕ → Option ℕ
+least None other = other
+least (Some m) None = Some m
+least (Some m) (Some n) = Some (min m n)
+
+-- the least of the numbers that are there
+abbrev pub least_of : List (Option ℕ) → Option ℕ
+least_of [] = None
+least_of (number ∷ numbers) = least number (least_of numbers)
+
+-- a check that fails at this line, if there is one
+abbrev pub refuse_at : (ℕ → TextFault) → Option ℕ → Result (Unit {0}) TextFault
+refuse_at fault None = Ok tt
+refuse_at fault (Some number) = Err (fault number)
+
+-- the first line of a text field, if its text is too long
+abbrev pub long_text : List Line → List ℕ → Option Line
+long_text lines word = option_and_then (λ line. if nat_lt LONGEST_TEXT (length (text_of line)) then Some line else None) (first_with word lines)
+
+-- the keywords of the text fields
+abbrev pub text_words : List (List ℕ)
+text_words = map field_word (Catalogue ∷ Title ∷ By ∷ Copyright ∷ License ∷ [])
+
+-- the keywords that may stand once only
+abbrev pub single_words : List (List ℕ)
+single_words = codes "width" ∷ codes "height" ∷ codes "rows" ∷ codes "columns" ∷ []
+
+-- the number of a line, if there is one
+abbrev pub number_of_line : Option Line → Option ℕ
+number_of_line found = option_map (λ line. line.number) found
+
+-- the least number of a stray line, or of the first line of a text field that is too long
+abbrev pub bad_line : List Line → Option ℕ
+bad_line lines = least (option_map (λ place. place.1.number) (find is_stray (placed [] lines))) (least_of (map (λ word. number_of_line (long_text lines word)) text_words))
+
+-- the first line that repeats a keyword which may stand once only
+abbrev pub repeated : List Line → Option ℕ
+repeated lines = least_of (map (λ word. number_of_line (second_with word lines)) single_words)
+
+-- that no line is out of place
+abbrev pub in_place : List Line → Result (Unit {0}) TextFault
+in_place lines = refuse_at BadLine (bad_line lines) >>= λ _. refuse_at Twice (repeated lines)
+
+-- ---- parts
+
+-- the width and the height
+abbrev pub sizes_of : ℕ → List Line → Result (ℕ × ℕ) TextFault
+sizes_of limit lines = do
+  width_line ← or_fault NoSize (first_with (codes "width") lines)
+  height_line ← or_fault NoSize (first_with (codes "height") lines)
+  width ← size_of limit (rest width_line)
+  height ← size_of limit (rest height_line)
+  Ok (width, height)
+
+-- whether the rows section stands before the columns section
+abbrev pub rows_first : List Line → Result Bool TextFault
+rows_first lines = do
+  rows_line ← or_fault NoSection (first_with (codes "rows") lines)
+  columns_line ← or_fault NoSection (first_with (codes "columns") lines)
+  Ok (nat_lt rows_line.number columns_line.number)
+
+-- the clue lines of a section
+abbrev pub clue_lines_of : List ℕ → ℕ → List Line → Result (List Line) TextFault
+clue_lines_of word count lines = or_fault BadCount (choice count (section word (placed [] lines)))
+
+-- the row clues and the column clues; of the two sections the one that stands first in the text is checked first
+abbrev pub both_clues : ℕ → Bool → List Line → List Line → Result (List (List ℕ) × List (List ℕ)) TextFault
+both_clues limit true rows columns = clues_of limit rows >>= λ row_clues. clues_of limit columns >>= λ column_clues. Ok (row_clues, column_clues)
+both_clues limit false rows columns = clues_of limit columns >>= λ column_clues. clues_of limit rows >>= λ row_clues. Ok (row_clues, column_clues)
+
+-- the colour that a goal's byte says, true for filled
+abbrev pub cell_of : ℕ → Option Bool
+cell_of byte = if byte == 48 then Some false else (if byte == 49 then Some true else None)
+
+-- the cells of a goal of this many
+abbrev pub goal_cells : ℕ → List ℕ → Option (List Bool)
+goal_cells count text = if length text == count then each_some cell_of text else None
+
+-- the goal that a line says, if there is one
+abbrev pub goal_of : ℕ → Option Line → Result (Option (List Bool)) TextFault
+goal_of count None = Ok None
+goal_of count (Some line) = or_fault (BadGoal line.number) (goal_cells count (text_of line)) >>= λ cells. Ok (Some cells)
+
+-- the text of the first line of a field
+abbrev pub field_text : List ℕ → List Line → Option (List ℕ)
+field_text word lines = option_map text_of (first_with word lines)
+
+-- the description with this text of a field, or none
+abbrev pub with_field : Description → Field → Option (List ℕ) → Description
+with_field d Catalogue text = record d { catalogue = text }
+with_field d Title text = record d { title = text }
+with_field d By text = record d { by = text }
+with_field d Copyright text = record d { copyright = text }
+with_field d License text = record d { license = text }
+
+-- the texts of all fields
+abbrev pub texts_of : List Line → Description
+texts_of lines = record {
+  catalogue = field_text (field_word Catalogue) lines;
+  title = field_text (field_word Title) lines;
+  by = field_text (field_word By) lines;
+  copyright = field_text (field_word Copyright) lines;
+  license = field_text (field_word License) lines;
+}
+
+-- ---- the puzzle
+
+-- the puzzle that these lines say
+abbrev pub non_of : ℕ → List Line → Result Nonogram TextFault
+non_of limit lines = do
+  sizes ← sizes_of limit lines
+  order ← rows_first lines
+  checked ← in_place lines
+  rows ← clue_lines_of (codes "rows") sizes.1 lines
+  columns ← clue_lines_of (codes "columns") sizes.0 lines
+  clues ← both_clues limit order rows columns
+  goal ← goal_of (sizes.0 * sizes.1) (first_with (codes "goal") lines)
+  Ok (record { width = sizes.0; height = sizes.1; rows = clues.0; columns = clues.1; texts = texts_of lines; goal = goal })
+
+-- the puzzle that a text says
+abbrev pub read_non : ℕ → List ℕ → Result Nonogram TextFault
+read_non limit bytes = lines_of bytes >>= non_of limit

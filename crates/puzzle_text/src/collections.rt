@@ -1,0 +1,132 @@
+//! Collections of puzzle texts.
+
+ghost use Rattle.std.specs.Prelude.{◌≡◌, ◌∷◌, ◌++◌, ◌<◌, ◌≤◌, ◌^◌, drop, take, map, false, length, Err, IfOk};
+ghost use Rattle.puzzle_text.specs.Collections.{GivesEntries, body_of, cut, entries_of, is_marker, name_of, stray_from};
+ghost use Rattle.puzzle_text.specs.Lines.{raw_lines};
+ghost use Rattle.puzzle_text.specs.Shown.{shown_entry};
+
+use crate::faults::CollectionFault;
+use crate::limits::{LONGEST_COLLECTION, MOST_ENTRIES};
+use crate::lines::{split_line, trim, without_ending};
+use std::alloc::{AllocError, Global};
+
+/// The name and the text of a puzzle. The name's ending tells the text's format.
+#[derive(Clone, Copy, Debug)]
+pub struct Entry<'a> {
+    pub name: &'a [u8],
+    pub body: &'a [u8],
+}
+
+/// Whether a line, with its line feed, begins an entry.
+fn is_marker(raw: &[u8]) -> bool
+    ensures { result ≡ is_marker raw.now }
+{
+    match without_ending(raw) {
+        [first] => *first == b'@',
+        [first, second, ..] => *first == b'@' && (*second == b' ' || *second == b'\t'),
+        [] => false,
+    }
+}
+
+/// The name that a marker line gives.
+fn name_of(raw: &[u8]) -> &[u8]
+    ensures { result.now ≡ name_of raw.now }
+{
+    match without_ending(raw) {
+        [_, rest @ ..] => trim(rest),
+        [] => &[],
+    }
+}
+
+/// How long the lines up to the next marker line are.
+fn body_len(bytes: &[u8]) -> usize
+    ensures within { result ≤ length bytes.now }
+    ensures body { take result bytes.now ≡ body_of (raw_lines bytes.now) }
+{
+    let mut rest = bytes;
+    'lines: while !rest.is_empty() {
+        let (raw, after) = split_line(rest);
+        if is_marker(raw) {
+            break;
+        }
+        rest = after;
+    }
+    bytes.len() - rest.len()
+}
+
+/// How many entries a collection has.
+fn entry_count(bytes: &[u8]) -> usize
+    ensures { result ≡ length (entries_of (raw_lines bytes.now)) }
+{
+    let mut rest = bytes;
+    let mut count = 0;
+    'lines: while !rest.is_empty() {
+        let (raw, after) = split_line(rest);
+        if is_marker(raw) {
+            count += 1;
+        }
+        rest = after;
+    }
+    count
+}
+
+fn entries_of<'a>(alloc: Global, bytes: &'a [u8]) -> Result<Vec<Entry<'a>>, AllocError>
+    ensures { IfOk result (λ found. map shown_entry found.items ≡ entries_of (raw_lines bytes.now)) }
+{
+    let mut found = Vec::new(alloc);
+    let mut rest = bytes;
+    'lines: while !rest.is_empty() {
+        let (raw, after) = split_line(rest);
+        if is_marker(raw) {
+            let (body, _) = after.split_at(body_len(after));
+            found.push(Entry {
+                name: name_of(raw),
+                body,
+            })?;
+        }
+        rest = after;
+    }
+    Ok(found)
+}
+
+/// The number of the first line that belongs to no entry or names none.
+fn first_stray(bytes: &[u8]) -> Option<u32>
+    requires { length bytes.now < 2 ^ 32 }
+    ensures { result ≡ stray_from 1 false (raw_lines bytes.now) }
+{
+    let mut rest = bytes;
+    let mut number = 0u32;
+    let mut inside = false;
+    'lines: while !rest.is_empty() {
+        let (raw, after) = split_line(rest);
+        number += 1;
+        if is_marker(raw) {
+            if name_of(raw).is_empty() {
+                return Some(number);
+            }
+            inside = true;
+        } else if !inside && !trim(without_ending(raw)).is_empty() {
+            return Some(number);
+        }
+        rest = after;
+    }
+    None
+}
+
+/// The entries of a collection. A line `@ NAME` begins an entry; its text is the lines after that one up to the next such line or the end.
+pub fn entries<'a>(alloc: Global, bytes: &'a [u8]) -> Result<Vec<Entry<'a>>, CollectionFault>
+    ensures answer { GivesEntries (λ found. map shown_entry found.items) result (cut bytes.now) }
+    // Want of memory never stands in place of this fault.
+    ensures too_long { LONGEST_COLLECTION < length bytes.now → result ≡ Err CollectionFault.TooLong }
+{
+    if bytes.len() > LONGEST_COLLECTION {
+        return Err(CollectionFault::TooLong);
+    }
+    if let Some(number) = first_stray(bytes) {
+        return Err(CollectionFault::Stray(number));
+    }
+    if entry_count(bytes) > MOST_ENTRIES {
+        return Err(CollectionFault::TooMany);
+    }
+    Ok(entries_of(alloc, bytes)?)
+}

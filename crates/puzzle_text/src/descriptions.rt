@@ -1,0 +1,68 @@
+//! The texts of a puzzle in a .non text.
+
+ghost use Rattle.std.specs.Prelude.{◌≡◌, map, true, Option, None, IfOk, OnOk};
+ghost use Rattle.std.specs.Option.{option_map};
+ghost use Rattle.grid_core.specs.Description.{IsDescription, is_field, text_of};
+ghost use Rattle.puzzle_text.specs.Keywords.{field_word};
+ghost use Rattle.puzzle_text.specs.Non.{field_text, long_text, number_of_line, texts_of, with_field};
+ghost use Rattle.puzzle_text.specs.Shown.{shown_line};
+
+use crate::keywords::{field_word, nth_with, text_of};
+use crate::lines::Line;
+use grid_core::{Field, LONGEST_TEXT, NoMemory, Texts, TextsFault};
+use std::alloc::Global;
+
+/// The first line of a text field, if its text is too long.
+fn long_text<'a, 'b>(lines: &'b [Line<'a>], field: Field) -> Option<&'b Line<'a>>
+    ensures { option_map (λ line. shown_line line.now) result ≡ long_text (map shown_line lines.now) (field_word field) }
+{
+    match nth_with(field_word(field), 0, lines) {
+        Some(line) if text_of(line).len() > LONGEST_TEXT => Some(line),
+        _ => None,
+    }
+}
+
+/// The number of the first line of a text field, if its text is too long.
+pub(crate) fn long_number(lines: &[Line<'_>], field: Field) -> Option<u32>
+    ensures { result ≡ number_of_line (long_text (map shown_line lines.now) (field_word field)) }
+{
+    match long_text(lines, field) {
+        Some(line) => Some(line.number),
+        None => None,
+    }
+}
+
+/// Sets a field that has no text yet to that of its first line, if there is one.
+fn set_field(
+    alloc: Global,
+    texts: &mut Texts,
+    field: Field,
+    lines: &[Line<'_>],
+) -> Result<(), NoMemory>
+    requires unset { text_of texts.old field ≡ None }
+    requires lawful { is_field (field_text (field_word field) (map shown_line lines.now)) ≡ true }
+    ensures { OnOk result (texts.new ≡ with_field texts.old field (field_text (field_word field) (map shown_line lines.now))) }
+{
+    let Some(line) = nth_with(field_word(field), 0, lines) else {
+        return Ok(());
+    };
+    match texts.set(alloc, field, text_of(line)) {
+        Ok(()) => Ok(()),
+        Err(TextsFault::NoMemory) => Err(NoMemory),
+        Err(TextsFault::BadText) => unreachable!(),
+    }
+}
+
+/// The texts of all fields.
+pub(crate) fn texts_of(alloc: Global, lines: &[Line<'_>]) -> Result<Texts, NoMemory>
+    requires { IsDescription (texts_of (map shown_line lines.now)) }
+    ensures { IfOk result (λ texts. texts ≡ texts_of (map shown_line lines.now)) }
+{
+    let mut texts = Texts::none();
+    set_field(alloc, &mut texts, Field::Catalogue, lines)?;
+    set_field(alloc, &mut texts, Field::Title, lines)?;
+    set_field(alloc, &mut texts, Field::By, lines)?;
+    set_field(alloc, &mut texts, Field::Copyright, lines)?;
+    set_field(alloc, &mut texts, Field::License, lines)?;
+    Ok(texts)
+}

@@ -1,0 +1,61 @@
+//! Whether clues fit their lines.
+
+ghost use Rattle.std.specs.Prelude.{◌≡◌, ◌+◌, ◌-◌, ◌≤◌, ◌++◌, sum, length};
+ghost use Rattle.std.specs.List.{list_all};
+ghost use Rattle.puzzle_text.specs.Readings.{fits, sum_all};
+
+use grid_core::{Clue, MOST_RUNS};
+
+/// The sum of a clue's numbers.
+fn sum_of(numbers: &[u16]) -> u32
+    requires { length numbers.now ≤ MOST_RUNS }
+    ensures { result ≡ sum numbers.now }
+{
+    numbers.iter().map(|number| u32::from(*number)).sum()
+}
+
+/// How many cells a clue fills.
+fn filled(clue: &Clue) -> u32
+    ensures { result ≡ sum clue.now }
+{
+    sum_of(clue.numbers())
+}
+
+/// Whether a clue fits a line of this length.
+fn fits(len: u16, clue: &Clue) -> bool
+    ensures { result ≡ fits len clue.now }
+{
+    let needed = u64::from(filled(clue)) + clue.numbers().len() as u64;
+    needed.saturating_sub(1) <= u64::from(len)
+}
+
+/// Whether each clue fits a line of this length.
+pub(crate) fn all_fit(len: u16, clues: &[Clue]) -> bool
+    ensures { result ≡ list_all (fits len) clues.now }
+{
+    clues.iter().all(|clue| fits(len, clue))
+}
+
+/// How many cells these clues fill.
+pub(crate) fn sum_all(clues: &[Clue]) -> u64
+    requires { length clues.now ≤ 65536 }
+    ensures { result ≡ sum_all clues.now }
+{
+    clues.iter().map(|clue| u64::from(filled(clue))).sum()
+}
+
+/// Whether all clues of two lists fit a line of this length.
+pub(crate) fn both_fit(len: u16, first: &[Clue], second: &[Clue]) -> bool
+    ensures { result ≡ list_all (fits len) (first.now ++ second.now) }
+{
+    all_fit(len, first) && all_fit(len, second)
+}
+
+/// How many cells the clues of two lists fill.
+pub(crate) fn sum_both(first: &[Clue], second: &[Clue]) -> u128
+    requires first { length first.now ≤ 65536 }
+    requires second { length second.now ≤ 65536 }
+    ensures { result ≡ sum_all (first.now ++ second.now) }
+{
+    u128::from(sum_all(first)) + u128::from(sum_all(second))
+}

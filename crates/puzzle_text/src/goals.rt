@@ -1,0 +1,59 @@
+//! Goals in .non texts.
+
+ghost use Rattle.std.specs.Prelude.{◌≡◌, ◌==◌, true, length, IfOk, IfSome};
+ghost use Rattle.std.specs.Option.{option_map};
+ghost use Rattle.grid_core.specs.Nonogram.{bools_of, is_goal};
+ghost use Rattle.puzzle_text.specs.Answers.{Gives};
+ghost use Rattle.puzzle_text.specs.Non.{cell_of, goal_cells, goal_of};
+ghost use Rattle.puzzle_text.specs.Shown.{shown_line};
+
+use crate::faults::TextFault;
+use crate::keywords::text_of;
+use crate::lines::Line;
+use std::alloc::{AllocError, Global};
+
+fn cell_of(byte: u8) -> Option<bool>
+    ensures { result ≡ cell_of byte }
+{
+    match byte {
+        b'0' => Some(false),
+        b'1' => Some(true),
+        _ => None,
+    }
+}
+
+/// The cells of a goal of this many.
+fn goal_cells(alloc: Global, count: usize, text: &[u8]) -> Result<Option<Vec<bool>>, AllocError>
+    ensures cells { IfOk result (λ found. option_map (λ cells. cells.items) found ≡ goal_cells count text.now) }
+    ensures count { IfOk result (λ found. IfSome found (λ cells. length cells.items ≡ count)) }
+{
+    if text.len() != count {
+        return Ok(None);
+    }
+    let mut cells = Vec::new(alloc);
+    for byte in text {
+        let Some(cell) = cell_of(*byte) else {
+            return Ok(None);
+        };
+        cells.push(cell)?;
+    }
+    Ok(Some(cells))
+}
+
+/// The goal that a line says, if there is one.
+pub(crate) fn goal_of(
+    alloc: Global,
+    count: usize,
+    line: Option<&Line<'_>>,
+) -> Result<Option<Vec<bool>>, TextFault>
+    ensures goal { Gives (λ goal. bools_of goal) result (goal_of count (option_map (λ found. shown_line found.now) line.entry)) }
+    ensures count { IfOk result (λ goal. is_goal count (bools_of goal) ≡ true) }
+{
+    let Some(line) = line else {
+        return Ok(None);
+    };
+    match goal_cells(alloc, count, text_of(line))? {
+        Some(cells) => Ok(Some(cells)),
+        None => Err(TextFault::BadGoal(line.number)),
+    }
+}

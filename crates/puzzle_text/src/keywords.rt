@@ -1,0 +1,127 @@
+//! Keyword lines.
+
+ghost use Rattle.std.specs.Prelude.{◌≡◌, ◌==◌, ◌≤◌, map, filter, length, drop, take_while, slice_get, reverse};
+ghost use Rattle.std.specs.List.{prefix_len};
+ghost use Rattle.std.specs.Option.{option_map};
+ghost use Rattle.std.specs.Char.{is_ascii_alphabetic};
+ghost use Rattle.std.specs.Str.{bytes_eq, str_to_ascii_lowercase};
+ghost use Rattle.puzzle_text.specs.Lines.{is_empty};
+ghost use Rattle.puzzle_text.specs.Keywords.{after_quote, before_quote, field_word, has_keyword, keyword, quoted, rest, text_of, with_keyword};
+ghost use Rattle.puzzle_text.specs.Shown.{shown_line};
+
+use crate::lines::{Line, trim};
+use grid_core::Field;
+
+/// The keyword of a text field.
+pub(crate) fn field_word(field: Field) -> &'static [u8]
+    ensures word { result.now ≡ field_word field }
+    ensures lower { str_to_ascii_lowercase result.now ≡ field_word field }
+{
+    match field {
+        Field::Catalogue => b"catalogue",
+        Field::Title => b"title",
+        Field::By => b"by",
+        Field::Copyright => b"copyright",
+        Field::License => b"license",
+    }
+}
+
+/// How many letters a text begins with.
+fn letters(text: &[u8]) -> usize
+    ensures count { result ≡ prefix_len is_ascii_alphabetic text.now }
+    ensures within { result ≤ length text.now }
+{
+    for (place, byte) in text.iter().enumerate() {
+        if !byte.is_ascii_alphabetic() {
+            return place;
+        }
+    }
+    text.len()
+}
+
+/// The letters that a line begins with.
+pub(crate) fn keyword<'a>(line: &Line<'a>) -> &'a [u8]
+    ensures { str_to_ascii_lowercase result.now ≡ keyword (shown_line line.now) }
+{
+    let (word, _) = line.text.split_at(letters(line.text));
+    word
+}
+
+/// What follows the keyword.
+pub(crate) fn rest<'a>(line: &Line<'a>) -> &'a [u8]
+    ensures { result.now ≡ rest (shown_line line.now) }
+{
+    let (_, rest) = line.text.split_at(letters(line.text));
+    trim(rest)
+}
+
+/// Whether two words are one, letters in either case.
+pub(crate) fn same_word(word: &[u8], other: &[u8]) -> bool
+    ensures { result ≡ bytes_eq (str_to_ascii_lowercase word.now) (str_to_ascii_lowercase other.now) }
+{
+    word.eq_ignore_ascii_case(other)
+}
+
+fn has_keyword(word: &[u8], line: &Line<'_>) -> bool
+    ensures { result ≡ has_keyword (str_to_ascii_lowercase word.now) (shown_line line.now) }
+{
+    same_word(keyword(line), word)
+}
+
+/// The line with this keyword at a place, from 0, among those with it.
+pub(crate) fn nth_with<'a, 'b>(
+    word: &[u8],
+    place: usize,
+    lines: &'b [Line<'a>],
+) -> Option<&'b Line<'a>>
+    ensures { option_map (λ line. shown_line line.now) result
+        ≡ slice_get (with_keyword (str_to_ascii_lowercase word.now) (map shown_line lines.now)) place }
+{
+    lines
+        .iter()
+        .filter(|line| has_keyword(word, line))
+        .nth(place)
+}
+
+fn after_quote(bytes: &[u8]) -> Option<&[u8]>
+    ensures { option_map (λ text. text.now) result ≡ after_quote bytes.now }
+{
+    let mut rest = bytes;
+    while let [first, others @ ..] = rest {
+        if *first == b'"' {
+            return Some(others);
+        }
+        rest = others;
+    }
+    None
+}
+
+fn before_quote(bytes: &[u8]) -> Option<&[u8]>
+    ensures { option_map (λ text. text.now) result ≡ before_quote bytes.now }
+{
+    let mut rest = bytes;
+    while let [others @ .., last] = rest {
+        if *last == b'"' {
+            return Some(others);
+        }
+        rest = others;
+    }
+    None
+}
+
+/// What stands between the first and the last double quote, or all of it where there are not two.
+fn quoted(bytes: &[u8]) -> &[u8]
+    ensures { result.now ≡ quoted bytes.now }
+{
+    let Some(after) = after_quote(bytes) else {
+        return bytes;
+    };
+    before_quote(after).unwrap_or(bytes)
+}
+
+/// The text of a field's line.
+pub(crate) fn text_of<'a>(line: &Line<'a>) -> &'a [u8]
+    ensures { result.now ≡ text_of (shown_line line.now) }
+{
+    quoted(rest(line))
+}

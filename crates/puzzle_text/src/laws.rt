@@ -1,0 +1,31 @@
+//! Laws of the formats, each the contract of a function that does nothing.
+
+ghost use Rattle.std.specs.Prelude.{ℕ, ◌≤◌};
+ghost use Rattle.puzzle_text.specs.Laws.{GreaterLimitKeeps, MkIsReadBack, NinIsReadBack, NonIsReadBack, WrittenIsShort};
+
+use grid_core::LONGEST_SIDE;
+
+/// What `write_non` gives is read again as the same puzzle, texts and goal included.
+pub fn non_is_read_back()
+    ensures { NonIsReadBack LONGEST_SIDE }
+{}
+
+/// What `write_mk` gives is read again as the same puzzle without texts and goal.
+pub fn mk_is_read_back()
+    ensures { MkIsReadBack LONGEST_SIDE }
+{}
+
+/// What `write_nin` gives is read again as the same puzzle without texts and goal.
+pub fn nin_is_read_back()
+    ensures { NinIsReadBack LONGEST_SIDE }
+{}
+
+/// What is written in any format is short enough to be read again.
+pub fn written_is_short()
+    ensures { WrittenIsShort LONGEST_SIDE }
+{}
+
+/// A greater limit of sides and clue numbers keeps what a text says, unless one was out of range.
+pub fn greater_limit_keeps()
+    ensures { (limit greater : ℕ) → limit ≤ greater → GreaterLimitKeeps limit greater }
+{}

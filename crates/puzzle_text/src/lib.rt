@@ -1,0 +1,38 @@
+//! Puzzles as texts: three formats, read and written, and collections of such texts.
+#![tactic(auto)]
+
+mod clue_lines;
+mod collections;
+mod descriptions;
+mod faults;
+mod fitting;
+mod formats;
+mod goals;
+mod keywords;
+pub mod laws;
+mod limits;
+mod lines;
+mod mk;
+mod nin;
+mod non;
+mod numbers;
+mod parts;
+mod places;
+mod readings;
+mod sections;
+mod sizes;
+mod words;
+mod writing;
+
+pub use collections::{Entry, entries};
+pub use faults::{CollectionFault, EntryFault, TextFault, WriteFault};
+pub use formats::read_entry;
+pub use limits::{LONGEST_COLLECTION, LONGEST_PUZZLE, MOST_ENTRIES};
+pub use mk::read_mk;
+pub use nin::read_nin;
+pub use non::read_non;
+pub use words::fault_text;
+pub use writing::{write_mk, write_nin, write_non};
+
+#[cfg(test)]
+mod tests;

@@ -1,0 +1,108 @@
+//! A text as numbered lines.
+
+ghost use Rattle.std.specs.Prelude.{◌≡◌, ◌==◌, ◌+◌, ◌^◌, ◌<◌, ◌≤◌, ◌∷◌, [], ◌++◌, reverse, length, map, IfOk};
+ghost use Rattle.std.specs.List.{position};
+ghost use Rattle.puzzle_text.specs.Lines.{is_blank, lines, raw_lines, strip_last, trim, trim_end, trim_start, without_ending};
+ghost use Rattle.puzzle_text.specs.Shown.{shown_line};
+
+use std::alloc::{AllocError, Global};
+
+/// A line: its number in the text, from 1, and its bytes without spaces and tabs at both ends.
+#[derive(Clone, Copy, Debug)]
+pub(crate) struct Line<'a> {
+    pub number: u32,
+    pub text: &'a [u8],
+}
+
+fn first_line_feed(bytes: &[u8]) -> Option<usize>
+    ensures { result ≡ position (λ byte. byte == 10) bytes.now }
+{
+    bytes.iter().position(|byte| *byte == b'\n')
+}
+
+/// The first line of a text, with its line feed, and what follows.
+pub(crate) fn split_line(bytes: &[u8]) -> (&[u8], &[u8])
+    requires { 0 < length bytes.now }
+    ensures first { raw_lines bytes.now ≡ result.0.now ∷ raw_lines result.1.now }
+    ensures whole { bytes.now ≡ result.0.now ++ result.1.now }
+    ensures shorter { length result.1.now < length bytes.now }
+{
+    match first_line_feed(bytes) {
+        Some(end) => bytes.split_at(end + 1),
+        None => (bytes, &[]),
+    }
+}
+
+fn is_blank(byte: u8) -> bool
+    ensures { result ≡ is_blank byte }
+{
+    byte == b' ' || byte == b'\t'
+}
+
+fn trim_start(mut bytes: &[u8]) -> &[u8]
+    ensures { result.now ≡ trim_start bytes.entry.now }
+{
+    while let [first, rest @ ..] = bytes {
+        if !is_blank(*first) {
+            break;
+        }
+        bytes = rest;
+    }
+    bytes
+}
+
+fn trim_end(mut bytes: &[u8]) -> &[u8]
+    ensures { result.now ≡ trim_end bytes.entry.now }
+{
+    while let [rest @ .., last] = bytes {
+        if !is_blank(*last) {
+            break;
+        }
+        bytes = rest;
+    }
+    bytes
+}
+
+/// Without spaces and tabs at both ends.
+pub(crate) fn trim(bytes: &[u8]) -> &[u8]
+    ensures { result.now ≡ trim bytes.now }
+{
+    trim_end(trim_start(bytes))
+}
+
+/// Without this byte at the end.
+fn strip_last(bytes: &[u8], byte: u8) -> &[u8]
+    ensures { result.now ≡ strip_last byte bytes.now }
+{
+    match bytes {
+        [front @ .., last] if *last == byte => front,
+        _ => bytes,
+    }
+}
+
+/// Without the line feed at the end, and the carriage return before it.
+pub(crate) fn without_ending(raw: &[u8]) -> &[u8]
+    ensures { result.now ≡ without_ending raw.now }
+{
+    strip_last(strip_last(raw, b'\n'), b'\r')
+}
+
+/// The lines of a text, all of them.
+pub(crate) fn all_lines(alloc: Global, bytes: &[u8]) -> Result<Vec<Line<'_>>, AllocError>
+    requires { length bytes.now < 2 ^ 32 }
+    ensures { IfOk result (λ found. map shown_line found.items ≡ lines bytes.now) }
+{
+    let mut found = Vec::new(alloc);
+    let mut rest = bytes;
+    let mut number = 0u32;
+    while !rest.is_empty() {
+        let (raw, after) = split_line(rest);
+        number += 1;
+        found.push(Line {
+            number,
+            text: trim(without_ending(raw)),
+        })?;
+        rest = after;
+    }
+    Ok(found)
+}

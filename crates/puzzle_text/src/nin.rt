@@ -1,0 +1,39 @@
+//! The format .nin.
+
+ghost use Rattle.std.specs.Prelude.{◌≡◌, ◌<◌, map, length, Err};
+ghost use Rattle.puzzle_text.specs.Answers.{Gives};
+ghost use Rattle.puzzle_text.specs.Nin.{nin_of, read_nin};
+ghost use Rattle.puzzle_text.specs.Shown.{shown_line};
+
+use crate::clue_lines::clues_of;
+use crate::faults::TextFault;
+use crate::limits::LONGEST_PUZZLE;
+use crate::lines::Line;
+use crate::readings::likelier;
+use crate::sections::choice;
+use crate::sizes::{lines_of, size_line};
+use grid_core::{LONGEST_SIDE, Puzzle};
+use std::alloc::Global;
+
+fn nin_of(alloc: Global, lines: &[Line<'_>]) -> Result<Puzzle, TextFault>
+    ensures { Gives (λ p. p) result (nin_of LONGEST_SIDE (map shown_line lines.now)) }
+{
+    let ((a, b), section) = size_line(lines)?;
+    let count = usize::from(a) + usize::from(b);
+    let Some(chosen) = choice(alloc, count, section)? else {
+        return Err(TextFault::BadCount);
+    };
+    let clues = clues_of(alloc, &chosen)?;
+    Ok(likelier(a, b, clues)?)
+}
+
+/// Reads a puzzle in the format .nin: a line with the two sizes, then the clue lines of the rows and of the columns. The first size is the
+/// width, unless only the other order lets each clue fit its line and gives rows and columns the same sum.
+pub fn read_nin(alloc: Global, bytes: &[u8]) -> Result<Puzzle, TextFault>
+    ensures answer { Gives (λ p. p) result (read_nin LONGEST_SIDE bytes.now) }
+    // Want of memory never stands in place of this fault.
+    ensures too_long { LONGEST_PUZZLE < length bytes.now → result ≡ Err TextFault.TooLong }
+{
+    let lines = lines_of(alloc, bytes)?;
+    nin_of(alloc, &lines)
+}

@@ -1,0 +1,176 @@
+//! The format .non.
+
+ghost use Rattle.std.specs.Prelude.{◌≡◌, ◌<◌, ◌*◌, [], map, length, Err, IfOk, OnOk};
+ghost use Rattle.std.specs.Str.{str_to_ascii_lowercase};
+ghost use Rattle.grid_core.specs.Description.{IsDescription};
+ghost use Rattle.grid_core.specs.PartialGrid.{IsSize};
+ghost use Rattle.puzzle_text.specs.Answers.{Gives};
+ghost use Rattle.puzzle_text.specs.Keywords.{second_with};
+ghost use Rattle.puzzle_text.specs.Lines.{HaveNoFeed};
+ghost use Rattle.puzzle_text.specs.Non.{bad_line, both_clues, in_place, least, least_of, non_of, number_of_line, placed, read_non, repeated, rows_first, sizes_of, texts_of};
+ghost use Rattle.puzzle_text.specs.Shown.{shown_line, shown_place};
+
+use crate::clue_lines::clues_of;
+use crate::descriptions::{long_number, texts_of};
+use crate::faults::TextFault;
+use crate::goals::goal_of;
+use crate::keywords::{nth_with, rest};
+use crate::limits::LONGEST_PUZZLE;
+use crate::lines::Line;
+use crate::parts::puzzle_of;
+use crate::places::{Place, clue_lines, placed, stray_number};
+use crate::sizes::{lines_of, size_of};
+use grid_core::{Clue, Field, LONGEST_SIDE, Puzzle};
+use std::alloc::Global;
+
+/// The lesser of two numbers that may be missing.
+fn least(first: Option<u32>, second: Option<u32>) -> Option<u32>
+    ensures { result ≡ least first second }
+{
+    match (first, second) {
+        (Some(first), Some(second)) => Some(first.min(second)),
+        (None, other) => other,
+        (some, None) => some,
+    }
+}
+
+/// The least of the numbers that are there.
+fn least_of(numbers: &[Option<u32>]) -> Option<u32>
+    ensures { result ≡ least_of numbers.now }
+{
+    match numbers {
+        [] => None,
+        [first, others @ ..] => least(*first, least_of(others)),
+    }
+}
+
+/// The number of the second line with a keyword, if there is one.
+fn second_number(lines: &[Line<'_>], word: &[u8]) -> Option<u32>
+    ensures { result ≡ number_of_line (second_with (str_to_ascii_lowercase word.now) (map shown_line lines.now)) }
+{
+    match nth_with(word, 1, lines) {
+        Some(line) => Some(line.number),
+        None => None,
+    }
+}
+
+/// The least number of a line that stands in no section, or of a text field's first line whose text is too long.
+fn bad_line(lines: &[Line<'_>], places: &[Place<'_>]) -> Option<u32>
+    requires { map shown_place places.now ≡ placed [] (map shown_line lines.now) }
+    ensures { result ≡ bad_line (map shown_line lines.now) }
+{
+    let long = least_of(&[
+        long_number(lines, Field::Catalogue),
+        long_number(lines, Field::Title),
+        long_number(lines, Field::By),
+        long_number(lines, Field::Copyright),
+        long_number(lines, Field::License),
+    ]);
+    least(stray_number(places), long)
+}
+
+/// The number of the first line that repeats a keyword which may stand once only.
+fn repeated(lines: &[Line<'_>]) -> Option<u32>
+    ensures { result ≡ repeated (map shown_line lines.now) }
+{
+    least_of(&[
+        second_number(lines, b"width"),
+        second_number(lines, b"height"),
+        second_number(lines, b"rows"),
+        second_number(lines, b"columns"),
+    ])
+}
+
+/// Checks that no line is out of place.
+fn in_place(lines: &[Line<'_>], places: &[Place<'_>]) -> Result<(), TextFault>
+    requires places { map shown_place places.now ≡ placed [] (map shown_line lines.now) }
+    requires feeds { HaveNoFeed (map shown_line lines.now) }
+    ensures answer { Gives (λ done. done) result (in_place (map shown_line lines.now)) }
+    ensures texts { OnOk result (IsDescription (texts_of (map shown_line lines.now))) }
+{
+    if let Some(number) = bad_line(lines, places) {
+        return Err(TextFault::BadLine(number));
+    }
+    if let Some(number) = repeated(lines) {
+        return Err(TextFault::Twice(number));
+    }
+    Ok(())
+}
+
+/// The width and the height.
+fn sizes_of(lines: &[Line<'_>]) -> Result<(u16, u16), TextFault>
+    ensures sizes { Gives (λ sizes. sizes) result (sizes_of LONGEST_SIDE (map shown_line lines.now)) }
+    ensures range { IfOk result (λ sizes. IsSize sizes.0 sizes.1) }
+{
+    let Some(width) = nth_with(b"width", 0, lines) else {
+        return Err(TextFault::NoSize);
+    };
+    let Some(height) = nth_with(b"height", 0, lines) else {
+        return Err(TextFault::NoSize);
+    };
+    Ok((size_of(rest(width))?, size_of(rest(height))?))
+}
+
+/// Whether the rows section stands before the columns section.
+fn rows_first(lines: &[Line<'_>]) -> Result<bool, TextFault>
+    ensures { Gives (λ order. order) result (rows_first (map shown_line lines.now)) }
+{
+    let Some(rows) = nth_with(b"rows", 0, lines) else {
+        return Err(TextFault::NoSection);
+    };
+    let Some(columns) = nth_with(b"columns", 0, lines) else {
+        return Err(TextFault::NoSection);
+    };
+    Ok(rows.number < columns.number)
+}
+
+/// The clues of the rows and of the columns. Of the two sections the one that stands first in the text is checked first.
+fn both_clues(
+    alloc: Global,
+    rows_first: bool,
+    rows: &[Line<'_>],
+    columns: &[Line<'_>],
+) -> Result<(Vec<Clue>, Vec<Clue>), TextFault>
+    ensures answer { Gives (λ clues. (clues.0.items, clues.1.items)) result
+        (both_clues LONGEST_SIDE rows_first (map shown_line rows.now) (map shown_line columns.now)) }
+    ensures rows { IfOk result (λ clues. length clues.0.items ≡ length rows.now) }
+    ensures columns { IfOk result (λ clues. length clues.1.items ≡ length columns.now) }
+{
+    if rows_first {
+        let row_clues = clues_of(alloc, rows)?;
+        let column_clues = clues_of(alloc, columns)?;
+        Ok((row_clues, column_clues))
+    } else {
+        let column_clues = clues_of(alloc, columns)?;
+        let row_clues = clues_of(alloc, rows)?;
+        Ok((row_clues, column_clues))
+    }
+}
+
+fn non_of(alloc: Global, lines: &[Line<'_>]) -> Result<Puzzle, TextFault>
+    requires { HaveNoFeed (map shown_line lines.now) }
+    ensures { Gives (λ p. p) result (non_of LONGEST_SIDE (map shown_line lines.now)) }
+{
+    let places = placed(alloc, lines)?;
+    let (width, height) = sizes_of(lines)?;
+    let order = rows_first(lines)?;
+    in_place(lines, &places)?;
+    let rows = clue_lines(alloc, b"rows", height, &places)?;
+    let columns = clue_lines(alloc, b"columns", width, &places)?;
+    let (rows, columns) = both_clues(alloc, order, &rows, &columns)?;
+    let count = usize::from(width) * usize::from(height);
+    let goal = goal_of(alloc, count, nth_with(b"goal", 0, lines))?;
+    let texts = texts_of(alloc, lines)?;
+    Ok(puzzle_of(width, height, rows, columns, texts, goal))
+}
+
+/// Reads a puzzle in the format .non: keyword lines for the texts, the sizes and the goal, and a section of clue lines each under `rows` and
+/// `columns`.
+pub fn read_non(alloc: Global, bytes: &[u8]) -> Result<Puzzle, TextFault>
+    ensures answer { Gives (λ p. p) result (read_non LONGEST_SIDE bytes.now) }
+    // Want of memory never stands in place of this fault.
+    ensures too_long { LONGEST_PUZZLE < length bytes.now → result ≡ Err TextFault.TooLong }
+{
+    let lines = lines_of(alloc, bytes)?;
+    non_of(alloc, &lines)
+}

@@ -1,0 +1,69 @@
+//! The numbers of a line.
+
+ghost use Rattle.std.specs.Prelude.{◌≡◌, ◌==◌, ◌||◌, ◌<◌, ◌≤◌, ◌^◌, [], ◌∷◌, length, false, slice_index, IfSome, IfNone};
+ghost use Rattle.std.specs.List.{position};
+ghost use Rattle.puzzle_text.specs.Numbers.{is_separator, number_within, pieces};
+
+/// The number that a piece writes in decimal, where it is no more than the limit.
+pub(crate) fn number_within(limit: u16, piece: &[u8]) -> Option<u16>
+    ensures number { result ≡ number_within limit piece.now }
+    ensures within { IfSome result (λ number. number ≤ limit) }
+{
+    if piece.is_empty() {
+        return None;
+    }
+    let mut value = 0u32;
+    for digit in piece {
+        if !digit.is_ascii_digit() {
+            return None;
+        }
+        value = value * 10 + u32::from(*digit - b'0');
+        if value > u32::from(limit) {
+            return None;
+        }
+    }
+    Some(value as u16)
+}
+
+fn is_separator(byte: u8) -> bool
+    ensures { result ≡ is_separator byte }
+{
+    byte == b',' || byte == b' ' || byte == b'\t'
+}
+
+/// What is left of a line from the first byte that is no separator.
+fn from_piece(mut text: &[u8]) -> &[u8]
+    ensures pieces { pieces result.now ≡ pieces text.entry.now }
+    ensures first { 0 < length result.now → is_separator (slice_index result.now 0) ≡ false }
+    ensures within { length result.now ≤ length text.entry.now }
+{
+    while let [first, rest @ ..] = text {
+        if !is_separator(*first) {
+            break;
+        }
+        text = rest;
+    }
+    text
+}
+
+fn first_separator(text: &[u8]) -> Option<usize>
+    ensures { result ≡ position is_separator text.now }
+{
+    text.iter().position(|byte| is_separator(*byte))
+}
+
+/// The first piece of a line between commas, spaces and tabs, and what follows it.
+pub(crate) fn next_piece(text: &[u8]) -> Option<(&[u8], &[u8])>
+    ensures none { IfNone result (pieces text.now ≡ []) }
+    ensures some { IfSome result (λ found. pieces text.now ≡ found.0.now ∷ pieces found.1.now) }
+    ensures shorter { IfSome result (λ found. length found.1.now < length text.now) }
+{
+    let text = from_piece(text);
+    if text.is_empty() {
+        return None;
+    }
+    match first_separator(text) {
+        Some(end) => Some((&text[..end], &text[end + 1..])),
+        None => Some((text, &[])),
+    }
+}

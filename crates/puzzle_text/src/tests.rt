@@ -1,0 +1,248 @@
+use super::*;
+use grid_core::NoMemory;
+use std::alloc::Global;
+use std::test::*;
+
+/// The puzzle that an entry says, as a text in .non, or the word of its fault.
+fn said(alloc: Global, name: &[u8], body: &[u8]) -> Result<Vec<u8>, NoMemory> {
+    match read_entry(alloc, &Entry { name, body }) {
+        Ok(puzzle) => write_non(alloc, &puzzle),
+        Err(fault) => fault_text(alloc, &fault),
+    }
+}
+
+/// Whether each entry says what stands beside it.
+fn all_said(alloc: Global, rows: &[(&[u8], &[u8], &[u8])]) -> bool {
+    for (name, body, expected) in rows {
+        match said(alloc, name, body) {
+            Ok(text) if text.as_slice() == *expected => {}
+            _ => return false,
+        }
+    }
+    true
+}
+
+/// A text, and so many times another one.
+fn repeated(alloc: Global, front: &[u8], piece: &[u8], count: usize) -> Result<Vec<u8>, Fail> {
+    let mut text = Vec::from_slice(alloc, front).ok().ok_or("memory")?;
+    for _ in 0..count {
+        text.extend_from_slice(piece).ok().ok_or("memory")?;
+    }
+    Ok(text)
+}
+
+const FIT: &[u8] = b"width 4\nheight 2\n\nrows\n2\n1,1\n\ncolumns\n1\n1\n1\n1\n";
+
+const ONE: &[u8] = b"width 1\nheight 1\n\nrows\n1\n\ncolumns\n1\n";
+
+const DEMO: &[u8] =
+    b"title \"Demo\"\nwidth 5\nheight 10\n\nrows\n2\n2,1\n1,1\n3\n1,1\n1,1\n2\n1,1\n1,2\n2\n\ncolumns\n2,1\n2,1,3\n7\n1,3\n2,1\n\ngoal \"01100011010010101110101001010000110010100101111000\"\n";
+
+#[test]
+fn puzzles_in_each_format(rt: HostRuntime) {
+    let rows: [(&[u8], &[u8], &[u8]); 9] = [
+        (b"demo.non", DEMO, DEMO),
+        (
+            b"one.mk",
+            b"1 1\n0\n#\n0\n",
+            b"width 1\nheight 1\n\nrows\n0\n\ncolumns\n0\n",
+        ),
+        (b"pair.mk", b"2 4\n2\n1 1\n#\n1\n1\n1\n1\n", FIT),
+        (b"PAIR.Mk", b"4 2\n2\n1 1\n#\n1\n1\n1\n1\n", FIT),
+        (b"fit.nin", b"2 4\n2\n1 1\n1\n1\n1\n1\n", FIT),
+        (b"fit.nin", b"4 2\n2\n1 1\n1\n1\n1\n1\n", FIT),
+        (
+            b"a.nin",
+            b"2 1\n1\n1\n2\n",
+            b"width 1\nheight 2\n\nrows\n1\n1\n\ncolumns\n2\n",
+        ),
+        (b"a.nin", b" 0001,1\t\n\n1\n1", ONE),
+        (
+            b"crlf.non",
+            b"width 2\r\nheight 3\r\nrows\r\n1\r\n\r\n2\r\ncolumns\r\n1,1\r\n1\r\n",
+            b"width 2\nheight 3\n\nrows\n1\n0\n2\n\ncolumns\n1,1\n1\n",
+        ),
+    ];
+    assert!(rt; all_said(rt.alloc(), &rows));
+}
+
+#[test]
+fn refused_texts(rt: HostRuntime) {
+    let rows: [(&[u8], &[u8], &[u8]); 13] = [
+        (b"what.txt", b"", b"UnknownFormat"),
+        (b"a.nin", b"", b"NoSize"),
+        (b"a.non", b"width 2\nrows\n1\ncolumns\n1\n0\n", b"NoSize"),
+        (b"a.non", b"width 0\nheight 1\n", b"BadSize"),
+        (b"a.mk", b"129 128\n", b"BadSize"),
+        (b"a.mk", b"1 1\n1\n1\n", b"NoSection"),
+        (
+            b"a.non",
+            b"7\nwidth 1\nheight 1\nwidth 1\nrows\n1\ncolumns\n1\n",
+            b"BadLine:1",
+        ),
+        (
+            b"a.non",
+            b"width 1\nheight 1\nwidth 1\nrows\n1\ncolumns\n1\n",
+            b"Twice:3",
+        ),
+        (
+            b"a.non",
+            b"width 2\nheight 1\nrows\n1\ncolumns\n",
+            b"BadCount",
+        ),
+        (b"a.mk", b"2 2\n2 x\n1\n#\n1\n1\n", b"BadNumber:2"),
+        (b"a.mk", b"1 1\n0 1\n#\n1\n", b"BadNumber:2"),
+        (b"a.nin", b"1 1\n1\r\r\n1\n", b"BadNumber:2"),
+        (
+            b"a.non",
+            b"width 1\nheight 1\nrows\n1\ncolumns\n1\ngoal \"10\"\n",
+            b"BadGoal:7",
+        ),
+    ];
+    assert!(rt; all_said(rt.alloc(), &rows));
+}
+
+#[test]
+fn rules_of_non(rt: HostRuntime) {
+    let rows: [(&[u8], &[u8], &[u8]); 14] = [
+        // A comment belongs to no section.
+        (
+            b".non",
+            b"  # 7\nwidth 1\nheight 1\nrows\n# 7\n1\ncolumns\n1\n",
+            ONE,
+        ),
+        // Other keywords are skipped, and end a section.
+        (
+            b".non",
+            b"version 2\nwidth 1\nheight 1\nrows\n1\ncolumns\n1\ncolor x\n\n",
+            ONE,
+        ),
+        (
+            b".non",
+            b"width 1\nheight 1\nrows\n1\nversion 2\n7\ncolumns\n1\n",
+            b"BadLine:6",
+        ),
+        // Letters in either case, and a number beside its keyword.
+        (b".non", b"WIDTH1\nHeight 1\nROWS x\n1\nCoLuMnS\n1\n", ONE),
+        // The columns first.
+        (b".non", b"columns\n1\nrows\n1\nheight 1\nwidth 1\n", ONE),
+        (
+            b".non",
+            b"columns\n0 1\nrows\n0 1\nheight 1\nwidth 1\n",
+            b"BadNumber:2",
+        ),
+        // No quotes, one, none and no text, three, and a second text.
+        (
+            b".non",
+            b"by a b\nwidth 1\nheight 1\nrows\n1\ncolumns\n1\n",
+            b"by \"a b\"\nwidth 1\nheight 1\n\nrows\n1\n\ncolumns\n1\n",
+        ),
+        (
+            b".non",
+            b"by \"a\nwidth 1\nheight 1\nrows\n1\ncolumns\n1\n",
+            b"by \"\"a\"\nwidth 1\nheight 1\n\nrows\n1\n\ncolumns\n1\n",
+        ),
+        (
+            b".non",
+            b"by\nwidth 1\nheight 1\nrows\n1\ncolumns\n1\n",
+            b"by \"\"\nwidth 1\nheight 1\n\nrows\n1\n\ncolumns\n1\n",
+        ),
+        (
+            b".non",
+            b"by x\"a\"b\" y\nwidth 1\nheight 1\nrows\n1\ncolumns\n1\n",
+            b"by \"a\"b\"\nwidth 1\nheight 1\n\nrows\n1\n\ncolumns\n1\n",
+        ),
+        (
+            b".non",
+            b"by \"a\"\nby \"b\"\nwidth 1\nheight 1\nrows\n1\ncolumns\n1\n",
+            b"by \"a\"\nwidth 1\nheight 1\n\nrows\n1\n\ncolumns\n1\n",
+        ),
+        // A second goal.
+        (
+            b".non",
+            b"width 1\nheight 1\nrows\n1\ncolumns\n1\ngoal 1\ngoal x\n",
+            b"width 1\nheight 1\n\nrows\n1\n\ncolumns\n1\n\ngoal \"1\"\n",
+        ),
+        // A line behind a section that the goal ends, and a second height.
+        (
+            b".non",
+            b"width 1\nheight 1\nrows\n1\ncolumns\n1\ngoal 1\n1\n",
+            b"BadLine:8",
+        ),
+        (
+            b".non",
+            b"width 1\nheight 1\nheight 2\nrows\n1\ncolumns\n1\nrows\n",
+            b"Twice:3",
+        ),
+    ];
+    assert!(rt; all_said(rt.alloc(), &rows));
+}
+
+#[test]
+fn long_texts(rt: HostRuntime) -> Result<(), Fail> {
+    let feeds = repeated(rt.alloc(), b"", b"\n", LONGEST_PUZZLE)?;
+    let more = repeated(rt.alloc(), b"", b"\n", LONGEST_PUZZLE + 1)?;
+    let front = b"width 1\nheight 1\nrows\n1\ncolumns\n1\ntitle ";
+    let title = repeated(rt.alloc(), front, b"a", 65_537)?;
+    let rows: [(&[u8], &[u8], &[u8]); 5] = [
+        (b".non", &more, b"TooLong"),
+        (b".mk", &more, b"TooLong"),
+        (b".nin", &more, b"TooLong"),
+        (b".nin", &feeds, b"NoSize"),
+        (b".non", &title, b"BadLine:7"),
+    ];
+    assert!(rt; all_said(rt.alloc(), &rows));
+    Ok(())
+}
+
+#[test]
+fn written_texts(rt: HostRuntime) -> Result<(), Fail> {
+    let fit = read_non(rt.alloc(), FIT).ok().ok_or("a puzzle")?;
+    let mk = write_mk(rt.alloc(), &fit).ok().ok_or("memory")?;
+    assert_eq!(rt; mk.as_slice(), b"2 4\n2\n1 1\n#\n1\n1\n1\n1\n".as_slice());
+    let nin = write_nin(rt.alloc(), &fit).ok().ok_or("memory")?;
+    assert_eq!(rt; nin.as_slice(), b"4 2\n2\n1 1\n1\n1\n1\n1\n".as_slice());
+    let flat = read_mk(rt.alloc(), b"1 2\n1\n#\n1\n2\n")
+        .ok()
+        .ok_or("a puzzle")?;
+    assert!(rt; matches!(write_nin(rt.alloc(), &flat), Err(WriteFault::Ambiguous)));
+    let mk = write_mk(rt.alloc(), &flat).ok().ok_or("memory")?;
+    assert_eq!(rt; mk.as_slice(), b"1 2\n1\n#\n1\n2\n".as_slice());
+    Ok(())
+}
+
+#[test]
+fn collections(rt: HostRuntime) -> Result<(), Fail> {
+    let found = entries(rt.alloc(), b"\n@ a.mk \r\n1 1\n@b\n\n@\tb.nin")
+        .ok()
+        .ok_or("entries")?;
+    assert_eq!(rt; found.len(), 2);
+    assert_eq!(rt; found[0].name, b"a.mk".as_slice());
+    assert_eq!(rt; found[0].body, b"1 1\n@b\n\n".as_slice());
+    assert_eq!(rt; found[1].name, b"b.nin".as_slice());
+    assert_eq!(rt; found[1].body, b"".as_slice());
+    Ok(())
+}
+
+#[test]
+fn refused_collections(rt: HostRuntime) -> Result<(), Fail> {
+    let most = repeated(rt.alloc(), b"", b"@ a.mk\n", MOST_ENTRIES)?;
+    let more = repeated(rt.alloc(), b"", b"@ a.mk\n", MOST_ENTRIES + 1)?;
+    let feeds = repeated(rt.alloc(), b"", b"\n", LONGEST_COLLECTION + 1)?;
+    let rows: [(&[u8], Option<CollectionFault>); 10] = [
+        (b"", None),
+        (b"x\n", Some(CollectionFault::Stray(1))),
+        (b"x\n@ a.mk\n", Some(CollectionFault::Stray(1))),
+        (b"@ a.mk\n@\n", Some(CollectionFault::Stray(2))),
+        (b"@ a.mk\n@\r\n", Some(CollectionFault::Stray(2))),
+        (b"@ a.mk\n@\r", Some(CollectionFault::Stray(2))),
+        (b"@ a.mk\n@\rb\n", None),
+        (&most, None),
+        (&more, Some(CollectionFault::TooMany)),
+        (&feeds, Some(CollectionFault::TooLong)),
+    ];
+    for (text, fault) in &rows {
+        assert_eq!(rt; entries(rt.alloc(), text).err(), *fault);
+    }
+    Ok(())
+}

@@ -1,0 +1,148 @@
+//! Puzzles as texts.
+
+ghost use Rattle.std.specs.Prelude.{◌≡◌, ◌++◌, ◌↔◌, codes, decimal, map, true, Err, OnOk, IfOk};
+ghost use Rattle.std.specs.Option.{option_map};
+ghost use Rattle.grid_core.specs.Description.{text_of};
+ghost use Rattle.puzzle_text.specs.Keywords.{field_word};
+ghost use Rattle.puzzle_text.specs.Written.{clue_lines, clue_text, goal_byte, goal_lines, is_ambiguous, quoted_line, text_fields, text_mk, text_nin, text_non, two_numbers};
+
+use crate::faults::WriteFault;
+use crate::keywords::field_word;
+use crate::readings::is_ambiguous;
+use grid_core::{Clue, Field, NoMemory, Puzzle, Texts};
+use itoa::Buffer;
+use std::alloc::{AllocError, Global};
+
+fn push_number(out: &mut Vec<u8>, number: u16) -> Result<(), AllocError>
+    ensures { OnOk result (out.new.items ≡ out.old.items ++ decimal number) }
+{
+    let mut buffer = Buffer::new();
+    out.extend_from_slice(buffer.format(number).as_bytes())
+}
+
+fn push_clue(out: &mut Vec<u8>, separator: u8, numbers: &[u16]) -> Result<(), AllocError>
+    ensures { OnOk result (out.new.items ≡ out.old.items ++ clue_text separator numbers.now) }
+{
+    match numbers {
+        [] => out.push(b'0')?,
+        [first, others @ ..] => {
+            push_number(out, *first)?;
+            for number in others {
+                out.push(separator)?;
+                push_number(out, *number)?;
+            }
+        }
+    }
+    Ok(())
+}
+
+fn push_clues(out: &mut Vec<u8>, separator: u8, clues: &[Clue]) -> Result<(), AllocError>
+    ensures { OnOk result (out.new.items ≡ out.old.items ++ clue_lines separator clues.now) }
+{
+    for clue in clues {
+        push_clue(out, separator, clue.numbers())?;
+        out.push(b'\n')?;
+    }
+    Ok(())
+}
+
+fn push_sizes(out: &mut Vec<u8>, a: u16, b: u16) -> Result<(), AllocError>
+    ensures { OnOk result (out.new.items ≡ out.old.items ++ two_numbers a b) }
+{
+    push_number(out, a)?;
+    out.push(b' ')?;
+    push_number(out, b)?;
+    out.push(b'\n')?;
+    Ok(())
+}
+
+/// The text of a puzzle in the format .mk. It has no place for texts and goal.
+pub fn write_mk(alloc: Global, puzzle: &Puzzle) -> Result<Vec<u8>, NoMemory>
+    ensures { IfOk result (λ text. text.items ≡ text_mk puzzle.now) }
+{
+    let mut out = Vec::new(alloc);
+    push_sizes(&mut out, puzzle.height(), puzzle.width())?;
+    push_clues(&mut out, b' ', puzzle.rows())?;
+    out.extend_from_slice(b"#\n")?;
+    push_clues(&mut out, b' ', puzzle.columns())?;
+    Ok(out)
+}
+
+/// The text of a puzzle in the format .nin, which has no place for texts and goal. `Ambiguous` where that text would be read with the sizes
+/// the other way round; else perhaps `NoMemory`.
+pub fn write_nin(alloc: Global, puzzle: &Puzzle) -> Result<Vec<u8>, WriteFault>
+    ensures text { IfOk result (λ text. text.items ≡ text_nin puzzle.now) }
+    // Want of memory never stands in place of this fault.
+    ensures ambiguous { result ≡ Err WriteFault.Ambiguous ↔ is_ambiguous puzzle.now ≡ true }
+{
+    if is_ambiguous(puzzle) {
+        return Err(WriteFault::Ambiguous);
+    }
+    let mut out = Vec::new(alloc);
+    push_sizes(&mut out, puzzle.width(), puzzle.height())?;
+    push_clues(&mut out, b' ', puzzle.rows())?;
+    push_clues(&mut out, b' ', puzzle.columns())?;
+    Ok(out)
+}
+
+fn push_field(out: &mut Vec<u8>, texts: &Texts, field: Field) -> Result<(), AllocError>
+    ensures { OnOk result (out.new.items ≡ out.old.items ++ quoted_line (field_word field) (text_of texts.now field)) }
+{
+    if let Some(text) = texts.get(field) {
+        out.extend_from_slice(field_word(field))?;
+        out.extend_from_slice(b" \"")?;
+        out.extend_from_slice(text)?;
+        out.extend_from_slice(b"\"\n")?;
+    }
+    Ok(())
+}
+
+fn push_texts(out: &mut Vec<u8>, texts: &Texts) -> Result<(), AllocError>
+    ensures { OnOk result (out.new.items ≡ out.old.items ++ text_fields texts.now) }
+{
+    push_field(out, texts, Field::Catalogue)?;
+    push_field(out, texts, Field::Title)?;
+    push_field(out, texts, Field::By)?;
+    push_field(out, texts, Field::Copyright)?;
+    push_field(out, texts, Field::License)?;
+    Ok(())
+}
+
+/// The cells of a goal, as they are written.
+fn push_cells(out: &mut Vec<u8>, cells: &[bool]) -> Result<(), AllocError>
+    ensures { OnOk result (out.new.items ≡ out.old.items ++ map goal_byte cells.now) }
+{
+    for cell in cells {
+        out.push(if *cell { b'1' } else { b'0' })?;
+    }
+    Ok(())
+}
+
+fn push_goal(out: &mut Vec<u8>, goal: Option<&[bool]>) -> Result<(), AllocError>
+    ensures { OnOk result (out.new.items ≡ out.old.items ++ goal_lines (option_map (λ cells. cells.now) goal.entry)) }
+{
+    if let Some(cells) = goal {
+        out.extend_from_slice(b"\ngoal \"")?;
+        push_cells(out, cells)?;
+        out.extend_from_slice(b"\"\n")?;
+    }
+    Ok(())
+}
+
+/// The text of a puzzle in the format .non, texts and goal included.
+pub fn write_non(alloc: Global, puzzle: &Puzzle) -> Result<Vec<u8>, NoMemory>
+    ensures { IfOk result (λ text. text.items ≡ text_non puzzle.now) }
+{
+    let mut out = Vec::new(alloc);
+    push_texts(&mut out, puzzle.texts())?;
+    out.extend_from_slice(b"width ")?;
+    push_number(&mut out, puzzle.width())?;
+    out.extend_from_slice(b"\nheight ")?;
+    push_number(&mut out, puzzle.height())?;
+    out.extend_from_slice(b"\n\nrows\n")?;
+    push_clues(&mut out, b',', puzzle.rows())?;
+    out.extend_from_slice(b"\ncolumns\n")?;
+    push_clues(&mut out, b',', puzzle.columns())?;
+    push_goal(&mut out, puzzle.goal())?;
+    Ok(out)
+}

@@ -1,0 +1,178 @@
+#!/usr/bin/env python3
+"""Times the built program on puzzles that it makes itself, from a fixed seed, and prints Markdown tables.
+
+    tools/benchmark.py crates/nonograde/out/nonograde [solve] [survey] [lanes] [texts]
+
+Each figure is the least wall time of three runs of the program as a whole (start, reading, solving, printing) and, where it says so, the
+greatest peak memory of a process. Nothing here is part of the product or of its gate.
+"""
+import os
+import subprocess
+import sys
+import tempfile
+import time
+
+SEED = 20261122
+
+
+class Draws:
+    """A linear congruential generator, so that every run makes the same puzzles."""
+
+    def __init__(self, seed):
+        self.state = seed
+
+    def below(self, count):
+        self.state = (self.state * 6364136223846793005 + 1442695040888963407) % 2**64
+        return (self.state >> 33) % count
+
+
+def picture(draws, width, height, filled_percent, rounds):
+    """Noise, smoothed so many rounds: a cell becomes what most of the cells around it are."""
+    cells = [[draws.below(100) < filled_percent for _ in range(width)] for _ in range(height)]
+    for _ in range(rounds):
+        cells = [
+            [
+                sum(cells[j][i] for j in range(max(0, y - 1), min(height, y + 2)) for i in range(max(0, x - 1), min(width, x + 2)))
+                + (0 if 0 < x < width - 1 and 0 < y < height - 1 else 2)
+                >= 5
+                for x in range(width)
+            ]
+            for y in range(height)
+        ]
+    return cells
+
+
+def clue(cells):
+    runs, run = [], 0
+    for cell in list(cells) + [False]:
+        if cell:
+            run += 1
+        elif run:
+            runs.append(run)
+            run = 0
+    return " ".join(map(str, runs)) or "0"
+
+
+def as_mk(cells):
+    height, width = len(cells), len(cells[0])
+    rows = [clue(row) for row in cells]
+    columns = [clue(cells[y][x] for y in range(height)) for x in range(width)]
+    return "\n".join([f"{height} {width}", *rows, "#", *columns]) + "\n"
+
+
+def run(words, text=None, times=3):
+    """The least time in seconds, the peak memory in MiB, and what was printed."""
+    best, peak, out = None, 0, b""
+    for _ in range(times):
+        with tempfile.TemporaryFile() as source, tempfile.TemporaryFile() as sink:
+            if text is not None:
+                source.write(text)
+                source.seek(0)
+            start = time.perf_counter()
+            process = subprocess.Popen(words, stdin=source, stdout=sink, stderr=sink)
+            _, _, usage = os.wait4(process.pid, 0)
+            took = time.perf_counter() - start
+            sink.seek(0)
+            out = sink.read()
+        best = took if best is None else min(best, took)
+        peak = max(peak, usage.ru_maxrss // 1024)
+    return best, peak, out
+
+
+def table(head, rows):
+    print("| " + " | ".join(head) + " |")
+    print("|" + "---|" * len(head))
+    for row in rows:
+        print("| " + " | ".join(str(part) for part in row) + " |")
+    print()
+
+
+def milliseconds(seconds):
+    return f"{seconds * 1000:.1f} ms"
+
+
+def solve(program, folder):
+    kinds = [
+        ("smooth", 52, 4, [10, 20, 30, 50, 80, 100, 128]),
+        ("rough", 50, 1, [10, 20, 30, 40, 50]),
+        ("noise", 45, 0, [5, 8, 10, 15, 20, 25, 30]),
+    ]
+    rows = []
+    for name, filled, rounds, sides in kinds:
+        for side in sides:
+            draws = Draws(SEED + side)
+            grades, total, worst = {}, 0.0, 0.0
+            for number in range(10):
+                path = os.path.join(folder, f"{name}-{side}-{number}.mk")
+                with open(path, "w") as file:
+                    file.write(as_mk(picture(draws, side, side, filled, rounds)))
+                took, _, out = run([program, "solve", path])
+                words = out.split(b" ")
+                kind = f"{words[2].decode()} {words[3].decode()}"
+                grades[kind] = grades.get(kind, 0) + 1
+                total += took
+                worst = max(worst, took)
+            found = ", ".join(f"{count} {kind}" for kind, count in sorted(grades.items()))
+            rows.append([name, f"{side} by {side}", found, milliseconds(total / 10), milliseconds(worst)])
+    print("Ten puzzles of each kind and size, `solve` with 1,000 guesses at most:\n")
+    table(["pictures", "size", "verdict and grade", "mean", "longest"], rows)
+
+
+def collection(count, width, height, filled, rounds):
+    draws = Draws(SEED)
+    parts = [f"@ {number}.mk\n" + as_mk(picture(draws, width, height, filled, rounds)) for number in range(count)]
+    return "".join(parts).encode()
+
+
+def survey(program, _folder):
+    zeros = "128 128\n" + "0\n" * 128 + "#\n" + "0\n" * 128
+    texts = [
+        ("10,000 smooth pictures, 10 by 10", collection(10_000, 10, 10, 52, 2)),
+        ("10,000 empty pictures, 128 by 128", "".join(f"@ {number}.mk\n{zeros}" for number in range(10_000)).encode()),
+        ("16,777,216 line feeds", b"\n" * 16_777_216),
+    ]
+    rows = []
+    for name, text in texts:
+        took, peak, out = run([program, "survey"], text, 1)
+        last = out.decode().splitlines()[-1]
+        rows.append([name, f"{len(text):,}", milliseconds(took), f"{peak} MiB", f"`{last}`"])
+    table(["collection", "bytes", "time", "peak memory", "last line"], rows)
+
+
+def lanes(program, _folder):
+    text = collection(2_000, 40, 40, 50, 1)
+    rows = []
+    for count in (1, 2, 4, 8):
+        took, peak, out = run([program, "survey", "--lanes", str(count)], text, 3)
+        rows.append([count, milliseconds(took), f"{peak} MiB", f"`{out.decode().splitlines()[-1]}`"])
+    print("2,000 rough pictures of 40 by 40:\n")
+    table(["lanes", "time", "peak memory", "last line"], rows)
+
+
+def texts(program, folder):
+    size = 1_048_576
+    shapes = [("blank lines", b"\n" * size), ("one line of spaces", b" " * size), ("one line of digits", b"1" * size),
+              ("one line of `1 `", b"1 " * (size // 2)), ("lines `1` CR LF", b"1\r\n" * (size // 3))]
+    rows = []
+    for ending in ("non", "mk", "nin"):
+        for name, body in shapes:
+            for head in (b"", b"128 128\n"):
+                path = os.path.join(folder, f"worst.{ending}")
+                with open(path, "wb") as file:
+                    file.write((head + body)[:size])
+                took, peak, out = run([program, "lines", path])
+                rows.append([f"`.{ending}`", name + (" after `128 128`" if head else ""), milliseconds(took), f"{peak} MiB", out.decode().split(": ")[-1].strip()[:20]])
+    table(["format", "1,048,576 bytes of", "time", "peak memory", "answer"], rows)
+
+
+def main():
+    program = os.path.abspath(sys.argv[1])
+    parts = {"solve": solve, "survey": survey, "lanes": lanes, "texts": texts}
+    chosen = sys.argv[2:] or list(parts)
+    print(f"{time.strftime('%Y-%m-%d')}, {os.cpu_count()} cores\n")
+    with tempfile.TemporaryDirectory() as folder:
+        for name in chosen:
+            parts[name](program, folder)
+
+
+main()
