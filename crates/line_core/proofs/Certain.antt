@@ -1,0 +1,73 @@
+use Rattle.std.proofs.Common.{◌≡◌, ℕ, ◌<◌, Bool, true, false, not, List, [], ◌∷◌, length, get_or, map, Some, None, refl, sym, ap, ◌∙◌, arith, true≢false, zero-add, ext_get_or}
+use Rattle.std.specs.List.{list_all, range_with_len}
+use Rattle.std.proofs.lemmas.List.FromFn.{length-map-range_with_len, get_or-map-range_with_len}
+use Rattle.grid_core.specs.declared.cells.Cell.{Cell}
+use Rattle.grid_core.specs.declared.cells.Cell.TheVariants.{Unknown}
+use Rattle.line_core.specs.Placings.{placings}
+use Rattle.line_core.specs.Deduction.{shared, shared_at, deduced}
+use Rattle.line_core.specs.Pattern.{certain_by}
+use Rattle.line_core.specs.Reach.{CanBe}
+use Rattle.line_core.proofs.DeductionLaws.{IsPlacing, ListsPlacings, placings_listed, no_placing, false_unless, filled_at, blank_at, agrees-Extends, Extends-agrees}
+
+true_unless : (b : Bool) → (b ≡ false → ⊥) → b ≡ true
+true_unless true h = refl
+true_unless false h = absurd (h refl)
+
+-- a test that passes exactly where something is so
+pub record Tells (P : Type 0) (b : Bool) : Type 0 where
+  pub to : b ≡ true → P
+  pub from : P → b ≡ true
+
+certain_is : (l : List Cell) (clue : List ℕ) (ps : List (List Bool)) (k : ℕ) → ListsPlacings l clue ps → (y : List Bool) → IsPlacing l clue y → (f b : Bool)
+    → Tells (CanBe l clue true k) f → Tells (CanBe l clue false k) b → shared_at ps k ≡ certain_by f b
+certain_is l clue ps k listed y p true true tf tb =
+    let x = tf.to refl in
+    let z = tb.to refl in
+    let not_filled : list_all (filled_at k) ps ≡ false =
+    false_unless (list_all (filled_at k) ps) (λ e. true≢false (sym (listed.each (filled_at k) e z.0 (record { extends = agrees-Extends l z.0 z.1; runs_are = z.2 })) ∙ z.3)) in
+    let not_blank : list_all (blank_at k) ps ≡ false =
+    false_unless (list_all (blank_at k) ps) (λ e. true≢false (sym (listed.each (blank_at k) e x.0 (record { extends = agrees-Extends l x.0 x.1; runs_are = x.2 })) ∙ ap not x.3)) in
+    rw (not_filled, not_blank) refl
+certain_is l clue ps k listed y p true false tf tb =
+    let all : list_all (filled_at k) ps ≡ true =
+    listed.every (filled_at k) (λ x q. true_unless (get_or x k false) (λ e. true≢false (sym (tb.from (x, Extends-agrees l x q.extends, q.runs_are, e))))) in
+    rw all refl
+certain_is l clue ps k listed y p false true tf tb =
+    let z = tb.to refl in
+    let not_filled : list_all (filled_at k) ps ≡ false =
+    false_unless (list_all (filled_at k) ps) (λ e. true≢false (sym (listed.each (filled_at k) e z.0 (record { extends = agrees-Extends l z.0 z.1; runs_are = z.2 })) ∙ z.3)) in
+    let all : list_all (blank_at k) ps ≡ true =
+    listed.every (blank_at k) (λ x q. ap not (false_unless (get_or x k false) (λ e. true≢false (sym (tf.from (x, Extends-agrees l x q.extends, q.runs_are, e)))))) in
+    rw (not_filled, all) refl
+certain_is l clue ps k listed y p false false tf tb =
+    let filled : get_or y k false ≡ true = true_unless (get_or y k false) (λ e. true≢false (sym (tb.from (y, Extends-agrees l y p.extends, p.runs_are, e)))) in
+    absurd (true≢false (sym (tf.from (y, Extends-agrees l y p.extends, p.runs_are, filled))))
+
+certain_listed : (l : List Cell) (clue : List ℕ) (d : List Cell) (f b : ℕ → Bool) (ps : List (List Bool)) → ListsPlacings l clue ps
+    → ((k : ℕ) → k < length l → Tells (CanBe l clue true k) (f k)) → ((k : ℕ) → k < length l → Tells (CanBe l clue false k) (b k))
+    → (y : List Bool) → IsPlacing l clue y → length d ≡ length l
+    → ((k : ℕ) → k < length l → get_or d k Unknown ≡ certain_by (f k) (b k)) → Some d ≡ shared (length l) ps
+certain_listed l clue d f b [] listed tf tb y p e each = absurd (no_placing l clue listed y p)
+certain_listed l clue d f b (x ∷ ys) listed tf tb y p e each =
+    let ps = x ∷ ys in
+    let all = map (shared_at ps) (range_with_len 0 (length l)) in
+    ap (λ (cells : List Cell). Some cells)
+    (ext_get_or Unknown d all (e ∙ sym (length-map-range_with_len (shared_at ps) 0 (length l))) (λ k i.
+    let within : k < length l = omega (arith, e) in
+    each k within ∙ sym (certain_is l clue ps k listed y p (f k) (b k) (tf k within) (tb k within))
+    ∙ sym (get_or-map-range_with_len (shared_at ps) 0 (length l) k k Unknown within (zero-add k))))
+
+-- cells that are as two tests tell are the deduction of a line with a placing
+pub deduced-told : (l : List Cell) (clue : List ℕ) (d : List Cell) (f b : ℕ → Bool)
+    → ((k : ℕ) → k < length l → Tells (CanBe l clue true k) (f k)) → ((k : ℕ) → k < length l → Tells (CanBe l clue false k) (b k))
+    → (y : List Bool) → IsPlacing l clue y → length d ≡ length l
+    → ((k : ℕ) → k < length l → get_or d k Unknown ≡ certain_by (f k) (b k)) → Some d ≡ deduced l clue
+deduced-told l clue d f b tf tb y p e each = certain_listed l clue d f b (placings l clue) (placings_listed l clue) tf tb y p e each
+
+dead_listed : (l : List Cell) (clue : List ℕ) (ps : List (List Bool)) → ListsPlacings l clue ps → ((y : List Bool) → IsPlacing l clue y → ⊥) → None ≡ shared (length l) ps
+dead_listed l clue [] listed none = refl
+dead_listed l clue (y ∷ ys) listed none = absurd (none y listed.members.0)
+
+-- and a line with none is dead
+pub dead-told : (l : List Cell) (clue : List ℕ) → ((y : List Bool) → IsPlacing l clue y → ⊥) → None ≡ deduced l clue
+dead-told l clue none = dead_listed l clue (placings l clue) (placings_listed l clue) none

@@ -1,0 +1,163 @@
+use Rattle.std.proofs.Common.{◌≡◌, ℕ, suc, ◌+◌, ◌-◌, ◌<◌, ◌≤◌, Bool, true, false, List, length, get_or, reverse, sym, subst, arith, ◌⊎◌, inl, inr}
+use Rattle.std.proofs.lemmas.Bool.{cases_lt}
+use Rattle.grid_core.specs.declared.cells.Cell.{Cell}
+use Rattle.line_core.specs.Masks.{Has, IsMaskOf, IsMoved, IsFlooded, AllFrom, SomeFrom}
+use Rattle.line_core.proofs.Steps.{mask_same, and_is, or_is}
+use Rattle.std.specs.Int.RustNames.{bit_and, bit_or}
+use Rattle.line_core.proofs.Uses.{flood_same}
+use Rattle.line_core.specs.Reach.{MayBe, IsGap, IsStart, IsEnd, IsGapAhead, IsWholeEnd}
+use Rattle.line_core.proofs.PatternLaws.{ArePositive}
+use Rattle.line_core.proofs.Reaching.{first_gap_to, first_gap_from, gap_after_to, gap_after_from}
+use Rattle.line_core.proofs.Joining.{closed_behind_to, closed_behind_from, closed_ahead_to, closed_ahead_from, turned_gap_to, turned_gap_from}
+
+-- the mask of the first gaps
+pub gap_none_is : (l : List Cell) (clue : List ℕ) (free m : ℕ) → IsMaskOf (MayBe l false) free
+    → IsMaskOf (IsFlooded (λ k. Has free k × (k ≡ 0)) (Has free)) m → IsMaskOf (IsGap l clue 0) m
+gap_none_is l clue free m f p =
+    mask_same (IsFlooded (λ k. (k ≡ 0) × MayBe l false k) (MayBe l false)) (IsGap l clue 0) m
+    (flood_same (λ k. Has free k × (k ≡ 0)) (Has free) (λ k. (k ≡ 0) × MayBe l false k) (MayBe l false) m
+    (λ i h. (h.1, f.to i h.0)) (λ i h. (f.from i h.1, h.0)) f.to f.from p)
+    (first_gap_to l clue) (first_gap_from l clue)
+
+-- the mask of the gaps after a run, from that of its ends
+pub gap_next_is : (l : List Cell) (clue : List ℕ) (j free ends m : ℕ) → length l ≤ 128 → 0 < get_or clue j 0 → IsMaskOf (MayBe l false) free → IsMaskOf (IsEnd l clue j) ends
+    → IsMaskOf (IsFlooded (λ k. IsMoved (Has ends) 1 k × Has free k) (Has free)) m → IsMaskOf (IsGap l clue (suc j)) m
+gap_next_is l clue j free ends m short pos f e p =
+    mask_same (IsFlooded (λ k. MayBe l false k × (1 ≤ k) × IsEnd l clue j (k - 1)) (MayBe l false)) (IsGap l clue (suc j)) m
+    (flood_same (λ k. IsMoved (Has ends) 1 k × Has free k) (Has free) (λ k. MayBe l false k × (1 ≤ k) × IsEnd l clue j (k - 1)) (MayBe l false) m
+    (λ i h. (f.to i h.1, h.0.1, e.to (i - 1) h.0.2)) (λ i h. let within : i < length l = h.0.0 in ((omega arith, h.1, e.from (i - 1) h.2), f.from i h.0)) f.to f.from p)
+    (λ i h. gap_after_to l clue j i pos h) (λ i h. gap_after_from l clue j i pos h)
+
+-- the mask of a run's ends, from that of the gaps before it
+pub ends_are : (l : List Cell) (clue : List ℕ) (j gap cells window m : ℕ) (first : Bool) → length l ≤ 128 → j < length clue → ArePositive clue → 0 < get_or clue j 0
+    → (first ≡ true → j ≡ 0) → (j ≡ 0 → first ≡ true)
+    → IsMaskOf (IsGap l clue j) gap → IsMaskOf (MayBe l true) cells → IsMaskOf (AllFrom (Has cells) (get_or clue j 0)) window
+    → IsMaskOf (IsMoved (λ s. (IsMoved (Has gap) 1 s ⊎ ((s ≡ 0) × (first ≡ true))) × Has window s) (get_or clue j 0 - 1)) m
+    → IsMaskOf (IsEnd l clue j) m
+ends_are l clue j gap cells window m first short jl pos cp f0 f1 g a w p =
+    mask_same (IsMoved (λ s. (IsMoved (Has gap) 1 s ⊎ ((s ≡ 0) × (first ≡ true))) × Has window s) (get_or clue j 0 - 1)) (IsEnd l clue j) m p to from
+  where
+    start_to : (s : ℕ) → (IsMoved (Has gap) 1 s ⊎ ((s ≡ 0) × (first ≡ true))) × Has window s → IsStart l clue j s
+    start_to s h =
+        (closed_behind_from l clue j s (elim h.0 [ inl x ↦ inr (x.1, g.to (s - 1) x.2) | inr x ↦ inl (x.0, f0 x.1) ]), λ z b. a.to (s + z) (w.to s h.1 z b))
+
+    start_from : (s : ℕ) → IsStart l clue j s → (IsMoved (Has gap) 1 s ⊎ ((s ≡ 0) × (first ≡ true))) × Has window s
+    start_from s h =
+        let here : s + 0 < length l = (h.1 0 cp).0 in
+        (elim (closed_behind_to l clue j s (omega arith) (omega arith) pos h.0) [ inl x ↦ inr (x.0, f1 x.1) | inr x ↦ inl (omega arith, x.0, g.from (s - 1) x.1) ], w.from s (λ z b. a.from (s + z) (h.1 z b)))
+
+    to : (e : ℕ) → IsMoved (λ s. (IsMoved (Has gap) 1 s ⊎ ((s ≡ 0) × (first ≡ true))) × Has window s) (get_or clue j 0 - 1) e → IsEnd l clue j e
+    to e h =
+        let far : get_or clue j 0 - 1 ≤ e = h.1 in
+        let same : e - (get_or clue j 0 - 1) ≡ e + 1 - get_or clue j 0 = omega arith in
+        (omega arith, subst (IsStart l clue j) same (start_to (e - (get_or clue j 0 - 1)) h.2))
+
+    from : (e : ℕ) → IsEnd l clue j e → IsMoved (λ s. (IsMoved (Has gap) 1 s ⊎ ((s ≡ 0) × (first ≡ true))) × Has window s) (get_or clue j 0 - 1) e
+    from e h =
+        let enough : get_or clue j 0 ≤ e + 1 = h.0 in
+        let same : e + 1 - get_or clue j 0 ≡ e - (get_or clue j 0 - 1) = omega arith in
+        let last : e + 1 - get_or clue j 0 + (get_or clue j 0 - 1) < length l = (h.1.1 (get_or clue j 0 - 1) (omega arith)).0 in
+        (omega arith, omega arith, start_from (e - (get_or clue j 0 - 1)) (subst (IsStart l clue j) same h.1))
+
+-- the mask of the gaps ahead of a run, from that of the turned line
+pub ahead_is : (l : List Cell) (clue : List ℕ) (j gap m : ℕ) → j ≤ length clue → IsMaskOf (IsGap (reverse l) (reverse clue) (length clue - j)) gap
+    → IsMaskOf (λ i. (i < length l) × Has gap (length l - 1 - i)) m → IsMaskOf (IsGapAhead l clue j) m
+ahead_is l clue j gap m jl g p =
+    mask_same (λ i. (i < length l) × Has gap (length l - 1 - i)) (IsGapAhead l clue j) m p
+    (λ i h. turned_gap_to l clue j i jl h.0 (g.to (length l - 1 - i) h.1))
+    (λ i h. let within : i < length l = h.0.0 in (within, g.from (length l - 1 - i) (turned_gap_from l clue j i jl within h)))
+
+-- the mask of the ends of a run in whole placings
+pub whole_is : (l : List Cell) (clue : List ℕ) (j ends ahead last m : ℕ) → ArePositive clue → j < length clue → 0 < get_or clue j 0
+    → IsMaskOf (IsEnd l clue j) ends → IsMaskOf (IsGapAhead l clue (j + 1)) ahead → IsMaskOf (λ i. (i ≡ length l - 1) × (j + 1 ≡ length clue)) last
+    → IsMaskOf (λ i. Has ends i × (Has ahead (i + 1) ⊎ Has last i)) m → IsMaskOf (IsWholeEnd l clue j) m
+whole_is l clue j ends ahead last m pos jl cp e a z p =
+    mask_same (λ i. Has ends i × (Has ahead (i + 1) ⊎ Has last i)) (IsWholeEnd l clue j) m p to from
+  where
+    inside : (i : ℕ) → IsEnd l clue j i → i < length l
+    inside i h =
+        let enough : get_or clue j 0 ≤ i + 1 = h.0 in
+        let far : i + 1 - get_or clue j 0 + (get_or clue j 0 - 1) < length l = (h.1.1 (get_or clue j 0 - 1) (omega arith)).0 in
+        omega arith
+
+    to : (i : ℕ) → Has ends i × (Has ahead (i + 1) ⊎ Has last i) → IsWholeEnd l clue j i
+    to i h =
+        let end = e.to i h.0 in
+        let within : i < length l = inside i end in (
+          end,
+          closed_ahead_from l clue (j + 1) (i + 1) (elim h.1 [
+            | inl x ↦ inr (a.to (i + 1) x)
+            | inr x ↦ (let y = z.to i x in let k : i ≡ length l - 1 = y.0 in inl (omega arith, y.1))
+          ]),
+        )
+
+    from : (i : ℕ) → IsWholeEnd l clue j i → Has ends i × (Has ahead (i + 1) ⊎ Has last i)
+    from i h =
+        let within : i < length l = inside i h.0 in (
+          e.from i h.0,
+          elim (closed_ahead_to l clue (j + 1) (i + 1) pos (omega arith) (omega arith) h.1) [
+            | inl x ↦ (let k : i + 1 ≡ length l = x.0 in inr (z.from i (omega arith, x.1)))
+            | inr x ↦ inl (a.from (i + 1) x)
+          ],
+        )
+
+-- one more run's cells
+pub fill_more : (l : List Cell) (clue : List ℕ) (j whole wide fill : ℕ) → IsMaskOf (IsWholeEnd l clue j) whole → IsMaskOf (SomeFrom (Has whole) (get_or clue j 0)) wide
+    → IsMaskOf (λ i. (q : ℕ) × (q < j) × SomeFrom (IsWholeEnd l clue q) (get_or clue q 0) i) fill
+    → IsMaskOf (λ i. (q : ℕ) × (q < j + 1) × SomeFrom (IsWholeEnd l clue q) (get_or clue q 0) i) (bit_or fill wide)
+fill_more l clue j whole wide fill w s f =
+    mask_same (λ i. ((q : ℕ) × (q < j) × SomeFrom (IsWholeEnd l clue q) (get_or clue q 0) i) ⊎ SomeFrom (Has whole) (get_or clue j 0) i)
+    (λ i. (q : ℕ) × (q < j + 1) × SomeFrom (IsWholeEnd l clue q) (get_or clue q 0) i) (bit_or fill wide)
+    (or_is (λ i. (q : ℕ) × (q < j) × SomeFrom (IsWholeEnd l clue q) (get_or clue q 0) i) (SomeFrom (Has whole) (get_or clue j 0)) fill wide f s) to from
+  where
+    to : (i : ℕ) → ((q : ℕ) × (q < j) × SomeFrom (IsWholeEnd l clue q) (get_or clue q 0) i) ⊎ SomeFrom (Has whole) (get_or clue j 0) i → (q : ℕ) × (q < j + 1) × SomeFrom (IsWholeEnd l clue q) (get_or clue q 0) i
+    to i (inl x) = (x.0, omega (arith, x.1), x.2)
+    to i (inr x) = (j, omega arith, (x.0, x.1, w.to (i + x.0) x.2))
+
+    from : (i : ℕ) → (q : ℕ) × (q < j + 1) × SomeFrom (IsWholeEnd l clue q) (get_or clue q 0) i → ((q : ℕ) × (q < j) × SomeFrom (IsWholeEnd l clue q) (get_or clue q 0) i) ⊎ SomeFrom (Has whole) (get_or clue j 0) i
+    from i x =
+        elim (cases_lt x.0 j) [
+          | inl low ↦ inl (x.0, low, x.2)
+          | inr high ↦
+              (let below : x.0 < j + 1 = x.1 in
+              let e : x.0 ≡ j = omega arith in
+              let y : SomeFrom (IsWholeEnd l clue j) (get_or clue j 0) i = subst (λ (q : ℕ). SomeFrom (IsWholeEnd l clue q) (get_or clue q 0) i) e x.2 in
+              inr (y.0, y.1, w.from (i + y.0) y.2))
+        ]
+
+-- one more place for a blank cell
+pub blank_first : (l : List Cell) (clue : List ℕ) (gap ahead : ℕ) → IsMaskOf (IsGap l clue 0) gap → IsMaskOf (IsGapAhead l clue 0) ahead
+    → IsMaskOf (λ i. (q : ℕ) × (q ≤ 0) × IsGap l clue q i × IsGapAhead l clue q i) (bit_and gap ahead)
+blank_first l clue gap ahead g a =
+    mask_same (λ i. IsGap l clue 0 i × IsGapAhead l clue 0 i) (λ i. (q : ℕ) × (q ≤ 0) × IsGap l clue q i × IsGapAhead l clue q i) (bit_and gap ahead)
+    (and_is (IsGap l clue 0) (IsGapAhead l clue 0) gap ahead g a) (λ i x. (0, omega arith, x.0, x.1))
+    (λ i x. let b : x.0 ≤ 0 = x.1 in let e : x.0 ≡ 0 = omega arith in subst (λ (q : ℕ). IsGap l clue q i × IsGapAhead l clue q i) e (x.2, x.3))
+
+pub blank_more : (l : List Cell) (clue : List ℕ) (j gap ahead blank : ℕ) → IsMaskOf (IsGap l clue (j + 1)) gap → IsMaskOf (IsGapAhead l clue (j + 1)) ahead
+    → IsMaskOf (λ i. (q : ℕ) × (q ≤ j) × IsGap l clue q i × IsGapAhead l clue q i) blank
+    → IsMaskOf (λ i. (q : ℕ) × (q ≤ j + 1) × IsGap l clue q i × IsGapAhead l clue q i) (bit_or blank (bit_and gap ahead))
+blank_more l clue j gap ahead blank g a b =
+    mask_same (λ i. ((q : ℕ) × (q ≤ j) × IsGap l clue q i × IsGapAhead l clue q i) ⊎ (IsGap l clue (j + 1) i × IsGapAhead l clue (j + 1) i))
+    (λ i. (q : ℕ) × (q ≤ j + 1) × IsGap l clue q i × IsGapAhead l clue q i) (bit_or blank (bit_and gap ahead))
+    (or_is (λ i. (q : ℕ) × (q ≤ j) × IsGap l clue q i × IsGapAhead l clue q i) (λ i. IsGap l clue (j + 1) i × IsGapAhead l clue (j + 1) i) blank (bit_and gap ahead) b
+    (and_is (IsGap l clue (j + 1)) (IsGapAhead l clue (j + 1)) gap ahead g a)) to from
+  where
+    to : (i : ℕ) → ((q : ℕ) × (q ≤ j) × IsGap l clue q i × IsGapAhead l clue q i) ⊎ (IsGap l clue (j + 1) i × IsGapAhead l clue (j + 1) i) → (q : ℕ) × (q ≤ j + 1) × IsGap l clue q i × IsGapAhead l clue q i
+    to i (inl x) = (x.0, omega (arith, x.1), x.2, x.3)
+    to i (inr x) = (j + 1, omega arith, x.0, x.1)
+
+    from : (i : ℕ) → (q : ℕ) × (q ≤ j + 1) × IsGap l clue q i × IsGapAhead l clue q i → ((q : ℕ) × (q ≤ j) × IsGap l clue q i × IsGapAhead l clue q i) ⊎ (IsGap l clue (j + 1) i × IsGapAhead l clue (j + 1) i)
+    from i x =
+        elim (cases_lt x.0 (j + 1)) [
+          | inl low ↦ inl (x.0, omega arith, x.2, x.3)
+          | inr high ↦ (let b : x.0 ≤ j + 1 = x.1 in let e : x.0 ≡ j + 1 = omega arith in inr (subst (λ (q : ℕ). IsGap l clue q i × IsGapAhead l clue q i) e (x.2, x.3)))
+        ]
+
+-- the gaps ahead, from the turned line's gaps
+pub ahead_of : (l : List Cell) (clue : List ℕ) (j p : ℕ) (turned : List ℕ) (len m : ℕ) → length l ≡ len → p + j ≡ length clue → j ≤ length clue
+    → ((k : ℕ) → k ≤ length clue → IsMaskOf (IsGap (reverse l) (reverse clue) k) (get_or turned k 0))
+    → IsMaskOf (λ i. (i < len) × Has (get_or turned p 0) (len - 1 - i)) m → IsMaskOf (IsGapAhead l clue j) m
+ahead_of l clue j p turned len m e s jl g h =
+    let same : length clue - j ≡ p = omega arith in
+    ahead_is l clue j (get_or turned p 0) m jl (subst (λ (k : ℕ). IsMaskOf (IsGap (reverse l) (reverse clue) k) (get_or turned p 0)) (sym same) (g p (omega arith)))
+    (subst (λ (n : ℕ). IsMaskOf (λ i. (i < n) × Has (get_or turned p 0) (n - 1 - i)) m) (sym e) h)

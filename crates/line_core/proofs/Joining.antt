@@ -1,0 +1,444 @@
+use Rattle.std.proofs.Common.{◌≡◌, ℕ, zero, suc, ◌+◌, ◌-◌, ◌<◌, ◌≤◌, Bool, true, false, ◌&&◌, List, [], ◌∷◌, ◌++◌, length, replicate, refl, sym, ap, ◌∙◌, subst, arith, add-zero, zero-add, true≢false, ◌⊎◌, inl, inr, drop, get_or, drop-cons, add-one, drop_of_length-le, length-drop, reverse}
+use Rattle.std.proofs.lemmas.List.{get_or-reverse, length-reverse}
+use Rattle.std.proofs.lemmas.Bool.{cases_lt}
+use Rattle.grid_core.specs.declared.cells.Cell.{Cell}
+use Rattle.grid_core.specs.declared.cells.Cell.TheVariants.{Unknown}
+use Rattle.grid_core.specs.Cells.{allows, agrees}
+use Rattle.grid_core.specs.Runs.{runs}
+use Rattle.line_core.specs.Masks.{AllFrom, SomeFrom}
+use Rattle.line_core.specs.Pattern.{pattern, fits}
+use Rattle.line_core.specs.Reach.{onto, behind, Holds, IsClosed, MayBe, IsGap, IsGapAhead, CanBe, IsBlankable, IsFillable}
+use Rattle.line_core.proofs.PatternLaws.{ArePositive, and_left, and_right, and_both, or_cases, or_right, runs_after, runs_after-zero, runs_after-true, runs_after-false, runs_after-close, runs_after-nil, fits-placing, placing-fits}
+use Rattle.line_core.proofs.Reaching.{EndOf}
+
+pub length-agrees : (l : List Cell) (x : List Bool) → agrees l x ≡ true → length x ≡ length l
+length-agrees [] [] h = refl
+length-agrees [] (b ∷ x) h = cc
+length-agrees (c ∷ l) [] h = cc
+length-agrees (c ∷ l) (b ∷ x) h = ap suc (length-agrees l x (and_right (allows c b) (agrees l x) h))
+
+-- ---- a list turned round in front of another
+
+pub length_behind : {A : Type 0} (d : A) (xs : List A) (i : ℕ) → length (behind d xs i) ≡ i
+length_behind d xs zero = refl
+length_behind d xs (suc i) = ap suc (length_behind d xs i)
+
+pub onto_behind : {A : Type 0} (d : A) (xs : List A) (i : ℕ) → i ≤ length xs → onto (behind d xs i) (drop i xs) ≡ xs
+onto_behind d xs zero h = refl
+onto_behind d xs (suc i) h =
+    let within : i < length xs = omega arith in
+    ap (onto (behind d xs i)) (sym (drop-cons xs i d within)) ∙ onto_behind d xs i (omega arith)
+
+pub get_or-onto : {A : Type 0} (d : A) (a b : List A) (z : ℕ) → get_or (onto a b) (length a + z) d ≡ get_or b z d
+get_or-onto d [] b z = let e : 0 + z ≡ z = omega arith in ap (λ (k : ℕ). get_or b k d) e
+get_or-onto d (x ∷ a) b z =
+    let e : suc (length a) + z ≡ length a + suc z = omega arith in
+    ap (λ (k : ℕ). get_or (onto a (x ∷ b)) k d) e ∙ get_or-onto d a (x ∷ b) (suc z)
+
+pub agrees_onto : (s t : List Cell) (a b : List Bool) → agrees s a ≡ true → agrees t b ≡ true → agrees (onto s t) (onto a b) ≡ true
+agrees_onto [] t [] b h k = k
+agrees_onto [] t (x ∷ a) b h k = cc
+agrees_onto (c ∷ s) t [] b h k = cc
+agrees_onto (c ∷ s) t (x ∷ a) b h k =
+    agrees_onto s (c ∷ t) a (x ∷ b) (and_right (allows c x) (agrees s a) h) (and_both (allows c x) (agrees t b) (and_left (allows c x) (agrees s a) h) k)
+
+pub onto_agrees : (s t : List Cell) (a b : List Bool) → length s ≡ length a → agrees (onto s t) (onto a b) ≡ true → (agrees s a ≡ true) × (agrees t b ≡ true)
+onto_agrees [] t [] b e h = (refl, h)
+onto_agrees [] t (x ∷ a) b e h = absurd (omega arith)
+onto_agrees (c ∷ s) t [] b e h = absurd (omega arith)
+onto_agrees (c ∷ s) t (x ∷ a) b e h =
+    let r = onto_agrees s (c ∷ t) a (x ∷ b) (omega arith) h in
+    (and_both (allows c x) (agrees s a) (and_left (allows c x) (agrees t b) r.1) r.0, and_right (allows c x) (agrees t b) r.1)
+
+pub drop_head : (xs : List ℕ) (i r : ℕ) (q : List ℕ) → r ∷ q ≡ drop i xs → (get_or xs i 0 ≡ r) × (q ≡ drop (suc i) xs) × (i < length xs)
+drop_head [] zero r q e = cc
+drop_head [] (suc i) r q e = cc
+drop_head (x ∷ xs) zero r q e = (cc, cc, omega arith)
+drop_head (x ∷ xs) (suc i) r q e = let t = drop_head xs i r q e in (t.0, t.1, omega (arith, t.2))
+
+pub onto_split : (p q clue : List ℕ) → onto p q ≡ clue → (p ≡ behind 0 clue (length p)) × (q ≡ drop (length p) clue) × (length p ≤ length clue)
+onto_split [] q clue e = (refl, e, omega arith)
+onto_split (r ∷ p) q clue e =
+    let t = onto_split p (r ∷ q) clue e in
+    let h = drop_head clue (length p) r q t.1 in
+    (ap (λ (z : ℕ). z ∷ p) (sym h.0) ∙ ap (λ (z : List ℕ). get_or clue (length p) 0 ∷ z) t.0, h.1, omega (arith, h.2))
+
+-- ---- the runs of a line that is cut at a blank cell
+
+abbrev first_run : ℕ → List ℕ → List ℕ
+first_run zero rs = rs
+first_run (suc n) rs = suc n ∷ rs
+
+runs_after-cut : (n : ℕ) (b : List Bool) → runs_after n (false ∷ b) ≡ first_run n (runs b)
+runs_after-cut zero b = runs_after-false b ∙ runs_after-zero b
+runs_after-cut (suc n) b = runs_after-close n b ∙ ap (λ (rs : List ℕ). suc n ∷ rs) (runs_after-zero b)
+
+runs_after-more : (m n : ℕ) (y : List Bool) → runs_after m (replicate n true ++ y) ≡ runs_after (m + n) y
+runs_after-more m zero y = ap (λ (k : ℕ). runs_after k y) (sym (add-zero m))
+runs_after-more m (suc n) y =
+    let e : suc m + n ≡ m + suc n = omega arith in
+    runs_after-true m (replicate n true ++ y) ∙ runs_after-more (suc m) n y ∙ ap (λ (k : ℕ). runs_after k y) e
+
+pub runs_run : (n : ℕ) (y : List Bool) → runs (replicate n true ++ y) ≡ runs_after n y
+runs_run n y = sym (runs_after-zero (replicate n true ++ y)) ∙ runs_after-more 0 n y ∙ ap (λ (k : ℕ). runs_after k y) (zero-add n)
+
+runs_onto : (a : List Bool) (n : ℕ) (b : List Bool) → runs (onto a (replicate n true ++ (false ∷ b))) ≡ onto (runs_after n a) (runs b)
+runs_onto [] n b = runs_run n (false ∷ b) ∙ runs_after-cut n b ∙ by n
+  where
+    by : (n : ℕ) → first_run n (runs b) ≡ onto (runs_after n []) (runs b)
+    by zero = ap (λ (p : List ℕ). onto p (runs b)) (sym (runs_after-zero []))
+    by (suc n) = ap (λ (p : List ℕ). onto p (runs b)) (sym (runs_after-nil n))
+runs_onto (true ∷ a) n b = runs_onto a (suc n) b ∙ ap (λ (p : List ℕ). onto p (runs b)) (sym (runs_after-true n a))
+runs_onto (false ∷ a) n b =
+    runs_onto a 0 (replicate n true ++ (false ∷ b)) ∙ ap (onto (runs_after 0 a)) (runs_run n (false ∷ b) ∙ runs_after-cut n b) ∙ by n
+  where
+    by : (n : ℕ) → onto (runs_after 0 a) (first_run n (runs b)) ≡ onto (runs_after n (false ∷ a)) (runs b)
+    by zero = ap (λ (p : List ℕ). onto p (runs b)) (sym (runs_after-false a))
+    by (suc n) = ap (λ (p : List ℕ). onto p (runs b)) (sym (runs_after-close n a))
+
+pub runs_cut : (a b : List Bool) → runs (onto a (false ∷ b)) ≡ onto (runs a) (runs b)
+runs_cut a b = runs_onto a 0 b ∙ ap (λ (p : List ℕ). onto p (runs b)) (runs_after-zero a)
+
+runs_blank : (b : List Bool) → runs (false ∷ b) ≡ runs b
+runs_blank b = refl
+
+-- a run, where none goes on after it
+pub runs_closed : (n : ℕ) (b : List Bool) → get_or b 0 false ≡ false → runs_after (suc n) b ≡ suc n ∷ runs b
+runs_closed n [] h = runs_after-nil n
+runs_closed n (true ∷ b) h = cc
+runs_closed n (false ∷ b) h = runs_after-close n b ∙ ap (λ (rs : List ℕ). suc n ∷ rs) (runs_after-zero b)
+
+runs_around : (a : List Bool) (n : ℕ) (b : List Bool) → get_or a 0 false ≡ false → get_or b 0 false ≡ false
+    → runs (onto a (replicate (suc n) true ++ b)) ≡ onto (runs a) (suc n ∷ runs b)
+runs_around [] n b h k = runs_run (suc n) b ∙ runs_closed n b k
+runs_around (true ∷ a) n b h k = cc
+runs_around (false ∷ a) n b h k = runs_cut a (replicate (suc n) true ++ b) ∙ ap (onto (runs a)) (runs_run (suc n) b ∙ runs_closed n b k)
+
+-- ---- parts of a clue
+
+pub positive_at : (clue : List ℕ) → ArePositive clue → (j : ℕ) → j < length clue → 0 < get_or clue j 0
+positive_at [] p j h = absurd (omega arith)
+positive_at (c ∷ clue) p zero h = p.0
+positive_at (c ∷ clue) p (suc j) h = positive_at clue p.1 j (omega arith)
+
+pub positive_from : (clue : List ℕ) → ((j : ℕ) → j < length clue → 0 < get_or clue j 0) → ArePositive clue
+positive_from [] h = tt
+positive_from (c ∷ clue) h = (h 0 (omega arith), positive_from clue (λ j l. h (suc j) (omega arith)))
+
+pub positive_turned : (clue : List ℕ) → ArePositive clue → ArePositive (reverse clue)
+positive_turned clue p =
+    positive_from (reverse clue) (λ j h.
+    let within : j < length clue = omega (arith, length-reverse clue) in
+    subst (λ (n : ℕ). 0 < n) (sym (get_or-reverse clue j 0 within)) (positive_at clue p (length clue - 1 - j) (omega arith)))
+
+pub positive_behind : (clue : List ℕ) → ArePositive clue → (j : ℕ) → j ≤ length clue → ArePositive (behind 0 clue j)
+positive_behind clue p zero h = tt
+positive_behind clue p (suc j) h = (positive_at clue p j (omega arith), positive_behind clue p j (omega arith))
+
+pub positive_drop : (clue : List ℕ) → ArePositive clue → (j : ℕ) → ArePositive (drop j clue)
+positive_drop [] p zero = tt
+positive_drop [] p (suc j) = tt
+positive_drop (c ∷ clue) p zero = p
+positive_drop (c ∷ clue) p (suc j) = positive_drop clue p.1 j
+
+-- ---- cells that are closed, as lines
+
+pub closed_line : (cells : List Cell) (cs : List ℕ) → ArePositive cs → IsClosed cells cs → (y : List Bool) × (agrees cells y ≡ true) × (runs y ≡ cs) × (get_or y 0 false ≡ false)
+closed_line [] [] p h = ([], refl, refl, refl)
+closed_line [] (zero ∷ cs) p h = absurd (omega (arith, p.0))
+closed_line [] (suc c ∷ cs) p h = cc
+closed_line (c ∷ cells) cs p h =
+    elim (or_cases (allows c true && false) (allows c false && fits cells true (pattern cs)) h) [
+      | inl a ↦ absurd (true≢false (sym (and_right (allows c true) false a)))
+      | inr b ↦
+          (let y = fits-placing cells cs p (and_right (allows c false) (fits cells true (pattern cs)) b) in
+          (false ∷ y.0, and_both (allows c false) (agrees cells y.0) (and_left (allows c false) (fits cells true (pattern cs)) b) y.1, y.2, refl))
+    ]
+
+pub line_closed : (cells : List Cell) (cs : List ℕ) (y : List Bool) → ArePositive cs → agrees cells y ≡ true → runs y ≡ cs → get_or y 0 false ≡ false → IsClosed cells cs
+line_closed [] cs [] p a e h = subst (IsClosed []) e refl
+line_closed [] cs (b ∷ y) p a e h = cc
+line_closed (c ∷ cells) cs [] p a e h = cc
+line_closed (c ∷ cells) cs (true ∷ y) p a e h = cc
+line_closed (c ∷ cells) cs (false ∷ y) p a e h =
+    or_right (allows c true && false) (allows c false && fits cells true (pattern cs))
+    (and_both (allows c false) (fits cells true (pattern cs)) (and_left (allows c false) (agrees cells y) a) (placing-fits cells cs y p (and_right (allows c false) (agrees cells y) a) e))
+
+-- ---- a run on the line
+
+pub agrees_run : (l : List Cell) (n s : ℕ) (y : List Bool) → AllFrom (MayBe l true) n s → agrees (drop (s + n) l) y ≡ true → agrees (drop s l) (replicate n true ++ y) ≡ true
+agrees_run l zero s y o h = let e : s + 0 ≡ s = omega arith in subst (λ (k : ℕ). agrees (drop k l) y ≡ true) e h
+agrees_run l (suc n) s y o h =
+    let zeroth : s + 0 ≡ s = omega arith in
+    let first : MayBe l true s = subst (MayBe l true) zeroth (o 0 (omega arith)) in
+    let e : s + suc n ≡ suc s + n = omega arith in
+    let rest : agrees (drop (suc s) l) (replicate n true ++ y) ≡ true =
+    agrees_run l n (suc s) y (λ z b. let f : s + suc z ≡ suc s + z = omega arith in subst (MayBe l true) f (o (suc z) (omega arith))) (subst (λ (k : ℕ). agrees (drop k l) y ≡ true) e h) in
+    let split : drop s l ≡ get_or l s Unknown ∷ drop (suc s) l = drop-cons l s Unknown first.0 in
+    subst (λ (t : List Cell). agrees t (true ∷ (replicate n true ++ y)) ≡ true) (sym split) (and_both (allows (get_or l s Unknown) true) (agrees (drop (suc s) l) (replicate n true ++ y)) first.1 rest)
+
+-- what remains of a line after its cells at s
+drop_past : (l : List Cell) (s : ℕ) (b : Bool) (y : List Bool) → agrees (drop s l) (b ∷ y) ≡ true → (MayBe l b s) × (agrees (drop (suc s) l) y ≡ true)
+drop_past [] zero b y h = cc
+drop_past [] (suc s) b y h = cc
+drop_past (c ∷ l) zero b y h = ((omega arith, and_left (allows c b) (agrees l y) h), and_right (allows c b) (agrees l y) h)
+drop_past (c ∷ l) (suc s) b y h = let r = drop_past l s b y h in ((omega (arith, r.0.0), r.0.1), r.1)
+
+pub run_agrees : (l : List Cell) (n s : ℕ) (y : List Bool) → agrees (drop s l) (replicate n true ++ y) ≡ true → AllFrom (MayBe l true) n s × (agrees (drop (s + n) l) y ≡ true)
+run_agrees l zero s y h =
+    let e : s ≡ s + 0 = omega arith in
+    (λ z b. absurd (omega arith), subst (λ (k : ℕ). agrees (drop k l) y ≡ true) e h)
+run_agrees l (suc n) s y h =
+    let first = drop_past l s true (replicate n true ++ y) h in
+    let rest = run_agrees l n (suc s) y first.1 in
+    let e : suc s + n ≡ s + suc n = omega arith in
+    (λ z b. by first.0 rest.0 z b, subst (λ (k : ℕ). agrees (drop k l) y ≡ true) e rest.1)
+  where
+    by : MayBe l true s → AllFrom (MayBe l true) n (suc s) → (z : ℕ) → z < suc n → MayBe l true (s + z)
+    by here later zero b = let f : s ≡ s + 0 = omega arith in subst (MayBe l true) f here
+    by here later (suc z) b = let f : suc s + z ≡ s + suc z = omega arith in subst (MayBe l true) f (later z (omega arith))
+
+pub get_or-run : (n : ℕ) (y : List Bool) (z : ℕ) → z < n → get_or (replicate n true ++ y) z false ≡ true
+get_or-run zero y z h = absurd (omega arith)
+get_or-run (suc n) y zero h = refl
+get_or-run (suc n) y (suc z) h = get_or-run n y z (omega arith)
+
+-- a line begins with a run of so many cells, or none, that does not go on
+pub record Begins (y : List Bool) : Type 0 where
+  pub count : ℕ
+  pub rest : List Bool
+  pub whole : y ≡ replicate count true ++ rest
+  pub closed : get_or rest 0 false ≡ false
+
+pub begins : (y : List Bool) → Begins y
+begins [] = record { count = 0; rest = []; whole = refl; closed = refl }
+begins (false ∷ y) = record { count = 0; rest = false ∷ y; whole = refl; closed = refl }
+begins (true ∷ y) = let b = begins y in record { count = suc b.count; rest = b.rest; whole = ap (λ (t : List Bool). true ∷ t) b.whole; closed = b.closed }
+
+onto_run : (z : ℕ) (a w : List Bool) → onto (replicate z true ++ a) w ≡ onto a (replicate z true ++ w)
+onto_run zero a w = refl
+onto_run (suc z) a w = onto_run z a (true ∷ w) ∙ ap (onto a) (moved z w)
+  where
+    moved : (z : ℕ) (w : List Bool) → replicate z true ++ (true ∷ w) ≡ true ∷ (replicate z true ++ w)
+    moved zero w = refl
+    moved (suc z) w = ap (λ (t : List Bool). true ∷ t) (moved z w)
+
+run_run : (z m : ℕ) (w : List Bool) → replicate z true ++ (replicate m true ++ w) ≡ replicate (z + m) true ++ w
+run_run zero m w = ap (λ (k : ℕ). replicate k true ++ w) (sym (zero-add m))
+run_run (suc z) m w = let e : suc (z + m) ≡ suc z + m = omega arith in ap (λ (t : List Bool). true ∷ t) (run_run z m w) ∙ ap (λ (k : ℕ). replicate k true ++ w) e
+
+-- ---- the two final facts, and back
+
+pub blankable_to : (l : List Cell) (clue : List ℕ) (i : ℕ) → ArePositive clue → IsBlankable l clue i → CanBe l clue false i
+blankable_to l clue i pos (j, jl, gap, ahead) =
+    let a = fits-placing (behind Unknown l i) (behind 0 clue j) (positive_behind clue pos j jl) gap.1 in
+    let b = fits-placing (drop (i + 1) l) (drop j clue) (positive_drop clue pos j) ahead.1 in
+    let within : i < length l = gap.0.0 in
+    let long : length a.0 ≡ i = length-agrees (behind Unknown l i) a.0 a.1 ∙ length_behind Unknown l i in
+    let split : drop i l ≡ get_or l i Unknown ∷ drop (suc i) l = drop-cons l i Unknown within in
+    let after : agrees (drop (suc i) l) b.0 ≡ true = subst (λ (k : ℕ). agrees (drop k l) b.0 ≡ true) (add-one i) b.1 in
+    let here : agrees (drop i l) (false ∷ b.0) ≡ true =
+    subst (λ (t : List Cell). agrees t (false ∷ b.0) ≡ true) (sym split) (and_both (allows (get_or l i Unknown) false) (agrees (drop (suc i) l) b.0) gap.0.1 after) in
+    let at : length a.0 + 0 ≡ i = omega arith in (
+      onto a.0 (false ∷ b.0),
+      subst (λ (t : List Cell). agrees t (onto a.0 (false ∷ b.0)) ≡ true) (onto_behind Unknown l i (omega arith)) (agrees_onto (behind Unknown l i) (drop i l) a.0 (false ∷ b.0) a.1 here),
+      runs_cut a.0 b.0 ∙ ap (λ (p : List ℕ). onto p (runs b.0)) a.2 ∙ ap (onto (behind 0 clue j)) b.2 ∙ onto_behind 0 clue j jl,
+      ap (λ (k : ℕ). get_or (onto a.0 (false ∷ b.0)) k false) (sym at) ∙ get_or-onto false a.0 (false ∷ b.0) 0,
+    )
+
+pub blankable_from : (l : List Cell) (clue : List ℕ) (i : ℕ) → ArePositive clue → i < length l → CanBe l clue false i → IsBlankable l clue i
+blankable_from l clue i pos h (x, agree, is, at) =
+    let long : length x ≡ length l = length-agrees l x agree in
+    let a = behind false x i in
+    let b = drop (suc i) x in
+    let within : i < length x = omega arith in
+    let split : drop i x ≡ false ∷ b = drop-cons x i false within ∙ ap (λ (v : Bool). v ∷ b) at in
+    let whole : onto a (false ∷ b) ≡ x = ap (onto a) (sym split) ∙ onto_behind false x i (omega arith) in
+    let parts = onto_split (runs a) (runs b) clue (sym (runs_cut a b) ∙ ap runs whole ∙ is) in
+    let j = length (runs a) in
+    let both : agrees (onto (behind Unknown l i) (drop i l)) (onto a (false ∷ b)) ≡ true =
+    subst (λ (t : List Cell). agrees t (onto a (false ∷ b)) ≡ true) (sym (onto_behind Unknown l i (omega arith))) (subst (λ (t : List Bool). agrees l t ≡ true) (sym whole) agree) in
+    let cut = onto_agrees (behind Unknown l i) (drop i l) a (false ∷ b) (length_behind Unknown l i ∙ sym (length_behind false x i)) both in
+    let here = drop_past l i false b cut.1 in
+    let after : agrees (drop (i + 1) l) b ≡ true = subst (λ (k : ℕ). agrees (drop k l) b ≡ true) (sym (add-one i)) here.1 in (
+      j,
+      parts.2,
+      (here.0, placing-fits (behind Unknown l i) (behind 0 clue j) a (positive_behind clue pos j parts.2) cut.0 parts.0),
+      (here.0, placing-fits (drop (i + 1) l) (drop j clue) b (positive_drop clue pos j) after parts.1),
+    )
+
+pub runs_about : (a : List Bool) (c : ℕ) (b : List Bool) → 0 < c → get_or a 0 false ≡ false → get_or b 0 false ≡ false
+    → runs (onto a (replicate c true ++ b)) ≡ onto (runs a) (c ∷ runs b)
+runs_about a zero b p h k = absurd (omega arith)
+runs_about a (suc n) b p h k = runs_around a n b h k
+
+pub length_run : (z : ℕ) (a : List Bool) → length (replicate z true ++ a) ≡ z + length a
+length_run zero a = omega arith
+length_run (suc z) a = omega (arith, length_run z a)
+
+pub fillable_to : (l : List Cell) (clue : List ℕ) (i : ℕ) → ArePositive clue → IsFillable l clue i → CanBe l clue true i
+fillable_to l clue i pos (j, jl, (z, zb, w)) =
+    let c = get_or clue j 0 in
+    let cp : 0 < c = positive_at clue pos j jl in
+    let s = i + z + 1 - c in
+    let enough : c ≤ i + z + 1 = w.0.0 in
+    let cells : AllFrom (MayBe l true) c s = w.0.1.1 in
+    let first : s + 0 < length l = (cells 0 cp).0 in
+    let a = closed_line (behind Unknown l s) (behind 0 clue j) (positive_behind clue pos j (omega arith)) w.0.1.0 in
+    let b = closed_line (drop (i + z + 1) l) (drop (j + 1) clue) (positive_drop clue pos (j + 1)) w.1 in
+    let past : i + z + 1 ≡ s + c = omega arith in
+    let here : agrees (drop s l) (replicate c true ++ b.0) ≡ true =
+    agrees_run l c s b.0 cells (subst (λ (k : ℕ). agrees (drop k l) b.0 ≡ true) past b.1) in
+    let long : length a.0 ≡ s = length-agrees (behind Unknown l s) a.0 a.1 ∙ length_behind Unknown l s in
+    let at : length a.0 + (i - s) ≡ i = omega arith in
+    let x = onto a.0 (replicate c true ++ b.0) in
+    let clue_at : c ∷ drop (j + 1) clue ≡ drop j clue = ap (λ (k : ℕ). c ∷ drop k clue) (add-one j) ∙ sym (drop-cons clue j 0 jl) in (
+      x,
+      subst (λ (t : List Cell). agrees t x ≡ true) (onto_behind Unknown l s (omega arith)) (agrees_onto (behind Unknown l s) (drop s l) a.0 (replicate c true ++ b.0) a.1 here),
+      runs_about a.0 c b.0 cp a.3 b.3 ∙ ap (λ (p : List ℕ). onto p (c ∷ runs b.0)) a.2 ∙ ap (λ (q : List ℕ). onto (behind 0 clue j) (c ∷ q)) b.2
+          ∙ ap (onto (behind 0 clue j)) clue_at ∙ onto_behind 0 clue j (omega arith),
+      ap (λ (k : ℕ). get_or x k false) (sym at) ∙ get_or-onto false a.0 (replicate c true ++ b.0) (i - s) ∙ get_or-run c b.0 (i - s) (omega arith),
+    )
+
+pub begins_some : (y : List Bool) (b : Begins y) → get_or y 0 false ≡ true → 0 < b.count
+begins_some y b h = by b.count b.whole
+  where
+    by : (n : ℕ) → y ≡ replicate n true ++ b.rest → 0 < n
+    by zero e = absurd (true≢false (sym h ∙ ap (λ (t : List Bool). get_or t 0 false) e ∙ b.closed))
+    by (suc n) e = omega arith
+
+pub fillable_from : (l : List Cell) (clue : List ℕ) (i : ℕ) → ArePositive clue → i < length l → CanBe l clue true i → IsFillable l clue i
+fillable_from l clue i pos h (x, agree, is, at) =
+    let long : length x ≡ length l = length-agrees l x agree in
+    let within : i < length x = omega arith in
+    let u = begins (behind false x i) in
+    let v = begins (drop i x) in
+    let ahead : drop i x ≡ get_or x i false ∷ drop (suc i) x = drop-cons x i false within in
+    let some : 0 < v.count = begins_some (drop i x) v (ap (λ (t : List Bool). get_or t 0 false) ahead ∙ at) in
+    let c = u.count + v.count in
+    let s = length u.rest in
+    let place : i ≡ u.count + s = sym (length_behind false x i) ∙ ap length u.whole ∙ length_run u.count u.rest in
+    let y = replicate c true ++ v.rest in
+    let whole : onto u.rest y ≡ x =
+    ap (onto u.rest) (sym (run_run u.count v.count v.rest)) ∙ sym (onto_run u.count u.rest (replicate v.count true ++ v.rest))
+    ∙ ap (λ (t : List Bool). onto t (replicate v.count true ++ v.rest)) (sym u.whole) ∙ ap (onto (behind false x i)) (sym v.whole) ∙ onto_behind false x i (omega arith) in
+    let parts = onto_split (runs u.rest) (c ∷ runs v.rest) clue (sym (runs_about u.rest c v.rest (omega arith) u.closed v.closed) ∙ ap runs whole ∙ is) in
+    let j = length (runs u.rest) in
+    let head = drop_head clue j c (runs v.rest) parts.1 in
+    let inside : s ≤ length l = omega arith in
+    let both : agrees (onto (behind Unknown l s) (drop s l)) (onto u.rest y) ≡ true =
+    subst (λ (t : List Cell). agrees t (onto u.rest y) ≡ true) (sym (onto_behind Unknown l s inside)) (subst (λ (t : List Bool). agrees l t ≡ true) (sym whole) agree) in
+    let cut = onto_agrees (behind Unknown l s) (drop s l) u.rest y (length_behind Unknown l s) both in
+    let run = run_agrees l c s v.rest cut.1 in
+    let start : s ≡ i + (v.count - 1) + 1 - c = omega arith in
+    let past : s + c ≡ i + (v.count - 1) + 1 = omega arith in
+    let before : IsClosed (behind Unknown l s) (behind 0 clue j) =
+    line_closed (behind Unknown l s) (behind 0 clue j) u.rest (positive_behind clue pos j (omega (arith, head.2))) cut.0 parts.0 u.closed in
+    let rest_is : runs v.rest ≡ drop (j + 1) clue = head.1 ∙ ap (λ (k : ℕ). drop k clue) (sym (add-one j)) in
+    let after : IsClosed (drop (s + c) l) (drop (j + 1) clue) =
+    line_closed (drop (s + c) l) (drop (j + 1) clue) v.rest (positive_drop clue pos (j + 1)) run.1 rest_is v.closed in
+    let ends : EndOf l c (behind 0 clue j) (i + (v.count - 1)) =
+    (omega arith, subst (λ (k : ℕ). IsClosed (behind Unknown l k) (behind 0 clue j) × AllFrom (MayBe l true) c k) start (before, run.0)) in
+    let enough : v.count - 1 < c = omega arith in
+    let found : SomeFrom (λ e. EndOf l c (behind 0 clue j) e × IsClosed (drop (e + 1) l) (drop (j + 1) clue)) c i =
+    (v.count - 1, enough, (ends, subst (λ (k : ℕ). IsClosed (drop k l) (drop (j + 1) clue)) past after)) in
+    (j, head.2, subst (λ (n : ℕ). SomeFrom (λ e. EndOf l n (behind 0 clue j) e × IsClosed (drop (e + 1) l) (drop (j + 1) clue)) n i) (sym head.0) found)
+
+-- ---- no run at an end: the end of the line, or a gap
+
+pub closed_behind_to : (l : List Cell) (clue : List ℕ) (j s : ℕ) → j ≤ length clue → s ≤ length l → ArePositive clue → IsClosed (behind Unknown l s) (behind 0 clue j) → ((s ≡ 0) × (j ≡ 0)) ⊎ ((1 ≤ s) × IsGap l clue j (s - 1))
+closed_behind_to l clue zero zero jl sl pos h = inl (refl, refl)
+closed_behind_to l clue (suc j) zero jl sl pos h = absurd (by (get_or clue j 0) (positive_at clue pos j (omega arith)) h)
+  where
+    by : (n : ℕ) → 0 < n → IsClosed [] (n ∷ behind 0 clue j) → ⊥
+    by zero p h = absurd (omega arith)
+    by (suc n) p h = true≢false (sym h)
+closed_behind_to l clue j (suc s) jl sl pos h =
+    elim (or_cases (allows (get_or l s Unknown) true && false) (allows (get_or l s Unknown) false && fits (behind Unknown l s) true (pattern (behind 0 clue j))) h) [
+      | inl a ↦ absurd (true≢false (sym (and_right (allows (get_or l s Unknown) true) false a)))
+      | inr b ↦
+          (let e : s ≡ suc s - 1 = omega arith in
+          let gap : IsGap l clue j s = ((omega arith, and_left (allows (get_or l s Unknown) false) (fits (behind Unknown l s) true (pattern (behind 0 clue j))) b), and_right (allows (get_or l s Unknown) false) (fits (behind Unknown l s) true (pattern (behind 0 clue j))) b) in
+          inr (omega arith, subst (IsGap l clue j) e gap))
+    ]
+
+pub closed_behind_from : (l : List Cell) (clue : List ℕ) (j s : ℕ) → ((s ≡ 0) × (j ≡ 0)) ⊎ ((1 ≤ s) × IsGap l clue j (s - 1)) → IsClosed (behind Unknown l s) (behind 0 clue j)
+closed_behind_from l clue zero zero h = refl
+closed_behind_from l clue (suc j) zero (inl h) = let bad : suc j ≡ 0 = h.1 in absurd (omega arith)
+closed_behind_from l clue (suc j) zero (inr h) = let bad : 1 ≤ 0 = h.0 in absurd (omega arith)
+closed_behind_from l clue j (suc s) (inl h) = let bad : suc s ≡ 0 = h.0 in absurd (omega arith)
+closed_behind_from l clue j (suc s) (inr h) =
+    let e : suc s - 1 ≡ s = omega arith in
+    let gap = subst (IsGap l clue j) e h.1 in
+    or_right (allows (get_or l s Unknown) true && false) (allows (get_or l s Unknown) false && fits (behind Unknown l s) true (pattern (behind 0 clue j)))
+    (and_both (allows (get_or l s Unknown) false) (fits (behind Unknown l s) true (pattern (behind 0 clue j))) gap.0.1 gap.1)
+
+-- ---- a line and a clue seen from the other end
+
+behind_turned : {A : Type 0} (d : A) (xs : List A) (p m : ℕ) → p + m ≡ length xs → behind d (reverse xs) p ≡ drop m xs
+behind_turned {A = A} d xs zero m e = sym (drop_of_length-le xs {i = m} (omega arith))
+behind_turned {A = A} d xs (suc p) m e =
+    let within : m < length xs = omega arith in
+    let at : get_or (reverse xs) p d ≡ get_or xs m d = (let f : length xs - 1 - p ≡ m = omega arith in get_or-reverse xs p d (omega arith) ∙ ap (λ (k : ℕ). get_or xs k d) f) in
+    ap (λ (z : List A). get_or (reverse xs) p d ∷ z) (behind_turned d xs p (suc m) (omega arith)) ∙ ap (λ (z : A). z ∷ drop (suc m) xs) at ∙ sym (drop-cons xs m d within)
+
+-- a gap of the turned line is a gap ahead
+pub turned_gap_to : (l : List Cell) (clue : List ℕ) (j i : ℕ) → j ≤ length clue → i < length l → IsGap (reverse l) (reverse clue) (length clue - j) (length l - 1 - i) → IsGapAhead l clue j i
+turned_gap_to l clue j i jl il g =
+    let p = length l - 1 - i in
+    let back : length l - 1 - p ≡ i = omega arith in
+    let cell : get_or (reverse l) p Unknown ≡ get_or l i Unknown = get_or-reverse l p Unknown (omega arith) ∙ ap (λ (k : ℕ). get_or l k Unknown) back in
+    let cells : behind Unknown (reverse l) p ≡ drop (i + 1) l = behind_turned Unknown l p (i + 1) (omega arith) in
+    let runs : behind 0 (reverse clue) (length clue - j) ≡ drop j clue = behind_turned 0 clue (length clue - j) j (omega arith) in (
+      (il, subst (λ (c : Cell). allows c false ≡ true) cell g.0.1),
+      subst (λ (cs : List ℕ). Holds (drop (i + 1) l) cs) runs (subst (λ (t : List Cell). Holds t (behind 0 (reverse clue) (length clue - j))) cells g.1),
+    )
+
+pub turned_gap_from : (l : List Cell) (clue : List ℕ) (j i : ℕ) → j ≤ length clue → i < length l → IsGapAhead l clue j i → IsGap (reverse l) (reverse clue) (length clue - j) (length l - 1 - i)
+turned_gap_from l clue j i jl il g =
+    let p = length l - 1 - i in
+    let back : length l - 1 - p ≡ i = omega arith in
+    let cell : get_or (reverse l) p Unknown ≡ get_or l i Unknown = get_or-reverse l p Unknown (omega arith) ∙ ap (λ (k : ℕ). get_or l k Unknown) back in
+    let cells : behind Unknown (reverse l) p ≡ drop (i + 1) l = behind_turned Unknown l p (i + 1) (omega arith) in
+    let runs : behind 0 (reverse clue) (length clue - j) ≡ drop j clue = behind_turned 0 clue (length clue - j) j (omega arith) in
+    let within : p < length (reverse l) = omega (arith, length-reverse l) in (
+      (within, subst (λ (c : Cell). allows c false ≡ true) (sym cell) g.0.1),
+      subst (λ (t : List Cell). Holds t (behind 0 (reverse clue) (length clue - j))) (sym cells) (subst (λ (cs : List ℕ). Holds (drop (i + 1) l) cs) (sym runs) g.1),
+    )
+
+-- the end of the line, or a gap, after a run's end
+pub closed_ahead_to : (l : List Cell) (clue : List ℕ) (j p : ℕ) → ArePositive clue → j ≤ length clue → p ≤ length l → IsClosed (drop p l) (drop j clue) → ((p ≡ length l) × (j ≡ length clue)) ⊎ IsGapAhead l clue j p
+closed_ahead_to l clue j p pos jl pl h = by (cases_lt p (length l))
+  where
+    last : (q : List ℕ) → ArePositive q → IsClosed [] q → length q ≡ 0
+    last [] a b = refl
+    last (zero ∷ q) a b = absurd (omega (arith, a.0))
+    last (suc n ∷ q) a b = cc
+
+    by : (p < length l) ⊎ (length l ≤ p) → ((p ≡ length l) × (j ≡ length clue)) ⊎ IsGapAhead l clue j p
+    by (inr past) =
+        let gone : drop p l ≡ [] = drop_of_length-le l {i = p} past in
+        let none : length (drop j clue) ≡ 0 = last (drop j clue) (positive_drop clue pos j) (subst (λ (t : List Cell). IsClosed t (drop j clue)) gone h) in
+        inl (omega arith, omega (arith, length-drop j clue))
+    by (inl within) =
+        let split : drop p l ≡ get_or l p Unknown ∷ drop (suc p) l = drop-cons l p Unknown within in
+        let here : IsClosed (get_or l p Unknown ∷ drop (suc p) l) (drop j clue) = subst (λ (t : List Cell). IsClosed t (drop j clue)) split h in
+        elim (or_cases (allows (get_or l p Unknown) true && false) (allows (get_or l p Unknown) false && fits (drop (suc p) l) true (pattern (drop j clue))) here) [
+          | inl a ↦ absurd (true≢false (sym (and_right (allows (get_or l p Unknown) true) false a)))
+          | inr b ↦ inr (
+            (within, and_left (allows (get_or l p Unknown) false) (fits (drop (suc p) l) true (pattern (drop j clue))) b),
+            subst (λ (k : ℕ). Holds (drop k l) (drop j clue)) (sym (add-one p)) (and_right (allows (get_or l p Unknown) false) (fits (drop (suc p) l) true (pattern (drop j clue))) b),
+          )
+        ]
+
+pub closed_ahead_from : (l : List Cell) (clue : List ℕ) (j p : ℕ) → ((p ≡ length l) × (j ≡ length clue)) ⊎ IsGapAhead l clue j p → IsClosed (drop p l) (drop j clue)
+closed_ahead_from l clue j p (inl h) =
+    let gone : [] ≡ drop p l = sym (drop_of_length-le l {i = p} (omega (arith, h.0))) in
+    let none : [] ≡ drop j clue = sym (drop_of_length-le clue {i = j} (omega (arith, h.1))) in
+    subst (λ (t : List Cell). IsClosed t (drop j clue)) gone (subst (IsClosed []) none refl)
+closed_ahead_from l clue j p (inr g) =
+    let split : get_or l p Unknown ∷ drop (suc p) l ≡ drop p l = sym (drop-cons l p Unknown g.0.0) in
+    let holds : Holds (drop (suc p) l) (drop j clue) = subst (λ (k : ℕ). Holds (drop k l) (drop j clue)) (add-one p) g.1 in
+    subst (λ (t : List Cell). IsClosed t (drop j clue)) split
+    (or_right (allows (get_or l p Unknown) true && false) (allows (get_or l p Unknown) false && fits (drop (suc p) l) true (pattern (drop j clue)))
+    (and_both (allows (get_or l p Unknown) false) (fits (drop (suc p) l) true (pattern (drop j clue))) g.0.1 holds))

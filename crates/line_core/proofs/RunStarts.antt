@@ -1,0 +1,316 @@
+-- Where the runs of a full line start.
+use Rattle.std.proofs.Common.{◌≡◌, ℕ, zero, suc, ◌+◌, ◌-◌, ◌<◌, ◌≤◌, Bool, true, false, not, cond, ◌&&◌, List, [], ◌∷◌, ◌++◌, length, replicate, filter, refl, sym, ap, ◌∙◌, subst, arith, add-zero, zero-add, add-one, true≢false, inl, inr, drop, get_or, drop-cons, append_assoc}
+use Rattle.std.proofs.lemmas.Bool.{cases_lt}
+use Rattle.std.specs.List.{range_with_len}
+use Rattle.grid_core.specs.Runs.{runs}
+use Rattle.line_core.specs.Ends.{starts_run, run_starts}
+use Rattle.line_core.specs.Reach.{onto, behind}
+use Rattle.line_core.proofs.PatternLaws.{runs_after, runs_after-zero, runs_after-true, runs_after-false, runs_after-close, runs_after-nil}
+use Rattle.line_core.proofs.Joining.{length_behind, onto_behind, get_or-onto, onto_split, drop_head, runs_cut, runs_about, get_or-run, begins, begins_some}
+
+-- the places at which runs start, from place p on; after: the cell before is filled
+abbrev pub starts_from : ℕ → Bool → List Bool → List ℕ
+starts_from p after [] = []
+starts_from p false (true ∷ cells) = p ∷ starts_from (suc p) true cells
+starts_from p true (true ∷ cells) = starts_from (suc p) true cells
+starts_from p after (false ∷ cells) = starts_from (suc p) false cells
+
+-- whether the cell before a place is filled
+abbrev pub before : Bool → List Bool → ℕ → Bool
+before after cells zero = after
+before after cells (suc k) = get_or cells k false
+
+abbrev starts_at : Bool → List Bool → ℕ → Bool
+starts_at after cells k = get_or cells k false && not (before after cells k)
+
+starts-filter : (whole rest : List Bool) (p : ℕ) (after : Bool) → ((k : ℕ) → starts_run whole (p + k) ≡ starts_at after rest k)
+    → filter (starts_run whole) (range_with_len p (length rest)) ≡ starts_from p after rest
+starts-filter whole [] p after h = refl
+starts-filter whole (b ∷ rest) p after h =
+    let here : starts_run whole p ≡ (b && not after) = ap (starts_run whole) (sym (add-zero p)) ∙ h 0 in
+    let later : filter (starts_run whole) (range_with_len (suc p) (length rest)) ≡ starts_from (suc p) b rest = starts-filter whole rest (suc p) b next in
+    ap (λ (q : ℕ). cond (starts_run whole p) (p ∷ filter (starts_run whole) (range_with_len q (length rest))) (filter (starts_run whole) (range_with_len q (length rest)))) (add-one p)
+    ∙ ap (λ (t : Bool). cond t (p ∷ filter (starts_run whole) (range_with_len (suc p) (length rest))) (filter (starts_run whole) (range_with_len (suc p) (length rest)))) here
+    ∙ ap (λ (xs : List ℕ). cond (b && not after) (p ∷ xs) xs) later ∙ by b after
+  where
+    by : (b after : Bool) → cond (b && not after) (p ∷ starts_from (suc p) b rest) (starts_from (suc p) b rest) ≡ starts_from p after (b ∷ rest)
+    by true true = refl
+    by true false = refl
+    by false true = refl
+    by false false = refl
+
+    next : (k : ℕ) → starts_run whole (suc p + k) ≡ starts_at b rest k
+    next zero = let e : suc p + 0 ≡ p + 1 = omega arith in ap (starts_run whole) e ∙ h 1
+    next (suc k) = let e : suc p + suc k ≡ p + suc (suc k) = omega arith in ap (starts_run whole) e ∙ h (suc (suc k))
+
+pub run_starts-from : (x : List Bool) → run_starts x ≡ starts_from 0 false x
+run_starts-from x = starts-filter x x 0 false (λ k. ap (starts_run x) (zero-add k) ∙ by k)
+  where
+    and_true : (b : Bool) → b ≡ (b && true)
+    and_true true = refl
+    and_true false = refl
+
+    by : (k : ℕ) → starts_run x k ≡ starts_at false x k
+    by zero = and_true (get_or x 0 false)
+    by (suc k) = refl
+
+-- ---- how many there are, and their order
+
+starts_one : (p : ℕ) (v b : Bool) (w : List Bool) → starts_from p v (b ∷ w) ≡ starts_from p v (b ∷ []) ++ starts_from (suc p) b w
+starts_one p true true w = refl
+starts_one p false true w = refl
+starts_one p true false w = refl
+starts_one p false false w = refl
+
+-- the starts of a line that is cut somewhere
+pub starts-onto : (a w : List Bool) → starts_from 0 false (onto a w) ≡ starts_from 0 false (onto a []) ++ starts_from (length a) (get_or a 0 false) w
+starts-onto [] w = refl
+starts-onto (b ∷ a) w =
+    let before = starts_from 0 false (onto a []) in
+    let one = starts_from (length a) (get_or a 0 false) (b ∷ []) in
+    let rest = starts_from (suc (length a)) b w in
+    starts-onto a (b ∷ w) ∙ ap (λ (xs : List ℕ). before ++ xs) (starts_one (length a) (get_or a 0 false) b w) ∙ sym (append_assoc before one rest)
+    ∙ ap (λ (xs : List ℕ). xs ++ rest) (sym (starts-onto a (b ∷ [])))
+
+mutual
+  length-starts : (p : ℕ) (x : List Bool) → length (starts_from p false x) ≡ length (runs_after 0 x)
+  length-starts p [] = ap length (sym (runs_after-zero []))
+  length-starts p (true ∷ x) = length-open (suc p) 0 x ∙ ap length (sym (runs_after-true 0 x))
+  length-starts p (false ∷ x) = length-starts (suc p) x ∙ ap length (sym (runs_after-false x))
+
+  length-open : (p n : ℕ) (x : List Bool) → suc (length (starts_from p true x)) ≡ length (runs_after (suc n) x)
+  length-open p n [] = ap length (sym (runs_after-nil n))
+  length-open p n (true ∷ x) = length-open (suc p) (suc n) x ∙ ap length (sym (runs_after-true (suc n) x))
+  length-open p n (false ∷ x) = ap suc (length-starts (suc p) x) ∙ ap length (sym (runs_after-close n x))
+
+pub length-run_starts : (x : List Bool) → length (starts_from 0 false x) ≡ length (runs x)
+length-run_starts x = length-starts 0 x ∙ ap length (runs_after-zero x)
+
+length-onto : {A : Type 0} (a b : List A) → length (onto a b) ≡ length a + length b
+length-onto [] b = omega arith
+length-onto (x ∷ a) b = omega (arith, length-onto a (x ∷ b))
+
+-- as many starts come before a blank cell as runs
+starts_before : (a : List Bool) → get_or a 0 false ≡ false → length (starts_from 0 false (onto a [])) ≡ length (runs a)
+starts_before [] h = refl
+starts_before (true ∷ a) h = cc
+starts_before (false ∷ a) h =
+    length-run_starts (onto a (false ∷ [])) ∙ ap length (runs_cut a []) ∙ length-onto (runs a) [] ∙ add-zero (length (runs a))
+
+pub starts_at_least : (x : List Bool) (p k : ℕ) (after : Bool) → k < length (starts_from p after x) → p ≤ get_or (starts_from p after x) k 0
+starts_at_least [] p k after h = absurd (omega arith)
+starts_at_least (true ∷ x) p k true h = let rest = starts_at_least x (suc p) k true h in omega arith
+starts_at_least (true ∷ x) p zero false h = omega arith
+starts_at_least (true ∷ x) p (suc k) false h = let rest = starts_at_least x (suc p) k true (omega arith) in omega arith
+starts_at_least (false ∷ x) p k after h = let rest = starts_at_least x (suc p) k false h in omega arith
+
+pub starts_increase : (x : List Bool) (p i j : ℕ) (after : Bool) → i < j → j < length (starts_from p after x) → get_or (starts_from p after x) i 0 < get_or (starts_from p after x) j 0
+starts_increase [] p i j after l h = absurd (omega arith)
+starts_increase (true ∷ x) p i j true l h = starts_increase x (suc p) i j true l h
+starts_increase (true ∷ x) p i zero false l h = absurd (omega arith)
+starts_increase (true ∷ x) p zero (suc j) false l h = let rest = starts_at_least x (suc p) j true (omega arith) in omega arith
+starts_increase (true ∷ x) p (suc i) (suc j) false l h = starts_increase x (suc p) i j true (omega arith) (omega arith)
+starts_increase (false ∷ x) p i j after l h = starts_increase x (suc p) i j false l h
+
+-- each start is filled, and no filled cell comes right before it
+start_is : (x : List Bool) (p k : ℕ) (after : Bool) → k < length (starts_from p after x)
+    → (i : ℕ) × (get_or (starts_from p after x) k 0 ≡ p + i) × (get_or x i false ≡ true) × (before after x i ≡ false)
+start_is [] p k after h = absurd (omega arith)
+start_is (true ∷ x) p k true h = let r = start_is x (suc p) k true h in (suc r.0, omega (arith, r.1), r.2, by r.0 r.3)
+  where
+    by : (i : ℕ) → before true x i ≡ false → before true (true ∷ x) (suc i) ≡ false
+    by zero e = e
+    by (suc i) e = e
+start_is (true ∷ x) p zero false h = (0, omega arith, refl, refl)
+start_is (true ∷ x) p (suc k) false h = let r = start_is x (suc p) k true (omega arith) in (suc r.0, omega (arith, r.1), r.2, by r.0 r.3)
+  where
+    by : (i : ℕ) → before true x i ≡ false → before false (true ∷ x) (suc i) ≡ false
+    by zero e = e
+    by (suc i) e = e
+start_is (false ∷ x) p k after h = let r = start_is x (suc p) k false h in (suc r.0, omega (arith, r.1), r.2, by r.0 r.3)
+  where
+    by : (i : ℕ) → before false x i ≡ false → before after (false ∷ x) (suc i) ≡ false
+    by zero e = refl
+    by (suc i) e = e
+
+-- ---- a line cut round a run
+
+filled_within : (x : List Bool) (i : ℕ) → get_or x i false ≡ true → i < length x
+filled_within [] i h = cc
+filled_within (b ∷ x) zero h = omega arith
+filled_within (b ∷ x) (suc i) h = omega (arith, filled_within x i h)
+
+-- the start of a run that a line is cut round
+pub start_of_cut : (a : List Bool) (c : ℕ) (b : List Bool) → 0 < c → get_or a 0 false ≡ false → get_or (starts_from 0 false (onto a (replicate c true ++ b))) (length (runs a)) 0 ≡ length a
+start_of_cut a c b some closed =
+    let count : length (starts_from 0 false (onto a [])) ≡ length (runs a) = starts_before a closed in
+    let all : starts_from 0 false (onto a (replicate c true ++ b)) ≡ starts_from 0 false (onto a []) ++ starts_from (length a) false (replicate c true ++ b) =
+    starts-onto a (replicate c true ++ b) ∙ ap (λ (t : Bool). starts_from 0 false (onto a []) ++ starts_from (length a) t (replicate c true ++ b)) closed in
+    ap (λ (xs : List ℕ). get_or xs (length (runs a)) 0) all ∙ ap (λ (n : ℕ). get_or (starts_from 0 false (onto a []) ++ starts_from (length a) false (replicate c true ++ b)) n 0) (sym count)
+    ∙ past (starts_from 0 false (onto a [])) (starts_from (length a) false (replicate c true ++ b)) ∙ first_of c some
+  where
+    past : (xs ys : List ℕ) → get_or (xs ++ ys) (length xs) 0 ≡ get_or ys 0 0
+    past [] ys = refl
+    past (z ∷ xs) ys = past xs ys
+
+    first_of : (n : ℕ) → 0 < n → get_or (starts_from (length a) false (replicate n true ++ b)) 0 0 ≡ length a
+    first_of zero h = absurd (omega arith)
+    first_of (suc n) h = refl
+
+-- run k of a line with a clue's runs, with what comes before it, last first, and after it
+pub record Run (x : List Bool) (clue : List ℕ) (k : ℕ) : Type 0 where
+  pub front : List Bool
+  pub back : List Bool
+  pub whole : onto front (replicate (get_or clue k 0) true ++ back) ≡ x
+  pub front_closed : get_or front 0 false ≡ false
+  pub back_closed : get_or back 0 false ≡ false
+  pub start : length front ≡ get_or (starts_from 0 false x) k 0
+  pub front_runs : runs front ≡ behind 0 clue k
+  pub back_runs : runs back ≡ drop (suc k) clue
+
+-- the run that starts at a place
+record RunAt (x : List Bool) (clue : List ℕ) (s : ℕ) : Type 0 where
+  index : ℕ
+  inside : index < length clue
+  start_at : get_or (starts_from 0 false x) index 0 ≡ s
+  run : Run x clue index
+
+run_at : (x : List Bool) (clue : List ℕ) (s : ℕ) → runs x ≡ clue → get_or x s false ≡ true → before false x s ≡ false → RunAt x clue s
+run_at x clue s is filled first =
+    let within : s < length x = filled_within x s filled in
+    let a = behind false x s in
+    let v = begins (drop s x) in
+    let ahead : drop s x ≡ get_or x s false ∷ drop (suc s) x = drop-cons x s false within in
+    let some : 0 < v.count = begins_some (drop s x) v (ap (λ (t : List Bool). get_or t 0 false) ahead ∙ filled) in
+    let closed : get_or a 0 false ≡ false = head s first in
+    let long : length a ≡ s = length_behind false x s in
+    let whole : onto a (replicate v.count true ++ v.rest) ≡ x = ap (onto a) (sym v.whole) ∙ onto_behind false x s (omega arith) in
+    let parts = onto_split (runs a) (v.count ∷ runs v.rest) clue (sym (runs_about a v.count v.rest some closed v.closed) ∙ ap runs whole ∙ is) in
+    let j = length (runs a) in
+    let cut = drop_head clue j v.count (runs v.rest) parts.1 in
+    let at : get_or (starts_from 0 false x) j 0 ≡ s = ap (λ (y : List Bool). get_or (starts_from 0 false y) j 0) (sym whole) ∙ start_of_cut a v.count v.rest some closed ∙ long in
+    record {
+      index = j;
+      inside = cut.2;
+      start_at = at;
+      run = record {
+        front = a;
+        back = v.rest;
+        whole = ap (λ (n : ℕ). onto a (replicate n true ++ v.rest)) cut.0 ∙ whole;
+        front_closed = closed;
+        back_closed = v.closed;
+        start = long ∙ sym at;
+        front_runs = parts.0;
+        back_runs = cut.1;
+      };
+    }
+  where
+    head : (s : ℕ) → before false x s ≡ false → get_or (behind false x s) 0 false ≡ false
+    head zero h = refl
+    head (suc s) h = h
+
+same_index : (x : List Bool) (i j : ℕ) → i < length (starts_from 0 false x) → j < length (starts_from 0 false x) → get_or (starts_from 0 false x) i 0 ≡ get_or (starts_from 0 false x) j 0 → i ≡ j
+same_index x i j hi hj e =
+    elim (cases_lt i j) [
+      | inl low ↦ absurd (omega (arith, starts_increase x 0 i j false low hj))
+      | inr high ↦ elim (cases_lt j i) [ inl low ↦ absurd (omega (arith, starts_increase x 0 j i false low hi)) | inr both ↦ omega arith ]
+    ]
+
+-- each run of a line
+pub run_of : (x : List Bool) (clue : List ℕ) (k : ℕ) → runs x ≡ clue → k < length clue → Run x clue k
+run_of x clue k is h =
+    let count : length (starts_from 0 false x) ≡ length clue = length-run_starts x ∙ ap length is in
+    let inside : k < length (starts_from 0 false x) = omega arith in
+    let s = start_is x 0 k false inside in
+    let r = run_at x clue s.0 is s.2 s.3 in
+    let there : r.index < length clue = r.inside in
+    let value : get_or (starts_from 0 false x) k 0 ≡ s.0 = s.1 ∙ zero-add s.0 in
+    let same : r.index ≡ k = same_index x r.index k (omega arith) inside (r.start_at ∙ sym value) in
+    subst (Run x clue) same r.run
+
+-- the cells of a run are filled
+pub filled_in_run : (x : List Bool) (clue : List ℕ) (k : ℕ) → Run x clue k → (z : ℕ) → z < get_or clue k 0 → get_or x (get_or (starts_from 0 false x) k 0 + z) false ≡ true
+filled_in_run x clue k r z h =
+    ap (λ (n : ℕ). get_or x (n + z) false) (sym r.start) ∙ ap (λ (y : List Bool). get_or y (length r.front + z) false) (sym r.whole)
+    ∙ get_or-onto false r.front (replicate (get_or clue k 0) true ++ r.back) z ∙ get_or-run (get_or clue k 0) r.back z h
+
+-- the cell after it isn't
+pub blank_after_run : (x : List Bool) (clue : List ℕ) (k : ℕ) → Run x clue k → get_or x (get_or (starts_from 0 false x) k 0 + get_or clue k 0) false ≡ false
+blank_after_run x clue k r =
+    ap (λ (n : ℕ). get_or x (n + get_or clue k 0) false) (sym r.start) ∙ ap (λ (y : List Bool). get_or y (length r.front + get_or clue k 0) false) (sym r.whole)
+    ∙ get_or-onto false r.front (replicate (get_or clue k 0) true ++ r.back) (get_or clue k 0) ∙ past (get_or clue k 0) r.back ∙ r.back_closed
+  where
+    past : (n : ℕ) (w : List Bool) → get_or (replicate n true ++ w) n false ≡ get_or w 0 false
+    past zero w = refl
+    past (suc n) w = past n w
+
+-- runs stand apart
+pub runs_apart : (x : List Bool) (clue : List ℕ) (k : ℕ) → runs x ≡ clue → suc k < length clue → get_or (starts_from 0 false x) k 0 + get_or clue k 0 < get_or (starts_from 0 false x) (suc k) 0
+runs_apart x clue k is h =
+    let count : length (starts_from 0 false x) ≡ length clue = length-run_starts x ∙ ap length is in
+    let s = get_or (starts_from 0 false x) k 0 in
+    let r = run_of x clue k is (omega arith) in
+    let inside : suc k < length (starts_from 0 false x) = omega arith in
+    let t = start_is x 0 (suc k) false inside in
+    let value : get_or (starts_from 0 false x) (suc k) 0 ≡ t.0 = t.1 ∙ zero-add t.0 in
+    let more : s < t.0 = omega (arith, starts_increase x 0 k (suc k) false (omega arith) inside) in
+    elim (cases_lt (s + get_or clue k 0) t.0) [
+      | inl far ↦ omega arith
+      | inr near ↦ absurd (close s t.0 (get_or clue k 0) more near t.2 t.3 (filled_in_run x clue k r) (blank_after_run x clue k r))
+    ]
+  where
+    close : (s t c : ℕ) → s < t → t ≤ s + c → get_or x t false ≡ true → before false x t ≡ false → ((z : ℕ) → z < c → get_or x (s + z) false ≡ true) → get_or x (s + c) false ≡ false → ⊥
+    close s zero c more near filled first run after = absurd (omega arith)
+    close s (suc t) c more near filled first run after =
+        elim (cases_lt (suc t) (s + c)) [
+          | inl low ↦ (let e : s + (t - s) ≡ t = omega arith in true≢false (sym (ap (λ (n : ℕ). get_or x n false) (sym e) ∙ run (t - s) (omega arith)) ∙ first))
+          | inr high ↦ (let e : suc t ≡ s + c = omega arith in true≢false (sym filled ∙ ap (λ (n : ℕ). get_or x n false) e ∙ after))
+        ]
+
+-- each filled cell is in a run
+pub record Covered (x : List Bool) (clue : List ℕ) (i : ℕ) : Type 0 where
+  pub index : ℕ
+  pub inside : index < length clue
+  pub from : get_or (starts_from 0 false x) index 0 ≤ i
+  pub to : i < get_or (starts_from 0 false x) index 0 + get_or clue index 0
+
+record Stretch (x : List Bool) (i : ℕ) : Type 0 where
+  first : ℕ
+  from : first ≤ i
+  all : (z : ℕ) → first ≤ z → z ≤ i → get_or x z false ≡ true
+  free : before false x first ≡ false
+
+stretch_of : (x : List Bool) (i : ℕ) → get_or x i false ≡ true → Stretch x i
+stretch_of x zero h = record { first = 0; from = omega arith; all = λ z a b. let e : 0 ≡ z = omega arith in subst (λ (n : ℕ). get_or x n false ≡ true) e h; free = refl }
+stretch_of x (suc i) h = by (get_or x i false) refl (stretch_of x i)
+  where
+    by : (b : Bool) → get_or x i false ≡ b → (get_or x i false ≡ true → Stretch x i) → Stretch x (suc i)
+    by false e below = record { first = suc i; from = omega arith; all = λ z a b. let e : suc i ≡ z = omega arith in subst (λ (n : ℕ). get_or x n false ≡ true) e h; free = e }
+    by true e below =
+        let r = below e in
+        let from : r.first ≤ i = r.from in
+        record {
+          first = r.first;
+          from = omega arith;
+          all = λ z a b. elim (cases_lt z (suc i)) [
+            | inl low ↦ r.all z a (omega arith)
+            | inr high ↦ (let e : suc i ≡ z = omega arith in subst (λ (n : ℕ). get_or x n false ≡ true) e h)
+          ];
+          free = r.free;
+        }
+
+pub covered : (x : List Bool) (clue : List ℕ) (i : ℕ) → runs x ≡ clue → get_or x i false ≡ true → Covered x clue i
+covered x clue i is h =
+    let t = stretch_of x i h in
+    let from : t.first ≤ i = t.from in
+    let r = run_at x clue t.first is (t.all t.first (omega arith) from) t.free in
+    let start : get_or (starts_from 0 false x) r.index 0 ≡ t.first = r.start_at in
+    record {
+      index = r.index;
+      inside = r.inside;
+      from = omega arith;
+      to = elim (cases_lt i (get_or (starts_from 0 false x) r.index 0 + get_or clue r.index 0)) [
+        | inl low ↦ low
+        | inr high ↦ absurd (true≢false (sym (t.all (get_or (starts_from 0 false x) r.index 0 + get_or clue r.index 0) (omega arith) high) ∙ blank_after_run x clue r.index r.run))
+      ];
+    }

@@ -1,0 +1,5 @@
+use Rattle.line_core.proofs.DeductionLaws.{deduced-above}
+use Rattle.line_core.proofs.laws.deduced_knows_the_line.Goals as goal
+
+pub returns : goal.returns
+returns c = deduced-above

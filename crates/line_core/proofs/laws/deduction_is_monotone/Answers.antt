@@ -1,0 +1,5 @@
+use Rattle.line_core.proofs.DeductionLaws.{deduced-monotone}
+use Rattle.line_core.proofs.laws.deduction_is_monotone.Goals as goal
+
+pub returns : goal.returns
+returns c = deduced-monotone

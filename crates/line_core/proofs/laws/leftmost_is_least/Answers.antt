@@ -1,0 +1,5 @@
+use Rattle.line_core.proofs.EndLaws.{leftmost-least}
+use Rattle.line_core.proofs.laws.leftmost_is_least.Goals as goal
+
+pub returns : goal.returns
+returns c = leftmost-least

@@ -1,0 +1,5 @@
+use Rattle.line_core.proofs.DeductionLaws.{deduced-below, test_IsPlacing}
+use Rattle.line_core.proofs.laws.placings_extend_the_deduced.Goals as goal
+
+pub returns : goal.returns
+returns c = λ line clue full h. deduced-below line clue full (test_IsPlacing line clue full h)

@@ -1,0 +1,5 @@
+use Rattle.line_core.proofs.EndLaws.{rightmost-greatest}
+use Rattle.line_core.proofs.laws.rightmost_is_greatest.Goals as goal
+
+pub returns : goal.returns
+returns c = rightmost-greatest

@@ -1,0 +1,31 @@
+use Rattle.std.proofs.Common.{◌≡◌, ◌<◌, ℕ, length, get_or, arith, sym, ◌∙◌}
+use Rattle.std.proofs.lemmas.Bool.{eqb-true, eqb-false}
+use Rattle.std.proofs.lemmas.List.Elements.{recursion_from_All}
+use Rattle.line_core.specs.Reach.{HasPlacing}
+use Rattle.line_core.specs.Outermost.{IsOuterStart}
+use Rattle.line_core.proofs.PatternLaws.{ArePositive}
+use Rattle.line_core.proofs.Outermost.{match_more, answered, some_placing}
+use Rattle.line_core.proofs.starts.find_starts.Goals as goal
+
+pub returns-then-is_empty : goal.returns-then-is_empty
+returns-then-is_empty c =
+    let line = c.args.line.now in
+    let clue = c.args.clue.now in
+    let pos : ArePositive clue = recursion_from_All (λ (n : ℕ). 0 < n) clue c.requires.clue.positive in
+    let none : length clue ≡ 0 = eqb-true (length clue) 0 (sym c.is_empty.ensures ∙ c.if-is_empty.true) in
+    answered c.args.side line clue c.args.list.now c.may_have_no_run.result pos (omega arith)
+    (match_more c.may_have_no_run.result (HasPlacing line clue) (HasPlacing line clue → ⊥)
+    (HasPlacing line clue × ((j : ℕ) → j < length clue → IsOuterStart c.args.side line clue j (get_or c.args.list.now j 0))) (HasPlacing line clue → ⊥)
+    (λ p. (p, λ j h. absurd (omega arith))) (λ n. n) c.may_have_no_run.ensures)
+
+pub returns-else-is_empty : goal.returns-else-is_empty
+returns-else-is_empty c =
+    let line = c.args.line.now in
+    let clue = c.args.clue.now in
+    let pos : ArePositive clue = recursion_from_All (λ (n : ℕ). 0 < n) clue c.requires.clue.positive in
+    let list = c.write_starts.new.list in
+    let some : 0 < length clue = (let ne = eqb-false (length clue) 0 (sym c.is_empty.ensures ∙ c.if-is_empty.false) in omega arith) in
+    answered c.args.side line clue list c.write_starts.result pos (omega arith)
+    (match_more c.write_starts.result ((j : ℕ) → j < length clue → IsOuterStart c.args.side line clue j (get_or list j 0)) (HasPlacing line clue → ⊥)
+    (HasPlacing line clue × ((j : ℕ) → j < length clue → IsOuterStart c.args.side line clue j (get_or list j 0))) (HasPlacing line clue → ⊥)
+    (λ each. let o = each 0 some in (some_placing line clue 0 o.end pos some o.whole, each)) (λ n. n) c.write_starts.ensures)

@@ -1,0 +1,11 @@
+pub mod Placings
+pub mod Deduction
+pub mod Order
+pub mod Ends
+pub mod Listing
+pub mod Masks
+pub mod Lines
+pub mod Pattern
+pub mod Reach
+pub mod Told
+pub mod Outermost

@@ -1,0 +1,27 @@
+-- Lines that are kept as two masks.
+use Rattle.std.specs.Prelude.{◌≤◌, ℕ, Bool, true, false, List, map}
+use Rattle.std.specs.List.{range_with_len}
+use Rattle.grid_core.specs.declared.cells.Cell.{Cell}
+use Rattle.grid_core.specs.declared.cells.Cell.TheVariants.{Unknown, Filled, Blank}
+use Rattle.line_core.specs.Masks.{Has, has}
+
+abbrev pub is_blank : Cell → Bool
+is_blank Unknown = false
+is_blank Filled = false
+is_blank Blank = true
+
+-- the cell that two masks tell of
+abbrev pub cell_by : Bool → Bool → Cell
+cell_by true blank = Filled
+cell_by false true = Blank
+cell_by false false = Unknown
+
+-- the cells of a line that is kept as two masks
+abbrev pub line_cells : ℕ → ℕ → ℕ → List Cell
+line_cells len filled blank = map (λ i. cell_by (has filled i) (has blank i)) (range_with_len 0 len)
+
+-- a line has 1 to 128 cells, none of them filled and blank
+pub record IsLine (len filled blank : ℕ) : Type 0 where
+  pub some : 1 ≤ len
+  pub short : len ≤ 128
+  pub apart : (i : ℕ) → Has filled i → Has blank i → ⊥

@@ -1,0 +1,42 @@
+-- Words as sets of places: a bit a place.
+use Rattle.std.specs.Prelude.{◌≡◌, ℕ, zero, suc, ◌+◌, ◌-◌, ◌<◌, ◌≤◌, ◌⊎◌, Bool, nat_eq, List, slice_index_or, ◌^◌}
+use Rattle.std.specs.Int.{bit_at}
+
+-- whether a mask has a place
+abbrev pub Has : ℕ → ℕ → Type 0
+Has mask i = bit_at mask i ≡ 1
+
+-- the mask has exactly the places of which something holds
+pub record IsMaskOf (P : ℕ → Type 0) (mask : ℕ) : Type 0 where
+  pub to : (i : ℕ) → Has mask i → P i
+  pub from : (i : ℕ) → P i → Has mask i
+
+-- a place is flooded where one at or before it is a source, and all from there to it are free
+abbrev pub IsFlooded : (ℕ → Type 0) → (ℕ → Type 0) → ℕ → Type 0
+IsFlooded Source Free zero = Source zero
+IsFlooded Source Free (suc i) = Source (suc i) ⊎ (Free (suc i) × IsFlooded Source Free i)
+
+-- all of so many places from one on
+abbrev pub AllFrom : (ℕ → Type 0) → ℕ → ℕ → Type 0
+AllFrom P count i = (z : ℕ) → z < count → P (i + z)
+
+-- some one of so many places from one on
+abbrev pub SomeFrom : (ℕ → Type 0) → ℕ → ℕ → Type 0
+SomeFrom P count i = (z : ℕ) × (z < count) × P (i + z)
+
+-- a place moved up, within a mask
+abbrev pub IsMoved : (ℕ → Type 0) → ℕ → ℕ → Type 0
+IsMoved P by i = (i < 128) × (by ≤ i) × P (i - by)
+
+-- a place seen from the other end of a mask
+abbrev pub IsTurned : (ℕ → Type 0) → ℕ → Type 0
+IsTurned P i = (i < 128) × P (127 - i)
+
+-- whether a mask has a place, as a test
+abbrev pub has : ℕ → ℕ → Bool
+has mask i = nat_eq (bit_at mask i) 1
+
+-- a table of the starts of windows of 1, 2, 4 and so on cells
+pub record AreWindows (cells : ℕ) (table : List ℕ) : Type 0 where
+  pub first : slice_index_or table 0 0 ≡ cells
+  pub each : (level : ℕ) → level < 8 → IsMaskOf (AllFrom (Has cells) (2 ^ level)) (slice_index_or table level 0)

@@ -1,0 +1,86 @@
+//! What is certain of a line.
+
+ghost use Rattle.std.specs.Prelude.{◌≡◌, ◌≤◌, length, reverse, slice_index, ℕ, IfOk};
+ghost use Rattle.line_core.specs.Masks.{IsMaskOf};
+ghost use Rattle.line_core.specs.Deduction.{deduced};
+ghost use Rattle.line_core.specs.Reach.{AreLengths, IsGap, IsFillable, IsBlankable};
+
+use crate::Line;
+use crate::masks::{first_gap, gap_after, spread, write_windows};
+use crate::reach::{ends_of, gap_ahead, whole_ends, write_turned_gaps};
+use grid_core::{Clue, NoMemory};
+use std::alloc::Global;
+use std::marker::Model;
+
+/// The cells that are filled in some placing, and those that are blank in some.
+fn collect(line: &Line, clue: &[u16], turned_gaps: &[u128; 129]) -> (u128, u128)
+    requires clue { AreLengths clue.now }
+    requires count { length clue.now ≤ 128 }
+    requires turned { (j : ℕ) → j ≤ length clue.now → IsMaskOf (IsGap (reverse line.now) (reverse clue.now) j) (slice_index turned_gaps.now j) }
+    ensures filled { IsMaskOf (IsFillable line.now clue.now) result.0 }
+    ensures blank { IsMaskOf (IsBlankable line.now clue.now) result.1 }
+{
+    let free = line.free_cells();
+    let mut windows = [0u128; 8];
+    write_windows(line.open_cells(), &mut windows);
+    let mut gap = first_gap(free);
+    let mut blankable = gap & gap_ahead(line, clue, turned_gaps, 0);
+    let mut fillable = 0u128;
+    for j in 0..clue.len() {
+        let ends = ends_of(line, clue, j, &windows, gap);
+        let ahead = gap_ahead(line, clue, turned_gaps, j + 1);
+        let whole = whole_ends(line, clue, j, ends, ahead);
+        gap = gap_after(ends, free);
+        fillable |= spread(whole, clue[j]);
+        blankable |= gap & ahead;
+    }
+    (fillable, blankable)
+}
+
+/// What is certain of a line, with room for the gaps of its runs.
+fn deduce_with(line: &Line, clue: &[u16], gaps: &mut [u128; 129]) -> Option<Line>
+    requires clue { AreLengths clue.now }
+    requires count { length clue.now ≤ 128 }
+    ensures { result ≡ deduced line.now clue.now }
+{
+    write_turned_gaps(line, clue, gaps);
+    let (fillable, blankable) = collect(line, clue, gaps);
+    Line::certain(line.len(), fillable, blankable)
+}
+
+/// The room that deducing takes, for lines up to a length.
+#[derive(Drop)]
+pub struct Tables {
+    longest: u16,
+    gaps: Box<[u128; 129]>,
+}
+
+impl Model for Tables {
+    ghost use Rattle.std.specs.Prelude.{ℕ};
+
+    ghost Value = { ℕ };
+
+    ghost view = { λ tables. tables.longest };
+}
+
+impl Tables {
+    /// Tables for lines of at most so many cells, 1 to 128.
+    pub fn new(alloc: Global, longest: u16) -> Result<Tables, NoMemory>
+        requires { (1 ≤ longest) × (longest ≤ 128) }
+        ensures { IfOk result (λ tables. tables ≡ longest) }
+    {
+        Ok(Tables {
+            longest,
+            gaps: Box::new(alloc, [0; 129])?,
+        })
+    }
+}
+
+/// What is certain of a line, given its clue: what all placings share, or none where there is no placing.
+pub fn deduce(tables: &mut Tables, line: &Line, clue: &Clue) -> Option<Line>
+    requires { length line.now ≤ tables.old }
+    ensures answer { result ≡ deduced line.now clue.now }
+    ensures room { tables.new ≡ tables.old }
+{
+    deduce_with(line, clue.numbers(), &mut tables.gaps)
+}

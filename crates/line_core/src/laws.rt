@@ -1,0 +1,48 @@
+//! Laws of the definitions.
+
+ghost use Rattle.std.specs.Prelude.{◌≡◌, ℕ, List, Bool, true, Option, Some, None, map, nat_le};
+ghost use lib.Pointwise.{pointwise};
+ghost use Rattle.grid_core.specs.declared.cells.Cell.{Cell};
+ghost use Rattle.grid_core.specs.Cells.{Extends, colour};
+ghost use Rattle.line_core.specs.Placings.{is_placing};
+ghost use Rattle.line_core.specs.Deduction.{deduced};
+ghost use Rattle.line_core.specs.Ends.{leftmost, rightmost, AreStarts};
+ghost use Rattle.line_core.specs.Order.{AtMost};
+
+/// The deduced line knows at least what the line knew.
+pub fn deduced_knows_the_line()
+    ensures { (line : List Cell) (clue : List ℕ) → AtMost (Some line) (deduced line clue) }
+{}
+
+/// Every placing extends the deduced line.
+pub fn placings_extend_the_deduced()
+    ensures { (line : List Cell) (clue : List ℕ) (full : List Bool) → is_placing line clue full ≡ true → AtMost (deduced line clue) (Some (map colour full)) }
+{}
+
+/// Where more is known of a line, at least as much is deduced.
+pub fn deduction_is_monotone()
+    ensures { (line more : List Cell) (clue : List ℕ) → Extends line more → AtMost (deduced line clue) (deduced more clue) }
+{}
+
+/// Deducing a deduced line changes nothing.
+pub fn deduction_settles()
+    ensures { (line known : List Cell) (clue : List ℕ) → deduced line clue ≡ Some known → deduced known clue ≡ Some known }
+{}
+
+/// The leftmost starts are those of a placing, and none is greater than the same start of any placing.
+pub fn leftmost_is_least()
+    ensures { (line : List Cell) (clue starts : List ℕ) → leftmost line clue ≡ Some starts
+        → AreStarts line clue starts × ((other : List ℕ) → AreStarts line clue other → pointwise nat_le starts other ≡ true) }
+{}
+
+/// The rightmost starts are those of a placing, and none is less than the same start of any placing.
+pub fn rightmost_is_greatest()
+    ensures { (line : List Cell) (clue starts : List ℕ) → rightmost line clue ≡ Some starts
+        → AreStarts line clue starts × ((other : List ℕ) → AreStarts line clue other → pointwise nat_le other starts ≡ true) }
+{}
+
+/// Where there is a placing, there are a leftmost and a rightmost one.
+pub fn outermost_exist()
+    ensures { (line : List Cell) (clue starts : List ℕ) → AreStarts line clue starts
+        → ((least : List ℕ) × (leftmost line clue ≡ Some least)) × ((greatest : List ℕ) × (rightmost line clue ≡ Some greatest)) }
+{}

@@ -1,0 +1,158 @@
+//! Masks of 128 places, a bit a place.
+
+ghost use Rattle.std.specs.Prelude.{◌≡◌, ◌≢◌, ◌+◌, ◌-◌, ◌*◌, ◌^◌, ◌<◌, ◌≤◌, ◌⊎◌, ℕ, slice_index, true, false, length};
+ghost use Rattle.line_core.specs.Masks.{Has, has, IsFlooded, IsMaskOf, IsTurned, IsMoved, AllFrom, SomeFrom, AreWindows};
+
+/// Whether a mask has a place.
+pub fn has(mask: u128, place: u16) -> bool
+    requires { place < 128 }
+    ensures { result ≡ has mask place }
+{
+    (mask >> place) & 1 == 1
+}
+
+/// The mask with a place in it, or without.
+pub fn marked(mask: u128, place: u16, wanted: bool) -> u128
+    requires { place < 128 }
+    ensures { IsMaskOf (λ i. (Has mask i × (i ≢ place)) ⊎ ((i ≡ place) × (wanted ≡ true))) result }
+{
+    if wanted {
+        mask | (1 << place)
+    } else {
+        mask & !(1 << place)
+    }
+}
+
+/// The least place of a mask.
+pub fn first_place(mask: u128) -> u16
+    requires { 0 < mask }
+    ensures within { result < 128 }
+    ensures in_mask { Has mask result }
+    ensures least { (i : ℕ) → Has mask i → result ≤ i }
+{
+    mask.trailing_zeros() as u16
+}
+
+/// The greatest place of a mask.
+pub fn last_place(mask: u128) -> u16
+    requires { 0 < mask }
+    ensures within { result < 128 }
+    ensures in_mask { Has mask result }
+    ensures greatest { (i : ℕ) → Has mask i → i ≤ result }
+{
+    mask.ilog2() as u16
+}
+
+/// The places that are flooded from some, within the free ones.
+pub fn flood(sources: u128, free: u128) -> u128
+    requires { (i : ℕ) → Has sources i → Has free i }
+    ensures { IsMaskOf (IsFlooded (Has sources) (Has free)) result }
+{
+    ((free.wrapping_add(sources) ^ free) & free) | sources
+}
+
+/// The places in a mask that have another one in it so much further on.
+pub fn both(mask: u128, by: u16) -> u128
+    requires { by < 128 }
+    ensures { IsMaskOf (λ i. Has mask i × Has mask (i + by)) result }
+{
+    mask & (mask >> by)
+}
+
+/// The places in a mask, and those that have one in it so much further on.
+pub fn either(mask: u128, by: u16) -> u128
+    requires { by < 128 }
+    ensures { IsMaskOf (λ i. Has mask i ⊎ Has mask (i + by)) result }
+{
+    mask | (mask >> by)
+}
+
+/// The starts of windows of 1, 2, 4 and so on places that are all in the mask.
+pub fn write_windows(cells: u128, table: &mut [u128; 8])
+    ensures { AreWindows cells table.new }
+{
+    table[0] = cells;
+    for level in 0..7usize {
+        table[level + 1] = both(table[level], 1 << level);
+    }
+}
+
+/// The mask seen from its other end.
+fn turn(mask: u128) -> u128
+    ensures { IsMaskOf (IsTurned (Has mask)) result }
+{
+    mask.reverse_bits()
+}
+
+/// The starts of windows of a length, from the table of those of 1, 2, 4 and so on.
+pub fn window(table: &[u128; 8], length: u16) -> u128
+    requires length { (0 < length) × (length ≤ 128) }
+    requires table { AreWindows (slice_index table.now 0) table.now }
+    ensures { IsMaskOf (AllFrom (Has (slice_index table.now 0)) length) result }
+{
+    let level = length.ilog2();
+    let rest = length - (1 << level);
+    both(table[level as usize], rest)
+}
+
+/// The first places, as long as all are free.
+pub fn first_gap(free: u128) -> u128
+    ensures { IsMaskOf (IsFlooded (λ k. Has free k × (k ≡ 0)) (Has free)) result }
+{
+    flood(free & 1, free)
+}
+
+/// The ends of a run, which can start after a gap, and at the first place where none comes before it.
+pub fn run_ends(gap: u128, first: bool, window: u128, length: u16) -> u128
+    requires { (0 < length) × (length ≤ 128) }
+    ensures { IsMaskOf (IsMoved (λ s. (IsMoved (Has gap) 1 s ⊎ ((s ≡ 0) × (first ≡ true))) × Has window s) (length - 1)) result }
+{
+    let first = if first { 1u128 } else { 0 };
+    let starts = ((gap << 1) | first) & window;
+    starts << (length - 1)
+}
+
+/// The free places after an end, as long as all are free.
+pub fn gap_after(ends: u128, free: u128) -> u128
+    ensures { IsMaskOf (IsFlooded (λ k. IsMoved (Has ends) 1 k × Has free k) (Has free)) result }
+{
+    flood((ends << 1) & free, free)
+}
+
+/// The places that have one in the mask among so many from there on.
+pub fn spread(mask: u128, length: u16) -> u128
+    requires { (0 < length) × (length ≤ 128) }
+    ensures { IsMaskOf (SomeFrom (Has mask) length) result }
+{
+    let mut wide = mask;
+    let mut width = 1u16;
+    while width <= length - width {
+        wide = either(wide, width);
+        width += width;
+    }
+    either(wide, length - width)
+}
+
+/// The places of a line of so many cells.
+pub fn places(len: u16) -> u128
+    requires { (0 < len) × (len ≤ 128) }
+    ensures { IsMaskOf (λ i. i < len) result }
+{
+    u128::MAX >> (128 - len)
+}
+
+/// The places of a line of so many cells that a mask lacks.
+pub fn lacking(mask: u128, len: u16) -> u128
+    requires { (0 < len) × (len ≤ 128) }
+    ensures { IsMaskOf (λ i. (i < len) × (has mask i ≡ false)) result }
+{
+    places(len) & !mask
+}
+
+/// The mask of a line of so many cells seen from its other end.
+pub fn turn_line(mask: u128, len: u16) -> u128
+    requires { (0 < len) × (len ≤ 128) }
+    ensures { IsMaskOf (λ i. (i < len) × Has mask (len - 1 - i)) result }
+{
+    turn(mask) >> (128 - len)
+}

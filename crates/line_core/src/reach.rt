@@ -1,0 +1,74 @@
+//! How far the runs of a clue reach on a line: a few operations on whole masks for each run.
+
+ghost use Rattle.std.specs.Prelude.{◌≡◌, ◌+◌, ◌-◌, ◌<◌, ◌≤◌, length, reverse, true, slice_index, ℕ};
+ghost use Rattle.line_core.specs.Masks.{IsMaskOf, AreWindows};
+ghost use Rattle.line_core.specs.Reach.{AreLengths, MayBe, IsGap, IsEnd, IsGapAhead, IsWholeEnd};
+
+use crate::Line;
+use crate::masks::{first_gap, gap_after, run_ends, turn_line, window, write_windows};
+
+/// Writes the gaps before each run and after the last one, as the cells before allow them, of a line and a clue that are both seen from
+/// their other end.
+pub(crate) fn write_turned_gaps(line: &Line, clue: &[u16], gaps: &mut [u128; 129])
+    requires clue { AreLengths clue.now }
+    requires count { length clue.now ≤ 128 }
+    ensures { (j : ℕ) → j ≤ length clue.now → IsMaskOf (IsGap (reverse line.now) (reverse clue.now) j) (slice_index gaps.new j) }
+{
+    let turned = line.turned();
+    let free = turned.free_cells();
+    let mut windows = [0u128; 8];
+    write_windows(turned.open_cells(), &mut windows);
+    let mut gap = first_gap(free);
+    gaps[0] = gap;
+    let count = clue.len();
+    for j in 0..count {
+        let number = clue[count - 1 - j];
+        let ends = run_ends(gap, j == 0, window(&windows, number), number);
+        gap = gap_after(ends, free);
+        gaps[j + 1] = gap;
+    }
+}
+
+/// The ends of a run, from the gaps before it.
+pub(crate) fn ends_of(line: &Line, clue: &[u16], j: usize, windows: &[u128; 8], gap: u128) -> u128
+    requires clue { AreLengths clue.now }
+    requires j { j < length clue.now }
+    requires short { length line.now ≤ 128 }
+    requires cells { IsMaskOf (MayBe line.now true) (slice_index windows.now 0) }
+    requires windows { AreWindows (slice_index windows.now 0) windows.now }
+    requires gap { IsMaskOf (IsGap line.now clue.now j) gap }
+    ensures { IsMaskOf (IsEnd line.now clue.now j) result }
+{
+    let number = clue[j];
+    run_ends(gap, j == 0, window(windows, number), number)
+}
+
+/// The gaps before a run, as the cells after allow them.
+pub(crate) fn gap_ahead(line: &Line, clue: &[u16], turned_gaps: &[u128; 129], j: usize) -> u128
+    requires count { length clue.now ≤ 128 }
+    requires j { j ≤ length clue.now }
+    requires turned { (j : ℕ) → j ≤ length clue.now → IsMaskOf (IsGap (reverse line.now) (reverse clue.now) j) (slice_index turned_gaps.now j) }
+    ensures { IsMaskOf (IsGapAhead line.now clue.now j) result }
+{
+    turn_line(turned_gaps[clue.len() - j], line.len())
+}
+
+/// The last cell of a line, where a run that ends there is the last one.
+fn last_end(len: u16, last: bool) -> u128
+    requires { (0 < len) × (len ≤ 128) }
+    ensures { IsMaskOf (λ i. (i ≡ len - 1) × (last ≡ true)) result }
+{
+    if last { 1 << (len - 1) } else { 0 }
+}
+
+/// The ends of a run in whole placings.
+pub(crate) fn whole_ends(line: &Line, clue: &[u16], j: usize, ends: u128, ahead: u128) -> u128
+    requires clue { AreLengths clue.now }
+    requires j { j < length clue.now }
+    requires ends { IsMaskOf (IsEnd line.now clue.now j) ends }
+    requires ahead { IsMaskOf (IsGapAhead line.now clue.now (j + 1)) ahead }
+    ensures { IsMaskOf (IsWholeEnd line.now clue.now j) result }
+{
+    let last = last_end(line.len(), j + 1 == clue.len());
+    ends & ((ahead >> 1) | last)
+}

@@ -1,0 +1,93 @@
+use Rattle.std.proofs.Common.{◌≡◌, ℕ, zero, suc, ◌+◌, ◌<◌, ◌≤◌, ◌⊎◌, inl, inr, Bool, true, false, List, [], ◌∷◌, length, Option, Some, None, refl, sym, ap, ◌∙◌, arith, option_and_then}
+use Rattle.grid_core.specs.declared.cells.Cell.{Cell}
+use Rattle.grid_core.specs.declared.cells.Cell.TheVariants.{Unknown, Filled, Blank}
+use Rattle.grid_core.specs.Cells.{CellExtends, Extends}
+use Rattle.solve_core.specs.Closure.{repeat}
+pub use Rattle.solve_core.specs.Trails.{unknown_count}
+use Rattle.solve_core.proofs.Order.{AtMost, AtMost-refl, AtMost-trans, Extends-refl, length-Extends}
+
+-- a step that only adds to what is known, and adds no less where more is known
+pub record IsDeduction (f : List Cell → Option (List Cell)) : Type 0 where
+  pub above : (g : List Cell) → AtMost (Some g) (f g)
+  pub monotone : (g z : List Cell) → Extends g z → AtMost (f g) (f z)
+
+pub and_then-monotone : (h : List Cell → Option (List Cell)) → ((g z : List Cell) → Extends g z → AtMost (h g) (h z)) → (o p : Option (List Cell)) → AtMost o p → AtMost (option_and_then h o) (option_and_then h p)
+and_then-monotone h m o None k = tt
+and_then-monotone h m None (Some z) k = absurd k
+and_then-monotone h m (Some g) (Some z) k = m g z k
+
+pub and_then-above : (h : List Cell → Option (List Cell)) → ((g : List Cell) → AtMost (Some g) (h g)) → (g : List Cell) (o : Option (List Cell)) → AtMost (Some g) o → AtMost (Some g) (option_and_then h o)
+and_then-above h a g None k = tt
+and_then-above h a g (Some z) k = AtMost-trans (Some g) (Some z) (h z) k (a z)
+
+pub and_then-below : (h : List Cell → Option (List Cell)) (z : List Cell) → ((g : List Cell) → Extends g z → AtMost (h g) (Some z)) → (o : Option (List Cell)) → AtMost o (Some z) → AtMost (option_and_then h o) (Some z)
+and_then-below h z b None k = absurd k
+and_then-below h z b (Some g) k = b g k
+
+pub repeat-above : (f : List Cell → Option (List Cell)) → ((g : List Cell) → AtMost (Some g) (f g)) → (n : ℕ) (g : List Cell) → AtMost (Some g) (repeat f n g)
+repeat-above f a zero g = Extends-refl g
+repeat-above f a (suc n) g = and_then-above (repeat f n) (repeat-above f a n) g (f g) (a g)
+
+pub repeat-monotone : (f : List Cell → Option (List Cell)) → IsDeduction f → (n : ℕ) (g z : List Cell) → Extends g z → AtMost (repeat f n g) (repeat f n z)
+repeat-monotone f d zero g z h = h
+repeat-monotone f d (suc n) g z h = and_then-monotone (repeat f n) (repeat-monotone f d n) (f g) (f z) (d.monotone g z h)
+
+-- what stays below z in each step does so in all
+pub repeat-below : (f : List Cell → Option (List Cell)) (z : List Cell) → ((g : List Cell) → Extends g z → AtMost (f g) (Some z)) → (n : ℕ) (g : List Cell) → Extends g z → AtMost (repeat f n g) (Some z)
+repeat-below f z b zero g h = h
+repeat-below f z b (suc n) g h = and_then-below (repeat f n) z (repeat-below f z b n) (f g) (b g h)
+
+-- the result is at most each closed grid that knows what the given one knows
+pub repeat-least : (f : List Cell → Option (List Cell)) → IsDeduction f → (n : ℕ) (g z : List Cell) → f z ≡ Some z → Extends g z → AtMost (repeat f n g) (Some z)
+repeat-least f d n g z closed h =
+    repeat-below f z (λ g' k. let m = d.monotone g' z k in rw closed at m) n g h
+
+pub repeat-fixed : (f : List Cell → Option (List Cell)) (n : ℕ) (g : List Cell) → f g ≡ Some g → repeat f n g ≡ Some g
+repeat-fixed f zero g e = refl
+repeat-fixed f (suc n) g e = rw e (repeat-fixed f n g e)
+
+pub unknown_count-le : (g : List Cell) → unknown_count g ≤ length g
+unknown_count-le [] = omega arith
+unknown_count-le (Unknown ∷ g) = omega (arith, unknown_count-le g)
+unknown_count-le (Filled ∷ g) = omega (arith, unknown_count-le g)
+unknown_count-le (Blank ∷ g) = omega (arith, unknown_count-le g)
+
+-- a grid that knows more has fewer unknown cells
+pub fewer_unknown : (g z : List Cell) → Extends g z → (z ≡ g) ⊎ (unknown_count z < unknown_count g)
+fewer_unknown [] [] h = inl refl
+fewer_unknown [] (d ∷ z) h = absurd h
+fewer_unknown (c ∷ g) [] h = absurd h
+fewer_unknown (Unknown ∷ g) (Unknown ∷ z) h =
+    elim (fewer_unknown g z h.1) [ inl e ↦ inl (ap (λ (r : List Cell). Unknown ∷ r) e) | inr l ↦ inr (omega arith) ]
+fewer_unknown (Unknown ∷ g) (Filled ∷ z) h =
+    inr (elim (fewer_unknown g z h.1) [ inl e ↦ omega (arith, ap (unknown_count) e) | inr l ↦ omega arith ])
+fewer_unknown (Unknown ∷ g) (Blank ∷ z) h =
+    inr (elim (fewer_unknown g z h.1) [ inl e ↦ omega (arith, ap (unknown_count) e) | inr l ↦ omega arith ])
+fewer_unknown (Filled ∷ g) (Unknown ∷ z) h = absurd h.0
+fewer_unknown (Filled ∷ g) (Filled ∷ z) h =
+    elim (fewer_unknown g z h.1) [ inl e ↦ inl (ap (λ (r : List Cell). Filled ∷ r) e) | inr l ↦ inr l ]
+fewer_unknown (Filled ∷ g) (Blank ∷ z) h = absurd h.0
+fewer_unknown (Blank ∷ g) (Unknown ∷ z) h = absurd h.0
+fewer_unknown (Blank ∷ g) (Filled ∷ z) h = absurd h.0
+fewer_unknown (Blank ∷ g) (Blank ∷ z) h =
+    elim (fewer_unknown g z h.1) [ inl e ↦ inl (ap (λ (r : List Cell). Blank ∷ r) e) | inr l ↦ inr l ]
+
+closed_after : (f : List Cell → Option (List Cell)) (n : ℕ) (g c : List Cell) (o : Option (List Cell)) → f g ≡ o → AtMost (Some g) o → option_and_then (repeat f n) o ≡ Some c
+    → ((g' : List Cell) → unknown_count g' < unknown_count g → repeat f n g' ≡ Some c → f c ≡ Some c) → f c ≡ Some c
+closed_after f n g c None is k e next = cc
+closed_after f n g c (Some g') is k e next =
+    elim (fewer_unknown g g' k) [
+      | inl same ↦
+          (let fixed : f g ≡ Some g = is ∙ ap (λ (r : List Cell). Some r) same in
+          let ends : repeat f n g ≡ Some c = ap (repeat f n) (sym same) ∙ e in
+          let c_is : Some g ≡ Some c = sym (repeat-fixed f n g fixed) ∙ ends in
+          let same_c : g ≡ c = cc in
+          ap f (sym same_c) ∙ fixed ∙ c_is)
+      | inr less ↦ next g' less e
+    ]
+
+-- with more steps than unknown cells, the result is closed
+pub repeat-closed : (f : List Cell → Option (List Cell)) → ((g : List Cell) → AtMost (Some g) (f g)) → (n : ℕ) (g c : List Cell) → unknown_count g < n → repeat f n g ≡ Some c → f c ≡ Some c
+repeat-closed f a zero g c h e = absurd (omega arith)
+repeat-closed f a (suc n) g c h e =
+    closed_after f n g c (f g) refl (a g) e (λ g' less e'. repeat-closed f a n g' c (omega arith) e')

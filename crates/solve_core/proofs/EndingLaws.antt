@@ -1,0 +1,68 @@
+use Rattle.std.proofs.Common.{◌≡◌, ℕ, zero, suc, ◌+◌, ◌-◌, add-one, ◌<◌, ◌≤◌, Bool, true, false, List, [], ◌∷◌, ◌++◌, length, refl, sym, ap, ◌∙◌, arith, subst}
+use Rattle.grid_core.specs.declared.cells.Cell.{Cell}
+use Rattle.grid_core.specs.PartialGrid.{PartialGrid}
+use Rattle.grid_core.specs.Nonogram.{Nonogram}
+use Rattle.solve_core.specs.Search.{Event, Guess, Solution}
+use Rattle.solve_core.specs.Report.{grid_of}
+use Rattle.solve_core.specs.Endings.{Ending, ending}
+
+pub append-nil-right : {X : Type 0} (xs : List X) → xs ++ [] ≡ xs
+append-nil-right [] = refl
+append-nil-right (x ∷ xs) = λ i. x ∷ append-nil-right xs i
+
+pub append-assoc-right : {X : Type 0} (xs ys zs : List X) → (xs ++ ys) ++ zs ≡ xs ++ (ys ++ zs)
+append-assoc-right [] ys zs = refl
+append-assoc-right (x ∷ xs) ys zs = λ i. x ∷ append-assoc-right xs ys zs i
+
+-- a solution that is found is the next event
+pub ending-found : (p : Nonogram) (found : List PartialGrid) (cells : List Cell) (spent left : ℕ) (es : List Event) → length found < 2
+    → ending p (found ++ (grid_of p cells ∷ [])) spent left es ≡ ending p found spent left (Solution cells ∷ es)
+ending-found p [] cells spent left es l = refl
+ending-found p (a ∷ []) cells spent left es l = refl
+ending-found p (a ∷ b ∷ more) cells spent left es l = absurd (omega arith)
+
+-- a guess that the limit allows is spent
+pub ending-guess : (p : Nonogram) (found : List PartialGrid) (spent limit : ℕ) (es : List Event) → length found < 2 → spent < limit
+    → ending p found spent (limit - spent) (Guess ∷ es) ≡ ending p found (spent + 1) (limit - (spent + 1)) es
+ending-guess p found spent limit es l h =
+    let left : limit - spent ≡ suc (limit - (spent + 1)) = omega arith in
+    ap (λ n. ending p found spent n (Guess ∷ es)) left
+    ∙ by found l
+    ∙ ap (λ n. ending p found n (limit - (spent + 1)) es) (sym (add-one spent))
+  where
+    by : (gs : List PartialGrid) → length gs < 2 → ending p gs spent (suc (limit - (spent + 1))) (Guess ∷ es) ≡ ending p gs (suc spent) (limit - (spent + 1)) es
+    by [] k = refl
+    by (a ∷ []) k = refl
+    by (a ∷ b ∷ more) k = absurd (omega arith)
+
+-- and one too many cuts the search short
+pub ending-cut : (p : Nonogram) (found : List PartialGrid) (spent limit : ℕ) (es : List Event) → length found < 2 → spent ≡ limit
+    → ending p found spent (limit - spent) (Guess ∷ es) ≡ record { found = found; cut = true; spent = spent }
+ending-cut p found spent limit es l e =
+    let left : limit - spent ≡ 0 = omega arith in
+    ap (λ n. ending p found spent n (Guess ∷ es)) left ∙ by found l
+  where
+    by : (gs : List PartialGrid) → length gs < 2 → ending p gs spent 0 (Guess ∷ es) ≡ record { found = gs; cut = true; spent = spent }
+    by [] k = refl
+    by (a ∷ []) k = refl
+    by (a ∷ b ∷ more) k = absurd (omega arith)
+
+-- one turn of a search: a guess is spent, and what happens below it is looked at
+pub ending-next : (p q : Nonogram) (found more : List PartialGrid) (spent limit : ℕ) (whole : Ending) (before : List Event) (below after : Nonogram → List Event)
+    → q ≡ p → before ≡ Guess ∷ below p → length found < 2 → spent < limit → ending p found spent (limit - spent) before ≡ whole
+    → ((s l : ℕ) → ending q more s l (after q) ≡ ending q found s l (below q))
+    → ending p more (spent + 1) (limit - (spent + 1)) (after p) ≡ whole
+ending-next p q found more spent limit whole before below after same e room less told h =
+    let h' : (s l : ℕ) → ending p more s l (after p) ≡ ending p found s l (below p)
+    = subst (λ (x : Nonogram). (s l : ℕ) → ending x more s l (after x) ≡ ending x found s l (below x)) same h in
+    h' (spent + 1) (limit - (spent + 1))
+    ∙ sym (ending-guess p found spent limit (below p) room less)
+    ∙ ap (ending p found spent (limit - spent)) (sym e)
+    ∙ told
+
+pub fewer-next : (p q : Nonogram) (before : List Event) (below after : Nonogram → List Event) → q ≡ p → before ≡ Guess ∷ below p
+    → length (after q) ≤ length (below q) → length (after p) < length before
+fewer-next p q before below after same e h =
+    let h' : length (after p) ≤ length (below p) = subst (λ (x : Nonogram). length (after x) ≤ length (below x)) same h in
+    omega (arith, h', ap length e)
+

@@ -1,0 +1,16 @@
+pub mod Order
+pub mod TrailSteps
+pub mod Closing
+pub mod ClosureLaws
+pub mod TrialLaws
+pub mod StepLaws
+pub mod LineSteps
+pub mod GridSteps
+pub mod TrialSteps
+pub mod SearchLaws
+pub mod EndingLaws
+pub mod ReportLaws
+pub mod AnswerLaws
+pub mod BranchLaws
+pub mod SearchSteps
+pub mod Examples

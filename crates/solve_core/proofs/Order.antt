@@ -1,0 +1,110 @@
+use Rattle.std.proofs.Common.{◌≡◌, ℕ, zero, suc, ◌+◌, ◌<◌, ◌≤◌, ◌⊎◌, inl, inr, Bool, true, false, List, [], ◌∷◌, length, get_or, set, map, Option, Some, None, refl, sym, ap, ◌∙◌, arith, count_by, option_and_then}
+use Rattle.std.specs.List.{AllZip, AllByRecursion}
+use Rattle.grid_core.specs.declared.cells.Cell.{Cell}
+use Rattle.grid_core.specs.declared.cells.Cell.TheVariants.{Unknown, Filled, Blank}
+use Rattle.grid_core.specs.Cells.{CellExtends, Extends, is_unknown}
+use Rattle.solve_core.specs.Closure.{join_cells, join, join_all, option_cons, with_cells, repeat}
+pub use Rattle.line_core.specs.Order.{AtMost}
+pub use Rattle.line_core.proofs.DeductionLaws.{Extends-refl, Extends-trans, Extends-antisym, length-Extends, AtMost-refl, AtMost-trans}
+
+-- at one cell
+abbrev CellAtMost : Cell → Option Cell → Type 0
+CellAtMost c None = Unit {0}
+CellAtMost c (Some d) = CellExtends c d
+
+join_cells-left : (c d : Cell) → CellAtMost c (join_cells c d)
+join_cells-left Unknown d = tt
+join_cells-left Filled Unknown = tt
+join_cells-left Filled Filled = tt
+join_cells-left Filled Blank = tt
+join_cells-left Blank Unknown = tt
+join_cells-left Blank Filled = tt
+join_cells-left Blank Blank = tt
+
+join_cells-right : (c d : Cell) → CellAtMost d (join_cells c d)
+join_cells-right Unknown d = (Extends-refl (d ∷ [])).0
+join_cells-right Filled Unknown = tt
+join_cells-right Filled Filled = tt
+join_cells-right Filled Blank = tt
+join_cells-right Blank Unknown = tt
+join_cells-right Blank Filled = tt
+join_cells-right Blank Blank = tt
+
+-- a cell above two cells is above what they know together
+join_cells-least : (c d z : Cell) → CellExtends c z → CellExtends d z → (j : Cell) × (join_cells c d ≡ Some j) × CellExtends j z
+join_cells-least Unknown d z h k = (d, refl, k)
+join_cells-least Filled Unknown z h k = (Filled, refl, h)
+join_cells-least Filled Filled z h k = (Filled, refl, h)
+join_cells-least Filled Blank Unknown h k = absurd h
+join_cells-least Filled Blank Filled h k = absurd k
+join_cells-least Filled Blank Blank h k = absurd h
+join_cells-least Blank Unknown z h k = (Blank, refl, h)
+join_cells-least Blank Filled Unknown h k = absurd h
+join_cells-least Blank Filled Filled h k = absurd h
+join_cells-least Blank Filled Blank h k = absurd k
+join_cells-least Blank Blank z h k = (Blank, refl, h)
+
+cons_at_most : (c : Cell) (g : List Cell) (o : Option Cell) (os : Option (List Cell)) → CellAtMost c o → AtMost (Some g) os → AtMost (Some (c ∷ g)) (option_cons o os)
+cons_at_most c g None os h k = tt
+cons_at_most c g (Some d) None h k = tt
+cons_at_most c g (Some d) (Some new) h k = (h, k)
+
+pub join-left : (a b : List Cell) → length a ≡ length b → AtMost (Some a) (join a b)
+join-left [] b h = tt
+join-left (c ∷ a) [] h = tt
+join-left (c ∷ a) (d ∷ b) h = cons_at_most c a (join_cells c d) (join a b) (join_cells-left c d) (join-left a b (omega arith))
+
+pub join-right : (a b : List Cell) → length a ≡ length b → AtMost (Some b) (join a b)
+join-right [] [] h = tt
+join-right [] (d ∷ b) h = absurd (omega arith)
+join-right (c ∷ a) [] h = tt
+join-right (c ∷ a) (d ∷ b) h = cons_at_most d b (join_cells c d) (join a b) (join_cells-right c d) (join-right a b (omega arith))
+
+pub join-least : (a b z : List Cell) → Extends a z → Extends b z → (j : List Cell) × (join a b ≡ Some j) × Extends j z
+join-least [] b [] h k = ([], refl, tt)
+join-least [] b (e ∷ z) h k = absurd h
+join-least (c ∷ a) b [] h k = absurd h
+join-least (c ∷ a) [] (e ∷ z) h k = absurd k
+join-least (c ∷ a) (d ∷ b) (e ∷ z) h k =
+    let cell = join_cells-least c d e h.0 k.0 in
+    let rest = join-least a b z h.1 k.1 in
+    (cell.0 ∷ rest.0, rw (cell.1, rest.1) refl, (cell.2, rest.2))
+
+-- each of several is no longer and no shorter than n cells, or dead
+abbrev pub HasLength : ℕ → Option (List Cell) → Type 0
+HasLength n None = Unit {0}
+HasLength n (Some g) = length g ≡ n
+
+pub join_all-above : (g : List Cell) (os : List (Option (List Cell))) → AllByRecursion (HasLength (length g)) os → AtMost (Some g) (join_all g os)
+join_all-above g [] h = Extends-refl g
+join_all-above g (None ∷ os) h = tt
+join_all-above g (Some d ∷ os) h =
+    elim (join g d) as (λ o. AtMost (Some g) o → AtMost (Some g) (option_and_then (λ joined. join_all joined os) o)) [
+      | None ↦ (λ k. tt)
+      | Some j ↦ (λ k. AtMost-trans (Some g) (Some j) (join_all j os) k (join_all-above j os (rw (sym (length-Extends g j k)) h.1)))
+    ]
+    (join-left g d (sym h.0))
+
+pub join_all-least : (g z : List Cell) (os : List (Option (List Cell))) → Extends g z → AllByRecursion (λ o. AtMost o (Some z)) os → AtMost (join_all g os) (Some z)
+join_all-least g z [] h k = h
+join_all-least g z (None ∷ os) h k = absurd k.0
+join_all-least g z (Some d ∷ os) h k =
+    let j = join-least g d z h k.0 in
+    rw j.1 (join_all-least j.0 z os j.2 k.1)
+
+dead_above : (os : List (Option (List Cell))) → AllByRecursion (λ o. AtMost o None) os
+dead_above [] = tt
+dead_above (o ∷ os) = (tt, dead_above os)
+
+-- what is joined is above each part
+pub join_all-above_each : (g : List Cell) (os : List (Option (List Cell))) → AllByRecursion (HasLength (length g)) os → AllByRecursion (λ o. AtMost o (join_all g os)) os
+join_all-above_each g [] h = tt
+join_all-above_each g (None ∷ os) h = (tt, dead_above os)
+join_all-above_each g (Some d ∷ os) h =
+    elim (join g d) as (λ o. AtMost (Some g) o → AtMost (Some d) o → AllByRecursion (λ p. AtMost p (option_and_then (λ joined. join_all joined os) o)) (Some d ∷ os)) [
+      | None ↦ (λ k l. (tt, dead_above os))
+      | Some j ↦ (λ k l.
+          let lengths : AllByRecursion (HasLength (length j)) os = rw (sym (length-Extends g j k)) h.1 in
+          (AtMost-trans (Some d) (Some j) (join_all j os) l (join_all-above j os lengths), join_all-above_each j os lengths))
+    ]
+    (join-left g d (sym h.0)) (join-right g d (sym h.0))

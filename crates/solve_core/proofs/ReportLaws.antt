@@ -1,0 +1,222 @@
+use Rattle.std.proofs.Common.{◌≡◌, ℕ, zero, suc, ◌+◌, ◌<◌, ◌≤◌, Bool, true, false, List, [], ◌∷◌, ◌++◌, length, map, Option, Some, None, nat_lt, refl, sym, ap, ◌∙◌, arith, subst, ltb-true, ltb-false, true≢false, zero-add, is_none, is_some, not, option_map, option_and_then, position, count_by}
+use Rattle.std.specs.List.{list_all, position_from}
+use Rattle.std.proofs.lemmas.Iterator.Adapters.{position_from-zero}
+use Rattle.grid_core.specs.Cells.{is_known, is_unknown}
+use Rattle.grid_core.specs.declared.cells.Cell.TheVariants.{Unknown, Filled, Blank}
+use Rattle.solve_core.specs.declared.findings.Grade.{Grade}
+use Rattle.solve_core.specs.declared.findings.Grade.TheVariants.{Lines}
+use Rattle.solve_core.specs.Closure.{closure}
+use Rattle.solve_core.specs.Trials.{trials}
+use Rattle.grid_core.specs.declared.cells.Cell.{Cell}
+use Rattle.grid_core.specs.PartialGrid.{PartialGrid}
+use Rattle.grid_core.specs.Nonogram.{Nonogram, GridLine, lines_of}
+use Rattle.solve_core.specs.declared.findings.Verdict.{Verdict}
+use Rattle.solve_core.specs.declared.findings.Verdict.TheVariants.{Nothing, One, Several, Unsettled}
+use Rattle.solve_core.specs.declared.findings.Findings.{Findings}
+use Rattle.solve_core.specs.Search.{Event, Guess, Solution, events}
+use Rattle.solve_core.specs.Report.{through_solution, within_guesses, solutions_in, guesses_in, verdict_by, grid_of, whole_search, events_from, verdict_of, guesses_of, unknown_grid, line_closure, trial_closure, is_settled, known_in, grade_by, report_of}
+use Rattle.solve_core.specs.Verdicts.{IsFinal}
+use Rattle.solve_core.specs.Endings.{Ending, ending}
+use Rattle.solve_core.specs.Branches.{IsClosed}
+use Rattle.solve_core.proofs.TrialLaws.{tried_cells, after_trials, trials-IsLeastClosed}
+
+nat_lt-more : (m n : ℕ) → nat_lt m n ≡ nat_lt (suc m) (suc n)
+nat_lt-more m n = by (nat_lt m n) (nat_lt (suc m) (suc n)) refl refl
+  where
+    by : (a b : Bool) → nat_lt m n ≡ a → nat_lt (suc m) (suc n) ≡ b → a ≡ b
+    by true true e f = refl
+    by false false e f = refl
+    by true false e f = absurd (omega (arith, ltb-true m n e, ltb-false (suc m) (suc n) f))
+    by false true e f = absurd (omega (arith, ltb-false m n e, ltb-true (suc m) (suc n) f))
+
+nat_lt-positive : (n : ℕ) → true ≡ nat_lt 0 (suc n)
+nat_lt-positive n = by (nat_lt 0 (suc n)) refl
+  where
+    by : (b : Bool) → nat_lt 0 (suc n) ≡ b → true ≡ b
+    by true e = refl
+    by false e = absurd (omega (arith, ltb-false 0 (suc n) e))
+
+-- how a search ends, by its events up to the n-th solution and within the limit
+abbrev defined : Nonogram → List PartialGrid → ℕ → ℕ → ℕ → List Event → Ending
+defined p found n spent left es =
+    record {
+      found = found ++ map (grid_of p) (solutions_in (within_guesses left (through_solution n es)));
+      cut = nat_lt (length (within_guesses left (through_solution n es))) (length (through_solution n es));
+      spent = spent + guesses_in (within_guesses left (through_solution n es));
+    }
+
+ending-one : (p : Nonogram) (a : PartialGrid) (spent left : ℕ) (es : List Event) → ending p (a ∷ []) spent left es ≡ defined p (a ∷ []) 1 spent left es
+ending-one p a spent left [] = let e : spent ≡ spent + 0 = omega arith in λ i. record { found = a ∷ []; cut = false; spent = e i }
+ending-one p a spent left (Solution c ∷ es) = let e : spent ≡ spent + 0 = omega arith in λ i. record { found = a ∷ grid_of p c ∷ []; cut = false; spent = e i }
+ending-one p a spent zero (Guess ∷ es) =
+    let e : spent ≡ spent + 0 = omega arith in
+    λ i. record { found = a ∷ []; cut = nat_lt-positive (length (through_solution 1 es)) i; spent = e i }
+ending-one p a spent (suc left) (Guess ∷ es) =
+    let part = within_guesses left (through_solution 1 es) in
+    let e : suc spent + guesses_in part ≡ spent + suc (guesses_in part) = omega arith in
+    ending-one p a (suc spent) left es
+    ∙ (λ i. record { found = a ∷ map (grid_of p) (solutions_in part); cut = nat_lt-more (length part) (length (through_solution 1 es)) i; spent = e i })
+
+ending-none : (p : Nonogram) (spent left : ℕ) (es : List Event) → ending p [] spent left es ≡ defined p [] 2 spent left es
+ending-none p spent left [] = let e : spent ≡ spent + 0 = omega arith in λ i. record { found = []; cut = false; spent = e i }
+ending-none p spent left (Solution c ∷ es) =
+    ending-one p (grid_of p c) spent left es
+    ∙ (λ i. record {
+      found = grid_of p c ∷ map (grid_of p) (solutions_in (within_guesses left (through_solution 1 es)));
+      cut = nat_lt-more (length (within_guesses left (through_solution 1 es))) (length (through_solution 1 es)) i;
+      spent = spent + guesses_in (within_guesses left (through_solution 1 es));
+    })
+ending-none p spent zero (Guess ∷ es) =
+    let e : spent ≡ spent + 0 = omega arith in
+    λ i. record { found = []; cut = nat_lt-positive (length (through_solution 2 es)) i; spent = e i }
+ending-none p spent (suc left) (Guess ∷ es) =
+    let part = within_guesses left (through_solution 2 es) in
+    let e : suc spent + guesses_in part ≡ spent + suc (guesses_in part) = omega arith in
+    ending-none p (suc spent) left es
+    ∙ (λ i. record { found = map (grid_of p) (solutions_in part); cut = nat_lt-more (length part) (length (through_solution 2 es)) i; spent = e i })
+
+-- how the search of a puzzle ends, from what trials leave
+abbrev pub end_from : (List Cell → Option ℕ) → Nonogram → ℕ → Option (List Cell) → Ending
+end_from pick p limit start = ending p [] 0 limit (events_from pick (lines_of p) start)
+
+-- the report, by the two closures and by how the search ends
+abbrev pub report_by : (List Cell → Option ℕ) → Nonogram → ℕ → Option (List Cell) → Option (List Cell) → Findings
+report_by pick p limit closed tried =
+    record {
+      verdict = verdict_by (end_from pick p limit tried).found (end_from pick p limit tried).cut;
+      grade = grade_by (is_settled closed) (is_settled tried);
+      line_known = known_in closed;
+      trial_known = known_in tried;
+      spent = (end_from pick p limit tried).spent;
+    }
+
+pub report-is : (pick : List Cell → Option ℕ) (p : Nonogram) (limit : ℕ) → report_by pick p limit (line_closure p) (trial_closure p) ≡ report_of pick p limit
+report-is pick p limit =
+    let e = ending-none p 0 limit (whole_search pick p) in
+    let z = zero-add (guesses_of pick p limit) in
+    (λ i. let end : Ending = e i in record {
+      verdict = verdict_by end.found end.cut;
+      grade = grade_by (is_settled (line_closure p)) (is_settled (trial_closure p));
+      line_known = known_in (line_closure p);
+      trial_known = known_in (trial_closure p);
+      spent = end.spent;
+    })
+    ∙ (λ i. record {
+      verdict = verdict_of pick p limit;
+      grade = grade_by (is_settled (line_closure p)) (is_settled (trial_closure p));
+      line_known = known_in (line_closure p);
+      trial_known = known_in (trial_closure p);
+      spent = z i;
+    })
+
+-- where the closures are known, so is the report
+pub report-by : (pick : List Cell → Option ℕ) (p : Nonogram) (limit : ℕ) (closed tried : Option (List Cell)) → closed ≡ line_closure p → tried ≡ trial_closure p
+    → report_by pick p limit closed tried ≡ report_of pick p limit
+report-by pick p limit closed tried c t = (λ i. report_by pick p limit (c i) (t i)) ∙ report-is pick p limit
+
+-- a search whose verdict is final was not cut short
+ending-final : (p : Nonogram) (found : List PartialGrid) (spent left : ℕ) (es : List Event)
+    → IsFinal (verdict_by (ending p found spent left es).found (ending p found spent left es).cut) → (ending p found spent left es).cut ≡ false
+ending-final p (a ∷ b ∷ more) spent left es h = refl
+ending-final p [] spent left [] h = refl
+ending-final p [] spent left (Solution c ∷ es) h = ending-final p (grid_of p c ∷ []) spent left es h
+ending-final p [] spent zero (Guess ∷ es) h = absurd h
+ending-final p [] spent (suc left) (Guess ∷ es) h = ending-final p [] (suc spent) left es h
+ending-final p (a ∷ []) spent left [] h = refl
+ending-final p (a ∷ []) spent left (Solution c ∷ es) h = refl
+ending-final p (a ∷ []) spent zero (Guess ∷ es) h = absurd h
+ending-final p (a ∷ []) spent (suc left) (Guess ∷ es) h = ending-final p (a ∷ []) (suc spent) left es h
+
+-- and a greater limit changes nothing of it
+ending-greater : (p : Nonogram) (found : List PartialGrid) (spent left greater : ℕ) (es : List Event) → left ≤ greater
+    → (ending p found spent left es).cut ≡ false → ending p found spent greater es ≡ ending p found spent left es
+ending-greater p (a ∷ b ∷ more) spent left greater es l h = refl
+ending-greater p [] spent left greater [] l h = refl
+ending-greater p [] spent left greater (Solution c ∷ es) l h = ending-greater p (grid_of p c ∷ []) spent left greater es l h
+ending-greater p [] spent zero greater (Guess ∷ es) l h = absurd (true≢false h)
+ending-greater p [] spent (suc left) zero (Guess ∷ es) l h = absurd (omega arith)
+ending-greater p [] spent (suc left) (suc greater) (Guess ∷ es) l h = ending-greater p [] (suc spent) left greater es (omega arith) h
+ending-greater p (a ∷ []) spent left greater [] l h = refl
+ending-greater p (a ∷ []) spent left greater (Solution c ∷ es) l h = refl
+ending-greater p (a ∷ []) spent zero greater (Guess ∷ es) l h = absurd (true≢false h)
+ending-greater p (a ∷ []) spent (suc left) zero (Guess ∷ es) l h = absurd (omega arith)
+ending-greater p (a ∷ []) spent (suc left) (suc greater) (Guess ∷ es) l h = ending-greater p (a ∷ []) (suc spent) left greater es (omega arith) h
+
+-- where the verdict is final, the report is the same for every greater limit
+pub report-greater : (pick : List Cell → Option ℕ) (p : Nonogram) (limit greater : ℕ) → limit ≤ greater → IsFinal (report_of pick p limit).verdict → report_of pick p greater ≡ report_of pick p limit
+report-greater pick p limit greater l h =
+    let final : IsFinal (report_by pick p limit (line_closure p) (trial_closure p)).verdict = subst (λ (r : Findings). IsFinal r.verdict) (sym (report-is pick p limit)) h in
+    let e = ending-greater p [] 0 limit greater (whole_search pick p) l (ending-final p [] 0 limit (whole_search pick p) final) in
+    sym (report-is pick p greater)
+    ∙ (λ i. let end : Ending = e i in record {
+      verdict = verdict_by end.found end.cut;
+      grade = grade_by (is_settled (line_closure p)) (is_settled (trial_closure p));
+      line_known = known_in (line_closure p);
+      trial_known = known_in (trial_closure p);
+      spent = end.spent;
+    })
+    ∙ report-is pick p limit
+
+-- no cell is unknown exactly where all are known
+pub none_unknown : (cells : List Cell) → is_none (position is_unknown cells) ≡ list_all is_known cells
+none_unknown cells = ap is_none (position_from-zero is_unknown cells) ∙ self 0 cells
+  where
+    self : (i : ℕ) (xs : List Cell) → is_none (position_from is_unknown i xs) ≡ list_all is_known xs
+    self i [] = refl
+    self i (Unknown ∷ xs) = refl
+    self i (Filled ∷ xs) = self (i + 1) xs
+    self i (Blank ∷ xs) = self (i + 1) xs
+
+pub is_none-option_map : {X Y : Type 0} (f : X → Y) (o : Option X) → is_none (option_map f o) ≡ is_none o
+is_none-option_map f None = refl
+is_none-option_map f (Some x) = refl
+
+pub is_none-from : {X : Type 0} (o : Option X) (b : Bool) → is_some o ≡ not b → b ≡ is_none o
+is_none-from None true h = refl
+is_none-from None false h = absurd (true≢false (sym h))
+is_none-from (Some x) true h = absurd (true≢false h)
+is_none-from (Some x) false h = refl
+
+-- a trial-closed grid is line-closed
+pub trials-closed : (lines : List GridLine) (g z : List Cell) → Some z ≡ trials lines g → IsClosed lines z
+trials-closed lines g z e = (after_trials lines z z (tried_cells lines z) ((trials-IsLeastClosed lines g).closed z (sym e))).1
+
+-- the report on a puzzle that neither closure finds dead, by how its search ends
+pub report-alive : (pick : List Cell → Option ℕ) (p q r : Nonogram) (start closed tried : List Cell) (limit : ℕ) (found : List PartialGrid) (cut : Bool) (spent : ℕ) (verdict : Verdict) (grade : Grade) (line_known trial_known : ℕ)
+    → q ≡ p → r ≡ p → start ≡ unknown_grid p
+    → Some closed ≡ closure (lines_of p) start → Some tried ≡ trials (lines_of q) closed
+    → record { found = found; cut = cut; spent = spent } ≡ ending r [] 0 limit (events pick (lines_of r) tried)
+    → verdict ≡ verdict_by found cut → grade ≡ grade_by (list_all is_known closed) (list_all is_known tried)
+    → line_known ≡ count_by is_known closed → trial_known ≡ count_by is_known tried
+    → record { verdict = verdict; grade = grade; line_known = line_known; trial_known = trial_known; spent = spent } ≡ report_of pick p limit
+report-alive pick p q r start closed tried limit found cut spent verdict grade line_known trial_known sq sr s c d e v g l k =
+    let c' : Some closed ≡ line_closure p = c ∙ ap (closure (lines_of p)) s in
+    let d' : Some tried ≡ trial_closure p = d ∙ (λ i. trials (lines_of (sq i)) closed) ∙ ap (option_and_then (trials (lines_of p))) c' in
+    let e' : record { found = found; cut = cut; spent = spent } ≡ end_from pick p limit (Some tried) = e ∙ (λ i. ending (sr i) [] 0 limit (events pick (lines_of (sr i)) tried)) in
+    (λ i. record { verdict = v i; grade = g i; line_known = l i; trial_known = k i; spent = spent })
+    ∙ (λ i. let end : Ending = e' i in record {
+      verdict = verdict_by end.found end.cut;
+      grade = grade_by (list_all is_known closed) (list_all is_known tried);
+      line_known = count_by is_known closed;
+      trial_known = count_by is_known tried;
+      spent = end.spent;
+    })
+    ∙ report-by pick p limit (Some closed) (Some tried) c' d'
+
+-- the report on a puzzle that trials find dead
+pub report-refuted : (pick : List Cell → Option ℕ) (p q : Nonogram) (start closed : List Cell) (limit : ℕ) (grade : Grade) (line_known : ℕ)
+    → q ≡ p → start ≡ unknown_grid p → Some closed ≡ closure (lines_of p) start → None ≡ trials (lines_of q) closed
+    → grade ≡ grade_by (list_all is_known closed) true → line_known ≡ count_by is_known closed
+    → record { verdict = Nothing; grade = grade; line_known = line_known; trial_known = 0; spent = 0 } ≡ report_of pick p limit
+report-refuted pick p q start closed limit grade line_known sq s c d g l =
+    let c' : Some closed ≡ line_closure p = c ∙ ap (closure (lines_of p)) s in
+    let d' : None ≡ trial_closure p = d ∙ (λ i. trials (lines_of (sq i)) closed) ∙ ap (option_and_then (trials (lines_of p))) c' in
+    (λ i. record { verdict = Nothing; grade = g i; line_known = l i; trial_known = 0; spent = 0 })
+    ∙ report-by pick p limit (Some closed) None c' d'
+
+-- the report on a puzzle that lines find dead
+pub report-dead : (pick : List Cell → Option ℕ) (p : Nonogram) (start : List Cell) (limit : ℕ) → start ≡ unknown_grid p → None ≡ closure (lines_of p) start
+    → record { verdict = Nothing; grade = Lines; line_known = 0; trial_known = 0; spent = 0 } ≡ report_of pick p limit
+report-dead pick p start limit s c =
+    let c' : None ≡ line_closure p = c ∙ ap (closure (lines_of p)) s in
+    report-by pick p limit None None c' (ap (option_and_then (trials (lines_of p))) c')

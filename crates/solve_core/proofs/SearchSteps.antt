@@ -1,0 +1,128 @@
+use Rattle.std.proofs.Common.{◌≡◌, ◌≢◌, ℕ, zero, suc, ◌+◌, ◌-◌, ◌<◌, ◌≤◌, List, [], ◌∷◌, ◌++◌, length, get_or, set, refl, sym, ap, ◌∙◌, arith, subst, Option, Some, None, true, false, Bool, cond, position, true≢false, get_or-set_other}
+use Rattle.std.specs.List.{position_from}
+use Rattle.std.proofs.lemmas.List.Quantifiers.{position-Some}
+use Rattle.std.proofs.lemmas.Iterator.Adapters.{position_from-zero}
+use Rattle.grid_core.specs.declared.cells.Cell.{Cell}
+use Rattle.grid_core.specs.declared.cells.Cell.TheVariants.{Unknown, Filled, Blank}
+use Rattle.grid_core.specs.Cells.{is_unknown, is_known, CellExtends, Extends}
+use Rattle.grid_core.specs.PartialGrid.{PartialGrid}
+use Rattle.grid_core.specs.Nonogram.{Nonogram, GridLine, lines_of}
+use Rattle.solve_core.specs.declared.branches.Branch.{Branch}
+use Rattle.solve_core.specs.Closure.{round, closure}
+use Rattle.solve_core.specs.Search.{Event, Guess, Solution, IsPick, guess_at, search_from, events, first_unknown}
+use Rattle.solve_core.specs.Report.{grid_of}
+use Rattle.solve_core.specs.FoundGrids.{FoundGrids, AreOfSize}
+use Rattle.solve_core.specs.Endings.{Ending, ending}
+use Rattle.solve_core.specs.Trails.{SettledPlaces, unknown_count, HasRoomFor}
+use Rattle.solve_core.specs.Branches.{AreKnownBefore, IsClosed, IsNext, IsOpen, IsWork, AreOlder, pending, open_events}
+use Rattle.line_core.proofs.DeductionLaws.{Extends-at}
+use Rattle.solve_core.proofs.Closing.{repeat-fixed}
+use Rattle.solve_core.proofs.ClosureLaws.{closure-IsLeastClosed}
+use Rattle.solve_core.proofs.SearchLaws.{events-unfold, unknown_is, unknown_count-more}
+use Rattle.solve_core.proofs.TrailSteps.{count-settled}
+use Rattle.solve_core.proofs.EndingLaws.{append-nil-right, append-assoc-right, ending-found, ending-next}
+use Rattle.solve_core.proofs.BranchLaws.{branch-count}
+
+-- a cell to guess is guessed in both colours
+pub open-guess : (pick : List Cell → Option ℕ) (lines : List GridLine) (cells : List Cell) (k : ℕ) (rest : List Event)
+    → open_events pick lines cells (Some k) rest ≡ guess_at (events pick lines) cells (Some k) ++ rest
+open-guess pick lines cells k rest =
+    ap (λ es. Guess ∷ es) (sym (append-assoc-right (events pick lines (set cells k Filled)) (Guess ∷ events pick lines (set cells k Blank)) rest))
+
+-- a solution is kept in a grid of the puzzle's size
+pub found-grid : (p : Nonogram) (found : FoundGrids) (cells : List Cell) (spent left : ℕ) (rest : List Event) → AreOfSize p found → length found.grids < 2
+    → ending p (found.grids ++ (record { width = found.width; height = found.height; cells = cells } ∷ [])) spent left rest ≡ ending p found.grids spent left (Solution cells ∷ rest)
+found-grid p found cells spent left rest size room =
+    (λ i. ending p (found.grids ++ (record { width = size.0 i; height = size.1 i; cells = cells } ∷ [])) spent left rest)
+    ∙ ending-found p found.grids cells spent left rest room
+
+-- nothing happens below a guess that closing refutes
+pub dead-events : (pick : List Cell → Option ℕ) (lawful : IsPick pick) (lines : List GridLine) (g : List Cell) (rest : List Event)
+    → None ≡ closure lines g → rest ≡ events pick lines g ++ rest
+dead-events pick lawful lines g rest closed =
+    ap (λ es. es ++ rest) (ap (search_from pick (events pick lines)) closed ∙ sym (events-unfold pick lawful lines g))
+
+-- and below another one the search goes on in the closed cells
+pub alive-events : (pick : List Cell → Option ℕ) (lawful : IsPick pick) (lines : List GridLine) (g now : List Cell) (rest : List Event)
+    → Some now ≡ closure lines g → guess_at (events pick lines) now (pick now) ++ rest ≡ events pick lines g ++ rest
+alive-events pick lawful lines g now rest closed =
+    ap (λ es. es ++ rest) (ap (search_from pick (events pick lines)) closed ∙ sym (events-unfold pick lawful lines g))
+
+-- closed cells are their own closure
+pub closed-closure : (lines : List GridLine) (cells : List Cell) → IsClosed lines cells → closure lines cells ≡ Some cells
+closed-closure lines cells h = repeat-fixed (round lines) (length cells + 1) cells h
+
+pub closure-closed : (lines : List GridLine) (g now : List Cell) → Some now ≡ closure lines g → IsClosed lines now
+closure-closed lines g now e = (closure-IsLeastClosed lines g).closed now (sym e)
+
+-- the cell of the next guess is unknown
+pub next-unknown : (pick : List Cell → Option ℕ) (lawful : IsPick pick) (lines : List GridLine) (cells : List Cell) (k : ℕ) → IsNext pick lines cells k
+    → (k < length cells) × (get_or cells k Unknown ≡ Unknown)
+next-unknown pick lawful lines cells k h = let at = lawful.within cells k h.0 in (at.0, unknown_is (get_or cells k Unknown) at.1)
+
+-- so there is one
+pub unknown_count-positive : (cells : List Cell) (k : ℕ) → k < length cells → get_or cells k Unknown ≡ Unknown → 0 < unknown_count cells
+unknown_count-positive [] k l e = absurd (omega arith)
+unknown_count-positive (Unknown ∷ cells) k l e = omega arith
+unknown_count-positive (Filled ∷ cells) zero l e = cc
+unknown_count-positive (Filled ∷ cells) (suc k) l e = unknown_count-positive cells k (omega arith) e
+unknown_count-positive (Blank ∷ cells) zero l e = cc
+unknown_count-positive (Blank ∷ cells) (suc k) l e = unknown_count-positive cells k (omega arith) e
+
+-- where a cell is to be guessed, there is room for its branch
+pub room-open : (pick : List Cell → Option ℕ) (lawful : IsPick pick) (lines : List GridLine) (cells : List Cell) (trail : SettledPlaces) (branches : List Branch) (next : Option ℕ) (count room : ℕ)
+    → IsWork pick lines cells trail.places branches → AreOlder trail.places branches next → IsOpen pick lines cells next → HasRoomFor cells trail → trail.room ≤ room → count ≡ length branches
+    → next ≢ None → count < room
+room-open pick lawful lines cells trail branches None count room w o h k l e n = absurd (n refl)
+room-open pick lawful lines cells trail branches (Some place) count room w o h k l e n =
+    let at = next-unknown pick lawful lines cells place h in
+    omega (arith, branch-count (length trail.places) branches w.order o, unknown_count-positive cells place at.0 at.1, k)
+
+pub older-none : (trail : List ℕ) (branches : List Branch) (next : Option ℕ) → branches ≡ [] → AreOlder trail branches next
+older-none trail branches None e = tt
+older-none trail branches (Some k) e = subst (λ (bs : List Branch). AreOlder trail bs (Some k)) (sym e) tt
+
+-- closing with one more cell settled leaves fewer unknown
+pub alive-fewer : (lines : List GridLine) (cells now : List Cell) (k : ℕ) (c : Cell) → k < length cells → get_or cells k Unknown ≡ Unknown → is_known c ≡ true
+    → Some now ≡ closure lines (set cells k c) → unknown_count now < unknown_count cells
+alive-fewer lines cells now k c l e known closed =
+    let above : Extends (set cells k c) now = rw (sym closed) at ((closure-IsLeastClosed lines (set cells k c)).above) in
+    omega (arith, count-settled cells k c l e known, unknown_count-more (set cells k c) now above)
+
+-- the first place that passes
+pub position-at : (p : Cell → Bool) (xs : List Cell) (k : ℕ) → k < length xs → p (get_or xs k Unknown) ≡ true → ((j : ℕ) → j < k → p (get_or xs j Unknown) ≡ false) → position p xs ≡ Some k
+position-at p xs k l t f = let e : 0 + k ≡ k = omega arith in position_from-zero p xs ∙ from 0 xs k l t f ∙ ap (λ m. Some m) e
+  where
+    from : (i : ℕ) (ys : List Cell) (n : ℕ) → n < length ys → p (get_or ys n Unknown) ≡ true → ((j : ℕ) → j < n → p (get_or ys j Unknown) ≡ false) → position_from p i ys ≡ Some (i + n)
+    from i [] n l' t' f' = absurd (omega arith)
+    from i (y ∷ ys) zero l' t' f' = let e : i ≡ i + 0 = omega arith in ap (λ b. cond b (Some i) (position_from p (i + 1) ys)) t' ∙ ap (λ n. Some n) e
+    from i (y ∷ ys) (suc n) l' t' f' =
+        let e : i + 1 + n ≡ i + suc n = omega arith in
+        ap (λ b. cond b (Some i) (position_from p (i + 1) ys)) (f' 0 (omega arith))
+        ∙ from (i + 1) ys n (omega arith) t' (λ j h. f' (suc j) (omega arith))
+        ∙ ap (λ m. Some m) e
+
+pub position-none : (p : Cell → Bool) (xs : List Cell) → ((j : ℕ) → j < length xs → p (get_or xs j Unknown) ≡ false) → position p xs ≡ None
+position-none p xs f = position_from-zero p xs ∙ from 0 xs f
+  where
+    from : (i : ℕ) (ys : List Cell) → ((j : ℕ) → j < length ys → p (get_or ys j Unknown) ≡ false) → position_from p i ys ≡ None
+    from i [] f' = refl
+    from i (y ∷ ys) f' = ap (λ b. cond b (Some i) (position_from p (i + 1) ys)) (f' 0 (omega arith)) ∙ from (i + 1) ys (λ j h. f' (suc j) (omega arith))
+
+known_stays : (c d : Cell) → is_unknown c ≡ false → CellExtends c d → is_unknown d ≡ false
+known_stays Unknown d h e = absurd (true≢false h)
+known_stays Filled Unknown h e = absurd e
+known_stays Filled Filled h e = refl
+known_stays Filled Blank h e = refl
+known_stays Blank Unknown h e = absurd e
+known_stays Blank Filled h e = refl
+known_stays Blank Blank h e = refl
+
+-- what stands before the first unknown cell stays known when that cell is guessed
+pub known-before : (lines : List GridLine) (cells now : List Cell) (place : ℕ) (c : Cell) → first_unknown cells ≡ Some place → Some now ≡ closure lines (set cells place c)
+    → AreKnownBefore place now
+known-before lines cells now place c first closed k l =
+    let above : Extends (set cells place c) now = rw (sym closed) at ((closure-IsLeastClosed lines (set cells place c)).above) in
+    let other : k ≢ place = omega arith in
+    let before : is_unknown (get_or (set cells place c) k Unknown) ≡ false = rw get_or-set_other ((position-Some is_unknown cells place Unknown first).2 k l) in
+    known_stays (get_or (set cells place c) k Unknown) (get_or now k Unknown) before (Extends-at (set cells place c) now k above)

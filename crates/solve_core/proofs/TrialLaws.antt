@@ -1,0 +1,220 @@
+use Rattle.std.proofs.Common.{◌≡◌, ℕ, zero, suc, ◌+◌, ◌<◌, ◌≤◌, Bool, true, false, not, List, [], ◌∷◌, length, get_or, set, map, Option, Some, None, is_none, option_and_then, refl, sym, ap, ◌∙◌, arith, slice_set, slice_index_or, true≢false, add-zero, zero-add, subst}
+use Rattle.std.specs.List.{AllZip, AllByRecursion, range_with_len}
+use Rattle.std.proofs.Math.ListN.{length-map}
+use Rattle.grid_core.specs.declared.cells.Cell.{Cell}
+use Rattle.grid_core.specs.declared.cells.Cell.TheVariants.{Unknown, Filled, Blank}
+use Rattle.grid_core.specs.Cells.{CellExtends, Extends, colour}
+use Rattle.grid_core.specs.Nonogram.{GridLine}
+use Rattle.solve_core.specs.Closure.{option_cons, round, repeat, closure}
+use Rattle.solve_core.specs.Trials.{is_refuted, left_over, tried, all_present, trial_round, trials}
+use Rattle.solve_core.proofs.Order.{AtMost, AtMost-refl, AtMost-trans, Extends-refl, Extends-trans, length-Extends}
+use Rattle.solve_core.proofs.Closing.{IsDeduction, repeat-fixed, repeat-below, and_then-above, and_then-below}
+use Rattle.line_core.proofs.DeductionLaws.{Extends-at, get_or-map_colour}
+use Rattle.solve_core.proofs.ClosureLaws.{IsLeastClosed, closure-IsLeastClosed, repeat-IsLeastClosed, MeetsLines, round-solution, same_at_most, set-monotone}
+
+-- what trials say of each cell of a grid
+abbrev pub tried_cells : List GridLine → List Cell → Option (List Cell)
+tried_cells lines grid =
+    all_present (map (λ k. tried lines grid k (slice_index_or grid k Unknown)) (range_with_len 0 (length grid)))
+
+-- an option of a cell below a cell
+abbrev pub OptionBelow : Option Cell → Cell → Type 0
+OptionBelow None c = ⊥
+OptionBelow (Some d) c = CellExtends d c
+
+abbrev OptionAbove : Cell → Option Cell → Type 0
+OptionAbove c None = Unit {0}
+OptionAbove c (Some d) = CellExtends c d
+
+tried-above : (lines : List GridLine) (grid : List Cell) (k : ℕ) (c : Cell) → OptionAbove c (tried lines grid k c)
+tried-above lines grid k Unknown =
+    elim (left_over (is_refuted lines grid k Filled) (is_refuted lines grid k Blank)) as (λ o. OptionAbove Unknown o) [ None ↦ tt | Some d ↦ tt ]
+tried-above lines grid k Filled = tt
+tried-above lines grid k Blank = tt
+
+cons_above : (c : Cell) (g : List Cell) (o : Option Cell) (os : Option (List Cell)) → OptionAbove c o → AtMost (Some g) os → AtMost (Some (c ∷ g)) (option_cons o os)
+cons_above c g None os h k = tt
+cons_above c g (Some d) None h k = tt
+cons_above c g (Some d) (Some new) h k = (h, k)
+
+-- the cells of a list whose first place is n
+all_above : (f : ℕ → Option Cell) (n : ℕ) (g : List Cell) → ((k : ℕ) → k < length g → OptionAbove (get_or g k Unknown) (f (n + k))) → AtMost (Some g) (all_present (map f (range_with_len n (length g))))
+all_above f n [] h = tt
+all_above f n (c ∷ g) h =
+    cons_above c g (f n) (all_present (map f (range_with_len (n + 1) (length g)))) (rw add-zero at (h 0 (omega arith)))
+    (all_above f (n + 1) g (λ k l. let e : n + suc k ≡ n + 1 + k = omega arith in rw e at (h (suc k) (omega arith))))
+
+pub tried_cells-above : (lines : List GridLine) (g : List Cell) → AtMost (Some g) (tried_cells lines g)
+tried_cells-above lines g =
+    all_above (λ k. tried lines g k (get_or g k Unknown)) 0 g (λ k l. rw (zero-add k) (tried-above lines g k (get_or g k Unknown)))
+
+pub trial_round-above : (lines : List GridLine) (g : List Cell) → AtMost (Some g) (trial_round lines g)
+trial_round-above lines g =
+    and_then-above (closure lines) (λ z. (closure-IsLeastClosed lines z).above) g (tried_cells lines g) (tried_cells-above lines g)
+
+cons_below : (o : Option Cell) (os : Option (List Cell)) (c : Cell) (w : List Cell) → OptionBelow o c → AtMost os (Some w) → AtMost (option_cons o os) (Some (c ∷ w))
+cons_below None os c w h k = absurd h
+cons_below (Some d) None c w h k = absurd k
+cons_below (Some d) (Some g) c w h k = (h, k)
+
+pub all_below : (f : ℕ → Option Cell) (n : ℕ) (w : List Cell) → ((k : ℕ) → k < length w → OptionBelow (f (n + k)) (get_or w k Unknown)) → AtMost (all_present (map f (range_with_len n (length w)))) (Some w)
+all_below f n [] h = tt
+all_below f n (c ∷ w) h =
+    cons_below (f n) (all_present (map f (range_with_len (n + 1) (length w)))) c w (rw add-zero at (h 0 (omega arith)))
+    (all_below f (n + 1) w (λ k l. let e : n + suc k ≡ n + 1 + k = omega arith in rw e at (h (suc k) (omega arith))))
+
+cons_parts : (o : Option Cell) (os : Option (List Cell)) (c : Cell) (w : List Cell) → AtMost (option_cons o os) (Some (c ∷ w)) → OptionBelow o c × AtMost os (Some w)
+cons_parts None os c w h = absurd h
+cons_parts (Some d) None c w h = absurd h
+cons_parts (Some d) (Some g) c w h = h
+
+-- and back: what is below as a whole is below at each place
+pub each_below : (f : ℕ → Option Cell) (n : ℕ) (w : List Cell) → AtMost (all_present (map f (range_with_len n (length w)))) (Some w) → (k : ℕ) → k < length w → OptionBelow (f (n + k)) (get_or w k Unknown)
+each_below f n [] h k l = absurd (omega arith)
+each_below f n (c ∷ w) h zero l = rw add-zero (cons_parts (f n) (all_present (map f (range_with_len (n + 1) (length w)))) c w h).0
+each_below f n (c ∷ w) h (suc k) l =
+    let e : n + suc k ≡ n + 1 + k = omega arith in
+    rw e (each_below f (n + 1) w (cons_parts (f n) (all_present (map f (range_with_len (n + 1) (length w)))) c w h).1 k (omega arith))
+
+-- a colour that is refuted in a grid is not that of a line-closed grid that knows more
+refuted_not_there : (lines : List GridLine) (g w : List Cell) (k : ℕ) (c : Cell) → round lines w ≡ Some w → Extends g w → is_refuted lines g k c ≡ true → CellExtends c (get_or w k Unknown) → k < length w → ⊥
+refuted_not_there lines g w k c closed h refuted there l =
+    let with_it : Extends (set g k c) w = set_within g w k c h there in
+    none_above (closure lines (set g k c)) w refuted ((closure-IsLeastClosed lines (set g k c)).least w closed with_it)
+  where
+    none_above : (o : Option (List Cell)) (w' : List Cell) → is_none o ≡ true → AtMost o (Some w') → ⊥
+    none_above None w' e m = m
+    none_above (Some g') w' e m = true≢false (sym e)
+
+    set_within : (a b : List Cell) (i : ℕ) (d : Cell) → Extends a b → CellExtends d (get_or b i Unknown) → Extends (set a i d) b
+    set_within [] [] i d e f = tt
+    set_within [] (y ∷ b) i d e f = absurd e
+    set_within (x ∷ a) [] i d e f = absurd e
+    set_within (x ∷ a) (y ∷ b) zero d e f = (f, e.1)
+    set_within (x ∷ a) (y ∷ b) (suc i) d e f = (e.0, set_within a b i d e.1 f)
+
+-- a grid that knows more has a closure that knows no less
+pub closure-monotone : (lines : List GridLine) (g z : List Cell) → Extends g z → AtMost (closure lines g) (closure lines z)
+closure-monotone lines g z h = to (closure lines z) (closure-IsLeastClosed lines z)
+  where
+    to : (o : Option (List Cell)) → IsLeastClosed (round lines) z o → AtMost (closure lines g) o
+    to None l = tt
+    to (Some w) l = (closure-IsLeastClosed lines g).least w (l.closed w refl) (Extends-trans g z w h l.above)
+
+none_if : (o p : Option (List Cell)) → AtMost o p → is_none o ≡ true → is_none p ≡ true
+none_if o None h e = refl
+none_if None (Some w) h e = absurd h
+none_if (Some g) (Some w) h e = e
+
+pub is_refuted-monotone : (lines : List GridLine) (g z : List Cell) (k : ℕ) (c : Cell) → CellExtends c c → Extends g z → is_refuted lines g k c ≡ true → is_refuted lines z k c ≡ true
+is_refuted-monotone lines g z k c s h e =
+    none_if (closure lines (set g k c)) (closure lines (set z k c)) (closure-monotone lines (set g k c) (set z k c) (set-monotone g z k c c h s)) e
+
+blank_if : (w : Cell) → CellExtends Blank w → w ≡ Blank
+blank_if Unknown h = absurd h
+blank_if Filled h = absurd h
+blank_if Blank h = refl
+
+filled_if : (w : Cell) → CellExtends Filled w → w ≡ Filled
+filled_if Unknown h = absurd h
+filled_if Filled h = refl
+filled_if Blank h = absurd h
+
+-- where filled is refuted, the settled cell is blank
+left_blank : (lines : List GridLine) (z : List Cell) (k : ℕ) (c w : Cell) → CellExtends c w → OptionBelow (tried lines z k c) w → is_refuted lines z k Filled ≡ true → (CellExtends Filled w → ⊥) → w ≡ Blank
+left_blank lines z k Unknown w h b r n = blank_if w (by (is_refuted lines z k Blank) (rw r at b))
+  where
+    by : (s : Bool) → OptionBelow (left_over true s) w → CellExtends Blank w
+    by true e = absurd e
+    by false e = e
+left_blank lines z k Filled w h b r n = absurd (n h)
+left_blank lines z k Blank w h b r n = blank_if w h
+
+left_filled : (lines : List GridLine) (z : List Cell) (k : ℕ) (c w : Cell) → CellExtends c w → OptionBelow (tried lines z k c) w → is_refuted lines z k Blank ≡ true → (CellExtends Blank w → ⊥) → w ≡ Filled
+left_filled lines z k Unknown w h b r n = filled_if w (by (is_refuted lines z k Filled) (rw r at b))
+  where
+    by : (s : Bool) → OptionBelow (left_over s true) w → CellExtends Filled w
+    by true e = absurd e
+    by false e = e
+left_filled lines z k Filled w h b r n = filled_if w h
+left_filled lines z k Blank w h b r n = absurd (n h)
+
+left_over-below : (filled blank : Bool) (w : Cell) → (filled ≡ true → w ≡ Blank) → (blank ≡ true → w ≡ Filled) → OptionBelow (left_over filled blank) w
+left_over-below true true w f b = let e : Blank ≡ Filled = sym (f refl) ∙ b refl in cc
+left_over-below true false w f b = subst (CellExtends Blank) (sym (f refl)) tt
+left_over-below false true w f b = subst (CellExtends Filled) (sym (b refl)) tt
+left_over-below false false w f b = tt
+
+-- what trials settle in a grid is so in the closed result of trials on a grid that knows more
+pub tried-below : (lines : List GridLine) (g z w : List Cell) (k : ℕ) (c : Cell) → Extends g z → Extends z w → round lines w ≡ Some w → k < length w
+    → CellExtends c (get_or w k Unknown) → OptionBelow (tried lines z k (get_or z k Unknown)) (get_or w k Unknown) → OptionBelow (tried lines g k c) (get_or w k Unknown)
+tried-below lines g z w k Unknown gz zw closed l h b =
+    let at : CellExtends (get_or z k Unknown) (get_or w k Unknown) = Extends-at z w k zw in
+    left_over-below (is_refuted lines g k Filled) (is_refuted lines g k Blank) (get_or w k Unknown)
+    (λ r. left_blank lines z k (get_or z k Unknown) (get_or w k Unknown) at b (is_refuted-monotone lines g z k Filled tt gz r)
+    (λ e. refuted_not_there lines g w k Filled closed (Extends-trans g z w gz zw) r e l))
+    (λ r. left_filled lines z k (get_or z k Unknown) (get_or w k Unknown) at b (is_refuted-monotone lines g z k Blank tt gz r)
+    (λ e. refuted_not_there lines g w k Blank closed (Extends-trans g z w gz zw) r e l))
+tried-below lines g z w k Filled gz zw closed l h b = h
+tried-below lines g z w k Blank gz zw closed l h b = h
+
+-- the cells that trials settle, below a closed grid
+tried_cells-below : (lines : List GridLine) (g z w : List Cell) → Extends g z → Extends z w → round lines w ≡ Some w → AtMost (tried_cells lines z) (Some w) → AtMost (tried_cells lines g) (Some w)
+tried_cells-below lines g z w gz zw closed below =
+    let lz : length z ≡ length w = length-Extends z w zw in
+    let lg : length g ≡ length w = length-Extends g z gz ∙ lz in
+    let at_z = λ (k : ℕ). tried lines z k (get_or z k Unknown) in
+    let at_g = λ (k : ℕ). tried lines g k (get_or g k Unknown) in
+    let each : AtMost (all_present (map at_z (range_with_len 0 (length w)))) (Some w) = rw lz at below in
+    rw lg
+    (all_below at_g 0 w (λ k l.
+    rw (zero-add k)
+    (tried-below lines g z w k (get_or g k Unknown) gz zw closed l (Extends-at g w k (Extends-trans g z w gz zw))
+    (rw (zero-add k) at (each_below at_z 0 w each k l)))))
+
+pub after_trials : (lines : List GridLine) (z w : List Cell) (o : Option (List Cell)) → option_and_then (closure lines) o ≡ Some w → AtMost o (Some w) × (round lines w ≡ Some w)
+after_trials lines z w None e = cc
+after_trials lines z w (Some t) e =
+    let law = closure-IsLeastClosed lines t in
+    ((rw e at law.above), law.closed w e)
+
+trial_round-to : (lines : List GridLine) (g z : List Cell) → Extends g z → (o : Option (List Cell)) → trial_round lines z ≡ o → AtMost (trial_round lines g) o
+trial_round-to lines g z h None e = tt
+trial_round-to lines g z h (Some w) e =
+    let after = after_trials lines z w (tried_cells lines z) e in
+    let zw : Extends z w = rw e at (trial_round-above lines z) in
+    and_then-below (closure lines) w (λ t k. (closure-IsLeastClosed lines t).least w after.1 k) (tried_cells lines g)
+    (tried_cells-below lines g z w h zw after.1 after.0)
+
+pub trial_round-deduction : (lines : List GridLine) → IsDeduction (trial_round lines)
+trial_round-deduction lines = record {
+  above = trial_round-above lines;
+  monotone = λ g z h. trial_round-to lines g z h (trial_round lines z) refl;
+}
+
+-- the grid after trials is the least trial-closed grid that knows what the grid knows
+pub trials-IsLeastClosed : (lines : List GridLine) (g : List Cell) → IsLeastClosed (trial_round lines) g (trials lines g)
+trials-IsLeastClosed lines g = repeat-IsLeastClosed (trial_round lines) (trial_round-deduction lines) g
+
+known_below : (lines : List GridLine) (z : List Cell) (k : ℕ) (b : Bool) (c : Cell) → c ≡ colour b → OptionBelow (tried lines z k c) c
+known_below lines z k b Unknown e = no_colour b e
+  where
+    no_colour : (d : Bool) → Unknown ≡ colour d → OptionBelow (tried lines z k Unknown) Unknown
+    no_colour true e' = cc
+    no_colour false e' = cc
+known_below lines z k b Filled e = tt
+known_below lines z k b Blank e = tt
+
+-- a solution is trial-closed
+pub trial_round-solution : (lines : List GridLine) (full : List Bool) → MeetsLines lines full → trial_round lines (map colour full) ≡ Some (map colour full)
+trial_round-solution lines full m =
+    let z = map colour full in
+    let at = λ (k : ℕ). tried lines z k (get_or z k Unknown) in
+    let settled : tried_cells lines z ≡ Some z =
+    same_at_most z (tried_cells lines z) (tried_cells-above lines z)
+    (all_below at 0 z (λ k l. rw (zero-add k) (known_below lines z k (get_or full k false) (get_or z k Unknown) (get_or-map_colour full k (omega (arith, length-map full colour)))))) in
+    rw settled (repeat-fixed (round lines) (length z + 1) z (round-solution lines full m))
+
+-- every solution that extends a grid extends it after trials, which so isn't dead
+pub trials-below : (lines : List GridLine) (full : List Bool) → MeetsLines lines full → (g : List Cell) → Extends g (map colour full) → AtMost (trials lines g) (Some (map colour full))
+trials-below lines full m g h = (trials-IsLeastClosed lines g).least (map colour full) (trial_round-solution lines full m) h

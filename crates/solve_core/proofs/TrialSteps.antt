@@ -1,0 +1,199 @@
+use Rattle.std.proofs.Common.{◌≡◌, ◌≢◌, ℕ, zero, suc, ◌+◌, ◌<◌, ◌≤◌, ◌⊎◌, inl, inr, Bool, true, false, not, List, [], ◌∷◌, length, get_or, set, map, Option, Some, None, is_none, refl, sym, ap, ◌∙◌, arith, subst, zero-add, length-set, true≢false}
+use Rattle.std.proofs.lemmas.List.{set-get_or}
+use Rattle.std.specs.List.{range_with_len}
+use Rattle.grid_core.specs.declared.cells.Cell.{Cell}
+use Rattle.grid_core.specs.declared.cells.Cell.TheVariants.{Unknown, Filled, Blank}
+use Rattle.grid_core.specs.Cells.{CellExtends, Extends, is_known}
+use Rattle.grid_core.specs.Nonogram.{GridLine}
+use Rattle.solve_core.specs.declared.trials.Trial.{Trial}
+use Rattle.solve_core.specs.declared.trials.Trial.TheVariants.{Refuted, Open, Closed}
+use Rattle.solve_core.specs.declared.closures.Progress.{Progress}
+use Rattle.solve_core.specs.declared.closures.Progress.TheVariants.{Dead, Same, Changed}
+use Rattle.solve_core.specs.Closure.{round, repeat, closure}
+use Rattle.solve_core.specs.Trials.{is_refuted, left_over, tried, trial_round, trials, IsTried}
+use Rattle.solve_core.specs.Marks.{Progresses, outcome, AreOpen, AddsMarks, IsTrialOf}
+use Rattle.solve_core.specs.Trails.{unknown_count}
+use Rattle.solve_core.proofs.Order.{AtMost, AtMost-trans, Extends-refl, Extends-trans, length-Extends}
+use Rattle.solve_core.proofs.Closing.{repeat-fixed, fewer_unknown}
+use Rattle.line_core.proofs.DeductionLaws.{Extends-at}
+use Rattle.solve_core.proofs.ClosureLaws.{IsLeastClosed, closure-IsLeastClosed, same_at_most, set-monotone}
+use Rattle.solve_core.proofs.TrialLaws.{OptionBelow, tried_cells, tried_cells-above, all_below, each_below, tried-below, after_trials, trials-IsLeastClosed}
+use Rattle.solve_core.proofs.LineSteps.{least_between}
+
+-- from a grid between one and its trials the trials end alike
+pub trials_between : (lines : List GridLine) (g z : List Cell) → Extends g z → AtMost (Some z) (trials lines g) → trials lines z ≡ trials lines g
+trials_between lines g z h below = least_between (trial_round lines) g z (trials lines g) (trials lines z) (trials-IsLeastClosed lines g) (trials-IsLeastClosed lines z) h below
+
+-- a trial-closed grid is line-closed
+pub trial_closed-round : (lines : List GridLine) (z : List Cell) → trial_round lines z ≡ Some z → round lines z ≡ Some z
+trial_closed-round lines z e = (after_trials lines z z (tried_cells lines z) e).1
+
+pub closure_below : (lines : List GridLine) (g : List Cell) → AtMost (closure lines g) (trials lines g)
+closure_below lines g = to (trials lines g) (trials-IsLeastClosed lines g)
+  where
+    to : (o : Option (List Cell)) → IsLeastClosed (trial_round lines) g o → AtMost (closure lines g) o
+    to None l = tt
+    to (Some w) l = (closure-IsLeastClosed lines g).least w (trial_closed-round lines w (l.closed w refl)) l.above
+
+pub closure_trials : (lines : List GridLine) (g new : List Cell) → closure lines g ≡ Some new → trials lines new ≡ trials lines g
+closure_trials lines g new e = trials_between lines g new (rw e at ((closure-IsLeastClosed lines g).above)) (rw e at (closure_below lines g))
+
+none_only : (o : Option (List Cell)) → AtMost None o → o ≡ None
+none_only None h = refl
+none_only (Some z) h = absurd h
+
+pub closure_dead : (lines : List GridLine) (g : List Cell) → closure lines g ≡ None → trials lines g ≡ None
+closure_dead lines g e = none_only (trials lines g) (rw e at (closure_below lines g))
+
+set_within : (a b : List Cell) (i : ℕ) (d : Cell) → Extends a b → CellExtends d (get_or b i Unknown) → Extends (set a i d) b
+set_within [] [] i d e f = tt
+set_within [] (y ∷ b) i d e f = absurd e
+set_within (x ∷ a) [] i d e f = absurd e
+set_within (x ∷ a) (y ∷ b) zero d e f = (f, e.1)
+set_within (x ∷ a) (y ∷ b) (suc i) d e f = (e.0, set_within a b i d e.1 f)
+
+pub set-extends : (g : List Cell) (k : ℕ) (c : Cell) → get_or g k Unknown ≡ Unknown → Extends g (set g k c)
+set-extends [] k c e = tt
+set-extends (x ∷ g) zero c e = (subst (λ (q : Cell). CellExtends q c) (sym e) tt, Extends-refl g)
+set-extends (x ∷ g) (suc k) c e = (Extends-at (x ∷ []) (x ∷ []) 0 (Extends-refl (x ∷ [])), set-extends g k c e)
+
+left_blank_below : (b : Bool) (w : Cell) → OptionBelow (left_over true b) w → CellExtends Blank w
+left_blank_below true w h = absurd h
+left_blank_below false w h = h
+
+left_filled_below : (b : Bool) (w : Cell) → OptionBelow (left_over b true) w → CellExtends Filled w
+left_filled_below true w h = absurd h
+left_filled_below false w h = h
+
+-- what trials say of one cell is below where they all end
+tried_at_end : (lines : List GridLine) (g w : List Cell) (k : ℕ) → trial_round lines w ≡ Some w → Extends g w → k < length w → OptionBelow (tried lines g k Unknown) (get_or w k Unknown)
+tried_at_end lines g w k closed gw l =
+    let after = after_trials lines w w (tried_cells lines w) closed in
+    let at = λ (j : ℕ). tried lines w j (get_or w j Unknown) in
+    let here : OptionBelow (tried lines w k (get_or w k Unknown)) (get_or w k Unknown) = rw (zero-add k) at (each_below at 0 w after.0 k l) in
+    tried-below lines g w w k Unknown gw (Extends-refl w) after.1 l tt here
+
+-- where filled is refuted, the grid with the cell blank is below the trials' end
+pub blank_below : (lines : List GridLine) (g : List Cell) (k : ℕ) → k < length g → is_refuted lines g k Filled ≡ true → AtMost (Some (set g k Blank)) (trials lines g)
+blank_below lines g k l r = to (trials lines g) (trials-IsLeastClosed lines g)
+  where
+    to : (o : Option (List Cell)) → IsLeastClosed (trial_round lines) g o → AtMost (Some (set g k Blank)) o
+    to None law = tt
+    to (Some w) law =
+        let within : k < length w = omega (arith, length-Extends g w law.above) in
+        let here : OptionBelow (left_over (is_refuted lines g k Filled) (is_refuted lines g k Blank)) (get_or w k Unknown) = tried_at_end lines g w k (law.closed w refl) law.above within in
+        set_within g w k Blank law.above (left_blank_below (is_refuted lines g k Blank) (get_or w k Unknown) (rw r at here))
+
+pub filled_below : (lines : List GridLine) (g : List Cell) (k : ℕ) → k < length g → is_refuted lines g k Blank ≡ true → AtMost (Some (set g k Filled)) (trials lines g)
+filled_below lines g k l r = to (trials lines g) (trials-IsLeastClosed lines g)
+  where
+    to : (o : Option (List Cell)) → IsLeastClosed (trial_round lines) g o → AtMost (Some (set g k Filled)) o
+    to None law = tt
+    to (Some w) law =
+        let within : k < length w = omega (arith, length-Extends g w law.above) in
+        let here : OptionBelow (left_over (is_refuted lines g k Filled) (is_refuted lines g k Blank)) (get_or w k Unknown) = tried_at_end lines g w k (law.closed w refl) law.above within in
+        set_within g w k Filled law.above (left_filled_below (is_refuted lines g k Filled) (get_or w k Unknown) (rw r at here))
+
+tried_stays : (lines : List GridLine) (z : List Cell) (k : ℕ) (c : Cell) → (c ≡ Unknown → (is_refuted lines z k Filled ≡ false) × (is_refuted lines z k Blank ≡ false)) → OptionBelow (tried lines z k c) c
+tried_stays lines z k Unknown h =
+    let both = h refl in
+    rw (both.0, both.1) tt
+tried_stays lines z k Filled h = tt
+tried_stays lines z k Blank h = tt
+
+-- a line-closed grid where no unknown cell has a refuted colour is trial-closed
+pub tried-closed : (lines : List GridLine) (z : List Cell) → round lines z ≡ Some z → ((k : ℕ) → k < length z → IsTried lines z k) → trial_round lines z ≡ Some z
+tried-closed lines z e h =
+    let at = λ (k : ℕ). tried lines z k (get_or z k Unknown) in
+    let settled : tried_cells lines z ≡ Some z =
+    same_at_most z (tried_cells lines z) (tried_cells-above lines z) (all_below at 0 z (λ k l. rw (zero-add k) (tried_stays lines z k (get_or z k Unknown) (h k l)))) in
+    rw settled (repeat-fixed (round lines) (length z + 1) z e)
+
+both_open : (a b : Bool) → OptionBelow (left_over a b) Unknown → (a ≡ false) × (b ≡ false)
+both_open true true h = absurd h
+both_open true false h = absurd h
+both_open false true h = absurd h
+both_open false false h = (refl, refl)
+
+-- and back
+pub closed-tried : (lines : List GridLine) (z : List Cell) → trial_round lines z ≡ Some z → (k : ℕ) → k < length z → IsTried lines z k
+closed-tried lines z e k l unknown =
+    let here = tried_at_end lines z z k e (Extends-refl z) l in
+    both_open (is_refuted lines z k Filled) (is_refuted lines z k Blank) (rw unknown at here)
+
+-- where every unknown cell was tried the trials end
+pub tried_ends : (lines : List GridLine) (z : List Cell) → round lines z ≡ Some z → ((k : ℕ) → k < length z → IsTried lines z k) → trials lines z ≡ Some z
+tried_ends lines z e h = repeat-fixed (trial_round lines) (length z + 1) z (tried-closed lines z e h)
+
+not_none : (o : Option (List Cell)) (z : List Cell) → AtMost o (Some z) → is_none o ≡ false
+not_none None z h = absurd h
+not_none (Some g) z h = refl
+
+-- the colour of a cell of a trial that is alive isn't refuted in the grid that it was tried in
+pub alive_open : (lines : List GridLine) (g z : List Cell) (k j : ℕ) (c d : Cell) → get_or g k Unknown ≡ Unknown → closure lines (set g k c) ≡ Some z → get_or z j Unknown ≡ d → is_refuted lines g j d ≡ false
+alive_open lines g z k j c d unknown e at =
+    let law = closure-IsLeastClosed lines (set g k c) in
+    let above : Extends (set g k c) z = rw e at law.above in
+    let gz : Extends g z = Extends-trans g (set g k c) z (set-extends g k c unknown) above in
+    let same : CellExtends d d = Extends-at (d ∷ []) (d ∷ []) 0 (Extends-refl (d ∷ [])) in
+    let with_it : Extends (set g j d) z = set_within g z j d gz (subst (λ (q : Cell). CellExtends d q) (sym at) same) in
+    not_none (closure lines (set g j d)) z ((closure-IsLeastClosed lines (set g j d)).least z (law.closed z e) with_it)
+
+-- marks that an alive trial adds
+pub added-open : (lines : List GridLine) (g z : List Cell) (k : ℕ) (c d : Cell) (old new : List Bool) → get_or g k Unknown ≡ Unknown → closure lines (set g k c) ≡ Some z → AddsMarks d z old new → AreOpen lines g d old → AreOpen lines g d new
+added-open lines g z k c d old new unknown e adds before j m = elim (adds j m) [ inl o ↦ before j o | inr at ↦ alive_open lines g z k j c d unknown e at ]
+
+count-set : (g : List Cell) (k : ℕ) (c : Cell) → k < length g → get_or g k Unknown ≡ Unknown → is_known c ≡ true → unknown_count (set g k c) < unknown_count g
+count-set [] k c h e n = absurd (omega arith)
+count-set (x ∷ g) zero Unknown h e n = absurd (true≢false (sym n))
+count-set (x ∷ g) zero Filled h e n = rw e (omega arith)
+count-set (x ∷ g) zero Blank h e n = rw e (omega arith)
+count-set (Unknown ∷ g) (suc k) c h e n = let rest = count-set g k c (omega arith) e n in omega (arith, rest)
+count-set (Filled ∷ g) (suc k) c h e n = let rest = count-set g k c (omega arith) e n in omega (arith, rest)
+count-set (Blank ∷ g) (suc k) c h e n = let rest = count-set g k c (omega arith) e n in omega (arith, rest)
+
+-- settling a cell as trials do is progress
+pub settle-changed : (lines : List GridLine) (g new : List Cell) (k : ℕ) (c : Cell) → k < length g → get_or g k Unknown ≡ Unknown → is_known c ≡ true → AtMost (Some (set g k c)) (trials lines g) → closure lines (set g k c) ≡ Some new
+    → Progresses (trials lines) Changed g new
+settle-changed lines g new k c l unknown n below e =
+    let z = set g k c in
+    let above : Extends z new = rw e at ((closure-IsLeastClosed lines z).above) in
+    let fewer = count-set g k c l unknown n in (
+      closure_trials lines z new e ∙ trials_between lines g z (set-extends g k c unknown) below,
+      elim (fewer_unknown z new above) [ inl s ↦ omega (arith, ap unknown_count s, fewer) | inr m ↦ omega (arith, m, fewer) ],
+    )
+
+pub settle-dead : (lines : List GridLine) (g : List Cell) (k : ℕ) (c : Cell) → get_or g k Unknown ≡ Unknown → AtMost (Some (set g k c)) (trials lines g) → closure lines (set g k c) ≡ None → trials lines g ≡ None
+settle-dead lines g k c unknown below e = sym (trials_between lines g (set g k c) (set-extends g k c unknown) below) ∙ closure_dead lines (set g k c) e
+
+pub refuted_if : (b r : Bool) → r ≡ not b → r ≡ false → b ≡ true
+refuted_if true r e h = refl
+refuted_if false r e h = absurd (true≢false (sym e ∙ h))
+
+pub trial-refuted : (r : Trial) (lines : List GridLine) (g trial : List Cell) (k : ℕ) (c : Cell) → r ≡ Refuted → IsTrialOf r lines g k c trial → is_refuted lines g k c ≡ true
+trial-refuted Refuted lines g trial k c e h = ap is_none h
+trial-refuted Open lines g trial k c e h = cc
+trial-refuted Closed lines g trial k c e h = cc
+
+pub trial-open : (r : Trial) (lines : List GridLine) (g trial : List Cell) (k : ℕ) (c : Cell) → r ≢ Refuted → IsTrialOf r lines g k c trial → is_refuted lines g k c ≡ false
+trial-open Refuted lines g trial k c n h = absurd (n refl)
+trial-open Open lines g trial k c n h = h
+trial-open Closed lines g trial k c n h = ap is_none h
+
+pub trial-closed : (r : Trial) (lines : List GridLine) (g trial : List Cell) (k : ℕ) (c : Cell) → r ≡ Closed → IsTrialOf r lines g k c trial → closure lines (set g k c) ≡ Some trial
+trial-closed Refuted lines g trial k c e h = cc
+trial-closed Open lines g trial k c e h = cc
+trial-closed Closed lines g trial k c e h = h
+
+pub not_known : (c : Cell) → is_known c ≡ false → c ≡ Unknown
+not_known Unknown e = refl
+not_known Filled e = cc
+not_known Blank e = cc
+
+pub outcome_alive : (alive : Bool) (cells : List Cell) (o : Option (List Cell)) → alive ≡ true → outcome alive cells ≡ o → o ≡ Some cells
+outcome_alive true cells o e h = sym h
+outcome_alive false cells o e h = absurd (true≢false (sym e))
+
+pub outcome_dead : (alive : Bool) (cells : List Cell) (o : Option (List Cell)) → alive ≡ false → outcome alive cells ≡ o → o ≡ None
+outcome_dead true cells o e h = absurd (true≢false e)
+outcome_dead false cells o e h = sym h

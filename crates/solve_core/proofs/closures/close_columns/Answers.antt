@@ -1,0 +1,57 @@
+use Rattle.std.proofs.Common.{◌≡◌, ◌≢◌, ◌∙◌, rules, arith, ℕ, sym, ap, get_or, false, below_more}
+use Rattle.solve_core.specs.declared.closures.Progress.TheVariants.{Dead, Same, Changed}
+use Rattle.solve_core.proofs.TrailSteps.{trailed-trans}
+use Rattle.solve_core.proofs.GridSteps.{unmarked_more}
+use Rattle.solve_core.proofs.closures.close_columns.Goals as goal
+use Rattle.solve_core.proofs.closures.close_columns.Goals.{then-columns-from+in-Same, then-columns-from+in-Changed, else-columns-from}
+
+pub loop-x-preserved : goal.loop-x-preserved
+loop-x-preserved c =
+    let before = c.loop-x.invariant in
+    elim c.if-columns-from.branch [
+      | then-columns-from+in-Same w ↦
+          record {
+            room = search rules;
+            marks = rw (w.cells-is, w.rows-is, w.columns-is) w.in-Same.ensures.marks;
+            trail =
+                rw (w.cells-is, w.trail-is)
+                (trailed-trans c.args.cells.now c.loop-x.cells w.close_column.new.cells c.args.trail.now c.loop-x.trail w.close_column.new.trail before.trail w.close_column.ensures.trail);
+            space = rw (w.cells-is, w.trail-is) w.close_column.ensures.space;
+            progress = search rules;
+            alive = search rules;
+            same = search rules;
+            done =
+                rw w.columns-is
+                (unmarked_more c.loop-x.columns w.close_column.new.columns c.loop-x.x (omega (arith, before.marks.column_marks, c.loop-x-test.true)) w.close_column.ensures.columns before.done);
+          }
+      | then-columns-from+in-Changed w ↦
+          record {
+            room = search rules;
+            marks = rw (w.cells-is, w.rows-is, w.columns-is) w.in-Changed.ensures.marks;
+            trail =
+                rw (w.cells-is, w.trail-is)
+                (trailed-trans c.args.cells.now c.loop-x.cells w.close_column.new.cells c.args.trail.now c.loop-x.trail w.close_column.new.trail before.trail w.close_column.ensures.trail);
+            space = rw (w.cells-is, w.trail-is) w.close_column.ensures.space;
+            progress = search rules;
+            alive = search rules;
+            same = search rules;
+            done =
+                rw w.columns-is
+                (unmarked_more c.loop-x.columns w.close_column.new.columns c.loop-x.x (omega (arith, before.marks.column_marks, c.loop-x-test.true)) w.close_column.ensures.columns before.done);
+          }
+      | else-columns-from w ↦
+          record {
+            room = search rules;
+            marks = rw (w.cells-is, w.rows-is, w.columns-is) before.marks;
+            trail = rw (w.cells-is, w.trail-is) before.trail;
+            space = rw (w.cells-is, w.trail-is) before.space;
+            progress = rw (w.cells-is, w.progress-is) before.progress;
+            alive = search rules;
+            same = search rules;
+            done = rw w.columns-is (below_more (λ k. get_or c.loop-x.columns k false ≡ false) c.loop-x.x before.done (ap (λ (q : ℕ). get_or c.loop-x.columns q false) (sym c.from.ensures) ∙ w.if-columns-from.false));
+          }
+    ]
+
+pub returns-in-Dead-clause-trail : goal.returns-in-Dead-clause-trail
+returns-in-Dead-clause-trail c =
+    trailed-trans c.args.cells.now c.loop-x.cells c.close_column.new.cells c.args.trail.now c.loop-x.trail c.close_column.new.trail c.loop-x.invariant.trail c.close_column.ensures.trail

@@ -1,0 +1,5 @@
+use Rattle.solve_core.proofs.ReportLaws.{report-greater}
+use Rattle.solve_core.proofs.search_laws.final_report_stays.Goals as goal
+
+pub returns : goal.returns
+returns c = report-greater

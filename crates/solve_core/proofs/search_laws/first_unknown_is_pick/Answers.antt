@@ -1,0 +1,5 @@
+use Rattle.solve_core.proofs.SearchLaws.{first_unknown-IsPick}
+use Rattle.solve_core.proofs.search_laws.first_unknown_is_pick.Goals as goal
+
+pub returns : goal.returns
+returns c = first_unknown-IsPick

@@ -1,0 +1,5 @@
+use Rattle.solve_core.proofs.SearchLaws.{events-unfold}
+use Rattle.solve_core.proofs.search_laws.search_unfolds.Goals as goal
+
+pub returns : goal.returns
+returns c = events-unfold

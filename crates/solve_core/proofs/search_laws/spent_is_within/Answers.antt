@@ -1,0 +1,6 @@
+use Rattle.solve_core.specs.Report.{search_of}
+use Rattle.solve_core.proofs.AnswerLaws.{guesses-within}
+use Rattle.solve_core.proofs.search_laws.spent_is_within.Goals as goal
+
+pub returns : goal.returns
+returns c = λ pick p limit. guesses-within limit (search_of pick p)

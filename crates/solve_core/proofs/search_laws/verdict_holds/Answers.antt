@@ -1,0 +1,5 @@
+use Rattle.solve_core.proofs.AnswerLaws.{verdict-Holds}
+use Rattle.solve_core.proofs.search_laws.verdict_holds.Goals as goal
+
+pub returns : goal.returns
+returns c = verdict-Holds

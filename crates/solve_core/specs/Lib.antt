@@ -1,0 +1,13 @@
+pub mod Closure
+pub mod LeastClosed
+pub mod Trials
+pub mod Trails
+pub mod Marks
+pub mod Rounds
+pub mod Grids
+pub mod Search
+pub mod Report
+pub mod Verdicts
+pub mod Endings
+pub mod FoundGrids
+pub mod Branches

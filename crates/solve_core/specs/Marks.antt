@@ -1,0 +1,91 @@
+use Rattle.std.specs.Prelude.{◌⊎◌, ◌≡◌, ◌≢◌, ℕ, ◌+◌, ◌*◌, ◌<◌, Bool, true, false, List, [], ◌∷◌, length, suc, Option, Some, None, slice_index_or, slice_set}
+use Rattle.grid_core.specs.declared.cells.Cell.{Cell}
+use Rattle.grid_core.specs.declared.cells.Cell.TheVariants.{Unknown, Filled, Blank}
+use Rattle.grid_core.specs.Nonogram.{Nonogram, IsNonogram, GridLine, places_from, row_at, column_at, cells_at}
+use Rattle.line_core.specs.Deduction.{deduced}
+use Rattle.solve_core.specs.Closure.{with_cells, closure}
+use Rattle.solve_core.specs.Trails.{unknown_count}
+use Rattle.solve_core.specs.Trials.{is_refuted}
+use Rattle.solve_core.specs.declared.places.Places.{Places}
+use Rattle.solve_core.specs.declared.trials.Trial.{Trial}
+use Rattle.solve_core.specs.declared.trials.Trial.TheVariants.{Refuted, Open, Closed}
+use Rattle.solve_core.specs.declared.closures.Progress.{Progress}
+use Rattle.solve_core.specs.declared.closures.Progress.TheVariants.{Dead, Same, Changed}
+
+-- the cells, or none where they are dead
+abbrev pub outcome : Bool → List Cell → Option (List Cell)
+outcome true cells = Some cells
+outcome false cells = None
+
+abbrev pub places_of : Places → List ℕ
+places_of p = places_from p.first p.step p.count
+
+-- each place is that of a cell
+abbrev pub AreWithin : Places → ℕ → Type 0
+AreWithin p size = (i : ℕ) → i < p.count → p.first + i * p.step < size
+
+-- the line knows all that is certain of it
+abbrev pub IsSettled : List Cell → GridLine → Type 0
+IsSettled grid line = deduced (cells_at Unknown grid line.places) line.clue ≡ Some (cells_at Unknown grid line.places)
+
+-- a line's certain cells stand in the new cells, and where no mark was made the line learned nothing
+pub record IsWritten (changed : Bool) (line : GridLine) (old new : List Cell) (before after : List Bool) : Type 0 where
+  pub certain : List Cell
+  pub is_certain : deduced (cells_at Unknown old line.places) line.clue ≡ Some certain
+  pub written : new ≡ with_cells old line.places certain
+  pub same : changed ≡ false → certain ≡ cells_at Unknown old line.places
+  pub differs : changed ≡ true → certain ≢ cells_at Unknown old line.places
+  pub kept : changed ≡ false → after ≡ before
+  pub unmarked : (i : ℕ) → i < length line.places → slice_index_or after i false ≡ false → slice_index_or before i false ≡ false
+  pub marked : (i : ℕ) → i < length line.places → slice_index_or after i false ≡ false
+      → slice_index_or certain i Unknown ≡ slice_index_or (cells_at Unknown old line.places) i Unknown
+
+-- what became of the cells by deducing a line
+abbrev pub IsDeduced : Progress → GridLine → List Cell → List Cell → List Bool → List Bool → Type 0
+IsDeduced Dead line old new before after = deduced (cells_at Unknown old line.places) line.clue ≡ None
+IsDeduced Same line old new before after = IsWritten false line old new before after
+IsDeduced Changed line old new before after = IsWritten true line old new before after
+
+-- each line that may have more to give is marked
+pub record HasMarks (p : Nonogram) (cells : List Cell) (rows columns : List Bool) : Type 0 where
+  pub puzzle : IsNonogram p
+  pub size : length cells ≡ p.width * p.height
+  pub row_marks : length rows ≡ p.height
+  pub column_marks : length columns ≡ p.width
+  pub rows_settled : (y : ℕ) → y < p.height → slice_index_or rows y false ≡ false → IsSettled cells (row_at p y)
+  pub columns_settled : (x : ℕ) → x < p.width → slice_index_or columns x false ≡ false → IsSettled cells (column_at p x)
+
+abbrev pub MarksAfter : Progress → Nonogram → List Cell → List Bool → List Bool → Type 0
+MarksAfter Dead p cells rows columns = Unit {0}
+MarksAfter Same p cells rows columns = HasMarks p cells rows columns
+MarksAfter Changed p cells rows columns = HasMarks p cells rows columns
+
+-- no mark is set
+abbrev pub AreUnmarked : List Bool → Type 0
+AreUnmarked marks = (k : ℕ) → slice_index_or marks k false ≡ false
+
+-- a step towards f of the cells: they are dead, the same, or fewer are unknown, and f of them is the same
+abbrev pub Progresses : (List Cell → Option (List Cell)) → Progress → List Cell → List Cell → Type 0
+Progresses f Dead old new = f old ≡ None
+Progresses f Same old new = new ≡ old
+Progresses f Changed old new = (f new ≡ f old) × (unknown_count new < unknown_count old)
+
+-- no line has more to give, and none is marked
+pub record IsAtRest (p : Nonogram) (cells : List Cell) (rows columns : List Bool) : Type 0 where
+  pub marks : HasMarks p cells rows columns
+  pub no_row : AreUnmarked rows
+  pub no_column : AreUnmarked columns
+
+-- at each marked place the colour isn't refuted
+abbrev pub AreOpen : List GridLine → List Cell → Cell → List Bool → Type 0
+AreOpen lines cells colour marks = (k : ℕ) → slice_index_or marks k false ≡ true → is_refuted lines cells k colour ≡ false
+
+-- each new mark is at a cell of the trial that has the colour
+abbrev pub AddsMarks : Cell → List Cell → List Bool → List Bool → Type 0
+AddsMarks colour trial old new = (k : ℕ) → slice_index_or new k false ≡ true → (slice_index_or old k false ≡ true) ⊎ (slice_index_or trial k Unknown ≡ colour)
+
+-- what a trial of a colour at a place came to: no grid, the closed one, or one that another trial met
+abbrev pub IsTrialOf : Trial → List GridLine → List Cell → ℕ → Cell → List Cell → Type 0
+IsTrialOf Refuted lines cells k colour trial = closure lines (slice_set cells k colour) ≡ None
+IsTrialOf Open lines cells k colour trial = is_refuted lines cells k colour ≡ false
+IsTrialOf Closed lines cells k colour trial = closure lines (slice_set cells k colour) ≡ Some trial

@@ -1,0 +1,25 @@
+//! Closure, trials, search and report of nonograms.
+#![tactic(auto)]
+
+mod branches;
+mod closures;
+mod findings;
+mod grids;
+pub mod laws;
+mod places;
+pub mod plain;
+mod reports;
+mod search;
+pub mod search_laws;
+mod solutions;
+mod solver;
+#[cfg(test)]
+mod tests;
+#[cfg(test)]
+mod tests_search;
+mod trails;
+mod trials;
+
+pub use findings::{Findings, Grade, Verdict};
+pub use reports::report;
+pub use solver::Solver;

@@ -1,0 +1,300 @@
+//! The closure and the trials by plain programs: slow, and what the solver's are compared with.
+ghost use Rattle.std.specs.Prelude.{◌≡◌, ◌≢◌, ℕ, ◌+◌, ◌*◌, ◌<◌, ◌≤◌, true, false, List, Some, length, slice_set, slice_index_or, IfOk};
+ghost use Rattle.grid_core.specs.declared.cells.Cell.TheVariants.{Unknown};
+ghost use Rattle.grid_core.specs.Cells.{is_known};
+ghost use Rattle.grid_core.specs.Nonogram.{IsNonogram, lines_of, cells_at, row_at, column_at};
+ghost use Rattle.line_core.specs.Deduction.{deduced};
+ghost use Rattle.line_core.specs.Order.{AtMost};
+ghost use Rattle.solve_core.specs.Closure.{with_cells, round, closure};
+ghost use Rattle.solve_core.specs.Grids.{HasSizeOf};
+ghost use Rattle.solve_core.specs.Marks.{places_of, AreWithin, IsSettled, Progresses, outcome};
+ghost use Rattle.solve_core.specs.Rounds.{IsLearned};
+ghost use Rattle.solve_core.specs.Trials.{is_refuted, trials, IsTried};
+ghost use Rattle.solve_core.specs.declared.closures.Progress.TheVariants.{Dead, Same};
+
+use crate::closures::Progress;
+use crate::grids::{read_grid, write_grid};
+use crate::places::{Places, is_same, read_line};
+use grid_core::{Cell, Clue, Grid, NoMemory, Puzzle};
+use line_core::{Line, deduce_by_listing};
+use std::alloc::Global;
+
+/// Writes a line's cells at their places.
+fn write_cells(cells: &mut [Cell], places: Places, line: &Line)
+    requires within { AreWithin places (length cells.old) }
+    requires count { length line.now ≡ places.count }
+    ensures { cells.new ≡ with_cells cells.old (places_of places) line.now }
+{
+    for i in 0..places.count {
+        cells[places.first + usize::from(i) * places.step] = line.get(i);
+    }
+}
+
+fn are_same(old: &Line, new: &Line) -> bool
+    requires { length new.now ≡ length old.now }
+    ensures same { result ≡ true → new.now ≡ old.now }
+    ensures differ { result ≡ false → new.now ≢ old.now }
+{
+    for i in 0..old.len() {
+        if !is_same(new.get(i), old.get(i)) {
+            return false;
+        }
+    }
+    true
+}
+
+/// Writes what is certain of a line, by all its placings, at its places.
+fn learn_line(cells: &mut [Cell], places: Places, clue: &Clue) -> Progress
+    requires within { AreWithin places (length cells.old) }
+    requires from { 1 ≤ places.count }
+    requires to { places.count ≤ 128 }
+    requires step { 0 < places.step }
+    ensures { IsLearned result (record { places = places_of places; clue = clue.now }) cells.old cells.new }
+{
+    let old = read_line(cells, places);
+    let Some(new) = deduce_by_listing(&old, clue) else {
+        return Progress::Dead;
+    };
+    if are_same(&old, &new) {
+        return Progress::Same;
+    }
+    write_cells(cells, places, &new);
+    Progress::Changed
+}
+
+/// Deduces a row.
+fn learn_row(puzzle: &Puzzle, y: u16, cells: &mut [Cell]) -> Progress
+    requires y { y < puzzle.now.height }
+    requires size { length cells.old ≡ puzzle.now.width * puzzle.now.height }
+    ensures progress { Progresses (closure (lines_of puzzle.now)) result cells.old cells.new }
+    ensures settled { result ≡ Same → IsSettled cells.new (row_at puzzle.now y) }
+{
+    let width = puzzle.width();
+    let places = Places {
+        first: usize::from(y) * usize::from(width),
+        step: 1,
+        count: width,
+    };
+    learn_line(cells, places, puzzle.row_clue(y))
+}
+
+/// Deduces a column.
+fn learn_column(puzzle: &Puzzle, x: u16, cells: &mut [Cell]) -> Progress
+    requires x { x < puzzle.now.width }
+    requires size { length cells.old ≡ puzzle.now.width * puzzle.now.height }
+    ensures progress { Progresses (closure (lines_of puzzle.now)) result cells.old cells.new }
+    ensures settled { result ≡ Same → IsSettled cells.new (column_at puzzle.now x) }
+{
+    let places = Places {
+        first: usize::from(x),
+        step: usize::from(puzzle.width()),
+        count: puzzle.height(),
+    };
+    learn_line(cells, places, puzzle.col_clue(x))
+}
+
+/// Deduces each row once.
+fn learn_rows(puzzle: &Puzzle, cells: &mut [Cell]) -> Progress
+    requires size { length cells.old ≡ puzzle.now.width * puzzle.now.height }
+    ensures progress { Progresses (closure (lines_of puzzle.now)) result cells.old cells.new }
+    ensures settled { result ≡ Same → (y : ℕ) → y < puzzle.now.height → IsSettled cells.new (row_at puzzle.now y) }
+{
+    let mut progress = Progress::Same;
+    for y in 0..puzzle.height() {
+        match learn_row(puzzle, y, cells) {
+            Progress::Dead => return Progress::Dead,
+            Progress::Same => {}
+            Progress::Changed => progress = Progress::Changed,
+        }
+    }
+    progress
+}
+
+/// Deduces each column once.
+fn learn_columns(puzzle: &Puzzle, cells: &mut [Cell]) -> Progress
+    requires size { length cells.old ≡ puzzle.now.width * puzzle.now.height }
+    ensures progress { Progresses (closure (lines_of puzzle.now)) result cells.old cells.new }
+    ensures settled { result ≡ Same → (x : ℕ) → x < puzzle.now.width → IsSettled cells.new (column_at puzzle.now x) }
+{
+    let mut progress = Progress::Same;
+    for x in 0..puzzle.width() {
+        match learn_column(puzzle, x, cells) {
+            Progress::Dead => return Progress::Dead,
+            Progress::Same => {}
+            Progress::Changed => progress = Progress::Changed,
+        }
+    }
+    progress
+}
+
+/// Deduces all rows and all columns, again and again, until nothing changes or a line is dead. Answers whether the cells are alive.
+fn close_cells(puzzle: &Puzzle, cells: &mut [Cell]) -> bool
+    requires puzzle { IsNonogram puzzle.now }
+    requires size { length cells.old ≡ puzzle.now.width * puzzle.now.height }
+    ensures { outcome result cells.new ≡ closure (lines_of puzzle.now) cells.old }
+{
+    loop {
+        let rows = learn_rows(puzzle, cells);
+        if rows.is_dead() {
+            return false;
+        }
+        let columns = learn_columns(puzzle, cells);
+        if columns.is_dead() {
+            return false;
+        }
+        if rows.is_same() && columns.is_same() {
+            return true;
+        }
+    }
+}
+
+/// Closes a grid under line deduction, by rounds over all its lines. Answers whether it is alive; a dead grid's cells are open.
+pub fn close_by_rounds(alloc: Global, puzzle: &Puzzle, grid: &mut Grid) -> Result<bool, NoMemory>
+    requires size { HasSizeOf puzzle.now grid.old }
+    ensures closed { IfOk result (λ alive. outcome alive grid.new.cells ≡ closure (lines_of puzzle.now) grid.old.cells) }
+    ensures size { HasSizeOf puzzle.now grid.new }
+{
+    let count = usize::from(puzzle.width()) * usize::from(puzzle.height());
+    let mut cells = vec![in alloc; Cell::Unknown; count]?;
+    read_grid(grid, &mut cells);
+    let alive = close_cells(puzzle, &mut cells);
+    write_grid(&cells, grid);
+    Ok(alive)
+}
+
+/// Whether a colour at a place leads to a contradiction.
+fn is_refuted(
+    alloc: Global,
+    puzzle: &Puzzle,
+    cells: &[Cell],
+    place: usize,
+    colour: Cell,
+) -> Result<bool, NoMemory>
+    requires puzzle { IsNonogram puzzle.now }
+    requires size { length cells.now ≡ puzzle.now.width * puzzle.now.height }
+    requires place { place < length cells.now }
+    ensures { IfOk result (λ refuted. refuted ≡ is_refuted (lines_of puzzle.now) cells.now place colour) }
+{
+    let mut trial = Vec::from_slice(alloc, cells)?;
+    Ok(!close_trial(puzzle, &mut trial, place, colour))
+}
+
+/// Gives a cell a colour and closes the cells. Answers whether they are alive.
+fn close_trial(puzzle: &Puzzle, cells: &mut [Cell], place: usize, colour: Cell) -> bool
+    requires puzzle { IsNonogram puzzle.now }
+    requires size { length cells.old ≡ puzzle.now.width * puzzle.now.height }
+    requires place { place < length cells.old }
+    ensures { outcome result cells.new ≡ closure (lines_of puzzle.now) (slice_set cells.old place colour) }
+{
+    cells[place] = colour;
+    close_cells(puzzle, cells)
+}
+
+/// Gives an unknown cell the colour that is left, and closes the cells.
+fn keep_colour(puzzle: &Puzzle, cells: &mut [Cell], place: usize, colour: Cell) -> Progress
+    requires puzzle { IsNonogram puzzle.now }
+    requires size { length cells.old ≡ puzzle.now.width * puzzle.now.height }
+    requires place { place < length cells.old }
+    requires unknown { slice_index_or cells.old place Unknown ≡ Unknown }
+    requires colour { is_known colour ≡ true }
+    requires below { AtMost (Some (slice_set cells.old place colour)) (trials (lines_of puzzle.now) cells.old) }
+    ensures progress { Progresses (trials (lines_of puzzle.now)) result cells.old cells.new }
+    ensures changed { result ≢ Same }
+    ensures closed { result ≢ Dead → round (lines_of puzzle.now) cells.new ≡ Some cells.new }
+{
+    if close_trial(puzzle, cells, place, colour) {
+        Progress::Changed
+    } else {
+        Progress::Dead
+    }
+}
+
+/// Tries both colours at a place, where it is unknown.
+fn try_place(
+    alloc: Global,
+    puzzle: &Puzzle,
+    cells: &mut [Cell],
+    place: usize,
+) -> Result<Progress, NoMemory>
+    requires puzzle { IsNonogram puzzle.now }
+    requires size { length cells.old ≡ puzzle.now.width * puzzle.now.height }
+    requires closed { round (lines_of puzzle.now) cells.old ≡ Some cells.old }
+    requires place { place < length cells.old }
+    ensures progress { IfOk result (λ progress. Progresses (trials (lines_of puzzle.now)) progress cells.old cells.new) }
+    ensures closed { IfOk result (λ progress. progress ≢ Dead → round (lines_of puzzle.now) cells.new ≡ Some cells.new) }
+    ensures tried { IfOk result (λ progress. progress ≡ Same → IsTried (lines_of puzzle.now) cells.new place) }
+{
+    if cells[place].is_known() {
+        return Ok(Progress::Same);
+    }
+    if is_refuted(alloc, puzzle, cells, place, Cell::Filled)? {
+        return Ok(keep_colour(puzzle, cells, place, Cell::Blank));
+    }
+    if is_refuted(alloc, puzzle, cells, place, Cell::Blank)? {
+        return Ok(keep_colour(puzzle, cells, place, Cell::Filled));
+    }
+    Ok(Progress::Same)
+}
+
+/// Tries each unknown cell once.
+fn try_all(alloc: Global, puzzle: &Puzzle, cells: &mut [Cell]) -> Result<Progress, NoMemory>
+    requires puzzle { IsNonogram puzzle.now }
+    requires size { length cells.old ≡ puzzle.now.width * puzzle.now.height }
+    requires closed { round (lines_of puzzle.now) cells.old ≡ Some cells.old }
+    ensures progress { IfOk result (λ progress. Progresses (trials (lines_of puzzle.now)) progress cells.old cells.new) }
+    ensures closed { IfOk result (λ progress. progress ≢ Dead → round (lines_of puzzle.now) cells.new ≡ Some cells.new) }
+    ensures tried { IfOk result (λ progress. progress ≡ Same → (k : ℕ) → k < length cells.new → IsTried (lines_of puzzle.now) cells.new k) }
+{
+    let mut progress = Progress::Same;
+    for place in 0..cells.len() {
+        match try_place(alloc, puzzle, cells, place)? {
+            Progress::Dead => return Ok(Progress::Dead),
+            Progress::Same => {}
+            Progress::Changed => progress = Progress::Changed,
+        }
+    }
+    Ok(progress)
+}
+
+/// Tries cells until a whole pass changes nothing. Answers whether the cells are alive.
+fn try_until_same(alloc: Global, puzzle: &Puzzle, cells: &mut [Cell]) -> Result<bool, NoMemory>
+    requires puzzle { IsNonogram puzzle.now }
+    requires size { length cells.old ≡ puzzle.now.width * puzzle.now.height }
+    requires closed { round (lines_of puzzle.now) cells.old ≡ Some cells.old }
+    ensures { IfOk result (λ alive. outcome alive cells.new ≡ trials (lines_of puzzle.now) cells.old) }
+{
+    loop {
+        match try_all(alloc, puzzle, cells)? {
+            Progress::Dead => return Ok(false),
+            Progress::Same => return Ok(true),
+            Progress::Changed => {}
+        }
+    }
+}
+
+/// Closes cells and then tries them. Answers whether they are alive.
+fn try_cells(alloc: Global, puzzle: &Puzzle, cells: &mut [Cell]) -> Result<bool, NoMemory>
+    requires puzzle { IsNonogram puzzle.now }
+    requires size { length cells.old ≡ puzzle.now.width * puzzle.now.height }
+    ensures { IfOk result (λ alive. outcome alive cells.new ≡ trials (lines_of puzzle.now) cells.old) }
+{
+    if !close_cells(puzzle, cells) {
+        return Ok(false);
+    }
+    let alive = try_until_same(alloc, puzzle, cells)?;
+    Ok(alive)
+}
+
+/// Closes a grid under trials, each of them run, by rounds. Answers whether it is alive; a dead grid's cells are open.
+pub fn try_by_rounds(alloc: Global, puzzle: &Puzzle, grid: &mut Grid) -> Result<bool, NoMemory>
+    requires size { HasSizeOf puzzle.now grid.old }
+    ensures tried { IfOk result (λ alive. outcome alive grid.new.cells ≡ trials (lines_of puzzle.now) grid.old.cells) }
+    ensures size { HasSizeOf puzzle.now grid.new }
+{
+    let count = usize::from(puzzle.width()) * usize::from(puzzle.height());
+    let mut cells = vec![in alloc; Cell::Unknown; count]?;
+    read_grid(grid, &mut cells);
+    let alive = try_cells(alloc, puzzle, &mut cells)?;
+    write_grid(&cells, grid);
+    Ok(alive)
+}

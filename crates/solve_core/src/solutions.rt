@@ -1,0 +1,89 @@
+//! The solutions that a search keeps.
+ghost use Rattle.std.specs.Prelude.{◌≡◌, ◌*◌, ◌<◌, ◌≤◌, ◌++◌, [], ◌∷◌, length, IfOk};
+ghost use Rattle.grid_core.specs.PartialGrid.{IsSize};
+ghost use Rattle.solve_core.specs.FoundGrids.{FoundGrids};
+ghost use Rattle.solve_core.specs.Report.{verdict_by};
+
+use crate::Verdict;
+use crate::grids::write_grid;
+use grid_core::{Cell, Grid, NoMemory};
+use std::alloc::Global;
+use std::marker::Model;
+
+/// The solutions that a search found, two at most, in grids that were made before it.
+#[derive(Drop)]
+pub struct Solutions {
+    first: Grid,
+    second: Grid,
+    count: usize,
+}
+
+impl Model for Solutions {
+    ghost use Rattle.std.specs.Prelude.{◌≡◌, ◌≤◌, [], ◌∷◌, take};
+    ghost use Rattle.solve_core.specs.FoundGrids.{FoundGrids};
+
+    ghost Value = { FoundGrids };
+
+    ghost view = { λ s. record { width = s.first.width; height = s.first.height; grids = take s.count (s.first ∷ s.second ∷ []) } };
+
+    ghost invariant = { λ s. (s.count ≤ 2) × (s.second.width ≡ s.first.width) × (s.second.height ≡ s.first.height) };
+}
+
+impl Solutions {
+    /// No solution, and room for two.
+    pub fn new(alloc: Global, width: u16, height: u16) -> Result<Solutions, NoMemory>
+        requires { IsSize width height }
+        ensures { IfOk result (λ solutions. solutions ≡ record { width = width; height = height; grids = [] }) }
+    {
+        Ok(Solutions {
+            first: Grid::unknown(alloc, width, height)?,
+            second: Grid::unknown(alloc, width, height)?,
+            count: 0,
+        })
+    }
+
+    /// How many there are.
+    pub fn len(&self) -> usize
+        ensures len { result ≡ length self.now.grids }
+        ensures within { length self.now.grids ≤ 2 }
+    {
+        self.count
+    }
+
+    /// Keeps one more.
+    pub fn keep(&mut self, cells: &[Cell])
+        requires room { length self.old.grids < 2 }
+        requires size { length cells.now ≡ self.old.width * self.old.height }
+        ensures { self.new ≡ record self.old { grids = self.old.grids ++ (record { width = self.old.width; height = self.old.height; cells = cells.now } ∷ []) } }
+    {
+        if self.count == 0 {
+            write_grid(cells, &mut self.first);
+        } else {
+            write_grid(cells, &mut self.second);
+        }
+        self.count += 1;
+    }
+
+    /// The verdict, where the limit on guesses cut the search short or didn't.
+    pub fn verdict(self, cut: bool) -> Verdict
+        ensures { result ≡ verdict_by self.grids cut }
+    {
+        match self.count {
+            0 => {
+                if cut {
+                    Verdict::Unsettled(None)
+                } else {
+                    Verdict::Nothing
+                }
+            }
+            1 => {
+                if cut {
+                    Verdict::Unsettled(Some(self.first))
+                } else {
+                    Verdict::One(self.first)
+                }
+            }
+            _ => Verdict::Several(self.first, self.second),
+        }
+    }
+}
