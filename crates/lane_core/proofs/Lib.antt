@@ -1,0 +1,7 @@
+pub mod MessagesLemmas
+pub mod AnswersLemmas
+pub mod LaneLemmas
+pub mod SettlingLemmas
+pub mod DealingLemmas
+pub mod WorkLemmas
+pub mod BackLemmas

@@ -1,0 +1,43 @@
+-- Lemmas on lists of messages.
+use Rattle.std.proofs.Common.{◌≡◌, ◌∙◌, true, false, List, [], ◌∷◌, ◌++◌, refl, ap}
+use Rattle.lane_core.specs.Messages.{jobs_of, has_finish, finish_is_last}
+use Rattle.lane_core.specs.declared.jobs.Job.{Job}
+use Rattle.lane_core.specs.declared.messages.Message.{Message}
+use Rattle.lane_core.specs.declared.messages.Message.TheVariants.{Work, Finish}
+
+pub jobs_of-append : (xs ys : List Message) → jobs_of (xs ++ ys) ≡ jobs_of xs ++ jobs_of ys
+jobs_of-append [] ys = refl
+jobs_of-append (Work job ∷ xs) ys = ap (λ jobs. job ∷ jobs) (jobs_of-append xs ys)
+jobs_of-append (Finish ∷ xs) ys = jobs_of-append xs ys
+
+pub has_finish-push_work : (xs : List Message) (job : Job) → has_finish (xs ++ Work job ∷ []) ≡ has_finish xs
+has_finish-push_work [] job = refl
+has_finish-push_work (Work other ∷ xs) job = has_finish-push_work xs job
+has_finish-push_work (Finish ∷ xs) job = refl
+
+pub has_finish-push_finish : (xs : List Message) → has_finish (xs ++ Finish ∷ []) ≡ true
+has_finish-push_finish [] = refl
+has_finish-push_finish (Work other ∷ xs) = has_finish-push_finish xs
+has_finish-push_finish (Finish ∷ xs) = refl
+
+pub finish_is_last-push : (xs : List Message) (message : Message) → has_finish xs ≡ false → finish_is_last (xs ++ message ∷ []) ≡ true
+finish_is_last-push [] (Work job) h = refl
+finish_is_last-push [] Finish h = refl
+finish_is_last-push (Work job ∷ xs) message h = finish_is_last-push xs message h
+finish_is_last-push (Finish ∷ xs) message h = cc
+
+-- nothing follows a finish that was taken
+pub nothing_follows : (taken rest : List Message) → finish_is_last (taken ++ rest) ≡ true → has_finish taken ≡ true → rest ≡ []
+nothing_follows [] rest last finished = cc
+nothing_follows (Work job ∷ taken) rest last finished = nothing_follows taken rest last finished
+nothing_follows (Finish ∷ []) [] last finished = refl
+nothing_follows (Finish ∷ []) (next ∷ rest) last finished = cc
+nothing_follows (Finish ∷ (next ∷ taken)) rest last finished = cc
+
+pub ruleset messages = (jobs_of-append, has_finish-push_work, has_finish-push_finish, finish_is_last-push)
+
+pub has_finish-took_finish : (after before : List Message) → after ≡ before ++ Finish ∷ [] → has_finish after ≡ true
+has_finish-took_finish after before e = ap has_finish e ∙ has_finish-push_finish before
+
+pub has_finish-took_work : (after before : List Message) (job : Job) → after ≡ before ++ Work job ∷ [] → has_finish after ≡ has_finish before
+has_finish-took_work after before job e = ap has_finish e ∙ has_finish-push_work before job

@@ -1,0 +1,40 @@
+-- What a contract sees of a batch lane.
+use Rattle.std.specs.Prelude.{◌≡◌, ℕ}
+use Rattle.std.proofs.Common.{refl, ◌∙◌}
+use Rattle.lane_core.specs.Lane.{FrontLists, BackLists}
+use Rattle.lane_core.specs.Ends.{front_lists, back_lists, front_capacity, SameFront, SameBack, SameFront-refl, SameFront-trans, SameFront-capacity, SameBack-refl, SameBack-trans}
+use Rattle.lane_core.specs.declared.batches.BatchLane.{BatchLane}
+
+-- what was sent and received
+abbrev pub batch_front : BatchLane → FrontLists
+batch_front lane = front_lists lane.front
+
+-- what was taken, is held and was put
+abbrev pub batch_back : BatchLane → BackLists
+batch_back lane = back_lists lane.back
+
+-- how many items each ring has room for
+abbrev pub batch_capacity : BatchLane → ℕ
+batch_capacity lane = front_capacity lane.front
+
+-- the same lane
+pub record SameEnds (old new : BatchLane) : Type 0 where
+  pub front : SameFront old.front new.front
+  pub back : SameBack old.back new.back
+
+-- the same lane, whose worker did nothing
+pub record SameWork (old new : BatchLane) : Type 0 where
+  pub ends : SameEnds old new
+  pub back : batch_back new ≡ batch_back old
+
+pub SameWork-refl : (a : BatchLane) → SameWork a a
+SameWork-refl a = record { ends = record { front = SameFront-refl a.front; back = SameBack-refl a.back }; back = refl }
+
+pub SameWork-trans : (a b c : BatchLane) → SameWork a b → SameWork b c → SameWork a c
+SameWork-trans a b c h k = record {
+  ends = record { front = SameFront-trans _ _ _ h.ends.front k.ends.front; back = SameBack-trans _ _ _ h.ends.back k.ends.back };
+  back = k.back ∙ h.back;
+}
+
+pub SameWork-capacity : (a b : BatchLane) → SameWork a b → batch_capacity b ≡ batch_capacity a
+SameWork-capacity a b h = SameFront-capacity _ _ h.ends.front

@@ -1,0 +1,45 @@
+-- What a step of a lane's back does to its lists.
+use Rattle.std.specs.Prelude.{◌≡◌, ℕ, ◌+◌, ◌-◌, ◌*◌, option_to_list, ◌≤◌, ◌⊎◌, List, [], ◌∷◌, length, IsSome, None}
+use Rattle.lane_core.specs.Lane.{FrontLists, BackLists, TakesMessage, PutsAnswer, IsFinished}
+use Rattle.lane_core.specs.declared.answers.Answer.{Answer}
+use Rattle.lane_core.specs.declared.messages.Message.{Message}
+use Rattle.lane_core.specs.declared.messages.Message.TheVariants.{Finish}
+use Rattle.lane_core.specs.declared.steps.Step.{Step}
+use Rattle.lane_core.specs.declared.steps.Step.TheVariants.{Idle, Graded, Waiting, Done}
+
+-- some message is taken
+abbrev pub TakesSome : BackLists → BackLists → Type 0
+TakesSome old new = (message : Message) × TakesMessage message old new
+
+-- some answer is put
+abbrev pub PutsSome : BackLists → BackLists → Type 0
+PutsSome old new = (answer : Answer) × PutsAnswer answer old new
+
+-- a message is taken, and then an answer is put
+abbrev pub TakesThenPuts : BackLists → BackLists → Type 0
+TakesThenPuts old new = (mid : BackLists) × TakesSome old mid × PutsSome mid new
+
+-- the back of a lane of this capacity may answer so, and change its lists so
+abbrev pub Steps : ℕ → Step → BackLists → BackLists → Type 0
+Steps capacity Idle old new = (new ≡ old) × (new.held ≡ None)
+Steps capacity Graded old new = PutsSome old new ⊎ TakesThenPuts old new
+Steps capacity Waiting old new = ((new ≡ old) ⊎ TakesSome old new) × IsSome new.held × (capacity ≤ length new.put)
+Steps capacity Done old new = (new ≡ old) ⊎ TakesMessage Finish old new
+
+-- these steps, one after another
+abbrev pub StepRun : ℕ → List Step → BackLists → BackLists → Type 0
+StepRun capacity [] old new = new ≡ old
+StepRun capacity (step ∷ steps) old new = (mid : BackLists) × Steps capacity step old mid × StepRun capacity steps mid new
+
+-- any steps
+abbrev pub Works : ℕ → BackLists → BackLists → Type 0
+Works capacity old new = (steps : List Step) × StepRun capacity steps old new
+
+-- twice the messages that wait, and one for an answer that is held
+abbrev pub work_left : FrontLists → BackLists → ℕ
+work_left front back = 2 * (length front.sent - length back.taken) + length (option_to_list back.held)
+
+-- the finish was taken; or no message waits and no answer is held; or one is held, and as many were put as the ring has room for
+abbrev pub IsWorkDone : ℕ → FrontLists → BackLists → Type 0
+IsWorkDone capacity front back =
+    IsFinished back ⊎ (((back.taken ≡ front.sent) × (back.held ≡ None)) ⊎ (IsSome back.held × (capacity ≤ length back.put)))

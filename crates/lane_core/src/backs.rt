@@ -1,0 +1,82 @@
+//! The worker's end of a lane.
+
+ghost use Rattle.std.specs.Prelude.{◌≡◌, ◌+◌, ◌≤◌, ◌++◌, length, true, is_none, option_to_list};
+ghost use Rattle.rtrb.specs.Ring.{sent, received, known_free, producer_capacity, SameProducer};
+ghost use Rattle.lane_core.specs.Offer.{IsOffered};
+ghost use Rattle.lane_core.specs.Messages.{has_finish, jobs_of};
+ghost use Rattle.lane_core.specs.Answers.{AreAnswersTo};
+
+use crate::answers::Answer;
+use crate::gates::Gate;
+use crate::grading::grade;
+use crate::messages::Message;
+use crate::steps::Step;
+use rtrb::{Consumer, Producer, PushError};
+use std::alloc::Global;
+
+/// Puts an answer into the ring, or holds it where the ring is full.
+fn offer(answers: &mut Producer<Answer>, held: &mut Option<Answer>, answer: Answer) -> Step
+    requires free { held.old ≡ None }
+    requires room { producer_capacity answers.old ≤ known_free answers.old + length (sent answers.old) }
+    ensures ring { SameProducer answers.old answers.new }
+    ensures room { producer_capacity answers.new ≤ known_free answers.new + length (sent answers.new) }
+    ensures offered { IsOffered (producer_capacity answers.old) answer result (sent answers.old) (sent answers.new) held.new }
+{
+    match answers.push(answer) {
+        Ok(()) => Step::Graded,
+        Err(PushError::Full(answer)) => {
+            *held = Some(answer);
+            Step::Waiting
+        }
+    }
+}
+
+/// The worker's end of a lane: it takes jobs, grades them and puts the answers. What it put and what it holds answers, place by place, the jobs that it took.
+/// It may be in another thread than the collector's end.
+#[derive(Drop)]
+pub struct LaneBack {
+    pub(crate) messages: Consumer<Message>,
+    pub(crate) answers: Producer<Answer>,
+    pub(crate) held: Option<Answer>,
+    pub(crate) finished: bool,
+    pub ghost noted: { finished ≡ has_finish (received messages) },
+    pub ghost free: { finished ≡ true → is_none held ≡ true },
+    pub ghost answered: { ∥ AreAnswersTo (jobs_of (received messages)) (sent answers ++ option_to_list held) ∥₁ },
+    pub ghost room: { producer_capacity answers ≤ known_free answers + length (sent answers) },
+}
+
+impl LaneBack {
+    ghost use Rattle.std.specs.Prelude.{◌≡◌, ◌↔◌, length};
+    ghost use Rattle.lane_core.specs.Lane.{IsFinished};
+    ghost use Rattle.lane_core.specs.Steps.{Steps};
+    ghost use Rattle.lane_core.specs.Ends.{back_lists, back_capacity, known_messages, SameBack};
+
+    /// One step: after the finish `Done`. Else the answer that is held is put; or, if none is, a message is taken, and a job enters the gate with its number and
+    /// is graded, and its answer put, or held where the ring of answers is full. It never waits.
+    #[tactic(auto, using(crate::proofs::MessagesLemmas::messages))]
+    pub fn step<G: Gate>(&mut self, alloc: Global, gate: &G) -> Step
+        ensures lane { SameBack self.old self.new }
+        ensures lists { Steps (back_capacity self.old) result (back_lists self.old) (back_lists self.new) }
+        ensures idle { result ≡ Step.Idle → length (known_messages self.old) ≡ 0 }
+        ensures done { (result ≡ Step.Done) ↔ IsFinished (back_lists self.new) }
+    {
+        if self.finished {
+            return Step::Done;
+        }
+        match self.held.take() {
+            Some(answer) => offer(&mut self.answers, &mut self.held, answer),
+            None => match self.messages.pop() {
+                Err(_) => Step::Idle,
+                Ok(Message::Finish) => {
+                    self.finished = true;
+                    Step::Done
+                }
+                Ok(Message::Work(job)) => {
+                    gate.enter(job.number);
+                    let answer = grade(alloc, job);
+                    offer(&mut self.answers, &mut self.held, answer)
+                }
+            },
+        }
+    }
+}

@@ -1,0 +1,88 @@
+//! One turn of a collector at a lane.
+
+ghost use Rattle.std.specs.Prelude.{◌≡◌, ◌≢◌, ◌↔◌, ◌⊎◌, ◌<◌, ◌≤◌, ◌++◌, [], List, length, IsTrue, true, vec_capacity, vec_len};
+ghost use Rattle.std.specs.VecDeque.{deque_capacity, deque_len};
+ghost use mathlib.Core.List.{IsPrefix};
+ghost use Rattle.lane_core.specs.Messages.{has_finish, jobs_of};
+ghost use Rattle.lane_core.specs.Dealing.{Asks, Deals, Grows, Sends, Takes};
+
+use crate::answers::Answer;
+use crate::faults::SendFault;
+use crate::jobs::Job;
+use crate::lanes::Lane;
+use std::alloc::Global;
+use std::collections::VecDeque;
+
+/// How many answers one turn takes at most.
+pub const MOST_TAKEN: usize = 64;
+
+/// One turn at a lane: sends jobs from the front of `waiting` until none waits or one is refused, which goes back to the front; asks for the finish where none
+/// waits; and takes answers to the end of `got` while it has room, at most 64. True where a message was accepted or an answer was taken. Nothing is allocated.
+pub fn deal<L: Lane>(
+    lane: &mut L,
+    waiting: &mut VecDeque<Job, Global>,
+    got: &mut Vec<Answer>,
+) -> bool
+    ensures lane { L.same_lane lane.old lane.new }
+    ensures dealt { Deals (L.capacity lane.old) (L.lists lane.old) (L.lists lane.new) waiting.old.items waiting.new.items got.old.items got.new.items }
+    ensures moved { IsTrue result ↔ Grows (L.lists lane.old) (L.lists lane.new) }
+    ensures no_growth { (deque_capacity waiting.new ≡ deque_capacity waiting.old) × (vec_capacity got.new ≡ vec_capacity got.old) }
+{
+    let sent = send_waiting(lane, waiting);
+    let asked = ask_finish(lane, waiting);
+    let taken = take_answers(lane, got);
+    sent || asked || taken
+}
+
+/// Sends jobs from the front until none waits or one is refused. That one goes back to the front.
+fn send_waiting<L: Lane>(lane: &mut L, waiting: &mut VecDeque<Job, Global>) -> bool
+    ensures lane { L.same_lane lane.old lane.new }
+    ensures sent { Sends (L.capacity lane.old) (L.lists lane.old) (L.lists lane.new) waiting.old.items waiting.new.items }
+    ensures moved { IsTrue result ↔ Grows (L.lists lane.old) (L.lists lane.new) }
+    ensures no_growth { deque_capacity waiting.new ≡ deque_capacity waiting.old }
+{
+    let mut any = false;
+    while let Some(job) = waiting.pop_front() {
+        match lane.send(job) {
+            Ok(()) => any = true,
+            Err(SendFault::Finished(job)) | Err(SendFault::Full(job)) => {
+                waiting.push_front_reserved(job);
+                break;
+            }
+        }
+    }
+    any
+}
+
+/// Asks for the finish where no job waits.
+fn ask_finish<L: Lane>(lane: &mut L, waiting: &VecDeque<Job, Global>) -> bool
+    ensures lane { L.same_lane lane.old lane.new }
+    ensures asked { Asks (L.capacity lane.old) (L.lists lane.old) (L.lists lane.new) waiting.now.items }
+    ensures moved { IsTrue result ↔ Grows (L.lists lane.old) (L.lists lane.new) }
+{
+    if !waiting.is_empty() {
+        return false;
+    }
+    lane.finish().is_ok()
+}
+
+/// Takes answers while one is seen and there is room for it.
+fn take_answers<L: Lane>(lane: &mut L, got: &mut Vec<Answer>) -> bool
+    ensures lane { L.same_lane lane.old lane.new }
+    ensures taken { Takes (L.lists lane.old) (L.lists lane.new) got.old.items got.new.items }
+    ensures moved { IsTrue result ↔ Grows (L.lists lane.old) (L.lists lane.new) }
+    ensures no_growth { vec_capacity got.new ≡ vec_capacity got.old }
+{
+    let mut any = false;
+    for _ in 0..MOST_TAKEN {
+        if got.len() == got.capacity() {
+            break;
+        }
+        let Some(answer) = lane.take() else {
+            break;
+        };
+        got.push_reserved(answer);
+        any = true;
+    }
+    any
+}

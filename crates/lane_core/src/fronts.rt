@@ -1,0 +1,70 @@
+//! The collector's end of a lane.
+
+ghost use Rattle.std.specs.Prelude.{◌≡◌, ◌+◌, ◌≤◌, length, true};
+ghost use Rattle.rtrb.specs.Ring.{sent, known_free, producer_capacity};
+ghost use Rattle.lane_core.specs.Messages.{has_finish, finish_is_last};
+
+use crate::answers::Answer;
+use crate::faults::{FinishFault, SendFault};
+use crate::jobs::Job;
+use crate::lanes::Lane;
+use crate::messages::Message;
+use rtrb::{Consumer, Producer, PushError};
+
+/// The collector's end of a lane: it sends jobs and the finish, and receives answers. It may be in another thread than the worker's end.
+#[derive(Drop)]
+pub struct LaneFront {
+    pub(crate) messages: Producer<Message>,
+    pub(crate) answers: Consumer<Answer>,
+    pub(crate) finished: bool,
+    pub ghost noted: { finished ≡ has_finish (sent messages) },
+    pub ghost last: { finish_is_last (sent messages) ≡ true },
+    pub ghost room: { producer_capacity messages ≤ known_free messages + length (sent messages) },
+}
+
+impl Lane for LaneFront {
+    ghost use Rattle.std.specs.Prelude.{refl};
+    ghost use Rattle.lane_core.specs.Ends.{front_lists, front_capacity, SameFront, SameFront-refl, SameFront-trans, SameFront-capacity};
+
+    ghost lists = { front_lists };
+
+    ghost capacity = { front_capacity };
+
+    ghost same_lane = { SameFront };
+
+    ghost same_lane_refl = { SameFront-refl };
+
+    ghost same_lane_trans = { SameFront-trans };
+
+    ghost same_capacity = { SameFront-capacity };
+
+    #[tactic(auto, using(crate::proofs::MessagesLemmas::messages))]
+    fn send(&mut self, job: Job) -> Result<(), SendFault> {
+        if self.finished {
+            return Err(SendFault::Finished(job));
+        }
+        match self.messages.push(Message::Work(job)) {
+            Ok(()) => Ok(()),
+            Err(PushError::Full(Message::Work(job))) => Err(SendFault::Full(job)),
+            Err(PushError::Full(Message::Finish)) => unreachable!(),
+        }
+    }
+
+    #[tactic(auto, using(crate::proofs::MessagesLemmas::messages))]
+    fn finish(&mut self) -> Result<(), FinishFault> {
+        if self.finished {
+            return Err(FinishFault::Finished);
+        }
+        match self.messages.push(Message::Finish) {
+            Ok(()) => {
+                self.finished = true;
+                Ok(())
+            }
+            Err(_) => Err(FinishFault::Full),
+        }
+    }
+
+    fn take(&mut self) -> Option<Answer> {
+        self.answers.pop().ok()
+    }
+}

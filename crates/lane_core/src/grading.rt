@@ -1,0 +1,21 @@
+//! Grading a job.
+
+ghost use Rattle.lane_core.specs.Answers.{IsAnswerTo};
+
+use crate::answers::Answer;
+use crate::jobs::Job;
+use solve_core::report;
+use std::alloc::Global;
+
+/// The answer to a job. Where a growth is refused, its outcome is `NoMemory`.
+pub fn grade(alloc: Global, job: Job) -> Answer
+    ensures { IsAnswerTo job result }
+{
+    let Job {
+        number,
+        puzzle,
+        guesses,
+    } = job;
+    let outcome = report(alloc, &puzzle, guesses);
+    Answer::new(number, puzzle, guesses, outcome)
+}

@@ -1,0 +1,29 @@
+//! Laws of lanes. The first two are over every list of events from the opening.
+
+ghost use Rattle.std.specs.Prelude.{◌≡◌, ℕ, List, length, take, true};
+ghost use mathlib.Core.List.{IsPrefix};
+ghost use Rattle.lane_core.specs.Messages.{jobs_of, finish_is_last};
+ghost use Rattle.lane_core.specs.Answers.{AreAnswersTo};
+ghost use Rattle.lane_core.specs.Lane.{Lane, Event, Run, opening, IsAnswered, IsFinished, IsDrained};
+ghost use Rattle.lane_core.specs.Ends.{back_lists};
+ghost use Rattle.lane_core.specs.declared.backs.LaneBack.{LaneBack};
+
+/// What was put and what is held answers the jobs that were taken, place by place. So what was received answers the first of the jobs that were sent. No message
+/// follows the finish.
+pub fn answers_in_order()
+    ensures answered { (capacity : ℕ) (events : List Event) (lane : Lane) → Run (opening capacity) events lane → IsAnswered lane.back }
+    ensures taken { (capacity : ℕ) (events : List Event) (lane : Lane) → Run (opening capacity) events lane → IsPrefix lane.back.taken lane.front.sent }
+    ensures received { (capacity : ℕ) (events : List Event) (lane : Lane) → Run (opening capacity) events lane → IsPrefix lane.front.received lane.back.put }
+    ensures last { (capacity : ℕ) (events : List Event) (lane : Lane) → Run (opening capacity) events lane → finish_is_last lane.front.sent ≡ true }
+    ensures so_far { (capacity : ℕ) (events : List Event) (lane : Lane) → Run (opening capacity) events lane → AreAnswersTo (take (length lane.front.received) (jobs_of lane.front.sent)) lane.front.received }
+{}
+
+/// What a finished and drained lane received answers the jobs that were sent, place by place.
+pub fn drained_lanes_are_answered()
+    ensures { (capacity : ℕ) (events : List Event) (lane : Lane) → Run (opening capacity) events lane → IsFinished lane.back → IsDrained lane.front lane.back → AreAnswersTo (jobs_of lane.front.sent) lane.front.received }
+{}
+
+/// Each worker's end that there is keeps this too: what it put and what it holds answers the jobs that it took, place by place.
+pub fn backs_are_answered()
+    ensures { (back : LaneBack) → IsAnswered (back_lists back) }
+{}

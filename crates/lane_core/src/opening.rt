@@ -1,0 +1,49 @@
+//! Opening a lane.
+
+ghost use Rattle.std.specs.Prelude.{◌≡◌, ◌≤◌, IfOk};
+ghost use Rattle.lane_core.specs.Lane.{opening_front, opening_back};
+ghost use Rattle.lane_core.specs.Ends.{front_lists, back_lists, front_capacity, AreOneLane};
+
+use crate::backs::LaneBack;
+use crate::fronts::LaneFront;
+use grid_core::NoMemory;
+use rtrb::RingBuffer;
+use std::alloc::Global;
+
+/// The greatest capacity of a lane between two threads.
+pub const LARGEST_RING: usize = 64;
+
+/// Opens a lane with room for `capacity` messages and as many answers, from 1 to 64: its collector's end and its worker's end.
+pub fn open_lane(alloc: Global, capacity: usize) -> Result<(LaneFront, LaneBack), NoMemory>
+    requires least { 1 ≤ capacity }
+    requires most { capacity ≤ LARGEST_RING }
+    ensures one_lane { IfOk result (λ ends. AreOneLane ends.0 ends.1) }
+    ensures capacity { IfOk result (λ ends. front_capacity ends.0 ≡ capacity) }
+    ensures front { IfOk result (λ ends. front_lists ends.0 ≡ opening_front) }
+    ensures back { IfOk result (λ ends. back_lists ends.1 ≡ opening_back) }
+{
+    open_ends(alloc, capacity)
+}
+
+/// The two ends of a lane of any capacity.
+pub(crate) fn open_ends(alloc: Global, capacity: usize) -> Result<(LaneFront, LaneBack), NoMemory>
+    ensures one_lane { IfOk result (λ ends. AreOneLane ends.0 ends.1) }
+    ensures capacity { IfOk result (λ ends. front_capacity ends.0 ≡ capacity) }
+    ensures front { IfOk result (λ ends. front_lists ends.0 ≡ opening_front) }
+    ensures back { IfOk result (λ ends. back_lists ends.1 ≡ opening_back) }
+{
+    let (to_back, from_front) = RingBuffer::new(alloc, capacity)?;
+    let (to_front, from_back) = RingBuffer::new(alloc, capacity)?;
+    let front = LaneFront {
+        messages: to_back,
+        answers: from_back,
+        finished: false,
+    };
+    let back = LaneBack {
+        messages: from_front,
+        answers: to_front,
+        held: None,
+        finished: false,
+    };
+    Ok((front, back))
+}

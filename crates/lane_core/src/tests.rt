@@ -1,0 +1,272 @@
+//! Scripts of calls on one thread. Whether a ring is full or empty as an end sees it, no contract says.
+
+ghost use Rattle.std.specs.Prelude.{◌≡◌, IfOk};
+ghost use Rattle.lane_core.specs.Ends.{AreOneLane};
+
+use super::*;
+use grid_core::{Clue, NoMemory, Puzzle, Texts};
+use std::alloc::Global;
+use std::collections::VecDeque;
+use std::process::Abort;
+use std::sync::atomic::{AtomicU32, Ordering};
+use std::test::Fail;
+
+/// The puzzle of one cell, which is filled.
+fn one_cell(alloc: Global) -> Result<Puzzle, Fail> {
+    let row = Clue::from_numbers(alloc, &[1]).ok().ok_or("row")?;
+    let column = Clue::from_numbers(alloc, &[1]).ok().ok_or("column")?;
+    let mut rows = Vec::with_capacity(alloc, 1)?;
+    rows.push(row)?;
+    let mut columns = Vec::with_capacity(alloc, 1)?;
+    columns.push(column)?;
+    let puzzle = Puzzle::new(1, 1, rows, columns, Texts::none(), None);
+    Ok(puzzle.ok().ok_or("puzzle")?)
+}
+
+fn job(alloc: Global, number: u32) -> Result<Job, Fail> {
+    Ok(Job::new(number, one_cell(alloc)?, 1000))
+}
+
+/// A call on a lane.
+#[derive(Clone, Copy, Debug)]
+enum Call {
+    Send(u32),
+    Finish,
+    Take,
+    Work,
+}
+
+/// What a call answered. A job that came back and an answer are told by their number.
+#[derive(Clone, Copy, Debug, PartialEq, Eq)]
+enum Reply {
+    Accepted,
+    Full,
+    Finished,
+    FullReturning(u32),
+    FinishedReturning(u32),
+    Answered(u32),
+    Nothing,
+    Stepped(Step),
+    Worked,
+}
+
+fn sent(reply: Result<(), SendFault>) -> Reply {
+    match reply {
+        Ok(()) => Reply::Accepted,
+        Err(SendFault::Full(job)) => Reply::FullReturning(job.number),
+        Err(SendFault::Finished(job)) => Reply::FinishedReturning(job.number),
+    }
+}
+
+fn finished(reply: Result<(), FinishFault>) -> Reply {
+    match reply {
+        Ok(()) => Reply::Accepted,
+        Err(FinishFault::Full) => Reply::Full,
+        Err(FinishFault::Finished) => Reply::Finished,
+    }
+}
+
+fn taken(reply: Option<Answer>) -> Reply {
+    match reply {
+        Some(answer) => Reply::Answered(answer.number()),
+        None => Reply::Nothing,
+    }
+}
+
+/// Both ends of one lane, so that each call keeps that they are.
+#[derive(Drop)]
+struct Both {
+    front: LaneFront,
+    back: LaneBack,
+    ghost one_lane: { AreOneLane front back },
+}
+
+impl Both {
+    fn open(alloc: Global) -> Result<Both, NoMemory> {
+        let (front, back) = open_lane(alloc, 1)?;
+        Ok(Both { front, back })
+    }
+
+    fn call(&mut self, alloc: Global, call: Call) -> Result<Reply, Fail> {
+        Ok(match call {
+            Call::Send(number) => sent(self.front.send(job(alloc, number)?)),
+            Call::Finish => finished(self.front.finish()),
+            Call::Take => taken(self.front.take()),
+            Call::Work => Reply::Stepped(self.back.step(alloc, &OpenGate)),
+        })
+    }
+
+    fn settle(self) -> Result<(), (SettleFault, Both)> {
+        let Both { front, back } = self;
+        match settle(front, back) {
+            Ok(()) => Ok(()),
+            Err((fault, front, back)) => Err((fault, Both { front, back })),
+        }
+    }
+}
+
+fn follow(
+    rt: &impl Abort,
+    alloc: Global,
+    lane: &mut Both,
+    script: &[(Call, Reply)],
+) -> Result<(), Fail> {
+    for (call, reply) in script {
+        assert_eq!(rt; lane.call(alloc, *call)?, *reply);
+    }
+    Ok(())
+}
+
+const BEFORE_THE_FINISH: [(Call, Reply); 11] = [
+    (Call::Take, Reply::Nothing),
+    (Call::Work, Reply::Stepped(Step::Idle)),
+    (Call::Send(1), Reply::Accepted),
+    (Call::Send(2), Reply::FullReturning(2)),
+    (Call::Work, Reply::Stepped(Step::Graded)),
+    (Call::Send(2), Reply::Accepted),
+    (Call::Finish, Reply::Full),
+    (Call::Work, Reply::Stepped(Step::Waiting)),
+    (Call::Finish, Reply::Accepted),
+    (Call::Finish, Reply::Finished),
+    (Call::Send(3), Reply::FinishedReturning(3)),
+];
+
+const TAKING_THE_FINISH: [(Call, Reply); 3] = [
+    (Call::Take, Reply::Answered(1)),
+    (Call::Work, Reply::Stepped(Step::Graded)),
+    (Call::Work, Reply::Stepped(Step::Done)),
+];
+
+const DRAINING: [(Call, Reply); 2] = [
+    (Call::Work, Reply::Stepped(Step::Done)),
+    (Call::Take, Reply::Answered(2)),
+];
+
+#[test]
+fn lane_on_one_thread(rt: HostRuntime) -> Result<(), Fail> {
+    let alloc = rt.alloc();
+    let mut lane = Both::open(alloc).ok().ok_or("memory")?;
+    follow(&rt, alloc, &mut lane, &BEFORE_THE_FINISH)?;
+    let Err((fault, mut lane)) = lane.settle() else {
+        return Err(Fail::from("settled"));
+    };
+    assert_eq!(rt; fault, SettleFault::Unfinished);
+    follow(&rt, alloc, &mut lane, &TAKING_THE_FINISH)?;
+    let Err((fault, mut lane)) = lane.settle() else {
+        return Err(Fail::from("settled"));
+    };
+    assert_eq!(rt; fault, SettleFault::NotDrained);
+    follow(&rt, alloc, &mut lane, &DRAINING)?;
+    assert!(rt; lane.settle().is_ok());
+    Ok(())
+}
+
+fn call_of_batch(lane: &mut BatchLane, alloc: Global, call: Call) -> Result<Reply, Fail> {
+    Ok(match call {
+        Call::Send(number) => sent(lane.send(job(alloc, number)?)),
+        Call::Finish => finished(lane.finish()),
+        Call::Take => taken(lane.take()),
+        Call::Work => {
+            lane.work(alloc, &OpenGate);
+            Reply::Worked
+        }
+    })
+}
+
+fn follow_in_batch(
+    rt: &impl Abort,
+    alloc: Global,
+    lane: &mut BatchLane,
+    script: &[(Call, Reply)],
+) -> Result<(), Fail> {
+    for (call, reply) in script {
+        assert_eq!(rt; call_of_batch(lane, alloc, *call)?, *reply);
+    }
+    Ok(())
+}
+
+const BATCH: [(Call, Reply); 5] = [
+    (Call::Send(1), Reply::Accepted),
+    (Call::Send(2), Reply::Accepted),
+    (Call::Finish, Reply::Full),
+    (Call::Work, Reply::Worked),
+    (Call::Finish, Reply::Accepted),
+];
+
+const DRAINING_THE_BATCH: [(Call, Reply); 3] = [
+    (Call::Take, Reply::Answered(1)),
+    (Call::Take, Reply::Answered(2)),
+    (Call::Take, Reply::Nothing),
+];
+
+#[test]
+fn batch_lane(rt: HostRuntime) -> Result<(), Fail> {
+    let alloc = rt.alloc();
+    let mut lane = BatchLane::new(alloc, 2).ok().ok_or("memory")?;
+    follow_in_batch(&rt, alloc, &mut lane, &BATCH)?;
+    let Err((fault, mut lane)) = lane.close() else {
+        return Err(Fail::from("closed"));
+    };
+    assert_eq!(rt; fault, SettleFault::Unfinished);
+    lane.work(alloc, &OpenGate);
+    let Err((fault, mut lane)) = lane.close() else {
+        return Err(Fail::from("closed"));
+    };
+    assert_eq!(rt; fault, SettleFault::NotDrained);
+    follow_in_batch(&rt, alloc, &mut lane, &DRAINING_THE_BATCH)?;
+    assert!(rt; lane.close().is_ok());
+    Ok(())
+}
+
+#[test]
+fn dealing_a_batch(rt: HostRuntime) -> Result<(), Fail> {
+    let alloc = rt.alloc();
+    let mut lane = BatchLane::new(alloc, 2).ok().ok_or("memory")?;
+    let mut waiting = VecDeque::with_capacity(alloc, 3)?;
+    for number in 1..4 {
+        waiting.push_back(job(alloc, number)?)?;
+    }
+    let mut got = Vec::with_capacity(alloc, 64)?;
+    assert!(rt; deal(&mut lane, &mut waiting, &mut got));
+    assert_eq!(rt; (waiting.len(), got.len()), (1, 0));
+    lane.work(alloc, &OpenGate);
+    assert!(rt; deal(&mut lane, &mut waiting, &mut got));
+    assert_eq!(rt; (waiting.len(), got.len()), (0, 2));
+    lane.work(alloc, &OpenGate);
+    assert!(rt; deal(&mut lane, &mut waiting, &mut got));
+    assert!(rt; !deal(&mut lane, &mut waiting, &mut got));
+    for (answer, number) in got.iter().zip(1..4u32) {
+        assert_eq!(rt; answer.number(), number);
+    }
+    assert_eq!(rt; got.len(), 3);
+    assert!(rt; lane.close().is_ok());
+    Ok(())
+}
+
+/// A gate that notes the number of the last job that entered.
+#[derive(Drop)]
+struct LastEntry {
+    number: AtomicU32,
+}
+
+impl Gate for LastEntry {
+    fn enter(&self, number: u32) {
+        self.number.store(number, Ordering::SeqCst);
+    }
+}
+
+#[test]
+fn jobs_enter_the_gate(rt: HostRuntime) -> Result<(), Fail> {
+    let alloc = rt.alloc();
+    let gate = LastEntry {
+        number: AtomicU32::new(0),
+    };
+    let (mut front, mut back) = open_lane(alloc, 64).ok().ok_or("memory")?;
+    assert!(rt; front.send(job(alloc, 7)?).is_ok());
+    assert_eq!(rt; back.step(alloc, &gate), Step::Graded);
+    assert_eq!(rt; gate.number.load(Ordering::SeqCst), 7);
+    let answer = front.take().ok_or("no answer")?;
+    assert_eq!(rt; (answer.number(), answer.guesses()), (7, 1000));
+    assert_eq!(rt; (answer.puzzle().width(), answer.puzzle().height()), (1, 1));
+    Ok(())
+}
