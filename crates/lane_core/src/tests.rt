@@ -5,6 +5,7 @@ ghost use Rattle.lane_core.specs.Ends.{AreOneLane};
 
 use super::*;
 use grid_core::{Clue, NoMemory, Puzzle, Texts};
+use solve_core::{Grade, Verdict};
 use std::alloc::Global;
 use std::collections::VecDeque;
 use std::process::Abort;
@@ -240,6 +241,21 @@ fn dealing_a_batch(rt: HostRuntime) -> Result<(), Fail> {
     }
     assert_eq!(rt; got.len(), 3);
     assert!(rt; lane.close().is_ok());
+    Ok(())
+}
+
+#[test]
+fn grades_a_job(rt: HostRuntime) -> Result<(), Fail> {
+    let alloc = rt.alloc();
+    let answer = grade(alloc, job(alloc, 7)?);
+    assert_eq!(rt; (answer.number(), answer.guesses()), (7, 1000));
+    let found = answer.outcome().ok().ok_or("no report")?;
+    let Verdict::One(grid) = &found.verdict else {
+        return Err(Fail::from("not one solution"));
+    };
+    assert_eq!(rt; (grid.width(), grid.height(), grid.known()), (1, 1, 1));
+    assert_eq!(rt; found.grade, Grade::Lines);
+    assert_eq!(rt; (found.line_known, found.trial_known, found.spent), (1, 1, 0));
     Ok(())
 }
 

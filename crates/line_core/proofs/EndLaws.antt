@@ -30,15 +30,17 @@ starts_of l clue m x = (x.0, IsPlacing_test l clue x.0 x.1, x.2)
 
 pub leftmost-least : (l : List Cell) (clue m : List ℕ) → leftmost l clue ≡ Some m → AreStarts l clue m × ((other : List ℕ) → AreStarts l clue other → pointwise nat_le m other ≡ true)
 leftmost-least l clue m e =
-    let f = found (IsPlacing l clue) (λ starts. list_all (pointwise nat_le starts) (all_starts l clue)) m (placings l clue) (placings_listed l clue).members e in
-    (starts_of l clue m f.1,
-    λ other s. ap (pointwise nat_le m) (sym s.2) ∙ pass_all l clue (pointwise nat_le m) f.0 s.0 (test_IsPlacing l clue s.0 s.1))
+    let f = found (IsPlacing l clue) (λ starts. list_all (pointwise nat_le starts) (all_starts l clue)) m (placings l clue) (placings_listed l clue).members e in (
+      starts_of l clue m f.1,
+      λ other s. ap (pointwise nat_le m) (sym s.2) ∙ pass_all l clue (pointwise nat_le m) f.0 s.0 (test_IsPlacing l clue s.0 s.1),
+    )
 
 pub rightmost-greatest : (l : List Cell) (clue m : List ℕ) → rightmost l clue ≡ Some m → AreStarts l clue m × ((other : List ℕ) → AreStarts l clue other → pointwise nat_le other m ≡ true)
 rightmost-greatest l clue m e =
-    let f = found (IsPlacing l clue) (λ starts. list_all (λ other. pointwise nat_le other starts) (all_starts l clue)) m (placings l clue) (placings_listed l clue).members e in
-    (starts_of l clue m f.1,
-    λ other s. ap (λ (z : List ℕ). pointwise nat_le z m) (sym s.2) ∙ pass_all l clue (λ other. pointwise nat_le other m) f.0 s.0 (test_IsPlacing l clue s.0 s.1))
+    let f = found (IsPlacing l clue) (λ starts. list_all (λ other. pointwise nat_le other starts) (all_starts l clue)) m (placings l clue) (placings_listed l clue).members e in (
+      starts_of l clue m f.1,
+      λ other s. ap (λ (z : List ℕ). pointwise nat_le z m) (sym s.2) ∙ pass_all l clue (λ other. pointwise nat_le other m) f.0 s.0 (test_IsPlacing l clue s.0 s.1),
+    )
 
 -- ---- there are such starts
 

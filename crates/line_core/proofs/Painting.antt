@@ -76,14 +76,15 @@ laid_from l g p (c ∷ clue) [] e first windows apart blanks pos = absurd (omega
 laid_from l g p (c ∷ clue) (s ∷ ss) e first windows apart blanks pos =
     let start : p + g ≤ s = first (omega arith) in
     let window : AllFrom (MayBe l true) c s = windows 0 (omega arith) in
-    let last : s + 0 < length l = (window 0 pos.0).0 in
-    (start,
-    (λ z b. blanks (p + z) (omega arith) (omega arith) (λ j h from to.
-    let least = first_least (c ∷ clue) (s ∷ ss) apart j h in
-    absurd (omega arith))),
-    window,
-    laid_from l 1 (s + c) clue ss (omega arith) (λ h. let next = apart 0 (omega arith) in omega arith) (λ j h. windows (suc j) (omega arith)) (λ j h. apart (suc j) (omega arith))
-    (λ i a h free. blanks i (omega arith) h (by i a free)) pos.1)
+    let last : s + 0 < length l = (window 0 pos.0).0 in (
+      start,
+      (λ z b. blanks (p + z) (omega arith) (omega arith) (λ j h from to.
+          let least = first_least (c ∷ clue) (s ∷ ss) apart j h in
+          absurd (omega arith))),
+      window,
+      laid_from l 1 (s + c) clue ss (omega arith) (λ h. let next = apart 0 (omega arith) in omega arith) (λ j h. windows (suc j) (omega arith)) (λ j h. apart (suc j) (omega arith))
+          (λ i a h free. blanks i (omega arith) h (by i a free)) pos.1,
+    )
   where
     by : (i : ℕ) → s + c ≤ i → ((j : ℕ) → j < length clue → get_or ss j 0 ≤ i → i < get_or ss j 0 + get_or clue j 0 → ⊥)
         → (j : ℕ) → j < length (c ∷ clue) → get_or (s ∷ ss) j 0 ≤ i → i < get_or (s ∷ ss) j 0 + get_or (c ∷ clue) j 0 → ⊥
@@ -226,9 +227,9 @@ least_laid l clue m y some count each least = record {
         elim (cases_lt q n) [
           | inl low ↦ (let gap = laid_apart l clue w.starts w.laid_so q n low k in absurd (omega arith))
           | inr high ↦ elim (cases_lt n q) [
-              | inl above ↦ (let bound = later q (omega arith) inside in let least_q = least w.starts w.laid_so q inside in absurd (omega arith))
-              | inr same ↦ (let e : q ≡ n = omega arith in let bad = subst (λ (z : ℕ). i < get_or w.starts z 0 + get_or clue z 0) e to in absurd (omega arith))
-            ]
+            | inl above ↦ (let bound = later q (omega arith) inside in let least_q = least w.starts w.laid_so q inside in absurd (omega arith))
+            | inr same ↦ (let e : q ≡ n = omega arith in let bad = subst (λ (z : ℕ). i < get_or w.starts z 0 + get_or clue z 0) e to in absurd (omega arith))
+          ]
         ])
 
     go : (i : ℕ) → i < length l → ((j : ℕ) → j < length clue → get_or m j 0 ≤ i → i < get_or m j 0 + get_or clue j 0 → ⊥)
@@ -237,13 +238,13 @@ least_laid l clue m y some count each least = record {
     go i h free (suc n) k later =
         elim (cases_lt i (get_or m n 0)) [
           | inl low ↦ go i h free n (omega arith) (λ q a b. elim (cases_lt n q) [
-              | inl above ↦ later q (omega arith) b
-              | inr same ↦ (let e : n ≡ q = omega arith in subst (λ (z : ℕ). i < get_or m z 0) e low)
-            ])
+            | inl above ↦ later q (omega arith) b
+            | inr same ↦ (let e : n ≡ q = omega arith in subst (λ (z : ℕ). i < get_or m z 0) e low)
+          ])
           | inr high ↦ elim (cases_lt i (get_or m n 0 + get_or clue n 0)) [
-              | inl inside ↦ absurd (free n (omega arith) high inside)
-              | inr past ↦ at_run i n h (omega arith) past later
-            ]
+            | inl inside ↦ absurd (free n (omega arith) high inside)
+            | inr past ↦ at_run i n h (omega arith) past later
+          ]
         ]
 
 -- and so do the greatest
@@ -270,9 +271,9 @@ greatest_laid l clue m y some count each greatest = record {
         elim (cases_lt q n) [
           | inl low ↦ (let bound = earlier q low in let high = greatest w.starts w.laid_so q inside in absurd (omega arith))
           | inr high ↦ elim (cases_lt n q) [
-              | inl above ↦ (let gap = laid_apart l clue w.starts w.laid_so n q above inside in absurd (omega arith))
-              | inr same ↦ (let e : q ≡ n = omega arith in let bad = subst (λ (z : ℕ). get_or w.starts z 0 ≤ i) e from in absurd (omega arith))
-            ]
+            | inl above ↦ (let gap = laid_apart l clue w.starts w.laid_so n q above inside in absurd (omega arith))
+            | inr same ↦ (let e : q ≡ n = omega arith in let bad = subst (λ (z : ℕ). get_or w.starts z 0 ≤ i) e from in absurd (omega arith))
+          ]
         ])
 
     go : (i : ℕ) → i < length l → ((j : ℕ) → j < length clue → get_or m j 0 ≤ i → i < get_or m j 0 + get_or clue j 0 → ⊥)
@@ -281,11 +282,11 @@ greatest_laid l clue m y some count each greatest = record {
     go i h free (suc fuel) n k earlier =
         elim (cases_lt i (get_or m n 0 + get_or clue n 0)) [
           | inr past ↦ go i h free fuel (suc n) (omega arith) (λ q a. elim (cases_lt q n) [
-              | inl low ↦ earlier q low
-              | inr high ↦ (let e : n ≡ q = omega arith in subst (λ (z : ℕ). get_or m z 0 + get_or clue z 0 ≤ i) e past)
-            ])
+            | inl low ↦ earlier q low
+            | inr high ↦ (let e : n ≡ q = omega arith in subst (λ (z : ℕ). get_or m z 0 + get_or clue z 0 ≤ i) e past)
+          ])
           | inl under ↦ elim (cases_lt i (get_or m n 0)) [
-              | inl low ↦ at_run i n h (omega arith) low earlier
-              | inr high ↦ absurd (free n (omega arith) high under)
-            ]
+            | inl low ↦ at_run i n h (omega arith) low earlier
+            | inr high ↦ absurd (free n (omega arith) high under)
+          ]
         ]

@@ -1,52 +1,117 @@
 -- A mask seen from its other end.
-use Rattle.std.proofs.Common.{◌≡◌, ℕ, zero, suc, ◌+◌, ◌-◌, ◌*◌, ◌/◌, ◌%◌, ◌<◌, inl, inr, sym, ap, ◌∙◌, arith}
-use Rattle.std.specs.Int.{bit_at, reverse_bits_onto}
+use Rattle.std.proofs.Common.{◌≡◌, ℕ, zero, suc, ◌+◌, ◌-◌, ◌*◌, ◌/◌, ◌%◌, ◌^◌, ◌<◌, ◌≤◌, ◌⊎◌, inl, inr, refl, sym, ap, ◌∙◌, arith, subst, Bool, true, false, not, ◌&&◌, cond, nat_eq, nat_lt, nat_le, true≢false, ltb-true, leb-true, eqb-true}
+use Rattle.std.specs.Int.{bit_at}
+use Rattle.std.specs.Int.RustNames.{bit_and, bit_or, bit_xor}
 use Rattle.std.proofs.lemmas.Bool.{cases_lt}
-use Rattle.std.proofs.lemmas.Nat.Bits.{bit_at_lowest, bit_at-suc, bit_at-zero}
-use Rattle.line_core.specs.Masks.{Has, IsMaskOf, IsTurned}
+use Rattle.std.proofs.lemmas.Nat.Bits.{bit_at-lt}
+use Rattle.line_core.specs.Masks.{Has, has, IsMaskOf, IsMoved, IsTurned, all_below, swapped_place, is_pairing_at, IsPairing}
+use Rattle.line_core.proofs.Flooding.{has_below}
+use Rattle.line_core.proofs.Steps.{and_is, or_is, shr_is, shl_is, has-itself}
 
-low_bit : (a b : ℕ) → b < 2 → (a * 2 + b) % 2 ≡ b
-low_bit a b h = omega arith
+and_left : (a b : Bool) → (a && b) ≡ true → a ≡ true
+and_left true b h = refl
+and_left false b h = h
 
-half : (a b : ℕ) → b < 2 → (a * 2 + b) / 2 ≡ a
-half a b h = omega arith
+and_right : (a b : Bool) → (a && b) ≡ true → b ≡ true
+and_right true b h = h
+and_right false b h = cc
 
--- the places above those that were turned are the others
-turned_high : (k n a i : ℕ) → bit_at (reverse_bits_onto k n a) (k + i) ≡ bit_at a i
-unfolding reverse_bits_onto
-turned_high zero n a i = let e : 0 + i ≡ i = omega arith in ap (bit_at a) e
-turned_high (suc k) n a i =
-    let e : suc k + i ≡ k + suc i = omega arith in
-    ap (bit_at (reverse_bits_onto k (n / 2) (a * 2 + n % 2))) e ∙ turned_high k (n / 2) (a * 2 + n % 2) (suc i)
-    ∙ bit_at-suc (a * 2 + n % 2) i ∙ ap (λ (z : ℕ). bit_at z i) (half a (n % 2) (omega arith))
-
--- and those that were turned stand last first
-turned_low : (k n a i : ℕ) → i < k → bit_at (reverse_bits_onto k n a) i ≡ bit_at n (k - 1 - i)
-unfolding reverse_bits_onto
-turned_low zero n a i h = absurd (omega arith)
-turned_low (suc k) n a i h =
-    elim (cases_lt i k) [
-      | inl low ↦
-          (let e : suc (k - 1 - i) ≡ suc k - 1 - i = omega arith in
-          turned_low k (n / 2) (a * 2 + n % 2) i low ∙ sym (bit_at-suc n (k - 1 - i)) ∙ ap (bit_at n) e)
-      | inr high ↦
-          (let e : i ≡ k + 0 = omega arith in
-          let f : 0 ≡ suc k - 1 - i = omega arith in
-          ap (bit_at (reverse_bits_onto k (n / 2) (a * 2 + n % 2))) e ∙ turned_high k (n / 2) (a * 2 + n % 2) 0
-          ∙ bit_at_lowest (a * 2 + n % 2) ∙ low_bit a (n % 2) (omega arith) ∙ sym (bit_at_lowest n) ∙ ap (bit_at n) f)
+pub below_all : (n : ℕ) (p : ℕ → Bool) → all_below n p ≡ true → (i : ℕ) → i < n → p i ≡ true
+below_all zero p h i l = absurd (omega arith)
+below_all (suc n) p h i l =
+    elim (cases_lt i n) [
+      | inl low ↦ below_all n p (and_right (p n) (all_below n p) h) i low
+      | inr high ↦ (let e : n ≡ i = omega arith in subst (λ (k : ℕ). p k ≡ true) e (and_left (p n) (all_below n p) h))
     ]
 
-above_none : (i : ℕ) → bit_at 0 i ≡ 0
-above_none i = bit_at-zero i
+has_true : (m i : ℕ) → Has m i → has m i ≡ true
+has_true m i h = rw h refl
 
-pub turned : (n : ℕ) → IsMaskOf (IsTurned (Has n)) (reverse_bits_onto 128 n 0)
-turned n = record {
-  to = λ i h. elim (cases_lt i 128) [
-    | inl low ↦ (low, sym (turned_low 128 n 0 i low) ∙ h)
-    | inr high ↦
-        (let e : i ≡ 128 + (i - 128) = omega arith in
-        let z : bit_at (reverse_bits_onto 128 n 0) i ≡ 0 = ap (bit_at (reverse_bits_onto 128 n 0)) e ∙ turned_high 128 n 0 (i - 128) ∙ above_none (i - 128) in
-        absurd (omega arith))
-  ];
-  from = λ i h. turned_low 128 n 0 i h.0 ∙ h.1;
+true_has : (m i : ℕ) → has m i ≡ true → Has m i
+true_has m i h = by (bit_at m i) refl h (bit_at-lt m i)
+  where
+    by : (n : ℕ) → bit_at m i ≡ n → nat_eq n 1 ≡ true → n < 2 → bit_at m i ≡ 1
+    by zero e t l = absurd (true≢false (sym t))
+    by (suc zero) e t l = e
+    by (suc (suc n)) e t l = absurd (omega arith)
+
+-- one step of a turn
+pub pairs_swapped : (x low by : ℕ) → low < 340282366920938463463374607431768211456 → IsPairing low by
+    → IsMaskOf (λ i. (i < 128) × Has x (swapped_place low by i)) (bit_or (bit_and (x / 2 ^ by) low) (bit_and x low * 2 ^ by % 340282366920938463463374607431768211456))
+pairs_swapped x low by b pairing =
+    let halves : IsMaskOf (λ i. Has x (i + by) × Has low i) (bit_and (x / 2 ^ by) low) = and_is (λ i. Has x (i + by)) (Has low) (x / 2 ^ by) low (shr_is (Has x) x by (has-itself x)) (has-itself low) in
+    let others : IsMaskOf (IsMoved (λ i. Has x i × Has low i) by) (bit_and x low * 2 ^ by % 340282366920938463463374607431768211456) =
+    shl_is (λ i. Has x i × Has low i) (bit_and x low) by (and_is (Has x) (Has low) x low (has-itself x) (has-itself low)) in
+    let both = or_is (λ i. Has x (i + by) × Has low i) (IsMoved (λ i. Has x i × Has low i) by) (bit_and (x / 2 ^ by) low) (bit_and x low * 2 ^ by % 340282366920938463463374607431768211456) halves others in
+    record {
+      to = λ i h. elim (both.to i h) [
+        | inl a ↦ (has_below low i b a.1, low_place i (has low i) (has_true low i a.1) a.0)
+        | inr a ↦ (a.0, high_place i (i - by) (has low i) (not_low i a.1 (is_low (i - by) (has_below low (i - by) b a.2.1) (has_true low (i - by) a.2.1))) a.2.0)
+      ];
+      from = λ i h. both.from i (back i (has low i) refl h.0 (pair i h.0) h.1);
+    }
+  where
+    pair : (i : ℕ) → i < 128 → cond (has low i) (not (has low (i + by))) (nat_le by i && has low (i - by)) ≡ true
+    pair i l = and_right (nat_lt (swapped_place low by i) 128) (cond (has low i) (not (has low (i + by))) (nat_le by i && has low (i - by))) (below_all 128 (is_pairing_at low by) pairing i l)
+
+    is_low : (i : ℕ) → i < 128 → has low i ≡ true → has low (i + by) ≡ false
+    is_low i l h = un (has low (i + by)) (subst (λ (c : Bool). cond c (not (has low (i + by))) (nat_le by i && has low (i - by)) ≡ true) h (pair i l))
+      where
+        un : (c : Bool) → not c ≡ true → c ≡ false
+        un true e = absurd (true≢false (sym e))
+        un false e = refl
+
+    not_low : (i : ℕ) → by ≤ i → has low (i - by + by) ≡ false → has low i ≡ false
+    not_low i l e = let f : i - by + by ≡ i = omega arith in subst (λ (k : ℕ). has low k ≡ false) f e
+
+    low_place : (i : ℕ) (c : Bool) → c ≡ true → Has x (i + by) → Has x (cond c (i + by) (i - by))
+    low_place i true e h = h
+    low_place i false e h = absurd (true≢false (sym e))
+
+    high_place : (i p : ℕ) (c : Bool) → c ≡ false → Has x p → Has x (cond c (i + by) p)
+    high_place i p true e h = absurd (true≢false e)
+    high_place i p false e h = h
+
+    back : (i : ℕ) (c : Bool) → has low i ≡ c → i < 128 → cond c (not (has low (i + by))) (nat_le by i && has low (i - by)) ≡ true → Has x (cond c (i + by) (i - by))
+        → (Has x (i + by) × Has low i) ⊎ IsMoved (λ k. Has x k × Has low k) by i
+    back i true e l p h = inl (h, true_has low i e)
+    back i false e l p h = inr (l, leb-true by i (and_left (nat_le by i) (has low (i - by)) p), (h, true_has low (i - by) (and_right (nat_le by i) (has low (i - by)) p)))
+
+-- one step after another
+pub steps : (x r s : ℕ) (f g : ℕ → ℕ) → ((i : ℕ) → i < 128 → g i < 128) → IsMaskOf (λ i. (i < 128) × Has x (f i)) r → IsMaskOf (λ i. (i < 128) × Has r (g i)) s → IsMaskOf (λ i. (i < 128) × Has x (f (g i))) s
+steps x r s f g within p q = record {
+  to = λ i h. let a = q.to i h in (a.0, (p.to (g i) a.1).1);
+  from = λ i h. q.from i (h.0, p.from (g i) (within i h.0, h.1));
 }
+
+pub place_below : (low by : ℕ) → IsPairing low by → (i : ℕ) → i < 128 → swapped_place low by i < 128
+place_below low by pairing i l = ltb-true (swapped_place low by i) 128 (and_left (nat_lt (swapped_place low by i) 128) (cond (has low i) (not (has low (i + by))) (nat_le by i && has low (i - by))) (below_all 128 (is_pairing_at low by) pairing i l))
+
+abbrev turned_place : ℕ → ℕ
+turned_place i = (swapped_place 0x55555555555555555555555555555555 1 (swapped_place 0x33333333333333333333333333333333 2 (swapped_place 0x0f0f0f0f0f0f0f0f0f0f0f0f0f0f0f0f 4 (swapped_place 0x00ff00ff00ff00ff00ff00ff00ff00ff 8 (swapped_place 0x0000ffff0000ffff0000ffff0000ffff 16 (swapped_place 0x00000000ffffffff00000000ffffffff 32 (swapped_place 0x0000000000000000ffffffffffffffff 64 i)))))))
+
+turned_place_is : all_below 128 (λ i. nat_eq (turned_place i) (127 - i)) ≡ true
+turned_place_is = refl
+
+-- seven steps are a turn
+pub turned : (x r1 r2 r3 r4 r5 r6 r7 : ℕ)
+    → IsMaskOf (λ i. (i < 128) × Has x (swapped_place 0x55555555555555555555555555555555 1 i)) r1
+    → IsMaskOf (λ i. (i < 128) × Has r1 (swapped_place 0x33333333333333333333333333333333 2 i)) r2
+    → IsMaskOf (λ i. (i < 128) × Has r2 (swapped_place 0x0f0f0f0f0f0f0f0f0f0f0f0f0f0f0f0f 4 i)) r3
+    → IsMaskOf (λ i. (i < 128) × Has r3 (swapped_place 0x00ff00ff00ff00ff00ff00ff00ff00ff 8 i)) r4
+    → IsMaskOf (λ i. (i < 128) × Has r4 (swapped_place 0x0000ffff0000ffff0000ffff0000ffff 16 i)) r5
+    → IsMaskOf (λ i. (i < 128) × Has r5 (swapped_place 0x00000000ffffffff00000000ffffffff 32 i)) r6
+    → IsMaskOf (λ i. (i < 128) × Has r6 (swapped_place 0x0000000000000000ffffffffffffffff 64 i)) r7
+    → IsMaskOf (IsTurned (Has x)) r7
+turned x r1 r2 r3 r4 r5 r6 r7 p1 p2 p3 p4 p5 p6 p7 =
+    let q2 : IsMaskOf (λ i. (i < 128) × Has x (swapped_place 0x55555555555555555555555555555555 1 (swapped_place 0x33333333333333333333333333333333 2 i))) r2 = steps x r1 r2 (λ (i : ℕ). (swapped_place 0x55555555555555555555555555555555 1 i)) (λ (i : ℕ). swapped_place 0x33333333333333333333333333333333 2 i) (place_below 0x33333333333333333333333333333333 2 refl) p1 p2 in
+    let q3 : IsMaskOf (λ i. (i < 128) × Has x (swapped_place 0x55555555555555555555555555555555 1 (swapped_place 0x33333333333333333333333333333333 2 (swapped_place 0x0f0f0f0f0f0f0f0f0f0f0f0f0f0f0f0f 4 i)))) r3 = steps x r2 r3 (λ (i : ℕ). (swapped_place 0x55555555555555555555555555555555 1 (swapped_place 0x33333333333333333333333333333333 2 i))) (λ (i : ℕ). swapped_place 0x0f0f0f0f0f0f0f0f0f0f0f0f0f0f0f0f 4 i) (place_below 0x0f0f0f0f0f0f0f0f0f0f0f0f0f0f0f0f 4 refl) q2 p3 in
+    let q4 : IsMaskOf (λ i. (i < 128) × Has x (swapped_place 0x55555555555555555555555555555555 1 (swapped_place 0x33333333333333333333333333333333 2 (swapped_place 0x0f0f0f0f0f0f0f0f0f0f0f0f0f0f0f0f 4 (swapped_place 0x00ff00ff00ff00ff00ff00ff00ff00ff 8 i))))) r4 = steps x r3 r4 (λ (i : ℕ). (swapped_place 0x55555555555555555555555555555555 1 (swapped_place 0x33333333333333333333333333333333 2 (swapped_place 0x0f0f0f0f0f0f0f0f0f0f0f0f0f0f0f0f 4 i)))) (λ (i : ℕ). swapped_place 0x00ff00ff00ff00ff00ff00ff00ff00ff 8 i) (place_below 0x00ff00ff00ff00ff00ff00ff00ff00ff 8 refl) q3 p4 in
+    let q5 : IsMaskOf (λ i. (i < 128) × Has x (swapped_place 0x55555555555555555555555555555555 1 (swapped_place 0x33333333333333333333333333333333 2 (swapped_place 0x0f0f0f0f0f0f0f0f0f0f0f0f0f0f0f0f 4 (swapped_place 0x00ff00ff00ff00ff00ff00ff00ff00ff 8 (swapped_place 0x0000ffff0000ffff0000ffff0000ffff 16 i)))))) r5 = steps x r4 r5 (λ (i : ℕ). (swapped_place 0x55555555555555555555555555555555 1 (swapped_place 0x33333333333333333333333333333333 2 (swapped_place 0x0f0f0f0f0f0f0f0f0f0f0f0f0f0f0f0f 4 (swapped_place 0x00ff00ff00ff00ff00ff00ff00ff00ff 8 i))))) (λ (i : ℕ). swapped_place 0x0000ffff0000ffff0000ffff0000ffff 16 i) (place_below 0x0000ffff0000ffff0000ffff0000ffff 16 refl) q4 p5 in
+    let q6 : IsMaskOf (λ i. (i < 128) × Has x (swapped_place 0x55555555555555555555555555555555 1 (swapped_place 0x33333333333333333333333333333333 2 (swapped_place 0x0f0f0f0f0f0f0f0f0f0f0f0f0f0f0f0f 4 (swapped_place 0x00ff00ff00ff00ff00ff00ff00ff00ff 8 (swapped_place 0x0000ffff0000ffff0000ffff0000ffff 16 (swapped_place 0x00000000ffffffff00000000ffffffff 32 i))))))) r6 = steps x r5 r6 (λ (i : ℕ). (swapped_place 0x55555555555555555555555555555555 1 (swapped_place 0x33333333333333333333333333333333 2 (swapped_place 0x0f0f0f0f0f0f0f0f0f0f0f0f0f0f0f0f 4 (swapped_place 0x00ff00ff00ff00ff00ff00ff00ff00ff 8 (swapped_place 0x0000ffff0000ffff0000ffff0000ffff 16 i)))))) (λ (i : ℕ). swapped_place 0x00000000ffffffff00000000ffffffff 32 i) (place_below 0x00000000ffffffff00000000ffffffff 32 refl) q5 p6 in
+    let q7 : IsMaskOf (λ i. (i < 128) × Has x (swapped_place 0x55555555555555555555555555555555 1 (swapped_place 0x33333333333333333333333333333333 2 (swapped_place 0x0f0f0f0f0f0f0f0f0f0f0f0f0f0f0f0f 4 (swapped_place 0x00ff00ff00ff00ff00ff00ff00ff00ff 8 (swapped_place 0x0000ffff0000ffff0000ffff0000ffff 16 (swapped_place 0x00000000ffffffff00000000ffffffff 32 (swapped_place 0x0000000000000000ffffffffffffffff 64 i)))))))) r7 = steps x r6 r7 (λ (i : ℕ). (swapped_place 0x55555555555555555555555555555555 1 (swapped_place 0x33333333333333333333333333333333 2 (swapped_place 0x0f0f0f0f0f0f0f0f0f0f0f0f0f0f0f0f 4 (swapped_place 0x00ff00ff00ff00ff00ff00ff00ff00ff 8 (swapped_place 0x0000ffff0000ffff0000ffff0000ffff 16 (swapped_place 0x00000000ffffffff00000000ffffffff 32 i))))))) (λ (i : ℕ). swapped_place 0x0000000000000000ffffffffffffffff 64 i) (place_below 0x0000000000000000ffffffffffffffff 64 refl) q6 p7 in
+    let same : (i : ℕ) → i < 128 → turned_place i ≡ 127 - i = λ i l. eqb-true (turned_place i) (127 - i) (below_all 128 (λ i. nat_eq (turned_place i) (127 - i)) turned_place_is i l) in
+    record {
+      to = λ i h. let a = q7.to i h in (a.0, subst (Has x) (same i a.0) a.1);
+      from = λ i h. q7.from i (h.0, subst (Has x) (sym (same i h.0)) h.1);
+    }

@@ -1,5 +1,5 @@
 -- Words as sets of places: a bit a place.
-use Rattle.std.specs.Prelude.{◌≡◌, ℕ, zero, suc, ◌+◌, ◌-◌, ◌<◌, ◌≤◌, ◌⊎◌, Bool, nat_eq, List, slice_index_or, ◌^◌}
+use Rattle.std.specs.Prelude.{◌≡◌, ℕ, zero, suc, ◌+◌, ◌-◌, ◌<◌, ◌≤◌, ◌⊎◌, Bool, true, not, ◌&&◌, nat_eq, nat_lt, nat_le, if◌then◌else◌, List, slice_index_or, ◌^◌}
 use Rattle.std.specs.Int.{bit_at}
 
 -- whether a mask has a place
@@ -35,6 +35,23 @@ IsTurned P i = (i < 128) × P (127 - i)
 -- whether a mask has a place, as a test
 abbrev pub has : ℕ → ℕ → Bool
 has mask i = nat_eq (bit_at mask i) 1
+
+-- whether a test passes at each number below a bound
+abbrev pub all_below : ℕ → (ℕ → Bool) → Bool
+all_below zero p = true
+all_below (suc n) p = p n && all_below n p
+
+-- the place that a step of a turn brings to a place: the low half of each pair is in the mask
+abbrev pub swapped_place : ℕ → ℕ → ℕ → ℕ
+swapped_place low by i = if has low i then i + by else (i - by)
+
+-- whether a mask has the low half of each pair, at a place
+abbrev pub is_pairing_at : ℕ → ℕ → ℕ → Bool
+is_pairing_at low by i = nat_lt (swapped_place low by i) 128 && (if has low i then not (has low (i + by)) else (nat_le by i && has low (i - by)))
+
+-- the low half of each pair is in the mask, and nothing else
+abbrev pub IsPairing : ℕ → ℕ → Type 0
+IsPairing low by = all_below 128 (is_pairing_at low by) ≡ true
 
 -- a table of the starts of windows of 1, 2, 4 and so on cells
 pub record AreWindows (cells : ℕ) (table : List ℕ) : Type 0 where

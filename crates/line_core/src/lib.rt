@@ -8,7 +8,6 @@ mod listing;
 mod masks;
 mod reach;
 mod starts;
-
 #[cfg(test)]
 mod tests;
 

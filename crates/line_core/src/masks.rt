@@ -1,7 +1,7 @@
 //! Masks of 128 places, a bit a place.
 
 ghost use Rattle.std.specs.Prelude.{◌≡◌, ◌≢◌, ◌+◌, ◌-◌, ◌*◌, ◌^◌, ◌<◌, ◌≤◌, ◌⊎◌, ℕ, slice_index, true, false, length};
-ghost use Rattle.line_core.specs.Masks.{Has, has, IsFlooded, IsMaskOf, IsTurned, IsMoved, AllFrom, SomeFrom, AreWindows};
+ghost use Rattle.line_core.specs.Masks.{Has, has, IsFlooded, IsMaskOf, IsTurned, IsMoved, AllFrom, SomeFrom, AreWindows, IsPairing, swapped_place};
 
 /// Whether a mask has a place.
 pub fn has(mask: u128, place: u16) -> bool
@@ -77,11 +77,26 @@ pub fn write_windows(cells: u128, table: &mut [u128; 8])
     }
 }
 
+/// Swaps the halves of each pair of groups of so many places.
+fn swap_pairs(mask: u128, low: u128, by: u16) -> u128
+    requires by { by < 128 }
+    requires low { IsPairing low by }
+    ensures { IsMaskOf (λ i. (i < 128) × Has mask (swapped_place low by i)) result }
+{
+    ((mask >> by) & low) | ((mask & low) << by)
+}
+
 /// The mask seen from its other end.
 fn turn(mask: u128) -> u128
     ensures { IsMaskOf (IsTurned (Has mask)) result }
 {
-    mask.reverse_bits()
+    let ones = swap_pairs(mask, 0x55555555555555555555555555555555, 1);
+    let twos = swap_pairs(ones, 0x33333333333333333333333333333333, 2);
+    let fours = swap_pairs(twos, 0x0f0f0f0f0f0f0f0f0f0f0f0f0f0f0f0f, 4);
+    let eights = swap_pairs(fours, 0x00ff00ff00ff00ff00ff00ff00ff00ff, 8);
+    let sixteens = swap_pairs(eights, 0x0000ffff0000ffff0000ffff0000ffff, 16);
+    let halves = swap_pairs(sixteens, 0x00000000ffffffff00000000ffffffff, 32);
+    swap_pairs(halves, 0x0000000000000000ffffffffffffffff, 64)
 }
 
 /// The starts of windows of a length, from the table of those of 1, 2, 4 and so on.

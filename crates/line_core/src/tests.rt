@@ -134,27 +134,31 @@ fn has_starts(alive: bool, starts: &Starts, found: bool, wanted: &[u16]) -> bool
     found == alive && starts.list() == wanted
 }
 
-#[test]
-fn rows_come_out_as_worked_out(rt: HostRuntime) -> Result<(), Fail> {
-    let alloc = rt.alloc();
+/// Whether the starts and the deduction of a row are what was worked out.
+fn comes_out(alloc: Global, row: &Row) -> Result<bool, Fail> {
     let mut tables = Tables::new(alloc, 128)?;
     let mut starts = Starts::new(alloc)?;
-    assert!(rt; starts.list().is_empty(), "no starts at first");
+    let clue = Clue::from_numbers(alloc, row.clue)?;
+    let alive = !row.deduced.is_empty();
+    let Some(line) = line_of(row.line) else {
+        return Ok(false);
+    };
+    let none_at_first = starts.list().is_empty();
+    let found = leftmost(&line, &clue, &mut starts);
+    let left = has_starts(alive, &starts, found, row.left);
+    let found = rightmost(&line, &clue, &mut starts);
+    let right = has_starts(alive, &starts, found, row.right);
+    let deduced = match deduce(&mut tables, &line, &clue) {
+        Some(answer) => alive && is_line(&answer, row.deduced),
+        None => !alive,
+    };
+    Ok(none_at_first && left && right && deduced)
+}
+
+#[test]
+fn rows_come_out_as_worked_out(rt: HostRuntime) -> Result<(), Fail> {
     for row in &ROWS {
-        let alive = !row.deduced.is_empty();
-        let clue = Clue::from_numbers(alloc, row.clue)?;
-        let Some(line) = line_of(row.line) else {
-            assert!(rt; false, "a line");
-            continue;
-        };
-        let found = leftmost(&line, &clue, &mut starts);
-        assert!(rt; has_starts(alive, &starts, found, row.left), "leftmost");
-        let found = rightmost(&line, &clue, &mut starts);
-        assert!(rt; has_starts(alive, &starts, found, row.right), "rightmost");
-        match deduce(&mut tables, &line, &clue) {
-            Some(answer) => assert!(rt; is_line(&answer, row.deduced), "deduced"),
-            None => assert!(rt; !alive, "dead"),
-        }
+        assert!(rt; comes_out(rt.alloc(), row)?, "a row");
     }
     Ok(())
 }
@@ -198,20 +202,30 @@ fn numbered_clue(alloc: Global, len: u16, code: u32) -> Result<Clue, Fail> {
     Ok(Clue::from_numbers(alloc, &numbers)?)
 }
 
+/// Whether deduction tells what the listing tells of the first so many lines of a length.
+fn lines_agree(alloc: Global, len: u16, clue: &Clue, lines: u32) -> Result<bool, Fail>
+    requires { (1 ≤ len) × (len ≤ 128) }
+{
+    let mut tables = Tables::new(alloc, len)?;
+    for code in 0..lines {
+        let line = numbered_line(len, code);
+        let deduced = deduce(&mut tables, &line, clue);
+        if !is_same(&deduced, &deduce_by_listing(&line, clue)) {
+            return Ok(false);
+        }
+    }
+    Ok(true)
+}
+
 #[test]
 fn deduction_is_what_all_placings_share(rt: HostRuntime) -> Result<(), Fail> {
     let alloc = rt.alloc();
-    let mut tables = Tables::new(alloc, 6)?;
     let mut lines = 1u32;
     for len in 1..7u16 {
         lines = lines.wrapping_mul(3);
         for full in 0..(1u32 << len) {
             let clue = numbered_clue(alloc, len, full)?;
-            for code in 0..lines {
-                let line = numbered_line(len, code);
-                let deduced = deduce(&mut tables, &line, &clue);
-                assert!(rt; is_same(&deduced, &deduce_by_listing(&line, &clue)), "{len} {full} {code}");
-            }
+            assert!(rt; lines_agree(alloc, len, &clue, lines)?, "{len} {full}");
         }
     }
     Ok(())
@@ -235,7 +249,11 @@ fn fills_line(alloc: Global, len: u16, first: u16) -> Result<bool, Fail>
         return Ok(false);
     };
     for i in 0..answer.len() {
-        let cell = if i == first { Cell::Blank } else { Cell::Filled };
+        let cell = if i == first {
+            Cell::Blank
+        } else {
+            Cell::Filled
+        };
         if answer.get(i) != cell {
             return Ok(false);
         }
@@ -252,14 +270,19 @@ fn holds_both_ends(alloc: Global, len: u16) -> Result<bool, Fail>
     let clue = Clue::from_numbers(alloc, &[2, 2])?;
     let mut line = Line::unknown(len);
     let left = leftmost(&line, &clue, &mut starts) && starts.list() == [0, 3].as_slice();
-    let right = rightmost(&line, &clue, &mut starts) && starts.list() == [len - 5, len - 2].as_slice();
+    let right = rightmost(&line, &clue, &mut starts)
+        && starts.list() == [len - 5, len - 2].as_slice();
     line.set(0, Cell::Filled);
     line.set(len - 1, Cell::Filled);
     let Some(answer) = deduce(&mut tables, &line, &clue) else {
         return Ok(false);
     };
     for i in 0..answer.len() {
-        let cell = if i < 2 || len - 2 <= i { Cell::Filled } else { Cell::Blank };
+        let cell = if i < 2 || len - 2 <= i {
+            Cell::Filled
+        } else {
+            Cell::Blank
+        };
         if answer.get(i) != cell {
             return Ok(false);
         }

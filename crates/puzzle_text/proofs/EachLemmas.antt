@@ -1,10 +1,8 @@
 -- A step for each element of a list, as a loop makes it: front is what came of the elements before i.
-use Rattle.std.proofs.Common.{◌≡◌, ℕ, ◌+◌, ◌<◌, ◌≤◌, List, [], ◌∷◌, ◌++◌, length, drop, map, get_or, refl, sym, ap, ◌∙◌, append_assoc, Option, Some, None, Result, Ok, Err}
-use Rattle.std.specs.Prelude.{option_and_then}
+use Rattle.std.proofs.Common.{◌≡◌, List, [], ◌∷◌, ◌++◌, drop, map, refl, sym, ap, ◌∙◌, Option, Result, Ok, Err}
 use Rattle.std.specs.Option.{option_map}
-use Rattle.std.proofs.lemmas.List.{append-nil, drop_more, drop_all}
 use Rattle.puzzle_text.specs.declared.faults.TextFault.{TextFault}
-use Rattle.puzzle_text.specs.Answers.{◌>>=◌, each, each_some}
+use Rattle.puzzle_text.specs.Answers.{◌>>=◌, each}
 
 abbrev pub with_front : {Y : Type 0} → List Y → Result (List Y) TextFault → Result (List Y) TextFault
 with_front front rest = rest >>= λ ys. Ok (front ++ ys)

@@ -1,10 +1,10 @@
 -- No line has a line feed in it, so nor has the text of a field.
-use Rattle.std.proofs.Common.{◌≡◌, ℕ, zero, suc, ◌+◌, ◌-◌, ◌<◌, ◌≤◌, Bool, true, false, cond, not, ◌&&◌, eqb, leb, ltb, List, [], ◌∷◌, length, take, drop, get_or, reverse, map, codes, All, refl, sym, ap, subst, ◌∙◌, arith, inl, inr, Option, Some, None, Ok, Err}
+use Rattle.std.proofs.Common.{◌≡◌, ℕ, zero, suc, ◌+◌, ◌-◌, ◌<◌, Bool, true, false, cond, not, eqb, leb, ltb, List, [], ◌∷◌, length, take, drop, get_or, reverse, codes, All, refl, sym, ap, subst, ◌∙◌, arith, inl, inr, Option, Some, None, Ok, Err}
 use Rattle.std.specs.Prelude.{option_and_then, slice_get, unwrap_or}
-use Rattle.std.specs.List.{filter, find, list_all, onto_first, prefix_len, AllByRecursion}
+use Rattle.std.specs.List.{filter, find, onto_first, prefix_len, AllByRecursion}
 use Rattle.std.specs.Option.{option_map}
 use Rattle.std.specs.Char.{is_ascii_alphabetic}
-use Rattle.std.proofs.lemmas.Bool.{and_from, cases_Bool, cond-true, cond-false, le-leb, ltb-true, ltb-false}
+use Rattle.std.proofs.lemmas.Bool.{and_from, cases_Bool, le-leb, ltb-true, ltb-false}
 use Rattle.std.proofs.lemmas.List.{get_or_default, get_or-reverse, get_or-take, length-take-le, length-reverse}
 use Rattle.std.proofs.lemmas.List.Elements.{All-take, All-drop}
 use Rattle.std.proofs.lemmas.List.Sums.{AllPass-from_list_all, list_all-from_AllPass}
@@ -14,7 +14,7 @@ use Rattle.puzzle_text.specs.declared.faults.TextFault.TheVariants.{TooLong}
 use Rattle.puzzle_text.specs.declared.limits.TheConstants.{LONGEST_PUZZLE}
 use Rattle.puzzle_text.specs.Sizes.{lines_of}
 use Rattle.puzzle_text.specs.Lines.{Line, HaveNoFeed, has_no_feed, is_blank, lines, numbered_from, raw_lines, strip_last, trim, trim_start, without_ending}
-use Rattle.puzzle_text.specs.Keywords.{after_quote, before_quote, first_with, has_keyword, quoted, rest, text_of}
+use Rattle.puzzle_text.specs.Keywords.{after_quote, before_quote, first_with, has_keyword, rest, quoted_text}
 use Rattle.puzzle_text.specs.Non.{bad_line, field_text, is_stray, least, long_text, number_of_line, placed, texts_of}
 
 abbrev IsOther : ℕ → Type 0
@@ -74,10 +74,10 @@ clean_or : (o : Option (List ℕ)) (bytes : List ℕ) → IsCleanOption o → Is
 clean_or None bytes h other = other
 clean_or (Some found) bytes h other = h
 
-clean_text : (line : Line) → has_no_feed line.text ≡ true → has_no_feed (text_of line) ≡ true
+clean_text : (line : Line) → has_no_feed line.text ≡ true → has_no_feed (quoted_text line) ≡ true
 clean_text line h =
     let after = clean_trim (drop (prefix_len is_ascii_alphabetic line.text) line.text) (All-drop IsOther (prefix_len is_ascii_alphabetic line.text) line.text (AllPass-from_list_all _ line.text h)) in
-    list_all-from_AllPass _ (text_of line) (clean_or (option_and_then before_quote (after_quote (rest line))) (rest line) (clean_between (after_quote (rest line)) (clean_after (rest line) after)) after)
+    list_all-from_AllPass _ (quoted_text line) (clean_or (option_and_then before_quote (after_quote (rest line))) (rest line) (clean_between (after_quote (rest line)) (clean_after (rest line) after)) after)
 
 -- ---- lines
 
@@ -148,17 +148,17 @@ clean_filter p (line ∷ text) h = clean_kept (p line) line (filter p text) h.0 
 
 -- the line's number, if its text is too long
 abbrev long_of : Option Line → Option ℕ
-long_of o = number_of_line (option_and_then (λ line. cond (ltb LONGEST_TEXT (length (text_of line))) (Some line) None) o)
+long_of o = number_of_line (option_and_then (λ line. cond (ltb LONGEST_TEXT (length (quoted_text line))) (Some line) None) o)
 
 short : (line : Line) (b : Bool) → number_of_line (cond b (Some line) None) ≡ None → b ≡ false
 short line true e = absurd cc
 short line false e = refl
 
-lawful_field : (o : Option Line) → ((line : Line) → o ≡ Some line → has_no_feed line.text ≡ true) → long_of o ≡ None → is_field (option_map text_of o) ≡ true
+lawful_field : (o : Option Line) → ((line : Line) → o ≡ Some line → has_no_feed line.text ≡ true) → long_of o ≡ None → is_field (option_map quoted_text o) ≡ true
 lawful_field None clean fits = refl
 lawful_field (Some line) clean fits =
-    let within = ltb-false _ _ (short line (ltb LONGEST_TEXT (length (text_of line))) fits) in
-    and_from (leb (length (text_of line)) LONGEST_TEXT) (has_no_feed (text_of line)) (le-leb _ _ within) (clean_text line (clean line refl))
+    let within = ltb-false _ _ (short line (ltb LONGEST_TEXT (length (quoted_text line))) fits) in
+    and_from (leb (length (quoted_text line)) LONGEST_TEXT) (has_no_feed (quoted_text line)) (le-leb _ _ within) (clean_text line (clean line refl))
 
 first_clean : (text : List Line) → HaveNoFeed text → (line : Line) → slice_get text 0 ≡ Some line → has_no_feed line.text ≡ true
 first_clean [] h line e = absurd cc

@@ -8,8 +8,11 @@ use Rattle.std.proofs.lemmas.List.Concat.{flat_map-append}
 use Rattle.std.proofs.lemmas.Nat.{mul-le}
 use Rattle.std.proofs.lemmas.Fmt.{length-decimal-le}
 use Rattle.grid_core.specs.Nonogram.{Nonogram, IsNonogramWithin, is_goal}
-use Rattle.grid_core.specs.Description.{Description, is_field}
+use Rattle.grid_core.specs.Description.{Description, IsDescription, is_field, text_of}
+use Rattle.grid_core.specs.declared.fields.Field.{Field}
+use Rattle.grid_core.specs.declared.fields.Field.TheVariants.{Catalogue, Title, By, Copyright, License}
 use Rattle.puzzle_text.specs.Lines.{lines}
+use Rattle.puzzle_text.specs.Keywords.{all_fields, field_word}
 use Rattle.puzzle_text.specs.Written.{clue_text, clue_lines, quoted_line, goal_byte, goal_lines, text_fields, text_non}
 use Rattle.puzzle_text.proofs.ReadBack.{IsTidy, IsKept, kept_tidy, kept_edged, with_feed, numbered, lines_kept}
 use Rattle.puzzle_text.proofs.ReadClue.{space, comma}
@@ -36,8 +39,12 @@ abbrev pub goal_gap : Option (List Bool) → List (List ℕ)
 goal_gap None = []
 goal_gap (Some cells) = [] ∷ []
 
+-- the line of a field, if it has a text
+abbrev pub part : Description → Field → List (List ℕ)
+part ts f = one (field_word f) (text_of ts f)
+
 abbrev pub fields : Description → List (List ℕ)
-fields ts = one (codes "catalogue") ts.catalogue ++ (one (codes "title") ts.title ++ (one (codes "by") ts.by ++ (one (codes "copyright") ts.copyright ++ one (codes "license") ts.license)))
+fields ts = flat_map (part ts) all_fields
 
 abbrev pub row_part : Nonogram → List (List ℕ)
 row_part p = map (clue_text 44) p.rows ++ [] ∷ []
@@ -71,25 +78,11 @@ fed_one word (Some text) = append-nil (with_feed (field_line word text)) ∙ fed
 two : (xs ys : List (List ℕ)) (a b : List ℕ) → flat_map with_feed xs ≡ a → flat_map with_feed ys ≡ b → flat_map with_feed (xs ++ ys) ≡ a ++ b
 two xs ys a b e f = flat_map-append with_feed xs ys ∙ rw (e, f) refl
 
-join5 : (a b c d e : List ℕ) → a ++ (b ++ (c ++ (d ++ e))) ≡ (((a ++ b) ++ c) ++ d) ++ e
-join5 a b c d e = simp append_assoc
-
-fed_fields : (ts : Description) → flat_map with_feed (fields ts) ≡ text_fields ts
-fed_fields ts =
-    let a = quoted_line (codes "catalogue") ts.catalogue in
-    let b = quoted_line (codes "title") ts.title in
-    let c = quoted_line (codes "by") ts.by in
-    let d = quoted_line (codes "copyright") ts.copyright in
-    let e = quoted_line (codes "license") ts.license in
-    let v = one (codes "catalogue") ts.catalogue in
-    let w = one (codes "title") ts.title in
-    let x = one (codes "by") ts.by in
-    let y = one (codes "copyright") ts.copyright in
-    let z = one (codes "license") ts.license in
-    let four = two y z d e (fed_one (codes "copyright") ts.copyright) (fed_one (codes "license") ts.license) in
-    let three = two x (y ++ z) c (d ++ e) (fed_one (codes "by") ts.by) four in
-    let later = two w (x ++ (y ++ z)) b (c ++ (d ++ e)) (fed_one (codes "title") ts.title) three in
-    two v (w ++ (x ++ (y ++ z))) a (b ++ (c ++ (d ++ e))) (fed_one (codes "catalogue") ts.catalogue) later ∙ join5 a b c d e
+fed_fields : (ts : Description) (fs : List Field) → flat_map with_feed (flat_map (part ts) fs) ≡ flat_map (λ f. quoted_line (field_word f) (text_of ts f)) fs
+fed_fields ts [] = refl
+fed_fields ts (f ∷ fs) =
+    let others = flat_map (λ (g : Field). quoted_line (field_word g) (text_of ts g)) fs in
+    two (part ts f) (flat_map (part ts) fs) (quoted_line (field_word f) (text_of ts f)) others (fed_one (field_word f) (text_of ts f)) (fed_fields ts fs)
 
 goal_feeds : (o : Option (List Bool)) → flat_map with_feed (goal_gap o ++ one (codes "goal") (goal_text o)) ≡ goal_lines o
 goal_feeds None = refl
@@ -124,12 +117,12 @@ fed_sizes p =
 
 pub non_is : (p : Nonogram) → flat_map with_feed (texts_non p) ≡ text_non p
 non_is p =
-    two (fields p.texts) (after_fields p) (text_fields p.texts) (codes "width " ++ (decimal p.width ++ (codes "\nheight " ++ (decimal p.height ++ (codes "\n\nrows\n" ++ (clue_lines 44 p.rows ++ (codes "\ncolumns\n" ++ (clue_lines 44 p.columns ++ goal_lines p.goal)))))))) (fed_fields p.texts) (fed_sizes p)
+    two (fields p.texts) (after_fields p) (text_fields p.texts) (codes "width " ++ (decimal p.width ++ (codes "\nheight " ++ (decimal p.height ++ (codes "\n\nrows\n" ++ (clue_lines 44 p.rows ++ (codes "\ncolumns\n" ++ (clue_lines 44 p.columns ++ goal_lines p.goal)))))))) (fed_fields p.texts all_fields) (fed_sizes p)
     ∙ sym (join10 (text_fields p.texts) (codes "width ") (decimal p.width) (codes "\nheight ") (decimal p.height) (codes "\n\nrows\n") (clue_lines 44 p.rows) (codes "\ncolumns\n") (clue_lines 44 p.columns) (goal_lines p.goal))
 
 -- ---- no line is cut or trimmed
 
-negated : (b : Bool) → not b ≡ true → b ≡ false
+pub negated : (b : Bool) → not b ≡ true → b ≡ false
 negated true h = absurd cc
 negated false h = refl
 
@@ -174,17 +167,37 @@ kept_goal (Some cells) = (kept_field (codes "goal") (map goal_byte cells) refl (
 abbrev join : (xs ys : List (List ℕ)) → AllByRecursion IsKept xs → AllByRecursion IsKept ys → AllByRecursion IsKept (xs ++ ys)
 join xs ys p q = all-append IsKept xs ys p q
 
-kept_fields : (limit : ℕ) (p : Nonogram) → IsNonogramWithin limit p → AllByRecursion IsKept (fields p.texts)
-kept_fields limit p lawful =
-    let v = one (codes "catalogue") p.texts.catalogue in
-    let w = one (codes "title") p.texts.title in
-    let x = one (codes "by") p.texts.by in
-    let y = one (codes "copyright") p.texts.copyright in
-    let z = one (codes "license") p.texts.license in
-    join v (w ++ (x ++ (y ++ z))) (kept_one (codes "catalogue") p.texts.catalogue refl lawful.texts.catalogue (λ text. omega arith))
-    (join w (x ++ (y ++ z)) (kept_one (codes "title") p.texts.title refl lawful.texts.title (λ text. omega arith))
-    (join x (y ++ z) (kept_one (codes "by") p.texts.by refl lawful.texts.by (λ text. omega arith))
-    (join y z (kept_one (codes "copyright") p.texts.copyright refl lawful.texts.copyright (λ text. omega arith)) (kept_one (codes "license") p.texts.license refl lawful.texts.license (λ text. omega arith)))))
+pub lawful_field : (ts : Description) → IsDescription ts → (f : Field) → is_field (text_of ts f) ≡ true
+lawful_field ts lawful Catalogue = lawful.catalogue
+lawful_field ts lawful Title = lawful.title
+lawful_field ts lawful By = lawful.by
+lawful_field ts lawful Copyright = lawful.copyright
+lawful_field ts lawful License = lawful.license
+
+clean_word : (f : Field) → list_all (λ byte. not (eqb byte 10)) (field_word f) ≡ true
+clean_word Catalogue = refl
+clean_word Title = refl
+clean_word By = refl
+clean_word Copyright = refl
+clean_word License = refl
+
+inked_word : (f : Field) (text : List ℕ) → 33 ≤ get_or (field_line (field_word f) text) 0 0
+inked_word Catalogue text = omega arith
+inked_word Title text = omega arith
+inked_word By text = omega arith
+inked_word Copyright text = omega arith
+inked_word License text = omega arith
+
+short_word : (f : Field) → length (field_word f) ≤ 9
+short_word Catalogue = omega arith
+short_word Title = omega arith
+short_word By = omega arith
+short_word Copyright = omega arith
+short_word License = omega arith
+
+kept_fields : (ts : Description) → IsDescription ts → (fs : List Field) → AllByRecursion IsKept (flat_map (part ts) fs)
+kept_fields ts lawful [] = tt
+kept_fields ts lawful (f ∷ fs) = join (part ts f) (flat_map (part ts) fs) (kept_one (field_word f) (text_of ts f) (clean_word f) (lawful_field ts lawful f) (inked_word f)) (kept_fields ts lawful fs)
 
 tidy_width : IsTidy (codes "width")
 tidy_width = record { inked = (omega arith, (omega arith, (omega arith, (omega arith, (omega arith, tt))))); first = omega arith; last = omega arith }
@@ -206,7 +219,7 @@ kept_non limit p wide lawful =
     let columns = kept_texts (map (clue_text 44) p.columns) (tidy_clues 44 limit p.columns comma wide lawful.columns) in
     let after = join (column_part p) (goal_part p) (join (map (clue_text 44) p.columns) (goal_gap p.goal) columns (kept_gap p.goal)) (kept_goal p.goal) in
     let behind = join (row_part p) (after_rows p) (join (map (clue_text 44) p.rows) ([] ∷ []) rows (kept_blank, tt)) (kept_tidy (codes "columns") tidy_columns, after) in
-    join (fields p.texts) (after_fields p) (kept_fields limit p lawful) (width, (height, (kept_blank, (kept_tidy (codes "rows") tidy_rows, behind))))
+    join (fields p.texts) (after_fields p) (kept_fields p.texts lawful.texts all_fields) (width, (height, (kept_blank, (kept_tidy (codes "rows") tidy_rows, behind))))
 
 -- the lines of the text
 pub lines_non : (limit : ℕ) (p : Nonogram) → limit < 2 ^ 64 → IsNonogramWithin limit p → lines (text_non p) ≡ numbered 1 (texts_non p)
@@ -220,25 +233,11 @@ length_field word (Some text) short lawful =
     let within = leb-true (length text) 65536 (and_parts (leb (length text) 65536) (list_all (λ byte. not (eqb byte 10)) text) lawful).0 in
     omega (arith, length-append ((word ++ 32 ∷ 34 ∷ []) ++ text) (34 ∷ 10 ∷ []), length-append (word ++ 32 ∷ 34 ∷ []) text, length-append word (32 ∷ 34 ∷ []))
 
-length_fields : (limit : ℕ) (p : Nonogram) → IsNonogramWithin limit p → length (text_fields p.texts) ≤ 327745
-length_fields limit p lawful =
-    let a = quoted_line (codes "catalogue") p.texts.catalogue in
-    let b = quoted_line (codes "title") p.texts.title in
-    let c = quoted_line (codes "by") p.texts.by in
-    let d = quoted_line (codes "copyright") p.texts.copyright in
-    let e = quoted_line (codes "license") p.texts.license in
-    omega (
-      arith,
-      length-append (((a ++ b) ++ c) ++ d) e,
-      length-append ((a ++ b) ++ c) d,
-      length-append (a ++ b) c,
-      length-append a b,
-      length_field (codes "catalogue") p.texts.catalogue (omega arith) lawful.texts.catalogue,
-      length_field (codes "title") p.texts.title (omega arith) lawful.texts.title,
-      length_field (codes "by") p.texts.by (omega arith) lawful.texts.by,
-      length_field (codes "copyright") p.texts.copyright (omega arith) lawful.texts.copyright,
-      length_field (codes "license") p.texts.license (omega arith) lawful.texts.license,
-    )
+length_fields : (ts : Description) → IsDescription ts → (fs : List Field) → length (flat_map (λ f. quoted_line (field_word f) (text_of ts f)) fs) ≤ 65549 * length fs
+length_fields ts lawful [] = omega arith
+length_fields ts lawful (f ∷ fs) =
+    let others = flat_map (λ (g : Field). quoted_line (field_word g) (text_of ts g)) fs in
+    omega (arith, length-append (quoted_line (field_word f) (text_of ts f)) others, length_field (field_word f) (text_of ts f) (short_word f) (lawful_field ts lawful f), length_fields ts lawful fs)
 
 area : (w h : ℕ) → w ≤ 256 → h ≤ 256 → w * h ≤ 65536
 area w h a b = mul-le w h 256 256 a b
@@ -273,7 +272,7 @@ length_non limit p wide lawful =
       length-append (a ++ w) (codes "\nheight "),
       length-append a w,
       length-append (text_fields p.texts) (codes "width "),
-      length_fields limit p lawful,
+      length_fields p.texts lawful.texts all_fields,
       length_goal p.width p.height p.goal width height lawful.goal,
       length-decimal-le 3 p.width (omega arith) (omega arith) (omega arith),
       length-decimal-le 3 p.height (omega arith) (omega arith) (omega arith),

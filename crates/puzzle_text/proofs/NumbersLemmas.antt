@@ -1,5 +1,5 @@
 -- Lemmas on numbers in a line.
-use Rattle.std.proofs.Common.{◌≡◌, ℕ, zero, suc, ◌+◌, ◌-◌, ◌*◌, ◌<◌, ◌≤◌, Bool, true, false, cond, not, ◌&&◌, leb, ltb, List, [], ◌∷◌, ◌++◌, length, take, drop, filter, get_or, All, refl, sym, ap, ◌∙◌, arith, inl, inr, Some, None, lit≤}
+use Rattle.std.proofs.Common.{◌≡◌, ℕ, zero, suc, ◌+◌, ◌-◌, ◌*◌, ◌<◌, ◌≤◌, Bool, true, false, not, ◌&&◌, leb, ltb, List, [], ◌∷◌, ◌++◌, length, take, drop, filter, get_or, All, refl, sym, ap, ◌∙◌, arith, inl, inr, Some, None, lit≤}
 use Rattle.std.specs.List.{list_all, position, position_or_len, slice_split}
 use Rattle.std.specs.Char.{is_ascii_digit, digit_value}
 use Rattle.std.specs.Str.Parse.{digits_value}

@@ -16,14 +16,16 @@ use Rattle.puzzle_text.specs.declared.faults.TextFault.{TextFault}
 use Rattle.puzzle_text.specs.declared.faults.TextFault.TheVariants.{TooLong, NoSize, NoSection, BadLine, Twice, BadCount, BadGoal}
 use Rattle.grid_core.specs.Clues.{is_clue}
 use Rattle.grid_core.specs.Nonogram.{Nonogram, IsNonogramWithin, is_goal}
-use Rattle.grid_core.specs.Description.{Description, is_field}
+use Rattle.grid_core.specs.declared.fields.Field.{Field}
+use Rattle.grid_core.specs.declared.fields.Field.TheVariants.{Catalogue, Title, By, Copyright, License}
+use Rattle.grid_core.specs.Description.{text_of, Description, is_field}
 use Rattle.puzzle_text.specs.Lines.{Line, lines, is_full, is_empty, trim, trim_start, trim_end}
 use Rattle.puzzle_text.specs.Answers.{◌>>=◌, or_fault, each_some}
 use Rattle.puzzle_text.specs.ClueLines.{clues_of}
 use Rattle.puzzle_text.specs.Sections.{choice}
 use Rattle.puzzle_text.specs.Sizes.{size_of}
 use Rattle.puzzle_text.specs.Mk.{is_hash}
-use Rattle.puzzle_text.specs.Keywords.{rest, with_keyword, first_with, second_with, after_quote, quoted, text_of}
+use Rattle.puzzle_text.specs.Keywords.{rest, with_keyword, first_with, second_with, after_quote, all_fields, field_word, quoted, quoted_text}
 use Rattle.puzzle_text.specs.Non.{placed, section, is_stray, least, number_of_line, long_text, bad_line, repeated, refuse_at, cell_of, goal_cells, goal_of, both_clues, field_text, texts_of, sizes_of, rows_first, in_place, clue_lines_of, non_of, read_non}
 use Rattle.puzzle_text.specs.Written.{clue_text, goal_byte, text_non}
 use Rattle.puzzle_text.proofs.SectionsLemmas.{filter-map}
@@ -31,7 +33,7 @@ use Rattle.puzzle_text.proofs.ReadBack.{numbered, kept_tidy}
 use Rattle.puzzle_text.proofs.ReadClue.{IsWord, comma}
 use Rattle.puzzle_text.proofs.ReadClues.{all-append, numbered-append, length-numbered, filter_is, clues_again, word_clue, are_clues, size_again, tidy_decimal}
 use Rattle.puzzle_text.proofs.GreaterLimit.{with_goal, with_clues, with_columns, with_rows, with_order, with_sizes}
-use Rattle.puzzle_text.proofs.NonText.{field_line, one, size_text, goal_text, goal_gap, fields, row_part, column_part, goal_part, after_rows, after_fields, texts_non, lines_non, length_non}
+use Rattle.puzzle_text.proofs.NonText.{field_line, negated, one, size_text, goal_text, goal_gap, part, fields, row_part, column_part, goal_part, after_rows, after_fields, texts_non, lines_non, length_non}
 
 -- the keyword that a line's text begins with, and what follows it
 abbrev word_at : List ℕ → List ℕ
@@ -97,15 +99,44 @@ with-own word (Some text) h = cond-true (bytes_eq (word_at (field_line word text
 with-append : (word : List ℕ) (xs ys a b : List (List ℕ)) → texts_with word xs ≡ a → texts_with word ys ≡ b → texts_with word (xs ++ ys) ≡ a ++ b
 with-append word xs ys a b e f = filter-append (λ text. bytes_eq (word_at text) word) xs ys ∙ ap (λ (z : List (List ℕ)). z ++ texts_with word ys) e ∙ ap (λ (z : List (List ℕ)). a ++ z) f
 
-fields_with : (word : List ℕ) (ts : Description) (a b c d e : List (List ℕ)) → texts_with word (one (codes "catalogue") ts.catalogue) ≡ a → texts_with word (one (codes "title") ts.title) ≡ b → texts_with word (one (codes "by") ts.by) ≡ c
-    → texts_with word (one (codes "copyright") ts.copyright) ≡ d → texts_with word (one (codes "license") ts.license) ≡ e → texts_with word (fields ts) ≡ a ++ (b ++ (c ++ (d ++ e)))
-fields_with word ts a b c d e in_a in_b in_c in_d in_e =
-    let v = one (codes "catalogue") ts.catalogue in
-    let w = one (codes "title") ts.title in
-    let x = one (codes "by") ts.by in
-    let y = one (codes "copyright") ts.copyright in
-    let z = one (codes "license") ts.license in
-    with-append word v (w ++ (x ++ (y ++ z))) a (b ++ (c ++ (d ++ e))) in_a (with-append word w (x ++ (y ++ z)) b (c ++ (d ++ e)) in_b (with-append word x (y ++ z) c (d ++ e) in_c (with-append word y z d e in_d in_e)))
+word_of_field : (f : Field) (text : List ℕ) → word_at (field_line (field_word f) text) ≡ field_word f
+word_of_field Catalogue text = refl
+word_of_field Title text = refl
+word_of_field By text = refl
+word_of_field Copyright text = refl
+word_of_field License text = refl
+
+-- whether none of these fields has this keyword
+abbrev are_others : List ℕ → List Field → Bool
+are_others word fs = list_all (λ f. not (bytes_eq (field_word f) word)) fs
+
+part_other : (word : List ℕ) (ts : Description) (f : Field) → not (bytes_eq (field_word f) word) ≡ true → texts_with word (part ts f) ≡ []
+part_other word ts f h = with-other word (field_word f) (text_of ts f) (λ text. ap (λ (w : List ℕ). bytes_eq w word) (word_of_field f text) ∙ negated (bytes_eq (field_word f) word) h)
+
+parts_other : (word : List ℕ) (ts : Description) (fs : List Field) → are_others word fs ≡ true → texts_with word (flat_map (part ts) fs) ≡ []
+parts_other word ts [] h = refl
+parts_other word ts (f ∷ fs) h =
+    let tests = and_parts (not (bytes_eq (field_word f) word)) (are_others word fs) h in
+    with-append word (part ts f) (flat_map (part ts) fs) [] [] (part_other word ts f tests.0) (parts_other word ts fs tests.1)
+
+part_own : (ts : Description) (f : Field) → bytes_eq (field_word f) (field_word f) ≡ true → texts_with (field_word f) (part ts f) ≡ part ts f
+part_own ts f h = with-own (field_word f) (text_of ts f) (λ text. ap (λ (w : List ℕ). bytes_eq w (field_word f)) (word_of_field f text) ∙ h)
+
+parts_own : (ts : Description) (front : List Field) (f : Field) (back : List Field) → bytes_eq (field_word f) (field_word f) ≡ true → are_others (field_word f) front ≡ true → are_others (field_word f) back ≡ true
+    → texts_with (field_word f) (flat_map (part ts) (front ++ f ∷ back)) ≡ part ts f
+parts_own ts [] f back own h later =
+    with-append (field_word f) (part ts f) (flat_map (part ts) back) (part ts f) [] (part_own ts f own) (parts_other (field_word f) ts back later) ∙ append-nil (part ts f)
+parts_own ts (g ∷ front) f back own h later =
+    let tests = and_parts (not (bytes_eq (field_word g) (field_word f))) (are_others (field_word f) front) h in
+    with-append (field_word f) (part ts g) (flat_map (part ts) (front ++ f ∷ back)) [] (part ts f) (part_other (field_word f) ts g tests.0) (parts_own ts front f back own tests.1 later)
+
+-- each field's keyword has its own line only
+fields_own : (ts : Description) (f : Field) → texts_with (field_word f) (fields ts) ≡ part ts f
+fields_own ts Catalogue = parts_own ts [] Catalogue (Title ∷ By ∷ Copyright ∷ License ∷ []) refl refl refl
+fields_own ts Title = parts_own ts (Catalogue ∷ []) Title (By ∷ Copyright ∷ License ∷ []) refl refl refl
+fields_own ts By = parts_own ts (Catalogue ∷ Title ∷ []) By (Copyright ∷ License ∷ []) refl refl refl
+fields_own ts Copyright = parts_own ts (Catalogue ∷ Title ∷ By ∷ []) Copyright (License ∷ []) refl refl refl
+fields_own ts License = parts_own ts (Catalogue ∷ Title ∷ By ∷ Copyright ∷ []) License [] refl refl refl
 
 module _ (limit : ℕ) (p : Nonogram) (wide : limit < 2 ^ 64) (lawful : IsNonogramWithin limit p) where
   content_rows : AllByRecursion IsContent (row_part p)
@@ -125,34 +156,32 @@ module _ (limit : ℕ) (p : Nonogram) (wide : limit < 2 ^ 64) (lawful : IsNonogr
       with-append word (fields p.texts) (after_fields p) f (m ++ (n ++ g)) in_fields all
 
   width_only : texts_with (codes "width") (texts_non p) ≡ size_text (codes "width") p.width ∷ []
-  width_only = whole_with (codes "width") [] (size_text (codes "width") p.width ∷ []) [] [] refl (fields_with (codes "width") p.texts [] [] [] [] [] (with-other (codes "width") (codes "catalogue") p.texts.catalogue (λ text. refl)) (with-other (codes "width") (codes "title") p.texts.title (λ text. refl)) (with-other (codes "width") (codes "by") p.texts.by (λ text. refl)) (with-other (codes "width") (codes "copyright") p.texts.copyright (λ text. refl)) (with-other (codes "width") (codes "license") p.texts.license (λ text. refl))) (λ others. refl) (λ others. refl) (with-other (codes "width") (codes "goal") (goal_text p.goal) (λ text. refl))
+  width_only = whole_with (codes "width") [] (size_text (codes "width") p.width ∷ []) [] [] refl (parts_other (codes "width") p.texts all_fields refl) (λ others. refl) (λ others. refl) (with-other (codes "width") (codes "goal") (goal_text p.goal) (λ text. refl))
 
   height_only : texts_with (codes "height") (texts_non p) ≡ size_text (codes "height") p.height ∷ []
-  height_only = whole_with (codes "height") [] (size_text (codes "height") p.height ∷ []) [] [] refl (fields_with (codes "height") p.texts [] [] [] [] [] (with-other (codes "height") (codes "catalogue") p.texts.catalogue (λ text. refl)) (with-other (codes "height") (codes "title") p.texts.title (λ text. refl)) (with-other (codes "height") (codes "by") p.texts.by (λ text. refl)) (with-other (codes "height") (codes "copyright") p.texts.copyright (λ text. refl)) (with-other (codes "height") (codes "license") p.texts.license (λ text. refl))) (λ others. refl) (λ others. refl) (with-other (codes "height") (codes "goal") (goal_text p.goal) (λ text. refl))
+  height_only = whole_with (codes "height") [] (size_text (codes "height") p.height ∷ []) [] [] refl (parts_other (codes "height") p.texts all_fields refl) (λ others. refl) (λ others. refl) (with-other (codes "height") (codes "goal") (goal_text p.goal) (λ text. refl))
 
   rows_only : texts_with (codes "rows") (texts_non p) ≡ codes "rows" ∷ []
-  rows_only = whole_with (codes "rows") [] (codes "rows" ∷ []) [] [] refl (fields_with (codes "rows") p.texts [] [] [] [] [] (with-other (codes "rows") (codes "catalogue") p.texts.catalogue (λ text. refl)) (with-other (codes "rows") (codes "title") p.texts.title (λ text. refl)) (with-other (codes "rows") (codes "by") p.texts.by (λ text. refl)) (with-other (codes "rows") (codes "copyright") p.texts.copyright (λ text. refl)) (with-other (codes "rows") (codes "license") p.texts.license (λ text. refl))) (λ others. refl) (λ others. refl) (with-other (codes "rows") (codes "goal") (goal_text p.goal) (λ text. refl))
+  rows_only = whole_with (codes "rows") [] (codes "rows" ∷ []) [] [] refl (parts_other (codes "rows") p.texts all_fields refl) (λ others. refl) (λ others. refl) (with-other (codes "rows") (codes "goal") (goal_text p.goal) (λ text. refl))
 
   columns_only : texts_with (codes "columns") (texts_non p) ≡ codes "columns" ∷ []
-  columns_only = whole_with (codes "columns") [] [] (codes "columns" ∷ []) [] refl (fields_with (codes "columns") p.texts [] [] [] [] [] (with-other (codes "columns") (codes "catalogue") p.texts.catalogue (λ text. refl)) (with-other (codes "columns") (codes "title") p.texts.title (λ text. refl)) (with-other (codes "columns") (codes "by") p.texts.by (λ text. refl)) (with-other (codes "columns") (codes "copyright") p.texts.copyright (λ text. refl)) (with-other (codes "columns") (codes "license") p.texts.license (λ text. refl))) (λ others. refl) (λ others. refl) (with-other (codes "columns") (codes "goal") (goal_text p.goal) (λ text. refl))
+  columns_only = whole_with (codes "columns") [] [] (codes "columns" ∷ []) [] refl (parts_other (codes "columns") p.texts all_fields refl) (λ others. refl) (λ others. refl) (with-other (codes "columns") (codes "goal") (goal_text p.goal) (λ text. refl))
 
   goal_only : texts_with (codes "goal") (texts_non p) ≡ goal_part p
-  goal_only = whole_with (codes "goal") [] [] [] (goal_part p) refl (fields_with (codes "goal") p.texts [] [] [] [] [] (with-other (codes "goal") (codes "catalogue") p.texts.catalogue (λ text. refl)) (with-other (codes "goal") (codes "title") p.texts.title (λ text. refl)) (with-other (codes "goal") (codes "by") p.texts.by (λ text. refl)) (with-other (codes "goal") (codes "copyright") p.texts.copyright (λ text. refl)) (with-other (codes "goal") (codes "license") p.texts.license (λ text. refl))) (λ others. refl) (λ others. refl) (with-own (codes "goal") (goal_text p.goal) (λ text. refl))
+  goal_only = whole_with (codes "goal") [] [] [] (goal_part p) refl (parts_other (codes "goal") p.texts all_fields refl) (λ others. refl) (λ others. refl) (with-own (codes "goal") (goal_text p.goal) (λ text. refl))
 
-  catalogue_only : texts_with (codes "catalogue") (texts_non p) ≡ one (codes "catalogue") p.texts.catalogue
-  catalogue_only = whole_with (codes "catalogue") (one (codes "catalogue") p.texts.catalogue) [] [] [] refl (fields_with (codes "catalogue") p.texts (one (codes "catalogue") p.texts.catalogue) [] [] [] [] (with-own (codes "catalogue") p.texts.catalogue (λ text. refl)) (with-other (codes "catalogue") (codes "title") p.texts.title (λ text. refl)) (with-other (codes "catalogue") (codes "by") p.texts.by (λ text. refl)) (with-other (codes "catalogue") (codes "copyright") p.texts.copyright (λ text. refl)) (with-other (codes "catalogue") (codes "license") p.texts.license (λ text. refl)) ∙ append-nil (one (codes "catalogue") p.texts.catalogue)) (λ others. refl) (λ others. refl) (with-other (codes "catalogue") (codes "goal") (goal_text p.goal) (λ text. refl)) ∙ append-nil (one (codes "catalogue") p.texts.catalogue)
+  own_only : (f : Field) → bytes_eq [] (field_word f) ≡ false
+      → ((others : List (List ℕ)) → texts_with (field_word f) (size_text (codes "width") p.width ∷ size_text (codes "height") p.height ∷ [] ∷ codes "rows" ∷ others) ≡ texts_with (field_word f) others)
+      → ((others : List (List ℕ)) → texts_with (field_word f) (codes "columns" ∷ others) ≡ texts_with (field_word f) others)
+      → ((text : List ℕ) → bytes_eq (word_at (field_line (codes "goal") text)) (field_word f) ≡ false) → texts_with (field_word f) (texts_non p) ≡ part p.texts f
+  own_only f some above below goal = whole_with (field_word f) (part p.texts f) [] [] [] some (fields_own p.texts f) above below (with-other (field_word f) (codes "goal") (goal_text p.goal) goal) ∙ append-nil (part p.texts f)
 
-  title_only : texts_with (codes "title") (texts_non p) ≡ one (codes "title") p.texts.title
-  title_only = whole_with (codes "title") (one (codes "title") p.texts.title) [] [] [] refl (fields_with (codes "title") p.texts [] (one (codes "title") p.texts.title) [] [] [] (with-other (codes "title") (codes "catalogue") p.texts.catalogue (λ text. refl)) (with-own (codes "title") p.texts.title (λ text. refl)) (with-other (codes "title") (codes "by") p.texts.by (λ text. refl)) (with-other (codes "title") (codes "copyright") p.texts.copyright (λ text. refl)) (with-other (codes "title") (codes "license") p.texts.license (λ text. refl)) ∙ append-nil (one (codes "title") p.texts.title)) (λ others. refl) (λ others. refl) (with-other (codes "title") (codes "goal") (goal_text p.goal) (λ text. refl)) ∙ append-nil (one (codes "title") p.texts.title)
-
-  by_only : texts_with (codes "by") (texts_non p) ≡ one (codes "by") p.texts.by
-  by_only = whole_with (codes "by") (one (codes "by") p.texts.by) [] [] [] refl (fields_with (codes "by") p.texts [] [] (one (codes "by") p.texts.by) [] [] (with-other (codes "by") (codes "catalogue") p.texts.catalogue (λ text. refl)) (with-other (codes "by") (codes "title") p.texts.title (λ text. refl)) (with-own (codes "by") p.texts.by (λ text. refl)) (with-other (codes "by") (codes "copyright") p.texts.copyright (λ text. refl)) (with-other (codes "by") (codes "license") p.texts.license (λ text. refl)) ∙ append-nil (one (codes "by") p.texts.by)) (λ others. refl) (λ others. refl) (with-other (codes "by") (codes "goal") (goal_text p.goal) (λ text. refl)) ∙ append-nil (one (codes "by") p.texts.by)
-
-  copyright_only : texts_with (codes "copyright") (texts_non p) ≡ one (codes "copyright") p.texts.copyright
-  copyright_only = whole_with (codes "copyright") (one (codes "copyright") p.texts.copyright) [] [] [] refl (fields_with (codes "copyright") p.texts [] [] [] (one (codes "copyright") p.texts.copyright) [] (with-other (codes "copyright") (codes "catalogue") p.texts.catalogue (λ text. refl)) (with-other (codes "copyright") (codes "title") p.texts.title (λ text. refl)) (with-other (codes "copyright") (codes "by") p.texts.by (λ text. refl)) (with-own (codes "copyright") p.texts.copyright (λ text. refl)) (with-other (codes "copyright") (codes "license") p.texts.license (λ text. refl)) ∙ append-nil (one (codes "copyright") p.texts.copyright)) (λ others. refl) (λ others. refl) (with-other (codes "copyright") (codes "goal") (goal_text p.goal) (λ text. refl)) ∙ append-nil (one (codes "copyright") p.texts.copyright)
-
-  license_only : texts_with (codes "license") (texts_non p) ≡ one (codes "license") p.texts.license
-  license_only = whole_with (codes "license") (one (codes "license") p.texts.license) [] [] [] refl (fields_with (codes "license") p.texts [] [] [] [] (one (codes "license") p.texts.license) (with-other (codes "license") (codes "catalogue") p.texts.catalogue (λ text. refl)) (with-other (codes "license") (codes "title") p.texts.title (λ text. refl)) (with-other (codes "license") (codes "by") p.texts.by (λ text. refl)) (with-other (codes "license") (codes "copyright") p.texts.copyright (λ text. refl)) (with-own (codes "license") p.texts.license (λ text. refl))) (λ others. refl) (λ others. refl) (with-other (codes "license") (codes "goal") (goal_text p.goal) (λ text. refl)) ∙ append-nil (one (codes "license") p.texts.license)
+  field_only : (f : Field) → texts_with (field_word f) (texts_non p) ≡ part p.texts f
+  field_only Catalogue = own_only Catalogue refl (λ others. refl) (λ others. refl) (λ text. refl)
+  field_only Title = own_only Title refl (λ others. refl) (λ others. refl) (λ text. refl)
+  field_only By = own_only By refl (λ others. refl) (λ others. refl) (λ text. refl)
+  field_only Copyright = own_only Copyright refl (λ others. refl) (λ others. refl) (λ text. refl)
+  field_only License = own_only License refl (λ others. refl) (λ others. refl) (λ text. refl)
 
 -- ---- from texts to lines
 
@@ -194,7 +223,7 @@ quoted_is text = ap (λ (x : List ℕ). unwrap_or (option_map reverse (after_quo
 -- what the lines with this keyword say
 abbrev FieldIs : List ℕ → List Line → Option (List ℕ) → Type 0
 FieldIs word lines None = with_keyword word lines ≡ []
-FieldIs word lines (Some text) = (line : Line) × (with_keyword word lines ≡ line ∷ []) × (text_of line ≡ text)
+FieldIs word lines (Some text) = (line : Line) × (with_keyword word lines ≡ line ∷ []) × (quoted_text line ≡ text)
 
 field_is : (word : List ℕ) (o : Option (List ℕ)) (k : ℕ) (texts : List (List ℕ)) → ((text : List ℕ) → rest_of (field_line word text) ≡ 34 ∷ (text ++ 34 ∷ [])) → texts_with word texts ≡ one word o → FieldIs word (numbered k texts) o
 field_is word None k texts after e = none_seen (with_keyword word (numbered k texts)) (lines_with word k texts ∙ e)
@@ -202,19 +231,26 @@ field_is word (Some text) k texts after e =
     let found = one_line word (field_line word text) k texts e in
     (found.0, found.1, ap (λ (x : List ℕ). quoted (rest_of x)) found.2 ∙ ap quoted (after text) ∙ quoted_is text)
 
+quoted_field : (f : Field) (text : List ℕ) → rest_of (field_line (field_word f) text) ≡ 34 ∷ (text ++ 34 ∷ [])
+quoted_field Catalogue text = quote_trimmed text
+quoted_field Title text = quote_trimmed text
+quoted_field By text = quote_trimmed text
+quoted_field Copyright text = quote_trimmed text
+quoted_field License text = quote_trimmed text
+
 field_again : (word : List ℕ) (lines : List Line) (o : Option (List ℕ)) → FieldIs word lines o → field_text word lines ≡ o
-field_again word lines None is = ap (λ (ls : List Line). option_map text_of (slice_get ls 0)) is
-field_again word lines (Some text) is = ap (λ (ls : List Line). option_map text_of (slice_get ls 0)) is.1 ∙ ap (λ (x : List ℕ). Some x) is.2
+field_again word lines None is = ap (λ (ls : List Line). option_map quoted_text (slice_get ls 0)) is
+field_again word lines (Some text) is = ap (λ (ls : List Line). option_map quoted_text (slice_get ls 0)) is.1 ∙ ap (λ (x : List ℕ). Some x) is.2
 
 abbrev long_one : List Line → Option ℕ
-long_one ls = number_of_line (option_and_then (λ line. cond (ltb 65536 (length (text_of line))) (Some line) None) (slice_get ls 0))
+long_one ls = number_of_line (option_and_then (λ line. cond (ltb 65536 (length (quoted_text line))) (Some line) None) (slice_get ls 0))
 
 long_none : (word : List ℕ) (lines : List Line) (o : Option (List ℕ)) → FieldIs word lines o → is_field o ≡ true → number_of_line (long_text lines word) ≡ None
 long_none word lines None is lawful = ap long_one is
 long_none word lines (Some text) is lawful =
     let within = leb-true (length text) 65536 (and_parts (leb (length text) 65536) (list_all (λ byte. not (eqb byte 10)) text) lawful).0 in
-    let short : length (text_of is.0) ≤ 65536 = omega (arith, ap length is.2) in
-    ap long_one is.1 ∙ ap number_of_line (cond-false (ltb 65536 (length (text_of is.0))) (Some is.0) None (le-ltb 65536 (length (text_of is.0)) short))
+    let short : length (quoted_text is.0) ≤ 65536 = omega (arith, ap length is.2) in
+    ap long_one is.1 ∙ ap number_of_line (cond-false (ltb 65536 (length (quoted_text is.0))) (Some is.0) None (le-ltb 65536 (length (quoted_text is.0)) short))
 
 -- ---- sections
 
@@ -252,15 +288,16 @@ has_word : (word : List ℕ) (o : Option (List ℕ)) → ((text : List ℕ) → 
 has_word word None h = tt
 has_word word (Some text) h = (h text, tt)
 
-fields_words : (ts : Description) → AllByRecursion (λ text. is_empty (word_at text) ≡ false) (fields ts)
-fields_words ts =
-    let P = λ (text : List ℕ). is_empty (word_at text) ≡ false in
-    let v = one (codes "catalogue") ts.catalogue in
-    let w = one (codes "title") ts.title in
-    let x = one (codes "by") ts.by in
-    let y = one (codes "copyright") ts.copyright in
-    let z = one (codes "license") ts.license in
-    all-append P v (w ++ (x ++ (y ++ z))) (has_word (codes "catalogue") ts.catalogue (λ text. refl)) (all-append P w (x ++ (y ++ z)) (has_word (codes "title") ts.title (λ text. refl)) (all-append P x (y ++ z) (has_word (codes "by") ts.by (λ text. refl)) (all-append P y z (has_word (codes "copyright") ts.copyright (λ text. refl)) (has_word (codes "license") ts.license (λ text. refl)))))
+word_is_there : (f : Field) (text : List ℕ) → is_empty (word_at (field_line (field_word f) text)) ≡ false
+word_is_there Catalogue text = refl
+word_is_there Title text = refl
+word_is_there By text = refl
+word_is_there Copyright text = refl
+word_is_there License text = refl
+
+fields_words : (ts : Description) (fs : List Field) → AllByRecursion (λ text. is_empty (word_at text) ≡ false) (flat_map (part ts) fs)
+fields_words ts [] = tt
+fields_words ts (f ∷ fs) = all-append (λ text. is_empty (word_at text) ≡ false) (part ts f) (flat_map (part ts) fs) (has_word (field_word f) (text_of ts f) (word_is_there f)) (fields_words ts fs)
 
 no_places : (o : Option (List Bool)) (k : ℕ) → placed (codes "columns") (numbered k (one (codes "goal") (goal_text o))) ≡ []
 no_places None k = refl
@@ -275,7 +312,7 @@ record IsLaidOut (p : Nonogram) (places : List (List ℕ × Line)) : Type 0 wher
 
 laid_out : (limit : ℕ) (p : Nonogram) → limit < 2 ^ 64 → IsNonogramWithin limit p → IsLaidOut p (placed [] (numbered 1 (texts_non p)))
 laid_out limit p wide lawful =
-    let start = placed_past [] 1 (fields p.texts) (after_fields p) (fields_words p.texts) in
+    let start = placed_past [] 1 (fields p.texts) (after_fields p) (fields_words p.texts all_fields) in
     let m = start.1 + 1 + 1 + 1 + 1 in
     let rows = placed_part (codes "rows") m (row_part p) (after_rows p) (content_rows limit p wide lawful) in
     let columns = placed_part (codes "columns") (rows.0 + 1) (column_part p) (goal_part p) (content_columns limit p wide lawful) in
@@ -423,20 +460,8 @@ module _ (limit : ℕ) (p : Nonogram) (wide : limit < 2 ^ 64) (lawful : IsNonogr
   goal_field : FieldIs (codes "goal") all_lines (goal_text p.goal)
   goal_field = field_is (codes "goal") (goal_text p.goal) 1 (texts_non p) (λ text. quote_trimmed text) (goal_only limit p wide lawful)
 
-  catalogue_field : FieldIs (codes "catalogue") all_lines p.texts.catalogue
-  catalogue_field = field_is (codes "catalogue") p.texts.catalogue 1 (texts_non p) (λ text. quote_trimmed text) (catalogue_only limit p wide lawful)
-
-  title_field : FieldIs (codes "title") all_lines p.texts.title
-  title_field = field_is (codes "title") p.texts.title 1 (texts_non p) (λ text. quote_trimmed text) (title_only limit p wide lawful)
-
-  by_field : FieldIs (codes "by") all_lines p.texts.by
-  by_field = field_is (codes "by") p.texts.by 1 (texts_non p) (λ text. quote_trimmed text) (by_only limit p wide lawful)
-
-  copyright_field : FieldIs (codes "copyright") all_lines p.texts.copyright
-  copyright_field = field_is (codes "copyright") p.texts.copyright 1 (texts_non p) (λ text. quote_trimmed text) (copyright_only limit p wide lawful)
-
-  license_field : FieldIs (codes "license") all_lines p.texts.license
-  license_field = field_is (codes "license") p.texts.license 1 (texts_non p) (λ text. quote_trimmed text) (license_only limit p wide lawful)
+  field_at : (f : Field) → FieldIs (field_word f) all_lines (text_of p.texts f)
+  field_at f = field_is (field_word f) (text_of p.texts f) 1 (texts_non p) (quoted_field f) (field_only limit p wide lawful f)
 
   trimmed : (n : ℕ) → n ≤ limit → trim (decimal n) ≡ decimal n
   trimmed n h = (kept_tidy (decimal n) (tidy_decimal n (omega arith))).trimmed
@@ -474,11 +499,11 @@ module _ (limit : ℕ) (p : Nonogram) (wide : limit < 2 ^ 64) (lawful : IsNonogr
       (number_of_line (long_text all_lines (codes "copyright")))
       (number_of_line (long_text all_lines (codes "license")))
       (ap (option_map (λ (place : List ℕ × Line). place.1.number)) (no_stray p (placed [] all_lines) laid))
-      (long_none (codes "catalogue") all_lines p.texts.catalogue catalogue_field lawful.texts.catalogue)
-      (long_none (codes "title") all_lines p.texts.title title_field lawful.texts.title)
-      (long_none (codes "by") all_lines p.texts.by by_field lawful.texts.by)
-      (long_none (codes "copyright") all_lines p.texts.copyright copyright_field lawful.texts.copyright)
-      (long_none (codes "license") all_lines p.texts.license license_field lawful.texts.license)
+      (long_none (codes "catalogue") all_lines p.texts.catalogue (field_at Catalogue) lawful.texts.catalogue)
+      (long_none (codes "title") all_lines p.texts.title (field_at Title) lawful.texts.title)
+      (long_none (codes "by") all_lines p.texts.by (field_at By) lawful.texts.by)
+      (long_none (codes "copyright") all_lines p.texts.copyright (field_at Copyright) lawful.texts.copyright)
+      (long_none (codes "license") all_lines p.texts.license (field_at License) lawful.texts.license)
 
   second_none : (word : List ℕ) (text : List ℕ) → IsOne (with_keyword word all_lines) text → number_of_line (second_with word all_lines) ≡ None
   second_none word text one = ap (λ (ls : List Line). number_of_line (slice_get ls 1)) one.1
@@ -519,7 +544,7 @@ module _ (limit : ℕ) (p : Nonogram) (wide : limit < 2 ^ 64) (lawful : IsNonogr
   texts_read =
       same_texts (field_text (codes "catalogue") all_lines) (field_text (codes "title") all_lines) (field_text (codes "by") all_lines) (field_text (codes "copyright") all_lines) (field_text (codes "license") all_lines)
       p.texts.catalogue p.texts.title p.texts.by p.texts.copyright p.texts.license
-      (field_again (codes "catalogue") all_lines p.texts.catalogue catalogue_field) (field_again (codes "title") all_lines p.texts.title title_field) (field_again (codes "by") all_lines p.texts.by by_field) (field_again (codes "copyright") all_lines p.texts.copyright copyright_field) (field_again (codes "license") all_lines p.texts.license license_field)
+      (field_again (codes "catalogue") all_lines p.texts.catalogue (field_at Catalogue)) (field_again (codes "title") all_lines p.texts.title (field_at Title)) (field_again (codes "by") all_lines p.texts.by (field_at By)) (field_again (codes "copyright") all_lines p.texts.copyright (field_at Copyright)) (field_again (codes "license") all_lines p.texts.license (field_at License))
 
   -- the lines of a written puzzle say that puzzle
   non_again : non_of limit all_lines ≡ Ok p

@@ -32,9 +32,12 @@ body_of (raw ∷ raws) = if is_marker raw then [] else raw ++ body_of raws
 -- the entry of each marker line, in order
 abbrev pub entries_of : List (List ℕ) → List Entry
 entries_of [] = []
-entries_of (raw ∷ raws) = let others = entries_of raws in if is_marker raw then record { name = name_of raw; body = body_of raws } ∷ others else others
+entries_of (raw ∷ raws) =
+    let others = entries_of raws in
+    if is_marker raw then record { name = name_of raw; body = body_of raws } ∷ others else others
 
--- The number of the first line that belongs to no entry or names none: raws are the lines from number on, and inside tells whether a marker line stands above.
+-- The number of the first line that belongs to no entry or names none: raws are the lines from number on, and inside tells whether a marker
+-- line stands above.
 abbrev pub stray_from : ℕ → Bool → List (List ℕ) → Option ℕ
 stray_from number inside [] = None
 stray_from number inside (raw ∷ raws) =
@@ -49,7 +52,8 @@ checked None entries = if nat_lt MOST_ENTRIES (length entries) then Err TooMany 
 
 -- the entries of a collection, or its first fault
 abbrev pub cut : List ℕ → Result (List Entry) CollectionFault
-cut bytes = if nat_lt LONGEST_COLLECTION (length bytes) then Err TooLong else checked (stray_from 1 false (raw_lines bytes)) (entries_of (raw_lines bytes))
+cut bytes = if nat_lt LONGEST_COLLECTION (length bytes) then Err TooLong
+    else checked (stray_from 1 false (raw_lines bytes)) (entries_of (raw_lines bytes))
 
 -- What a call answered, seen by view, is this answer. Want of memory may stand in place of any answer.
 abbrev pub GivesEntries : {X Y : Type 0} → (X → Y) → Result X CollectionFault → Result Y CollectionFault → Type 0

@@ -16,6 +16,10 @@ field_word By = codes "by"
 field_word Copyright = codes "copyright"
 field_word License = codes "license"
 
+-- the text fields, in the order in which they are written
+abbrev pub all_fields : List Field
+all_fields = Catalogue ∷ Title ∷ By ∷ Copyright ∷ License ∷ []
+
 -- the letters that a line begins with, in lower case; none, if it is no keyword line
 abbrev pub keyword : Line → List ℕ
 keyword line = str_to_ascii_lowercase (take_while is_ascii_alphabetic line.text)
@@ -54,5 +58,5 @@ abbrev pub quoted : List ℕ → List ℕ
 quoted bytes = unwrap_or (option_and_then before_quote (after_quote bytes)) bytes
 
 -- the text of a field's line
-abbrev pub text_of : Line → List ℕ
-text_of line = quoted (rest line)
+abbrev pub quoted_text : Line → List ℕ
+quoted_text line = quoted (rest line)

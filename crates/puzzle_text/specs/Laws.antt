@@ -15,7 +15,8 @@ MkIsReadBack limit = (p : Nonogram) → IsNonogramWithin limit p → read_mk lim
 
 -- what is written in .nin, and isn't ambiguous, is read again, without texts and goal
 abbrev pub NinIsReadBack : ℕ → Type 0
-NinIsReadBack limit = (p : Nonogram) → IsNonogramWithin limit p → is_ambiguous p ≡ false → read_nin limit (text_nin p) ≡ Ok (plain p.width p.height p.rows p.columns)
+NinIsReadBack limit = (p : Nonogram) → IsNonogramWithin limit p → is_ambiguous p ≡ false
+    → read_nin limit (text_nin p) ≡ Ok (plain p.width p.height p.rows p.columns)
 
 -- what is written in .non is read again, texts and goal included
 abbrev pub NonIsReadBack : ℕ → Type 0
@@ -23,7 +24,8 @@ NonIsReadBack limit = (p : Nonogram) → IsNonogramWithin limit p → read_non l
 
 -- what is written in any format is short enough to be read
 abbrev pub WrittenIsShort : ℕ → Type 0
-WrittenIsShort limit = (p : Nonogram) → IsNonogramWithin limit p → (length (text_non p) ≤ LONGEST_PUZZLE) × (length (text_mk p) ≤ LONGEST_PUZZLE) × (length (text_nin p) ≤ LONGEST_PUZZLE)
+WrittenIsShort limit = (p : Nonogram) → IsNonogramWithin limit p
+    → (length (text_non p) ≤ LONGEST_PUZZLE) × (length (text_mk p) ≤ LONGEST_PUZZLE) × (length (text_nin p) ≤ LONGEST_PUZZLE)
 
 -- new is old, unless old is BadSize or BadNumber
 abbrev pub KeepsAnswer : {A : Type 0} → Result A TextFault → Result A TextFault → Type 0
@@ -31,4 +33,7 @@ KeepsAnswer old new = (old ≡ Err BadSize → ⊥) → ((number : ℕ) → old 
 
 -- a greater limit keeps what a text says: the same puzzle, or the same fault, unless a size or a number was out of range
 abbrev pub GreaterLimitKeeps : ℕ → ℕ → Type 0
-GreaterLimitKeeps limit greater = (bytes : List ℕ) → KeepsAnswer (read_non limit bytes) (read_non greater bytes) × KeepsAnswer (read_mk limit bytes) (read_mk greater bytes) × KeepsAnswer (read_nin limit bytes) (read_nin greater bytes)
+GreaterLimitKeeps limit greater = (bytes : List ℕ)
+    → KeepsAnswer (read_non limit bytes) (read_non greater bytes)
+    × KeepsAnswer (read_mk limit bytes) (read_mk greater bytes)
+    × KeepsAnswer (read_nin limit bytes) (read_nin greater bytes)

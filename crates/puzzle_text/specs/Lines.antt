@@ -1,5 +1,5 @@
 -- A text as numbered lines.
-use Rattle.std.specs.Prelude.{◌≡◌, ℕ, ◌+◌, ◌-◌, Bool, true, false, not, ◌||◌, List, [], ◌∷◌, length, reverse, ◌==◌, if◌then◌else◌, slice_index, take}
+use Rattle.std.specs.Prelude.{◌≡◌, ℕ, ◌+◌, ◌-◌, Bool, true, not, ◌||◌, List, [], ◌∷◌, length, reverse, ◌==◌, if◌then◌else◌, slice_index, take}
 use Rattle.std.specs.List.{onto_first, list_all, AllByRecursion}
 
 -- the lines of a text, each with the line feed that ends it

@@ -26,7 +26,8 @@ before_hash lines = before_first is_hash lines
 
 -- the clue lines of both sections at these sizes
 abbrev pub both_choices : ℕ → ℕ → List Line → List Line → Option (List Line)
-both_choices width height rows columns = option_and_then (λ chosen. option_and_then (λ more. Some (chosen ++ more)) (choice width columns)) (choice height rows)
+both_choices width height rows columns =
+    option_and_then (λ chosen. option_and_then (λ more. Some (chosen ++ more)) (choice width columns)) (choice height rows)
 
 -- sizes, and the clue lines chosen for them
 pub record Layout : Type 0 where
@@ -36,7 +37,8 @@ pub record Layout : Type 0 where
 
 -- these sizes with their clue lines, if both sections have as many
 abbrev pub layout : ℕ → ℕ → List Line → List Line → Option Layout
-layout width height rows columns = option_and_then (λ chosen. Some (record { width = width; height = height; chosen = chosen })) (both_choices width height rows columns)
+layout width height rows columns =
+    option_and_then (λ chosen. Some (record { width = width; height = height; chosen = chosen })) (both_choices width height rows columns)
 
 -- the first that is there
 abbrev pub or_else : {A : Type 0} → Option A → Option A → Option A

@@ -16,7 +16,7 @@ use Rattle.puzzle_text.specs.ClueLines.{clues_of}
 use Rattle.puzzle_text.specs.Sections.{choice}
 use Rattle.puzzle_text.specs.Sizes.{lines_of, size_of}
 use Rattle.puzzle_text.specs.Mk.{is_hash}
-use Rattle.puzzle_text.specs.Keywords.{field_word, keyword, rest, first_with, second_with, text_of}
+use Rattle.puzzle_text.specs.Keywords.{all_fields, field_word, keyword, rest, first_with, second_with, quoted_text}
 
 -- ---- sections
 
@@ -59,11 +59,11 @@ refuse_at fault (Some number) = Err (fault number)
 
 -- the first line of a text field, if its text is too long
 abbrev pub long_text : List Line → List ℕ → Option Line
-long_text lines word = option_and_then (λ line. if nat_lt LONGEST_TEXT (length (text_of line)) then Some line else None) (first_with word lines)
+long_text lines word = option_and_then (λ line. if nat_lt LONGEST_TEXT (length (quoted_text line)) then Some line else None) (first_with word lines)
 
 -- the keywords of the text fields
 abbrev pub text_words : List (List ℕ)
-text_words = map field_word (Catalogue ∷ Title ∷ By ∷ Copyright ∷ License ∷ [])
+text_words = map field_word all_fields
 
 -- the keywords that may stand once only
 abbrev pub single_words : List (List ℕ)
@@ -75,7 +75,9 @@ number_of_line found = option_map (λ line. line.number) found
 
 -- the least number of a stray line, or of the first line of a text field that is too long
 abbrev pub bad_line : List Line → Option ℕ
-bad_line lines = least (option_map (λ place. place.1.number) (find is_stray (placed [] lines))) (least_of (map (λ word. number_of_line (long_text lines word)) text_words))
+bad_line lines =
+    least (option_map (λ place. place.1.number) (find is_stray (placed [] lines)))
+    (least_of (map (λ word. number_of_line (long_text lines word)) text_words))
 
 -- the first line that repeats a keyword which may stand once only
 abbrev pub repeated : List Line → Option ℕ
@@ -123,11 +125,11 @@ goal_cells count text = if length text == count then each_some cell_of text else
 -- the goal that a line says, if there is one
 abbrev pub goal_of : ℕ → Option Line → Result (Option (List Bool)) TextFault
 goal_of count None = Ok None
-goal_of count (Some line) = or_fault (BadGoal line.number) (goal_cells count (text_of line)) >>= λ cells. Ok (Some cells)
+goal_of count (Some line) = or_fault (BadGoal line.number) (goal_cells count (quoted_text line)) >>= λ cells. Ok (Some cells)
 
 -- the text of the first line of a field
 abbrev pub field_text : List ℕ → List Line → Option (List ℕ)
-field_text word lines = option_map text_of (first_with word lines)
+field_text word lines = option_map quoted_text (first_with word lines)
 
 -- the description with this text of a field, or none
 abbrev pub with_field : Description → Field → Option (List ℕ) → Description

@@ -1,10 +1,9 @@
 -- The text of a puzzle in each format.
 use Rattle.std.specs.Prelude.{ℕ, Bool, true, false, not, ◌&&◌, List, [], ◌∷◌, ◌++◌, map, codes, decimal, Option, Some, None, ◌==◌}
 use Rattle.std.specs.List.{flat_map}
-use Rattle.grid_core.specs.Description.{Description}
+use Rattle.grid_core.specs.Description.{Description, text_of}
 use Rattle.grid_core.specs.Nonogram.{Nonogram}
-use Rattle.grid_core.specs.declared.fields.Field.TheVariants.{Catalogue, Title, By, Copyright, License}
-use Rattle.puzzle_text.specs.Keywords.{field_word}
+use Rattle.puzzle_text.specs.Keywords.{all_fields, field_word}
 use Rattle.puzzle_text.specs.Readings.{is_admissible, reading}
 
 -- a clue, with this byte before each number but the first; the empty clue is 0
@@ -53,8 +52,7 @@ goal_lines (Some cells) = codes "\n" ++ quoted_line (codes "goal") (Some (map go
 
 -- the lines of the texts that are there
 abbrev pub text_fields : Description → List ℕ
-text_fields texts = quoted_line (field_word Catalogue) texts.catalogue ++ quoted_line (field_word Title) texts.title ++ quoted_line (field_word By) texts.by
-    ++ quoted_line (field_word Copyright) texts.copyright ++ quoted_line (field_word License) texts.license
+text_fields texts = flat_map (λ field. quoted_line (field_word field) (text_of texts field)) all_fields
 
 -- the text in .non: the texts, the sizes, the rows, the columns, the goal
 abbrev pub text_non : Nonogram → List ℕ

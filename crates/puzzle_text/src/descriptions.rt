@@ -7,7 +7,7 @@ ghost use Rattle.puzzle_text.specs.Keywords.{field_word};
 ghost use Rattle.puzzle_text.specs.Non.{field_text, long_text, number_of_line, texts_of, with_field};
 ghost use Rattle.puzzle_text.specs.Shown.{shown_line};
 
-use crate::keywords::{field_word, nth_with, text_of};
+use crate::keywords::{field_word, nth_with, quoted_text};
 use crate::lines::Line;
 use grid_core::{Field, LONGEST_TEXT, NoMemory, Texts, TextsFault};
 use std::alloc::Global;
@@ -17,7 +17,7 @@ fn long_text<'a, 'b>(lines: &'b [Line<'a>], field: Field) -> Option<&'b Line<'a>
     ensures { option_map (λ line. shown_line line.now) result ≡ long_text (map shown_line lines.now) (field_word field) }
 {
     match nth_with(field_word(field), 0, lines) {
-        Some(line) if text_of(line).len() > LONGEST_TEXT => Some(line),
+        Some(line) if quoted_text(line).len() > LONGEST_TEXT => Some(line),
         _ => None,
     }
 }
@@ -46,7 +46,7 @@ fn set_field(
     let Some(line) = nth_with(field_word(field), 0, lines) else {
         return Ok(());
     };
-    match texts.set(alloc, field, text_of(line)) {
+    match texts.set(alloc, field, quoted_text(line)) {
         Ok(()) => Ok(()),
         Err(TextsFault::NoMemory) => Err(NoMemory),
         Err(TextsFault::BadText) => unreachable!(),

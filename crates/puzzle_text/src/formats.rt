@@ -28,7 +28,8 @@ pub fn read_entry(alloc: Global, entry: &Entry<'_>) -> Result<Puzzle, EntryFault
     ensures answer { GivesPuzzle result (read_entry LONGEST_SIDE (shown_entry entry.now)) }
     // Want of memory never stands in place of these faults.
     ensures unknown { result ≡ Err EntryFault.UnknownFormat ↔ is_known (shown_entry entry.now).name ≡ false }
-    ensures too_long { is_known (shown_entry entry.now).name ≡ true → LONGEST_PUZZLE < length (shown_entry entry.now).body → result ≡ Err (EntryFault.Text TextFault.TooLong) }
+    ensures too_long { is_known (shown_entry entry.now).name ≡ true → LONGEST_PUZZLE < length (shown_entry entry.now).body
+        → result ≡ Err (EntryFault.Text TextFault.TooLong) }
 {
     let answer = if has_ending(entry.name, b".non") {
         read_non(alloc, entry.body)

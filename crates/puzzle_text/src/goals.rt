@@ -8,7 +8,7 @@ ghost use Rattle.puzzle_text.specs.Non.{cell_of, goal_cells, goal_of};
 ghost use Rattle.puzzle_text.specs.Shown.{shown_line};
 
 use crate::faults::TextFault;
-use crate::keywords::text_of;
+use crate::keywords::quoted_text;
 use crate::lines::Line;
 use std::alloc::{AllocError, Global};
 
@@ -52,7 +52,7 @@ pub(crate) fn goal_of(
     let Some(line) = line else {
         return Ok(None);
     };
-    match goal_cells(alloc, count, text_of(line))? {
+    match goal_cells(alloc, count, quoted_text(line))? {
         Some(cells) => Ok(Some(cells)),
         None => Err(TextFault::BadGoal(line.number)),
     }

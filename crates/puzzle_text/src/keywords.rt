@@ -6,7 +6,7 @@ ghost use Rattle.std.specs.Option.{option_map};
 ghost use Rattle.std.specs.Char.{is_ascii_alphabetic};
 ghost use Rattle.std.specs.Str.{bytes_eq, str_to_ascii_lowercase};
 ghost use Rattle.puzzle_text.specs.Lines.{is_empty};
-ghost use Rattle.puzzle_text.specs.Keywords.{after_quote, before_quote, field_word, has_keyword, keyword, quoted, rest, text_of, with_keyword};
+ghost use Rattle.puzzle_text.specs.Keywords.{after_quote, before_quote, field_word, has_keyword, keyword, quoted, rest, quoted_text, with_keyword};
 ghost use Rattle.puzzle_text.specs.Shown.{shown_line};
 
 use crate::lines::{Line, trim};
@@ -120,8 +120,8 @@ fn quoted(bytes: &[u8]) -> &[u8]
 }
 
 /// The text of a field's line.
-pub(crate) fn text_of<'a>(line: &Line<'a>) -> &'a [u8]
-    ensures { result.now ≡ text_of (shown_line line.now) }
+pub(crate) fn quoted_text<'a>(line: &Line<'a>) -> &'a [u8]
+    ensures { result.now ≡ quoted_text (shown_line line.now) }
 {
     quoted(rest(line))
 }

@@ -246,3 +246,22 @@ fn refused_collections(rt: HostRuntime) -> Result<(), Fail> {
     }
     Ok(())
 }
+
+#[test]
+fn faults_in_sentences(rt: HostRuntime) -> Result<(), Fail> {
+    let bad_line = format!(in rt.alloc(); "{}", TextFault::BadLine(3))?;
+    assert_eq!(rt; bad_line.as_str(), "line 3 belongs nowhere or is too long");
+    let bad_count = format!(in rt.alloc(); "{}", EntryFault::Text(TextFault::BadCount))?;
+    assert_eq!(rt;
+        bad_count.as_str(),
+        "the number of clue lines does not fit the size"
+    );
+    let stray = format!(in rt.alloc(); "{}", CollectionFault::Stray(1))?;
+    assert_eq!(rt; stray.as_str(), "line 1 belongs to no entry or names none");
+    let ambiguous = format!(in rt.alloc(); "{}", WriteFault::Ambiguous)?;
+    assert_eq!(rt;
+        ambiguous.as_str(),
+        "the text would be read with the sizes the other way round"
+    );
+    Ok(())
+}

@@ -1,12 +1,12 @@
-use Rattle.std.proofs.Common.{◌≡◌, ℕ, zero, suc, ◌+◌, ◌-◌, ◌<◌, ◌≤◌, List, [], ◌∷◌, ◌++◌, length, get_or, set, take, drop, refl, sym, ap, ◌∙◌, arith, subst, length-append, length-set, add-one, drop-cons, Option, Some, None}
+use Rattle.std.proofs.Common.{◌≡◌, ℕ, zero, suc, ◌+◌, ◌<◌, ◌≤◌, List, [], ◌∷◌, ◌++◌, length, set, take, drop, refl, sym, ap, ◌∙◌, arith, subst, length-append, Option, Some, None}
 use Rattle.std.specs.List.{AllByRecursion}
 use Rattle.grid_core.specs.declared.cells.Cell.{Cell}
 use Rattle.grid_core.specs.declared.cells.Cell.TheVariants.{Unknown, Filled, Blank}
 use Rattle.grid_core.specs.Nonogram.{GridLine}
 use Rattle.solve_core.specs.declared.branches.Branch.{Branch}
-use Rattle.solve_core.specs.Search.{Event, Guess, events}
+use Rattle.solve_core.specs.Search.{Guess, events}
 use Rattle.solve_core.specs.Trails.{SettledPlaces, unknown_count, cleared, HasRoomFor, IsTrailed}
-use Rattle.solve_core.specs.Branches.{cells_before, AreInside, IsClosed, IsNext, IsOpen, IsBranch, AreInOrder, AreBefore, AreOlder, IsWork, pending, open_events, ready_events, IsReady}
+use Rattle.solve_core.specs.Branches.{cells_before, AreInside, IsNext, IsBranch, AreInOrder, AreBefore, AreOlder, IsWork, pending, open_events, ready_events}
 use Rattle.solve_core.proofs.TrailSteps.{cleared-append, length-cleared}
 use Rattle.solve_core.proofs.EndingLaws.{append-nil-right, append-assoc-right}
 

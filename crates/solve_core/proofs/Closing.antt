@@ -1,10 +1,10 @@
-use Rattle.std.proofs.Common.{◌≡◌, ℕ, zero, suc, ◌+◌, ◌<◌, ◌≤◌, ◌⊎◌, inl, inr, Bool, true, false, List, [], ◌∷◌, length, Option, Some, None, refl, sym, ap, ◌∙◌, arith, option_and_then}
+use Rattle.std.proofs.Common.{◌≡◌, ℕ, zero, suc, ◌<◌, ◌≤◌, ◌⊎◌, inl, inr, List, [], ◌∷◌, length, Option, Some, None, refl, sym, ap, ◌∙◌, arith, option_and_then}
 use Rattle.grid_core.specs.declared.cells.Cell.{Cell}
 use Rattle.grid_core.specs.declared.cells.Cell.TheVariants.{Unknown, Filled, Blank}
-use Rattle.grid_core.specs.Cells.{CellExtends, Extends}
+use Rattle.grid_core.specs.Cells.{Extends}
 use Rattle.solve_core.specs.Closure.{repeat}
 pub use Rattle.solve_core.specs.Trails.{unknown_count}
-use Rattle.solve_core.proofs.Order.{AtMost, AtMost-refl, AtMost-trans, Extends-refl, length-Extends}
+use Rattle.solve_core.proofs.Order.{AtMost, AtMost-trans, Extends-refl}
 
 -- a step that only adds to what is known, and adds no less where more is known
 pub record IsDeduction (f : List Cell → Option (List Cell)) : Type 0 where

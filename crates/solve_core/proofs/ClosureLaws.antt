@@ -1,17 +1,16 @@
-use Rattle.std.proofs.Common.{◌≡◌, ℕ, zero, suc, ◌+◌, ◌<◌, ◌≤◌, Bool, true, false, not, List, [], ◌∷◌, length, get_or, set, map, Option, Some, None, IfSome, refl, sym, ap, ◌∙◌, arith, length-set, slice_set, option_map}
-use Rattle.std.specs.List.{AllZip, AllByRecursion}
-use Rattle.std.proofs.Math.ListN.{length-map}
+use Rattle.std.proofs.Common.{◌≡◌, ℕ, zero, suc, ◌+◌, ◌<◌, Bool, false, List, [], ◌∷◌, length, get_or, set, map, Option, Some, None, refl, sym, ap, ◌∙◌, arith, length-set, option_map}
+use Rattle.std.specs.List.{AllByRecursion}
 use Rattle.grid_core.specs.declared.cells.Cell.{Cell}
-use Rattle.grid_core.specs.declared.cells.Cell.TheVariants.{Unknown, Filled, Blank}
+use Rattle.grid_core.specs.declared.cells.Cell.TheVariants.{Unknown}
 use Rattle.grid_core.specs.Cells.{CellExtends, Extends, colour}
 use Rattle.grid_core.specs.Runs.{runs}
 use Rattle.grid_core.specs.Nonogram.{GridLine, cells_at}
 use Rattle.line_core.specs.Deduction.{deduced}
-use Rattle.solve_core.specs.Closure.{join_all, with_cells, deduce_line, round, repeat, closure}
-use Rattle.solve_core.proofs.Order.{AtMost, AtMost-refl, AtMost-trans, Extends-refl, Extends-trans, Extends-antisym, length-Extends, HasLength, join_all-above, join_all-above_each, join_all-least}
+use Rattle.solve_core.specs.Closure.{with_cells, deduce_line, round, repeat, closure}
+use Rattle.solve_core.proofs.Order.{AtMost, AtMost-trans, Extends-refl, Extends-trans, Extends-antisym, HasLength, join_all-above, join_all-above_each, join_all-least}
 pub use Rattle.solve_core.specs.LeastClosed.{IsLeastClosed}
-use Rattle.solve_core.proofs.Closing.{IsDeduction, repeat-above, repeat-monotone, repeat-below, repeat-least, repeat-fixed, repeat-closed, unknown_count, unknown_count-le}
-use Rattle.line_core.proofs.DeductionLaws.{IsPlacing, Extends-at, deduced-above, deduced-below, deduced-monotone, deduced-full, get_or-map_colour}
+use Rattle.solve_core.proofs.Closing.{IsDeduction, repeat-above, repeat-below, repeat-least, repeat-closed, unknown_count-le}
+use Rattle.line_core.proofs.DeductionLaws.{Extends-at, deduced-below, deduced-monotone, deduced-full, get_or-map_colour}
 
 -- where a line is a grid's line
 pub cells_at-monotone : (g z : List Cell) (places : List ℕ) → Extends g z → Extends (cells_at Unknown g places) (cells_at Unknown z places)

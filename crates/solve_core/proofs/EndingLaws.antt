@@ -1,4 +1,4 @@
-use Rattle.std.proofs.Common.{◌≡◌, ℕ, zero, suc, ◌+◌, ◌-◌, add-one, ◌<◌, ◌≤◌, Bool, true, false, List, [], ◌∷◌, ◌++◌, length, refl, sym, ap, ◌∙◌, arith, subst}
+use Rattle.std.proofs.Common.{◌≡◌, ℕ, suc, ◌+◌, ◌-◌, add-one, ◌<◌, ◌≤◌, true, List, [], ◌∷◌, ◌++◌, length, refl, sym, ap, ◌∙◌, arith, subst}
 use Rattle.grid_core.specs.declared.cells.Cell.{Cell}
 use Rattle.grid_core.specs.PartialGrid.{PartialGrid}
 use Rattle.grid_core.specs.Nonogram.{Nonogram}
@@ -65,4 +65,3 @@ pub fewer-next : (p q : Nonogram) (before : List Event) (below after : Nonogram 
 fewer-next p q before below after same e h =
     let h' : length (after p) ≤ length (below p) = subst (λ (x : Nonogram). length (after x) ≤ length (below x)) same h in
     omega (arith, h', ap length e)
-

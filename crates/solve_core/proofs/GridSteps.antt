@@ -1,18 +1,16 @@
-use Rattle.std.proofs.Common.{◌≡◌, ◌≢◌, ℕ, zero, suc, ◌+◌, ◌-◌, ◌*◌, ◌/◌, ◌%◌, ◌<◌, ◌≤◌, ◌⊎◌, inl, inr, Bool, true, false, List, [], ◌∷◌, ◌++◌, length, get_or, set, Option, Some, None, refl, sym, ap, ◌∙◌, arith, subst, length-set, get_or-set_same, get_or-set_other, below_more}
+use Rattle.std.proofs.Common.{◌≡◌, ◌≢◌, ℕ, zero, suc, ◌+◌, ◌*◌, ◌/◌, ◌%◌, ◌<◌, ◌≤◌, ◌⊎◌, inl, inr, Bool, true, false, List, [], length, get_or, set, Option, Some, None, refl, sym, ap, ◌∙◌, arith, subst, length-set, get_or-set_same, get_or-set_other, below_more}
 use Rattle.std.proofs.Math.Nat.{mul-le-mul_left}
 use Rattle.std.proofs.lemmas.Nat.{div_below}
 use Rattle.grid_core.specs.declared.cells.Cell.{Cell}
-use Rattle.grid_core.specs.declared.cells.Cell.TheVariants.{Unknown, Filled, Blank}
-use Rattle.grid_core.specs.Cells.{Extends}
+use Rattle.grid_core.specs.declared.cells.Cell.TheVariants.{Unknown}
 use Rattle.grid_core.specs.Nonogram.{Nonogram, IsNonogram, GridLine, places_from, lines_of, cells_at, row_at, column_at}
-use Rattle.line_core.specs.Deduction.{deduced}
 use Rattle.solve_core.specs.declared.closures.Progress.{Progress}
 use Rattle.solve_core.specs.declared.closures.Progress.TheVariants.{Dead, Same, Changed}
 use Rattle.solve_core.specs.Closure.{round, closure, deduce_line}
-use Rattle.solve_core.specs.Marks.{IsSettled, IsWritten, IsDeduced, HasMarks, MarksAfter, Progresses, AreUnmarked, IsAtRest, outcome}
+use Rattle.solve_core.specs.Marks.{IsSettled, IsWritten, IsDeduced, HasMarks, MarksAfter, Progresses, AreUnmarked, IsAtRest}
 use Rattle.solve_core.specs.Rounds.{IsLearned}
 use Rattle.solve_core.specs.Trails.{unknown_count}
-use Rattle.solve_core.proofs.Order.{Extends-refl, length-Extends, AtMost}
+use Rattle.solve_core.proofs.Order.{Extends-refl, length-Extends}
 use Rattle.solve_core.proofs.ClosureLaws.{closure-IsLeastClosed}
 use Rattle.solve_core.proofs.StepLaws.{IsOneOf, done_within}
 use Rattle.solve_core.proofs.LineSteps.{closed_settled, deduce_line-above, set-unmarked, settled-elsewhere, AreDistinct, AreBelow, settled_line, written_line, written-extends, written-settled, others-settled, written-fewer, written-same, line_keeps, line_dead, row_is_line, column_is_line, all_lines}

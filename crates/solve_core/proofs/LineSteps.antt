@@ -1,21 +1,21 @@
-use Rattle.std.proofs.Common.{◌≡◌, ◌≢◌, ℕ, zero, suc, ◌+◌, ◌-◌, ◌*◌, ◌<◌, ◌≤◌, ◌⊎◌, inl, inr, Bool, true, false, List, [], ◌∷◌, ◌++◌, length, get_or, set, drop, drop-cons, map, filter, Option, Some, None, option_map, refl, sym, ap, ◌∙◌, arith, subst, length-set, get_or-set_same, get_or-set_other, eqb, zero-add, add-zero, add-one}
+use Rattle.std.proofs.Common.{◌≡◌, ◌≢◌, ℕ, zero, suc, ◌+◌, ◌-◌, ◌*◌, ◌<◌, ◌≤◌, inl, inr, Bool, true, false, List, [], ◌∷◌, ◌++◌, length, get_or, set, drop, drop-cons, map, Option, Some, None, option_map, refl, sym, ap, ◌∙◌, arith, subst, length-set, get_or-set_same, zero-add, add-zero, add-one}
 use Rattle.std.specs.List.{AllByRecursion, enumerate_from}
 use Rattle.std.proofs.Math.ListN.{length-map}
 use Rattle.grid_core.specs.declared.cells.Cell.{Cell}
 use Rattle.grid_core.specs.declared.cells.Cell.TheVariants.{Unknown, Filled, Blank}
 use Rattle.std.proofs.Math.Nat.{mul-le-mul_left}
-use Rattle.grid_core.specs.Cells.{CellExtends, Extends, colour, is_known}
-use Rattle.grid_core.specs.Nonogram.{Nonogram, IsNonogram, GridLine, places_from, row_line, column_line, lines_of, cells_at, row_at, column_at}
+use Rattle.grid_core.specs.Cells.{CellExtends, Extends, is_known}
+use Rattle.grid_core.specs.Nonogram.{Nonogram, GridLine, places_from, row_line, column_line, lines_of, cells_at, row_at, column_at}
 use Rattle.line_core.specs.Deduction.{deduced}
 use Rattle.grid_core.proofs.LineLaws.{length-places_from, get_or-places_from, length-cells_at, get_or-cells_at}
 use Rattle.solve_core.specs.Closure.{with_cells, deduce_line, round, closure}
-use Rattle.solve_core.specs.Marks.{IsSettled, IsWritten, HasMarks}
+use Rattle.solve_core.specs.Marks.{IsSettled, IsWritten}
 use Rattle.solve_core.specs.Trails.{unknown_count}
-use Rattle.solve_core.proofs.Order.{AtMost, AtMost-trans, Extends-refl, Extends-trans, Extends-antisym, length-Extends}
-use Rattle.solve_core.proofs.Closing.{IsDeduction, fewer_unknown}
+use Rattle.solve_core.proofs.Order.{AtMost, Extends-refl, Extends-trans, Extends-antisym, length-Extends}
+use Rattle.solve_core.proofs.Closing.{fewer_unknown}
 use Rattle.line_core.proofs.DeductionLaws.{deduced-above, deduced-settled}
-use Rattle.solve_core.proofs.ClosureLaws.{IsLeastClosed, IsLeastClosed-unique, closure-IsLeastClosed, deduce_line-monotone, with_cells-monotone, length-with_cells}
-use Rattle.solve_core.proofs.StepLaws.{IsOneOf, closed_line, step_within, dead_within, done_within}
+use Rattle.solve_core.proofs.ClosureLaws.{IsLeastClosed, IsLeastClosed-unique, closure-IsLeastClosed, with_cells-monotone}
+use Rattle.solve_core.proofs.StepLaws.{IsOneOf, closed_line, step_within, dead_within}
 
 set_elsewhere : (g : List Cell) (p : ℕ) (c : Cell) (k : ℕ) → (p ≡ k → c ≡ get_or g k Unknown) → get_or (set g p c) k Unknown ≡ get_or g k Unknown
 set_elsewhere [] p c k h = refl

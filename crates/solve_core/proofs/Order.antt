@@ -1,9 +1,9 @@
-use Rattle.std.proofs.Common.{◌≡◌, ℕ, zero, suc, ◌+◌, ◌<◌, ◌≤◌, ◌⊎◌, inl, inr, Bool, true, false, List, [], ◌∷◌, length, get_or, set, map, Option, Some, None, refl, sym, ap, ◌∙◌, arith, count_by, option_and_then}
-use Rattle.std.specs.List.{AllZip, AllByRecursion}
+use Rattle.std.proofs.Common.{◌≡◌, ℕ, List, [], ◌∷◌, length, Option, Some, None, refl, sym, arith, option_and_then}
+use Rattle.std.specs.List.{AllByRecursion}
 use Rattle.grid_core.specs.declared.cells.Cell.{Cell}
 use Rattle.grid_core.specs.declared.cells.Cell.TheVariants.{Unknown, Filled, Blank}
-use Rattle.grid_core.specs.Cells.{CellExtends, Extends, is_unknown}
-use Rattle.solve_core.specs.Closure.{join_cells, join, join_all, option_cons, with_cells, repeat}
+use Rattle.grid_core.specs.Cells.{CellExtends, Extends}
+use Rattle.solve_core.specs.Closure.{join_cells, join, join_all, option_cons}
 pub use Rattle.line_core.specs.Order.{AtMost}
 pub use Rattle.line_core.proofs.DeductionLaws.{Extends-refl, Extends-trans, Extends-antisym, length-Extends, AtMost-refl, AtMost-trans}
 

@@ -1,4 +1,4 @@
-use Rattle.std.proofs.Common.{◌≡◌, ℕ, zero, suc, ◌+◌, ◌<◌, ◌≤◌, Bool, true, false, List, [], ◌∷◌, ◌++◌, length, map, Option, Some, None, nat_lt, refl, sym, ap, ◌∙◌, arith, subst, ltb-true, ltb-false, true≢false, zero-add, is_none, is_some, not, option_map, option_and_then, position, count_by}
+use Rattle.std.proofs.Common.{◌≡◌, ℕ, zero, suc, ◌+◌, ◌≤◌, Bool, true, false, List, [], ◌∷◌, ◌++◌, length, map, Option, Some, None, nat_lt, refl, sym, ap, ◌∙◌, arith, subst, ltb-true, ltb-false, true≢false, zero-add, is_none, is_some, not, option_map, option_and_then, position, count_by}
 use Rattle.std.specs.List.{list_all, position_from}
 use Rattle.std.proofs.lemmas.Iterator.Adapters.{position_from-zero}
 use Rattle.grid_core.specs.Cells.{is_known, is_unknown}
@@ -11,7 +11,7 @@ use Rattle.grid_core.specs.declared.cells.Cell.{Cell}
 use Rattle.grid_core.specs.PartialGrid.{PartialGrid}
 use Rattle.grid_core.specs.Nonogram.{Nonogram, GridLine, lines_of}
 use Rattle.solve_core.specs.declared.findings.Verdict.{Verdict}
-use Rattle.solve_core.specs.declared.findings.Verdict.TheVariants.{Nothing, One, Several, Unsettled}
+use Rattle.solve_core.specs.declared.findings.Verdict.TheVariants.{Nothing}
 use Rattle.solve_core.specs.declared.findings.Findings.{Findings}
 use Rattle.solve_core.specs.Search.{Event, Guess, Solution, events}
 use Rattle.solve_core.specs.Report.{through_solution, within_guesses, solutions_in, guesses_in, verdict_by, grid_of, whole_search, events_from, verdict_of, guesses_of, unknown_grid, line_closure, trial_closure, is_settled, known_in, grade_by, report_of}

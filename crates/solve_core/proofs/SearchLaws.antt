@@ -1,12 +1,12 @@
 use Rattle.std.proofs.Common.{◌≡◌, ℕ, zero, suc, ◌+◌, ◌<◌, ◌≤◌, ◌⊎◌, inl, inr, Bool, true, false, cond, List, [], ◌∷◌, ◌++◌, length, get_or, set, map, Option, Some, None, position, refl, sym, ap, ◌∙◌, arith, subst, length-set, true≢false, add-one, take}
-use Rattle.std.specs.List.{AllZip, AllByRecursion, position_from}
+use Rattle.std.specs.List.{position_from}
 use Rattle.std.proofs.lemmas.List.Quantifiers.{position-Some}
 use Rattle.std.proofs.lemmas.Iterator.Adapters.{position_from-zero}
 use Rattle.std.proofs.Math.ListN.{length-map}
 use Rattle.grid_core.specs.declared.cells.Cell.{Cell}
 use Rattle.grid_core.specs.declared.cells.Cell.TheVariants.{Unknown, Filled, Blank}
 use Rattle.grid_core.specs.Cells.{CellExtends, Extends, colour, is_unknown, is_filled}
-use Rattle.grid_core.specs.Nonogram.{GridLine, cells_at}
+use Rattle.grid_core.specs.Nonogram.{GridLine}
 use Rattle.solve_core.specs.Closure.{round, closure}
 use Rattle.solve_core.specs.Search.{Event, Guess, Solution, IsPick, first_unknown, guess_at, search_from, events_within, events}
 use Rattle.solve_core.specs.Report.{solutions_in, through_solution}

@@ -1,26 +1,24 @@
-use Rattle.std.proofs.Common.{◌≡◌, ◌≢◌, ℕ, zero, suc, ◌+◌, ◌-◌, ◌<◌, ◌≤◌, List, [], ◌∷◌, ◌++◌, length, get_or, set, refl, sym, ap, ◌∙◌, arith, subst, Option, Some, None, true, false, Bool, cond, position, true≢false, get_or-set_other}
+use Rattle.std.proofs.Common.{◌≡◌, ◌≢◌, ℕ, zero, suc, ◌+◌, ◌<◌, ◌≤◌, List, [], ◌∷◌, ◌++◌, length, get_or, set, refl, sym, ap, ◌∙◌, arith, subst, Option, Some, None, true, false, Bool, cond, position, true≢false, get_or-set_other}
 use Rattle.std.specs.List.{position_from}
 use Rattle.std.proofs.lemmas.List.Quantifiers.{position-Some}
 use Rattle.std.proofs.lemmas.Iterator.Adapters.{position_from-zero}
 use Rattle.grid_core.specs.declared.cells.Cell.{Cell}
 use Rattle.grid_core.specs.declared.cells.Cell.TheVariants.{Unknown, Filled, Blank}
 use Rattle.grid_core.specs.Cells.{is_unknown, is_known, CellExtends, Extends}
-use Rattle.grid_core.specs.PartialGrid.{PartialGrid}
-use Rattle.grid_core.specs.Nonogram.{Nonogram, GridLine, lines_of}
+use Rattle.grid_core.specs.Nonogram.{Nonogram, GridLine}
 use Rattle.solve_core.specs.declared.branches.Branch.{Branch}
 use Rattle.solve_core.specs.Closure.{round, closure}
 use Rattle.solve_core.specs.Search.{Event, Guess, Solution, IsPick, guess_at, search_from, events, first_unknown}
-use Rattle.solve_core.specs.Report.{grid_of}
 use Rattle.solve_core.specs.FoundGrids.{FoundGrids, AreOfSize}
-use Rattle.solve_core.specs.Endings.{Ending, ending}
+use Rattle.solve_core.specs.Endings.{ending}
 use Rattle.solve_core.specs.Trails.{SettledPlaces, unknown_count, HasRoomFor}
-use Rattle.solve_core.specs.Branches.{AreKnownBefore, IsClosed, IsNext, IsOpen, IsWork, AreOlder, pending, open_events}
+use Rattle.solve_core.specs.Branches.{AreKnownBefore, IsClosed, IsNext, IsOpen, IsWork, AreOlder, open_events}
 use Rattle.line_core.proofs.DeductionLaws.{Extends-at}
 use Rattle.solve_core.proofs.Closing.{repeat-fixed}
 use Rattle.solve_core.proofs.ClosureLaws.{closure-IsLeastClosed}
 use Rattle.solve_core.proofs.SearchLaws.{events-unfold, unknown_is, unknown_count-more}
 use Rattle.solve_core.proofs.TrailSteps.{count-settled}
-use Rattle.solve_core.proofs.EndingLaws.{append-nil-right, append-assoc-right, ending-found, ending-next}
+use Rattle.solve_core.proofs.EndingLaws.{append-assoc-right, ending-found}
 use Rattle.solve_core.proofs.BranchLaws.{branch-count}
 
 -- a cell to guess is guessed in both colours

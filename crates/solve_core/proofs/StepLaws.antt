@@ -1,11 +1,11 @@
-use Rattle.std.proofs.Common.{◌≡◌, ℕ, zero, suc, ◌+◌, ◌<◌, ◌≤◌, ◌⊎◌, inl, inr, Bool, true, false, List, [], ◌∷◌, length, map, Option, Some, None, IsTrue, refl, sym, ap, ◌∙◌, arith, subst, option_and_then}
+use Rattle.std.proofs.Common.{◌≡◌, ◌⊎◌, inl, inr, List, [], ◌∷◌, map, Option, Some, None, refl, subst}
 use Rattle.std.specs.List.{AllByRecursion}
 use Rattle.grid_core.specs.declared.cells.Cell.{Cell}
 use Rattle.grid_core.specs.Cells.{Extends}
 use Rattle.grid_core.specs.Nonogram.{GridLine}
-use Rattle.solve_core.specs.Closure.{deduce_line, round, closure, join_all}
-use Rattle.solve_core.proofs.Order.{AtMost, AtMost-trans, Extends-refl, Extends-trans, Extends-antisym, HasLength, join_all-above, join_all-above_each, join_all-least}
-use Rattle.solve_core.proofs.ClosureLaws.{IsLeastClosed, closure-IsLeastClosed, deduce_line-monotone, round-above, same_at_most, lengths}
+use Rattle.solve_core.specs.Closure.{deduce_line, round, closure}
+use Rattle.solve_core.proofs.Order.{AtMost, AtMost-trans, Extends-refl, join_all-above_each, join_all-least}
+use Rattle.solve_core.proofs.ClosureLaws.{closure-IsLeastClosed, deduce_line-monotone, round-above, same_at_most, lengths}
 
 -- a line is one of several
 abbrev pub IsOneOf : GridLine → List GridLine → Type 0

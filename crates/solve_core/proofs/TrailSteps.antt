@@ -82,3 +82,9 @@ unknown_count-at_most (Blank ∷ g) = omega (arith, unknown_count-at_most g)
 -- an empty trail as long as the cells has room for them
 pub cleared-room : (g : List Cell) (trail after : SettledPlaces) → length g ≤ trail.room → after ≡ record trail { places = [] } → HasRoomFor g after
 cleared-room g trail after h e = rw e (omega (arith, h, unknown_count-at_most g))
+
+-- each place of a trail that began empty is one of the grid
+pub cleared-within : (old new : List Cell) (trail before after : SettledPlaces) → before ≡ record trail { places = [] } → IsTrailed old new before after → AllByRecursion (λ k. k < length new) after.places
+cleared-within old new trail before after e h =
+    let places : after.places ≡ h.added = ap (λ (r : SettledPlaces). r.places) h.kept ∙ ap (λ (r : SettledPlaces). r.places ++ h.added) e in
+    rw places h.within

@@ -1,14 +1,14 @@
-use Rattle.std.proofs.Common.{◌≡◌, ℕ, zero, suc, ◌+◌, ◌<◌, ◌≤◌, Bool, true, false, not, List, [], ◌∷◌, length, get_or, set, map, Option, Some, None, is_none, option_and_then, refl, sym, ap, ◌∙◌, arith, slice_set, slice_index_or, true≢false, add-zero, zero-add, subst}
-use Rattle.std.specs.List.{AllZip, AllByRecursion, range_with_len}
+use Rattle.std.proofs.Common.{◌≡◌, ℕ, zero, suc, ◌+◌, ◌<◌, Bool, true, false, List, [], ◌∷◌, length, get_or, set, map, Option, Some, None, is_none, option_and_then, refl, sym, ◌∙◌, arith, slice_index_or, true≢false, add-zero, zero-add, subst}
+use Rattle.std.specs.List.{range_with_len}
 use Rattle.std.proofs.Math.ListN.{length-map}
 use Rattle.grid_core.specs.declared.cells.Cell.{Cell}
 use Rattle.grid_core.specs.declared.cells.Cell.TheVariants.{Unknown, Filled, Blank}
 use Rattle.grid_core.specs.Cells.{CellExtends, Extends, colour}
 use Rattle.grid_core.specs.Nonogram.{GridLine}
-use Rattle.solve_core.specs.Closure.{option_cons, round, repeat, closure}
+use Rattle.solve_core.specs.Closure.{option_cons, round, closure}
 use Rattle.solve_core.specs.Trials.{is_refuted, left_over, tried, all_present, trial_round, trials}
-use Rattle.solve_core.proofs.Order.{AtMost, AtMost-refl, AtMost-trans, Extends-refl, Extends-trans, length-Extends}
-use Rattle.solve_core.proofs.Closing.{IsDeduction, repeat-fixed, repeat-below, and_then-above, and_then-below}
+use Rattle.solve_core.proofs.Order.{AtMost, Extends-trans, length-Extends}
+use Rattle.solve_core.proofs.Closing.{IsDeduction, repeat-fixed, and_then-above, and_then-below}
 use Rattle.line_core.proofs.DeductionLaws.{Extends-at, get_or-map_colour}
 use Rattle.solve_core.proofs.ClosureLaws.{IsLeastClosed, closure-IsLeastClosed, repeat-IsLeastClosed, MeetsLines, round-solution, same_at_most, set-monotone}
 

@@ -1,22 +1,19 @@
-use Rattle.std.proofs.Common.{◌≡◌, ◌≢◌, ℕ, zero, suc, ◌+◌, ◌<◌, ◌≤◌, ◌⊎◌, inl, inr, Bool, true, false, not, List, [], ◌∷◌, length, get_or, set, map, Option, Some, None, is_none, refl, sym, ap, ◌∙◌, arith, subst, zero-add, length-set, true≢false}
-use Rattle.std.proofs.lemmas.List.{set-get_or}
-use Rattle.std.specs.List.{range_with_len}
+use Rattle.std.proofs.Common.{◌≡◌, ◌≢◌, ℕ, zero, suc, ◌+◌, ◌<◌, inl, inr, Bool, true, false, not, List, [], ◌∷◌, length, get_or, set, Option, Some, None, is_none, refl, sym, ap, ◌∙◌, arith, subst, zero-add, true≢false}
 use Rattle.grid_core.specs.declared.cells.Cell.{Cell}
 use Rattle.grid_core.specs.declared.cells.Cell.TheVariants.{Unknown, Filled, Blank}
 use Rattle.grid_core.specs.Cells.{CellExtends, Extends, is_known}
 use Rattle.grid_core.specs.Nonogram.{GridLine}
 use Rattle.solve_core.specs.declared.trials.Trial.{Trial}
 use Rattle.solve_core.specs.declared.trials.Trial.TheVariants.{Refuted, Open, Closed}
-use Rattle.solve_core.specs.declared.closures.Progress.{Progress}
-use Rattle.solve_core.specs.declared.closures.Progress.TheVariants.{Dead, Same, Changed}
-use Rattle.solve_core.specs.Closure.{round, repeat, closure}
+use Rattle.solve_core.specs.declared.closures.Progress.TheVariants.{Changed}
+use Rattle.solve_core.specs.Closure.{round, closure}
 use Rattle.solve_core.specs.Trials.{is_refuted, left_over, tried, trial_round, trials, IsTried}
 use Rattle.solve_core.specs.Marks.{Progresses, outcome, AreOpen, AddsMarks, IsTrialOf}
 use Rattle.solve_core.specs.Trails.{unknown_count}
-use Rattle.solve_core.proofs.Order.{AtMost, AtMost-trans, Extends-refl, Extends-trans, length-Extends}
+use Rattle.solve_core.proofs.Order.{AtMost, Extends-refl, Extends-trans, length-Extends}
 use Rattle.solve_core.proofs.Closing.{repeat-fixed, fewer_unknown}
 use Rattle.line_core.proofs.DeductionLaws.{Extends-at}
-use Rattle.solve_core.proofs.ClosureLaws.{IsLeastClosed, closure-IsLeastClosed, same_at_most, set-monotone}
+use Rattle.solve_core.proofs.ClosureLaws.{IsLeastClosed, closure-IsLeastClosed, same_at_most}
 use Rattle.solve_core.proofs.TrialLaws.{OptionBelow, tried_cells, tried_cells-above, all_below, each_below, tried-below, after_trials, trials-IsLeastClosed}
 use Rattle.solve_core.proofs.LineSteps.{least_between}
 

@@ -1,6 +1,6 @@
-use Rattle.std.specs.Prelude.{◌⊎◌, ◌≡◌, ◌≢◌, ℕ, ◌+◌, ◌*◌, ◌<◌, Bool, true, false, List, [], ◌∷◌, length, suc, Option, Some, None, slice_index_or, slice_set}
+use Rattle.std.specs.Prelude.{◌⊎◌, ◌≡◌, ◌≢◌, ℕ, ◌+◌, ◌*◌, ◌<◌, Bool, true, false, List, length, Option, Some, None, slice_index_or, slice_set}
 use Rattle.grid_core.specs.declared.cells.Cell.{Cell}
-use Rattle.grid_core.specs.declared.cells.Cell.TheVariants.{Unknown, Filled, Blank}
+use Rattle.grid_core.specs.declared.cells.Cell.TheVariants.{Unknown}
 use Rattle.grid_core.specs.Nonogram.{Nonogram, IsNonogram, GridLine, places_from, row_at, column_at, cells_at}
 use Rattle.line_core.specs.Deduction.{deduced}
 use Rattle.solve_core.specs.Closure.{with_cells, closure}

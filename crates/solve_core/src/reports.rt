@@ -2,7 +2,6 @@
 ghost use Rattle.std.specs.Prelude.{◌≡◌, ◌*◌, ◌≤◌, [], length, vec_capacity, IfOk};
 ghost use Rattle.std.specs.List.{list_all};
 ghost use Rattle.grid_core.specs.Cells.{is_known};
-ghost use Rattle.grid_core.specs.PartialGrid.{PartialGrid};
 ghost use Rattle.solve_core.specs.Search.{first_unknown};
 ghost use Rattle.solve_core.specs.Grids.{HasSizeOf};
 ghost use Rattle.solve_core.specs.FoundGrids.{AreOfSize};
@@ -93,7 +92,8 @@ fn findings(
     }
 }
 
-/// Solves a puzzle, with at most so many guesses.
+/// The report on a puzzle: what lines and trials settle, and then a search with at most so many guesses. All of its room is made before the first
+/// line is deduced; `NoMemory` where that is refused.
 pub fn report(alloc: Global, puzzle: &Puzzle, guesses: u32) -> Result<Findings, NoMemory>
     ensures findings { IfOk result (λ findings. findings ≡ report_of first_unknown puzzle.now guesses) }
     ensures holds { IfOk result (λ findings. Holds first_unknown puzzle.now guesses findings.verdict) }

@@ -1,5 +1,5 @@
 //! The search for solutions, in one grid.
-ghost use Rattle.std.specs.Prelude.{◌≡◌, ℕ, ◌+◌, ◌*◌, ◌<◌, ◌≤◌, ◌++◌, [], List, length, slice_set, vec_capacity, true};
+ghost use Rattle.std.specs.Prelude.{◌≡◌, ℕ, ◌*◌, ◌<◌, ◌≤◌, ◌++◌, [], List, length, slice_set, vec_capacity, true};
 ghost use Rattle.grid_core.specs.Cells.{is_known};
 ghost use Rattle.grid_core.specs.Nonogram.{Nonogram, lines_of};
 ghost use Rattle.solve_core.specs.declared.branches.Branch.{Branch as BranchValue};

@@ -76,7 +76,10 @@ fn text_of(alloc: Global, findings: &Findings) -> Result<String, AllocError> {
         Grade::Trials => "trials",
         Grade::Search => "search",
     };
-    let mut text = format!(in alloc; "{grade} {} {} {}", findings.line_known, findings.trial_known, findings.spent)?;
+    let mut text = format!(in alloc;
+        "{grade} {} {} {}",
+        findings.line_known, findings.trial_known, findings.spent
+    )?;
     push_verdict(&mut text, &findings.verdict)?;
     Ok(text)
 }
@@ -138,8 +141,11 @@ fn trials_settle_two_puzzles(rt: HostRuntime) -> Result<(), Fail> {
         return Ok(());
     };
     assert_report(&rt, &alive, 0, "trials 0 8 0 one .##. #..#");
-    let Some(dead) = puzzle_of(rt.alloc(), &[triple, three], &[one, one, one, one, one, one])
-    else {
+    let Some(dead) = puzzle_of(
+        rt.alloc(),
+        &[triple, three],
+        &[one, one, one, one, one, one],
+    ) else {
         assert!(rt; false);
         return Ok(());
     };

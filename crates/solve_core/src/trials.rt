@@ -1,5 +1,6 @@
 //! Trials, one cell and one colour at a time.
 ghost use Rattle.std.specs.Prelude.{◌≡◌, ◌≢◌, ℕ, ◌+◌, ◌*◌, ◌<◌, ◌≤◌, ◌↔◌, Some, false, true, not, length, slice_set, slice_index_or, IsTrue};
+ghost use Rattle.std.specs.List.{AllByRecursion};
 ghost use Rattle.grid_core.specs.declared.cells.Cell.TheVariants.{Unknown, Filled, Blank};
 ghost use Rattle.grid_core.specs.Nonogram.{Nonogram, IsNonogram, lines_of};
 ghost use Rattle.grid_core.specs.Cells.{colour as colour_of, is_known};
@@ -105,6 +106,7 @@ fn close_copy(
     ensures closed { outcome result trial.new ≡ closure (lines_of puzzle.now) (slice_set cells.now place colour) }
     ensures rest { IsAtRest puzzle.now cells.now rows.new columns.new }
     ensures closed_rest { IsTrue result → IsAtRest puzzle.now trial.new rows.new columns.new }
+    ensures within { AllByRecursion (λ k. k < length trial.new) trail.new.places }
     ensures trail { trail.new.room ≡ trail.old.room }
     ensures room { tables.new ≡ tables.old }
 {
@@ -113,18 +115,20 @@ fn close_copy(
     close_with(puzzle, tables, trial, trail, rows, columns, place, colour)
 }
 
-/// Marks the colours of a trial.
-fn mark_colours(trial: &[Cell], fillable: &mut [bool], blankable: &mut [bool])
+/// Marks the colours of the cells that a trial settled.
+fn mark_colours(trial: &[Cell], places: &[u16], fillable: &mut [bool], blankable: &mut [bool])
+    requires within { AllByRecursion (λ k. k < length trial.now) places.now }
     requires fillable { length fillable.old ≡ length trial.now }
     requires blankable { length blankable.old ≡ length trial.now }
     ensures filled { AddsMarks Filled trial.now fillable.old fillable.new }
     ensures blank { AddsMarks Blank trial.now blankable.old blankable.new }
 {
-    for (k, cell) in trial.iter().enumerate() {
-        match cell {
+    for i in 0..places.len() {
+        let place = usize::from(places[i]);
+        match trial[place] {
             Cell::Unknown => {}
-            Cell::Filled => fillable[k] = true,
-            Cell::Blank => blankable[k] = true,
+            Cell::Filled => fillable[place] = true,
+            Cell::Blank => blankable[place] = true,
         }
     }
 }
@@ -176,7 +180,7 @@ fn try_colour(
     ) {
         return Trial::Refuted;
     }
-    mark_colours(trial, fillable, blankable);
+    mark_colours(trial, trail.places(), fillable, blankable);
     Trial::Closed
 }
 

@@ -13,9 +13,11 @@ pub loop-j-init : goal.loop-j-init
 loop-j-init c =
     let line = c.args.line.now in
     let clue = c.args.clue.now in
-    let gap = gap_none_is line clue c.free_cells-free.result c.first_gap-gap.result c.free_cells-free.ensures.free c.first_gap-gap.ensures in
-    (gap, blank_first line clue c.first_gap-gap.result c.gap_ahead.result gap c.gap_ahead.ensures,
-    none_is (λ i. (q : ℕ) × (q < 0) × SomeFrom (IsWholeEnd line clue q) (get_or clue q 0) i) (λ i h. let b : h.0 < 0 = h.1 in absurd (omega arith)))
+    let gap = gap_none_is line clue c.free_cells-free.result c.first_gap-gap.result c.free_cells-free.ensures.free c.first_gap-gap.ensures in (
+      gap,
+      blank_first line clue c.first_gap-gap.result c.gap_ahead.result gap c.gap_ahead.ensures,
+      none_is (λ i. (q : ℕ) × (q < 0) × SomeFrom (IsWholeEnd line clue q) (get_or clue q 0) i) (λ i h. let b : h.0 < 0 = h.1 in absurd (omega arith)),
+    )
 
 pub ends_of-ends-requires-clause-cells : goal.ends_of-ends-requires-clause-cells
 ends_of-ends-requires-clause-cells c = subst (λ (m : ℕ). IsMaskOf (MayBe c.args.line.now true) m) (sym c.write_windows.ensures.first) c.open_cells.ensures
@@ -32,9 +34,11 @@ loop-j-preserved c =
     let pos : ArePositive clue = recursion_from_All (λ (n : ℕ). 0 < n) clue c.requires.clue.positive in
     let next : IsMaskOf (IsGap line clue (j + 1)) c.gap_after-gap.result =
     subst (λ (k : ℕ). IsMaskOf (IsGap line clue k) c.gap_after-gap.result) (sym (add-one j))
-    (gap_next_is line clue j c.free_cells-free.result c.ends_of-ends.result c.gap_after-gap.result c.free_cells-free.ensures.within (positive_at clue pos j within) c.free_cells-free.ensures.free c.ends_of-ends.ensures c.gap_after-gap.ensures) in
-    (next, blank_more line clue j c.gap_after-gap.result c.gap_ahead-ahead.result c.loop-j.blankable next c.gap_ahead-ahead.ensures c.loop-j.invariant.1,
-    fill_more line clue j c.whole_ends-whole.result c.spread-fillable.result c.loop-j.fillable c.whole_ends-whole.ensures c.spread-fillable.ensures c.loop-j.invariant.2)
+    (gap_next_is line clue j c.free_cells-free.result c.ends_of-ends.result c.gap_after-gap.result c.free_cells-free.ensures.within (positive_at clue pos j within) c.free_cells-free.ensures.free c.ends_of-ends.ensures c.gap_after-gap.ensures) in (
+      next,
+      blank_more line clue j c.gap_after-gap.result c.gap_ahead-ahead.result c.loop-j.blankable next c.gap_ahead-ahead.ensures c.loop-j.invariant.1,
+      fill_more line clue j c.whole_ends-whole.result c.spread-fillable.result c.loop-j.fillable c.whole_ends-whole.ensures c.spread-fillable.ensures c.loop-j.invariant.2,
+    )
 
 pub returns-clause-filled : goal.returns-clause-filled
 returns-clause-filled c =

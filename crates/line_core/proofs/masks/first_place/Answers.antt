@@ -12,6 +12,6 @@ returns-clause-in_mask c = (bit_at-trailing_zeros w128 c.args.mask c.requires c.
 
 pub returns-clause-least : goal.returns-clause-least
 returns-clause-least c = λ i h. elim (cases_lt i _) [
-      | inl low ↦ (let none = (bit_at-trailing_zeros w128 c.args.mask c.requires c.ranges.mask.fits).2 i low in absurd (omega arith))
-      | inr high ↦ high
-    ]
+  | inl low ↦ (let none = (bit_at-trailing_zeros w128 c.args.mask c.requires c.ranges.mask.fits).2 i low in absurd (omega arith))
+  | inr high ↦ high
+]

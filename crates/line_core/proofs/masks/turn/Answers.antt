@@ -1,7 +1,27 @@
-use Rattle.std.proofs.Common.{subst, sym, ℕ}
-use Rattle.line_core.specs.Masks.{Has, IsMaskOf, IsTurned}
+use Rattle.std.proofs.Common.{refl}
 use Rattle.line_core.proofs.Turning.{turned}
 use Rattle.line_core.proofs.masks.turn.Goals as goal
 
+pub swap_pairs-ones-requires-clause-low : goal.swap_pairs-ones-requires-clause-low
+swap_pairs-ones-requires-clause-low c = refl
+
+pub swap_pairs-twos-requires-clause-low : goal.swap_pairs-twos-requires-clause-low
+swap_pairs-twos-requires-clause-low c = refl
+
+pub swap_pairs-fours-requires-clause-low : goal.swap_pairs-fours-requires-clause-low
+swap_pairs-fours-requires-clause-low c = refl
+
+pub swap_pairs-eights-requires-clause-low : goal.swap_pairs-eights-requires-clause-low
+swap_pairs-eights-requires-clause-low c = refl
+
+pub swap_pairs-sixteens-requires-clause-low : goal.swap_pairs-sixteens-requires-clause-low
+swap_pairs-sixteens-requires-clause-low c = refl
+
+pub swap_pairs-halves-requires-clause-low : goal.swap_pairs-halves-requires-clause-low
+swap_pairs-halves-requires-clause-low c = refl
+
+pub swap_pairs-requires-clause-low : goal.swap_pairs-requires-clause-low
+swap_pairs-requires-clause-low c = refl
+
 pub returns : goal.returns
-returns c = subst (λ (m : ℕ). IsMaskOf (IsTurned (Has c.args.mask)) m) (sym c.reverse_bits.ensures) (turned c.args.mask)
+returns c = turned c.args.mask _ _ _ _ _ _ _ c.swap_pairs-ones.ensures c.swap_pairs-twos.ensures c.swap_pairs-fours.ensures c.swap_pairs-eights.ensures c.swap_pairs-sixteens.ensures c.swap_pairs-halves.ensures c.swap_pairs.ensures

@@ -1,4 +1,4 @@
-use Rattle.std.proofs.Common.{◌≡◌, ℕ, ◌<◌, ◌≤◌, ◌++◌, [], ◌∷◌, length, ◌+◌, take, set, sym, ap, subst, ◌∙◌, arith, refl, length-append, length-set, List}
+use Rattle.std.proofs.Common.{◌≡◌, ℕ, ◌<◌, ◌≤◌, [], ◌∷◌, length, ◌+◌, take, set, sym, ap, subst, ◌∙◌, arith, refl, length-append, length-set}
 use Rattle.std.specs.List.{AllByRecursion}
 use Rattle.std.proofs.lemmas.List.{take-append-le}
 use Rattle.grid_core.specs.declared.cells.Cell.TheVariants.{Unknown}

@@ -1,4 +1,4 @@
-use Rattle.std.proofs.Common.{◌≡◌, ℕ, Option, Some, None, sym, subst, ap, ◌∙◌, refl, arith, length}
+use Rattle.std.proofs.Common.{subst, ap, ◌∙◌, arith, length}
 use Rattle.solve_core.specs.Search.{first_unknown}
 use Rattle.solve_core.specs.Trails.{SettledPlaces}
 use Rattle.solve_core.specs.Branches.{pending, open_events, IsOpen, AreOlder}

@@ -1,4 +1,4 @@
-use Rattle.std.proofs.Common.{◌≡◌, ◌∙◌, sym, arith, ap, length}
+use Rattle.std.proofs.Common.{◌∙◌, arith}
 use Rattle.solve_core.proofs.GridSteps.{column_given, column_progress, column_marks_after}
 use Rattle.solve_core.proofs.closures.close_column.Goals as goal
 

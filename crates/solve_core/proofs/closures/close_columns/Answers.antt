@@ -1,5 +1,4 @@
-use Rattle.std.proofs.Common.{◌≡◌, ◌≢◌, ◌∙◌, rules, arith, ℕ, sym, ap, get_or, false, below_more}
-use Rattle.solve_core.specs.declared.closures.Progress.TheVariants.{Dead, Same, Changed}
+use Rattle.std.proofs.Common.{◌≡◌, ◌∙◌, rules, arith, ℕ, sym, ap, get_or, false, below_more}
 use Rattle.solve_core.proofs.TrailSteps.{trailed-trans}
 use Rattle.solve_core.proofs.GridSteps.{unmarked_more}
 use Rattle.solve_core.proofs.closures.close_columns.Goals as goal

@@ -1,4 +1,4 @@
-use Rattle.std.proofs.Common.{◌≡◌, ◌≢◌, ℕ, ◌<◌, length, get_or, false}
+use Rattle.std.proofs.Common.{◌≡◌, ◌≢◌, ℕ, ◌<◌, get_or, false}
 use Rattle.grid_core.specs.Nonogram.{lines_of}
 use Rattle.solve_core.specs.declared.closures.Progress.TheVariants.{Dead, Same}
 use Rattle.solve_core.specs.Closure.{closure}

@@ -1,4 +1,4 @@
-use Rattle.std.proofs.Common.{rules, ◌≡◌, ◌≢◌, ◌∙◌, sym, arith, ap, length, refl, List, Bool, subst}
+use Rattle.std.proofs.Common.{rules, ◌≡◌, ◌≢◌, ◌∙◌, sym, refl, subst}
 use Rattle.solve_core.specs.declared.closures.Progress.TheVariants.{Dead, Same, Changed}
 use Rattle.solve_core.specs.Marks.{AreUnmarked}
 use Rattle.grid_core.specs.Nonogram.{lines_of}

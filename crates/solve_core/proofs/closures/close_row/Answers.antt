@@ -1,4 +1,4 @@
-use Rattle.std.proofs.Common.{◌≡◌, ◌∙◌, sym, arith, ap, length}
+use Rattle.std.proofs.Common.{◌∙◌, arith}
 use Rattle.solve_core.proofs.GridSteps.{row_given, row_progress, row_marks_after}
 use Rattle.solve_core.proofs.closures.close_row.Goals as goal
 

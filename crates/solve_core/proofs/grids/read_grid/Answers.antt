@@ -1,4 +1,4 @@
-use Rattle.std.proofs.Common.{◌≡◌, ◌≢◌, ◌<◌, ◌∙◌, ℕ, sym, ap, arith, length, get_or, get_or-set_other, get_or-set_same, below_more}
+use Rattle.std.proofs.Common.{◌≢◌, ◌<◌, ◌∙◌, ℕ, sym, ap, arith, length, get_or, get_or-set_other, get_or-set_same, below_more}
 use Rattle.std.proofs.lemmas.List.{ext_get_or}
 use Rattle.grid_core.specs.declared.cells.Cell.TheVariants.{Unknown}
 use Rattle.solve_core.proofs.GridSteps.{place_again}

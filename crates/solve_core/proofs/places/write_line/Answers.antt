@@ -1,5 +1,4 @@
-use Rattle.std.proofs.Common.{◌≡◌, ◌≢◌, ◌∙◌, ◌+◌, ◌-◌, ◌*◌, ◌<◌, ◌≤◌, ℕ, List, length, get_or, set, sym, ap, arith, rules, refl, zero-add, add-zero, length-set, get_or-set_other}
-use Rattle.grid_core.specs.declared.cells.Cell.{Cell}
+use Rattle.std.proofs.Common.{◌≡◌, ◌≢◌, ◌∙◌, ◌+◌, ◌-◌, ◌*◌, ℕ, length, get_or, set, sym, ap, arith, rules, refl, length-set, get_or-set_other}
 use Rattle.grid_core.specs.declared.cells.Cell.TheVariants.{Unknown}
 use Rattle.solve_core.specs.Marks.{places_of}
 use Rattle.solve_core.proofs.LineSteps.{write-step, same-step, read-old, apart_places, learned_cell}

@@ -1,7 +1,7 @@
-use Rattle.std.proofs.Common.{◌≡◌, ◌≢◌, sym, set}
+use Rattle.std.proofs.Common.{set}
 use Rattle.grid_core.specs.Nonogram.{lines_of}
 use Rattle.solve_core.specs.Closure.{closure}
-use Rattle.solve_core.proofs.ClosureLaws.{IsLeastClosed, closure-IsLeastClosed}
+use Rattle.solve_core.proofs.ClosureLaws.{closure-IsLeastClosed}
 use Rattle.solve_core.proofs.TrialSteps.{settle-changed, settle-dead, outcome_alive, outcome_dead}
 use Rattle.solve_core.proofs.plain.keep_colour.Goals as goal
 

@@ -1,4 +1,4 @@
-use Rattle.std.proofs.Common.{◌≡◌, ◌∙◌, arith, subst}
+use Rattle.std.proofs.Common.{◌∙◌, arith, subst}
 use Rattle.grid_core.specs.Nonogram.{GridLine, lines_of, row_at}
 use Rattle.solve_core.specs.Rounds.{IsLearned}
 use Rattle.solve_core.proofs.LineSteps.{row_is_line}

@@ -1,4 +1,4 @@
-use Rattle.std.proofs.Common.{◌≡◌, ◌≢◌, ◌<◌, ℕ, length}
+use Rattle.std.proofs.Common.{◌≡◌, ◌≢◌, ◌<◌, ℕ}
 use Rattle.grid_core.specs.Nonogram.{lines_of, row_at}
 use Rattle.solve_core.specs.declared.closures.Progress.TheVariants.{Dead, Same}
 use Rattle.solve_core.specs.Closure.{closure}

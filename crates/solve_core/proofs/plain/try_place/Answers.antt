@@ -1,4 +1,4 @@
-use Rattle.std.proofs.Common.{◌≡◌, ◌∙◌, sym}
+use Rattle.std.proofs.Common.{◌∙◌, sym}
 use Rattle.grid_core.specs.Nonogram.{lines_of}
 use Rattle.solve_core.proofs.TrialSteps.{blank_below, filled_below}
 use Rattle.solve_core.proofs.plain.try_place.Goals as goal

@@ -1,4 +1,4 @@
-use Rattle.std.proofs.Common.{◌≡◌, length, Some}
+use Rattle.std.proofs.Common.{◌≡◌, Some}
 use Rattle.grid_core.specs.Nonogram.{lines_of}
 use Rattle.solve_core.specs.Closure.{round}
 use Rattle.solve_core.specs.Trials.{trials}

@@ -1,4 +1,4 @@
-use Rattle.std.proofs.Common.{◌≡◌, ◌∙◌, arith}
+use Rattle.std.proofs.Common.{◌∙◌}
 use Rattle.solve_core.proofs.LineSteps.{write-step}
 use Rattle.solve_core.proofs.plain.write_cells.Goals as goal
 

@@ -1,4 +1,4 @@
-use Rattle.std.proofs.Common.{◌≡◌, ℕ, ◌+◌, ◌-◌, ◌*◌, drop}
+use Rattle.std.proofs.Common.{◌≡◌, ◌+◌, ◌-◌, ◌*◌, drop}
 use Rattle.grid_core.specs.Nonogram.{places_from}
 use Rattle.solve_core.specs.Closure.{with_cells}
 use Rattle.solve_core.specs.Marks.{places_of}

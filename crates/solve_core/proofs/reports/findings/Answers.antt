@@ -1,13 +1,12 @@
-use Rattle.std.proofs.Common.{◌≡◌, ◌+◌, ◌≤◌, length, true, ap, sym, subst, ◌∙◌, arith, List, []}
+use Rattle.std.proofs.Common.{length, true, ap, sym, subst, ◌∙◌, arith, List, []}
 use Rattle.grid_core.specs.declared.cells.Cell.{Cell}
 use Rattle.grid_core.specs.Nonogram.{Nonogram, lines_of}
 use Rattle.solve_core.specs.Report.{grade_by}
 use Rattle.solve_core.specs.Search.{first_unknown, events}
 use Rattle.solve_core.specs.Endings.{ending}
-use Rattle.solve_core.specs.Trails.{unknown_count}
 use Rattle.solve_core.specs.Branches.{IsClosed, AreInside}
 use Rattle.solve_core.proofs.TrailSteps.{unknown_count-at_most}
-use Rattle.solve_core.proofs.ReportLaws.{report-alive, report-refuted, report-dead, trials-closed}
+use Rattle.solve_core.proofs.ReportLaws.{report-alive, report-refuted, trials-closed}
 use Rattle.solve_core.proofs.reports.findings.Goals as goal
 
 pub returns-then-not-close_trials : goal.returns-then-not-close_trials

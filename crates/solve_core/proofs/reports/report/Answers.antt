@@ -1,4 +1,4 @@
-use Rattle.std.proofs.Common.{◌≡◌, ◌≤◌, ap, sym, subst, ◌∙◌}
+use Rattle.std.proofs.Common.{◌≤◌, ap, sym, subst, ◌∙◌}
 use Rattle.solve_core.specs.declared.findings.Findings.{Findings}
 use Rattle.solve_core.specs.Search.{first_unknown}
 use Rattle.solve_core.specs.Report.{search_of, report_of}

@@ -1,9 +1,9 @@
-use Rattle.std.proofs.Common.{◌≡◌, ℕ, ◌+◌, ◌≤◌, ◌++◌, length, set, drop, ap, sym, ◌∙◌, arith}
+use Rattle.std.proofs.Common.{◌++◌, length, set, ap, ◌∙◌, arith}
 use Rattle.grid_core.specs.Nonogram.{lines_of}
 use Rattle.solve_core.specs.Search.{first_unknown, events}
 use Rattle.solve_core.specs.Endings.{ending}
 use Rattle.solve_core.specs.Trails.{SettledPlaces}
-use Rattle.solve_core.specs.Branches.{pending, open_events}
+use Rattle.solve_core.specs.Branches.{pending}
 use Rattle.solve_core.proofs.SearchLaws.{first_unknown-IsPick}
 use Rattle.solve_core.proofs.BranchLaws.{trailed-work, trailed-pending, trailed-older, trailed-inside}
 use Rattle.solve_core.proofs.SearchSteps.{dead-events, alive-events, closure-closed, next-unknown, alive-fewer, known-before}
@@ -29,8 +29,8 @@ returns-then-not-close_with-clause-fewer c =
     omega (
       arith,
       ap length
-      (trailed-pending first_unknown lines c.args.cells.now c.close_with.new.cells c.args.trail.now c.close_with.new.trail branches c.close_with.ensures.trail w
-      ∙ dead-events first_unknown first_unknown-IsPick lines (set c.args.cells.now c.args.place c.args.colour) (pending first_unknown lines c.args.cells.now c.args.trail.now.places branches) c.if-not-close_with.ensures.closed),
+          (trailed-pending first_unknown lines c.args.cells.now c.close_with.new.cells c.args.trail.now c.close_with.new.trail branches c.close_with.ensures.trail w
+          ∙ dead-events first_unknown first_unknown-IsPick lines (set c.args.cells.now c.args.place c.args.colour) (pending first_unknown lines c.args.cells.now c.args.trail.now.places branches) c.if-not-close_with.ensures.closed),
     )
 
 pub returns-then-not-close_with-clause-work : goal.returns-then-not-close_with-clause-work
@@ -67,9 +67,9 @@ returns-clause-fewer c =
       arith,
       c.look_at.ensures.fewer p rest,
       ap length
-      (alive-events first_unknown first_unknown-IsPick lines (set c.args.cells.now c.args.place c.args.colour) c.close_with.new.cells rest c.if-not-close_with.ensures.closed
-      ∙ ap (λ es. events first_unknown lines (set c.args.cells.now c.args.place c.args.colour) ++ es)
-      (trailed-pending first_unknown lines c.args.cells.now c.close_with.new.cells c.args.trail.now c.close_with.new.trail branches c.close_with.ensures.trail w)),
+          (alive-events first_unknown first_unknown-IsPick lines (set c.args.cells.now c.args.place c.args.colour) c.close_with.new.cells rest c.if-not-close_with.ensures.closed
+          ∙ ap (λ es. events first_unknown lines (set c.args.cells.now c.args.place c.args.colour) ++ es)
+          (trailed-pending first_unknown lines c.args.cells.now c.close_with.new.cells c.args.trail.now c.close_with.new.trail branches c.close_with.ensures.trail w)),
     )
 
 pub returns-clause-work : goal.returns-clause-work

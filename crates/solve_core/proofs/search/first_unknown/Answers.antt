@@ -1,4 +1,4 @@
-use Rattle.std.proofs.Common.{◌≡◌, ◌∙◌, sym, arith}
+use Rattle.std.proofs.Common.{◌∙◌, sym, arith}
 use Rattle.grid_core.specs.Cells.{is_unknown}
 use Rattle.solve_core.proofs.SearchSteps.{position-at, position-none}
 use Rattle.solve_core.proofs.search.first_unknown.Goals as goal

@@ -1,12 +1,11 @@
-use Rattle.std.proofs.Common.{◌≡◌, ℕ, ◌+◌, ◌-◌, ◌<◌, ◌≤◌, ◌++◌, length, List, [], ◌∷◌, Option, Some, None, refl, ap, sym, subst, ◌∙◌, arith, slice_set}
-use Rattle.grid_core.specs.declared.cells.Cell.{Cell}
-use Rattle.grid_core.specs.Nonogram.{Nonogram, GridLine, lines_of}
-use Rattle.solve_core.specs.Search.{Event, Guess, first_unknown, events}
+use Rattle.std.proofs.Common.{◌≡◌, ◌+◌, ◌-◌, ◌≤◌, ◌++◌, [], Some, refl, ap, sym, subst, ◌∙◌, arith, slice_set}
+use Rattle.grid_core.specs.Nonogram.{Nonogram, lines_of}
+use Rattle.solve_core.specs.Search.{first_unknown, events}
 use Rattle.solve_core.specs.FoundGrids.{AreOfSize}
-use Rattle.solve_core.specs.Endings.{Ending, ending}
-use Rattle.solve_core.specs.Branches.{AreInside, IsReady, IsOpen, IsWork, pending, open_events, ready_events}
+use Rattle.solve_core.specs.Endings.{ending}
+use Rattle.solve_core.specs.Branches.{IsReady, IsOpen, IsWork, pending, open_events}
 use Rattle.solve_core.proofs.SearchLaws.{first_unknown-IsPick}
-use Rattle.solve_core.proofs.EndingLaws.{append-nil-right, ending-next, fewer-next, ending-cut}
+use Rattle.solve_core.proofs.EndingLaws.{append-nil-right, ending-next, fewer-next}
 use Rattle.solve_core.proofs.BranchLaws.{start-work}
 use Rattle.solve_core.proofs.SearchSteps.{alive-events, closed-closure, room-open, older-none}
 use Rattle.solve_core.proofs.search.search.Goals as goal
@@ -77,7 +76,7 @@ loop-next-preserved c =
     let after = c.explore-next.new in
     let less : c.loop-next.spent + 1 ≤ c.args.guesses = omega (arith, c.if-spent-guesses.false, c.loop-next.invariant.spent) in
     let work : IsWork first_unknown (lines_of q) now trail branches
-        = subst (λ (x : Nonogram). IsWork first_unknown (lines_of x) now trail branches) (sym same) (c.in-Some.ensures.work (lines_of p) c.loop-next.invariant.work c.loop-next.invariant.older c.loop-next.invariant.next) in
+    = subst (λ (x : Nonogram). IsWork first_unknown (lines_of x) now trail branches) (sym same) (c.in-Some.ensures.work (lines_of p) c.loop-next.invariant.work c.loop-next.invariant.older c.loop-next.invariant.next) in
     record {
       ending = ending-next p q c.loop-next.solutions.grids after.solutions.grids c.loop-next.spent c.args.guesses _
           (open_events first_unknown (lines_of p) c.loop-next.cells c.loop-next.next (pending first_unknown (lines_of p) c.loop-next.cells c.loop-next.trail.places c.loop-next.branches.items))

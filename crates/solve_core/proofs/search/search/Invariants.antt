@@ -1,4 +1,4 @@
-use Rattle.std.proofs.Common.{◌≡◌, ◌+◌, ◌-◌, ◌≤◌, [], length, vec_capacity}
+use Rattle.std.proofs.Common.{◌≡◌, ◌-◌, ◌≤◌, [], length, vec_capacity}
 use Rattle.grid_core.specs.Nonogram.{lines_of}
 use Rattle.solve_core.specs.Search.{first_unknown, events}
 use Rattle.solve_core.specs.FoundGrids.{AreOfSize}

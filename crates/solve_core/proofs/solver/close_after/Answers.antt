@@ -1,4 +1,4 @@
-use Rattle.std.proofs.Common.{◌≡◌, ◌∙◌, sym, arith, length, ap}
+use Rattle.std.proofs.Common.{◌∙◌}
 use Rattle.solve_core.proofs.GridSteps.{closed-marks}
 use Rattle.solve_core.proofs.solver.close_after.Goals as goal
 

@@ -1,4 +1,4 @@
-use Rattle.std.proofs.Common.{◌≡◌, ◌∙◌, sym, arith}
+use Rattle.std.proofs.Common.{arith}
 use Rattle.solve_core.proofs.TrailSteps.{cleared-room}
 use Rattle.solve_core.proofs.solver.close_grid.Goals as goal
 

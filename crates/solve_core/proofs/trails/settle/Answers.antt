@@ -1,4 +1,4 @@
-use Rattle.std.proofs.Common.{◌≡◌, arith, rules}
+use Rattle.std.proofs.Common.{arith, rules}
 use Rattle.solve_core.proofs.TrailSteps.{trailed-one, trailed-room, count-settled}
 use Rattle.solve_core.proofs.trails.settle.Goals as goal
 

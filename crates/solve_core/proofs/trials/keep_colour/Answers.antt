@@ -1,4 +1,4 @@
-use Rattle.std.proofs.Common.{◌≡◌, ◌∙◌, sym, arith}
+use Rattle.std.proofs.Common.{sym}
 use Rattle.grid_core.specs.Nonogram.{lines_of}
 use Rattle.solve_core.proofs.TrialSteps.{settle-changed, settle-dead}
 use Rattle.solve_core.proofs.TrailSteps.{cleared-room}

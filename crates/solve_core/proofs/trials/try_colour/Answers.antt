@@ -1,4 +1,4 @@
-use Rattle.std.proofs.Common.{◌≡◌, sym}
+use Rattle.std.proofs.Common.{sym}
 use Rattle.grid_core.specs.Nonogram.{lines_of}
 use Rattle.grid_core.specs.declared.cells.Cell.TheVariants.{Filled, Blank}
 use Rattle.solve_core.proofs.TrialSteps.{added-open}

@@ -1,4 +1,4 @@
-use Rattle.std.proofs.Common.{◌≡◌, ◌∙◌, sym, refl, get_or}
+use Rattle.std.proofs.Common.{◌∙◌, sym, refl, get_or}
 use Rattle.grid_core.specs.Nonogram.{lines_of}
 use Rattle.grid_core.specs.declared.cells.Cell.TheVariants.{Unknown, Filled, Blank}
 use Rattle.solve_core.proofs.TrialSteps.{blank_below, filled_below, trial-refuted, trial-closed, settle-changed, not_known}

@@ -1,0 +1,9 @@
+pub mod Front
+pub mod NumberedLemmas
+pub mod PrintedLemmas
+pub mod GoalLemmas
+pub mod ReadingLemmas
+pub mod SurveyLemmas
+pub mod JobsLemmas
+pub mod DealtLemmas
+pub mod CollectedLemmas

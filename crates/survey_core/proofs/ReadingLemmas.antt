@@ -1,0 +1,109 @@
+-- Entries that are read, and the answers beside them.
+use Rattle.std.proofs.Common.{◌≡◌, false, true, ℕ, zero, suc, ◌+◌, ◌<◌, List, [], ◌∷◌, ◌++◌, length, map, take, drop, get_or, Option, Some, None, Result, Ok, Err, IsOk, refl, sym, ap, subst, ◌∙◌, add-one, arith}
+use Rattle.std.proofs.Math.Seq.{drop-cons}
+use Rattle.std.proofs.lemmas.List.{get_or-map, length-map, map-append, map_more}
+use Rattle.grid_core.specs.Nonogram.{Nonogram}
+use Rattle.grid_core.specs.declared.memory.NoMemory.{NoMemory}
+use Rattle.solve_core.specs.Report.{report_of}
+use Rattle.solve_core.specs.Search.{first_unknown}
+use Rattle.solve_core.specs.declared.findings.Findings.{Findings}
+use Rattle.puzzle_text.specs.Shown.{shown_entry}
+use Rattle.puzzle_text.specs.declared.collections.Entry.{Entry}
+use Rattle.puzzle_text.specs.declared.faults.EntryFault.{EntryFault}
+use Rattle.lane_core.specs.Answers.{AreAnswersTo}
+use Rattle.lane_core.specs.Outcome.{IsOutcome}
+use Rattle.lane_core.specs.declared.answers.Answer.{Answer}
+use Rattle.lane_core.specs.declared.jobs.Job.{Job}
+use Rattle.survey_core.proofs.NumberedLemmas.{made-more}
+use Rattle.survey_core.specs.Entries.{GradedEntry, found_of, shown_outcome, shown_result}
+use Rattle.survey_core.specs.Readings.{AreGraded, NumberedPuzzle, TakesAnswer, fault_of, job_of, jobs_from, jobs_of, reading, readings, shown_job}
+use Rattle.survey_core.specs.Survey.{graded, reported}
+use Rattle.survey_core.specs.declared.outcomes.Outcome.{Outcome}
+
+-- the jobs of one more entry
+pub jobs_of-more : (guesses : ℕ) (entries : List Entry) (i : ℕ) (d : Entry) → i < length entries
+    → jobs_of guesses (readings (take (i + 1) entries)) ≡ jobs_of guesses (readings (take i entries)) ++ job_of guesses (i + 1) (reading (get_or entries i d))
+jobs_of-more guesses entries i d h = made-more (λ (numbered : ℕ × Result Nonogram EntryFault). job_of guesses numbered.0 numbered.1) reading entries i d h
+
+-- answers to the jobs of entries are those to the puzzles that were read
+pub are_graded : (guesses first : ℕ) (read : List (Result Nonogram EntryFault)) (jobs : List Job) (answers : List Answer)
+    → map shown_job jobs ≡ jobs_from guesses first read → AreAnswersTo jobs answers → AreGraded guesses read answers
+are_graded guesses first [] [] [] made answered = tt
+are_graded guesses first [] [] (answer ∷ answers) made answered = absurd answered
+are_graded guesses first [] (job ∷ jobs) answers made answered = cc
+are_graded guesses first (Err fault ∷ read) jobs answers made answered = are_graded guesses (first + 1) read jobs answers made answered
+are_graded guesses first (Ok p ∷ read) [] answers made answered = cc
+are_graded guesses first (Ok p ∷ read) (job ∷ jobs) [] made answered = absurd answered
+are_graded guesses first (Ok p ∷ read) (job ∷ jobs) (answer ∷ answers) made answered =
+    let head : shown_job job ≡ record { number = first; puzzle = p; guesses = guesses } = cc in
+    let others : map shown_job jobs ≡ jobs_from guesses (first + 1) read = cc in
+    let puzzle : job.puzzle ≡ p = ap (λ (shown : NumberedPuzzle). shown.puzzle) head in
+    let limit : job.guesses ≡ guesses = ap (λ (shown : NumberedPuzzle). shown.guesses) head in
+    let outcome = subst (λ (q : Nonogram). IsOutcome q job.guesses answer.outcome) puzzle answered.0.outcome in
+    (answered.0.puzzle ∙ puzzle, subst (λ (limit' : ℕ). IsOutcome p limit' answer.outcome) limit outcome, are_graded guesses (first + 1) read jobs answers others answered.1)
+
+-- the first of the entries that are left
+pub next_graded : (guesses : ℕ) (entries : List Entry) (i : ℕ) (d : Entry) (answers : List Answer) → i < length entries → AreGraded guesses (readings (drop i entries)) answers
+    → AreGraded guesses (reading (get_or entries i d) ∷ readings (drop (i + 1) entries)) answers
+next_graded guesses entries i d answers h graded =
+    let parts : drop i entries ≡ get_or entries i d ∷ drop (i + 1) entries = rw (add-one i) (drop-cons entries i d h) in
+    subst (λ (left : List Entry). AreGraded guesses (readings left) answers) parts graded
+
+-- where the first entry is a puzzle, there is an answer
+pub has_answer : (guesses : ℕ) (read : Result Nonogram EntryFault) (others : List (Result Nonogram EntryFault)) (answers : List Answer)
+    → AreGraded guesses (read ∷ others) answers → fault_of read ≡ None → 0 < length answers
+has_answer guesses (Err fault) others answers graded e = cc
+has_answer guesses (Ok p) others [] graded e = absurd graded
+has_answer guesses (Ok p) others (answer ∷ answers) graded e = omega arith
+
+found_is : (guesses : ℕ) (p q : Nonogram) (outcome : Result Findings NoMemory) → q ≡ p → IsOutcome p guesses outcome → IsOk outcome
+    → found_of q outcome ≡ Ok (p, report_of first_unknown p guesses)
+found_is guesses p q (Err refused) e is_outcome ok = let bad : false ≡ true = ok in cc
+found_is guesses p q (Ok findings) e is_outcome ok =
+    ap (λ (r : Nonogram). found_of r (Ok findings)) e ∙ ap (λ (found : Findings). found_of p (Ok found)) is_outcome
+
+-- the outcome of the first entry is its report or its fault, and the answers that are left are those to the other entries
+pub takes_next : (guesses : ℕ) (read : Result Nonogram EntryFault) (others : List (Result Nonogram EntryFault)) (old new : List Answer) (result : Result Answer EntryFault)
+    → AreGraded guesses (read ∷ others) old → TakesAnswer (fault_of read) old new result → (shown_result result ≡ reported guesses read) × AreGraded guesses others new
+takes_next guesses (Err fault) others old new result graded taken = (ap shown_result taken.0, subst (AreGraded guesses others) (sym taken.1) graded)
+takes_next guesses (Ok p) others old new result graded taken =
+    let both = subst (AreGraded guesses (Ok p ∷ others)) taken.1.0 graded in
+    (ap shown_result taken.1.1 ∙ found_is guesses p taken.0.puzzle taken.0.outcome both.0 both.1 taken.1.2, both.2)
+
+-- the fault of the entry at a place
+pub fault_at : (faults : List (Option EntryFault)) (entries : List Entry) (i : ℕ) (fault : Option EntryFault) (d : Entry) → faults ≡ map fault_of (readings entries)
+    → fault ≡ get_or faults i fault → i < length entries → fault ≡ fault_of (reading (get_or entries i d))
+fault_at faults entries i fault d e at h =
+    let long : i < length (readings entries) = rw length-map h in
+    at ∙ ap (λ (all : List (Option EntryFault)). get_or all i fault) e ∙ get_or-map fault_of (readings entries) i (reading d) fault long
+    ∙ ap fault_of (get_or-map reading entries i d (reading d) h)
+
+-- what stands for an entry past the end
+abbrev pub no_entry : Entry
+no_entry = record { name = record { ref_ptr = (0, 0); now = [] }; body = record { ref_ptr = (0, 0); now = [] } }
+
+-- what is made of one more entry
+mapped-more : {Y Z : Type 0} (f : Y → Z) (h : Entry → Y) (entries : List Entry) (i : ℕ) (d : Entry) → i < length entries
+    → map f (map h (take (i + 1) entries)) ≡ map f (map h (take i entries)) ++ f (h (get_or entries i d)) ∷ []
+mapped-more {Y = Y} f h entries i d l =
+    ap (map f) (map_more h entries i d l) ∙ map-append f (map h (take i entries)) (h (get_or entries i d) ∷ [])
+
+-- the faults of one more entry
+pub faults-more : (entries : List Entry) (i : ℕ) (d : Entry) → i < length entries
+    → map fault_of (readings (take (i + 1) entries)) ≡ map fault_of (readings (take i entries)) ++ fault_of (reading (get_or entries i d)) ∷ []
+faults-more entries i d h = mapped-more fault_of reading entries i d h
+
+-- the outcomes of one more entry
+pub outcomes-more : (guesses : ℕ) (entries : List Entry) (i : ℕ) (d : Entry) (old new : List Outcome) (outcome : Outcome) → i < length entries
+    → map shown_outcome old ≡ map (graded guesses) (map shown_entry (take i entries)) → new ≡ old ++ outcome ∷ [] → outcome.name.items ≡ (get_or entries i d).name.now
+    → shown_result outcome.result ≡ reported guesses (reading (get_or entries i d))
+    → map shown_outcome new ≡ map (graded guesses) (map shown_entry (take (i + 1) entries))
+outcomes-more guesses entries i d old new outcome h so_far more name result =
+    let entry = get_or entries i d in
+    let same : shown_outcome outcome ≡ graded guesses (shown_entry entry) =
+        ap (λ (name' : List ℕ). record { name = name'; result = shown_result outcome.result }) name
+        ∙ ap (λ (result' : Result (Nonogram × Findings) EntryFault). record { name = entry.name.now; result = result' }) result in
+    ap (map shown_outcome) more ∙ map-append shown_outcome old (outcome ∷ [])
+    ∙ ap (λ (front : List GradedEntry). front ++ shown_outcome outcome ∷ []) so_far
+    ∙ ap (λ (last : GradedEntry). map (graded guesses) (map shown_entry (take i entries)) ++ last ∷ []) same
+    ∙ sym (mapped-more (graded guesses) shown_entry entries i d h)

@@ -1,0 +1,7 @@
+use Rattle.std.proofs.Common.{◌≡◌}
+use Rattle.std.specs.VecDeque.{deque_len}
+use Rattle.survey_core.specs.Collected.{dealt_jobs}
+use Rattle.survey_core.proofs.collecting.take_round.Given as goal
+
+abbrev pub invariant-lanes : goal.invariant-lanes
+invariant-lanes l = (dealt_jobs l.running.items ≡ dealt_jobs l.fn.running.items) × (deque_len l.running ≡ l.place-end)

@@ -1,0 +1,13 @@
+use Rattle.std.proofs.Common.{◌≡◌, ◌<◌, ℕ, vec_len, vec_capacity, map, get_or, take, drop, []}
+use Rattle.lane_core.specs.Answers.{AreAnswersTo}
+use Rattle.survey_core.specs.Dealt.{dealt_from}
+use Rattle.survey_core.proofs.gathering.gather.Given as goal
+
+abbrev pub invariant-loop-place : goal.invariant-loop-place
+invariant-loop-place l = record {
+  lanes : vec_len l.queues ≡ l.lanes;
+  room : vec_capacity l.gathered ≡ vec_capacity l.fn.gathered;
+  count : vec_len l.gathered ≡ l.place;
+  gathered : AreAnswersTo (take l.place l.jobs.value.items) l.gathered.items;
+  left : (k : ℕ) → k < l.lanes → AreAnswersTo (dealt_from l.place (drop l.place l.jobs.value.items) l.lanes k) (get_or (map (λ q. q.items) l.queues.items) k []);
+}

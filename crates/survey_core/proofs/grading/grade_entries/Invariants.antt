@@ -1,0 +1,12 @@
+use Rattle.std.proofs.Common.{◌≡◌, map, take, drop}
+use Rattle.puzzle_text.specs.Shown.{shown_entry}
+use Rattle.survey_core.specs.Entries.{shown_outcome}
+use Rattle.survey_core.specs.Readings.{AreGraded, readings}
+use Rattle.survey_core.specs.Survey.{graded}
+use Rattle.survey_core.proofs.grading.grade_entries.Given as goal
+
+abbrev pub invariant-loop-place : goal.invariant-loop-place
+invariant-loop-place g l = record {
+  outcomes : map shown_outcome l.outcomes.items ≡ map (graded l.settings.guesses) (map shown_entry (take l.place l.entries));
+  answers : AreGraded l.settings.guesses (readings (drop l.place l.entries)) l.answers.items;
+}

@@ -1,0 +1,20 @@
+use Rattle.std.proofs.Common.{◌≡◌, ◌+◌, ◌++◌, ◌∷◌, [], List, Option, get_or, ap, sym, ◌∙◌, arith}
+use Rattle.puzzle_text.specs.declared.faults.EntryFault.{EntryFault}
+use Rattle.survey_core.specs.Readings.{NumberedPuzzle, fault_of, job_of, reading}
+use Rattle.survey_core.proofs.ReadingLemmas.{faults-more, jobs_of-more, no_entry}
+use Rattle.survey_core.proofs.readings.read_entries.Goals as goal
+
+pub loop-place-preserved : goal.loop-place-preserved
+loop-place-preserved c =
+    let guesses = c.args.guesses in
+    let entries = c.args.entries.now in
+    let place = c.loop-place.place in
+    let within = c.loop-place-test.true in
+    let read = reading (get_or entries place no_entry) in
+    let added = c.in_ok-add.ensures in
+    let so_far = c.loop-place.invariant in
+    record {
+      jobs = added.jobs ∙ ap (λ (front : List NumberedPuzzle). front ++ job_of guesses (place + 1) read) so_far.jobs ∙ sym (jobs_of-more guesses entries place no_entry within);
+      few = omega (arith, added.few, so_far.few);
+      faults = added.faults ∙ ap (λ (front : List (Option EntryFault)). front ++ fault_of read ∷ []) so_far.faults ∙ sym (faults-more entries place no_entry within);
+    }

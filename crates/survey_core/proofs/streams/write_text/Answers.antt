@@ -1,0 +1,10 @@
+use Rattle.std.proofs.Common.{rules}
+use Rattle.survey_core.proofs.Front.{appends_front}
+use Rattle.survey_core.proofs.streams.write_text.Goals as goal
+
+pub loop-sent-preserved : goal.loop-sent-preserved
+loop-sent-preserved g c = record {
+  wrote = appends_front _ _ _ _ _ _ c.loop-sent.invariant.wrote c.in-Ok.ensures.bytes;
+  within = search rules;
+  same = search rules;
+}

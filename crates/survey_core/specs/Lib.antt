@@ -1,0 +1,10 @@
+pub mod Dealt
+pub mod Collected
+pub mod Counted
+pub mod Grids
+pub mod Goals
+pub mod Entries
+pub mod Totals
+pub mod Survey
+pub mod Readings
+pub mod Leaving

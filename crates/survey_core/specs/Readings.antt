@@ -1,0 +1,61 @@
+-- What reading entries gives, and the answers beside them.
+use Rattle.std.specs.Prelude.{◌≡◌, ℕ, List, [], ◌∷◌, map, Option, Some, None, Result, Ok, Err, IsOk}
+use Rattle.std.specs.List.{enumerate_from, flat_map}
+use Rattle.grid_core.specs.Nonogram.{Nonogram}
+use Rattle.grid_core.specs.declared.limits.TheConstants.{LONGEST_SIDE}
+use Rattle.puzzle_text.specs.Formats.{read_entry}
+use Rattle.puzzle_text.specs.Shown.{shown_entry}
+use Rattle.puzzle_text.specs.declared.collections.Entry.{Entry}
+use Rattle.puzzle_text.specs.declared.faults.EntryFault.{EntryFault}
+use Rattle.lane_core.specs.Outcome.{IsOutcome}
+use Rattle.lane_core.specs.declared.answers.Answer.{Answer}
+use Rattle.lane_core.specs.declared.jobs.Job.{Job}
+
+-- what an entry says
+abbrev pub reading : Entry → Result Nonogram EntryFault
+reading entry = read_entry LONGEST_SIDE (shown_entry entry)
+
+-- what entries say
+abbrev pub readings : List Entry → List (Result Nonogram EntryFault)
+readings entries = map reading entries
+
+-- the fault of an entry, if it has one
+abbrev pub fault_of : Result Nonogram EntryFault → Option EntryFault
+fault_of (Ok p) = None
+fault_of (Err fault) = Some fault
+
+-- a job's number, puzzle and limit on guesses
+pub record NumberedPuzzle : Type 0 where
+  pub number : ℕ
+  pub puzzle : Nonogram
+  pub guesses : ℕ
+
+-- a job as the definitions see it
+abbrev pub shown_job : Job → NumberedPuzzle
+shown_job job = record { number = job.number; puzzle = job.puzzle; guesses = job.guesses }
+
+-- the job of an entry of this number, if it is a puzzle
+abbrev pub job_of : ℕ → ℕ → Result Nonogram EntryFault → List NumberedPuzzle
+job_of guesses number (Ok p) = record { number = number; puzzle = p; guesses = guesses } ∷ []
+job_of guesses number (Err fault) = []
+
+-- the jobs of entries, numbered from here on. A refused entry keeps its number, and makes no job
+abbrev pub jobs_from : ℕ → ℕ → List (Result Nonogram EntryFault) → List NumberedPuzzle
+jobs_from guesses first readings = flat_map (λ numbered. job_of guesses numbered.0 numbered.1) (enumerate_from first readings)
+
+-- the jobs of entries, numbered from 1
+abbrev pub jobs_of : ℕ → List (Result Nonogram EntryFault) → List NumberedPuzzle
+jobs_of guesses readings = jobs_from guesses 1 readings
+
+-- the answers are those to the puzzles that were read, in order
+abbrev pub AreGraded : ℕ → List (Result Nonogram EntryFault) → List Answer → Type 0
+AreGraded guesses [] [] = Unit {0}
+AreGraded guesses [] (answer ∷ answers) = ⊥
+AreGraded guesses (Err fault ∷ readings) answers = AreGraded guesses readings answers
+AreGraded guesses (Ok p ∷ readings) [] = ⊥
+AreGraded guesses (Ok p ∷ readings) (answer ∷ answers) = (answer.puzzle ≡ p) × (IsOutcome p guesses answer.outcome) × (AreGraded guesses readings answers)
+
+-- the fault, or else the first of the answers, which has a report
+abbrev pub TakesAnswer : Option EntryFault → List Answer → List Answer → Result Answer EntryFault → Type 0
+TakesAnswer (Some fault) old new result = (result ≡ Err fault) × (new ≡ old)
+TakesAnswer None old new result = (answer : Answer) × ((old ≡ answer ∷ new) × (result ≡ Ok answer) × IsOk answer.outcome)

@@ -1,0 +1,22 @@
+//! Grading jobs on the caller's thread.
+
+ghost use Rattle.std.specs.Prelude.{IfOk};
+ghost use Rattle.lane_core.specs.Answers.{AreAnswersTo};
+
+use grid_core::NoMemory;
+use lane_core::{Answer, Job, grade};
+use std::alloc::Global;
+use std::collections::VecDeque;
+
+/// The answers to the jobs, in job order, graded on the caller's thread. `NoMemory` where the list of the answers could not be made; a growth that is refused
+/// while a job is graded stands in its answer.
+pub fn collect_one(alloc: Global, jobs: Vec<Job>) -> Result<Vec<Answer>, NoMemory>
+    ensures { IfOk result (λ answers. AreAnswersTo jobs.items answers.items) }
+{
+    let mut answers = Vec::with_capacity(alloc, jobs.len())?;
+    let mut jobs = VecDeque::from(jobs);
+    'grading: while let Some(job) = jobs.pop_front() {
+        answers.push_reserved(grade(alloc, job));
+    }
+    Ok(answers)
+}

@@ -1,0 +1,182 @@
+//! The text of an entry.
+
+ghost use Rattle.std.specs.Prelude.{◌≡◌, ◌++◌, IfOk, OnOk, codes, Ok, Err};
+ghost use Rattle.std.specs.List.{flat_map};
+ghost use Rattle.puzzle_text.specs.Words.{word_of};
+ghost use Rattle.survey_core.specs.Entries.{counts_text, entry_line, entry_text, grade_word, result_text, shown_outcome, shown_solutions, solution_text, solutions_of, solutions_text, verdict_text, verdict_word};
+ghost use Rattle.survey_core.specs.Goals.{goal_text, goal_word};
+
+use crate::Outcome;
+use crate::pictures::push_grid;
+use crate::texts::{push_bytes, push_name, push_number};
+use grid_core::{GoalWord, Grid, NoMemory, Puzzle};
+use puzzle_text::{EntryFault, fault_text};
+use solve_core::{Findings, Grade, Verdict};
+use std::alloc::Global;
+
+/// The word of a verdict.
+pub(crate) fn verdict_word(verdict: &Verdict) -> &'static str
+    ensures { result.now ≡ verdict_word verdict.now }
+{
+    match verdict {
+        Verdict::Nothing => "none",
+        Verdict::One(_) => "one",
+        Verdict::Several(_, _) => "several",
+        Verdict::Unsettled(_) => "unsettled",
+    }
+}
+
+/// The word of a grade.
+pub(crate) fn grade_word(grade: Grade) -> &'static str
+    ensures { result.now ≡ grade_word grade }
+{
+    match grade {
+        Grade::Lines => "line",
+        Grade::Trials => "trials",
+        Grade::Search => "search",
+    }
+}
+
+fn goal_text(word: GoalWord) -> &'static str
+    ensures { result.now ≡ goal_text word }
+{
+    match word {
+        GoalWord::Absent => "absent",
+        GoalWord::Meets => "meets",
+        GoalWord::Misses => "misses",
+    }
+}
+
+/// What is said of the puzzle's goal.
+fn goal_word(puzzle: &Puzzle) -> GoalWord
+    ensures { result ≡ goal_word puzzle.now }
+{
+    puzzle.goal_word()
+}
+
+fn push_verdict(text: &mut Vec<u8>, puzzle: &Puzzle, findings: &Findings) -> Result<(), NoMemory>
+    ensures { OnOk result (text.new.items ≡ text.old.items ++ verdict_text puzzle.now findings.now) }
+{
+    push_number(text, u64::from(puzzle.width()))?;
+    push_bytes(text, b"x")?;
+    push_number(text, u64::from(puzzle.height()))?;
+    push_bytes(text, b" ")?;
+    push_bytes(text, verdict_word(&findings.verdict).as_bytes())?;
+    push_bytes(text, b" ")?;
+    push_bytes(text, grade_word(findings.grade).as_bytes())
+}
+
+fn push_counts(text: &mut Vec<u8>, puzzle: &Puzzle, findings: &Findings) -> Result<(), NoMemory>
+    ensures { OnOk result (text.new.items ≡ text.old.items ++ counts_text puzzle.now findings.now) }
+{
+    push_number(text, u64::from(findings.line_known))?;
+    push_bytes(text, b" ")?;
+    push_number(text, u64::from(findings.trial_known))?;
+    push_bytes(text, b" ")?;
+    push_number(text, u64::from(findings.spent))?;
+    push_bytes(text, b" ")?;
+    push_bytes(text, goal_text(goal_word(puzzle)).as_bytes())
+}
+
+fn push_found(text: &mut Vec<u8>, puzzle: &Puzzle, findings: &Findings) -> Result<(), NoMemory>
+    ensures { OnOk result (text.new.items ≡ text.old.items ++ result_text (Ok (puzzle.now, findings.now))) }
+{
+    push_verdict(text, puzzle, findings)?;
+    push_bytes(text, b" ")?;
+    push_counts(text, puzzle, findings)
+}
+
+fn push_refusal(alloc: Global, text: &mut Vec<u8>, fault: &EntryFault) -> Result<(), NoMemory>
+    ensures { OnOk result (text.new.items ≡ text.old.items ++ codes "refused " ++ word_of fault.now) }
+{
+    push_bytes(text, b"refused ")?;
+    push_bytes(text, &fault_text(alloc, fault)?)
+}
+
+fn push_result(alloc: Global, text: &mut Vec<u8>, outcome: &Outcome) -> Result<(), NoMemory>
+    ensures { OnOk result (text.new.items ≡ text.old.items ++ result_text (shown_outcome outcome.now).result) }
+{
+    match outcome.found() {
+        Ok((puzzle, findings)) => push_found(text, puzzle, findings),
+        Err(fault) => push_refusal(alloc, text, &fault),
+    }
+}
+
+fn push_line(
+    alloc: Global,
+    text: &mut Vec<u8>,
+    number: u32,
+    outcome: &Outcome,
+) -> Result<(), NoMemory>
+    ensures { OnOk result (text.new.items ≡ text.old.items ++ entry_line number (shown_outcome outcome.now)) }
+{
+    push_number(text, u64::from(number))?;
+    push_bytes(text, b" ")?;
+    push_result(alloc, text, outcome)?;
+    push_bytes(text, b" ")?;
+    push_name(text, &outcome.name)?;
+    push_bytes(text, b"\n")
+}
+
+fn push_solution(text: &mut Vec<u8>, grid: &Grid) -> Result<(), NoMemory>
+    ensures { OnOk result (text.new.items ≡ text.old.items ++ solution_text grid.now) }
+{
+    push_grid(text, grid)?;
+    push_bytes(text, b"\n")
+}
+
+fn push_solutions(text: &mut Vec<u8>, verdict: &Verdict) -> Result<(), NoMemory>
+    ensures { OnOk result (text.new.items ≡ text.old.items ++ flat_map solution_text (solutions_of verdict.now)) }
+{
+    match verdict {
+        Verdict::Nothing => Ok(()),
+        Verdict::One(grid) => push_solution(text, grid),
+        Verdict::Several(first, second) => {
+            push_solution(text, first)?;
+            push_solution(text, second)
+        }
+        Verdict::Unsettled(None) => Ok(()),
+        Verdict::Unsettled(Some(grid)) => push_solution(text, grid),
+    }
+}
+
+fn push_shown(text: &mut Vec<u8>, outcome: &Outcome) -> Result<(), NoMemory>
+    ensures { OnOk result (text.new.items ≡ text.old.items ++ solutions_text (shown_outcome outcome.now).result) }
+{
+    match outcome.found() {
+        Ok((_, findings)) => push_solutions(text, &findings.verdict),
+        Err(_) => Ok(()),
+    }
+}
+
+/// Adds an entry's line, and its solutions if they are shown.
+pub(crate) fn push_entry(
+    alloc: Global,
+    text: &mut Vec<u8>,
+    number: u32,
+    outcome: &Outcome,
+    show: bool,
+) -> Result<(), NoMemory>
+    ensures { OnOk result (text.new.items ≡ text.old.items ++ entry_text show number (shown_outcome outcome.now)) }
+{
+    push_line(alloc, text, number, outcome)?;
+    if show {
+        push_shown(text, outcome)?;
+    }
+    Ok(())
+}
+
+/// The line of an entry, and if they are shown, each of its solutions followed by an empty line. An answer that says `NoMemory` is printed as a
+/// refused entry with that word.
+pub fn print_entry(
+    alloc: Global,
+    number: u32,
+    outcome: &Outcome,
+    show: bool,
+) -> Result<Vec<u8>, NoMemory>
+    ensures { IfOk result (λ text. text.items ≡ entry_text show number (shown_outcome outcome.now)) }
+{
+    let mut text = Vec::new(alloc);
+    push_entry(alloc, &mut text, number, outcome, show)?;
+    Ok(text)
+}

@@ -1,0 +1,24 @@
+//! Why a survey is not written.
+
+use puzzle_text::CollectionFault;
+use thiserror::Error;
+
+/// Why a survey was not written, or not written whole.
+#[derive(Clone, Copy, Debug, PartialEq, Eq, Error)]
+pub enum RunFault {
+    /// The reader failed.
+    #[error("the reader failed")]
+    Read,
+    /// The collection is refused.
+    #[error(transparent)]
+    Collection(CollectionFault),
+    /// A thread was not started.
+    #[error("a thread was not started")]
+    Thread,
+    /// A growth of memory was refused.
+    #[error("out of memory")]
+    NoMemory,
+    /// The writer failed, or took nothing, after so many bytes of the survey.
+    #[error("the writer failed after {0} bytes")]
+    Write(u64),
+}

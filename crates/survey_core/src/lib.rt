@@ -1,0 +1,35 @@
+//! Surveys of collections: reading a collection, grading its puzzles on one thread or over lanes, and writing what is found.
+#![tactic(auto)]
+
+mod collecting;
+mod collecting_one;
+mod counted;
+mod dealing_out;
+mod entries;
+mod faults;
+mod gathering;
+mod grading;
+mod opening;
+mod outcomes;
+mod pictures;
+mod printing;
+mod readings;
+mod running;
+mod settings;
+mod streams;
+mod surveys;
+mod texts;
+mod totals;
+mod workers;
+
+pub use collecting::{CollectFault, MOST_JOBS, MOST_LANES, collect};
+pub use collecting_one::collect_one;
+pub use counted::Counted;
+pub use entries::print_entry;
+pub use faults::RunFault;
+pub use outcomes::Outcome;
+pub use pictures::push_grid;
+pub use printing::print_survey;
+pub use settings::Settings;
+pub use surveys::{run_survey, survey_entries};
+pub use texts::{push_bytes, push_number};

@@ -1,0 +1,37 @@
+//! Grids as they are printed.
+
+ghost use Rattle.std.specs.Prelude.{◌≡◌, ◌<◌, ◌++◌, OnOk};
+ghost use Rattle.survey_core.specs.Grids.{cell_byte, grid_text, row_text};
+
+use grid_core::{Cell, Grid, NoMemory};
+
+fn cell_byte(cell: Cell) -> u8
+    ensures { result ≡ cell_byte cell }
+{
+    match cell {
+        Cell::Unknown => b'?',
+        Cell::Filled => b'#',
+        Cell::Blank => b'.',
+    }
+}
+
+fn push_row(text: &mut Vec<u8>, grid: &Grid, y: u16) -> Result<(), NoMemory>
+    requires { y < grid.now.height }
+    ensures { OnOk result (text.new.items ≡ text.old.items ++ row_text grid.now y) }
+{
+    for x in 0..grid.width() {
+        text.push(cell_byte(grid.get(x, y)))?;
+    }
+    text.push(b'\n')?;
+    Ok(())
+}
+
+/// Adds the rows of a grid as lines, from the top: `#` for a filled cell, `.` for a blank one, `?` for an unknown one.
+pub fn push_grid(text: &mut Vec<u8>, grid: &Grid) -> Result<(), NoMemory>
+    ensures { OnOk result (text.new.items ≡ text.old.items ++ grid_text grid.now) }
+{
+    for y in 0..grid.height() {
+        push_row(text, grid, y)?;
+    }
+    Ok(())
+}

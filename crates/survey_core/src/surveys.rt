@@ -1,0 +1,114 @@
+//! The survey of a collection, and of entries in hand.
+
+ghost use Rattle.std.specs.Prelude.{◌≡◌, ◌-◌, ◌^◌, ◌<◌, ◌≤◌, ◌↔◌, ◌⊎◌, length, map, IfOk, IfErr, IfSome, OnOk, IsErrOf};
+ghost use Rattle.std.specs.Io.KnownBytes.{IsAtEnd, Keeps};
+ghost use Rattle.puzzle_text.specs.Shown.{shown_entry};
+ghost use Rattle.survey_core.specs.Counted.{fault_count};
+ghost use Rattle.survey_core.specs.Leaving.{IsErrWrite, IsWrite, Leaves};
+ghost use Rattle.survey_core.specs.Survey.{survey_of, survey_of_entries, survey_of_list};
+
+use crate::collecting::CollectFault;
+use crate::grading::grade_entries;
+use crate::printing::print_survey;
+use crate::streams::{ReadFault, read_collection, write_text};
+use crate::{Counted, RunFault, Settings};
+use lane_core::Gate;
+use puzzle_text::{CollectionFault, Entry, MOST_ENTRIES, entries};
+use std::alloc::Global;
+use std::io::{Read, Write};
+use std::sync::Wait;
+use std::thread::Threads;
+
+/// The survey of entries, graded over lanes.
+fn survey_text<H: Threads + Wait + Sync, G: Gate + Sync>(
+    rt: &H,
+    alloc: Global,
+    entries: &[Entry<'_>],
+    settings: &Settings,
+    gate: &G,
+) -> Result<Vec<u8>, CollectFault>
+    requires { length entries.now ≤ MOST_ENTRIES }
+    ensures { IfOk result (λ text. text.items ≡ survey_of_list settings.now.guesses settings.now.show (map shown_entry entries.now)) }
+{
+    let outcomes = grade_entries(rt, alloc, entries, settings, gate)?;
+    Ok(print_survey(alloc, &outcomes, settings.show)?)
+}
+
+/// Writes the survey of entries, graded over lanes.
+fn write_survey<H: Threads + Wait + Sync, W: Write, G: Gate + Sync>(
+    rt: &H,
+    alloc: Global,
+    entries: &[Entry<'_>],
+    writer: &mut Counted<W>,
+    settings: &Settings,
+    gate: &G,
+) -> Result<(), RunFault>
+    requires few { length entries.now ≤ MOST_ENTRIES }
+    requires writing { fault_count writer.old < 2 ^ 32 - 1 }
+    ensures answer { Leaves (Ok (survey_of_list settings.now.guesses settings.now.show (map shown_entry entries.now))) result (W.contents writer.old.inner) (W.contents writer.new.inner) }
+    ensures write { IsErrWrite result ↔ (fault_count writer.old < fault_count writer.new) }
+    ensures no_read { IsErrOf result RunFault.Read → ⊥ }
+{
+    match survey_text(rt, alloc, entries, settings, gate) {
+        Ok(text) => write_text(writer, &text).map_err(RunFault::Write),
+        Err(CollectFault::NoMemory) => Err(RunFault::NoMemory),
+        Err(CollectFault::Thread) => Err(RunFault::Thread),
+    }
+}
+
+/// Reads a collection to its end, and writes its survey and nothing else.
+///
+/// The survey has the text of each entry, numbered from 1, and the line of totals. `Read` where the reader failed; `Collection` where the collection is
+/// refused; `Thread` where a thread was not started; `NoMemory` where a growth of memory was refused anywhere; `Write` where the writer failed or took
+/// nothing, with the number of bytes of the survey that went out. All faults but `Write` leave nothing written. At most 16,777,217 bytes are read.
+pub fn run_survey<H: Threads + Wait + Sync, R: Read, W: Write, G: Gate + Sync>(
+    rt: &H,
+    alloc: Global,
+    reader: &mut Counted<R>,
+    writer: &mut Counted<W>,
+    settings: &Settings,
+    gate: &G,
+) -> Result<(), RunFault>
+    requires reading { fault_count reader.old < 2 ^ 32 - 1 }
+    requires writing { fault_count writer.old < 2 ^ 32 - 1 }
+    ensures ended { OnOk result (IsAtEnd (R.remaining reader.new.inner)) }
+    ensures answer { IfSome (R.remaining reader.old.inner) (λ input.
+        Leaves (survey_of settings.now.guesses settings.now.show input) result (W.contents writer.old.inner) (W.contents writer.new.inner)) }
+
+    // The faults of the reader and the writer, and of no other.
+    ensures read { IsErrOf result RunFault.Read ↔ (fault_count reader.old < fault_count reader.new) }
+    ensures write { IsErrWrite result ↔ (fault_count writer.old < fault_count writer.new) }
+    ensures unwritten { IfErr result (λ fault. IsWrite fault ⊎ Keeps (W.contents writer.old.inner) (W.contents writer.new.inner)) }
+{
+    let collection = match read_collection(alloc, reader) {
+        Ok(collection) => collection,
+        Err(ReadFault::Read) => return Err(RunFault::Read),
+        Err(ReadFault::NoMemory) => return Err(RunFault::NoMemory),
+    };
+    match entries(alloc, &collection) {
+        Ok(entries) => write_survey(rt, alloc, &entries, writer, settings, gate),
+        Err(CollectionFault::NoMemory) => Err(RunFault::NoMemory),
+        Err(fault) => Err(RunFault::Collection(fault)),
+    }
+}
+
+/// Writes the survey of entries in hand and nothing else, as `run_survey` does. `Collection(TooMany)` where there are over 10,000; else perhaps `Thread`,
+/// `NoMemory` or `Write`.
+pub fn survey_entries<H: Threads + Wait + Sync, W: Write, G: Gate + Sync>(
+    rt: &H,
+    alloc: Global,
+    entries: &[Entry<'_>],
+    writer: &mut Counted<W>,
+    settings: &Settings,
+    gate: &G,
+) -> Result<(), RunFault>
+    requires { fault_count writer.old < 2 ^ 32 - 1 }
+    ensures answer { Leaves (survey_of_entries settings.now.guesses settings.now.show (map shown_entry entries.now)) result (W.contents writer.old.inner) (W.contents writer.new.inner) }
+    ensures write { IsErrWrite result ↔ (fault_count writer.old < fault_count writer.new) }
+    ensures no_read { IsErrOf result RunFault.Read → ⊥ }
+{
+    if entries.len() > MOST_ENTRIES {
+        return Err(RunFault::Collection(CollectionFault::TooMany));
+    }
+    write_survey(rt, alloc, entries, writer, settings, gate)
+}

@@ -1,0 +1,35 @@
+//! Pieces of printed texts.
+
+ghost use Rattle.std.specs.Prelude.{◌≡◌, ◌++◌, OnOk, decimal, map};
+ghost use Rattle.survey_core.specs.Entries.{printed_byte};
+
+use grid_core::NoMemory;
+use itoa::Buffer;
+
+/// Adds bytes.
+pub fn push_bytes(text: &mut Vec<u8>, bytes: &[u8]) -> Result<(), NoMemory>
+    ensures { OnOk result (text.new.items ≡ text.old.items ++ bytes.now) }
+{
+    text.extend_from_slice(bytes)?;
+    Ok(())
+}
+
+/// Adds a number as decimal digits.
+pub fn push_number(text: &mut Vec<u8>, number: u64) -> Result<(), NoMemory>
+    ensures { OnOk result (text.new.items ≡ text.old.items ++ decimal number) }
+{
+    let mut buffer = Buffer::new();
+    text.extend_from_slice(buffer.format(number).as_bytes())?;
+    Ok(())
+}
+
+/// Adds a name, in which a question mark stands for each control byte.
+pub(crate) fn push_name(text: &mut Vec<u8>, name: &[u8]) -> Result<(), NoMemory>
+    ensures { OnOk result (text.new.items ≡ text.old.items ++ map printed_byte name.now) }
+{
+    for &byte in name {
+        let shown = if byte < 32 || byte == 127 { b'?' } else { byte };
+        text.push(shown)?;
+    }
+    Ok(())
+}
