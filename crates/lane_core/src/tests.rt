@@ -255,7 +255,10 @@ fn grades_a_job(rt: HostRuntime) -> Result<(), Fail> {
     };
     assert_eq!(rt; (grid.width(), grid.height(), grid.known()), (1, 1, 1));
     assert_eq!(rt; found.grade, Grade::Lines);
-    assert_eq!(rt; (found.line_known, found.trial_known, found.spent), (1, 1, 0));
+    assert_eq!(rt;
+        (found.line_known, found.trial_known, found.spent),
+        (1, 1, 0)
+    );
     Ok(())
 }
 
