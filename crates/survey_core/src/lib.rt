@@ -33,3 +33,8 @@ pub use printing::print_survey;
 pub use settings::Settings;
 pub use surveys::{run_survey, survey_entries};
 pub use texts::{push_bytes, push_number};
+
+#[cfg(test)]
+mod tests;
+#[cfg(test)]
+mod tests_collect;
