@@ -1,0 +1,11 @@
+use Rattle.std.proofs.Common.{◌≡◌, ap, ◌∙◌, is_none, position}
+use Rattle.grid_core.specs.Cells.{is_unknown}
+use Rattle.solve_core.proofs.ReportLaws.{none_unknown, is_none-from, is_none-option_map}
+use Rattle.nonograde.proofs.reports.is_full.Goals as goal
+
+pub returns : goal.returns
+returns c =
+    is_none-from c.first_unknown.result c.is_none.result c.is_none.ensures
+    ∙ ap is_none c.first_unknown.ensures
+    ∙ is_none-option_map _ (position is_unknown c.args.grid.now.cells)
+    ∙ none_unknown c.args.grid.now.cells

@@ -1,0 +1,30 @@
+-- A puzzle's text in another format.
+use Rattle.std.specs.Prelude.{◌≡◌, ℕ, List, if◌then◌else◌, Result, Ok, Err, IsOk, Vec}
+use Rattle.std.specs.declared.alloc.Global.{Global}
+use Rattle.grid_core.specs.Nonogram.{Nonogram}
+use Rattle.puzzle_text.specs.Written.{is_ambiguous, text_mk, text_nin, text_non}
+use Rattle.puzzle_text.specs.declared.faults.EntryFault.{EntryFault}
+use Rattle.puzzle_text.specs.declared.faults.EntryFault.TheVariants.{Text}
+use Rattle.puzzle_text.specs.declared.faults.TextFault.TheVariants as text
+use Rattle.nonograde.specs.declared.formats.ConvertFault.{ConvertFault}
+use Rattle.nonograde.specs.declared.formats.ConvertFault.TheVariants.{Entry, Ambiguous, NoMemory}
+use Rattle.nonograde.specs.declared.formats.Format.{Format}
+use Rattle.nonograde.specs.declared.formats.Format.TheVariants.{Non, Mk, Nin}
+
+-- the puzzle's text in a format. In .nin there is none where it would be read with the sizes the other way round
+abbrev pub text_in : Format → Nonogram → Result (List ℕ) ConvertFault
+text_in Non p = Ok (text_non p)
+text_in Mk p = Ok (text_mk p)
+text_in Nin p = if is_ambiguous p then Err Ambiguous else Ok (text_nin p)
+
+-- the text in a format of the puzzle that was read, or the fault
+abbrev pub converted : Format → Result Nonogram EntryFault → Result (List ℕ) ConvertFault
+converted format (Ok p) = text_in format p
+converted format (Err fault) = Err (Entry fault)
+
+-- What a call answered is this answer. Want of memory in reading may stand in place of any answer, and want of memory in writing in place of a text.
+abbrev pub GivesConverted : Result (Vec ℕ Global) ConvertFault → Result (List ℕ) ConvertFault → Type 0
+GivesConverted (Ok text) answer = answer ≡ Ok text.items
+GivesConverted (Err (Entry (Text text.NoMemory))) answer = Unit {0}
+GivesConverted (Err NoMemory) answer = IsOk answer
+GivesConverted (Err fault) answer = answer ≡ Err fault

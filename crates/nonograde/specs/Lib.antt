@@ -1,0 +1,4 @@
+pub mod Command
+pub mod Stop
+pub mod Reports
+pub mod Converting

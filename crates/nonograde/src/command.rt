@@ -1,0 +1,216 @@
+//! The command line: its words, and what they ask for.
+ghost use Rattle.std.specs.Prelude.{◌≤◌, IfOk};
+ghost use Rattle.nonograde.specs.Command.{HasSettingsInRange};
+
+use crate::formats::Format;
+use clap::error::ErrorKind;
+use clap::{Arg, ArgAction, ArgMatches, Command, Error, value_parser};
+use grid_core::NoMemory;
+use std::alloc::{AllocError, AllocFailed, Global};
+use survey_core::Settings;
+
+/// What a command line asks for.
+#[derive(Debug, Drop)]
+pub enum Request {
+    Survey(Settings, Vec<String>),
+    Solve(u32, String),
+    Convert(Format, String),
+    Lines(String),
+}
+
+/// Why a command line gives no request.
+#[derive(Debug, Drop)]
+pub enum CommandFault {
+    /// The words are refused, or ask for help: the text and the status are the error's.
+    Words(Error),
+    NoMemory,
+}
+
+impl From<Error> for CommandFault {
+    fn from(error: Error) -> CommandFault {
+        if error.kind() == ErrorKind::OutOfMemory {
+            CommandFault::NoMemory
+        } else {
+            CommandFault::Words(error)
+        }
+    }
+}
+
+impl From<AllocError> for CommandFault {
+    fn from(_error: AllocError) -> CommandFault {
+        CommandFault::NoMemory
+    }
+}
+
+impl<T: Drop> From<AllocFailed<T>> for CommandFault {
+    fn from(_error: AllocFailed<T>) -> CommandFault {
+        CommandFault::NoMemory
+    }
+}
+
+impl From<NoMemory> for CommandFault {
+    fn from(_error: NoMemory) -> CommandFault {
+        CommandFault::NoMemory
+    }
+}
+
+fn guesses_option<'a>(alloc: Global) -> Arg<'a> {
+    Arg::new(alloc, "guesses")
+        .long("guesses")
+        .value_name("N")
+        .help("The most guesses for a puzzle")
+        .value_parser(value_parser!(u32).range(0..=1_000_000))
+        .default_value("1000")
+}
+
+fn file_word<'a>(alloc: Global) -> Arg<'a> {
+    Arg::new(alloc, "file")
+        .value_name("FILE")
+        .help("A puzzle, whose name ends in .non, .mk or .nin")
+        .required(true)
+}
+
+fn survey_command<'a>(alloc: Global) -> Result<Command<'a>, AllocError> {
+    let lanes = Arg::new(alloc, "lanes")
+        .long("lanes")
+        .value_name("N")
+        .help("The number of lanes, 1 to 16")
+        .value_parser(value_parser!(u16).range(1..=16))
+        .default_value("4");
+    let ring = Arg::new(alloc, "ring")
+        .long("ring")
+        .value_name("N")
+        .help("The capacity of a lane's rings, 1 to 64")
+        .value_parser(value_parser!(u16).range(1..=64))
+        .default_value("8");
+    let show = Arg::new(alloc, "show")
+        .long("show")
+        .help("Show the solutions")
+        .action(ArgAction::SetTrue);
+    let files = Arg::new(alloc, "file")
+        .value_name("FILE")
+        .help("Puzzles, in place of a collection on standard input")
+        .num_args(0..)
+        .action(ArgAction::Append);
+    Command::new(alloc, "survey")
+        .about("Grade the puzzles of a collection")
+        .override_usage("nonograde survey [OPTIONS] [FILE]...")
+        .arg(lanes)?
+        .arg(ring)?
+        .arg(guesses_option(alloc))?
+        .arg(show)?
+        .arg(files)
+}
+
+fn solve_command<'a>(alloc: Global) -> Result<Command<'a>, AllocError> {
+    Command::new(alloc, "solve")
+        .about("Solve a puzzle")
+        .override_usage("nonograde solve [OPTIONS] <FILE>")
+        .arg(guesses_option(alloc))?
+        .arg(file_word(alloc))
+}
+
+static FORMATS: [&str; 3] = ["non", "mk", "nin"];
+
+fn convert_command<'a>(alloc: Global) -> Result<Command<'a>, AllocError> {
+    let to = Arg::new(alloc, "to")
+        .long("to")
+        .value_name("FORMAT")
+        .help("The format")
+        .value_parser(FORMATS.as_slice())
+        .required(true);
+    Command::new(alloc, "convert")
+        .about("Write a puzzle in another format")
+        .override_usage("nonograde convert --to <FORMAT> <FILE>")
+        .arg(to)?
+        .arg(file_word(alloc))
+}
+
+fn lines_command<'a>(alloc: Global) -> Result<Command<'a>, AllocError> {
+    Command::new(alloc, "lines")
+        .about("Close a puzzle by line logic")
+        .override_usage("nonograde lines <FILE>")
+        .arg(file_word(alloc))
+}
+
+fn whole_command<'a>(alloc: Global) -> Result<Command<'a>, AllocError> {
+    Command::new(alloc, "nonograde")
+        .about("Solves and grades nonograms")
+        .no_binary_name(true)
+        .subcommand_required(true)
+        .subcommand(survey_command(alloc)?)?
+        .subcommand(solve_command(alloc)?)?
+        .subcommand(convert_command(alloc)?)?
+        .subcommand(lines_command(alloc)?)
+}
+
+/// The text of an argument.
+fn text_of(alloc: Global, matches: &ArgMatches<'_>, id: &str) -> Result<String, AllocError> {
+    String::from_str(alloc, matches.get_str(id).unwrap_or(""))
+}
+
+fn files_of(alloc: Global, matches: &ArgMatches<'_>) -> Result<Vec<String>, CommandFault> {
+    let mut files = Vec::new(alloc);
+    if let Some(words) = matches.get_strs("file") {
+        for word in words {
+            files.push(String::from_str(alloc, word)?)?;
+        }
+    }
+    Ok(files)
+}
+
+/// The guesses that are asked for. `clap` has refused those out of range.
+fn guesses_of(matches: &ArgMatches<'_>) -> u32
+    ensures { result ≤ 1000000 }
+{
+    matches
+        .get_one::<u32>("guesses")
+        .unwrap_or(1000)
+        .min(1_000_000)
+}
+
+/// The settings of a survey. `clap` has refused those out of range.
+fn settings_of(matches: &ArgMatches<'_>) -> Settings {
+    let lanes = matches.get_one::<u16>("lanes").unwrap_or(4).clamp(1, 16);
+    let ring = matches.get_one::<u16>("ring").unwrap_or(8).clamp(1, 64);
+    Settings {
+        lanes,
+        ring,
+        guesses: guesses_of(matches),
+        show: matches.get_flag("show"),
+    }
+}
+
+fn format_of(matches: &ArgMatches<'_>) -> Format {
+    match matches.get_str("to") {
+        Some("mk") => Format::Mk,
+        Some("nin") => Format::Nin,
+        _ => Format::Non,
+    }
+}
+
+fn request_of(alloc: Global, name: &str, matches: &ArgMatches<'_>) -> Result<Request, CommandFault>
+    ensures { IfOk result HasSettingsInRange }
+{
+    match name {
+        "survey" => Ok(Request::Survey(settings_of(matches), files_of(alloc, matches)?)),
+        "solve" => Ok(Request::Solve(guesses_of(matches), text_of(alloc, matches, "file")?)),
+        "convert" => Ok(Request::Convert(format_of(matches), text_of(alloc, matches, "file")?)),
+        _ => Ok(Request::Lines(text_of(alloc, matches, "file")?)),
+    }
+}
+
+/// What the words after the program's name ask for.
+pub fn parse_words(alloc: Global, words: Vec<String>) -> Result<Request, CommandFault>
+    ensures { IfOk result HasSettingsInRange }
+{
+    let mut command = whole_command(alloc)?;
+    let matches = command.try_get_matches_from_mut(words.as_slice())?;
+    match matches.subcommand() {
+        Some((name, found)) => request_of(alloc, name, found),
+        None => {
+            let error = command.error(ErrorKind::MissingSubcommand, "a command is missing")?;
+            Err(CommandFault::from(error))
+        }
+    }
+}

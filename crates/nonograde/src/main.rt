@@ -1,0 +1,28 @@
+//! The program: solves and grades nonograms.
+#![tactic(auto)]
+
+mod command;
+mod converting;
+mod formats;
+mod program;
+mod reports;
+mod stop;
+
+use std::process::ExitCode;
+
+fn main(rt: HostRuntime) -> ExitCode {
+    let status = match program::words_of(&rt) {
+        Ok(words) => program::run(
+            &rt,
+            words,
+            &mut rt.stdin(),
+            &mut rt.stdout(),
+            &mut rt.stderr(),
+        ),
+        Err(error) => program::refuse_words(&mut rt.stderr(), &error),
+    };
+    ExitCode::from(status)
+}
+
+#[cfg(test)]
+mod tests;

@@ -1,0 +1,227 @@
+//! What the program does with its words, its files and its standard streams.
+
+ghost use Rattle.std.specs.Prelude.{◌≤◌};
+ghost use Rattle.nonograde.specs.Command.{HasSettingsInRange};
+
+use crate::command::{CommandFault, Request, parse_words};
+use crate::converting::convert;
+use crate::formats::{ConvertFault, Format};
+use crate::reports::{lines_report, solve_report};
+use crate::stop::{Stop, stop_text};
+use lane_core::{MOST_GUESSES, OpenGate};
+use puzzle_text::Entry;
+use std::alloc::{AllocError, AllocFailed, Global};
+use std::io::{Read, Write};
+use std::rt::{Env, Files};
+use std::sync::Wait;
+use std::thread::Threads;
+use std::{env, fs, io};
+use survey_core::{Counted, Settings, run_survey, survey_entries};
+
+/// One byte more than a puzzle's text may have.
+const FILE_LIMIT: u64 = 1_048_577;
+
+impl From<AllocError> for Stop {
+    fn from(_refused: AllocError) -> Stop {
+        Stop::NoMemory
+    }
+}
+
+impl<T: Drop> From<AllocFailed<T>> for Stop {
+    fn from(_refused: AllocFailed<T>) -> Stop {
+        Stop::NoMemory
+    }
+}
+
+impl From<ConvertFault> for Stop {
+    fn from(fault: ConvertFault) -> Stop {
+        match fault {
+            ConvertFault::Entry(fault) => Stop::Entry(fault),
+            ConvertFault::Ambiguous => Stop::Ambiguous,
+            ConvertFault::NoMemory => Stop::NoMemory,
+        }
+    }
+}
+
+/// Reads a file, or as much of it as shows that it is too long.
+fn read_file<R: Files + AllocGlobal>(rt: &R, path: &str) -> Result<Vec<u8>, Stop> {
+    let mut body = Vec::new(rt.alloc());
+    let outcome = match fs::open(rt, path) {
+        Ok(file) => file.take(FILE_LIMIT).read_to_end(&mut body),
+        Err(error) => Err(error),
+    };
+    match outcome {
+        Ok(_) => Ok(body),
+        Err(error) if error.kind() == io::ErrorKind::OutOfMemory => Err(Stop::NoMemory),
+        Err(_) => Err(Stop::Read),
+    }
+}
+
+/// Reads files, in the order of the words that name them.
+fn read_files<R: Files + AllocGlobal>(rt: &R, paths: &[String]) -> Result<Vec<Vec<u8>>, Stop> {
+    let mut bodies = Vec::with_capacity(rt.alloc(), paths.len())?;
+    for path in paths {
+        bodies.push(read_file(rt, path.as_str())?)?;
+    }
+    Ok(bodies)
+}
+
+/// An entry for each file, named by its word.
+fn entries_of<'a>(
+    alloc: Global,
+    paths: &'a [String],
+    bodies: &'a [Vec<u8>],
+) -> Result<Vec<Entry<'a>>, Stop> {
+    let mut entries = Vec::with_capacity(alloc, paths.len())?;
+    for (path, body) in paths.iter().zip(bodies) {
+        entries.push(Entry {
+            name: path.as_bytes(),
+            body: body.as_slice(),
+        })?;
+    }
+    Ok(entries)
+}
+
+/// Prints a text.
+fn print_text<W: Write>(writer: &mut W, text: &[u8]) -> Result<(), Stop> {
+    match writer.write_all(text).and_then(|()| writer.flush()) {
+        Ok(()) => Ok(()),
+        Err(_) => Err(Stop::Write),
+    }
+}
+
+/// Prints the survey of a collection.
+fn survey_input<R: Threads + Wait + Sync + AllocGlobal, I: Read, O: Write>(
+    rt: &R,
+    settings: &Settings,
+    input: &mut I,
+    output: &mut O,
+) -> Result<(), Stop> {
+    let mut reader = Counted::new(input);
+    let mut writer = Counted::new(output);
+    let alloc = rt.alloc();
+    run_survey(rt, alloc, &mut reader, &mut writer, settings, &OpenGate).map_err(Stop::Run)
+}
+
+/// Prints the survey of files.
+fn survey_files<R: Files + Threads + Wait + Sync + AllocGlobal, O: Write>(
+    rt: &R,
+    settings: &Settings,
+    paths: &[String],
+    output: &mut O,
+) -> Result<(), Stop> {
+    let bodies = read_files(rt, paths)?;
+    let alloc = rt.alloc();
+    let entries = entries_of(alloc, paths, &bodies)?;
+    let mut writer = Counted::new(output);
+    survey_entries(rt, alloc, &entries, &mut writer, settings, &OpenGate).map_err(Stop::Run)
+}
+
+fn solve_file<R: Files + AllocGlobal, O: Write>(
+    rt: &R,
+    guesses: u32,
+    path: &str,
+    output: &mut O,
+) -> Result<(), Stop>
+    requires { guesses ≤ MOST_GUESSES }
+{
+    let body = read_file(rt, path)?;
+    let report = solve_report(rt.alloc(), path.as_bytes(), &body, guesses).map_err(Stop::Entry)?;
+    print_text(output, &report)
+}
+
+fn convert_file<R: Files + AllocGlobal, O: Write>(
+    rt: &R,
+    format: Format,
+    path: &str,
+    output: &mut O,
+) -> Result<(), Stop> {
+    let body = read_file(rt, path)?;
+    let text = convert(rt.alloc(), path.as_bytes(), &body, format)?;
+    print_text(output, &text)
+}
+
+fn close_file<R: Files + AllocGlobal, O: Write>(
+    rt: &R,
+    path: &str,
+    output: &mut O,
+) -> Result<(), Stop> {
+    let body = read_file(rt, path)?;
+    let report = lines_report(rt.alloc(), path.as_bytes(), &body).map_err(Stop::Entry)?;
+    print_text(output, &report)
+}
+
+fn perform<R: Files + Threads + Wait + Sync + AllocGlobal, I: Read, O: Write>(
+    rt: &R,
+    request: &Request,
+    input: &mut I,
+    output: &mut O,
+) -> Result<(), Stop>
+    requires { HasSettingsInRange request.now }
+{
+    match request {
+        Request::Survey(settings, paths) => {
+            if paths.is_empty() {
+                survey_input(rt, settings, input, output)
+            } else {
+                survey_files(rt, settings, paths, output)
+            }
+        }
+        Request::Solve(guesses, path) => solve_file(rt, *guesses, path.as_str(), output),
+        Request::Convert(format, path) => convert_file(rt, *format, path.as_str(), output),
+        Request::Lines(path) => close_file(rt, path.as_str(), output),
+    }
+}
+
+/// The words after the program's name.
+pub fn words_of<R: Env + AllocGlobal>(rt: &R) -> io::Result<Vec<String>> {
+    Ok(env::args(rt)?.skip(1).collect(rt.alloc())?)
+}
+
+/// Prints why the program stops, and gives its status.
+fn report_stop<E: Write>(alloc: Global, errors: &mut E, stop: &Stop) -> u8 {
+    let _ = match stop_text(alloc, stop) {
+        Ok(text) => errors.write_all(&text),
+        Err(_) => errors.write_all(b"nonograde: NoMemory\n"),
+    };
+    1
+}
+
+/// Says that the words can't be read, and gives the program's status.
+pub fn refuse_words<E: Write>(errors: &mut E, error: &io::Error) -> u8 {
+    if error.kind() == io::ErrorKind::OutOfMemory {
+        let _ = errors.write_all(b"nonograde: NoMemory\n");
+        return 1;
+    }
+    let _ = errors.write_all(b"error: a word of the command line is no text\n");
+    2
+}
+
+/// Runs the words that follow the program's name, and gives the program's status: 0 where it printed what was asked for, 1 at a fault, 2 where the words are
+/// refused.
+pub fn run<R: Files + Threads + Wait + Sync + AllocGlobal, I: Read, O: Write, E: Write>(
+    rt: &R,
+    words: Vec<String>,
+    input: &mut I,
+    output: &mut O,
+    errors: &mut E,
+) -> u8 {
+    let done = match parse_words(rt.alloc(), words) {
+        Ok(request) => perform(rt, &request, input, output),
+        Err(CommandFault::NoMemory) => Err(Stop::NoMemory),
+        Err(CommandFault::Words(error)) => {
+            if error.use_stderr() {
+                let _ = write!(errors, "{error}");
+                return 2;
+            }
+            match write!(output, "{error}").and_then(|()| output.flush()) {
+                Ok(()) => Ok(()),
+                Err(_) => Err(Stop::Write),
+            }
+        }
+    };
+    match done {
+        Ok(()) => 0,
+        Err(stop) => report_stop(rt.alloc(), errors, &stop),
+    }
+}

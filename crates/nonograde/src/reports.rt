@@ -1,0 +1,123 @@
+//! What the commands on one puzzle print.
+
+ghost use Rattle.std.specs.Prelude.{◌≡◌, ◌≤◌, ◌<◌, ◌↔◌, ◌++◌, true, false, length, Ok, Err, IfOk, OnOk, MatchResult};
+ghost use Rattle.std.specs.List.{list_all};
+ghost use Rattle.grid_core.specs.Cells.{is_known};
+ghost use Rattle.puzzle_text.specs.Formats.{is_known as is_known_format};
+ghost use Rattle.survey_core.specs.Entries.{found_of};
+ghost use Rattle.survey_core.specs.Survey.{reported};
+ghost use Rattle.nonograde.specs.Reports.{GivesText, closed_word, grid_report, lines_text, said, solve_text, text_or_fault};
+
+use grid_core::{Grid, NoMemory, Puzzle};
+use lane_core::{Answer, Job, MOST_GUESSES, grade};
+use puzzle_text::{Entry, EntryFault, LONGEST_PUZZLE, TextFault, read_entry};
+use solve_core::Solver;
+use std::alloc::Global;
+use survey_core::{Outcome, print_entry, push_bytes, push_grid, push_number};
+
+fn is_full(grid: &Grid) -> bool
+    ensures { result ≡ list_all is_known grid.now.cells }
+{
+    grid.first_unknown().is_none()
+}
+
+fn closed_word(grid: &Grid) -> &'static str
+    ensures { result.now ≡ closed_word grid.now }
+{
+    if is_full(grid) { "one" } else { "open" }
+}
+
+fn push_closed(text: &mut Vec<u8>, grid: &Grid) -> Result<(), NoMemory>
+    ensures { OnOk result (text.new.items ≡ text.old.items ++ grid_report grid.now) }
+{
+    push_bytes(text, closed_word(grid).as_bytes())?;
+    push_bytes(text, b" ")?;
+    push_number(text, u64::from(grid.known()))?;
+    push_bytes(text, b"\n")?;
+    push_grid(text, grid)
+}
+
+fn lines_text(alloc: Global, puzzle: &Puzzle) -> Result<Vec<u8>, NoMemory>
+    ensures { IfOk result (λ text. text.items ≡ lines_text puzzle.now) }
+{
+    let mut text = Vec::new(alloc);
+    let mut grid = Grid::unknown(alloc, puzzle.width(), puzzle.height())?;
+    let mut solver = Solver::new(alloc, puzzle)?;
+    if solver.close_lines(&mut grid) {
+        push_closed(&mut text, &grid)?;
+    } else {
+        push_bytes(&mut text, b"none 0\n")?;
+    }
+    Ok(text)
+}
+
+fn text_or_fault(made: Result<Vec<u8>, NoMemory>) -> Result<Vec<u8>, EntryFault>
+    ensures { MatchResult made (λ text. result ≡ Ok text) (λ _. result ≡ Err (EntryFault.Text TextFault.NoMemory)) }
+{
+    match made {
+        Ok(text) => Ok(text),
+        Err(_) => Err(EntryFault::Text(TextFault::NoMemory)),
+    }
+}
+
+/// The grid of a puzzle's text closed by line logic: `one K`, where it is full, or `open K`, with K the number of known cells, and its rows; `none 0` where it
+/// is dead. Else the text's fault, or `NoMemory`.
+pub fn lines_report(alloc: Global, name: &[u8], body: &[u8]) -> Result<Vec<u8>, EntryFault>
+    ensures answer { GivesText result (text_or_fault lines_text (said name.now body.now)) }
+    // Want of memory never stands in place of these faults.
+    ensures unknown { result ≡ Err EntryFault.UnknownFormat ↔ is_known_format name.now ≡ false }
+    ensures too_long { is_known_format name.now ≡ true → LONGEST_PUZZLE < length body.now → result ≡ Err (EntryFault.Text TextFault.TooLong) }
+{
+    match read_entry(alloc, &Entry { name, body }) {
+        Ok(puzzle) => text_or_fault(lines_text(alloc, &puzzle)),
+        Err(fault) => Err(fault),
+    }
+}
+
+/// The answer to a puzzle, if there was memory for grading it.
+fn answer_to(alloc: Global, puzzle: Puzzle, guesses: u32) -> Result<Answer, NoMemory>
+    requires { guesses ≤ MOST_GUESSES }
+    ensures { IfOk result (λ answer. found_of answer.puzzle answer.outcome ≡ reported guesses (Ok puzzle)) }
+{
+    let answer = grade(alloc, Job::new(1, puzzle, guesses));
+    match answer.outcome() {
+        Ok(_) => Ok(answer),
+        Err(refused) => Err(refused),
+    }
+}
+
+fn solve_text(
+    alloc: Global,
+    name: &[u8],
+    puzzle: Puzzle,
+    guesses: u32,
+) -> Result<Vec<u8>, NoMemory>
+    requires { guesses ≤ MOST_GUESSES }
+    ensures { IfOk result (λ text. text.items ≡ solve_text name.now guesses puzzle) }
+{
+    let outcome = Outcome {
+        name: Vec::from_slice(alloc, name)?,
+        result: Ok(answer_to(alloc, puzzle, guesses)?),
+    };
+    print_entry(alloc, 1, &outcome, true)
+}
+
+/// The line of a puzzle's text in a survey, numbered 1, and its solutions, each followed by an empty line. At most 1,000,000 guesses. Else the text's fault, or
+/// `NoMemory`.
+pub fn solve_report(
+    alloc: Global,
+    name: &[u8],
+    body: &[u8],
+    guesses: u32,
+) -> Result<Vec<u8>, EntryFault>
+    requires { guesses ≤ MOST_GUESSES }
+    ensures answer { GivesText result (text_or_fault (solve_text name.now guesses) (said name.now body.now)) }
+    // Want of memory never stands in place of these faults.
+    ensures unknown { result ≡ Err EntryFault.UnknownFormat ↔ is_known_format name.now ≡ false }
+    ensures too_long { is_known_format name.now ≡ true → LONGEST_PUZZLE < length body.now → result ≡ Err (EntryFault.Text TextFault.TooLong) }
+{
+    match read_entry(alloc, &Entry { name, body }) {
+        Ok(puzzle) => text_or_fault(solve_text(alloc, name, puzzle, guesses)),
+        Err(fault) => Err(fault),
+    }
+}
