@@ -86,12 +86,7 @@ fn answer_to(alloc: Global, puzzle: Puzzle, guesses: u32) -> Result<Answer, NoMe
     }
 }
 
-fn solve_text(
-    alloc: Global,
-    name: &[u8],
-    puzzle: Puzzle,
-    guesses: u32,
-) -> Result<Vec<u8>, NoMemory>
+fn solve_text(alloc: Global, name: &[u8], puzzle: Puzzle, guesses: u32) -> Result<Vec<u8>, NoMemory>
     requires { guesses ≤ MOST_GUESSES }
     ensures { IfOk result (λ text. text.items ≡ solve_text name.now guesses puzzle) }
 {

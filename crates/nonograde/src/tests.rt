@@ -21,7 +21,8 @@ use std::thread::Threads;
 use survey_core::{Counted, RunFault, Settings, run_survey, survey_entries};
 
 /// The demonstration puzzle, up to its goal's last digit.
-const DEMO: &[u8] = b"title \"Demo\"\nwidth 5\nheight 10\n\nrows\n2\n2,1\n1,1\n3\n1,1\n1,1\n2\n1,1\n1,2\n2\n\ncolumns\n2,1\n2,1,3\n7\n1,3\n2,1\n\ngoal \"0110001101001010111010100101000011001010010111100";
+const DEMO: &[u8] =
+    b"title \"Demo\"\nwidth 5\nheight 10\n\nrows\n2\n2,1\n1,1\n3\n1,1\n1,1\n2\n1,1\n1,2\n2\n\ncolumns\n2,1\n2,1,3\n7\n1,3\n2,1\n\ngoal \"0110001101001010111010100101000011001010010111100";
 
 const MEETS: &[u8] = b"0\"\n";
 
@@ -29,7 +30,8 @@ const MISSES: &[u8] = b"1\"\n";
 
 const DEMO_GRID: &[u8] = b".##..\n.##.#\n..#.#\n.###.\n#.#..\n#.#..\n..##.\n.#.#.\n.#.##\n##...\n";
 
-const DEMO_NIN: &[u8] = b"5 10\n2\n2 1\n1 1\n3\n1 1\n1 1\n2\n1 1\n1 2\n2\n2 1\n2 1 3\n7\n1 3\n2 1\n";
+const DEMO_NIN: &[u8] =
+    b"5 10\n2\n2 1\n1 1\n3\n1 1\n1 1\n2\n1 1\n1 2\n2\n2 1\n2 1 3\n7\n1 3\n2 1\n";
 
 const ONE: &[u8] = b"1 1\n0\n#\n0\n";
 
@@ -103,22 +105,14 @@ fn ten_entries(alloc: Global) -> Result<Vec<u8>, Fail> {
 }
 
 /// The text, or the fault's word.
-fn text_or_word(
-    alloc: Global,
-    answer: Result<Vec<u8>, EntryFault>,
-) -> Result<Vec<u8>, NoMemory> {
+fn text_or_word(alloc: Global, answer: Result<Vec<u8>, EntryFault>) -> Result<Vec<u8>, NoMemory> {
     match answer {
         Ok(text) => Ok(text),
         Err(fault) => fault_text(alloc, &fault),
     }
 }
 
-fn assert_bytes(
-    rt: &impl Abort,
-    found: Result<Vec<u8>, NoMemory>,
-    expected: &[u8],
-    place: usize,
-) {
+fn assert_bytes(rt: &impl Abort, found: Result<Vec<u8>, NoMemory>, expected: &[u8], place: usize) {
     match found {
         Ok(text) => assert!(rt; text.as_slice() == expected, "row {place}"),
         Err(_) => assert!(rt; false, "row {place}: NoMemory"),
@@ -161,32 +155,86 @@ fn solve_not_always_no_memory(rt: HostRuntime) -> Result<(), Fail> {
     let alloc = rt.alloc();
     let demo = joined(alloc, &[DEMO, MEETS])?;
     let demo2 = joined(alloc, &[DEMO, MISSES])?;
-    let met = joined(alloc, &[b"1 5x10 one line 50 50 0 meets demo.non\n", DEMO_GRID, b"\n"])?;
-    let missed = joined(alloc, &[b"1 5x10 one line 50 50 0 misses demo2.non\n", DEMO_GRID, b"\n"])?;
+    let met = joined(
+        alloc,
+        &[
+            b"1 5x10 one line 50 50 0 meets demo.non\n",
+            DEMO_GRID,
+            b"\n",
+        ],
+    )?;
+    let missed = joined(
+        alloc,
+        &[
+            b"1 5x10 one line 50 50 0 misses demo2.non\n",
+            DEMO_GRID,
+            b"\n",
+        ],
+    )?;
     let table: [(u32, &[u8], &[u8], &[u8]); 19] = [
         (1000, b"demo.non", &demo, &met),
         (0, b"demo.non", &demo, &met),
         (1000, b"demo2.non", &demo2, &missed),
-        (1000, b"one.mk", ONE, b"1 1x1 one line 1 1 0 absent one.mk\n.\n\n"),
-        (1000, b"clash.mk", CLASH, b"1 1x1 none line 0 0 0 absent clash.mk\n"),
-        (1000, b"pair.mk", PAIR, b"1 4x2 one trials 0 8 0 absent pair.mk\n.##.\n#..#\n\n"),
+        (
+            1000,
+            b"one.mk",
+            ONE,
+            b"1 1x1 one line 1 1 0 absent one.mk\n.\n\n",
+        ),
+        (
+            1000,
+            b"clash.mk",
+            CLASH,
+            b"1 1x1 none line 0 0 0 absent clash.mk\n",
+        ),
+        (
+            1000,
+            b"pair.mk",
+            PAIR,
+            b"1 4x2 one trials 0 8 0 absent pair.mk\n.##.\n#..#\n\n",
+        ),
         (
             1000,
             b"pair.mk",
             b"4 2\n2\n1 1\n#\n1\n1\n1\n1\n",
             b"1 4x2 one trials 0 8 0 absent pair.mk\n.##.\n#..#\n\n",
         ),
-        (1000, b"fit.nin", FIT, b"1 4x2 one trials 0 8 0 absent fit.nin\n.##.\n#..#\n\n"),
-        (1000, b"six.mk", SIX, b"1 6x2 none trials 0 0 0 absent six.mk\n"),
-        (0, b"two.mk", TWO, b"1 2x2 unsettled search 0 0 0 absent two.mk\n"),
-        (1, b"two.mk", TWO, b"1 2x2 unsettled search 0 0 1 absent two.mk\n#.\n.#\n\n"),
+        (
+            1000,
+            b"fit.nin",
+            FIT,
+            b"1 4x2 one trials 0 8 0 absent fit.nin\n.##.\n#..#\n\n",
+        ),
+        (
+            1000,
+            b"six.mk",
+            SIX,
+            b"1 6x2 none trials 0 0 0 absent six.mk\n",
+        ),
+        (
+            0,
+            b"two.mk",
+            TWO,
+            b"1 2x2 unsettled search 0 0 0 absent two.mk\n",
+        ),
+        (
+            1,
+            b"two.mk",
+            TWO,
+            b"1 2x2 unsettled search 0 0 1 absent two.mk\n#.\n.#\n\n",
+        ),
         (
             2,
             b"two.mk",
             TWO,
             b"1 2x2 several search 0 0 2 absent two.mk\n#.\n.#\n\n.#\n#.\n\n",
         ),
-        (1, b"three.mk", THREE, b"1 3x3 unsettled search 0 0 1 absent three.mk\n"),
+        (
+            1,
+            b"three.mk",
+            THREE,
+            b"1 3x3 unsettled search 0 0 1 absent three.mk\n",
+        ),
         (
             2,
             b"three.mk",
@@ -205,7 +253,12 @@ fn solve_not_always_no_memory(rt: HostRuntime) -> Result<(), Fail> {
             b"width 2\r\nheight 3\r\nrows\r\n1\r\n\r\n2\r\ncolumns\r\n1,1\r\n1\r\n",
             b"1 2x3 one line 6 6 0 absent crlf.non\n#.\n..\n##\n\n",
         ),
-        (1000, b"a\x1f b\n\x7f~.mk", ONE, b"1 1x1 one line 1 1 0 absent a? b??~.mk\n.\n\n"),
+        (
+            1000,
+            b"a\x1f b\n\x7f~.mk",
+            ONE,
+            b"1 1x1 one line 1 1 0 absent a? b??~.mk\n.\n\n",
+        ),
         (1000, b"bad.mk", b"2 2\n2 x\n1\n#\n1\n1\n", b"BadNumber:2"),
         (1000, b"what.txt", b"", b"UnknownFormat"),
     ];
@@ -243,11 +296,26 @@ fn convert_not_always_no_memory(rt: HostRuntime) -> Result<(), Fail> {
     let table: [(&[u8], &[u8], Format, Result<&[u8], ConvertFault>); 8] = [
         (b"fit.nin", FIT, Format::Non, Ok(fit)),
         (b"fit.nin", FIT, Format::Mk, Ok(PAIR)),
-        (b"fit.nin", FIT, Format::Nin, Ok(b"4 2\n2\n1 1\n1\n1\n1\n1\n")),
+        (
+            b"fit.nin",
+            FIT,
+            Format::Nin,
+            Ok(b"4 2\n2\n1 1\n1\n1\n1\n1\n"),
+        ),
         (b"demo.non", &demo, Format::Non, Ok(&demo)),
         (b"demo.non", &demo, Format::Nin, Ok(DEMO_NIN)),
-        (b"flat.mk", b"1 2\n1\n#\n1\n2\n", Format::Nin, Err(ConvertFault::Ambiguous)),
-        (b"flat.mk", b"1 2\n1\n#\n1\n2\n", Format::Mk, Ok(b"1 2\n1\n#\n1\n2\n")),
+        (
+            b"flat.mk",
+            b"1 2\n1\n#\n1\n2\n",
+            Format::Nin,
+            Err(ConvertFault::Ambiguous),
+        ),
+        (
+            b"flat.mk",
+            b"1 2\n1\n#\n1\n2\n",
+            Format::Mk,
+            Ok(b"1 2\n1\n#\n1\n2\n"),
+        ),
         (
             b"a.mk",
             b"1 1\n0 1\n#\n1\n",
@@ -282,7 +350,14 @@ fn surveyed<R: Threads + Wait + Sync + AllocGlobal>(
 ) -> Result<Vec<u8>, RunFault> {
     let mut reader = Counted::new(collection);
     let mut writer = Counted::new(Vec::new(rt.alloc()));
-    run_survey(rt, rt.alloc(), &mut reader, &mut writer, settings, &OpenGate)?;
+    run_survey(
+        rt,
+        rt.alloc(),
+        &mut reader,
+        &mut writer,
+        settings,
+        &OpenGate,
+    )?;
     Ok(writer.inner)
 }
 
@@ -318,7 +393,8 @@ fn survey_not_always_no_memory(rt: HostRuntime) -> Result<(), Fail> {
 #[test]
 fn refused_collections(rt: HostRuntime) -> Result<(), Fail> {
     let many = repeated(rt.alloc(), b"@ a.mk\n", 10_001)?;
-    let long = repeated(rt.alloc(), b"\n", 16_777_217)?;
+    let feeds = repeated(rt.alloc(), b"\n", 4096)?;
+    let long = joined(rt.alloc(), &[&repeated(rt.alloc(), &feeds, 4096)?, b"\n"])?;
     let table: [(&[u8], CollectionFault); 5] = [
         (b"x\n", CollectionFault::Stray(1)),
         (b"x\n@ a.mk\n", CollectionFault::Stray(1)),
@@ -387,9 +463,18 @@ fn failing_streams_are_faults(rt: HostRuntime) -> Result<(), Fail> {
 #[test]
 fn stop_text_not_always_no_memory(rt: HostRuntime) {
     let table: [(Stop, &[u8]); 8] = [
-        (Stop::Entry(EntryFault::Text(TextFault::NoSize)), b"nonograde: NoSize\n"),
-        (Stop::Entry(EntryFault::UnknownFormat), b"nonograde: UnknownFormat\n"),
-        (Stop::Run(RunFault::Collection(CollectionFault::Stray(1))), b"nonograde: Stray:1\n"),
+        (
+            Stop::Entry(EntryFault::Text(TextFault::NoSize)),
+            b"nonograde: NoSize\n",
+        ),
+        (
+            Stop::Entry(EntryFault::UnknownFormat),
+            b"nonograde: UnknownFormat\n",
+        ),
+        (
+            Stop::Run(RunFault::Collection(CollectionFault::Stray(1))),
+            b"nonograde: Stray:1\n",
+        ),
         (Stop::Run(RunFault::Write(10)), b"nonograde: Write\n"),
         (Stop::Run(RunFault::Thread), b"nonograde: Thread\n"),
         (Stop::Ambiguous, b"nonograde: Ambiguous\n"),
@@ -494,14 +579,27 @@ fn refused_words(rt: HostRuntime) {
 #[test]
 fn statuses_and_streams(rt: HostRuntime) -> Result<(), Fail> {
     let none = b"entries 0 refused 0 none 0 one 0 several 0 unsettled 0 line 0 trials 0 search 0\n";
-    let one = b"1 1x1 one line 1 1 0 absent one.mk\n.\n\nentries 1 refused 0 none 0 one 1 several 0 unsettled 0 line 1 trials 0 search 0\n";
+    let one =
+        b"1 1x1 one line 1 1 0 absent one.mk\n.\n\nentries 1 refused 0 none 0 one 1 several 0 unsettled 0 line 1 trials 0 search 0\n";
     let table: [(&str, &[u8], u8, &[u8], &[u8]); 6] = [
         ("survey", b"", 0, none, b""),
-        ("survey --show --lanes 1", b"@ one.mk\n1 1\n0\n#\n0\n", 0, one, b""),
+        (
+            "survey --show --lanes 1",
+            b"@ one.mk\n1 1\n0\n#\n0\n",
+            0,
+            one,
+            b"",
+        ),
         ("survey", b"x\n", 1, b"", b"nonograde: Stray:1\n"),
         ("survey missing.txt", b"", 1, b"", b"nonograde: Read\n"),
         ("lines missing.txt", b"", 1, b"", b"nonograde: Read\n"),
-        ("convert --to mk missing.nin", b"", 1, b"", b"nonograde: Read\n"),
+        (
+            "convert --to mk missing.nin",
+            b"",
+            1,
+            b"",
+            b"nonograde: Read\n",
+        ),
     ];
     for (line, input, status, printed, said) in table {
         let words = words_of(rt.alloc(), line).ok().ok_or("memory")?;

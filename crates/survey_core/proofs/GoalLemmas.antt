@@ -14,8 +14,7 @@ lines_decide : (full : List Bool) (lines : List GridLine) → Decides (list_all 
 lines_decide full [] = (λ _. tt, λ _. refl)
 lines_decide full (line ∷ lines) =
     let here = bytes_eq-Decides _ line.clue in
-    let others = lines_decide full lines in
-    (
+    let others = lines_decide full lines in (
       λ test. let parts = and_parts _ _ test in (here.0 parts.0, others.0 parts.1),
       λ all. and_from _ _ (here.1 all.0) (others.1 all.1),
     )
@@ -26,10 +25,9 @@ meets_decide p full =
     let lines = lines_decide full (lines_of p) in
     let size_test = length full == p.width * p.height in
     let size = Decides-eqb (length full) (p.width * p.height) in
-    let lines_test = list_all (meets_line full) (lines_of p) in
-    (
+    let lines_test = list_all (meets_line full) (lines_of p) in (
       λ test. let parts = and_parts size_test lines_test test in
-      record { size = size.0 parts.0; clues = All-from_recursion _ _ (lines.0 parts.1) },
+          record { size = size.0 parts.0; clues = All-from_recursion _ _ (lines.0 parts.1) },
       λ meets. and_from size_test lines_test (size.1 meets.size) (lines.1 (recursion_from_All _ _ meets.clues)),
     )
 

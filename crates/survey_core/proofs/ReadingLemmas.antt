@@ -101,8 +101,8 @@ pub outcomes-more : (guesses : ℕ) (entries : List Entry) (i : ℕ) (d : Entry)
 outcomes-more guesses entries i d old new outcome h so_far more name result =
     let entry = get_or entries i d in
     let same : shown_outcome outcome ≡ graded guesses (shown_entry entry) =
-        ap (λ (name' : List ℕ). record { name = name'; result = shown_result outcome.result }) name
-        ∙ ap (λ (result' : Result (Nonogram × Findings) EntryFault). record { name = entry.name.now; result = result' }) result in
+    ap (λ (name' : List ℕ). record { name = name'; result = shown_result outcome.result }) name
+    ∙ ap (λ (result' : Result (Nonogram × Findings) EntryFault). record { name = entry.name.now; result = result' }) result in
     ap (map shown_outcome) more ∙ map-append shown_outcome old (outcome ∷ [])
     ∙ ap (λ (front : List GradedEntry). front ++ shown_outcome outcome ∷ []) so_far
     ∙ ap (λ (last : GradedEntry). map (graded guesses) (map shown_entry (take i entries)) ++ last ∷ []) same

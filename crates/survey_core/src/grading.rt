@@ -82,7 +82,14 @@ pub(crate) fn grade_entries<H: Threads + Wait + Sync, G: Gate + Sync>(
     ensures { IfOk result (λ outcomes. map shown_outcome outcomes.items ≡ map (graded settings.now.guesses) (map shown_entry entries.now)) }
 {
     let Readings { jobs, faults } = read_entries(alloc, entries, settings.guesses)?;
-    let mut answers = VecDeque::from(collect(rt, alloc, jobs, settings.lanes, settings.ring, gate)?);
+    let mut answers = VecDeque::from(collect(
+        rt,
+        alloc,
+        jobs,
+        settings.lanes,
+        settings.ring,
+        gate,
+    )?);
     let mut outcomes = Vec::with_capacity(alloc, entries.len())?;
     for (place, entry) in entries.iter().enumerate() {
         outcomes.push(outcome_of(alloc, entry, faults[place], &mut answers)?)?;

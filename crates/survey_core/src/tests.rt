@@ -63,7 +63,14 @@ fn assert_survey(
 ) {
     let mut reader = Counted::new(collection);
     let mut output = Counted::new(Vec::new(rt.alloc()));
-    let outcome = run_survey(rt, rt.alloc(), &mut reader, &mut output, settings, &OpenGate);
+    let outcome = run_survey(
+        rt,
+        rt.alloc(),
+        &mut reader,
+        &mut output,
+        settings,
+        &OpenGate,
+    );
     assert_eq!(rt; outcome, wanted);
     assert_eq!(rt; output.inner.as_slice(), text.as_bytes());
 }
@@ -72,7 +79,13 @@ fn assert_survey(
 fn surveys_ten_entries(rt: HostRuntime) {
     for lanes in [1u16, 3, 16] {
         for ring in [1u16, 8] {
-            assert_survey(&rt, TEN.as_bytes(), &settings(lanes, ring, false), Ok(()), TEN_SURVEY);
+            assert_survey(
+                &rt,
+                TEN.as_bytes(),
+                &settings(lanes, ring, false),
+                Ok(()),
+                TEN_SURVEY,
+            );
         }
     }
 }
@@ -95,7 +108,13 @@ fn shows_solutions(rt: HostRuntime) {
     let text = "1 1x1 none line 0 0 0 absent clash.mk\n2 refused UnknownFormat what\n\
         3 2x2 several search 0 0 2 absent two.mk\n#.\n.#\n\n.#\n#.\n\n\
         entries 3 refused 1 none 1 one 0 several 1 unsettled 0 line 1 trials 0 search 1\n";
-    assert_survey(&rt, collection.as_bytes(), &settings(4, 8, true), Ok(()), text);
+    assert_survey(
+        &rt,
+        collection.as_bytes(),
+        &settings(4, 8, true),
+        Ok(()),
+        text,
+    );
 }
 
 #[test]
@@ -202,7 +221,14 @@ fn reader_fails_at_each_call(rt: HostRuntime) {
         });
         let mut output = failing_writer(rt.alloc(), 1000, false);
         let settings = settings(1, 1, false);
-        let outcome = run_survey(&rt, rt.alloc(), &mut reader, &mut output, &settings, &OpenGate);
+        let outcome = run_survey(
+            &rt,
+            rt.alloc(),
+            &mut reader,
+            &mut output,
+            &settings,
+            &OpenGate,
+        );
         assert_eq!(rt; outcome, Err(RunFault::Read), "at {calls_left}");
         assert!(rt; output.inner.taken.is_empty());
         assert_eq!(rt; reader.faults(), 1);
@@ -217,8 +243,14 @@ fn writer_fails_after_some_bytes(rt: HostRuntime) {
             let mut reader = Counted::new(b"".as_slice());
             let mut output = failing_writer(rt.alloc(), room, takes_nothing);
             let settings = settings(1, 1, false);
-            let outcome =
-                run_survey(&rt, rt.alloc(), &mut reader, &mut output, &settings, &OpenGate);
+            let outcome = run_survey(
+                &rt,
+                rt.alloc(),
+                &mut reader,
+                &mut output,
+                &settings,
+                &OpenGate,
+            );
             assert_eq!(rt; outcome, Err(RunFault::Write(room as u64)));
             assert_eq!(rt; output.inner.taken.as_slice(), &NOTHING.as_bytes()[..room]);
             assert_eq!(rt; output.faults(), 1);
@@ -232,7 +264,14 @@ fn flush_fails_at_the_end(rt: HostRuntime) {
     let mut output = failing_writer(rt.alloc(), 1000, false);
     output.inner.flush_fails = true;
     let settings = settings(1, 1, false);
-    let outcome = run_survey(&rt, rt.alloc(), &mut reader, &mut output, &settings, &OpenGate);
+    let outcome = run_survey(
+        &rt,
+        rt.alloc(),
+        &mut reader,
+        &mut output,
+        &settings,
+        &OpenGate,
+    );
     assert_eq!(rt; outcome, Err(RunFault::Write(NOTHING.len() as u64)));
     assert_eq!(rt; output.inner.taken.as_slice(), NOTHING.as_bytes());
     assert_eq!(rt; output.faults(), 1);
@@ -261,7 +300,10 @@ fn prints_refused_entries(rt: HostRuntime) -> Result<(), Fail> {
         result: Err(EntryFault::Text(TextFault::BadNumber(2))),
     };
     let line = print_entry(rt.alloc(), 3, &refused, true)?;
-    assert_eq!(rt; line.as_slice(), b"3 refused BadNumber:2 bad??? .mk\n".as_slice());
+    assert_eq!(rt;
+        line.as_slice(),
+        b"3 refused BadNumber:2 bad??? .mk\n".as_slice()
+    );
     let text = print_survey(rt.alloc(), &[refused], false)?;
     let survey = b"1 refused BadNumber:2 bad??? .mk\n\
         entries 1 refused 1 none 0 one 0 several 0 unsettled 0 line 0 trials 0 search 0\n";

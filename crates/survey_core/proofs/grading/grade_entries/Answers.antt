@@ -41,6 +41,6 @@ loop-place-preserved g c =
     let next = takes_next guesses (reading (get_or entries place no_entry)) (readings (drop (place + 1) entries)) old new outcome.result left taken in
     record {
       outcomes = outcomes-more guesses entries place no_entry c.loop-place.outcomes.items c.push.new.self.items outcome within c.loop-place.invariant.outcomes
-        c.in_ok-push.ensures.items c.in_ok-outcome_of.ensures.name next.0;
+          c.in_ok-push.ensures.items c.in_ok-outcome_of.ensures.name next.0;
       answers = next.1;
     }
