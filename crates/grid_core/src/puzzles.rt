@@ -152,7 +152,7 @@ impl Puzzle {
         ensures rows { result.now ≡ self.now.rows }
         ensures puzzle { IsNonogram self.now }
     {
-        &self.rows
+        self.rows.as_slice()
     }
 
     /// The clues of the columns, from the left.
@@ -160,7 +160,7 @@ impl Puzzle {
         ensures columns { result.now ≡ self.now.columns }
         ensures puzzle { IsNonogram self.now }
     {
-        &self.columns
+        self.columns.as_slice()
     }
 
     /// The texts.
