@@ -1,2 +1,3 @@
 mod FoundLemmas
 mod FullLemmas
+mod LinesLemmas

@@ -1,5 +1,5 @@
 -- The texts that the commands on one puzzle print.
-use Rattle.std.specs.Prelude.{◌≡◌, ℕ, true, List, ◌++◌, codes, decimal, count_by, if◌then◌else◌, Option, Some, None, Result, Ok, Err, Vec}
+use Rattle.std.specs.Prelude.{◌≡◌, ℕ, Bool, true, false, List, ◌++◌, codes, decimal, count_by, if◌then◌else◌, Option, Some, None, Result, Ok, Err, Vec}
 use Rattle.std.specs.List.{list_all}
 use Rattle.std.specs.declared.alloc.Global.{Global}
 use Rattle.grid_core.specs.declared.cells.Cell.{Cell}
@@ -24,6 +24,11 @@ closed_word grid = if list_all is_known grid.cells then codes "one" else codes "
 -- such a grid: its word, how many cells are known, and its rows
 abbrev pub grid_report : PartialGrid → List ℕ
 grid_report grid = closed_word grid ++ codes " " ++ decimal (count_by is_known grid.cells) ++ codes "\n" ++ grid_text grid
+
+-- what is printed of a closed grid that is alive, or dead
+abbrev pub outcome_report : Bool → PartialGrid → List ℕ
+outcome_report true grid = grid_report grid
+outcome_report false grid = codes "none 0\n"
 
 -- what is printed of a closed grid of the puzzle's size; a dead one has no rows
 abbrev pub closed_text : Nonogram → Option (List Cell) → List ℕ

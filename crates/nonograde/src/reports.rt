@@ -1,12 +1,12 @@
 //! What the commands on one puzzle print.
 
-ghost use Rattle.std.specs.Prelude.{◌≡◌, ◌≤◌, ◌<◌, ◌↔◌, ◌++◌, true, false, length, Ok, Err, IfOk, OnOk, MatchResult};
+ghost use Rattle.std.specs.Prelude.{◌≡◌, ◌≤◌, ◌<◌, ◌↔◌, ◌++◌, true, false, length, Ok, Err, IfErr, IfOk, OnOk, MatchResult};
 ghost use Rattle.std.specs.List.{list_all};
 ghost use Rattle.grid_core.specs.Cells.{is_known};
 ghost use Rattle.puzzle_text.specs.Formats.{is_known as is_known_format};
 ghost use Rattle.survey_core.specs.Entries.{found_of};
 ghost use Rattle.survey_core.specs.Survey.{reported};
-ghost use Rattle.nonograde.specs.Reports.{GivesText, closed_word, grid_report, lines_text, said, solve_text, text_or_fault};
+ghost use Rattle.nonograde.specs.Reports.{GivesText, closed_word, grid_report, lines_text, outcome_report, said, solve_text, text_or_fault};
 
 use grid_core::{Grid, NoMemory, Puzzle};
 use lane_core::{Answer, Job, MOST_GUESSES, grade};
@@ -27,7 +27,7 @@ fn closed_word(grid: &Grid) -> &'static str
     if is_full(grid) { "one" } else { "open" }
 }
 
-fn push_closed(text: &mut Vec<u8>, grid: &Grid) -> Result<(), NoMemory>
+fn push_report(text: &mut Vec<u8>, grid: &Grid) -> Result<(), NoMemory>
     ensures { OnOk result (text.new.items ≡ text.old.items ++ grid_report grid.now) }
 {
     push_bytes(text, closed_word(grid).as_bytes())?;
@@ -37,17 +37,25 @@ fn push_closed(text: &mut Vec<u8>, grid: &Grid) -> Result<(), NoMemory>
     push_grid(text, grid)
 }
 
+/// Adds what is printed of a closed grid, which is alive or dead.
+fn push_closed(text: &mut Vec<u8>, alive: bool, grid: &Grid) -> Result<(), NoMemory>
+    ensures { OnOk result (text.new.items ≡ text.old.items ++ outcome_report alive grid.now) }
+{
+    if alive {
+        push_report(text, grid)
+    } else {
+        push_bytes(text, b"none 0\n")
+    }
+}
+
 fn lines_text(alloc: Global, puzzle: &Puzzle) -> Result<Vec<u8>, NoMemory>
     ensures { IfOk result (λ text. text.items ≡ lines_text puzzle.now) }
 {
     let mut text = Vec::new(alloc);
     let mut grid = Grid::unknown(alloc, puzzle.width(), puzzle.height())?;
     let mut solver = Solver::new(alloc, puzzle)?;
-    if solver.close_lines(&mut grid) {
-        push_closed(&mut text, &grid)?;
-    } else {
-        push_bytes(&mut text, b"none 0\n")?;
-    }
+    let alive = solver.close_lines(&mut grid);
+    push_closed(&mut text, alive, &grid)?;
     Ok(text)
 }
 
@@ -60,6 +68,13 @@ fn text_or_fault(made: Result<Vec<u8>, NoMemory>) -> Result<Vec<u8>, EntryFault>
     }
 }
 
+fn lines_answer(alloc: Global, puzzle: &Puzzle) -> Result<Vec<u8>, EntryFault>
+    ensures answer { GivesText result (Ok (lines_text puzzle.now)) }
+    ensures reading { IfErr result (λ fault. fault ≡ EntryFault.Text TextFault.NoMemory) }
+{
+    text_or_fault(lines_text(alloc, puzzle))
+}
+
 /// The grid of a puzzle's text closed by line logic: `one K`, where it is full, or `open K`, with K the number of known cells, and its rows; `none 0` where it
 /// is dead. Else the text's fault, or `NoMemory`.
 pub fn lines_report(alloc: Global, name: &[u8], body: &[u8]) -> Result<Vec<u8>, EntryFault>
@@ -69,7 +84,7 @@ pub fn lines_report(alloc: Global, name: &[u8], body: &[u8]) -> Result<Vec<u8>, 
     ensures too_long { is_known_format name.now ≡ true → LONGEST_PUZZLE < length body.now → result ≡ Err (EntryFault.Text TextFault.TooLong) }
 {
     match read_entry(alloc, &Entry { name, body }) {
-        Ok(puzzle) => text_or_fault(lines_text(alloc, &puzzle)),
+        Ok(puzzle) => lines_answer(alloc, &puzzle),
         Err(fault) => Err(fault),
     }
 }
