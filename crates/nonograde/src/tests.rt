@@ -551,6 +551,14 @@ fn words_ignored_on_one_file(rt: HostRuntime) {
     }
 }
 
+/// The status of words that are refused or ask for help; 1 where a growth of memory was refused.
+fn status_of(fault: &CommandFault) -> i32 {
+    match fault {
+        CommandFault::Words(error) => error.exit_code(),
+        CommandFault::NoMemory => 1,
+    }
+}
+
 #[test]
 fn refused_words(rt: HostRuntime) {
     let table = [
@@ -570,8 +578,8 @@ fn refused_words(rt: HostRuntime) {
     ];
     for (line, status) in table {
         match asked(rt.alloc(), line) {
-            Err(CommandFault::Words(error)) => assert_eq!(rt; error.exit_code(), status, "{line}"),
-            _ => assert!(rt; false, "{line}"),
+            Ok(_request) => assert!(rt; false, "{line} is taken"),
+            Err(fault) => assert_eq!(rt; status_of(&fault), status, "{line}"),
         }
     }
 }
