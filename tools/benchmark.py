@@ -13,6 +13,7 @@ import tempfile
 import time
 
 SEED = 20261122
+PUZZLES = 5
 
 
 class Draws:
@@ -61,7 +62,7 @@ def as_mk(cells):
 
 
 def run(words, text=None, times=3):
-    """The least time in seconds, the peak memory in MiB, and what was printed."""
+    """The least time in seconds, the peak memory in MiB, and what was printed. One run where it takes over a second."""
     best, peak, out = None, 0, b""
     for _ in range(times):
         with tempfile.TemporaryFile() as source, tempfile.TemporaryFile() as sink:
@@ -76,6 +77,8 @@ def run(words, text=None, times=3):
             out = sink.read()
         best = took if best is None else min(best, took)
         peak = max(peak, usage.ru_maxrss // 1024)
+        if took > 1:
+            break
     return best, peak, out
 
 
@@ -102,7 +105,7 @@ def solve(program, folder):
         for side in sides:
             draws = Draws(SEED + side)
             grades, total, worst = {}, 0.0, 0.0
-            for number in range(10):
+            for number in range(PUZZLES):
                 path = os.path.join(folder, f"{name}-{side}-{number}.mk")
                 with open(path, "w") as file:
                     file.write(as_mk(picture(draws, side, side, filled, rounds)))
@@ -113,8 +116,8 @@ def solve(program, folder):
                 total += took
                 worst = max(worst, took)
             found = ", ".join(f"{count} {kind}" for kind, count in sorted(grades.items()))
-            rows.append([name, f"{side} by {side}", found, milliseconds(total / 10), milliseconds(worst)])
-    print("Ten puzzles of each kind and size, `solve` with 1,000 guesses at most:\n")
+            rows.append([name, f"{side} by {side}", found, milliseconds(total / PUZZLES), milliseconds(worst)])
+    print(f"{PUZZLES} puzzles of each kind and size, `solve` with 1,000 guesses at most:\n")
     table(["pictures", "size", "verdict and grade", "mean", "longest"], rows)
 
 
