@@ -164,7 +164,7 @@ def texts(program, folder):
                 with open(path, "wb") as file:
                     file.write((head + body)[:size])
                 took, peak, out = run([program, "lines", path])
-                rows.append([f"`.{ending}`", name + (" after `128 128`" if head else ""), milliseconds(took), f"{peak} MiB", out.decode().split(": ")[-1].strip()[:20]])
+                rows.append([f"`.{ending}`", name + (" after `128 128`" if head else ""), milliseconds(took), f"{peak} MiB", out.decode().split(": ")[-1].split("\n")[0]])
     table(["format", "1,048,576 bytes of", "time", "peak memory", "answer"], rows)
 
 
