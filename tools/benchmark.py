@@ -1,7 +1,7 @@
 #!/usr/bin/env python3
 """Times the built program on puzzles that it makes itself, from a fixed seed, and prints Markdown tables.
 
-    tools/benchmark.py crates/nonograde/out/nonograde [solve] [survey] [lanes] [texts]
+    tools/benchmark.py crates/nonograde/out/nonograde [solve] [trials] [survey] [lanes] [texts]
 
 Each figure is the least wall time of three runs of the program as a whole (start, reading, solving, printing) and, where it says so, the
 greatest peak memory of a process. Nothing here is part of the product or of its gate.
@@ -14,6 +14,8 @@ import time
 
 SEED = 20261122
 PUZZLES = 5
+# sides of mirrored pictures whose puzzles need trials, and their seeds
+TRIALS = [(9, 71), (11, 31), (13, 2), (15, 3)]
 
 
 class Draws:
@@ -41,6 +43,12 @@ def picture(draws, width, height, filled_percent, rounds):
             for y in range(height)
         ]
     return cells
+
+
+def mirrored(draws, side, filled_percent):
+    """Noise that is the same from the left and from the right."""
+    half = [[draws.below(100) < filled_percent for _ in range((side + 1) // 2)] for _ in range(side)]
+    return [row + row[: side // 2][::-1] for row in half]
 
 
 def clue(cells):
@@ -121,6 +129,20 @@ def solve(program, folder):
     table(["pictures", "size", "verdict and grade", "mean", "longest"], rows)
 
 
+def trials(program, folder):
+    rows = []
+    for side, seed in TRIALS:
+        path = os.path.join(folder, f"mirrored-{side}.mk")
+        with open(path, "w") as file:
+            file.write(as_mk(mirrored(Draws(seed * 7919 + side), side, 45)))
+        took, _, out = run([program, "solve", path])
+        words = out.split(b" ")
+        known = f"{words[4].decode()} and {words[5].decode()} of {side * side}"
+        rows.append([f"{side} by {side}", f"{words[2].decode()} {words[3].decode()}", known, milliseconds(took)])
+    print("Puzzles that need trials:\n")
+    table(["size", "verdict and grade", "cells known after lines and after trials", "time"], rows)
+
+
 def collection(count, width, height, filled, rounds):
     draws = Draws(SEED)
     parts = [f"@ {number}.mk\n" + as_mk(picture(draws, width, height, filled, rounds)) for number in range(count)]
@@ -170,7 +192,7 @@ def texts(program, folder):
 
 def main():
     program = os.path.abspath(sys.argv[1])
-    parts = {"solve": solve, "survey": survey, "lanes": lanes, "texts": texts}
+    parts = {"solve": solve, "trials": trials, "survey": survey, "lanes": lanes, "texts": texts}
     chosen = sys.argv[2:] or list(parts)
     print(f"{time.strftime('%Y-%m-%d')}, {os.cpu_count()} cores\n")
     with tempfile.TemporaryDirectory() as folder:
