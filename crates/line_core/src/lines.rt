@@ -55,6 +55,17 @@ impl Line {
         }
     }
 
+    /// The same line, once more.
+    pub fn copy(&self) -> Line
+        ensures { result ≡ self.now }
+    {
+        Line {
+            len: self.len,
+            filled: self.filled,
+            blank: self.blank,
+        }
+    }
+
     /// How many cells it has.
     pub fn len(&self) -> u16
         ensures len { result ≡ length self.now }
