@@ -17,3 +17,4 @@ pub mod RunStarts
 pub mod Painting
 pub mod Outermost
 pub mod EndLaws
+pub mod Changing

@@ -1,7 +1,7 @@
 -- A mask seen from its other end.
-use Rattle.std.proofs.Common.{◌≡◌, ℕ, zero, suc, ◌+◌, ◌-◌, ◌*◌, ◌/◌, ◌%◌, ◌^◌, ◌<◌, ◌≤◌, ◌⊎◌, inl, inr, refl, sym, ap, ◌∙◌, arith, subst, Bool, true, false, not, ◌&&◌, cond, nat_eq, nat_lt, nat_le, true≢false, ltb-true, leb-true, eqb-true}
+use Rattle.std.proofs.Common.{◌≡◌, ℕ, zero, suc, ◌+◌, ◌-◌, ◌*◌, ◌/◌, ◌%◌, ◌^◌, ◌<◌, ◌≤◌, ◌⊎◌, inl, inr, refl, sym, arith, subst, Bool, true, false, not, ◌&&◌, cond, nat_eq, nat_lt, nat_le, true≢false, ltb-true, leb-true, eqb-true}
 use Rattle.std.specs.Int.{bit_at}
-use Rattle.std.specs.Int.RustNames.{bit_and, bit_or, bit_xor}
+use Rattle.std.specs.Int.RustNames.{bit_and, bit_or}
 use Rattle.std.proofs.lemmas.Bool.{cases_lt}
 use Rattle.std.proofs.lemmas.Nat.Bits.{bit_at-lt}
 use Rattle.line_core.specs.Masks.{Has, has, IsMaskOf, IsMoved, IsTurned, all_below, swapped_place, is_pairing_at, IsPairing}

@@ -1,5 +1,5 @@
 -- Lines that are kept as two masks.
-use Rattle.std.specs.Prelude.{◌≤◌, ℕ, Bool, true, false, List, map}
+use Rattle.std.specs.Prelude.{◌≡◌, ◌≢◌, ◌<◌, ◌≤◌, ℕ, Bool, true, false, List, length, map, slice_index_or, Option, Some, None}
 use Rattle.std.specs.List.{range_with_len}
 use Rattle.grid_core.specs.declared.cells.Cell.{Cell}
 use Rattle.grid_core.specs.declared.cells.Cell.TheVariants.{Unknown, Filled, Blank}
@@ -25,3 +25,10 @@ pub record IsLine (len filled blank : ℕ) : Type 0 where
   pub some : 1 ≤ len
   pub short : len ≤ 128
   pub apart : (i : ℕ) → Has filled i → Has blank i → ⊥
+
+-- the first place, from one on, where two lines differ, if there is one
+abbrev pub IsNextChange : List Cell → List Cell → ℕ → Option ℕ → Type 0
+IsNextChange line other from None = (k : ℕ) → from ≤ k → k < length line → slice_index_or other k Unknown ≡ slice_index_or line k Unknown
+IsNextChange line other from (Some i) =
+    (from ≤ i) × (i < length line) × (slice_index_or other i Unknown ≢ slice_index_or line i Unknown)
+    × ((k : ℕ) → from ≤ k → k < i → slice_index_or other k Unknown ≡ slice_index_or line k Unknown)

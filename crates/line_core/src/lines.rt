@@ -3,12 +3,12 @@
 ghost use Rattle.std.specs.Prelude.{◌≡◌, ◌<◌, ◌≤◌, List, length, replicate, reverse, slice_index_or, slice_set, true, false};
 ghost use Rattle.grid_core.specs.declared.cells.Cell.{Cell as CellValue};
 ghost use Rattle.grid_core.specs.declared.cells.Cell.TheVariants.{Unknown};
-ghost use Rattle.line_core.specs.Lines.{is_blank};
+ghost use Rattle.line_core.specs.Lines.{is_blank, IsNextChange};
 ghost use Rattle.line_core.specs.Masks.{IsMaskOf};
 ghost use Rattle.line_core.specs.Reach.{MayBe};
 ghost use Rattle.line_core.specs.Told.{told_by};
 
-use crate::masks::{has, lacking, marked, turn_line};
+use crate::masks::{differing, first_place, has, lacking, marked, places, turn_line};
 use grid_core::Cell;
 use std::marker::Model;
 
@@ -95,6 +95,24 @@ impl Line {
     {
         self.filled = marked(self.filled, i, cell.is_filled());
         self.blank = marked(self.blank, i, is_blank(cell));
+    }
+
+    /// The first place, from one on, where another line of the same length differs, if there is one.
+    pub fn next_change(&self, other: &Line, from: u16) -> Option<u16>
+        requires same { length other.now ≡ length self.now }
+        requires from { from ≤ length self.now }
+        ensures { IsNextChange self.now other.now from result }
+    {
+        if from == self.len {
+            return None;
+        }
+        let filled = differing(self.filled, other.filled, from);
+        let blank = differing(self.blank, other.blank, from);
+        let changed = (filled | blank) & places(self.len);
+        if changed == 0 {
+            return None;
+        }
+        Some(first_place(changed))
     }
 
     /// The cells that may be blank.

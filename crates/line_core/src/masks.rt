@@ -171,3 +171,11 @@ pub fn turn_line(mask: u128, len: u16) -> u128
 {
     turn(mask) >> (128 - len)
 }
+
+/// The places from one on that are in one of two masks only.
+pub fn differing(mask: u128, other: u128, from: u16) -> u128
+    requires { from < 128 }
+    ensures { IsMaskOf (λ i. (from ≤ i) × (has mask i ≢ has other i)) result }
+{
+    ((mask ^ other) >> from) << from
+}

@@ -301,3 +301,19 @@ fn lengths_at_word_ends_come_out(rt: HostRuntime) -> Result<(), Fail> {
     }
     Ok(())
 }
+
+#[test]
+fn changes_of_a_copy_are_found(rt: HostRuntime) -> Result<(), Fail> {
+    let mut line = Line::unknown(6);
+    line.set(1, Cell::Filled);
+    line.set(3, Cell::Blank);
+    let mut other = line.copy();
+    assert!(rt; is_line(&other, "?#?.??"), "a copy");
+    other.set(1, Cell::Blank);
+    other.set(4, Cell::Filled);
+    assert!(rt; line.next_change(&other, 0) == Some(1), "the first change");
+    assert!(rt; line.next_change(&other, 2) == Some(4), "the next");
+    assert!(rt; line.next_change(&other, 5) == None, "no more");
+    assert!(rt; line.next_change(&other, 6) == None, "at the end");
+    Ok(())
+}
