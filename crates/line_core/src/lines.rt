@@ -101,7 +101,8 @@ impl Line {
     pub fn next_change(&self, other: &Line, from: u16) -> Option<u16>
         requires same { length other.now ≡ length self.now }
         requires from { from ≤ length self.now }
-        ensures { IsNextChange self.now other.now from result }
+        ensures change { IsNextChange self.now other.now from result }
+        ensures within { length self.now ≤ 128 }
     {
         if from == self.len {
             return None;

@@ -5,13 +5,13 @@ use Rattle.grid_core.specs.declared.cells.Cell.TheVariants.{Unknown, Filled, Bla
 use Rattle.grid_core.specs.Nonogram.{GridLine}
 use Rattle.solve_core.specs.declared.branches.Branch.{Branch}
 use Rattle.solve_core.specs.Search.{Guess, events}
-use Rattle.solve_core.specs.Trails.{SettledPlaces, unknown_count, cleared, HasRoomFor, IsTrailed}
-use Rattle.solve_core.specs.Branches.{cells_before, AreInside, IsNext, IsBranch, AreInOrder, AreBefore, AreOlder, IsWork, pending, open_events, ready_events}
+use Rattle.solve_core.specs.Trails.{TrailedGrid, unknown_count, cleared, IsTrailed}
+use Rattle.solve_core.specs.Branches.{cells_before, IsNext, IsBranch, AreInOrder, AreBefore, AreOlder, IsWork, pending, open_events, ready_events}
 use Rattle.solve_core.proofs.TrailSteps.{cleared-append, length-cleared}
 use Rattle.solve_core.proofs.EndingLaws.{append-nil-right, append-assoc-right}
 
 -- each place that is cleared leaves at most one more unknown
-unknown_count-cleared_one : (cells : List Cell) (k : ℕ) → unknown_count (set cells k Unknown) ≤ unknown_count cells + 1
+pub unknown_count-cleared_one : (cells : List Cell) (k : ℕ) → unknown_count (set cells k Unknown) ≤ unknown_count cells + 1
 unknown_count-cleared_one [] k = omega arith
 unknown_count-cleared_one (Unknown ∷ cells) zero = omega arith
 unknown_count-cleared_one (Filled ∷ cells) zero = omega arith
@@ -44,6 +44,18 @@ drop_take zero n xs h = ap (λ ys. ys ++ drop n xs) (drop-zero (take n xs)) ∙ 
 drop_take (suc m) zero xs h = absurd (omega arith)
 drop_take (suc m) (suc n) [] h = refl
 drop_take (suc m) (suc n) (x ∷ xs) h = drop_take m n xs (omega arith)
+
+-- the first few of the first
+pub take_least : {X : Type 0} (xs : List X) (m n : ℕ) → m ≤ n → take m (take n xs) ≡ take m xs
+take_least xs zero n h = first (take n xs) ∙ sym (first xs)
+  where
+    first : {X : Type 0} (ys : List X) → take 0 ys ≡ []
+    first [] = refl
+    first (y ∷ ys) = refl
+take_least [] (suc m) zero h = absurd (omega arith)
+take_least [] (suc m) (suc n) h = refl
+take_least (x ∷ xs) (suc m) zero h = absurd (omega arith)
+take_least (x ∷ xs) (suc m) (suc n) h = ap (λ ys. x ∷ ys) (take_least xs m n (omega arith))
 
 -- what the trail gains since is undone first
 pub before-longer : (cells now : List Cell) (trail added : List ℕ) (mark : ℕ) → cleared now added ≡ cells → mark ≤ length trail
@@ -87,38 +99,38 @@ before-more limit more [] l h = tt
 before-more limit more (b ∷ branches) l h = (omega (arith, h.0), before-more limit more branches l h.1)
 
 -- what each branch was made in is the same after more was settled
-trailed-before : (old new : List Cell) (before after : SettledPlaces) (mark : ℕ) → IsTrailed old new before after → mark < length before.places + 1
-    → cells_before new after.places mark ≡ cells_before old before.places mark
-trailed-before old new before after mark t h =
-    ap (λ (s : SettledPlaces). cells_before new s.places mark) t.kept ∙ before-longer old new before.places t.added mark t.undo (omega arith)
+trailed-before : (old new : TrailedGrid) (mark : ℕ) → IsTrailed old new → mark < length old.trail + 1
+    → cells_before new.cells new.trail mark ≡ cells_before old.cells old.trail mark
+trailed-before old new mark t h =
+    ap (λ (places : List ℕ). cells_before new.cells places mark) t.kept ∙ before-longer old.cells new.cells old.trail t.added mark t.undo (omega arith)
 
-trailed-length : (old new : List Cell) (before after : SettledPlaces) (t : IsTrailed old new before after) → length after.places ≡ length before.places + length t.added
-trailed-length old new before after t = ap (λ (s : SettledPlaces). length s.places) t.kept ∙ length-append before.places t.added
+trailed-length : (old new : TrailedGrid) (t : IsTrailed old new) → length new.trail ≡ length old.trail + length t.added
+trailed-length old new t = ap length t.kept ∙ length-append old.trail t.added
 
 -- what is settled and put on the trail leaves the work in order
-pub trailed-work : (pick : List Cell → Option ℕ) (lines : List GridLine) (old new : List Cell) (before after : SettledPlaces) (branches : List Branch)
-    → IsTrailed old new before after → IsWork pick lines old before.places branches → IsWork pick lines new after.places branches
-trailed-work pick lines old new before after branches t w =
+pub trailed-work : (pick : List Cell → Option ℕ) (lines : List GridLine) (old new : TrailedGrid) (branches : List Branch)
+    → IsTrailed old new → IsWork pick lines old.cells old.trail branches → IsWork pick lines new.cells new.trail branches
+trailed-work pick lines old new branches t w =
     record {
-      before = before-more (length before.places + 1) (length after.places + 1) branches (omega (arith, trailed-length old new before after t)) w.before;
+      before = before-more (length old.trail + 1) (length new.trail + 1) branches (omega (arith, trailed-length old new t)) w.before;
       order = w.order;
-      made = branches-same pick lines old new before.places after.places (length before.places + 1) branches (λ mark h. trailed-before old new before after mark t h) w.before w.made;
+      made = branches-same pick lines old.cells new.cells old.trail new.trail (length old.trail + 1) branches (λ mark h. trailed-before old new mark t h) w.before w.made;
     }
 
-pub trailed-pending : (pick : List Cell → Option ℕ) (lines : List GridLine) (old new : List Cell) (before after : SettledPlaces) (branches : List Branch)
-    → IsTrailed old new before after → IsWork pick lines old before.places branches
-    → pending pick lines new after.places branches ≡ pending pick lines old before.places branches
-trailed-pending pick lines old new before after branches t w =
-    pending-same pick lines old new before.places after.places (length before.places + 1) branches (λ mark h. trailed-before old new before after mark t h) w.before
+pub trailed-pending : (pick : List Cell → Option ℕ) (lines : List GridLine) (old new : TrailedGrid) (branches : List Branch)
+    → IsTrailed old new → IsWork pick lines old.cells old.trail branches
+    → pending pick lines new.cells new.trail branches ≡ pending pick lines old.cells old.trail branches
+trailed-pending pick lines old new branches t w =
+    pending-same pick lines old.cells new.cells old.trail new.trail (length old.trail + 1) branches (λ mark h. trailed-before old new mark t h) w.before
 
 -- where fewer cells are unknown, the branches are older
-pub trailed-older : (pick : List Cell → Option ℕ) (lines : List GridLine) (old new : List Cell) (before after : SettledPlaces) (branches : List Branch) (next : Option ℕ)
-    → IsTrailed old new before after → unknown_count new < unknown_count old → IsWork pick lines old before.places branches → AreOlder after.places branches next
-trailed-older pick lines old new before after branches None t l w = tt
-trailed-older pick lines old new before after branches (Some k) t l w =
-    before-more (length before.places + 1) (length after.places) branches (omega (arith, trailed-length old new before after t, t.count)) w.before
+pub trailed-older : (pick : List Cell → Option ℕ) (lines : List GridLine) (old new : TrailedGrid) (branches : List Branch) (next : Option ℕ)
+    → IsTrailed old new → unknown_count new.cells < unknown_count old.cells → IsWork pick lines old.cells old.trail branches → AreOlder new.trail branches next
+trailed-older pick lines old new branches None t l w = tt
+trailed-older pick lines old new branches (Some k) t l w =
+    before-more (length old.trail + 1) (length new.trail) branches (omega (arith, trailed-length old new t, t.count)) w.before
 
-all_append : {X : Type 0} (P : X → Type 0) (xs ys : List X) → AllByRecursion P xs → AllByRecursion P ys → AllByRecursion P (xs ++ ys)
+pub all_append : {X : Type 0} (P : X → Type 0) (xs ys : List X) → AllByRecursion P xs → AllByRecursion P ys → AllByRecursion P (xs ++ ys)
 all_append P [] ys h k = k
 all_append P (x ∷ xs) ys h k = (h.0, all_append P xs ys h.1 k)
 
@@ -237,30 +249,24 @@ back-ready pick lines cells now trail all rest b e f w =
     subst (λ (before : List Cell). IsNext pick lines before b.place) (sym f) (last-work pick lines cells trail all rest b e w).3
 
 -- going back makes no more cells unknown than the trail loses places
-pub back-room : (cells now : List Cell) (trail after : SettledPlaces) (mark : ℕ) → now ≡ cells_before cells trail.places mark → after ≡ record trail { places = take mark trail.places }
-    → HasRoomFor cells trail → HasRoomFor now after
-back-room cells now trail after mark f g h =
+pub back-room : (cells : List Cell) (trail : List ℕ) (mark : ℕ) → length trail + unknown_count cells ≤ length cells
+    → length (take mark trail) + unknown_count (cells_before cells trail mark) ≤ length (cells_before cells trail mark)
+back-room cells trail mark h =
     omega (
       arith,
-      ap (λ (s : SettledPlaces). length s.places) g,
-      ap (λ (s : SettledPlaces). s.room) g,
-      ap unknown_count f,
-      unknown_count-cleared cells (drop mark trail.places),
-      length-append (take mark trail.places) (drop mark trail.places),
-      ap length (joined mark trail.places),
+      unknown_count-cleared cells (drop mark trail),
+      length-append (take mark trail) (drop mark trail),
+      ap length (joined mark trail),
+      length-cleared cells (drop mark trail),
       h,
     )
 
-pub back-inside : (cells now : List Cell) (trail after : List ℕ) (mark : ℕ) → now ≡ cells_before cells trail mark → after ≡ take mark trail → AreInside cells trail → AreInside now after
-back-inside cells now trail after mark f g h =
-    let long : length cells ≡ length now = sym (ap length f ∙ length-cleared cells (drop mark trail)) in
-    subst (AreInside now) (sym g) (all_take (λ k. k < length now) mark trail (subst (λ (n : ℕ). AllByRecursion (λ k. k < n) trail) long h))
-
-pub trailed-inside : (old new : List Cell) (before after : SettledPlaces) → IsTrailed old new before after → AreInside old before.places → AreInside new after.places
-trailed-inside old new before after t h =
-    let long : length old ≡ length new = ap length (sym t.undo) ∙ length-cleared new t.added in
-    let same : after.places ≡ before.places ++ t.added = ap (λ (s : SettledPlaces). s.places) t.kept in
-    subst (AreInside new) (sym same) (all_append (λ k. k < length new) before.places t.added (subst (λ (n : ℕ). AllByRecursion (λ k. k < n) before.places) long h) t.within)
+pub back-inside : (cells : List Cell) (trail : List ℕ) (mark : ℕ) → AllByRecursion (λ k. k < length cells) trail
+    → AllByRecursion (λ k. k < length (cells_before cells trail mark)) (take mark trail)
+back-inside cells trail mark h =
+    let now = cells_before cells trail mark in
+    let long : length cells ≡ length now = sym (length-cleared cells (drop mark trail)) in
+    all_take (λ k. k < length now) mark trail (subst (λ (n : ℕ). AllByRecursion (λ k. k < n) trail) long h)
 
 -- at the start there is no branch
 pub start-work : (pick : List Cell → Option ℕ) (lines : List GridLine) (cells : List Cell) (trail : List ℕ) (branches : List Branch) → branches ≡ [] → IsWork pick lines cells trail branches

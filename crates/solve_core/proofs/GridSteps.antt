@@ -16,7 +16,7 @@ use Rattle.solve_core.proofs.StepLaws.{IsOneOf, done_within}
 use Rattle.solve_core.proofs.LineSteps.{closed_settled, deduce_line-above, set-unmarked, settled-elsewhere, AreDistinct, AreBelow, settled_line, written_line, written-extends, written-settled, others-settled, written-fewer, written-same, line_keeps, line_dead, row_is_line, column_is_line, all_lines}
 use Rattle.grid_core.proofs.LineLaws.{length-places_from, get_or-places_from}
 
-unique_place : (w y j a b : ℕ) → a < w → b < w → y * w + a ≡ j * w + b → (y ≡ j) × (a ≡ b)
+pub unique_place : (w y j a b : ℕ) → a < w → b < w → y * w + a ≡ j * w + b → (y ≡ j) × (a ≡ b)
 unique_place w zero zero a b h k e = (refl, omega arith)
 unique_place w zero (suc j) a b h k e = absurd (omega arith)
 unique_place w (suc y) zero a b h k e = absurd (omega arith)

@@ -6,6 +6,7 @@ pub mod TrialLaws
 pub mod StepLaws
 pub mod LineSteps
 pub mod GridSteps
+pub mod BoardSteps
 pub mod TrialSteps
 pub mod SearchLaws
 pub mod EndingLaws

@@ -201,6 +201,37 @@ same-step cells line first step count i h e same =
     let kept : set cells (first + i * step) (get_or line i Unknown) ≡ cells = ap (set cells (first + i * step)) same ∙ set-same cells (first + i * step) in
     ap (λ (r : List Cell). with_cells r (places_from (first + (i + 1) * step) step (count - (i + 1))) (drop (i + 1) line)) (sym kept) ∙ write-step cells line first step count i h e
 
+-- a line that is read at places has as many cells
+pub length-seen : (cells line : List Cell) (first step count : ℕ) → line ≡ cells_at Unknown cells (places_from first step count) → length line ≡ count
+length-seen cells line first step count e = ap length e ∙ length-cells_at Unknown cells (places_from first step count) ∙ length-places_from first step count
+
+-- cells that stand there already
+pub same-steps : (cells line : List Cell) (first step count from d : ℕ) → from + d ≤ count → length line ≡ count
+    → ((k : ℕ) → from ≤ k → k < from + d → get_or line k Unknown ≡ get_or cells (first + k * step) Unknown)
+    → with_cells cells (places_from (first + (from + d) * step) step (count - (from + d))) (drop (from + d) line) ≡ with_cells cells (places_from (first + from * step) step (count - from)) (drop from line)
+same-steps cells line first step count from zero h e same = let at : from + zero ≡ from = omega arith in rw at refl
+same-steps cells line first step count from (suc d) h e same =
+    let next : from + suc d ≡ from + d + 1 = omega arith in
+    rw next
+    (same-step cells line first step count (from + d) (omega arith) e (same (from + d) (omega arith) (omega arith))
+    ∙ same-steps cells line first step count from d (omega arith) e (λ k l m. same k l (omega arith)))
+
+-- up to a place, or the end
+pub same-until : (cells line : List Cell) (first step count from i : ℕ) → from ≤ i → i ≤ count → length line ≡ count
+    → ((k : ℕ) → from ≤ k → k < i → get_or line k Unknown ≡ get_or cells (first + k * step) Unknown)
+    → with_cells cells (places_from (first + i * step) step (count - i)) (drop i line) ≡ with_cells cells (places_from (first + from * step) step (count - from)) (drop from line)
+same-until cells line first step count from i l m e same =
+    let at : from + (i - from) ≡ i = omega arith in
+    rw at at (same-steps cells line first step count from (i - from) (omega arith) e (λ k h n. same k h (omega arith)))
+
+pub same-rest : (cells line : List Cell) (first step count from : ℕ) → from ≤ count → length line ≡ count
+    → ((k : ℕ) → from ≤ k → k < count → get_or line k Unknown ≡ get_or cells (first + k * step) Unknown)
+    → cells ≡ with_cells cells (places_from (first + from * step) step (count - from)) (drop from line)
+same-rest cells line first step count from l e same =
+    let none : count - count ≡ 0 = omega arith in
+    let all : with_cells cells (places_from (first + count * step) step (count - count)) (drop count line) ≡ cells = rw none refl in
+    sym all ∙ same-until cells line first step count from count l (omega arith) e same
+
 pub read-old : (cells old : List Cell) (first step count k : ℕ) → old ≡ cells_at Unknown cells (places_from first step count) → k < count → get_or cells (first + k * step) Unknown ≡ get_or old k Unknown
 read-old cells old first step count k e h =
     let within : k < length (places_from first step count) = omega (arith, length-places_from first step count) in

@@ -1,4 +1,4 @@
-use Rattle.std.proofs.Common.{◌≡◌, ◌≢◌, ℕ, zero, suc, ◌+◌, ◌<◌, ◌≤◌, List, [], ◌∷◌, ◌++◌, length, get_or, set, refl, sym, ap, ◌∙◌, arith, subst, Option, Some, None, true, false, Bool, cond, position, true≢false, get_or-set_other}
+use Rattle.std.proofs.Common.{◌≡◌, ◌≢◌, ℕ, zero, suc, ◌+◌, ◌<◌, ◌≤◌, List, [], ◌∷◌, ◌++◌, length, get_or, set, refl, sym, ap, ◌∙◌, arith, subst, Option, Some, None, IfSome, true, false, Bool, cond, position, true≢false, get_or-set_other}
 use Rattle.std.specs.List.{position_from}
 use Rattle.std.proofs.lemmas.List.Quantifiers.{position-Some}
 use Rattle.std.proofs.lemmas.Iterator.Adapters.{position_from-zero}
@@ -11,7 +11,7 @@ use Rattle.solve_core.specs.Closure.{round, closure}
 use Rattle.solve_core.specs.Search.{Event, Guess, Solution, IsPick, guess_at, search_from, events, first_unknown}
 use Rattle.solve_core.specs.FoundGrids.{FoundGrids, AreOfSize}
 use Rattle.solve_core.specs.Endings.{ending}
-use Rattle.solve_core.specs.Trails.{SettledPlaces, unknown_count, HasRoomFor}
+use Rattle.solve_core.specs.Trails.{unknown_count}
 use Rattle.solve_core.specs.Branches.{AreKnownBefore, IsClosed, IsNext, IsOpen, IsWork, AreOlder, open_events}
 use Rattle.line_core.proofs.DeductionLaws.{Extends-at}
 use Rattle.solve_core.proofs.Closing.{repeat-fixed}
@@ -67,14 +67,17 @@ unknown_count-positive (Filled ∷ cells) (suc k) l e = unknown_count-positive c
 unknown_count-positive (Blank ∷ cells) zero l e = cc
 unknown_count-positive (Blank ∷ cells) (suc k) l e = unknown_count-positive cells k (omega arith) e
 
--- where a cell is to be guessed, there is room for its branch
-pub room-open : (pick : List Cell → Option ℕ) (lawful : IsPick pick) (lines : List GridLine) (cells : List Cell) (trail : SettledPlaces) (branches : List Branch) (next : Option ℕ) (count room : ℕ)
-    → IsWork pick lines cells trail.places branches → AreOlder trail.places branches next → IsOpen pick lines cells next → HasRoomFor cells trail → trail.room ≤ room → count ≡ length branches
-    → next ≢ None → count < room
-room-open pick lawful lines cells trail branches None count room w o h k l e n = absurd (n refl)
-room-open pick lawful lines cells trail branches (Some place) count room w o h k l e n =
-    let at = next-unknown pick lawful lines cells place h in
-    omega (arith, branch-count (length trail.places) branches w.order o, unknown_count-positive cells place at.0 at.1, k)
+-- a cell to guess is unknown
+pub open-unknown : (pick : List Cell → Option ℕ) (lawful : IsPick pick) (lines : List GridLine) (cells : List Cell) (next : Option ℕ) → IsOpen pick lines cells next
+    → IfSome next (λ place. (place < length cells) × (get_or cells place Unknown ≡ Unknown))
+open-unknown pick lawful lines cells None h = tt
+open-unknown pick lawful lines cells (Some place) h = next-unknown pick lawful lines cells place h
+
+-- where a cell is to be guessed, there are no more branches than settled cells
+pub open-older : (pick : List Cell → Option ℕ) (lines : List GridLine) (cells : List Cell) (trail : List ℕ) (branches : List Branch) (next : Option ℕ)
+    → IsWork pick lines cells trail branches → AreOlder trail branches next → next ≢ None → length branches ≤ length trail
+open-older pick lines cells trail branches None w o n = absurd (n refl)
+open-older pick lines cells trail branches (Some place) w o n = branch-count (length trail) branches w.order o
 
 pub older-none : (trail : List ℕ) (branches : List Branch) (next : Option ℕ) → branches ≡ [] → AreOlder trail branches next
 older-none trail branches None e = tt

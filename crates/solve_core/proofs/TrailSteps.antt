@@ -4,7 +4,9 @@ use Rattle.std.specs.List.{AllByRecursion}
 use Rattle.grid_core.specs.declared.cells.Cell.{Cell}
 use Rattle.grid_core.specs.declared.cells.Cell.TheVariants.{Unknown, Filled, Blank}
 use Rattle.grid_core.specs.Cells.{is_known}
-use Rattle.solve_core.specs.Trails.{SettledPlaces, unknown_count, cleared, HasRoomFor, IsTrailed}
+use Rattle.grid_core.specs.Nonogram.{Nonogram}
+use Rattle.solve_core.specs.Boards.{IsBoardOf}
+use Rattle.solve_core.specs.Trails.{TrailedGrid, unknown_count, cleared, IsTrailed}
 
 pub cleared-append : (cells : List Cell) (ks js : List ℕ) → cleared cells (ks ++ js) ≡ cleared (cleared cells js) ks
 cleared-append cells [] js = refl
@@ -19,35 +21,30 @@ within-append size [] js h k = k
 within-append size (x ∷ ks) js h k = (h.0, within-append size ks js h.1 k)
 
 -- nothing was settled
-pub trailed-refl : (cells : List Cell) (trail : SettledPlaces) → IsTrailed cells cells trail trail
-trailed-refl cells trail = record {
+pub trailed-refl : (g : TrailedGrid) → IsTrailed g g
+trailed-refl g = record {
   added = [];
-  kept = λ i. record { places = sym (append-nil trail.places) i; room = trail.room };
+  width = refl;
+  height = refl;
+  kept = sym (append-nil g.trail);
   undo = refl;
   within = tt;
   count = omega arith;
 }
 
 -- first some cells were settled, and then others
-pub trailed-trans : (a b c : List Cell) (s t u : SettledPlaces) → IsTrailed a b s t → IsTrailed b c t u → IsTrailed a c s u
-trailed-trans a b c s t u x y =
-    let size : length c ≡ length b = sym (length-cleared c y.added) ∙ ap length y.undo in
+pub trailed-trans : (a b c : TrailedGrid) → IsTrailed a b → IsTrailed b c → IsTrailed a c
+trailed-trans a b c x y =
+    let size : length c.cells ≡ length b.cells = sym (length-cleared c.cells y.added) ∙ ap length y.undo in
     record {
       added = x.added ++ y.added;
-      kept =
-          y.kept ∙ ap (λ (r : SettledPlaces). let n : SettledPlaces = record { places = r.places ++ y.added; room = r.room } in n) x.kept
-          ∙ (λ i. record { places = append_assoc s.places x.added y.added i; room = s.room });
-      undo = cleared-append c x.added y.added ∙ ap (λ (r : List Cell). cleared r x.added) y.undo ∙ x.undo;
-      within = within-append (length c) x.added y.added (subst (λ (n : ℕ). AllByRecursion (λ k. k < n) x.added) (sym size) x.within) y.within;
+      width = y.width ∙ x.width;
+      height = y.height ∙ x.height;
+      kept = y.kept ∙ ap (λ (places : List ℕ). places ++ y.added) x.kept ∙ append_assoc a.trail x.added y.added;
+      undo = cleared-append c.cells x.added y.added ∙ ap (λ (r : List Cell). cleared r x.added) y.undo ∙ x.undo;
+      within = within-append (length c.cells) x.added y.added (subst (λ (n : ℕ). AllByRecursion (λ k. k < n) x.added) (sym size) x.within) y.within;
       count = omega (arith, length-append x.added y.added, x.count, y.count);
     }
-
--- what is unknown still has room
-pub trailed-room : (old new : List Cell) (before after : SettledPlaces) → IsTrailed old new before after → HasRoomFor old before → HasRoomFor new after
-trailed-room old new before after h room =
-    let places : length after.places ≡ length before.places + length h.added = ap (λ (r : SettledPlaces). length r.places) h.kept ∙ length-append before.places h.added in
-    let same : after.room ≡ before.room = ap (λ (r : SettledPlaces). r.room) h.kept in
-    omega (arith, places, same, h.count, room)
 
 set-back : (g : List Cell) (k : ℕ) (c : Cell) → get_or g k Unknown ≡ Unknown → set (set g k c) k Unknown ≡ g
 set-back [] k c e = refl
@@ -63,14 +60,21 @@ count-settled (Unknown ∷ g) (suc k) c h e n = let rest = count-settled g k c (
 count-settled (Filled ∷ g) (suc k) c h e n = count-settled g k c (omega arith) e n
 count-settled (Blank ∷ g) (suc k) c h e n = count-settled g k c (omega arith) e n
 
+-- the size stays
+pub trailed-size : (p : Nonogram) (a b : TrailedGrid) → IsTrailed a b → IsBoardOf p a → IsBoardOf p b
+trailed-size p a b t s = (t.width ∙ s.0, t.height ∙ s.1, sym (length-cleared b.cells t.added) ∙ ap length t.undo ∙ s.2)
+
 -- one cell was settled
-pub trailed-one : (g : List Cell) (k : ℕ) (c : Cell) (trail after : SettledPlaces) → k < length g → get_or g k Unknown ≡ Unknown → is_known c ≡ true → after ≡ record trail { places = trail.places ++ k ∷ [] } → IsTrailed g (set g k c) trail after
-trailed-one g k c trail after h e n a = record {
+pub trailed-one : (g after : TrailedGrid) (k : ℕ) (c : Cell) → k < length g.cells → get_or g.cells k Unknown ≡ Unknown → is_known c ≡ true
+    → after.width ≡ g.width → after.height ≡ g.height → after.cells ≡ set g.cells k c → after.trail ≡ g.trail ++ k ∷ [] → IsTrailed g after
+trailed-one g after k c h e n w t a b = record {
   added = k ∷ [];
-  kept = a;
-  undo = set-back g k c e;
-  within = ((omega (arith, length-set g k c)), tt);
-  count = count-settled g k c h e n;
+  width = w;
+  height = t;
+  kept = b;
+  undo = ap (λ (r : List Cell). set r k Unknown) a ∙ set-back g.cells k c e;
+  within = ((omega (arith, ap length a, length-set g.cells k c)), tt);
+  count = rw a (count-settled g.cells k c h e n);
 }
 
 pub unknown_count-at_most : (g : List Cell) → unknown_count g ≤ length g
@@ -78,13 +82,3 @@ unknown_count-at_most [] = omega arith
 unknown_count-at_most (Unknown ∷ g) = omega (arith, unknown_count-at_most g)
 unknown_count-at_most (Filled ∷ g) = omega (arith, unknown_count-at_most g)
 unknown_count-at_most (Blank ∷ g) = omega (arith, unknown_count-at_most g)
-
--- an empty trail as long as the cells has room for them
-pub cleared-room : (g : List Cell) (trail after : SettledPlaces) → length g ≤ trail.room → after ≡ record trail { places = [] } → HasRoomFor g after
-cleared-room g trail after h e = rw e (omega (arith, h, unknown_count-at_most g))
-
--- each place of a trail that began empty is one of the grid
-pub cleared-within : (old new : List Cell) (trail before after : SettledPlaces) → before ≡ record trail { places = [] } → IsTrailed old new before after → AllByRecursion (λ k. k < length new) after.places
-cleared-within old new trail before after e h =
-    let places : after.places ≡ h.added = ap (λ (r : SettledPlaces). r.places) h.kept ∙ ap (λ (r : SettledPlaces). r.places ++ h.added) e in
-    rw places h.within

@@ -14,10 +14,6 @@ use Rattle.solve_core.specs.Search.{Event, Guess, events}
 abbrev pub cells_before : List Cell → List ℕ → ℕ → List Cell
 cells_before cells trail mark = cleared cells (drop mark trail)
 
--- each place is that of a cell
-abbrev pub AreInside : List Cell → List ℕ → Type 0
-AreInside cells trail = AllByRecursion (λ k. k < length cells) trail
-
 -- no cell before a place is unknown
 abbrev pub AreKnownBefore : ℕ → List Cell → Type 0
 AreKnownBefore start cells = (k : ℕ) → k < start → is_unknown (slice_index_or cells k Unknown) ≡ false

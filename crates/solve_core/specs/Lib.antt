@@ -2,6 +2,7 @@ pub mod Closure
 pub mod LeastClosed
 pub mod Trials
 pub mod Trails
+pub mod Boards
 pub mod Marks
 pub mod Rounds
 pub mod Grids

@@ -4,10 +4,12 @@ use Rattle.std.specs.List.{AllByRecursion}
 use Rattle.grid_core.specs.declared.cells.Cell.{Cell}
 use Rattle.grid_core.specs.declared.cells.Cell.TheVariants.{Unknown, Filled, Blank}
 
--- the places of cells in the order in which they were settled, and how many places there is room for
-pub record SettledPlaces : Type 0 where
-  pub places : List ℕ
-  pub room : ℕ
+-- a grid, its cells row by row, and the places of cells in the order in which they were settled
+pub record TrailedGrid : Type 0 where
+  pub width : ℕ
+  pub height : ℕ
+  pub cells : List Cell
+  pub trail : List ℕ
 
 -- how many cells are unknown
 abbrev pub unknown_count : List Cell → ℕ
@@ -21,15 +23,18 @@ abbrev pub cleared : List Cell → List ℕ → List Cell
 cleared cells [] = cells
 cleared cells (k ∷ ks) = slice_set (cleared cells ks) k Unknown
 
--- the trail has room for each unknown cell
-abbrev pub HasRoomFor : List Cell → SettledPlaces → Type 0
-HasRoomFor cells trail = length trail.places + unknown_count cells ≤ trail.room
+-- the trail is of places of cells, and there are no more of them than known cells
+pub record IsTrailedGrid (g : TrailedGrid) : Type 0 where
+  pub inside : AllByRecursion (λ k. k < length g.cells) g.trail
+  pub settled : length g.trail + unknown_count g.cells ≤ length g.cells
 
 -- The trail has gained the places of the cells that were unknown in the old grid and are known in the new one: made unknown again, the last one
 -- first, they give the old grid.
-pub record IsTrailed (old new : List Cell) (before after : SettledPlaces) : Type 0 where
+pub record IsTrailed (old new : TrailedGrid) : Type 0 where
   pub added : List ℕ
-  pub kept : after ≡ record before { places = before.places ++ added }
-  pub undo : cleared new added ≡ old
-  pub within : AllByRecursion (λ k. k < length new) added
-  pub count : length added + unknown_count new ≡ unknown_count old
+  pub width : new.width ≡ old.width
+  pub height : new.height ≡ old.height
+  pub kept : new.trail ≡ old.trail ++ added
+  pub undo : cleared new.cells added ≡ old.cells
+  pub within : AllByRecursion (λ k. k < length new.cells) added
+  pub count : length added + unknown_count new.cells ≡ unknown_count old.cells

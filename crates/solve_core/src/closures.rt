@@ -1,14 +1,16 @@
 //! The closure of a grid, by a mark at each line that may have more to give.
 ghost use Rattle.std.specs.Prelude.{◌≡◌, ◌≢◌, ℕ, ◌+◌, ◌*◌, ◌<◌, ◌≤◌, ◌↔◌, false, length, slice_set, slice_index_or, IsTrue};
-ghost use Rattle.grid_core.specs.Nonogram.{Nonogram, IsNonogram, lines_of};
+ghost use Rattle.grid_core.specs.Nonogram.{Nonogram, IsNonogram, lines_of, cells_at};
+ghost use Rattle.grid_core.specs.declared.cells.Cell.TheVariants.{Unknown};
 ghost use Rattle.solve_core.specs.Closure.{closure};
 ghost use Rattle.solve_core.specs.Marks.{places_of, AreWithin, IsDeduced, HasMarks, Progresses, MarksAfter, AreUnmarked, outcome};
-ghost use Rattle.solve_core.specs.Trails.{HasRoomFor, IsTrailed};
+ghost use Rattle.solve_core.specs.Trails.{IsTrailed};
+ghost use Rattle.solve_core.specs.Boards.{IsBoardOf};
 ghost use Rattle.solve_core.specs.declared.closures.Progress.TheVariants.{Dead, Same};
 
-use crate::places::{Places, mark_changes, read_line, write_line};
-use crate::trails::Trail;
-use grid_core::{Cell, Clue, Puzzle};
+use crate::boards::Board;
+use crate::places::{Places, mark_changes, write_line};
+use grid_core::{Clue, Puzzle};
 use line_core::{Line, Tables, deduce};
 
 /// What became of a grid.
@@ -46,31 +48,28 @@ fn deduce_places(
     tables: &mut Tables,
     clue: &Clue,
     places: Places,
-    cells: &mut [Cell],
-    trail: &mut Trail,
+    old: &Line,
+    board: &mut Board,
     crossing: &mut [bool],
 ) -> Progress
     requires from { 1 ≤ places.count }
     requires count { places.count ≤ tables.old }
-    requires short { tables.old ≤ 128 }
-    requires within { AreWithin places (length cells.old) }
+    requires within { AreWithin places (length board.old.cells) }
     requires step { 0 < places.step }
-    requires small { length cells.old ≤ 65536 }
-    requires space { HasRoomFor cells.old trail.old }
+    requires small { length board.old.cells ≤ 65536 }
+    requires old { old.now ≡ cells_at Unknown board.old.cells (places_of places) }
     requires crossing { length crossing.old ≡ places.count }
-    ensures deduced { IsDeduced result (record { places = places_of places; clue = clue.now }) cells.old cells.new crossing.old crossing.new }
-    ensures trail { IsTrailed cells.old cells.new trail.old trail.new }
-    ensures space { HasRoomFor cells.new trail.new }
+    ensures deduced { IsDeduced result (record { places = places_of places; clue = clue.now }) board.old.cells board.new.cells crossing.old crossing.new }
+    ensures trail { IsTrailed board.old board.new }
     ensures room { tables.new ≡ tables.old }
 {
-    let old = read_line(cells, places);
-    match deduce(tables, &old, clue) {
+    match deduce(tables, old, clue) {
         None => Progress::Dead,
         Some(new) => {
-            if !mark_changes(&old, &new, crossing) {
+            if !mark_changes(old, &new, crossing) {
                 return Progress::Same;
             }
-            write_line(cells, trail, places, &old, &new);
+            write_line(board, places, old, &new);
             Progress::Changed
         }
     }
@@ -81,21 +80,19 @@ fn close_row(
     puzzle: &Puzzle,
     tables: &mut Tables,
     y: u16,
-    cells: &mut [Cell],
-    trail: &mut Trail,
+    board: &mut Board,
     rows: &mut [bool],
     columns: &mut [bool],
 ) -> Progress
     requires y { y < puzzle.now.height }
     requires room { tables.old ≡ 128 }
-    requires marks { HasMarks puzzle.now cells.old rows.old columns.old }
-    requires space { HasRoomFor cells.old trail.old }
-    ensures progress { Progresses (closure (lines_of puzzle.now)) result cells.old cells.new }
-    ensures marks { MarksAfter result puzzle.now cells.new rows.new columns.new }
+    requires marks { HasMarks puzzle.now board.old.cells rows.old columns.old }
+    requires size { IsBoardOf puzzle.now board.old }
+    ensures progress { Progresses (closure (lines_of puzzle.now)) result board.old.cells board.new.cells }
+    ensures marks { MarksAfter result puzzle.now board.new.cells rows.new columns.new }
     ensures rows { rows.new ≡ slice_set rows.old y false }
     ensures same { result ≡ Same → columns.new ≡ columns.old }
-    ensures trail { IsTrailed cells.old cells.new trail.old trail.new }
-    ensures space { HasRoomFor cells.new trail.new }
+    ensures trail { IsTrailed board.old board.new }
     ensures room { tables.new ≡ tables.old }
 {
     let width = puzzle.width();
@@ -105,7 +102,8 @@ fn close_row(
         count: width,
     };
     rows[usize::from(y)] = false;
-    deduce_places(tables, puzzle.row_clue(y), places, cells, trail, columns)
+    let row = board.row(y);
+    deduce_places(tables, puzzle.row_clue(y), places, &row, board, columns)
 }
 
 /// Deduces a column.
@@ -113,21 +111,19 @@ fn close_column(
     puzzle: &Puzzle,
     tables: &mut Tables,
     x: u16,
-    cells: &mut [Cell],
-    trail: &mut Trail,
+    board: &mut Board,
     rows: &mut [bool],
     columns: &mut [bool],
 ) -> Progress
     requires x { x < puzzle.now.width }
     requires room { tables.old ≡ 128 }
-    requires marks { HasMarks puzzle.now cells.old rows.old columns.old }
-    requires space { HasRoomFor cells.old trail.old }
-    ensures progress { Progresses (closure (lines_of puzzle.now)) result cells.old cells.new }
-    ensures marks { MarksAfter result puzzle.now cells.new rows.new columns.new }
+    requires marks { HasMarks puzzle.now board.old.cells rows.old columns.old }
+    requires size { IsBoardOf puzzle.now board.old }
+    ensures progress { Progresses (closure (lines_of puzzle.now)) result board.old.cells board.new.cells }
+    ensures marks { MarksAfter result puzzle.now board.new.cells rows.new columns.new }
     ensures columns { columns.new ≡ slice_set columns.old x false }
     ensures same { result ≡ Same → rows.new ≡ rows.old }
-    ensures trail { IsTrailed cells.old cells.new trail.old trail.new }
-    ensures space { HasRoomFor cells.new trail.new }
+    ensures trail { IsTrailed board.old board.new }
     ensures room { tables.new ≡ tables.old }
 {
     let places = Places {
@@ -136,33 +132,32 @@ fn close_column(
         count: puzzle.height(),
     };
     columns[usize::from(x)] = false;
-    deduce_places(tables, puzzle.col_clue(x), places, cells, trail, rows)
+    let column = board.column(x);
+    deduce_places(tables, puzzle.col_clue(x), places, &column, board, rows)
 }
 
 /// Deduces each marked row.
 fn close_rows(
     puzzle: &Puzzle,
     tables: &mut Tables,
-    cells: &mut [Cell],
-    trail: &mut Trail,
+    board: &mut Board,
     rows: &mut [bool],
     columns: &mut [bool],
 ) -> Progress
     requires room { tables.old ≡ 128 }
-    requires marks { HasMarks puzzle.now cells.old rows.old columns.old }
-    requires space { HasRoomFor cells.old trail.old }
-    ensures progress { Progresses (closure (lines_of puzzle.now)) result cells.old cells.new }
-    ensures marks { MarksAfter result puzzle.now cells.new rows.new columns.new }
+    requires marks { HasMarks puzzle.now board.old.cells rows.old columns.old }
+    requires size { IsBoardOf puzzle.now board.old }
+    ensures progress { Progresses (closure (lines_of puzzle.now)) result board.old.cells board.new.cells }
+    ensures marks { MarksAfter result puzzle.now board.new.cells rows.new columns.new }
     ensures rows { result ≢ Dead → AreUnmarked rows.new }
     ensures same { result ≡ Same → columns.new ≡ columns.old }
-    ensures trail { IsTrailed cells.old cells.new trail.old trail.new }
-    ensures space { HasRoomFor cells.new trail.new }
+    ensures trail { IsTrailed board.old board.new }
     ensures room { tables.new ≡ tables.old }
 {
     let mut progress = Progress::Same;
     for y in 0..puzzle.height() {
         if rows[usize::from(y)] {
-            match close_row(puzzle, tables, y, cells, trail, rows, columns) {
+            match close_row(puzzle, tables, y, board, rows, columns) {
                 Progress::Dead => return Progress::Dead,
                 Progress::Same => {}
                 Progress::Changed => progress = Progress::Changed,
@@ -176,26 +171,24 @@ fn close_rows(
 fn close_columns(
     puzzle: &Puzzle,
     tables: &mut Tables,
-    cells: &mut [Cell],
-    trail: &mut Trail,
+    board: &mut Board,
     rows: &mut [bool],
     columns: &mut [bool],
 ) -> Progress
     requires room { tables.old ≡ 128 }
-    requires marks { HasMarks puzzle.now cells.old rows.old columns.old }
-    requires space { HasRoomFor cells.old trail.old }
-    ensures progress { Progresses (closure (lines_of puzzle.now)) result cells.old cells.new }
-    ensures marks { MarksAfter result puzzle.now cells.new rows.new columns.new }
+    requires marks { HasMarks puzzle.now board.old.cells rows.old columns.old }
+    requires size { IsBoardOf puzzle.now board.old }
+    ensures progress { Progresses (closure (lines_of puzzle.now)) result board.old.cells board.new.cells }
+    ensures marks { MarksAfter result puzzle.now board.new.cells rows.new columns.new }
     ensures columns { result ≢ Dead → AreUnmarked columns.new }
     ensures same { result ≡ Same → rows.new ≡ rows.old }
-    ensures trail { IsTrailed cells.old cells.new trail.old trail.new }
-    ensures space { HasRoomFor cells.new trail.new }
+    ensures trail { IsTrailed board.old board.new }
     ensures room { tables.new ≡ tables.old }
 {
     let mut progress = Progress::Same;
     for x in 0..puzzle.width() {
         if columns[usize::from(x)] {
-            match close_column(puzzle, tables, x, cells, trail, rows, columns) {
+            match close_column(puzzle, tables, x, board, rows, columns) {
                 Progress::Dead => return Progress::Dead,
                 Progress::Same => {}
                 Progress::Changed => progress = Progress::Changed,
@@ -209,29 +202,27 @@ fn close_columns(
 fn close_marked(
     puzzle: &Puzzle,
     tables: &mut Tables,
-    cells: &mut [Cell],
-    trail: &mut Trail,
+    board: &mut Board,
     rows: &mut [bool],
     columns: &mut [bool],
 ) -> bool
     requires room { tables.old ≡ 128 }
-    requires marks { HasMarks puzzle.now cells.old rows.old columns.old }
-    requires space { HasRoomFor cells.old trail.old }
-    ensures closed { outcome result cells.new ≡ closure (lines_of puzzle.now) cells.old }
+    requires marks { HasMarks puzzle.now board.old.cells rows.old columns.old }
+    requires size { IsBoardOf puzzle.now board.old }
+    ensures closed { outcome result board.new.cells ≡ closure (lines_of puzzle.now) board.old.cells }
     ensures rows { IsTrue result → AreUnmarked rows.new }
     ensures columns { IsTrue result → AreUnmarked columns.new }
-    ensures marks { IsTrue result → HasMarks puzzle.now cells.new rows.new columns.new }
-    ensures trail { IsTrailed cells.old cells.new trail.old trail.new }
-    ensures space { HasRoomFor cells.new trail.new }
+    ensures marks { IsTrue result → HasMarks puzzle.now board.new.cells rows.new columns.new }
+    ensures trail { IsTrailed board.old board.new }
     ensures room { tables.new ≡ tables.old }
 {
     loop {
-        match close_rows(puzzle, tables, cells, trail, rows, columns) {
+        match close_rows(puzzle, tables, board, rows, columns) {
             Progress::Dead => return false,
             Progress::Same => {}
             Progress::Changed => {}
         }
-        match close_columns(puzzle, tables, cells, trail, rows, columns) {
+        match close_columns(puzzle, tables, board, rows, columns) {
             Progress::Dead => return false,
             Progress::Same => return true,
             Progress::Changed => {}
@@ -239,27 +230,26 @@ fn close_marked(
     }
 }
 
-/// Closes cells by the marked lines. Answers whether they are alive. No line is marked then.
-pub fn close_cells(
+/// Closes a board by the marked lines. Answers whether it is alive. No line is marked then.
+pub fn close_board(
     puzzle: &Puzzle,
     tables: &mut Tables,
-    cells: &mut [Cell],
-    trail: &mut Trail,
+    board: &mut Board,
     rows: &mut [bool],
     columns: &mut [bool],
 ) -> bool
     requires room { tables.old ≡ 128 }
-    requires marks { HasMarks puzzle.now cells.old rows.old columns.old }
-    requires space { HasRoomFor cells.old trail.old }
-    ensures closed { outcome result cells.new ≡ closure (lines_of puzzle.now) cells.old }
+    requires marks { HasMarks puzzle.now board.old.cells rows.old columns.old }
+    requires size { IsBoardOf puzzle.now board.old }
+    ensures closed { outcome result board.new.cells ≡ closure (lines_of puzzle.now) board.old.cells }
     ensures rows { AreUnmarked rows.new }
     ensures columns { AreUnmarked columns.new }
-    ensures marks { IsTrue result → HasMarks puzzle.now cells.new rows.new columns.new }
-    ensures trail { IsTrailed cells.old cells.new trail.old trail.new }
-    ensures space { HasRoomFor cells.new trail.new }
+    ensures marks { IsTrue result → HasMarks puzzle.now board.new.cells rows.new columns.new }
+    ensures trail { IsTrailed board.old board.new }
+    ensures size { IsBoardOf puzzle.now board.new }
     ensures room { tables.new ≡ tables.old }
 {
-    let alive = close_marked(puzzle, tables, cells, trail, rows, columns);
+    let alive = close_marked(puzzle, tables, board, rows, columns);
     if !alive {
         rows.fill(false);
         columns.fill(false);

@@ -1,6 +1,7 @@
 //! Closure, trials, search and report of nonograms.
 #![tactic(auto)]
 
+mod boards;
 mod branches;
 mod closures;
 mod findings;
@@ -17,7 +18,6 @@ mod solver;
 mod tests;
 #[cfg(test)]
 mod tests_search;
-mod trails;
 mod trials;
 
 pub use findings::{Findings, Grade, Verdict};

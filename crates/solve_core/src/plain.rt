@@ -14,10 +14,24 @@ ghost use Rattle.solve_core.specs.declared.closures.Progress.TheVariants.{Dead, 
 
 use crate::closures::Progress;
 use crate::grids::{read_grid, write_grid};
-use crate::places::{Places, is_same, read_line};
+use crate::places::Places;
 use grid_core::{Cell, Clue, Grid, NoMemory, Puzzle};
 use line_core::{Line, deduce_by_listing};
 use std::alloc::Global;
+
+/// The cells at some places.
+fn read_line(cells: &[Cell], places: Places) -> Line
+    requires from { 1 ≤ places.count }
+    requires to { places.count ≤ 128 }
+    requires within { AreWithin places (length cells.now) }
+    ensures { result ≡ cells_at Unknown cells.now (places_of places) }
+{
+    let mut line = Line::unknown(places.count);
+    for i in 0..places.count {
+        line.set(i, cells[places.first + usize::from(i) * places.step]);
+    }
+    line
+}
 
 /// Writes a line's cells at their places.
 fn write_cells(cells: &mut [Cell], places: Places, line: &Line)
@@ -28,6 +42,14 @@ fn write_cells(cells: &mut [Cell], places: Places, line: &Line)
     for i in 0..places.count {
         cells[places.first + usize::from(i) * places.step] = line.get(i);
     }
+}
+
+/// Whether two cells know the same.
+fn is_same(cell: Cell, other: Cell) -> bool
+    ensures same { result ≡ true → cell ≡ other }
+    ensures differs { result ≡ false → cell ≢ other }
+{
+    cell == other
 }
 
 fn are_same(old: &Line, new: &Line) -> bool

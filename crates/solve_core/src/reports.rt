@@ -1,28 +1,40 @@
 //! The report on a puzzle.
-ghost use Rattle.std.specs.Prelude.{◌≡◌, ◌*◌, ◌≤◌, [], length, vec_capacity, IfOk};
+ghost use Rattle.std.specs.Prelude.{◌≡◌, ◌≤◌, [], length, count_by, vec_capacity, IfOk};
 ghost use Rattle.std.specs.List.{list_all};
 ghost use Rattle.grid_core.specs.Cells.{is_known};
 ghost use Rattle.solve_core.specs.Search.{first_unknown};
-ghost use Rattle.solve_core.specs.Grids.{HasSizeOf};
+ghost use Rattle.solve_core.specs.Boards.{unknown_board};
 ghost use Rattle.solve_core.specs.FoundGrids.{AreOfSize};
-ghost use Rattle.solve_core.specs.Report.{unknown_grid, report_of, grade_by};
+ghost use Rattle.solve_core.specs.Report.{report_of, grade_by};
 ghost use Rattle.solve_core.specs.Verdicts.{Holds};
 
+use crate::boards::Board;
 use crate::branches::Branch;
-use crate::grids::read_grid;
 use crate::search::search;
 use crate::solutions::Solutions;
 use crate::solver::Solver;
-use crate::trails::Trail;
 use crate::{Findings, Grade, Verdict};
-use grid_core::{Cell, Grid, NoMemory, Puzzle};
+use grid_core::{NoMemory, Puzzle};
 use std::alloc::Global;
 
-/// Whether each cell is known.
-fn is_full(grid: &Grid) -> bool
-    ensures { result ≡ list_all is_known grid.now.cells }
+/// How many cells are known.
+fn count_known(board: &Board) -> u32
+    ensures { result ≡ count_by is_known board.now.cells }
 {
-    grid.first_unknown().is_none()
+    let mut count = 0;
+    for cell in board.cells() {
+        if cell.is_known() {
+            count += 1;
+        }
+    }
+    count
+}
+
+/// Whether each cell is known.
+fn are_known(board: &Board) -> bool
+    ensures { result ≡ list_all is_known board.now.cells }
+{
+    board.cells().iter().all(|cell| cell.is_known())
 }
 
 fn grade(lines_settle: bool, trials_settle: bool) -> Grade
@@ -37,28 +49,22 @@ fn grade(lines_settle: bool, trials_settle: bool) -> Grade
     }
 }
 
-/// The report, by a grid of which nothing is known and in room that is made.
+/// The report, by a board of which nothing is known and in room that is made.
 fn findings(
     solver: &mut Solver<'_>,
-    grid: &mut Grid,
-    cells: &mut [Cell],
-    trail: &mut Trail,
+    board: &mut Board,
     branches: &mut Vec<Branch>,
     solutions: Solutions,
     guesses: u32,
 ) -> Findings
-    requires grid { HasSizeOf solver.old grid.old }
-    requires unknown { grid.old.cells ≡ unknown_grid solver.old }
-    requires cells { length cells.old ≡ solver.old.width * solver.old.height }
+    requires board { board.old ≡ unknown_board solver.old.width solver.old.height }
     requires size { AreOfSize solver.old solutions }
-    requires trail { trail.old.places ≡ [] }
     requires branches { branches.old.items ≡ [] }
     requires found { solutions.grids ≡ [] }
-    requires space { length cells.old ≤ trail.old.room }
-    requires room { trail.old.room ≤ vec_capacity branches.old }
+    requires room { length board.old.cells ≤ vec_capacity branches.old }
     ensures { result ≡ report_of first_unknown solver.old guesses }
 {
-    if !solver.close_lines(grid) {
+    if !solver.close_board(board) {
         return Findings {
             verdict: Verdict::Nothing,
             grade: Grade::Lines,
@@ -67,9 +73,9 @@ fn findings(
             spent: 0,
         };
     }
-    let line_known = grid.known();
-    let lines_settle = is_full(grid);
-    if !solver.close_trials(grid) {
+    let line_known = count_known(board);
+    let lines_settle = are_known(board);
+    if !solver.try_board(board) {
         return Findings {
             verdict: Verdict::Nothing,
             grade: grade(lines_settle, true),
@@ -78,11 +84,10 @@ fn findings(
             spent: 0,
         };
     }
-    let trial_known = grid.known();
-    let grade = grade(lines_settle, is_full(grid));
+    let trial_known = count_known(board);
+    let grade = grade(lines_settle, are_known(board));
     let mut solutions = solutions;
-    read_grid(grid, cells);
-    let outcome = search(solver, cells, trail, branches, &mut solutions, guesses);
+    let outcome = search(solver, board, branches, &mut solutions, guesses);
     Findings {
         verdict: solutions.verdict(outcome.cut),
         grade,
@@ -101,20 +106,9 @@ pub fn report(alloc: Global, puzzle: &Puzzle, guesses: u32) -> Result<Findings, 
 {
     let width = puzzle.width();
     let height = puzzle.height();
-    let count = usize::from(width) * usize::from(height);
     let mut solver = Solver::new(alloc, puzzle)?;
-    let mut grid = Grid::unknown(alloc, width, height)?;
-    let mut cells = vec![in alloc; Cell::Unknown; count]?;
-    let mut trail = Trail::with_room(alloc, count)?;
-    let mut branches = Vec::with_capacity(alloc, count)?;
+    let mut board = Board::unknown(alloc, width, height)?;
+    let mut branches = Vec::with_capacity(alloc, board.cells().len())?;
     let solutions = Solutions::new(alloc, width, height)?;
-    Ok(findings(
-        &mut solver,
-        &mut grid,
-        &mut cells,
-        &mut trail,
-        &mut branches,
-        solutions,
-        guesses,
-    ))
+    Ok(findings(&mut solver, &mut board, &mut branches, solutions, guesses))
 }

@@ -1,5 +1,5 @@
 //! Trials, one cell and one colour at a time.
-ghost use Rattle.std.specs.Prelude.{◌≡◌, ◌≢◌, ℕ, ◌+◌, ◌*◌, ◌<◌, ◌≤◌, ◌↔◌, Some, false, true, not, length, slice_set, slice_index_or, IsTrue};
+ghost use Rattle.std.specs.Prelude.{◌≡◌, ◌≢◌, ℕ, ◌+◌, ◌*◌, ◌<◌, ◌≤◌, ◌↔◌, [], Some, false, true, not, length, slice_set, slice_index_or, IsTrue};
 ghost use Rattle.std.specs.List.{AllByRecursion};
 ghost use Rattle.grid_core.specs.declared.cells.Cell.TheVariants.{Unknown, Filled, Blank};
 ghost use Rattle.grid_core.specs.Nonogram.{Nonogram, IsNonogram, lines_of};
@@ -8,12 +8,13 @@ ghost use Rattle.solve_core.specs.Closure.{closure};
 ghost use Rattle.line_core.specs.Order.{AtMost};
 ghost use Rattle.solve_core.specs.Trials.{trials, is_refuted, IsTried};
 ghost use Rattle.solve_core.specs.Marks.{HasMarks, Progresses, AreUnmarked, outcome, AreOpen, AddsMarks, IsAtRest, IsTrialOf};
-ghost use Rattle.solve_core.specs.Trails.{HasRoomFor, IsTrailed};
+ghost use Rattle.solve_core.specs.Trails.{IsTrailed};
+ghost use Rattle.solve_core.specs.Boards.{IsBoardOf};
 ghost use Rattle.solve_core.specs.declared.trials.Trial.TheVariants.{Refuted, Closed};
 ghost use Rattle.solve_core.specs.declared.closures.Progress.TheVariants.{Dead, Same, Changed};
 
-use crate::closures::{Progress, close_cells};
-use crate::trails::{Trail, settle};
+use crate::boards::Board;
+use crate::closures::{Progress, close_board};
 use grid_core::{Cell, Puzzle};
 use line_core::Tables;
 
@@ -50,82 +51,78 @@ impl Trial {
     }
 }
 
-/// Gives an unknown cell a colour and closes the cells, by its row and its column alone. Answers whether they are alive. No line is marked then.
+/// Gives an unknown cell a colour and closes the board, by the cell's row and column alone. Answers whether it is alive. No line is marked then.
 pub fn close_with(
     puzzle: &Puzzle,
     tables: &mut Tables,
-    cells: &mut [Cell],
-    trail: &mut Trail,
+    board: &mut Board,
     rows: &mut [bool],
     columns: &mut [bool],
     place: usize,
     colour: Cell,
 ) -> bool
     requires room { tables.old ≡ 128 }
-    requires marks { HasMarks puzzle.now cells.old rows.old columns.old }
-    requires space { HasRoomFor cells.old trail.old }
-    requires place { place < length cells.old }
-    requires unknown { slice_index_or cells.old place Unknown ≡ Unknown }
+    requires marks { HasMarks puzzle.now board.old.cells rows.old columns.old }
+    requires size { IsBoardOf puzzle.now board.old }
+    requires place { place < length board.old.cells }
+    requires unknown { slice_index_or board.old.cells place Unknown ≡ Unknown }
     requires colour { is_known colour ≡ true }
-    ensures closed { outcome result cells.new ≡ closure (lines_of puzzle.now) (slice_set cells.old place colour) }
+    ensures closed { outcome result board.new.cells ≡ closure (lines_of puzzle.now) (slice_set board.old.cells place colour) }
     ensures rows { AreUnmarked rows.new }
     ensures columns { AreUnmarked columns.new }
-    ensures marks { IsTrue result → HasMarks puzzle.now cells.new rows.new columns.new }
-    ensures trail { IsTrailed cells.old cells.new trail.old trail.new }
-    ensures space { HasRoomFor cells.new trail.new }
+    ensures marks { IsTrue result → HasMarks puzzle.now board.new.cells rows.new columns.new }
+    ensures trail { IsTrailed board.old board.new }
+    ensures size { IsBoardOf puzzle.now board.new }
     ensures room { tables.new ≡ tables.old }
 {
     let width = usize::from(puzzle.width());
     let row = place / width;
     let column = place % width;
-    settle(cells, trail, place, colour);
+    board.settle(place, colour);
     rows[row] = true;
     columns[column] = true;
-    close_cells(puzzle, tables, cells, trail, rows, columns)
+    close_board(puzzle, tables, board, rows, columns)
 }
 
 /// Tries a colour at an unknown cell, on a copy. Answers whether the copy is alive, which then is closed.
 fn close_copy(
     puzzle: &Puzzle,
     tables: &mut Tables,
-    cells: &[Cell],
-    trial: &mut [Cell],
-    trail: &mut Trail,
+    board: &Board,
+    trial: &mut Board,
     rows: &mut [bool],
     columns: &mut [bool],
     place: usize,
     colour: Cell,
 ) -> bool
     requires room { tables.old ≡ 128 }
-    requires rest { IsAtRest puzzle.now cells.now rows.old columns.old }
-    requires place { place < length cells.now }
-    requires unknown { slice_index_or cells.now place Unknown ≡ Unknown }
+    requires rest { IsAtRest puzzle.now board.now.cells rows.old columns.old }
+    requires size { IsBoardOf puzzle.now board.now }
+    requires trial { IsBoardOf puzzle.now trial.old }
+    requires place { place < length board.now.cells }
+    requires unknown { slice_index_or board.now.cells place Unknown ≡ Unknown }
     requires colour { is_known colour ≡ true }
-    requires trial { length trial.old ≡ length cells.now }
-    requires trail { length cells.now ≤ trail.old.room }
-    ensures closed { outcome result trial.new ≡ closure (lines_of puzzle.now) (slice_set cells.now place colour) }
-    ensures rest { IsAtRest puzzle.now cells.now rows.new columns.new }
-    ensures closed_rest { IsTrue result → IsAtRest puzzle.now trial.new rows.new columns.new }
-    ensures within { AllByRecursion (λ k. k < length trial.new) trail.new.places }
-    ensures trail { trail.new.room ≡ trail.old.room }
+    ensures closed { outcome result trial.new.cells ≡ closure (lines_of puzzle.now) (slice_set board.now.cells place colour) }
+    ensures rest { IsAtRest puzzle.now board.now.cells rows.new columns.new }
+    ensures closed_rest { IsTrue result → IsAtRest puzzle.now trial.new.cells rows.new columns.new }
+    ensures trial { IsBoardOf puzzle.now trial.new }
     ensures room { tables.new ≡ tables.old }
 {
-    trial.copy_from_slice(cells);
-    trail.clear();
-    close_with(puzzle, tables, trial, trail, rows, columns, place, colour)
+    trial.restart_from(board);
+    close_with(puzzle, tables, trial, rows, columns, place, colour)
 }
 
 /// Marks the colours of the cells that a trial settled.
-fn mark_colours(trial: &[Cell], places: &[u16], fillable: &mut [bool], blankable: &mut [bool])
-    requires within { AllByRecursion (λ k. k < length trial.now) places.now }
-    requires fillable { length fillable.old ≡ length trial.now }
-    requires blankable { length blankable.old ≡ length trial.now }
-    ensures filled { AddsMarks Filled trial.now fillable.old fillable.new }
-    ensures blank { AddsMarks Blank trial.now blankable.old blankable.new }
+fn mark_colours(trial: &Board, fillable: &mut [bool], blankable: &mut [bool])
+    requires fillable { length fillable.old ≡ length trial.now.cells }
+    requires blankable { length blankable.old ≡ length trial.now.cells }
+    ensures filled { AddsMarks Filled trial.now.cells fillable.old fillable.new }
+    ensures blank { AddsMarks Blank trial.now.cells blankable.old blankable.new }
 {
-    for i in 0..places.len() {
-        let place = usize::from(places[i]);
-        match trial[place] {
+    let cells = trial.cells();
+    for settled in trial.trail() {
+        let place = usize::from(*settled);
+        match cells[place] {
             Cell::Unknown => {}
             Cell::Filled => fillable[place] = true,
             Cell::Blank => blankable[place] = true,
@@ -138,9 +135,8 @@ fn mark_colours(trial: &[Cell], places: &[u16], fillable: &mut [bool], blankable
 fn try_colour(
     puzzle: &Puzzle,
     tables: &mut Tables,
-    cells: &[Cell],
-    trial: &mut [Cell],
-    trail: &mut Trail,
+    board: &Board,
+    trial: &mut Board,
     rows: &mut [bool],
     columns: &mut [bool],
     fillable: &mut [bool],
@@ -149,21 +145,21 @@ fn try_colour(
     filled: bool,
 ) -> Trial
     requires room { tables.old ≡ 128 }
-    requires rest { IsAtRest puzzle.now cells.now rows.old columns.old }
-    requires place { place < length cells.now }
-    requires unknown { slice_index_or cells.now place Unknown ≡ Unknown }
-    requires trial { length trial.old ≡ length cells.now }
-    requires trail { length cells.now ≤ trail.old.room }
-    requires fillable { length fillable.old ≡ length cells.now }
-    requires blankable { length blankable.old ≡ length cells.now }
-    requires filled { AreOpen (lines_of puzzle.now) cells.now Filled fillable.old }
-    requires blank { AreOpen (lines_of puzzle.now) cells.now Blank blankable.old }
-    ensures tried { IsTrialOf result (lines_of puzzle.now) cells.now place (colour_of filled) trial.new }
-    ensures filled { AreOpen (lines_of puzzle.now) cells.now Filled fillable.new }
-    ensures blank { AreOpen (lines_of puzzle.now) cells.now Blank blankable.new }
-    ensures rest { IsAtRest puzzle.now cells.now rows.new columns.new }
-    ensures closed_rest { result ≡ Closed → IsAtRest puzzle.now trial.new rows.new columns.new }
-    ensures trail { trail.new.room ≡ trail.old.room }
+    requires rest { IsAtRest puzzle.now board.now.cells rows.old columns.old }
+    requires size { IsBoardOf puzzle.now board.now }
+    requires trial { IsBoardOf puzzle.now trial.old }
+    requires place { place < length board.now.cells }
+    requires unknown { slice_index_or board.now.cells place Unknown ≡ Unknown }
+    requires fillable { length fillable.old ≡ puzzle.now.width * puzzle.now.height }
+    requires blankable { length blankable.old ≡ puzzle.now.width * puzzle.now.height }
+    requires filled { AreOpen (lines_of puzzle.now) board.now.cells Filled fillable.old }
+    requires blank { AreOpen (lines_of puzzle.now) board.now.cells Blank blankable.old }
+    ensures tried { IsTrialOf result (lines_of puzzle.now) board.now.cells place (colour_of filled) trial.new.cells }
+    ensures filled { AreOpen (lines_of puzzle.now) board.now.cells Filled fillable.new }
+    ensures blank { AreOpen (lines_of puzzle.now) board.now.cells Blank blankable.new }
+    ensures rest { IsAtRest puzzle.now board.now.cells rows.new columns.new }
+    ensures closed_rest { result ≡ Closed → IsAtRest puzzle.now trial.new.cells rows.new columns.new }
+    ensures trial { IsBoardOf puzzle.now trial.new }
     ensures room { tables.new ≡ tables.old }
 {
     let known = if filled {
@@ -175,21 +171,18 @@ fn try_colour(
         return Trial::Open;
     }
     let colour = Cell::of_colour(filled);
-    if !close_copy(
-        puzzle, tables, cells, trial, trail, rows, columns, place, colour,
-    ) {
+    if !close_copy(puzzle, tables, board, trial, rows, columns, place, colour) {
         return Trial::Refuted;
     }
-    mark_colours(trial, trail.places(), fillable, blankable);
+    mark_colours(trial, fillable, blankable);
     Trial::Closed
 }
 
-/// Gives a cell the colour that is left, and closes the cells.
+/// Gives a cell the colour that is left, and closes the board.
 fn keep_colour(
     puzzle: &Puzzle,
     tables: &mut Tables,
-    cells: &mut [Cell],
-    trail: &mut Trail,
+    board: &mut Board,
     rows: &mut [bool],
     columns: &mut [bool],
     fillable: &mut [bool],
@@ -198,50 +191,49 @@ fn keep_colour(
     colour: Cell,
 ) -> Progress
     requires room { tables.old ≡ 128 }
-    requires rest { IsAtRest puzzle.now cells.old rows.old columns.old }
-    requires place { place < length cells.old }
-    requires unknown { slice_index_or cells.old place Unknown ≡ Unknown }
-    requires trail { length cells.old ≤ trail.old.room }
+    requires rest { IsAtRest puzzle.now board.old.cells rows.old columns.old }
+    requires size { IsBoardOf puzzle.now board.old }
+    requires place { place < length board.old.cells }
+    requires unknown { slice_index_or board.old.cells place Unknown ≡ Unknown }
     requires colour { is_known colour ≡ true }
-    requires below { AtMost (Some (slice_set cells.old place colour)) (trials (lines_of puzzle.now) cells.old) }
-    ensures progress { Progresses (trials (lines_of puzzle.now)) result cells.old cells.new }
+    requires below { AtMost (Some (slice_set board.old.cells place colour)) (trials (lines_of puzzle.now) board.old.cells) }
+    ensures progress { Progresses (trials (lines_of puzzle.now)) result board.old.cells board.new.cells }
     ensures changed { result ≢ Same }
     ensures filled { AreUnmarked fillable.new }
     ensures blank { AreUnmarked blankable.new }
-    ensures rest { result ≢ Dead → IsAtRest puzzle.now cells.new rows.new columns.new }
-    ensures trail { trail.new.room ≡ trail.old.room }
+    ensures rest { result ≢ Dead → IsAtRest puzzle.now board.new.cells rows.new columns.new }
+    ensures size { IsBoardOf puzzle.now board.new }
     ensures room { tables.new ≡ tables.old }
 {
     fillable.fill(false);
     blankable.fill(false);
-    trail.clear();
-    if close_with(puzzle, tables, cells, trail, rows, columns, place, colour) {
+    if close_with(puzzle, tables, board, rows, columns, place, colour) {
         Progress::Changed
     } else {
         Progress::Dead
     }
 }
 
-/// Keeps the closed copy of the cells in which a cell has the colour that is left.
-fn keep_copy(cells: &mut [Cell], trial: &[Cell], fillable: &mut [bool], blankable: &mut [bool])
-    requires trial { length trial.now ≡ length cells.old }
-    ensures cells { cells.new ≡ trial.now }
+/// Keeps the closed copy of the board in which a cell has the colour that is left.
+fn keep_copy(board: &mut Board, trial: &Board, fillable: &mut [bool], blankable: &mut [bool])
+    requires width { trial.now.width ≡ board.old.width }
+    requires height { trial.now.height ≡ board.old.height }
+    ensures board { board.new ≡ record trial.now { trail = [] } }
     ensures filled { AreUnmarked fillable.new }
     ensures blank { AreUnmarked blankable.new }
 {
     fillable.fill(false);
     blankable.fill(false);
-    cells.copy_from_slice(trial);
+    board.restart_from(trial);
 }
 
 /// Tries both colours at a place, where it is unknown.
 fn try_place(
     puzzle: &Puzzle,
     tables: &mut Tables,
-    cells: &mut [Cell],
-    filled_trial: &mut [Cell],
-    blank_trial: &mut [Cell],
-    trail: &mut Trail,
+    board: &mut Board,
+    filled_trial: &mut Board,
+    blank_trial: &mut Board,
     rows: &mut [bool],
     columns: &mut [bool],
     fillable: &mut [bool],
@@ -249,32 +241,33 @@ fn try_place(
     place: usize,
 ) -> Progress
     requires room { tables.old ≡ 128 }
-    requires rest { IsAtRest puzzle.now cells.old rows.old columns.old }
-    requires place { place < length cells.old }
-    requires filled_trial { length filled_trial.old ≡ length cells.old }
-    requires blank_trial { length blank_trial.old ≡ length cells.old }
-    requires trail { length cells.old ≤ trail.old.room }
-    requires fillable { length fillable.old ≡ length cells.old }
-    requires blankable { length blankable.old ≡ length cells.old }
-    requires filled { AreOpen (lines_of puzzle.now) cells.old Filled fillable.old }
-    requires blank { AreOpen (lines_of puzzle.now) cells.old Blank blankable.old }
-    ensures progress { Progresses (trials (lines_of puzzle.now)) result cells.old cells.new }
-    ensures rest { result ≢ Dead → IsAtRest puzzle.now cells.new rows.new columns.new }
-    ensures filled { result ≢ Dead → AreOpen (lines_of puzzle.now) cells.new Filled fillable.new }
-    ensures blank { result ≢ Dead → AreOpen (lines_of puzzle.now) cells.new Blank blankable.new }
-    ensures tried { result ≡ Same → IsTried (lines_of puzzle.now) cells.new place }
-    ensures trail { trail.new.room ≡ trail.old.room }
+    requires rest { IsAtRest puzzle.now board.old.cells rows.old columns.old }
+    requires size { IsBoardOf puzzle.now board.old }
+    requires place { place < length board.old.cells }
+    requires filled_trial { IsBoardOf puzzle.now filled_trial.old }
+    requires blank_trial { IsBoardOf puzzle.now blank_trial.old }
+    requires fillable { length fillable.old ≡ puzzle.now.width * puzzle.now.height }
+    requires blankable { length blankable.old ≡ puzzle.now.width * puzzle.now.height }
+    requires filled { AreOpen (lines_of puzzle.now) board.old.cells Filled fillable.old }
+    requires blank { AreOpen (lines_of puzzle.now) board.old.cells Blank blankable.old }
+    ensures progress { Progresses (trials (lines_of puzzle.now)) result board.old.cells board.new.cells }
+    ensures rest { result ≢ Dead → IsAtRest puzzle.now board.new.cells rows.new columns.new }
+    ensures filled { result ≢ Dead → AreOpen (lines_of puzzle.now) board.new.cells Filled fillable.new }
+    ensures blank { result ≢ Dead → AreOpen (lines_of puzzle.now) board.new.cells Blank blankable.new }
+    ensures tried { result ≡ Same → IsTried (lines_of puzzle.now) board.new.cells place }
+    ensures size { IsBoardOf puzzle.now board.new }
+    ensures filled_trial { IsBoardOf puzzle.now filled_trial.new }
+    ensures blank_trial { IsBoardOf puzzle.now blank_trial.new }
     ensures room { tables.new ≡ tables.old }
 {
-    if cells[place].is_known() {
+    if board.cells()[place].is_known() {
         return Progress::Same;
     }
     let filled = try_colour(
         puzzle,
         tables,
-        cells,
+        board,
         filled_trial,
-        trail,
         rows,
         columns,
         fillable,
@@ -286,8 +279,7 @@ fn try_place(
         return keep_colour(
             puzzle,
             tables,
-            cells,
-            trail,
+            board,
             rows,
             columns,
             fillable,
@@ -299,9 +291,8 @@ fn try_place(
     let blank = try_colour(
         puzzle,
         tables,
-        cells,
+        board,
         blank_trial,
-        trail,
         rows,
         columns,
         fillable,
@@ -313,14 +304,13 @@ fn try_place(
         return Progress::Same;
     }
     if filled.is_closed() {
-        keep_copy(cells, filled_trial, fillable, blankable);
+        keep_copy(board, filled_trial, fillable, blankable);
         return Progress::Changed;
     }
     keep_colour(
         puzzle,
         tables,
-        cells,
-        trail,
+        board,
         rows,
         columns,
         fillable,
@@ -334,41 +324,41 @@ fn try_place(
 fn try_all(
     puzzle: &Puzzle,
     tables: &mut Tables,
-    cells: &mut [Cell],
-    filled_trial: &mut [Cell],
-    blank_trial: &mut [Cell],
-    trail: &mut Trail,
+    board: &mut Board,
+    filled_trial: &mut Board,
+    blank_trial: &mut Board,
     rows: &mut [bool],
     columns: &mut [bool],
     fillable: &mut [bool],
     blankable: &mut [bool],
 ) -> Progress
     requires room { tables.old ≡ 128 }
-    requires rest { IsAtRest puzzle.now cells.old rows.old columns.old }
-    requires filled_trial { length filled_trial.old ≡ length cells.old }
-    requires blank_trial { length blank_trial.old ≡ length cells.old }
-    requires trail { length cells.old ≤ trail.old.room }
-    requires fillable { length fillable.old ≡ length cells.old }
-    requires blankable { length blankable.old ≡ length cells.old }
-    requires filled { AreOpen (lines_of puzzle.now) cells.old Filled fillable.old }
-    requires blank { AreOpen (lines_of puzzle.now) cells.old Blank blankable.old }
-    ensures progress { Progresses (trials (lines_of puzzle.now)) result cells.old cells.new }
-    ensures rest { result ≢ Dead → IsAtRest puzzle.now cells.new rows.new columns.new }
-    ensures filled { result ≢ Dead → AreOpen (lines_of puzzle.now) cells.new Filled fillable.new }
-    ensures blank { result ≢ Dead → AreOpen (lines_of puzzle.now) cells.new Blank blankable.new }
-    ensures tried { result ≡ Same → (k : ℕ) → k < length cells.new → IsTried (lines_of puzzle.now) cells.new k }
-    ensures trail { trail.new.room ≡ trail.old.room }
+    requires rest { IsAtRest puzzle.now board.old.cells rows.old columns.old }
+    requires size { IsBoardOf puzzle.now board.old }
+    requires filled_trial { IsBoardOf puzzle.now filled_trial.old }
+    requires blank_trial { IsBoardOf puzzle.now blank_trial.old }
+    requires fillable { length fillable.old ≡ puzzle.now.width * puzzle.now.height }
+    requires blankable { length blankable.old ≡ puzzle.now.width * puzzle.now.height }
+    requires filled { AreOpen (lines_of puzzle.now) board.old.cells Filled fillable.old }
+    requires blank { AreOpen (lines_of puzzle.now) board.old.cells Blank blankable.old }
+    ensures progress { Progresses (trials (lines_of puzzle.now)) result board.old.cells board.new.cells }
+    ensures rest { result ≢ Dead → IsAtRest puzzle.now board.new.cells rows.new columns.new }
+    ensures filled { result ≢ Dead → AreOpen (lines_of puzzle.now) board.new.cells Filled fillable.new }
+    ensures blank { result ≢ Dead → AreOpen (lines_of puzzle.now) board.new.cells Blank blankable.new }
+    ensures tried { result ≡ Same → (k : ℕ) → k < length board.new.cells → IsTried (lines_of puzzle.now) board.new.cells k }
+    ensures size { IsBoardOf puzzle.now board.new }
+    ensures filled_trial { IsBoardOf puzzle.now filled_trial.new }
+    ensures blank_trial { IsBoardOf puzzle.now blank_trial.new }
     ensures room { tables.new ≡ tables.old }
 {
     let mut progress = Progress::Same;
-    for place in 0..cells.len() {
+    for place in 0..fillable.len() {
         match try_place(
             puzzle,
             tables,
-            cells,
+            board,
             filled_trial,
             blank_trial,
-            trail,
             rows,
             columns,
             fillable,
@@ -383,40 +373,40 @@ fn try_all(
     progress
 }
 
-/// Tries cells until a whole pass changes nothing. Answers whether the cells are alive.
+/// Tries cells until a whole pass changes nothing. Answers whether the board is alive.
 fn try_until_same(
     puzzle: &Puzzle,
     tables: &mut Tables,
-    cells: &mut [Cell],
-    filled_trial: &mut [Cell],
-    blank_trial: &mut [Cell],
-    trail: &mut Trail,
+    board: &mut Board,
+    filled_trial: &mut Board,
+    blank_trial: &mut Board,
     rows: &mut [bool],
     columns: &mut [bool],
     fillable: &mut [bool],
     blankable: &mut [bool],
 ) -> bool
     requires room { tables.old ≡ 128 }
-    requires rest { IsAtRest puzzle.now cells.old rows.old columns.old }
-    requires filled_trial { length filled_trial.old ≡ length cells.old }
-    requires blank_trial { length blank_trial.old ≡ length cells.old }
-    requires trail { length cells.old ≤ trail.old.room }
-    requires fillable { length fillable.old ≡ length cells.old }
-    requires blankable { length blankable.old ≡ length cells.old }
-    requires filled { AreOpen (lines_of puzzle.now) cells.old Filled fillable.old }
-    requires blank { AreOpen (lines_of puzzle.now) cells.old Blank blankable.old }
-    ensures tried { outcome result cells.new ≡ trials (lines_of puzzle.now) cells.old }
-    ensures trail { trail.new.room ≡ trail.old.room }
+    requires rest { IsAtRest puzzle.now board.old.cells rows.old columns.old }
+    requires size { IsBoardOf puzzle.now board.old }
+    requires filled_trial { IsBoardOf puzzle.now filled_trial.old }
+    requires blank_trial { IsBoardOf puzzle.now blank_trial.old }
+    requires fillable { length fillable.old ≡ puzzle.now.width * puzzle.now.height }
+    requires blankable { length blankable.old ≡ puzzle.now.width * puzzle.now.height }
+    requires filled { AreOpen (lines_of puzzle.now) board.old.cells Filled fillable.old }
+    requires blank { AreOpen (lines_of puzzle.now) board.old.cells Blank blankable.old }
+    ensures tried { outcome result board.new.cells ≡ trials (lines_of puzzle.now) board.old.cells }
+    ensures size { IsBoardOf puzzle.now board.new }
+    ensures filled_trial { IsBoardOf puzzle.now filled_trial.new }
+    ensures blank_trial { IsBoardOf puzzle.now blank_trial.new }
     ensures room { tables.new ≡ tables.old }
 {
     loop {
         match try_all(
             puzzle,
             tables,
-            cells,
+            board,
             filled_trial,
             blank_trial,
-            trail,
             rows,
             columns,
             fillable,
@@ -429,32 +419,32 @@ fn try_until_same(
     }
 }
 
-/// Closes cells under trials, by the marked lines. Answers whether they are alive.
-pub fn try_cells(
+/// Closes a board under trials, by the marked lines. Answers whether it is alive.
+pub fn try_board(
     puzzle: &Puzzle,
     tables: &mut Tables,
-    cells: &mut [Cell],
-    filled_trial: &mut [Cell],
-    blank_trial: &mut [Cell],
-    trail: &mut Trail,
+    board: &mut Board,
+    filled_trial: &mut Board,
+    blank_trial: &mut Board,
     rows: &mut [bool],
     columns: &mut [bool],
     fillable: &mut [bool],
     blankable: &mut [bool],
 ) -> bool
     requires room { tables.old ≡ 128 }
-    requires marks { HasMarks puzzle.now cells.old rows.old columns.old }
-    requires filled_trial { length filled_trial.old ≡ length cells.old }
-    requires blank_trial { length blank_trial.old ≡ length cells.old }
-    requires trail { length cells.old ≤ trail.old.room }
-    requires fillable { length fillable.old ≡ length cells.old }
-    requires blankable { length blankable.old ≡ length cells.old }
-    ensures tried { outcome result cells.new ≡ trials (lines_of puzzle.now) cells.old }
-    ensures trail { trail.new.room ≡ trail.old.room }
+    requires marks { HasMarks puzzle.now board.old.cells rows.old columns.old }
+    requires size { IsBoardOf puzzle.now board.old }
+    requires filled_trial { IsBoardOf puzzle.now filled_trial.old }
+    requires blank_trial { IsBoardOf puzzle.now blank_trial.old }
+    requires fillable { length fillable.old ≡ puzzle.now.width * puzzle.now.height }
+    requires blankable { length blankable.old ≡ puzzle.now.width * puzzle.now.height }
+    ensures tried { outcome result board.new.cells ≡ trials (lines_of puzzle.now) board.old.cells }
+    ensures size { IsBoardOf puzzle.now board.new }
+    ensures filled_trial { IsBoardOf puzzle.now filled_trial.new }
+    ensures blank_trial { IsBoardOf puzzle.now blank_trial.new }
     ensures room { tables.new ≡ tables.old }
 {
-    trail.clear();
-    if !close_cells(puzzle, tables, cells, trail, rows, columns) {
+    if !close_board(puzzle, tables, board, rows, columns) {
         return false;
     }
     fillable.fill(false);
@@ -462,10 +452,9 @@ pub fn try_cells(
     try_until_same(
         puzzle,
         tables,
-        cells,
+        board,
         filled_trial,
         blank_trial,
-        trail,
         rows,
         columns,
         fillable,

@@ -1,5 +1,5 @@
 use Rattle.std.proofs.Common.{◌≡◌, ◌∙◌, rules, arith, ℕ, sym, ap, get_or, false, below_more}
-use Rattle.solve_core.proofs.TrailSteps.{trailed-trans}
+use Rattle.solve_core.proofs.TrailSteps.{trailed-trans, trailed-size}
 use Rattle.solve_core.proofs.GridSteps.{unmarked_more}
 use Rattle.solve_core.proofs.closures.close_columns.Goals as goal
 use Rattle.solve_core.proofs.closures.close_columns.Goals.{then-columns-from+in-Same, then-columns-from+in-Changed, else-columns-from}
@@ -11,11 +11,11 @@ loop-x-preserved c =
       | then-columns-from+in-Same w ↦
           record {
             room = search rules;
-            marks = rw (w.cells-is, w.rows-is, w.columns-is) w.in-Same.ensures.marks;
+            marks = rw (w.board-is, w.rows-is, w.columns-is) w.in-Same.ensures.marks;
             trail =
-                rw (w.cells-is, w.trail-is)
-                (trailed-trans c.args.cells.now c.loop-x.cells w.close_column.new.cells c.args.trail.now c.loop-x.trail w.close_column.new.trail before.trail w.close_column.ensures.trail);
-            space = rw (w.cells-is, w.trail-is) w.close_column.ensures.space;
+                rw w.board-is
+                (trailed-trans c.args.board.now c.loop-x.board w.close_column.new.board before.trail w.close_column.ensures.trail);
+            size = rw w.board-is (trailed-size c.args.puzzle.now c.loop-x.board w.close_column.new.board w.close_column.ensures.trail before.size);
             progress = search rules;
             alive = search rules;
             same = search rules;
@@ -26,11 +26,11 @@ loop-x-preserved c =
       | then-columns-from+in-Changed w ↦
           record {
             room = search rules;
-            marks = rw (w.cells-is, w.rows-is, w.columns-is) w.in-Changed.ensures.marks;
+            marks = rw (w.board-is, w.rows-is, w.columns-is) w.in-Changed.ensures.marks;
             trail =
-                rw (w.cells-is, w.trail-is)
-                (trailed-trans c.args.cells.now c.loop-x.cells w.close_column.new.cells c.args.trail.now c.loop-x.trail w.close_column.new.trail before.trail w.close_column.ensures.trail);
-            space = rw (w.cells-is, w.trail-is) w.close_column.ensures.space;
+                rw w.board-is
+                (trailed-trans c.args.board.now c.loop-x.board w.close_column.new.board before.trail w.close_column.ensures.trail);
+            size = rw w.board-is (trailed-size c.args.puzzle.now c.loop-x.board w.close_column.new.board w.close_column.ensures.trail before.size);
             progress = search rules;
             alive = search rules;
             same = search rules;
@@ -41,10 +41,10 @@ loop-x-preserved c =
       | else-columns-from w ↦
           record {
             room = search rules;
-            marks = rw (w.cells-is, w.rows-is, w.columns-is) before.marks;
-            trail = rw (w.cells-is, w.trail-is) before.trail;
-            space = rw (w.cells-is, w.trail-is) before.space;
-            progress = rw (w.cells-is, w.progress-is) before.progress;
+            marks = rw (w.board-is, w.rows-is, w.columns-is) before.marks;
+            trail = rw w.board-is before.trail;
+            size = rw w.board-is before.size;
+            progress = rw (w.board-is, w.progress-is) before.progress;
             alive = search rules;
             same = search rules;
             done = rw w.columns-is (below_more (λ k. get_or c.loop-x.columns k false ≡ false) c.loop-x.x before.done (ap (λ (q : ℕ). get_or c.loop-x.columns q false) (sym c.from.ensures) ∙ w.if-columns-from.false));
@@ -53,4 +53,4 @@ loop-x-preserved c =
 
 pub returns-in-Dead-clause-trail : goal.returns-in-Dead-clause-trail
 returns-in-Dead-clause-trail c =
-    trailed-trans c.args.cells.now c.loop-x.cells c.close_column.new.cells c.args.trail.now c.loop-x.trail c.close_column.new.trail c.loop-x.invariant.trail c.close_column.ensures.trail
+    trailed-trans c.args.board.now c.loop-x.board c.close_column.new.board c.loop-x.invariant.trail c.close_column.ensures.trail

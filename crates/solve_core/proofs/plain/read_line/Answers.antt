@@ -1,7 +1,7 @@
 use Rattle.std.proofs.Common.{arith}
 use Rattle.grid_core.specs.declared.cells.Cell.TheVariants.{Unknown}
 use Rattle.grid_core.proofs.LineLaws.{cells-along}
-use Rattle.solve_core.proofs.places.read_line.Goals as goal
+use Rattle.solve_core.proofs.plain.read_line.Goals as goal
 
 pub returns : goal.returns
 returns c =

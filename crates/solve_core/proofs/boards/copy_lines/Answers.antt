@@ -1,0 +1,18 @@
+use Rattle.std.proofs.Common.{◌≡◌, ◌≢◌, ◌<◌, ◌∙◌, [], length, get_or, sym, arith, below_more, get_or-set_same, get_or-set_other}
+use Rattle.std.proofs.lemmas.List.{ext_get_or}
+use Rattle.solve_core.proofs.BoardSteps.{line_read}
+use Rattle.solve_core.proofs.boards.copy_lines.Goals as goal
+
+pub loop-i-preserved : goal.loop-i-preserved
+loop-i-preserved c =
+    let i = c.loop-i.i in
+    let within : i < length c.loop-i.lines = omega (arith, c.loop-i.auto.lines, c.loop-i-test.true) in
+    let other : i < length c.args.others.now = omega (arith, c.requires, c.loop-i-test.true) in
+    below_more _ _
+    (λ j h. let apart : j ≢ i = omega arith in get_or-set_other c.loop-i.lines i j c.copy.result [] apart ∙ c.loop-i.invariant j h)
+    (get_or-set_same c.loop-i.lines i c.copy.result [] within ∙ c.copy.ensures ∙ c.index-others-i.is ∙ line_read c.args.others.now i c.index-others-i.result other)
+
+pub returns : goal.returns
+returns c =
+    ext_get_or [] c.loop-i.lines c.args.others.now (c.loop-i.auto.lines ∙ sym c.requires)
+    (λ k h. c.loop-i.invariant k (omega (arith, c.loop-i.auto.lines, c.loop-i-test.false)))

@@ -1,0 +1,202 @@
+//! A grid as its cells, its rows and its columns, with the way back.
+ghost use Rattle.std.specs.Prelude.{◌≡◌, ◌-◌, ◌*◌, ◌<◌, ◌≤◌, [], length, replicate, take, slice_index_or, slice_set, true, IfOk};
+ghost use Rattle.grid_core.specs.Cells.{is_known};
+ghost use Rattle.grid_core.specs.Nonogram.{cells_at, places_from};
+ghost use Rattle.grid_core.specs.PartialGrid.{IsSize};
+ghost use Rattle.grid_core.specs.declared.cells.Cell.TheVariants.{Unknown};
+ghost use Rattle.solve_core.specs.Boards.{AreLinesOf, fresh_board, unknown_board};
+ghost use Rattle.solve_core.specs.Branches.{cells_before};
+ghost use Rattle.solve_core.specs.Trails.{IsTrailed, IsTrailedGrid};
+
+use grid_core::{Cell, Grid, NoMemory};
+use line_core::Line;
+use std::alloc::Global;
+use std::marker::Model;
+
+/// A grid, each row and each column of it as a line, so that none has to be gathered cell by cell. It keeps the places of the cells in the order
+/// in which they were settled, in room that is made once, and so leads back.
+#[derive(Drop)]
+pub struct Board {
+    cells: Vec<Cell>,
+    rows: Vec<Line>,
+    columns: Vec<Line>,
+    trail: Vec<u16>,
+}
+
+impl Model for Board {
+    ghost use Rattle.std.specs.Prelude.{length, vec_capacity};
+    ghost use Rattle.solve_core.specs.Boards.{IsBoard};
+    ghost use Rattle.solve_core.specs.Trails.{TrailedGrid};
+
+    ghost Value = { TrailedGrid };
+
+    ghost view = { λ b. record { width = length b.columns.items; height = length b.rows.items; cells = b.cells.items; trail = b.trail.items } };
+
+    ghost invariant = { λ b. IsBoard b.cells.items b.rows.items b.columns.items b.trail.items (vec_capacity b.trail) };
+}
+
+/// So many lines of so many cells, of which nothing is known.
+fn unknown_lines(alloc: Global, len: u16, count: u16) -> Result<Vec<Line>, NoMemory>
+    requires { (1 ≤ len) × (len ≤ 128) }
+    ensures { IfOk result (λ lines. lines.items ≡ replicate count (replicate len Unknown)) }
+{
+    let mut lines = Vec::with_capacity(alloc, usize::from(count))?;
+    for _ in 0..count {
+        lines.push_reserved(Line::unknown(len));
+    }
+    Ok(lines)
+}
+
+/// Changes a cell, and with it its row and its column.
+fn write(cells: &mut [Cell], rows: &mut [Line], columns: &mut [Line], place: usize, cell: Cell)
+    requires lines { AreLinesOf cells.old rows.old columns.old }
+    requires place { place < length cells.old }
+    ensures cells { cells.new ≡ slice_set cells.old place cell }
+    ensures lines { AreLinesOf cells.new rows.new columns.new }
+{
+    let width = columns.len();
+    let x = place % width;
+    let y = place / width;
+    cells[place] = cell;
+    rows[y].set(x as u16, cell);
+    columns[x].set(y as u16, cell);
+}
+
+/// Copies lines.
+fn copy_lines(lines: &mut [Line], others: &[Line])
+    requires { length others.now ≡ length lines.old }
+    ensures { lines.new ≡ others.now }
+{
+    for i in 0..lines.len() {
+        lines[i] = others[i].copy();
+    }
+}
+
+impl Board {
+    /// A board of which nothing is known.
+    pub fn unknown(alloc: Global, width: u16, height: u16) -> Result<Board, NoMemory>
+        requires { IsSize width height }
+        ensures { IfOk result (λ board. board ≡ unknown_board width height) }
+    {
+        let count = usize::from(width) * usize::from(height);
+        Ok(Board {
+            cells: vec![in alloc; Cell::Unknown; count]?,
+            rows: unknown_lines(alloc, width, height)?,
+            columns: unknown_lines(alloc, height, width)?,
+            trail: Vec::with_capacity(alloc, count)?,
+        })
+    }
+
+    /// The cells, row by row.
+    pub fn cells(&self) -> &[Cell]
+        ensures cells { result.now ≡ self.now.cells }
+        ensures size { IsSize self.now.width self.now.height }
+        ensures count { length self.now.cells ≡ self.now.width * self.now.height }
+    {
+        &self.cells
+    }
+
+    /// The places of the settled cells, the first one settled first.
+    pub fn trail(&self) -> &[u16]
+        ensures trail { result.now ≡ self.now.trail }
+        ensures grid { IsTrailedGrid self.now }
+    {
+        &self.trail
+    }
+
+    /// A row.
+    pub fn row(&self, y: u16) -> Line
+        requires { y < self.now.height }
+        ensures { result ≡ cells_at Unknown self.now.cells (places_from (y * self.now.width) 1 self.now.width) }
+    {
+        self.rows[usize::from(y)].copy()
+    }
+
+    /// A column.
+    pub fn column(&self, x: u16) -> Line
+        requires { x < self.now.width }
+        ensures { result ≡ cells_at Unknown self.now.cells (places_from x self.now.width self.now.height) }
+    {
+        self.columns[usize::from(x)].copy()
+    }
+
+    /// Settles an unknown cell.
+    pub fn settle(&mut self, place: usize, cell: Cell)
+        requires place { place < length self.old.cells }
+        requires unknown { slice_index_or self.old.cells place Unknown ≡ Unknown }
+        requires known { is_known cell ≡ true }
+        ensures cells { self.new.cells ≡ slice_set self.old.cells place cell }
+        ensures trail { IsTrailed self.old self.new }
+    {
+        write(
+            &mut self.cells,
+            &mut self.rows,
+            &mut self.columns,
+            place,
+            cell,
+        );
+        self.trail.push_reserved(place as u16);
+    }
+
+    /// Makes the cell unknown that was settled last.
+    fn undo(&mut self)
+        requires { 0 < length self.old.trail }
+        ensures { self.new ≡ record self.old {
+          cells = cells_before self.old.cells self.old.trail (length self.old.trail - 1);
+          trail = take (length self.old.trail - 1) self.old.trail;
+        } }
+    {
+        let Some(place) = self.trail.pop() else {
+            return;
+        };
+        write(
+            &mut self.cells,
+            &mut self.rows,
+            &mut self.columns,
+            usize::from(place),
+            Cell::Unknown,
+        );
+    }
+
+    /// Makes the cells unknown that were settled since the trail had `mark` places.
+    pub fn go_back(&mut self, mark: usize)
+        ensures { self.new ≡ record self.old { cells = cells_before self.old.cells self.old.trail mark; trail = take mark self.old.trail } }
+    {
+        while self.trail().len() > mark {
+            self.undo();
+        }
+    }
+
+    /// Takes over another board's cells, with nothing to go back to.
+    pub fn restart_from(&mut self, other: &Board)
+        requires width { other.now.width ≡ self.old.width }
+        requires height { other.now.height ≡ self.old.height }
+        ensures { self.new ≡ record other.now { trail = [] } }
+    {
+        self.cells.copy_from_slice(&other.cells);
+        copy_lines(&mut self.rows, &other.rows);
+        copy_lines(&mut self.columns, &other.columns);
+        self.trail.clear();
+    }
+
+    /// Takes over a grid's cells, with nothing to go back to.
+    pub fn read(&mut self, grid: &Grid)
+        requires width { grid.now.width ≡ self.old.width }
+        requires height { grid.now.height ≡ self.old.height }
+        ensures board { self.new ≡ fresh_board grid.now }
+        ensures count { length grid.now.cells ≡ grid.now.width * grid.now.height }
+    {
+        let width = usize::from(grid.width());
+        self.trail.clear();
+        for place in 0..self.cells.len() {
+            let cell = grid.get((place % width) as u16, (place / width) as u16);
+            write(
+                &mut self.cells,
+                &mut self.rows,
+                &mut self.columns,
+                place,
+                cell,
+            );
+        }
+    }
+}
