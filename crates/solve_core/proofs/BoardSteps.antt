@@ -1,9 +1,7 @@
 -- What writing one cell does to the rows and the columns.
-use Rattle.std.proofs.Common.{◌≡◌, ◌≢◌, ℕ, zero, suc, ◌+◌, ◌*◌, ◌/◌, ◌%◌, ◌<◌, ◌≤◌, ◌⊎◌, inl, inr, true, List, [], ◌∷◌, ◌++◌, length, get_or, set, refl, sym, ap, ◌∙◌, arith, subst, length-append, length-set, get_or-set_same, get_or-set_other, replicate}
-use Rattle.std.specs.List.{AllByRecursion}
+use Rattle.std.proofs.Common.{◌≡◌, ◌≢◌, ℕ, zero, suc, ◌+◌, ◌*◌, ◌/◌, ◌%◌, ◌<◌, ◌≤◌, inl, inr, true, List, [], ◌∷◌, ◌++◌, length, get_or, set, refl, sym, ap, ◌∙◌, arith, length-append, length-set, get_or-set_same, get_or-set_other, replicate}
 use Rattle.std.proofs.lemmas.List.{ext_get_or, get_or_default, get_or-replicate, length-replicate}
 use Rattle.std.proofs.lemmas.Nat.{div_below}
-use Rattle.std.proofs.Math.Nat.{mul-le-mul_left}
 use Rattle.grid_core.specs.declared.cells.Cell.{Cell}
 use Rattle.grid_core.specs.declared.cells.Cell.TheVariants.{Unknown}
 use Rattle.grid_core.specs.PartialGrid.{IsSize}
@@ -14,7 +12,6 @@ use Rattle.solve_core.specs.Boards.{AreLinesOf, IsBoard}
 use Rattle.solve_core.specs.Trails.{unknown_count}
 use Rattle.solve_core.proofs.TrailSteps.{count-settled, unknown_count-at_most}
 use Rattle.solve_core.proofs.BranchLaws.{unknown_count-cleared_one, all_append, all_split}
-use Rattle.solve_core.proofs.LineSteps.{apart_places}
 use Rattle.solve_core.proofs.GridSteps.{unique_place, same_or_not, row_within, column_within}
 
 pub length-along : (cells : List Cell) (first step n : ℕ) → length (cells_at Unknown cells (places_from first step n)) ≡ n

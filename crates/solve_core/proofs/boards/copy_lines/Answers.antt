@@ -1,4 +1,4 @@
-use Rattle.std.proofs.Common.{◌≡◌, ◌≢◌, ◌<◌, ◌∙◌, [], length, get_or, sym, arith, below_more, get_or-set_same, get_or-set_other}
+use Rattle.std.proofs.Common.{◌≢◌, ◌<◌, ◌∙◌, [], length, sym, arith, below_more, get_or-set_same, get_or-set_other}
 use Rattle.std.proofs.lemmas.List.{ext_get_or}
 use Rattle.solve_core.proofs.BoardSteps.{line_read}
 use Rattle.solve_core.proofs.boards.copy_lines.Goals as goal

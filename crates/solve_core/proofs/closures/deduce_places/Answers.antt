@@ -1,4 +1,4 @@
-use Rattle.std.proofs.Common.{◌≡◌, ◌∙◌, sym, arith, ap, length, get_or, List, true≢false}
+use Rattle.std.proofs.Common.{◌≡◌, ◌∙◌, sym, arith, ap, get_or, List, true≢false}
 use Rattle.grid_core.specs.declared.cells.Cell.{Cell}
 use Rattle.grid_core.specs.declared.cells.Cell.TheVariants.{Unknown}
 use Rattle.grid_core.specs.Nonogram.{cells_at}

@@ -1,6 +1,6 @@
-use Rattle.std.proofs.Common.{◌∙◌, arith, ltb-true, ltb-false}
+use Rattle.std.proofs.Common.{arith, ltb-false}
 use Rattle.std.proofs.lemmas.List.{ext_get_or}
-use Rattle.std.proofs.Common.{◌≡◌, ◌<◌, ◌≤◌, get_or}
+use Rattle.std.proofs.Common.{◌≤◌}
 use Rattle.grid_core.specs.declared.cells.Cell.TheVariants.{Unknown}
 use Rattle.solve_core.proofs.places.mark_changes.Goals as goal
 

@@ -1,8 +1,6 @@
-use Rattle.std.proofs.Common.{◌≡◌, ◌≢◌, ◌∙◌, ◌+◌, ◌-◌, ◌*◌, ◌<◌, ℕ, length, get_or, set, sym, ap, arith, rules, refl, length-set, get_or-set_other}
+use Rattle.std.proofs.Common.{◌≡◌, ◌∙◌, ◌+◌, ◌-◌, ◌*◌, ◌<◌, ℕ, get_or, set, sym, arith, refl, length-set, get_or-set_other}
 use Rattle.grid_core.specs.declared.cells.Cell.TheVariants.{Unknown}
-use Rattle.solve_core.specs.Marks.{places_of}
 use Rattle.solve_core.proofs.LineSteps.{length-seen, write-step, same-until, same-rest, read-old, apart_places, learned_cell}
-use Rattle.grid_core.proofs.LineLaws.{length-cells_at, length-places_from}
 use Rattle.line_core.proofs.DeductionLaws.{Extends-at}
 use Rattle.solve_core.proofs.TrailSteps.{trailed-refl, trailed-trans}
 use Rattle.solve_core.proofs.places.write_line.Goals as goal

@@ -1,11 +1,9 @@
-use Rattle.std.proofs.Common.{true, ap, sym, subst, ◌∙◌, ◌*◌, arith, List, [], length}
+use Rattle.std.proofs.Common.{true, ap, sym, subst, ◌∙◌, ◌*◌, length}
 use Rattle.std.proofs.lemmas.List.{length-replicate}
-use Rattle.grid_core.specs.declared.cells.Cell.{Cell}
 use Rattle.grid_core.specs.declared.cells.Cell.TheVariants.{Unknown}
 use Rattle.grid_core.specs.Nonogram.{Nonogram, lines_of}
 use Rattle.solve_core.specs.Report.{grade_by}
-use Rattle.solve_core.specs.Search.{first_unknown, events}
-use Rattle.solve_core.specs.Endings.{ending}
+use Rattle.solve_core.specs.Search.{first_unknown}
 use Rattle.solve_core.specs.Branches.{IsClosed}
 use Rattle.solve_core.specs.Trails.{TrailedGrid}
 use Rattle.solve_core.proofs.ReportLaws.{report-alive, report-dead, report-refuted, trials-closed}

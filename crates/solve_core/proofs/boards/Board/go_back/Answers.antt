@@ -1,4 +1,4 @@
-use Rattle.std.proofs.Common.{◌≡◌, ◌-◌, ◌≤◌, ◌∙◌, length, take, ap, arith, ℕ}
+use Rattle.std.proofs.Common.{◌-◌, ◌≤◌, ◌∙◌, length, take, ap, arith}
 use Rattle.solve_core.specs.Trails.{TrailedGrid}
 use Rattle.solve_core.specs.Branches.{cells_before}
 use Rattle.solve_core.proofs.BranchLaws.{before-back, take_least}

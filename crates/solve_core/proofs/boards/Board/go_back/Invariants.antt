@@ -1,4 +1,4 @@
-use Rattle.std.proofs.Common.{◌≡◌, ◌≤◌, length, take}
+use Rattle.std.proofs.Common.{◌≡◌, length, take}
 use Rattle.solve_core.specs.Branches.{cells_before}
 use Rattle.solve_core.proofs.boards.Board.go_back.Given as goal
 

@@ -1,8 +1,7 @@
-use Rattle.std.proofs.Common.{◌≡◌, ◌∙◌, ◌++◌, ◌∷◌, ◌<◌, [], length, get_or, set, ap, sym, arith, subst, List}
+use Rattle.std.proofs.Common.{◌≡◌, ◌∙◌, ◌++◌, ◌∷◌, ◌<◌, [], length, get_or, set, ap, arith, List}
 use Rattle.std.proofs.lemmas.List.{with_items_is}
 use Rattle.grid_core.specs.declared.cells.Cell.{Cell}
 use Rattle.grid_core.specs.declared.cells.Cell.TheVariants.{Unknown}
-use Rattle.solve_core.specs.Boards.{AreLinesOf}
 use Rattle.solve_core.specs.Trails.{TrailedGrid}
 use Rattle.solve_core.proofs.BoardSteps.{board-settled}
 use Rattle.solve_core.proofs.TrailSteps.{trailed-one, count-settled}

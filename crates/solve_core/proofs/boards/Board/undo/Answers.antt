@@ -1,6 +1,5 @@
-use Rattle.std.proofs.Common.{◌≡◌, ◌∙◌, set, ap, List}
+use Rattle.std.proofs.Common.{◌∙◌, set}
 use Rattle.std.proofs.lemmas.List.{with_items_is}
-use Rattle.grid_core.specs.declared.cells.Cell.{Cell}
 use Rattle.grid_core.specs.declared.cells.Cell.TheVariants.{Unknown}
 use Rattle.solve_core.proofs.BoardSteps.{board-undone}
 use Rattle.solve_core.proofs.boards.Board.undo.Goals as goal

@@ -1,4 +1,4 @@
-use Rattle.std.proofs.Common.{rules, ◌≡◌, ◌*◌, ◌≤◌, replicate, vec_capacity, arith}
+use Rattle.std.proofs.Common.{rules, ◌≡◌, ◌*◌, replicate, arith}
 use Rattle.grid_core.specs.declared.cells.Cell.TheVariants.{Unknown}
 use Rattle.solve_core.proofs.BoardSteps.{board-unknown}
 use Rattle.solve_core.proofs.boards.Board.unknown.Goals as goal
