@@ -25,4 +25,10 @@ fn main(rt: HostRuntime) -> ExitCode {
 }
 
 #[cfg(test)]
-mod tests;
+mod tests_reports;
+#[cfg(test)]
+mod tests_samples;
+#[cfg(test)]
+mod tests_surveys;
+#[cfg(test)]
+mod tests_words;

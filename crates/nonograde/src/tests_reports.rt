@@ -1,0 +1,222 @@
+//! What `lines`, `solve` and `convert` print. Each call is made with ample memory, so that a body that always answers `NoMemory` fails here.
+
+use crate::converting::convert;
+use crate::formats::{ConvertFault, Format};
+use crate::reports::{lines_report, solve_report};
+use crate::tests_samples::{CLASH, DEMO, DEMO_GRID, DEMO_NIN, FIT, MEETS, MISSES, ONE, PAIR, SIX, THREE, TWO, assert_bytes, joined, repeated, text_or_word};
+use puzzle_text::{EntryFault, TextFault};
+use std::test::Fail;
+
+#[test]
+fn lines_not_always_no_memory(rt: HostRuntime) -> Result<(), Fail> {
+    let alloc = rt.alloc();
+    let demo = joined(alloc, &[b"one 50\n", DEMO_GRID])?;
+    let demo_non = joined(alloc, &[DEMO, MISSES])?;
+    let clues = repeated(alloc, b"128\n", 128)?;
+    let big = joined(alloc, &[b"128 128\n", &clues, b"#\n", &clues])?;
+    let row = repeated(alloc, b"#", 128)?;
+    let rows = repeated(alloc, &joined(alloc, &[&row, b"\n"])?, 128)?;
+    let full = joined(alloc, &[b"one 16384\n", &rows])?;
+    let table: [(&[u8], &[u8], &[u8]); 12] = [
+        (b"demo.nin", DEMO_NIN, &demo),
+        (b"demo.non", &demo_non, &demo),
+        (b"clash.nin", b"1 1\n1\n0\n", b"none 0\n"),
+        (b"two.nin", b"2 2\n1\n1\n1\n1\n", b"open 0\n??\n??\n"),
+        (b"fit.nin", FIT, b"open 0\n????\n????\n"),
+        (b"big.mk", &big, &full),
+        (b"a.nin", b"", b"NoSize"),
+        (b"a.nin", b"1 129\n", b"BadSize"),
+        (b"a.nin", b"1 1\n1\n", b"BadCount"),
+        (b"a.nin", b"1 1\n1\n1 0\n", b"BadNumber:3"),
+        (b"a.txt", b"", b"UnknownFormat"),
+        (b"nin", FIT, b"UnknownFormat"),
+    ];
+    for (place, (name, body, expected)) in table.iter().enumerate() {
+        let found = text_or_word(alloc, lines_report(alloc, name, body));
+        assert_bytes(&rt, found, expected, place);
+    }
+    Ok(())
+}
+
+#[test]
+fn solve_not_always_no_memory(rt: HostRuntime) -> Result<(), Fail> {
+    let alloc = rt.alloc();
+    let demo = joined(alloc, &[DEMO, MEETS])?;
+    let demo2 = joined(alloc, &[DEMO, MISSES])?;
+    let met = joined(
+        alloc,
+        &[
+            b"1 5x10 one line 50 50 0 meets demo.non\n",
+            DEMO_GRID,
+            b"\n",
+        ],
+    )?;
+    let missed = joined(
+        alloc,
+        &[
+            b"1 5x10 one line 50 50 0 misses demo2.non\n",
+            DEMO_GRID,
+            b"\n",
+        ],
+    )?;
+    let table: [(u32, &[u8], &[u8], &[u8]); 19] = [
+        (1000, b"demo.non", &demo, &met),
+        (0, b"demo.non", &demo, &met),
+        (1000, b"demo2.non", &demo2, &missed),
+        (
+            1000,
+            b"one.mk",
+            ONE,
+            b"1 1x1 one line 1 1 0 absent one.mk\n.\n\n",
+        ),
+        (
+            1000,
+            b"clash.mk",
+            CLASH,
+            b"1 1x1 none line 0 0 0 absent clash.mk\n",
+        ),
+        (
+            1000,
+            b"pair.mk",
+            PAIR,
+            b"1 4x2 one trials 0 8 0 absent pair.mk\n.##.\n#..#\n\n",
+        ),
+        (
+            1000,
+            b"pair.mk",
+            b"4 2\n2\n1 1\n#\n1\n1\n1\n1\n",
+            b"1 4x2 one trials 0 8 0 absent pair.mk\n.##.\n#..#\n\n",
+        ),
+        (
+            1000,
+            b"fit.nin",
+            FIT,
+            b"1 4x2 one trials 0 8 0 absent fit.nin\n.##.\n#..#\n\n",
+        ),
+        (
+            1000,
+            b"six.mk",
+            SIX,
+            b"1 6x2 none trials 0 0 0 absent six.mk\n",
+        ),
+        (
+            0,
+            b"two.mk",
+            TWO,
+            b"1 2x2 unsettled search 0 0 0 absent two.mk\n",
+        ),
+        (
+            1,
+            b"two.mk",
+            TWO,
+            b"1 2x2 unsettled search 0 0 1 absent two.mk\n#.\n.#\n\n",
+        ),
+        (
+            2,
+            b"two.mk",
+            TWO,
+            b"1 2x2 several search 0 0 2 absent two.mk\n#.\n.#\n\n.#\n#.\n\n",
+        ),
+        (
+            1,
+            b"three.mk",
+            THREE,
+            b"1 3x3 unsettled search 0 0 1 absent three.mk\n",
+        ),
+        (
+            2,
+            b"three.mk",
+            THREE,
+            b"1 3x3 unsettled search 0 0 2 absent three.mk\n#..\n.#.\n..#\n\n",
+        ),
+        (
+            3,
+            b"three.mk",
+            THREE,
+            b"1 3x3 several search 0 0 3 absent three.mk\n#..\n.#.\n..#\n\n#..\n..#\n.#.\n\n",
+        ),
+        (
+            1000,
+            b"crlf.non",
+            b"width 2\r\nheight 3\r\nrows\r\n1\r\n\r\n2\r\ncolumns\r\n1,1\r\n1\r\n",
+            b"1 2x3 one line 6 6 0 absent crlf.non\n#.\n..\n##\n\n",
+        ),
+        (
+            1000,
+            b"a\x1f b\n\x7f~.mk",
+            ONE,
+            b"1 1x1 one line 1 1 0 absent a? b??~.mk\n.\n\n",
+        ),
+        (1000, b"bad.mk", b"2 2\n2 x\n1\n#\n1\n1\n", b"BadNumber:2"),
+        (1000, b"what.txt", b"", b"UnknownFormat"),
+    ];
+    for (place, (guesses, name, body, expected)) in table.iter().enumerate() {
+        let guesses = (*guesses).min(1000);
+        let found = text_or_word(alloc, solve_report(alloc, name, body, guesses));
+        assert_bytes(&rt, found, expected, place);
+    }
+    Ok(())
+}
+
+#[test]
+fn large_puzzles_are_solved(rt: HostRuntime) -> Result<(), Fail> {
+    let alloc = rt.alloc();
+    let clues = repeated(alloc, b"128\n", 128)?;
+    let big = joined(alloc, &[b"128 128\n", &clues, b"#\n", &clues])?;
+    let large = joined(alloc, &[b"129 128\n", &clues, b"#\n", &clues])?;
+    let row = repeated(alloc, b"#", 128)?;
+    let rows = repeated(alloc, &joined(alloc, &[&row, b"\n"])?, 128)?;
+    let line = b"1 128x128 one line 16384 16384 0 absent big.mk\n";
+    let solved = joined(alloc, &[line, &rows, b"\n"])?;
+    let table: [(&[u8], &[u8]); 2] = [(&big, &solved), (&large, b"BadSize")];
+    for (place, (body, expected)) in table.iter().enumerate() {
+        let found = text_or_word(alloc, solve_report(alloc, b"big.mk", body, 1000));
+        assert_bytes(&rt, found, expected, place);
+    }
+    Ok(())
+}
+
+#[test]
+fn convert_not_always_no_memory(rt: HostRuntime) -> Result<(), Fail> {
+    let alloc = rt.alloc();
+    let demo = joined(alloc, &[DEMO, MEETS])?;
+    let fit = b"width 4\nheight 2\n\nrows\n2\n1,1\n\ncolumns\n1\n1\n1\n1\n";
+    let table: [(&[u8], &[u8], Format, Result<&[u8], ConvertFault>); 8] = [
+        (b"fit.nin", FIT, Format::Non, Ok(fit)),
+        (b"fit.nin", FIT, Format::Mk, Ok(PAIR)),
+        (
+            b"fit.nin",
+            FIT,
+            Format::Nin,
+            Ok(b"4 2\n2\n1 1\n1\n1\n1\n1\n"),
+        ),
+        (b"demo.non", &demo, Format::Non, Ok(&demo)),
+        (b"demo.non", &demo, Format::Nin, Ok(DEMO_NIN)),
+        (
+            b"flat.mk",
+            b"1 2\n1\n#\n1\n2\n",
+            Format::Nin,
+            Err(ConvertFault::Ambiguous),
+        ),
+        (
+            b"flat.mk",
+            b"1 2\n1\n#\n1\n2\n",
+            Format::Mk,
+            Ok(b"1 2\n1\n#\n1\n2\n"),
+        ),
+        (
+            b"a.mk",
+            b"1 1\n0 1\n#\n1\n",
+            Format::Non,
+            Err(ConvertFault::Entry(EntryFault::Text(TextFault::BadNumber(2)))),
+        ),
+    ];
+    for (place, (name, body, format, expected)) in table.iter().enumerate() {
+        match (convert(alloc, name, body, *format), expected) {
+            (Ok(text), Ok(wanted)) => assert!(rt; text.as_slice() == *wanted, "row {place}"),
+            (Err(fault), Err(wanted)) => assert_eq!(rt; fault, *wanted, "row {place}"),
+            _ => assert!(rt; false, "row {place}"),
+        }
+    }
+    Ok(())
+}

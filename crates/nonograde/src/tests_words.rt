@@ -1,0 +1,175 @@
+//! Which words ask for what, and what the program says and answers.
+
+use crate::command::{CommandFault, Request, parse_words};
+use crate::formats::Format;
+use crate::program::run;
+use crate::stop::{Stop, stop_text};
+use crate::tests_samples::assert_bytes;
+use grid_core::NoMemory;
+use puzzle_text::{CollectionFault, EntryFault, TextFault};
+use std::alloc::{AllocError, Global};
+use std::io::{Read, Write};
+use std::test::Fail;
+use survey_core::{RunFault, Settings};
+
+#[test]
+fn stop_text_not_always_no_memory(rt: HostRuntime) {
+    let table: [(Stop, &[u8]); 8] = [
+        (
+            Stop::Entry(EntryFault::Text(TextFault::NoSize)),
+            b"nonograde: NoSize\n",
+        ),
+        (
+            Stop::Entry(EntryFault::UnknownFormat),
+            b"nonograde: UnknownFormat\n",
+        ),
+        (
+            Stop::Run(RunFault::Collection(CollectionFault::Stray(1))),
+            b"nonograde: Stray:1\n",
+        ),
+        (Stop::Run(RunFault::Write(10)), b"nonograde: Write\n"),
+        (Stop::Run(RunFault::Thread), b"nonograde: Thread\n"),
+        (Stop::Ambiguous, b"nonograde: Ambiguous\n"),
+        (Stop::Read, b"nonograde: Read\n"),
+        (Stop::Write, b"nonograde: Write\n"),
+    ];
+    for (place, (stop, expected)) in table.iter().enumerate() {
+        assert_bytes(&rt, stop_text(rt.alloc(), stop), expected, place);
+    }
+}
+
+fn words_of(alloc: Global, line: &str) -> Result<Vec<String>, AllocError> {
+    let mut words = Vec::new(alloc);
+    for word in line.split_whitespace() {
+        words.push(String::from_str(alloc, word)?)?;
+    }
+    Ok(words)
+}
+
+/// What a command line asks for.
+fn asked(alloc: Global, line: &str) -> Result<Request, CommandFault> {
+    parse_words(alloc, words_of(alloc, line)?)
+}
+
+#[test]
+fn words_ignored_by_surveys(rt: HostRuntime) {
+    let three = Settings {
+        lanes: 3,
+        ring: 1,
+        guesses: 1000,
+        show: false,
+    };
+    match &asked(rt.alloc(), "survey --lanes 3 --ring 1") {
+        Ok(Request::Survey(settings, files)) => {
+            assert_eq!(rt; *settings, three);
+            assert!(rt; files.is_empty());
+        }
+        _ => assert!(rt; false),
+    }
+    let shown = Settings {
+        lanes: 4,
+        ring: 8,
+        guesses: 7,
+        show: true,
+    };
+    match &asked(rt.alloc(), "survey --show a.mk --guesses 7 b.nin") {
+        Ok(Request::Survey(settings, files)) => {
+            assert_eq!(rt; *settings, shown);
+            assert_eq!(rt; files.len(), 2);
+            assert_eq!(rt; files[0].as_str(), "a.mk");
+            assert_eq!(rt; files[1].as_str(), "b.nin");
+        }
+        _ => assert!(rt; false),
+    }
+}
+
+#[test]
+fn words_ignored_on_one_file(rt: HostRuntime) {
+    match &asked(rt.alloc(), "lines demo.nin") {
+        Ok(Request::Lines(file)) => assert_eq!(rt; file.as_str(), "demo.nin"),
+        _ => assert!(rt; false),
+    }
+    match &asked(rt.alloc(), "solve --guesses 2 two.mk") {
+        Ok(Request::Solve(guesses, file)) => {
+            assert_eq!(rt; (*guesses, file.as_str()), (2, "two.mk"));
+        }
+        _ => assert!(rt; false),
+    }
+    match &asked(rt.alloc(), "convert --to nin demo.non") {
+        Ok(Request::Convert(format, file)) => {
+            assert_eq!(rt; (*format, file.as_str()), (Format::Nin, "demo.non"));
+        }
+        _ => assert!(rt; false),
+    }
+}
+
+/// The status of words that are refused or ask for help; 1 where a growth of memory was refused.
+fn status_of(fault: &CommandFault) -> i32 {
+    match fault {
+        CommandFault::Words(error) => error.exit_code(),
+        CommandFault::NoMemory => 1,
+    }
+}
+
+#[test]
+fn refused_words(rt: HostRuntime) {
+    let table = [
+        ("lines", 2),
+        ("lines a.mk b.mk", 2),
+        ("survey --lanes 17", 2),
+        ("survey --lanes 0", 2),
+        ("survey --ring 65", 2),
+        ("survey --ring 0", 2),
+        ("solve --guesses 1000001 a.mk", 2),
+        ("convert --to txt a.mk", 2),
+        ("convert a.mk", 2),
+        ("lnes a.mk", 2),
+        ("", 2),
+        ("--help", 0),
+        ("solve --help", 0),
+    ];
+    for (line, status) in table {
+        match asked(rt.alloc(), line) {
+            Ok(_request) => assert!(rt; false, "{line} is taken"),
+            Err(fault) => assert_eq!(rt; status_of(&fault), status, "{line}"),
+        }
+    }
+}
+
+#[test]
+fn statuses_and_streams(rt: HostRuntime) -> Result<(), Fail> {
+    let none = b"entries 0 refused 0 none 0 one 0 several 0 unsettled 0 line 0 trials 0 search 0\n";
+    let one =
+        b"1 1x1 one line 1 1 0 absent one.mk\n.\n\nentries 1 refused 0 none 0 one 1 several 0 unsettled 0 line 1 trials 0 search 0\n";
+    let table: [(&str, &[u8], u8, &[u8], &[u8]); 6] = [
+        ("survey", b"", 0, none, b""),
+        (
+            "survey --show --lanes 1",
+            b"@ one.mk\n1 1\n0\n#\n0\n",
+            0,
+            one,
+            b"",
+        ),
+        ("survey", b"x\n", 1, b"", b"nonograde: Stray:1\n"),
+        ("survey missing.txt", b"", 1, b"", b"nonograde: Read\n"),
+        ("lines missing.txt", b"", 1, b"", b"nonograde: Read\n"),
+        (
+            "convert --to mk missing.nin",
+            b"",
+            1,
+            b"",
+            b"nonograde: Read\n",
+        ),
+    ];
+    for (line, input, status, printed, said) in table {
+        let words = words_of(rt.alloc(), line).ok().ok_or("memory")?;
+        let mut input = input;
+        let mut output = Vec::new(rt.alloc());
+        let mut errors = Vec::new(rt.alloc());
+        let ended = run(&rt, words, &mut input, &mut output, &mut errors);
+        assert_eq!(rt; ended, status, "{line}");
+        assert!(rt; output.as_slice() == printed, "{line}");
+        assert!(rt; errors.as_slice() == said, "{line}");
+    }
+    Ok(())
+}
