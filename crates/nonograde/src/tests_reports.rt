@@ -3,7 +3,10 @@
 use crate::converting::convert;
 use crate::formats::{ConvertFault, Format};
 use crate::reports::{lines_report, solve_report};
-use crate::tests_samples::{CLASH, DEMO, DEMO_GRID, DEMO_NIN, FIT, MEETS, MISSES, ONE, PAIR, SIX, THREE, TWO, assert_bytes, joined, repeated, text_or_word};
+use crate::tests_samples::{
+    CLASH, DEMO, DEMO_GRID, DEMO_NIN, FIT, MEETS, MISSES, ONE, PAIR, SIX, THREE, TWO, assert_bytes,
+    joined, repeated, text_or_word,
+};
 use puzzle_text::{EntryFault, TextFault};
 use std::test::Fail;
 

@@ -14,7 +14,8 @@ pub const MEETS: &[u8] = b"0\"\n";
 
 pub const MISSES: &[u8] = b"1\"\n";
 
-pub const DEMO_GRID: &[u8] = b".##..\n.##.#\n..#.#\n.###.\n#.#..\n#.#..\n..##.\n.#.#.\n.#.##\n##...\n";
+pub const DEMO_GRID: &[u8] =
+    b".##..\n.##.#\n..#.#\n.###.\n#.#..\n#.#..\n..##.\n.#.#.\n.#.##\n##...\n";
 
 pub const DEMO_NIN: &[u8] =
     b"5 10\n2\n2 1\n1 1\n3\n1 1\n1 1\n2\n1 1\n1 2\n2\n2 1\n2 1 3\n7\n1 3\n2 1\n";
@@ -91,14 +92,22 @@ pub fn ten_entries(alloc: Global) -> Result<Vec<u8>, Fail> {
 }
 
 /// The text, or the fault's word.
-pub fn text_or_word(alloc: Global, answer: Result<Vec<u8>, EntryFault>) -> Result<Vec<u8>, NoMemory> {
+pub fn text_or_word(
+    alloc: Global,
+    answer: Result<Vec<u8>, EntryFault>,
+) -> Result<Vec<u8>, NoMemory> {
     match answer {
         Ok(text) => Ok(text),
         Err(fault) => fault_text(alloc, &fault),
     }
 }
 
-pub fn assert_bytes(rt: &impl Abort, found: Result<Vec<u8>, NoMemory>, expected: &[u8], place: usize) {
+pub fn assert_bytes(
+    rt: &impl Abort,
+    found: Result<Vec<u8>, NoMemory>,
+    expected: &[u8],
+    place: usize,
+) {
     match found {
         Ok(text) => assert!(rt; text.as_slice() == expected, "row {place}"),
         Err(_) => assert!(rt; false, "row {place}: NoMemory"),

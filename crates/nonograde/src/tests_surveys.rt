@@ -3,8 +3,8 @@
 use crate::tests_samples::{DEMO, MEETS, TEN, joined, repeated, ten_entries};
 use lane_core::OpenGate;
 use puzzle_text::{CollectionFault, entries};
-use std::io::{ErrorKind, Read, Write};
 use std::io;
+use std::io::{ErrorKind, Read, Write};
 use std::sync::Wait;
 use std::test::Fail;
 use std::thread::Threads;
