@@ -278,7 +278,7 @@ fn flush_fails_at_the_end(rt: HostRuntime) {
 }
 
 #[test]
-fn passes_on_what_the_reader_answers(rt: HostRuntime) {
+fn passes_on_what_the_streams_answer(rt: HostRuntime) {
     let mut reader = Counted::new(FailingReader {
         rest: b"ab".as_slice(),
         piece: 2,
@@ -290,6 +290,12 @@ fn passes_on_what_the_reader_answers(rt: HostRuntime) {
     match reader.read(&mut buffer) {
         Ok(_) => assert!(rt; false),
         Err(error) => assert!(rt; error.kind() == ErrorKind::Interrupted),
+    }
+    let mut output = failing_writer(rt.alloc(), 2, false);
+    assert_eq!(rt; output.write(b"abc").ok(), Some(2));
+    match output.write(b"c") {
+        Ok(_) => assert!(rt; false),
+        Err(error) => assert!(rt; error.kind() == ErrorKind::BrokenPipe),
     }
 }
 
