@@ -5,16 +5,19 @@ use lib.Pointwise.{pointwise}
 use Rattle.grid_core.specs.declared.cells.Cell.{Cell}
 use Rattle.grid_core.specs.declared.cells.Cell.TheVariants.{Unknown, Filled, Blank}
 
+-- whether the cell is filled or blank
 abbrev pub is_known : Cell → Bool
 is_known Unknown = false
 is_known Filled = true
 is_known Blank = true
 
+-- whether nothing is known of the cell
 abbrev pub is_unknown : Cell → Bool
 is_unknown Unknown = true
 is_unknown Filled = false
 is_unknown Blank = false
 
+-- whether the cell is known to be filled
 abbrev pub is_filled : Cell → Bool
 is_filled Unknown = false
 is_filled Filled = true

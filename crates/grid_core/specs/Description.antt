@@ -14,9 +14,11 @@ pub record Description : Type 0 where
   pub copyright : Option (List ℕ)
   pub license : Option (List ℕ)
 
+-- no text at all
 abbrev pub no_texts : Description
 no_texts = record { catalogue = None; title = None; by = None; copyright = None; license = None }
 
+-- the bytes of a text, if there is one
 abbrev pub bytes_of : Option (Vec ℕ Global) → Option (List ℕ)
 bytes_of None = None
 bytes_of (Some v) = Some v.items

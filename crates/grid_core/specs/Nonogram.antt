@@ -18,6 +18,7 @@ pub record Nonogram : Type 0 where
   pub texts : Description
   pub goal : Option (List Bool)
 
+-- the values of a goal, if there is one
 abbrev pub bools_of : Option (Vec Bool Global) → Option (List Bool)
 bools_of None = None
 bools_of (Some v) = Some v.items
@@ -59,9 +60,11 @@ abbrev pub places_from : ℕ → ℕ → ℕ → List ℕ
 places_from first step zero = []
 places_from first step (suc n) = first ∷ places_from (first + step) step n
 
+-- the row of this number and clue
 abbrev pub row_line : Nonogram → ℕ × List ℕ → GridLine
 row_line p numbered = record { places = places_from (numbered.0 * p.width) 1 p.width; clue = numbered.1 }
 
+-- the column of this number and clue
 abbrev pub column_line : Nonogram → ℕ × List ℕ → GridLine
 column_line p numbered = record { places = places_from numbered.0 p.width p.height; clue = numbered.1 }
 
@@ -73,6 +76,7 @@ lines_of p = map (row_line p) (enumerate_from 0 p.rows) ++ map (column_line p) (
 abbrev pub row_at : Nonogram → ℕ → GridLine
 row_at p y = row_line p (y, slice_index_or p.rows y [])
 
+-- the column of this number
 abbrev pub column_at : Nonogram → ℕ → GridLine
 column_at p x = column_line p (x, slice_index_or p.columns x [])
 

@@ -25,5 +25,6 @@ IsSize width height = IsSizeWithin LONGEST_SIDE width height
 abbrev pub place : PartialGrid → ℕ → ℕ → ℕ
 place g x y = y * g.width + x
 
+-- what is known of the cell in column x and row y
 abbrev pub cell_at : PartialGrid → ℕ → ℕ → Cell
 cell_at g x y = slice_index_or g.cells (place g x y) Unknown

@@ -12,6 +12,7 @@ stretches [] = 0 ∷ []
 stretches (true ∷ cells) = first_longer (stretches cells)
 stretches (false ∷ cells) = 0 ∷ stretches cells
 
+-- whether a number is not 0
 abbrev pub is_positive : ℕ → Bool
 is_positive zero = false
 is_positive (suc n) = true

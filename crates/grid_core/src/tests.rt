@@ -62,11 +62,26 @@ fn are_same_clues(some: &[Clue], others: &[Clue]) -> bool {
             .all(|(clue, other)| clue.numbers() == other.numbers())
 }
 
+fn are_same_texts(some: &Texts, others: &Texts) -> bool {
+    for field in [
+        Field::Catalogue,
+        Field::Title,
+        Field::By,
+        Field::Copyright,
+        Field::License,
+    ] {
+        if some.get(field) != others.get(field) {
+            return false;
+        }
+    }
+    true
+}
+
 fn are_same(some: &Puzzle, others: &Puzzle) -> bool {
     are_same_clues(some.rows(), others.rows())
         && are_same_clues(some.columns(), others.columns())
         && some.goal() == others.goal()
-        && some.texts().get(Field::Title) == others.texts().get(Field::Title)
+        && are_same_texts(some.texts(), others.texts())
 }
 
 #[test]
@@ -83,6 +98,18 @@ fn copies_equal_their_sources(rt: HostRuntime) -> Result<(), Fail> {
         copy.texts().get(Field::Title) == Some(b"Demo".as_slice()),
         "title"
     );
+    for clue in puzzle.rows() {
+        assert!(rt;
+            clue.copy(alloc)?.numbers() == clue.numbers(),
+            "a row's clue"
+        );
+    }
+    for clue in puzzle.columns() {
+        assert!(rt;
+            clue.copy(alloc)?.numbers() == clue.numbers(),
+            "a column's clue"
+        );
+    }
     let clue = puzzle.row_clue(1).copy(alloc)?;
     assert!(rt; clue.numbers() == [2, 1].as_slice(), "a clue");
     assert!(rt;
@@ -133,6 +160,11 @@ fn the_goal_is_the_solution(rt: HostRuntime) -> Result<(), Fail> {
         copy.get(1, 0) == Cell::Filled && copy.get(0, 0) == Cell::Blank,
         "the copy"
     );
+    for y in 0..HEIGHT {
+        for x in 0..WIDTH {
+            assert!(rt; copy.get(x, y) == grid.get(x, y), "each cell of the copy");
+        }
+    }
     assert!(rt; puzzle.solved_by(&copy), "the copy solves it");
     grid.set(0, 0, Cell::Filled);
     assert!(rt; !puzzle.solved_by(&grid), "one cell more");
@@ -141,6 +173,14 @@ fn the_goal_is_the_solution(rt: HostRuntime) -> Result<(), Fail> {
         grid.first_unknown() == Some((4, 9)) && !puzzle.solved_by(&grid),
         "not full"
     );
+    Ok(())
+}
+
+#[test]
+fn a_new_grid_is_unknown(rt: HostRuntime) -> Result<(), Fail> {
+    let grid = Grid::unknown(rt.alloc(), 2, 2)?;
+    assert!(rt; grid.known() == 0 && grid.first_unknown() == Some((0, 0)));
+    assert!(rt; grid.width() == 2 && grid.height() == 2);
     Ok(())
 }
 
@@ -197,6 +237,8 @@ fn puzzles_are_refused_in_order(rt: HostRuntime) -> Result<(), Fail> {
     // sizes, counts of clues, the goal's values, and the refusal
     let cases = [
         (0, 1, 1, 0, Some(9), Some(PuzzleFault::BadSize)),
+        (1, 0, 0, 1, None, Some(PuzzleFault::BadSize)),
+        (129, 1, 3, 2, Some(9), Some(PuzzleFault::BadSize)),
         (1, 129, 129, 1, None, Some(PuzzleFault::BadSize)),
         (129, 1, 1, 129, None, Some(PuzzleFault::BadSize)),
         (2, 1, 2, 1, Some(9), Some(PuzzleFault::BadCount)),

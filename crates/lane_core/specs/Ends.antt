@@ -23,6 +23,7 @@ known_messages back = known_items back.messages
 abbrev pub front_capacity : LaneFront → ℕ
 front_capacity front = producer_capacity front.messages
 
+-- the same, seen from the other end
 abbrev pub back_capacity : LaneBack → ℕ
 back_capacity back = producer_capacity back.answers
 

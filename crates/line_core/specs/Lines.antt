@@ -5,6 +5,7 @@ use Rattle.grid_core.specs.declared.cells.Cell.{Cell}
 use Rattle.grid_core.specs.declared.cells.Cell.TheVariants.{Unknown, Filled, Blank}
 use Rattle.line_core.specs.Masks.{Has, has}
 
+-- whether the cell is known to be blank
 abbrev pub is_blank : Cell → Bool
 is_blank Unknown = false
 is_blank Filled = false

@@ -6,6 +6,7 @@ use Rattle.line_core.specs.declared.starts.Side.TheVariants.{Left, Right}
 use Rattle.line_core.specs.Ends.{leftmost, rightmost}
 use Rattle.line_core.specs.Reach.{IsWholeEnd}
 
+-- the leftmost or the rightmost starts
 abbrev pub outermost : Side → List Cell → List ℕ → Option (List ℕ)
 outermost Left line clue = leftmost line clue
 outermost Right line clue = rightmost line clue

@@ -1,6 +1,6 @@
 //! What a survey prints, and its faults.
 
-use crate::tests_samples::{DEMO, MEETS, TEN, joined, repeated, ten_entries};
+use crate::tests_samples::{DEMO, MEETS, TEN, THREE, TWO, joined, repeated, ten_entries};
 use lane_core::OpenGate;
 use puzzle_text::{CollectionFault, entries};
 use std::io;
@@ -68,6 +68,108 @@ fn survey_not_always_no_memory(rt: HostRuntime) -> Result<(), Fail> {
 }
 
 #[test]
+fn single_puzzles_are_surveyed(rt: HostRuntime) -> Result<(), Fail> {
+    let alloc = rt.alloc();
+    let demo = joined(alloc, &[DEMO, MEETS])?;
+    let clues = repeated(alloc, b"128\n", 128)?;
+    let big = joined(alloc, &[b"128 128\n", &clues, b"#\n", &clues])?;
+    let large = joined(alloc, &[b"129 128\n", &clues, b"#\n", &clues])?;
+    // guesses, name, text, the entry's line, and the totals after `entries 1`
+    let table: [(u32, &[u8], &[u8], &[u8], &[u8]); 11] = [
+        (
+            0,
+            b"demo.non",
+            &demo,
+            b"1 5x10 one line 50 50 0 meets demo.non\n",
+            b" refused 0 none 0 one 1 several 0 unsettled 0 line 1 trials 0 search 0\n",
+        ),
+        (
+            1000,
+            b"pair.mk",
+            b"4 2\n2\n1 1\n#\n1\n1\n1\n1\n",
+            b"1 4x2 one trials 0 8 0 absent pair.mk\n",
+            b" refused 0 none 0 one 1 several 0 unsettled 0 line 0 trials 1 search 0\n",
+        ),
+        (
+            0,
+            b"two.mk",
+            TWO,
+            b"1 2x2 unsettled search 0 0 0 absent two.mk\n",
+            b" refused 0 none 0 one 0 several 0 unsettled 1 line 0 trials 0 search 1\n",
+        ),
+        (
+            1,
+            b"two.mk",
+            TWO,
+            b"1 2x2 unsettled search 0 0 1 absent two.mk\n",
+            b" refused 0 none 0 one 0 several 0 unsettled 1 line 0 trials 0 search 1\n",
+        ),
+        (
+            2,
+            b"two.mk",
+            TWO,
+            b"1 2x2 several search 0 0 2 absent two.mk\n",
+            b" refused 0 none 0 one 0 several 1 unsettled 0 line 0 trials 0 search 1\n",
+        ),
+        (
+            1,
+            b"three.mk",
+            THREE,
+            b"1 3x3 unsettled search 0 0 1 absent three.mk\n",
+            b" refused 0 none 0 one 0 several 0 unsettled 1 line 0 trials 0 search 1\n",
+        ),
+        (
+            2,
+            b"three.mk",
+            THREE,
+            b"1 3x3 unsettled search 0 0 2 absent three.mk\n",
+            b" refused 0 none 0 one 0 several 0 unsettled 1 line 0 trials 0 search 1\n",
+        ),
+        (
+            3,
+            b"three.mk",
+            THREE,
+            b"1 3x3 several search 0 0 3 absent three.mk\n",
+            b" refused 0 none 0 one 0 several 1 unsettled 0 line 0 trials 0 search 1\n",
+        ),
+        (
+            1000,
+            b"crlf.non",
+            b"width 2\r\nheight 3\r\nrows\r\n1\r\n\r\n2\r\ncolumns\r\n1,1\r\n1\r\n",
+            b"1 2x3 one line 6 6 0 absent crlf.non\n",
+            b" refused 0 none 0 one 1 several 0 unsettled 0 line 1 trials 0 search 0\n",
+        ),
+        (
+            1000,
+            b"big.mk",
+            &big,
+            b"1 128x128 one line 16384 16384 0 absent big.mk\n",
+            b" refused 0 none 0 one 1 several 0 unsettled 0 line 1 trials 0 search 0\n",
+        ),
+        (
+            1000,
+            b"large.mk",
+            &large,
+            b"1 refused BadSize large.mk\n",
+            b" refused 1 none 0 one 0 several 0 unsettled 0 line 0 trials 0 search 0\n",
+        ),
+    ];
+    for (guesses, name, body, line, totals) in table {
+        let collection = joined(alloc, &[b"@ ", name, b"\n", body])?;
+        let expected = joined(alloc, &[line, b"entries 1", totals])?;
+        let wanted = Settings {
+            lanes: 2,
+            ring: 1,
+            guesses: guesses.min(1000),
+            show: false,
+        };
+        let found = surveyed(&rt, &collection, &wanted).ok().ok_or("a survey")?;
+        assert!(rt; found == expected);
+    }
+    Ok(())
+}
+
+#[test]
 fn refused_collections(rt: HostRuntime) -> Result<(), Fail> {
     let many = repeated(rt.alloc(), b"@ a.mk\n", 10_001)?;
     let feeds = repeated(rt.alloc(), b"\n", 4096)?;
@@ -100,8 +202,8 @@ impl Read for FailingReader {
 
 /// Takes so many bytes, and then fails.
 #[derive(Drop)]
-struct FailingWriter {
-    room: usize,
+pub struct FailingWriter {
+    pub room: usize,
 }
 
 impl Write for FailingWriter {

@@ -5,6 +5,7 @@ use crate::formats::Format;
 use crate::program::run;
 use crate::stop::{Stop, stop_text};
 use crate::tests_samples::assert_bytes;
+use crate::tests_surveys::FailingWriter;
 use grid_core::NoMemory;
 use puzzle_text::{CollectionFault, EntryFault, TextFault};
 use std::alloc::{AllocError, Global};
@@ -95,6 +96,16 @@ fn words_ignored_on_one_file(rt: HostRuntime) {
         }
         _ => assert!(rt; false),
     }
+    for (line, wanted) in [
+        ("solve two.mk", 1000),
+        ("solve --guesses 0 two.mk", 0),
+        ("solve --guesses 1000000 two.mk", 1_000_000),
+    ] {
+        match &asked(rt.alloc(), line) {
+            Ok(Request::Solve(guesses, _file)) => assert_eq!(rt; *guesses, wanted),
+            _ => assert!(rt; false, "{line}"),
+        }
+    }
     match &asked(rt.alloc(), "convert --to nin demo.non") {
         Ok(Request::Convert(format, file)) => {
             assert_eq!(rt; (*format, file.as_str()), (Format::Nin, "demo.non"));
@@ -141,7 +152,7 @@ fn statuses_and_streams(rt: HostRuntime) -> Result<(), Fail> {
     let none = b"entries 0 refused 0 none 0 one 0 several 0 unsettled 0 line 0 trials 0 search 0\n";
     let one =
         b"1 1x1 one line 1 1 0 absent one.mk\n.\n\nentries 1 refused 0 none 0 one 1 several 0 unsettled 0 line 1 trials 0 search 0\n";
-    let table: [(&str, &[u8], u8, &[u8], &[u8]); 6] = [
+    let table: [(&str, &[u8], u8, &[u8], &[u8]); 7] = [
         ("survey", b"", 0, none, b""),
         (
             "survey --show --lanes 1",
@@ -153,6 +164,7 @@ fn statuses_and_streams(rt: HostRuntime) -> Result<(), Fail> {
         ("survey", b"x\n", 1, b"", b"nonograde: Stray:1\n"),
         ("survey missing.txt", b"", 1, b"", b"nonograde: Read\n"),
         ("lines missing.txt", b"", 1, b"", b"nonograde: Read\n"),
+        ("solve missing.txt", b"", 1, b"", b"nonograde: Read\n"),
         (
             "convert --to mk missing.nin",
             b"",
@@ -171,5 +183,32 @@ fn statuses_and_streams(rt: HostRuntime) -> Result<(), Fail> {
         assert!(rt; output.as_slice() == printed, "{line}");
         assert!(rt; errors.as_slice() == said, "{line}");
     }
+    Ok(())
+}
+
+#[test]
+fn help_and_refused_words(rt: HostRuntime) -> Result<(), Fail> {
+    for (line, status) in [("--help", 0), ("lines", 2), ("survey --lanes 17", 2)] {
+        let words = words_of(rt.alloc(), line).ok().ok_or("memory")?;
+        let mut input: &[u8] = b"";
+        let mut output = Vec::new(rt.alloc());
+        let mut errors = Vec::new(rt.alloc());
+        let ended = run(&rt, words, &mut input, &mut output, &mut errors);
+        assert_eq!(rt; ended, status, "{line}");
+        assert_eq!(rt; output.is_empty(), status == 2, "{line}");
+        assert_eq!(rt; errors.is_empty(), status == 0, "{line}");
+    }
+    Ok(())
+}
+
+#[test]
+fn full_output_is_a_fault(rt: HostRuntime) -> Result<(), Fail> {
+    let words = words_of(rt.alloc(), "survey").ok().ok_or("memory")?;
+    let mut input: &[u8] = b"";
+    let mut output = FailingWriter { room: 3 };
+    let mut errors = Vec::new(rt.alloc());
+    let ended = run(&rt, words, &mut input, &mut output, &mut errors);
+    assert_eq!(rt; ended, 1);
+    assert!(rt; errors.as_slice() == b"nonograde: Write\n".as_slice());
     Ok(())
 }

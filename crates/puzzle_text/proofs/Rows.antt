@@ -77,6 +77,15 @@ fronts = refl
 nin_empty : read_nin 128 [] ≡ Err NoSize
 nin_empty = refl
 
+nin_too_wide : read_nin 128 (codes "1 129\n") ≡ Err BadSize
+nin_too_wide = refl
+
+nin_one_line : read_nin 128 (codes "1 1\n1\n") ≡ Err BadCount
+nin_one_line = refl
+
+nin_zero_beside : read_nin 128 (codes "1 1\n1\n1 0\n") ≡ Err (BadNumber 3)
+nin_zero_beside = refl
+
 non_no_size : read_non 128 (codes "width 2\nrows\n1\ncolumns\n1\n0\n") ≡ Err NoSize
 non_no_size = refl
 

@@ -179,17 +179,50 @@ fn rules_of_non(rt: HostRuntime) {
 }
 
 #[test]
+fn odd_lines(rt: HostRuntime) {
+    let rows: [(&[u8], &[u8], &[u8]); 7] = [
+        // What follows a second section line is that section's.
+        (
+            b".non",
+            b"width 1\nheight 1\nrows\n1\nrows\n7\ncolumns\n1\n",
+            b"Twice:5",
+        ),
+        // Commas alone: the empty clue in a section, no size, and belonging nowhere.
+        (
+            b".non",
+            b"width 1\nheight 1\nrows\n,,\ncolumns\n,\n",
+            b"width 1\nheight 1\n\nrows\n0\n\ncolumns\n0\n",
+        ),
+        (b".nin", b",\n1 1\n1\n1\n", b"NoSize"),
+        (
+            b".non",
+            b",\nwidth 1\nheight 1\nrows\n1\ncolumns\n1\n",
+            b"BadLine:1",
+        ),
+        // A first line that begins with the mark between rows and columns is the line of the sizes.
+        (b".nin", b"#\n1 1\n", b"NoSize"),
+        (b".mk", b"# 5\n1\n#\n1\n", b"BadSize"),
+        // Only a carriage return at the very end is dropped.
+        (b".nin", b"1 1\n1\r \n1\n", b"BadNumber:2"),
+    ];
+    assert!(rt; all_said(rt.alloc(), &rows));
+}
+
+#[test]
 fn long_texts(rt: HostRuntime) -> Result<(), Fail> {
     let feeds = repeated(rt.alloc(), b"", b"\n", LONGEST_PUZZLE)?;
     let more = repeated(rt.alloc(), b"", b"\n", LONGEST_PUZZLE + 1)?;
     let front = b"width 1\nheight 1\nrows\n1\ncolumns\n1\ntitle ";
     let title = repeated(rt.alloc(), front, b"a", 65_537)?;
-    let rows: [(&[u8], &[u8], &[u8]); 5] = [
+    let front = b"width 1\nheight 1\nrows\n1\ncolumns\n1\ngoal ";
+    let goal = repeated(rt.alloc(), front, b"1", 65_537)?;
+    let rows: [(&[u8], &[u8], &[u8]); 6] = [
         (b".non", &more, b"TooLong"),
         (b".mk", &more, b"TooLong"),
         (b".nin", &more, b"TooLong"),
         (b".nin", &feeds, b"NoSize"),
         (b".non", &title, b"BadLine:7"),
+        (b".non", &goal, b"BadGoal:7"),
     ];
     assert!(rt; all_said(rt.alloc(), &rows));
     Ok(())

@@ -17,6 +17,7 @@ abbrev pub outcome : Bool → List Cell → Option (List Cell)
 outcome true cells = Some cells
 outcome false cells = None
 
+-- the places of a line
 abbrev pub places_of : Places → List ℕ
 places_of p = places_from p.first p.step p.count
 
@@ -55,6 +56,7 @@ pub record HasMarks (p : Nonogram) (cells : List Cell) (rows columns : List Bool
   pub rows_settled : (y : ℕ) → y < p.height → slice_index_or rows y false ≡ false → IsSettled cells (row_at p y)
   pub columns_settled : (x : ℕ) → x < p.width → slice_index_or columns x false ≡ false → IsSettled cells (column_at p x)
 
+-- each line that may have more to give is marked, unless the cells are dead
 abbrev pub MarksAfter : Progress → Nonogram → List Cell → List Bool → List Bool → Type 0
 MarksAfter Dead p cells rows columns = Unit {0}
 MarksAfter Same p cells rows columns = HasMarks p cells rows columns
