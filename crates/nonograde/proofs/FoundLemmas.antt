@@ -1,5 +1,5 @@
 -- What an answer shows of its puzzle.
-use Rattle.std.proofs.Common.{◌≡◌, ◌∙◌, ℕ, refl, ap, Result, Ok}
+use Rattle.std.proofs.Common.{◌≡◌, ◌∙◌, ℕ, ap, Result, Ok}
 use Rattle.grid_core.specs.Nonogram.{Nonogram}
 use Rattle.grid_core.specs.declared.memory.NoMemory.{NoMemory}
 use Rattle.solve_core.specs.Search.{first_unknown}

@@ -8,7 +8,6 @@ use Rattle.grid_core.specs.Cells.{is_known}
 use Rattle.grid_core.specs.Nonogram.{Nonogram}
 use Rattle.grid_core.specs.PartialGrid.{PartialGrid}
 use Rattle.solve_core.specs.Report.{grid_of, line_closure}
-use Rattle.puzzle_text.specs.Collections.{Entry}
 use Rattle.puzzle_text.specs.Formats.{read_entry}
 use Rattle.puzzle_text.specs.declared.faults.EntryFault.{EntryFault}
 use Rattle.puzzle_text.specs.declared.faults.EntryFault.TheVariants.{Text}

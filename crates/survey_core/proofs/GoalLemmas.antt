@@ -8,7 +8,7 @@ use Rattle.std.proofs.lemmas.Slice.Eq.{bytes_eq-Decides}
 use Rattle.grid_core.specs.Nonogram.{GridLine, Nonogram, GivenMeets, Meets, MeetsLine, lines_of}
 use Rattle.grid_core.specs.declared.puzzles.GoalWord.{GoalWord}
 use Rattle.grid_core.specs.declared.puzzles.GoalWord.TheVariants as word
-use Rattle.survey_core.specs.Goals.{goal_word, meets_clues, meets_line, word_of_goal}
+use Rattle.survey_core.specs.Goals.{meets_clues, meets_line, word_of_goal}
 
 lines_decide : (full : List Bool) (lines : List GridLine) → Decides (list_all (meets_line full) lines) (AllByRecursion (MeetsLine full) lines)
 lines_decide full [] = (λ _. tt, λ _. refl)

@@ -1,5 +1,5 @@
 -- Entries that are read, and the answers beside them.
-use Rattle.std.proofs.Common.{◌≡◌, false, true, ℕ, zero, suc, ◌+◌, ◌<◌, List, [], ◌∷◌, ◌++◌, length, map, take, drop, get_or, Option, Some, None, Result, Ok, Err, IsOk, refl, sym, ap, subst, ◌∙◌, add-one, arith}
+use Rattle.std.proofs.Common.{◌≡◌, false, true, ℕ, ◌+◌, ◌<◌, List, [], ◌∷◌, ◌++◌, length, map, take, drop, get_or, Option, None, Result, Ok, Err, IsOk, sym, ap, subst, ◌∙◌, add-one, arith}
 use Rattle.std.proofs.Math.Seq.{drop-cons}
 use Rattle.std.proofs.lemmas.List.{get_or-map, length-map, map-append, map_more}
 use Rattle.grid_core.specs.Nonogram.{Nonogram}

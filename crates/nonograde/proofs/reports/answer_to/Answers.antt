@@ -1,4 +1,4 @@
-use Rattle.std.proofs.Common.{◌≡◌, ◌∙◌}
+use Rattle.std.proofs.Common.{◌∙◌}
 use Rattle.nonograde.proofs.FoundLemmas.{report_found}
 use Rattle.nonograde.proofs.reports.answer_to.Goals as goal
 

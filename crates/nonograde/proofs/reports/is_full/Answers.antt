@@ -1,4 +1,4 @@
-use Rattle.std.proofs.Common.{◌≡◌, ap, ◌∙◌, is_none, position}
+use Rattle.std.proofs.Common.{ap, ◌∙◌, is_none, position}
 use Rattle.grid_core.specs.Cells.{is_unknown}
 use Rattle.nonograde.proofs.FullLemmas.{none_unknown, is_none-from, is_none-option_map}
 use Rattle.nonograde.proofs.reports.is_full.Goals as goal

@@ -1,4 +1,4 @@
-use Rattle.std.proofs.Common.{◌≡◌, ◌∙◌, ap, ◌++◌}
+use Rattle.std.proofs.Common.{◌∙◌, ap, ◌++◌}
 use Rattle.nonograde.proofs.LinesLemmas.{report_of_closed, unknown_is}
 use Rattle.nonograde.specs.Reports.{outcome_report}
 use Rattle.nonograde.proofs.reports.lines_text.Goals as goal

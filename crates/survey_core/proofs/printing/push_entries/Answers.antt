@@ -1,4 +1,4 @@
-use Rattle.std.proofs.Common.{arith, ◌<◌, ◌≡◌, length, get_or}
+use Rattle.std.proofs.Common.{arith, ◌<◌, length}
 use Rattle.std.proofs.lemmas.Grind.{common_steps}
 use Rattle.survey_core.proofs.PrintedLemmas.{entries_text-more}
 use Rattle.survey_core.specs.Entries.{shown_outcome}
