@@ -7,4 +7,5 @@ pub mod Entries
 pub mod Totals
 pub mod Survey
 pub mod Readings
+pub mod Reading
 pub mod Leaving

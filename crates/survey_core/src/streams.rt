@@ -3,6 +3,7 @@
 ghost use Rattle.std.specs.Prelude.{◌≡◌, ◌+◌, ◌-◌, ◌^◌, ◌<◌, ◌≤◌, ◌↔◌, length, take, vec_len, IfOk, IfErr, IsErr, OnOk, IsErrOf};
 ghost use Rattle.std.specs.Io.KnownBytes.{Appends, Consumes, IsAtEnd};
 ghost use Rattle.survey_core.specs.Counted.{fault_count};
+ghost use Rattle.survey_core.specs.Reading.{ReadsWithin};
 
 use crate::Counted;
 use std::alloc::Global;
@@ -26,6 +27,7 @@ pub(crate) fn read_collection<R: Read>(
     requires { fault_count reader.old < 2 ^ 32 - 1 }
     ensures bytes { IfOk result (λ text. Consumes (R.remaining reader.old.inner) (R.remaining reader.new.inner) text.items) }
     ensures bound { IfOk result (λ text. vec_len text ≤ LONGEST_COLLECTION + 1) }
+    ensures refused { IfErr result (λ _. ReadsWithin (LONGEST_COLLECTION + 1) (R.remaining reader.old.inner) (R.remaining reader.new.inner)) }
     ensures whole { IfOk result (λ text. vec_len text ≤ LONGEST_COLLECTION → IsAtEnd (R.remaining reader.new.inner)) }
     ensures failed { IsErrOf result ReadFault.Read ↔ (fault_count reader.old < fault_count reader.new) }
 {

@@ -1,11 +1,13 @@
 //! The survey of a collection, and of entries in hand.
 
-ghost use Rattle.std.specs.Prelude.{◌≡◌, ◌-◌, ◌^◌, ◌<◌, ◌≤◌, ◌↔◌, ◌⊎◌, length, map, IfOk, IfErr, IfSome, OnOk, IsErrOf};
+ghost use Rattle.std.specs.Prelude.{◌≡◌, ◌+◌, ◌-◌, ◌^◌, ◌<◌, ◌≤◌, ◌↔◌, ◌⊎◌, length, map, IfOk, IfErr, IfSome, OnOk, IsErrOf};
 ghost use Rattle.std.specs.Io.KnownBytes.{IsAtEnd, Keeps};
 ghost use Rattle.puzzle_text.specs.Shown.{shown_entry};
 ghost use Rattle.survey_core.specs.Counted.{fault_count};
+ghost use Rattle.survey_core.specs.Reading.{ReadsWithin};
 ghost use Rattle.survey_core.specs.Leaving.{IsErrWrite, IsWrite, Leaves};
 ghost use Rattle.survey_core.specs.Survey.{survey_of, survey_of_entries, survey_of_list};
+ghost use Rattle.survey_core.specs.declared.streams.TheConstants.{LONGEST_COLLECTION};
 
 use crate::collecting::CollectFault;
 use crate::grading::grade_entries;
@@ -71,6 +73,7 @@ pub fn run_survey<H: Threads + Wait + Sync, R: Read, W: Write, G: Gate + Sync>(
 ) -> Result<(), RunFault>
     requires reading { fault_count reader.old < 2 ^ 32 - 1 }
     requires writing { fault_count writer.old < 2 ^ 32 - 1 }
+    ensures bound { ReadsWithin (LONGEST_COLLECTION + 1) (R.remaining reader.old.inner) (R.remaining reader.new.inner) }
     ensures ended { OnOk result (IsAtEnd (R.remaining reader.new.inner)) }
     ensures answer { IfSome (R.remaining reader.old.inner) (λ input.
         Leaves (survey_of settings.now.guesses settings.now.show input) result (W.contents writer.old.inner) (W.contents writer.new.inner)) }
