@@ -27,7 +27,7 @@ impl Picture<'_> {
     }
 }
 
-// Reads the cells at places that lie a step apart.
+/// Reads the cells at places that lie a step apart.
 fn read_line(picture: Picture<'_>, first: usize, step: usize, line: &mut [bool])
     requires within { (i : ℕ) → i < length line.old → first + i * step < length (values_of picture) }
     ensures { line.new ≡ cells_at false (values_of picture.entry) (places_from first step (length line.old)) }
@@ -37,7 +37,7 @@ fn read_line(picture: Picture<'_>, first: usize, step: usize, line: &mut [bool])
     }
 }
 
-// Whether the runs of a line are its clue.
+/// Whether the runs of a line are its clue.
 fn is_line_met(picture: Picture<'_>, first: usize, step: usize, count: u16, clue: &Clue) -> bool
     requires short { count ≤ LONGEST_SIDE }
     requires within { (i : ℕ) → i < count → first + i * step < length (values_of picture) }

@@ -260,7 +260,7 @@ fn is_goal(count: usize, goal: &Option<Vec<bool>>) -> bool
     }
 }
 
-// What the type of each clue keeps.
+/// What the type of each clue keeps.
 fn see_clues(mut clues: &[Clue])
     ensures { AllByRecursion (λ clue. is_clue LONGEST_SIDE clue ≡ true) clues.entry.now }
 {

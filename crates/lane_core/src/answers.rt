@@ -21,6 +21,7 @@ pub struct Answer {
 }
 
 impl Answer {
+    /// The answer with these parts, whose outcome is the report of this puzzle under this limit, or want of memory.
     pub(crate) fn new(
         number: u32,
         puzzle: Puzzle,
@@ -77,7 +78,7 @@ impl Answer {
     }
 }
 
-// What the type of a puzzle keeps.
+/// What the type of a puzzle keeps.
 fn see_puzzle(puzzle: &Puzzle)
     ensures { IsNonogram puzzle.now }
 {

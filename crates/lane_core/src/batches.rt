@@ -72,7 +72,7 @@ impl BatchLane {
     }
 }
 
-/// Whether a message waits or an answer is held.
+/// Whether a message waits or an answer is held. Both ends of the ring are looked at, since the worker's end alone may not see the newest message.
 fn has_work(front: &mut LaneFront, back: &mut LaneBack) -> bool
     requires { AreOneLane front.old back.old }
     ensures front { SameFront front.old front.new × (front_lists front.new ≡ front_lists front.old) }

@@ -11,8 +11,11 @@ pub const MOST_GUESSES: u32 = 1_000_000;
 /// A puzzle to be graded, with its number and its limit on guesses, at most 1,000,000.
 #[derive(Debug, Drop)]
 pub struct Job {
+    /// The number that its answer will have.
     pub number: u32,
+    /// The puzzle.
     pub puzzle: Puzzle,
+    /// The limit on guesses.
     pub guesses: u32,
     pub ghost within_limit: { guesses ≤ MOST_GUESSES },
 }

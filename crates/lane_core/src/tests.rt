@@ -245,6 +245,49 @@ fn dealing_a_batch(rt: HostRuntime) -> Result<(), Fail> {
 }
 
 #[test]
+fn dealing_with_little_room(rt: HostRuntime) -> Result<(), Fail> {
+    let alloc = rt.alloc();
+    let mut lane = BatchLane::new(alloc, 2).ok().ok_or("memory")?;
+    let mut waiting = VecDeque::with_capacity(alloc, 2)?;
+    for number in 1..3 {
+        waiting.push_back(job(alloc, number)?)?;
+    }
+    let mut got = Vec::with_capacity(alloc, 1)?;
+    assert!(rt; deal(&mut lane, &mut waiting, &mut got));
+    lane.work(alloc, &OpenGate);
+    assert!(rt; deal(&mut lane, &mut waiting, &mut got));
+    assert_eq!(rt; (waiting.len(), got.len()), (0, 1));
+    assert!(rt; !deal(&mut lane, &mut waiting, &mut got));
+    assert_eq!(rt; got.len(), 1);
+    let left = lane.take().ok_or("no answer")?;
+    assert_eq!(rt; left.number(), 2);
+    Ok(())
+}
+
+#[test]
+fn dealing_at_a_front(rt: HostRuntime) -> Result<(), Fail> {
+    let alloc = rt.alloc();
+    let mut lane = Both::open(alloc).ok().ok_or("memory")?;
+    let mut waiting = VecDeque::with_capacity(alloc, 2)?;
+    for number in 1..3 {
+        waiting.push_back(job(alloc, number)?)?;
+    }
+    let mut got = Vec::with_capacity(alloc, 2)?;
+    assert!(rt; deal(&mut lane.front, &mut waiting, &mut got));
+    assert!(rt; !deal(&mut lane.front, &mut waiting, &mut got));
+    assert_eq!(rt; (waiting.len(), got.len()), (1, 0));
+    assert_eq!(rt; lane.back.step(alloc, &OpenGate), Step::Graded);
+    assert!(rt; deal(&mut lane.front, &mut waiting, &mut got));
+    assert_eq!(rt; (waiting.len(), got.len()), (0, 1));
+    assert_eq!(rt; lane.back.step(alloc, &OpenGate), Step::Graded);
+    assert!(rt; deal(&mut lane.front, &mut waiting, &mut got));
+    assert_eq!(rt; lane.back.step(alloc, &OpenGate), Step::Done);
+    assert_eq!(rt; got.len(), 2);
+    assert!(rt; lane.settle().is_ok());
+    Ok(())
+}
+
+#[test]
 fn grades_a_job(rt: HostRuntime) -> Result<(), Fail> {
     let alloc = rt.alloc();
     let answer = grade(alloc, job(alloc, 7)?);

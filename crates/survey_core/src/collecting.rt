@@ -73,7 +73,7 @@ pub fn collect<R: Threads + Wait + Sync, G: Gate + Sync>(
     collect_some(rt, alloc, jobs, usize::from(lanes), usize::from(ring), gate)
 }
 
-// The same, over any number of jobs.
+/// The same, over any number of jobs.
 fn collect_some<R: Threads + Wait + Sync, G: Gate + Sync>(
     rt: &R,
     alloc: Global,
@@ -103,25 +103,28 @@ fn collect_some<R: Threads + Wait + Sync, G: Gate + Sync>(
     Ok(gather(&all, count, lanes, queues, gathered))
 }
 
+/// Room for so many answers.
 fn room_for(alloc: Global, count: usize) -> Result<Vec<Answer>, NoMemory>
     ensures { IfOk result (λ room. (room.items ≡ []) × (vec_capacity room ≡ count)) }
 {
     Ok(Vec::with_capacity(alloc, count)?)
 }
 
+/// Room for so many running lanes.
 fn room_for_lanes(alloc: Global, count: usize) -> Result<VecDeque<RunningLane, Global>, NoMemory>
     ensures { IfOk result (λ room. (room.items ≡ []) × (count ≤ deque_capacity room)) }
 {
     Ok(VecDeque::with_capacity(alloc, count)?)
 }
 
+/// Room for the answers of so many lanes.
 fn room_for_answers(alloc: Global, count: usize) -> Result<Vec<VecDeque<Answer, Global>>, NoMemory>
     ensures { IfOk result (λ room. (room.items ≡ []) × (count ≤ vec_capacity room)) }
 {
     Ok(Vec::with_capacity(alloc, count)?)
 }
 
-// The answers of each lane, once its worker was started, and it was finished, drained and settled.
+/// The answers of each lane, once its worker was started, and it was finished, drained and settled.
 fn run_lanes<'s, E, R: Threads + Wait + Sync, G: Gate + Sync>(
     rt: &'s R,
     scope: &Scope<'s, E>,
@@ -140,7 +143,7 @@ fn run_lanes<'s, E, R: Threads + Wait + Sync, G: Gate + Sync>(
     Ok(settle_all(rt, running, settled))
 }
 
-// Starts the worker of each lane. Where one is not started, those before it are stopped.
+/// Starts the worker of each lane. Where one is not started, those before it are stopped.
 fn start_all<'s, E, R: Threads + Wait + Sync, G: Gate + Sync>(
     rt: &'s R,
     scope: &Scope<'s, E>,
@@ -166,7 +169,7 @@ fn start_all<'s, E, R: Threads + Wait + Sync, G: Gate + Sync>(
     Ok(running)
 }
 
-// Asks each worker to finish, and waits for it.
+/// Asks each worker to finish, and waits for it.
 fn stop_all<R: Threads>(rt: &R, running: VecDeque<RunningLane, Global>) {
     let mut running = running;
     'stopping: while let Some(lane) = running.pop_front() {
@@ -174,7 +177,7 @@ fn stop_all<R: Threads>(rt: &R, running: VecDeque<RunningLane, Global>) {
     }
 }
 
-// Takes turns at the lanes until each is complete. After a round in which nothing could be done, the processor goes to another thread.
+/// Takes turns at the lanes until each is complete. After a round in which nothing could be done, the processor goes to another thread.
 fn take_turns<R: Wait>(rt: &R, running: &mut VecDeque<RunningLane, Global>)
     ensures { dealt_jobs running.new.items ≡ dealt_jobs running.old.items }
 {
@@ -187,7 +190,7 @@ fn take_turns<R: Wait>(rt: &R, running: &mut VecDeque<RunningLane, Global>)
     }
 }
 
-// One turn at each lane. Complete where each is; else whether anything could be done.
+/// One turn at each lane. Complete where each is; else whether anything could be done.
 fn take_round(running: &mut VecDeque<RunningLane, Global>) -> Turn
     ensures { dealt_jobs running.new.items ≡ dealt_jobs running.old.items }
 {
@@ -206,7 +209,7 @@ fn take_round(running: &mut VecDeque<RunningLane, Global>) -> Turn
     round
 }
 
-// One turn at one lane.
+/// One turn at one lane.
 #[tactic(auto, using(crate::proofs::CollectedLemmas::places))]
 fn turn_at(running: &mut VecDeque<RunningLane, Global>, place: usize) -> Turn
     requires { place < deque_len running.old }
@@ -217,7 +220,7 @@ fn turn_at(running: &mut VecDeque<RunningLane, Global>, place: usize) -> Turn
     lane.turn()
 }
 
-// Settles the lanes, in order.
+/// Settles the lanes, in order.
 fn settle_all<R: Threads + Wait>(
     rt: &R,
     running: VecDeque<RunningLane, Global>,
@@ -229,7 +232,7 @@ fn settle_all<R: Threads + Wait>(
     let mut running = running;
     let mut settled = settled;
     'settling: while let Some(lane) = running.pop_front() {
-        settled.push_reserved(lane.settled(rt));
+        settled.push_reserved(lane.into_answers(rt));
     }
     settled
 }

@@ -31,7 +31,7 @@ pub fn deal_out(
     Ok(queues)
 }
 
-// As many empty queues as lanes.
+/// As many empty queues as lanes.
 fn no_jobs(alloc: Global, lanes: usize) -> Result<Vec<VecDeque<Job, Global>>, NoMemory>
     ensures lanes { IfOk result (λ queues. vec_len queues ≡ lanes) }
     ensures empty { IfOk result (λ queues. (k : ℕ) → slice_index_or (map (λ q. q.items) queues.items) k [] ≡ []) }

@@ -37,6 +37,7 @@ pub(crate) fn grade_word(grade: Grade) -> &'static str
     }
 }
 
+/// The word that is printed for what is said of a goal.
 fn goal_text(word: GoalWord) -> &'static str
     ensures { result.now ≡ goal_text word }
 {
@@ -54,6 +55,7 @@ fn goal_word(puzzle: &Puzzle) -> GoalWord
     puzzle.goal_word()
 }
 
+/// Adds the sizes, the verdict and the grade.
 fn push_verdict(text: &mut Vec<u8>, puzzle: &Puzzle, findings: &Findings) -> Result<(), NoMemory>
     ensures { OnOk result (text.new.items ≡ text.old.items ++ verdict_text puzzle.now findings.now) }
 {
@@ -66,6 +68,7 @@ fn push_verdict(text: &mut Vec<u8>, puzzle: &Puzzle, findings: &Findings) -> Res
     push_bytes(text, grade_word(findings.grade).as_bytes())
 }
 
+/// Adds the cells known after lines and after trials, the guesses spent, and what is said of the goal.
 fn push_counts(text: &mut Vec<u8>, puzzle: &Puzzle, findings: &Findings) -> Result<(), NoMemory>
     ensures { OnOk result (text.new.items ≡ text.old.items ++ counts_text puzzle.now findings.now) }
 {
@@ -78,6 +81,7 @@ fn push_counts(text: &mut Vec<u8>, puzzle: &Puzzle, findings: &Findings) -> Resu
     push_bytes(text, goal_text(goal_word(puzzle)).as_bytes())
 }
 
+/// Adds what was found of a puzzle.
 fn push_found(text: &mut Vec<u8>, puzzle: &Puzzle, findings: &Findings) -> Result<(), NoMemory>
     ensures { OnOk result (text.new.items ≡ text.old.items ++ result_text (Ok (puzzle.now, findings.now))) }
 {
@@ -86,6 +90,7 @@ fn push_found(text: &mut Vec<u8>, puzzle: &Puzzle, findings: &Findings) -> Resul
     push_counts(text, puzzle, findings)
 }
 
+/// Adds why an entry is refused.
 fn push_refusal(alloc: Global, text: &mut Vec<u8>, fault: &EntryFault) -> Result<(), NoMemory>
     ensures { OnOk result (text.new.items ≡ text.old.items ++ codes "refused " ++ word_of fault.now) }
 {
@@ -93,6 +98,7 @@ fn push_refusal(alloc: Global, text: &mut Vec<u8>, fault: &EntryFault) -> Result
     push_bytes(text, &fault_text(alloc, fault)?)
 }
 
+/// Adds what was found, or why the entry is refused.
 fn push_result(alloc: Global, text: &mut Vec<u8>, outcome: &Outcome) -> Result<(), NoMemory>
     ensures { OnOk result (text.new.items ≡ text.old.items ++ result_text (shown_outcome outcome.now).result) }
 {
@@ -102,6 +108,7 @@ fn push_result(alloc: Global, text: &mut Vec<u8>, outcome: &Outcome) -> Result<(
     }
 }
 
+/// Adds the line of an entry.
 fn push_line(
     alloc: Global,
     text: &mut Vec<u8>,
@@ -118,6 +125,7 @@ fn push_line(
     push_bytes(text, b"\n")
 }
 
+/// Adds a solution, and an empty line.
 fn push_solution(text: &mut Vec<u8>, grid: &Grid) -> Result<(), NoMemory>
     ensures { OnOk result (text.new.items ≡ text.old.items ++ solution_text grid.now) }
 {
@@ -125,6 +133,7 @@ fn push_solution(text: &mut Vec<u8>, grid: &Grid) -> Result<(), NoMemory>
     push_bytes(text, b"\n")
 }
 
+/// Adds the solutions that a verdict shows.
 fn push_solutions(text: &mut Vec<u8>, verdict: &Verdict) -> Result<(), NoMemory>
     ensures { OnOk result (text.new.items ≡ text.old.items ++ flat_map solution_text (solutions_of verdict.now)) }
 {
@@ -140,6 +149,7 @@ fn push_solutions(text: &mut Vec<u8>, verdict: &Verdict) -> Result<(), NoMemory>
     }
 }
 
+/// Adds the solutions of an entry, none where it is refused.
 fn push_shown(text: &mut Vec<u8>, outcome: &Outcome) -> Result<(), NoMemory>
     ensures { OnOk result (text.new.items ≡ text.old.items ++ solutions_text (shown_outcome outcome.now).result) }
 {

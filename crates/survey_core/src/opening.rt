@@ -28,7 +28,7 @@ pub fn open_lanes(
     Ok(lanes)
 }
 
-// Opens a lane for these jobs.
+/// Opens a lane for these jobs.
 fn open_for(
     alloc: Global,
     waiting: VecDeque<Job, Global>,

@@ -8,7 +8,9 @@ use solve_core::Findings;
 /// An entry's name, and the answer to its job, or why it is refused.
 #[derive(Drop)]
 pub struct Outcome {
+    /// The entry's name.
     pub name: Vec<u8>,
+    /// The answer to its job, or why the entry was refused.
     pub result: Result<Answer, EntryFault>,
 }
 

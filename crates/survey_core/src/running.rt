@@ -111,14 +111,14 @@ impl RunningLane {
         let _back = self.worker.join(rt);
     }
 
-    /// Takes turns until the lane is complete, waits for the worker, and settles the lane.
-    pub fn settled<R: Threads + Wait>(self, rt: &R) -> VecDeque<Answer, Global>
+    /// The answers of the lane: takes the turns that are left, if any, until it is complete, waits for the worker, and settles the lane.
+    pub fn into_answers<R: Threads + Wait>(self, rt: &R) -> VecDeque<Answer, Global>
         ensures { AreAnswersTo self.dealt.value.items result.items }
     {
         let mut lane = self;
         for _ in rt.forever() {
             match lane.turn() {
-                Turn::Complete => return lane.joined(rt),
+                Turn::Complete => return lane.join_and_settle(rt),
                 Turn::Moved => {}
                 Turn::Idle => thread::yield_now(),
             }
@@ -126,8 +126,8 @@ impl RunningLane {
         unreachable!()
     }
 
-    // Waits for the worker of a lane all of whose jobs were sent, and settles the lane: where it is not drained, it takes and settles again.
-    fn joined<R: Threads + Wait>(self, rt: &R) -> VecDeque<Answer, Global>
+    /// Waits for the worker of a lane all of whose jobs were sent, and settles the lane: where it is not drained, it takes and settles again.
+    fn join_and_settle<R: Threads + Wait>(self, rt: &R) -> VecDeque<Answer, Global>
         requires { self.waiting.items ≡ [] }
         ensures { AreAnswersTo self.dealt.value.items result.items }
     {
@@ -160,8 +160,8 @@ impl RunningLane {
     }
 }
 
+/// Asks for the finish, and says whether it was sent, now or before.
 #[tactic(auto, using(crate::proofs::JobsLemmas::jobs))]
-// Asks for the finish, and says whether it was sent, now or before.
 fn finish_is_sent(front: &mut LaneFront) -> bool
     ensures lane { SameFront front.old front.new }
     ensures jobs { jobs_of (front_lists front.new).sent ≡ jobs_of (front_lists front.old).sent }

@@ -9,6 +9,7 @@ use crate::entries::{grade_word, verdict_word};
 use crate::texts::{push_bytes, push_number};
 use grid_core::NoMemory;
 
+/// Whether an entry is counted under a verdict's word, or under `refused`.
 fn has_status(outcome: &Outcome, word: &str) -> bool
     ensures { result ≡ has_status word.now (shown_outcome outcome.now) }
 {
@@ -18,6 +19,7 @@ fn has_status(outcome: &Outcome, word: &str) -> bool
     }
 }
 
+/// Whether an entry is counted under a grade's word.
 fn has_grade(outcome: &Outcome, word: &str) -> bool
     ensures { result ≡ has_grade word.now (shown_outcome outcome.now) }
 {
@@ -27,6 +29,7 @@ fn has_grade(outcome: &Outcome, word: &str) -> bool
     }
 }
 
+/// How many entries are counted under a verdict's word, or under `refused`.
 fn status_count(outcomes: &[Outcome], word: &str) -> usize
     ensures { result ≡ count_by (has_status word.now) (map shown_outcome outcomes.now) }
 {
@@ -36,6 +39,7 @@ fn status_count(outcomes: &[Outcome], word: &str) -> usize
         .count()
 }
 
+/// How many entries are counted under a grade's word.
 fn grade_count(outcomes: &[Outcome], word: &str) -> usize
     ensures { result ≡ count_by (has_grade word.now) (map shown_outcome outcomes.now) }
 {
@@ -55,18 +59,21 @@ fn push_count(text: &mut Vec<u8>, word: &str, count: usize) -> Result<(), NoMemo
     push_number(text, count as u64)
 }
 
+/// Adds a verdict's word, or `refused`, and its count.
 fn push_status(text: &mut Vec<u8>, outcomes: &[Outcome], word: &str) -> Result<(), NoMemory>
     ensures { OnOk result (text.new.items ≡ text.old.items ++ status_count (map shown_outcome outcomes.now) word.now) }
 {
     push_count(text, word, status_count(outcomes, word))
 }
 
+/// Adds a grade's word and its count.
 fn push_grade(text: &mut Vec<u8>, outcomes: &[Outcome], word: &str) -> Result<(), NoMemory>
     ensures { OnOk result (text.new.items ≡ text.old.items ++ grade_count (map shown_outcome outcomes.now) word.now) }
 {
     push_count(text, word, grade_count(outcomes, word))
 }
 
+/// Adds the counts of the refused entries and of each verdict.
 fn push_statuses(text: &mut Vec<u8>, outcomes: &[Outcome]) -> Result<(), NoMemory>
     ensures { OnOk result (text.new.items ≡ text.old.items ++ status_counts (map shown_outcome outcomes.now)) }
 {
@@ -77,6 +84,7 @@ fn push_statuses(text: &mut Vec<u8>, outcomes: &[Outcome]) -> Result<(), NoMemor
     push_status(text, outcomes, "unsettled")
 }
 
+/// Adds the count of each grade.
 fn push_grades(text: &mut Vec<u8>, outcomes: &[Outcome]) -> Result<(), NoMemory>
     ensures { OnOk result (text.new.items ≡ text.old.items ++ grade_counts (map shown_outcome outcomes.now)) }
 {
