@@ -8,6 +8,7 @@ use Rattle.solve_core.specs.declared.closures.Progress.{Progress}
 use Rattle.solve_core.specs.declared.closures.Progress.TheVariants.{Dead, Same, Changed}
 use Rattle.solve_core.specs.Closure.{round, closure, deduce_line}
 use Rattle.solve_core.specs.Marks.{IsSettled, IsWritten, IsDeduced, HasMarks, MarksAfter, Progresses, AreUnmarked, IsAtRest}
+use Rattle.solve_core.specs.MarkedPuzzles.{MarkedPuzzle}
 use Rattle.solve_core.specs.Rounds.{IsLearned}
 use Rattle.solve_core.specs.Trails.{unknown_count}
 use Rattle.solve_core.proofs.Order.{Extends-refl, length-Extends}
@@ -15,6 +16,10 @@ use Rattle.solve_core.proofs.ClosureLaws.{closure-IsLeastClosed}
 use Rattle.solve_core.proofs.StepLaws.{IsOneOf, done_within}
 use Rattle.solve_core.proofs.LineSteps.{closed_settled, deduce_line-above, set-unmarked, settled-elsewhere, AreDistinct, AreBelow, settled_line, written_line, written-extends, written-settled, others-settled, written-fewer, written-same, line_keeps, line_dead, row_is_line, column_is_line, all_lines}
 use Rattle.grid_core.proofs.LineLaws.{length-places_from, get_or-places_from}
+
+-- a puzzle with these marks
+abbrev pub marked : Nonogram → List Bool → List Bool → MarkedPuzzle
+marked p rows columns = record { puzzle = p; rows = rows; columns = columns }
 
 pub unique_place : (w y j a b : ℕ) → a < w → b < w → y * w + a ≡ j * w + b → (y ≡ j) × (a ≡ b)
 unique_place w zero zero a b h k e = (refl, omega arith)
@@ -67,17 +72,15 @@ column_below : (p : Nonogram) (cells : List Cell) (x : ℕ) → length cells ≡
 column_below p cells x e h = below_from x p.width p.height (length cells) (λ i l. rw e (column_within p.width p.height x i h l))
 
 -- the marks after a row is written
-pub row_marks : (p : Nonogram) (cells new : List Cell) (rows columns after : List Bool) (y : ℕ) (changed : Bool) → HasMarks p cells rows columns → y < p.height → length after ≡ p.width
-    → IsWritten changed (row_at p y) cells new columns after → HasMarks p new (set rows y false) after
-row_marks p cells new rows columns after y changed m h long w =
+pub row_marks : (p : Nonogram) (cells new : List Cell) (rows columns after : List Bool) (y : ℕ) (changed : Bool) → HasMarks (marked p rows columns) cells → y < p.height
+    → IsWritten changed (row_at p y) cells new columns after → HasMarks (marked p (set rows y false) after) new
+row_marks p cells new rows columns after y changed m h w =
     let wide = p.width in
     let size : length new ≡ length cells = sym (length-Extends cells new (written-extends changed (row_at p y) cells new columns after w)) in
     let row_length = length-places_from (y * wide) 1 wide in
     record {
       puzzle = m.puzzle;
       size = size ∙ m.size;
-      row_marks = length-set rows y false ∙ m.row_marks;
-      column_marks = long;
       rows_settled = λ j l e.
           elim (same_or_not j y) [
             | inl s ↦ subst (λ (q : ℕ). IsSettled new (row_at p q)) (sym s) ((written-settled changed (row_at p y) cells new columns after w (row_distinct p y) (row_below p cells y m.size h)).1)
@@ -105,17 +108,15 @@ row_marks p cells new rows columns after y changed m h long w =
     }
 
 -- the marks after a column is written
-pub column_marks : (p : Nonogram) (cells new : List Cell) (rows columns after : List Bool) (x : ℕ) (changed : Bool) → HasMarks p cells rows columns → x < p.width → length after ≡ p.height
-    → IsWritten changed (column_at p x) cells new rows after → HasMarks p new after (set columns x false)
-column_marks p cells new rows columns after x changed m h long w =
+pub column_marks : (p : Nonogram) (cells new : List Cell) (rows columns after : List Bool) (x : ℕ) (changed : Bool) → HasMarks (marked p rows columns) cells → x < p.width
+    → IsWritten changed (column_at p x) cells new rows after → HasMarks (marked p after (set columns x false)) new
+column_marks p cells new rows columns after x changed m h w =
     let wide = p.width in
     let size : length new ≡ length cells = sym (length-Extends cells new (written-extends changed (column_at p x) cells new rows after w)) in
     let column_length = length-places_from x wide p.height in
     record {
       puzzle = m.puzzle;
       size = size ∙ m.size;
-      row_marks = long;
-      column_marks = length-set columns x false ∙ m.column_marks;
       columns_settled = λ j l e.
           elim (same_or_not j x) [
             | inl s ↦ subst (λ (q : ℕ). IsSettled new (column_at p q)) (sym s) ((written-settled changed (column_at p x) cells new rows after w (column_distinct p x m.puzzle) (column_below p cells x m.size h)).1)
@@ -143,7 +144,7 @@ column_marks p cells new rows columns after x changed m h long w =
     }
 
 -- what a row's or a column's deduction does for the closure
-pub row_progress : (p : Nonogram) (cells new : List Cell) (rows columns after : List Bool) (y : ℕ) (r : Progress) → HasMarks p cells rows columns → y < p.height
+pub row_progress : (p : Nonogram) (cells new : List Cell) (rows columns after : List Bool) (y : ℕ) (r : Progress) → HasMarks (marked p rows columns) cells → y < p.height
     → IsDeduced r (row_at p y) cells new columns after → Progresses (closure (lines_of p)) r cells new
 row_progress p cells new rows columns after y Dead m h w = line_dead (lines_of p) cells (row_at p y) (row_is_line p y (omega (arith, m.puzzle.clues.0))) w
 row_progress p cells new rows columns after y Same m h w = written-same (row_at p y) cells new columns after w
@@ -152,13 +153,13 @@ row_progress p cells new rows columns after y Changed m h w = (
   written-fewer (row_at p y) cells new columns after w (row_distinct p y) (row_below p cells y m.size h),
 )
 
-pub row_marks_after : (p : Nonogram) (cells new : List Cell) (rows columns after : List Bool) (y : ℕ) (r : Progress) → HasMarks p cells rows columns → y < p.height → length after ≡ p.width
-    → IsDeduced r (row_at p y) cells new columns after → MarksAfter r p new (set rows y false) after
-row_marks_after p cells new rows columns after y Dead m h l w = tt
-row_marks_after p cells new rows columns after y Same m h l w = row_marks p cells new rows columns after y false m h l w
-row_marks_after p cells new rows columns after y Changed m h l w = row_marks p cells new rows columns after y true m h l w
+pub row_marks_after : (p : Nonogram) (cells new : List Cell) (rows columns after : List Bool) (y : ℕ) (r : Progress) → HasMarks (marked p rows columns) cells → y < p.height
+    → IsDeduced r (row_at p y) cells new columns after → MarksAfter r (marked p (set rows y false) after) new
+row_marks_after p cells new rows columns after y Dead m h w = tt
+row_marks_after p cells new rows columns after y Same m h w = row_marks p cells new rows columns after y false m h w
+row_marks_after p cells new rows columns after y Changed m h w = row_marks p cells new rows columns after y true m h w
 
-pub column_progress : (p : Nonogram) (cells new : List Cell) (rows columns after : List Bool) (x : ℕ) (r : Progress) → HasMarks p cells rows columns → x < p.width
+pub column_progress : (p : Nonogram) (cells new : List Cell) (rows columns after : List Bool) (x : ℕ) (r : Progress) → HasMarks (marked p rows columns) cells → x < p.width
     → IsDeduced r (column_at p x) cells new rows after → Progresses (closure (lines_of p)) r cells new
 column_progress p cells new rows columns after x Dead m h w = line_dead (lines_of p) cells (column_at p x) (column_is_line p x (omega (arith, m.puzzle.clues.1))) w
 column_progress p cells new rows columns after x Same m h w = written-same (column_at p x) cells new rows after w
@@ -167,11 +168,11 @@ column_progress p cells new rows columns after x Changed m h w = (
   written-fewer (column_at p x) cells new rows after w (column_distinct p x m.puzzle) (column_below p cells x m.size h),
 )
 
-pub column_marks_after : (p : Nonogram) (cells new : List Cell) (rows columns after : List Bool) (x : ℕ) (r : Progress) → HasMarks p cells rows columns → x < p.width → length after ≡ p.height
-    → IsDeduced r (column_at p x) cells new rows after → MarksAfter r p new after (set columns x false)
-column_marks_after p cells new rows columns after x Dead m h l w = tt
-column_marks_after p cells new rows columns after x Same m h l w = column_marks p cells new rows columns after x false m h l w
-column_marks_after p cells new rows columns after x Changed m h l w = column_marks p cells new rows columns after x true m h l w
+pub column_marks_after : (p : Nonogram) (cells new : List Cell) (rows columns after : List Bool) (x : ℕ) (r : Progress) → HasMarks (marked p rows columns) cells → x < p.width
+    → IsDeduced r (column_at p x) cells new rows after → MarksAfter r (marked p after (set columns x false)) new
+column_marks_after p cells new rows columns after x Dead m h w = tt
+column_marks_after p cells new rows columns after x Same m h w = column_marks p cells new rows columns after x false m h w
+column_marks_after p cells new rows columns after x Changed m h w = column_marks p cells new rows columns after x true m h w
 
 pub deduced-kept : (r : Progress) (line : GridLine) (cells new : List Cell) (before after : List Bool) → IsDeduced r line cells new before after → r ≡ Same → after ≡ before
 deduced-kept Dead line cells new before after w e = cc
@@ -179,12 +180,12 @@ deduced-kept Same line cells new before after w e = w.kept refl
 deduced-kept Changed line cells new before after w e = cc
 
 -- where no line is marked the cells are their own closure
-pub unmarked_closed : (p : Nonogram) (cells : List Cell) (rows columns : List Bool) → HasMarks p cells rows columns → AreUnmarked rows → AreUnmarked columns → closure (lines_of p) cells ≡ Some cells
-unmarked_closed p cells rows columns m r c =
-    done_within (lines_of p) cells cells (Extends-refl cells) ((closure-IsLeastClosed (lines_of p) cells).above)
-    (all_lines (λ line. deduce_line cells line ≡ Some cells) p
-    (λ y l. settled_line cells (row_at p y) (m.rows_settled y (omega (arith, m.puzzle.clues.0)) (r y)))
-    (λ x l. settled_line cells (column_at p x) (m.columns_settled x (omega (arith, m.puzzle.clues.1)) (c x))))
+pub unmarked_closed : (p : MarkedPuzzle) (cells : List Cell) → HasMarks p cells → AreUnmarked p.rows → AreUnmarked p.columns → closure (lines_of p.puzzle) cells ≡ Some cells
+unmarked_closed p cells m r c =
+    done_within (lines_of p.puzzle) cells cells (Extends-refl cells) ((closure-IsLeastClosed (lines_of p.puzzle) cells).above)
+    (all_lines (λ line. deduce_line cells line ≡ Some cells) p.puzzle
+    (λ y l. settled_line cells (row_at p.puzzle y) (m.rows_settled y (omega (arith, m.puzzle.clues.0)) (r y)))
+    (λ x l. settled_line cells (column_at p.puzzle x) (m.columns_settled x (omega (arith, m.puzzle.clues.1)) (c x))))
 
 -- the line that the code hands in is the puzzle's
 pub row_given : (p : Nonogram) (y number width count : ℕ) (clue : List ℕ) (r : Progress) (cells new : List Cell) (before after : List Bool) → width ≡ p.width → count ≡ p.width → number ≡ y → clue ≡ get_or p.rows y []
@@ -220,28 +221,26 @@ progress-same f r old middle new h e = subst (λ (g : List Cell). Progresses f r
 pub progress-dead : (f : List Cell → Option (List Cell)) (r : Progress) (old middle : List Cell) → r ≢ Dead → Progresses f r old middle → f middle ≡ None → f old ≡ None
 progress-dead f r old middle n h e = sym (progress-keeps f r old middle n h) ∙ e
 
-pub marks_alive : (r : Progress) (p : Nonogram) (cells : List Cell) (rows columns : List Bool) → r ≢ Dead → MarksAfter r p cells rows columns → HasMarks p cells rows columns
-marks_alive Dead p cells rows columns n m = absurd (n refl)
-marks_alive Same p cells rows columns n m = m
-marks_alive Changed p cells rows columns n m = m
+pub marks_alive : (r : Progress) (p : MarkedPuzzle) (cells : List Cell) → r ≢ Dead → MarksAfter r p cells → HasMarks p cells
+marks_alive Dead p cells n m = absurd (n refl)
+marks_alive Same p cells n m = m
+marks_alive Changed p cells n m = m
 
-pub closed_after : (p : Nonogram) (first cells middle new : List Cell) (r : Progress) (rows columns : List Bool) → r ≢ Dead → Progresses (closure (lines_of p)) r cells middle → new ≡ middle → HasMarks p new rows columns
-    → AreUnmarked rows → AreUnmarked columns → closure (lines_of p) cells ≡ closure (lines_of p) first → Some new ≡ closure (lines_of p) first
-closed_after p first cells middle new r rows columns n h e m ur uc same =
-    sym (unmarked_closed p new rows columns m ur uc) ∙ ap (closure (lines_of p)) e ∙ progress-keeps (closure (lines_of p)) r cells middle n h ∙ same
+pub closed_after : (p : MarkedPuzzle) (first cells middle new : List Cell) (r : Progress) → r ≢ Dead → Progresses (closure (lines_of p.puzzle)) r cells middle → new ≡ middle → HasMarks p new
+    → AreUnmarked p.rows → AreUnmarked p.columns → closure (lines_of p.puzzle) cells ≡ closure (lines_of p.puzzle) first → Some new ≡ closure (lines_of p.puzzle) first
+closed_after p first cells middle new r n h e m ur uc same =
+    sym (unmarked_closed p new m ur uc) ∙ ap (closure (lines_of p.puzzle)) e ∙ progress-keeps (closure (lines_of p.puzzle)) r cells middle n h ∙ same
 
 -- the marks of a cell's two lines, where it is given a colour
-pub place_marks : (p : Nonogram) (cells : List Cell) (rows columns : List Bool) (k y x : ℕ) (c : Cell) → HasMarks p cells rows columns → y < p.height → x < p.width → k ≡ y * p.width + x
-    → HasMarks p (set cells k c) (set rows y true) (set columns x true)
-place_marks p cells rows columns k y x c m hy hx at =
+pub place_marks : (p : Nonogram) (cells : List Cell) (rows columns : List Bool) (k y x : ℕ) (c : Cell) → length rows ≡ p.height → length columns ≡ p.width → HasMarks (marked p rows columns) cells → y < p.height → x < p.width → k ≡ y * p.width + x
+    → HasMarks (marked p (set rows y true) (set columns x true)) (set cells k c)
+place_marks p cells rows columns k y x c high broad m hy hx at =
     let wide = p.width in
     record {
       puzzle = m.puzzle;
       size = length-set cells k c ∙ m.size;
-      row_marks = length-set rows y true ∙ m.row_marks;
-      column_marks = length-set columns x true ∙ m.column_marks;
       rows_settled = λ j l e.
-          let missing = set-unmarked rows y j (omega (arith, m.row_marks)) e in
+          let missing = set-unmarked rows y j (omega (arith, high)) e in
           settled-elsewhere cells k c (row_at p j) (m.rows_settled j l missing.1)
           (λ b lb s.
           let wb : b < wide = omega (arith, length-places_from (j * wide) 1 wide) in
@@ -249,7 +248,7 @@ place_marks p cells rows columns k y x c m hy hx at =
           let same : y * wide + x ≡ j * wide + b = omega (arith, pb, s, at) in
           missing.0 (sym ((unique_place wide y j x b hx wb same).0)));
       columns_settled = λ j l e.
-          let missing = set-unmarked columns x j (omega (arith, m.column_marks)) e in
+          let missing = set-unmarked columns x j (omega (arith, broad)) e in
           settled-elsewhere cells k c (column_at p j) (m.columns_settled j l missing.1)
           (λ b lb s.
           let hb : b < p.height = omega (arith, length-places_from j wide p.height) in
@@ -258,17 +257,17 @@ place_marks p cells rows columns k y x c m hy hx at =
           missing.0 (sym ((unique_place wide y b x j hx l same).1)));
     }
 
-pub place_given : (p : Nonogram) (cells : List Cell) (rows columns : List Bool) (k width : ℕ) (c : Cell) → width ≡ p.width → HasMarks p cells rows columns → k < length cells
-    → HasMarks p (set cells k c) (set rows (k / width) true) (set columns (k % width) true)
-place_given p cells rows columns k width c e m l =
+pub place_given : (p : Nonogram) (cells : List Cell) (rows columns : List Bool) (k width : ℕ) (c : Cell) → width ≡ p.width → length rows ≡ p.height → length columns ≡ p.width → HasMarks (marked p rows columns) cells → k < length cells
+    → HasMarks (marked p (set rows (k / width) true) (set columns (k % width) true)) (set cells k c)
+place_given p cells rows columns k width c e high broad m l =
     let positive : 0 < p.width = omega (arith, m.puzzle.size.width_from) in
     let within : k < p.height * p.width = omega (arith, m.size) in
     rw e
-    (place_marks p cells rows columns k (k / p.width) (k % p.width) c m (div_below k p.width p.height positive within) (omega arith) (omega arith))
+    (place_marks p cells rows columns k (k / p.width) (k % p.width) c high broad m (div_below k p.width p.height positive within) (omega arith) (omega arith))
 
 -- cells at rest are their own closure
-pub rest_closed : (p : Nonogram) (cells : List Cell) (rows columns : List Bool) → IsAtRest p cells rows columns → round (lines_of p) cells ≡ Some cells
-rest_closed p cells rows columns r = (closure-IsLeastClosed (lines_of p) cells).closed cells (unmarked_closed p cells rows columns r.marks r.no_row r.no_column)
+pub rest_closed : (p : MarkedPuzzle) (cells : List Cell) → IsAtRest p cells → round (lines_of p.puzzle) cells ≡ Some cells
+rest_closed p cells r = (closure-IsLeastClosed (lines_of p.puzzle) cells).closed cells (unmarked_closed p cells r.marks r.unmarked.0 r.unmarked.1)
 
 pub place_again : (k width other : ℕ) → width ≡ other → 0 < other → k / width * other + k % width ≡ k
 place_again k width other e h = rw e (omega arith)
@@ -281,13 +280,11 @@ unmarked_more old new y h e before =
     (rw e (get_or-set_same old y false false h))
 
 -- whatever marks a closed grid has
-pub closed-marks : (p : Nonogram) (cells : List Cell) (rows columns : List Bool) → IsNonogram p → length cells ≡ p.width * p.height → length rows ≡ p.height → length columns ≡ p.width
-    → round (lines_of p) cells ≡ Some cells → HasMarks p cells rows columns
-closed-marks p cells rows columns n size high wide closed = record {
+pub closed-marks : (p : Nonogram) (cells : List Cell) (rows columns : List Bool) → IsNonogram p → length cells ≡ p.width * p.height
+    → round (lines_of p) cells ≡ Some cells → HasMarks (marked p rows columns) cells
+closed-marks p cells rows columns n size closed = record {
   puzzle = n;
   size = size;
-  row_marks = high;
-  column_marks = wide;
   rows_settled = λ y l e. closed_settled (lines_of p) cells (row_at p y) closed (row_is_line p y (omega (arith, n.clues.0))) (row_distinct p y) (row_below p cells y size l);
   columns_settled = λ x l e. closed_settled (lines_of p) cells (column_at p x) closed (column_is_line p x (omega (arith, n.clues.1))) (column_distinct p x n) (column_below p cells x size l);
 }

@@ -3,6 +3,8 @@ pub mod LeastClosed
 pub mod Trials
 pub mod Trails
 pub mod Boards
+pub mod MarkedPuzzles
+pub mod TriedPuzzles
 pub mod Marks
 pub mod Rounds
 pub mod Grids

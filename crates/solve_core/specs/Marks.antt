@@ -1,11 +1,13 @@
 use Rattle.std.specs.Prelude.{◌⊎◌, ◌≡◌, ◌≢◌, ℕ, ◌+◌, ◌*◌, ◌<◌, Bool, true, false, List, length, Option, Some, None, slice_index_or, slice_set}
 use Rattle.grid_core.specs.declared.cells.Cell.{Cell}
-use Rattle.grid_core.specs.declared.cells.Cell.TheVariants.{Unknown}
-use Rattle.grid_core.specs.Nonogram.{Nonogram, IsNonogram, GridLine, places_from, row_at, column_at, cells_at}
+use Rattle.grid_core.specs.declared.cells.Cell.TheVariants.{Unknown, Filled, Blank}
+use Rattle.grid_core.specs.Nonogram.{Nonogram, IsNonogram, GridLine, lines_of, places_from, row_at, column_at, cells_at}
 use Rattle.line_core.specs.Deduction.{deduced}
 use Rattle.solve_core.specs.Closure.{with_cells, closure}
 use Rattle.solve_core.specs.Trails.{unknown_count}
 use Rattle.solve_core.specs.Trials.{is_refuted}
+use Rattle.solve_core.specs.MarkedPuzzles.{MarkedPuzzle}
+use Rattle.solve_core.specs.TriedPuzzles.{TriedPuzzle}
 use Rattle.solve_core.specs.declared.places.Places.{Places}
 use Rattle.solve_core.specs.declared.trials.Trial.{Trial}
 use Rattle.solve_core.specs.declared.trials.Trial.TheVariants.{Refuted, Open, Closed}
@@ -48,23 +50,25 @@ IsDeduced Same line old new before after = IsWritten false line old new before a
 IsDeduced Changed line old new before after = IsWritten true line old new before after
 
 -- each line that may have more to give is marked
-pub record HasMarks (p : Nonogram) (cells : List Cell) (rows columns : List Bool) : Type 0 where
-  pub puzzle : IsNonogram p
-  pub size : length cells ≡ p.width * p.height
-  pub row_marks : length rows ≡ p.height
-  pub column_marks : length columns ≡ p.width
-  pub rows_settled : (y : ℕ) → y < p.height → slice_index_or rows y false ≡ false → IsSettled cells (row_at p y)
-  pub columns_settled : (x : ℕ) → x < p.width → slice_index_or columns x false ≡ false → IsSettled cells (column_at p x)
+pub record HasMarks (m : MarkedPuzzle) (cells : List Cell) : Type 0 where
+  pub puzzle : IsNonogram m.puzzle
+  pub size : length cells ≡ m.puzzle.width * m.puzzle.height
+  pub rows_settled : (y : ℕ) → y < m.puzzle.height → slice_index_or m.rows y false ≡ false → IsSettled cells (row_at m.puzzle y)
+  pub columns_settled : (x : ℕ) → x < m.puzzle.width → slice_index_or m.columns x false ≡ false → IsSettled cells (column_at m.puzzle x)
 
 -- each line that may have more to give is marked, unless the cells are dead
-abbrev pub MarksAfter : Progress → Nonogram → List Cell → List Bool → List Bool → Type 0
-MarksAfter Dead p cells rows columns = Unit {0}
-MarksAfter Same p cells rows columns = HasMarks p cells rows columns
-MarksAfter Changed p cells rows columns = HasMarks p cells rows columns
+abbrev pub MarksAfter : Progress → MarkedPuzzle → List Cell → Type 0
+MarksAfter Dead m cells = Unit {0}
+MarksAfter Same m cells = HasMarks m cells
+MarksAfter Changed m cells = HasMarks m cells
 
 -- no mark is set
 abbrev pub AreUnmarked : List Bool → Type 0
 AreUnmarked marks = (k : ℕ) → slice_index_or marks k false ≡ false
+
+-- no line is marked
+abbrev pub IsUnmarked : MarkedPuzzle → Type 0
+IsUnmarked m = AreUnmarked m.rows × AreUnmarked m.columns
 
 -- a step towards f of the cells: they are dead, the same, or fewer are unknown, and f of them is the same
 abbrev pub Progresses : (List Cell → Option (List Cell)) → Progress → List Cell → List Cell → Type 0
@@ -73,14 +77,25 @@ Progresses f Same old new = new ≡ old
 Progresses f Changed old new = (f new ≡ f old) × (unknown_count new < unknown_count old)
 
 -- no line has more to give, and none is marked
-pub record IsAtRest (p : Nonogram) (cells : List Cell) (rows columns : List Bool) : Type 0 where
-  pub marks : HasMarks p cells rows columns
-  pub no_row : AreUnmarked rows
-  pub no_column : AreUnmarked columns
+pub record IsAtRest (m : MarkedPuzzle) (cells : List Cell) : Type 0 where
+  pub marks : HasMarks m cells
+  pub unmarked : IsUnmarked m
 
 -- at each marked place the colour isn't refuted
 abbrev pub AreOpen : List GridLine → List Cell → Cell → List Bool → Type 0
 AreOpen lines cells colour marks = (k : ℕ) → slice_index_or marks k false ≡ true → is_refuted lines cells k colour ≡ false
+
+-- each cell has a mark for each colour, and where it is set the colour isn't refuted
+pub record AreOpenColours (p : Nonogram) (cells : List Cell) (fillable blankable : List Bool) : Type 0 where
+  pub filled_count : length fillable ≡ length cells
+  pub blank_count : length blankable ≡ length cells
+  pub filled : AreOpen (lines_of p) cells Filled fillable
+  pub blank : AreOpen (lines_of p) cells Blank blankable
+
+-- no line has more to give, and the marked colours aren't refuted: what a trial of these cells starts from
+pub record IsReady (t : TriedPuzzle) (cells : List Cell) : Type 0 where
+  pub rest : IsAtRest t.closer cells
+  pub colours : AreOpenColours t.closer.puzzle cells t.fillable t.blankable
 
 -- each new mark is at a cell of the trial that has the colour
 abbrev pub AddsMarks : Cell → List Cell → List Bool → List Bool → Type 0

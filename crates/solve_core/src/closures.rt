@@ -1,17 +1,20 @@
 //! The closure of a grid, by a mark at each line that may have more to give.
-ghost use Rattle.std.specs.Prelude.{◌≡◌, ◌≢◌, ℕ, ◌+◌, ◌*◌, ◌<◌, ◌≤◌, ◌↔◌, false, length, slice_set, slice_index_or, IsTrue};
-ghost use Rattle.grid_core.specs.Nonogram.{Nonogram, IsNonogram, lines_of, cells_at};
+ghost use Rattle.std.specs.Prelude.{◌≡◌, ◌≢◌, ℕ, ◌+◌, ◌*◌, ◌<◌, ◌≤◌, ◌↔◌, Some, true, false, length, slice_set, slice_index_or, IsTrue, IfOk};
+ghost use Rattle.grid_core.specs.Cells.{is_known};
+ghost use Rattle.grid_core.specs.Nonogram.{lines_of, cells_at};
 ghost use Rattle.grid_core.specs.declared.cells.Cell.TheVariants.{Unknown};
-ghost use Rattle.solve_core.specs.Closure.{closure};
-ghost use Rattle.solve_core.specs.Marks.{places_of, AreWithin, IsDeduced, HasMarks, Progresses, MarksAfter, AreUnmarked, outcome};
+ghost use Rattle.solve_core.specs.Closure.{round, closure};
+ghost use Rattle.solve_core.specs.Marks.{places_of, AreWithin, IsDeduced, HasMarks, Progresses, MarksAfter, AreUnmarked, IsUnmarked, IsAtRest, outcome};
 ghost use Rattle.solve_core.specs.Trails.{IsTrailed};
 ghost use Rattle.solve_core.specs.Boards.{IsBoardOf};
 ghost use Rattle.solve_core.specs.declared.closures.Progress.TheVariants.{Dead, Same};
 
 use crate::boards::Board;
 use crate::places::{Places, mark_changes, write_line};
-use grid_core::{Clue, Puzzle};
+use grid_core::{Cell, Clue, NoMemory, Puzzle};
 use line_core::{Line, Tables, deduce};
+use std::alloc::Global;
+use std::marker::Model;
 
 /// What became of a grid.
 #[derive(Clone, Copy)]
@@ -41,6 +44,28 @@ impl Progress {
             Progress::Changed => false,
         }
     }
+}
+
+/// What closing works with: a puzzle, its tables, and a mark for each row and each column that may have more to give.
+#[derive(Drop)]
+pub struct Closer<'p> {
+    puzzle: &'p Puzzle,
+    tables: Tables,
+    rows: Vec<bool>,
+    columns: Vec<bool>,
+}
+
+impl<'p> Model for Closer<'p> {
+    ghost use Rattle.std.specs.Prelude.{◌≡◌, length};
+    ghost use Rattle.grid_core.specs.Nonogram.{IsNonogram};
+    ghost use Rattle.solve_core.specs.MarkedPuzzles.{MarkedPuzzle};
+
+    ghost Value = { MarkedPuzzle };
+
+    ghost view = { λ c. record { puzzle = c.puzzle.now; rows = c.rows.items; columns = c.columns.items } };
+
+    ghost invariant = { λ c. IsNonogram c.puzzle.now × (c.tables ≡ 128)
+        × (length c.rows.items ≡ c.puzzle.now.height) × (length c.columns.items ≡ c.puzzle.now.width) };
 }
 
 /// Writes what is certain of a line, and marks the lines that cross it at the cells that it learned.
@@ -75,184 +100,240 @@ fn deduce_places(
     }
 }
 
-/// Deduces a row.
-fn close_row(
-    puzzle: &Puzzle,
-    tables: &mut Tables,
-    y: u16,
-    board: &mut Board,
-    rows: &mut [bool],
-    columns: &mut [bool],
-) -> Progress
-    requires y { y < puzzle.now.height }
-    requires room { tables.old ≡ 128 }
-    requires marks { HasMarks puzzle.now board.old.cells rows.old columns.old }
-    requires size { IsBoardOf puzzle.now board.old }
-    ensures progress { Progresses (closure (lines_of puzzle.now)) result board.old.cells board.new.cells }
-    ensures marks { MarksAfter result puzzle.now board.new.cells rows.new columns.new }
-    ensures rows { rows.new ≡ slice_set rows.old y false }
-    ensures same { result ≡ Same → columns.new ≡ columns.old }
-    ensures trail { IsTrailed board.old board.new }
-    ensures room { tables.new ≡ tables.old }
-{
-    let width = puzzle.width();
-    let places = Places {
-        first: usize::from(y) * usize::from(width),
-        step: 1,
-        count: width,
-    };
-    rows[usize::from(y)] = false;
-    let row = board.row(y);
-    deduce_places(tables, puzzle.row_clue(y), places, &row, board, columns)
-}
+impl<'p> Closer<'p> {
+    /// Makes the room that closing takes. No line is marked.
+    pub fn new(alloc: Global, puzzle: &'p Puzzle) -> Result<Closer<'p>, NoMemory>
+        ensures { IfOk result (λ closer. closer.puzzle ≡ puzzle.now) }
+    {
+        Ok(Closer {
+            puzzle,
+            tables: Tables::new(alloc, 128)?,
+            rows: vec![in alloc; false; usize::from(puzzle.height())]?,
+            columns: vec![in alloc; false; usize::from(puzzle.width())]?,
+        })
+    }
 
-/// Deduces a column.
-fn close_column(
-    puzzle: &Puzzle,
-    tables: &mut Tables,
-    x: u16,
-    board: &mut Board,
-    rows: &mut [bool],
-    columns: &mut [bool],
-) -> Progress
-    requires x { x < puzzle.now.width }
-    requires room { tables.old ≡ 128 }
-    requires marks { HasMarks puzzle.now board.old.cells rows.old columns.old }
-    requires size { IsBoardOf puzzle.now board.old }
-    ensures progress { Progresses (closure (lines_of puzzle.now)) result board.old.cells board.new.cells }
-    ensures marks { MarksAfter result puzzle.now board.new.cells rows.new columns.new }
-    ensures columns { columns.new ≡ slice_set columns.old x false }
-    ensures same { result ≡ Same → rows.new ≡ rows.old }
-    ensures trail { IsTrailed board.old board.new }
-    ensures room { tables.new ≡ tables.old }
-{
-    let places = Places {
-        first: usize::from(x),
-        step: usize::from(puzzle.width()),
-        count: puzzle.height(),
-    };
-    columns[usize::from(x)] = false;
-    let column = board.column(x);
-    deduce_places(tables, puzzle.col_clue(x), places, &column, board, rows)
-}
+    /// Deduces a row.
+    fn close_row(&mut self, y: u16, board: &mut Board) -> Progress
+        requires y { y < self.old.puzzle.height }
+        requires marks { HasMarks self.old board.old.cells }
+        requires size { IsBoardOf self.old.puzzle board.old }
+        ensures progress { Progresses (closure (lines_of self.old.puzzle)) result board.old.cells board.new.cells }
+        ensures marks { MarksAfter result self.new board.new.cells }
+        ensures rows { self.new.rows ≡ slice_set self.old.rows y false }
+        ensures same { result ≡ Same → self.new.columns ≡ self.old.columns }
+        ensures trail { IsTrailed board.old board.new }
+        ensures puzzle { self.new.puzzle ≡ self.old.puzzle }
+    {
+        let width = self.puzzle.width();
+        let places = Places {
+            first: usize::from(y) * usize::from(width),
+            step: 1,
+            count: width,
+        };
+        self.rows[usize::from(y)] = false;
+        let row = board.row(y);
+        deduce_places(
+            &mut self.tables,
+            self.puzzle.row_clue(y),
+            places,
+            &row,
+            board,
+            &mut self.columns,
+        )
+    }
 
-/// Deduces each marked row.
-fn close_rows(
-    puzzle: &Puzzle,
-    tables: &mut Tables,
-    board: &mut Board,
-    rows: &mut [bool],
-    columns: &mut [bool],
-) -> Progress
-    requires room { tables.old ≡ 128 }
-    requires marks { HasMarks puzzle.now board.old.cells rows.old columns.old }
-    requires size { IsBoardOf puzzle.now board.old }
-    ensures progress { Progresses (closure (lines_of puzzle.now)) result board.old.cells board.new.cells }
-    ensures marks { MarksAfter result puzzle.now board.new.cells rows.new columns.new }
-    ensures rows { result ≢ Dead → AreUnmarked rows.new }
-    ensures same { result ≡ Same → columns.new ≡ columns.old }
-    ensures trail { IsTrailed board.old board.new }
-    ensures room { tables.new ≡ tables.old }
-{
-    let mut progress = Progress::Same;
-    for y in 0..puzzle.height() {
-        if rows[usize::from(y)] {
-            match close_row(puzzle, tables, y, board, rows, columns) {
-                Progress::Dead => return Progress::Dead,
+    /// Deduces a column.
+    fn close_column(&mut self, x: u16, board: &mut Board) -> Progress
+        requires x { x < self.old.puzzle.width }
+        requires marks { HasMarks self.old board.old.cells }
+        requires size { IsBoardOf self.old.puzzle board.old }
+        ensures progress { Progresses (closure (lines_of self.old.puzzle)) result board.old.cells board.new.cells }
+        ensures marks { MarksAfter result self.new board.new.cells }
+        ensures columns { self.new.columns ≡ slice_set self.old.columns x false }
+        ensures same { result ≡ Same → self.new.rows ≡ self.old.rows }
+        ensures trail { IsTrailed board.old board.new }
+        ensures puzzle { self.new.puzzle ≡ self.old.puzzle }
+    {
+        let places = Places {
+            first: usize::from(x),
+            step: usize::from(self.puzzle.width()),
+            count: self.puzzle.height(),
+        };
+        self.columns[usize::from(x)] = false;
+        let column = board.column(x);
+        deduce_places(
+            &mut self.tables,
+            self.puzzle.col_clue(x),
+            places,
+            &column,
+            board,
+            &mut self.rows,
+        )
+    }
+
+    /// Deduces each marked row.
+    fn close_rows(&mut self, board: &mut Board) -> Progress
+        requires marks { HasMarks self.old board.old.cells }
+        requires size { IsBoardOf self.old.puzzle board.old }
+        ensures progress { Progresses (closure (lines_of self.old.puzzle)) result board.old.cells board.new.cells }
+        ensures marks { MarksAfter result self.new board.new.cells }
+        ensures rows { result ≢ Dead → AreUnmarked self.new.rows }
+        ensures same { result ≡ Same → self.new.columns ≡ self.old.columns }
+        ensures trail { IsTrailed board.old board.new }
+        ensures puzzle { self.new.puzzle ≡ self.old.puzzle }
+    {
+        let mut progress = Progress::Same;
+        for y in 0..self.puzzle.height() {
+            if self.rows[usize::from(y)] {
+                match self.close_row(y, board) {
+                    Progress::Dead => return Progress::Dead,
+                    Progress::Same => {}
+                    Progress::Changed => progress = Progress::Changed,
+                }
+            }
+        }
+        progress
+    }
+
+    /// Deduces each marked column.
+    fn close_columns(&mut self, board: &mut Board) -> Progress
+        requires marks { HasMarks self.old board.old.cells }
+        requires size { IsBoardOf self.old.puzzle board.old }
+        ensures progress { Progresses (closure (lines_of self.old.puzzle)) result board.old.cells board.new.cells }
+        ensures marks { MarksAfter result self.new board.new.cells }
+        ensures columns { result ≢ Dead → AreUnmarked self.new.columns }
+        ensures same { result ≡ Same → self.new.rows ≡ self.old.rows }
+        ensures trail { IsTrailed board.old board.new }
+        ensures puzzle { self.new.puzzle ≡ self.old.puzzle }
+    {
+        let mut progress = Progress::Same;
+        for x in 0..self.puzzle.width() {
+            if self.columns[usize::from(x)] {
+                match self.close_column(x, board) {
+                    Progress::Dead => return Progress::Dead,
+                    Progress::Same => {}
+                    Progress::Changed => progress = Progress::Changed,
+                }
+            }
+        }
+        progress
+    }
+
+    /// Deduces marked lines until none is marked. Answers whether the grid is alive.
+    fn close_marked(&mut self, board: &mut Board) -> bool
+        requires marks { HasMarks self.old board.old.cells }
+        requires size { IsBoardOf self.old.puzzle board.old }
+        ensures closed { outcome result board.new.cells ≡ closure (lines_of self.old.puzzle) board.old.cells }
+        ensures rest { IsTrue result → IsAtRest self.new board.new.cells }
+        ensures trail { IsTrailed board.old board.new }
+        ensures puzzle { self.new.puzzle ≡ self.old.puzzle }
+    {
+        loop {
+            match self.close_rows(board) {
+                Progress::Dead => return false,
                 Progress::Same => {}
-                Progress::Changed => progress = Progress::Changed,
+                Progress::Changed => {}
+            }
+            match self.close_columns(board) {
+                Progress::Dead => return false,
+                Progress::Same => return true,
+                Progress::Changed => {}
             }
         }
     }
-    progress
-}
 
-/// Deduces each marked column.
-fn close_columns(
-    puzzle: &Puzzle,
-    tables: &mut Tables,
-    board: &mut Board,
-    rows: &mut [bool],
-    columns: &mut [bool],
-) -> Progress
-    requires room { tables.old ≡ 128 }
-    requires marks { HasMarks puzzle.now board.old.cells rows.old columns.old }
-    requires size { IsBoardOf puzzle.now board.old }
-    ensures progress { Progresses (closure (lines_of puzzle.now)) result board.old.cells board.new.cells }
-    ensures marks { MarksAfter result puzzle.now board.new.cells rows.new columns.new }
-    ensures columns { result ≢ Dead → AreUnmarked columns.new }
-    ensures same { result ≡ Same → rows.new ≡ rows.old }
-    ensures trail { IsTrailed board.old board.new }
-    ensures room { tables.new ≡ tables.old }
-{
-    let mut progress = Progress::Same;
-    for x in 0..puzzle.width() {
-        if columns[usize::from(x)] {
-            match close_column(puzzle, tables, x, board, rows, columns) {
-                Progress::Dead => return Progress::Dead,
-                Progress::Same => {}
-                Progress::Changed => progress = Progress::Changed,
-            }
+    /// Closes a board by the marked lines. Answers whether it is alive. No line is marked then.
+    pub fn close_board(&mut self, board: &mut Board) -> bool
+        requires marks { HasMarks self.old board.old.cells }
+        requires size { IsBoardOf self.old.puzzle board.old }
+        ensures closed { outcome result board.new.cells ≡ closure (lines_of self.old.puzzle) board.old.cells }
+        ensures unmarked { IsUnmarked self.new }
+        ensures rest { IsTrue result → IsAtRest self.new board.new.cells }
+        ensures trail { IsTrailed board.old board.new }
+        ensures size { IsBoardOf self.old.puzzle board.new }
+        ensures puzzle { self.new.puzzle ≡ self.old.puzzle }
+    {
+        let alive = self.close_marked(board);
+        if !alive {
+            self.rows.fill(false);
+            self.columns.fill(false);
         }
+        alive
     }
-    progress
-}
 
-/// Deduces marked lines until none is marked. Answers whether the grid is alive.
-fn close_marked(
-    puzzle: &Puzzle,
-    tables: &mut Tables,
-    board: &mut Board,
-    rows: &mut [bool],
-    columns: &mut [bool],
-) -> bool
-    requires room { tables.old ≡ 128 }
-    requires marks { HasMarks puzzle.now board.old.cells rows.old columns.old }
-    requires size { IsBoardOf puzzle.now board.old }
-    ensures closed { outcome result board.new.cells ≡ closure (lines_of puzzle.now) board.old.cells }
-    ensures rows { IsTrue result → AreUnmarked rows.new }
-    ensures columns { IsTrue result → AreUnmarked columns.new }
-    ensures marks { IsTrue result → HasMarks puzzle.now board.new.cells rows.new columns.new }
-    ensures trail { IsTrailed board.old board.new }
-    ensures room { tables.new ≡ tables.old }
-{
-    loop {
-        match close_rows(puzzle, tables, board, rows, columns) {
-            Progress::Dead => return false,
-            Progress::Same => {}
-            Progress::Changed => {}
-        }
-        match close_columns(puzzle, tables, board, rows, columns) {
-            Progress::Dead => return false,
-            Progress::Same => return true,
-            Progress::Changed => {}
-        }
+    /// Closes a board, whatever is marked. Answers whether it is alive.
+    pub fn close_all(&mut self, board: &mut Board) -> bool
+        requires size { IsBoardOf self.old.puzzle board.old }
+        ensures closed { outcome result board.new.cells ≡ closure (lines_of self.old.puzzle) board.old.cells }
+        ensures rest { IsTrue result → IsAtRest self.new board.new.cells }
+        ensures size { IsBoardOf self.old.puzzle board.new }
+        ensures puzzle { self.new.puzzle ≡ self.old.puzzle }
+    {
+        self.rows.fill(true);
+        self.columns.fill(true);
+        self.close_board(board)
     }
-}
 
-/// Closes a board by the marked lines. Answers whether it is alive. No line is marked then.
-pub fn close_board(
-    puzzle: &Puzzle,
-    tables: &mut Tables,
-    board: &mut Board,
-    rows: &mut [bool],
-    columns: &mut [bool],
-) -> bool
-    requires room { tables.old ≡ 128 }
-    requires marks { HasMarks puzzle.now board.old.cells rows.old columns.old }
-    requires size { IsBoardOf puzzle.now board.old }
-    ensures closed { outcome result board.new.cells ≡ closure (lines_of puzzle.now) board.old.cells }
-    ensures rows { AreUnmarked rows.new }
-    ensures columns { AreUnmarked columns.new }
-    ensures marks { IsTrue result → HasMarks puzzle.now board.new.cells rows.new columns.new }
-    ensures trail { IsTrailed board.old board.new }
-    ensures size { IsBoardOf puzzle.now board.new }
-    ensures room { tables.new ≡ tables.old }
-{
-    let alive = close_marked(puzzle, tables, board, rows, columns);
-    if !alive {
-        rows.fill(false);
-        columns.fill(false);
+    /// Gives an unknown cell a colour and closes the board, by the cell's row and column alone. Answers whether it is alive. No line is marked then.
+    pub fn close_with(&mut self, board: &mut Board, place: usize, colour: Cell) -> bool
+        requires marks { HasMarks self.old board.old.cells }
+        requires size { IsBoardOf self.old.puzzle board.old }
+        requires place { place < length board.old.cells }
+        requires unknown { slice_index_or board.old.cells place Unknown ≡ Unknown }
+        requires colour { is_known colour ≡ true }
+        ensures closed { outcome result board.new.cells ≡ closure (lines_of self.old.puzzle) (slice_set board.old.cells place colour) }
+        ensures unmarked { IsUnmarked self.new }
+        ensures rest { IsTrue result → IsAtRest self.new board.new.cells }
+        ensures trail { IsTrailed board.old board.new }
+        ensures size { IsBoardOf self.old.puzzle board.new }
+        ensures puzzle { self.new.puzzle ≡ self.old.puzzle }
+    {
+        let width = usize::from(self.puzzle.width());
+        self.rows[place / width] = true;
+        self.columns[place % width] = true;
+        board.settle(place, colour);
+        self.close_board(board)
     }
-    alive
+
+    /// Gives an unknown cell of a closed board a colour and closes it, whatever is marked. Answers whether it is alive.
+    pub fn close_after(&mut self, board: &mut Board, place: usize, colour: Cell) -> bool
+        requires closed { round (lines_of self.old.puzzle) board.old.cells ≡ Some board.old.cells }
+        requires size { IsBoardOf self.old.puzzle board.old }
+        requires place { place < length board.old.cells }
+        requires unknown { slice_index_or board.old.cells place Unknown ≡ Unknown }
+        requires colour { is_known colour ≡ true }
+        ensures closed { outcome result board.new.cells ≡ closure (lines_of self.old.puzzle) (slice_set board.old.cells place colour) }
+        ensures trail { IsTrailed board.old board.new }
+        ensures size { IsBoardOf self.old.puzzle board.new }
+        ensures puzzle { self.new.puzzle ≡ self.old.puzzle }
+    {
+        self.rows.fill(false);
+        self.columns.fill(false);
+        self.close_with(board, place, colour)
+    }
+
+    /// Gives an unknown cell of a board at rest a colour, on a copy. Answers whether the copy is alive, which then is closed.
+    pub fn close_copy(
+        &mut self,
+        board: &Board,
+        trial: &mut Board,
+        place: usize,
+        colour: Cell,
+    ) -> bool
+        requires rest { IsAtRest self.old board.now.cells }
+        requires size { IsBoardOf self.old.puzzle board.now }
+        requires trial { IsBoardOf self.old.puzzle trial.old }
+        requires place { place < length board.now.cells }
+        requires unknown { slice_index_or board.now.cells place Unknown ≡ Unknown }
+        requires colour { is_known colour ≡ true }
+        ensures closed { outcome result trial.new.cells ≡ closure (lines_of self.old.puzzle) (slice_set board.now.cells place colour) }
+        ensures rest { IsAtRest self.new board.now.cells }
+        ensures closed_rest { IsTrue result → IsAtRest self.new trial.new.cells }
+        ensures trial { IsBoardOf self.old.puzzle trial.new }
+        ensures puzzle { self.new.puzzle ≡ self.old.puzzle }
+    {
+        trial.restart_from(board);
+        self.close_with(trial, place, colour)
+    }
 }

@@ -11,136 +11,28 @@ ghost use Rattle.solve_core.specs.Trials.{trials};
 ghost use Rattle.solve_core.specs.Marks.{outcome};
 
 use crate::boards::Board;
-use crate::closures::close_board;
 use crate::grids::write_grid;
-use crate::trials::{close_with, try_board};
+use crate::trials::Trials;
 use grid_core::{Cell, Grid, NoMemory, Puzzle};
-use line_core::Tables;
 use std::alloc::Global;
 use std::marker::Model;
 
 /// A puzzle with the room for closing its grids.
 #[derive(Drop)]
 pub struct Solver<'p> {
-    puzzle: &'p Puzzle,
-    tables: Tables,
+    trials: Trials<'p>,
     board: Board,
-    filled_trial: Board,
-    blank_trial: Board,
-    rows: Vec<bool>,
-    columns: Vec<bool>,
-    fillable: Vec<bool>,
-    blankable: Vec<bool>,
 }
 
 impl<'p> Model for Solver<'p> {
-    ghost use Rattle.std.specs.Prelude.{◌≡◌, ◌*◌, length};
-    ghost use Rattle.grid_core.specs.Nonogram.{Nonogram, IsNonogram};
+    ghost use Rattle.grid_core.specs.Nonogram.{Nonogram};
     ghost use Rattle.solve_core.specs.Boards.{IsBoardOf};
 
     ghost Value = { Nonogram };
 
-    ghost view = { λ s. s.puzzle.now };
+    ghost view = { λ s. s.trials.closer.puzzle };
 
-    ghost invariant = { λ s. IsNonogram s.puzzle.now × (s.tables ≡ 128)
-        × IsBoardOf s.puzzle.now s.board × IsBoardOf s.puzzle.now s.filled_trial × IsBoardOf s.puzzle.now s.blank_trial
-        × (length s.rows.items ≡ s.puzzle.now.height)
-        × (length s.columns.items ≡ s.puzzle.now.width)
-        × (length s.fillable.items ≡ s.puzzle.now.width * s.puzzle.now.height)
-        × (length s.blankable.items ≡ s.puzzle.now.width * s.puzzle.now.height) };
-}
-
-/// Closes a board under line deduction, whatever is marked.
-fn close_all(
-    puzzle: &Puzzle,
-    tables: &mut Tables,
-    board: &mut Board,
-    rows: &mut [bool],
-    columns: &mut [bool],
-) -> bool
-    requires room { tables.old ≡ 128 }
-    requires puzzle { IsNonogram puzzle.now }
-    requires board { IsBoardOf puzzle.now board.old }
-    requires rows { length rows.old ≡ puzzle.now.height }
-    requires columns { length columns.old ≡ puzzle.now.width }
-    ensures closed { outcome result board.new.cells ≡ closure (lines_of puzzle.now) board.old.cells }
-    ensures board { IsBoardOf puzzle.now board.new }
-    ensures room { tables.new ≡ tables.old }
-{
-    rows.fill(true);
-    columns.fill(true);
-    close_board(puzzle, tables, board, rows, columns)
-}
-
-/// Gives a cell of a closed board a colour, and closes it, whatever is marked.
-fn close_after(
-    puzzle: &Puzzle,
-    tables: &mut Tables,
-    board: &mut Board,
-    rows: &mut [bool],
-    columns: &mut [bool],
-    place: usize,
-    colour: Cell,
-) -> bool
-    requires room { tables.old ≡ 128 }
-    requires puzzle { IsNonogram puzzle.now }
-    requires board { IsBoardOf puzzle.now board.old }
-    requires rows { length rows.old ≡ puzzle.now.height }
-    requires columns { length columns.old ≡ puzzle.now.width }
-    requires closed { round (lines_of puzzle.now) board.old.cells ≡ Some board.old.cells }
-    requires place { place < length board.old.cells }
-    requires unknown { slice_index_or board.old.cells place Unknown ≡ Unknown }
-    requires colour { is_known colour ≡ true }
-    ensures closed { outcome result board.new.cells ≡ closure (lines_of puzzle.now) (slice_set board.old.cells place colour) }
-    ensures trail { IsTrailed board.old board.new }
-    ensures board { IsBoardOf puzzle.now board.new }
-    ensures room { tables.new ≡ tables.old }
-{
-    rows.fill(false);
-    columns.fill(false);
-    close_with(puzzle, tables, board, rows, columns, place, colour)
-}
-
-/// Closes a board under trials, whatever is marked.
-fn try_all(
-    puzzle: &Puzzle,
-    tables: &mut Tables,
-    board: &mut Board,
-    filled_trial: &mut Board,
-    blank_trial: &mut Board,
-    rows: &mut [bool],
-    columns: &mut [bool],
-    fillable: &mut [bool],
-    blankable: &mut [bool],
-) -> bool
-    requires room { tables.old ≡ 128 }
-    requires puzzle { IsNonogram puzzle.now }
-    requires board { IsBoardOf puzzle.now board.old }
-    requires filled_trial { IsBoardOf puzzle.now filled_trial.old }
-    requires blank_trial { IsBoardOf puzzle.now blank_trial.old }
-    requires rows { length rows.old ≡ puzzle.now.height }
-    requires columns { length columns.old ≡ puzzle.now.width }
-    requires fillable { length fillable.old ≡ puzzle.now.width * puzzle.now.height }
-    requires blankable { length blankable.old ≡ puzzle.now.width * puzzle.now.height }
-    ensures tried { outcome result board.new.cells ≡ trials (lines_of puzzle.now) board.old.cells }
-    ensures board { IsBoardOf puzzle.now board.new }
-    ensures filled_trial { IsBoardOf puzzle.now filled_trial.new }
-    ensures blank_trial { IsBoardOf puzzle.now blank_trial.new }
-    ensures room { tables.new ≡ tables.old }
-{
-    rows.fill(true);
-    columns.fill(true);
-    try_board(
-        puzzle,
-        tables,
-        board,
-        filled_trial,
-        blank_trial,
-        rows,
-        columns,
-        fillable,
-        blankable,
-    )
+    ghost invariant = { λ s. IsBoardOf s.trials.closer.puzzle s.board };
 }
 
 impl<'p> Solver<'p> {
@@ -148,19 +40,9 @@ impl<'p> Solver<'p> {
     pub fn new(alloc: Global, puzzle: &'p Puzzle) -> Result<Solver<'p>, NoMemory>
         ensures { IfOk result (λ solver. solver ≡ puzzle.now) }
     {
-        let width = puzzle.width();
-        let height = puzzle.height();
-        let count = usize::from(width) * usize::from(height);
         Ok(Solver {
-            puzzle,
-            tables: Tables::new(alloc, 128)?,
-            board: Board::unknown(alloc, width, height)?,
-            filled_trial: Board::unknown(alloc, width, height)?,
-            blank_trial: Board::unknown(alloc, width, height)?,
-            rows: vec![in alloc; false; usize::from(height)]?,
-            columns: vec![in alloc; false; usize::from(width)]?,
-            fillable: vec![in alloc; false; count]?,
-            blankable: vec![in alloc; false; count]?,
+            trials: Trials::new(alloc, puzzle)?,
+            board: Board::unknown(alloc, puzzle.width(), puzzle.height())?,
         })
     }
 
@@ -172,13 +54,7 @@ impl<'p> Solver<'p> {
         ensures puzzle { self.new ≡ self.old }
     {
         self.board.read(grid);
-        let alive = close_all(
-            self.puzzle,
-            &mut self.tables,
-            &mut self.board,
-            &mut self.rows,
-            &mut self.columns,
-        );
+        let alive = self.trials.close_all(&mut self.board);
         write_grid(self.board.cells(), grid);
         alive
     }
@@ -191,17 +67,7 @@ impl<'p> Solver<'p> {
         ensures puzzle { self.new ≡ self.old }
     {
         self.board.read(grid);
-        let alive = try_all(
-            self.puzzle,
-            &mut self.tables,
-            &mut self.board,
-            &mut self.filled_trial,
-            &mut self.blank_trial,
-            &mut self.rows,
-            &mut self.columns,
-            &mut self.fillable,
-            &mut self.blankable,
-        );
+        let alive = self.trials.try_board(&mut self.board);
         write_grid(self.board.cells(), grid);
         alive
     }
@@ -213,13 +79,7 @@ impl<'p> Solver<'p> {
         ensures board { IsBoardOf self.old board.new }
         ensures puzzle { self.new ≡ self.old }
     {
-        close_all(
-            self.puzzle,
-            &mut self.tables,
-            board,
-            &mut self.rows,
-            &mut self.columns,
-        )
+        self.trials.close_all(board)
     }
 
     /// Closes a board under trials. Answers whether it is alive; a dead board's cells are open.
@@ -229,17 +89,7 @@ impl<'p> Solver<'p> {
         ensures board { IsBoardOf self.old board.new }
         ensures puzzle { self.new ≡ self.old }
     {
-        try_all(
-            self.puzzle,
-            &mut self.tables,
-            board,
-            &mut self.filled_trial,
-            &mut self.blank_trial,
-            &mut self.rows,
-            &mut self.columns,
-            &mut self.fillable,
-            &mut self.blankable,
-        )
+        self.trials.try_board(board)
     }
 
     /// Gives an unknown cell of a closed board a colour, and closes it by what that says of its row and its column. Answers whether it is alive;
@@ -255,14 +105,6 @@ impl<'p> Solver<'p> {
         ensures board { IsBoardOf self.old board.new }
         ensures puzzle { self.new ≡ self.old }
     {
-        close_after(
-            self.puzzle,
-            &mut self.tables,
-            board,
-            &mut self.rows,
-            &mut self.columns,
-            place,
-            colour,
-        )
+        self.trials.close_after(board, place, colour)
     }
 }

@@ -1,22 +1,22 @@
 //! Trials, one cell and one colour at a time.
-ghost use Rattle.std.specs.Prelude.{◌≡◌, ◌≢◌, ℕ, ◌+◌, ◌*◌, ◌<◌, ◌≤◌, ◌↔◌, [], Some, false, true, not, length, slice_set, slice_index_or, IsTrue};
-ghost use Rattle.std.specs.List.{AllByRecursion};
+ghost use Rattle.std.specs.Prelude.{◌≡◌, ◌≢◌, ℕ, ◌+◌, ◌*◌, ◌<◌, ◌≤◌, ◌↔◌, Some, true, length, slice_set, slice_index_or, IsTrue, IfOk};
 ghost use Rattle.grid_core.specs.declared.cells.Cell.TheVariants.{Unknown, Filled, Blank};
-ghost use Rattle.grid_core.specs.Nonogram.{Nonogram, IsNonogram, lines_of};
+ghost use Rattle.grid_core.specs.Nonogram.{lines_of};
 ghost use Rattle.grid_core.specs.Cells.{colour as colour_of, is_known};
-ghost use Rattle.solve_core.specs.Closure.{closure};
+ghost use Rattle.solve_core.specs.Closure.{round, closure};
 ghost use Rattle.line_core.specs.Order.{AtMost};
-ghost use Rattle.solve_core.specs.Trials.{trials, is_refuted, IsTried};
-ghost use Rattle.solve_core.specs.Marks.{HasMarks, Progresses, AreUnmarked, outcome, AreOpen, AddsMarks, IsAtRest, IsTrialOf};
+ghost use Rattle.solve_core.specs.Trials.{trials, IsTried};
+ghost use Rattle.solve_core.specs.Marks.{Progresses, AreUnmarked, outcome, AreOpenColours, AddsMarks, IsAtRest, IsReady, IsTrialOf};
 ghost use Rattle.solve_core.specs.Trails.{IsTrailed};
 ghost use Rattle.solve_core.specs.Boards.{IsBoardOf};
 ghost use Rattle.solve_core.specs.declared.trials.Trial.TheVariants.{Refuted, Closed};
-ghost use Rattle.solve_core.specs.declared.closures.Progress.TheVariants.{Dead, Same, Changed};
+ghost use Rattle.solve_core.specs.declared.closures.Progress.TheVariants.{Dead, Same};
 
 use crate::boards::Board;
-use crate::closures::{Progress, close_board};
-use grid_core::{Cell, Puzzle};
-use line_core::Tables;
+use crate::closures::{Closer, Progress};
+use grid_core::{Cell, NoMemory, Puzzle};
+use std::alloc::Global;
+use std::marker::Model;
 
 /// What a trial of a colour at an unknown cell came to.
 #[derive(Clone, Copy)]
@@ -51,69 +51,8 @@ impl Trial {
     }
 }
 
-/// Gives an unknown cell a colour and closes the board, by the cell's row and column alone. Answers whether it is alive. No line is marked then.
-pub fn close_with(
-    puzzle: &Puzzle,
-    tables: &mut Tables,
-    board: &mut Board,
-    rows: &mut [bool],
-    columns: &mut [bool],
-    place: usize,
-    colour: Cell,
-) -> bool
-    requires room { tables.old ≡ 128 }
-    requires marks { HasMarks puzzle.now board.old.cells rows.old columns.old }
-    requires size { IsBoardOf puzzle.now board.old }
-    requires place { place < length board.old.cells }
-    requires unknown { slice_index_or board.old.cells place Unknown ≡ Unknown }
-    requires colour { is_known colour ≡ true }
-    ensures closed { outcome result board.new.cells ≡ closure (lines_of puzzle.now) (slice_set board.old.cells place colour) }
-    ensures rows { AreUnmarked rows.new }
-    ensures columns { AreUnmarked columns.new }
-    ensures marks { IsTrue result → HasMarks puzzle.now board.new.cells rows.new columns.new }
-    ensures trail { IsTrailed board.old board.new }
-    ensures size { IsBoardOf puzzle.now board.new }
-    ensures room { tables.new ≡ tables.old }
-{
-    let width = usize::from(puzzle.width());
-    let row = place / width;
-    let column = place % width;
-    board.settle(place, colour);
-    rows[row] = true;
-    columns[column] = true;
-    close_board(puzzle, tables, board, rows, columns)
-}
-
-/// Tries a colour at an unknown cell, on a copy. Answers whether the copy is alive, which then is closed.
-fn close_copy(
-    puzzle: &Puzzle,
-    tables: &mut Tables,
-    board: &Board,
-    trial: &mut Board,
-    rows: &mut [bool],
-    columns: &mut [bool],
-    place: usize,
-    colour: Cell,
-) -> bool
-    requires room { tables.old ≡ 128 }
-    requires rest { IsAtRest puzzle.now board.now.cells rows.old columns.old }
-    requires size { IsBoardOf puzzle.now board.now }
-    requires trial { IsBoardOf puzzle.now trial.old }
-    requires place { place < length board.now.cells }
-    requires unknown { slice_index_or board.now.cells place Unknown ≡ Unknown }
-    requires colour { is_known colour ≡ true }
-    ensures closed { outcome result trial.new.cells ≡ closure (lines_of puzzle.now) (slice_set board.now.cells place colour) }
-    ensures rest { IsAtRest puzzle.now board.now.cells rows.new columns.new }
-    ensures closed_rest { IsTrue result → IsAtRest puzzle.now trial.new.cells rows.new columns.new }
-    ensures trial { IsBoardOf puzzle.now trial.new }
-    ensures room { tables.new ≡ tables.old }
-{
-    trial.restart_from(board);
-    close_with(puzzle, tables, trial, rows, columns, place, colour)
-}
-
-/// Marks the colours of the cells that a trial settled.
-fn mark_colours(trial: &Board, fillable: &mut [bool], blankable: &mut [bool])
+/// Marks at each cell that a trial settled the colour that it has.
+fn mark_settled(trial: &Board, fillable: &mut [bool], blankable: &mut [bool])
     requires fillable { length fillable.old ≡ length trial.now.cells }
     requires blankable { length blankable.old ≡ length trial.now.cells }
     ensures filled { AddsMarks Filled trial.now.cells fillable.old fillable.new }
@@ -130,334 +69,263 @@ fn mark_colours(trial: &Board, fillable: &mut [bool], blankable: &mut [bool])
     }
 }
 
-/// Tries a colour at an unknown cell, on a copy, unless another trial of the same grid has met it. Where the copy closes alive, the colours that it
-/// has need no trial.
-fn try_colour(
-    puzzle: &Puzzle,
-    tables: &mut Tables,
-    board: &Board,
-    trial: &mut Board,
-    rows: &mut [bool],
-    columns: &mut [bool],
-    fillable: &mut [bool],
-    blankable: &mut [bool],
-    place: usize,
-    filled: bool,
-) -> Trial
-    requires room { tables.old ≡ 128 }
-    requires rest { IsAtRest puzzle.now board.now.cells rows.old columns.old }
-    requires size { IsBoardOf puzzle.now board.now }
-    requires trial { IsBoardOf puzzle.now trial.old }
-    requires place { place < length board.now.cells }
-    requires unknown { slice_index_or board.now.cells place Unknown ≡ Unknown }
-    requires fillable { length fillable.old ≡ puzzle.now.width * puzzle.now.height }
-    requires blankable { length blankable.old ≡ puzzle.now.width * puzzle.now.height }
-    requires filled { AreOpen (lines_of puzzle.now) board.now.cells Filled fillable.old }
-    requires blank { AreOpen (lines_of puzzle.now) board.now.cells Blank blankable.old }
-    ensures tried { IsTrialOf result (lines_of puzzle.now) board.now.cells place (colour_of filled) trial.new.cells }
-    ensures filled { AreOpen (lines_of puzzle.now) board.now.cells Filled fillable.new }
-    ensures blank { AreOpen (lines_of puzzle.now) board.now.cells Blank blankable.new }
-    ensures rest { IsAtRest puzzle.now board.now.cells rows.new columns.new }
-    ensures closed_rest { result ≡ Closed → IsAtRest puzzle.now trial.new.cells rows.new columns.new }
-    ensures trial { IsBoardOf puzzle.now trial.new }
-    ensures room { tables.new ≡ tables.old }
-{
-    let known = if filled {
-        fillable[place]
-    } else {
-        blankable[place]
-    };
-    if known {
-        return Trial::Open;
-    }
-    let colour = Cell::of_colour(filled);
-    if !close_copy(puzzle, tables, board, trial, rows, columns, place, colour) {
-        return Trial::Refuted;
-    }
-    mark_colours(trial, fillable, blankable);
-    Trial::Closed
+/// For each cell and each of the two colours a mark that the colour is open: a trial of the same grid has met it there.
+#[derive(Drop)]
+struct Colours {
+    fillable: Vec<bool>,
+    blankable: Vec<bool>,
 }
 
-/// Gives a cell the colour that is left, and closes the board.
-fn keep_colour(
-    puzzle: &Puzzle,
-    tables: &mut Tables,
-    board: &mut Board,
-    rows: &mut [bool],
-    columns: &mut [bool],
-    fillable: &mut [bool],
-    blankable: &mut [bool],
-    place: usize,
-    colour: Cell,
-) -> Progress
-    requires room { tables.old ≡ 128 }
-    requires rest { IsAtRest puzzle.now board.old.cells rows.old columns.old }
-    requires size { IsBoardOf puzzle.now board.old }
-    requires place { place < length board.old.cells }
-    requires unknown { slice_index_or board.old.cells place Unknown ≡ Unknown }
-    requires colour { is_known colour ≡ true }
-    requires below { AtMost (Some (slice_set board.old.cells place colour)) (trials (lines_of puzzle.now) board.old.cells) }
-    ensures progress { Progresses (trials (lines_of puzzle.now)) result board.old.cells board.new.cells }
-    ensures changed { result ≢ Same }
-    ensures filled { AreUnmarked fillable.new }
-    ensures blank { AreUnmarked blankable.new }
-    ensures rest { result ≢ Dead → IsAtRest puzzle.now board.new.cells rows.new columns.new }
-    ensures size { IsBoardOf puzzle.now board.new }
-    ensures room { tables.new ≡ tables.old }
-{
-    fillable.fill(false);
-    blankable.fill(false);
-    if close_with(puzzle, tables, board, rows, columns, place, colour) {
-        Progress::Changed
-    } else {
-        Progress::Dead
+impl Colours {
+    /// Makes the room for so many cells. No colour is marked.
+    fn new(alloc: Global, count: usize) -> Result<Colours, NoMemory>
+        ensures { IfOk result (λ colours. (length colours.fillable.items ≡ count) × (length colours.blankable.items ≡ count)) }
+    {
+        Ok(Colours {
+            fillable: vec![in alloc; false; count]?,
+            blankable: vec![in alloc; false; count]?,
+        })
+    }
+
+    /// Takes back all marks.
+    fn forget(&mut self)
+        ensures filled { AreUnmarked self.new.fillable.items }
+        ensures blank { AreUnmarked self.new.blankable.items }
+        ensures filled_count { length self.new.fillable.items ≡ length self.old.fillable.items }
+        ensures blank_count { length self.new.blankable.items ≡ length self.old.blankable.items }
+    {
+        self.fillable.fill(false);
+        self.blankable.fill(false);
+    }
+
+    /// Marks the colours of the cells that a trial settled.
+    fn mark(&mut self, trial: &Board)
+        requires filled_count { length self.old.fillable.items ≡ length trial.now.cells }
+        requires blank_count { length self.old.blankable.items ≡ length trial.now.cells }
+        ensures filled { AddsMarks Filled trial.now.cells self.old.fillable.items self.new.fillable.items }
+        ensures blank { AddsMarks Blank trial.now.cells self.old.blankable.items self.new.blankable.items }
+        ensures filled_count { length self.new.fillable.items ≡ length self.old.fillable.items }
+        ensures blank_count { length self.new.blankable.items ≡ length self.old.blankable.items }
+    {
+        mark_settled(trial, &mut self.fillable, &mut self.blankable);
+    }
+
+    /// Tries a colour at an unknown cell, on a copy, unless another trial of the same grid has met it. Where the copy closes alive, the colours
+    /// that it has need no trial.
+    fn try_colour(
+        &mut self,
+        closer: &mut Closer<'_>,
+        board: &Board,
+        trial: &mut Board,
+        place: usize,
+        filled: bool,
+    ) -> Trial
+        requires rest { IsAtRest closer.old board.now.cells }
+        requires colours { AreOpenColours closer.old.puzzle board.now.cells self.old.fillable.items self.old.blankable.items }
+        requires size { IsBoardOf closer.old.puzzle board.now }
+        requires trial { IsBoardOf closer.old.puzzle trial.old }
+        requires place { place < length board.now.cells }
+        requires unknown { slice_index_or board.now.cells place Unknown ≡ Unknown }
+        ensures tried { IsTrialOf result (lines_of closer.old.puzzle) board.now.cells place (colour_of filled) trial.new.cells }
+        ensures colours { AreOpenColours closer.old.puzzle board.now.cells self.new.fillable.items self.new.blankable.items }
+        ensures rest { IsAtRest closer.new board.now.cells }
+        ensures closed_rest { result ≡ Closed → IsAtRest closer.new trial.new.cells }
+        ensures trial { IsBoardOf closer.old.puzzle trial.new }
+        ensures puzzle { closer.new.puzzle ≡ closer.old.puzzle }
+    {
+        let known = if filled {
+            self.fillable[place]
+        } else {
+            self.blankable[place]
+        };
+        if known {
+            return Trial::Open;
+        }
+        let colour = Cell::of_colour(filled);
+        if !closer.close_copy(board, trial, place, colour) {
+            return Trial::Refuted;
+        }
+        self.mark(trial);
+        Trial::Closed
     }
 }
 
-/// Keeps the closed copy of the board in which a cell has the colour that is left.
-fn keep_copy(board: &mut Board, trial: &Board, fillable: &mut [bool], blankable: &mut [bool])
-    requires width { trial.now.width ≡ board.old.width }
-    requires height { trial.now.height ≡ board.old.height }
-    ensures board { board.new ≡ record trial.now { trail = [] } }
-    ensures filled { AreUnmarked fillable.new }
-    ensures blank { AreUnmarked blankable.new }
-{
-    fillable.fill(false);
-    blankable.fill(false);
-    board.restart_from(trial);
+/// What trials work with: what closes, a board for the trials of each colour, and the colours that they have met.
+#[derive(Drop)]
+pub struct Trials<'p> {
+    closer: Closer<'p>,
+    filled_trial: Board,
+    blank_trial: Board,
+    colours: Colours,
 }
 
-/// Tries both colours at a place, where it is unknown.
-fn try_place(
-    puzzle: &Puzzle,
-    tables: &mut Tables,
-    board: &mut Board,
-    filled_trial: &mut Board,
-    blank_trial: &mut Board,
-    rows: &mut [bool],
-    columns: &mut [bool],
-    fillable: &mut [bool],
-    blankable: &mut [bool],
-    place: usize,
-) -> Progress
-    requires room { tables.old ≡ 128 }
-    requires rest { IsAtRest puzzle.now board.old.cells rows.old columns.old }
-    requires size { IsBoardOf puzzle.now board.old }
-    requires place { place < length board.old.cells }
-    requires filled_trial { IsBoardOf puzzle.now filled_trial.old }
-    requires blank_trial { IsBoardOf puzzle.now blank_trial.old }
-    requires fillable { length fillable.old ≡ puzzle.now.width * puzzle.now.height }
-    requires blankable { length blankable.old ≡ puzzle.now.width * puzzle.now.height }
-    requires filled { AreOpen (lines_of puzzle.now) board.old.cells Filled fillable.old }
-    requires blank { AreOpen (lines_of puzzle.now) board.old.cells Blank blankable.old }
-    ensures progress { Progresses (trials (lines_of puzzle.now)) result board.old.cells board.new.cells }
-    ensures rest { result ≢ Dead → IsAtRest puzzle.now board.new.cells rows.new columns.new }
-    ensures filled { result ≢ Dead → AreOpen (lines_of puzzle.now) board.new.cells Filled fillable.new }
-    ensures blank { result ≢ Dead → AreOpen (lines_of puzzle.now) board.new.cells Blank blankable.new }
-    ensures tried { result ≡ Same → IsTried (lines_of puzzle.now) board.new.cells place }
-    ensures size { IsBoardOf puzzle.now board.new }
-    ensures filled_trial { IsBoardOf puzzle.now filled_trial.new }
-    ensures blank_trial { IsBoardOf puzzle.now blank_trial.new }
-    ensures room { tables.new ≡ tables.old }
-{
-    if board.cells()[place].is_known() {
-        return Progress::Same;
+impl<'p> Model for Trials<'p> {
+    ghost use Rattle.std.specs.Prelude.{◌≡◌, ◌*◌, length};
+    ghost use Rattle.solve_core.specs.TriedPuzzles.{TriedPuzzle};
+    ghost use Rattle.solve_core.specs.Boards.{IsBoardOf};
+
+    ghost Value = { TriedPuzzle };
+
+    ghost view = { λ t. record { closer = t.closer; fillable = t.colours.fillable.items; blankable = t.colours.blankable.items } };
+
+    ghost invariant = { λ t. IsBoardOf t.closer.puzzle t.filled_trial × IsBoardOf t.closer.puzzle t.blank_trial
+        × (length t.colours.fillable.items ≡ t.closer.puzzle.width * t.closer.puzzle.height)
+        × (length t.colours.blankable.items ≡ t.closer.puzzle.width * t.closer.puzzle.height) };
+}
+
+impl<'p> Trials<'p> {
+    /// Makes the room that closing and trials take.
+    pub fn new(alloc: Global, puzzle: &'p Puzzle) -> Result<Trials<'p>, NoMemory>
+        ensures { IfOk result (λ trials. trials.closer.puzzle ≡ puzzle.now) }
+    {
+        let width = puzzle.width();
+        let height = puzzle.height();
+        Ok(Trials {
+            closer: Closer::new(alloc, puzzle)?,
+            filled_trial: Board::unknown(alloc, width, height)?,
+            blank_trial: Board::unknown(alloc, width, height)?,
+            colours: Colours::new(alloc, usize::from(width) * usize::from(height))?,
+        })
     }
-    let filled = try_colour(
-        puzzle,
-        tables,
-        board,
-        filled_trial,
-        rows,
-        columns,
-        fillable,
-        blankable,
-        place,
-        true,
-    );
-    if filled.is_refuted() {
-        return keep_colour(
-            puzzle,
-            tables,
+
+    /// Closes a board under line deduction. Answers whether it is alive.
+    pub fn close_all(&mut self, board: &mut Board) -> bool
+        requires size { IsBoardOf self.old.closer.puzzle board.old }
+        ensures closed { outcome result board.new.cells ≡ closure (lines_of self.old.closer.puzzle) board.old.cells }
+        ensures size { IsBoardOf self.old.closer.puzzle board.new }
+        ensures puzzle { self.new.closer.puzzle ≡ self.old.closer.puzzle }
+    {
+        self.closer.close_all(board)
+    }
+
+    /// Gives an unknown cell of a closed board a colour and closes it. Answers whether it is alive.
+    pub fn close_after(&mut self, board: &mut Board, place: usize, colour: Cell) -> bool
+        requires closed { round (lines_of self.old.closer.puzzle) board.old.cells ≡ Some board.old.cells }
+        requires size { IsBoardOf self.old.closer.puzzle board.old }
+        requires place { place < length board.old.cells }
+        requires unknown { slice_index_or board.old.cells place Unknown ≡ Unknown }
+        requires colour { is_known colour ≡ true }
+        ensures closed { outcome result board.new.cells ≡ closure (lines_of self.old.closer.puzzle) (slice_set board.old.cells place colour) }
+        ensures trail { IsTrailed board.old board.new }
+        ensures size { IsBoardOf self.old.closer.puzzle board.new }
+        ensures puzzle { self.new.closer.puzzle ≡ self.old.closer.puzzle }
+    {
+        self.closer.close_after(board, place, colour)
+    }
+
+    /// Gives a cell the colour that is left, and closes the board.
+    fn keep_colour(&mut self, board: &mut Board, place: usize, colour: Cell) -> Progress
+        requires rest { IsAtRest self.old.closer board.old.cells }
+        requires size { IsBoardOf self.old.closer.puzzle board.old }
+        requires place { place < length board.old.cells }
+        requires unknown { slice_index_or board.old.cells place Unknown ≡ Unknown }
+        requires colour { is_known colour ≡ true }
+        requires below { AtMost (Some (slice_set board.old.cells place colour)) (trials (lines_of self.old.closer.puzzle) board.old.cells) }
+        ensures progress { Progresses (trials (lines_of self.old.closer.puzzle)) result board.old.cells board.new.cells }
+        ensures changed { result ≢ Same }
+        ensures ready { result ≢ Dead → IsReady self.new board.new.cells }
+        ensures size { IsBoardOf self.old.closer.puzzle board.new }
+        ensures puzzle { self.new.closer.puzzle ≡ self.old.closer.puzzle }
+    {
+        self.colours.forget();
+        if self.closer.close_with(board, place, colour) {
+            Progress::Changed
+        } else {
+            Progress::Dead
+        }
+    }
+
+    /// Tries both colours at a place, where it is unknown.
+    fn try_place(&mut self, board: &mut Board, place: usize) -> Progress
+        requires ready { IsReady self.old board.old.cells }
+        requires size { IsBoardOf self.old.closer.puzzle board.old }
+        requires place { place < length board.old.cells }
+        ensures progress { Progresses (trials (lines_of self.old.closer.puzzle)) result board.old.cells board.new.cells }
+        ensures ready { result ≢ Dead → IsReady self.new board.new.cells }
+        ensures tried { result ≡ Same → IsTried (lines_of self.old.closer.puzzle) board.new.cells place }
+        ensures size { IsBoardOf self.old.closer.puzzle board.new }
+        ensures puzzle { self.new.closer.puzzle ≡ self.old.closer.puzzle }
+    {
+        if board.cells()[place].is_known() {
+            return Progress::Same;
+        }
+        let filled = self.colours.try_colour(
+            &mut self.closer,
             board,
-            rows,
-            columns,
-            fillable,
-            blankable,
+            &mut self.filled_trial,
             place,
-            Cell::Blank,
+            true,
         );
-    }
-    let blank = try_colour(
-        puzzle,
-        tables,
-        board,
-        blank_trial,
-        rows,
-        columns,
-        fillable,
-        blankable,
-        place,
-        false,
-    );
-    if !blank.is_refuted() {
-        return Progress::Same;
-    }
-    if filled.is_closed() {
-        keep_copy(board, filled_trial, fillable, blankable);
-        return Progress::Changed;
-    }
-    keep_colour(
-        puzzle,
-        tables,
-        board,
-        rows,
-        columns,
-        fillable,
-        blankable,
-        place,
-        Cell::Filled,
-    )
-}
-
-/// Tries each unknown cell once.
-fn try_all(
-    puzzle: &Puzzle,
-    tables: &mut Tables,
-    board: &mut Board,
-    filled_trial: &mut Board,
-    blank_trial: &mut Board,
-    rows: &mut [bool],
-    columns: &mut [bool],
-    fillable: &mut [bool],
-    blankable: &mut [bool],
-) -> Progress
-    requires room { tables.old ≡ 128 }
-    requires rest { IsAtRest puzzle.now board.old.cells rows.old columns.old }
-    requires size { IsBoardOf puzzle.now board.old }
-    requires filled_trial { IsBoardOf puzzle.now filled_trial.old }
-    requires blank_trial { IsBoardOf puzzle.now blank_trial.old }
-    requires fillable { length fillable.old ≡ puzzle.now.width * puzzle.now.height }
-    requires blankable { length blankable.old ≡ puzzle.now.width * puzzle.now.height }
-    requires filled { AreOpen (lines_of puzzle.now) board.old.cells Filled fillable.old }
-    requires blank { AreOpen (lines_of puzzle.now) board.old.cells Blank blankable.old }
-    ensures progress { Progresses (trials (lines_of puzzle.now)) result board.old.cells board.new.cells }
-    ensures rest { result ≢ Dead → IsAtRest puzzle.now board.new.cells rows.new columns.new }
-    ensures filled { result ≢ Dead → AreOpen (lines_of puzzle.now) board.new.cells Filled fillable.new }
-    ensures blank { result ≢ Dead → AreOpen (lines_of puzzle.now) board.new.cells Blank blankable.new }
-    ensures tried { result ≡ Same → (k : ℕ) → k < length board.new.cells → IsTried (lines_of puzzle.now) board.new.cells k }
-    ensures size { IsBoardOf puzzle.now board.new }
-    ensures filled_trial { IsBoardOf puzzle.now filled_trial.new }
-    ensures blank_trial { IsBoardOf puzzle.now blank_trial.new }
-    ensures room { tables.new ≡ tables.old }
-{
-    let mut progress = Progress::Same;
-    for place in 0..fillable.len() {
-        match try_place(
-            puzzle,
-            tables,
+        if filled.is_refuted() {
+            return self.keep_colour(board, place, Cell::Blank);
+        }
+        let blank = self.colours.try_colour(
+            &mut self.closer,
             board,
-            filled_trial,
-            blank_trial,
-            rows,
-            columns,
-            fillable,
-            blankable,
+            &mut self.blank_trial,
             place,
-        ) {
-            Progress::Dead => return Progress::Dead,
-            Progress::Same => {}
-            Progress::Changed => progress = Progress::Changed,
+            false,
+        );
+        if !blank.is_refuted() {
+            return Progress::Same;
+        }
+        if filled.is_closed() {
+            self.colours.forget();
+            board.restart_from(&self.filled_trial);
+            return Progress::Changed;
+        }
+        self.keep_colour(board, place, Cell::Filled)
+    }
+
+    /// Tries each unknown cell once.
+    fn try_all(&mut self, board: &mut Board) -> Progress
+        requires ready { IsReady self.old board.old.cells }
+        requires size { IsBoardOf self.old.closer.puzzle board.old }
+        ensures progress { Progresses (trials (lines_of self.old.closer.puzzle)) result board.old.cells board.new.cells }
+        ensures ready { result ≢ Dead → IsReady self.new board.new.cells }
+        ensures tried { result ≡ Same → (k : ℕ) → k < length board.new.cells → IsTried (lines_of self.old.closer.puzzle) board.new.cells k }
+        ensures size { IsBoardOf self.old.closer.puzzle board.new }
+        ensures puzzle { self.new.closer.puzzle ≡ self.old.closer.puzzle }
+    {
+        let mut progress = Progress::Same;
+        for place in 0..board.cells().len() {
+            match self.try_place(board, place) {
+                Progress::Dead => return Progress::Dead,
+                Progress::Same => {}
+                Progress::Changed => progress = Progress::Changed,
+            }
+        }
+        progress
+    }
+
+    /// Tries cells until a whole pass changes nothing. Answers whether the board is alive.
+    fn try_until_same(&mut self, board: &mut Board) -> bool
+        requires ready { IsReady self.old board.old.cells }
+        requires size { IsBoardOf self.old.closer.puzzle board.old }
+        ensures tried { outcome result board.new.cells ≡ trials (lines_of self.old.closer.puzzle) board.old.cells }
+        ensures size { IsBoardOf self.old.closer.puzzle board.new }
+        ensures puzzle { self.new.closer.puzzle ≡ self.old.closer.puzzle }
+    {
+        loop {
+            match self.try_all(board) {
+                Progress::Dead => return false,
+                Progress::Same => return true,
+                Progress::Changed => {}
+            }
         }
     }
-    progress
-}
 
-/// Tries cells until a whole pass changes nothing. Answers whether the board is alive.
-fn try_until_same(
-    puzzle: &Puzzle,
-    tables: &mut Tables,
-    board: &mut Board,
-    filled_trial: &mut Board,
-    blank_trial: &mut Board,
-    rows: &mut [bool],
-    columns: &mut [bool],
-    fillable: &mut [bool],
-    blankable: &mut [bool],
-) -> bool
-    requires room { tables.old ≡ 128 }
-    requires rest { IsAtRest puzzle.now board.old.cells rows.old columns.old }
-    requires size { IsBoardOf puzzle.now board.old }
-    requires filled_trial { IsBoardOf puzzle.now filled_trial.old }
-    requires blank_trial { IsBoardOf puzzle.now blank_trial.old }
-    requires fillable { length fillable.old ≡ puzzle.now.width * puzzle.now.height }
-    requires blankable { length blankable.old ≡ puzzle.now.width * puzzle.now.height }
-    requires filled { AreOpen (lines_of puzzle.now) board.old.cells Filled fillable.old }
-    requires blank { AreOpen (lines_of puzzle.now) board.old.cells Blank blankable.old }
-    ensures tried { outcome result board.new.cells ≡ trials (lines_of puzzle.now) board.old.cells }
-    ensures size { IsBoardOf puzzle.now board.new }
-    ensures filled_trial { IsBoardOf puzzle.now filled_trial.new }
-    ensures blank_trial { IsBoardOf puzzle.now blank_trial.new }
-    ensures room { tables.new ≡ tables.old }
-{
-    loop {
-        match try_all(
-            puzzle,
-            tables,
-            board,
-            filled_trial,
-            blank_trial,
-            rows,
-            columns,
-            fillable,
-            blankable,
-        ) {
-            Progress::Dead => return false,
-            Progress::Same => return true,
-            Progress::Changed => {}
+    /// Closes a board under trials. Answers whether it is alive.
+    pub fn try_board(&mut self, board: &mut Board) -> bool
+        requires size { IsBoardOf self.old.closer.puzzle board.old }
+        ensures tried { outcome result board.new.cells ≡ trials (lines_of self.old.closer.puzzle) board.old.cells }
+        ensures size { IsBoardOf self.old.closer.puzzle board.new }
+        ensures puzzle { self.new.closer.puzzle ≡ self.old.closer.puzzle }
+    {
+        if !self.closer.close_all(board) {
+            return false;
         }
+        self.colours.forget();
+        self.try_until_same(board)
     }
-}
-
-/// Closes a board under trials, by the marked lines. Answers whether it is alive.
-pub fn try_board(
-    puzzle: &Puzzle,
-    tables: &mut Tables,
-    board: &mut Board,
-    filled_trial: &mut Board,
-    blank_trial: &mut Board,
-    rows: &mut [bool],
-    columns: &mut [bool],
-    fillable: &mut [bool],
-    blankable: &mut [bool],
-) -> bool
-    requires room { tables.old ≡ 128 }
-    requires marks { HasMarks puzzle.now board.old.cells rows.old columns.old }
-    requires size { IsBoardOf puzzle.now board.old }
-    requires filled_trial { IsBoardOf puzzle.now filled_trial.old }
-    requires blank_trial { IsBoardOf puzzle.now blank_trial.old }
-    requires fillable { length fillable.old ≡ puzzle.now.width * puzzle.now.height }
-    requires blankable { length blankable.old ≡ puzzle.now.width * puzzle.now.height }
-    ensures tried { outcome result board.new.cells ≡ trials (lines_of puzzle.now) board.old.cells }
-    ensures size { IsBoardOf puzzle.now board.new }
-    ensures filled_trial { IsBoardOf puzzle.now filled_trial.new }
-    ensures blank_trial { IsBoardOf puzzle.now blank_trial.new }
-    ensures room { tables.new ≡ tables.old }
-{
-    if !close_board(puzzle, tables, board, rows, columns) {
-        return false;
-    }
-    fillable.fill(false);
-    blankable.fill(false);
-    try_until_same(
-        puzzle,
-        tables,
-        board,
-        filled_trial,
-        blank_trial,
-        rows,
-        columns,
-        fillable,
-        blankable,
-    )
 }

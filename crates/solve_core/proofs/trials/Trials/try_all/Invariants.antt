@@ -1,0 +1,17 @@
+use Rattle.std.proofs.Common.{◌≡◌, ◌≢◌, ◌<◌, ℕ}
+use Rattle.grid_core.specs.Nonogram.{lines_of}
+use Rattle.solve_core.specs.declared.closures.Progress.TheVariants.{Dead, Same}
+use Rattle.solve_core.specs.Trials.{trials, IsTried}
+use Rattle.solve_core.specs.Boards.{IsBoardOf}
+use Rattle.solve_core.specs.Marks.{IsReady, Progresses}
+use Rattle.solve_core.proofs.trials.Trials.try_all.Given as goal
+
+abbrev pub invariant-loop-place : goal.invariant-loop-place
+invariant-loop-place l = record {
+  puzzle : l.self.closer.puzzle ≡ l.fn.self.closer.puzzle;
+  size : IsBoardOf l.self.closer.puzzle l.board;
+  ready : IsReady l.self l.board.cells;
+  alive : l.progress ≢ Dead;
+  progress : Progresses (trials (lines_of l.self.closer.puzzle)) l.progress l.fn.board.cells l.board.cells;
+  tried : l.progress ≡ Same → (k : ℕ) → k < l.place → IsTried (lines_of l.self.closer.puzzle) l.board.cells k;
+}

@@ -1,0 +1,18 @@
+use Rattle.std.proofs.Common.{◌≡◌}
+use Rattle.grid_core.specs.Nonogram.{lines_of}
+use Rattle.solve_core.specs.Trials.{trials}
+use Rattle.solve_core.specs.Boards.{IsBoardOf}
+use Rattle.solve_core.specs.Marks.{IsReady}
+use Rattle.solve_core.specs.Trails.{unknown_count}
+use Rattle.solve_core.proofs.trials.Trials.try_until_same.Given as goal
+
+abbrev pub invariant-loop : goal.invariant-loop
+invariant-loop l = record {
+  puzzle : l.self.closer.puzzle ≡ l.fn.self.closer.puzzle;
+  size : IsBoardOf l.self.closer.puzzle l.board;
+  ready : IsReady l.self l.board.cells;
+  same : trials (lines_of l.self.closer.puzzle) l.board.cells ≡ trials (lines_of l.self.closer.puzzle) l.fn.board.cells;
+}
+
+abbrev pub decreases-loop : goal.decreases-loop
+decreases-loop l = unknown_count l.board.cells

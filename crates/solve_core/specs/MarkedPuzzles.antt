@@ -1,0 +1,9 @@
+-- A puzzle with the marks of its lines.
+use Rattle.std.specs.Prelude.{Bool, List}
+use Rattle.grid_core.specs.Nonogram.{Nonogram}
+
+-- a puzzle, with a mark for each row and for each column
+pub record MarkedPuzzle : Type 0 where
+  pub puzzle : Nonogram
+  pub rows : List Bool
+  pub columns : List Bool
