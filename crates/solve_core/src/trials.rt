@@ -2,7 +2,7 @@
 ghost use Rattle.std.specs.Prelude.{◌≡◌, ◌≢◌, ℕ, ◌+◌, ◌*◌, ◌<◌, ◌≤◌, ◌↔◌, Some, true, length, slice_set, slice_index_or, IsTrue, IfOk};
 ghost use Rattle.grid_core.specs.declared.cells.Cell.TheVariants.{Unknown, Filled, Blank};
 ghost use Rattle.grid_core.specs.Nonogram.{lines_of};
-ghost use Rattle.grid_core.specs.Cells.{colour as colour_of, is_known};
+ghost use Rattle.grid_core.specs.Cells.{is_known};
 ghost use Rattle.solve_core.specs.Closure.{round, closure};
 ghost use Rattle.line_core.specs.Order.{AtMost};
 ghost use Rattle.solve_core.specs.Trials.{trials, IsTried};
@@ -51,24 +51,6 @@ impl Trial {
     }
 }
 
-/// Marks at each cell that a trial settled the colour that it has.
-fn mark_settled(trial: &Board, fillable: &mut [bool], blankable: &mut [bool])
-    requires fillable { length fillable.old ≡ length trial.now.cells }
-    requires blankable { length blankable.old ≡ length trial.now.cells }
-    ensures filled { AddsMarks Filled trial.now.cells fillable.old fillable.new }
-    ensures blank { AddsMarks Blank trial.now.cells blankable.old blankable.new }
-{
-    let cells = trial.cells();
-    for settled in trial.trail() {
-        let place = usize::from(*settled);
-        match cells[place] {
-            Cell::Unknown => {}
-            Cell::Filled => fillable[place] = true,
-            Cell::Blank => blankable[place] = true,
-        }
-    }
-}
-
 /// For each cell and each of the two colours a mark that the colour is open: a trial of the same grid has met it there.
 #[derive(Drop)]
 struct Colours {
@@ -107,7 +89,15 @@ impl Colours {
         ensures filled_count { length self.new.fillable.items ≡ length self.old.fillable.items }
         ensures blank_count { length self.new.blankable.items ≡ length self.old.blankable.items }
     {
-        mark_settled(trial, &mut self.fillable, &mut self.blankable);
+        let cells = trial.cells();
+        for settled in trial.trail() {
+            let place = usize::from(*settled);
+            match cells[place] {
+                Cell::Unknown => {}
+                Cell::Filled => self.fillable[place] = true,
+                Cell::Blank => self.blankable[place] = true,
+            }
+        }
     }
 
     /// Tries a colour at an unknown cell, on a copy, unless another trial of the same grid has met it. Where the copy closes alive, the colours
@@ -118,7 +108,7 @@ impl Colours {
         board: &Board,
         trial: &mut Board,
         place: usize,
-        filled: bool,
+        colour: Cell,
     ) -> Trial
         requires rest { IsAtRest closer.old board.now.cells }
         requires colours { AreOpenColours closer.old.puzzle board.now.cells self.old.fillable.items self.old.blankable.items }
@@ -126,22 +116,22 @@ impl Colours {
         requires trial { IsBoardOf closer.old.puzzle trial.old }
         requires place { place < length board.now.cells }
         requires unknown { slice_index_or board.now.cells place Unknown ≡ Unknown }
-        ensures tried { IsTrialOf result (lines_of closer.old.puzzle) board.now.cells place (colour_of filled) trial.new.cells }
+        requires colour { is_known colour ≡ true }
+        ensures tried { IsTrialOf result (lines_of closer.old.puzzle) board.now.cells place colour trial.new.cells }
         ensures colours { AreOpenColours closer.old.puzzle board.now.cells self.new.fillable.items self.new.blankable.items }
         ensures rest { IsAtRest closer.new board.now.cells }
         ensures closed_rest { result ≡ Closed → IsAtRest closer.new trial.new.cells }
         ensures trial { IsBoardOf closer.old.puzzle trial.new }
         ensures puzzle { closer.new.puzzle ≡ closer.old.puzzle }
     {
-        let known = if filled {
-            self.fillable[place]
-        } else {
-            self.blankable[place]
+        let known = match colour {
+            Cell::Unknown => false,
+            Cell::Filled => self.fillable[place],
+            Cell::Blank => self.blankable[place],
         };
         if known {
             return Trial::Open;
         }
-        let colour = Cell::of_colour(filled);
         if !closer.close_copy(board, trial, place, colour) {
             return Trial::Refuted;
         }
@@ -254,7 +244,7 @@ impl<'p> Trials<'p> {
             board,
             &mut self.filled_trial,
             place,
-            true,
+            Cell::Filled,
         );
         if filled.is_refuted() {
             return self.keep_colour(board, place, Cell::Blank);
@@ -264,7 +254,7 @@ impl<'p> Trials<'p> {
             board,
             &mut self.blank_trial,
             place,
-            false,
+            Cell::Blank,
         );
         if !blank.is_refuted() {
             return Progress::Same;

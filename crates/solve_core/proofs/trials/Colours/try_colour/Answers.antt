@@ -14,9 +14,9 @@ returns-clause-colours c =
       filled_count = c.mark.ensures.filled_count ∙ before.filled_count;
       blank_count = c.mark.ensures.blank_count ∙ before.blank_count;
       filled =
-          added-open lines cells c.close_copy.new.trial.cells c.args.place c.of_colour-colour.result Filled c.args.self.now.fillable.items c.mark.new.self.fillable.items
+          added-open lines cells c.close_copy.new.trial.cells c.args.place c.args.colour Filled c.args.self.now.fillable.items c.mark.new.self.fillable.items
           c.requires.unknown closed c.mark.ensures.filled before.filled;
       blank =
-          added-open lines cells c.close_copy.new.trial.cells c.args.place c.of_colour-colour.result Blank c.args.self.now.blankable.items c.mark.new.self.blankable.items
+          added-open lines cells c.close_copy.new.trial.cells c.args.place c.args.colour Blank c.args.self.now.blankable.items c.mark.new.self.blankable.items
           c.requires.unknown closed c.mark.ensures.blank before.blank;
     }
