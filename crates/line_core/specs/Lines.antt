@@ -27,7 +27,7 @@ pub record IsLine (len filled blank : ℕ) : Type 0 where
   pub short : len ≤ 128
   pub apart : (i : ℕ) → Has filled i → Has blank i → ⊥
 
--- the first place, from one on, where two lines differ, if there is one
+-- the first place, from a given place on, where two lines differ, if there is one
 abbrev pub IsNextChange : List Cell → List Cell → ℕ → Option ℕ → Type 0
 IsNextChange line other from None = (k : ℕ) → from ≤ k → k < length line → slice_index_or other k Unknown ≡ slice_index_or line k Unknown
 IsNextChange line other from (Some i) =

@@ -32,6 +32,7 @@ impl Model for Line {
     ghost invariant = { λ line. IsLine line.len line.filled line.blank };
 }
 
+/// Whether a cell is known to be blank.
 fn is_blank(cell: Cell) -> bool
     ensures { result ≡ is_blank cell }
 {
@@ -97,7 +98,7 @@ impl Line {
         self.blank = marked(self.blank, i, is_blank(cell));
     }
 
-    /// The first place, from one on, where another line of the same length differs, if there is one.
+    /// The first place, from a given place on, where another line of the same length differs, if there is one.
     pub fn next_change(&self, other: &Line, from: u16) -> Option<u16>
         requires same { length other.now ≡ length self.now }
         requires from { from ≤ length self.now }

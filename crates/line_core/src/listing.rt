@@ -37,6 +37,7 @@ fn common_with(cell: Cell, filled: bool) -> Cell
     }
 }
 
+/// Writes the cells that have a full line's colours.
 fn write_colours(certain: &mut [Cell], full: &[bool])
     requires { length certain.old ≡ length full.now }
     ensures { certain.new ≡ map colour full.now }
@@ -46,6 +47,7 @@ fn write_colours(certain: &mut [Cell], full: &[bool])
     }
 }
 
+/// Keeps of each cell what it and a full line's colour have in common.
 fn keep_common(certain: &mut [Cell], full: &[bool])
     requires { length certain.old ≡ length full.now }
     ensures { certain.new ≡ common_all certain.old full.now }

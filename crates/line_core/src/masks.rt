@@ -122,8 +122,8 @@ pub fn run_ends(gap: u128, first: bool, window: u128, length: u16) -> u128
     requires { (0 < length) × (length ≤ 128) }
     ensures { IsMaskOf (IsMoved (λ s. (IsMoved (Has gap) 1 s ⊎ ((s ≡ 0) × (first ≡ true))) × Has window s) (length - 1)) result }
 {
-    let first = if first { 1u128 } else { 0 };
-    let starts = ((gap << 1) | first) & window;
+    let opening = if first { 1u128 } else { 0 };
+    let starts = ((gap << 1) | opening) & window;
     starts << (length - 1)
 }
 
@@ -141,6 +141,7 @@ pub fn spread(mask: u128, length: u16) -> u128
 {
     let mut wide = mask;
     let mut width = 1u16;
+    // `wide` has the places with one of the mask among `width` from there on: twice that as long as it fits, then an overlap for the rest.
     while width <= length - width {
         wide = either(wide, width);
         width += width;
@@ -172,7 +173,7 @@ pub fn turn_line(mask: u128, len: u16) -> u128
     turn(mask) >> (128 - len)
 }
 
-/// The places from one on that are in one of two masks only.
+/// The places from a given place on that are in one of two masks only.
 pub fn differing(mask: u128, other: u128, from: u16) -> u128
     requires { from < 128 }
     ensures { IsMaskOf (λ i. (from ≤ i) × (has mask i ≢ has other i)) result }

@@ -75,6 +75,7 @@ static ROWS: [Row; 8] = [
     },
 ];
 
+/// The cell that a character stands for: `#` filled, `.` blank, any other unknown.
 fn cell_of(byte: u8) -> Cell {
     match byte {
         b'#' => Cell::Filled,
@@ -83,6 +84,7 @@ fn cell_of(byte: u8) -> Cell {
     }
 }
 
+/// The line that a text stands for, a character a cell: none where it has no character, or more than 128.
 fn line_of(text: &str) -> Option<Line>
     ensures { IfSome result (λ line. length line ≤ 128) }
 {
@@ -97,6 +99,7 @@ fn line_of(text: &str) -> Option<Line>
     Some(line)
 }
 
+/// Whether a line has the cells that a text stands for.
 fn is_line(line: &Line, text: &str) -> bool {
     let bytes = text.as_bytes();
     if bytes.len() != line.len() as usize {
@@ -110,6 +113,7 @@ fn is_line(line: &Line, text: &str) -> bool {
     true
 }
 
+/// Whether two lines have the same cells.
 fn is_same_line(some: &Line, other: &Line) -> bool {
     if some.len() != other.len() {
         return false;
@@ -122,6 +126,7 @@ fn is_same_line(some: &Line, other: &Line) -> bool {
     true
 }
 
+/// Whether two answers are the same: both none, or lines with the same cells.
 fn is_same(some: &Option<Line>, other: &Option<Line>) -> bool {
     match (some, other) {
         (Some(line), Some(answer)) => is_same_line(line, answer),
@@ -130,6 +135,7 @@ fn is_same(some: &Option<Line>, other: &Option<Line>) -> bool {
     }
 }
 
+/// Whether a search answered as wanted, and left just the wanted starts.
 fn has_starts(alive: bool, starts: &Starts, found: bool, wanted: &[u16]) -> bool {
     found == alive && starts.list() == wanted
 }
