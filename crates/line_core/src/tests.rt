@@ -1,6 +1,6 @@
 //! Tests of what no contract says: each call on lines worked out by hand, and deduction against the listing of all placings.
 
-ghost use Rattle.std.specs.Prelude.{◌≡◌, ◌≤◌, length, IfSome};
+ghost use Rattle.std.specs.Prelude.{◌≡◌, ◌+◌, ◌<◌, ◌≤◌, length, IfSome};
 
 use super::*;
 use grid_core::{Cell, Clue};
@@ -140,31 +140,31 @@ fn has_starts(alive: bool, starts: &Starts, found: bool, wanted: &[u16]) -> bool
     found == alive && starts.list() == wanted
 }
 
-/// Whether the starts and the deduction of a row are what was worked out.
-fn comes_out(alloc: Global, row: &Row) -> Result<bool, Fail> {
+/// Whether the starts and the deduction of a row are what was worked out, whatever starts were left before.
+fn comes_out(alloc: Global, row: &Row, starts: &mut Starts) -> Result<bool, Fail> {
     let mut tables = Tables::new(alloc, 128)?;
-    let mut starts = Starts::new(alloc)?;
     let clue = Clue::from_numbers(alloc, row.clue)?;
     let alive = !row.deduced.is_empty();
     let Some(line) = line_of(row.line) else {
         return Ok(false);
     };
-    let none_at_first = starts.list().is_empty();
-    let found = leftmost(&line, &clue, &mut starts);
-    let left = has_starts(alive, &starts, found, row.left);
-    let found = rightmost(&line, &clue, &mut starts);
-    let right = has_starts(alive, &starts, found, row.right);
+    let found = leftmost(&line, &clue, starts);
+    let left = has_starts(alive, starts, found, row.left);
+    let found = rightmost(&line, &clue, starts);
+    let right = has_starts(alive, starts, found, row.right);
     let deduced = match deduce(&mut tables, &line, &clue) {
         Some(answer) => alive && is_line(&answer, row.deduced),
         None => !alive,
     };
-    Ok(none_at_first && left && right && deduced)
+    Ok(left && right && deduced)
 }
 
 #[test]
 fn rows_come_out_as_worked_out(rt: HostRuntime) -> Result<(), Fail> {
+    let mut starts = Starts::new(rt.alloc())?;
+    assert!(rt; starts.list().is_empty(), "none at first");
     for row in &ROWS {
-        assert!(rt; comes_out(rt.alloc(), row)?, "a row");
+        assert!(rt; comes_out(rt.alloc(), row, &mut starts)?, "a row");
     }
     Ok(())
 }
@@ -239,11 +239,8 @@ fn deduction_is_what_all_placings_share(rt: HostRuntime) -> Result<(), Fail> {
 
 /// Whether two runs that leave one blank cell on a line are placed and deduced.
 fn fills_line(alloc: Global, len: u16, first: u16) -> Result<bool, Fail>
-    requires { (1 ≤ len) × (len ≤ 128) }
+    requires { (0 < first) × (first + 1 < len) × (len ≤ 128) }
 {
-    if first == 0 || len < 3 || len - 2 < first {
-        return Ok(true);
-    }
     let mut tables = Tables::new(alloc, len)?;
     let mut starts = Starts::new(alloc)?;
     let clue = Clue::from_numbers(alloc, &[first, len - 1 - first])?;
@@ -301,7 +298,7 @@ fn lengths_at_word_ends_come_out(rt: HostRuntime) -> Result<(), Fail> {
     let alloc = rt.alloc();
     for len in [63u16, 64, 65, 127, 128] {
         assert!(rt; holds_both_ends(alloc, len)?, "both ends of {len}");
-        for first in 1..len {
+        for first in 1..len - 1 {
             assert!(rt; fills_line(alloc, len, first)?, "{len} {first}");
         }
     }
@@ -321,5 +318,33 @@ fn changes_of_a_copy_are_found(rt: HostRuntime) -> Result<(), Fail> {
     assert!(rt; line.next_change(&other, 2) == Some(4), "the next");
     assert!(rt; line.next_change(&other, 5) == None, "no more");
     assert!(rt; line.next_change(&other, 6) == None, "at the end");
+    Ok(())
+}
+
+#[test]
+fn changes_at_word_ends_are_found(rt: HostRuntime) -> Result<(), Fail> {
+    let line = Line::unknown(128);
+    let mut other = line.copy();
+    other.set(64, Cell::Filled);
+    other.set(127, Cell::Blank);
+    assert!(rt; line.next_change(&other, 0) == Some(64), "the first change");
+    assert!(rt; line.next_change(&other, 64) == Some(64), "at the change");
+    assert!(rt; line.next_change(&other, 65) == Some(127), "the next");
+    assert!(rt;
+        line.next_change(&other, 127) == Some(127),
+        "the last place"
+    );
+    Ok(())
+}
+
+#[test]
+fn cells_become_unknown_again(rt: HostRuntime) -> Result<(), Fail> {
+    let mut line = Line::unknown(3);
+    line.set(0, Cell::Filled);
+    line.set(1, Cell::Blank);
+    assert!(rt; is_line(&line, "#.?"), "known");
+    line.set(0, Cell::Unknown);
+    line.set(1, Cell::Unknown);
+    assert!(rt; is_line(&line, "???"), "unknown again");
     Ok(())
 }
