@@ -70,7 +70,7 @@ seen_at len f b i l e h =
     let long = length_seen len f b l e in
     ap (λ (z : List Cell). get_or z i Unknown) (sym e) ∙ cell_at len f b i (omega arith)
 
--- the places from one on where two lines of a length differ, told of their masks
+-- the places from a given place on where two lines of a length differ, told of their masks
 abbrev pub IsChange : ℕ → ℕ → ℕ → ℕ → ℕ → ℕ → ℕ → Type 0
 IsChange f g b d start len i = (((start ≤ i) × (has f i ≢ has g i)) ⊎ ((start ≤ i) × (has b i ≢ has d i))) × (i < len)
 

@@ -16,11 +16,11 @@ abbrev pub IsFlooded : (ℕ → Type 0) → (ℕ → Type 0) → ℕ → Type 0
 IsFlooded Source Free zero = Source zero
 IsFlooded Source Free (suc i) = Source (suc i) ⊎ (Free (suc i) × IsFlooded Source Free i)
 
--- all of so many places from one on
+-- all of so many places from a given place on
 abbrev pub AllFrom : (ℕ → Type 0) → ℕ → ℕ → Type 0
 AllFrom P count i = (z : ℕ) → z < count → P (i + z)
 
--- some one of so many places from one on
+-- some one of so many places from a given place on
 abbrev pub SomeFrom : (ℕ → Type 0) → ℕ → ℕ → Type 0
 SomeFrom P count i = (z : ℕ) × (z < count) × P (i + z)
 

@@ -1,10 +1,10 @@
 -- What the masks of a line mean: which parts of the clue fit which parts of the line.
-use Rattle.std.specs.Prelude.{◌≡◌, ℕ, zero, suc, ◌+◌, ◌-◌, ◌<◌, ◌≤◌, Bool, true, false, List, [], ◌∷◌, length, slice_index_or, drop, All}
+use Rattle.std.specs.Prelude.{◌≡◌, ℕ, zero, suc, ◌+◌, ◌-◌, ◌<◌, ◌≤◌, Bool, true, false, List, [], ◌∷◌, length, reverse, slice_index, slice_index_or, drop, All}
 use Rattle.grid_core.specs.declared.cells.Cell.{Cell}
 use Rattle.grid_core.specs.declared.cells.Cell.TheVariants.{Unknown}
 use Rattle.grid_core.specs.Cells.{allows, agrees}
 use Rattle.grid_core.specs.Runs.{runs}
-use Rattle.line_core.specs.Masks.{AllFrom, SomeFrom}
+use Rattle.line_core.specs.Masks.{IsMaskOf, AllFrom, SomeFrom}
 use Rattle.line_core.specs.Pattern.{pattern, fits}
 
 -- each number is the length of a run
@@ -37,6 +37,10 @@ MayBe line filled i = (i < length line) × (allows (slice_index_or line i Unknow
 -- the cells up to this one can hold exactly the first j runs, with this one blank
 abbrev pub IsGap : List Cell → List ℕ → ℕ → ℕ → Type 0
 IsGap line clue j i = MayBe line false i × Holds (behind Unknown line i) (behind 0 clue j)
+
+-- masks of the gaps before each run and after the last one, of a line and a clue that are both seen from their other end
+abbrev pub AreTurnedGaps : List Cell → List ℕ → List ℕ → Type 0
+AreTurnedGaps line clue gaps = (j : ℕ) → j ≤ length clue → IsMaskOf (IsGap (reverse line) (reverse clue) j) (slice_index gaps j)
 
 -- run j (the first is run 0) can start here, with exactly the runs before it in the cells before
 abbrev pub IsStart : List Cell → List ℕ → ℕ → ℕ → Type 0

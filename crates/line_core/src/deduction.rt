@@ -1,9 +1,9 @@
 //! What is certain of a line.
 
-ghost use Rattle.std.specs.Prelude.{◌≡◌, ◌≤◌, length, reverse, slice_index, ℕ, IfOk};
+ghost use Rattle.std.specs.Prelude.{◌≡◌, ◌≤◌, length, IfOk};
 ghost use Rattle.line_core.specs.Masks.{IsMaskOf};
 ghost use Rattle.line_core.specs.Deduction.{deduced};
-ghost use Rattle.line_core.specs.Reach.{AreLengths, IsGap, IsFillable, IsBlankable};
+ghost use Rattle.line_core.specs.Reach.{AreLengths, AreTurnedGaps, IsFillable, IsBlankable};
 
 use crate::Line;
 use crate::masks::{first_gap, gap_after, spread, write_windows};
@@ -16,7 +16,7 @@ use std::marker::Model;
 fn collect(line: &Line, clue: &[u16], turned_gaps: &[u128; 129]) -> (u128, u128)
     requires clue { AreLengths clue.now }
     requires count { length clue.now ≤ 128 }
-    requires turned { (j : ℕ) → j ≤ length clue.now → IsMaskOf (IsGap (reverse line.now) (reverse clue.now) j) (slice_index turned_gaps.now j) }
+    requires turned { AreTurnedGaps line.now clue.now turned_gaps.now }
     ensures filled { IsMaskOf (IsFillable line.now clue.now) result.0 }
     ensures blank { IsMaskOf (IsBlankable line.now clue.now) result.1 }
 {

@@ -1,6 +1,6 @@
 //! Laws of the definitions.
 
-ghost use Rattle.std.specs.Prelude.{◌≡◌, ℕ, List, Bool, true, Option, Some, None, map, nat_le};
+ghost use Rattle.std.specs.Prelude.{◌≡◌, ℕ, List, Bool, true, Some, map, nat_le};
 ghost use lib.Pointwise.{pointwise};
 ghost use Rattle.grid_core.specs.declared.cells.Cell.{Cell};
 ghost use Rattle.grid_core.specs.Cells.{Extends, colour};

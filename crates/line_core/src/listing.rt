@@ -1,6 +1,6 @@
 //! Deduction by going through all full lines, which other ways are compared with.
 
-ghost use Rattle.std.specs.Prelude.{◌≡◌, ◌+◌, ◌<◌, ◌≤◌, length, take, fold, map, true};
+ghost use Rattle.std.specs.Prelude.{◌≡◌, ◌+◌, ◌≤◌, length, take, fold, map, true};
 ghost use Rattle.grid_core.specs.Cells.{agrees, colour};
 ghost use Rattle.line_core.specs.Deduction.{deduced};
 ghost use Rattle.line_core.specs.Listing.{learn, learned, placings_beginning, common, common_all};

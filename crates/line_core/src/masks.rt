@@ -1,6 +1,6 @@
 //! Masks of 128 places, a bit a place.
 
-ghost use Rattle.std.specs.Prelude.{◌≡◌, ◌≢◌, ◌+◌, ◌-◌, ◌*◌, ◌^◌, ◌<◌, ◌≤◌, ◌⊎◌, ℕ, slice_index, true, false, length};
+ghost use Rattle.std.specs.Prelude.{◌≡◌, ◌≢◌, ◌+◌, ◌-◌, ◌^◌, ◌<◌, ◌≤◌, ◌⊎◌, ℕ, slice_index, true, false, length};
 ghost use Rattle.line_core.specs.Masks.{Has, has, IsFlooded, IsMaskOf, IsTurned, IsMoved, AllFrom, SomeFrom, AreWindows, IsPairing, swapped_place};
 
 /// Whether a mask has a place.

@@ -1,8 +1,8 @@
 //! How far the runs of a clue reach on a line: a few operations on whole masks for each run.
 
-ghost use Rattle.std.specs.Prelude.{◌≡◌, ◌+◌, ◌-◌, ◌<◌, ◌≤◌, length, reverse, true, slice_index, ℕ};
+ghost use Rattle.std.specs.Prelude.{◌≡◌, ◌+◌, ◌-◌, ◌<◌, ◌≤◌, length, true, slice_index};
 ghost use Rattle.line_core.specs.Masks.{IsMaskOf, AreWindows};
-ghost use Rattle.line_core.specs.Reach.{AreLengths, MayBe, IsGap, IsEnd, IsGapAhead, IsWholeEnd};
+ghost use Rattle.line_core.specs.Reach.{AreLengths, AreTurnedGaps, MayBe, IsGap, IsEnd, IsGapAhead, IsWholeEnd};
 
 use crate::Line;
 use crate::masks::{first_gap, gap_after, run_ends, turn_line, window, write_windows};
@@ -12,7 +12,7 @@ use crate::masks::{first_gap, gap_after, run_ends, turn_line, window, write_wind
 pub(crate) fn write_turned_gaps(line: &Line, clue: &[u16], gaps: &mut [u128; 129])
     requires clue { AreLengths clue.now }
     requires count { length clue.now ≤ 128 }
-    ensures { (j : ℕ) → j ≤ length clue.now → IsMaskOf (IsGap (reverse line.now) (reverse clue.now) j) (slice_index gaps.new j) }
+    ensures { AreTurnedGaps line.now clue.now gaps.new }
 {
     let turned = line.turned();
     let free = turned.free_cells();
@@ -47,7 +47,7 @@ pub(crate) fn ends_of(line: &Line, clue: &[u16], j: usize, windows: &[u128; 8], 
 pub(crate) fn gap_ahead(line: &Line, clue: &[u16], turned_gaps: &[u128; 129], j: usize) -> u128
     requires count { length clue.now ≤ 128 }
     requires j { j ≤ length clue.now }
-    requires turned { (j : ℕ) → j ≤ length clue.now → IsMaskOf (IsGap (reverse line.now) (reverse clue.now) j) (slice_index turned_gaps.now j) }
+    requires turned { AreTurnedGaps line.now clue.now turned_gaps.now }
     ensures { IsMaskOf (IsGapAhead line.now clue.now j) result }
 {
     turn_line(turned_gaps[clue.len() - j], line.len())

@@ -1,10 +1,10 @@
 //! The leftmost and the rightmost placing.
 
-ghost use Rattle.std.specs.Prelude.{◌≡◌, ◌<◌, ◌≤◌, ◌↔◌, [], length, reverse, take, slice_index, ℕ, IsTrue, true, false, Some, None, IfOk, MatchBool};
-ghost use Rattle.line_core.specs.Masks.{Has, IsMaskOf};
+ghost use Rattle.std.specs.Prelude.{◌≡◌, ◌<◌, ◌≤◌, [], length, take, slice_index, ℕ, Some, None, IfOk, MatchBool};
+ghost use Rattle.line_core.specs.Masks.{Has};
 ghost use Rattle.line_core.specs.Ends.{leftmost, rightmost};
 ghost use Rattle.line_core.specs.Outermost.{outermost, IsAsFar, IsOuterStart};
-ghost use Rattle.line_core.specs.Reach.{AreLengths, IsGap, HasPlacing};
+ghost use Rattle.line_core.specs.Reach.{AreLengths, AreTurnedGaps, HasPlacing};
 
 use crate::Line;
 use crate::masks::{first_gap, first_place, gap_after, has, last_place, write_windows};
@@ -36,7 +36,7 @@ fn outermost_place(side: Side, mask: u128) -> u16
 /// Whether a line has a placing with no run: its first cell is blank in one.
 fn may_have_no_run(line: &Line, clue: &[u16], turned_gaps: &[u128; 129]) -> bool
     requires clue { length clue.now ≡ 0 }
-    requires turned { (j : ℕ) → j ≤ length clue.now → IsMaskOf (IsGap (reverse line.now) (reverse clue.now) j) (slice_index turned_gaps.now j) }
+    requires turned { AreTurnedGaps line.now clue.now turned_gaps.now }
     ensures { MatchBool result (HasPlacing line.now clue.now) (HasPlacing line.now clue.now → ⊥) }
 {
     let gap = first_gap(line.free_cells());
@@ -53,7 +53,7 @@ fn write_starts(
 ) -> bool
     requires clue { AreLengths clue.now }
     requires count { (0 < length clue.now) × (length clue.now ≤ 128) }
-    requires turned { (j : ℕ) → j ≤ length clue.now → IsMaskOf (IsGap (reverse line.now) (reverse clue.now) j) (slice_index turned_gaps.now j) }
+    requires turned { AreTurnedGaps line.now clue.now turned_gaps.now }
     ensures { MatchBool result
         ((j : ℕ) → j < length clue.now → IsOuterStart side line.now clue.now j (slice_index list.new j))
         (HasPlacing line.now clue.now → ⊥) }
