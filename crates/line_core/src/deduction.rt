@@ -6,14 +6,14 @@ ghost use Rattle.line_core.specs.Deduction.{deduced};
 ghost use Rattle.line_core.specs.Reach.{AreLengths, AreTurnedGaps, IsFillable, IsBlankable};
 
 use crate::Line;
-use crate::masks::{first_gap, gap_after, spread, write_windows};
-use crate::reach::{ends_of, gap_ahead, whole_ends, write_turned_gaps};
+use crate::masks::{LEVELS, first_gap, gap_after, spread, write_windows};
+use crate::reach::{GAPS, ends_of, gap_ahead, whole_ends, write_turned_gaps};
 use grid_core::{Clue, NoMemory};
 use std::alloc::Global;
 use std::marker::Model;
 
 /// The cells that are filled in some placing, and those that are blank in some.
-fn collect(line: &Line, clue: &[u16], turned_gaps: &[u128; 129]) -> (u128, u128)
+fn collect(line: &Line, clue: &[u16], turned_gaps: &[u128; GAPS]) -> (u128, u128)
     requires clue { AreLengths clue.now }
     requires count { length clue.now ≤ 128 }
     requires turned { AreTurnedGaps line.now clue.now turned_gaps.now }
@@ -21,7 +21,7 @@ fn collect(line: &Line, clue: &[u16], turned_gaps: &[u128; 129]) -> (u128, u128)
     ensures blank { IsMaskOf (IsBlankable line.now clue.now) result.1 }
 {
     let free = line.free_cells();
-    let mut windows = [0u128; 8];
+    let mut windows = [0u128; LEVELS];
     write_windows(line.open_cells(), &mut windows);
     let mut gap = first_gap(free);
     let mut blankable = gap & gap_ahead(line, clue, turned_gaps, 0);
@@ -38,7 +38,7 @@ fn collect(line: &Line, clue: &[u16], turned_gaps: &[u128; 129]) -> (u128, u128)
 }
 
 /// What is certain of a line, with room for the gaps of its runs.
-fn deduce_with(line: &Line, clue: &[u16], gaps: &mut [u128; 129]) -> Option<Line>
+fn deduce_with(line: &Line, clue: &[u16], gaps: &mut [u128; GAPS]) -> Option<Line>
     requires clue { AreLengths clue.now }
     requires count { length clue.now ≤ 128 }
     ensures { result ≡ deduced line.now clue.now }
@@ -52,7 +52,7 @@ fn deduce_with(line: &Line, clue: &[u16], gaps: &mut [u128; 129]) -> Option<Line
 #[derive(Drop)]
 pub struct Tables {
     longest: u16,
-    gaps: Box<[u128; 129]>,
+    gaps: Box<[u128; GAPS]>,
 }
 
 impl Model for Tables {
@@ -71,7 +71,7 @@ impl Tables {
     {
         Ok(Tables {
             longest,
-            gaps: Box::new(alloc, [0; 129])?,
+            gaps: Box::new(alloc, [0; GAPS])?,
         })
     }
 }

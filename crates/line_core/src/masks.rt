@@ -1,7 +1,10 @@
 //! Masks of 128 places, a bit a place.
 
-ghost use Rattle.std.specs.Prelude.{◌≡◌, ◌≢◌, ◌+◌, ◌-◌, ◌^◌, ◌<◌, ◌≤◌, ◌⊎◌, ℕ, slice_index, true, false, length};
+ghost use Rattle.std.specs.Prelude.{◌≡◌, ◌≢◌, ◌+◌, ◌-◌, ◌<◌, ◌≤◌, ◌⊎◌, ℕ, slice_index, true, false, length};
 ghost use Rattle.line_core.specs.Masks.{Has, has, IsFlooded, IsMaskOf, IsTurned, IsMoved, AllFrom, SomeFrom, AreWindows, IsPairing, swapped_place};
+
+/// How many windows a table has: of 1, 2, 4 and so on up to 128 places.
+pub const LEVELS: usize = 8;
 
 /// Whether a mask has a place.
 pub fn has(mask: u128, place: u16) -> bool
@@ -68,11 +71,11 @@ pub fn either(mask: u128, by: u16) -> u128
 }
 
 /// The starts of windows of 1, 2, 4 and so on places that are all in the mask.
-pub fn write_windows(cells: u128, table: &mut [u128; 8])
+pub fn write_windows(cells: u128, table: &mut [u128; LEVELS])
     ensures { AreWindows cells table.new }
 {
     table[0] = cells;
-    for level in 0..7usize {
+    for level in 0..LEVELS - 1 {
         table[level + 1] = both(table[level], 1 << level);
     }
 }
@@ -100,7 +103,7 @@ fn turn(mask: u128) -> u128
 }
 
 /// The starts of windows of a length, from the table of those of 1, 2, 4 and so on.
-pub fn window(table: &[u128; 8], length: u16) -> u128
+pub fn window(table: &[u128; LEVELS], length: u16) -> u128
     requires length { (0 < length) × (length ≤ 128) }
     requires table { AreWindows (slice_index table.now 0) table.now }
     ensures { IsMaskOf (AllFrom (Has (slice_index table.now 0)) length) result }

@@ -5,18 +5,22 @@ ghost use Rattle.line_core.specs.Masks.{IsMaskOf, AreWindows};
 ghost use Rattle.line_core.specs.Reach.{AreLengths, AreTurnedGaps, MayBe, IsGap, IsEnd, IsGapAhead, IsWholeEnd};
 
 use crate::Line;
-use crate::masks::{first_gap, gap_after, run_ends, turn_line, window, write_windows};
+use crate::masks::{LEVELS, first_gap, gap_after, run_ends, turn_line, window, write_windows};
+use grid_core::MOST_RUNS;
+
+/// How many masks of gaps a clue needs at most: one before each run, and one after the last.
+pub(crate) const GAPS: usize = MOST_RUNS + 1;
 
 /// Writes the gaps before each run and after the last one, as the cells before allow them, of a line and a clue that are both seen from
 /// their other end.
-pub(crate) fn write_turned_gaps(line: &Line, clue: &[u16], gaps: &mut [u128; 129])
+pub(crate) fn write_turned_gaps(line: &Line, clue: &[u16], gaps: &mut [u128; GAPS])
     requires clue { AreLengths clue.now }
     requires count { length clue.now ≤ 128 }
     ensures { AreTurnedGaps line.now clue.now gaps.new }
 {
     let turned = line.turned();
     let free = turned.free_cells();
-    let mut windows = [0u128; 8];
+    let mut windows = [0u128; LEVELS];
     write_windows(turned.open_cells(), &mut windows);
     let mut gap = first_gap(free);
     gaps[0] = gap;
@@ -30,7 +34,13 @@ pub(crate) fn write_turned_gaps(line: &Line, clue: &[u16], gaps: &mut [u128; 129
 }
 
 /// The ends of a run, from the gaps before it.
-pub(crate) fn ends_of(line: &Line, clue: &[u16], j: usize, windows: &[u128; 8], gap: u128) -> u128
+pub(crate) fn ends_of(
+    line: &Line,
+    clue: &[u16],
+    j: usize,
+    windows: &[u128; LEVELS],
+    gap: u128,
+) -> u128
     requires clue { AreLengths clue.now }
     requires j { j < length clue.now }
     requires short { length line.now ≤ 128 }
@@ -44,7 +54,7 @@ pub(crate) fn ends_of(line: &Line, clue: &[u16], j: usize, windows: &[u128; 8], 
 }
 
 /// The gaps before a run, as the cells after allow them.
-pub(crate) fn gap_ahead(line: &Line, clue: &[u16], turned_gaps: &[u128; 129], j: usize) -> u128
+pub(crate) fn gap_ahead(line: &Line, clue: &[u16], turned_gaps: &[u128; GAPS], j: usize) -> u128
     requires count { length clue.now ≤ 128 }
     requires j { j ≤ length clue.now }
     requires turned { AreTurnedGaps line.now clue.now turned_gaps.now }

@@ -7,9 +7,9 @@ ghost use Rattle.line_core.specs.Outermost.{outermost, IsAsFar, IsOuterStart};
 ghost use Rattle.line_core.specs.Reach.{AreLengths, AreTurnedGaps, HasPlacing};
 
 use crate::Line;
-use crate::masks::{first_gap, first_place, gap_after, has, last_place, write_windows};
-use crate::reach::{ends_of, gap_ahead, whole_ends, write_turned_gaps};
-use grid_core::{Clue, NoMemory};
+use crate::masks::{LEVELS, first_gap, first_place, gap_after, has, last_place, write_windows};
+use crate::reach::{GAPS, ends_of, gap_ahead, whole_ends, write_turned_gaps};
+use grid_core::{Clue, MOST_RUNS, NoMemory};
 use std::alloc::Global;
 use std::marker::Model;
 
@@ -34,7 +34,7 @@ fn outermost_place(side: Side, mask: u128) -> u16
 }
 
 /// Whether a line has a placing with no run: its first cell is blank in one.
-fn may_have_no_run(line: &Line, clue: &[u16], turned_gaps: &[u128; 129]) -> bool
+fn may_have_no_run(line: &Line, clue: &[u16], turned_gaps: &[u128; GAPS]) -> bool
     requires clue { length clue.now ≡ 0 }
     requires turned { AreTurnedGaps line.now clue.now turned_gaps.now }
     ensures { MatchBool result (HasPlacing line.now clue.now) (HasPlacing line.now clue.now → ⊥) }
@@ -48,8 +48,8 @@ fn write_starts(
     side: Side,
     line: &Line,
     clue: &[u16],
-    turned_gaps: &[u128; 129],
-    list: &mut [u16; 128],
+    turned_gaps: &[u128; GAPS],
+    list: &mut [u16; MOST_RUNS],
 ) -> bool
     requires clue { AreLengths clue.now }
     requires count { (0 < length clue.now) × (length clue.now ≤ 128) }
@@ -59,7 +59,7 @@ fn write_starts(
         (HasPlacing line.now clue.now → ⊥) }
 {
     let free = line.free_cells();
-    let mut windows = [0u128; 8];
+    let mut windows = [0u128; LEVELS];
     write_windows(line.open_cells(), &mut windows);
     let mut gap = first_gap(free);
     for j in 0..clue.len() {
@@ -80,8 +80,8 @@ fn find_starts(
     side: Side,
     line: &Line,
     clue: &[u16],
-    gaps: &mut [u128; 129],
-    list: &mut [u16; 128],
+    gaps: &mut [u128; GAPS],
+    list: &mut [u16; MOST_RUNS],
 ) -> bool
     requires clue { AreLengths clue.now }
     requires count { length clue.now ≤ 128 }
@@ -101,8 +101,8 @@ fn find_starts(
 #[derive(Drop)]
 pub struct Starts {
     count: usize,
-    list: [u16; 128],
-    gaps: Box<[u128; 129]>,
+    list: [u16; MOST_RUNS],
+    gaps: Box<[u128; GAPS]>,
 }
 
 impl Model for Starts {
@@ -122,8 +122,8 @@ impl Starts {
     {
         Ok(Starts {
             count: 0,
-            list: [0; 128],
-            gaps: Box::new(alloc, [0; 129])?,
+            list: [0; MOST_RUNS],
+            gaps: Box::new(alloc, [0; GAPS])?,
         })
     }
 
