@@ -87,29 +87,67 @@ steps x r s f g within p q = record {
 pub place_below : (low by : ℕ) → IsPairing low by → (i : ℕ) → i < 128 → swapped_place low by i < 128
 place_below low by pairing i l = ltb-true (swapped_place low by i) 128 (and_left (nat_lt (swapped_place low by i) 128) (cond (has low i) (not (has low (i + by))) (nat_le by i && has low (i - by))) (below_all 128 (is_pairing_at low by) pairing i l))
 
+-- where each step of a turn takes its places from
+abbrev by_ones : ℕ → ℕ
+by_ones i = swapped_place 0x55555555555555555555555555555555 1 i
+
+abbrev by_twos : ℕ → ℕ
+by_twos i = swapped_place 0x33333333333333333333333333333333 2 i
+
+abbrev by_fours : ℕ → ℕ
+by_fours i = swapped_place 0x0f0f0f0f0f0f0f0f0f0f0f0f0f0f0f0f 4 i
+
+abbrev by_eights : ℕ → ℕ
+by_eights i = swapped_place 0x00ff00ff00ff00ff00ff00ff00ff00ff 8 i
+
+abbrev by_sixteens : ℕ → ℕ
+by_sixteens i = swapped_place 0x0000ffff0000ffff0000ffff0000ffff 16 i
+
+abbrev by_halves : ℕ → ℕ
+by_halves i = swapped_place 0x00000000ffffffff00000000ffffffff 32 i
+
+abbrev by_wholes : ℕ → ℕ
+by_wholes i = swapped_place 0x0000000000000000ffffffffffffffff 64 i
+
+-- and where several do, the first of them last
+abbrev two_steps : ℕ → ℕ
+two_steps i = by_ones (by_twos i)
+
+abbrev three_steps : ℕ → ℕ
+three_steps i = two_steps (by_fours i)
+
+abbrev four_steps : ℕ → ℕ
+four_steps i = three_steps (by_eights i)
+
+abbrev five_steps : ℕ → ℕ
+five_steps i = four_steps (by_sixteens i)
+
+abbrev six_steps : ℕ → ℕ
+six_steps i = five_steps (by_halves i)
+
 abbrev turned_place : ℕ → ℕ
-turned_place i = (swapped_place 0x55555555555555555555555555555555 1 (swapped_place 0x33333333333333333333333333333333 2 (swapped_place 0x0f0f0f0f0f0f0f0f0f0f0f0f0f0f0f0f 4 (swapped_place 0x00ff00ff00ff00ff00ff00ff00ff00ff 8 (swapped_place 0x0000ffff0000ffff0000ffff0000ffff 16 (swapped_place 0x00000000ffffffff00000000ffffffff 32 (swapped_place 0x0000000000000000ffffffffffffffff 64 i)))))))
+turned_place i = six_steps (by_wholes i)
 
 turned_place_is : all_below 128 (λ i. nat_eq (turned_place i) (127 - i)) ≡ true
 turned_place_is = refl
 
 -- seven steps are a turn
 pub turned : (x r1 r2 r3 r4 r5 r6 r7 : ℕ)
-    → IsMaskOf (λ i. (i < 128) × Has x (swapped_place 0x55555555555555555555555555555555 1 i)) r1
-    → IsMaskOf (λ i. (i < 128) × Has r1 (swapped_place 0x33333333333333333333333333333333 2 i)) r2
-    → IsMaskOf (λ i. (i < 128) × Has r2 (swapped_place 0x0f0f0f0f0f0f0f0f0f0f0f0f0f0f0f0f 4 i)) r3
-    → IsMaskOf (λ i. (i < 128) × Has r3 (swapped_place 0x00ff00ff00ff00ff00ff00ff00ff00ff 8 i)) r4
-    → IsMaskOf (λ i. (i < 128) × Has r4 (swapped_place 0x0000ffff0000ffff0000ffff0000ffff 16 i)) r5
-    → IsMaskOf (λ i. (i < 128) × Has r5 (swapped_place 0x00000000ffffffff00000000ffffffff 32 i)) r6
-    → IsMaskOf (λ i. (i < 128) × Has r6 (swapped_place 0x0000000000000000ffffffffffffffff 64 i)) r7
+    → IsMaskOf (λ i. (i < 128) × Has x (by_ones i)) r1
+    → IsMaskOf (λ i. (i < 128) × Has r1 (by_twos i)) r2
+    → IsMaskOf (λ i. (i < 128) × Has r2 (by_fours i)) r3
+    → IsMaskOf (λ i. (i < 128) × Has r3 (by_eights i)) r4
+    → IsMaskOf (λ i. (i < 128) × Has r4 (by_sixteens i)) r5
+    → IsMaskOf (λ i. (i < 128) × Has r5 (by_halves i)) r6
+    → IsMaskOf (λ i. (i < 128) × Has r6 (by_wholes i)) r7
     → IsMaskOf (IsTurned (Has x)) r7
 turned x r1 r2 r3 r4 r5 r6 r7 p1 p2 p3 p4 p5 p6 p7 =
-    let q2 : IsMaskOf (λ i. (i < 128) × Has x (swapped_place 0x55555555555555555555555555555555 1 (swapped_place 0x33333333333333333333333333333333 2 i))) r2 = steps x r1 r2 (λ (i : ℕ). (swapped_place 0x55555555555555555555555555555555 1 i)) (λ (i : ℕ). swapped_place 0x33333333333333333333333333333333 2 i) (place_below 0x33333333333333333333333333333333 2 refl) p1 p2 in
-    let q3 : IsMaskOf (λ i. (i < 128) × Has x (swapped_place 0x55555555555555555555555555555555 1 (swapped_place 0x33333333333333333333333333333333 2 (swapped_place 0x0f0f0f0f0f0f0f0f0f0f0f0f0f0f0f0f 4 i)))) r3 = steps x r2 r3 (λ (i : ℕ). (swapped_place 0x55555555555555555555555555555555 1 (swapped_place 0x33333333333333333333333333333333 2 i))) (λ (i : ℕ). swapped_place 0x0f0f0f0f0f0f0f0f0f0f0f0f0f0f0f0f 4 i) (place_below 0x0f0f0f0f0f0f0f0f0f0f0f0f0f0f0f0f 4 refl) q2 p3 in
-    let q4 : IsMaskOf (λ i. (i < 128) × Has x (swapped_place 0x55555555555555555555555555555555 1 (swapped_place 0x33333333333333333333333333333333 2 (swapped_place 0x0f0f0f0f0f0f0f0f0f0f0f0f0f0f0f0f 4 (swapped_place 0x00ff00ff00ff00ff00ff00ff00ff00ff 8 i))))) r4 = steps x r3 r4 (λ (i : ℕ). (swapped_place 0x55555555555555555555555555555555 1 (swapped_place 0x33333333333333333333333333333333 2 (swapped_place 0x0f0f0f0f0f0f0f0f0f0f0f0f0f0f0f0f 4 i)))) (λ (i : ℕ). swapped_place 0x00ff00ff00ff00ff00ff00ff00ff00ff 8 i) (place_below 0x00ff00ff00ff00ff00ff00ff00ff00ff 8 refl) q3 p4 in
-    let q5 : IsMaskOf (λ i. (i < 128) × Has x (swapped_place 0x55555555555555555555555555555555 1 (swapped_place 0x33333333333333333333333333333333 2 (swapped_place 0x0f0f0f0f0f0f0f0f0f0f0f0f0f0f0f0f 4 (swapped_place 0x00ff00ff00ff00ff00ff00ff00ff00ff 8 (swapped_place 0x0000ffff0000ffff0000ffff0000ffff 16 i)))))) r5 = steps x r4 r5 (λ (i : ℕ). (swapped_place 0x55555555555555555555555555555555 1 (swapped_place 0x33333333333333333333333333333333 2 (swapped_place 0x0f0f0f0f0f0f0f0f0f0f0f0f0f0f0f0f 4 (swapped_place 0x00ff00ff00ff00ff00ff00ff00ff00ff 8 i))))) (λ (i : ℕ). swapped_place 0x0000ffff0000ffff0000ffff0000ffff 16 i) (place_below 0x0000ffff0000ffff0000ffff0000ffff 16 refl) q4 p5 in
-    let q6 : IsMaskOf (λ i. (i < 128) × Has x (swapped_place 0x55555555555555555555555555555555 1 (swapped_place 0x33333333333333333333333333333333 2 (swapped_place 0x0f0f0f0f0f0f0f0f0f0f0f0f0f0f0f0f 4 (swapped_place 0x00ff00ff00ff00ff00ff00ff00ff00ff 8 (swapped_place 0x0000ffff0000ffff0000ffff0000ffff 16 (swapped_place 0x00000000ffffffff00000000ffffffff 32 i))))))) r6 = steps x r5 r6 (λ (i : ℕ). (swapped_place 0x55555555555555555555555555555555 1 (swapped_place 0x33333333333333333333333333333333 2 (swapped_place 0x0f0f0f0f0f0f0f0f0f0f0f0f0f0f0f0f 4 (swapped_place 0x00ff00ff00ff00ff00ff00ff00ff00ff 8 (swapped_place 0x0000ffff0000ffff0000ffff0000ffff 16 i)))))) (λ (i : ℕ). swapped_place 0x00000000ffffffff00000000ffffffff 32 i) (place_below 0x00000000ffffffff00000000ffffffff 32 refl) q5 p6 in
-    let q7 : IsMaskOf (λ i. (i < 128) × Has x (swapped_place 0x55555555555555555555555555555555 1 (swapped_place 0x33333333333333333333333333333333 2 (swapped_place 0x0f0f0f0f0f0f0f0f0f0f0f0f0f0f0f0f 4 (swapped_place 0x00ff00ff00ff00ff00ff00ff00ff00ff 8 (swapped_place 0x0000ffff0000ffff0000ffff0000ffff 16 (swapped_place 0x00000000ffffffff00000000ffffffff 32 (swapped_place 0x0000000000000000ffffffffffffffff 64 i)))))))) r7 = steps x r6 r7 (λ (i : ℕ). (swapped_place 0x55555555555555555555555555555555 1 (swapped_place 0x33333333333333333333333333333333 2 (swapped_place 0x0f0f0f0f0f0f0f0f0f0f0f0f0f0f0f0f 4 (swapped_place 0x00ff00ff00ff00ff00ff00ff00ff00ff 8 (swapped_place 0x0000ffff0000ffff0000ffff0000ffff 16 (swapped_place 0x00000000ffffffff00000000ffffffff 32 i))))))) (λ (i : ℕ). swapped_place 0x0000000000000000ffffffffffffffff 64 i) (place_below 0x0000000000000000ffffffffffffffff 64 refl) q6 p7 in
+    let q2 : IsMaskOf (λ i. (i < 128) × Has x (two_steps i)) r2 = steps x r1 r2 by_ones by_twos (place_below 0x33333333333333333333333333333333 2 refl) p1 p2 in
+    let q3 : IsMaskOf (λ i. (i < 128) × Has x (three_steps i)) r3 = steps x r2 r3 two_steps by_fours (place_below 0x0f0f0f0f0f0f0f0f0f0f0f0f0f0f0f0f 4 refl) q2 p3 in
+    let q4 : IsMaskOf (λ i. (i < 128) × Has x (four_steps i)) r4 = steps x r3 r4 three_steps by_eights (place_below 0x00ff00ff00ff00ff00ff00ff00ff00ff 8 refl) q3 p4 in
+    let q5 : IsMaskOf (λ i. (i < 128) × Has x (five_steps i)) r5 = steps x r4 r5 four_steps by_sixteens (place_below 0x0000ffff0000ffff0000ffff0000ffff 16 refl) q4 p5 in
+    let q6 : IsMaskOf (λ i. (i < 128) × Has x (six_steps i)) r6 = steps x r5 r6 five_steps by_halves (place_below 0x00000000ffffffff00000000ffffffff 32 refl) q5 p6 in
+    let q7 : IsMaskOf (λ i. (i < 128) × Has x (turned_place i)) r7 = steps x r6 r7 six_steps by_wholes (place_below 0x0000000000000000ffffffffffffffff 64 refl) q6 p7 in
     let same : (i : ℕ) → i < 128 → turned_place i ≡ 127 - i = λ i l. eqb-true (turned_place i) (127 - i) (below_all 128 (λ i. nat_eq (turned_place i) (127 - i)) turned_place_is i l) in
     record {
       to = λ i h. let a = q7.to i h in (a.0, subst (Has x) (same i a.0) a.1);

@@ -1,3 +1,4 @@
+-- What single steps on masks come to, as src/masks.rt takes them: the places of a line, a turned line, gaps, the ends of runs, windows of a length, the greatest place.
 use Rattle.std.proofs.Common.{◌≡◌, ℕ, zero, suc, ◌+◌, ◌-◌, ◌*◌, ◌/◌, ◌%◌, ◌^◌, ◌<◌, ◌≤◌, ◌⊎◌, inl, inr, sym, ap, ◌∙◌, arith, subst, Bool, true, false, true≢false}
 use Rattle.std.specs.Int.{bit_at}
 use Rattle.std.specs.Int.RustNames.{bit_and, bit_or}

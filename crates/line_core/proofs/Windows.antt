@@ -1,3 +1,4 @@
+-- Windows of 1, 2, 4 and so on places: how a table of them grows, and which level stands for a length.
 use Rattle.std.proofs.Common.{◌≡◌, ℕ, ◌+◌, ◌*◌, ◌^◌, ◌<◌, ◌≤◌, List, length, get_or, set, sym, ◌∙◌, arith, subst, get_or-set_same, get_or-set_other, ◌≢◌, inl, inr}
 use Rattle.std.proofs.lemmas.Bool.{cases_lt}
 use Rattle.std.proofs.lemmas.Nat.{pow-add}
