@@ -1,7 +1,7 @@
 use Rattle.std.proofs.Common.{◌≡◌, ℕ, suc, ◌+◌, ◌-◌, ◌<◌, ◌≤◌, Bool, true, false, List, length, get_or, reverse, sym, subst, arith, ◌⊎◌, inl, inr}
 use Rattle.std.proofs.lemmas.Bool.{cases_lt}
 use Rattle.grid_core.specs.declared.cells.Cell.{Cell}
-use Rattle.line_core.specs.Masks.{Has, IsMaskOf, IsMoved, IsFlooded, AllFrom, SomeFrom}
+use Rattle.line_core.specs.Masks.{Has, IsMaskOf, IsMoved, IsFlooded, AllFrom, SomeFrom, SomeLevel, AreLevelsOf}
 use Rattle.line_core.proofs.Steps.{mask_same, and_is, or_is}
 use Rattle.std.specs.Int.RustNames.{bit_and, bit_or}
 use Rattle.line_core.proofs.Uses.{flood_same}
@@ -102,22 +102,20 @@ whole_is l clue j ends ahead last m pos jl cp e a z p =
         )
 
 -- one more run's cells
-pub fill_more : (l : List Cell) (clue : List ℕ) (j whole wide fill : ℕ) → IsMaskOf (IsWholeEnd l clue j) whole → IsMaskOf (SomeFrom (Has whole) (get_or clue j 0)) wide
-    → IsMaskOf (λ i. (q : ℕ) × (q < j) × SomeFrom (IsWholeEnd l clue q) (get_or clue q 0) i) fill
-    → IsMaskOf (λ i. (q : ℕ) × (q < j + 1) × SomeFrom (IsWholeEnd l clue q) (get_or clue q 0) i) (bit_or fill wide)
-fill_more l clue j whole wide fill w s f =
-    mask_same (λ i. ((q : ℕ) × (q < j) × SomeFrom (IsWholeEnd l clue q) (get_or clue q 0) i) ⊎ SomeFrom (Has whole) (get_or clue j 0) i)
-    (λ i. (q : ℕ) × (q < j + 1) × SomeFrom (IsWholeEnd l clue q) (get_or clue q 0) i) (bit_or fill wide)
-    (or_is (λ i. (q : ℕ) × (q < j) × SomeFrom (IsWholeEnd l clue q) (get_or clue q 0) i) (SomeFrom (Has whole) (get_or clue j 0)) fill wide f s) to from
+pub fill_more : (l : List Cell) (clue : List ℕ) (j whole : ℕ) (old new : List ℕ) → IsMaskOf (IsWholeEnd l clue j) whole
+    → AreLevelsOf (λ i. SomeLevel 7 old i ⊎ SomeFrom (Has whole) (get_or clue j 0) i) 7 new
+    → AreLevelsOf (λ i. (q : ℕ) × (q < j) × SomeFrom (IsWholeEnd l clue q) (get_or clue q 0) i) 7 old
+    → AreLevelsOf (λ i. (q : ℕ) × (q < j + 1) × SomeFrom (IsWholeEnd l clue q) (get_or clue q 0) i) 7 new
+fill_more l clue j whole old new w s f = record { to = λ i x. to i (s.to i x); from = λ i x. s.from i (from i x) }
   where
-    to : (i : ℕ) → ((q : ℕ) × (q < j) × SomeFrom (IsWholeEnd l clue q) (get_or clue q 0) i) ⊎ SomeFrom (Has whole) (get_or clue j 0) i → (q : ℕ) × (q < j + 1) × SomeFrom (IsWholeEnd l clue q) (get_or clue q 0) i
-    to i (inl x) = (x.0, omega (arith, x.1), x.2)
+    to : (i : ℕ) → SomeLevel 7 old i ⊎ SomeFrom (Has whole) (get_or clue j 0) i → (q : ℕ) × (q < j + 1) × SomeFrom (IsWholeEnd l clue q) (get_or clue q 0) i
+    to i (inl x) = let y = f.to i x in (y.0, omega (arith, y.1), y.2)
     to i (inr x) = (j, omega arith, (x.0, x.1, w.to (i + x.0) x.2))
 
-    from : (i : ℕ) → (q : ℕ) × (q < j + 1) × SomeFrom (IsWholeEnd l clue q) (get_or clue q 0) i → ((q : ℕ) × (q < j) × SomeFrom (IsWholeEnd l clue q) (get_or clue q 0) i) ⊎ SomeFrom (Has whole) (get_or clue j 0) i
+    from : (i : ℕ) → (q : ℕ) × (q < j + 1) × SomeFrom (IsWholeEnd l clue q) (get_or clue q 0) i → SomeLevel 7 old i ⊎ SomeFrom (Has whole) (get_or clue j 0) i
     from i x =
         elim (cases_lt x.0 j) [
-          | inl low ↦ inl (x.0, low, x.2)
+          | inl low ↦ inl (f.from i (x.0, low, x.2))
           | inr high ↦
               (let below : x.0 < j + 1 = x.1 in
               let e : x.0 ≡ j = omega arith in

@@ -4,6 +4,7 @@ pub mod Learning
 pub mod Flooding
 pub mod Steps
 pub mod Windows
+pub mod Levels
 pub mod Turning
 pub mod Uses
 pub mod PatternLaws

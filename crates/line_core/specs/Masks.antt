@@ -57,3 +57,12 @@ IsPairing low by = all_below 128 (is_pairing_at low by) ≡ true
 pub record AreWindows (cells : ℕ) (table : List ℕ) : Type 0 where
   pub first : slice_index_or table 0 0 ≡ cells
   pub each : (level : ℕ) → level < 8 → IsMaskOf (AllFrom (Has cells) (2 ^ level)) (slice_index_or table level 0)
+
+-- some one of so many places from one on is in the mask of a level, for some level up to the top one: so many are 2 to the level
+abbrev pub SomeLevel : ℕ → List ℕ → ℕ → Type 0
+SomeLevel top levels i = (level : ℕ) × (level ≤ top) × SomeFrom (Has (slice_index_or levels level 0)) (2 ^ level) i
+
+-- the masks of the levels up to a top one, each spread, have exactly the places of which something holds
+pub record AreLevelsOf (P : ℕ → Type 0) (top : ℕ) (levels : List ℕ) : Type 0 where
+  pub to : (i : ℕ) → SomeLevel top levels i → P i
+  pub from : (i : ℕ) → P i → SomeLevel top levels i

@@ -6,7 +6,7 @@ ghost use Rattle.line_core.specs.Deduction.{deduced};
 ghost use Rattle.line_core.specs.Reach.{AreLengths, AreTurnedGaps, IsFillable, IsBlankable};
 
 use crate::Line;
-use crate::masks::{LEVELS, first_gap, gap_after, spread, write_windows};
+use crate::masks::{LEVELS, add_ends, first_gap, gap_after, spread_levels, write_windows};
 use crate::reach::{GAPS, ends_of, gap_ahead, whole_ends, write_turned_gaps};
 use grid_core::{Clue, NoMemory};
 use std::alloc::Global;
@@ -25,16 +25,16 @@ fn collect(line: &Line, clue: &[u16], turned_gaps: &[u128; GAPS]) -> (u128, u128
     write_windows(line.open_cells(), &mut windows);
     let mut gap = first_gap(free);
     let mut blankable = gap & gap_ahead(line, clue, turned_gaps, 0);
-    let mut fillable = 0u128;
+    let mut spread = [0u128; LEVELS];
     for j in 0..clue.len() {
         let ends = ends_of(line, clue, j, &windows, gap);
         let ahead = gap_ahead(line, clue, turned_gaps, j + 1);
         let whole = whole_ends(line, clue, j, ends, ahead);
         gap = gap_after(ends, free);
-        fillable |= spread(whole, clue[j]);
+        add_ends(&mut spread, whole, clue[j]);
         blankable |= gap & ahead;
     }
-    (fillable, blankable)
+    (spread_levels(&mut spread), blankable)
 }
 
 /// What is certain of a line, with room for the gaps of its runs.

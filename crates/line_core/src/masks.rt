@@ -1,7 +1,7 @@
 //! Masks of 128 places, a bit a place.
 
-ghost use Rattle.std.specs.Prelude.{◌≡◌, ◌≢◌, ◌+◌, ◌-◌, ◌<◌, ◌≤◌, ◌⊎◌, ℕ, slice_index, true, false, length};
-ghost use Rattle.line_core.specs.Masks.{Has, has, IsFlooded, IsMaskOf, IsTurned, IsMoved, AllFrom, SomeFrom, AreWindows, IsPairing, swapped_place};
+ghost use Rattle.std.specs.Prelude.{◌^◌, ◌≡◌, ◌≢◌, ◌+◌, ◌-◌, ◌<◌, ◌≤◌, ◌⊎◌, ℕ, slice_index, true, false, length};
+ghost use Rattle.line_core.specs.Masks.{Has, has, IsFlooded, IsMaskOf, IsTurned, IsMoved, AllFrom, SomeFrom, SomeLevel, AreLevelsOf, AreWindows, IsPairing, swapped_place};
 
 /// How many windows a table has: of 1, 2, 4 and so on up to 128 places.
 pub const LEVELS: usize = 8;
@@ -137,19 +137,37 @@ pub fn gap_after(ends: u128, free: u128) -> u128
     flood((ends << 1) & free, free)
 }
 
-/// The places that have one in the mask among so many from there on.
-pub fn spread(mask: u128, length: u16) -> u128
+/// Adds the ends of a run to the level of its length, to be spread with all others of that level: over 2 to the level places, after a spread over the rest.
+pub fn add_ends(levels: &mut [u128; LEVELS], ends: u128, length: u16)
     requires { (0 < length) × (length ≤ 128) }
-    ensures { IsMaskOf (SomeFrom (Has mask) length) result }
+    ensures { AreLevelsOf (λ i. SomeLevel 7 levels.old i ⊎ SomeFrom (Has ends) length i) 7 levels.new }
 {
-    let mut wide = mask;
-    let mut width = 1u16;
-    // `wide` has the places with one of the mask among `width` from there on: twice that as long as it fits, then an overlap for the rest.
-    while width <= length - width {
-        wide = either(wide, width);
-        width += width;
-    }
-    either(wide, length - width)
+    let level = length.ilog2();
+    let rest = length - (1 << level);
+    levels[level as usize] |= either(ends, rest);
+}
+
+/// Spreads the level above by half of its places, into a level.
+fn spread_into(levels: &mut [u128; LEVELS], level: usize, by: u16)
+    requires level { level < 7 }
+    requires by { by ≡ 2 ^ level }
+    ensures { AreLevelsOf (SomeLevel (level + 1) levels.old) level levels.new }
+{
+    levels[level] |= either(levels[level + 1], by);
+}
+
+/// The places that have one in the mask of a level among so many from there on, 2 to the level, for some level.
+pub fn spread_levels(levels: &mut [u128; LEVELS]) -> u128
+    ensures { IsMaskOf (SomeLevel 7 levels.old) result }
+{
+    spread_into(levels, 6, 64);
+    spread_into(levels, 5, 32);
+    spread_into(levels, 4, 16);
+    spread_into(levels, 3, 8);
+    spread_into(levels, 2, 4);
+    spread_into(levels, 1, 2);
+    spread_into(levels, 0, 1);
+    levels[0]
 }
 
 /// The places of a line of so many cells.

@@ -1,5 +1,5 @@
 use Rattle.std.proofs.Common.{ℕ, ◌<◌, ◌≤◌, get_or}
-use Rattle.line_core.specs.Masks.{IsMaskOf, SomeFrom}
+use Rattle.line_core.specs.Masks.{IsMaskOf, SomeFrom, AreLevelsOf}
 use Rattle.line_core.specs.Reach.{IsGap, IsGapAhead, IsWholeEnd}
 use Rattle.line_core.proofs.deduction.collect.Given as goal
 
@@ -7,4 +7,4 @@ abbrev pub invariant-loop-j : goal.invariant-loop-j
 invariant-loop-j l =
     IsMaskOf (IsGap l.line l.clue l.j) l.gap
     × IsMaskOf (λ i. (q : ℕ) × (q ≤ l.j) × IsGap l.line l.clue q i × IsGapAhead l.line l.clue q i) l.blankable
-    × IsMaskOf (λ i. (q : ℕ) × (q < l.j) × SomeFrom (IsWholeEnd l.line l.clue q) (get_or l.clue q 0) i) l.fillable
+    × AreLevelsOf (λ i. (q : ℕ) × (q < l.j) × SomeFrom (IsWholeEnd l.line l.clue q) (get_or l.clue q 0) i) 7 l.spread
