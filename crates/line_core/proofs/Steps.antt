@@ -4,7 +4,7 @@ use Rattle.std.specs.Int.RustNames.{bit_and, bit_or}
 use Rattle.std.proofs.lemmas.Bool.{cases_lt}
 use Rattle.std.proofs.lemmas.Nat.Bits.{bit_at_and, bit_at_or, bit_at-lt, bit_at_cat_low, bit_at_cat_high, bit_at-zero}
 use Rattle.std.proofs.lemmas.Nat.{shr-shr, pow_pos}
-use Rattle.line_core.specs.Masks.{Has, IsMaskOf, IsMoved, AllFrom, SomeFrom}
+use Rattle.line_core.specs.Masks.{Has, IsMaskOf, IsMoved, AllFrom}
 use Rattle.line_core.proofs.Flooding.{bit_at_mod, has_below}
 
 pub has-itself : (a : ℕ) → IsMaskOf (Has a) a
@@ -98,24 +98,6 @@ widen P w m s next l p q = record {
         let e : i + (s + z) ≡ (i + s) + z = omega arith in
         subst P e (h (s + z) (omega arith))),
   );
-}
-
--- and spread places, likewise
-pub spread : (P : ℕ → Type 0) (w m s : ℕ) (next : ℕ) → s ≤ m → IsMaskOf (SomeFrom P m) w → IsMaskOf (λ i. Has w i ⊎ Has w (i + s)) next → IsMaskOf (SomeFrom P (m + s)) next
-spread P w m s next l p q = record {
-  to = λ i h. elim (q.to i h) [
-    | inl here ↦ (let x = p.to i here in (x.0, omega (arith, x.1), x.2))
-    | inr there ↦
-        (let x = p.to (i + s) there in
-        let e : (i + s) + x.0 ≡ i + (s + x.0) = omega arith in
-        (s + x.0, omega (arith, x.1), subst P e x.2))
-  ];
-  from = λ i h. elim (cases_lt h.0 m) [
-    | inl low ↦ q.from i (inl (p.from i (h.0, low, h.2)))
-    | inr high ↦
-        (let e : i + h.0 ≡ (i + s) + (h.0 - s) = omega arith in
-        q.from i (inr (p.from (i + s) (h.0 - s, omega (arith, h.1), subst P e h.2))))
-  ];
 }
 
 pub window-one : (a : ℕ) → IsMaskOf (AllFrom (Has a) 1) a

@@ -4,7 +4,7 @@ use Rattle.std.specs.Int.{bit_at}
 use Rattle.std.specs.Int.RustNames.{bit_and, bit_or}
 use Rattle.std.proofs.lemmas.Bool.{cases_lt}
 use Rattle.std.proofs.lemmas.Nat.Bits.{bit_at_cat_high, bit_at_ones, bit_at_ones_above, ones_shr, bit_at-zero}
-use Rattle.line_core.specs.Masks.{Has, IsMaskOf, IsMoved, IsTurned, IsFlooded, AllFrom, SomeFrom}
+use Rattle.line_core.specs.Masks.{Has, IsMaskOf, IsMoved, IsTurned, IsFlooded, AllFrom}
 use Rattle.line_core.proofs.Steps.{and_is, or_is, shr_is, shl_is, has-itself, mask_same, widen}
 
 pub flooded_more : (P Q R S : ℕ → Type 0) → ((i : ℕ) → P i → R i) → ((i : ℕ) → Q i → S i) → (i : ℕ) → IsFlooded P Q i → IsFlooded R S i
@@ -43,12 +43,6 @@ turned_line mask turned len h p =
     mask_same (λ i. IsTurned (Has mask) (i + (128 - len))) (λ i. (i < len) × Has mask (len - 1 - i)) (turned / 2 ^ (128 - len)) (shr_is (IsTurned (Has mask)) turned (128 - len) p)
     (λ i a. let l : i + (128 - len) < 128 = a.0 in let e : 127 - (i + (128 - len)) ≡ len - 1 - i = omega arith in (omega arith, subst (Has mask) e a.1))
     (λ i a. let l : i < len = a.0 in let e : len - 1 - i ≡ 127 - (i + (128 - len)) = omega arith in (omega arith, subst (Has mask) e a.1))
-
-pub spread-one : (a : ℕ) → IsMaskOf (SomeFrom (Has a) 1) a
-spread-one a = record {
-  to = λ i h. (let e : i ≡ i + 0 = omega arith in (0, omega arith, subst (Has a) e h));
-  from = λ i h. (let l : h.0 < 1 = h.1 in let e : i + h.0 ≡ i = omega arith in subst (Has a) e h.2);
-}
 
 pub first_gap_is : (free m : ℕ) → IsMaskOf (IsFlooded (Has (bit_and free 1)) (Has free)) m → IsMaskOf (IsFlooded (λ k. Has free k × (k ≡ 0)) (Has free)) m
 first_gap_is free m p =
