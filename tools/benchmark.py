@@ -3,8 +3,8 @@
 
     tools/benchmark.py crates/nonograde/out/nonograde [solve] [trials] [survey] [lanes] [texts]
 
-Each figure is the least wall time of three runs of the program as a whole (start, reading, solving, printing) and, where it says so, the
-greatest peak memory of a process. Nothing here is part of the product or of its gate.
+Each figure is the least wall time of three runs of the program as a whole (start, reading, solving, printing), or that of one run where it takes
+over a second, and, where it says so, the greatest peak memory of a process. Nothing here is part of the product or of its gate.
 """
 import os
 import subprocess
@@ -159,13 +159,13 @@ def collection(count, width, height, filled, rounds):
 def survey(program, _folder):
     zeros = "128 128\n" + "0\n" * 128 + "#\n" + "0\n" * 128
     texts = [
-        ("10,000 smooth pictures, 10 by 10", collection(10_000, 10, 10, 52, 2)),
+        ("10,000 pictures, 10 by 10, smoothed twice", collection(10_000, 10, 10, 52, 2)),
         ("10,000 empty pictures, 128 by 128", "".join(f"@ {number}.mk\n{zeros}" for number in range(10_000)).encode()),
         ("16,777,216 line feeds", b"\n" * 16_777_216),
     ]
     rows = []
     for name, text in texts:
-        took, peak, out = run([program, "survey"], text, 1)
+        took, peak, out = run([program, "survey"], text)
         last = out.decode().splitlines()[-1]
         rows.append([name, f"{len(text):,}", milliseconds(took), f"{peak} MiB", f"`{last}`"])
     table(["collection", "bytes", "time", "peak memory", "last line"], rows)

@@ -72,7 +72,7 @@ column_line p numbered = record { places = places_from numbered.0 p.width p.heig
 abbrev pub lines_of : Nonogram → List GridLine
 lines_of p = map (row_line p) (enumerate_from 0 p.rows) ++ map (column_line p) (enumerate_from 0 p.columns)
 
--- the row, and the column, of this number
+-- the row of this number
 abbrev pub row_at : Nonogram → ℕ → GridLine
 row_at p y = row_line p (y, slice_index_or p.rows y [])
 

@@ -6,8 +6,11 @@ ghost use Rattle.grid_core.specs.Cells.{is_known, is_unknown, is_filled, colour}
 /// What is known of a cell.
 #[derive(Clone, Copy, Debug, PartialEq, Eq)]
 pub enum Cell {
+    /// Nothing is known.
     Unknown,
+    /// It belongs to a run.
     Filled,
+    /// It belongs to no run.
     Blank,
 }
 

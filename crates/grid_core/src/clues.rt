@@ -14,8 +14,10 @@ use thiserror::Error;
 /// Why numbers are no clue.
 #[derive(Clone, Copy, Debug, PartialEq, Eq, Error)]
 pub enum ClueFault {
+    /// There are more than 128 numbers, or one is 0 or over 128.
     #[error("a clue has at most 128 numbers, each from 1 to 128")]
     BadNumber,
+    /// A growth of memory was refused.
     #[error("out of memory")]
     NoMemory,
 }
@@ -73,18 +75,21 @@ impl Clue {
     }
 }
 
+/// Whether a number can be the length of a run.
 fn is_run(number: u16) -> bool
     ensures { result ≡ is_run LONGEST_SIDE number }
 {
     1 <= number && number <= LONGEST_SIDE
 }
 
+/// Whether each number can be the length of a run.
 fn are_runs(numbers: &[u16]) -> bool
     ensures { result ≡ list_all (is_run LONGEST_SIDE) numbers.now }
 {
     numbers.iter().all(|number| is_run(*number))
 }
 
+/// Whether numbers are a clue.
 fn is_clue(numbers: &[u16]) -> bool
     ensures { result ≡ is_clue LONGEST_SIDE numbers.now }
 {

@@ -13,8 +13,10 @@ use thiserror::Error;
 /// Why a text is refused.
 #[derive(Clone, Copy, Debug, PartialEq, Eq, Error)]
 pub enum TextsFault {
+    /// The text holds a line feed, or is longer than 65,536 bytes.
     #[error("a text has at most 65536 bytes and no line feed")]
     BadText,
+    /// A growth of memory was refused.
     #[error("out of memory")]
     NoMemory,
 }
@@ -22,10 +24,15 @@ pub enum TextsFault {
 /// Which of a puzzle's texts.
 #[derive(Clone, Copy, Debug, PartialEq, Eq)]
 pub enum Field {
+    /// The number or name of the puzzle in a catalogue.
     Catalogue,
+    /// What the puzzle is called.
     Title,
+    /// Who made it.
     By,
+    /// Whose rights are kept.
     Copyright,
+    /// Under which license it may be used.
     License,
 }
 
@@ -113,7 +120,7 @@ impl Texts {
         let _ = &self.title;
     }
 
-    /// Sets the text of a field. `BadText` where the text holds a line feed or is longer than 65,536 bytes; else perhaps `NoMemory`. After an
+    /// Sets the text of a field, any bytes. `BadText` where the text holds a line feed or is longer than 65,536 bytes; else perhaps `NoMemory`. After an
     /// error the texts are as they were.
     pub fn set(&mut self, alloc: Global, field: Field, text: &[u8]) -> Result<(), TextsFault>
         ensures ok { OnOk result (self.new ≡ with_text self.old field text.now) }
@@ -138,6 +145,7 @@ impl Texts {
     }
 }
 
+/// The same text once more, if there is one.
 fn copy_text(text: &Option<Vec<u8>>) -> Result<Option<Vec<u8>>, NoMemory>
     ensures { IfOk result (λ copied. bytes_of copied ≡ bytes_of text.now) }
 {
@@ -147,12 +155,14 @@ fn copy_text(text: &Option<Vec<u8>>) -> Result<Option<Vec<u8>>, NoMemory>
     }
 }
 
+/// Whether bytes hold no line feed.
 fn has_no_feed(text: &[u8]) -> bool
     ensures { result ≡ list_all (λ byte. not (byte == 10)) text.now }
 {
     text.iter().all(|byte| *byte != b'\n')
 }
 
+/// Whether bytes may be a text of a puzzle.
 fn is_text(text: &[u8]) -> bool
     ensures { result ≡ is_text text.now }
 {

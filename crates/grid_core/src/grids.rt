@@ -119,6 +119,7 @@ impl Grid {
     }
 }
 
+/// The place of the first unknown cell, in row order.
 fn first_unknown_place(cells: &[Cell]) -> Option<usize>
     ensures place { result ≡ position is_unknown cells.now }
     ensures within { IfSome result (λ k. k < length cells.now) }

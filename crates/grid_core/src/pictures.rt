@@ -11,11 +11,14 @@ use crate::{Cell, Clue, Puzzle};
 /// Which cells are filled, row by row: of a grid, or of a goal.
 #[derive(Clone, Copy)]
 pub(crate) enum Picture<'a> {
+    /// The cells of a full grid.
     Cells(&'a [Cell]),
+    /// The values of a goal, true for filled.
     Values(&'a [bool]),
 }
 
 impl Picture<'_> {
+    /// Whether the cell at a place is filled.
     fn is_filled(self, place: usize) -> bool
         requires { place < length (values_of self) }
         ensures { result ≡ slice_index_or (values_of self.entry) place false }
@@ -49,6 +52,7 @@ fn is_line_met(picture: Picture<'_>, first: usize, step: usize, count: u16, clue
     has_runs(line, clue.numbers())
 }
 
+/// Whether a picture has each row's clue.
 fn are_rows_met(puzzle: &Puzzle, picture: Picture<'_>) -> bool
     requires { length (values_of picture) ≡ puzzle.now.width * puzzle.now.height }
     ensures { IsTrue result ↔ ((y : ℕ) → y < length puzzle.now.rows → MeetsLine (values_of picture.entry) (row_at puzzle.now y)) }
@@ -63,6 +67,7 @@ fn are_rows_met(puzzle: &Puzzle, picture: Picture<'_>) -> bool
     true
 }
 
+/// Whether a picture has each column's clue.
 fn are_columns_met(puzzle: &Puzzle, picture: Picture<'_>) -> bool
     requires { length (values_of picture) ≡ puzzle.now.width * puzzle.now.height }
     ensures { IsTrue result ↔ ((x : ℕ) → x < length puzzle.now.columns → MeetsLine (values_of picture.entry) (column_at puzzle.now x)) }

@@ -18,10 +18,13 @@ use thiserror::Error;
 /// Why parts make no puzzle.
 #[derive(Clone, Copy, Debug, PartialEq, Eq, Error)]
 pub enum PuzzleFault {
+    /// The width or the height is 0 or over 128.
     #[error("a side is from 1 to 128")]
     BadSize,
+    /// There is not one clue for each row and each column.
     #[error("there is one clue for each line")]
     BadCount,
+    /// There is a goal that has not one value for each cell.
     #[error("the goal has one value for each cell")]
     BadGoal,
 }
@@ -226,6 +229,7 @@ impl Puzzle {
     }
 }
 
+/// The same clues once more.
 fn copy_clues(alloc: Global, clues: &[Clue]) -> Result<Vec<Clue>, NoMemory>
     ensures { IfOk result (λ copies. copies.items ≡ clues.now) }
 {
@@ -236,6 +240,7 @@ fn copy_clues(alloc: Global, clues: &[Clue]) -> Result<Vec<Clue>, NoMemory>
     Ok(copies)
 }
 
+/// The same goal once more, if there is one.
 fn copy_goal(goal: &Option<Vec<bool>>) -> Result<Option<Vec<bool>>, NoMemory>
     ensures { IfOk result (λ copied. bools_of copied ≡ bools_of goal.now) }
 {
@@ -245,12 +250,14 @@ fn copy_goal(goal: &Option<Vec<bool>>) -> Result<Option<Vec<bool>>, NoMemory>
     }
 }
 
+/// Whether each cell is filled or blank.
 fn are_known(cells: &[Cell]) -> bool
     ensures { result ≡ list_all is_known cells.now }
 {
     cells.iter().all(|cell| cell.is_known())
 }
 
+/// Whether there is no goal, or one of so many values.
 fn is_goal(count: usize, goal: &Option<Vec<bool>>) -> bool
     ensures { result ≡ is_goal count (bools_of goal.now) }
 {
