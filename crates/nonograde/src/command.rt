@@ -12,9 +12,13 @@ use survey_core::Settings;
 /// What a command line asks for.
 #[derive(Debug, Drop)]
 pub enum Request {
+    /// A survey of these files, or of the collection on standard input where there is none.
     Survey(Settings, Vec<String>),
+    /// The solutions of a file's puzzle, with so many guesses at most.
     Solve(u32, String),
+    /// A file's puzzle in another format.
     Convert(Format, String),
+    /// The grid of a file's puzzle as far as line logic gets.
     Lines(String),
 }
 
@@ -23,6 +27,7 @@ pub enum Request {
 pub enum CommandFault {
     /// The words are refused, or ask for help: the text and the status are the error's.
     Words(Error),
+    /// A growth of memory was refused.
     NoMemory,
 }
 
@@ -54,6 +59,7 @@ impl From<NoMemory> for CommandFault {
     }
 }
 
+/// The option `--guesses`.
 fn guesses_option<'a>(alloc: Global) -> Arg<'a> {
     Arg::new(alloc, "guesses")
         .long("guesses")
@@ -63,6 +69,7 @@ fn guesses_option<'a>(alloc: Global) -> Arg<'a> {
         .default_value("1000")
 }
 
+/// The word that names a file.
 fn file_word<'a>(alloc: Global) -> Arg<'a> {
     Arg::new(alloc, "file")
         .value_name("FILE")
@@ -70,6 +77,7 @@ fn file_word<'a>(alloc: Global) -> Arg<'a> {
         .required(true)
 }
 
+/// The command `survey`.
 fn survey_command<'a>(alloc: Global) -> Result<Command<'a>, AllocError> {
     let lanes = Arg::new(alloc, "lanes")
         .long("lanes")
@@ -149,6 +157,7 @@ fn text_of(alloc: Global, matches: &ArgMatches<'_>, id: &str) -> Result<String, 
     String::from_str(alloc, matches.get_str(id).unwrap_or(""))
 }
 
+/// The files that are named.
 fn files_of(alloc: Global, matches: &ArgMatches<'_>) -> Result<Vec<String>, CommandFault> {
     let mut files = Vec::new(alloc);
     if let Some(words) = matches.get_strs("file") {
@@ -181,6 +190,7 @@ fn settings_of(matches: &ArgMatches<'_>) -> Settings {
     }
 }
 
+/// The format that is asked for. `clap` has refused all other words.
 fn format_of(matches: &ArgMatches<'_>) -> Format {
     match matches.get_str("to") {
         Some("mk") => Format::Mk,
@@ -189,6 +199,7 @@ fn format_of(matches: &ArgMatches<'_>) -> Format {
     }
 }
 
+/// What a command and its words ask for.
 fn request_of(alloc: Global, name: &str, matches: &ArgMatches<'_>) -> Result<Request, CommandFault>
     ensures { IfOk result HasSettingsInRange }
 {

@@ -24,6 +24,7 @@ impl From<NoMemory> for ConvertFault {
     }
 }
 
+/// The text of a puzzle in a format.
 fn text_in(alloc: Global, puzzle: &Puzzle, format: Format) -> Result<Vec<u8>, ConvertFault>
     ensures answer { GivesConverted result (text_in format puzzle.now) }
     ensures writing { (fault : EntryFault) → result ≡ Err (ConvertFault.Entry fault) → ⊥ }

@@ -6,8 +6,11 @@ use thiserror::Error;
 /// A format of puzzle texts.
 #[derive(Clone, Copy, Debug, PartialEq, Eq)]
 pub enum Format {
+    /// Keyword lines, texts and a goal.
     Non,
+    /// Sizes, and the clues of rows and columns apart.
     Mk,
+    /// Sizes, and all clues one after the other.
     Nin,
 }
 

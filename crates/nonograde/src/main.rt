@@ -25,6 +25,8 @@ fn main(rt: HostRuntime) -> ExitCode {
 }
 
 #[cfg(test)]
+mod tests_files;
+#[cfg(test)]
 mod tests_reports;
 #[cfg(test)]
 mod tests_samples;

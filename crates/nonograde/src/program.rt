@@ -9,7 +9,7 @@ use crate::formats::{ConvertFault, Format};
 use crate::reports::{lines_report, solve_report};
 use crate::stop::{Stop, stop_text};
 use lane_core::{MOST_GUESSES, OpenGate};
-use puzzle_text::Entry;
+use puzzle_text::{Entry, LONGEST_PUZZLE};
 use std::alloc::{AllocError, AllocFailed, Global};
 use std::io::{Read, Write};
 use std::rt::{Env, Files};
@@ -18,8 +18,11 @@ use std::thread::Threads;
 use std::{env, fs, io};
 use survey_core::{Counted, Settings, run_survey, survey_entries};
 
-/// One byte more than a puzzle's text may have.
-const FILE_LIMIT: u64 = 1_048_577;
+/// How many bytes of a file are read at most: one more than a puzzle's text may have.
+const FILE_LIMIT: u64 = LONGEST_PUZZLE as u64 + 1;
+
+/// What the program prints where a growth was refused, also in making its last words.
+const NO_MEMORY: &[u8] = b"nonograde: NoMemory\n";
 
 impl From<AllocError> for Stop {
     fn from(_refused: AllocError) -> Stop {
@@ -117,6 +120,7 @@ fn survey_files<R: Files + Threads + Wait + Sync + AllocGlobal, O: Write>(
     survey_entries(rt, alloc, &entries, &mut writer, settings, &OpenGate).map_err(Stop::Run)
 }
 
+/// Prints the entry of a file with its solutions.
 fn solve_file<R: Files + AllocGlobal, O: Write>(
     rt: &R,
     guesses: u32,
@@ -130,6 +134,7 @@ fn solve_file<R: Files + AllocGlobal, O: Write>(
     print_text(output, &report)
 }
 
+/// Prints a file's puzzle in another format.
 fn convert_file<R: Files + AllocGlobal, O: Write>(
     rt: &R,
     format: Format,
@@ -141,6 +146,7 @@ fn convert_file<R: Files + AllocGlobal, O: Write>(
     print_text(output, &text)
 }
 
+/// Prints the grid of a file's puzzle as far as line logic gets.
 fn close_file<R: Files + AllocGlobal, O: Write>(
     rt: &R,
     path: &str,
@@ -151,6 +157,7 @@ fn close_file<R: Files + AllocGlobal, O: Write>(
     print_text(output, &report)
 }
 
+/// Prints what is asked for.
 fn perform<R: Files + Threads + Wait + Sync + AllocGlobal, I: Read, O: Write>(
     rt: &R,
     request: &Request,
@@ -182,7 +189,7 @@ pub fn words_of<R: Env + AllocGlobal>(rt: &R) -> io::Result<Vec<String>> {
 fn report_stop<E: Write>(alloc: Global, errors: &mut E, stop: &Stop) -> u8 {
     let _ = match stop_text(alloc, stop) {
         Ok(text) => errors.write_all(&text),
-        Err(_) => errors.write_all(b"nonograde: NoMemory\n"),
+        Err(_) => errors.write_all(NO_MEMORY),
     };
     1
 }
@@ -190,7 +197,7 @@ fn report_stop<E: Write>(alloc: Global, errors: &mut E, stop: &Stop) -> u8 {
 /// Says that the words can't be read, and gives the program's status.
 pub fn refuse_words<E: Write>(errors: &mut E, error: &io::Error) -> u8 {
     if error.kind() == io::ErrorKind::OutOfMemory {
-        let _ = errors.write_all(b"nonograde: NoMemory\n");
+        let _ = errors.write_all(NO_MEMORY);
         return 1;
     }
     let _ = errors.write_all(b"error: a word of the command line is no text\n");

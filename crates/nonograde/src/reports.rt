@@ -15,18 +15,21 @@ use solve_core::Solver;
 use std::alloc::Global;
 use survey_core::{Outcome, print_entry, push_bytes, push_grid, push_number};
 
+/// Whether each cell of a grid is known.
 fn is_full(grid: &Grid) -> bool
     ensures { result ≡ list_all is_known grid.now.cells }
 {
     grid.first_unknown().is_none()
 }
 
+/// The first word on a closed grid that is alive.
 fn closed_word(grid: &Grid) -> &'static str
     ensures { result.now ≡ closed_word grid.now }
 {
     if is_full(grid) { "one" } else { "open" }
 }
 
+/// Adds what is printed of a closed grid that is alive.
 fn push_report(text: &mut Vec<u8>, grid: &Grid) -> Result<(), NoMemory>
     ensures { OnOk result (text.new.items ≡ text.old.items ++ grid_report grid.now) }
 {
@@ -48,6 +51,7 @@ fn push_closed(text: &mut Vec<u8>, alive: bool, grid: &Grid) -> Result<(), NoMem
     }
 }
 
+/// What is printed of a puzzle closed by line logic.
 fn lines_text(alloc: Global, puzzle: &Puzzle) -> Result<Vec<u8>, NoMemory>
     ensures { IfOk result (λ text. text.items ≡ lines_text puzzle.now) }
 {
@@ -59,6 +63,7 @@ fn lines_text(alloc: Global, puzzle: &Puzzle) -> Result<Vec<u8>, NoMemory>
     Ok(text)
 }
 
+/// The text, or that its memory was refused.
 fn text_or_fault(made: Result<Vec<u8>, NoMemory>) -> Result<Vec<u8>, EntryFault>
     ensures { MatchResult made (λ text. result ≡ Ok text) (λ _. result ≡ Err (EntryFault.Text TextFault.NoMemory)) }
 {
@@ -68,6 +73,7 @@ fn text_or_fault(made: Result<Vec<u8>, NoMemory>) -> Result<Vec<u8>, EntryFault>
     }
 }
 
+/// The same, as an answer to an entry.
 fn lines_answer(alloc: Global, puzzle: &Puzzle) -> Result<Vec<u8>, EntryFault>
     ensures answer { GivesText result (Ok (lines_text puzzle.now)) }
     ensures reading { IfErr result (λ fault. fault ≡ EntryFault.Text TextFault.NoMemory) }
@@ -101,6 +107,7 @@ fn answer_to(alloc: Global, puzzle: Puzzle, guesses: u32) -> Result<Answer, NoMe
     }
 }
 
+/// What is printed of a graded puzzle and its solutions.
 fn solve_text(alloc: Global, name: &[u8], puzzle: Puzzle, guesses: u32) -> Result<Vec<u8>, NoMemory>
     requires { guesses ≤ MOST_GUESSES }
     ensures { IfOk result (λ text. text.items ≡ solve_text name.now guesses puzzle) }

@@ -26,12 +26,14 @@ pub enum Stop {
     NoMemory,
 }
 
+/// A word by itself.
 fn word(alloc: Global, name: &[u8]) -> Result<Vec<u8>, NoMemory>
     ensures { IfOk result (λ text. text.items ≡ name.now) }
 {
     Ok(Vec::from_slice(alloc, name)?)
 }
 
+/// The word of a stray line.
 fn stray_word(alloc: Global, number: u32) -> Result<Vec<u8>, NoMemory>
     ensures { IfOk result (λ text. text.items ≡ collection_word (CollectionFault.Stray number)) }
 {
@@ -41,6 +43,7 @@ fn stray_word(alloc: Global, number: u32) -> Result<Vec<u8>, NoMemory>
     Ok(text)
 }
 
+/// The word of a collection's fault.
 fn word_of_collection(alloc: Global, fault: CollectionFault) -> Result<Vec<u8>, NoMemory>
     ensures { IfOk result (λ text. text.items ≡ collection_word fault) }
 {
@@ -52,6 +55,7 @@ fn word_of_collection(alloc: Global, fault: CollectionFault) -> Result<Vec<u8>, 
     }
 }
 
+/// The word of a survey's fault.
 fn word_of_run(alloc: Global, fault: RunFault) -> Result<Vec<u8>, NoMemory>
     ensures { IfOk result (λ text. text.items ≡ run_word fault) }
 {
@@ -64,6 +68,7 @@ fn word_of_run(alloc: Global, fault: RunFault) -> Result<Vec<u8>, NoMemory>
     }
 }
 
+/// The word of a fault.
 fn word_of(alloc: Global, stop: &Stop) -> Result<Vec<u8>, NoMemory>
     ensures { IfOk result (λ text. text.items ≡ stop_word stop.now) }
 {
