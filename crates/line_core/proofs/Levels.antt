@@ -1,5 +1,5 @@
 -- Spreading by levels: what a level holds once a mask is added to it, and how one level is spread into the next.
-use Rattle.std.proofs.Common.{◌≡◌, ℕ, zero, suc, refl, replicate, ◌+◌, ◌-◌, ◌*◌, ◌^◌, ◌<◌, ◌≤◌, List, length, get_or, set, sym, arith, subst, bit_or, get_or-set_same, get_or-set_other, ◌⊎◌, inl, inr}
+use Rattle.std.proofs.Common.{◌≡◌, ℕ, zero, suc, refl, replicate, ◌+◌, ◌-◌, ◌^◌, ◌<◌, ◌≤◌, List, length, get_or, set, sym, arith, subst, bit_or, get_or-set_same, get_or-set_other, ◌⊎◌, inl, inr}
 use Rattle.std.proofs.lemmas.Bool.{cases_lt}
 use Rattle.line_core.specs.Masks.{Has, IsMaskOf, SomeFrom, SomeLevel, AreLevelsOf}
 use Rattle.std.proofs.lemmas.Nat.Bits.{bit_at-zero}
@@ -69,12 +69,10 @@ level_out levels level next w i b x =
     (x.0, x.1, subst (λ (m : ℕ). Has m (i + x.0)) (sym (get_or-set_same levels level _ 0 b)) both)
 
 -- the ends of a run added to the level of its length
-pub ends_added : (levels : List ℕ) (level ends size next : ℕ) → level ≤ 7 → level < length levels → 2 ^ level ≤ size → size < 2 * 2 ^ level
-    → IsMaskOf (λ i. Has ends i ⊎ Has ends (i + (size - 2 ^ level))) next
+pub ends_added : (levels : List ℕ) (level ends rest size next : ℕ) → level ≤ 7 → level < length levels → 2 ^ level + rest ≡ size → rest < 2 ^ level
+    → IsMaskOf (λ i. Has ends i ⊎ Has ends (i + rest)) next
     → AreLevelsOf (λ i. SomeLevel 7 levels i ⊎ SomeFrom (Has ends) size i) 7 (added levels level next)
-ends_added levels level ends size next top b low high h =
-    let rest = size - 2 ^ level in
-    let e : 2 ^ level + rest ≡ size = omega arith in
+ends_added levels level ends rest size next top b e low h =
     let small : rest ≤ 2 ^ level = omega arith in
     record {
       to = λ i x. elim (level_in levels level next (2 ^ x.0) x.0 i b x.2) [

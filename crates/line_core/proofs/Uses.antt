@@ -71,11 +71,9 @@ first_yes b h = mask_same (λ i. i ≡ 0) (λ s. (s ≡ 0) × (b ≡ true)) 1 on
 pub first_no : (b : Bool) → b ≡ false → IsMaskOf (λ s. (s ≡ 0) × (b ≡ true)) 0
 first_no b h = none_is (λ s. (s ≡ 0) × (b ≡ true)) (λ i e. true≢false (sym e.1 ∙ h))
 
-pub window_is : (cells : ℕ) (w level length : ℕ) (m : ℕ) → 2 ^ level ≤ length → length < 2 * 2 ^ level → IsMaskOf (AllFrom (Has cells) (2 ^ level)) w
-    → IsMaskOf (λ i. Has w i × Has w (i + (length - 2 ^ level))) m → IsMaskOf (AllFrom (Has cells) length) m
-window_is cells w level length m a b p q =
-    let e : 2 ^ level + (length - 2 ^ level) ≡ length = omega arith in
-    subst (λ (n : ℕ). IsMaskOf (AllFrom (Has cells) n) m) e (widen (Has cells) w (2 ^ level) (length - 2 ^ level) m (omega arith) p q)
+pub window_is : (cells : ℕ) (w level rest length : ℕ) (m : ℕ) → 2 ^ level + rest ≡ length → rest < 2 ^ level → IsMaskOf (AllFrom (Has cells) (2 ^ level)) w
+    → IsMaskOf (λ i. Has w i × Has w (i + rest)) m → IsMaskOf (AllFrom (Has cells) length) m
+window_is cells w level rest length m e b p q = subst (λ (n : ℕ). IsMaskOf (AllFrom (Has cells) n) m) e (widen (Has cells) w (2 ^ level) rest m (omega arith) p q)
 
 -- the greatest place of a mask
 at_top : (m r i : ℕ) → 2 ^ r ≤ m → m < 2 * 2 ^ r → r ≤ i → bit_at m i ≡ bit_at 1 (i - r)

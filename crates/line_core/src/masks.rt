@@ -3,7 +3,7 @@
 ghost use Rattle.std.specs.Prelude.{◌^◌, ◌≡◌, ◌≢◌, ◌+◌, ◌-◌, ◌<◌, ◌≤◌, ◌⊎◌, ℕ, slice_index, true, false, length};
 ghost use Rattle.line_core.specs.Masks.{Has, has, IsFlooded, IsMaskOf, IsTurned, IsMoved, AllFrom, SomeFrom, SomeLevel, AreLevelsOf, AreWindows, IsPairing, swapped_place};
 
-/// How many windows a table has: of 1, 2, 4 and so on up to 128 places.
+/// How many powers of two there are up to 128: 1, 2, 4 and so on. So many windows are in a table, and so many levels are spread.
 pub const LEVELS: usize = 8;
 
 /// Whether a mask has a place.
@@ -102,15 +102,25 @@ fn turn(mask: u128) -> u128
     swap_pairs(halves, 0x0000000000000000ffffffffffffffff, 64)
 }
 
+/// The level of a length, the exponent of the greatest power of two that it has room for, and how many places are left over.
+fn level_of(length: u16) -> (usize, u16)
+    requires { (0 < length) × (length ≤ 128) }
+    ensures level { result.0 < 8 }
+    ensures length { 2 ^ result.0 + result.1 ≡ length }
+    ensures rest { result.1 < 2 ^ result.0 }
+{
+    let level = length.ilog2();
+    (level as usize, length - (1 << level))
+}
+
 /// The starts of windows of a length, from the table of those of 1, 2, 4 and so on.
 pub fn window(table: &[u128; LEVELS], length: u16) -> u128
     requires length { (0 < length) × (length ≤ 128) }
     requires table { AreWindows (slice_index table.now 0) table.now }
     ensures { IsMaskOf (AllFrom (Has (slice_index table.now 0)) length) result }
 {
-    let level = length.ilog2();
-    let rest = length - (1 << level);
-    both(table[level as usize], rest)
+    let (level, rest) = level_of(length);
+    both(table[level], rest)
 }
 
 /// The first places, as long as all are free.
@@ -142,31 +152,29 @@ pub fn add_ends(levels: &mut [u128; LEVELS], ends: u128, length: u16)
     requires { (0 < length) × (length ≤ 128) }
     ensures { AreLevelsOf (λ i. SomeLevel 7 levels.old i ⊎ SomeFrom (Has ends) length i) 7 levels.new }
 {
-    let level = length.ilog2();
-    let rest = length - (1 << level);
-    levels[level as usize] |= either(ends, rest);
+    let (level, rest) = level_of(length);
+    levels[level] |= either(ends, rest);
 }
 
 /// Spreads the level above by half of its places, into a level.
-fn spread_into(levels: &mut [u128; LEVELS], level: usize, by: u16)
-    requires level { level < 7 }
-    requires by { by ≡ 2 ^ level }
+fn spread_into(levels: &mut [u128; LEVELS], level: usize)
+    requires { level < 7 }
     ensures { AreLevelsOf (SomeLevel (level + 1) levels.old) level levels.new }
 {
-    levels[level] |= either(levels[level + 1], by);
+    levels[level] |= either(levels[level + 1], 1 << level);
 }
 
 /// The places that have one in the mask of a level among so many from there on, 2 to the level, for some level.
 pub fn spread_levels(levels: &mut [u128; LEVELS]) -> u128
     ensures { IsMaskOf (SomeLevel 7 levels.old) result }
 {
-    spread_into(levels, 6, 64);
-    spread_into(levels, 5, 32);
-    spread_into(levels, 4, 16);
-    spread_into(levels, 3, 8);
-    spread_into(levels, 2, 4);
-    spread_into(levels, 1, 2);
-    spread_into(levels, 0, 1);
+    spread_into(levels, 6);
+    spread_into(levels, 5);
+    spread_into(levels, 4);
+    spread_into(levels, 3);
+    spread_into(levels, 2);
+    spread_into(levels, 1);
+    spread_into(levels, 0);
     levels[0]
 }
 
