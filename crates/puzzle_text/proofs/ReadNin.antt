@@ -2,7 +2,7 @@
 use Rattle.std.proofs.Common.{◌≡◌, ℕ, ◌+◌, ◌<◌, ◌≤◌, ◌^◌, Bool, true, false, cond, not, ◌&&◌, eqb, ltb, List, [], ◌∷◌, ◌++◌, length, map, refl, sym, ap, subst, ◌∙◌, append_assoc, arith, inl, inr, Option, Some, Result, Ok, Err}
 use Rattle.std.specs.Prelude.{decimal}
 use Rattle.std.specs.List.{flat_map, AllByRecursion}
-use Rattle.std.proofs.lemmas.Bool.{cases_Bool, cond-false, eqb-true, le-ltb}
+use Rattle.std.proofs.lemmas.Bool.{cases_Bool, cond-true, cond-false, eqb-true, le-ltb}
 use Rattle.std.proofs.lemmas.List.{append-nil, length-append, length-map}
 use Rattle.std.proofs.lemmas.List.Concat.{flat_map-append}
 use Rattle.std.proofs.lemmas.Fmt.{length-decimal-le}
@@ -81,17 +81,29 @@ likelier_is limit p lawful clear =
       | inr differ ↦ cond-false (not (is_admissible own) && is_admissible other) other own (ap (λ (x : Nonogram). not (is_admissible x) && is_admissible other) same ∙ later_test (eqb p.width p.height) (not (is_admissible p)) (is_admissible other) clear differ) ∙ same
     ]
 
+both_tests : (a b c : Bool) → (not a && b && c) ≡ true → (b && c) ≡ true
+both_tests true b c e = absurd cc
+both_tests false b c e = e
+
+likelier_other : (limit : ℕ) (p : Nonogram) → IsNonogramWithin limit p → is_ambiguous p ≡ true → likelier p.width p.height (p.rows ++ p.columns) ≡ reading p.height p.width (p.rows ++ p.columns)
+likelier_other limit p lawful ambiguous =
+    let clues = p.rows ++ p.columns in
+    let own = reading p.width p.height clues in
+    let other = reading p.height p.width clues in
+    let same = reading_again p limit lawful in
+    cond-true (not (is_admissible own) && is_admissible other) other own (ap (λ (x : Nonogram). not (is_admissible x) && is_admissible other) same ∙ both_tests (eqb p.width p.height) (not (is_admissible p)) (is_admissible other) ambiguous)
+
 -- ---- the whole text
 
 abbrev after_size : ℕ → (ℕ × ℕ) × List Line → Result Nonogram TextFault
 after_size limit size = or_fault BadCount (choice (size.0.0 + size.0.1) size.1) >>= λ chosen. clues_of limit chosen >>= λ clues. Ok (likelier size.0.0 size.0.1 clues)
 
-nin_again : (limit : ℕ) (p : Nonogram) → limit < 2 ^ 64 → IsNonogramWithin limit p → is_ambiguous p ≡ false → nin_of limit (numbered 1 (texts_nin p)) ≡ Ok (plain p.width p.height p.rows p.columns)
-nin_again limit p wide lawful clear =
+nin_again : (limit : ℕ) (p q : Nonogram) → limit < 2 ^ 64 → IsNonogramWithin limit p → likelier p.width p.height (p.rows ++ p.columns) ≡ q → nin_of limit (numbered 1 (texts_nin p)) ≡ Ok q
+nin_again limit p q wide lawful order =
     ap (λ (r : Result ((ℕ × ℕ) × List Line) TextFault). r >>= after_size limit) (sizes_are limit p.width p.height (clue_part p) wide (lawful.size.width_from, lawful.size.width_to) (lawful.size.height_from, lawful.size.height_to))
     ∙ ap (λ (o : Option (List Line)). or_fault BadCount o >>= λ chosen. clues_of limit chosen >>= λ clues. Ok (likelier p.width p.height clues)) (all_chosen limit p wide lawful)
     ∙ ap (λ (r : Result (List (List ℕ)) TextFault). r >>= λ clues. Ok (likelier p.width p.height clues)) (clues_again 32 limit 2 (p.rows ++ p.columns) space wide (all_lawful limit p lawful))
-    ∙ ap (λ (x : Nonogram). Ok x) (likelier_is limit p lawful clear)
+    ∙ ap (λ (x : Nonogram). Ok x) order
 
 pub length_nin : (limit : ℕ) (p : Nonogram) → limit ≤ 256 → IsNonogramWithin limit p → length (text_nin p) ≤ 1048576
 length_nin limit p wide lawful =
@@ -117,8 +129,16 @@ length_nin limit p wide lawful =
       lawful.clues.1,
     )
 
+-- the text is read as the likelier reading of the clues
+read_as : (limit : ℕ) (p q : Nonogram) → limit ≤ 256 → IsNonogramWithin limit p → likelier p.width p.height (p.rows ++ p.columns) ≡ q → read_nin limit (text_nin p) ≡ Ok q
+read_as limit p q wide lawful order =
+    ap (λ (r : Result (List Line) TextFault). r >>= nin_of limit) (cond-false (ltb 1048576 (length (text_nin p))) (Err TooLong) (Ok (lines (text_nin p))) (le-ltb 1048576 (length (text_nin p)) (length_nin limit p wide lawful)))
+    ∙ ap (nin_of limit) (lines_nin limit p (omega arith) lawful) ∙ nin_again limit p q (omega arith) lawful order
+
 -- a written puzzle that isn't ambiguous is read again, without its texts and its goal
 pub nin_read_again : (limit : ℕ) (p : Nonogram) → limit ≤ 256 → IsNonogramWithin limit p → is_ambiguous p ≡ false → read_nin limit (text_nin p) ≡ Ok (plain p.width p.height p.rows p.columns)
-nin_read_again limit p wide lawful clear =
-    ap (λ (r : Result (List Line) TextFault). r >>= nin_of limit) (cond-false (ltb 1048576 (length (text_nin p))) (Err TooLong) (Ok (lines (text_nin p))) (le-ltb 1048576 (length (text_nin p)) (length_nin limit p wide lawful)))
-    ∙ ap (nin_of limit) (lines_nin limit p (omega arith) lawful) ∙ nin_again limit p (omega arith) lawful clear
+nin_read_again limit p wide lawful clear = read_as limit p (plain p.width p.height p.rows p.columns) wide lawful (likelier_is limit p lawful clear)
+
+-- the text of an ambiguous puzzle is read with its sizes exchanged
+pub nin_read_otherwise : (limit : ℕ) (p : Nonogram) → limit ≤ 256 → IsNonogramWithin limit p → is_ambiguous p ≡ true → read_nin limit (text_nin p) ≡ Ok (reading p.height p.width (p.rows ++ p.columns))
+nin_read_otherwise limit p wide lawful ambiguous = read_as limit p (reading p.height p.width (p.rows ++ p.columns)) wide lawful (likelier_other limit p lawful ambiguous)

@@ -1,5 +1,5 @@
 -- Laws of the formats.
-use Rattle.std.specs.Prelude.{◌≡◌, ℕ, ◌≤◌, false, List, length, Result, Ok, Err}
+use Rattle.std.specs.Prelude.{◌≡◌, ℕ, ◌≤◌, true, false, List, ◌++◌, length, Result, Ok, Err}
 use Rattle.grid_core.specs.Nonogram.{Nonogram, IsNonogramWithin, plain}
 use Rattle.puzzle_text.specs.declared.faults.TextFault.{TextFault}
 use Rattle.puzzle_text.specs.declared.faults.TextFault.TheVariants.{BadSize, BadNumber}
@@ -7,6 +7,7 @@ use Rattle.puzzle_text.specs.declared.limits.TheConstants.{LONGEST_PUZZLE}
 use Rattle.puzzle_text.specs.Mk.{read_mk}
 use Rattle.puzzle_text.specs.Nin.{read_nin}
 use Rattle.puzzle_text.specs.Non.{read_non}
+use Rattle.puzzle_text.specs.Readings.{reading}
 use Rattle.puzzle_text.specs.Written.{text_mk, text_nin, text_non, is_ambiguous}
 
 -- what is written in .mk is read again, without texts and goal
@@ -17,6 +18,12 @@ MkIsReadBack limit = (p : Nonogram) → IsNonogramWithin limit p → read_mk lim
 abbrev pub NinIsReadBack : ℕ → Type 0
 NinIsReadBack limit = (p : Nonogram) → IsNonogramWithin limit p → is_ambiguous p ≡ false
     → read_nin limit (text_nin p) ≡ Ok (plain p.width p.height p.rows p.columns)
+
+-- The text in .nin of an ambiguous puzzle is read as another size: its width and height exchanged, of the same clues in the same order, so
+-- that the first of its rows and columns, as many as it is wide, are the rows.
+abbrev pub AmbiguousIsReadOtherwise : ℕ → Type 0
+AmbiguousIsReadOtherwise limit = (p : Nonogram) → IsNonogramWithin limit p → is_ambiguous p ≡ true
+    → read_nin limit (text_nin p) ≡ Ok (reading p.height p.width (p.rows ++ p.columns))
 
 -- what is written in .non is read again, texts and goal included
 abbrev pub NonIsReadBack : ℕ → Type 0

@@ -1,7 +1,7 @@
 //! Laws of the formats, each the contract of a function that does nothing.
 
 ghost use Rattle.std.specs.Prelude.{ℕ, ◌≤◌};
-ghost use Rattle.puzzle_text.specs.Laws.{GreaterLimitKeeps, MkIsReadBack, NinIsReadBack, NonIsReadBack, WrittenIsShort};
+ghost use Rattle.puzzle_text.specs.Laws.{AmbiguousIsReadOtherwise, GreaterLimitKeeps, MkIsReadBack, NinIsReadBack, NonIsReadBack, WrittenIsShort};
 
 use grid_core::LONGEST_SIDE;
 
@@ -18,6 +18,12 @@ pub fn mk_is_read_back()
 /// What `write_nin` gives is read again as the same puzzle without texts and goal.
 pub fn nin_is_read_back()
     ensures { NinIsReadBack LONGEST_SIDE }
+{}
+
+/// The text in .nin of a puzzle that `write_nin` refuses would be read as another size: width and height exchanged, of the same clues in the
+/// same order.
+pub fn ambiguous_is_read_otherwise()
+    ensures { AmbiguousIsReadOtherwise LONGEST_SIDE }
 {}
 
 /// What is written in any format is short enough to be read again.
