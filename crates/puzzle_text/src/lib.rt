@@ -36,3 +36,5 @@ pub use writing::{write_mk, write_nin, write_non};
 
 #[cfg(test)]
 mod tests;
+#[cfg(test)]
+mod tests_hostile;

@@ -1,3 +1,6 @@
+//! Tests of what no contract says: that each call succeeds with ample memory, and that the definitions say what the formats mean, by texts
+//! whose answers were worked out by hand.
+
 use super::*;
 use grid_core::NoMemory;
 use std::alloc::Global;
@@ -206,6 +209,24 @@ fn odd_lines(rt: HostRuntime) {
         (b".nin", b"1 1\n1\r \n1\n", b"BadNumber:2"),
     ];
     assert!(rt; all_said(rt.alloc(), &rows));
+}
+
+#[test]
+fn each_front_of_a_text(rt: HostRuntime) {
+    let text = b"1 2\n1\n#\n1\n2\n";
+    for len in 0..=text.len() {
+        let (front, _) = text.split_at(len);
+        let expected: &[u8] = match len {
+            0..=2 => b"NoSize",
+            3..=6 => b"NoSection",
+            7..=10 => b"BadCount",
+            _ => b"width 2\nheight 1\n\nrows\n1\n\ncolumns\n1\n2\n",
+        };
+        assert!(rt;
+            all_said(rt.alloc(), &[(b".mk", front, expected)]),
+            "at {len}"
+        );
+    }
 }
 
 #[test]
