@@ -142,7 +142,7 @@ clean_kept : (b : Bool) (line : Line) (others : List Line) → has_no_feed line.
 clean_kept true line others here h = (here, h)
 clean_kept false line others here h = h
 
-clean_filter : (p : Line → Bool) (text : List Line) → HaveNoFeed text → HaveNoFeed (filter p text)
+pub clean_filter : (p : Line → Bool) (text : List Line) → HaveNoFeed text → HaveNoFeed (filter p text)
 clean_filter p [] h = tt
 clean_filter p (line ∷ text) h = clean_kept (p line) line (filter p text) h.0 (clean_filter p text h.1)
 
@@ -173,9 +173,9 @@ least_none (Some m) None e = absurd cc
 least_none (Some m) (Some n) e = absurd cc
 
 -- where no line is bad, the texts may stand in their fields
-pub lawful_texts : (text : List Line) → HaveNoFeed text → bad_line text ≡ None → IsDescription (texts_of text)
-lawful_texts text h none =
-    let stray = option_map (λ (place : List ℕ × Line). place.1.number) (find is_stray (placed [] text)) in
+pub lawful_texts : (places : List (List ℕ × Line)) (text : List Line) → HaveNoFeed text → bad_line places text ≡ None → IsDescription (texts_of text)
+lawful_texts places text h none =
+    let stray = option_map (λ (place : List ℕ × Line). place.1.number) (find is_stray places) in
     let long = λ (word : List ℕ). number_of_line (long_text text word) in
     let e = long (codes "license") in
     let d = long (codes "copyright") in

@@ -1,12 +1,12 @@
 -- Keyword lines.
-use Rattle.std.specs.Prelude.{ℕ, Bool, List, [], ◌∷◌, codes, drop, filter, Option, Some, None, option_and_then, ◌==◌, if◌then◌else◌, slice_get, take_while, reverse, unwrap_or}
+use Rattle.std.specs.Prelude.{ℕ, Bool, not, List, [], ◌∷◌, codes, drop, filter, Option, Some, None, option_and_then, ◌==◌, if◌then◌else◌, slice_get, take_while, reverse, unwrap_or}
 use Rattle.std.specs.Option.{option_map}
 use Rattle.std.specs.List.{prefix_len}
 use Rattle.std.specs.Str.{bytes_eq, str_to_ascii_lowercase}
 use Rattle.std.specs.Char.{is_ascii_alphabetic}
 use Rattle.grid_core.specs.declared.fields.Field.{Field}
 use Rattle.grid_core.specs.declared.fields.Field.TheVariants.{Catalogue, Title, By, Copyright, License}
-use Rattle.puzzle_text.specs.Lines.{Line, trim}
+use Rattle.puzzle_text.specs.Lines.{Line, is_empty, trim}
 
 -- the keyword of a text field
 abbrev pub field_word : Field → List ℕ
@@ -23,6 +23,10 @@ all_fields = Catalogue ∷ Title ∷ By ∷ Copyright ∷ License ∷ []
 -- the letters that a line begins with, in lower case; none, if it is no keyword line
 abbrev pub keyword : Line → List ℕ
 keyword line = str_to_ascii_lowercase (take_while is_ascii_alphabetic line.text)
+
+-- whether a line begins with a keyword
+abbrev pub is_keyword_line : Line → Bool
+is_keyword_line line = not (is_empty (keyword line))
 
 -- what follows the keyword
 abbrev pub rest : Line → List ℕ

@@ -73,19 +73,19 @@ single_words = codes "width" ∷ codes "height" ∷ codes "rows" ∷ codes "colu
 abbrev pub number_of_line : Option Line → Option ℕ
 number_of_line found = option_map (λ line. line.number) found
 
--- the least number of a stray line, or of the first line of a text field that is too long
-abbrev pub bad_line : List Line → Option ℕ
-bad_line lines =
-    least (option_map (λ place. place.1.number) (find is_stray (placed [] lines)))
+-- the least number of a stray line among these places, or of the first line of a text field that is too long
+abbrev pub bad_line : List (List ℕ × Line) → List Line → Option ℕ
+bad_line places lines =
+    least (option_map (λ place. place.1.number) (find is_stray places))
     (least_of (map (λ word. number_of_line (long_text lines word)) text_words))
 
 -- the first line that repeats a keyword which may stand once only
 abbrev pub repeated : List Line → Option ℕ
 repeated lines = least_of (map (λ word. number_of_line (second_with word lines)) single_words)
 
--- that no line is out of place
-abbrev pub in_place : List Line → Result (Unit {0}) TextFault
-in_place lines = refuse_at BadLine (bad_line lines) >>= λ _. refuse_at Twice (repeated lines)
+-- that no line is out of place, no text is too long, and no keyword that may stand once only is repeated
+abbrev pub check_lines : List (List ℕ × Line) → List Line → Result (Unit {0}) TextFault
+check_lines places lines = refuse_at BadLine (bad_line places lines) >>= λ _. refuse_at Twice (repeated lines)
 
 -- ---- parts
 
@@ -106,8 +106,8 @@ rows_first lines = do
   Ok (nat_lt rows_line.number columns_line.number)
 
 -- the clue lines of a section
-abbrev pub clue_lines_of : List ℕ → ℕ → List Line → Result (List Line) TextFault
-clue_lines_of word count lines = or_fault BadCount (choice count (section word (placed [] lines)))
+abbrev pub clue_lines_of : List ℕ → ℕ → List (List ℕ × Line) → Result (List Line) TextFault
+clue_lines_of word count places = or_fault BadCount (choice count (section word places))
 
 -- the row clues and the column clues; of the two sections the one that stands first in the text is checked first
 abbrev pub both_clues : ℕ → Bool → List Line → List Line → Result (List (List ℕ) × List (List ℕ)) TextFault
@@ -151,17 +151,21 @@ texts_of lines = record {
 
 -- ---- the puzzle
 
--- the puzzle that these lines say
-abbrev pub non_of : ℕ → List Line → Result Nonogram TextFault
-non_of limit lines = do
+-- the puzzle that these places and the keyword lines among these lines say
+abbrev pub puzzle_said : ℕ → List (List ℕ × Line) → List Line → Result Nonogram TextFault
+puzzle_said limit places lines = do
   sizes ← sizes_of limit lines
-  order ← rows_first lines
-  checked ← in_place lines
-  rows ← clue_lines_of (codes "rows") sizes.1 lines
-  columns ← clue_lines_of (codes "columns") sizes.0 lines
-  clues ← both_clues limit order rows columns
+  first ← rows_first lines
+  checked ← check_lines places lines
+  rows ← clue_lines_of (codes "rows") sizes.1 places
+  columns ← clue_lines_of (codes "columns") sizes.0 places
+  clues ← both_clues limit first rows columns
   goal ← goal_of (sizes.0 * sizes.1) (first_with (codes "goal") lines)
   Ok (record { width = sizes.0; height = sizes.1; rows = clues.0; columns = clues.1; texts = texts_of lines; goal = goal })
+
+-- the puzzle that these lines say
+abbrev pub non_of : ℕ → List Line → Result Nonogram TextFault
+non_of limit lines = puzzle_said limit (placed [] lines) lines
 
 -- the puzzle that a text says
 abbrev pub read_non : ℕ → List ℕ → Result Nonogram TextFault

@@ -1,16 +1,17 @@
 //! Keyword lines.
 
-ghost use Rattle.std.specs.Prelude.{◌≡◌, ◌==◌, ◌≤◌, map, filter, length, drop, take_while, slice_get, reverse};
+ghost use Rattle.std.specs.Prelude.{◌≡◌, ◌==◌, ◌≤◌, map, filter, length, drop, take_while, slice_get, reverse, IfOk};
 ghost use Rattle.std.specs.List.{prefix_len};
 ghost use Rattle.std.specs.Option.{option_map};
 ghost use Rattle.std.specs.Char.{is_ascii_alphabetic};
 ghost use Rattle.std.specs.Str.{bytes_eq, str_to_ascii_lowercase};
 ghost use Rattle.puzzle_text.specs.Lines.{is_empty};
-ghost use Rattle.puzzle_text.specs.Keywords.{after_quote, before_quote, field_word, has_keyword, keyword, quoted, rest, quoted_text, with_keyword};
+ghost use Rattle.puzzle_text.specs.Keywords.{after_quote, before_quote, field_word, has_keyword, is_keyword_line, keyword, quoted, rest, quoted_text, with_keyword};
 ghost use Rattle.puzzle_text.specs.Shown.{shown_line};
 
 use crate::lines::{Line, trim};
 use grid_core::Field;
+use std::alloc::{AllocError, Global};
 
 /// The keyword of a text field.
 pub(crate) fn field_word(field: Field) -> &'static [u8]
@@ -45,6 +46,20 @@ pub(crate) fn keyword<'a>(line: &Line<'a>) -> &'a [u8]
 {
     let (word, _) = line.text.split_at(letters(line.text));
     word
+}
+
+/// The keyword lines among these lines.
+pub(crate) fn keyword_lines<'a>(
+    alloc: Global,
+    lines: &[Line<'a>],
+) -> Result<Vec<Line<'a>>, AllocError>
+    ensures { IfOk result (λ found. found.items ≡ filter (λ line. is_keyword_line (shown_line line)) lines.now) }
+{
+    lines
+        .iter()
+        .copied()
+        .filter(|line| !keyword(line).is_empty())
+        .collect(alloc)
 }
 
 /// What follows the keyword.

@@ -1,20 +1,20 @@
 //! The format .non.
 
-ghost use Rattle.std.specs.Prelude.{◌≡◌, ◌<◌, ◌*◌, [], map, length, Err, IfOk, OnOk};
+ghost use Rattle.std.specs.Prelude.{◌≡◌, ◌<◌, ◌*◌, map, length, Err, IfOk, OnOk};
 ghost use Rattle.std.specs.Str.{str_to_ascii_lowercase};
 ghost use Rattle.grid_core.specs.Description.{IsDescription};
 ghost use Rattle.grid_core.specs.PartialGrid.{IsSize};
 ghost use Rattle.puzzle_text.specs.Answers.{Gives};
 ghost use Rattle.puzzle_text.specs.Keywords.{second_with};
 ghost use Rattle.puzzle_text.specs.Lines.{HaveNoFeed};
-ghost use Rattle.puzzle_text.specs.Non.{bad_line, both_clues, in_place, least, least_of, non_of, number_of_line, placed, read_non, repeated, rows_first, sizes_of, texts_of};
+ghost use Rattle.puzzle_text.specs.Non.{bad_line, both_clues, check_lines, least, least_of, non_of, number_of_line, puzzle_said, read_non, repeated, rows_first, sizes_of, texts_of};
 ghost use Rattle.puzzle_text.specs.Shown.{shown_line, shown_place};
 
 use crate::clue_lines::clues_of;
 use crate::descriptions::{long_number, texts_of};
 use crate::faults::TextFault;
 use crate::goals::goal_of;
-use crate::keywords::{nth_with, rest};
+use crate::keywords::{keyword_lines, nth_with, rest};
 use crate::limits::LONGEST_PUZZLE;
 use crate::lines::Line;
 use crate::parts::puzzle_of;
@@ -55,16 +55,15 @@ fn second_number(lines: &[Line<'_>], word: &[u8]) -> Option<u32>
 }
 
 /// The least number of a line that stands in no section, or of a text field's first line whose text is too long.
-fn bad_line(lines: &[Line<'_>], places: &[Place<'_>]) -> Option<u32>
-    requires { map shown_place places.now ≡ placed [] (map shown_line lines.now) }
-    ensures { result ≡ bad_line (map shown_line lines.now) }
+fn bad_line(keyword_lines: &[Line<'_>], places: &[Place<'_>]) -> Option<u32>
+    ensures { result ≡ bad_line (map shown_place places.now) (map shown_line keyword_lines.now) }
 {
     let long = least_of(&[
-        long_number(lines, Field::Catalogue),
-        long_number(lines, Field::Title),
-        long_number(lines, Field::By),
-        long_number(lines, Field::Copyright),
-        long_number(lines, Field::License),
+        long_number(keyword_lines, Field::Catalogue),
+        long_number(keyword_lines, Field::Title),
+        long_number(keyword_lines, Field::By),
+        long_number(keyword_lines, Field::Copyright),
+        long_number(keyword_lines, Field::License),
     ]);
     least(stray_number(places), long)
 }
@@ -81,17 +80,16 @@ fn repeated(lines: &[Line<'_>]) -> Option<u32>
     ])
 }
 
-/// Checks that no line is out of place.
-fn in_place(lines: &[Line<'_>], places: &[Place<'_>]) -> Result<(), TextFault>
-    requires places { map shown_place places.now ≡ placed [] (map shown_line lines.now) }
-    requires feeds { HaveNoFeed (map shown_line lines.now) }
-    ensures answer { Gives (λ done. done) result (in_place (map shown_line lines.now)) }
-    ensures texts { OnOk result (IsDescription (texts_of (map shown_line lines.now))) }
+/// Checks that no line is out of place, no text is too long, and no keyword that may stand once only is repeated.
+fn check_lines(keyword_lines: &[Line<'_>], places: &[Place<'_>]) -> Result<(), TextFault>
+    requires { HaveNoFeed (map shown_line keyword_lines.now) }
+    ensures answer { Gives (λ done. done) result (check_lines (map shown_place places.now) (map shown_line keyword_lines.now)) }
+    ensures texts { OnOk result (IsDescription (texts_of (map shown_line keyword_lines.now))) }
 {
-    if let Some(number) = bad_line(lines, places) {
+    if let Some(number) = bad_line(keyword_lines, places) {
         return Err(TextFault::BadLine(number));
     }
-    if let Some(number) = repeated(lines) {
+    if let Some(number) = repeated(keyword_lines) {
         return Err(TextFault::Twice(number));
     }
     Ok(())
@@ -113,7 +111,7 @@ fn sizes_of(lines: &[Line<'_>]) -> Result<(u16, u16), TextFault>
 
 /// Whether the rows section stands before the columns section.
 fn rows_first(lines: &[Line<'_>]) -> Result<bool, TextFault>
-    ensures { Gives (λ order. order) result (rows_first (map shown_line lines.now)) }
+    ensures { Gives (λ first. first) result (rows_first (map shown_line lines.now)) }
 {
     let Some(rows) = nth_with(b"rows", 0, lines) else {
         return Err(TextFault::NoSection);
@@ -147,21 +145,34 @@ fn both_clues(
     }
 }
 
+/// The puzzle that the keyword lines of a text say, and its other lines.
+fn puzzle_said(
+    alloc: Global,
+    keyword_lines: &[Line<'_>],
+    places: &[Place<'_>],
+) -> Result<Puzzle, TextFault>
+    requires { HaveNoFeed (map shown_line keyword_lines.now) }
+    ensures { Gives (λ p. p) result (puzzle_said LONGEST_SIDE (map shown_place places.now) (map shown_line keyword_lines.now)) }
+{
+    let (width, height) = sizes_of(keyword_lines)?;
+    let rows_first = rows_first(keyword_lines)?;
+    check_lines(keyword_lines, places)?;
+    let rows = clue_lines(alloc, b"rows", height, places)?;
+    let columns = clue_lines(alloc, b"columns", width, places)?;
+    let (rows, columns) = both_clues(alloc, rows_first, &rows, &columns)?;
+    let count = usize::from(width) * usize::from(height);
+    let goal = goal_of(alloc, count, nth_with(b"goal", 0, keyword_lines))?;
+    let texts = texts_of(alloc, keyword_lines)?;
+    Ok(puzzle_of(width, height, rows, columns, texts, goal))
+}
+
 fn non_of(alloc: Global, lines: &[Line<'_>]) -> Result<Puzzle, TextFault>
     requires { HaveNoFeed (map shown_line lines.now) }
     ensures { Gives (λ p. p) result (non_of LONGEST_SIDE (map shown_line lines.now)) }
 {
+    let keyword_lines = keyword_lines(alloc, lines)?;
     let places = placed(alloc, lines)?;
-    let (width, height) = sizes_of(lines)?;
-    let order = rows_first(lines)?;
-    in_place(lines, &places)?;
-    let rows = clue_lines(alloc, b"rows", height, &places)?;
-    let columns = clue_lines(alloc, b"columns", width, &places)?;
-    let (rows, columns) = both_clues(alloc, order, &rows, &columns)?;
-    let count = usize::from(width) * usize::from(height);
-    let goal = goal_of(alloc, count, nth_with(b"goal", 0, lines))?;
-    let texts = texts_of(alloc, lines)?;
-    Ok(puzzle_of(width, height, rows, columns, texts, goal))
+    puzzle_said(alloc, &keyword_lines, &places)
 }
 
 /// Reads a puzzle in the format .non: keyword lines for the texts, the sizes and the goal, and a section of clue lines each under `rows` and
