@@ -1,6 +1,6 @@
 //! What the program does with its words, its files and its standard streams.
 
-ghost use Rattle.std.specs.Prelude.{◌≤◌};
+ghost use Rattle.std.specs.Prelude.{◌≡◌, ◌≤◌};
 ghost use Rattle.nonograde.specs.Command.{HasSettingsInRange};
 
 use crate::command::{CommandFault, Request, parse_words};
@@ -186,7 +186,9 @@ pub fn words_of<R: Env + AllocGlobal>(rt: &R) -> io::Result<Vec<String>> {
 }
 
 /// Prints why the program stops, and gives its status.
-fn report_stop<E: Write>(alloc: Global, errors: &mut E, stop: &Stop) -> u8 {
+fn report_stop<E: Write>(alloc: Global, errors: &mut E, stop: &Stop) -> u8
+    ensures { result ≡ 1 }
+{
     let _ = match stop_text(alloc, stop) {
         Ok(text) => errors.write_all(&text),
         Err(_) => errors.write_all(NO_MEMORY),
@@ -194,8 +196,10 @@ fn report_stop<E: Write>(alloc: Global, errors: &mut E, stop: &Stop) -> u8 {
     1
 }
 
-/// Says that the words can't be read, and gives the program's status.
-pub fn refuse_words<E: Write>(errors: &mut E, error: &io::Error) -> u8 {
+/// Says that the words can't be read, and gives the program's status: 1 where a growth was refused, else 2.
+pub fn refuse_words<E: Write>(errors: &mut E, error: &io::Error) -> u8
+    ensures { (1 ≤ result) × (result ≤ 2) }
+{
     if error.kind() == io::ErrorKind::OutOfMemory {
         let _ = errors.write_all(NO_MEMORY);
         return 1;
@@ -212,7 +216,9 @@ pub fn run<R: Files + Threads + Wait + Sync + AllocGlobal, I: Read, O: Write, E:
     input: &mut I,
     output: &mut O,
     errors: &mut E,
-) -> u8 {
+) -> u8
+    ensures { result ≤ 2 }
+{
     let done = match parse_words(rt.alloc(), words) {
         Ok(request) => perform(rt, &request, input, output),
         Err(CommandFault::NoMemory) => Err(Stop::NoMemory),
