@@ -1,63 +1,65 @@
-use Rattle.std.proofs.Common.{◌≡◌, ℕ, suc, ◌+◌, ◌-◌, ◌<◌, ◌≤◌, Bool, true, false, List, length, get_or, reverse, sym, subst, arith, ◌⊎◌, inl, inr}
+use Rattle.std.proofs.Common.{◌≡◌, ℕ, ◌+◌, ◌-◌, ◌<◌, ◌≤◌, true, false, List, [], ◌∷◌, length, get_or, reverse, sym, subst, arith, add-one, ◌⊎◌, inl, inr}
 use Rattle.std.proofs.lemmas.Bool.{cases_lt}
 use Rattle.grid_core.specs.declared.cells.Cell.{Cell}
 use Rattle.line_core.specs.Masks.{Has, IsMaskOf, IsMoved, IsFlooded, AllFrom, SomeFrom, SomeLevel, AreLevelsOf}
 use Rattle.line_core.proofs.Steps.{mask_same, and_is, or_is}
 use Rattle.std.specs.Int.RustNames.{bit_and, bit_or}
 use Rattle.line_core.proofs.Uses.{flood_same}
-use Rattle.line_core.specs.Reach.{MayBe, IsGap, IsStart, IsEnd, IsGapAhead, IsWholeEnd}
+use Rattle.line_core.specs.Passes.{PassState, IsPassOver}
+use Rattle.line_core.specs.Reach.{behind, MayBe, IsGapAfter, IsStartAfter, IsEndAfter, IsGap, IsEnd, IsGapAhead, IsWholeEnd}
 use Rattle.line_core.proofs.PatternLaws.{ArePositive}
-use Rattle.line_core.proofs.Reaching.{first_gap_to, first_gap_from, gap_after_to, gap_after_from}
+use Rattle.line_core.proofs.Reaching.{After, first_gap_to, first_gap_from, gap_after_to, gap_after_from}
 use Rattle.line_core.proofs.Joining.{closed_behind_to, closed_behind_from, closed_ahead_to, closed_ahead_from, turned_gap_to, turned_gap_from}
 
 -- the mask of the first gaps
-pub gap_none_is : (l : List Cell) (clue : List ℕ) (free m : ℕ) → IsMaskOf (MayBe l false) free
-    → IsMaskOf (IsFlooded (λ k. Has free k × (k ≡ 0)) (Has free)) m → IsMaskOf (IsGap l clue 0) m
-gap_none_is l clue free m f p =
-    mask_same (IsFlooded (λ k. (k ≡ 0) × MayBe l false k) (MayBe l false)) (IsGap l clue 0) m
+pub gap_none_is : (l : List Cell) (free m : ℕ) → IsMaskOf (MayBe l false) free
+    → IsMaskOf (IsFlooded (λ k. Has free k × (k ≡ 0)) (Has free)) m → IsMaskOf (IsGapAfter l []) m
+gap_none_is l free m f p =
+    mask_same (IsFlooded (λ k. (k ≡ 0) × MayBe l false k) (MayBe l false)) (IsGapAfter l []) m
     (flood_same (λ k. Has free k × (k ≡ 0)) (Has free) (λ k. (k ≡ 0) × MayBe l false k) (MayBe l false) m
     (λ i h. (h.1, f.to i h.0)) (λ i h. (f.from i h.1, h.0)) f.to f.from p)
-    (first_gap_to l clue) (first_gap_from l clue)
+    (first_gap_to l) (first_gap_from l)
 
 -- the mask of the gaps after a run, from that of its ends
-pub gap_next_is : (l : List Cell) (clue : List ℕ) (j free ends m : ℕ) → length l ≤ 128 → 0 < get_or clue j 0 → IsMaskOf (MayBe l false) free → IsMaskOf (IsEnd l clue j) ends
-    → IsMaskOf (IsFlooded (λ k. IsMoved (Has ends) 1 k × Has free k) (Has free)) m → IsMaskOf (IsGap l clue (suc j)) m
-gap_next_is l clue j free ends m short pos f e p =
-    mask_same (IsFlooded (λ k. MayBe l false k × (1 ≤ k) × IsEnd l clue j (k - 1)) (MayBe l false)) (IsGap l clue (suc j)) m
-    (flood_same (λ k. IsMoved (Has ends) 1 k × Has free k) (Has free) (λ k. MayBe l false k × (1 ≤ k) × IsEnd l clue j (k - 1)) (MayBe l false) m
+pub gap_next_is : (l : List Cell) (runs : List ℕ) (n free ends m : ℕ) → length l ≤ 128 → 0 < n → IsMaskOf (MayBe l false) free → IsMaskOf (IsEndAfter l runs n) ends
+    → IsMaskOf (IsFlooded (λ k. IsMoved (Has ends) 1 k × Has free k) (Has free)) m → IsMaskOf (IsGapAfter l (n ∷ runs)) m
+gap_next_is l runs n free ends m short pos f e p =
+    mask_same (IsFlooded (After l n runs) (MayBe l false)) (IsGapAfter l (n ∷ runs)) m
+    (flood_same (λ k. IsMoved (Has ends) 1 k × Has free k) (Has free) (After l n runs) (MayBe l false) m
     (λ i h. (f.to i h.1, h.0.1, e.to (i - 1) h.0.2)) (λ i h. let within : i < length l = h.0.0 in ((omega arith, h.1, e.from (i - 1) h.2), f.from i h.0)) f.to f.from p)
-    (λ i h. gap_after_to l clue j i pos h) (λ i h. gap_after_from l clue j i pos h)
+    (λ i h. gap_after_to l runs n i pos h) (λ i h. gap_after_from l runs n i pos h)
+
+-- where a run of so many cells ends that starts after a gap or at an opening, and within a window
+abbrev pub EndsAt : ℕ → ℕ → ℕ → ℕ → ℕ → Type 0
+EndsAt gap opening window n = IsMoved (λ s. (IsMoved (Has gap) 1 s ⊎ Has opening s) × Has window s) (n - 1)
 
 -- the mask of a run's ends, from that of the gaps before it
-pub ends_are : (l : List Cell) (clue : List ℕ) (j gap cells window m : ℕ) (first : Bool) → length l ≤ 128 → j < length clue → ArePositive clue → 0 < get_or clue j 0
-    → (first ≡ true → j ≡ 0) → (j ≡ 0 → first ≡ true)
-    → IsMaskOf (IsGap l clue j) gap → IsMaskOf (MayBe l true) cells → IsMaskOf (AllFrom (Has cells) (get_or clue j 0)) window
-    → IsMaskOf (IsMoved (λ s. (IsMoved (Has gap) 1 s ⊎ ((s ≡ 0) × (first ≡ true))) × Has window s) (get_or clue j 0 - 1)) m
-    → IsMaskOf (IsEnd l clue j) m
-ends_are l clue j gap cells window m first short jl pos cp f0 f1 g a w p =
-    mask_same (IsMoved (λ s. (IsMoved (Has gap) 1 s ⊎ ((s ≡ 0) × (first ≡ true))) × Has window s) (get_or clue j 0 - 1)) (IsEnd l clue j) m p to from
+pub ends_are : (l : List Cell) (runs : List ℕ) (n gap room opening window m : ℕ) → length l ≤ 128 → ArePositive runs → 0 < n
+    → IsMaskOf (IsGapAfter l runs) gap → IsMaskOf (λ i. (i ≡ 0) × (length runs ≡ 0)) opening → IsMaskOf (MayBe l true) room → IsMaskOf (AllFrom (Has room) n) window
+    → IsMaskOf (EndsAt gap opening window n) m → IsMaskOf (IsEndAfter l runs n) m
+ends_are l runs n gap room opening window m short pos some g f a w p = mask_same (EndsAt gap opening window n) (IsEndAfter l runs n) m p to from
   where
-    start_to : (s : ℕ) → (IsMoved (Has gap) 1 s ⊎ ((s ≡ 0) × (first ≡ true))) × Has window s → IsStart l clue j s
+    start_to : (s : ℕ) → (IsMoved (Has gap) 1 s ⊎ Has opening s) × Has window s → IsStartAfter l runs n s
     start_to s h =
-        (closed_behind_from l clue j s (elim h.0 [ inl x ↦ inr (x.1, g.to (s - 1) x.2) | inr x ↦ inl (x.0, f0 x.1) ]), λ z b. a.to (s + z) (w.to s h.1 z b))
+        (closed_behind_from l runs s (elim h.0 [ inl x ↦ inr (x.1, g.to (s - 1) x.2) | inr x ↦ inl (f.to s x) ]), λ z b. a.to (s + z) (w.to s h.1 z b))
 
-    start_from : (s : ℕ) → IsStart l clue j s → (IsMoved (Has gap) 1 s ⊎ ((s ≡ 0) × (first ≡ true))) × Has window s
+    start_from : (s : ℕ) → IsStartAfter l runs n s → (IsMoved (Has gap) 1 s ⊎ Has opening s) × Has window s
     start_from s h =
-        let here : s + 0 < length l = (h.1 0 cp).0 in
-        (elim (closed_behind_to l clue j s (omega arith) (omega arith) pos h.0) [ inl x ↦ inr (x.0, f1 x.1) | inr x ↦ inl (omega arith, x.0, g.from (s - 1) x.1) ], w.from s (λ z b. a.from (s + z) (h.1 z b)))
+        let here : s + 0 < length l = (h.1 0 some).0 in
+        (elim (closed_behind_to l runs s (omega arith) pos h.0) [ inl x ↦ inr (f.from s x) | inr x ↦ inl (omega arith, x.0, g.from (s - 1) x.1) ], w.from s (λ z b. a.from (s + z) (h.1 z b)))
 
-    to : (e : ℕ) → IsMoved (λ s. (IsMoved (Has gap) 1 s ⊎ ((s ≡ 0) × (first ≡ true))) × Has window s) (get_or clue j 0 - 1) e → IsEnd l clue j e
+    to : (e : ℕ) → EndsAt gap opening window n e → IsEndAfter l runs n e
     to e h =
-        let far : get_or clue j 0 - 1 ≤ e = h.1 in
-        let same : e - (get_or clue j 0 - 1) ≡ e + 1 - get_or clue j 0 = omega arith in
-        (omega arith, subst (IsStart l clue j) same (start_to (e - (get_or clue j 0 - 1)) h.2))
+        let far : n - 1 ≤ e = h.1 in
+        let same : e - (n - 1) ≡ e + 1 - n = omega arith in
+        (omega arith, subst (IsStartAfter l runs n) same (start_to (e - (n - 1)) h.2))
 
-    from : (e : ℕ) → IsEnd l clue j e → IsMoved (λ s. (IsMoved (Has gap) 1 s ⊎ ((s ≡ 0) × (first ≡ true))) × Has window s) (get_or clue j 0 - 1) e
+    from : (e : ℕ) → IsEndAfter l runs n e → EndsAt gap opening window n e
     from e h =
-        let enough : get_or clue j 0 ≤ e + 1 = h.0 in
-        let same : e + 1 - get_or clue j 0 ≡ e - (get_or clue j 0 - 1) = omega arith in
-        let last : e + 1 - get_or clue j 0 + (get_or clue j 0 - 1) < length l = (h.1.1 (get_or clue j 0 - 1) (omega arith)).0 in
-        (omega arith, omega arith, start_from (e - (get_or clue j 0 - 1)) (subst (IsStart l clue j) same h.1))
+        let enough : n ≤ e + 1 = h.0 in
+        let same : e + 1 - n ≡ e - (n - 1) = omega arith in
+        let last : e + 1 - n + (n - 1) < length l = (h.1.1 (n - 1) (omega arith)).0 in
+        (omega arith, omega arith, start_from (e - (n - 1)) (subst (IsStartAfter l runs n) same h.1))
 
 -- the mask of the gaps ahead of a run, from that of the turned line
 pub ahead_is : (l : List Cell) (clue : List ℕ) (j gap m : ℕ) → j ≤ length clue → IsMaskOf (IsGap (reverse l) (reverse clue) (length clue - j)) gap
@@ -159,3 +161,12 @@ ahead_of l clue j p turned len m e s jl g h =
     let same : length clue - j ≡ p = omega arith in
     ahead_is l clue j (get_or turned p 0) m jl (subst (λ (k : ℕ). IsMaskOf (IsGap (reverse l) (reverse clue) k) (get_or turned p 0)) (sym same) (g p (omega arith)))
     (subst (λ (n : ℕ). IsMaskOf (λ i. (i < n) × Has (get_or turned p 0) (n - 1 - i)) m) (sym e) h)
+
+-- a pass after one more run of a clue
+pub pass_more : (l : List Cell) (clue : List ℕ) (j n : ℕ) (pass : PassState) → n ≡ get_or clue j 0 → IsPassOver l (n ∷ behind 0 clue j) pass → IsPassOver l (behind 0 clue (j + 1)) pass
+pass_more l clue j n pass e h =
+    subst (λ (k : ℕ). IsPassOver l (behind 0 clue k) pass) (sym (add-one j)) (subst (λ (m : ℕ). IsPassOver l (m ∷ behind 0 clue j) pass) e h)
+
+-- and its gap
+pub gap_is : (l : List Cell) (clue : List ℕ) (j gap : ℕ) (pass : PassState) → gap ≡ pass.gap → IsPassOver l (behind 0 clue j) pass → IsMaskOf (IsGap l clue j) gap
+gap_is l clue j gap pass e h = subst (IsMaskOf (IsGap l clue j)) (sym e) h.gap

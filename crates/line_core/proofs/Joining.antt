@@ -7,9 +7,8 @@ use Rattle.grid_core.specs.Cells.{allows, agrees}
 use Rattle.grid_core.specs.Runs.{runs}
 use Rattle.line_core.specs.Masks.{AllFrom, SomeFrom}
 use Rattle.line_core.specs.Pattern.{pattern, fits}
-use Rattle.line_core.specs.Reach.{onto, behind, Holds, IsClosed, MayBe, IsGap, IsGapAhead, CanBe, IsBlankable, IsFillable}
+use Rattle.line_core.specs.Reach.{onto, behind, Holds, IsClosed, MayBe, IsGapAfter, IsEndAfter, IsGap, IsGapAhead, CanBe, IsBlankable, IsFillable}
 use Rattle.line_core.proofs.PatternLaws.{ArePositive, and_left, and_right, and_both, or_cases, or_right, runs_after, runs_after-zero, runs_after-true, runs_after-false, runs_after-close, runs_after-nil, fits-placing, placing-fits}
-use Rattle.line_core.proofs.Reaching.{EndOf}
 
 pub length-agrees : (l : List Cell) (x : List Bool) → agrees l x ≡ true → length x ≡ length l
 length-agrees [] [] h = refl
@@ -99,9 +98,6 @@ runs_onto (false ∷ a) n b =
 pub runs_cut : (a b : List Bool) → runs (onto a (false ∷ b)) ≡ onto (runs a) (runs b)
 runs_cut a b = runs_onto a 0 b ∙ ap (λ (p : List ℕ). onto p (runs b)) (runs_after-zero a)
 
-runs_blank : (b : List Bool) → runs (false ∷ b) ≡ runs b
-runs_blank b = refl
-
 -- a run, where none goes on after it
 pub runs_closed : (n : ℕ) (b : List Bool) → get_or b 0 false ≡ false → runs_after (suc n) b ≡ suc n ∷ runs b
 runs_closed n [] h = runs_after-nil n
@@ -124,12 +120,6 @@ positive_at (c ∷ clue) p (suc j) h = positive_at clue p.1 j (omega arith)
 pub positive_from : (clue : List ℕ) → ((j : ℕ) → j < length clue → 0 < get_or clue j 0) → ArePositive clue
 positive_from [] h = tt
 positive_from (c ∷ clue) h = (h 0 (omega arith), positive_from clue (λ j l. h (suc j) (omega arith)))
-
-pub positive_turned : (clue : List ℕ) → ArePositive clue → ArePositive (reverse clue)
-positive_turned clue p =
-    positive_from (reverse clue) (λ j h.
-    let within : j < length clue = omega (arith, length-reverse clue) in
-    subst (λ (n : ℕ). 0 < n) (sym (get_or-reverse clue j 0 within)) (positive_at clue p (length clue - 1 - j) (omega arith)))
 
 pub positive_behind : (clue : List ℕ) → ArePositive clue → (j : ℕ) → j ≤ length clue → ArePositive (behind 0 clue j)
 positive_behind clue p zero h = tt
@@ -337,41 +327,38 @@ fillable_from l clue i pos h (x, agree, is, at) =
     let rest_is : runs v.rest ≡ drop (j + 1) clue = head.1 ∙ ap (λ (k : ℕ). drop k clue) (sym (add-one j)) in
     let after : IsClosed (drop (s + c) l) (drop (j + 1) clue) =
     line_closed (drop (s + c) l) (drop (j + 1) clue) v.rest (positive_drop clue pos (j + 1)) run.1 rest_is v.closed in
-    let ends : EndOf l c (behind 0 clue j) (i + (v.count - 1)) =
+    let ends : IsEndAfter l (behind 0 clue j) c (i + (v.count - 1)) =
     (omega arith, subst (λ (k : ℕ). IsClosed (behind Unknown l k) (behind 0 clue j) × AllFrom (MayBe l true) c k) start (before, run.0)) in
     let enough : v.count - 1 < c = omega arith in
-    let found : SomeFrom (λ e. EndOf l c (behind 0 clue j) e × IsClosed (drop (e + 1) l) (drop (j + 1) clue)) c i =
+    let found : SomeFrom (λ e. IsEndAfter l (behind 0 clue j) c e × IsClosed (drop (e + 1) l) (drop (j + 1) clue)) c i =
     (v.count - 1, enough, (ends, subst (λ (k : ℕ). IsClosed (drop k l) (drop (j + 1) clue)) past after)) in
-    (j, head.2, subst (λ (n : ℕ). SomeFrom (λ e. EndOf l n (behind 0 clue j) e × IsClosed (drop (e + 1) l) (drop (j + 1) clue)) n i) (sym head.0) found)
+    (j, head.2, subst (λ (n : ℕ). SomeFrom (λ e. IsEndAfter l (behind 0 clue j) n e × IsClosed (drop (e + 1) l) (drop (j + 1) clue)) n i) (sym head.0) found)
 
 -- ---- no run at an end: the end of the line, or a gap
 
-pub closed_behind_to : (l : List Cell) (clue : List ℕ) (j s : ℕ) → j ≤ length clue → s ≤ length l → ArePositive clue → IsClosed (behind Unknown l s) (behind 0 clue j) → ((s ≡ 0) × (j ≡ 0)) ⊎ ((1 ≤ s) × IsGap l clue j (s - 1))
-closed_behind_to l clue zero zero jl sl pos h = inl (refl, refl)
-closed_behind_to l clue (suc j) zero jl sl pos h = absurd (by (get_or clue j 0) (positive_at clue pos j (omega arith)) h)
-  where
-    by : (n : ℕ) → 0 < n → IsClosed [] (n ∷ behind 0 clue j) → ⊥
-    by zero p h = absurd (omega arith)
-    by (suc n) p h = true≢false (sym h)
-closed_behind_to l clue j (suc s) jl sl pos h =
-    elim (or_cases (allows (get_or l s Unknown) true && false) (allows (get_or l s Unknown) false && fits (behind Unknown l s) true (pattern (behind 0 clue j))) h) [
+pub closed_behind_to : (l : List Cell) (runs : List ℕ) (s : ℕ) → s ≤ length l → ArePositive runs → IsClosed (behind Unknown l s) runs → ((s ≡ 0) × (length runs ≡ 0)) ⊎ ((1 ≤ s) × IsGapAfter l runs (s - 1))
+closed_behind_to l [] zero sl pos h = inl (refl, refl)
+closed_behind_to l (zero ∷ runs) zero sl pos h = absurd (omega (arith, pos.0))
+closed_behind_to l (suc n ∷ runs) zero sl pos h = cc
+closed_behind_to l runs (suc s) sl pos h =
+    elim (or_cases (allows (get_or l s Unknown) true && false) (allows (get_or l s Unknown) false && fits (behind Unknown l s) true (pattern runs)) h) [
       | inl a ↦ absurd (true≢false (sym (and_right (allows (get_or l s Unknown) true) false a)))
       | inr b ↦
           (let e : s ≡ suc s - 1 = omega arith in
-          let gap : IsGap l clue j s = ((omega arith, and_left (allows (get_or l s Unknown) false) (fits (behind Unknown l s) true (pattern (behind 0 clue j))) b), and_right (allows (get_or l s Unknown) false) (fits (behind Unknown l s) true (pattern (behind 0 clue j))) b) in
-          inr (omega arith, subst (IsGap l clue j) e gap))
+          let gap : IsGapAfter l runs s = ((omega arith, and_left (allows (get_or l s Unknown) false) (fits (behind Unknown l s) true (pattern runs)) b), and_right (allows (get_or l s Unknown) false) (fits (behind Unknown l s) true (pattern runs)) b) in
+          inr (omega arith, subst (IsGapAfter l runs) e gap))
     ]
 
-pub closed_behind_from : (l : List Cell) (clue : List ℕ) (j s : ℕ) → ((s ≡ 0) × (j ≡ 0)) ⊎ ((1 ≤ s) × IsGap l clue j (s - 1)) → IsClosed (behind Unknown l s) (behind 0 clue j)
-closed_behind_from l clue zero zero h = refl
-closed_behind_from l clue (suc j) zero (inl h) = let bad : suc j ≡ 0 = h.1 in absurd (omega arith)
-closed_behind_from l clue (suc j) zero (inr h) = let bad : 1 ≤ 0 = h.0 in absurd (omega arith)
-closed_behind_from l clue j (suc s) (inl h) = let bad : suc s ≡ 0 = h.0 in absurd (omega arith)
-closed_behind_from l clue j (suc s) (inr h) =
+pub closed_behind_from : (l : List Cell) (runs : List ℕ) (s : ℕ) → ((s ≡ 0) × (length runs ≡ 0)) ⊎ ((1 ≤ s) × IsGapAfter l runs (s - 1)) → IsClosed (behind Unknown l s) runs
+closed_behind_from l [] zero h = refl
+closed_behind_from l (n ∷ runs) zero (inl h) = let bad : length (n ∷ runs) ≡ 0 = h.1 in absurd (omega arith)
+closed_behind_from l (n ∷ runs) zero (inr h) = let bad : 1 ≤ 0 = h.0 in absurd (omega arith)
+closed_behind_from l runs (suc s) (inl h) = let bad : suc s ≡ 0 = h.0 in absurd (omega arith)
+closed_behind_from l runs (suc s) (inr h) =
     let e : suc s - 1 ≡ s = omega arith in
-    let gap = subst (IsGap l clue j) e h.1 in
-    or_right (allows (get_or l s Unknown) true && false) (allows (get_or l s Unknown) false && fits (behind Unknown l s) true (pattern (behind 0 clue j)))
-    (and_both (allows (get_or l s Unknown) false) (fits (behind Unknown l s) true (pattern (behind 0 clue j))) gap.0.1 gap.1)
+    let gap = subst (IsGapAfter l runs) e h.1 in
+    or_right (allows (get_or l s Unknown) true && false) (allows (get_or l s Unknown) false && fits (behind Unknown l s) true (pattern runs))
+    (and_both (allows (get_or l s Unknown) false) (fits (behind Unknown l s) true (pattern runs)) gap.0.1 gap.1)
 
 -- ---- a line and a clue seen from the other end
 

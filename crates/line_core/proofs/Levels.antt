@@ -4,7 +4,7 @@ use Rattle.std.proofs.lemmas.Bool.{cases_lt}
 use Rattle.line_core.specs.Masks.{Has, IsMaskOf, SomeFrom, SomeLevel, AreLevelsOf}
 use Rattle.std.proofs.lemmas.Nat.Bits.{bit_at-zero}
 use Rattle.line_core.proofs.Steps.{or_is, has-itself}
-use Rattle.line_core.proofs.Windows.{pow_next}
+use Rattle.line_core.proofs.Doubling.{pow_next}
 
 -- a mask spread a bit, and then over so many places, is spread over both
 pub spread_in : (mask by next w i : ℕ) → IsMaskOf (λ i. Has mask i ⊎ Has mask (i + by)) next → SomeFrom (Has next) w i → SomeFrom (Has mask) (w + by) i

@@ -3,7 +3,7 @@ pub mod DeductionLaws
 pub mod Learning
 pub mod Flooding
 pub mod Steps
-pub mod Windows
+pub mod Doubling
 pub mod Levels
 pub mod Turning
 pub mod Uses

@@ -18,7 +18,7 @@ use Rattle.std.specs.Int.RustNames.{bit_and}
 use Rattle.line_core.specs.Masks.{Has, IsMaskOf, AllFrom}
 use Rattle.line_core.proofs.Steps.{and_is}
 use Rattle.line_core.proofs.LineCells.{written_more}
-use Rattle.line_core.specs.Reach.{onto, behind, MayBe, IsClosed, IsStart, IsWholeEnd, IsGap, IsGapAhead, HasPlacing}
+use Rattle.line_core.specs.Reach.{onto, behind, MayBe, IsClosed, IsStartAfter, IsWholeEnd, IsGap, IsGapAhead, HasPlacing}
 use Rattle.line_core.proofs.PatternLaws.{ArePositive}
 use Rattle.line_core.proofs.Joining.{length-agrees, length_behind, onto_behind, onto_agrees, agrees_onto, run_agrees, agrees_run, closed_line, line_closed, positive_at, positive_behind, positive_drop, runs_about, blankable_to, blankable_from}
 use Rattle.line_core.proofs.DeductionLaws.{IsPlacing, ListsPlacings, placings_listed, false_unless, agrees-Extends, Extends-agrees}
@@ -47,7 +47,7 @@ whole_of l clue x k e pos agree is h at =
     let rest_is : runs r.back ≡ drop (k + 1) clue = r.back_runs ∙ ap (λ (n : ℕ). drop n clue) (sym (add-one k)) in
     let after : IsClosed (drop (s + c) l) (drop (k + 1) clue) = line_closed (drop (s + c) l) (drop (k + 1) clue) r.back (positive_drop clue pos (k + 1)) run.1 rest_is r.back_closed in
     let start : s ≡ e + 1 - c = omega arith in
-    ((omega arith, subst (IsStart l clue k) start (before, run.0)), subst (λ (n : ℕ). IsClosed (drop n l) (drop (k + 1) clue)) (sym at) after)
+    ((omega arith, subst (IsStartAfter l (behind 0 clue k) c) start (before, run.0)), subst (λ (n : ℕ). IsClosed (drop n l) (drop (k + 1) clue)) (sym at) after)
 
 -- and each such end is one in a placing
 pub witness_of : (l : List Cell) (clue : List ℕ) (k e : ℕ) → ArePositive clue → k < length clue → IsWholeEnd l clue k e → Witness l clue k (e + 1 - get_or clue k 0)

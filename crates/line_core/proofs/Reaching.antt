@@ -5,7 +5,7 @@ use Rattle.grid_core.specs.declared.cells.Cell.TheVariants.{Unknown}
 use Rattle.grid_core.specs.Cells.{allows}
 use Rattle.line_core.specs.Masks.{IsFlooded, AllFrom}
 use Rattle.line_core.specs.Pattern.{pattern, fits}
-use Rattle.line_core.specs.Reach.{behind, Holds, IsClosed, MayBe, IsGap, IsEnd}
+use Rattle.line_core.specs.Reach.{behind, Holds, IsClosed, MayBe, IsGapAfter, IsEndAfter}
 use Rattle.line_core.proofs.PatternLaws.{and_left, and_right, and_both, or_cases, or_left, or_right}
 
 -- cells that hold no run: one more
@@ -20,19 +20,19 @@ none_holds : (c : Cell) (cells : List Cell) → allows c false ≡ true → Hold
 none_holds c cells a h = or_right (allows c true && false) (allows c false && fits cells true []) (and_both (allows c false) (fits cells true []) a h)
 
 -- the first gaps: from the first cell on, as long as all may be blank
-pub first_gap_to : (l : List Cell) (clue : List ℕ) (i : ℕ) → IsFlooded (λ k. (k ≡ 0) × MayBe l false k) (MayBe l false) i → IsGap l clue 0 i
-first_gap_to l clue zero f = (f.1, refl)
-first_gap_to l clue (suc i) (inl f) = let bad : suc i ≡ 0 = f.0 in absurd (omega arith)
-first_gap_to l clue (suc i) (inr f) =
-    let before = first_gap_to l clue i f.1 in
+pub first_gap_to : (l : List Cell) (i : ℕ) → IsFlooded (λ k. (k ≡ 0) × MayBe l false k) (MayBe l false) i → IsGapAfter l [] i
+first_gap_to l zero f = (f.1, refl)
+first_gap_to l (suc i) (inl f) = let bad : suc i ≡ 0 = f.0 in absurd (omega arith)
+first_gap_to l (suc i) (inr f) =
+    let before = first_gap_to l i f.1 in
     (f.0, none_holds (get_or l i Unknown) (behind Unknown l i) before.0.1 before.1)
 
-pub first_gap_from : (l : List Cell) (clue : List ℕ) (i : ℕ) → IsGap l clue 0 i → IsFlooded (λ k. (k ≡ 0) × MayBe l false k) (MayBe l false) i
-first_gap_from l clue zero g = (refl, g.0)
-first_gap_from l clue (suc i) g =
+pub first_gap_from : (l : List Cell) (i : ℕ) → IsGapAfter l [] i → IsFlooded (λ k. (k ≡ 0) × MayBe l false k) (MayBe l false) i
+first_gap_from l zero g = (refl, g.0)
+first_gap_from l (suc i) g =
     let before = holds_none (get_or l i Unknown) (behind Unknown l i) g.1 in
     let within : suc i < length l = g.0.0 in
-    inr (g.0, first_gap_from l clue i ((omega arith, before.0), before.1))
+    inr (g.0, first_gap_from l i ((omega arith, before.0), before.1))
 
 -- cells that hold a run: the nearest one is blank or the run's
 holds_next : (c : Cell) (cells : List Cell) (r : ℕ) (cs : List ℕ) → Holds (c ∷ cells) (suc r ∷ cs)
@@ -109,11 +109,7 @@ run_open l (suc m) (suc p) cs r =
     or_left (allows (get_or l p Unknown) true && fits (behind Unknown l p) false (replicate m true ++ (false ∷ pattern cs))) (allows (get_or l p Unknown) false && false)
     (and_both (allows (get_or l p Unknown) true) (fits (behind Unknown l p) false (replicate m true ++ (false ∷ pattern cs))) nearest (run_open l m p cs others))
 
--- a run of so many cells ends here, after cells that hold the runs before
-abbrev pub EndOf : List Cell → ℕ → List ℕ → ℕ → Type 0
-EndOf l n cs e = (n ≤ e + 1) × (IsClosed (behind Unknown l (e + 1 - n)) cs × AllFrom (MayBe l true) n (e + 1 - n))
-
-end_from_open : (l : List Cell) (r i : ℕ) (cs : List ℕ) → MayBe l true i → fits (behind Unknown l i) false (replicate r true ++ (false ∷ pattern cs)) ≡ true → EndOf l (suc r) cs i
+end_from_open : (l : List Cell) (r i : ℕ) (cs : List ℕ) → MayBe l true i → fits (behind Unknown l i) false (replicate r true ++ (false ∷ pattern cs)) ≡ true → IsEndAfter l cs (suc r) i
 end_from_open l r i cs m h =
     let o = open_run l r i cs h in
     let enough : r ≤ i = o.enough in
@@ -131,7 +127,7 @@ end_from_open l r i cs m h =
         let f : i ≡ i + 1 - suc r + z = omega arith in
         subst (MayBe l true) f m
 
-open_from_end : (l : List Cell) (r i : ℕ) (cs : List ℕ) → EndOf l (suc r) cs i → (MayBe l true i) × (fits (behind Unknown l i) false (replicate r true ++ (false ∷ pattern cs)) ≡ true)
+open_from_end : (l : List Cell) (r i : ℕ) (cs : List ℕ) → IsEndAfter l cs (suc r) i → (MayBe l true i) × (fits (behind Unknown l i) false (replicate r true ++ (false ∷ pattern cs)) ≡ true)
 open_from_end l r i cs x =
     let enough : suc r ≤ i + 1 = x.0 in
     let e : i + 1 - suc r ≡ i - r = omega arith in
@@ -144,14 +140,14 @@ open_from_end l r i cs x =
     (subst (MayBe l true) at (x.1.1 r (omega arith)), run_open l r i cs o)
 
 -- the gaps after a run: from the cell after an end of it on, as long as all may be blank
-abbrev After : List Cell → ℕ → List ℕ → ℕ → Type 0
-After l n cs k = MayBe l false k × (1 ≤ k) × EndOf l n cs (k - 1)
+abbrev pub After : List Cell → ℕ → List ℕ → ℕ → Type 0
+After l n cs k = MayBe l false k × (1 ≤ k) × IsEndAfter l cs n (k - 1)
 
 next_gap_to : (l : List Cell) (r : ℕ) (cs : List ℕ) (i : ℕ) → IsFlooded (After l (suc r) cs) (MayBe l false) i → MayBe l false i × Holds (behind Unknown l i) (suc r ∷ cs)
 next_gap_to l r cs zero f = let bad : 1 ≤ 0 = f.1 in absurd (omega arith)
 next_gap_to l r cs (suc i) (inl f) =
     let e : suc i - 1 ≡ i = omega arith in
-    let o = open_from_end l r i cs (subst (EndOf l (suc r) cs) e f.2) in
+    let o = open_from_end l r i cs (subst (IsEndAfter l cs (suc r)) e f.2) in
     (f.0, next_holds_filled (get_or l i Unknown) (behind Unknown l i) r cs o.0.1 o.1)
 next_gap_to l r cs (suc i) (inr f) =
     let before = next_gap_to l r cs i f.1 in
@@ -164,22 +160,14 @@ next_gap_from l r cs (suc i) g =
     let e : i ≡ suc i - 1 = omega arith in
     elim (holds_next (get_or l i Unknown) (behind Unknown l i) r cs g.1) [
       | inl b ↦ inr (g.0, next_gap_from l r cs i ((omega arith, b.0), b.1))
-      | inr a ↦ inl (g.0, omega arith, subst (EndOf l (suc r) cs) e (end_from_open l r i cs (omega arith, a.0) a.1))
+      | inr a ↦ inl (g.0, omega arith, subst (IsEndAfter l cs (suc r)) e (end_from_open l r i cs (omega arith, a.0) a.1))
     ]
 
--- the gaps after run j
-pub gap_after_to : (l : List Cell) (clue : List ℕ) (j i : ℕ) → 0 < get_or clue j 0
-    → IsFlooded (λ k. MayBe l false k × (1 ≤ k) × IsEnd l clue j (k - 1)) (MayBe l false) i → IsGap l clue (suc j) i
-gap_after_to l clue j i pos f = by (get_or clue j 0) pos f
-  where
-    by : (n : ℕ) → 0 < n → IsFlooded (After l n (behind 0 clue j)) (MayBe l false) i → MayBe l false i × Holds (behind Unknown l i) (n ∷ behind 0 clue j)
-    by zero p f = absurd (omega arith)
-    by (suc r) p f = next_gap_to l r (behind 0 clue j) i f
+-- the gaps after one more run
+pub gap_after_to : (l : List Cell) (runs : List ℕ) (n i : ℕ) → 0 < n → IsFlooded (After l n runs) (MayBe l false) i → IsGapAfter l (n ∷ runs) i
+gap_after_to l runs zero i p f = absurd (omega arith)
+gap_after_to l runs (suc r) i p f = next_gap_to l r runs i f
 
-pub gap_after_from : (l : List Cell) (clue : List ℕ) (j i : ℕ) → 0 < get_or clue j 0
-    → IsGap l clue (suc j) i → IsFlooded (λ k. MayBe l false k × (1 ≤ k) × IsEnd l clue j (k - 1)) (MayBe l false) i
-gap_after_from l clue j i pos g = by (get_or clue j 0) pos g
-  where
-    by : (n : ℕ) → 0 < n → MayBe l false i × Holds (behind Unknown l i) (n ∷ behind 0 clue j) → IsFlooded (After l n (behind 0 clue j)) (MayBe l false) i
-    by zero p f = absurd (omega arith)
-    by (suc r) p f = next_gap_from l r (behind 0 clue j) i f
+pub gap_after_from : (l : List Cell) (runs : List ℕ) (n i : ℕ) → 0 < n → IsGapAfter l (n ∷ runs) i → IsFlooded (After l n runs) (MayBe l false) i
+gap_after_from l runs zero i p g = absurd (omega arith)
+gap_after_from l runs (suc r) i p g = next_gap_from l r runs i g

@@ -1,20 +1,12 @@
 -- A mask seen from its other end.
 use Rattle.std.proofs.Common.{◌≡◌, ℕ, zero, suc, ◌+◌, ◌-◌, ◌*◌, ◌/◌, ◌%◌, ◌^◌, ◌<◌, ◌≤◌, ◌⊎◌, inl, inr, refl, sym, arith, subst, Bool, true, false, not, ◌&&◌, cond, nat_eq, nat_lt, nat_le, true≢false, ltb-true, leb-true, eqb-true}
-use Rattle.std.specs.Int.{bit_at}
 use Rattle.std.specs.Int.RustNames.{bit_and, bit_or}
 use Rattle.std.proofs.lemmas.Bool.{cases_lt}
-use Rattle.std.proofs.lemmas.Nat.Bits.{bit_at-lt}
 use Rattle.line_core.specs.Masks.{Has, has, IsMaskOf, IsMoved, IsTurned, all_below, swapped_place, is_pairing_at, IsPairing}
 use Rattle.line_core.proofs.Flooding.{has_below}
 use Rattle.line_core.proofs.Steps.{and_is, or_is, shr_is, shl_is, has-itself}
-
-and_left : (a b : Bool) → (a && b) ≡ true → a ≡ true
-and_left true b h = refl
-and_left false b h = h
-
-and_right : (a b : Bool) → (a && b) ≡ true → b ≡ true
-and_right true b h = h
-and_right false b h = cc
+use Rattle.line_core.proofs.LineCells.{has_true, true_has}
+use Rattle.line_core.proofs.PatternLaws.{and_left, and_right}
 
 pub below_all : (n : ℕ) (p : ℕ → Bool) → all_below n p ≡ true → (i : ℕ) → i < n → p i ≡ true
 below_all zero p h i l = absurd (omega arith)
@@ -23,17 +15,6 @@ below_all (suc n) p h i l =
       | inl low ↦ below_all n p (and_right (p n) (all_below n p) h) i low
       | inr high ↦ (let e : n ≡ i = omega arith in subst (λ (k : ℕ). p k ≡ true) e (and_left (p n) (all_below n p) h))
     ]
-
-has_true : (m i : ℕ) → Has m i → has m i ≡ true
-has_true m i h = rw h refl
-
-true_has : (m i : ℕ) → has m i ≡ true → Has m i
-true_has m i h = by (bit_at m i) refl h (bit_at-lt m i)
-  where
-    by : (n : ℕ) → bit_at m i ≡ n → nat_eq n 1 ≡ true → n < 2 → bit_at m i ≡ 1
-    by zero e t l = absurd (true≢false (sym t))
-    by (suc zero) e t l = e
-    by (suc (suc n)) e t l = absurd (omega arith)
 
 -- one step of a turn
 pub pairs_swapped : (x low by : ℕ) → low < 340282366920938463463374607431768211456 → IsPairing low by

@@ -1,5 +1,5 @@
 -- What single steps on masks come to, as src/masks.rt takes them: the places of a line, a turned line, gaps, the ends of runs, windows of a length, the greatest place.
-use Rattle.std.proofs.Common.{◌≡◌, ℕ, zero, suc, ◌+◌, ◌-◌, ◌*◌, ◌/◌, ◌%◌, ◌^◌, ◌<◌, ◌≤◌, ◌⊎◌, inl, inr, sym, ap, ◌∙◌, arith, subst, Bool, true, false, true≢false}
+use Rattle.std.proofs.Common.{◌≡◌, ℕ, zero, suc, ◌+◌, ◌-◌, ◌*◌, ◌/◌, ◌%◌, ◌^◌, ◌<◌, ◌≤◌, ◌⊎◌, inl, inr, sym, ap, ◌∙◌, arith, subst}
 use Rattle.std.specs.Int.{bit_at}
 use Rattle.std.specs.Int.RustNames.{bit_and, bit_or}
 use Rattle.std.proofs.lemmas.Bool.{cases_lt}
@@ -56,20 +56,13 @@ gap_after_is ends free m p =
     let first = and_is (IsMoved (Has ends) 1) (Has free) (ends * 2 % 340282366920938463463374607431768211456) free moved (has-itself free) in
     flood_same (Has (bit_and (ends * 2 % 340282366920938463463374607431768211456) free)) (Has free) (λ k. IsMoved (Has ends) 1 k × Has free k) (Has free) m first.to first.from (λ i h. h) (λ i h. h) p
 
-pub run_ends_are : (gap first window by : ℕ) (b : Bool) → IsMaskOf (λ s. (s ≡ 0) × (b ≡ true)) first
-    → IsMaskOf (IsMoved (λ s. (IsMoved (Has gap) 1 s ⊎ ((s ≡ 0) × (b ≡ true))) × Has window s) by)
-    (bit_and (bit_or (gap * 2 % 340282366920938463463374607431768211456) first) window * 2 ^ by % 340282366920938463463374607431768211456)
-run_ends_are gap first window by b f =
+pub run_ends_are : (gap opening window by : ℕ) → IsMaskOf (IsMoved (λ s. (IsMoved (Has gap) 1 s ⊎ Has opening s) × Has window s) by)
+    (bit_and (bit_or (gap * 2 % 340282366920938463463374607431768211456) opening) window * 2 ^ by % 340282366920938463463374607431768211456)
+run_ends_are gap opening window by =
     let moved : IsMaskOf (IsMoved (Has gap) 1) (gap * 2 % 340282366920938463463374607431768211456) = shl_is (Has gap) gap 1 (has-itself gap) in
-    let either = or_is (IsMoved (Has gap) 1) (λ s. (s ≡ 0) × (b ≡ true)) (gap * 2 % 340282366920938463463374607431768211456) first moved f in
-    shl_is (λ s. (IsMoved (Has gap) 1 s ⊎ ((s ≡ 0) × (b ≡ true))) × Has window s) (bit_and (bit_or (gap * 2 % 340282366920938463463374607431768211456) first) window) by
-    (and_is (λ s. IsMoved (Has gap) 1 s ⊎ ((s ≡ 0) × (b ≡ true))) (Has window) (bit_or (gap * 2 % 340282366920938463463374607431768211456) first) window either (has-itself window))
-
-pub first_yes : (b : Bool) → b ≡ true → IsMaskOf (λ s. (s ≡ 0) × (b ≡ true)) 1
-first_yes b h = mask_same (λ i. i ≡ 0) (λ s. (s ≡ 0) × (b ≡ true)) 1 one_is (λ i e. (e, h)) (λ i e. e.0)
-
-pub first_no : (b : Bool) → b ≡ false → IsMaskOf (λ s. (s ≡ 0) × (b ≡ true)) 0
-first_no b h = none_is (λ s. (s ≡ 0) × (b ≡ true)) (λ i e. true≢false (sym e.1 ∙ h))
+    let either = or_is (IsMoved (Has gap) 1) (Has opening) (gap * 2 % 340282366920938463463374607431768211456) opening moved (has-itself opening) in
+    shl_is (λ s. (IsMoved (Has gap) 1 s ⊎ Has opening s) × Has window s) (bit_and (bit_or (gap * 2 % 340282366920938463463374607431768211456) opening) window) by
+    (and_is (λ s. IsMoved (Has gap) 1 s ⊎ Has opening s) (Has window) (bit_or (gap * 2 % 340282366920938463463374607431768211456) opening) window either (has-itself window))
 
 pub window_is : (cells : ℕ) (w level rest length : ℕ) (m : ℕ) → 2 ^ level + rest ≡ length → rest < 2 ^ level → IsMaskOf (AllFrom (Has cells) (2 ^ level)) w
     → IsMaskOf (λ i. Has w i × Has w (i + rest)) m → IsMaskOf (AllFrom (Has cells) length) m

@@ -7,5 +7,6 @@ pub mod Masks
 pub mod Lines
 pub mod Pattern
 pub mod Reach
+pub mod Passes
 pub mod Told
 pub mod Outermost

@@ -34,21 +34,29 @@ IsClosed cells clue = fits cells false (false ∷ pattern clue) ≡ true
 abbrev pub MayBe : List Cell → Bool → ℕ → Type 0
 MayBe line filled i = (i < length line) × (allows (slice_index_or line i Unknown) filled ≡ true)
 
--- the cells up to this one can hold exactly the first j runs, with this one blank
+-- the cells up to this one can hold exactly some runs, the last of them first, with this one blank
+abbrev pub IsGapAfter : List Cell → List ℕ → ℕ → Type 0
+IsGapAfter line runs i = MayBe line false i × Holds (behind Unknown line i) runs
+
+-- a run of so many cells can start here, with exactly some runs, the last of them first, in the cells before
+abbrev pub IsStartAfter : List Cell → List ℕ → ℕ → ℕ → Type 0
+IsStartAfter line runs number s = IsClosed (behind Unknown line s) runs × AllFrom (MayBe line true) number s
+
+-- and end here
+abbrev pub IsEndAfter : List Cell → List ℕ → ℕ → ℕ → Type 0
+IsEndAfter line runs number e = (number ≤ e + 1) × IsStartAfter line runs number (e + 1 - number)
+
+-- the cells up to this one can hold exactly the first j runs of the clue, with this one blank
 abbrev pub IsGap : List Cell → List ℕ → ℕ → ℕ → Type 0
-IsGap line clue j i = MayBe line false i × Holds (behind Unknown line i) (behind 0 clue j)
+IsGap line clue j i = IsGapAfter line (behind 0 clue j) i
 
 -- masks of the gaps before each run and after the last one, of a line and a clue that are both seen from their other end
 abbrev pub AreTurnedGaps : List Cell → List ℕ → List ℕ → Type 0
 AreTurnedGaps line clue gaps = (j : ℕ) → j ≤ length clue → IsMaskOf (IsGap (reverse line) (reverse clue) j) (slice_index gaps j)
 
--- run j (the first is run 0) can start here, with exactly the runs before it in the cells before
-abbrev pub IsStart : List Cell → List ℕ → ℕ → ℕ → Type 0
-IsStart line clue j s = IsClosed (behind Unknown line s) (behind 0 clue j) × AllFrom (MayBe line true) (slice_index_or clue j 0) s
-
--- and end here
+-- run j (the first is run 0) can end here, with exactly the runs before it in the cells before
 abbrev pub IsEnd : List Cell → List ℕ → ℕ → ℕ → Type 0
-IsEnd line clue j e = (slice_index_or clue j 0 ≤ e + 1) × IsStart line clue j (e + 1 - slice_index_or clue j 0)
+IsEnd line clue j e = IsEndAfter line (behind 0 clue j) (slice_index_or clue j 0) e
 
 -- the cells from this one on can hold exactly the runs from the jth on, with this one blank
 abbrev pub IsGapAhead : List Cell → List ℕ → ℕ → ℕ → Type 0

@@ -6,33 +6,32 @@ ghost use Rattle.line_core.specs.Deduction.{deduced};
 ghost use Rattle.line_core.specs.Reach.{AreLengths, AreTurnedGaps, IsFillable, IsBlankable};
 
 use crate::Line;
-use crate::masks::{LEVELS, add_ends, first_gap, gap_after, spread_levels, write_windows};
-use crate::reach::{GAPS, ends_of, gap_ahead, whole_ends, write_turned_gaps};
+use crate::masks::{LEVELS, add_ends, spread_levels};
+use crate::passes::Pass;
+use crate::reach::{GAPS, gap_ahead, whole_ends, write_turned_gaps};
+use crate::windows::Windows;
 use grid_core::{Clue, NoMemory};
 use std::alloc::Global;
 use std::marker::Model;
 
 /// The cells that are filled in some placing, and those that are blank in some.
-fn collect(line: &Line, clue: &[u16], turned_gaps: &[u128; GAPS]) -> (u128, u128)
+fn possible_colours(line: &Line, clue: &[u16], turned_gaps: &[u128; GAPS]) -> (u128, u128)
     requires clue { AreLengths clue.now }
     requires count { length clue.now ≤ 128 }
     requires turned { AreTurnedGaps line.now clue.now turned_gaps.now }
     ensures filled { IsMaskOf (IsFillable line.now clue.now) result.0 }
     ensures blank { IsMaskOf (IsBlankable line.now clue.now) result.1 }
 {
-    let free = line.free_cells();
-    let mut windows = [0u128; LEVELS];
-    write_windows(line.open_cells(), &mut windows);
-    let mut gap = first_gap(free);
-    let mut blankable = gap & gap_ahead(line, clue, turned_gaps, 0);
+    let windows = Windows::new(line.open_cells());
+    let mut pass = Pass::new(line, &windows);
+    let mut blankable = pass.gap() & gap_ahead(line, clue, turned_gaps, 0);
     let mut spread = [0u128; LEVELS];
     for j in 0..clue.len() {
-        let ends = ends_of(line, clue, j, &windows, gap);
+        let ends = pass.step(clue[j]);
         let ahead = gap_ahead(line, clue, turned_gaps, j + 1);
         let whole = whole_ends(line, clue, j, ends, ahead);
-        gap = gap_after(ends, free);
         add_ends(&mut spread, whole, clue[j]);
-        blankable |= gap & ahead;
+        blankable |= pass.gap() & ahead;
     }
     (spread_levels(&mut spread), blankable)
 }
@@ -44,7 +43,7 @@ fn deduce_with(line: &Line, clue: &[u16], gaps: &mut [u128; GAPS]) -> Option<Lin
     ensures { result ≡ deduced line.now clue.now }
 {
     write_turned_gaps(line, clue, gaps);
-    let (fillable, blankable) = collect(line, clue, gaps);
+    let (fillable, blankable) = possible_colours(line, clue, gaps);
     Line::certain(line.len(), fillable, blankable)
 }
 

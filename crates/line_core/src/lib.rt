@@ -6,10 +6,12 @@ pub mod laws;
 mod lines;
 mod listing;
 mod masks;
+mod passes;
 mod reach;
 mod starts;
 #[cfg(test)]
 mod tests;
+mod windows;
 
 pub use deduction::{Tables, deduce};
 pub use lines::Line;

@@ -1,7 +1,7 @@
 //! Masks of 128 places, a bit a place.
 
-ghost use Rattle.std.specs.Prelude.{◌^◌, ◌≡◌, ◌≢◌, ◌+◌, ◌-◌, ◌<◌, ◌≤◌, ◌⊎◌, ℕ, slice_index, true, false, length};
-ghost use Rattle.line_core.specs.Masks.{Has, has, IsFlooded, IsMaskOf, IsTurned, IsMoved, AllFrom, SomeFrom, SomeLevel, AreLevelsOf, AreWindows, IsPairing, swapped_place};
+ghost use Rattle.std.specs.Prelude.{◌^◌, ◌≡◌, ◌≢◌, ◌+◌, ◌-◌, ◌<◌, ◌≤◌, ◌⊎◌, ℕ, true, false, length};
+ghost use Rattle.line_core.specs.Masks.{Has, has, IsFlooded, IsMaskOf, IsTurned, IsMoved, SomeFrom, SomeLevel, AreLevelsOf, IsPairing, swapped_place};
 
 /// How many powers of two there are up to 128: 1, 2, 4 and so on. So many windows are in a table, and so many levels are spread.
 pub const LEVELS: usize = 8;
@@ -70,16 +70,6 @@ pub fn either(mask: u128, by: u16) -> u128
     mask | (mask >> by)
 }
 
-/// The starts of windows of 1, 2, 4 and so on places that are all in the mask.
-pub fn write_windows(cells: u128, table: &mut [u128; LEVELS])
-    ensures { AreWindows cells table.new }
-{
-    table[0] = cells;
-    for level in 0..LEVELS - 1 {
-        table[level + 1] = both(table[level], 1 << level);
-    }
-}
-
 /// Swaps the halves of each pair of groups of so many places.
 fn swap_pairs(mask: u128, low: u128, by: u16) -> u128
     requires by { by < 128 }
@@ -103,7 +93,7 @@ fn turn(mask: u128) -> u128
 }
 
 /// The level of a length, the exponent of the greatest power of two that it has room for, and how many places are left over.
-fn level_of(length: u16) -> (usize, u16)
+pub fn level_of(length: u16) -> (usize, u16)
     requires { (0 < length) × (length ≤ 128) }
     ensures level { result.0 < 8 }
     ensures length { 2 ^ result.0 + result.1 ≡ length }
@@ -113,16 +103,6 @@ fn level_of(length: u16) -> (usize, u16)
     (level as usize, length - (1 << level))
 }
 
-/// The starts of windows of a length, from the table of those of 1, 2, 4 and so on.
-pub fn window(table: &[u128; LEVELS], length: u16) -> u128
-    requires length { (0 < length) × (length ≤ 128) }
-    requires table { AreWindows (slice_index table.now 0) table.now }
-    ensures { IsMaskOf (AllFrom (Has (slice_index table.now 0)) length) result }
-{
-    let (level, rest) = level_of(length);
-    both(table[level], rest)
-}
-
 /// The first places, as long as all are free.
 pub fn first_gap(free: u128) -> u128
     ensures { IsMaskOf (IsFlooded (λ k. Has free k × (k ≡ 0)) (Has free)) result }
@@ -130,12 +110,11 @@ pub fn first_gap(free: u128) -> u128
     flood(free & 1, free)
 }
 
-/// The ends of a run, which can start after a gap, and at the first place where none comes before it.
-pub fn run_ends(gap: u128, first: bool, window: u128, length: u16) -> u128
+/// The ends of a run, which can start after a gap, and at an opening with no gap before it.
+pub fn run_ends(gap: u128, opening: u128, window: u128, length: u16) -> u128
     requires { (0 < length) × (length ≤ 128) }
-    ensures { IsMaskOf (IsMoved (λ s. (IsMoved (Has gap) 1 s ⊎ ((s ≡ 0) × (first ≡ true))) × Has window s) (length - 1)) result }
+    ensures { IsMaskOf (IsMoved (λ s. (IsMoved (Has gap) 1 s ⊎ Has opening s) × Has window s) (length - 1)) result }
 {
-    let opening = if first { 1u128 } else { 0 };
     let starts = ((gap << 1) | opening) & window;
     starts << (length - 1)
 }

@@ -1,11 +1,13 @@
-//! How far the runs of a clue reach on a line: a few operations on whole masks for each run.
+//! How far the runs of a clue reach on a line, from both of its ends.
 
-ghost use Rattle.std.specs.Prelude.{◌≡◌, ◌+◌, ◌-◌, ◌<◌, ◌≤◌, length, true, slice_index};
-ghost use Rattle.line_core.specs.Masks.{IsMaskOf, AreWindows};
-ghost use Rattle.line_core.specs.Reach.{AreLengths, AreTurnedGaps, MayBe, IsGap, IsEnd, IsGapAhead, IsWholeEnd};
+ghost use Rattle.std.specs.Prelude.{◌≡◌, ◌+◌, ◌-◌, ◌<◌, ◌≤◌, length, true};
+ghost use Rattle.line_core.specs.Masks.{IsMaskOf};
+ghost use Rattle.line_core.specs.Reach.{AreLengths, AreTurnedGaps, IsEnd, IsGapAhead, IsWholeEnd};
 
 use crate::Line;
-use crate::masks::{LEVELS, first_gap, gap_after, run_ends, turn_line, window, write_windows};
+use crate::masks::turn_line;
+use crate::passes::Pass;
+use crate::windows::Windows;
 use grid_core::MOST_RUNS;
 
 /// How many masks of gaps a clue needs at most: one before each run, and one after the last.
@@ -19,38 +21,14 @@ pub(crate) fn write_turned_gaps(line: &Line, clue: &[u16], gaps: &mut [u128; GAP
     ensures { AreTurnedGaps line.now clue.now gaps.new }
 {
     let turned = line.turned();
-    let free = turned.free_cells();
-    let mut windows = [0u128; LEVELS];
-    write_windows(turned.open_cells(), &mut windows);
-    let mut gap = first_gap(free);
-    gaps[0] = gap;
+    let windows = Windows::new(turned.open_cells());
+    let mut pass = Pass::new(&turned, &windows);
+    gaps[0] = pass.gap();
     let count = clue.len();
     for j in 0..count {
-        let number = clue[count - 1 - j];
-        let ends = run_ends(gap, j == 0, window(&windows, number), number);
-        gap = gap_after(ends, free);
-        gaps[j + 1] = gap;
+        pass.step(clue[count - 1 - j]);
+        gaps[j + 1] = pass.gap();
     }
-}
-
-/// The ends of a run, from the gaps before it.
-pub(crate) fn ends_of(
-    line: &Line,
-    clue: &[u16],
-    j: usize,
-    windows: &[u128; LEVELS],
-    gap: u128,
-) -> u128
-    requires clue { AreLengths clue.now }
-    requires j { j < length clue.now }
-    requires short { length line.now ≤ 128 }
-    requires cells { IsMaskOf (MayBe line.now true) (slice_index windows.now 0) }
-    requires windows { AreWindows (slice_index windows.now 0) windows.now }
-    requires gap { IsMaskOf (IsGap line.now clue.now j) gap }
-    ensures { IsMaskOf (IsEnd line.now clue.now j) result }
-{
-    let number = clue[j];
-    run_ends(gap, j == 0, window(windows, number), number)
 }
 
 /// The gaps before a run, as the cells after allow them.

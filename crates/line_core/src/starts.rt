@@ -7,8 +7,10 @@ ghost use Rattle.line_core.specs.Outermost.{outermost, IsAsFar, IsOuterStart};
 ghost use Rattle.line_core.specs.Reach.{AreLengths, AreTurnedGaps, HasPlacing};
 
 use crate::Line;
-use crate::masks::{LEVELS, first_gap, first_place, gap_after, has, last_place, write_windows};
-use crate::reach::{GAPS, ends_of, gap_ahead, whole_ends, write_turned_gaps};
+use crate::masks::{first_gap, first_place, has, last_place};
+use crate::passes::Pass;
+use crate::reach::{GAPS, gap_ahead, whole_ends, write_turned_gaps};
+use crate::windows::Windows;
 use grid_core::{Clue, MOST_RUNS, NoMemory};
 use std::alloc::Global;
 use std::marker::Model;
@@ -58,19 +60,16 @@ fn write_starts(
         ((j : ℕ) → j < length clue.now → IsOuterStart side line.now clue.now j (slice_index list.new j))
         (HasPlacing line.now clue.now → ⊥) }
 {
-    let free = line.free_cells();
-    let mut windows = [0u128; LEVELS];
-    write_windows(line.open_cells(), &mut windows);
-    let mut gap = first_gap(free);
+    let windows = Windows::new(line.open_cells());
+    let mut pass = Pass::new(line, &windows);
     for j in 0..clue.len() {
-        let ends = ends_of(line, clue, j, &windows, gap);
+        let ends = pass.step(clue[j]);
         let ahead = gap_ahead(line, clue, turned_gaps, j + 1);
         let whole = whole_ends(line, clue, j, ends, ahead);
         if whole == 0 {
             return false;
         }
         list[j] = outermost_place(side, whole) + 1 - clue[j];
-        gap = gap_after(ends, free);
     }
     true
 }

@@ -1,4 +1,4 @@
-use Rattle.line_core.proofs.Windows.{level_below}
+use Rattle.line_core.proofs.Doubling.{level_below}
 use Rattle.line_core.proofs.masks.level_of.Goals as goal
 
 pub returns-clause-level : goal.returns-clause-level

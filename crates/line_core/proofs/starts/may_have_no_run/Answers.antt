@@ -18,7 +18,7 @@ returns c =
     let line = c.args.line.now in
     let clue = c.args.clue.now in
     let pos : ArePositive clue = positive_from clue (λ j h. absurd (omega arith)) in
-    let gap = gap_none_is line clue c.free_cells.result c.first_gap-gap.result c.free_cells.ensures.free c.first_gap-gap.ensures in
+    let gap = gap_none_is line c.free_cells.result c.first_gap-gap.result c.free_cells.ensures.free c.first_gap-gap.ensures in
     told c.has.result (bit_and c.first_gap-gap.result c.gap_ahead.result) (HasPlacing line clue) c.has.ensures
     (no_run_to line clue c.first_gap-gap.result c.gap_ahead.result pos gap c.gap_ahead.ensures)
     (no_run_from line clue c.first_gap-gap.result c.gap_ahead.result pos c.requires.clue c.free_cells.ensures.some gap c.gap_ahead.ensures)
