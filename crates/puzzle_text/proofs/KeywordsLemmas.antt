@@ -4,7 +4,6 @@ use Rattle.std.specs.Prelude.{slice_get}
 use Rattle.std.specs.List.{filter, find}
 use Rattle.std.specs.Option.{option_map}
 use Rattle.std.specs.Str.{bytes_eq}
-use Rattle.puzzle_text.specs.declared.lines.Line.{Line as KeptLine}
 use Rattle.puzzle_text.specs.declared.places.Place.{Place}
 use Rattle.std.proofs.lemmas.Bool.{cases_Bool, cond-false, ne_eqb}
 use Rattle.puzzle_text.specs.Lines.{Line, is_empty}
@@ -85,7 +84,3 @@ said_of_kept limit places lines =
     let columns : with_keyword (codes "columns") (filter is_keyword_line lines) ≡ with_keyword (codes "columns") lines = with_kept _ _ lines in
     let goal : with_keyword (codes "goal") (filter is_keyword_line lines) ≡ with_keyword (codes "goal") lines = with_kept _ _ lines in
     rw (catalogue, title, by, copyright, license, width, height, rows, columns, goal) refl
-
--- the keyword lines, as the code keeps them
-pub keyword_lines_shown : (lines kept : List KeptLine) → kept ≡ filter (λ line. is_keyword_line (shown_line line)) lines → map shown_line kept ≡ filter is_keyword_line (map shown_line lines)
-keyword_lines_shown lines kept e = ap (map shown_line) e ∙ sym (filter-map is_keyword_line shown_line lines)

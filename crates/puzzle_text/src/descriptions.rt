@@ -5,29 +5,29 @@ ghost use Rattle.std.specs.Option.{option_map};
 ghost use Rattle.grid_core.specs.Description.{IsDescription, is_field, text_of};
 ghost use Rattle.puzzle_text.specs.Keywords.{field_word};
 ghost use Rattle.puzzle_text.specs.Non.{field_text, long_text, number_of_line, texts_of, with_field};
-ghost use Rattle.puzzle_text.specs.Shown.{shown_line};
+ghost use Rattle.puzzle_text.specs.Shown.{shown_keyword};
 
+use crate::keyword_line::KeywordLine;
 use crate::keywords::{field_word, nth_with, quoted_text};
-use crate::lines::Line;
 use grid_core::{Field, LONGEST_TEXT, NoMemory, Texts, TextsFault};
 use std::alloc::Global;
 
 /// The first line of a text field, if its text is too long.
-fn long_text<'a, 'b>(lines: &'b [Line<'a>], field: Field) -> Option<&'b Line<'a>>
-    ensures { option_map (λ line. shown_line line.now) result ≡ long_text (map shown_line lines.now) (field_word field) }
+fn long_text<'a, 'b>(lines: &'b [KeywordLine<'a>], field: Field) -> Option<&'b KeywordLine<'a>>
+    ensures { option_map (λ line. shown_keyword line.now) result ≡ long_text (map shown_keyword lines.now) (field_word field) }
 {
     match nth_with(field_word(field), 0, lines) {
-        Some(line) if quoted_text(line).len() > LONGEST_TEXT => Some(line),
+        Some(found) if quoted_text(found).len() > LONGEST_TEXT => Some(found),
         _ => None,
     }
 }
 
 /// The number of the first line of a text field, if its text is too long.
-pub(crate) fn long_number(lines: &[Line<'_>], field: Field) -> Option<u32>
-    ensures { result ≡ number_of_line (long_text (map shown_line lines.now) (field_word field)) }
+pub(crate) fn long_number(lines: &[KeywordLine<'_>], field: Field) -> Option<u32>
+    ensures { result ≡ number_of_line (long_text (map shown_keyword lines.now) (field_word field)) }
 {
     match long_text(lines, field) {
-        Some(line) => Some(line.number),
+        Some(found) => Some(found.line.number),
         None => None,
     }
 }
@@ -37,16 +37,16 @@ fn set_field(
     alloc: Global,
     texts: &mut Texts,
     field: Field,
-    lines: &[Line<'_>],
+    lines: &[KeywordLine<'_>],
 ) -> Result<(), NoMemory>
     requires unset { text_of texts.old field ≡ None }
-    requires lawful { is_field (field_text (field_word field) (map shown_line lines.now)) ≡ true }
-    ensures { OnOk result (texts.new ≡ with_field texts.old field (field_text (field_word field) (map shown_line lines.now))) }
+    requires lawful { is_field (field_text (field_word field) (map shown_keyword lines.now)) ≡ true }
+    ensures { OnOk result (texts.new ≡ with_field texts.old field (field_text (field_word field) (map shown_keyword lines.now))) }
 {
-    let Some(line) = nth_with(field_word(field), 0, lines) else {
+    let Some(found) = nth_with(field_word(field), 0, lines) else {
         return Ok(());
     };
-    match texts.set(alloc, field, quoted_text(line)) {
+    match texts.set(alloc, field, quoted_text(found)) {
         Ok(()) => Ok(()),
         Err(TextsFault::NoMemory) => Err(NoMemory),
         Err(TextsFault::BadText) => unreachable!(),
@@ -54,9 +54,9 @@ fn set_field(
 }
 
 /// The texts of all fields.
-pub(crate) fn texts_of(alloc: Global, lines: &[Line<'_>]) -> Result<Texts, NoMemory>
-    requires { IsDescription (texts_of (map shown_line lines.now)) }
-    ensures { IfOk result (λ texts. texts ≡ texts_of (map shown_line lines.now)) }
+pub(crate) fn texts_of(alloc: Global, lines: &[KeywordLine<'_>]) -> Result<Texts, NoMemory>
+    requires { IsDescription (texts_of (map shown_keyword lines.now)) }
+    ensures { IfOk result (λ texts. texts ≡ texts_of (map shown_keyword lines.now)) }
 {
     let mut texts = Texts::none();
     set_field(alloc, &mut texts, Field::Catalogue, lines)?;

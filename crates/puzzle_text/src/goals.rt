@@ -5,11 +5,11 @@ ghost use Rattle.std.specs.Option.{option_map};
 ghost use Rattle.grid_core.specs.Nonogram.{bools_of, is_goal};
 ghost use Rattle.puzzle_text.specs.Answers.{Gives};
 ghost use Rattle.puzzle_text.specs.Non.{cell_of, goal_cells, goal_of};
-ghost use Rattle.puzzle_text.specs.Shown.{shown_line};
+ghost use Rattle.puzzle_text.specs.Shown.{shown_keyword};
 
 use crate::faults::TextFault;
+use crate::keyword_line::KeywordLine;
 use crate::keywords::quoted_text;
-use crate::lines::Line;
 use std::alloc::{AllocError, Global};
 
 fn cell_of(byte: u8) -> Option<bool>
@@ -44,16 +44,16 @@ fn goal_cells(alloc: Global, count: usize, text: &[u8]) -> Result<Option<Vec<boo
 pub(crate) fn goal_of(
     alloc: Global,
     count: usize,
-    line: Option<&Line<'_>>,
+    line: Option<&KeywordLine<'_>>,
 ) -> Result<Option<Vec<bool>>, TextFault>
-    ensures goal { Gives (λ goal. bools_of goal) result (goal_of count (option_map (λ found. shown_line found.now) line.entry)) }
+    ensures goal { Gives (λ goal. bools_of goal) result (goal_of count (option_map (λ found. shown_keyword found.now) line.entry)) }
     ensures count { IfOk result (λ goal. is_goal count (bools_of goal) ≡ true) }
 {
-    let Some(line) = line else {
+    let Some(found) = line else {
         return Ok(None);
     };
-    match goal_cells(alloc, count, quoted_text(line))? {
+    match goal_cells(alloc, count, quoted_text(found))? {
         Some(cells) => Ok(Some(cells)),
-        None => Err(TextFault::BadGoal(line.number)),
+        None => Err(TextFault::BadGoal(found.line.number)),
     }
 }

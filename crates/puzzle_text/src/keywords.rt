@@ -7,8 +7,9 @@ ghost use Rattle.std.specs.Char.{is_ascii_alphabetic};
 ghost use Rattle.std.specs.Str.{bytes_eq, str_to_ascii_lowercase};
 ghost use Rattle.puzzle_text.specs.Lines.{is_empty};
 ghost use Rattle.puzzle_text.specs.Keywords.{after_quote, before_quote, field_word, has_keyword, is_keyword_line, keyword, quoted, rest, quoted_text, with_keyword};
-ghost use Rattle.puzzle_text.specs.Shown.{shown_line};
+ghost use Rattle.puzzle_text.specs.Shown.{shown_keyword, shown_line};
 
+use crate::keyword_line::KeywordLine;
 use crate::lines::{Line, trim};
 use grid_core::Field;
 use std::alloc::{AllocError, Global};
@@ -52,21 +53,25 @@ pub(crate) fn keyword<'a>(line: &Line<'a>) -> &'a [u8]
 pub(crate) fn keyword_lines<'a>(
     alloc: Global,
     lines: &[Line<'a>],
-) -> Result<Vec<Line<'a>>, AllocError>
-    ensures { IfOk result (λ found. found.items ≡ filter (λ line. is_keyword_line (shown_line line)) lines.now) }
+) -> Result<Vec<KeywordLine<'a>>, AllocError>
+    ensures { IfOk result (λ found. map shown_keyword found.items ≡ filter is_keyword_line (map shown_line lines.now)) }
 {
-    lines
-        .iter()
-        .copied()
-        .filter(|line| !keyword(line).is_empty())
-        .collect(alloc)
+    let mut found = Vec::new(alloc);
+    for line in lines {
+        let word = keyword(line);
+        if !word.is_empty() {
+            found.push(KeywordLine { word, line: *line })?;
+        }
+    }
+    Ok(found)
 }
 
 /// What follows the keyword.
-pub(crate) fn rest<'a>(line: &Line<'a>) -> &'a [u8]
-    ensures { result.now ≡ rest (shown_line line.now) }
+pub(crate) fn rest<'a>(found: &KeywordLine<'a>) -> &'a [u8]
+    ensures { result.now ≡ rest (shown_keyword found.now) }
 {
-    let (_, rest) = line.text.split_at(letters(line.text));
+    let text = found.line.text;
+    let (_, rest) = text.split_at(letters(text));
     trim(rest)
 }
 
@@ -77,20 +82,20 @@ pub(crate) fn same_word(word: &[u8], other: &[u8]) -> bool
     word.eq_ignore_ascii_case(other)
 }
 
-fn has_keyword(word: &[u8], line: &Line<'_>) -> bool
-    ensures { result ≡ has_keyword (str_to_ascii_lowercase word.now) (shown_line line.now) }
+fn has_keyword(word: &[u8], line: &KeywordLine<'_>) -> bool
+    ensures { result ≡ has_keyword (str_to_ascii_lowercase word.now) (shown_keyword line.now) }
 {
-    same_word(keyword(line), word)
+    same_word(line.word, word)
 }
 
 /// The line with this keyword at a place, from 0, among those with it.
 pub(crate) fn nth_with<'a, 'b>(
     word: &[u8],
     place: usize,
-    lines: &'b [Line<'a>],
-) -> Option<&'b Line<'a>>
-    ensures { option_map (λ line. shown_line line.now) result
-        ≡ slice_get (with_keyword (str_to_ascii_lowercase word.now) (map shown_line lines.now)) place }
+    lines: &'b [KeywordLine<'a>],
+) -> Option<&'b KeywordLine<'a>>
+    ensures { option_map (λ line. shown_keyword line.now) result
+        ≡ slice_get (with_keyword (str_to_ascii_lowercase word.now) (map shown_keyword lines.now)) place }
 {
     lines
         .iter()
@@ -135,8 +140,8 @@ fn quoted(bytes: &[u8]) -> &[u8]
 }
 
 /// The text of a field's line.
-pub(crate) fn quoted_text<'a>(line: &Line<'a>) -> &'a [u8]
-    ensures { result.now ≡ quoted_text (shown_line line.now) }
+pub(crate) fn quoted_text<'a>(found: &KeywordLine<'a>) -> &'a [u8]
+    ensures { result.now ≡ quoted_text (shown_keyword found.now) }
 {
-    quoted(rest(line))
+    quoted(rest(found))
 }

@@ -8,6 +8,7 @@ mod faults;
 mod fitting;
 mod formats;
 mod goals;
+mod keyword_line;
 mod keywords;
 pub mod laws;
 mod limits;

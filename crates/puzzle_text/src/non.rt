@@ -8,12 +8,13 @@ ghost use Rattle.puzzle_text.specs.Answers.{Gives};
 ghost use Rattle.puzzle_text.specs.Keywords.{second_with};
 ghost use Rattle.puzzle_text.specs.Lines.{HaveNoFeed};
 ghost use Rattle.puzzle_text.specs.Non.{bad_line, both_clues, check_lines, least, least_of, non_of, number_of_line, puzzle_said, read_non, repeated, rows_first, sizes_of, texts_of};
-ghost use Rattle.puzzle_text.specs.Shown.{shown_line, shown_place};
+ghost use Rattle.puzzle_text.specs.Shown.{shown_keyword, shown_line, shown_place};
 
 use crate::clue_lines::clues_of;
 use crate::descriptions::{long_number, texts_of};
 use crate::faults::TextFault;
 use crate::goals::goal_of;
+use crate::keyword_line::KeywordLine;
 use crate::keywords::{keyword_lines, nth_with, rest};
 use crate::limits::LONGEST_PUZZLE;
 use crate::lines::Line;
@@ -45,18 +46,18 @@ fn least_of(numbers: &[Option<u32>]) -> Option<u32>
 }
 
 /// The number of the second line with a keyword, if there is one.
-fn second_number(lines: &[Line<'_>], word: &[u8]) -> Option<u32>
-    ensures { result ≡ number_of_line (second_with (str_to_ascii_lowercase word.now) (map shown_line lines.now)) }
+fn second_number(lines: &[KeywordLine<'_>], word: &[u8]) -> Option<u32>
+    ensures { result ≡ number_of_line (second_with (str_to_ascii_lowercase word.now) (map shown_keyword lines.now)) }
 {
     match nth_with(word, 1, lines) {
-        Some(line) => Some(line.number),
+        Some(found) => Some(found.line.number),
         None => None,
     }
 }
 
 /// The least number of a line that stands in no section, or of a text field's first line whose text is too long.
-fn bad_line(keyword_lines: &[Line<'_>], places: &[Place<'_>]) -> Option<u32>
-    ensures { result ≡ bad_line (map shown_place places.now) (map shown_line keyword_lines.now) }
+fn bad_line(keyword_lines: &[KeywordLine<'_>], places: &[Place<'_>]) -> Option<u32>
+    ensures { result ≡ bad_line (map shown_place places.now) (map shown_keyword keyword_lines.now) }
 {
     let long = least_of(&[
         long_number(keyword_lines, Field::Catalogue),
@@ -69,8 +70,8 @@ fn bad_line(keyword_lines: &[Line<'_>], places: &[Place<'_>]) -> Option<u32>
 }
 
 /// The number of the first line that repeats a keyword which may stand once only.
-fn repeated(lines: &[Line<'_>]) -> Option<u32>
-    ensures { result ≡ repeated (map shown_line lines.now) }
+fn repeated(lines: &[KeywordLine<'_>]) -> Option<u32>
+    ensures { result ≡ repeated (map shown_keyword lines.now) }
 {
     least_of(&[
         second_number(lines, b"width"),
@@ -81,10 +82,10 @@ fn repeated(lines: &[Line<'_>]) -> Option<u32>
 }
 
 /// Checks that no line is out of place, no text is too long, and no keyword that may stand once only is repeated.
-fn check_lines(keyword_lines: &[Line<'_>], places: &[Place<'_>]) -> Result<(), TextFault>
-    requires { HaveNoFeed (map shown_line keyword_lines.now) }
-    ensures answer { Gives (λ done. done) result (check_lines (map shown_place places.now) (map shown_line keyword_lines.now)) }
-    ensures texts { OnOk result (IsDescription (texts_of (map shown_line keyword_lines.now))) }
+fn check_lines(keyword_lines: &[KeywordLine<'_>], places: &[Place<'_>]) -> Result<(), TextFault>
+    requires { HaveNoFeed (map shown_keyword keyword_lines.now) }
+    ensures answer { Gives (λ done. done) result (check_lines (map shown_place places.now) (map shown_keyword keyword_lines.now)) }
+    ensures texts { OnOk result (IsDescription (texts_of (map shown_keyword keyword_lines.now))) }
 {
     if let Some(number) = bad_line(keyword_lines, places) {
         return Err(TextFault::BadLine(number));
@@ -96,8 +97,8 @@ fn check_lines(keyword_lines: &[Line<'_>], places: &[Place<'_>]) -> Result<(), T
 }
 
 /// The width and the height.
-fn sizes_of(lines: &[Line<'_>]) -> Result<(u16, u16), TextFault>
-    ensures sizes { Gives (λ sizes. sizes) result (sizes_of LONGEST_SIDE (map shown_line lines.now)) }
+fn sizes_of(lines: &[KeywordLine<'_>]) -> Result<(u16, u16), TextFault>
+    ensures sizes { Gives (λ sizes. sizes) result (sizes_of LONGEST_SIDE (map shown_keyword lines.now)) }
     ensures range { IfOk result (λ sizes. IsSize sizes.0 sizes.1) }
 {
     let Some(width) = nth_with(b"width", 0, lines) else {
@@ -110,8 +111,8 @@ fn sizes_of(lines: &[Line<'_>]) -> Result<(u16, u16), TextFault>
 }
 
 /// Whether the rows section stands before the columns section.
-fn rows_first(lines: &[Line<'_>]) -> Result<bool, TextFault>
-    ensures { Gives (λ first. first) result (rows_first (map shown_line lines.now)) }
+fn rows_first(lines: &[KeywordLine<'_>]) -> Result<bool, TextFault>
+    ensures { Gives (λ first. first) result (rows_first (map shown_keyword lines.now)) }
 {
     let Some(rows) = nth_with(b"rows", 0, lines) else {
         return Err(TextFault::NoSection);
@@ -119,7 +120,7 @@ fn rows_first(lines: &[Line<'_>]) -> Result<bool, TextFault>
     let Some(columns) = nth_with(b"columns", 0, lines) else {
         return Err(TextFault::NoSection);
     };
-    Ok(rows.number < columns.number)
+    Ok(rows.line.number < columns.line.number)
 }
 
 /// The clues of the rows and of the columns. Of the two sections the one that stands first in the text is checked first.
@@ -148,11 +149,11 @@ fn both_clues(
 /// The puzzle that the keyword lines of a text say, and its other lines.
 fn puzzle_said(
     alloc: Global,
-    keyword_lines: &[Line<'_>],
+    keyword_lines: &[KeywordLine<'_>],
     places: &[Place<'_>],
 ) -> Result<Puzzle, TextFault>
-    requires { HaveNoFeed (map shown_line keyword_lines.now) }
-    ensures { Gives (λ p. p) result (puzzle_said LONGEST_SIDE (map shown_place places.now) (map shown_line keyword_lines.now)) }
+    requires { HaveNoFeed (map shown_keyword keyword_lines.now) }
+    ensures { Gives (λ p. p) result (puzzle_said LONGEST_SIDE (map shown_place places.now) (map shown_keyword keyword_lines.now)) }
 {
     let (width, height) = sizes_of(keyword_lines)?;
     let rows_first = rows_first(keyword_lines)?;

@@ -4,21 +4,20 @@ use Rattle.puzzle_text.specs.Answers.{Gives}
 use Rattle.puzzle_text.specs.Keywords.{is_keyword_line}
 use Rattle.puzzle_text.specs.Lines.{Line, HaveNoFeed}
 use Rattle.puzzle_text.specs.Non.{placed, puzzle_said}
-use Rattle.puzzle_text.specs.Shown.{shown_line, shown_place}
+use Rattle.puzzle_text.specs.Shown.{shown_keyword, shown_line, shown_place}
 use Rattle.puzzle_text.proofs.FeedsLemmas.{clean_filter}
-use Rattle.puzzle_text.proofs.KeywordsLemmas.{keyword_lines_shown, said_of_kept}
+use Rattle.puzzle_text.proofs.KeywordsLemmas.{said_of_kept}
 use Rattle.puzzle_text.proofs.non.non_of.Goals as goal
 
 pub puzzle_said-requires : goal.puzzle_said-requires
 puzzle_said-requires c =
-    let lines = map shown_line c.args.lines.now in
-    let kept = keyword_lines_shown c.args.lines.now c.deref.result.now (c.deref.ensures.value ∙ c.in_ok-keyword_lines.ensures) in
-    subst HaveNoFeed (sym kept) (clean_filter is_keyword_line lines c.requires)
+    let kept = ap (map shown_keyword) c.deref.ensures.value ∙ c.in_ok-keyword_lines.ensures in
+    subst HaveNoFeed (sym kept) (clean_filter is_keyword_line (map shown_line c.args.lines.now) c.requires)
 
 pub returns : goal.returns
 returns c =
     let lines = map shown_line c.args.lines.now in
-    let kept = keyword_lines_shown c.args.lines.now c.deref.result.now (c.deref.ensures.value ∙ c.in_ok-keyword_lines.ensures) in
+    let kept = ap (map shown_keyword) c.deref.ensures.value ∙ c.in_ok-keyword_lines.ensures in
     let places = ap (map shown_place) c.deref-2.ensures.value ∙ c.in_ok-places.ensures in
-    let said = ap (λ (all : List (List ℕ × Line)). puzzle_said LONGEST_SIDE all (map shown_line c.deref.result.now)) places ∙ ap (puzzle_said LONGEST_SIDE (placed [] lines)) kept ∙ said_of_kept LONGEST_SIDE (placed [] lines) lines in
+    let said = ap (λ (all : List (List ℕ × Line)). puzzle_said LONGEST_SIDE all (map shown_keyword c.deref.result.now)) places ∙ ap (puzzle_said LONGEST_SIDE (placed [] lines)) kept ∙ said_of_kept LONGEST_SIDE (placed [] lines) lines in
     subst (λ answer. Gives (λ p. p) c.puzzle_said.result answer) said c.puzzle_said.ensures

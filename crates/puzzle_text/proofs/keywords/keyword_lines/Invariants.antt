@@ -1,0 +1,7 @@
+use Rattle.std.proofs.Common.{◌≡◌, ◌++◌, drop, filter, map}
+use Rattle.puzzle_text.specs.Keywords.{is_keyword_line}
+use Rattle.puzzle_text.specs.Shown.{shown_keyword, shown_line}
+use Rattle.puzzle_text.proofs.keywords.keyword_lines.Given as goal
+
+abbrev pub invariant-loop-line : goal.invariant-loop-line
+invariant-loop-line l = map shown_keyword l.found.items ++ filter is_keyword_line (map shown_line (drop l.line-index l.lines)) ≡ filter is_keyword_line (map shown_line l.lines)

@@ -1,0 +1,15 @@
+//! A line of a .non text with its keyword.
+
+ghost use Rattle.std.specs.Prelude.{◌≡◌, take_while};
+ghost use Rattle.std.specs.Char.{is_ascii_alphabetic};
+ghost use Rattle.std.specs.Str.{str_to_ascii_lowercase};
+
+use crate::lines::Line;
+
+/// A line that begins with a keyword: the letters at its start, and the line.
+#[derive(Clone, Copy, Debug)]
+pub(crate) struct KeywordLine<'a> {
+    pub word: &'a [u8],
+    pub line: Line<'a>,
+    pub ghost at_start: { str_to_ascii_lowercase word.now ≡ str_to_ascii_lowercase (take_while is_ascii_alphabetic line.text.now) },
+}
