@@ -1,15 +1,14 @@
 -- Lemmas on one turn of a collector at a lane.
-use Rattle.std.proofs.Common.{◌≡◌, ◌+◌, ◌<◌, ◌≤◌, ◌⊎◌, ◌↔◌, inl, inr, ℕ, List, [], ◌∷◌, ◌++◌, length, refl, ap, sym, ◌∙◌, subst, append_assoc, length-append, arith}
-use Rattle.std.proofs.lemmas.List.{append-nil}
+use Rattle.std.proofs.Common.{◌≡◌, ◌≤◌, ◌⊎◌, inl, inr, ℕ, List, [], ◌∷◌, ◌++◌, length, ap, sym, ◌∙◌, subst, append_assoc, length-append, arith}
 use mathlib.Core.List.{IsPrefix}
 use Rattle.lane_core.specs.Messages.{jobs_of, has_finish}
-use Rattle.lane_core.specs.Lane.{FrontLists, PutsMessage, ReceivesAnswer}
+use Rattle.lane_core.specs.Lane.{FrontLists, PutsMessage}
 use Rattle.lane_core.specs.Dealing.{MayRefuse, Deals, Sends, Asks, Takes, Grows}
 use Rattle.lane_core.specs.declared.jobs.Job.{Job}
 use Rattle.lane_core.specs.declared.answers.Answer.{Answer}
 use Rattle.lane_core.specs.declared.messages.Message.{Message}
 use Rattle.lane_core.specs.declared.messages.Message.TheVariants.{Work, Finish}
-use Rattle.lane_core.proofs.MessagesLemmas.{jobs_of-append, has_finish-took_work, has_finish-took_finish}
+use Rattle.lane_core.proofs.MessagesLemmas.{jobs_of-append, jobs_of-push_finish, has_finish-took_work, has_finish-took_finish}
 
 -- what was sent so far, while these jobs are left
 pub record SentSoFar (old now : FrontLists) (waiting left : List Job) : Type 0 where
@@ -18,14 +17,8 @@ pub record SentSoFar (old now : FrontLists) (waiting left : List Job) : Type 0 w
   pub received : now.received ≡ old.received
   pub finish : has_finish now.sent ≡ has_finish old.sent
 
-pub SentSoFar-start : (old : FrontLists) (waiting : List Job) → SentSoFar old old waiting waiting
-SentSoFar-start old waiting = record { jobs = refl; sent = ([], append-nil old.sent); received = refl; finish = refl }
-
 pub SentSoFar-left : (old now : FrontLists) (waiting left left' : List Job) → SentSoFar old now waiting left → left ≡ left' → SentSoFar old now waiting left'
 SentSoFar-left old now waiting left left' s e = subst (λ l. SentSoFar old now waiting l) e s
-
-pub SentSoFar-same : (old now now' : FrontLists) (waiting left : List Job) → SentSoFar old now waiting left → now' ≡ now → SentSoFar old now' waiting left
-SentSoFar-same old now now' waiting left s e = subst (λ n. SentSoFar old n waiting left) (sym e) s
 
 -- the job at the front is sent
 pub SentSoFar-more : (old now new : FrontLists) (waiting left : List Job) (job : Job) →
@@ -57,36 +50,6 @@ pub record TakenSoFar (old now : FrontLists) (got held : List Answer) (count : �
   pub sent : now.sent ≡ old.sent
   pub answers : (fresh : List Answer) × (now.received ≡ old.received ++ fresh) × (held ≡ got ++ fresh) × (length fresh ≡ count)
 
-pub TakenSoFar-start : (old : FrontLists) (got : List Answer) → TakenSoFar old old got got 0
-TakenSoFar-start old got = record { sent = refl; answers = ([], sym (append-nil old.received), sym (append-nil got), refl) }
-
-pub TakenSoFar-more : (old now new : FrontLists) (got held held' : List Answer) (count : ℕ) (answer : Answer) →
-    TakenSoFar old now got held count → ReceivesAnswer answer now new → held' ≡ held ++ answer ∷ [] → TakenSoFar old new got held' (count + 1)
-TakenSoFar-more old now new got held held' count answer t r e =
-    let fresh = t.answers.0 in
-    record {
-      sent = r.sent ∙ t.sent;
-      answers = (
-        fresh ++ answer ∷ [],
-        r.received ∙ ap (λ l. l ++ answer ∷ []) t.answers.1 ∙ append_assoc old.received fresh (answer ∷ []),
-        e ∙ ap (λ l. l ++ answer ∷ []) t.answers.2 ∙ append_assoc got fresh (answer ∷ []),
-        length-append fresh (answer ∷ []) ∙ ap (λ n. n + 1) t.answers.3,
-      );
-    }
-
-pub TakenSoFar-takes : (old now new : FrontLists) (got held : List Answer) (count : ℕ) → TakenSoFar old now got held count → count ≤ 64 → new ≡ now → Takes old new got held
-TakenSoFar-takes old now new got held count t few same =
-    subst (λ n. Takes old n got held) (sym same)
-    (record { sent = t.sent; answers = (t.answers.0, record { received = t.answers.1; kept = t.answers.2; few = subst (λ n. n ≤ 64) (sym t.answers.3) few }) })
-
--- something was received exactly where an answer was counted
-pub TakenSoFar-grows : (old now new : FrontLists) (got held : List Answer) (count : ℕ) → TakenSoFar old now got held count → new ≡ now → (0 < count) ↔ Grows old new
-TakenSoFar-grows old now new got held count t same =
-    let s = ap length (ap (λ f. f.sent) same ∙ t.sent) in
-    let r = ap length (ap (λ f. f.received) same ∙ t.answers.1) ∙ length-append old.received t.answers.0 in
-    let n = t.answers.3 in
-    (λ h. omega arith, λ h. omega arith)
-
 -- the finish was accepted after all jobs
 Deals-asked : (capacity : ℕ) (old mid asked new : FrontLists) (waiting left : List Job) (got got' : List Answer) →
     Sends capacity old mid waiting left → left ≡ [] → PutsMessage Finish mid asked → Takes asked new got got' → Deals capacity old new waiting left got got'
@@ -95,7 +58,7 @@ Deals-asked capacity old mid asked new waiting left got got' s none p t =
     let finished = has_finish-took_finish new.sent mid.sent sent in
     let r = t.answers.1 in
     record {
-      jobs = ap (λ m. jobs_of m ++ left) sent ∙ ap (λ j. j ++ left) (jobs_of-append mid.sent (Finish ∷ []) ∙ append-nil (jobs_of mid.sent)) ∙ s.jobs;
+      jobs = ap (λ m. jobs_of m ++ left) sent ∙ ap (λ j. j ++ left) (jobs_of-push_finish mid.sent) ∙ s.jobs;
       sent = (s.sent.0 ++ Finish ∷ [], sym (append_assoc old.sent s.sent.0 (Finish ∷ [])) ∙ ap (λ l. l ++ Finish ∷ []) s.sent.1 ∙ sym sent);
       finish_last = λ _. inr none;
       asked = inl finished;
@@ -124,8 +87,3 @@ Deals-made capacity capacity' old mid asked new waiting left got got' same s (in
       asked = MayRefuse-same capacity mid new sent (refused_or_asked capacity mid left s.refused (λ none. MayRefuse-same capacity asked mid (ap (λ f. f.sent) (sym a.0)) (subst (λ c. MayRefuse c asked) same (a.1 none))));
       answers = (t.answers.0, record { received = r.received ∙ ap (λ l. l ++ t.answers.0) (ap (λ f. f.received) a.0 ∙ s.received); kept = r.kept; few = r.few });
     }
-
--- the lists of a front only grow
-pub record IsLater (old new : FrontLists) : Type 0 where
-  pub sent : length old.sent ≤ length new.sent
-  pub received : length old.received ≤ length new.received

@@ -6,7 +6,7 @@ use mathlib.Core.List.{IsPrefix}
 use Rattle.lane_core.specs.Messages.{jobs_of, finish_is_last}
 use Rattle.lane_core.specs.Answers.{IsAnswerTo, AreAnswersTo}
 use Rattle.lane_core.specs.Lane.{BackLists, Lane, Event, Put_message, Take_message, Put_answer, Receive_answer, IsHeldFor, TakesMessage, PutsAnswer, Happens, Run, opening, IsAnswered, IsDrained}
-use Rattle.lane_core.specs.Steps.{Steps}
+use Rattle.lane_core.specs.Steps.{StepsBeforeFinish}
 use Rattle.lane_core.specs.Offer.{IsOffered}
 use Rattle.lane_core.specs.declared.jobs.Job.{Job}
 use Rattle.lane_core.specs.declared.answers.Answer.{Answer}
@@ -14,7 +14,7 @@ use Rattle.lane_core.specs.declared.messages.Message.{Message}
 use Rattle.lane_core.specs.declared.messages.Message.TheVariants.{Work, Finish}
 use Rattle.lane_core.specs.declared.steps.Step.{Step}
 use Rattle.lane_core.specs.declared.steps.Step.TheVariants.{Idle, Graded, Waiting, Done}
-use Rattle.lane_core.proofs.MessagesLemmas.{jobs_of-append, finish_is_last-push}
+use Rattle.lane_core.proofs.MessagesLemmas.{jobs_of-append, jobs_of-push_finish, finish_is_last-push}
 use Rattle.lane_core.proofs.AnswersLemmas.{AreAnswersTo-push}
 
 pub taken_is_answered : (message : Message) (taken : List Message) (put : List Answer) (held : Option Answer) →
@@ -25,7 +25,7 @@ taken_is_answered (Work job) taken put (Some answer) h all =
 taken_is_answered (Work job) taken put None h all = absurd h
 taken_is_answered Finish taken put (Some answer) h all = absurd h
 taken_is_answered Finish taken put None h all =
-    subst (λ js. AreAnswersTo js (put ++ [])) (sym (jobs_of-append taken (Finish ∷ []) ∙ append-nil (jobs_of taken))) all
+    subst (λ js. AreAnswersTo js (put ++ [])) (sym (jobs_of-push_finish taken)) all
 
 pub TakesMessage-answered : (message : Message) (old new : BackLists) → TakesMessage message old new → IsAnswered old → IsAnswered new
 TakesMessage-answered message old new t all =
@@ -101,23 +101,23 @@ some_is_some : (held : Option Answer) (answer : Answer) → held ≡ Some answer
 some_is_some held answer h = subst (λ o. IsSome o) (sym h) refl
 
 -- an answer that was held is offered
-pub Steps-offer_held : (capacity : ℕ) (answer : Answer) (result : Step) (old new : BackLists) →
-    old.held ≡ Some answer → new.taken ≡ old.taken → IsOffered capacity answer result old.put new.put new.held → Steps capacity result old new
-Steps-offer_held capacity answer Idle old new h t o = absurd o
-Steps-offer_held capacity answer Done old new h t o = absurd o
-Steps-offer_held capacity answer Graded old new h t o = inl (answer, record { was_held = h; taken = t; held = o.1; put = o.0 })
-Steps-offer_held capacity answer Waiting old new h t o =
+pub StepsBeforeFinish-offer_held : (capacity : ℕ) (answer : Answer) (result : Step) (old new : BackLists) →
+    old.held ≡ Some answer → new.taken ≡ old.taken → IsOffered capacity answer result old.put new.put new.held → StepsBeforeFinish capacity result old new
+StepsBeforeFinish-offer_held capacity answer Idle old new h t o = absurd o
+StepsBeforeFinish-offer_held capacity answer Done old new h t o = absurd o
+StepsBeforeFinish-offer_held capacity answer Graded old new h t o = inl (answer, record { was_held = h; taken = t; held = o.1; put = o.0 })
+StepsBeforeFinish-offer_held capacity answer Waiting old new h t o =
     (inl (same_lists old new t (o.1 ∙ sym h) o.0), some_is_some new.held answer o.1, subst (λ l. capacity ≤ length l) (sym o.0) o.2)
 
 -- the answer to a job that is taken is offered
-pub Steps-offer_taken : (capacity : ℕ) (job : Job) (answer : Answer) (result : Step) (old new : BackLists) →
-    old.held ≡ None → new.taken ≡ old.taken ++ Work job ∷ [] → IsAnswerTo job answer → IsOffered capacity answer result old.put new.put new.held → Steps capacity result old new
-Steps-offer_taken capacity job answer Idle old new h t a o = absurd o
-Steps-offer_taken capacity job answer Done old new h t a o = absurd o
-Steps-offer_taken capacity job answer Graded old new h t a o =
+pub StepsBeforeFinish-offer_taken : (capacity : ℕ) (job : Job) (answer : Answer) (result : Step) (old new : BackLists) →
+    old.held ≡ None → new.taken ≡ old.taken ++ Work job ∷ [] → IsAnswerTo job answer → IsOffered capacity answer result old.put new.put new.held → StepsBeforeFinish capacity result old new
+StepsBeforeFinish-offer_taken capacity job answer Idle old new h t a o = absurd o
+StepsBeforeFinish-offer_taken capacity job answer Done old new h t a o = absurd o
+StepsBeforeFinish-offer_taken capacity job answer Graded old new h t a o =
     let mid : BackLists = record { taken = new.taken; held = Some answer; put = old.put } in
     inr (mid, (Work job, record { free = h; taken = t; held = a; put = refl }), (answer, record { was_held = refl; taken = refl; held = o.1; put = o.0 }))
-Steps-offer_taken capacity job answer Waiting old new h t a o =
+StepsBeforeFinish-offer_taken capacity job answer Waiting old new h t a o =
     (inr (Work job, record { free = h; taken = t; held = subst (λ x. IsHeldFor (Work job) x) (sym o.1) a; put = o.0 }), some_is_some new.held answer o.1, subst (λ l. capacity ≤ length l) (sym o.0) o.2)
 
 -- whether it was put or is held, it comes last
@@ -136,14 +136,6 @@ offered_is_answered capacity job answer result old taken put held free t a o all
     let mid : BackLists = record { taken = taken; held = Some answer; put = old.put } in
     subst (λ l. AreAnswersTo (jobs_of taken) l) (sym (IsOffered-all capacity answer result old.put put held o))
     (TakesMessage-answered (Work job) old mid (record { free = free; taken = t; held = a; put = refl }) all)
-
--- the answers of a back that offers the answer that it held
-pub offered_held_is_answered : (capacity : ℕ) (answer : Answer) (result : Step) (old : BackLists) (put : List Answer) (held : Option Answer) →
-    old.held ≡ Some answer → IsOffered capacity answer result old.put put held →
-    IsAnswered old → AreAnswersTo (jobs_of old.taken) (put ++ option_to_list held)
-offered_held_is_answered capacity answer result old put held h o all =
-    subst (λ l. AreAnswersTo (jobs_of old.taken) l) (sym (IsOffered-all capacity answer result old.put put held o))
-    (subst (λ x. AreAnswersTo (jobs_of old.taken) (old.put ++ option_to_list x)) h all)
 
 pub taken_as : {A : Type 0} (after before : List A) (popped message : A) → after ≡ before ++ popped ∷ [] → popped ≡ message → after ≡ before ++ message ∷ []
 taken_as after before popped message e m = e ∙ ap (λ x. before ++ x ∷ []) m

@@ -1,5 +1,6 @@
 -- Lemmas on lists of messages.
 use Rattle.std.proofs.Common.{◌≡◌, ◌∙◌, true, false, List, [], ◌∷◌, ◌++◌, refl, ap}
+use Rattle.std.proofs.lemmas.List.{append-nil}
 use Rattle.lane_core.specs.Messages.{jobs_of, has_finish, finish_is_last}
 use Rattle.lane_core.specs.declared.jobs.Job.{Job}
 use Rattle.lane_core.specs.declared.messages.Message.{Message}
@@ -9,6 +10,9 @@ pub jobs_of-append : (xs ys : List Message) → jobs_of (xs ++ ys) ≡ jobs_of x
 jobs_of-append [] ys = refl
 jobs_of-append (Work job ∷ xs) ys = ap (λ jobs. job ∷ jobs) (jobs_of-append xs ys)
 jobs_of-append (Finish ∷ xs) ys = jobs_of-append xs ys
+
+pub jobs_of-push_finish : (xs : List Message) → jobs_of (xs ++ Finish ∷ []) ≡ jobs_of xs
+jobs_of-push_finish xs = jobs_of-append xs (Finish ∷ []) ∙ append-nil (jobs_of xs)
 
 pub has_finish-push_work : (xs : List Message) (job : Job) → has_finish (xs ++ Work job ∷ []) ≡ has_finish xs
 has_finish-push_work [] job = refl
@@ -34,7 +38,7 @@ nothing_follows (Finish ∷ []) [] last finished = refl
 nothing_follows (Finish ∷ []) (next ∷ rest) last finished = cc
 nothing_follows (Finish ∷ (next ∷ taken)) rest last finished = cc
 
-pub ruleset messages = (jobs_of-append, has_finish-push_work, has_finish-push_finish, finish_is_last-push)
+pub ruleset messages = (jobs_of-append, jobs_of-push_finish, has_finish-push_work, has_finish-push_finish, finish_is_last-push)
 
 pub has_finish-took_finish : (after before : List Message) → after ≡ before ++ Finish ∷ [] → has_finish after ≡ true
 has_finish-took_finish after before e = ap has_finish e ∙ has_finish-push_finish before

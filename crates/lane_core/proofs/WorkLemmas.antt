@@ -1,7 +1,7 @@
 -- Lemmas on a batch lane's work.
-use Rattle.std.proofs.Common.{◌≡◌, ◌≢◌, ◌<◌, ◌↔◌, inl, inr, ℕ, true, List, [], ◌∷◌, ◌++◌, length, refl, ap, sym, ◌∙◌, subst, length-append, arith}
+use Rattle.std.proofs.Common.{◌≡◌, ◌≢◌, ◌<◌, ◌↔◌, inl, inr, ℕ, List, [], ◌∷◌, ◌++◌, length, refl, ap, sym, ◌∙◌, subst, length-append, arith}
 use Rattle.std.proofs.lemmas.List.{append-nil}
-use Rattle.std.specs.Prelude.{Option, None, option_to_list, is_some}
+use Rattle.std.specs.Prelude.{None, option_to_list}
 use Rattle.lane_core.specs.Lane.{FrontLists, BackLists, TakesMessage, PutsAnswer, IsFinished}
 use Rattle.lane_core.specs.Steps.{Steps, StepRun, Works, IsWorkDone, work_left}
 use Rattle.lane_core.specs.declared.answers.Answer.{Answer}
@@ -29,25 +29,24 @@ one_held_less front old new answer p =
 -- a step that puts an answer leaves less work
 pub Graded-smaller : (capacity : ℕ) (front : FrontLists) (old new : BackLists) (known : List Message) →
     Steps capacity Graded old new → old.taken ++ known ≡ front.sent → (old.held ≡ None → 0 < length known) → work_left front new < work_left front old
-Graded-smaller capacity front old new known (inl p) fifo waits = one_held_less front old new p.0 p.1
-Graded-smaller capacity front old new known (inr t) fifo waits =
+Graded-smaller capacity front old new known (inl f) fifo waits = absurd (let no = f.1 in cc)
+Graded-smaller capacity front old new known (inr (_, inl p)) fifo waits = one_held_less front old new p.0 p.1
+Graded-smaller capacity front old new known (inr (_, inr t)) fifo waits =
     one_less front old t.0 new t.1.0 t.2.0 known t.1.1 t.2.1 fifo (waits t.1.1.free)
 
 -- a step that puts none is the last
 pub work_ends : (capacity : ℕ) (result : Step) (front : FrontLists) (old new : BackLists) (known : List Message) →
     Steps capacity result old new → old.taken ++ known ≡ front.sent → (result ≡ Idle → length known ≡ 0) → ((result ≡ Done) ↔ IsFinished new) → result ≢ Graded →
     IsWorkDone capacity front new
-work_ends capacity Idle front old new known s fifo idle done other =
-    inr (inl (ap (λ b. b.taken) s.0 ∙ sym (append-nil old.taken) ∙ ap (λ l. old.taken ++ l) (sym (nil_of known (idle refl))) ∙ fifo, s.1))
-work_ends capacity Graded front old new known s fifo idle done other = absurd (other refl)
-work_ends capacity Waiting front old new known s fifo idle done other = inr (inr (s.1, s.2))
-work_ends capacity Done front old new known s fifo idle done other = inl (done.0 refl)
+work_ends capacity result front old new known (inl f) fifo idle done other = inl (done.0 f.1)
+work_ends capacity Idle front old new known (inr s) fifo idle done other =
+    inr (inl (ap (λ b. b.taken) s.1.0 ∙ sym (append-nil old.taken) ∙ ap (λ l. old.taken ++ l) (sym (nil_of known (idle refl))) ∙ fifo, s.1.1))
+work_ends capacity Graded front old new known (inr s) fifo idle done other = absurd (other refl)
+work_ends capacity Waiting front old new known (inr s) fifo idle done other = inr (inr (s.1.1, s.1.2))
+work_ends capacity Done front old new known (inr s) fifo idle done other = inl (done.0 refl)
 
 pub Works-one : (capacity : ℕ) (result : Step) (old new : BackLists) → Steps capacity result old new → Works capacity old new
 Works-one capacity result old new s = (result ∷ [], (new, s, refl))
-
-pub Works-none : (capacity : ℕ) (old new : BackLists) → new ≡ old → Works capacity old new
-Works-none capacity old new e = ([], e)
 
 StepRun-append : (capacity : ℕ) (steps more : List Step) (old mid new : BackLists) → StepRun capacity steps old mid → StepRun capacity more mid new → StepRun capacity (steps ++ more) old new
 StepRun-append capacity [] more old mid new r s = subst (λ b. StepRun capacity more b new) r s
@@ -55,10 +54,6 @@ StepRun-append capacity (step ∷ steps) more old mid new r s = (r.0, r.1, StepR
 
 pub Works-append : (capacity : ℕ) (old mid new : BackLists) → Works capacity old mid → Works capacity mid new → Works capacity old new
 Works-append capacity old mid new r s = (r.0 ++ s.0, StepRun-append capacity r.0 s.0 old mid new r.1 s.1)
-
-pub waits_or_holds : (held : Option Answer) (known : List Message) → (length known ≡ 0 → is_some held ≡ true) → held ≡ None → 0 < length known
-waits_or_holds held [] h none = absurd (let e = h refl in let f = ap is_some none in cc)
-waits_or_holds held (message ∷ known) h none = omega arith
 
 -- a step that puts an answer, in the words from before the look
 pub graded_more : (capacity capacity' : ℕ) (front : FrontLists) (old old' new : BackLists) (known : List Message) →

@@ -3,6 +3,7 @@ use Rattle.std.specs.Prelude.{◌≡◌, ℕ, ◌+◌, ◌<◌, ◌≤◌, ◌�
 use mathlib.Core.List.{IsPrefix}
 use Rattle.lane_core.specs.Messages.{has_finish, jobs_of}
 use Rattle.lane_core.specs.Lane.{FrontLists, PutsMessage}
+use Rattle.lane_core.specs.declared.dealing.TheConstants.{MOST_TAKEN}
 use Rattle.lane_core.specs.declared.messages.Message.TheVariants.{Finish}
 use Rattle.lane_core.specs.declared.jobs.Job.{Job}
 use Rattle.lane_core.specs.declared.answers.Answer.{Answer}
@@ -15,7 +16,7 @@ MayRefuse capacity front = (has_finish front.sent ≡ true) ⊎ (capacity ≤ le
 pub record Receives (old new : FrontLists) (got got' fresh : List Answer) : Type 0 where
   pub received : new.received ≡ old.received ++ fresh
   pub kept : got' ≡ got ++ fresh
-  pub few : length fresh ≤ 64
+  pub few : length fresh ≤ MOST_TAKEN
 
 -- how a deal at a lane of this capacity changes what waits and what was got
 pub record Deals (capacity : ℕ) (old new : FrontLists) (waiting waiting' : List Job) (got got' : List Answer) : Type 0 where

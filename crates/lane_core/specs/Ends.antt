@@ -1,7 +1,7 @@
 -- What a contract sees of the two ends of a lane.
 use Rattle.std.specs.Prelude.{◌≡◌, ℕ, List}
 use Rattle.lane_core.specs.declared.messages.Message.{Message}
-use Rattle.std.proofs.Common.{refl, sym, ◌∙◌}
+use Rattle.std.proofs.Common.{refl, ◌∙◌}
 use Rattle.rtrb.specs.Ring.{sent, received, producer_capacity, known_items, IsPair, SameProducer, SameConsumer}
 use Rattle.lane_core.specs.Lane.{FrontLists, BackLists}
 use Rattle.lane_core.specs.declared.fronts.LaneFront.{LaneFront}
@@ -62,22 +62,4 @@ pub SameBack-trans : (a b c : LaneBack) → SameBack a b → SameBack b c → Sa
 SameBack-trans a b c h k = record {
   messages = ((k.messages.0.0 ∙ h.messages.0.0, k.messages.0.1 ∙ h.messages.0.1, k.messages.0.2 ∙ h.messages.0.2, k.messages.0.3 ∙ h.messages.0.3), k.messages.1 ∙ h.messages.1);
   answers = ((k.answers.0.0 ∙ h.answers.0.0, k.answers.0.1 ∙ h.answers.0.1, k.answers.0.2 ∙ h.answers.0.2, k.answers.0.3 ∙ h.answers.0.3), k.answers.1 ∙ h.answers.1);
-}
-
--- ends of one lane stay that
-pub AreOneLane-same : (f f' : LaneFront) (b b' : LaneBack) → AreOneLane f b → SameFront f f' → SameBack b b' → AreOneLane f' b'
-AreOneLane-same f f' b b' one front back = record {
-  messages = (
-    back.messages.0.0 ∙ one.messages.0 ∙ sym front.messages.0.0,
-    back.messages.0.1 ∙ one.messages.1 ∙ sym front.messages.0.1,
-    back.messages.0.2 ∙ one.messages.2 ∙ sym front.messages.0.2,
-    back.messages.0.3 ∙ one.messages.3 ∙ sym front.messages.0.3,
-  );
-  answers = (
-    front.answers.0.0 ∙ one.answers.0 ∙ sym back.answers.0.0,
-    front.answers.0.1 ∙ one.answers.1 ∙ sym back.answers.0.1,
-    front.answers.0.2 ∙ one.answers.2 ∙ sym back.answers.0.2,
-    front.answers.0.3 ∙ one.answers.3 ∙ sym back.answers.0.3,
-  );
-  capacity = back.answers.1 ∙ one.capacity ∙ sym front.messages.1;
 }

@@ -1,5 +1,6 @@
 -- What a step of a lane's back does to its lists.
-use Rattle.std.specs.Prelude.{◌≡◌, ℕ, ◌+◌, ◌-◌, ◌*◌, option_to_list, ◌≤◌, ◌⊎◌, List, [], ◌∷◌, length, IsSome, None}
+use Rattle.std.specs.Prelude.{◌≡◌, ℕ, ◌+◌, ◌-◌, ◌*◌, option_to_list, ◌≤◌, ◌⊎◌, false, List, [], ◌∷◌, length, IsSome, None}
+use Rattle.lane_core.specs.Messages.{has_finish}
 use Rattle.lane_core.specs.Lane.{FrontLists, BackLists, TakesMessage, PutsAnswer, IsFinished}
 use Rattle.lane_core.specs.declared.answers.Answer.{Answer}
 use Rattle.lane_core.specs.declared.messages.Message.{Message}
@@ -19,12 +20,17 @@ PutsSome old new = (answer : Answer) × PutsAnswer answer old new
 abbrev pub TakesThenPuts : BackLists → BackLists → Type 0
 TakesThenPuts old new = (mid : BackLists) × TakesSome old mid × PutsSome mid new
 
--- the back of a lane of this capacity may answer so, and change its lists so
+-- the back of a lane of this capacity, whose finish was not taken, may answer so, and change its lists so
+abbrev pub StepsBeforeFinish : ℕ → Step → BackLists → BackLists → Type 0
+StepsBeforeFinish capacity Idle old new = (new ≡ old) × (new.held ≡ None)
+StepsBeforeFinish capacity Graded old new = PutsSome old new ⊎ TakesThenPuts old new
+StepsBeforeFinish capacity Waiting old new = ((new ≡ old) ⊎ TakesSome old new) × IsSome new.held × (capacity ≤ length new.put)
+StepsBeforeFinish capacity Done old new = TakesMessage Finish old new
+
+-- any back: where the finish was taken, nothing happens
 abbrev pub Steps : ℕ → Step → BackLists → BackLists → Type 0
-Steps capacity Idle old new = (new ≡ old) × (new.held ≡ None)
-Steps capacity Graded old new = PutsSome old new ⊎ TakesThenPuts old new
-Steps capacity Waiting old new = ((new ≡ old) ⊎ TakesSome old new) × IsSome new.held × (capacity ≤ length new.put)
-Steps capacity Done old new = (new ≡ old) ⊎ TakesMessage Finish old new
+Steps capacity step old new =
+    (IsFinished old × (step ≡ Done) × (new ≡ old)) ⊎ ((has_finish old.taken ≡ false) × StepsBeforeFinish capacity step old new)
 
 -- these steps, one after another
 abbrev pub StepRun : ℕ → List Step → BackLists → BackLists → Type 0

@@ -51,8 +51,8 @@ impl LaneBack {
     ghost use Rattle.lane_core.specs.Steps.{Steps};
     ghost use Rattle.lane_core.specs.Ends.{back_lists, back_capacity, known_messages, SameBack};
 
-    /// One step: after the finish `Done`. Else the answer that is held is put; or, if none is, a message is taken, and a job enters the gate with its number and
-    /// is graded, and its answer put, or held where the ring of answers is full. It never waits.
+    /// One step: after the finish `Done`, and nothing happens. Else the answer that is held is put; or, if none is, a message is taken, and a job enters the gate
+    /// with its number and is graded, and its answer put, or held where the ring of answers is full. It never waits.
     #[tactic(auto, using(crate::proofs::MessagesLemmas::messages))]
     pub fn step<G: Gate>(&mut self, alloc: Global, gate: &G) -> Step
         ensures lane { SameBack self.old self.new }

@@ -1,15 +1,17 @@
-use Rattle.std.proofs.Common.{refl, sym, ap, ◌∙◌}
+use Rattle.std.proofs.Common.{refl, sym, ap, ◌∙◌, inr}
 use Rattle.std.proofs.Math.Logic.{∥∥₁_map}
 use Rattle.std.specs.Prelude.{is_none}
 use Rattle.lane_core.specs.declared.messages.Message.TheVariants.{Finish}
 use Rattle.lane_core.specs.Ends.{back_lists}
 use Rattle.lane_core.proofs.MessagesLemmas.{has_finish-took_work, has_finish-took_finish}
-use Rattle.lane_core.proofs.LaneLemmas.{Steps-offer_held, Steps-offer_taken, TakesMessage-answered, offered_is_answered, taken_as, nothing_is_held}
+use Rattle.lane_core.proofs.LaneLemmas.{StepsBeforeFinish-offer_held, StepsBeforeFinish-offer_taken, TakesMessage-answered, offered_is_answered, taken_as, nothing_is_held}
 use Rattle.lane_core.proofs.backs.LaneBack.step.Goals as goal
 
 pub returns-in-Some-clause-lists : goal.returns-in-Some-clause-lists
-returns-in-Some-clause-lists g c =
-    Steps-offer_held _ c.in-Some.answer c.offer.result (back_lists c.args.self.now) _ (sym c.in-Some.ensures.value) refl c.offer.ensures.offered
+returns-in-Some-clause-lists g c = inr (
+  sym c.args.self.now.noted ∙ c.if-self.false,
+  StepsBeforeFinish-offer_held _ c.in-Some.answer c.offer.result (back_lists c.args.self.now) _ (sym c.in-Some.ensures.value) refl c.offer.ensures.offered,
+)
 
 pub invariant_of-self-in-Ok-Finish : goal.invariant_of-self-in-Ok-Finish
 invariant_of-self-in-Ok-Finish g c =
@@ -33,5 +35,7 @@ invariant_of-self-in-Ok-Work g c =
     }
 
 pub returns-in-Ok-Work-clause-lists : goal.returns-in-Ok-Work-clause-lists
-returns-in-Ok-Work-clause-lists g c =
-    Steps-offer_taken _ c.in-Ok-Work.job c.grade-answer.result c.offer-in-Ok-Work.result (back_lists c.args.self.now) _ (sym c.in-None.ensures.value) (taken_as _ _ _ _ c.in-Ok-Work.ensures.ok.0 c.in-Ok-Work.field-0-is) c.grade-answer.ensures c.offer-in-Ok-Work.ensures.offered
+returns-in-Ok-Work-clause-lists g c = inr (
+  sym c.args.self.now.noted ∙ c.if-self.false,
+  StepsBeforeFinish-offer_taken _ c.in-Ok-Work.job c.grade-answer.result c.offer-in-Ok-Work.result (back_lists c.args.self.now) _ (sym c.in-None.ensures.value) (taken_as _ _ _ _ c.in-Ok-Work.ensures.ok.0 c.in-Ok-Work.field-0-is) c.grade-answer.ensures c.offer-in-Ok-Work.ensures.offered,
+)
