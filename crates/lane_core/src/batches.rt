@@ -29,8 +29,8 @@ pub struct BatchLane {
 }
 
 impl BatchLane {
-    ghost use Rattle.std.specs.Prelude.{◌≡◌, ◌≤◌, IfOk, IfErr, MatchResult, length, take};
-    ghost use Rattle.lane_core.specs.Messages.{jobs_of};
+    ghost use Rattle.std.specs.Prelude.{◌≡◌, ◌≤◌, IfOk, IfErr, MatchResult, length, take, true};
+    ghost use Rattle.lane_core.specs.Messages.{jobs_of, finish_is_last};
     ghost use Rattle.lane_core.specs.Answers.{AreAnswersTo};
     ghost use Rattle.lane_core.specs.Lane.{opening_front, opening_back, IsFinished, IsDrained};
     ghost use Rattle.lane_core.specs.Settling.{IsSettleFault};
@@ -62,6 +62,7 @@ impl BatchLane {
     pub fn close(self) -> Result<(), (SettleFault, BatchLane)>
         ensures cases { MatchResult result (λ _. IsFinished (batch_back self) × IsDrained (batch_front self) (batch_back self)) (λ e. IsSettleFault e.0 (batch_front self) (batch_back self)) }
         ensures answers { MatchResult result (λ _. AreAnswersTo (jobs_of (batch_front self).sent) (batch_front self).received) (λ _. AreAnswersTo (take (length (batch_front self).received) (jobs_of (batch_front self).sent)) (batch_front self).received) }
+        ensures last { finish_is_last (batch_front self).sent ≡ true }
         ensures back { IfErr result (λ e. SameEnds self e.1 × (batch_front e.1 ≡ batch_front self) × (batch_back e.1 ≡ batch_back self)) }
     {
         let BatchLane { front, back } = self;

@@ -5,7 +5,8 @@ ghost use mathlib.Core.List.{IsPrefix};
 ghost use Rattle.lane_core.specs.Messages.{jobs_of, finish_is_last};
 ghost use Rattle.lane_core.specs.Answers.{AreAnswersTo};
 ghost use Rattle.lane_core.specs.Lane.{Lane, Event, Run, opening, IsAnswered, IsFinished, IsDrained};
-ghost use Rattle.lane_core.specs.Ends.{back_lists};
+ghost use Rattle.lane_core.specs.Ends.{front_lists, back_lists};
+ghost use Rattle.lane_core.specs.declared.fronts.LaneFront.{LaneFront};
 ghost use Rattle.lane_core.specs.declared.backs.LaneBack.{LaneBack};
 
 /// What was put and what is held answers the jobs that were taken, place by place. So what was received answers the first of the jobs that were sent. No message
@@ -26,4 +27,9 @@ pub fn drained_lanes_are_answered()
 /// Each worker's end that there is keeps this too: what it put and what it holds answers the jobs that it took, place by place.
 pub fn backs_are_answered()
     ensures { (back : LaneBack) → IsAnswered (back_lists back) }
+{}
+
+/// Each collector's end that there is keeps this: no message follows the finish in what it sent.
+pub fn fronts_end_with_the_finish()
+    ensures { (front : LaneFront) → finish_is_last (front_lists front).sent ≡ true }
 {}
