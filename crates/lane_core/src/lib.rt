@@ -34,3 +34,5 @@ pub use steps::Step;
 
 #[cfg(test)]
 mod tests;
+#[cfg(test)]
+mod tests_scripts;

@@ -1,6 +1,6 @@
 //! Scripts of calls on one thread. Whether a ring is full or empty as an end sees it, no contract says.
 
-ghost use Rattle.std.specs.Prelude.{◌≡◌, IfOk};
+ghost use Rattle.std.specs.Prelude.{◌≡◌, ◌≤◌, IfOk};
 ghost use Rattle.lane_core.specs.Ends.{AreOneLane};
 
 use super::*;
@@ -24,13 +24,13 @@ fn one_cell(alloc: Global) -> Result<Puzzle, Fail> {
     Ok(puzzle.ok().ok_or("puzzle")?)
 }
 
-fn job(alloc: Global, number: u32) -> Result<Job, Fail> {
+pub(crate) fn job(alloc: Global, number: u32) -> Result<Job, Fail> {
     Ok(Job::new(number, one_cell(alloc)?, 1000))
 }
 
 /// A call on a lane.
 #[derive(Clone, Copy, Debug)]
-enum Call {
+pub(crate) enum Call {
     Send(u32),
     Finish,
     Take,
@@ -39,7 +39,7 @@ enum Call {
 
 /// What a call answered. A job that came back and an answer are told by their number.
 #[derive(Clone, Copy, Debug, PartialEq, Eq)]
-enum Reply {
+pub(crate) enum Reply {
     Accepted,
     Full,
     Finished,
@@ -76,19 +76,22 @@ fn taken(reply: Option<Answer>) -> Reply {
 
 /// Both ends of one lane, so that each call keeps that they are.
 #[derive(Drop)]
-struct Both {
+pub(crate) struct Both {
     front: LaneFront,
     back: LaneBack,
     ghost one_lane: { AreOneLane front back },
 }
 
 impl Both {
-    fn open(alloc: Global) -> Result<Both, NoMemory> {
-        let (front, back) = open_lane(alloc, 1)?;
+    pub(crate) fn open(alloc: Global, capacity: usize) -> Result<Both, NoMemory>
+        requires least { 1 ≤ capacity }
+        requires most { capacity ≤ LARGEST_RING }
+    {
+        let (front, back) = open_lane(alloc, capacity)?;
         Ok(Both { front, back })
     }
 
-    fn call(&mut self, alloc: Global, call: Call) -> Result<Reply, Fail> {
+    pub(crate) fn call(&mut self, alloc: Global, call: Call) -> Result<Reply, Fail> {
         Ok(match call {
             Call::Send(number) => sent(self.front.send(job(alloc, number)?)),
             Call::Finish => finished(self.front.finish()),
@@ -97,7 +100,7 @@ impl Both {
         })
     }
 
-    fn settle(self) -> Result<(), (SettleFault, Both)> {
+    pub(crate) fn settle(self) -> Result<(), (SettleFault, Both)> {
         let Both { front, back } = self;
         match settle(front, back) {
             Ok(()) => Ok(()),
@@ -146,7 +149,7 @@ const DRAINING: [(Call, Reply); 2] = [
 #[test]
 fn lane_on_one_thread(rt: HostRuntime) -> Result<(), Fail> {
     let alloc = rt.alloc();
-    let mut lane = Both::open(alloc).ok().ok_or("memory")?;
+    let mut lane = Both::open(alloc, 1).ok().ok_or("memory")?;
     follow(&rt, alloc, &mut lane, &BEFORE_THE_FINISH)?;
     let Err((fault, mut lane)) = lane.settle() else {
         return Err(Fail::from("settled"));
@@ -267,7 +270,7 @@ fn dealing_with_little_room(rt: HostRuntime) -> Result<(), Fail> {
 #[test]
 fn dealing_at_a_front(rt: HostRuntime) -> Result<(), Fail> {
     let alloc = rt.alloc();
-    let mut lane = Both::open(alloc).ok().ok_or("memory")?;
+    let mut lane = Both::open(alloc, 1).ok().ok_or("memory")?;
     let mut waiting = VecDeque::with_capacity(alloc, 2)?;
     for number in 1..3 {
         waiting.push_back(job(alloc, number)?)?;
@@ -330,5 +333,38 @@ fn jobs_enter_the_gate(rt: HostRuntime) -> Result<(), Fail> {
     let answer = front.take().ok_or("no answer")?;
     assert_eq!(rt; (answer.number(), answer.guesses()), (7, 1000));
     assert_eq!(rt; (answer.puzzle().width(), answer.puzzle().height()), (1, 1));
+    Ok(())
+}
+
+/// The front of a lane of capacity 1, whose back was dropped.
+fn front_alone(alloc: Global) -> Result<LaneFront, Fail> {
+    let (front, _back) = open_lane(alloc, 1).ok().ok_or("memory")?;
+    Ok(front)
+}
+
+#[test]
+fn front_without_its_back(rt: HostRuntime) -> Result<(), Fail> {
+    let alloc = rt.alloc();
+    let mut front = front_alone(alloc)?;
+    assert_eq!(rt; sent(front.send(job(alloc, 1)?)), Reply::Accepted);
+    assert_eq!(rt; sent(front.send(job(alloc, 2)?)), Reply::FullReturning(2));
+    assert_eq!(rt; taken(front.take()), Reply::Nothing);
+    Ok(())
+}
+
+/// The back of a lane of capacity 1, to which a job was sent before the front was dropped.
+fn back_alone(alloc: Global) -> Result<LaneBack, Fail> {
+    let (mut front, back) = open_lane(alloc, 1).ok().ok_or("memory")?;
+    front.send(job(alloc, 1)?).ok().ok_or("not accepted")?;
+    Ok(back)
+}
+
+#[test]
+fn back_without_its_front(rt: HostRuntime) -> Result<(), Fail> {
+    let alloc = rt.alloc();
+    let mut back = back_alone(alloc)?;
+    assert_eq!(rt; back.step(alloc, &OpenGate), Step::Graded);
+    assert_eq!(rt; back.step(alloc, &OpenGate), Step::Idle);
+    assert_eq!(rt; back.step(alloc, &OpenGate), Step::Idle);
     Ok(())
 }
