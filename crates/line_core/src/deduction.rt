@@ -10,14 +10,14 @@ use crate::masks::{LEVELS, add_ends, spread_levels};
 use crate::passes::Pass;
 use crate::reach::{GAPS, gap_ahead, whole_ends, write_turned_gaps};
 use crate::windows::Windows;
-use grid_core::{Clue, NoMemory};
+use grid_core::{Clue, LONGEST_SIDE, MOST_RUNS, NoMemory};
 use std::alloc::Global;
 use std::marker::Model;
 
 /// The cells that are filled in some placing, and those that are blank in some.
 fn possible_colours(line: &Line, clue: &[u16], turned_gaps: &[u128; GAPS]) -> (u128, u128)
     requires clue { AreLengths clue.now }
-    requires count { length clue.now ≤ 128 }
+    requires count { length clue.now ≤ MOST_RUNS }
     requires turned { AreTurnedGaps line.now clue.now turned_gaps.now }
     ensures filled { IsMaskOf (IsFillable line.now clue.now) result.0 }
     ensures blank { IsMaskOf (IsBlankable line.now clue.now) result.1 }
@@ -39,7 +39,7 @@ fn possible_colours(line: &Line, clue: &[u16], turned_gaps: &[u128; GAPS]) -> (u
 /// What is certain of a line, with room for the gaps of its runs.
 fn deduce_with(line: &Line, clue: &[u16], gaps: &mut [u128; GAPS]) -> Option<Line>
     requires clue { AreLengths clue.now }
-    requires count { length clue.now ≤ 128 }
+    requires count { length clue.now ≤ MOST_RUNS }
     ensures { result ≡ deduced line.now clue.now }
 {
     write_turned_gaps(line, clue, gaps);
@@ -65,7 +65,7 @@ impl Model for Tables {
 impl Tables {
     /// Tables for lines of at most so many cells, 1 to 128.
     pub fn new(alloc: Global, longest: u16) -> Result<Tables, NoMemory>
-        requires { (1 ≤ longest) × (longest ≤ 128) }
+        requires { (1 ≤ longest) × (longest ≤ LONGEST_SIDE) }
         ensures { IfOk result (λ tables. tables ≡ longest) }
     {
         Ok(Tables {

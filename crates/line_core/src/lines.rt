@@ -9,7 +9,7 @@ ghost use Rattle.line_core.specs.Reach.{MayBe};
 ghost use Rattle.line_core.specs.Told.{told_by};
 
 use crate::masks::{differing, first_place, has, lacking, marked, places, turn_line};
-use grid_core::Cell;
+use grid_core::{Cell, LONGEST_SIDE};
 use std::marker::Model;
 
 /// The cells of a line, 1 to 128 of them, seen as the list of its cells.
@@ -46,7 +46,7 @@ fn is_blank(cell: Cell) -> bool
 impl Line {
     /// A line of so many cells, 1 to 128, of which nothing is known.
     pub fn unknown(len: u16) -> Line
-        requires { (1 ≤ len) × (len ≤ 128) }
+        requires { (1 ≤ len) × (len ≤ LONGEST_SIDE) }
         ensures { result ≡ replicate len Unknown }
     {
         Line {
@@ -70,7 +70,7 @@ impl Line {
     /// How many cells it has.
     pub fn len(&self) -> u16
         ensures len { result ≡ length self.now }
-        ensures within { (1 ≤ length self.now) × (length self.now ≤ 128) }
+        ensures within { (1 ≤ length self.now) × (length self.now ≤ LONGEST_SIDE) }
     {
         self.len
     }
@@ -103,7 +103,7 @@ impl Line {
         requires same { length other.now ≡ length self.now }
         requires from { from ≤ length self.now }
         ensures change { IsNextChange self.now other.now from result }
-        ensures within { length self.now ≤ 128 }
+        ensures within { length self.now ≤ LONGEST_SIDE }
     {
         if from == self.len {
             return None;
@@ -121,7 +121,7 @@ impl Line {
     pub(crate) fn free_cells(&self) -> u128
         ensures free { IsMaskOf (MayBe self.now false) result }
         ensures some { 1 ≤ length self.now }
-        ensures within { length self.now ≤ 128 }
+        ensures within { length self.now ≤ LONGEST_SIDE }
     {
         lacking(self.filled, self.len)
     }
@@ -146,7 +146,7 @@ impl Line {
 
     /// What is certain of a line, from the cells that can be filled and those that can be blank: none where the first can be neither.
     pub(crate) fn certain(len: u16, fillable: u128, blankable: u128) -> Option<Line>
-        requires { (1 ≤ len) × (len ≤ 128) }
+        requires { (1 ≤ len) × (len ≤ LONGEST_SIDE) }
         ensures { result ≡ told_by len fillable blankable }
     {
         if (fillable | blankable) & 1 == 0 {

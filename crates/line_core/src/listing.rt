@@ -6,7 +6,7 @@ ghost use Rattle.line_core.specs.Deduction.{deduced};
 ghost use Rattle.line_core.specs.Listing.{learn, learned, placings_beginning, common, common_all};
 
 use crate::Line;
-use grid_core::{Cell, Clue, has_runs};
+use grid_core::{Cell, Clue, LONGEST_SIDE, has_runs};
 
 /// Whether a full line has the colour of each known cell.
 fn agrees_with(line: &[Cell], full: &[bool]) -> bool
@@ -119,7 +119,7 @@ fn write_cells(line: &Line, cells: &mut [Cell])
 
 /// A line of some cells.
 fn line_of(cells: &[Cell]) -> Line
-    requires { (1 ≤ length cells.now) × (length cells.now ≤ 128) }
+    requires { (1 ≤ length cells.now) × (length cells.now ≤ LONGEST_SIDE) }
     ensures { result ≡ cells.now }
 {
     let mut line = Line::unknown(cells.len() as u16);
@@ -137,7 +137,7 @@ fn deduce_cells(
     full: &mut [bool],
     certain: &mut [Cell],
 ) -> Option<Line>
-    requires len { (1 ≤ length line.now) × (length line.now ≤ 128) }
+    requires len { (1 ≤ length line.now) × (length line.now ≤ LONGEST_SIDE) }
     requires cells { length cells.old ≡ length line.now }
     requires full { length full.old ≡ length line.now }
     requires certain { length certain.old ≡ length line.now }
@@ -156,9 +156,9 @@ pub fn deduce_by_listing(line: &Line, clue: &Clue) -> Option<Line>
     ensures { result ≡ deduced line.now clue.now }
 {
     let len = line.len() as usize;
-    let mut cells = [Cell::Unknown; 128];
-    let mut full = [false; 128];
-    let mut certain = [Cell::Unknown; 128];
+    let mut cells = [Cell::Unknown; LONGEST_SIDE as usize];
+    let mut full = [false; LONGEST_SIDE as usize];
+    let mut certain = [Cell::Unknown; LONGEST_SIDE as usize];
     deduce_cells(
         line,
         clue.numbers(),

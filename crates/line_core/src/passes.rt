@@ -9,6 +9,7 @@ ghost use Rattle.line_core.specs.Passes.{IsPassOver};
 use crate::Line;
 use crate::masks::{first_gap, gap_after, run_ends};
 use crate::windows::Windows;
+use grid_core::MOST_RUNS;
 use std::marker::Model;
 
 /// A pass over the runs of a line, from its left.
@@ -63,7 +64,7 @@ impl<'w> Pass<'w> {
 
     /// Passes a run of so many cells, 1 to 128. Gives its ends, as the cells before them allow them.
     pub fn step(&mut self, number: u16) -> u128
-        requires few { self.old.passed < 128 }
+        requires few { self.old.passed < MOST_RUNS }
         requires number { (0 < number) × (number ≤ 128) }
         ensures ends { (line : List Cell) (runs : List ℕ) → IsPassOver line runs self.old → IsMaskOf (IsEndAfter line runs number) result }
         ensures passed { (line : List Cell) (runs : List ℕ) → IsPassOver line runs self.old → IsPassOver line (number ∷ runs) self.new }

@@ -17,7 +17,7 @@ pub(crate) const GAPS: usize = MOST_RUNS + 1;
 /// their other end.
 pub(crate) fn write_turned_gaps(line: &Line, clue: &[u16], gaps: &mut [u128; GAPS])
     requires clue { AreLengths clue.now }
-    requires count { length clue.now ≤ 128 }
+    requires count { length clue.now ≤ MOST_RUNS }
     ensures { AreTurnedGaps line.now clue.now gaps.new }
 {
     let turned = line.turned();
@@ -33,7 +33,7 @@ pub(crate) fn write_turned_gaps(line: &Line, clue: &[u16], gaps: &mut [u128; GAP
 
 /// The gaps before a run, as the cells after allow them.
 pub(crate) fn gap_ahead(line: &Line, clue: &[u16], turned_gaps: &[u128; GAPS], j: usize) -> u128
-    requires count { length clue.now ≤ 128 }
+    requires count { length clue.now ≤ MOST_RUNS }
     requires j { j ≤ length clue.now }
     requires turned { AreTurnedGaps line.now clue.now turned_gaps.now }
     ensures { IsMaskOf (IsGapAhead line.now clue.now j) result }

@@ -54,7 +54,7 @@ fn write_starts(
     list: &mut [u16; MOST_RUNS],
 ) -> bool
     requires clue { AreLengths clue.now }
-    requires count { (0 < length clue.now) × (length clue.now ≤ 128) }
+    requires count { (0 < length clue.now) × (length clue.now ≤ MOST_RUNS) }
     requires turned { AreTurnedGaps line.now clue.now turned_gaps.now }
     ensures { MatchBool result
         ((j : ℕ) → j < length clue.now → IsOuterStart side line.now clue.now j (slice_index list.new j))
@@ -83,7 +83,7 @@ fn find_starts(
     list: &mut [u16; MOST_RUNS],
 ) -> bool
     requires clue { AreLengths clue.now }
-    requires count { length clue.now ≤ 128 }
+    requires count { length clue.now ≤ MOST_RUNS }
     ensures { MatchBool result
         (outermost side line.now clue.now ≡ Some (take (length clue.now) list.new))
         (outermost side line.now clue.now ≡ None) }
@@ -106,12 +106,13 @@ pub struct Starts {
 
 impl Model for Starts {
     ghost use Rattle.std.specs.Prelude.{◌≤◌, ℕ, List, take};
+    ghost use Rattle.grid_core.specs.declared.limits.TheConstants.{MOST_RUNS};
 
     ghost Value = { List ℕ };
 
     ghost view = { λ starts. take starts.count starts.list };
 
-    ghost invariant = { λ starts. starts.count ≤ 128 };
+    ghost invariant = { λ starts. starts.count ≤ MOST_RUNS };
 }
 
 impl Starts {
@@ -136,7 +137,7 @@ impl Starts {
     /// The starts of the placing that is furthest to a side.
     fn find(&mut self, side: Side, line: &Line, clue: &[u16]) -> bool
         requires clue { AreLengths clue.now }
-        requires count { length clue.now ≤ 128 }
+        requires count { length clue.now ≤ MOST_RUNS }
         ensures { MatchBool result
             (outermost side line.now clue.now ≡ Some self.new)
             ((outermost side line.now clue.now ≡ None) × (self.new ≡ [])) }
