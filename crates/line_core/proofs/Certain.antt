@@ -5,9 +5,14 @@ use Rattle.grid_core.specs.declared.cells.Cell.{Cell}
 use Rattle.grid_core.specs.declared.cells.Cell.TheVariants.{Unknown}
 use Rattle.line_core.specs.Placings.{placings}
 use Rattle.line_core.specs.Deduction.{shared, shared_at, deduced}
-use Rattle.line_core.specs.Pattern.{certain_by}
-use Rattle.line_core.specs.Reach.{CanBe}
+use Rattle.grid_core.specs.Cells.{agrees}
+use Rattle.grid_core.specs.Runs.{runs}
+use Rattle.line_core.specs.Told.{certain_by}
 use Rattle.line_core.proofs.DeductionLaws.{IsPlacing, ListsPlacings, placings_listed, no_placing, false_unless, filled_at, blank_at, agrees-Extends, Extends-agrees}
+
+-- the line has a placing with a colour at a cell
+abbrev pub CanBe : List Cell → List ℕ → Bool → ℕ → Type 0
+CanBe line clue filled i = (full : List Bool) × (agrees line full ≡ true) × (runs full ≡ clue) × (get_or full i false ≡ filled)
 
 true_unless : (b : Bool) → (b ≡ false → ⊥) → b ≡ true
 true_unless true h = refl

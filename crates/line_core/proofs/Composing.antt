@@ -7,7 +7,6 @@ use Rattle.std.specs.Int.RustNames.{bit_and, bit_or}
 use Rattle.line_core.proofs.Uses.{flood_same}
 use Rattle.line_core.specs.Passes.{PassState, IsPassOver}
 use Rattle.line_core.specs.Reach.{behind, MayBe, IsGapAfter, IsStartAfter, IsEndAfter, IsGap, IsEnd, IsGapAhead, IsWholeEnd}
-use Rattle.line_core.proofs.PatternLaws.{ArePositive}
 use Rattle.line_core.proofs.Reaching.{After, first_gap_to, first_gap_from, gap_after_to, gap_after_from}
 use Rattle.line_core.proofs.Joining.{closed_behind_to, closed_behind_from, closed_ahead_to, closed_ahead_from, turned_gap_to, turned_gap_from}
 
@@ -27,17 +26,17 @@ gap_next_is l runs n free ends m short pos f e p =
     mask_same (IsFlooded (After l n runs) (MayBe l false)) (IsGapAfter l (n ∷ runs)) m
     (flood_same (λ k. IsMoved (Has ends) 1 k × Has free k) (Has free) (After l n runs) (MayBe l false) m
     (λ i h. (f.to i h.1, h.0.1, e.to (i - 1) h.0.2)) (λ i h. let within : i < length l = h.0.0 in ((omega arith, h.1, e.from (i - 1) h.2), f.from i h.0)) f.to f.from p)
-    (λ i h. gap_after_to l runs n i pos h) (λ i h. gap_after_from l runs n i pos h)
+    (λ i h. gap_after_to l runs n i pos h) (gap_after_from l runs n)
 
 -- where a run of so many cells ends that starts after a gap or at an opening, and within a window
 abbrev pub EndsAt : ℕ → ℕ → ℕ → ℕ → ℕ → Type 0
 EndsAt gap opening window n = IsMoved (λ s. (IsMoved (Has gap) 1 s ⊎ Has opening s) × Has window s) (n - 1)
 
 -- the mask of a run's ends, from that of the gaps before it
-pub ends_are : (l : List Cell) (runs : List ℕ) (n gap room opening window m : ℕ) → length l ≤ 128 → ArePositive runs → 0 < n
+pub ends_are : (l : List Cell) (runs : List ℕ) (n gap room opening window m : ℕ) → length l ≤ 128 → 0 < n
     → IsMaskOf (IsGapAfter l runs) gap → IsMaskOf (λ i. (i ≡ 0) × (length runs ≡ 0)) opening → IsMaskOf (MayBe l true) room → IsMaskOf (AllFrom (Has room) n) window
     → IsMaskOf (EndsAt gap opening window n) m → IsMaskOf (IsEndAfter l runs n) m
-ends_are l runs n gap room opening window m short pos some g f a w p = mask_same (EndsAt gap opening window n) (IsEndAfter l runs n) m p to from
+ends_are l runs n gap room opening window m short some g f a w p = mask_same (EndsAt gap opening window n) (IsEndAfter l runs n) m p to from
   where
     start_to : (s : ℕ) → (IsMoved (Has gap) 1 s ⊎ Has opening s) × Has window s → IsStartAfter l runs n s
     start_to s h =
@@ -46,7 +45,7 @@ ends_are l runs n gap room opening window m short pos some g f a w p = mask_same
     start_from : (s : ℕ) → IsStartAfter l runs n s → (IsMoved (Has gap) 1 s ⊎ Has opening s) × Has window s
     start_from s h =
         let here : s + 0 < length l = (h.1 0 some).0 in
-        (elim (closed_behind_to l runs s (omega arith) pos h.0) [ inl x ↦ inr (f.from s x) | inr x ↦ inl (omega arith, x.0, g.from (s - 1) x.1) ], w.from s (λ z b. a.from (s + z) (h.1 z b)))
+        (elim (closed_behind_to l runs s (omega arith) h.0) [ inl x ↦ inr (f.from s x) | inr x ↦ inl (omega arith, x.0, g.from (s - 1) x.1) ], w.from s (λ z b. a.from (s + z) (h.1 z b)))
 
     to : (e : ℕ) → EndsAt gap opening window n e → IsEndAfter l runs n e
     to e h =
@@ -70,10 +69,10 @@ ahead_is l clue j gap m jl g p =
     (λ i h. let within : i < length l = h.0.0 in (within, g.from (length l - 1 - i) (turned_gap_from l clue j i jl within h)))
 
 -- the mask of the ends of a run in whole placings
-pub whole_is : (l : List Cell) (clue : List ℕ) (j ends ahead last m : ℕ) → ArePositive clue → j < length clue → 0 < get_or clue j 0
+pub whole_is : (l : List Cell) (clue : List ℕ) (j ends ahead last m : ℕ) → j < length clue → 0 < get_or clue j 0
     → IsMaskOf (IsEnd l clue j) ends → IsMaskOf (IsGapAhead l clue (j + 1)) ahead → IsMaskOf (λ i. (i ≡ length l - 1) × (j + 1 ≡ length clue)) last
     → IsMaskOf (λ i. Has ends i × (Has ahead (i + 1) ⊎ Has last i)) m → IsMaskOf (IsWholeEnd l clue j) m
-whole_is l clue j ends ahead last m pos jl cp e a z p =
+whole_is l clue j ends ahead last m jl cp e a z p =
     mask_same (λ i. Has ends i × (Has ahead (i + 1) ⊎ Has last i)) (IsWholeEnd l clue j) m p to from
   where
     inside : (i : ℕ) → IsEnd l clue j i → i < length l
@@ -97,7 +96,7 @@ whole_is l clue j ends ahead last m pos jl cp e a z p =
     from i h =
         let within : i < length l = inside i h.0 in (
           e.from i h.0,
-          elim (closed_ahead_to l clue (j + 1) (i + 1) pos (omega arith) (omega arith) h.1) [
+          elim (closed_ahead_to l clue (j + 1) (i + 1) (omega arith) (omega arith) h.1) [
             | inl x ↦ (let k : i + 1 ≡ length l = x.0 in inr (z.from i (omega arith, x.1)))
             | inr x ↦ inl (a.from (i + 1) x)
           ],

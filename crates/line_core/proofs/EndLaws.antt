@@ -8,7 +8,7 @@ use Rattle.grid_core.specs.declared.cells.Cell.{Cell}
 use Rattle.grid_core.specs.Runs.{runs, is_positive, stretches}
 use Rattle.line_core.specs.Placings.{placings}
 use Rattle.line_core.specs.Ends.{run_starts, all_starts, leftmost, rightmost, AreStarts}
-use Rattle.line_core.proofs.PatternLaws.{ArePositive}
+use Rattle.line_core.proofs.RunLaws.{ArePositive}
 use Rattle.line_core.proofs.DeductionLaws.{IsPlacing, placings_listed, test_IsPlacing, IsPlacing_test}
 use Rattle.line_core.proofs.Painting.{IsLaid, Witness, least_laid, greatest_laid}
 use Rattle.line_core.proofs.Outermost.{laid_placing, placed, pass_all, leftmost_is, rightmost_is}

@@ -1,4 +1,4 @@
-use Rattle.std.proofs.Common.{◌≡◌, ℕ, zero, suc, ◌+◌, ◌-◌, ◌<◌, ◌≤◌, Bool, true, false, ◌&&◌, List, [], ◌∷◌, ◌++◌, length, replicate, refl, sym, ap, ◌∙◌, subst, arith, add-zero, zero-add, true≢false, ◌⊎◌, inl, inr, drop, get_or, drop-cons, add-one, drop_of_length-le, length-drop, reverse}
+use Rattle.std.proofs.Common.{◌≡◌, ℕ, zero, suc, ◌+◌, ◌-◌, ◌<◌, ◌≤◌, Bool, true, false, List, [], ◌∷◌, ◌++◌, length, replicate, refl, sym, ap, ◌∙◌, subst, arith, add-zero, zero-add, true≢false, ◌⊎◌, inl, inr, drop, get_or, drop-cons, add-one, drop_of_length-le, length-drop, reverse}
 use Rattle.std.proofs.lemmas.List.{get_or-reverse, length-reverse}
 use Rattle.std.proofs.lemmas.Bool.{cases_lt}
 use Rattle.grid_core.specs.declared.cells.Cell.{Cell}
@@ -6,9 +6,9 @@ use Rattle.grid_core.specs.declared.cells.Cell.TheVariants.{Unknown}
 use Rattle.grid_core.specs.Cells.{allows, agrees}
 use Rattle.grid_core.specs.Runs.{runs}
 use Rattle.line_core.specs.Masks.{AllFrom, SomeFrom}
-use Rattle.line_core.specs.Pattern.{pattern, fits}
-use Rattle.line_core.specs.Reach.{onto, behind, Holds, IsClosed, MayBe, IsGapAfter, IsEndAfter, IsGap, IsGapAhead, CanBe, IsBlankable, IsFillable}
-use Rattle.line_core.proofs.PatternLaws.{ArePositive, and_left, and_right, and_both, or_cases, or_right, runs_after, runs_after-zero, runs_after-true, runs_after-false, runs_after-close, runs_after-nil, fits-placing, placing-fits}
+use Rattle.line_core.specs.Reach.{behind, HasPlacing, IsClosed, MayBe, IsGapAfter, IsEndAfter, IsGap, IsGapAhead, IsBlankable, IsFillable}
+use Rattle.line_core.proofs.RunLaws.{ArePositive, and_left, and_right, and_both, runs_after, runs_after-zero, runs_after-true, runs_after-false, runs_after-close, runs_after-nil}
+use Rattle.line_core.proofs.Certain.{CanBe}
 
 pub length-agrees : (l : List Cell) (x : List Bool) → agrees l x ≡ true → length x ≡ length l
 length-agrees [] [] h = refl
@@ -17,6 +17,10 @@ length-agrees (c ∷ l) [] h = cc
 length-agrees (c ∷ l) (b ∷ x) h = ap suc (length-agrees l x (and_right (allows c b) (agrees l x) h))
 
 -- ---- a list turned round in front of another
+
+abbrev pub onto : {A : Type 0} → List A → List A → List A
+onto [] after = after
+onto (x ∷ before) after = onto before (x ∷ after)
 
 pub length_behind : {A : Type 0} (d : A) (xs : List A) (i : ℕ) → length (behind d xs i) ≡ i
 length_behind d xs zero = refl
@@ -117,43 +121,6 @@ positive_at [] p j h = absurd (omega arith)
 positive_at (c ∷ clue) p zero h = p.0
 positive_at (c ∷ clue) p (suc j) h = positive_at clue p.1 j (omega arith)
 
-pub positive_from : (clue : List ℕ) → ((j : ℕ) → j < length clue → 0 < get_or clue j 0) → ArePositive clue
-positive_from [] h = tt
-positive_from (c ∷ clue) h = (h 0 (omega arith), positive_from clue (λ j l. h (suc j) (omega arith)))
-
-pub positive_behind : (clue : List ℕ) → ArePositive clue → (j : ℕ) → j ≤ length clue → ArePositive (behind 0 clue j)
-positive_behind clue p zero h = tt
-positive_behind clue p (suc j) h = (positive_at clue p j (omega arith), positive_behind clue p j (omega arith))
-
-pub positive_drop : (clue : List ℕ) → ArePositive clue → (j : ℕ) → ArePositive (drop j clue)
-positive_drop [] p zero = tt
-positive_drop [] p (suc j) = tt
-positive_drop (c ∷ clue) p zero = p
-positive_drop (c ∷ clue) p (suc j) = positive_drop clue p.1 j
-
--- ---- cells that are closed, as lines
-
-pub closed_line : (cells : List Cell) (cs : List ℕ) → ArePositive cs → IsClosed cells cs → (y : List Bool) × (agrees cells y ≡ true) × (runs y ≡ cs) × (get_or y 0 false ≡ false)
-closed_line [] [] p h = ([], refl, refl, refl)
-closed_line [] (zero ∷ cs) p h = absurd (omega (arith, p.0))
-closed_line [] (suc c ∷ cs) p h = cc
-closed_line (c ∷ cells) cs p h =
-    elim (or_cases (allows c true && false) (allows c false && fits cells true (pattern cs)) h) [
-      | inl a ↦ absurd (true≢false (sym (and_right (allows c true) false a)))
-      | inr b ↦
-          (let y = fits-placing cells cs p (and_right (allows c false) (fits cells true (pattern cs)) b) in
-          (false ∷ y.0, and_both (allows c false) (agrees cells y.0) (and_left (allows c false) (fits cells true (pattern cs)) b) y.1, y.2, refl))
-    ]
-
-pub line_closed : (cells : List Cell) (cs : List ℕ) (y : List Bool) → ArePositive cs → agrees cells y ≡ true → runs y ≡ cs → get_or y 0 false ≡ false → IsClosed cells cs
-line_closed [] cs [] p a e h = subst (IsClosed []) e refl
-line_closed [] cs (b ∷ y) p a e h = cc
-line_closed (c ∷ cells) cs [] p a e h = cc
-line_closed (c ∷ cells) cs (true ∷ y) p a e h = cc
-line_closed (c ∷ cells) cs (false ∷ y) p a e h =
-    or_right (allows c true && false) (allows c false && fits cells true (pattern cs))
-    (and_both (allows c false) (fits cells true (pattern cs)) (and_left (allows c false) (agrees cells y) a) (placing-fits cells cs y p (and_right (allows c false) (agrees cells y) a) e))
-
 -- ---- a run on the line
 
 pub agrees_run : (l : List Cell) (n s : ℕ) (y : List Bool) → AllFrom (MayBe l true) n s → agrees (drop (s + n) l) y ≡ true → agrees (drop s l) (replicate n true ++ y) ≡ true
@@ -219,10 +186,10 @@ run_run (suc z) m w = let e : suc (z + m) ≡ suc z + m = omega arith in ap (λ 
 
 -- ---- the two final facts, and back
 
-pub blankable_to : (l : List Cell) (clue : List ℕ) (i : ℕ) → ArePositive clue → IsBlankable l clue i → CanBe l clue false i
-blankable_to l clue i pos (j, jl, gap, ahead) =
-    let a = fits-placing (behind Unknown l i) (behind 0 clue j) (positive_behind clue pos j jl) gap.1 in
-    let b = fits-placing (drop (i + 1) l) (drop j clue) (positive_drop clue pos j) ahead.1 in
+pub blankable_to : (l : List Cell) (clue : List ℕ) (i : ℕ) → IsBlankable l clue i → CanBe l clue false i
+blankable_to l clue i (j, jl, gap, ahead) =
+    let a = gap.1 in
+    let b = ahead.1 in
     let within : i < length l = gap.0.0 in
     let long : length a.0 ≡ i = length-agrees (behind Unknown l i) a.0 a.1 ∙ length_behind Unknown l i in
     let split : drop i l ≡ get_or l i Unknown ∷ drop (suc i) l = drop-cons l i Unknown within in
@@ -236,8 +203,8 @@ blankable_to l clue i pos (j, jl, gap, ahead) =
       ap (λ (k : ℕ). get_or (onto a.0 (false ∷ b.0)) k false) (sym at) ∙ get_or-onto false a.0 (false ∷ b.0) 0,
     )
 
-pub blankable_from : (l : List Cell) (clue : List ℕ) (i : ℕ) → ArePositive clue → i < length l → CanBe l clue false i → IsBlankable l clue i
-blankable_from l clue i pos h (x, agree, is, at) =
+pub blankable_from : (l : List Cell) (clue : List ℕ) (i : ℕ) → i < length l → CanBe l clue false i → IsBlankable l clue i
+blankable_from l clue i h (x, agree, is, at) =
     let long : length x ≡ length l = length-agrees l x agree in
     let a = behind false x i in
     let b = drop (suc i) x in
@@ -253,8 +220,8 @@ blankable_from l clue i pos h (x, agree, is, at) =
     let after : agrees (drop (i + 1) l) b ≡ true = subst (λ (k : ℕ). agrees (drop k l) b ≡ true) (sym (add-one i)) here.1 in (
       j,
       parts.2,
-      (here.0, placing-fits (behind Unknown l i) (behind 0 clue j) a (positive_behind clue pos j parts.2) cut.0 parts.0),
-      (here.0, placing-fits (drop (i + 1) l) (drop j clue) b (positive_drop clue pos j) after parts.1),
+      (here.0, (a, cut.0, parts.0)),
+      (here.0, (b, after, parts.1)),
     )
 
 pub runs_about : (a : List Bool) (c : ℕ) (b : List Bool) → 0 < c → get_or a 0 false ≡ false → get_or b 0 false ≡ false
@@ -274,8 +241,8 @@ fillable_to l clue i pos (j, jl, (z, zb, w)) =
     let enough : c ≤ i + z + 1 = w.0.0 in
     let cells : AllFrom (MayBe l true) c s = w.0.1.1 in
     let first : s + 0 < length l = (cells 0 cp).0 in
-    let a = closed_line (behind Unknown l s) (behind 0 clue j) (positive_behind clue pos j (omega arith)) w.0.1.0 in
-    let b = closed_line (drop (i + z + 1) l) (drop (j + 1) clue) (positive_drop clue pos (j + 1)) w.1 in
+    let a = w.0.1.0 in
+    let b = w.1 in
     let past : i + z + 1 ≡ s + c = omega arith in
     let here : agrees (drop s l) (replicate c true ++ b.0) ≡ true =
     agrees_run l c s b.0 cells (subst (λ (k : ℕ). agrees (drop k l) b.0 ≡ true) past b.1) in
@@ -297,8 +264,8 @@ begins_some y b h = by b.count b.whole
     by zero e = absurd (true≢false (sym h ∙ ap (λ (t : List Bool). get_or t 0 false) e ∙ b.closed))
     by (suc n) e = omega arith
 
-pub fillable_from : (l : List Cell) (clue : List ℕ) (i : ℕ) → ArePositive clue → i < length l → CanBe l clue true i → IsFillable l clue i
-fillable_from l clue i pos h (x, agree, is, at) =
+pub fillable_from : (l : List Cell) (clue : List ℕ) (i : ℕ) → i < length l → CanBe l clue true i → IsFillable l clue i
+fillable_from l clue i h (x, agree, is, at) =
     let long : length x ≡ length l = length-agrees l x agree in
     let within : i < length x = omega arith in
     let u = begins (behind false x i) in
@@ -323,10 +290,10 @@ fillable_from l clue i pos h (x, agree, is, at) =
     let start : s ≡ i + (v.count - 1) + 1 - c = omega arith in
     let past : s + c ≡ i + (v.count - 1) + 1 = omega arith in
     let before : IsClosed (behind Unknown l s) (behind 0 clue j) =
-    line_closed (behind Unknown l s) (behind 0 clue j) u.rest (positive_behind clue pos j (omega (arith, head.2))) cut.0 parts.0 u.closed in
+    (u.rest, cut.0, parts.0, u.closed) in
     let rest_is : runs v.rest ≡ drop (j + 1) clue = head.1 ∙ ap (λ (k : ℕ). drop k clue) (sym (add-one j)) in
     let after : IsClosed (drop (s + c) l) (drop (j + 1) clue) =
-    line_closed (drop (s + c) l) (drop (j + 1) clue) v.rest (positive_drop clue pos (j + 1)) run.1 rest_is v.closed in
+    (v.rest, run.1, rest_is, v.closed) in
     let ends : IsEndAfter l (behind 0 clue j) c (i + (v.count - 1)) =
     (omega arith, subst (λ (k : ℕ). IsClosed (behind Unknown l k) (behind 0 clue j) × AllFrom (MayBe l true) c k) start (before, run.0)) in
     let enough : v.count - 1 < c = omega arith in
@@ -336,29 +303,39 @@ fillable_from l clue i pos h (x, agree, is, at) =
 
 -- ---- no run at an end: the end of the line, or a gap
 
-pub closed_behind_to : (l : List Cell) (runs : List ℕ) (s : ℕ) → s ≤ length l → ArePositive runs → IsClosed (behind Unknown l s) runs → ((s ≡ 0) × (length runs ≡ 0)) ⊎ ((1 ≤ s) × IsGapAfter l runs (s - 1))
-closed_behind_to l [] zero sl pos h = inl (refl, refl)
-closed_behind_to l (zero ∷ runs) zero sl pos h = absurd (omega (arith, pos.0))
-closed_behind_to l (suc n ∷ runs) zero sl pos h = cc
-closed_behind_to l runs (suc s) sl pos h =
-    elim (or_cases (allows (get_or l s Unknown) true && false) (allows (get_or l s Unknown) false && fits (behind Unknown l s) true (pattern runs)) h) [
-      | inl a ↦ absurd (true≢false (sym (and_right (allows (get_or l s Unknown) true) false a)))
-      | inr b ↦
-          (let e : s ≡ suc s - 1 = omega arith in
-          let gap : IsGapAfter l runs s = ((omega arith, and_left (allows (get_or l s Unknown) false) (fits (behind Unknown l s) true (pattern runs)) b), and_right (allows (get_or l s Unknown) false) (fits (behind Unknown l s) true (pattern runs)) b) in
-          inr (omega arith, subst (IsGapAfter l runs) e gap))
-    ]
+-- a placing whose first cell is blank has no run there
+pub closed_none : (cs : List ℕ) → IsClosed [] cs → length cs ≡ 0
+closed_none cs ([], agree, is, closed) = sym (ap length is)
+closed_none cs (b ∷ y, agree, is, closed) = cc
+
+pub closed_first : (c : Cell) (cells : List Cell) (cs : List ℕ) → IsClosed (c ∷ cells) cs → (allows c false ≡ true) × HasPlacing cells cs
+closed_first c cells cs ([], agree, is, closed) = cc
+closed_first c cells cs (true ∷ y, agree, is, closed) = cc
+closed_first c cells cs (false ∷ y, agree, is, closed) = (and_left (allows c false) (agrees cells y) agree, (y, and_right (allows c false) (agrees cells y) agree, is))
+
+pub first_closed : (c : Cell) (cells : List Cell) (cs : List ℕ) → allows c false ≡ true → HasPlacing cells cs → IsClosed (c ∷ cells) cs
+first_closed c cells cs a (y, agree, is) = (false ∷ y, and_both (allows c false) (agrees cells y) a agree, is, refl)
+
+pub none_closed : (cs : List ℕ) → length cs ≡ 0 → IsClosed [] cs
+none_closed [] h = ([], refl, refl, refl)
+none_closed (c ∷ cs) h = absurd (omega arith)
+
+pub closed_behind_to : (l : List Cell) (runs : List ℕ) (s : ℕ) → s ≤ length l → IsClosed (behind Unknown l s) runs → ((s ≡ 0) × (length runs ≡ 0)) ⊎ ((1 ≤ s) × IsGapAfter l runs (s - 1))
+closed_behind_to l runs zero sl h = inl (refl, closed_none runs h)
+closed_behind_to l runs (suc s) sl h =
+    let first = closed_first (get_or l s Unknown) (behind Unknown l s) runs h in
+    let e : s ≡ suc s - 1 = omega arith in
+    let gap : IsGapAfter l runs s = ((omega arith, first.0), first.1) in
+    inr (omega arith, subst (IsGapAfter l runs) e gap)
 
 pub closed_behind_from : (l : List Cell) (runs : List ℕ) (s : ℕ) → ((s ≡ 0) × (length runs ≡ 0)) ⊎ ((1 ≤ s) × IsGapAfter l runs (s - 1)) → IsClosed (behind Unknown l s) runs
-closed_behind_from l [] zero h = refl
-closed_behind_from l (n ∷ runs) zero (inl h) = let bad : length (n ∷ runs) ≡ 0 = h.1 in absurd (omega arith)
-closed_behind_from l (n ∷ runs) zero (inr h) = let bad : 1 ≤ 0 = h.0 in absurd (omega arith)
+closed_behind_from l runs zero (inl h) = none_closed runs h.1
+closed_behind_from l runs zero (inr h) = let bad : 1 ≤ 0 = h.0 in absurd (omega arith)
 closed_behind_from l runs (suc s) (inl h) = let bad : suc s ≡ 0 = h.0 in absurd (omega arith)
 closed_behind_from l runs (suc s) (inr h) =
     let e : suc s - 1 ≡ s = omega arith in
     let gap = subst (IsGapAfter l runs) e h.1 in
-    or_right (allows (get_or l s Unknown) true && false) (allows (get_or l s Unknown) false && fits (behind Unknown l s) true (pattern runs))
-    (and_both (allows (get_or l s Unknown) false) (fits (behind Unknown l s) true (pattern runs)) gap.0.1 gap.1)
+    first_closed (get_or l s Unknown) (behind Unknown l s) runs gap.0.1 gap.1
 
 -- ---- a line and a clue seen from the other end
 
@@ -378,7 +355,7 @@ turned_gap_to l clue j i jl il g =
     let cells : behind Unknown (reverse l) p ≡ drop (i + 1) l = behind_turned Unknown l p (i + 1) (omega arith) in
     let runs : behind 0 (reverse clue) (length clue - j) ≡ drop j clue = behind_turned 0 clue (length clue - j) j (omega arith) in (
       (il, subst (λ (c : Cell). allows c false ≡ true) cell g.0.1),
-      subst (λ (cs : List ℕ). Holds (drop (i + 1) l) cs) runs (subst (λ (t : List Cell). Holds t (behind 0 (reverse clue) (length clue - j))) cells g.1),
+      subst (λ (cs : List ℕ). HasPlacing (drop (i + 1) l) cs) runs (subst (λ (t : List Cell). HasPlacing t (behind 0 (reverse clue) (length clue - j))) cells g.1),
     )
 
 pub turned_gap_from : (l : List Cell) (clue : List ℕ) (j i : ℕ) → j ≤ length clue → i < length l → IsGapAhead l clue j i → IsGap (reverse l) (reverse clue) (length clue - j) (length l - 1 - i)
@@ -390,42 +367,29 @@ turned_gap_from l clue j i jl il g =
     let runs : behind 0 (reverse clue) (length clue - j) ≡ drop j clue = behind_turned 0 clue (length clue - j) j (omega arith) in
     let within : p < length (reverse l) = omega (arith, length-reverse l) in (
       (within, subst (λ (c : Cell). allows c false ≡ true) (sym cell) g.0.1),
-      subst (λ (t : List Cell). Holds t (behind 0 (reverse clue) (length clue - j))) (sym cells) (subst (λ (cs : List ℕ). Holds (drop (i + 1) l) cs) (sym runs) g.1),
+      subst (λ (t : List Cell). HasPlacing t (behind 0 (reverse clue) (length clue - j))) (sym cells) (subst (λ (cs : List ℕ). HasPlacing (drop (i + 1) l) cs) (sym runs) g.1),
     )
 
 -- the end of the line, or a gap, after a run's end
-pub closed_ahead_to : (l : List Cell) (clue : List ℕ) (j p : ℕ) → ArePositive clue → j ≤ length clue → p ≤ length l → IsClosed (drop p l) (drop j clue) → ((p ≡ length l) × (j ≡ length clue)) ⊎ IsGapAhead l clue j p
-closed_ahead_to l clue j p pos jl pl h = by (cases_lt p (length l))
+pub closed_ahead_to : (l : List Cell) (clue : List ℕ) (j p : ℕ) → j ≤ length clue → p ≤ length l → IsClosed (drop p l) (drop j clue) → ((p ≡ length l) × (j ≡ length clue)) ⊎ IsGapAhead l clue j p
+closed_ahead_to l clue j p jl pl h = by (cases_lt p (length l))
   where
-    last : (q : List ℕ) → ArePositive q → IsClosed [] q → length q ≡ 0
-    last [] a b = refl
-    last (zero ∷ q) a b = absurd (omega (arith, a.0))
-    last (suc n ∷ q) a b = cc
-
     by : (p < length l) ⊎ (length l ≤ p) → ((p ≡ length l) × (j ≡ length clue)) ⊎ IsGapAhead l clue j p
     by (inr past) =
         let gone : drop p l ≡ [] = drop_of_length-le l {i = p} past in
-        let none : length (drop j clue) ≡ 0 = last (drop j clue) (positive_drop clue pos j) (subst (λ (t : List Cell). IsClosed t (drop j clue)) gone h) in
+        let none : length (drop j clue) ≡ 0 = closed_none (drop j clue) (subst (λ (t : List Cell). IsClosed t (drop j clue)) gone h) in
         inl (omega arith, omega (arith, length-drop j clue))
     by (inl within) =
         let split : drop p l ≡ get_or l p Unknown ∷ drop (suc p) l = drop-cons l p Unknown within in
-        let here : IsClosed (get_or l p Unknown ∷ drop (suc p) l) (drop j clue) = subst (λ (t : List Cell). IsClosed t (drop j clue)) split h in
-        elim (or_cases (allows (get_or l p Unknown) true && false) (allows (get_or l p Unknown) false && fits (drop (suc p) l) true (pattern (drop j clue))) here) [
-          | inl a ↦ absurd (true≢false (sym (and_right (allows (get_or l p Unknown) true) false a)))
-          | inr b ↦ inr (
-            (within, and_left (allows (get_or l p Unknown) false) (fits (drop (suc p) l) true (pattern (drop j clue))) b),
-            subst (λ (k : ℕ). Holds (drop k l) (drop j clue)) (sym (add-one p)) (and_right (allows (get_or l p Unknown) false) (fits (drop (suc p) l) true (pattern (drop j clue))) b),
-          )
-        ]
+        let first = closed_first (get_or l p Unknown) (drop (suc p) l) (drop j clue) (subst (λ (t : List Cell). IsClosed t (drop j clue)) split h) in
+        inr ((within, first.0), subst (λ (k : ℕ). HasPlacing (drop k l) (drop j clue)) (sym (add-one p)) first.1)
 
 pub closed_ahead_from : (l : List Cell) (clue : List ℕ) (j p : ℕ) → ((p ≡ length l) × (j ≡ length clue)) ⊎ IsGapAhead l clue j p → IsClosed (drop p l) (drop j clue)
 closed_ahead_from l clue j p (inl h) =
     let gone : [] ≡ drop p l = sym (drop_of_length-le l {i = p} (omega (arith, h.0))) in
-    let none : [] ≡ drop j clue = sym (drop_of_length-le clue {i = j} (omega (arith, h.1))) in
-    subst (λ (t : List Cell). IsClosed t (drop j clue)) gone (subst (IsClosed []) none refl)
+    let none : length (drop j clue) ≡ 0 = ap length (drop_of_length-le clue {i = j} (omega (arith, h.1))) in
+    subst (λ (t : List Cell). IsClosed t (drop j clue)) gone (none_closed (drop j clue) none)
 closed_ahead_from l clue j p (inr g) =
     let split : get_or l p Unknown ∷ drop (suc p) l ≡ drop p l = sym (drop-cons l p Unknown g.0.0) in
-    let holds : Holds (drop (suc p) l) (drop j clue) = subst (λ (k : ℕ). Holds (drop k l) (drop j clue)) (add-one p) g.1 in
-    subst (λ (t : List Cell). IsClosed t (drop j clue)) split
-    (or_right (allows (get_or l p Unknown) true && false) (allows (get_or l p Unknown) false && fits (drop (suc p) l) true (pattern (drop j clue)))
-    (and_both (allows (get_or l p Unknown) false) (fits (drop (suc p) l) true (pattern (drop j clue))) g.0.1 holds))
+    let holds : HasPlacing (drop (suc p) l) (drop j clue) = subst (λ (k : ℕ). HasPlacing (drop k l) (drop j clue)) (add-one p) g.1 in
+    subst (λ (t : List Cell). IsClosed t (drop j clue)) split (first_closed (get_or l p Unknown) (drop (suc p) l) (drop j clue) g.0.1 holds)

@@ -7,7 +7,7 @@ pub mod Doubling
 pub mod Levels
 pub mod Turning
 pub mod Uses
-pub mod PatternLaws
+pub mod RunLaws
 pub mod Reaching
 pub mod Joining
 pub mod Certain

@@ -18,9 +18,9 @@ use Rattle.std.specs.Int.RustNames.{bit_and}
 use Rattle.line_core.specs.Masks.{Has, IsMaskOf, AllFrom}
 use Rattle.line_core.proofs.Steps.{and_is}
 use Rattle.line_core.proofs.LineCells.{written_more}
-use Rattle.line_core.specs.Reach.{onto, behind, MayBe, IsClosed, IsStartAfter, IsWholeEnd, IsGap, IsGapAhead, HasPlacing}
-use Rattle.line_core.proofs.PatternLaws.{ArePositive}
-use Rattle.line_core.proofs.Joining.{length-agrees, length_behind, onto_behind, onto_agrees, agrees_onto, run_agrees, agrees_run, closed_line, line_closed, positive_at, positive_behind, positive_drop, runs_about, blankable_to, blankable_from}
+use Rattle.line_core.specs.Reach.{behind, MayBe, IsClosed, IsStartAfter, IsWholeEnd, IsGap, IsGapAhead, HasPlacing}
+use Rattle.line_core.proofs.RunLaws.{ArePositive}
+use Rattle.line_core.proofs.Joining.{onto, length-agrees, length_behind, onto_behind, onto_agrees, agrees_onto, run_agrees, agrees_run, positive_at, runs_about, blankable_to, blankable_from}
 use Rattle.line_core.proofs.DeductionLaws.{IsPlacing, ListsPlacings, placings_listed, false_unless, agrees-Extends, Extends-agrees}
 use Rattle.line_core.proofs.RunStarts.{starts_from, run_starts-from, start_of_cut, run_of, covered}
 use Rattle.line_core.proofs.Painting.{IsLaid, Witness, laid, placing_of, least_laid, greatest_laid}
@@ -43,9 +43,9 @@ whole_of l clue x k e pos agree is h at =
     subst (λ (t : List Cell). agrees t (onto r.front y) ≡ true) (sym (onto_behind Unknown l s (omega arith))) (subst (λ (t : List Bool). agrees l t ≡ true) (sym r.whole) agree) in
     let cut = onto_agrees (behind Unknown l s) (drop s l) r.front y (length_behind Unknown l s ∙ sym long) both in
     let run = run_agrees l c s r.back cut.1 in
-    let before : IsClosed (behind Unknown l s) (behind 0 clue k) = line_closed (behind Unknown l s) (behind 0 clue k) r.front (positive_behind clue pos k (omega arith)) cut.0 r.front_runs r.front_closed in
+    let before : IsClosed (behind Unknown l s) (behind 0 clue k) = (r.front, cut.0, r.front_runs, r.front_closed) in
     let rest_is : runs r.back ≡ drop (k + 1) clue = r.back_runs ∙ ap (λ (n : ℕ). drop n clue) (sym (add-one k)) in
-    let after : IsClosed (drop (s + c) l) (drop (k + 1) clue) = line_closed (drop (s + c) l) (drop (k + 1) clue) r.back (positive_drop clue pos (k + 1)) run.1 rest_is r.back_closed in
+    let after : IsClosed (drop (s + c) l) (drop (k + 1) clue) = (r.back, run.1, rest_is, r.back_closed) in
     let start : s ≡ e + 1 - c = omega arith in
     ((omega arith, subst (IsStartAfter l (behind 0 clue k) c) start (before, run.0)), subst (λ (n : ℕ). IsClosed (drop n l) (drop (k + 1) clue)) (sym at) after)
 
@@ -58,8 +58,8 @@ witness_of l clue k e pos h w =
     let enough : c ≤ e + 1 = w.0.0 in
     let cells : AllFrom (MayBe l true) c s = w.0.1.1 in
     let first : s + 0 < length l = (cells 0 some).0 in
-    let a = closed_line (behind Unknown l s) (behind 0 clue k) (positive_behind clue pos k (omega arith)) w.0.1.0 in
-    let b = closed_line (drop (e + 1) l) (drop (k + 1) clue) (positive_drop clue pos (k + 1)) w.1 in
+    let a = w.0.1.0 in
+    let b = w.1 in
     let past : e + 1 ≡ s + c = omega arith in
     let here : agrees (drop s l) (replicate c true ++ b.0) ≡ true = agrees_run l c s b.0 cells (subst (λ (n : ℕ). agrees (drop n l) b.0 ≡ true) past b.1) in
     let long : length a.0 ≡ s = length-agrees (behind Unknown l s) a.0 a.1 ∙ length_behind Unknown l s in
@@ -241,19 +241,19 @@ outer_more side l clue list j whole place start h mask in_mask far at below =
 -- ---- a line with no run
 
 -- its first cell is blank in each placing
-pub no_run_to : (l : List Cell) (clue : List ℕ) (gap ahead : ℕ) → ArePositive clue → IsMaskOf (IsGap l clue 0) gap → IsMaskOf (IsGapAhead l clue 0) ahead → Has (bit_and gap ahead) 0 → HasPlacing l clue
-no_run_to l clue gap ahead pos g a h =
+pub no_run_to : (l : List Cell) (clue : List ℕ) (gap ahead : ℕ) → IsMaskOf (IsGap l clue 0) gap → IsMaskOf (IsGapAhead l clue 0) ahead → Has (bit_and gap ahead) 0 → HasPlacing l clue
+no_run_to l clue gap ahead g a h =
     let b = (and_is (IsGap l clue 0) (IsGapAhead l clue 0) gap ahead g a).to 0 h in
-    let can = blankable_to l clue 0 pos (0, omega arith, b.0, b.1) in
+    let can = blankable_to l clue 0 (0, omega arith, b.0, b.1) in
     (can.0, can.1, can.2)
 
-pub no_run_from : (l : List Cell) (clue : List ℕ) (gap ahead : ℕ) → ArePositive clue → length clue ≡ 0 → 0 < length l → IsMaskOf (IsGap l clue 0) gap → IsMaskOf (IsGapAhead l clue 0) ahead → HasPlacing l clue → Has (bit_and gap ahead) 0
-no_run_from l clue gap ahead pos none some g a p = by (get_or p.0 0 false) refl
+pub no_run_from : (l : List Cell) (clue : List ℕ) (gap ahead : ℕ) → length clue ≡ 0 → 0 < length l → IsMaskOf (IsGap l clue 0) gap → IsMaskOf (IsGapAhead l clue 0) ahead → HasPlacing l clue → Has (bit_and gap ahead) 0
+no_run_from l clue gap ahead none some g a p = by (get_or p.0 0 false) refl
   where
     by : (v : Bool) → get_or p.0 0 false ≡ v → Has (bit_and gap ahead) 0
     by true e = let c = covered p.0 clue 0 p.2 e in let bad : c.index < length clue = c.inside in absurd (omega arith)
     by false e =
-        let b = blankable_from l clue 0 pos some (p.0, p.1, p.2, e) in
+        let b = blankable_from l clue 0 some (p.0, p.1, p.2, e) in
         let low : b.0 ≤ length clue = b.1 in
         let at : b.0 ≡ 0 = omega arith in
         (and_is (IsGap l clue 0) (IsGapAhead l clue 0) gap ahead g a).from 0 (subst (λ (q : ℕ). IsGap l clue q 0 × IsGapAhead l clue q 0) at (b.2, b.3))

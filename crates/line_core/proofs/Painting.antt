@@ -7,7 +7,7 @@ use Rattle.grid_core.specs.Cells.{allows, agrees}
 use Rattle.grid_core.specs.Runs.{runs}
 use Rattle.line_core.specs.Masks.{AllFrom}
 use Rattle.line_core.specs.Reach.{MayBe}
-use Rattle.line_core.proofs.PatternLaws.{ArePositive, and_left, and_right, and_both}
+use Rattle.line_core.proofs.RunLaws.{ArePositive, and_left, and_right, and_both}
 use Rattle.line_core.proofs.Joining.{length-agrees, runs_run, runs_closed}
 use Rattle.line_core.proofs.RunStarts.{starts_from, length-run_starts, run_of, filled_in_run, runs_apart, covered}
 

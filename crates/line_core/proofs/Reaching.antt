@@ -1,90 +1,87 @@
-use Rattle.std.proofs.Common.{◌≡◌, ℕ, zero, suc, ◌+◌, ◌-◌, ◌<◌, ◌≤◌, true, false, ◌&&◌, List, [], ◌∷◌, ◌++◌, length, replicate, refl, sym, subst, arith, true≢false, ◌⊎◌, inl, inr, get_or}
-use Rattle.std.proofs.lemmas.Bool.{cases_lt}
+use Rattle.std.proofs.Common.{◌≡◌, ℕ, zero, suc, ◌+◌, ◌-◌, ◌<◌, ◌≤◌, Bool, true, false, List, [], ◌∷◌, ◌++◌, length, replicate, refl, sym, ap, ◌∙◌, subst, arith, ◌⊎◌, inl, inr, get_or}
 use Rattle.grid_core.specs.declared.cells.Cell.{Cell}
 use Rattle.grid_core.specs.declared.cells.Cell.TheVariants.{Unknown}
-use Rattle.grid_core.specs.Cells.{allows}
+use Rattle.grid_core.specs.Cells.{allows, agrees}
+use Rattle.grid_core.specs.Runs.{runs}
 use Rattle.line_core.specs.Masks.{IsFlooded, AllFrom}
-use Rattle.line_core.specs.Pattern.{pattern, fits}
-use Rattle.line_core.specs.Reach.{behind, Holds, IsClosed, MayBe, IsGapAfter, IsEndAfter}
-use Rattle.line_core.proofs.PatternLaws.{and_left, and_right, and_both, or_cases, or_left, or_right}
+use Rattle.line_core.specs.Reach.{behind, HasPlacing, IsClosed, MayBe, IsGapAfter, IsEndAfter}
+use Rattle.line_core.proofs.RunLaws.{and_left, and_right, and_both}
+use Rattle.line_core.proofs.Joining.{begins, begins_some, runs_about, first_closed}
 
--- cells that hold no run: one more
-holds_none : (c : Cell) (cells : List Cell) → Holds (c ∷ cells) [] → (allows c false ≡ true) × Holds cells []
-holds_none c cells h =
-    elim (or_cases (allows c true && false) (allows c false && fits cells true []) h) [
-      | inl a ↦ absurd (true≢false (sym (and_right (allows c true) false a)))
-      | inr b ↦ (and_left (allows c false) (fits cells true []) b, and_right (allows c false) (fits cells true []) b)
-    ]
+-- one more blank cell before a placing
+blank_before : (c : Cell) (cells : List Cell) (cs : List ℕ) → allows c false ≡ true → HasPlacing cells cs → HasPlacing (c ∷ cells) cs
+blank_before c cells cs a p = let q = first_closed c cells cs a p in (q.0, q.1, q.2)
 
-none_holds : (c : Cell) (cells : List Cell) → allows c false ≡ true → Holds cells [] → Holds (c ∷ cells) []
-none_holds c cells a h = or_right (allows c true && false) (allows c false && fits cells true []) (and_both (allows c false) (fits cells true []) a h)
+-- the nearest cell is blank in a placing, or in a run that goes on over so many cells
+pub record BeginsWithRun (cells : List Cell) (cs : List ℕ) : Type 0 where
+  pub count : ℕ
+  pub rest : List Bool
+  pub some : 0 < count
+  pub agree : agrees cells (replicate count true ++ rest) ≡ true
+  pub runs_are : count ∷ runs rest ≡ cs
+  pub closed : get_or rest 0 false ≡ false
+
+first_cell : (c : Cell) (cells : List Cell) (cs : List ℕ) → HasPlacing (c ∷ cells) cs → ((allows c false ≡ true) × HasPlacing cells cs) ⊎ BeginsWithRun (c ∷ cells) cs
+first_cell c cells cs ([], agree, is) = cc
+first_cell c cells cs (false ∷ y, agree, is) = inl (and_left (allows c false) (agrees cells y) agree, (y, and_right (allows c false) (agrees cells y) agree, is))
+first_cell c cells cs (true ∷ y, agree, is) =
+    let b = begins (true ∷ y) in
+    let some : 0 < b.count = begins_some (true ∷ y) b refl in
+    inr (record {
+      count = b.count;
+      rest = b.rest;
+      some = some;
+      agree = subst (λ (t : List Bool). agrees (c ∷ cells) t ≡ true) b.whole agree;
+      runs_are = sym (runs_about [] b.count b.rest some refl b.closed) ∙ ap runs (sym b.whole) ∙ is;
+      closed = b.closed;
+    })
 
 -- the first gaps: from the first cell on, as long as all may be blank
 pub first_gap_to : (l : List Cell) (i : ℕ) → IsFlooded (λ k. (k ≡ 0) × MayBe l false k) (MayBe l false) i → IsGapAfter l [] i
-first_gap_to l zero f = (f.1, refl)
+first_gap_to l zero f = (f.1, ([], refl, refl))
 first_gap_to l (suc i) (inl f) = let bad : suc i ≡ 0 = f.0 in absurd (omega arith)
 first_gap_to l (suc i) (inr f) =
     let before = first_gap_to l i f.1 in
-    (f.0, none_holds (get_or l i Unknown) (behind Unknown l i) before.0.1 before.1)
+    (f.0, blank_before (get_or l i Unknown) (behind Unknown l i) [] before.0.1 before.1)
 
 pub first_gap_from : (l : List Cell) (i : ℕ) → IsGapAfter l [] i → IsFlooded (λ k. (k ≡ 0) × MayBe l false k) (MayBe l false) i
 first_gap_from l zero g = (refl, g.0)
-first_gap_from l (suc i) g =
-    let before = holds_none (get_or l i Unknown) (behind Unknown l i) g.1 in
-    let within : suc i < length l = g.0.0 in
-    inr (g.0, first_gap_from l i ((omega arith, before.0), before.1))
+first_gap_from l (suc i) g = elim (first_cell (get_or l i Unknown) (behind Unknown l i) [] g.1) [
+  | inl b ↦ (let within : suc i < length l = g.0.0 in inr (g.0, first_gap_from l i ((omega arith, b.0), b.1)))
+  | inr r ↦ (let bad = r.runs_are in cc)
+]
 
--- cells that hold a run: the nearest one is blank or the run's
-holds_next : (c : Cell) (cells : List Cell) (r : ℕ) (cs : List ℕ) → Holds (c ∷ cells) (suc r ∷ cs)
-    → ((allows c false ≡ true) × Holds cells (suc r ∷ cs)) ⊎ ((allows c true ≡ true) × (fits cells false (replicate r true ++ (false ∷ pattern cs)) ≡ true))
-holds_next c cells r cs h =
-    elim (or_cases (allows c true && fits cells false (replicate r true ++ (false ∷ pattern cs))) (allows c false && fits cells true (pattern (suc r ∷ cs))) h) [
-      | inl a ↦ inr (and_left (allows c true) (fits cells false (replicate r true ++ (false ∷ pattern cs))) a, and_right (allows c true) (fits cells false (replicate r true ++ (false ∷ pattern cs))) a)
-      | inr b ↦ inl (and_left (allows c false) (fits cells true (pattern (suc r ∷ cs))) b, and_right (allows c false) (fits cells true (pattern (suc r ∷ cs))) b)
-    ]
-
-next_holds_blank : (c : Cell) (cells : List Cell) (r : ℕ) (cs : List ℕ) → allows c false ≡ true → Holds cells (suc r ∷ cs) → Holds (c ∷ cells) (suc r ∷ cs)
-next_holds_blank c cells r cs a h =
-    or_right (allows c true && fits cells false (replicate r true ++ (false ∷ pattern cs))) (allows c false && fits cells true (pattern (suc r ∷ cs))) (and_both (allows c false) (fits cells true (pattern (suc r ∷ cs))) a h)
-
-next_holds_filled : (c : Cell) (cells : List Cell) (r : ℕ) (cs : List ℕ) → allows c true ≡ true → fits cells false (replicate r true ++ (false ∷ pattern cs)) ≡ true → Holds (c ∷ cells) (suc r ∷ cs)
-next_holds_filled c cells r cs a h =
-    or_left (allows c true && fits cells false (replicate r true ++ (false ∷ pattern cs))) (allows c false && fits cells true (pattern (suc r ∷ cs))) (and_both (allows c true) (fits cells false (replicate r true ++ (false ∷ pattern cs))) a h)
-
--- an open run goes on over so many cells that may be filled, and then ends
-pub record OpenRun (l : List Cell) (m p : ℕ) (cs : List ℕ) : Type 0 where
+-- a run goes back from a place over so many cells that may be filled, and other cells are before it
+pub record OpenRun (l : List Cell) (m p : ℕ) (rest : List Bool) : Type 0 where
   pub enough : m ≤ p
   pub cells : AllFrom (λ k. allows (get_or l k Unknown) true ≡ true) m (p - m)
-  pub before : IsClosed (behind Unknown l (p - m)) cs
+  pub before : agrees (behind Unknown l (p - m)) rest ≡ true
 
-open_run : (l : List Cell) (m p : ℕ) (cs : List ℕ) → fits (behind Unknown l p) false (replicate m true ++ (false ∷ pattern cs)) ≡ true → OpenRun l m p cs
-open_run l zero p cs h =
+open_run : (l : List Cell) (m p : ℕ) (rest : List Bool) → agrees (behind Unknown l p) (replicate m true ++ rest) ≡ true → OpenRun l m p rest
+open_run l zero p rest h =
     let e : p ≡ p - 0 = omega arith in
     record {
       enough = omega arith;
       cells = λ z b. absurd (omega arith);
-      before = subst (λ (q : ℕ). IsClosed (behind Unknown l q) cs) e h;
+      before = subst (λ (q : ℕ). agrees (behind Unknown l q) rest ≡ true) e h;
     }
-open_run l (suc m) zero cs h = cc
-open_run l (suc m) (suc p) cs h =
-    elim (or_cases (allows (get_or l p Unknown) true && fits (behind Unknown l p) false (replicate m true ++ (false ∷ pattern cs))) (allows (get_or l p Unknown) false && false) h) [
-      | inl a ↦
-          (let r = open_run l m p cs (and_right (allows (get_or l p Unknown) true) (fits (behind Unknown l p) false (replicate m true ++ (false ∷ pattern cs))) a) in
-          let e : p - m ≡ suc p - suc m = omega arith in
-          record {
-            enough = omega (arith, r.enough);
-            cells = λ z b. by r (and_left (allows (get_or l p Unknown) true) (fits (behind Unknown l p) false (replicate m true ++ (false ∷ pattern cs))) a) z b (below_or_at z m b);
-            before = subst (λ (q : ℕ). IsClosed (behind Unknown l q) cs) e r.before;
-          })
-      | inr b ↦ absurd (true≢false (sym (and_right (allows (get_or l p Unknown) false) false b)))
-    ]
+open_run l (suc m) zero rest h = cc
+open_run l (suc m) (suc p) rest h =
+    let first = and_left (allows (get_or l p Unknown) true) (agrees (behind Unknown l p) (replicate m true ++ rest)) h in
+    let r = open_run l m p rest (and_right (allows (get_or l p Unknown) true) (agrees (behind Unknown l p) (replicate m true ++ rest)) h) in
+    let e : p - m ≡ suc p - suc m = omega arith in
+    record {
+      enough = omega (arith, r.enough);
+      cells = λ z b. by r first z b (below_or_at z m b);
+      before = subst (λ (q : ℕ). agrees (behind Unknown l q) rest ≡ true) e r.before;
+    }
   where
     below_or_at : (z m : ℕ) → z < suc m → (z < m) ⊎ (z ≡ m)
     below_or_at z zero h = inr (omega arith)
     below_or_at zero (suc m) h = inl (omega arith)
     below_or_at (suc z) (suc m) h = elim (below_or_at z m (omega arith)) [ inl a ↦ inl (omega arith) | inr a ↦ inr (omega arith) ]
 
-    by : OpenRun l m p cs → allows (get_or l p Unknown) true ≡ true → (z : ℕ) → z < suc m → (z < m) ⊎ (z ≡ m) → allows (get_or l (suc p - suc m + z) Unknown) true ≡ true
+    by : OpenRun l m p rest → allows (get_or l p Unknown) true ≡ true → (z : ℕ) → z < suc m → (z < m) ⊎ (z ≡ m) → allows (get_or l (suc p - suc m + z) Unknown) true ≡ true
     by r a z b (inl low) =
         let e : p - m + z ≡ suc p - suc m + z = omega arith in
         subst (λ (q : ℕ). allows (get_or l q Unknown) true ≡ true) e (r.cells z low)
@@ -93,81 +90,67 @@ open_run l (suc m) (suc p) cs h =
         let e : p ≡ suc p - suc m + z = omega arith in
         subst (λ (q : ℕ). allows (get_or l q Unknown) true ≡ true) e a
 
-run_open : (l : List Cell) (m p : ℕ) (cs : List ℕ) → OpenRun l m p cs → fits (behind Unknown l p) false (replicate m true ++ (false ∷ pattern cs)) ≡ true
-run_open l zero p cs r = let e : p - 0 ≡ p = omega arith in subst (λ (q : ℕ). IsClosed (behind Unknown l q) cs) e r.before
-run_open l (suc m) zero cs r = let enough : suc m ≤ 0 = r.enough in absurd (omega arith)
-run_open l (suc m) (suc p) cs r =
+run_open : (l : List Cell) (m p : ℕ) (rest : List Bool) → OpenRun l m p rest → agrees (behind Unknown l p) (replicate m true ++ rest) ≡ true
+run_open l zero p rest r = let e : p - 0 ≡ p = omega arith in subst (λ (q : ℕ). agrees (behind Unknown l q) rest ≡ true) e r.before
+run_open l (suc m) zero rest r = let enough : suc m ≤ 0 = r.enough in absurd (omega arith)
+run_open l (suc m) (suc p) rest r =
     let enough : suc m ≤ suc p = r.enough in
     let e : suc p - suc m ≡ p - m = omega arith in
     let at : suc p - suc m + m ≡ p = omega arith in
     let nearest : allows (get_or l p Unknown) true ≡ true = subst (λ (q : ℕ). allows (get_or l q Unknown) true ≡ true) at (r.cells m (omega arith)) in
-    let others : OpenRun l m p cs = record {
+    let others : OpenRun l m p rest = record {
       enough = omega arith;
       cells = λ z b. let f : suc p - suc m + z ≡ p - m + z = omega arith in subst (λ (q : ℕ). allows (get_or l q Unknown) true ≡ true) f (r.cells z (omega arith));
-      before = subst (λ (q : ℕ). IsClosed (behind Unknown l q) cs) e r.before;
+      before = subst (λ (q : ℕ). agrees (behind Unknown l q) rest ≡ true) e r.before;
     } in
-    or_left (allows (get_or l p Unknown) true && fits (behind Unknown l p) false (replicate m true ++ (false ∷ pattern cs))) (allows (get_or l p Unknown) false && false)
-    (and_both (allows (get_or l p Unknown) true) (fits (behind Unknown l p) false (replicate m true ++ (false ∷ pattern cs))) nearest (run_open l m p cs others))
+    and_both (allows (get_or l p Unknown) true) (agrees (behind Unknown l p) (replicate m true ++ rest)) nearest (run_open l m p rest others)
 
-end_from_open : (l : List Cell) (r i : ℕ) (cs : List ℕ) → MayBe l true i → fits (behind Unknown l i) false (replicate r true ++ (false ∷ pattern cs)) ≡ true → IsEndAfter l cs (suc r) i
-end_from_open l r i cs m h =
-    let o = open_run l r i cs h in
-    let enough : r ≤ i = o.enough in
-    let e : i - r ≡ i + 1 - suc r = omega arith in
-    let start : IsClosed (behind Unknown l (i + 1 - suc r)) cs = subst (λ (q : ℕ). IsClosed (behind Unknown l q) cs) e o.before in
-    let cells : AllFrom (MayBe l true) (suc r) (i + 1 - suc r) = λ z b. by o enough e z b (cases_lt z r) in
+-- a run of so many cells that ends here is a placing of the cells up to here that begins with it
+end_from_run : (l : List Cell) (cs : List ℕ) (n i : ℕ) (rest : List Bool) → i < length l → OpenRun l n (suc i) rest → runs rest ≡ cs → get_or rest 0 false ≡ false → IsEndAfter l cs n i
+end_from_run l cs n i rest within o is closed =
+    let enough : n ≤ suc i = o.enough in
+    let e : suc i - n ≡ i + 1 - n = omega arith in
+    let start : IsClosed (behind Unknown l (i + 1 - n)) cs = (rest, subst (λ (q : ℕ). agrees (behind Unknown l q) rest ≡ true) e o.before, is, closed) in
+    let cells : AllFrom (MayBe l true) n (i + 1 - n) =
+    λ z b. let f : suc i - n + z ≡ i + 1 - n + z = omega arith in (omega arith, subst (λ (q : ℕ). allows (get_or l q Unknown) true ≡ true) f (o.cells z b)) in
     (omega arith, (start, cells))
-  where
-    by : OpenRun l r i cs → r ≤ i → i - r ≡ i + 1 - suc r → (z : ℕ) → z < suc r → (z < r) ⊎ (r ≤ z) → MayBe l true (i + 1 - suc r + z)
-    by o enough e z b (inl low) =
-        let within : i < length l = m.0 in
-        let f : i - r + z ≡ i + 1 - suc r + z = omega arith in
-        (omega arith, subst (λ (q : ℕ). allows (get_or l q Unknown) true ≡ true) f (o.cells z low))
-    by o enough e z b (inr high) =
-        let f : i ≡ i + 1 - suc r + z = omega arith in
-        subst (MayBe l true) f m
 
-open_from_end : (l : List Cell) (r i : ℕ) (cs : List ℕ) → IsEndAfter l cs (suc r) i → (MayBe l true i) × (fits (behind Unknown l i) false (replicate r true ++ (false ∷ pattern cs)) ≡ true)
-open_from_end l r i cs x =
-    let enough : suc r ≤ i + 1 = x.0 in
-    let e : i + 1 - suc r ≡ i - r = omega arith in
-    let at : i + 1 - suc r + r ≡ i = omega arith in
-    let o : OpenRun l r i cs = record {
+run_from_end : (l : List Cell) (cs : List ℕ) (n i : ℕ) → 0 < n → IsEndAfter l cs n i → HasPlacing (behind Unknown l (suc i)) (n ∷ cs)
+run_from_end l cs n i some x =
+    let enough : n ≤ i + 1 = x.0 in
+    let y = x.1.0 in
+    let e : i + 1 - n ≡ suc i - n = omega arith in
+    let o : OpenRun l n (suc i) y.0 = record {
       enough = omega arith;
-      cells = λ z b. let f : i + 1 - suc r + z ≡ i - r + z = omega arith in subst (λ (q : ℕ). allows (get_or l q Unknown) true ≡ true) f (x.1.1 z (omega arith)).1;
-      before = subst (λ (q : ℕ). IsClosed (behind Unknown l q) cs) e x.1.0;
+      cells = λ z b. let f : i + 1 - n + z ≡ suc i - n + z = omega arith in subst (λ (q : ℕ). allows (get_or l q Unknown) true ≡ true) f (x.1.1 z b).1;
+      before = subst (λ (q : ℕ). agrees (behind Unknown l q) y.0 ≡ true) e y.1;
     } in
-    (subst (MayBe l true) at (x.1.1 r (omega arith)), run_open l r i cs o)
+    (replicate n true ++ y.0, run_open l n (suc i) y.0 o, runs_about [] n y.0 some refl y.3 ∙ ap (λ (rs : List ℕ). n ∷ rs) y.2)
 
 -- the gaps after a run: from the cell after an end of it on, as long as all may be blank
 abbrev pub After : List Cell → ℕ → List ℕ → ℕ → Type 0
 After l n cs k = MayBe l false k × (1 ≤ k) × IsEndAfter l cs n (k - 1)
 
-next_gap_to : (l : List Cell) (r : ℕ) (cs : List ℕ) (i : ℕ) → IsFlooded (After l (suc r) cs) (MayBe l false) i → MayBe l false i × Holds (behind Unknown l i) (suc r ∷ cs)
-next_gap_to l r cs zero f = let bad : 1 ≤ 0 = f.1 in absurd (omega arith)
-next_gap_to l r cs (suc i) (inl f) =
+pub gap_after_to : (l : List Cell) (cs : List ℕ) (n i : ℕ) → 0 < n → IsFlooded (After l n cs) (MayBe l false) i → IsGapAfter l (n ∷ cs) i
+gap_after_to l cs n zero some f = let bad : 1 ≤ 0 = f.1 in absurd (omega arith)
+gap_after_to l cs n (suc i) some (inl f) =
     let e : suc i - 1 ≡ i = omega arith in
-    let o = open_from_end l r i cs (subst (IsEndAfter l cs (suc r)) e f.2) in
-    (f.0, next_holds_filled (get_or l i Unknown) (behind Unknown l i) r cs o.0.1 o.1)
-next_gap_to l r cs (suc i) (inr f) =
-    let before = next_gap_to l r cs i f.1 in
-    (f.0, next_holds_blank (get_or l i Unknown) (behind Unknown l i) r cs before.0.1 before.1)
+    (f.0, run_from_end l cs n i some (subst (IsEndAfter l cs n) e f.2))
+gap_after_to l cs n (suc i) some (inr f) =
+    let before = gap_after_to l cs n i some f.1 in
+    (f.0, blank_before (get_or l i Unknown) (behind Unknown l i) (n ∷ cs) before.0.1 before.1)
 
-next_gap_from : (l : List Cell) (r : ℕ) (cs : List ℕ) (i : ℕ) → MayBe l false i × Holds (behind Unknown l i) (suc r ∷ cs) → IsFlooded (After l (suc r) cs) (MayBe l false) i
-next_gap_from l r cs zero g = let bad : false ≡ true = g.1 in absurd (true≢false (sym bad))
-next_gap_from l r cs (suc i) g =
-    let within : suc i < length l = g.0.0 in
-    let e : i ≡ suc i - 1 = omega arith in
-    elim (holds_next (get_or l i Unknown) (behind Unknown l i) r cs g.1) [
-      | inl b ↦ inr (g.0, next_gap_from l r cs i ((omega arith, b.0), b.1))
-      | inr a ↦ inl (g.0, omega arith, subst (IsEndAfter l cs (suc r)) e (end_from_open l r i cs (omega arith, a.0) a.1))
-    ]
-
--- the gaps after one more run
-pub gap_after_to : (l : List Cell) (runs : List ℕ) (n i : ℕ) → 0 < n → IsFlooded (After l n runs) (MayBe l false) i → IsGapAfter l (n ∷ runs) i
-gap_after_to l runs zero i p f = absurd (omega arith)
-gap_after_to l runs (suc r) i p f = next_gap_to l r runs i f
-
-pub gap_after_from : (l : List Cell) (runs : List ℕ) (n i : ℕ) → 0 < n → IsGapAfter l (n ∷ runs) i → IsFlooded (After l n runs) (MayBe l false) i
-gap_after_from l runs zero i p g = absurd (omega arith)
-gap_after_from l runs (suc r) i p g = next_gap_from l r runs i g
+pub gap_after_from : (l : List Cell) (cs : List ℕ) (n i : ℕ) → IsGapAfter l (n ∷ cs) i → IsFlooded (After l n cs) (MayBe l false) i
+gap_after_from l cs n zero (may, ([], agree, is)) = cc
+gap_after_from l cs n zero (may, (b ∷ y, agree, is)) = cc
+gap_after_from l cs n (suc i) g = elim (first_cell (get_or l i Unknown) (behind Unknown l i) (n ∷ cs) g.1) [
+  | inl b ↦ (let within : suc i < length l = g.0.0 in inr (g.0, gap_after_from l cs n i ((omega arith, b.0), b.1)))
+  | inr r ↦
+      (let within : suc i < length l = g.0.0 in
+      let is = r.runs_are in
+      let same : r.count ≡ n = cc in
+      let others : runs r.rest ≡ cs = cc in
+      let e : i ≡ suc i - 1 = omega arith in
+      let end : IsEndAfter l cs n i = end_from_run l cs n i r.rest (omega arith) (subst (λ (m : ℕ). OpenRun l m (suc i) r.rest) same (open_run l r.count (suc i) r.rest r.agree)) others r.closed in
+      inl (g.0, omega arith, subst (IsEndAfter l cs n) e end))
+]

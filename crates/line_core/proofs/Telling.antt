@@ -11,14 +11,13 @@ use Rattle.grid_core.specs.declared.cells.Cell.TheVariants.{Unknown}
 use Rattle.line_core.specs.Masks.{Has, has, IsMaskOf}
 use Rattle.line_core.proofs.Flooding.{has_below}
 use Rattle.line_core.specs.Deduction.{deduced}
-use Rattle.line_core.specs.Pattern.{certain_by}
 use Rattle.line_core.specs.Lines.{cell_by, line_cells}
-use Rattle.line_core.specs.Told.{told_by}
-use Rattle.line_core.specs.Reach.{CanBe, IsFillable, IsBlankable}
-use Rattle.line_core.proofs.PatternLaws.{ArePositive}
+use Rattle.line_core.specs.Told.{certain_by, told_by}
+use Rattle.line_core.specs.Reach.{IsFillable, IsBlankable}
+use Rattle.line_core.proofs.RunLaws.{ArePositive}
 use Rattle.line_core.proofs.DeductionLaws.{IsPlacing, agrees-Extends, Extends-agrees}
 use Rattle.line_core.proofs.Joining.{fillable_to, fillable_from, blankable_to, blankable_from}
-use Rattle.line_core.proofs.Certain.{Tells, deduced-told, dead-told}
+use Rattle.line_core.proofs.Certain.{CanBe, Tells, deduced-told, dead-told}
 use Rattle.line_core.proofs.LineCells.{cell_at, length_line, has_true, true_has, has_false, false_has, not_bit}
 
 first_bit : (f b : ℕ) → bit_and (bit_or f b) 1 ≡ max (bit_at f 0) (bit_at b 0)
@@ -104,10 +103,10 @@ pub told-deduced : (l : List Cell) (clue : List ℕ) (len f b : ℕ) → ArePosi
 told-deduced l clue len f b pos some long fill blank = by (has f 0) (has b 0) refl refl
   where
     filled_tells : (k : ℕ) → k < length l → Tells (CanBe l clue true k) (has f k)
-    filled_tells k h = record { to = λ e. fillable_to l clue k pos (fill.to k (true_has f k e)); from = λ x. has_true f k (fill.from k (fillable_from l clue k pos h x)) }
+    filled_tells k h = record { to = λ e. fillable_to l clue k pos (fill.to k (true_has f k e)); from = λ x. has_true f k (fill.from k (fillable_from l clue k h x)) }
 
     blank_tells : (k : ℕ) → k < length l → Tells (CanBe l clue false k) (has b k)
-    blank_tells k h = record { to = λ e. blankable_to l clue k pos (blank.to k (true_has b k e)); from = λ x. has_true b k (blank.from k (blankable_from l clue k pos h x)) }
+    blank_tells k h = record { to = λ e. blankable_to l clue k (blank.to k (true_has b k e)); from = λ x. has_true b k (blank.from k (blankable_from l clue k h x)) }
 
     all : List Cell
     all = map (λ (i : ℕ). certain_by (has f i) (has b i)) (range_with_len 0 len)

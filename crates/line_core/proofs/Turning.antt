@@ -6,7 +6,7 @@ use Rattle.line_core.specs.Masks.{Has, has, IsMaskOf, IsMoved, IsTurned, all_bel
 use Rattle.line_core.proofs.Flooding.{has_below}
 use Rattle.line_core.proofs.Steps.{and_is, or_is, shr_is, shl_is, has-itself}
 use Rattle.line_core.proofs.LineCells.{has_true, true_has}
-use Rattle.line_core.proofs.PatternLaws.{and_left, and_right}
+use Rattle.line_core.proofs.RunLaws.{and_left, and_right}
 
 pub below_all : (n : ℕ) (p : ℕ → Bool) → all_below n p ≡ true → (i : ℕ) → i < n → p i ≡ true
 below_all zero p h i l = absurd (omega arith)

@@ -5,7 +5,6 @@ pub mod Ends
 pub mod Listing
 pub mod Masks
 pub mod Lines
-pub mod Pattern
 pub mod Reach
 pub mod Passes
 pub mod Told

@@ -5,40 +5,34 @@ use Rattle.grid_core.specs.declared.cells.Cell.TheVariants.{Unknown}
 use Rattle.grid_core.specs.Cells.{allows, agrees}
 use Rattle.grid_core.specs.Runs.{runs}
 use Rattle.line_core.specs.Masks.{IsMaskOf, AllFrom, SomeFrom}
-use Rattle.line_core.specs.Pattern.{pattern, fits}
 
 -- each number is the length of a run
 pub record AreLengths (clue : List ℕ) : Type 0 where
   pub positive : All (λ n. 0 < n) clue
   pub short : All (λ n. n ≤ 128) clue
 
--- one list turned round, in front of another
-abbrev pub onto : {A : Type 0} → List A → List A → List A
-onto [] after = after
-onto (x ∷ before) after = onto before (x ∷ after)
-
 -- so many elements of a list, the last of them first
 abbrev pub behind : {A : Type 0} → A → List A → ℕ → List A
 behind default xs zero = []
 behind default xs (suc i) = slice_index_or xs i default ∷ behind default xs i
 
--- the cells can hold exactly the clue's runs
-abbrev pub Holds : List Cell → List ℕ → Type 0
-Holds cells clue = fits cells true (pattern clue) ≡ true
+-- some full line agrees with the cells, and its runs are the clue
+abbrev pub HasPlacing : List Cell → List ℕ → Type 0
+HasPlacing cells clue = (full : List Bool) × (agrees cells full ≡ true) × (runs full ≡ clue)
 
--- and so that no run starts at the first cell: it is blank, or there is none
+-- and the first of its cells, if there is one, is blank
 abbrev pub IsClosed : List Cell → List ℕ → Type 0
-IsClosed cells clue = fits cells false (false ∷ pattern clue) ≡ true
+IsClosed cells clue = (full : List Bool) × (agrees cells full ≡ true) × (runs full ≡ clue) × (slice_index_or full 0 false ≡ false)
 
 -- a cell of the line leaves a colour open
 abbrev pub MayBe : List Cell → Bool → ℕ → Type 0
 MayBe line filled i = (i < length line) × (allows (slice_index_or line i Unknown) filled ≡ true)
 
--- the cells up to this one can hold exactly some runs, the last of them first, with this one blank
+-- a cell may be blank, and the cells before it, seen from it, can hold exactly some runs, the last of them first
 abbrev pub IsGapAfter : List Cell → List ℕ → ℕ → Type 0
-IsGapAfter line runs i = MayBe line false i × Holds (behind Unknown line i) runs
+IsGapAfter line runs i = MayBe line false i × HasPlacing (behind Unknown line i) runs
 
--- a run of so many cells can start here, with exactly some runs, the last of them first, in the cells before
+-- a run of so many cells can start here, with exactly some runs, the last of them first, in the cells before, and a blank one next to it
 abbrev pub IsStartAfter : List Cell → List ℕ → ℕ → ℕ → Type 0
 IsStartAfter line runs number s = IsClosed (behind Unknown line s) runs × AllFrom (MayBe line true) number s
 
@@ -60,19 +54,11 @@ IsEnd line clue j e = IsEndAfter line (behind 0 clue j) (slice_index_or clue j 0
 
 -- the cells from this one on can hold exactly the runs from the jth on, with this one blank
 abbrev pub IsGapAhead : List Cell → List ℕ → ℕ → ℕ → Type 0
-IsGapAhead line clue j i = MayBe line false i × Holds (drop (i + 1) line) (drop j clue)
+IsGapAhead line clue j i = MayBe line false i × HasPlacing (drop (i + 1) line) (drop j clue)
 
 -- run j ends here in some whole placing
 abbrev pub IsWholeEnd : List Cell → List ℕ → ℕ → ℕ → Type 0
 IsWholeEnd line clue j e = IsEnd line clue j e × IsClosed (drop (e + 1) line) (drop (j + 1) clue)
-
--- the line has a placing
-abbrev pub HasPlacing : List Cell → List ℕ → Type 0
-HasPlacing line clue = (full : List Bool) × (agrees line full ≡ true) × (runs full ≡ clue)
-
--- and one with a colour at a cell
-abbrev pub CanBe : List Cell → List ℕ → Bool → ℕ → Type 0
-CanBe line clue filled i = (full : List Bool) × (agrees line full ≡ true) × (runs full ≡ clue) × (slice_index_or full i false ≡ filled)
 
 -- a cell is blank in some placing
 abbrev pub IsBlankable : List Cell → List ℕ → ℕ → Type 0

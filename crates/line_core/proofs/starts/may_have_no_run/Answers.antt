@@ -1,9 +1,7 @@
-use Rattle.std.proofs.Common.{◌≡◌, Bool, true, false, ℕ, sym, ◌∙◌, arith, true≢false, MatchBool}
+use Rattle.std.proofs.Common.{◌≡◌, Bool, true, false, ℕ, sym, ◌∙◌, true≢false, MatchBool}
 use Rattle.std.specs.Int.RustNames.{bit_and}
 use Rattle.line_core.specs.Masks.{Has, has}
 use Rattle.line_core.specs.Reach.{HasPlacing}
-use Rattle.line_core.proofs.PatternLaws.{ArePositive}
-use Rattle.line_core.proofs.Joining.{positive_from}
 use Rattle.line_core.proofs.LineCells.{has_true, true_has}
 use Rattle.line_core.proofs.Composing.{gap_none_is}
 use Rattle.line_core.proofs.Outermost.{no_run_to, no_run_from}
@@ -17,8 +15,7 @@ pub returns : goal.returns
 returns c =
     let line = c.args.line.now in
     let clue = c.args.clue.now in
-    let pos : ArePositive clue = positive_from clue (λ j h. absurd (omega arith)) in
     let gap = gap_none_is line c.free_cells.result c.first_gap-gap.result c.free_cells.ensures.free c.first_gap-gap.ensures in
     told c.has.result (bit_and c.first_gap-gap.result c.gap_ahead.result) (HasPlacing line clue) c.has.ensures
-    (no_run_to line clue c.first_gap-gap.result c.gap_ahead.result pos gap c.gap_ahead.ensures)
-    (no_run_from line clue c.first_gap-gap.result c.gap_ahead.result pos c.requires.clue c.free_cells.ensures.some gap c.gap_ahead.ensures)
+    (no_run_to line clue c.first_gap-gap.result c.gap_ahead.result gap c.gap_ahead.ensures)
+    (no_run_from line clue c.first_gap-gap.result c.gap_ahead.result c.requires.clue c.free_cells.ensures.some gap c.gap_ahead.ensures)

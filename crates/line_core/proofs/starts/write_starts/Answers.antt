@@ -3,7 +3,7 @@ use Rattle.std.proofs.lemmas.List.Elements.{recursion_from_All}
 use Rattle.std.proofs.lemmas.Nat.Bits.{bit_at-zero}
 use Rattle.line_core.specs.Masks.{Has}
 use Rattle.line_core.specs.Reach.{behind}
-use Rattle.line_core.proofs.PatternLaws.{ArePositive}
+use Rattle.line_core.proofs.RunLaws.{ArePositive}
 use Rattle.line_core.proofs.Joining.{length_behind}
 use Rattle.line_core.proofs.Composing.{pass_more}
 use Rattle.line_core.proofs.Outermost.{some_end, outer_more}

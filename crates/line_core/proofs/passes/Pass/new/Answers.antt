@@ -8,7 +8,6 @@ returns c =
     let free = c.free_cells-free.ensures in
     record {
       short = free.within;
-      positive = tt;
       free = free.free;
       room = c.requires;
       passed = refl;

@@ -8,7 +8,7 @@ pub returns-clause-ends : goal.returns-clause-ends
 returns-clause-ends c = λ line runs h.
     let p = subst (λ (m : PassState). IsPassOver line runs m) (sym c.self.view_is) h in
     ends_are line runs c.args.number c.self.inside.gap c.self.inside.windows.now c.opening.result c.starts-window.result c.run_ends-ends.result
-    p.short p.positive c.requires.number.0 p.gap (subst (λ (n : ℕ). IsMaskOf (λ i. (i ≡ 0) × (n ≡ 0)) c.opening.result) p.passed c.opening.ensures) p.room c.starts-window.ensures c.run_ends-ends.ensures
+    p.short c.requires.number.0 p.gap (subst (λ (n : ℕ). IsMaskOf (λ i. (i ≡ 0) × (n ≡ 0)) c.opening.result) p.passed c.opening.ensures) p.room c.starts-window.ensures c.run_ends-ends.ensures
 
 pub returns-clause-passed : goal.returns-clause-passed
 returns-clause-passed c = λ line runs h.
@@ -16,7 +16,6 @@ returns-clause-passed c = λ line runs h.
     let ends = returns-clause-ends c line runs h in
     record {
       short = p.short;
-      positive = (c.requires.number.0, p.positive);
       free = p.free;
       room = p.room;
       passed = let e = p.passed in omega arith;
