@@ -3,8 +3,8 @@ use Rattle.std.proofs.Common.{◌≡◌, ℕ, ◌+◌, ◌-◌, Bool, cond, not,
 use Rattle.std.specs.List.{position, position_or_len, prefix_len}
 use Rattle.std.proofs.lemmas.Bool.{ltb-false}
 use Rattle.std.proofs.lemmas.List.{take-map, drop-map, length-map, take_all, take_rest}
-use Rattle.puzzle_text.specs.Lines.{Line}
-use Rattle.puzzle_text.specs.Mk.{is_hash, at_hash, before_hash}
+use Rattle.puzzle_text.specs.Lines.{Line, is_hash}
+use Rattle.puzzle_text.specs.Mk.{at_hash, before_hash}
 use Rattle.puzzle_text.proofs.LinesLemmas.{chosen, not_chosen}
 
 pub prefix_len-map : {X Y : Type 0} (p : Y → Bool) (view : X → Y) (xs : List X) → prefix_len p (map view xs) ≡ prefix_len (λ x. p (view x)) xs

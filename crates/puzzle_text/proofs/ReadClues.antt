@@ -10,13 +10,13 @@ use Rattle.std.proofs.lemmas.Fmt.{decimal_is_IsNumeral, length-decimal-le}
 use Rattle.puzzle_text.specs.declared.faults.TextFault.{TextFault}
 use Rattle.puzzle_text.specs.declared.faults.TextFault.TheVariants.{NoSize, BadSize, BadNumber}
 use Rattle.grid_core.specs.Clues.{is_clue, is_run}
-use Rattle.puzzle_text.specs.Lines.{Line, is_full, is_empty}
+use Rattle.puzzle_text.specs.Lines.{Line, is_full, is_empty, is_hash}
 use Rattle.puzzle_text.specs.Numbers.{pieces}
 use Rattle.puzzle_text.specs.Answers.{◌>>=◌, or_fault}
 use Rattle.puzzle_text.specs.ClueLines.{clues_of}
 use Rattle.puzzle_text.specs.Sections.{choice}
 use Rattle.puzzle_text.specs.Sizes.{size_line, size_of, two_sizes, first_full}
-use Rattle.puzzle_text.specs.Mk.{is_hash, at_hash, before_hash}
+use Rattle.puzzle_text.specs.Mk.{at_hash, before_hash}
 use Rattle.puzzle_text.specs.Written.{clue_text, clue_line, clue_lines}
 use Rattle.puzzle_text.proofs.ReadBack.{IsTidy, with_feed, numbered}
 use Rattle.puzzle_text.proofs.ReadClue.{IsWord, IsSpacing, space, runs, words, clue_again, pieces_of_clue, number_within_again}

@@ -19,12 +19,11 @@ use Rattle.grid_core.specs.Nonogram.{Nonogram, IsNonogramWithin, is_goal}
 use Rattle.grid_core.specs.declared.fields.Field.{Field}
 use Rattle.grid_core.specs.declared.fields.Field.TheVariants.{Catalogue, Title, By, Copyright, License}
 use Rattle.grid_core.specs.Description.{text_of, Description, is_field}
-use Rattle.puzzle_text.specs.Lines.{Line, lines, is_full, is_empty, trim, trim_start, trim_end}
+use Rattle.puzzle_text.specs.Lines.{Line, lines, is_full, is_empty, trim, trim_start, trim_end, is_hash}
 use Rattle.puzzle_text.specs.Answers.{◌>>=◌, or_fault, each_some}
 use Rattle.puzzle_text.specs.ClueLines.{clues_of}
 use Rattle.puzzle_text.specs.Sections.{choice}
 use Rattle.puzzle_text.specs.Sizes.{size_of}
-use Rattle.puzzle_text.specs.Mk.{is_hash}
 use Rattle.puzzle_text.specs.Keywords.{rest, with_keyword, first_with, second_with, after_quote, all_fields, field_word, quoted, quoted_text}
 use Rattle.puzzle_text.specs.Non.{placed, section, is_stray, least, number_of_line, long_text, bad_line, repeated, refuse_at, cell_of, goal_cells, goal_of, both_clues, field_text, texts_of, sizes_of, rows_first, check_lines, clue_lines_of, non_of, read_non}
 use Rattle.puzzle_text.specs.Written.{clue_text, goal_byte, text_non}

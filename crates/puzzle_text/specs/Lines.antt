@@ -58,6 +58,10 @@ is_blank_line line = is_empty line.text
 abbrev pub is_full : Line → Bool
 is_full line = not (is_blank_line line)
 
+-- whether a line begins with #
+abbrev pub is_hash : Line → Bool
+is_hash line = slice_index line.text 0 == 35
+
 -- whether there is no line feed among these bytes
 abbrev pub has_no_feed : List ℕ → Bool
 has_no_feed bytes = list_all (λ byte. not (byte == 10)) bytes

@@ -1,20 +1,16 @@
 -- What a text in .mk says: the first check that fails, each over all lines, or the puzzle.
-use Rattle.std.specs.Prelude.{ℕ, ◌+◌, Bool, List, ◌++◌, take, drop, Option, Some, None, Result, Ok, option_and_then, ◌==◌, slice_index}
+use Rattle.std.specs.Prelude.{ℕ, ◌+◌, List, ◌++◌, take, drop, Option, Some, None, Result, Ok, option_and_then}
 use Rattle.std.specs.List.{position, before_first}
 use Rattle.std.specs.Option.{option_map}
 use Rattle.grid_core.specs.Nonogram.{Nonogram}
 use Rattle.puzzle_text.specs.declared.faults.TextFault.{TextFault}
 use Rattle.puzzle_text.specs.declared.faults.TextFault.TheVariants.{NoSection, BadCount}
-use Rattle.puzzle_text.specs.Lines.{Line}
+use Rattle.puzzle_text.specs.Lines.{Line, is_hash}
 use Rattle.puzzle_text.specs.Answers.{◌>>=◌, or_fault}
 use Rattle.puzzle_text.specs.ClueLines.{clues_of}
 use Rattle.puzzle_text.specs.Sections.{choice}
 use Rattle.puzzle_text.specs.Sizes.{lines_of, size_line}
 use Rattle.puzzle_text.specs.Readings.{reading}
-
--- whether a line begins with #
-abbrev pub is_hash : Line → Bool
-is_hash line = slice_index line.text 0 == 35
 
 -- the lines before the first that begins with #, and those after it
 abbrev pub at_hash : List Line → Option (List Line × List Line)

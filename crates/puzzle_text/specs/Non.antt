@@ -10,12 +10,11 @@ use Rattle.grid_core.specs.Nonogram.{Nonogram}
 use Rattle.grid_core.specs.declared.limits.TheConstants.{LONGEST_TEXT}
 use Rattle.puzzle_text.specs.declared.faults.TextFault.{TextFault}
 use Rattle.puzzle_text.specs.declared.faults.TextFault.TheVariants.{NoSize, NoSection, BadLine, Twice, BadCount, BadGoal}
-use Rattle.puzzle_text.specs.Lines.{Line, is_empty, is_full}
+use Rattle.puzzle_text.specs.Lines.{Line, is_empty, is_full, is_hash}
 use Rattle.puzzle_text.specs.Answers.{◌>>=◌, or_fault, each_some}
 use Rattle.puzzle_text.specs.ClueLines.{clues_of}
 use Rattle.puzzle_text.specs.Sections.{choice}
 use Rattle.puzzle_text.specs.Sizes.{lines_of, size_of}
-use Rattle.puzzle_text.specs.Mk.{is_hash}
 use Rattle.puzzle_text.specs.Keywords.{all_fields, field_word, keyword, rest, first_with, second_with, quoted_text}
 
 -- ---- sections

@@ -51,7 +51,7 @@ pub(crate) fn clues_of(alloc: Global, lines: &[Line<'_>]) -> Result<Vec<Clue>, T
     ensures clues { Gives (λ clues. clues.items) result (clues_of LONGEST_SIDE (map shown_line lines.now)) }
     ensures length { IfOk result (λ clues. length clues.items ≡ length lines.now) }
 {
-    let mut clues = Vec::new(alloc);
+    let mut clues = Vec::with_capacity(alloc, lines.len())?;
     for line in lines {
         let Some(clue) = clue_of(alloc, line.text)? else {
             return Err(TextFault::BadNumber(line.number));

@@ -13,7 +13,9 @@ use std::alloc::{AllocError, Global};
 /// The name and the text of a puzzle. The name's ending tells the text's format.
 #[derive(Clone, Copy, Debug)]
 pub struct Entry<'a> {
+    /// What follows the `@` of its first line, without spaces and tabs at both ends.
     pub name: &'a [u8],
+    /// All bytes of the lines after that one up to the next such line or the end, as they stand.
     pub body: &'a [u8],
 }
 
@@ -38,10 +40,11 @@ fn name_of(raw: &[u8]) -> &[u8]
     }
 }
 
-/// How long the lines up to the next marker line are.
-fn body_len(bytes: &[u8]) -> usize
-    ensures within { result ≤ length bytes.now }
-    ensures body { take result bytes.now ≡ body_of (raw_lines bytes.now) }
+/// The lines up to the next marker line, and what follows.
+fn split_body(bytes: &[u8]) -> (&[u8], &[u8])
+    ensures body { result.0.now ≡ body_of (raw_lines bytes.now) }
+    ensures others { entries_of (raw_lines result.1.now) ≡ entries_of (raw_lines bytes.now) }
+    ensures within { length result.1.now ≤ length bytes.now }
 {
     let mut rest = bytes;
     'lines: while !rest.is_empty() {
@@ -51,7 +54,7 @@ fn body_len(bytes: &[u8]) -> usize
         }
         rest = after;
     }
-    bytes.len() - rest.len()
+    bytes.split_at(bytes.len() - rest.len())
 }
 
 /// How many entries a collection has.
@@ -77,14 +80,16 @@ fn entries_of<'a>(alloc: Global, bytes: &'a [u8]) -> Result<Vec<Entry<'a>>, Allo
     let mut rest = bytes;
     'lines: while !rest.is_empty() {
         let (raw, after) = split_line(rest);
-        if is_marker(raw) {
-            let (body, _) = after.split_at(body_len(after));
-            found.push(Entry {
-                name: name_of(raw),
-                body,
-            })?;
+        if !is_marker(raw) {
+            rest = after;
+            continue;
         }
-        rest = after;
+        let (body, others) = split_body(after);
+        found.push(Entry {
+            name: name_of(raw),
+            body,
+        })?;
+        rest = others;
     }
     Ok(found)
 }

@@ -30,7 +30,7 @@ fn goal_cells(alloc: Global, count: usize, text: &[u8]) -> Result<Option<Vec<boo
     if text.len() != count {
         return Ok(None);
     }
-    let mut cells = Vec::new(alloc);
+    let mut cells = Vec::with_capacity(alloc, count)?;
     for byte in text {
         let Some(cell) = cell_of(*byte) else {
             return Ok(None);

@@ -2,7 +2,7 @@
 
 ghost use Rattle.std.specs.Prelude.{◌≡◌, ◌==◌, ◌+◌, ◌^◌, ◌<◌, ◌≤◌, ◌∷◌, [], ◌++◌, reverse, length, map, IfOk};
 ghost use Rattle.std.specs.List.{position};
-ghost use Rattle.puzzle_text.specs.Lines.{is_blank, lines, raw_lines, strip_last, trim, trim_end, trim_start, without_ending};
+ghost use Rattle.puzzle_text.specs.Lines.{is_blank, is_hash, lines, raw_lines, strip_last, trim, trim_end, trim_start, without_ending};
 ghost use Rattle.puzzle_text.specs.Shown.{shown_line};
 
 use std::alloc::{AllocError, Global};
@@ -85,6 +85,16 @@ pub(crate) fn without_ending(raw: &[u8]) -> &[u8]
     ensures { result.now ≡ without_ending raw.now }
 {
     strip_last(strip_last(raw, b'\n'), b'\r')
+}
+
+/// Whether a line begins with `#`.
+pub(crate) fn is_hash(line: &Line<'_>) -> bool
+    ensures { result ≡ is_hash (shown_line line.now) }
+{
+    match line.text {
+        [first, ..] => *first == b'#',
+        [] => false,
+    }
 }
 
 /// The lines of a text, all of them.

@@ -5,28 +5,19 @@ ghost use Rattle.std.specs.List.{position};
 ghost use Rattle.std.specs.Option.{option_map};
 ghost use Rattle.grid_core.specs.PartialGrid.{IsSize};
 ghost use Rattle.puzzle_text.specs.Answers.{Gives};
-ghost use Rattle.puzzle_text.specs.Mk.{at_hash, before_hash, both_choices, is_hash, mk_of, puzzle_of, read_mk};
+ghost use Rattle.puzzle_text.specs.Lines.{is_hash};
+ghost use Rattle.puzzle_text.specs.Mk.{at_hash, before_hash, both_choices, mk_of, puzzle_of, read_mk};
 ghost use Rattle.puzzle_text.specs.Shown.{shown_line};
 
 use crate::clue_lines::clues_of;
 use crate::faults::TextFault;
 use crate::limits::LONGEST_PUZZLE;
-use crate::lines::Line;
+use crate::lines::{Line, is_hash};
 use crate::readings::reading;
 use crate::sections::choice;
 use crate::sizes::{lines_of, size_line};
 use grid_core::{LONGEST_SIDE, Puzzle};
 use std::alloc::{AllocError, Global};
-
-/// Whether a line begins with `#`.
-pub(crate) fn is_hash(line: &Line<'_>) -> bool
-    ensures { result ≡ is_hash (shown_line line.now) }
-{
-    match line.text {
-        [first, ..] => *first == b'#',
-        [] => false,
-    }
-}
 
 fn hash_place(lines: &[Line<'_>]) -> Option<usize>
     ensures { result ≡ position (λ line. is_hash (shown_line line)) lines.now }

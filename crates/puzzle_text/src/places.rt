@@ -12,8 +12,7 @@ ghost use Rattle.puzzle_text.specs.Shown.{shown_line, shown_place};
 
 use crate::faults::TextFault;
 use crate::keywords::{keyword, same_word};
-use crate::lines::Line;
-use crate::mk::is_hash;
+use crate::lines::{Line, is_hash};
 use crate::sections::choice;
 use std::alloc::{AllocError, Global};
 

@@ -1,6 +1,7 @@
 //! A list of clues as a puzzle of given sizes.
 
-ghost use Rattle.std.specs.Prelude.{◌≡◌, ◌+◌, ◌++◌, length, take, drop, true, IfOk};
+ghost use Rattle.std.specs.Prelude.{◌≡◌, ◌+◌, ◌≤◌, ◌++◌, length, take, drop, true, IfOk};
+ghost use Rattle.grid_core.specs.Nonogram.{plain};
 ghost use Rattle.grid_core.specs.PartialGrid.{IsSize};
 ghost use Rattle.puzzle_text.specs.Readings.{is_admissible, likelier, reading};
 ghost use Rattle.puzzle_text.specs.Written.{is_ambiguous};
@@ -9,13 +10,22 @@ use crate::fitting::{all_fit, both_fit, sum_all, sum_both};
 use crate::parts::puzzle_of;
 use grid_core::{Clue, NoMemory, Puzzle, Texts};
 
-/// Whether each clue fits and the rows have as many filled cells as the columns.
+/// Whether each clue fits its line and the rows have as many filled cells as the columns.
+fn are_admissible(width: u16, height: u16, rows: &[Clue], columns: &[Clue]) -> bool
+    requires rows { length rows.now ≤ 65536 }
+    requires columns { length columns.now ≤ 65536 }
+    ensures { result ≡ is_admissible (plain width height rows.now columns.now) }
+{
+    all_fit(width, rows) && all_fit(height, columns) && sum_all(rows) == sum_all(columns)
+}
+
+/// Whether the puzzle of these clues, the first of which are its rows, is admissible.
 fn is_admissible(width: u16, height: u16, clues: &[Clue]) -> bool
     requires length { length clues.now ≡ width + height }
     ensures { result ≡ is_admissible (reading width height clues.now) }
 {
     let (rows, columns) = clues.split_at(usize::from(height));
-    all_fit(width, rows) && all_fit(height, columns) && sum_all(rows) == sum_all(columns)
+    are_admissible(width, height, rows, columns)
 }
 
 /// The puzzle of these clues, the first of which are its rows.
@@ -59,9 +69,12 @@ fn is_other_admissible(width: u16, height: u16, rows: &[Clue], columns: &[Clue])
 fn is_own_admissible(puzzle: &Puzzle) -> bool
     ensures { result ≡ is_admissible puzzle.now }
 {
-    all_fit(puzzle.width(), puzzle.rows())
-        && all_fit(puzzle.height(), puzzle.columns())
-        && sum_all(puzzle.rows()) == sum_all(puzzle.columns())
+    are_admissible(
+        puzzle.width(),
+        puzzle.height(),
+        puzzle.rows(),
+        puzzle.columns(),
+    )
 }
 
 /// Whether the text in .nin would be read with the sizes the other way round.

@@ -10,6 +10,13 @@ ghost use Rattle.puzzle_text.specs.Shown.{shown_line};
 use crate::lines::Line;
 use std::alloc::{AllocError, Global};
 
+/// How many lines aren't blank.
+fn full_count(section: &[Line<'_>]) -> usize
+    ensures { result ≡ count_by (λ line. is_full (shown_line line)) section.now }
+{
+    section.iter().filter(|line| !line.text.is_empty()).count()
+}
+
 /// The lines that aren't blank.
 fn full_lines<'a>(alloc: Global, section: &[Line<'a>]) -> Result<Vec<Line<'a>>, AllocError>
     ensures { IfOk result (λ full. full.items ≡ filter (λ line. is_full (shown_line line)) section.now) }
@@ -36,8 +43,8 @@ pub(crate) fn choice<'a>(
     ensures lines { IfOk result (λ found. option_map (λ chosen. map shown_line chosen.items) found ≡ choice count (map shown_line section.now)) }
     ensures length { IfOk result (λ found. IfSome found (λ chosen. length chosen.items ≡ count)) }
 {
-    let full = full_lines(alloc, section)?;
-    if full.len() == count {
+    if full_count(section) == count {
+        let full = full_lines(alloc, section)?;
         return Ok(Some(full));
     }
     if section.len() < count {
