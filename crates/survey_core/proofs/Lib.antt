@@ -2,6 +2,7 @@ pub mod Front
 pub mod NumberedLemmas
 pub mod PrintedLemmas
 pub mod GoalLemmas
+pub mod Graded
 pub mod ReadingLemmas
 pub mod SurveyLemmas
 pub mod JobsLemmas

@@ -14,9 +14,10 @@ use Rattle.lane_core.specs.Answers.{AreAnswersTo}
 use Rattle.lane_core.specs.Outcome.{IsOutcome}
 use Rattle.lane_core.specs.declared.answers.Answer.{Answer}
 use Rattle.lane_core.specs.declared.jobs.Job.{Job}
+use Rattle.survey_core.proofs.Graded.{AreGraded}
 use Rattle.survey_core.proofs.NumberedLemmas.{made-more}
 use Rattle.survey_core.specs.Entries.{GradedEntry, found_of, shown_outcome, shown_result}
-use Rattle.survey_core.specs.Readings.{AreGraded, NumberedPuzzle, TakesAnswer, fault_of, job_of, jobs_from, jobs_of, reading, readings, shown_job}
+use Rattle.survey_core.specs.Readings.{NumberedPuzzle, TakesAnswer, fault_of, job_of, jobs_from, jobs_of, reading, readings, shown_job}
 use Rattle.survey_core.specs.Survey.{graded, reported}
 use Rattle.survey_core.specs.declared.outcomes.Outcome.{Outcome}
 

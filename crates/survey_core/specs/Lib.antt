@@ -5,6 +5,7 @@ pub mod Grids
 pub mod Goals
 pub mod Entries
 pub mod Totals
+pub mod Tallies
 pub mod Survey
 pub mod Readings
 pub mod Reading

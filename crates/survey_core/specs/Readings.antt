@@ -7,7 +7,6 @@ use Rattle.puzzle_text.specs.Formats.{read_entry}
 use Rattle.puzzle_text.specs.Shown.{shown_entry}
 use Rattle.puzzle_text.specs.declared.collections.Entry.{Entry}
 use Rattle.puzzle_text.specs.declared.faults.EntryFault.{EntryFault}
-use Rattle.lane_core.specs.Outcome.{IsOutcome}
 use Rattle.lane_core.specs.declared.answers.Answer.{Answer}
 use Rattle.lane_core.specs.declared.jobs.Job.{Job}
 
@@ -46,14 +45,6 @@ jobs_from guesses first readings = flat_map (λ numbered. job_of guesses numbere
 -- the jobs of entries, numbered from 1
 abbrev pub jobs_of : ℕ → List (Result Nonogram EntryFault) → List NumberedPuzzle
 jobs_of guesses readings = jobs_from guesses 1 readings
-
--- the answers are those to the puzzles that were read, in order
-abbrev pub AreGraded : ℕ → List (Result Nonogram EntryFault) → List Answer → Type 0
-AreGraded guesses [] [] = Unit {0}
-AreGraded guesses [] (answer ∷ answers) = ⊥
-AreGraded guesses (Err fault ∷ readings) answers = AreGraded guesses readings answers
-AreGraded guesses (Ok p ∷ readings) [] = ⊥
-AreGraded guesses (Ok p ∷ readings) (answer ∷ answers) = (answer.puzzle ≡ p) × (IsOutcome p guesses answer.outcome) × (AreGraded guesses readings answers)
 
 -- the fault, or else the first of the answers, which has a report
 abbrev pub TakesAnswer : Option EntryFault → List Answer → List Answer → Result Answer EntryFault → Type 0

@@ -3,17 +3,18 @@
 ghost use Rattle.std.specs.Prelude.{◌≡◌, ◌<◌, ◌≤◌, [], IfOk, IsOk, map, vec_len, vec_capacity};
 ghost use Rattle.std.specs.VecDeque.{deque_len, deque_capacity};
 ghost use Rattle.lane_core.specs.Answers.{AreAnswersTo};
-ghost use Rattle.lane_core.specs.declared.opening.TheConstants.{LARGEST_RING};
 ghost use Rattle.survey_core.specs.Collected.{waiting_jobs, dealt_jobs, EachAnswered};
 
 use crate::dealing_out::deal_out;
 use crate::gathering::gather;
 use crate::opening::open_lanes;
 use crate::running::{OpenLane, RunningLane, Turn};
+use crate::settings::{LARGEST_RING, MOST_LANES};
 use crate::workers::NoThread;
 use grid_core::NoMemory;
 use lane_core::{Answer, Gate, Job};
-use std::alloc::Global;
+use puzzle_text::MOST_ENTRIES;
+use std::alloc::{AllocError, AllocFailed, Global};
 use std::collections::VecDeque;
 use std::snapshot::Snapshot;
 use std::sync::Wait;
@@ -21,11 +22,8 @@ use std::thread;
 use std::thread::{Scope, Threads};
 use thiserror::Error;
 
-/// The most lanes of a collection.
-pub const MOST_LANES: u16 = 16;
-
-/// The most jobs of a collection.
-pub const MOST_JOBS: usize = 10_000;
+/// The most jobs of a collection: as many as it has entries.
+pub const MOST_JOBS: usize = MOST_ENTRIES;
 
 /// Why answers were not collected.
 #[derive(Clone, Copy, Debug, PartialEq, Eq, Error)]
@@ -44,6 +42,18 @@ impl From<NoMemory> for CollectFault {
     }
 }
 
+impl From<AllocError> for CollectFault {
+    fn from(_refused: AllocError) -> CollectFault {
+        CollectFault::NoMemory
+    }
+}
+
+impl<T: Drop> From<AllocFailed<T>> for CollectFault {
+    fn from(_refused: AllocFailed<T>) -> CollectFault {
+        CollectFault::NoMemory
+    }
+}
+
 impl From<NoThread> for CollectFault {
     fn from(_refused: NoThread) -> CollectFault {
         CollectFault::Thread
@@ -52,7 +62,7 @@ impl From<NoThread> for CollectFault {
 
 /// The answers to the jobs, in job order, graded by one worker for each lane, each in a thread of its own. At most 10,000 jobs, 1 to 16 lanes, and rings of a
 /// capacity from 1 to 64. The job at place k, from 0, goes to lane k modulo the number of lanes. With no jobs no thread is started. All memory but that of
-/// grading is taken before any thread is started, and all threads are started before the first job is sent.
+/// starting threads and of grading is taken before any thread is started, and all threads are started before the first job is sent.
 pub fn collect<R: Threads + Wait + Sync, G: Gate + Sync>(
     rt: &R,
     alloc: Global,
@@ -88,10 +98,10 @@ fn collect_some<R: Threads + Wait + Sync, G: Gate + Sync>(
 {
     let all = Snapshot::of(&jobs);
     let count = jobs.len();
-    let gathered = room_for(alloc, count)?;
+    let gathered = Vec::with_capacity(alloc, count)?;
     let opened = open_lanes(alloc, deal_out(alloc, jobs, lanes)?, ring)?;
-    let room = room_for_lanes(alloc, lanes)?;
-    let settled = room_for_answers(alloc, lanes)?;
+    let room = VecDeque::with_capacity(alloc, lanes)?;
+    let settled = Vec::with_capacity(alloc, lanes)?;
     let queues = thread::scope(
         thread::scope_env(),
         rt,
@@ -101,27 +111,6 @@ fn collect_some<R: Threads + Wait + Sync, G: Gate + Sync>(
         { run_lanes(rt, scope, alloc, opened, room, settled, gate) },
     )?;
     Ok(gather(&all, count, lanes, queues, gathered))
-}
-
-/// Room for so many answers.
-fn room_for(alloc: Global, count: usize) -> Result<Vec<Answer>, NoMemory>
-    ensures { IfOk result (λ room. (room.items ≡ []) × (vec_capacity room ≡ count)) }
-{
-    Ok(Vec::with_capacity(alloc, count)?)
-}
-
-/// Room for so many running lanes.
-fn room_for_lanes(alloc: Global, count: usize) -> Result<VecDeque<RunningLane, Global>, NoMemory>
-    ensures { IfOk result (λ room. (room.items ≡ []) × (count ≤ deque_capacity room)) }
-{
-    Ok(VecDeque::with_capacity(alloc, count)?)
-}
-
-/// Room for the answers of so many lanes.
-fn room_for_answers(alloc: Global, count: usize) -> Result<Vec<VecDeque<Answer, Global>>, NoMemory>
-    ensures { IfOk result (λ room. (room.items ≡ []) × (count ≤ vec_capacity room)) }
-{
-    Ok(Vec::with_capacity(alloc, count)?)
 }
 
 /// The answers of each lane, once its worker was started, and it was finished, drained and settled.

@@ -3,7 +3,7 @@
 ghost use Rattle.std.specs.Prelude.{◌≡◌, ◌++◌, IfOk, OnOk, codes, Ok, Err};
 ghost use Rattle.std.specs.List.{flat_map};
 ghost use Rattle.puzzle_text.specs.Words.{word_of};
-ghost use Rattle.survey_core.specs.Entries.{counts_text, entry_line, entry_text, grade_word, result_text, shown_outcome, shown_solutions, solution_text, solutions_of, solutions_text, verdict_text, verdict_word};
+ghost use Rattle.survey_core.specs.Entries.{counts_text, entry_line, entry_text, grade_word, result_text, shown_outcome, solution_text, solutions_of, solutions_text, verdict_text, verdict_word};
 ghost use Rattle.survey_core.specs.Goals.{goal_text, goal_word};
 
 use crate::Outcome;
@@ -27,7 +27,7 @@ pub(crate) fn verdict_word(verdict: &Verdict) -> &'static str
 }
 
 /// The word of a grade.
-pub(crate) fn grade_word(grade: Grade) -> &'static str
+fn grade_word(grade: Grade) -> &'static str
     ensures { result.now ≡ grade_word grade }
 {
     match grade {

@@ -12,22 +12,10 @@ use crate::{Outcome, Settings};
 use grid_core::NoMemory;
 use lane_core::{Answer, Gate};
 use puzzle_text::{Entry, EntryFault, MOST_ENTRIES};
-use std::alloc::{AllocError, AllocFailed, Global};
+use std::alloc::Global;
 use std::collections::VecDeque;
 use std::sync::Wait;
 use std::thread::Threads;
-
-impl From<AllocError> for CollectFault {
-    fn from(_refused: AllocError) -> CollectFault {
-        CollectFault::NoMemory
-    }
-}
-
-impl<T: Drop> From<AllocFailed<T>> for CollectFault {
-    fn from(_refused: AllocFailed<T>) -> CollectFault {
-        CollectFault::NoMemory
-    }
-}
 
 /// The outcome of an entry: its fault, or the next answer. `NoMemory` also where that answer says so.
 fn outcome_of(

@@ -22,7 +22,7 @@ mod texts;
 mod totals;
 mod workers;
 
-pub use collecting::{CollectFault, MOST_JOBS, MOST_LANES, collect};
+pub use collecting::{CollectFault, MOST_JOBS, collect};
 pub use collecting_one::collect_one;
 pub use counted::Counted;
 pub use entries::print_entry;
@@ -30,7 +30,9 @@ pub use faults::RunFault;
 pub use outcomes::Outcome;
 pub use pictures::push_grid;
 pub use printing::print_survey;
-pub use settings::Settings;
+pub use settings::{
+    DEFAULT_GUESSES, DEFAULT_LANES, DEFAULT_RING, LARGEST_RING, MOST_LANES, Settings,
+};
 pub use surveys::{run_survey, survey_entries};
 pub use texts::{push_bytes, push_number};
 

@@ -5,6 +5,7 @@ ghost use Rattle.survey_core.specs.Grids.{cell_byte, grid_text, row_text};
 
 use grid_core::{Cell, Grid, NoMemory};
 
+/// The byte of a cell: `#` for a filled one, `.` for a blank one, `?` for an unknown one.
 fn cell_byte(cell: Cell) -> u8
     ensures { result ≡ cell_byte cell }
 {
@@ -15,6 +16,7 @@ fn cell_byte(cell: Cell) -> u8
     }
 }
 
+/// Adds row `y` of a grid, from 0 at the top, as a line.
 fn push_row(text: &mut Vec<u8>, grid: &Grid, y: u16) -> Result<(), NoMemory>
     requires { y < grid.now.height }
     ensures { OnOk result (text.new.items ≡ text.old.items ++ row_text grid.now y) }
@@ -26,7 +28,8 @@ fn push_row(text: &mut Vec<u8>, grid: &Grid, y: u16) -> Result<(), NoMemory>
     Ok(())
 }
 
-/// Adds the rows of a grid as lines, from the top: `#` for a filled cell, `.` for a blank one, `?` for an unknown one.
+/// Adds the rows of a grid as lines, from the top: `#` for a filled cell, `.` for a blank one, `?` for an unknown one. `NoMemory` where the text can't
+/// grow.
 pub fn push_grid(text: &mut Vec<u8>, grid: &Grid) -> Result<(), NoMemory>
     ensures { OnOk result (text.new.items ≡ text.old.items ++ grid_text grid.now) }
 {

@@ -11,6 +11,7 @@ use grid_core::NoMemory;
 use puzzle_text::MOST_ENTRIES;
 use std::alloc::Global;
 
+/// Adds the texts of at most 10,000 entries, numbered from 1.
 fn push_entries(
     alloc: Global,
     text: &mut Vec<u8>,

@@ -11,7 +11,9 @@ use std::alloc::Global;
 /// What reading entries gives: the jobs of those that are puzzles, and for each entry its fault, if it has one.
 #[derive(Drop)]
 pub(crate) struct Readings {
+    /// The jobs of the entries that are puzzles, in order.
     pub jobs: Vec<Job>,
+    /// Each entry's fault, if it has one.
     pub faults: Vec<Option<EntryFault>>,
 }
 

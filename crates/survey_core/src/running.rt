@@ -27,9 +27,13 @@ pub enum Turn {
 /// A lane that is open, with the jobs that it was dealt and room for their answers.
 #[derive(Drop)]
 pub struct OpenLane {
+    /// The collector's end.
     pub front: LaneFront,
+    /// The worker's end.
     pub back: LaneBack,
+    /// The jobs that it was dealt, in order.
     pub waiting: VecDeque<Job, Global>,
+    /// No answer yet, and room for one to each job.
     pub got: Vec<Answer>,
     pub ghost one_lane: { AreOneLane front back },
     pub ghost unsent: { (front_lists front).sent ≡ [] },
@@ -44,6 +48,7 @@ pub struct RunningLane {
     waiting: VecDeque<Job, Global>,
     got: Vec<Answer>,
     total: usize,
+    /// The jobs that it was dealt, in order.
     pub dealt: Snapshot<VecDeque<Job, Global>>,
     pub ghost one_lane: { AreOneLane front worker.promise.0.value },
     pub ghost jobs: { jobs_of (front_lists front).sent ++ waiting.items ≡ dealt.value.items },
@@ -90,18 +95,18 @@ impl RunningLane {
         ensures complete { result ≡ Turn.Complete → self.new.waiting.items ≡ [] }
     {
         let moved = deal(&mut self.front, &mut self.waiting, &mut self.got);
-        if self.is_complete() {
+        if self.finish_if_answered() {
             return Turn::Complete;
         }
         if moved { Turn::Moved } else { Turn::Idle }
     }
 
-    /// Whether each job was sent and answered, and the finish was sent.
-    fn is_complete(&mut self) -> bool
+    /// Sends the finish where each job was sent and answered. True where the lane is now complete.
+    fn finish_if_answered(&mut self) -> bool
         ensures dealt { self.new.dealt ≡ self.old.dealt }
         ensures complete { IsTrue result → self.new.waiting.items ≡ [] }
     {
-        self.waiting.is_empty() && self.got.len() == self.total && finish_is_sent(&mut self.front)
+        self.waiting.is_empty() && self.got.len() == self.total && send_finish(&mut self.front)
     }
 
     /// Asks the worker to finish, and waits for it.
@@ -160,9 +165,9 @@ impl RunningLane {
     }
 }
 
-/// Asks for the finish, and says whether it was sent, now or before.
+/// Sends the finish. True where it was sent, now or before.
 #[tactic(auto, using(crate::proofs::JobsLemmas::jobs))]
-fn finish_is_sent(front: &mut LaneFront) -> bool
+fn send_finish(front: &mut LaneFront) -> bool
     ensures lane { SameFront front.old front.new }
     ensures jobs { jobs_of (front_lists front.new).sent ≡ jobs_of (front_lists front.old).sent }
     ensures received { (front_lists front.new).received ≡ (front_lists front.old).received }

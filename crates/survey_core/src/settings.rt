@@ -1,6 +1,23 @@
 //! What a survey is asked for.
 
 ghost use Rattle.std.specs.Prelude.{◌≤◌};
+ghost use Rattle.lane_core.specs.declared.jobs.TheConstants.{MOST_GUESSES};
+ghost use Rattle.survey_core.specs.declared.settings.TheConstants.{LARGEST_RING, MOST_LANES};
+
+/// The most lanes of a collection.
+pub const MOST_LANES: u16 = 16;
+
+/// The greatest capacity of a lane's rings, in messages and in answers.
+pub const LARGEST_RING: u16 = lane_core::LARGEST_RING as u16;
+
+/// How many lanes there are where nothing else is asked for.
+pub const DEFAULT_LANES: u16 = 4;
+
+/// The capacity of a lane's rings where nothing else is asked for.
+pub const DEFAULT_RING: u16 = 8;
+
+/// The limit on the guesses for a puzzle where nothing else is asked for.
+pub const DEFAULT_GUESSES: u32 = 1_000;
 
 /// What a survey is asked for. Each setting lies in its range, which the type keeps.
 #[derive(Clone, Copy, Debug, PartialEq, Eq)]
@@ -13,7 +30,7 @@ pub struct Settings {
     pub guesses: u32,
     /// Whether the solutions are shown.
     pub show: bool,
-    pub ghost lanes_in_range: { (1 ≤ lanes) × (lanes ≤ 16) },
-    pub ghost ring_in_range: { (1 ≤ ring) × (ring ≤ 64) },
-    pub ghost guesses_in_range: { guesses ≤ 1000000 },
+    pub ghost lanes_in_range: { (1 ≤ lanes) × (lanes ≤ MOST_LANES) },
+    pub ghost ring_in_range: { (1 ≤ ring) × (ring ≤ LARGEST_RING) },
+    pub ghost guesses_in_range: { guesses ≤ MOST_GUESSES },
 }

@@ -1,21 +1,21 @@
 //! Reading a collection whole, and writing a text whole, with the place where that fails.
 
-ghost use Rattle.std.specs.Prelude.{◌≡◌, ◌+◌, ◌-◌, ◌^◌, ◌<◌, ◌≤◌, ◌↔◌, length, take, vec_len, IfOk, IfErr, IsErr, OnOk, IsErrOf};
+ghost use Rattle.std.specs.Prelude.{◌+◌, ◌-◌, ◌^◌, ◌<◌, ◌≤◌, ◌↔◌, length, take, vec_len, IfOk, IfErr, IsErr, OnOk, IsErrOf};
 ghost use Rattle.std.specs.Io.KnownBytes.{Appends, Consumes, IsAtEnd};
 ghost use Rattle.survey_core.specs.Counted.{fault_count};
 ghost use Rattle.survey_core.specs.Reading.{ReadsWithin};
 
 use crate::Counted;
+use puzzle_text::LONGEST_COLLECTION;
 use std::alloc::Global;
 use std::io::{Read, Write};
-
-/// The longest collection, in bytes.
-pub(crate) const LONGEST_COLLECTION: usize = 16_777_216;
 
 /// Why a reading ended early.
 #[derive(Clone, Copy, Debug, PartialEq, Eq)]
 pub(crate) enum ReadFault {
+    /// The reader failed.
     Read,
+    /// A growth of memory was refused.
     NoMemory,
 }
 

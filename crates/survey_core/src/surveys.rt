@@ -7,7 +7,6 @@ ghost use Rattle.survey_core.specs.Counted.{fault_count};
 ghost use Rattle.survey_core.specs.Reading.{ReadsWithin};
 ghost use Rattle.survey_core.specs.Leaving.{IsErrWrite, IsWrite, Leaves};
 ghost use Rattle.survey_core.specs.Survey.{survey_of, survey_of_entries, survey_of_list};
-ghost use Rattle.survey_core.specs.declared.streams.TheConstants.{LONGEST_COLLECTION};
 
 use crate::collecting::CollectFault;
 use crate::grading::grade_entries;
@@ -15,7 +14,7 @@ use crate::printing::print_survey;
 use crate::streams::{ReadFault, read_collection, write_text};
 use crate::{Counted, RunFault, Settings};
 use lane_core::Gate;
-use puzzle_text::{CollectionFault, Entry, MOST_ENTRIES, entries};
+use puzzle_text::{CollectionFault, Entry, LONGEST_COLLECTION, MOST_ENTRIES, entries};
 use std::alloc::Global;
 use std::io::{Read, Write};
 use std::sync::Wait;

@@ -6,7 +6,7 @@ ghost use Rattle.survey_core.specs.Entries.{printed_byte};
 use grid_core::NoMemory;
 use itoa::Buffer;
 
-/// Adds bytes.
+/// Adds the bytes to the end of the text. `NoMemory` where it can't grow.
 pub fn push_bytes(text: &mut Vec<u8>, bytes: &[u8]) -> Result<(), NoMemory>
     ensures { OnOk result (text.new.items ≡ text.old.items ++ bytes.now) }
 {
@@ -14,7 +14,7 @@ pub fn push_bytes(text: &mut Vec<u8>, bytes: &[u8]) -> Result<(), NoMemory>
     Ok(())
 }
 
-/// Adds a number as decimal digits.
+/// Adds the number to the end of the text, in decimal digits with no leading zeros. `NoMemory` where it can't grow.
 pub fn push_number(text: &mut Vec<u8>, number: u64) -> Result<(), NoMemory>
     ensures { OnOk result (text.new.items ≡ text.old.items ++ decimal number) }
 {
@@ -23,7 +23,7 @@ pub fn push_number(text: &mut Vec<u8>, number: u64) -> Result<(), NoMemory>
     Ok(())
 }
 
-/// Adds a name, in which a question mark stands for each control byte.
+/// Adds a name to the end of the text, with a question mark for each control byte.
 pub(crate) fn push_name(text: &mut Vec<u8>, name: &[u8]) -> Result<(), NoMemory>
     ensures { OnOk result (text.new.items ≡ text.old.items ++ map printed_byte name.now) }
 {

@@ -1,52 +1,145 @@
 //! The last line of a survey.
 
-ghost use Rattle.std.specs.Prelude.{◌≡◌, ◌++◌, OnOk, count_by, map};
-ghost use Rattle.survey_core.specs.Entries.{shown_outcome};
-ghost use Rattle.survey_core.specs.Totals.{count_text, grade_count, grade_counts, has_grade, has_status, status_count, status_counts, totals_line};
+ghost use Rattle.std.specs.Prelude.{◌≡◌, ◌++◌, ◌^◌, ◌<◌, OnOk, codes, map};
+ghost use Rattle.std.specs.Str.{bytes_eq};
+ghost use Rattle.survey_core.specs.Entries.{grade_word, shown_outcome, verdict_word};
+ghost use Rattle.survey_core.specs.Totals.{count_text, has_grade, has_status, totals_line};
+ghost use Rattle.survey_core.specs.Tallies.{HasRoom, IsTotals, grades_text, one_more_where, statuses_text};
 
 use crate::Outcome;
-use crate::entries::{grade_word, verdict_word};
 use crate::texts::{push_bytes, push_number};
 use grid_core::NoMemory;
+use solve_core::{Grade, Verdict};
 
-/// Whether an entry is counted under a verdict's word, or under `refused`.
-fn has_status(outcome: &Outcome, word: &str) -> bool
-    ensures { result ≡ has_status word.now (shown_outcome outcome.now) }
-{
-    match outcome.found() {
-        Ok((_, findings)) => verdict_word(&findings.verdict) == word,
-        Err(_) => "refused" == word,
+/// How many puzzles have each verdict.
+#[derive(Clone, Copy, Debug, PartialEq, Eq)]
+pub(crate) struct VerdictTotals {
+    none: usize,
+    one: usize,
+    several: usize,
+    unsettled: usize,
+}
+
+impl VerdictTotals {
+    /// Counts a verdict.
+    fn count(&mut self, verdict: &Verdict)
+        requires none { self.old.none < 2 ^ 63 }
+        requires one { self.old.one < 2 ^ 63 }
+        requires several { self.old.several < 2 ^ 63 }
+        requires unsettled { self.old.unsettled < 2 ^ 63 }
+        ensures none { self.new.none ≡ one_more_where (bytes_eq (verdict_word verdict.now) (codes "none")) self.old.none }
+        ensures one { self.new.one ≡ one_more_where (bytes_eq (verdict_word verdict.now) (codes "one")) self.old.one }
+        ensures several { self.new.several ≡ one_more_where (bytes_eq (verdict_word verdict.now) (codes "several")) self.old.several }
+        ensures unsettled { self.new.unsettled ≡ one_more_where (bytes_eq (verdict_word verdict.now) (codes "unsettled")) self.old.unsettled }
+    {
+        match verdict {
+            Verdict::Nothing => self.none += 1,
+            Verdict::One(_) => self.one += 1,
+            Verdict::Several(_, _) => self.several += 1,
+            Verdict::Unsettled(_) => self.unsettled += 1,
+        }
     }
 }
 
-/// Whether an entry is counted under a grade's word.
-fn has_grade(outcome: &Outcome, word: &str) -> bool
-    ensures { result ≡ has_grade word.now (shown_outcome outcome.now) }
-{
-    match outcome.found() {
-        Ok((_, findings)) => grade_word(findings.grade) == word,
-        Err(_) => false,
+/// How many puzzles have each grade.
+#[derive(Clone, Copy, Debug, PartialEq, Eq)]
+pub(crate) struct GradeTotals {
+    by_lines: usize,
+    by_trials: usize,
+    by_search: usize,
+}
+
+impl GradeTotals {
+    /// Counts a grade.
+    fn count(&mut self, grade: Grade)
+        requires by_lines { self.old.by_lines < 2 ^ 63 }
+        requires by_trials { self.old.by_trials < 2 ^ 63 }
+        requires by_search { self.old.by_search < 2 ^ 63 }
+        ensures by_lines { self.new.by_lines ≡ one_more_where (bytes_eq (grade_word grade) (codes "line")) self.old.by_lines }
+        ensures by_trials { self.new.by_trials ≡ one_more_where (bytes_eq (grade_word grade) (codes "trials")) self.old.by_trials }
+        ensures by_search { self.new.by_search ≡ one_more_where (bytes_eq (grade_word grade) (codes "search")) self.old.by_search }
+    {
+        match grade {
+            Grade::Lines => self.by_lines += 1,
+            Grade::Trials => self.by_trials += 1,
+            Grade::Search => self.by_search += 1,
+        }
     }
 }
 
-/// How many entries are counted under a verdict's word, or under `refused`.
-fn status_count(outcomes: &[Outcome], word: &str) -> usize
-    ensures { result ≡ count_by (has_status word.now) (map shown_outcome outcomes.now) }
-{
-    outcomes
-        .iter()
-        .filter(|outcome| has_status(outcome, word))
-        .count()
+/// How many entries are refused, and how many have each verdict and each grade.
+#[derive(Clone, Copy, Debug, PartialEq, Eq)]
+pub(crate) struct Totals {
+    refused: usize,
+    verdicts: VerdictTotals,
+    grades: GradeTotals,
 }
 
-/// How many entries are counted under a grade's word.
-fn grade_count(outcomes: &[Outcome], word: &str) -> usize
-    ensures { result ≡ count_by (has_grade word.now) (map shown_outcome outcomes.now) }
-{
-    outcomes
-        .iter()
-        .filter(|outcome| has_grade(outcome, word))
-        .count()
+impl Totals {
+    /// The totals of entries.
+    fn of(outcomes: &[Outcome]) -> Totals
+        ensures { IsTotals result (map shown_outcome outcomes.now) }
+    {
+        let mut totals = Totals {
+            refused: 0,
+            verdicts: VerdictTotals {
+                none: 0,
+                one: 0,
+                several: 0,
+                unsettled: 0,
+            },
+            grades: GradeTotals {
+                by_lines: 0,
+                by_trials: 0,
+                by_search: 0,
+            },
+        };
+        for outcome in outcomes {
+            totals.count(outcome);
+        }
+        totals
+    }
+
+    /// Counts an entry.
+    fn count(&mut self, outcome: &Outcome)
+        requires { HasRoom self.old }
+        ensures refused { self.new.refused ≡ one_more_where (has_status (codes "refused") (shown_outcome outcome.now)) self.old.refused }
+        ensures none { self.new.verdicts.none ≡ one_more_where (has_status (codes "none") (shown_outcome outcome.now)) self.old.verdicts.none }
+        ensures one { self.new.verdicts.one ≡ one_more_where (has_status (codes "one") (shown_outcome outcome.now)) self.old.verdicts.one }
+        ensures several { self.new.verdicts.several ≡ one_more_where (has_status (codes "several") (shown_outcome outcome.now)) self.old.verdicts.several }
+        ensures unsettled { self.new.verdicts.unsettled ≡ one_more_where (has_status (codes "unsettled") (shown_outcome outcome.now)) self.old.verdicts.unsettled }
+        ensures by_lines { self.new.grades.by_lines ≡ one_more_where (has_grade (codes "line") (shown_outcome outcome.now)) self.old.grades.by_lines }
+        ensures by_trials { self.new.grades.by_trials ≡ one_more_where (has_grade (codes "trials") (shown_outcome outcome.now)) self.old.grades.by_trials }
+        ensures by_search { self.new.grades.by_search ≡ one_more_where (has_grade (codes "search") (shown_outcome outcome.now)) self.old.grades.by_search }
+    {
+        match outcome.found() {
+            Ok((_, findings)) => {
+                self.verdicts.count(&findings.verdict);
+                self.grades.count(findings.grade);
+            }
+            Err(_) => self.refused += 1,
+        }
+    }
+
+    /// Adds the counts of the refused entries and of each verdict.
+    fn push_statuses(&self, text: &mut Vec<u8>) -> Result<(), NoMemory>
+        ensures { OnOk result (text.new.items ≡ text.old.items ++ statuses_text self.now) }
+    {
+        push_count(text, "refused", self.refused)?;
+        push_count(text, "none", self.verdicts.none)?;
+        push_count(text, "one", self.verdicts.one)?;
+        push_count(text, "several", self.verdicts.several)?;
+        push_count(text, "unsettled", self.verdicts.unsettled)
+    }
+
+    /// Adds the count of each grade.
+    fn push_grades(&self, text: &mut Vec<u8>) -> Result<(), NoMemory>
+        ensures { OnOk result (text.new.items ≡ text.old.items ++ grades_text self.now) }
+    {
+        push_count(text, "line", self.grades.by_lines)?;
+        push_count(text, "trials", self.grades.by_trials)?;
+        push_count(text, "search", self.grades.by_search)
+    }
 }
 
 /// Adds a word and a count, each after a space.
@@ -59,47 +152,14 @@ fn push_count(text: &mut Vec<u8>, word: &str, count: usize) -> Result<(), NoMemo
     push_number(text, count as u64)
 }
 
-/// Adds a verdict's word, or `refused`, and its count.
-fn push_status(text: &mut Vec<u8>, outcomes: &[Outcome], word: &str) -> Result<(), NoMemory>
-    ensures { OnOk result (text.new.items ≡ text.old.items ++ status_count (map shown_outcome outcomes.now) word.now) }
-{
-    push_count(text, word, status_count(outcomes, word))
-}
-
-/// Adds a grade's word and its count.
-fn push_grade(text: &mut Vec<u8>, outcomes: &[Outcome], word: &str) -> Result<(), NoMemory>
-    ensures { OnOk result (text.new.items ≡ text.old.items ++ grade_count (map shown_outcome outcomes.now) word.now) }
-{
-    push_count(text, word, grade_count(outcomes, word))
-}
-
-/// Adds the counts of the refused entries and of each verdict.
-fn push_statuses(text: &mut Vec<u8>, outcomes: &[Outcome]) -> Result<(), NoMemory>
-    ensures { OnOk result (text.new.items ≡ text.old.items ++ status_counts (map shown_outcome outcomes.now)) }
-{
-    push_status(text, outcomes, "refused")?;
-    push_status(text, outcomes, "none")?;
-    push_status(text, outcomes, "one")?;
-    push_status(text, outcomes, "several")?;
-    push_status(text, outcomes, "unsettled")
-}
-
-/// Adds the count of each grade.
-fn push_grades(text: &mut Vec<u8>, outcomes: &[Outcome]) -> Result<(), NoMemory>
-    ensures { OnOk result (text.new.items ≡ text.old.items ++ grade_counts (map shown_outcome outcomes.now)) }
-{
-    push_grade(text, outcomes, "line")?;
-    push_grade(text, outcomes, "trials")?;
-    push_grade(text, outcomes, "search")
-}
-
 /// Adds the last line of a survey: how many entries there are, how many are refused, and how many have each verdict and each grade.
 pub(crate) fn push_totals(text: &mut Vec<u8>, outcomes: &[Outcome]) -> Result<(), NoMemory>
     ensures { OnOk result (text.new.items ≡ text.old.items ++ totals_line (map shown_outcome outcomes.now)) }
 {
+    let totals = Totals::of(outcomes);
     push_bytes(text, b"entries ")?;
     push_number(text, outcomes.len() as u64)?;
-    push_statuses(text, outcomes)?;
-    push_grades(text, outcomes)?;
+    totals.push_statuses(text)?;
+    totals.push_grades(text)?;
     push_bytes(text, b"\n")
 }

@@ -1,7 +1,8 @@
 use Rattle.std.proofs.Common.{◌≡◌, map, take, drop}
 use Rattle.puzzle_text.specs.Shown.{shown_entry}
 use Rattle.survey_core.specs.Entries.{shown_outcome}
-use Rattle.survey_core.specs.Readings.{AreGraded, readings}
+use Rattle.survey_core.specs.Readings.{readings}
+use Rattle.survey_core.proofs.Graded.{AreGraded}
 use Rattle.survey_core.specs.Survey.{graded}
 use Rattle.survey_core.proofs.grading.grade_entries.Given as goal
 

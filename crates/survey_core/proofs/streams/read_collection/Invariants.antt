@@ -1,6 +1,6 @@
 use Rattle.std.proofs.Common.{◌≡◌, ◌≤◌, vec_len}
 use Rattle.std.specs.Io.KnownBytes.{Consumes}
-use Rattle.survey_core.specs.declared.streams.TheConstants.{LONGEST_COLLECTION}
+use Rattle.puzzle_text.specs.declared.limits.TheConstants.{LONGEST_COLLECTION}
 use Rattle.survey_core.specs.Counted.{fault_count}
 use Rattle.survey_core.proofs.streams.read_collection.Given as goal
 

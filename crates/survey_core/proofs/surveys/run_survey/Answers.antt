@@ -1,6 +1,7 @@
 use Rattle.std.proofs.Common.{◌≡◌, ◌≤◌, List, ℕ, Ok, map, subst, arith, vec_len}
 use Rattle.puzzle_text.specs.Collections.{cut}
 use Rattle.puzzle_text.specs.Shown.{shown_entry}
+use Rattle.puzzle_text.specs.declared.limits.TheConstants.{LONGEST_COLLECTION}
 use Rattle.puzzle_text.specs.declared.collections.Entry.{Entry}
 use Rattle.survey_core.specs.Leaving.{Leaves}
 use Rattle.survey_core.specs.Survey.{survey_of_list}
@@ -11,7 +12,7 @@ pub returns-in-Ok-entries-clause-answer : goal.returns-in-Ok-entries-clause-answ
 returns-in-Ok-entries-clause-answer g c =
     let guesses = c.args.settings.now.guesses in
     let show = c.args.settings.now.show in
-    let short : vec_len c.in-Ok.collection ≤ 16777216 = at_most _ _ (λ long. let bad = c.in-Ok-entries.ensures.too_long (omega (arith, c.deref.ensures.len)) in cc) in
+    let short : vec_len c.in-Ok.collection ≤ LONGEST_COLLECTION = at_most _ _ (λ long. let bad = c.in-Ok-entries.ensures.too_long (omega (arith, c.deref.ensures.len)) in cc) in
     let pieces : cut c.in-Ok.collection.items ≡ Ok (map shown_entry c.in-Ok-entries.entries.items) = subst (λ (bytes : List ℕ). cut bytes ≡ Ok (map shown_entry c.in-Ok-entries.entries.items)) c.deref.ensures.value c.in-Ok-entries.ensures.answer in
     let leaves = subst (λ (entries : List Entry). Leaves (Ok (survey_of_list guesses show (map shown_entry entries))) c.write_survey.result
     (g.W.Write.contents c.args.writer.now.inner) (g.W.Write.contents c.write_survey.new.writer.inner)) c.deref-in-Ok-entries.ensures.value c.write_survey.ensures.answer in

@@ -1,0 +1,43 @@
+-- Counts of entries, kept while these are gone through.
+use Rattle.std.specs.Prelude.{◌≡◌, ℕ, ◌+◌, ◌^◌, ◌<◌, Bool, true, false, List, ◌++◌, count_by, codes}
+use Rattle.survey_core.specs.Entries.{GradedEntry}
+use Rattle.survey_core.specs.Totals.{count_text, has_grade, has_status}
+use Rattle.survey_core.specs.declared.totals.Totals.{Totals}
+
+-- one more where the test holds
+abbrev pub one_more_where : Bool → ℕ → ℕ
+one_more_where true count = count + 1
+one_more_where false count = count
+
+-- each total can grow
+pub record HasRoom (totals : Totals) : Type 0 where
+  pub refused : totals.refused < 2 ^ 63
+  pub none : totals.verdicts.none < 2 ^ 63
+  pub one : totals.verdicts.one < 2 ^ 63
+  pub several : totals.verdicts.several < 2 ^ 63
+  pub unsettled : totals.verdicts.unsettled < 2 ^ 63
+  pub by_lines : totals.grades.by_lines < 2 ^ 63
+  pub by_trials : totals.grades.by_trials < 2 ^ 63
+  pub by_search : totals.grades.by_search < 2 ^ 63
+
+-- each total is the number of entries that are counted under its word
+pub record IsTotals (totals : Totals) (entries : List GradedEntry) : Type 0 where
+  pub refused : totals.refused ≡ count_by (has_status (codes "refused")) entries
+  pub none : totals.verdicts.none ≡ count_by (has_status (codes "none")) entries
+  pub one : totals.verdicts.one ≡ count_by (has_status (codes "one")) entries
+  pub several : totals.verdicts.several ≡ count_by (has_status (codes "several")) entries
+  pub unsettled : totals.verdicts.unsettled ≡ count_by (has_status (codes "unsettled")) entries
+  pub by_lines : totals.grades.by_lines ≡ count_by (has_grade (codes "line")) entries
+  pub by_trials : totals.grades.by_trials ≡ count_by (has_grade (codes "trials")) entries
+  pub by_search : totals.grades.by_search ≡ count_by (has_grade (codes "search")) entries
+
+-- how many entries are refused, and how many have each verdict
+abbrev pub statuses_text : Totals → List ℕ
+statuses_text totals =
+    count_text (codes "refused") totals.refused ++ count_text (codes "none") totals.verdicts.none ++ count_text (codes "one") totals.verdicts.one
+    ++ count_text (codes "several") totals.verdicts.several ++ count_text (codes "unsettled") totals.verdicts.unsettled
+
+-- how many entries have each grade
+abbrev pub grades_text : Totals → List ℕ
+grades_text totals =
+    count_text (codes "line") totals.grades.by_lines ++ count_text (codes "trials") totals.grades.by_trials ++ count_text (codes "search") totals.grades.by_search
