@@ -39,4 +39,12 @@ pub use texts::{push_bytes, push_number};
 #[cfg(test)]
 mod tests;
 #[cfg(test)]
+mod tests_answers;
+#[cfg(test)]
 mod tests_collect;
+#[cfg(test)]
+mod tests_counted;
+#[cfg(test)]
+mod tests_samples;
+#[cfg(test)]
+mod tests_streams;

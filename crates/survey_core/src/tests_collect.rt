@@ -1,6 +1,6 @@
 //! That lanes work at the same time, that jobs are dealt in turn, and that a thread can be started, no contract says.
 
-use super::{collect, collect_one};
+use super::{MOST_JOBS, MOST_LANES, collect, collect_one};
 use grid_core::{Clue, Puzzle, Texts};
 use lane_core::{Gate, Job, OpenGate};
 use std::alloc::Global;
@@ -52,9 +52,9 @@ impl Gate for Meeting {
 
 #[test]
 fn each_lane_has_a_thread(rt: HostRuntime) -> Result<(), Fail> {
-    for lanes in [2u16, 16] {
+    for lanes in [2u16, MOST_LANES] {
         let jobs = jobs_numbered(rt.alloc(), u32::from(lanes))?;
-        assert!(rt; jobs.len() <= 10_000);
+        assert!(rt; jobs.len() <= MOST_JOBS);
         let gate = Meeting {
             wanted: u32::from(lanes),
             entered: AtomicU32::new(0),
@@ -100,7 +100,7 @@ impl Gate for FirstWaits {
 #[test]
 fn jobs_are_dealt_in_turn(rt: HostRuntime) -> Result<(), Fail> {
     let jobs = jobs_numbered(rt.alloc(), 6)?;
-    assert!(rt; jobs.len() <= 10_000);
+    assert!(rt; jobs.len() <= MOST_JOBS);
     let gate = FirstWaits {
         odd: AtomicU32::new(0),
         even: AtomicU32::new(0),
@@ -122,7 +122,7 @@ fn answers_stand_in_job_order(rt: HostRuntime) -> Result<(), Fail> {
         (300, 16, 1),
     ] {
         let jobs = jobs_numbered(rt.alloc(), count)?;
-        assert!(rt; jobs.len() <= 10_000);
+        assert!(rt; jobs.len() <= MOST_JOBS);
         let answers = collect(&rt, rt.alloc(), jobs, lanes, ring, &OpenGate)?;
         assert_eq!(rt; answers.len(), count as usize);
         for (answer, number) in answers.iter().zip(0..count) {
