@@ -2,6 +2,7 @@ mod Rows
 pub mod LinesLemmas
 pub mod NumbersLemmas
 pub mod EachLemmas
+pub mod FittingLemmas
 pub mod SectionsLemmas
 pub mod MkLemmas
 pub mod KeywordsLemmas

@@ -1,6 +1,6 @@
 //! Whether clues fit their lines.
 
-ghost use Rattle.std.specs.Prelude.{◌≡◌, ◌+◌, ◌-◌, ◌≤◌, ◌++◌, sum, length};
+ghost use Rattle.std.specs.Prelude.{◌≡◌, ◌+◌, ◌-◌, ◌≤◌, ◌^◌, ◌++◌, sum, length};
 ghost use Rattle.std.specs.List.{list_all};
 ghost use Rattle.puzzle_text.specs.Readings.{fits, sum_all};
 
@@ -16,7 +16,8 @@ fn sum_of(numbers: &[u16]) -> u32
 
 /// How many cells a clue fills.
 fn filled(clue: &Clue) -> u32
-    ensures { result ≡ sum clue.now }
+    ensures filled { result ≡ sum clue.now }
+    ensures within { result ≤ 16384 }
 {
     sum_of(clue.numbers())
 }
@@ -25,8 +26,8 @@ fn filled(clue: &Clue) -> u32
 fn fits(len: u16, clue: &Clue) -> bool
     ensures { result ≡ fits len clue.now }
 {
-    let needed = u64::from(filled(clue)) + clue.numbers().len() as u64;
-    needed.saturating_sub(1) <= u64::from(len)
+    let needed = filled(clue) + clue.numbers().len() as u32;
+    needed.saturating_sub(1) <= u32::from(len)
 }
 
 /// Whether each clue fits a line of this length.
@@ -37,11 +38,16 @@ pub(crate) fn all_fit(len: u16, clues: &[Clue]) -> bool
 }
 
 /// How many cells these clues fill.
-pub(crate) fn sum_all(clues: &[Clue]) -> u64
+pub(crate) fn sum_all(clues: &[Clue]) -> u32
     requires { length clues.now ≤ 65536 }
-    ensures { result ≡ sum_all clues.now }
+    ensures sum { result ≡ sum_all clues.now }
+    ensures within { result ≤ 2 ^ 30 }
 {
-    clues.iter().map(|clue| u64::from(filled(clue))).sum()
+    let mut sum = 0;
+    for clue in clues {
+        sum += filled(clue);
+    }
+    sum
 }
 
 /// Whether all clues of two lists fit a line of this length.
@@ -52,10 +58,10 @@ pub(crate) fn both_fit(len: u16, first: &[Clue], second: &[Clue]) -> bool
 }
 
 /// How many cells the clues of two lists fill.
-pub(crate) fn sum_both(first: &[Clue], second: &[Clue]) -> u128
+pub(crate) fn sum_both(first: &[Clue], second: &[Clue]) -> u32
     requires first { length first.now ≤ 65536 }
     requires second { length second.now ≤ 65536 }
     ensures { result ≡ sum_all (first.now ++ second.now) }
 {
-    u128::from(sum_all(first)) + u128::from(sum_all(second))
+    sum_all(first) + sum_all(second)
 }
