@@ -80,16 +80,16 @@ fn entries_of<'a>(alloc: Global, bytes: &'a [u8]) -> Result<Vec<Entry<'a>>, Allo
     let mut rest = bytes;
     'lines: while !rest.is_empty() {
         let (raw, after) = split_line(rest);
-        if !is_marker(raw) {
+        if is_marker(raw) {
+            let (body, others) = split_body(after);
+            found.push(Entry {
+                name: name_of(raw),
+                body,
+            })?;
+            rest = others;
+        } else {
             rest = after;
-            continue;
         }
-        let (body, others) = split_body(after);
-        found.push(Entry {
-            name: name_of(raw),
-            body,
-        })?;
-        rest = others;
     }
     Ok(found)
 }

@@ -1,4 +1,4 @@
-//! A line of a .non text with its keyword.
+//! Lines of a .non text that begin with a keyword.
 
 ghost use Rattle.std.specs.Prelude.{◌≡◌, take_while};
 ghost use Rattle.std.specs.Char.{is_ascii_alphabetic};
@@ -6,7 +6,7 @@ ghost use Rattle.std.specs.Str.{str_to_ascii_lowercase};
 
 use crate::lines::Line;
 
-/// A line that begins with a keyword: the letters at its start, and the line.
+/// A line that begins with a keyword, and that keyword: all letters at its start.
 #[derive(Clone, Copy, Debug)]
 pub(crate) struct KeywordLine<'a> {
     pub word: &'a [u8],

@@ -146,7 +146,7 @@ fn both_clues(
     }
 }
 
-/// The puzzle that the keyword lines of a text say, and its other lines.
+/// The puzzle that a text says by its keyword lines and by the places of its other lines.
 fn puzzle_said(
     alloc: Global,
     keyword_lines: &[KeywordLine<'_>],
