@@ -1,5 +1,6 @@
 -- A pass over the runs of a line, from its left.
 use Rattle.std.specs.Prelude.{◌≡◌, ℕ, ◌≤◌, true, false, List, length}
+use Rattle.grid_core.specs.declared.limits.TheConstants.{LONGEST_SIDE}
 use Rattle.grid_core.specs.declared.cells.Cell.{Cell}
 use Rattle.line_core.specs.Masks.{IsMaskOf}
 use Rattle.line_core.specs.Reach.{MayBe, IsGapAfter}
@@ -13,7 +14,7 @@ pub record PassState : Type 0 where
 
 -- a pass over a line that has passed some runs, the last of them first
 pub record IsPassOver (line : List Cell) (runs : List ℕ) (pass : PassState) : Type 0 where
-  pub short : length line ≤ 128
+  pub short : length line ≤ LONGEST_SIDE
   pub free : IsMaskOf (MayBe line false) pass.free
   pub room : IsMaskOf (MayBe line true) pass.room
   pub passed : pass.passed ≡ length runs
