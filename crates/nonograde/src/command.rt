@@ -6,8 +6,11 @@ use crate::formats::Format;
 use clap::error::ErrorKind;
 use clap::{Arg, ArgAction, ArgMatches, Command, Error, value_parser};
 use grid_core::NoMemory;
+use lane_core::MOST_GUESSES;
 use std::alloc::{AllocError, AllocFailed, Global};
-use survey_core::Settings;
+use survey_core::{
+    DEFAULT_GUESSES, DEFAULT_LANES, DEFAULT_RING, LARGEST_RING, MOST_LANES, Settings,
+};
 
 /// What a command line asks for.
 #[derive(Debug, Drop)]
@@ -65,7 +68,7 @@ fn guesses_option<'a>(alloc: Global) -> Arg<'a> {
         .long("guesses")
         .value_name("N")
         .help("The most guesses for a puzzle")
-        .value_parser(value_parser!(u32).range(0..=1_000_000))
+        .value_parser(value_parser!(u32).range(0..=i64::from(MOST_GUESSES)))
         .default_value("1000")
 }
 
@@ -83,13 +86,13 @@ fn survey_command<'a>(alloc: Global) -> Result<Command<'a>, AllocError> {
         .long("lanes")
         .value_name("N")
         .help("The number of lanes, 1 to 16")
-        .value_parser(value_parser!(u16).range(1..=16))
+        .value_parser(value_parser!(u16).range(1..=i64::from(MOST_LANES)))
         .default_value("4");
     let ring = Arg::new(alloc, "ring")
         .long("ring")
         .value_name("N")
         .help("The capacity of a lane's rings, 1 to 64")
-        .value_parser(value_parser!(u16).range(1..=64))
+        .value_parser(value_parser!(u16).range(1..=i64::from(LARGEST_RING)))
         .default_value("8");
     let show = Arg::new(alloc, "show")
         .long("show")
@@ -170,21 +173,21 @@ fn files_of(alloc: Global, matches: &ArgMatches<'_>) -> Result<Vec<String>, Comm
 
 /// The guesses that are asked for. `clap` has refused those out of range.
 fn guesses_of(matches: &ArgMatches<'_>) -> u32
-    ensures { result ≤ 1000000 }
+    ensures { result ≤ MOST_GUESSES }
 {
     matches
         .get_one::<u32>("guesses")
-        .unwrap_or(1000)
-        .min(1_000_000)
+        .unwrap_or(DEFAULT_GUESSES)
+        .min(MOST_GUESSES)
 }
 
 /// The settings of a survey. `clap` has refused those out of range.
 fn settings_of(matches: &ArgMatches<'_>) -> Settings {
-    let lanes = matches.get_one::<u16>("lanes").unwrap_or(4).clamp(1, 16);
-    let ring = matches.get_one::<u16>("ring").unwrap_or(8).clamp(1, 64);
+    let lanes = matches.get_one::<u16>("lanes").unwrap_or(DEFAULT_LANES);
+    let ring = matches.get_one::<u16>("ring").unwrap_or(DEFAULT_RING);
     Settings {
-        lanes,
-        ring,
+        lanes: lanes.clamp(1, MOST_LANES),
+        ring: ring.clamp(1, LARGEST_RING),
         guesses: guesses_of(matches),
         show: matches.get_flag("show"),
     }
