@@ -173,10 +173,6 @@ board-undone cells new rows columns after across trail less room left k b t e li
       room_is = omega (arith, long, b.room_is);
     }
 
--- the last place of a trail is that of a cell
-pub last-inside : (cells : List Cell) (rows columns : List (List Cell)) (trail less : List ℕ) (room k : ℕ) → IsBoard cells rows columns trail room → trail ≡ less ++ k ∷ [] → k < length cells
-last-inside cells rows columns trail less room k b t = (all_split (λ j. j < length cells) less k (rw t at b.grid.inside)).0
-
 -- a board with other cells, and nothing to go back to
 pub board-fresh : (cells new : List Cell) (rows columns after across : List (List Cell)) (trail less : List ℕ) (room left : ℕ) → IsBoard cells rows columns trail room
     → length new ≡ length cells → AreLinesOf new after across → less ≡ [] → left ≡ room → IsBoard new after across less left

@@ -7,7 +7,7 @@ use Rattle.solve_core.specs.declared.branches.Branch.{Branch}
 use Rattle.solve_core.specs.Search.{Guess, events}
 use Rattle.solve_core.specs.Trails.{TrailedGrid, unknown_count, cleared, IsTrailed}
 use Rattle.solve_core.specs.Branches.{cells_before, IsNext, IsBranch, AreInOrder, AreBefore, AreOlder, IsWork, pending, open_events, ready_events}
-use Rattle.solve_core.proofs.TrailSteps.{cleared-append, length-cleared}
+use Rattle.solve_core.proofs.TrailSteps.{cleared-append}
 use Rattle.solve_core.proofs.EndingLaws.{append-nil-right, append-assoc-right}
 
 -- each place that is cleared leaves at most one more unknown
@@ -19,10 +19,6 @@ unknown_count-cleared_one (Blank ∷ cells) zero = omega arith
 unknown_count-cleared_one (Unknown ∷ cells) (suc k) = omega (arith, unknown_count-cleared_one cells k)
 unknown_count-cleared_one (Filled ∷ cells) (suc k) = unknown_count-cleared_one cells k
 unknown_count-cleared_one (Blank ∷ cells) (suc k) = unknown_count-cleared_one cells k
-
-unknown_count-cleared : (cells : List Cell) (ks : List ℕ) → unknown_count (cleared cells ks) ≤ unknown_count cells + length ks
-unknown_count-cleared cells [] = omega arith
-unknown_count-cleared cells (k ∷ ks) = omega (arith, unknown_count-cleared_one (cleared cells ks) k, unknown_count-cleared cells ks)
 
 drop-zero : {X : Type 0} (xs : List X) → drop 0 xs ≡ xs
 drop-zero [] = refl
@@ -134,12 +130,6 @@ pub all_append : {X : Type 0} (P : X → Type 0) (xs ys : List X) → AllByRecur
 all_append P [] ys h k = k
 all_append P (x ∷ xs) ys h k = (h.0, all_append P xs ys h.1 k)
 
-all_take : {X : Type 0} (P : X → Type 0) (n : ℕ) (xs : List X) → AllByRecursion P xs → AllByRecursion P (take n xs)
-all_take P zero [] h = tt
-all_take P zero (x ∷ xs) h = tt
-all_take P (suc n) [] h = tt
-all_take P (suc n) (x ∷ xs) h = (h.0, all_take P n xs h.1)
-
 pub all_split : {X : Type 0} (P : X → Type 0) (xs : List X) (x : X) → AllByRecursion P (xs ++ (x ∷ [])) → P x × AllByRecursion P xs
 all_split P [] x k = (k.0, tt)
 all_split P (y ∷ xs) x k = let r = all_split P xs x k.1 in (r.0, (k.0, r.1))
@@ -247,26 +237,6 @@ pub back-ready : (pick : List Cell → Option ℕ) (lines : List GridLine) (cell
     → IsNext pick lines now b.place
 back-ready pick lines cells now trail all rest b e f w =
     subst (λ (before : List Cell). IsNext pick lines before b.place) (sym f) (last-work pick lines cells trail all rest b e w).3
-
--- going back makes no more cells unknown than the trail loses places
-pub back-room : (cells : List Cell) (trail : List ℕ) (mark : ℕ) → length trail + unknown_count cells ≤ length cells
-    → length (take mark trail) + unknown_count (cells_before cells trail mark) ≤ length (cells_before cells trail mark)
-back-room cells trail mark h =
-    omega (
-      arith,
-      unknown_count-cleared cells (drop mark trail),
-      length-append (take mark trail) (drop mark trail),
-      ap length (joined mark trail),
-      length-cleared cells (drop mark trail),
-      h,
-    )
-
-pub back-inside : (cells : List Cell) (trail : List ℕ) (mark : ℕ) → AllByRecursion (λ k. k < length cells) trail
-    → AllByRecursion (λ k. k < length (cells_before cells trail mark)) (take mark trail)
-back-inside cells trail mark h =
-    let now = cells_before cells trail mark in
-    let long : length cells ≡ length now = sym (length-cleared cells (drop mark trail)) in
-    all_take (λ k. k < length now) mark trail (subst (λ (n : ℕ). AllByRecursion (λ k. k < n) trail) long h)
 
 -- at the start there is no branch
 pub start-work : (pick : List Cell → Option ℕ) (lines : List GridLine) (cells : List Cell) (trail : List ℕ) (branches : List Branch) → branches ≡ [] → IsWork pick lines cells trail branches

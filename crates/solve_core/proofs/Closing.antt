@@ -11,11 +11,6 @@ pub record IsDeduction (f : List Cell → Option (List Cell)) : Type 0 where
   pub above : (g : List Cell) → AtMost (Some g) (f g)
   pub monotone : (g z : List Cell) → Extends g z → AtMost (f g) (f z)
 
-pub and_then-monotone : (h : List Cell → Option (List Cell)) → ((g z : List Cell) → Extends g z → AtMost (h g) (h z)) → (o p : Option (List Cell)) → AtMost o p → AtMost (option_and_then h o) (option_and_then h p)
-and_then-monotone h m o None k = tt
-and_then-monotone h m None (Some z) k = absurd k
-and_then-monotone h m (Some g) (Some z) k = m g z k
-
 pub and_then-above : (h : List Cell → Option (List Cell)) → ((g : List Cell) → AtMost (Some g) (h g)) → (g : List Cell) (o : Option (List Cell)) → AtMost (Some g) o → AtMost (Some g) (option_and_then h o)
 and_then-above h a g None k = tt
 and_then-above h a g (Some z) k = AtMost-trans (Some g) (Some z) (h z) k (a z)
@@ -27,10 +22,6 @@ and_then-below h z b (Some g) k = b g k
 pub repeat-above : (f : List Cell → Option (List Cell)) → ((g : List Cell) → AtMost (Some g) (f g)) → (n : ℕ) (g : List Cell) → AtMost (Some g) (repeat f n g)
 repeat-above f a zero g = Extends-refl g
 repeat-above f a (suc n) g = and_then-above (repeat f n) (repeat-above f a n) g (f g) (a g)
-
-pub repeat-monotone : (f : List Cell → Option (List Cell)) → IsDeduction f → (n : ℕ) (g z : List Cell) → Extends g z → AtMost (repeat f n g) (repeat f n z)
-repeat-monotone f d zero g z h = h
-repeat-monotone f d (suc n) g z h = and_then-monotone (repeat f n) (repeat-monotone f d n) (f g) (f z) (d.monotone g z h)
 
 -- what stays below z in each step does so in all
 pub repeat-below : (f : List Cell → Option (List Cell)) (z : List Cell) → ((g : List Cell) → Extends g z → AtMost (f g) (Some z)) → (n : ℕ) (g : List Cell) → Extends g z → AtMost (repeat f n g) (Some z)

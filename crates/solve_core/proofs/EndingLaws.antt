@@ -1,4 +1,4 @@
-use Rattle.std.proofs.Common.{◌≡◌, ℕ, suc, ◌+◌, ◌-◌, add-one, ◌<◌, ◌≤◌, true, List, [], ◌∷◌, ◌++◌, length, refl, sym, ap, ◌∙◌, arith, subst}
+use Rattle.std.proofs.Common.{◌≡◌, ℕ, suc, ◌+◌, ◌-◌, add-one, ◌<◌, ◌≤◌, List, [], ◌∷◌, ◌++◌, length, refl, sym, ap, ◌∙◌, arith, subst}
 use Rattle.grid_core.specs.declared.cells.Cell.{Cell}
 use Rattle.grid_core.specs.PartialGrid.{PartialGrid}
 use Rattle.grid_core.specs.Nonogram.{Nonogram}
@@ -31,18 +31,6 @@ ending-guess p found spent limit es l h =
     ∙ ap (λ n. ending p found n (limit - (spent + 1)) es) (sym (add-one spent))
   where
     by : (gs : List PartialGrid) → length gs < 2 → ending p gs spent (suc (limit - (spent + 1))) (Guess ∷ es) ≡ ending p gs (suc spent) (limit - (spent + 1)) es
-    by [] k = refl
-    by (a ∷ []) k = refl
-    by (a ∷ b ∷ more) k = absurd (omega arith)
-
--- and one too many cuts the search short
-pub ending-cut : (p : Nonogram) (found : List PartialGrid) (spent limit : ℕ) (es : List Event) → length found < 2 → spent ≡ limit
-    → ending p found spent (limit - spent) (Guess ∷ es) ≡ record { found = found; cut = true; spent = spent }
-ending-cut p found spent limit es l e =
-    let left : limit - spent ≡ 0 = omega arith in
-    ap (λ n. ending p found spent n (Guess ∷ es)) left ∙ by found l
-  where
-    by : (gs : List PartialGrid) → length gs < 2 → ending p gs spent 0 (Guess ∷ es) ≡ record { found = gs; cut = true; spent = spent }
     by [] k = refl
     by (a ∷ []) k = refl
     by (a ∷ b ∷ more) k = absurd (omega arith)

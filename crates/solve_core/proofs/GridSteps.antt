@@ -1,4 +1,4 @@
-use Rattle.std.proofs.Common.{◌≡◌, ◌≢◌, ℕ, zero, suc, ◌+◌, ◌*◌, ◌/◌, ◌%◌, ◌<◌, ◌≤◌, ◌⊎◌, inl, inr, Bool, true, false, List, [], length, get_or, set, Option, Some, None, refl, sym, ap, ◌∙◌, arith, subst, length-set, get_or-set_same, get_or-set_other, below_more}
+use Rattle.std.proofs.Common.{◌≡◌, ◌≢◌, ℕ, zero, suc, ◌+◌, ◌*◌, ◌/◌, ◌%◌, ◌<◌, ◌≤◌, ◌⊎◌, inl, inr, Bool, true, false, List, [], length, get_or, set, Option, Some, refl, sym, ap, ◌∙◌, arith, subst, length-set, get_or-set_same, get_or-set_other, below_more}
 use Rattle.std.proofs.Math.Nat.{mul-le-mul_left}
 use Rattle.std.proofs.lemmas.Nat.{div_below}
 use Rattle.grid_core.specs.declared.cells.Cell.{Cell}
@@ -7,7 +7,8 @@ use Rattle.grid_core.specs.Nonogram.{Nonogram, IsNonogram, GridLine, places_from
 use Rattle.solve_core.specs.declared.closures.Progress.{Progress}
 use Rattle.solve_core.specs.declared.closures.Progress.TheVariants.{Dead, Same, Changed}
 use Rattle.solve_core.specs.Closure.{round, closure, deduce_line}
-use Rattle.solve_core.specs.Marks.{IsSettled, IsWritten, IsDeduced, HasMarks, MarksAfter, Progresses, AreUnmarked, IsAtRest}
+use Rattle.solve_core.specs.declared.places.Places.{Places}
+use Rattle.solve_core.specs.Marks.{places_of, IsSettled, IsWritten, IsDeduced, HasMarks, MarksAfter, Progresses, AreUnmarked, IsAtRest}
 use Rattle.solve_core.specs.MarkedPuzzles.{MarkedPuzzle}
 use Rattle.solve_core.specs.Rounds.{IsLearned}
 use Rattle.solve_core.specs.Trails.{unknown_count}
@@ -174,11 +175,6 @@ column_marks_after p cells new rows columns after x Dead m h w = tt
 column_marks_after p cells new rows columns after x Same m h w = column_marks p cells new rows columns after x false m h w
 column_marks_after p cells new rows columns after x Changed m h w = column_marks p cells new rows columns after x true m h w
 
-pub deduced-kept : (r : Progress) (line : GridLine) (cells new : List Cell) (before after : List Bool) → IsDeduced r line cells new before after → r ≡ Same → after ≡ before
-deduced-kept Dead line cells new before after w e = cc
-deduced-kept Same line cells new before after w e = w.kept refl
-deduced-kept Changed line cells new before after w e = cc
-
 -- where no line is marked the cells are their own closure
 pub unmarked_closed : (p : MarkedPuzzle) (cells : List Cell) → HasMarks p cells → AreUnmarked p.rows → AreUnmarked p.columns → closure (lines_of p.puzzle) cells ≡ Some cells
 unmarked_closed p cells m r c =
@@ -187,18 +183,14 @@ unmarked_closed p cells m r c =
     (λ y l. settled_line cells (row_at p.puzzle y) (m.rows_settled y (omega (arith, m.puzzle.clues.0)) (r y)))
     (λ x l. settled_line cells (column_at p.puzzle x) (m.columns_settled x (omega (arith, m.puzzle.clues.1)) (c x))))
 
--- the line that the code hands in is the puzzle's
-pub row_given : (p : Nonogram) (y number width count : ℕ) (clue : List ℕ) (r : Progress) (cells new : List Cell) (before after : List Bool) → width ≡ p.width → count ≡ p.width → number ≡ y → clue ≡ get_or p.rows y []
-    → IsDeduced r (record { places = places_from (number * width) 1 count; clue = clue }) cells new before after → IsDeduced r (row_at p y) cells new before after
-row_given p y number width count clue r cells new before after ew en ey ec d =
-    subst (λ (line : GridLine). IsDeduced r line cells new before after)
-    (line_is (places_from (number * width) 1 count) (places_from (y * p.width) 1 p.width) clue (get_or p.rows y []) (λ i. places_from (ey i * ew i) 1 (en i)) ec) d
+-- the line of a row's places, or of a column's, is the puzzle's
+pub row_is : (p : Nonogram) (y : ℕ) (places : Places) (clue : List ℕ) → places.first ≡ y * p.width → places.step ≡ 1 → places.count ≡ p.width → clue ≡ get_or p.rows y []
+    → (let line : GridLine = record { places = places_of places; clue = clue } in line ≡ row_at p y)
+row_is p y places clue ef es ec e = line_is (places_of places) (places_from (y * p.width) 1 p.width) clue (get_or p.rows y []) (λ i. places_from (ef i) (es i) (ec i)) e
 
-pub column_given : (p : Nonogram) (x number width height : ℕ) (clue : List ℕ) (r : Progress) (cells new : List Cell) (before after : List Bool) → width ≡ p.width → height ≡ p.height → number ≡ x → clue ≡ get_or p.columns x []
-    → IsDeduced r (record { places = places_from number width height; clue = clue }) cells new before after → IsDeduced r (column_at p x) cells new before after
-column_given p x number width height clue r cells new before after ew eh ex ec d =
-    subst (λ (line : GridLine). IsDeduced r line cells new before after)
-    (line_is (places_from number width height) (places_from x p.width p.height) clue (get_or p.columns x []) (λ i. places_from (ex i) (ew i) (eh i)) ec) d
+pub column_is : (p : Nonogram) (x : ℕ) (places : Places) (clue : List ℕ) → places.first ≡ x → places.step ≡ p.width → places.count ≡ p.height → clue ≡ get_or p.columns x []
+    → (let line : GridLine = record { places = places_of places; clue = clue } in line ≡ column_at p x)
+column_is p x places clue ef es ec e = line_is (places_of places) (places_from x p.width p.height) clue (get_or p.columns x []) (λ i. places_from (ef i) (es i) (ec i)) e
 
 -- a step that isn't dead keeps f of the cells
 pub progress-keeps : (f : List Cell → Option (List Cell)) (r : Progress) (old new : List Cell) → r ≢ Dead → Progresses f r old new → f new ≡ f old
@@ -217,14 +209,6 @@ progress-changed f r old middle new n h k = (k.0 ∙ progress-keeps f r old midd
 
 pub progress-same : (f : List Cell → Option (List Cell)) (r : Progress) (old middle new : List Cell) → Progresses f r old middle → new ≡ middle → Progresses f r old new
 progress-same f r old middle new h e = subst (λ (g : List Cell). Progresses f r old g) (sym e) h
-
-pub progress-dead : (f : List Cell → Option (List Cell)) (r : Progress) (old middle : List Cell) → r ≢ Dead → Progresses f r old middle → f middle ≡ None → f old ≡ None
-progress-dead f r old middle n h e = sym (progress-keeps f r old middle n h) ∙ e
-
-pub marks_alive : (r : Progress) (p : MarkedPuzzle) (cells : List Cell) → r ≢ Dead → MarksAfter r p cells → HasMarks p cells
-marks_alive Dead p cells n m = absurd (n refl)
-marks_alive Same p cells n m = m
-marks_alive Changed p cells n m = m
 
 pub closed_after : (p : MarkedPuzzle) (first cells middle new : List Cell) (r : Progress) → r ≢ Dead → Progresses (closure (lines_of p.puzzle)) r cells middle → new ≡ middle → HasMarks p new
     → AreUnmarked p.rows → AreUnmarked p.columns → closure (lines_of p.puzzle) cells ≡ closure (lines_of p.puzzle) first → Some new ≡ closure (lines_of p.puzzle) first
@@ -307,17 +291,6 @@ settled_closed p cells n r c =
     (all_lines (λ line. deduce_line cells line ≡ Some cells) p
     (λ y l. settled_line cells (row_at p y) (r y (omega (arith, n.clues.0))))
     (λ x l. settled_line cells (column_at p x) (c x (omega (arith, n.clues.1)))))
-
--- the line that a program makes for a row, or a column, is the puzzle's
-pub row_is : (p : Nonogram) (y number width count : ℕ) (clue : List ℕ) → width ≡ p.width → count ≡ p.width → number ≡ y → clue ≡ get_or p.rows y []
-    → (let line : GridLine = record { places = places_from (number * width) 1 count; clue = clue } in line ≡ row_at p y)
-row_is p y number width count clue ew en ey ec =
-    line_is (places_from (number * width) 1 count) (places_from (y * p.width) 1 p.width) clue (get_or p.rows y []) (λ i. places_from (ey i * ew i) 1 (en i)) ec
-
-pub column_is : (p : Nonogram) (x number width height : ℕ) (clue : List ℕ) → width ≡ p.width → height ≡ p.height → number ≡ x → clue ≡ get_or p.columns x []
-    → (let line : GridLine = record { places = places_from number width height; clue = clue } in line ≡ column_at p x)
-column_is p x number width height clue ew eh ex ec =
-    line_is (places_from number width height) (places_from x p.width p.height) clue (get_or p.columns x []) (λ i. places_from (ex i) (ew i) (eh i)) ec
 
 pub progress-still : (f : List Cell → Option (List Cell)) (r : Progress) (old new : List Cell) → r ≡ Same → Progresses f r old new → new ≡ old
 progress-still f Dead old new e h = cc

@@ -1,8 +1,6 @@
-use Rattle.std.proofs.Common.{◌≡◌, ℕ, zero, suc, ◌+◌, ◌≤◌, Bool, true, false, List, [], ◌∷◌, ◌++◌, length, map, Option, Some, None, nat_lt, refl, sym, ap, ◌∙◌, arith, subst, ltb-true, ltb-false, true≢false, zero-add, is_none, is_some, not, option_map, option_and_then, position, count_by}
-use Rattle.std.specs.List.{list_all, position_from}
-use Rattle.std.proofs.lemmas.Iterator.Adapters.{position_from-zero}
-use Rattle.grid_core.specs.Cells.{is_known, is_unknown}
-use Rattle.grid_core.specs.declared.cells.Cell.TheVariants.{Unknown, Filled, Blank}
+use Rattle.std.proofs.Common.{◌≡◌, ℕ, zero, suc, ◌+◌, ◌≤◌, Bool, true, false, List, [], ◌∷◌, ◌++◌, length, map, Option, Some, None, nat_lt, refl, sym, ap, ◌∙◌, arith, subst, ltb-true, ltb-false, true≢false, zero-add, option_and_then, count_by}
+use Rattle.std.specs.List.{list_all}
+use Rattle.grid_core.specs.Cells.{is_known}
 use Rattle.solve_core.specs.declared.findings.Grade.{Grade}
 use Rattle.solve_core.specs.declared.findings.Grade.TheVariants.{Lines}
 use Rattle.solve_core.specs.Closure.{closure}
@@ -156,26 +154,6 @@ report-greater pick p limit greater l h =
       spent = end.spent;
     })
     ∙ report-is pick p limit
-
--- no cell is unknown exactly where all are known
-pub none_unknown : (cells : List Cell) → is_none (position is_unknown cells) ≡ list_all is_known cells
-none_unknown cells = ap is_none (position_from-zero is_unknown cells) ∙ self 0 cells
-  where
-    self : (i : ℕ) (xs : List Cell) → is_none (position_from is_unknown i xs) ≡ list_all is_known xs
-    self i [] = refl
-    self i (Unknown ∷ xs) = refl
-    self i (Filled ∷ xs) = self (i + 1) xs
-    self i (Blank ∷ xs) = self (i + 1) xs
-
-pub is_none-option_map : {X Y : Type 0} (f : X → Y) (o : Option X) → is_none (option_map f o) ≡ is_none o
-is_none-option_map f None = refl
-is_none-option_map f (Some x) = refl
-
-pub is_none-from : {X : Type 0} (o : Option X) (b : Bool) → is_some o ≡ not b → b ≡ is_none o
-is_none-from None true h = refl
-is_none-from None false h = absurd (true≢false (sym h))
-is_none-from (Some x) true h = absurd (true≢false h)
-is_none-from (Some x) false h = refl
 
 -- a trial-closed grid is line-closed
 pub trials-closed : (lines : List GridLine) (g z : List Cell) → Some z ≡ trials lines g → IsClosed lines z

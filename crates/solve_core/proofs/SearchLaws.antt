@@ -302,13 +302,3 @@ first_unknown-IsPick = record {
   within = λ grid k e. let at = position-Some is_unknown grid k Unknown e in (at.0, at.1);
   only_full = λ grid e k l. position-None is_unknown grid e k l;
 }
-
--- a search that guesses goes on below both colours
-pub events-guess : (pick : List Cell → Option ℕ) (lawful : IsPick pick) (lines : List GridLine) (g c filled blank : List Cell) (k : ℕ)
-    → closure lines g ≡ Some c → pick c ≡ Some k → filled ≡ set c k Filled → blank ≡ set c k Blank
-    → (Guess ∷ events pick lines filled) ++ (Guess ∷ events pick lines blank) ≡ events pick lines g
-events-guess pick lawful lines g c filled blank k closed picked f b =
-    (λ i. (Guess ∷ events pick lines (f i)) ++ (Guess ∷ events pick lines (b i)))
-    ∙ ap (guess_at (events pick lines) c) (sym picked)
-    ∙ ap (search_from pick (events pick lines)) (sym closed)
-    ∙ sym (events-unfold pick lawful lines g)

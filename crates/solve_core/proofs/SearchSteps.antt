@@ -5,34 +5,18 @@ use Rattle.std.proofs.lemmas.Iterator.Adapters.{position_from-zero}
 use Rattle.grid_core.specs.declared.cells.Cell.{Cell}
 use Rattle.grid_core.specs.declared.cells.Cell.TheVariants.{Unknown, Filled, Blank}
 use Rattle.grid_core.specs.Cells.{is_unknown, is_known, CellExtends, Extends}
-use Rattle.grid_core.specs.Nonogram.{Nonogram, GridLine}
+use Rattle.grid_core.specs.Nonogram.{GridLine}
 use Rattle.solve_core.specs.declared.branches.Branch.{Branch}
 use Rattle.solve_core.specs.Closure.{round, closure}
-use Rattle.solve_core.specs.Search.{Event, Guess, Solution, IsPick, guess_at, search_from, events, first_unknown}
-use Rattle.solve_core.specs.FoundGrids.{FoundGrids, AreOfSize}
-use Rattle.solve_core.specs.Endings.{ending}
+use Rattle.solve_core.specs.Search.{Event, IsPick, guess_at, search_from, events, first_unknown}
 use Rattle.solve_core.specs.Trails.{unknown_count}
-use Rattle.solve_core.specs.Branches.{AreKnownBefore, IsClosed, IsNext, IsOpen, IsWork, AreOlder, open_events}
+use Rattle.solve_core.specs.Branches.{AreKnownBefore, IsClosed, IsNext, IsOpen, IsWork, AreOlder}
 use Rattle.line_core.proofs.DeductionLaws.{Extends-at}
 use Rattle.solve_core.proofs.Closing.{repeat-fixed}
 use Rattle.solve_core.proofs.ClosureLaws.{closure-IsLeastClosed}
 use Rattle.solve_core.proofs.SearchLaws.{events-unfold, unknown_is, unknown_count-more}
 use Rattle.solve_core.proofs.TrailSteps.{count-settled}
-use Rattle.solve_core.proofs.EndingLaws.{append-assoc-right, ending-found}
 use Rattle.solve_core.proofs.BranchLaws.{branch-count}
-
--- a cell to guess is guessed in both colours
-pub open-guess : (pick : List Cell → Option ℕ) (lines : List GridLine) (cells : List Cell) (k : ℕ) (rest : List Event)
-    → open_events pick lines cells (Some k) rest ≡ guess_at (events pick lines) cells (Some k) ++ rest
-open-guess pick lines cells k rest =
-    ap (λ es. Guess ∷ es) (sym (append-assoc-right (events pick lines (set cells k Filled)) (Guess ∷ events pick lines (set cells k Blank)) rest))
-
--- a solution is kept in a grid of the puzzle's size
-pub found-grid : (p : Nonogram) (found : FoundGrids) (cells : List Cell) (spent left : ℕ) (rest : List Event) → AreOfSize p found → length found.grids < 2
-    → ending p (found.grids ++ (record { width = found.width; height = found.height; cells = cells } ∷ [])) spent left rest ≡ ending p found.grids spent left (Solution cells ∷ rest)
-found-grid p found cells spent left rest size room =
-    (λ i. ending p (found.grids ++ (record { width = size.0 i; height = size.1 i; cells = cells } ∷ [])) spent left rest)
-    ∙ ending-found p found.grids cells spent left rest room
 
 -- nothing happens below a guess that closing refutes
 pub dead-events : (pick : List Cell → Option ℕ) (lawful : IsPick pick) (lines : List GridLine) (g : List Cell) (rest : List Event)

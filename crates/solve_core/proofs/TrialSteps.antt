@@ -1,4 +1,4 @@
-use Rattle.std.proofs.Common.{◌≡◌, ◌≢◌, ℕ, zero, suc, ◌+◌, ◌<◌, inl, inr, Bool, true, false, not, List, [], ◌∷◌, length, get_or, set, Option, Some, None, is_none, refl, sym, ap, ◌∙◌, arith, subst, zero-add, true≢false}
+use Rattle.std.proofs.Common.{◌≡◌, ℕ, zero, suc, ◌+◌, ◌<◌, inl, inr, Bool, true, false, List, [], ◌∷◌, length, get_or, set, Option, Some, None, is_none, refl, sym, ap, ◌∙◌, arith, subst, zero-add, true≢false}
 use Rattle.grid_core.specs.declared.cells.Cell.{Cell}
 use Rattle.grid_core.specs.declared.cells.Cell.TheVariants.{Unknown, Filled, Blank}
 use Rattle.grid_core.specs.Cells.{CellExtends, Extends, is_known}
@@ -163,19 +163,10 @@ settle-changed lines g new k c l unknown n below e =
 pub settle-dead : (lines : List GridLine) (g : List Cell) (k : ℕ) (c : Cell) → get_or g k Unknown ≡ Unknown → AtMost (Some (set g k c)) (trials lines g) → closure lines (set g k c) ≡ None → trials lines g ≡ None
 settle-dead lines g k c unknown below e = sym (trials_between lines g (set g k c) (set-extends g k c unknown) below) ∙ closure_dead lines (set g k c) e
 
-pub refuted_if : (b r : Bool) → r ≡ not b → r ≡ false → b ≡ true
-refuted_if true r e h = refl
-refuted_if false r e h = absurd (true≢false (sym e ∙ h))
-
 pub trial-refuted : (r : Trial) (lines : List GridLine) (g trial : List Cell) (k : ℕ) (c : Cell) → r ≡ Refuted → IsTrialOf r lines g k c trial → is_refuted lines g k c ≡ true
 trial-refuted Refuted lines g trial k c e h = ap is_none h
 trial-refuted Open lines g trial k c e h = cc
 trial-refuted Closed lines g trial k c e h = cc
-
-pub trial-open : (r : Trial) (lines : List GridLine) (g trial : List Cell) (k : ℕ) (c : Cell) → r ≢ Refuted → IsTrialOf r lines g k c trial → is_refuted lines g k c ≡ false
-trial-open Refuted lines g trial k c n h = absurd (n refl)
-trial-open Open lines g trial k c n h = h
-trial-open Closed lines g trial k c n h = ap is_none h
 
 pub trial-closed : (r : Trial) (lines : List GridLine) (g trial : List Cell) (k : ℕ) (c : Cell) → r ≡ Closed → IsTrialOf r lines g k c trial → closure lines (set g k c) ≡ Some trial
 trial-closed Refuted lines g trial k c e h = cc

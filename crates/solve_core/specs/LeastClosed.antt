@@ -1,3 +1,4 @@
+-- What it is to be the least grid that a step leaves as it is.
 use Rattle.std.specs.Prelude.{◌≡◌, List, Option, Some}
 use Rattle.grid_core.specs.declared.cells.Cell.{Cell}
 use Rattle.grid_core.specs.Cells.{Extends}

@@ -104,7 +104,7 @@ impl Board {
         &self.trail
     }
 
-    /// A row.
+    /// Row y, from 0 at the top: what is known of its cells, from the left.
     pub fn row(&self, y: u16) -> Line
         requires { y < self.now.height }
         ensures { result ≡ cells_at Unknown self.now.cells (places_from (y * self.now.width) 1 self.now.width) }
@@ -112,7 +112,7 @@ impl Board {
         self.rows[usize::from(y)].copy()
     }
 
-    /// A column.
+    /// Column x, from 0 at the left: what is known of its cells, from the top.
     pub fn column(&self, x: u16) -> Line
         requires { x < self.now.width }
         ensures { result ≡ cells_at Unknown self.now.cells (places_from x self.now.width self.now.height) }

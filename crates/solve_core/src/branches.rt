@@ -12,7 +12,9 @@ use grid_core::Cell;
 /// A filled guess whose cell is still to be guessed blank: its place, and how many places the trail had.
 #[derive(Clone, Copy, Debug)]
 pub struct Branch {
+    /// The place of the guessed cell.
     pub place: usize,
+    /// How many places the trail had before the guess.
     pub mark: usize,
 }
 

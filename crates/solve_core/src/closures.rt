@@ -16,33 +16,30 @@ use line_core::{Line, Tables, deduce};
 use std::alloc::Global;
 use std::marker::Model;
 
-/// What became of a grid.
+/// What became of a grid by a step that adds to what is known.
 #[derive(Clone, Copy)]
 pub enum Progress {
+    /// A contradiction was found.
     Dead,
+    /// No cell was settled.
     Same,
+    /// At least one cell was settled.
     Changed,
 }
 
 impl Progress {
+    /// Whether a contradiction was found.
     pub fn is_dead(self) -> bool
         ensures { IsTrue result ↔ (self ≡ Dead) }
     {
-        match self {
-            Progress::Dead => true,
-            Progress::Same => false,
-            Progress::Changed => false,
-        }
+        matches!(&self, Progress::Dead)
     }
 
+    /// Whether no cell was settled.
     pub fn is_same(self) -> bool
         ensures { IsTrue result ↔ (self ≡ Same) }
     {
-        match self {
-            Progress::Dead => false,
-            Progress::Same => true,
-            Progress::Changed => false,
-        }
+        matches!(&self, Progress::Same)
     }
 }
 
@@ -125,12 +122,7 @@ impl<'p> Closer<'p> {
         ensures trail { IsTrailed board.old board.new }
         ensures puzzle { self.new.puzzle ≡ self.old.puzzle }
     {
-        let width = self.puzzle.width();
-        let places = Places {
-            first: usize::from(y) * usize::from(width),
-            step: 1,
-            count: width,
-        };
+        let places = Places::of_row(self.puzzle, y);
         self.rows[usize::from(y)] = false;
         let row = board.row(y);
         deduce_places(
@@ -155,11 +147,7 @@ impl<'p> Closer<'p> {
         ensures trail { IsTrailed board.old board.new }
         ensures puzzle { self.new.puzzle ≡ self.old.puzzle }
     {
-        let places = Places {
-            first: usize::from(x),
-            step: usize::from(self.puzzle.width()),
-            count: self.puzzle.height(),
-        };
+        let places = Places::of_column(self.puzzle, x);
         self.columns[usize::from(x)] = false;
         let column = board.column(x);
         deduce_places(

@@ -15,6 +15,8 @@ pub mod search_laws;
 mod solutions;
 mod solver;
 #[cfg(test)]
+mod test_puzzles;
+#[cfg(test)]
 mod tests;
 #[cfg(test)]
 mod tests_search;

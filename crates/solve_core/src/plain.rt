@@ -91,13 +91,7 @@ fn learn_row(puzzle: &Puzzle, y: u16, cells: &mut [Cell]) -> Progress
     ensures progress { Progresses (closure (lines_of puzzle.now)) result cells.old cells.new }
     ensures settled { result ≡ Same → IsSettled cells.new (row_at puzzle.now y) }
 {
-    let width = puzzle.width();
-    let places = Places {
-        first: usize::from(y) * usize::from(width),
-        step: 1,
-        count: width,
-    };
-    learn_line(cells, places, puzzle.row_clue(y))
+    learn_line(cells, Places::of_row(puzzle, y), puzzle.row_clue(y))
 }
 
 /// Deduces a column.
@@ -107,12 +101,7 @@ fn learn_column(puzzle: &Puzzle, x: u16, cells: &mut [Cell]) -> Progress
     ensures progress { Progresses (closure (lines_of puzzle.now)) result cells.old cells.new }
     ensures settled { result ≡ Same → IsSettled cells.new (column_at puzzle.now x) }
 {
-    let places = Places {
-        first: usize::from(x),
-        step: usize::from(puzzle.width()),
-        count: puzzle.height(),
-    };
-    learn_line(cells, places, puzzle.col_clue(x))
+    learn_line(cells, Places::of_column(puzzle, x), puzzle.col_clue(x))
 }
 
 /// Deduces each row once.

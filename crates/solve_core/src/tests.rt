@@ -1,31 +1,12 @@
+//! Tests of closing grids: by lines and under trials, by solvers and by the plain programs.
 ghost use Rattle.std.specs.Prelude.{◌≡◌, ◌<◌, ◌≤◌, IfSome};
 ghost use Rattle.solve_core.specs.Grids.{HasSizeOf};
 
 use super::*;
+use crate::test_puzzles::puzzle_of;
 use grid_core::{Cell, Clue, Grid, Puzzle, Texts};
 use std::alloc::Global;
 use std::test::Fail;
-
-fn clues_of(alloc: Global, lists: &[&[u16]]) -> Option<Vec<Clue>> {
-    let mut clues = Vec::new(alloc);
-    for numbers in lists {
-        let clue = Clue::from_numbers(alloc, numbers).ok()?;
-        clues.push(clue).ok()?;
-    }
-    Some(clues)
-}
-
-fn puzzle_of(
-    alloc: Global,
-    width: u16,
-    height: u16,
-    rows: &[&[u16]],
-    columns: &[&[u16]],
-) -> Option<Puzzle> {
-    let rows = clues_of(alloc, rows)?;
-    let columns = clues_of(alloc, columns)?;
-    Puzzle::new(width, height, rows, columns, Texts::none(), None).ok()
-}
 
 /// A grid of the puzzle's size of which nothing is known.
 fn unknown_grid(alloc: Global, puzzle: &Puzzle) -> Option<Grid>
@@ -120,7 +101,7 @@ const PAIR: &[u16] = &[1, 1];
 #[test]
 fn trials_settle_what_lines_leave(rt: HostRuntime) -> Result<(), Fail> {
     let alloc = rt.alloc();
-    let puzzle = puzzle_of(alloc, 4, 2, &[TWO, PAIR], &[ONE, ONE, ONE, ONE]);
+    let puzzle = puzzle_of(alloc, &[TWO, PAIR], &[ONE, ONE, ONE, ONE]);
     let found = puzzle
         .as_ref()
         .and_then(|puzzle| solver_pictures(alloc, puzzle));
@@ -137,13 +118,7 @@ fn trials_settle_what_lines_leave(rt: HostRuntime) -> Result<(), Fail> {
 #[test]
 fn trials_find_a_contradiction(rt: HostRuntime) -> Result<(), Fail> {
     let alloc = rt.alloc();
-    let puzzle = puzzle_of(
-        alloc,
-        6,
-        2,
-        &[&[1, 1, 1], &[3]],
-        &[ONE, ONE, ONE, ONE, ONE, ONE],
-    );
+    let puzzle = puzzle_of(alloc, &[&[1, 1, 1], &[3]], &[ONE, ONE, ONE, ONE, ONE, ONE]);
     let found = puzzle
         .as_ref()
         .and_then(|puzzle| solver_pictures(alloc, puzzle));
@@ -170,7 +145,7 @@ fn lines_of_demonstration(alloc: Global) -> Option<Picture> {
         TWO,
     ];
     let columns: &[&[u16]] = &[&[2, 1], &[2, 1, 3], &[7], &[1, 3], &[2, 1]];
-    let puzzle = puzzle_of(alloc, 5, 10, rows, columns)?;
+    let puzzle = puzzle_of(alloc, rows, columns)?;
     let mut solver = Solver::new(alloc, &puzzle).ok()?;
     after_lines(alloc, &puzzle, &mut solver)
 }
@@ -198,7 +173,7 @@ fn after_filling(puzzle: &Puzzle, solver: &mut Solver, grid: &mut Grid, x: u16) 
 
 /// What a solver makes of the 2 by 2 puzzle with a 1 for each line: by trials, then with a cell filled, then with its neighbour filled too.
 fn closed_again(alloc: Global) -> Option<[Picture; 3]> {
-    let puzzle = puzzle_of(alloc, 2, 2, &[ONE, ONE], &[ONE, ONE])?;
+    let puzzle = puzzle_of(alloc, &[ONE, ONE], &[ONE, ONE])?;
     if puzzle.width() < 2 {
         return None;
     }

@@ -1,28 +1,11 @@
+//! Tests of reports.
+
+use crate::test_puzzles::puzzle_of;
 use crate::{Findings, Grade, Verdict, report};
-use grid_core::{Clue, Grid, Puzzle, Texts};
+use grid_core::{Grid, Puzzle};
 use std::alloc::{AllocError, Global};
 use std::process::Abort;
 use std::test::Fail;
-
-fn clues_of(alloc: Global, lists: &[&[u16]]) -> Option<Vec<Clue>> {
-    let mut clues = Vec::new(alloc);
-    for numbers in lists {
-        let clue = Clue::from_numbers(alloc, numbers).ok()?;
-        clues.push(clue).ok()?;
-    }
-    Some(clues)
-}
-
-fn puzzle_of(alloc: Global, rows: &[&[u16]], columns: &[&[u16]]) -> Option<Puzzle> {
-    if rows.len() > 128 || columns.len() > 128 {
-        return None;
-    }
-    let width = columns.len() as u16;
-    let height = rows.len() as u16;
-    let rows = clues_of(alloc, rows)?;
-    let columns = clues_of(alloc, columns)?;
-    Puzzle::new(width, height, rows, columns, Texts::none(), None).ok()
-}
 
 // The puzzle with the clue 1 for each of three rows and three columns: its solutions are the six permutations.
 fn permutations(alloc: Global) -> Option<Puzzle> {

@@ -33,21 +33,13 @@ impl Trial {
     fn is_refuted(self) -> bool
         ensures { IsTrue result ↔ (self ≡ Refuted) }
     {
-        match self {
-            Trial::Refuted => true,
-            Trial::Open => false,
-            Trial::Closed => false,
-        }
+        matches!(&self, Trial::Refuted)
     }
 
     fn is_closed(self) -> bool
         ensures { IsTrue result ↔ (self ≡ Closed) }
     {
-        match self {
-            Trial::Refuted => false,
-            Trial::Open => false,
-            Trial::Closed => true,
-        }
+        matches!(&self, Trial::Closed)
     }
 }
 
