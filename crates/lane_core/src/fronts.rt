@@ -22,6 +22,19 @@ pub struct LaneFront {
     pub ghost room: { producer_capacity messages ≤ known_free messages + length (sent messages) },
 }
 
+impl LaneFront {
+    ghost use Rattle.std.specs.Prelude.{◌≡◌};
+    ghost use Rattle.lane_core.specs.Ends.{front_lists};
+    ghost use Rattle.lane_core.specs.Messages.{has_finish};
+
+    /// Whether the finish was sent.
+    pub fn has_sent_finish(&self) -> bool
+        ensures { result ≡ has_finish (front_lists self.now).sent }
+    {
+        self.finished
+    }
+}
+
 impl Lane for LaneFront {
     ghost use Rattle.std.specs.Prelude.{refl};
     ghost use Rattle.lane_core.specs.Ends.{front_lists, front_capacity, SameFront, SameFront-refl, SameFront-trans, SameFront-capacity};

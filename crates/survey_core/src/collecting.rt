@@ -1,15 +1,16 @@
 //! Grading jobs over several lanes, each with a worker in a thread of its own.
 
-ghost use Rattle.std.specs.Prelude.{◌≡◌, ◌<◌, ◌≤◌, [], IfOk, IsOk, map, vec_len, vec_capacity};
+ghost use Rattle.std.specs.Prelude.{◌≡◌, ◌+◌, ◌<◌, ◌≤◌, ◌++◌, [], IfOk, IsOk, map, vec_len, vec_capacity};
 ghost use Rattle.std.specs.VecDeque.{deque_len, deque_capacity};
 ghost use Rattle.lane_core.specs.Answers.{AreAnswersTo};
-ghost use Rattle.survey_core.specs.Collected.{waiting_jobs, dealt_jobs, EachAnswered};
+ghost use Rattle.survey_core.specs.Collected.{waiting_jobs, dealt_jobs, complete_jobs, EachAnswered};
 
-use crate::dealing_out::deal_out;
-use crate::gathering::gather;
-use crate::opening::open_lanes;
-use crate::running::{OpenLane, RunningLane, Turn};
+use crate::bells::{answers_before_ringing, worker_bells};
+use crate::job_order::{deal_out, gather};
+use crate::lanes::{CompleteLane, OpenLane, RunningLane};
+use crate::lists::Lists;
 use crate::settings::{LARGEST_RING, MOST_LANES};
+use crate::shared::Shared;
 use crate::workers::NoThread;
 use grid_core::NoMemory;
 use lane_core::{Answer, Gate, Job};
@@ -19,7 +20,7 @@ use std::collections::VecDeque;
 use std::snapshot::Snapshot;
 use std::sync::Wait;
 use std::thread;
-use std::thread::{Scope, Threads};
+use std::thread::{Parker, Scope, Threads};
 use thiserror::Error;
 
 /// The most jobs of a collection: as many as it has entries.
@@ -80,77 +81,82 @@ pub fn collect<R: Threads + Wait + Sync, G: Gate + Sync>(
     if jobs.is_empty() {
         return Ok(Vec::new(alloc));
     }
-    collect_some(rt, alloc, jobs, usize::from(lanes), usize::from(ring), gate)
+    let ring = usize::from(ring);
+    let bell = Parker::new();
+    let shared = Shared {
+        rt,
+        alloc,
+        gate,
+        bell: &bell,
+        batch: answers_before_ringing(ring),
+    };
+    collect_some(&shared, jobs, usize::from(lanes), ring)
 }
 
 /// The same, over any number of jobs.
 fn collect_some<R: Threads + Wait + Sync, G: Gate + Sync>(
-    rt: &R,
-    alloc: Global,
+    shared: &Shared<'_, R, G>,
     jobs: Vec<Job>,
     lanes: usize,
     ring: usize,
-    gate: &G,
 ) -> Result<Vec<Answer>, CollectFault>
     requires lanes { 1 ≤ lanes }
     requires ring { (1 ≤ ring) × (ring ≤ LARGEST_RING) }
     ensures { IfOk result (λ answers. AreAnswersTo jobs.items answers.items) }
 {
+    let alloc = shared.alloc;
     let all = Snapshot::of(&jobs);
     let count = jobs.len();
     let gathered = Vec::with_capacity(alloc, count)?;
-    let opened = open_lanes(alloc, deal_out(alloc, jobs, lanes)?, ring)?;
-    let room = VecDeque::with_capacity(alloc, lanes)?;
-    let settled = Vec::with_capacity(alloc, lanes)?;
+    let bells = worker_bells(alloc, lanes)?;
+    let lists = Lists::new(alloc, deal_out(alloc, jobs, lanes)?, &bells, ring)?;
     let queues = thread::scope(
         thread::scope_env(),
-        rt,
+        shared.rt,
         move |scope| -> Result<Vec<VecDeque<Answer, Global>>, NoThread>
-            requires { (room.items ≡ []) × (deque_len opened ≤ deque_capacity room) × (settled.items ≡ []) × (deque_len opened ≤ vec_capacity settled) }
-            ensures { IfOk result (λ queues. EachAnswered (waiting_jobs opened.items) (map (λ q. q.items) queues.items)) }
-        { run_lanes(rt, scope, alloc, opened, room, settled, gate) },
+            ensures { IfOk result (λ queues. EachAnswered (waiting_jobs lists.entry.opened.items) (map (λ q. q.items) queues.items)) }
+        { run_lanes(shared, scope, lists) },
     )?;
     Ok(gather(&all, count, lanes, queues, gathered))
 }
 
 /// The answers of each lane, once its worker was started, and it was finished, drained and settled.
-fn run_lanes<'s, E, R: Threads + Wait + Sync, G: Gate + Sync>(
-    rt: &'s R,
+fn run_lanes<'s, 'b: 's, E, R: Threads + Wait + Sync, G: Gate + Sync>(
+    shared: &'s Shared<'s, R, G>,
     scope: &Scope<'s, E>,
-    alloc: Global,
-    opened: VecDeque<OpenLane, Global>,
-    room: VecDeque<RunningLane, Global>,
-    settled: Vec<VecDeque<Answer, Global>>,
-    gate: &'s G,
+    lists: Lists<'b>,
 ) -> Result<Vec<VecDeque<Answer, Global>>, NoThread>
-    requires running { (room.items ≡ []) × (deque_len opened ≤ deque_capacity room) }
-    requires settled { (settled.items ≡ []) × (deque_len opened ≤ vec_capacity settled) }
-    ensures { IfOk result (λ queues. EachAnswered (waiting_jobs opened.items) (map (λ q. q.items) queues.items)) }
+    ensures { IfOk result (λ queues. EachAnswered (waiting_jobs lists.entry.opened.items) (map (λ q. q.items) queues.items)) }
 {
-    let mut running = start_all(rt, scope, alloc, opened, room, gate)?;
-    take_turns(rt, &mut running);
-    Ok(settle_all(rt, running, settled))
+    let Lists {
+        opened,
+        running,
+        complete,
+        settled,
+    } = lists;
+    let running = start_all(shared, scope, opened, running)?;
+    let complete = take_turns(shared, running, complete);
+    Ok(settle_all(shared.rt, complete, settled))
 }
 
 /// Starts the worker of each lane. Where one is not started, those before it are stopped.
-fn start_all<'s, E, R: Threads + Wait + Sync, G: Gate + Sync>(
-    rt: &'s R,
+pub fn start_all<'s, 'b: 's, E, R: Threads + Wait + Sync, G: Gate + Sync>(
+    shared: &'s Shared<'s, R, G>,
     scope: &Scope<'s, E>,
-    alloc: Global,
-    opened: VecDeque<OpenLane, Global>,
-    room: VecDeque<RunningLane, Global>,
-    gate: &'s G,
-) -> Result<VecDeque<RunningLane, Global>, NoThread>
+    opened: VecDeque<OpenLane<'b>, Global>,
+    room: VecDeque<RunningLane<'b>, Global>,
+) -> Result<VecDeque<RunningLane<'b>, Global>, NoThread>
     requires { (room.items ≡ []) × (deque_len opened ≤ deque_capacity room) }
-    ensures { IfOk result (λ running. dealt_jobs running.items ≡ waiting_jobs opened.items) }
+    ensures jobs { IfOk result (λ running. dealt_jobs running.items ≡ waiting_jobs opened.entry.items) }
+    ensures len { IfOk result (λ running. deque_len running ≡ deque_len opened.entry) }
 {
     let mut opened = opened;
     let mut running = room;
     while let Some(lane) = opened.pop_front() {
-        match RunningLane::start(rt, scope, alloc, lane, gate) {
+        match lane.start(shared, scope) {
             Ok(started) => running.push_back_reserved(started),
             Err(refused) => {
-                stop_all(rt, running);
+                stop_all(shared.rt, running);
                 return Err(refused);
             }
         }
@@ -159,48 +165,55 @@ fn start_all<'s, E, R: Threads + Wait + Sync, G: Gate + Sync>(
 }
 
 /// Asks each worker to finish, and waits for it.
-fn stop_all<R: Threads>(rt: &R, running: VecDeque<RunningLane, Global>) {
+pub fn stop_all<R: Threads>(rt: &R, running: VecDeque<RunningLane<'_>, Global>) {
     let mut running = running;
     'stopping: while let Some(lane) = running.pop_front() {
         lane.stop(rt);
     }
 }
 
-/// Takes turns at the lanes until each is complete. After a round in which nothing could be done, the processor goes to another thread.
-fn take_turns<R: Wait>(rt: &R, running: &mut VecDeque<RunningLane, Global>)
-    ensures { dealt_jobs running.new.items ≡ dealt_jobs running.old.items }
+/// Takes turns at the lanes until each is complete. After a round in which nothing could be done, the collector sleeps at its bell.
+fn take_turns<'b, R: Wait, G>(
+    shared: &Shared<'_, R, G>,
+    running: VecDeque<RunningLane<'b>, Global>,
+    room: VecDeque<CompleteLane, Global>,
+) -> VecDeque<CompleteLane, Global>
+    requires { (room.items ≡ []) × (deque_len running ≤ deque_capacity room) }
+    ensures jobs { complete_jobs result.items ≡ dealt_jobs running.entry.items }
+    ensures len { deque_len result ≡ deque_len running.entry }
 {
-    'rounds: for _ in rt.forever() {
-        match take_round(running) {
-            Turn::Complete => return,
-            Turn::Moved => {}
-            Turn::Idle => thread::yield_now(),
+    let mut running = running;
+    let mut complete = room;
+    'rounds: for _ in shared.rt.forever() {
+        let moved = take_round(&mut running);
+        take_complete(&mut running, &mut complete);
+        if running.is_empty() {
+            return complete;
+        }
+        if !moved {
+            shared.bell.park(shared.rt);
         }
     }
+    unreachable!()
 }
 
-/// One turn at each lane. Complete where each is; else whether anything could be done.
-fn take_round(running: &mut VecDeque<RunningLane, Global>) -> Turn
-    ensures { dealt_jobs running.new.items ≡ dealt_jobs running.old.items }
+/// One turn at each lane. Whether anything could be done at one.
+fn take_round(running: &mut VecDeque<RunningLane<'_>, Global>) -> bool
+    ensures jobs { dealt_jobs running.new.items ≡ dealt_jobs running.old.items }
+    ensures len { deque_len running.new ≡ deque_len running.old }
 {
-    let mut round = Turn::Complete;
+    let mut moved = false;
     'lanes: for place in 0..running.len() {
-        match turn_at(running, place) {
-            Turn::Complete => {}
-            Turn::Moved => round = Turn::Moved,
-            Turn::Idle => {
-                if round == Turn::Complete {
-                    round = Turn::Idle;
-                }
-            }
+        if turn_at(running, place) {
+            moved = true;
         }
     }
-    round
+    moved
 }
 
-/// One turn at one lane.
+/// One turn at one lane. Whether anything could be done at it.
 #[tactic(auto, using(crate::proofs::CollectedLemmas::places))]
-fn turn_at(running: &mut VecDeque<RunningLane, Global>, place: usize) -> Turn
+fn turn_at(running: &mut VecDeque<RunningLane<'_>, Global>, place: usize) -> bool
     requires { place < deque_len running.old }
     ensures jobs { dealt_jobs running.new.items ≡ dealt_jobs running.old.items }
     ensures len { deque_len running.new ≡ deque_len running.old }
@@ -209,19 +222,40 @@ fn turn_at(running: &mut VecDeque<RunningLane, Global>, place: usize) -> Turn
     lane.turn()
 }
 
-/// Settles the lanes, in order.
+/// Takes the lanes that are complete from the front, up to the first that is not.
+fn take_complete(
+    running: &mut VecDeque<RunningLane<'_>, Global>,
+    complete: &mut VecDeque<CompleteLane, Global>,
+)
+    requires { deque_len complete.old + deque_len running.old ≤ deque_capacity complete.old }
+    ensures jobs { complete_jobs complete.new.items ++ dealt_jobs running.new.items ≡ complete_jobs complete.old.items ++ dealt_jobs running.old.items }
+    ensures len { deque_len complete.new + deque_len running.new ≡ deque_len complete.old + deque_len running.old }
+    ensures room { deque_capacity complete.new ≡ deque_capacity complete.old }
+{
+    'completing: while let Some(lane) = running.pop_front() {
+        match lane.complete() {
+            Ok(lane) => complete.push_back_reserved(lane),
+            Err(lane) => {
+                running.push_front_reserved(lane);
+                return;
+            }
+        }
+    }
+}
+
+/// Settles the lanes, in order: the answers of each.
 fn settle_all<R: Threads + Wait>(
     rt: &R,
-    running: VecDeque<RunningLane, Global>,
-    settled: Vec<VecDeque<Answer, Global>>,
+    complete: VecDeque<CompleteLane, Global>,
+    room: Vec<VecDeque<Answer, Global>>,
 ) -> Vec<VecDeque<Answer, Global>>
-    requires { (settled.items ≡ []) × (deque_len running ≤ vec_capacity settled) }
-    ensures { EachAnswered (dealt_jobs running.items) (map (λ q. q.items) result.items) }
+    requires { (room.items ≡ []) × (deque_len complete ≤ vec_capacity room) }
+    ensures { EachAnswered (complete_jobs complete.items) (map (λ q. q.items) result.items) }
 {
-    let mut running = running;
-    let mut settled = settled;
-    'settling: while let Some(lane) = running.pop_front() {
-        settled.push_reserved(lane.into_answers(rt));
+    let mut complete = complete;
+    let mut settled = room;
+    'settling: while let Some(lane) = complete.pop_front() {
+        settled.push_reserved(lane.settle(rt));
     }
     settled
 }

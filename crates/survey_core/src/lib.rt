@@ -1,21 +1,22 @@
 //! Surveys of collections: reading a collection, grading its puzzles on one thread or over lanes, and writing what is found.
 #![tactic(auto)]
 
+mod bells;
 mod collecting;
 mod collecting_one;
 mod counted;
-mod dealing_out;
 mod entries;
 mod faults;
-mod gathering;
 mod grading;
-mod opening;
+mod job_order;
+mod lanes;
+mod lists;
 mod outcomes;
 mod pictures;
 mod printing;
 mod readings;
-mod running;
 mod settings;
+mod shared;
 mod streams;
 mod surveys;
 mod texts;
@@ -46,5 +47,7 @@ mod tests_collect;
 mod tests_counted;
 #[cfg(test)]
 mod tests_samples;
+#[cfg(test)]
+mod tests_sleep;
 #[cfg(test)]
 mod tests_streams;

@@ -22,7 +22,7 @@ fn one_cell(alloc: Global) -> Result<Puzzle, Fail> {
 }
 
 /// Jobs with the numbers from 0.
-fn jobs_numbered(alloc: Global, count: u32) -> Result<Vec<Job>, Fail> {
+pub fn jobs_numbered(alloc: Global, count: u32) -> Result<Vec<Job>, Fail> {
     let mut jobs = Vec::new(alloc);
     for number in 0..count {
         jobs.push(Job::new(number, one_cell(alloc)?, 1000))?;

@@ -4,12 +4,13 @@ ghost use Rattle.std.specs.Prelude.{◌≡◌, IfOk};
 ghost use Rattle.lane_core.specs.Lane.{IsFinished};
 ghost use Rattle.lane_core.specs.Ends.{back_lists, SameBack};
 
+use crate::bells::WorkerBells;
+use crate::shared::Shared;
 use lane_core::{Gate, LaneBack, Step};
 use std::alloc::Global;
 use std::snapshot::Snapshot;
 use std::sync::Wait;
-use std::thread;
-use std::thread::{Promise, PromisedHandle, Scope};
+use std::thread::{Parker, Promise, PromisedHandle, Scope};
 
 /// The promise that a worker hands back the end of its own lane, with the finish taken.
 #[derive(Drop)]
@@ -19,17 +20,28 @@ impl Promise<LaneBack> for FinishedBackOf {
     ghost kept_by = { λ promise back. SameBack promise.0.value back × IsFinished (back_lists back) };
 }
 
-/// Steps until the finish is taken. Where a step finds nothing to do, the processor goes to another thread.
-pub fn run_worker<R: Wait, G: Gate>(rt: &R, alloc: Global, back: LaneBack, gate: &G) -> LaneBack
+/// Steps until the finish is taken. After a step that finds nothing to do, the worker sleeps; before it does, and before it ends, the collector is told of
+/// what was put.
+pub fn run_worker<R: Wait, G: Gate>(
+    rt: &R,
+    alloc: Global,
+    gate: &G,
+    back: LaneBack,
+    bells: WorkerBells<'_>,
+) -> LaneBack
     ensures lane { SameBack back result }
     ensures finished { IsFinished (back_lists result) }
 {
     let mut back = back;
+    let mut bells = bells;
     for _ in rt.forever() {
         match back.step(alloc, gate) {
-            Step::Done => return back,
-            Step::Graded => {}
-            Step::Idle | Step::Waiting => thread::yield_now(),
+            Step::Graded => bells.tell_later(),
+            Step::Idle | Step::Waiting => bells.sleep(rt),
+            Step::Done => {
+                bells.tell();
+                return back;
+            }
         }
     }
     unreachable!()
@@ -39,18 +51,22 @@ pub fn run_worker<R: Wait, G: Gate>(rt: &R, alloc: Global, back: LaneBack, gate:
 #[derive(Clone, Copy, Debug)]
 pub struct NoThread;
 
-/// Starts the worker of a lane.
+/// Starts the worker of a lane, which sleeps at this bell.
 pub fn start_worker<'s, E, R: Wait + Sync, G: Gate + Sync>(
-    rt: &'s R,
+    shared: &'s Shared<'s, R, G>,
     scope: &Scope<'s, E>,
-    alloc: Global,
     back: LaneBack,
-    gate: &'s G,
+    bell: &'s Parker,
 ) -> Result<PromisedHandle<LaneBack, FinishedBackOf>, NoThread>
     ensures { IfOk result (λ worker. worker.promise.0.value ≡ back) }
 {
     let promise = FinishedBackOf(Snapshot::of(&back));
-    match scope.spawn_with(promise, move || run_worker(rt, alloc, back, gate)) {
+    let (rt, alloc, gate) = (shared.rt, shared.alloc, shared.gate);
+    let (collector, batch) = (shared.bell, shared.batch);
+    match scope.spawn_with(promise, move || {
+        let bells = WorkerBells::new(bell, collector, batch);
+        run_worker(rt, alloc, gate, back, bells)
+    }) {
         Ok(worker) => Ok(worker),
         Err(_) => Err(NoThread),
     }

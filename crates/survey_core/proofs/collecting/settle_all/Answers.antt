@@ -1,5 +1,5 @@
 use Rattle.std.proofs.Common.{◌++◌, ◌∷◌, [], sym, ap, ◌∙◌, append_assoc, arith}
-use Rattle.survey_core.specs.Collected.{dealt_jobs}
+use Rattle.survey_core.specs.Collected.{complete_jobs}
 use Rattle.survey_core.proofs.CollectedLemmas.{EachAnswered-more}
 use Rattle.survey_core.proofs.collecting.settle_all.Goals as goal
 
@@ -14,8 +14,8 @@ settling-preserved g c =
     record {
       answered = (
         before.0 ++ own ∷ [],
-        append_assoc before.0 (own ∷ []) _ ∙ ap (λ l. before.0 ++ dealt_jobs l) (sym c.in-Some.ensures.items) ∙ before.1,
-        EachAnswered-more (λ q. q.items) before.0 c.settling.settled.items c.push_reserved.new.self.items own c.into_answers.result c.push_reserved.ensures.items before.2 c.into_answers.ensures,
+        append_assoc before.0 (own ∷ []) _ ∙ ap (λ l. before.0 ++ complete_jobs l) (sym c.in-Some.ensures.items) ∙ before.1,
+        EachAnswered-more (λ q. q.items) before.0 c.settling.settled.items c.push_reserved.new.self.items own c.settle.result c.push_reserved.ensures.items before.2 c.settle.ensures,
       );
       room = omega arith;
     }

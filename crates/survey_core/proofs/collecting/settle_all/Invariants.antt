@@ -1,14 +1,14 @@
 use Rattle.std.proofs.Common.{◌≡◌, ◌+◌, ◌≤◌, ◌++◌, map, vec_len, vec_capacity, List}
 use Rattle.std.specs.VecDeque.{deque_len}
 use Rattle.lane_core.specs.declared.jobs.Job.{Job}
-use Rattle.survey_core.specs.Collected.{dealt_jobs, EachAnswered}
+use Rattle.survey_core.specs.Collected.{complete_jobs, EachAnswered}
 use Rattle.survey_core.proofs.collecting.settle_all.Given as goal
 
 abbrev pub invariant-settling : goal.invariant-settling
 invariant-settling g l = record {
-  answered : (before : List (List Job)) × (before ++ dealt_jobs l.running.items ≡ dealt_jobs l.fn.running.items) × EachAnswered before (map (λ q. q.items) l.settled.items);
-  room : vec_len l.settled + deque_len l.running ≤ vec_capacity l.settled;
+  answered : (before : List (List Job)) × (before ++ complete_jobs l.complete.items ≡ complete_jobs l.fn.complete.items) × EachAnswered before (map (λ q. q.items) l.settled.items);
+  room : vec_len l.settled + deque_len l.complete ≤ vec_capacity l.settled;
 }
 
 abbrev pub decreases-settling : goal.decreases-settling
-decreases-settling g l = deque_len l.running
+decreases-settling g l = deque_len l.complete

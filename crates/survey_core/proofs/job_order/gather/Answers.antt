@@ -1,7 +1,7 @@
 use Rattle.std.proofs.Common.{◌<◌, ◌+◌, take, sym, ap, ◌∙◌, subst}
 use Rattle.lane_core.specs.Answers.{AreAnswersTo}
 use Rattle.survey_core.proofs.DealtLemmas.{gather_some, gather_next, nil_of}
-use Rattle.survey_core.proofs.gathering.gather.Goals as goal
+use Rattle.survey_core.proofs.job_order.gather.Goals as goal
 
 pub unreachable-requires : goal.unreachable-requires
 unreachable-requires c =

@@ -1,5 +1,5 @@
 use Rattle.std.proofs.Common.{◌≡◌, vec_len, map, replicate, []}
-use Rattle.survey_core.proofs.dealing_out.no_jobs.Given as goal
+use Rattle.survey_core.proofs.job_order.no_jobs.Given as goal
 
 abbrev pub invariant-loop : goal.invariant-loop
 invariant-loop l = (vec_len l.queues ≡ l.counter) × (map (λ q. q.items) l.queues.items ≡ replicate l.counter [])

@@ -1,0 +1,74 @@
+//! Dealing jobs to lanes in turn, and gathering their answers in job order: the one undoes the other.
+
+ghost use Rattle.std.specs.Prelude.{◌≡◌, ◌<◌, ◌≤◌, ℕ, [], IfOk, length, map, slice_index_or, vec_len, vec_capacity};
+ghost use Rattle.lane_core.specs.Answers.{AreAnswersTo};
+ghost use Rattle.survey_core.specs.Dealt.{dealt};
+
+use grid_core::NoMemory;
+use lane_core::{Answer, Job};
+use std::alloc::Global;
+use std::collections::VecDeque;
+use std::snapshot::Snapshot;
+
+/// The jobs of each lane, in order: the job at place k, from 0, goes to lane k modulo the number of lanes.
+pub fn deal_out(
+    alloc: Global,
+    jobs: Vec<Job>,
+    lanes: usize,
+) -> Result<Vec<VecDeque<Job, Global>>, NoMemory>
+    requires some { 0 < lanes }
+    ensures lanes { IfOk result (λ queues. vec_len queues ≡ lanes) }
+    ensures dealt { IfOk result (λ queues. (k : ℕ) → k < lanes → slice_index_or (map (λ q. q.items) queues.items) k [] ≡ dealt jobs.items lanes k) }
+{
+    let mut queues = no_jobs(alloc, lanes)?;
+    let count = jobs.len();
+    let mut jobs = jobs.into_iter();
+    for place in 0..count {
+        let Some(job) = jobs.next() else {
+            unreachable!()
+        };
+        let queue = &mut queues[place % lanes];
+        queue.push_back(job)?;
+    }
+    Ok(queues)
+}
+
+/// As many empty queues as lanes.
+fn no_jobs(alloc: Global, lanes: usize) -> Result<Vec<VecDeque<Job, Global>>, NoMemory>
+    ensures lanes { IfOk result (λ queues. vec_len queues ≡ lanes) }
+    ensures empty { IfOk result (λ queues. (k : ℕ) → slice_index_or (map (λ q. q.items) queues.items) k [] ≡ []) }
+{
+    let mut queues = Vec::with_capacity(alloc, lanes)?;
+    for _ in 0..lanes {
+        queues.push(VecDeque::new(alloc))?;
+    }
+    Ok(queues)
+}
+
+/// The answers of all lanes in job order: the next answer of each lane in turn, so that answer j of lane k goes to place k + j times the number of lanes.
+pub fn gather(
+    jobs: &Snapshot<Vec<Job>>,
+    count: usize,
+    lanes: usize,
+    queues: Vec<VecDeque<Answer, Global>>,
+    gathered: Vec<Answer>,
+) -> Vec<Answer>
+    requires some { 0 < lanes }
+    requires lanes { vec_len queues ≡ lanes }
+    requires answered { (k : ℕ) → k < lanes → AreAnswersTo (dealt jobs.now.value.items lanes k) (slice_index_or (map (λ q. q.items) queues.items) k []) }
+    requires empty { gathered.items ≡ [] }
+    requires count { count ≡ length jobs.now.value.items }
+    requires room { count ≤ vec_capacity gathered }
+    ensures { AreAnswersTo jobs.now.value.items result.items }
+{
+    let mut queues = queues;
+    let mut gathered = gathered;
+    for place in 0..count {
+        let queue = &mut queues[place % lanes];
+        let Some(answer) = queue.pop_front() else {
+            unreachable!()
+        };
+        gathered.push_reserved(answer);
+    }
+    gathered
+}

@@ -1,0 +1,201 @@
+//! The life of a lane: it is open, then its worker runs, then it is complete, and in the end it is settled.
+
+ghost use Rattle.std.specs.Prelude.{◌≡◌, ◌++◌, [], length, true};
+ghost use Rattle.lane_core.specs.Messages.{has_finish, jobs_of};
+ghost use Rattle.lane_core.specs.Ends.{front_lists, AreOneLane};
+
+use crate::shared::Shared;
+use crate::workers::{FinishedBackOf, NoThread, start_worker};
+use grid_core::NoMemory;
+use lane_core::{Answer, Gate, Job, Lane, LaneBack, LaneFront, deal, open_lane, settle};
+use std::alloc::Global;
+use std::collections::VecDeque;
+use std::snapshot::Snapshot;
+use std::sync::Wait;
+use std::thread::{Parker, PromisedHandle, Scope, Threads};
+
+/// A lane that is open, with the jobs that it was dealt, room for their answers, and the bell of its worker.
+#[derive(Drop)]
+pub struct OpenLane<'s> {
+    front: LaneFront,
+    back: LaneBack,
+    bell: &'s Parker,
+    /// The jobs that it was dealt, in order.
+    pub waiting: VecDeque<Job, Global>,
+    got: Vec<Answer>,
+    pub ghost one_lane: { AreOneLane front back },
+    pub ghost unsent: { (front_lists front).sent ≡ [] },
+    pub ghost received: { got.items ≡ (front_lists front).received },
+}
+
+impl<'s> OpenLane<'s> {
+    ghost use Rattle.std.specs.Prelude.{◌≡◌, ◌≤◌, IfOk};
+    ghost use Rattle.lane_core.specs.declared.opening.TheConstants.{LARGEST_RING};
+
+    /// Opens a lane for these jobs, with room for all their answers. Its rings have a capacity from 1 to 64.
+    pub fn open(
+        alloc: Global,
+        waiting: VecDeque<Job, Global>,
+        bell: &'s Parker,
+        ring: usize,
+    ) -> Result<OpenLane<'s>, NoMemory>
+        requires least { 1 ≤ ring }
+        requires most { ring ≤ LARGEST_RING }
+        ensures { IfOk result (λ lane. lane.waiting ≡ waiting) }
+    {
+        let got = Vec::with_capacity(alloc, waiting.len())?;
+        let (front, back) = open_lane(alloc, ring)?;
+        Ok(OpenLane {
+            front,
+            back,
+            bell,
+            waiting,
+            got,
+        })
+    }
+
+    /// Starts the worker of the lane.
+    pub fn start<'t, E, R: Wait + Sync, G: Gate + Sync>(
+        self,
+        shared: &'t Shared<'t, R, G>,
+        scope: &Scope<'t, E>,
+    ) -> Result<RunningLane<'s>, NoThread>
+    where
+        's: 't,
+        ensures { IfOk result (λ running. running.dealt.value ≡ self.entry.waiting) }
+    {
+        let OpenLane {
+            front,
+            back,
+            bell,
+            waiting,
+            got,
+        } = self;
+        let worker = start_worker(shared, scope, back, bell)?;
+        let dealt = Snapshot::of(&waiting);
+        let total = waiting.len();
+        Ok(RunningLane {
+            front,
+            worker,
+            bell,
+            waiting,
+            got,
+            total,
+            dealt,
+        })
+    }
+}
+
+/// A lane whose worker runs, and the jobs that it was dealt.
+#[derive(Drop)]
+pub struct RunningLane<'s> {
+    front: LaneFront,
+    worker: PromisedHandle<LaneBack, FinishedBackOf>,
+    bell: &'s Parker,
+    waiting: VecDeque<Job, Global>,
+    got: Vec<Answer>,
+    total: usize,
+    /// The jobs that it was dealt, in order.
+    pub dealt: Snapshot<VecDeque<Job, Global>>,
+    pub ghost one_lane: { AreOneLane front worker.promise.0.value },
+    pub ghost jobs: { jobs_of (front_lists front).sent ++ waiting.items ≡ dealt.value.items },
+    pub ghost received: { got.items ≡ (front_lists front).received },
+    pub ghost counted: { total ≡ length dealt.value.items },
+}
+
+impl<'s> RunningLane<'s> {
+    ghost use Rattle.std.specs.Prelude.{◌≡◌, MatchResult};
+
+    /// One turn at the lane, after which its worker is woken if a message was sent or an answer taken. Whether one was.
+    pub fn turn(&mut self) -> bool
+        ensures { self.new.dealt ≡ self.old.dealt }
+    {
+        let moved = deal(&mut self.front, &mut self.waiting, &mut self.got);
+        if moved {
+            self.bell.unpark();
+        }
+        moved
+    }
+
+    /// The lane as one that is complete, if it is; else as it was.
+    pub fn complete(self) -> Result<CompleteLane, RunningLane<'s>>
+        ensures { MatchResult result (λ lane. lane.dealt ≡ self.entry.dealt) (λ lane. lane.dealt ≡ self.entry.dealt) }
+    {
+        let answered = self.waiting.is_empty() && self.got.len() == self.total;
+        if !answered || !self.front.has_sent_finish() {
+            return Err(self);
+        }
+        let RunningLane {
+            front,
+            worker,
+            bell: _,
+            waiting: _,
+            got,
+            total: _,
+            dealt,
+        } = self;
+        Ok(CompleteLane {
+            front,
+            worker,
+            got,
+            dealt,
+        })
+    }
+
+    /// Asks the worker to finish, wakes it, and waits for its end.
+    pub fn stop<R: Threads>(self, rt: &R) {
+        let mut front = self.front;
+        let _ = front.finish();
+        self.bell.unpark();
+        let _back = self.worker.join(rt);
+    }
+}
+
+/// A lane that is complete: each job that it was dealt was sent and answered, and the finish was sent, so that its worker ends.
+#[derive(Drop)]
+pub struct CompleteLane {
+    front: LaneFront,
+    worker: PromisedHandle<LaneBack, FinishedBackOf>,
+    got: Vec<Answer>,
+    /// The jobs that it was dealt, in order.
+    pub dealt: Snapshot<VecDeque<Job, Global>>,
+    pub ghost one_lane: { AreOneLane front worker.promise.0.value },
+    pub ghost jobs: { jobs_of (front_lists front).sent ≡ dealt.value.items },
+    pub ghost finished: { has_finish (front_lists front).sent ≡ true },
+    pub ghost received: { got.items ≡ (front_lists front).received },
+    pub ghost answered: { length got.items ≡ length dealt.value.items },
+}
+
+impl CompleteLane {
+    ghost use Rattle.lane_core.specs.Answers.{AreAnswersTo};
+
+    /// Waits for the worker, and settles the lane: after `NotDrained` it takes and settles again. The answers to the jobs, in order.
+    pub fn settle<R: Threads + Wait>(self, rt: &R) -> VecDeque<Answer, Global>
+        ensures { AreAnswersTo self.dealt.value.items result.items }
+    {
+        let CompleteLane {
+            front,
+            worker,
+            got,
+            dealt: _,
+        } = self;
+        let mut front = front;
+        let mut got = got;
+        let mut back = worker.join(rt);
+        for _ in rt.forever() {
+            match settle(front, back) {
+                Ok(()) => return VecDeque::from(got),
+                Err((_, same_front, same_back)) => {
+                    front = same_front;
+                    back = same_back;
+                }
+            }
+            if got.len() < got.capacity()
+                && let Some(answer) = front.take()
+            {
+                got.push_reserved(answer);
+            }
+        }
+        unreachable!()
+    }
+}

@@ -1,0 +1,81 @@
+//! The lists of a collection, which are all made before the first thread is started.
+
+ghost use Rattle.std.specs.Prelude.{◌≡◌, ◌≤◌, [], IfOk, length, map, vec_len, vec_capacity};
+ghost use Rattle.std.specs.VecDeque.{deque_len, deque_capacity};
+ghost use Rattle.lane_core.specs.declared.opening.TheConstants.{LARGEST_RING};
+ghost use Rattle.survey_core.specs.Collected.{waiting_jobs};
+
+use crate::lanes::{CompleteLane, OpenLane, RunningLane};
+use grid_core::NoMemory;
+use lane_core::{Answer, Job};
+use std::alloc::Global;
+use std::collections::VecDeque;
+use std::thread::Parker;
+
+/// The lanes of a collection, open, and lists with room for each of them in what is left of its life.
+#[derive(Drop)]
+pub struct Lists<'s> {
+    /// The lanes, open.
+    pub opened: VecDeque<OpenLane<'s>, Global>,
+    /// Room for the lanes whose workers run.
+    pub running: VecDeque<RunningLane<'s>, Global>,
+    /// Room for the lanes that are complete.
+    pub complete: VecDeque<CompleteLane, Global>,
+    /// Room for the answers of each lane.
+    pub settled: Vec<VecDeque<Answer, Global>>,
+    pub ghost none_running: { (running.items ≡ []) × (deque_len opened ≤ deque_capacity running) },
+    pub ghost none_complete: { (complete.items ≡ []) × (deque_len opened ≤ deque_capacity complete) },
+    pub ghost none_settled: { (settled.items ≡ []) × (deque_len opened ≤ vec_capacity settled) },
+}
+
+impl<'s> Lists<'s> {
+    ghost use Rattle.std.specs.Prelude.{◌≡◌, ◌≤◌, IfOk, length, map, vec_len};
+    ghost use Rattle.lane_core.specs.declared.opening.TheConstants.{LARGEST_RING};
+    ghost use Rattle.survey_core.specs.Collected.{waiting_jobs};
+
+    /// Opens a lane for each queue of jobs, with one of these bells for its worker, and makes the lists. The rings have a capacity from 1 to 64.
+    pub fn new(
+        alloc: Global,
+        queues: Vec<VecDeque<Job, Global>>,
+        bells: &'s [Parker],
+        ring: usize,
+    ) -> Result<Lists<'s>, NoMemory>
+        requires bells { vec_len queues ≤ length bells.now }
+        requires least { 1 ≤ ring }
+        requires most { ring ≤ LARGEST_RING }
+        ensures { IfOk result (λ lists. waiting_jobs lists.opened.items ≡ map (λ q. q.items) queues.items) }
+    {
+        let lanes = queues.len();
+        let opened = open_lanes(alloc, queues, bells, ring)?;
+        let running = VecDeque::with_capacity(alloc, lanes)?;
+        let complete = VecDeque::with_capacity(alloc, lanes)?;
+        let settled = Vec::with_capacity(alloc, lanes)?;
+        Ok(Lists {
+            opened,
+            running,
+            complete,
+            settled,
+        })
+    }
+}
+
+/// Opens a lane for each queue of jobs, with the bell at its place for its worker.
+fn open_lanes<'s>(
+    alloc: Global,
+    queues: Vec<VecDeque<Job, Global>>,
+    bells: &'s [Parker],
+    ring: usize,
+) -> Result<VecDeque<OpenLane<'s>, Global>, NoMemory>
+    requires bells { vec_len queues ≤ length bells.now }
+    requires least { 1 ≤ ring }
+    requires most { ring ≤ LARGEST_RING }
+    ensures jobs { IfOk result (λ lanes. waiting_jobs lanes.items ≡ map (λ q. q.items) queues.items) }
+    ensures len { IfOk result (λ lanes. deque_len lanes ≡ vec_len queues) }
+{
+    let mut lanes = VecDeque::with_capacity(alloc, queues.len())?;
+    for waiting in queues {
+        let bell = &bells[lanes.len()];
+        lanes.push_back(OpenLane::open(alloc, waiting, bell, ring)?)?;
+    }
+    Ok(lanes)
+}
