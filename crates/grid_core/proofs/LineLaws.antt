@@ -114,6 +114,9 @@ row-within w h y l =
 column-within : (w h x y : ℕ) → x < w → y < h → x + y * w < w * h
 column-within w h x y k l = omega (arith, row-within w h y l)
 
+pub place-within : (w h x y : ℕ) → x < w → y < h → y * w + x < w * h
+place-within w h x y k l = omega (arith, row-within w h y l)
+
 pub row-is_range : (p : Nonogram) → RowIsRange p
 row-is_range p full y long l = cells-range false full (y * p.width) p.width (omega (arith, row-within p.width p.height y l))
 

@@ -6,5 +6,5 @@ use Rattle.grid_core.specs.declared.pictures.Picture.TheVariants.{Cells, Values}
 
 -- whether each cell is filled, row by row
 abbrev pub values_of : Picture → List Bool
-values_of (Cells cells) = map is_filled cells.now
+values_of (Cells grid) = map is_filled grid.now.cells
 values_of (Values values) = values.now

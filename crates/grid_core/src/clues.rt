@@ -14,15 +14,15 @@ use thiserror::Error;
 /// Why numbers are no clue.
 #[derive(Clone, Copy, Debug, PartialEq, Eq, Error)]
 pub enum ClueFault {
-    /// There are more than 128 numbers, or one is 0 or over 128.
-    #[error("a clue has at most 128 numbers, each from 1 to 128")]
+    /// There are more than 128 numbers, or one is 0 or over 256.
+    #[error("a clue has at most 128 numbers, each from 1 to 256")]
     BadNumber,
     /// A growth of memory was refused.
     #[error("out of memory")]
     NoMemory,
 }
 
-/// The lengths of the runs of filled cells of a line, in order: at most 128 numbers, each from 1 to 128.
+/// The lengths of the runs of filled cells of a line, in order: at most 128 numbers, each from 1 to 256.
 /// No number is the clue of a line with no filled cell.
 #[derive(Debug, Drop)]
 pub struct Clue {
@@ -42,7 +42,7 @@ impl Model for Clue {
 }
 
 impl Clue {
-    /// The clue of these numbers. `BadNumber` where there are more than 128, or one is 0 or over 128; else perhaps `NoMemory`.
+    /// The clue of these numbers. `BadNumber` where there are more than 128, or one is 0 or over 256; else perhaps `NoMemory`.
     pub fn from_numbers(alloc: Global, numbers: &[u16]) -> Result<Clue, ClueFault>
         ensures ok { IfOk result (λ clue. clue ≡ numbers.now) }
         ensures clue { OnOk result (is_clue LONGEST_SIDE numbers.now ≡ true) }

@@ -1,28 +1,30 @@
 //! Partly known grids.
 
-ghost use Rattle.std.specs.Prelude.{◌≡◌, ℕ, ◌+◌, ◌*◌, ◌/◌, ◌%◌, ◌<◌, ◌≤◌, length, replicate, count_by, position, option_map, IfOk, IfSome, slice_index_or, slice_set};
+ghost use Rattle.std.specs.Prelude.{◌≡◌, ℕ, ◌+◌, ◌*◌, ◌/◌, ◌%◌, ◌<◌, ◌≤◌, true, length, replicate, count_by, position, option_map, IfNone, IfOk, IfSome, slice_index_or, slice_set};
+ghost use Rattle.grid_core.specs.Blocks.{AreBlocks, cell_of_blocks, cells_of};
 ghost use Rattle.grid_core.specs.Cells.{is_known, is_unknown};
 ghost use Rattle.grid_core.specs.PartialGrid.{PartialGrid, cell_at, IsSize, place};
 ghost use Rattle.grid_core.specs.declared.cells.Cell.TheVariants.{Unknown};
 
+use crate::blocks::{BLOCK, Block};
 use crate::{Cell, NoMemory};
 use std::alloc::Global;
 use std::marker::Model;
 
-/// A partly known grid: a width and a height from 1 to 128, and what is known of each cell.
+/// A partly known grid: a width and a height from 1 to 256, and what is known of each cell.
 #[derive(Debug, Drop)]
 pub struct Grid {
     width: u16,
     height: u16,
-    cells: Vec<Cell>,
+    blocks: Vec<Block>,
 }
 
 impl Model for Grid {
     ghost Value = { PartialGrid };
 
-    ghost view = { λ g. record { width = g.width; height = g.height; cells = g.cells.items } };
+    ghost view = { λ g. record { width = g.width; height = g.height; cells = cells_of g.blocks.items (g.width * g.height) } };
 
-    ghost invariant = { λ g. IsSize g.width g.height × (length g.cells.items ≡ g.width * g.height) };
+    ghost invariant = { λ g. IsSize g.width g.height × AreBlocks (g.width * g.height) g.blocks.items };
 }
 
 impl Grid {
@@ -35,7 +37,7 @@ impl Grid {
         Ok(Grid {
             width,
             height,
-            cells: vec![in alloc; Cell::Unknown; count]?,
+            blocks: vec![in alloc; Block::unknown(); count.div_ceil(BLOCK)]?,
         })
     }
 
@@ -61,7 +63,15 @@ impl Grid {
         requires row { y < self.now.height }
         ensures { result ≡ cell_at self.now x y }
     {
-        self.cells[usize::from(y) * usize::from(self.width) + usize::from(x)]
+        self.at(usize::from(y) * usize::from(self.width) + usize::from(x))
+    }
+
+    /// What is known of the cell at a place in row order.
+    pub(crate) fn at(&self, place: usize) -> Cell
+        requires { place < length self.now.cells }
+        ensures { result ≡ slice_index_or self.now.cells place Unknown }
+    {
+        self.blocks[place / BLOCK].get((place % BLOCK) as u16)
     }
 
     /// Changes what is known of the cell in column x and row y, and nothing else.
@@ -71,39 +81,27 @@ impl Grid {
         ensures { self.new ≡ record self.old { cells = slice_set self.old.cells (place self.old x y) cell } }
     {
         let place = usize::from(y) * usize::from(self.width) + usize::from(x);
-        self.cells[place] = cell;
-    }
-
-    /// The cells, row by row.
-    pub(crate) fn cells(&self) -> &[Cell]
-        ensures { result.now ≡ self.now.cells }
-    {
-        &self.cells
+        let block = self.blocks[place / BLOCK];
+        self.blocks[place / BLOCK] = block.with((place % BLOCK) as u16, cell);
     }
 
     /// How many cells are known.
     pub fn known(&self) -> u32
         ensures { result ≡ count_by is_known self.now.cells }
     {
-        let mut count = 0;
-        for cell in &self.cells {
-            if cell.is_known() {
-                count += 1;
-            }
-        }
-        count
+        count_known(&self.blocks)
     }
 
     /// The column and the row of the first unknown cell, rows from the top, cells from the left. `None` exactly where the grid is full.
     pub fn first_unknown(&self) -> Option<(u16, u16)>
         ensures { result ≡ option_map (λ k. (k % self.now.width, k / self.now.width)) (position is_unknown self.now.cells) }
     {
-        match first_unknown_place(&self.cells) {
-            Some(place) => {
-                let width = usize::from(self.width);
+        let width = usize::from(self.width);
+        match first_unknown_place(&self.blocks) {
+            Some(place) if place < width * usize::from(self.height) => {
                 Some(((place % width) as u16, (place / width) as u16))
             }
-            None => None,
+            _ => None,
         }
     }
 
@@ -114,15 +112,34 @@ impl Grid {
         Ok(Grid {
             width: self.width,
             height: self.height,
-            cells: self.cells.clone()?,
+            blocks: self.blocks.clone()?,
         })
     }
 }
 
-/// The place of the first unknown cell, in row order.
-fn first_unknown_place(cells: &[Cell]) -> Option<usize>
-    ensures place { result ≡ position is_unknown cells.now }
-    ensures within { IfSome result (λ k. k < length cells.now) }
+/// How many cells of blocks are known.
+fn count_known(blocks: &[Block]) -> u32
+    requires { length blocks.now ≤ 1024 }
+    ensures { result ≡ count_by is_known (cells_of blocks.now (64 * length blocks.now)) }
 {
-    cells.iter().position(|cell| cell.is_unknown())
+    let mut count = 0;
+    for block in blocks {
+        count += block.known();
+    }
+    count
+}
+
+/// The place of the first unknown cell of blocks that follow one another.
+fn first_unknown_place(blocks: &[Block]) -> Option<usize>
+    requires { length blocks.now ≤ 1024 }
+    ensures unknown { IfSome result (λ place. (place < 64 * length blocks.now) × (cell_of_blocks blocks.now place ≡ Unknown)) }
+    ensures first { IfSome result (λ place. (i : ℕ) → i < place → is_known (cell_of_blocks blocks.now i) ≡ true) }
+    ensures none { IfNone result ((i : ℕ) → i < 64 * length blocks.now → is_known (cell_of_blocks blocks.now i) ≡ true) }
+{
+    for (i, block) in blocks.iter().enumerate() {
+        if let Some(place) = block.first_unknown() {
+            return Some(i * BLOCK + usize::from(place));
+        }
+    }
+    None
 }

@@ -1,6 +1,7 @@
 //! Clues, puzzles and partly known grids of nonograms.
 #![tactic(auto)]
 
+mod blocks;
 mod cells;
 mod clues;
 mod fields;

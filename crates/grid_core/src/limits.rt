@@ -1,7 +1,7 @@
 //! The limits on puzzles.
 
 /// The longest side of a puzzle, in cells, and the greatest number of a clue.
-pub const LONGEST_SIDE: u16 = 128;
+pub const LONGEST_SIDE: u16 = 256;
 
 /// How many numbers a clue has at most.
 pub const MOST_RUNS: usize = 128;

@@ -1,18 +1,18 @@
 //! Pictures: full grids and goals, and whether they meet clues.
 
-ghost use Rattle.std.specs.Prelude.{◌≡◌, ◌+◌, ◌*◌, ◌<◌, ◌≤◌, ◌↔◌, ℕ, false, length, IsTrue, slice_index_or};
+ghost use Rattle.std.specs.Prelude.{◌≡◌, ◌+◌, ◌*◌, ◌^◌, ◌<◌, ◌≤◌, ◌↔◌, ℕ, false, length, IsTrue, slice_index_or};
 ghost use Rattle.grid_core.specs.Nonogram.{Meets, MeetsLine, cells_at, column_at, places_from, row_at};
 ghost use Rattle.grid_core.specs.Pictures.{values_of};
 
 use crate::limits::LONGEST_SIDE;
 use crate::runs::has_runs;
-use crate::{Cell, Clue, Puzzle};
+use crate::{Clue, Grid, Puzzle};
 
 /// Which cells are filled, row by row: of a grid, or of a goal.
 #[derive(Clone, Copy)]
 pub(crate) enum Picture<'a> {
-    /// The cells of a full grid.
-    Cells(&'a [Cell]),
+    /// A full grid.
+    Cells(&'a Grid),
     /// The values of a goal, true for filled.
     Values(&'a [bool]),
 }
@@ -24,7 +24,7 @@ impl Picture<'_> {
         ensures { result ≡ slice_index_or (values_of self.entry) place false }
     {
         match self {
-            Picture::Cells(cells) => cells[place].is_filled(),
+            Picture::Cells(grid) => grid.at(place).is_filled(),
             Picture::Values(values) => values[place],
         }
     }
@@ -32,6 +32,7 @@ impl Picture<'_> {
 
 /// Reads the cells at places that lie a step apart.
 fn read_line(picture: Picture<'_>, first: usize, step: usize, line: &mut [bool])
+    requires small { length (values_of picture) < 2 ^ 63 }
     requires within { (i : ℕ) → i < length line.old → first + i * step < length (values_of picture) }
     ensures { line.new ≡ cells_at false (values_of picture.entry) (places_from first step (length line.old)) }
 {
@@ -42,6 +43,7 @@ fn read_line(picture: Picture<'_>, first: usize, step: usize, line: &mut [bool])
 
 /// Whether the runs of a line are its clue.
 fn is_line_met(picture: Picture<'_>, first: usize, step: usize, count: u16, clue: &Clue) -> bool
+    requires small { length (values_of picture) < 2 ^ 63 }
     requires short { count ≤ LONGEST_SIDE }
     requires within { (i : ℕ) → i < count → first + i * step < length (values_of picture) }
     ensures { IsTrue result ↔ MeetsLine (values_of picture.entry) (record { places = places_from first step count; clue = clue.now }) }

@@ -2,7 +2,6 @@
 
 ghost use Rattle.std.specs.Prelude.{◌≡◌, ◌*◌, ◌<◌, ◌↔◌, true, false, length, option_map, IfOk, IsErrOf, IsTrue, IfSome, slice_index_or, []};
 ghost use Rattle.std.specs.List.{AllByRecursion, list_all};
-ghost use Rattle.grid_core.specs.Cells.{is_known};
 ghost use Rattle.grid_core.specs.Clues.{is_clue};
 ghost use Rattle.grid_core.specs.Description.{IsDescription};
 ghost use Rattle.grid_core.specs.Nonogram.{GoalMeets, IsNonogram, HasClueForEachLine, Solves, bools_of, is_goal};
@@ -18,8 +17,8 @@ use thiserror::Error;
 /// Why parts make no puzzle.
 #[derive(Clone, Copy, Debug, PartialEq, Eq, Error)]
 pub enum PuzzleFault {
-    /// The width or the height is 0 or over 128.
-    #[error("a side is from 1 to 128")]
+    /// The width or the height is 0 or over 256.
+    #[error("a side is from 1 to 256")]
     BadSize,
     /// There is not one clue for each row and each column.
     #[error("there is one clue for each line")]
@@ -29,7 +28,7 @@ pub enum PuzzleFault {
     BadGoal,
 }
 
-/// A nonogram: a width and a height from 1 to 128, the clue of each row and column, texts, and perhaps a goal, which says of each cell, row by
+/// A nonogram: a width and a height from 1 to 256, the clue of each row and column, texts, and perhaps a goal, which says of each cell, row by
 /// row, whether it is to be filled. Nothing is demanded of the clues: they may not fit their lines, and their sums may differ.
 #[derive(Debug, Drop)]
 pub struct Puzzle {
@@ -78,7 +77,7 @@ pub enum GoalWord {
 }
 
 impl Puzzle {
-    /// The puzzle of these parts. `BadSize` where a side is 0 or over 128; else `BadCount` where there is not one clue for each row and column;
+    /// The puzzle of these parts. `BadSize` where a side is 0 or over 256; else `BadCount` where there is not one clue for each row and column;
     /// else `BadGoal` where there is a goal that has not one value for each cell, row by row. No other puzzle is refused.
     pub fn new(
         width: u16,
@@ -119,7 +118,7 @@ impl Puzzle {
         })
     }
 
-    /// How many cells a row has, from 1 to 128.
+    /// How many cells a row has, from 1 to 256.
     pub fn width(&self) -> u16
         ensures width { result ≡ self.now.width }
         ensures puzzle { IsNonogram self.now }
@@ -127,7 +126,7 @@ impl Puzzle {
         self.width
     }
 
-    /// How many cells a column has, from 1 to 128.
+    /// How many cells a column has, from 1 to 256.
     pub fn height(&self) -> u16
         ensures { result ≡ self.now.height }
     {
@@ -205,10 +204,10 @@ impl Puzzle {
         if grid.width() != self.width() || grid.height() != self.height() {
             return false;
         }
-        if !are_known(grid.cells()) {
+        if grid.first_unknown().is_some() {
             return false;
         }
-        is_met(self, Picture::Cells(grid.cells()))
+        is_met(self, Picture::Cells(grid))
     }
 
     /// Whether there is a goal, and whether it meets the clues of all lines.
@@ -248,13 +247,6 @@ fn copy_goal(goal: &Option<Vec<bool>>) -> Result<Option<Vec<bool>>, NoMemory>
         Some(values) => Ok(Some(values.clone()?)),
         None => Ok(None),
     }
-}
-
-/// Whether each cell is filled or blank.
-fn are_known(cells: &[Cell]) -> bool
-    ensures { result ≡ list_all is_known cells.now }
-{
-    cells.iter().all(|cell| cell.is_known())
 }
 
 /// Whether there is no goal, or one of so many values.

@@ -1,6 +1,7 @@
 //! Tests of what no contract says: that each call succeeds with ample memory, with values worked out by hand.
 
 ghost use Rattle.std.specs.Prelude.{◌≡◌, IfOk, IfSome};
+ghost use Rattle.grid_core.specs.PartialGrid.{IsSize};
 
 use super::*;
 use std::alloc::Global;
@@ -184,6 +185,67 @@ fn a_new_grid_is_unknown(rt: HostRuntime) -> Result<(), Fail> {
     Ok(())
 }
 
+// Whether each cell can be set in turn, every third filled and the others blank: before each is set it is the first unknown one.
+fn fills(grid: &mut Grid) -> bool {
+    for y in 0..grid.height() {
+        for x in 0..grid.width() {
+            let place = u32::from(y) * u32::from(grid.width()) + u32::from(x);
+            if x >= grid.width() || y >= grid.height() {
+                return false;
+            }
+            if grid.first_unknown() != Some((x, y)) || grid.known() != place {
+                return false;
+            }
+            grid.set(x, y, Cell::of_colour(place % 3 == 0));
+        }
+    }
+    grid.first_unknown().is_none()
+}
+
+// Whether every third cell is filled and the others are blank.
+fn is_filled_by_threes(grid: &Grid) -> bool {
+    for y in 0..grid.height() {
+        for x in 0..grid.width() {
+            let place = u32::from(y) * u32::from(grid.width()) + u32::from(x);
+            if grid.get(x, y) != Cell::of_colour(place % 3 == 0) {
+                return false;
+            }
+        }
+    }
+    true
+}
+
+// Whether a grid of this size is read as it was set.
+fn keeps_its_cells(alloc: Global, width: u16, height: u16) -> Result<bool, NoMemory>
+    requires { IsSize width height }
+{
+    let mut grid = Grid::unknown(alloc, width, height)?;
+    Ok(fills(&mut grid) && is_filled_by_threes(&grid))
+}
+
+#[test]
+fn rows_that_end_within_a_block(rt: HostRuntime) -> Result<(), Fail> {
+    assert!(rt; keeps_its_cells(rt.alloc(), 64, 2)?);
+    assert!(rt; keeps_its_cells(rt.alloc(), 65, 3)?);
+    assert!(rt; keeps_its_cells(rt.alloc(), 13, 9)?);
+    assert!(rt; keeps_its_cells(rt.alloc(), 1, 256)?);
+    assert!(rt; keeps_its_cells(rt.alloc(), 1, 1)?);
+    Ok(())
+}
+
+#[test]
+fn the_greatest_grid(rt: HostRuntime) -> Result<(), Fail> {
+    let mut grid = Grid::unknown(rt.alloc(), 256, 256)?;
+    assert!(rt; grid.known() == 0 && grid.first_unknown() == Some((0, 0)));
+    grid.set(0, 0, Cell::Blank);
+    grid.set(255, 255, Cell::Filled);
+    assert!(rt; grid.known() == 2 && grid.first_unknown() == Some((1, 0)));
+    assert!(rt; grid.get(255, 255) == Cell::Filled && grid.get(254, 255) == Cell::Unknown);
+    grid.set(255, 255, Cell::Unknown);
+    assert!(rt; grid.known() == 1 && grid.get(0, 0) == Cell::Blank);
+    Ok(())
+}
+
 #[test]
 fn goal_words(rt: HostRuntime) -> Result<(), Fail> {
     let alloc = rt.alloc();
@@ -213,8 +275,8 @@ fn clues_have_limits(rt: HostRuntime) -> Result<(), Fail> {
     let lists: [(&[u16], bool); 8] = [
         (&[], true),
         (&[0], false),
-        (&[128], true),
-        (&[129], false),
+        (&[256], true),
+        (&[257], false),
         (&[2, 0, 1], false),
         (&[65535], false),
         (&ones[..128], true),
@@ -233,18 +295,18 @@ fn clues_have_limits(rt: HostRuntime) -> Result<(), Fail> {
 fn puzzles_are_refused_in_order(rt: HostRuntime) -> Result<(), Fail> {
     let alloc = rt.alloc();
     let none: &[u16] = &[];
-    let lists = [none; 129];
+    let lists = [none; 257];
     // sizes, counts of clues, the goal's values, and the refusal
     let cases = [
         (0, 1, 3, 2, Some(9), Some(PuzzleFault::BadSize)),
         (1, 0, 0, 1, None, Some(PuzzleFault::BadSize)),
-        (1, 129, 129, 1, None, Some(PuzzleFault::BadSize)),
-        (129, 1, 1, 129, None, Some(PuzzleFault::BadSize)),
+        (1, 257, 257, 1, None, Some(PuzzleFault::BadSize)),
+        (257, 1, 1, 257, None, Some(PuzzleFault::BadSize)),
         (2, 1, 2, 1, Some(9), Some(PuzzleFault::BadCount)),
         (2, 1, 1, 1, None, Some(PuzzleFault::BadCount)),
         (2, 1, 1, 2, Some(3), Some(PuzzleFault::BadGoal)),
         (2, 1, 1, 2, Some(2), None),
-        (128, 128, 128, 128, None, None),
+        (256, 256, 256, 256, None, None),
     ];
     for (width, height, rows, columns, values, refusal) in cases {
         let (Some(rows), Some(columns)) = (

@@ -1,11 +1,9 @@
 use Rattle.std.proofs.Common.{◌≡◌, ℕ, ◌+◌, ◌-◌, ◌<◌, ◌≤◌, true, false, List, [], ◌∷◌, length, get_or, reverse, sym, subst, arith, add-one, ◌⊎◌, inl, inr}
 use Rattle.std.proofs.lemmas.Bool.{cases_lt}
 use Rattle.grid_core.specs.declared.cells.Cell.{Cell}
-use Rattle.line_core.specs.Masks.{Has, IsMaskOf, IsMoved, IsFlooded, AllFrom, SomeFrom, SomeLevel, AreLevelsOf}
-use Rattle.line_core.proofs.Steps.{mask_same, and_is, or_is}
-use Rattle.std.specs.Int.RustNames.{bit_and, bit_or}
-use Rattle.line_core.proofs.Uses.{flood_same}
-use Rattle.line_core.specs.Passes.{PassState, IsPassOver}
+use Rattle.place_sets.specs.Masks.{Has, IsMaskOf, IsMoved, IsFlooded, AllFrom, SomeFrom, SomeLevel, AreLevelsOf}
+use Rattle.place_sets.proofs.Steps.{mask_same}
+use Rattle.place_sets.proofs.Uses.{flood_same, meet_of, join_of}
 use Rattle.line_core.specs.Reach.{behind, MayBe, IsGapAfter, IsStartAfter, IsEndAfter, IsGap, IsEnd, IsGapAhead, IsWholeEnd}
 use Rattle.line_core.proofs.Reaching.{After, first_gap_to, first_gap_from, gap_after_to, gap_after_from}
 use Rattle.line_core.proofs.Joining.{closed_behind_to, closed_behind_from, closed_ahead_to, closed_ahead_from, turned_gap_to, turned_gap_from}
@@ -20,40 +18,40 @@ gap_none_is l free m f p =
     (first_gap_to l) (first_gap_from l)
 
 -- the mask of the gaps after a run, from that of its ends
-pub gap_next_is : (l : List Cell) (runs : List ℕ) (n free ends m : ℕ) → length l ≤ 128 → 0 < n → IsMaskOf (MayBe l false) free → IsMaskOf (IsEndAfter l runs n) ends
-    → IsMaskOf (IsFlooded (λ k. IsMoved (Has ends) 1 k × Has free k) (Has free)) m → IsMaskOf (IsGapAfter l (n ∷ runs)) m
-gap_next_is l runs n free ends m short pos f e p =
+pub gap_next_is : (l : List Cell) (runs : List ℕ) (w n free ends m : ℕ) → length l ≤ w → 0 < n → IsMaskOf (MayBe l false) free → IsMaskOf (IsEndAfter l runs n) ends
+    → IsMaskOf (IsFlooded (λ k. IsMoved w (Has ends) 1 k × Has free k) (Has free)) m → IsMaskOf (IsGapAfter l (n ∷ runs)) m
+gap_next_is l runs w n free ends m short pos f e p =
     mask_same (IsFlooded (After l n runs) (MayBe l false)) (IsGapAfter l (n ∷ runs)) m
-    (flood_same (λ k. IsMoved (Has ends) 1 k × Has free k) (Has free) (After l n runs) (MayBe l false) m
+    (flood_same (λ k. IsMoved w (Has ends) 1 k × Has free k) (Has free) (After l n runs) (MayBe l false) m
     (λ i h. (f.to i h.1, h.0.1, e.to (i - 1) h.0.2)) (λ i h. let within : i < length l = h.0.0 in ((omega arith, h.1, e.from (i - 1) h.2), f.from i h.0)) f.to f.from p)
     (λ i h. gap_after_to l runs n i pos h) (gap_after_from l runs n)
 
 -- where a run of so many cells ends that starts after a gap or at an opening, and within a window
-abbrev pub EndsAt : ℕ → ℕ → ℕ → ℕ → ℕ → Type 0
-EndsAt gap opening window n = IsMoved (λ s. (IsMoved (Has gap) 1 s ⊎ Has opening s) × Has window s) (n - 1)
+abbrev pub EndsAt : ℕ → ℕ → ℕ → ℕ → ℕ → ℕ → Type 0
+EndsAt w gap opening window n = IsMoved w (λ s. (IsMoved w (Has gap) 1 s ⊎ Has opening s) × Has window s) (n - 1)
 
 -- the mask of a run's ends, from that of the gaps before it
-pub ends_are : (l : List Cell) (runs : List ℕ) (n gap room opening window m : ℕ) → length l ≤ 128 → 0 < n
+pub ends_are : (l : List Cell) (runs : List ℕ) (w n gap room opening window m : ℕ) → length l ≤ w → 0 < n
     → IsMaskOf (IsGapAfter l runs) gap → IsMaskOf (λ i. (i ≡ 0) × (length runs ≡ 0)) opening → IsMaskOf (MayBe l true) room → IsMaskOf (AllFrom (Has room) n) window
-    → IsMaskOf (EndsAt gap opening window n) m → IsMaskOf (IsEndAfter l runs n) m
-ends_are l runs n gap room opening window m short some g f a w p = mask_same (EndsAt gap opening window n) (IsEndAfter l runs n) m p to from
+    → IsMaskOf (EndsAt w gap opening window n) m → IsMaskOf (IsEndAfter l runs n) m
+ends_are l runs w n gap room opening window m short some g f a v p = mask_same (EndsAt w gap opening window n) (IsEndAfter l runs n) m p to from
   where
-    start_to : (s : ℕ) → (IsMoved (Has gap) 1 s ⊎ Has opening s) × Has window s → IsStartAfter l runs n s
+    start_to : (s : ℕ) → (IsMoved w (Has gap) 1 s ⊎ Has opening s) × Has window s → IsStartAfter l runs n s
     start_to s h =
-        (closed_behind_from l runs s (elim h.0 [ inl x ↦ inr (x.1, g.to (s - 1) x.2) | inr x ↦ inl (f.to s x) ]), λ z b. a.to (s + z) (w.to s h.1 z b))
+        (closed_behind_from l runs s (elim h.0 [ inl x ↦ inr (x.1, g.to (s - 1) x.2) | inr x ↦ inl (f.to s x) ]), λ z b. a.to (s + z) (v.to s h.1 z b))
 
-    start_from : (s : ℕ) → IsStartAfter l runs n s → (IsMoved (Has gap) 1 s ⊎ Has opening s) × Has window s
+    start_from : (s : ℕ) → IsStartAfter l runs n s → (IsMoved w (Has gap) 1 s ⊎ Has opening s) × Has window s
     start_from s h =
         let here : s + 0 < length l = (h.1 0 some).0 in
-        (elim (closed_behind_to l runs s (omega arith) h.0) [ inl x ↦ inr (f.from s x) | inr x ↦ inl (omega arith, x.0, g.from (s - 1) x.1) ], w.from s (λ z b. a.from (s + z) (h.1 z b)))
+        (elim (closed_behind_to l runs s (omega arith) h.0) [ inl x ↦ inr (f.from s x) | inr x ↦ inl (omega arith, x.0, g.from (s - 1) x.1) ], v.from s (λ z b. a.from (s + z) (h.1 z b)))
 
-    to : (e : ℕ) → EndsAt gap opening window n e → IsEndAfter l runs n e
+    to : (e : ℕ) → EndsAt w gap opening window n e → IsEndAfter l runs n e
     to e h =
         let far : n - 1 ≤ e = h.1 in
         let same : e - (n - 1) ≡ e + 1 - n = omega arith in
         (omega arith, subst (IsStartAfter l runs n) same (start_to (e - (n - 1)) h.2))
 
-    from : (e : ℕ) → IsEndAfter l runs n e → EndsAt gap opening window n e
+    from : (e : ℕ) → IsEndAfter l runs n e → EndsAt w gap opening window n e
     from e h =
         let enough : n ≤ e + 1 = h.0 in
         let same : e + 1 - n ≡ e - (n - 1) = omega arith in
@@ -103,17 +101,17 @@ whole_is l clue j ends ahead last m jl cp e a z p =
         )
 
 -- one more run's cells
-pub fill_more : (l : List Cell) (clue : List ℕ) (j whole : ℕ) (old new : List ℕ) → IsMaskOf (IsWholeEnd l clue j) whole
-    → AreLevelsOf (λ i. SomeLevel 7 old i ⊎ SomeFrom (Has whole) (get_or clue j 0) i) 7 new
-    → AreLevelsOf (λ i. (q : ℕ) × (q < j) × SomeFrom (IsWholeEnd l clue q) (get_or clue q 0) i) 7 old
-    → AreLevelsOf (λ i. (q : ℕ) × (q < j + 1) × SomeFrom (IsWholeEnd l clue q) (get_or clue q 0) i) 7 new
-fill_more l clue j whole old new w s f = record { to = λ i x. to i (s.to i x); from = λ i x. s.from i (from i x) }
+pub fill_more : (l : List Cell) (clue : List ℕ) (top j whole : ℕ) (old new : List ℕ) → IsMaskOf (IsWholeEnd l clue j) whole
+    → AreLevelsOf (λ i. SomeLevel top old i ⊎ SomeFrom (Has whole) (get_or clue j 0) i) top new
+    → AreLevelsOf (λ i. (q : ℕ) × (q < j) × SomeFrom (IsWholeEnd l clue q) (get_or clue q 0) i) top old
+    → AreLevelsOf (λ i. (q : ℕ) × (q < j + 1) × SomeFrom (IsWholeEnd l clue q) (get_or clue q 0) i) top new
+fill_more l clue top j whole old new w s f = record { to = λ i x. to i (s.to i x); from = λ i x. s.from i (from i x) }
   where
-    to : (i : ℕ) → SomeLevel 7 old i ⊎ SomeFrom (Has whole) (get_or clue j 0) i → (q : ℕ) × (q < j + 1) × SomeFrom (IsWholeEnd l clue q) (get_or clue q 0) i
+    to : (i : ℕ) → SomeLevel top old i ⊎ SomeFrom (Has whole) (get_or clue j 0) i → (q : ℕ) × (q < j + 1) × SomeFrom (IsWholeEnd l clue q) (get_or clue q 0) i
     to i (inl x) = let y = f.to i x in (y.0, omega (arith, y.1), y.2)
     to i (inr x) = (j, omega arith, (x.0, x.1, w.to (i + x.0) x.2))
 
-    from : (i : ℕ) → (q : ℕ) × (q < j + 1) × SomeFrom (IsWholeEnd l clue q) (get_or clue q 0) i → SomeLevel 7 old i ⊎ SomeFrom (Has whole) (get_or clue j 0) i
+    from : (i : ℕ) → (q : ℕ) × (q < j + 1) × SomeFrom (IsWholeEnd l clue q) (get_or clue q 0) i → SomeLevel top old i ⊎ SomeFrom (Has whole) (get_or clue j 0) i
     from i x =
         elim (cases_lt x.0 j) [
           | inl low ↦ inl (f.from i (x.0, low, x.2))
@@ -125,21 +123,24 @@ fill_more l clue j whole old new w s f = record { to = λ i x. to i (s.to i x); 
         ]
 
 -- one more place for a blank cell
-pub blank_first : (l : List Cell) (clue : List ℕ) (gap ahead : ℕ) → IsMaskOf (IsGap l clue 0) gap → IsMaskOf (IsGapAhead l clue 0) ahead
-    → IsMaskOf (λ i. (q : ℕ) × (q ≤ 0) × IsGap l clue q i × IsGapAhead l clue q i) (bit_and gap ahead)
-blank_first l clue gap ahead g a =
-    mask_same (λ i. IsGap l clue 0 i × IsGapAhead l clue 0 i) (λ i. (q : ℕ) × (q ≤ 0) × IsGap l clue q i × IsGapAhead l clue q i) (bit_and gap ahead)
-    (and_is (IsGap l clue 0) (IsGapAhead l clue 0) gap ahead g a) (λ i x. (0, omega arith, x.0, x.1))
+pub blank_first : (l : List Cell) (clue : List ℕ) (gap ahead m : ℕ) → IsMaskOf (IsGap l clue 0) gap → IsMaskOf (IsGapAhead l clue 0) ahead
+    → IsMaskOf (λ i. Has gap i × Has ahead i) m
+    → IsMaskOf (λ i. (q : ℕ) × (q ≤ 0) × IsGap l clue q i × IsGapAhead l clue q i) m
+blank_first l clue gap ahead m g a p =
+    mask_same (λ i. IsGap l clue 0 i × IsGapAhead l clue 0 i) (λ i. (q : ℕ) × (q ≤ 0) × IsGap l clue q i × IsGapAhead l clue q i) m
+    (meet_of (IsGap l clue 0) (IsGapAhead l clue 0) gap ahead m g a p) (λ i x. (0, omega arith, x.0, x.1))
     (λ i x. let b : x.0 ≤ 0 = x.1 in let e : x.0 ≡ 0 = omega arith in subst (λ (q : ℕ). IsGap l clue q i × IsGapAhead l clue q i) e (x.2, x.3))
 
-pub blank_more : (l : List Cell) (clue : List ℕ) (j gap ahead blank : ℕ) → IsMaskOf (IsGap l clue (j + 1)) gap → IsMaskOf (IsGapAhead l clue (j + 1)) ahead
+pub blank_more : (l : List Cell) (clue : List ℕ) (j gap ahead blank part m : ℕ) → IsMaskOf (IsGap l clue (j + 1)) gap → IsMaskOf (IsGapAhead l clue (j + 1)) ahead
     → IsMaskOf (λ i. (q : ℕ) × (q ≤ j) × IsGap l clue q i × IsGapAhead l clue q i) blank
-    → IsMaskOf (λ i. (q : ℕ) × (q ≤ j + 1) × IsGap l clue q i × IsGapAhead l clue q i) (bit_or blank (bit_and gap ahead))
-blank_more l clue j gap ahead blank g a b =
+    → IsMaskOf (λ i. Has gap i × Has ahead i) part
+    → IsMaskOf (λ i. Has blank i ⊎ Has part i) m
+    → IsMaskOf (λ i. (q : ℕ) × (q ≤ j + 1) × IsGap l clue q i × IsGapAhead l clue q i) m
+blank_more l clue j gap ahead blank part m g a b p r =
     mask_same (λ i. ((q : ℕ) × (q ≤ j) × IsGap l clue q i × IsGapAhead l clue q i) ⊎ (IsGap l clue (j + 1) i × IsGapAhead l clue (j + 1) i))
-    (λ i. (q : ℕ) × (q ≤ j + 1) × IsGap l clue q i × IsGapAhead l clue q i) (bit_or blank (bit_and gap ahead))
-    (or_is (λ i. (q : ℕ) × (q ≤ j) × IsGap l clue q i × IsGapAhead l clue q i) (λ i. IsGap l clue (j + 1) i × IsGapAhead l clue (j + 1) i) blank (bit_and gap ahead) b
-    (and_is (IsGap l clue (j + 1)) (IsGapAhead l clue (j + 1)) gap ahead g a)) to from
+    (λ i. (q : ℕ) × (q ≤ j + 1) × IsGap l clue q i × IsGapAhead l clue q i) m
+    (join_of (λ i. (q : ℕ) × (q ≤ j) × IsGap l clue q i × IsGapAhead l clue q i) (λ i. IsGap l clue (j + 1) i × IsGapAhead l clue (j + 1) i) blank part m b
+    (meet_of (IsGap l clue (j + 1)) (IsGapAhead l clue (j + 1)) gap ahead part g a p) r) to from
   where
     to : (i : ℕ) → ((q : ℕ) × (q ≤ j) × IsGap l clue q i × IsGapAhead l clue q i) ⊎ (IsGap l clue (j + 1) i × IsGapAhead l clue (j + 1) i) → (q : ℕ) × (q ≤ j + 1) × IsGap l clue q i × IsGapAhead l clue q i
     to i (inl x) = (x.0, omega (arith, x.1), x.2, x.3)
@@ -161,11 +162,6 @@ ahead_of l clue j p turned len m e s jl g h =
     ahead_is l clue j (get_or turned p 0) m jl (subst (λ (k : ℕ). IsMaskOf (IsGap (reverse l) (reverse clue) k) (get_or turned p 0)) (sym same) (g p (omega arith)))
     (subst (λ (n : ℕ). IsMaskOf (λ i. (i < n) × Has (get_or turned p 0) (n - 1 - i)) m) (sym e) h)
 
--- a pass after one more run of a clue
-pub pass_more : (l : List Cell) (clue : List ℕ) (j n : ℕ) (pass : PassState) → n ≡ get_or clue j 0 → IsPassOver l (n ∷ behind 0 clue j) pass → IsPassOver l (behind 0 clue (j + 1)) pass
-pass_more l clue j n pass e h =
-    subst (λ (k : ℕ). IsPassOver l (behind 0 clue k) pass) (sym (add-one j)) (subst (λ (m : ℕ). IsPassOver l (m ∷ behind 0 clue j) pass) e h)
-
--- and its gap
-pub gap_is : (l : List Cell) (clue : List ℕ) (j gap : ℕ) (pass : PassState) → gap ≡ pass.gap → IsPassOver l (behind 0 clue j) pass → IsMaskOf (IsGap l clue j) gap
-gap_is l clue j gap pass e h = subst (IsMaskOf (IsGap l clue j)) (sym e) h.gap
+-- one more run of a clue behind
+pub runs_more : (P : List ℕ → Type 0) (clue : List ℕ) (j n : ℕ) → n ≡ get_or clue j 0 → P (n ∷ behind 0 clue j) → P (behind 0 clue (j + 1))
+runs_more P clue j n e h = subst (λ (k : ℕ). P (behind 0 clue k)) (sym (add-one j)) (subst (λ (m : ℕ). P (m ∷ behind 0 clue j)) e h)

@@ -14,9 +14,8 @@ use Rattle.line_core.specs.Ends.{run_starts, all_starts, leftmost, rightmost}
 use Rattle.line_core.specs.declared.starts.Side.{Side}
 use Rattle.line_core.specs.declared.starts.Side.TheVariants.{Left, Right}
 use Rattle.line_core.specs.Outermost.{outermost, IsAsFar, IsOuterStart}
-use Rattle.std.specs.Int.RustNames.{bit_and}
-use Rattle.line_core.specs.Masks.{Has, IsMaskOf, AllFrom}
-use Rattle.line_core.proofs.Steps.{and_is}
+use Rattle.place_sets.specs.Masks.{Has, IsMaskOf, AllFrom}
+use Rattle.place_sets.proofs.Uses.{meet_of}
 use Rattle.line_core.proofs.LineCells.{written_more}
 use Rattle.line_core.specs.Reach.{behind, MayBe, IsClosed, IsStartAfter, IsWholeEnd, IsGap, IsGapAhead, HasPlacing}
 use Rattle.line_core.proofs.RunLaws.{ArePositive}
@@ -241,22 +240,23 @@ outer_more side l clue list j whole place start h mask in_mask far at below =
 -- ---- a line with no run
 
 -- its first cell is blank in each placing
-pub no_run_to : (l : List Cell) (clue : List ℕ) (gap ahead : ℕ) → IsMaskOf (IsGap l clue 0) gap → IsMaskOf (IsGapAhead l clue 0) ahead → Has (bit_and gap ahead) 0 → HasPlacing l clue
-no_run_to l clue gap ahead g a h =
-    let b = (and_is (IsGap l clue 0) (IsGapAhead l clue 0) gap ahead g a).to 0 h in
+pub no_run_to : (l : List Cell) (clue : List ℕ) (gap ahead m : ℕ) → IsMaskOf (IsGap l clue 0) gap → IsMaskOf (IsGapAhead l clue 0) ahead → IsMaskOf (λ i. Has gap i × Has ahead i) m → Has m 0 → HasPlacing l clue
+no_run_to l clue gap ahead m g a p h =
+    let b = (meet_of (IsGap l clue 0) (IsGapAhead l clue 0) gap ahead m g a p).to 0 h in
     let can = blankable_to l clue 0 (0, omega arith, b.0, b.1) in
     (can.0, can.1, can.2)
 
-pub no_run_from : (l : List Cell) (clue : List ℕ) (gap ahead : ℕ) → length clue ≡ 0 → 0 < length l → IsMaskOf (IsGap l clue 0) gap → IsMaskOf (IsGapAhead l clue 0) ahead → HasPlacing l clue → Has (bit_and gap ahead) 0
-no_run_from l clue gap ahead none some g a p = by (get_or p.0 0 false) refl
+pub no_run_from : (l : List Cell) (clue : List ℕ) (gap ahead m : ℕ) → length clue ≡ 0 → 0 < length l → IsMaskOf (IsGap l clue 0) gap → IsMaskOf (IsGapAhead l clue 0) ahead
+    → IsMaskOf (λ i. Has gap i × Has ahead i) m → HasPlacing l clue → Has m 0
+no_run_from l clue gap ahead m none some g a q p = by (get_or p.0 0 false) refl
   where
-    by : (v : Bool) → get_or p.0 0 false ≡ v → Has (bit_and gap ahead) 0
+    by : (v : Bool) → get_or p.0 0 false ≡ v → Has m 0
     by true e = let c = covered p.0 clue 0 p.2 e in let bad : c.index < length clue = c.inside in absurd (omega arith)
     by false e =
         let b = blankable_from l clue 0 some (p.0, p.1, p.2, e) in
         let low : b.0 ≤ length clue = b.1 in
         let at : b.0 ≡ 0 = omega arith in
-        (and_is (IsGap l clue 0) (IsGapAhead l clue 0) gap ahead g a).from 0 (subst (λ (q : ℕ). IsGap l clue q 0 × IsGapAhead l clue q 0) at (b.2, b.3))
+        (meet_of (IsGap l clue 0) (IsGapAhead l clue 0) gap ahead m g a q).from 0 (subst (λ (k : ℕ). IsGap l clue k 0 × IsGapAhead l clue k 0) at (b.2, b.3))
 
 -- ---- what the two searches answer
 

@@ -5,7 +5,7 @@ use Rattle.grid_core.specs.declared.cells.Cell.{Cell}
 use Rattle.grid_core.specs.declared.cells.Cell.TheVariants.{Unknown}
 use Rattle.grid_core.specs.Cells.{allows, agrees}
 use Rattle.grid_core.specs.Runs.{runs}
-use Rattle.line_core.specs.Masks.{AllFrom}
+use Rattle.place_sets.specs.Masks.{AllFrom}
 use Rattle.line_core.specs.Reach.{MayBe}
 use Rattle.line_core.proofs.RunLaws.{ArePositive, and_left, and_right, and_both}
 use Rattle.line_core.proofs.Joining.{length-agrees, runs_run, runs_closed}

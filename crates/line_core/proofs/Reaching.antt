@@ -3,7 +3,7 @@ use Rattle.grid_core.specs.declared.cells.Cell.{Cell}
 use Rattle.grid_core.specs.declared.cells.Cell.TheVariants.{Unknown}
 use Rattle.grid_core.specs.Cells.{allows, agrees}
 use Rattle.grid_core.specs.Runs.{runs}
-use Rattle.line_core.specs.Masks.{IsFlooded, AllFrom}
+use Rattle.place_sets.specs.Masks.{IsFlooded, AllFrom}
 use Rattle.line_core.specs.Reach.{behind, HasPlacing, IsClosed, MayBe, IsGapAfter, IsEndAfter}
 use Rattle.line_core.proofs.RunLaws.{and_left, and_right, and_both}
 use Rattle.line_core.proofs.Joining.{begins, begins_some, runs_about, first_closed}

@@ -2,10 +2,9 @@ pub mod Placings
 pub mod Deduction
 pub mod Order
 pub mod Ends
-pub mod Listing
-pub mod Masks
 pub mod Lines
 pub mod Reach
 pub mod Passes
 pub mod Told
 pub mod Outermost
+pub mod Listing

@@ -1,21 +1,24 @@
--- A pass over the runs of a line, from its left.
+-- A line as words, and a pass over its runs, from its left.
 use Rattle.std.specs.Prelude.{◌≡◌, ℕ, ◌≤◌, true, false, List, length}
-use Rattle.grid_core.specs.declared.limits.TheConstants.{LONGEST_SIDE}
 use Rattle.grid_core.specs.declared.cells.Cell.{Cell}
-use Rattle.line_core.specs.Masks.{IsMaskOf}
+use Rattle.place_sets.specs.Masks.{IsMaskOf, AreWindows}
 use Rattle.line_core.specs.Reach.{MayBe, IsGapAfter}
 
--- what a pass holds: the masks of the cells that may be blank and of those that may be filled, how many runs were passed, and the mask of the gap after them
-pub record PassState : Type 0 where
-  pub free : ℕ
-  pub room : ℕ
-  pub passed : ℕ
-  pub gap : ℕ
+-- a line's length, and the masks of its cells that may be blank and of those that may be filled, in words of so many places
+pub record IsSpanOf (width : ℕ) (line : List Cell) (len free room : ℕ) : Type 0 where
+  pub some : 1 ≤ length line
+  pub short : length line ≤ width
+  pub len_is : len ≡ length line
+  pub free_is : IsMaskOf (MayBe line false) free
+  pub room_is : IsMaskOf (MayBe line true) room
 
--- a pass over a line that has passed some runs, the last of them first
-pub record IsPassOver (line : List Cell) (runs : List ℕ) (pass : PassState) : Type 0 where
-  pub short : length line ≤ LONGEST_SIDE
-  pub free : IsMaskOf (MayBe line false) pass.free
-  pub room : IsMaskOf (MayBe line true) pass.room
-  pub passed : pass.passed ≡ length runs
-  pub gap : IsMaskOf (IsGapAfter line runs) pass.gap
+-- a pass over a line that has passed some runs, the last of them first: it has the mask of the cells that may be blank, windows of those that may be
+-- filled, how many runs were passed, and the mask of the gap after them
+pub record IsPassOver (width top : ℕ) (line : List Cell) (runs : List ℕ) (free : ℕ) (windows : List ℕ) (passed gap : ℕ) : Type 0 where
+  pub room : ℕ
+  pub short : length line ≤ width
+  pub free_is : IsMaskOf (MayBe line false) free
+  pub room_is : IsMaskOf (MayBe line true) room
+  pub windows_are : AreWindows room top windows
+  pub passed_are : passed ≡ length runs
+  pub gap_is : IsMaskOf (IsGapAfter line runs) gap

@@ -1,16 +1,15 @@
 -- What the masks of a line mean: which parts of the clue fit which parts of the line.
 use Rattle.std.specs.Prelude.{◌≡◌, ℕ, zero, suc, ◌+◌, ◌-◌, ◌<◌, ◌≤◌, Bool, true, false, List, [], ◌∷◌, length, reverse, slice_index, slice_index_or, drop, All}
-use Rattle.grid_core.specs.declared.limits.TheConstants.{LONGEST_SIDE}
 use Rattle.grid_core.specs.declared.cells.Cell.{Cell}
 use Rattle.grid_core.specs.declared.cells.Cell.TheVariants.{Unknown}
 use Rattle.grid_core.specs.Cells.{allows, agrees}
 use Rattle.grid_core.specs.Runs.{runs}
-use Rattle.line_core.specs.Masks.{IsMaskOf, AllFrom, SomeFrom}
+use Rattle.place_sets.specs.Masks.{IsMaskOf, AllFrom, SomeFrom}
 
--- each number is the length of a run
-pub record AreLengths (clue : List ℕ) : Type 0 where
+-- each number is the length of a run, within so many places
+pub record AreLengths (width : ℕ) (clue : List ℕ) : Type 0 where
   pub positive : All (λ n. 0 < n) clue
-  pub short : All (λ n. n ≤ LONGEST_SIDE) clue
+  pub short : All (λ n. n ≤ width) clue
 
 -- so many elements of a list, the last of them first
 abbrev pub behind : {A : Type 0} → A → List A → ℕ → List A

@@ -3,7 +3,7 @@ use Rattle.std.specs.Prelude.{ℕ, Bool, true, false, ◌||◌, if◌then◌else
 use Rattle.std.specs.List.{range_with_len}
 use Rattle.grid_core.specs.declared.cells.Cell.{Cell}
 use Rattle.grid_core.specs.declared.cells.Cell.TheVariants.{Unknown, Filled, Blank}
-use Rattle.line_core.specs.Masks.{has}
+use Rattle.place_sets.specs.Masks.{has}
 
 -- what is certain of a cell, by whether it can be filled and whether it can be blank
 abbrev pub certain_by : Bool → Bool → Cell

@@ -19,7 +19,7 @@ pub fn placings_extend_the_deduced()
     ensures { (line : List Cell) (clue : List ℕ) (full : List Bool) → is_placing line clue full ≡ true → AtMost (deduced line clue) (Some (map colour full)) }
 {}
 
-/// Where more is known of a line, at least as much is deduced.
+/// If more is known of a line, at least as much is deduced.
 pub fn deduction_is_monotone()
     ensures { (line more : List Cell) (clue : List ℕ) → Extends line more → AtMost (deduced line clue) (deduced more clue) }
 {}
@@ -41,7 +41,7 @@ pub fn rightmost_is_greatest()
         → AreStarts line clue starts × ((other : List ℕ) → AreStarts line clue other → pointwise nat_le other starts ≡ true) }
 {}
 
-/// Where there is a placing, there are a leftmost and a rightmost one.
+/// If there is a placing, there are a leftmost and a rightmost one.
 pub fn outermost_exist()
     ensures { (line : List Cell) (clue starts : List ℕ) → AreStarts line clue starts
         → ((least : List ℕ) × (leftmost line clue ≡ Some least)) × ((greatest : List ℕ) × (rightmost line clue ≡ Some greatest)) }

@@ -1,17 +1,21 @@
-//! What is certain of one line of a nonogram.
+//! What is certain of one line of a nonogram, of up to 256 cells.
 #![tactic(auto)]
 
 mod deduction;
+mod gaps;
 pub mod laws;
 mod lines;
 mod listing;
-mod masks;
 mod passes;
 mod reach;
+mod rooms;
+mod spans;
 mod starts;
 #[cfg(test)]
 mod tests;
-mod windows;
+#[cfg(test)]
+mod tests_starts;
+mod widths;
 
 pub use deduction::{Tables, deduce};
 pub use lines::Line;

@@ -1,58 +1,79 @@
-//! Lines, kept as two masks.
+//! Lines, kept as two sets of places.
 
-ghost use Rattle.std.specs.Prelude.{◌≡◌, ◌<◌, ◌≤◌, length, replicate, reverse, slice_index_or, slice_set, true, false};
-ghost use Rattle.grid_core.specs.declared.cells.Cell.{Cell as CellValue};
+ghost use Rattle.std.specs.Prelude.{◌≡◌, ◌<◌, ◌≤◌, ◌↔◌, IsTrue, length, replicate, slice_index_or, slice_set};
 ghost use Rattle.grid_core.specs.declared.cells.Cell.TheVariants.{Unknown};
-ghost use Rattle.line_core.specs.Lines.{is_blank, IsNextChange};
-ghost use Rattle.line_core.specs.Masks.{IsMaskOf};
-ghost use Rattle.line_core.specs.Reach.{MayBe};
+ghost use Rattle.line_core.specs.Lines.{IsFirstDifference, IsNextChange};
+ghost use Rattle.place_sets.specs.Masks.{joined};
+ghost use Rattle.line_core.specs.Passes.{IsSpanOf};
 ghost use Rattle.line_core.specs.Told.{told_by};
 
-use crate::masks::{differing, first_place, has, lacking, marked, places, turn_line};
+use crate::spans::Span;
 use grid_core::{Cell, LONGEST_SIDE};
+use place_sets::{PlaceSet, Wide, lacking};
 use std::marker::Model;
 
-/// The cells of a line, 1 to 128 of them, seen as the list of its cells.
+/// The cells of a line, 1 to 256 of them, seen as the list of its cells.
 #[derive(Drop)]
 pub struct Line {
     len: u16,
-    filled: u128,
-    blank: u128,
+    filled: Wide,
+    blank: Wide,
 }
 
 impl Model for Line {
     ghost use Rattle.std.specs.Prelude.{List};
     ghost use Rattle.grid_core.specs.declared.cells.Cell.{Cell as CellValue};
+    ghost use Rattle.place_sets.specs.Masks.{joined};
     ghost use Rattle.line_core.specs.Lines.{line_cells, IsLine};
 
     ghost Value = { List CellValue };
 
-    ghost view = { λ line. line_cells line.len line.filled line.blank };
+    ghost view = { λ line. line_cells line.len (joined line.filled.low line.filled.high) (joined line.blank.low line.blank.high) };
 
-    ghost invariant = { λ line. IsLine line.len line.filled line.blank };
+    ghost invariant = { λ line. IsLine line.len (joined line.filled.low line.filled.high) (joined line.blank.low line.blank.high) };
 }
 
-/// Whether a cell is known to be blank.
-fn is_blank(cell: Cell) -> bool
-    ensures { result ≡ is_blank cell }
+/// Both halves of 128 places in one.
+fn folded(places: u128) -> u64 {
+    ((places >> 64) as u64) ^ ((places & 0xffff_ffff_ffff_ffff) as u64)
+}
+
+/// A number that tells sets of places apart, mostly.
+fn mixed(places: Wide, factor: u64) -> u64 {
+    (folded(places.low) ^ folded(places.high).rotate_left(17)).wrapping_mul(factor)
+}
+
+/// The first of 128 places, from a given place on, where the filled cells of two lines differ, or the blank ones, if there is one.
+fn first_difference(
+    filled: u128,
+    other_filled: u128,
+    blank: u128,
+    other_blank: u128,
+    from: u16,
+) -> Option<u16>
+    ensures { IsFirstDifference 128 filled other_filled blank other_blank from result }
 {
-    match cell {
-        Cell::Unknown => false,
-        Cell::Filled => false,
-        Cell::Blank => true,
+    if from >= 128 {
+        return None;
     }
+    let differing = filled.xor(other_filled).or(blank.xor(other_blank));
+    let later = differing.and(u128::all().up(from));
+    if later == 0 {
+        return None;
+    }
+    Some(later.first_place())
 }
 
 impl Line {
-    /// A line of so many cells, 1 to 128, of which nothing is known.
+    /// A line of so many cells, 1 to 256, of which nothing is known.
     pub fn unknown(len: u16) -> Line
         requires { (1 ≤ len) × (len ≤ LONGEST_SIDE) }
         ensures { result ≡ replicate len Unknown }
     {
         Line {
             len,
-            filled: 0,
-            blank: 0,
+            filled: Wide::none(),
+            blank: Wide::none(),
         }
     }
 
@@ -80,9 +101,9 @@ impl Line {
         requires { i < length self.now }
         ensures { result ≡ slice_index_or self.now i Unknown }
     {
-        if has(self.filled, i) {
+        if self.filled.has(i) {
             Cell::Filled
-        } else if has(self.blank, i) {
+        } else if self.blank.has(i) {
             Cell::Blank
         } else {
             Cell::Unknown
@@ -94,8 +115,20 @@ impl Line {
         requires { i < length self.old }
         ensures { self.new ≡ slice_set self.old i cell }
     {
-        self.filled = marked(self.filled, i, cell.is_filled());
-        self.blank = marked(self.blank, i, is_blank(cell));
+        match cell {
+            Cell::Unknown => {
+                self.filled.mark(i, false);
+                self.blank.mark(i, false);
+            }
+            Cell::Filled => {
+                self.filled.mark(i, true);
+                self.blank.mark(i, false);
+            }
+            Cell::Blank => {
+                self.filled.mark(i, false);
+                self.blank.mark(i, true);
+            }
+        }
     }
 
     /// The first place, from a given place on, where another line of the same length differs, if there is one.
@@ -105,57 +138,74 @@ impl Line {
         ensures change { IsNextChange self.now other.now from result }
         ensures within { length self.now ≤ LONGEST_SIDE }
     {
-        if from == self.len {
+        let low = first_difference(
+            self.filled.low,
+            other.filled.low,
+            self.blank.low,
+            other.blank.low,
+            from,
+        );
+        if let Some(place) = low {
+            return if place < self.len { Some(place) } else { None };
+        }
+        if self.len <= 128 {
             return None;
         }
-        let filled = differing(self.filled, other.filled, from);
-        let blank = differing(self.blank, other.blank, from);
-        let changed = (filled | blank) & places(self.len);
-        if changed == 0 {
+        let high = first_difference(
+            self.filled.high,
+            other.filled.high,
+            self.blank.high,
+            other.blank.high,
+            from.saturating_sub(128),
+        );
+        let Some(place) = high else {
             return None;
+        };
+        if place + 128 < self.len {
+            Some(place + 128)
+        } else {
+            None
         }
-        Some(first_place(changed))
     }
 
-    /// The cells that may be blank.
-    pub(crate) fn free_cells(&self) -> u128
-        ensures free { IsMaskOf (MayBe self.now false) result }
-        ensures some { 1 ≤ length self.now }
-        ensures within { length self.now ≤ LONGEST_SIDE }
+    /// Whether another line has the same cells.
+    pub fn is_same(&self, other: &Line) -> bool
+        ensures { IsTrue result ↔ (self.now ≡ other.now) }
     {
-        lacking(self.filled, self.len)
+        other.len == self.len && self.next_change(other, 0).is_none()
     }
 
-    /// The cells that may be filled.
-    pub(crate) fn open_cells(&self) -> u128
-        ensures { IsMaskOf (MayBe self.now true) result }
-    {
-        lacking(self.blank, self.len)
+    /// A number that lines with the same cells share and that others seldom do, for tables of lines.
+    pub fn hash(&self) -> u64 {
+        let filled = mixed(self.filled, 0x9e37_79b9_7f4a_7c15);
+        let blank = mixed(self.blank, 0xd1b5_4a32_d192_ed03);
+        (filled ^ blank.rotate_left(29)).wrapping_mul(0x2545_f491_4f6c_dd1d)
     }
 
-    /// The line seen from its other end.
-    pub(crate) fn turned(&self) -> Line
-        ensures { result ≡ reverse self.now }
+    /// How many cells the line has, and those that may be blank, and that may be filled, in sets of a width that has room for them.
+    pub(crate) fn span<W: PlaceSet>(&self) -> Span<W>
+        requires { length self.now ≤ W.WIDTH }
+        ensures { IsSpanOf W.WIDTH self.now result.len (W.number result.free) (W.number result.room) }
     {
-        Line {
+        Span {
             len: self.len,
-            filled: turn_line(self.filled, self.len),
-            blank: turn_line(self.blank, self.len),
+            free: lacking(W::narrowed(self.filled), self.len),
+            room: lacking(W::narrowed(self.blank), self.len),
         }
     }
 
-    /// What is certain of a line, from the cells that can be filled and those that can be blank: none where the first can be neither.
-    pub(crate) fn certain(len: u16, fillable: u128, blankable: u128) -> Option<Line>
+    /// What is certain of a line, from the cells that can be filled and those that can be blank: none if the first can be neither.
+    pub(crate) fn certain(len: u16, fillable: Wide, blankable: Wide) -> Option<Line>
         requires { (1 ≤ len) × (len ≤ LONGEST_SIDE) }
-        ensures { result ≡ told_by len fillable blankable }
+        ensures { result ≡ told_by len (joined fillable.low fillable.high) (joined blankable.low blankable.high) }
     {
-        if (fillable | blankable) & 1 == 0 {
+        if !fillable.or(blankable).has(0) {
             return None;
         }
         Some(Line {
             len,
-            filled: fillable & !blankable,
-            blank: blankable & !fillable,
+            filled: fillable.without(blankable),
+            blank: blankable.without(fillable),
         })
     }
 }

@@ -1,75 +1,67 @@
-//! A pass over the runs of a line, from its left: a few operations on whole masks for each run.
+//! A pass over the runs of a line, from its left: a few operations on whole words for each run.
 
-ghost use Rattle.std.specs.Prelude.{◌≡◌, ◌<◌, ◌≤◌, ℕ, List, [], ◌∷◌, true};
+ghost use Rattle.std.specs.Prelude.{◌≡◌, ◌<◌, ◌≤◌, ℕ, List, [], ◌∷◌, true, map};
 ghost use Rattle.grid_core.specs.declared.cells.Cell.{Cell};
-ghost use Rattle.line_core.specs.Masks.{IsMaskOf};
-ghost use Rattle.line_core.specs.Reach.{MayBe, IsEndAfter};
-ghost use Rattle.line_core.specs.Passes.{IsPassOver};
+ghost use Rattle.place_sets.specs.Masks.{IsMaskOf, AreWindows};
+ghost use Rattle.line_core.specs.Reach.{IsEndAfter};
+ghost use Rattle.line_core.specs.Passes.{IsSpanOf, IsPassOver};
 
-use crate::Line;
-use crate::masks::{first_gap, gap_after, run_ends};
-use crate::windows::Windows;
+use crate::gaps::{first_gap, gap_after, run_ends};
+use crate::spans::Span;
 use grid_core::MOST_RUNS;
-use std::marker::Model;
+use place_sets::{LEVELS, PlaceSet, window_starts};
 
 /// A pass over the runs of a line, from its left.
 #[derive(Drop)]
-pub(crate) struct Pass<'w> {
+pub struct Pass<W: PlaceSet> {
     /// The cells that may be blank.
-    free: u128,
-    /// Windows of cells that may be filled.
-    windows: &'w Windows,
+    free: W,
     /// How many runs were passed.
     passed: usize,
     /// The gap after the runs that were passed.
-    gap: u128,
-}
-
-impl<'w> Model for Pass<'w> {
-    ghost use Rattle.line_core.specs.Passes.{PassState};
-
-    ghost Value = { PassState };
-
-    ghost view = { λ p. record { free = p.free; room = p.windows.now; passed = p.passed; gap = p.gap } };
+    gap: W,
 }
 
 /// The first cell, where no run was passed: a run can start there with no gap before it.
-fn opening(passed: usize) -> u128
-    ensures { IsMaskOf (λ i. (i ≡ 0) × (passed ≡ 0)) result }
+fn opening<W: PlaceSet>(passed: usize) -> W
+    ensures { IsMaskOf (λ i. (i ≡ 0) × (passed ≡ 0)) (W.number result) }
 {
-    if passed == 0 { 1 } else { 0 }
+    if passed == 0 { W::first() } else { W::none() }
 }
 
-impl<'w> Pass<'w> {
-    /// A pass that has come to the first run, with the windows of the line's open cells.
-    pub fn new(line: &Line, windows: &'w Windows) -> Pass<'w>
-        requires { IsMaskOf (MayBe line.now true) windows.now }
-        ensures { IsPassOver line.now [] result }
+impl<W: PlaceSet> Pass<W> {
+    /// A pass that has come to the first run, for steps with the windows of the line's open cells.
+    pub fn new(span: &Span<W>) -> Pass<W>
+        ensures { (line : List Cell) (windows : List ℕ) → IsSpanOf W.WIDTH line span.now.len (W.number span.now.free) (W.number span.now.room)
+            → AreWindows (W.number span.now.room) W.TOP windows
+            → IsPassOver W.WIDTH W.TOP line [] (W.number result.free) windows result.passed (W.number result.gap) }
     {
-        let free = line.free_cells();
         Pass {
-            free,
-            windows,
+            free: span.free,
             passed: 0,
-            gap: first_gap(free),
+            gap: first_gap(span.free),
         }
     }
 
     /// The gap after the runs that were passed.
-    pub fn gap(&self) -> u128
+    pub fn gap(&self) -> W
         ensures { result ≡ self.now.gap }
     {
         self.gap
     }
 
-    /// Passes a run of so many cells, 1 to 128. Gives its ends, as the cells before them allow them.
-    pub fn step(&mut self, number: u16) -> u128
+    /// Passes a run of so many cells. Gives its ends, as the cells before them allow them.
+    pub fn step(&mut self, windows: &[W; LEVELS], number: u16) -> W
         requires few { self.old.passed < MOST_RUNS }
-        requires number { (0 < number) × (number ≤ 128) }
-        ensures ends { (line : List Cell) (runs : List ℕ) → IsPassOver line runs self.old → IsMaskOf (IsEndAfter line runs number) result }
-        ensures passed { (line : List Cell) (runs : List ℕ) → IsPassOver line runs self.old → IsPassOver line (number ∷ runs) self.new }
+        requires number { (0 < number) × (number ≤ W.WIDTH) }
+        ensures ends { (line : List Cell) (runs : List ℕ)
+            → IsPassOver W.WIDTH W.TOP line runs (W.number self.old.free) (map W.number windows.now) self.old.passed (W.number self.old.gap)
+            → IsMaskOf (IsEndAfter line runs number) (W.number result) }
+        ensures passed { (line : List Cell) (runs : List ℕ)
+            → IsPassOver W.WIDTH W.TOP line runs (W.number self.old.free) (map W.number windows.now) self.old.passed (W.number self.old.gap)
+            → IsPassOver W.WIDTH W.TOP line (number ∷ runs) (W.number self.new.free) (map W.number windows.now) self.new.passed (W.number self.new.gap) }
     {
-        let window = self.windows.starts(number);
+        let window = window_starts(windows, number);
         let ends = run_ends(self.gap, opening(self.passed), window, number);
         self.passed += 1;
         self.gap = gap_after(ends, self.free);

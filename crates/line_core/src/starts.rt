@@ -1,72 +1,82 @@
 //! The leftmost and the rightmost placing.
 
-ghost use Rattle.std.specs.Prelude.{◌≡◌, ◌<◌, ◌≤◌, [], length, take, slice_index, ℕ, Some, None, IfOk, MatchBool};
-ghost use Rattle.line_core.specs.Masks.{Has};
+ghost use Rattle.std.specs.Prelude.{◌≡◌, ◌<◌, ◌≤◌, [], length, map, take, slice_index, ℕ, List, Some, None, IfOk, MatchBool};
+ghost use Rattle.grid_core.specs.declared.cells.Cell.{Cell};
+ghost use Rattle.place_sets.specs.Masks.{Has};
 ghost use Rattle.line_core.specs.Ends.{leftmost, rightmost};
 ghost use Rattle.line_core.specs.Outermost.{outermost, IsAsFar, IsOuterStart};
+ghost use Rattle.line_core.specs.Passes.{IsSpanOf};
 ghost use Rattle.line_core.specs.Reach.{AreLengths, AreTurnedGaps, HasPlacing};
 
 use crate::Line;
-use crate::masks::{first_gap, first_place, has, last_place};
+use crate::gaps::first_gap;
 use crate::passes::Pass;
 use crate::reach::{GAPS, gap_ahead, whole_ends, write_turned_gaps};
-use crate::windows::Windows;
-use grid_core::{Clue, MOST_RUNS, NoMemory};
+use crate::rooms::Rooms;
+use crate::spans::Span;
+use crate::widths::places_needed;
+use grid_core::{Clue, LONGEST_SIDE, MOST_RUNS, NoMemory};
+use place_sets::{PlaceSet, windows_within};
 use std::alloc::Global;
 use std::marker::Model;
 
 /// The side of a line towards which runs are moved.
 #[derive(Clone, Copy)]
-enum Side {
+pub enum Side {
     Left,
     Right,
 }
 
-/// The place of a mask that is furthest to a side.
-fn outermost_place(side: Side, mask: u128) -> u16
-    requires { 0 < mask }
-    ensures within { result < 128 }
-    ensures in_mask { Has mask result }
-    ensures outermost { (i : ℕ) → Has mask i → IsAsFar side result i }
+/// The place of a set that is furthest to a side.
+fn outermost_place<W: PlaceSet>(side: Side, places: W) -> u16
+    requires { 0 < W.number places }
+    ensures within { result < W.WIDTH }
+    ensures in_mask { Has (W.number places) result }
+    ensures outermost { (i : ℕ) → Has (W.number places) i → IsAsFar side result i }
 {
     match side {
-        Side::Left => first_place(mask),
-        Side::Right => last_place(mask),
+        Side::Left => places.first_place(),
+        Side::Right => places.last_place(),
     }
 }
 
 /// Whether a line has a placing with no run: its first cell is blank in one.
-fn may_have_no_run(line: &Line, clue: &[u16], turned_gaps: &[u128; GAPS]) -> bool
+fn may_have_no_run<W: PlaceSet>(span: &Span<W>, clue: &[u16], turned_gaps: &[W; GAPS]) -> bool
+    ghost line: { List Cell }
+    requires span { IsSpanOf W.WIDTH line span.now.len (W.number span.now.free) (W.number span.now.room) }
     requires clue { length clue.now ≡ 0 }
-    requires turned { AreTurnedGaps line.now clue.now turned_gaps.now }
-    ensures { MatchBool result (HasPlacing line.now clue.now) (HasPlacing line.now clue.now → ⊥) }
+    requires turned { AreTurnedGaps line clue.now (map W.number turned_gaps.now) }
+    ensures { MatchBool result (HasPlacing line clue.now) (HasPlacing line clue.now → ⊥) }
 {
-    let gap = first_gap(line.free_cells());
-    has(gap & gap_ahead(line, clue, turned_gaps, 0), 0)
+    let gap = first_gap(span.free);
+    let blankable = gap.and(gap_ahead(span, clue, turned_gaps, 0));
+    blankable.has(0)
 }
 
 /// Writes the start of each run that is furthest to a side among all placings. Answers whether there is a placing.
-fn write_starts(
+fn write_starts<W: PlaceSet>(
     side: Side,
-    line: &Line,
+    span: &Span<W>,
     clue: &[u16],
-    turned_gaps: &[u128; GAPS],
+    turned_gaps: &[W; GAPS],
     list: &mut [u16; MOST_RUNS],
 ) -> bool
-    requires clue { AreLengths clue.now }
+    ghost line: { List Cell }
+    requires span { IsSpanOf W.WIDTH line span.now.len (W.number span.now.free) (W.number span.now.room) }
+    requires clue { AreLengths W.WIDTH clue.now }
     requires count { (0 < length clue.now) × (length clue.now ≤ MOST_RUNS) }
-    requires turned { AreTurnedGaps line.now clue.now turned_gaps.now }
+    requires turned { AreTurnedGaps line clue.now (map W.number turned_gaps.now) }
     ensures { MatchBool result
-        ((j : ℕ) → j < length clue.now → IsOuterStart side line.now clue.now j (slice_index list.new j))
-        (HasPlacing line.now clue.now → ⊥) }
+        ((j : ℕ) → j < length clue.now → IsOuterStart side line clue.now j (slice_index list.new j))
+        (HasPlacing line clue.now → ⊥) }
 {
-    let windows = Windows::new(line.open_cells());
-    let mut pass = Pass::new(line, &windows);
+    let windows = windows_within(span.room);
+    let mut pass = Pass::new(span);
     for j in 0..clue.len() {
-        let ends = pass.step(clue[j]);
-        let ahead = gap_ahead(line, clue, turned_gaps, j + 1);
-        let whole = whole_ends(line, clue, j, ends, ahead);
-        if whole == 0 {
+        let ends = pass.step(&windows, clue[j]);
+        let ahead = gap_ahead(span, clue, turned_gaps, j + 1);
+        let whole = whole_ends(span, clue, j, ends, ahead);
+        if whole.is_empty() {
             return false;
         }
         list[j] = outermost_place(side, whole) + 1 - clue[j];
@@ -74,25 +84,54 @@ fn write_starts(
     true
 }
 
-/// Writes the starts of the placing that is furthest to a side. Answers whether there is a placing.
-fn find_starts(
+/// Writes the starts of the placing that is furthest to a side, found in sets of one width. Answers whether there is a placing.
+pub fn find_starts<W: PlaceSet>(
     side: Side,
     line: &Line,
     clue: &[u16],
-    gaps: &mut [u128; GAPS],
+    gaps: &mut [W; GAPS],
     list: &mut [u16; MOST_RUNS],
 ) -> bool
-    requires clue { AreLengths clue.now }
+    ghost cells: { List Cell }
+    requires cells { line.now ≡ cells }
+    requires len { length line.now ≤ W.WIDTH }
+    requires clue { AreLengths W.WIDTH clue.now }
+    requires count { length clue.now ≤ MOST_RUNS }
+    ensures { MatchBool result
+        (outermost side cells clue.now ≡ Some (take (length clue.now) list.new))
+        (outermost side cells clue.now ≡ None) }
+{
+    let span = line.span();
+    write_turned_gaps(&span, clue, gaps);
+    if clue.is_empty() {
+        may_have_no_run(&span, clue, gaps)
+    } else {
+        write_starts(side, &span, clue, gaps, list)
+    }
+}
+
+/// Writes the starts of the placing that is furthest to a side, found in the narrowest sets that have room for the line and the clue's numbers.
+/// Answers whether there is a placing.
+fn find_by_width(
+    side: Side,
+    line: &Line,
+    clue: &[u16],
+    rooms: &mut Rooms,
+    list: &mut [u16; MOST_RUNS],
+) -> bool
+    requires clue { AreLengths LONGEST_SIDE clue.now }
     requires count { length clue.now ≤ MOST_RUNS }
     ensures { MatchBool result
         (outermost side line.now clue.now ≡ Some (take (length clue.now) list.new))
         (outermost side line.now clue.now ≡ None) }
 {
-    write_turned_gaps(line, clue, gaps);
-    if clue.is_empty() {
-        may_have_no_run(line, clue, gaps)
+    let needed = places_needed(line.len(), clue);
+    if needed <= 64 {
+        find_starts(side, line, clue, &mut rooms.narrow, list)
+    } else if needed <= 128 {
+        find_starts(side, line, clue, &mut rooms.middle, list)
     } else {
-        write_starts(side, line, clue, gaps, list)
+        find_starts(side, line, clue, &mut rooms.wide, list)
     }
 }
 
@@ -101,7 +140,7 @@ fn find_starts(
 pub struct Starts {
     count: usize,
     list: [u16; MOST_RUNS],
-    gaps: Box<[u128; GAPS]>,
+    rooms: Box<Rooms>,
 }
 
 impl Model for Starts {
@@ -123,7 +162,7 @@ impl Starts {
         Ok(Starts {
             count: 0,
             list: [0; MOST_RUNS],
-            gaps: Box::new(alloc, [0; GAPS])?,
+            rooms: Rooms::new(alloc)?,
         })
     }
 
@@ -136,19 +175,19 @@ impl Starts {
 
     /// The starts of the placing that is furthest to a side.
     fn find(&mut self, side: Side, line: &Line, clue: &[u16]) -> bool
-        requires clue { AreLengths clue.now }
+        requires clue { AreLengths LONGEST_SIDE clue.now }
         requires count { length clue.now ≤ MOST_RUNS }
         ensures { MatchBool result
             (outermost side line.now clue.now ≡ Some self.new)
             ((outermost side line.now clue.now ≡ None) × (self.new ≡ [])) }
     {
-        let found = find_starts(side, line, clue, &mut self.gaps, &mut self.list);
+        let found = find_by_width(side, line, clue, &mut self.rooms, &mut self.list);
         self.count = if found { clue.len() } else { 0 };
         found
     }
 }
 
-/// Lists the starts of the placing each of whose starts is least among all placings. False, with no starts, where there is no placing.
+/// Lists the starts of the placing each of whose starts is least among all placings. False, with no starts, if there is no placing.
 pub fn leftmost(line: &Line, clue: &Clue, starts: &mut Starts) -> bool
     ensures { MatchBool result
         (leftmost line.now clue.now ≡ Some starts.new)
@@ -157,7 +196,7 @@ pub fn leftmost(line: &Line, clue: &Clue, starts: &mut Starts) -> bool
     starts.find(Side::Left, line, clue.numbers())
 }
 
-/// Lists the starts of the placing each of whose starts is greatest among all placings. False, with no starts, where there is no placing.
+/// Lists the starts of the placing each of whose starts is greatest among all placings. False, with no starts, if there is no placing.
 pub fn rightmost(line: &Line, clue: &Clue, starts: &mut Starts) -> bool
     ensures { MatchBool result
         (rightmost line.now clue.now ≡ Some starts.new)

@@ -1,77 +1,78 @@
-//! Tests of what no contract says: each call on lines worked out by hand, and deduction against the listing of all placings.
+//! Tests of what no contract says: each call on lines worked out by hand, deduction against the listing of all placings, and by sets of each width.
 
 ghost use Rattle.std.specs.Prelude.{◌≡◌, ◌+◌, ◌<◌, ◌≤◌, length, IfSome};
+ghost use Rattle.line_core.specs.Reach.{AreLengths};
 
 use super::*;
-use grid_core::{Cell, Clue};
+use crate::deduction::deduce_within;
+use crate::rooms::Rooms;
+use crate::widths::places_needed;
+use grid_core::{Cell, Clue, LONGEST_SIDE, MOST_RUNS};
 use std::alloc::Global;
 use std::test::Fail;
 
-/// A line, a clue, and what is to come out: no starts and no cells where there is no placing.
+/// A line, a clue, and what is to come out: no cells if there is no placing.
 struct Row {
     line: &'static str,
     clue: &'static [u16],
-    left: &'static [u16],
-    right: &'static [u16],
     deduced: &'static str,
 }
 
-static ROWS: [Row; 8] = [
+static ROWS: [Row; 11] = [
     Row {
         line: "?????",
         clue: &[3],
-        left: &[0],
-        right: &[2],
         deduced: "??#??",
     },
     Row {
         line: "??#??",
         clue: &[1, 1],
-        left: &[0, 2],
-        right: &[2, 4],
         deduced: "?.#.?",
     },
     Row {
         line: "???",
         clue: &[2, 2],
-        left: &[],
-        right: &[],
         deduced: "",
     },
     Row {
         line: "???",
         clue: &[],
-        left: &[],
-        right: &[],
         deduced: "...",
     },
     Row {
         line: "?#?",
         clue: &[],
-        left: &[],
-        right: &[],
         deduced: "",
     },
     Row {
         line: "?.?#??.",
         clue: &[1, 2],
-        left: &[0, 2],
-        right: &[0, 3],
         deduced: "#.?#?..",
     },
     Row {
         line: "#",
         clue: &[1],
-        left: &[0],
-        right: &[0],
         deduced: "#",
     },
     Row {
         line: "??????????",
         clue: &[3, 4],
-        left: &[0, 4],
-        right: &[2, 6],
         deduced: "??#???##??",
+    },
+    Row {
+        line: "??????????",
+        clue: &[65],
+        deduced: "",
+    },
+    Row {
+        line: "??????????",
+        clue: &[1, 129],
+        deduced: "",
+    },
+    Row {
+        line: "??????????",
+        clue: &[256],
+        deduced: "",
     },
 ];
 
@@ -84,12 +85,12 @@ fn cell_of(byte: u8) -> Cell {
     }
 }
 
-/// The line that a text stands for, a character a cell: none where it has no character, or more than 128.
-fn line_of(text: &str) -> Option<Line>
-    ensures { IfSome result (λ line. length line ≤ 128) }
+/// The line that a text stands for, a character a cell: none if it has no character, or more than 256.
+pub fn line_of(text: &str) -> Option<Line>
+    ensures { IfSome result (λ line. length line ≤ 256) }
 {
     let bytes = text.as_bytes();
-    if bytes.is_empty() || 128 < bytes.len() {
+    if bytes.is_empty() || 256 < bytes.len() {
         return None;
     }
     let mut line = Line::unknown(bytes.len() as u16);
@@ -135,43 +136,30 @@ fn is_same(some: &Option<Line>, other: &Option<Line>) -> bool {
     }
 }
 
-/// Whether a search answered as wanted, and left just the wanted starts.
-fn has_starts(alive: bool, starts: &Starts, found: bool, wanted: &[u16]) -> bool {
-    found == alive && starts.list() == wanted
-}
-
-/// Whether the starts and the deduction of a row are what was worked out, whatever starts were left before.
-fn comes_out(alloc: Global, row: &Row, starts: &mut Starts) -> Result<bool, Fail> {
-    let mut tables = Tables::new(alloc, 128)?;
+/// Whether the deduction of a row is what was worked out.
+fn comes_out(alloc: Global, row: &Row) -> Result<bool, Fail> {
+    let mut tables = Tables::new(alloc, 256)?;
     let clue = Clue::from_numbers(alloc, row.clue)?;
-    let alive = !row.deduced.is_empty();
     let Some(line) = line_of(row.line) else {
         return Ok(false);
     };
-    let found = leftmost(&line, &clue, starts);
-    let left = has_starts(alive, starts, found, row.left);
-    let found = rightmost(&line, &clue, starts);
-    let right = has_starts(alive, starts, found, row.right);
-    let deduced = match deduce(&mut tables, &line, &clue) {
-        Some(answer) => alive && is_line(&answer, row.deduced),
-        None => !alive,
-    };
-    Ok(left && right && deduced)
+    Ok(match deduce(&mut tables, &line, &clue) {
+        Some(answer) => is_line(&answer, row.deduced),
+        None => row.deduced.is_empty(),
+    })
 }
 
 #[test]
 fn rows_come_out_as_worked_out(rt: HostRuntime) -> Result<(), Fail> {
-    let mut starts = Starts::new(rt.alloc())?;
-    assert!(rt; starts.list().is_empty(), "none at first");
     for row in &ROWS {
-        assert!(rt; comes_out(rt.alloc(), row, &mut starts)?, "a row");
+        assert!(rt; comes_out(rt.alloc(), row)?, "a row");
     }
     Ok(())
 }
 
 /// The line whose cells are the digits of a number, base 3.
 fn numbered_line(len: u16, code: u32) -> Line
-    requires { (1 ≤ len) × (len ≤ 128) }
+    requires { (1 ≤ len) × (len ≤ 256) }
     ensures { length result ≡ len }
 {
     let mut line = Line::unknown(len);
@@ -189,7 +177,7 @@ fn numbered_line(len: u16, code: u32) -> Line
 }
 
 /// The clue of the full line whose filled cells are the bits of a number.
-fn numbered_clue(alloc: Global, len: u16, code: u32) -> Result<Clue, Fail> {
+fn numbered_clue(alloc: Global, len: u16, code: u64) -> Result<Clue, Fail> {
     let mut numbers = Vec::new(alloc);
     let mut number = 0u16;
     let mut rest = code;
@@ -210,7 +198,7 @@ fn numbered_clue(alloc: Global, len: u16, code: u32) -> Result<Clue, Fail> {
 
 /// Whether deduction tells what the listing tells of the first so many lines of a length.
 fn lines_agree(alloc: Global, len: u16, clue: &Clue, lines: u32) -> Result<bool, Fail>
-    requires { (1 ≤ len) × (len ≤ 128) }
+    requires { (1 ≤ len) × (len ≤ 256) }
 {
     let mut tables = Tables::new(alloc, len)?;
     for code in 0..lines {
@@ -229,7 +217,7 @@ fn deduction_is_what_all_placings_share(rt: HostRuntime) -> Result<(), Fail> {
     let mut lines = 1u32;
     for len in 1..7u16 {
         lines = lines.wrapping_mul(3);
-        for full in 0..(1u32 << len) {
+        for full in 0..(1u64 << len) {
             let clue = numbered_clue(alloc, len, full)?;
             assert!(rt; lines_agree(alloc, len, &clue, lines)?, "{len} {full}");
         }
@@ -237,70 +225,209 @@ fn deduction_is_what_all_placings_share(rt: HostRuntime) -> Result<(), Fail> {
     Ok(())
 }
 
-/// Whether two runs that leave one blank cell on a line are placed and deduced.
+/// The cell that is wanted at a place of a line.
+fn wanted_cell(filled: bool) -> Cell {
+    if filled { Cell::Filled } else { Cell::Blank }
+}
+
+/// Whether two runs that leave one blank cell on an unknown line are deduced.
 fn fills_line(alloc: Global, len: u16, first: u16) -> Result<bool, Fail>
-    requires { (0 < first) × (first + 1 < len) × (len ≤ 128) }
+    requires { (0 < first) × (first + 1 < len) × (len ≤ 256) }
 {
     let mut tables = Tables::new(alloc, len)?;
-    let mut starts = Starts::new(alloc)?;
     let clue = Clue::from_numbers(alloc, &[first, len - 1 - first])?;
-    let line = Line::unknown(len);
-    let wanted = [0, first + 1];
-    let left = leftmost(&line, &clue, &mut starts) && starts.list() == wanted.as_slice();
-    let right = rightmost(&line, &clue, &mut starts) && starts.list() == wanted.as_slice();
-    let Some(answer) = deduce(&mut tables, &line, &clue) else {
+    let Some(answer) = deduce(&mut tables, &Line::unknown(len), &clue) else {
         return Ok(false);
     };
     for i in 0..answer.len() {
-        let cell = if i == first {
-            Cell::Blank
-        } else {
-            Cell::Filled
-        };
-        if answer.get(i) != cell {
+        if answer.get(i) != wanted_cell(i != first) {
             return Ok(false);
         }
     }
-    Ok(left && right)
+    Ok(true)
 }
 
-/// Whether two runs of two cells, free on an unknown line, are placed, and deduced once its first and last cells are filled.
-fn holds_both_ends(alloc: Global, len: u16) -> Result<bool, Fail>
-    requires { (10 ≤ len) × (len ≤ 128) }
+/// Whether one run as long as an unknown line fills it, and one a cell longer, if a clue may have it, is dead.
+fn is_filled_whole(alloc: Global, len: u16) -> Result<bool, Fail>
+    requires { (1 ≤ len) × (len ≤ 256) }
 {
     let mut tables = Tables::new(alloc, len)?;
-    let mut starts = Starts::new(alloc)?;
+    let clue = Clue::from_numbers(alloc, &[len])?;
+    let Some(answer) = deduce(&mut tables, &Line::unknown(len), &clue) else {
+        return Ok(false);
+    };
+    for i in 0..answer.len() {
+        if answer.get(i) != Cell::Filled {
+            return Ok(false);
+        }
+    }
+    if len == 256 {
+        return Ok(true);
+    }
+    let longer = Clue::from_numbers(alloc, &[len + 1])?;
+    Ok(deduce(&mut tables, &Line::unknown(len), &longer).is_none())
+}
+
+/// Whether two runs of two cells are deduced once the first and last cells are filled.
+fn holds_both_ends(alloc: Global, len: u16) -> Result<bool, Fail>
+    requires { (10 ≤ len) × (len ≤ 256) }
+{
+    let mut tables = Tables::new(alloc, len)?;
     let clue = Clue::from_numbers(alloc, &[2, 2])?;
     let mut line = Line::unknown(len);
-    let left = leftmost(&line, &clue, &mut starts) && starts.list() == [0, 3].as_slice();
-    let right = rightmost(&line, &clue, &mut starts)
-        && starts.list() == [len - 5, len - 2].as_slice();
     line.set(0, Cell::Filled);
     line.set(len - 1, Cell::Filled);
     let Some(answer) = deduce(&mut tables, &line, &clue) else {
         return Ok(false);
     };
     for i in 0..answer.len() {
-        let cell = if i < 2 || len - 2 <= i {
-            Cell::Filled
-        } else {
-            Cell::Blank
-        };
-        if answer.get(i) != cell {
+        if answer.get(i) != wanted_cell(i < 2 || len - 2 <= i) {
             return Ok(false);
         }
     }
-    Ok(left && right)
+    Ok(true)
+}
+
+/// A clue of so many runs of one cell.
+fn ones(alloc: Global, count: u16) -> Result<Clue, Fail> {
+    let mut numbers = Vec::new(alloc);
+    for _ in 0..count {
+        numbers.push(1u16)?;
+    }
+    Ok(Clue::from_numbers(alloc, &numbers)?)
+}
+
+/// Whether as many runs of one cell as there is room for are deduced on an unknown line: each second cell of an odd length, and nothing of an
+/// even one, where each run may be at either of two cells.
+fn holds_ones(alloc: Global, len: u16) -> Result<bool, Fail>
+    requires { (1 ≤ len) × (len ≤ 256) }
+{
+    let mut tables = Tables::new(alloc, len)?;
+    let clue = ones(alloc, len.div_ceil(2))?;
+    let Some(answer) = deduce(&mut tables, &Line::unknown(len), &clue) else {
+        return Ok(false);
+    };
+    for i in 0..answer.len() {
+        let wanted = if len % 2 == 0 {
+            Cell::Unknown
+        } else {
+            wanted_cell(i % 2 == 0)
+        };
+        if answer.get(i) != wanted {
+            return Ok(false);
+        }
+    }
+    Ok(true)
+}
+
+/// Whether two runs that need a cell or two more than an unknown line has are dead.
+fn refuses_long_runs(alloc: Global, len: u16) -> Result<bool, Fail>
+    requires { (2 ≤ len) × (len ≤ 256) }
+{
+    let mut tables = Tables::new(alloc, len)?;
+    let clue = Clue::from_numbers(alloc, &[len / 2, len / 2 + 1])?;
+    Ok(deduce(&mut tables, &Line::unknown(len), &clue).is_none())
 }
 
 #[test]
 fn lengths_at_word_ends_come_out(rt: HostRuntime) -> Result<(), Fail> {
     let alloc = rt.alloc();
-    for len in [63u16, 64, 65, 127, 128] {
+    for len in [63u16, 64, 65, 127, 128, 129, 255, 256] {
+        assert!(rt; is_filled_whole(alloc, len)?, "all of {len}");
         assert!(rt; holds_both_ends(alloc, len)?, "both ends of {len}");
+        assert!(rt; holds_ones(alloc, len)?, "ones on {len}");
+        assert!(rt; refuses_long_runs(alloc, len)?, "too much for {len}");
         for first in 1..len - 1 {
             assert!(rt; fills_line(alloc, len, first)?, "{len} {first}");
         }
+    }
+    Ok(())
+}
+
+#[test]
+fn one_run_fills_the_middle_of_the_longest_line(rt: HostRuntime) -> Result<(), Fail> {
+    let alloc = rt.alloc();
+    let mut tables = Tables::new(alloc, 256)?;
+    let clue = Clue::from_numbers(alloc, &[129])?;
+    let Some(answer) = deduce(&mut tables, &Line::unknown(256), &clue) else {
+        return Err(Fail::new("a placing"));
+    };
+    for i in 0..answer.len() {
+        let wanted = if i == 127 || i == 128 {
+            Cell::Filled
+        } else {
+            Cell::Unknown
+        };
+        assert!(rt; answer.get(i) == wanted, "{i}");
+    }
+    Ok(())
+}
+
+#[test]
+fn runs_longer_than_the_line_are_dead(rt: HostRuntime) -> Result<(), Fail> {
+    let alloc = rt.alloc();
+    for number in [101u16, 127, 128, 129, 255, 256] {
+        let mut tables = Tables::new(alloc, 100)?;
+        let clue = Clue::from_numbers(alloc, &[number])?;
+        assert!(rt;
+            deduce(&mut tables, &Line::unknown(100), &clue).is_none(),
+            "{number}"
+        );
+    }
+    Ok(())
+}
+
+/// The next of a row of numbers that look random.
+fn next_random(state: &mut u64) -> u64 {
+    *state = state
+        .wrapping_mul(6364136223846793005)
+        .wrapping_add(1442695040888963407);
+    *state >> 33
+}
+
+/// A line of which some cells are known, nearly all of them as a full line, whose filled cells are the bits of a number, has them.
+fn partly_known_line(len: u16, full: u64, state: &mut u64) -> Line
+    requires { (1 ≤ len) × (len ≤ 64) }
+    ensures { length result ≡ len }
+{
+    let mut line = Line::unknown(len);
+    for i in 0..len {
+        let filled = (full >> i) & 1 == 1;
+        let cell = match next_random(state) % 64 {
+            0 => wanted_cell(!filled),
+            1..24 => wanted_cell(filled),
+            _ => Cell::Unknown,
+        };
+        line.set(i, cell);
+    }
+    line
+}
+
+/// Whether a line of up to 64 cells is deduced alike by sets of 64, of 128 and of 256 places.
+fn widths_agree(line: &Line, clue: &[u16], rooms: &mut Rooms) -> bool
+    requires clue { AreLengths LONGEST_SIDE clue.now }
+    requires count { length clue.now ≤ MOST_RUNS }
+{
+    if places_needed(line.len(), clue) > 64 {
+        return false;
+    }
+    let narrow = deduce_within(line, clue, &mut rooms.narrow);
+    let middle = deduce_within(line, clue, &mut rooms.middle);
+    let wide = deduce_within(line, clue, &mut rooms.wide);
+    is_same(&narrow, &middle) && is_same(&narrow, &wide)
+}
+
+#[test]
+fn widths_deduce_alike(rt: HostRuntime) -> Result<(), Fail> {
+    let alloc = rt.alloc();
+    let mut rooms = Rooms::new(alloc)?;
+    let mut state = 1u64;
+    for round in 0..10_000u32 {
+        let len = (next_random(&mut state) % 64) as u16 + 1;
+        let full = next_random(&mut state) << 33 ^ next_random(&mut state);
+        let clue = numbered_clue(alloc, len, full)?;
+        let line = partly_known_line(len, full, &mut state);
+        assert!(rt; widths_agree(&line, clue.numbers(), &mut rooms), "{round}");
     }
     Ok(())
 }
@@ -323,17 +450,19 @@ fn changes_of_a_copy_are_found(rt: HostRuntime) -> Result<(), Fail> {
 
 #[test]
 fn changes_at_word_ends_are_found(rt: HostRuntime) -> Result<(), Fail> {
-    let line = Line::unknown(128);
+    let line = Line::unknown(256);
     let mut other = line.copy();
+    assert!(rt; line.next_change(&other, 0) == None, "no change");
     other.set(64, Cell::Filled);
     other.set(127, Cell::Blank);
+    other.set(128, Cell::Filled);
+    other.set(255, Cell::Blank);
     assert!(rt; line.next_change(&other, 0) == Some(64), "the first change");
     assert!(rt; line.next_change(&other, 64) == Some(64), "at the change");
     assert!(rt; line.next_change(&other, 65) == Some(127), "the next");
-    assert!(rt;
-        line.next_change(&other, 127) == Some(127),
-        "the last place"
-    );
+    assert!(rt; line.next_change(&other, 128) == Some(128), "past the half");
+    assert!(rt; line.next_change(&other, 129) == Some(255), "the last");
+    assert!(rt; line.next_change(&other, 256) == None, "at the end");
     Ok(())
 }
 
@@ -346,5 +475,23 @@ fn cells_become_unknown_again(rt: HostRuntime) -> Result<(), Fail> {
     line.set(0, Cell::Unknown);
     line.set(1, Cell::Unknown);
     assert!(rt; is_line(&line, "???"), "unknown again");
+    Ok(())
+}
+
+#[test]
+fn cells_of_both_halves_are_kept_apart(rt: HostRuntime) -> Result<(), Fail> {
+    let mut line = Line::unknown(256);
+    line.set(0, Cell::Filled);
+    line.set(127, Cell::Filled);
+    line.set(128, Cell::Blank);
+    line.set(255, Cell::Blank);
+    for i in 0..line.len() {
+        let wanted = match i {
+            0 | 127 => Cell::Filled,
+            128 | 255 => Cell::Blank,
+            _ => Cell::Unknown,
+        };
+        assert!(rt; line.get(i) == wanted, "{i}");
+    }
     Ok(())
 }

@@ -1,21 +1,26 @@
 -- A puzzle's text in another format.
-use Rattle.std.specs.Prelude.{◌≡◌, ℕ, List, if◌then◌else◌, Result, Ok, Err, IsOk, Vec}
+use Rattle.std.specs.Prelude.{◌≡◌, ℕ, List, Result, Ok, Err, IsOk, Vec}
 use Rattle.std.specs.declared.alloc.Global.{Global}
 use Rattle.grid_core.specs.Nonogram.{Nonogram}
-use Rattle.puzzle_text.specs.Written.{is_ambiguous, text_mk, text_nin, text_non}
+use Rattle.puzzle_text.specs.Formats.{text_as}
 use Rattle.puzzle_text.specs.declared.faults.EntryFault.{EntryFault}
 use Rattle.puzzle_text.specs.declared.faults.EntryFault.TheVariants.{Text}
 use Rattle.puzzle_text.specs.declared.faults.TextFault.TheVariants as text
-use Rattle.nonograde.specs.declared.formats.ConvertFault.{ConvertFault}
-use Rattle.nonograde.specs.declared.formats.ConvertFault.TheVariants.{Entry, Ambiguous, NoMemory}
-use Rattle.nonograde.specs.declared.formats.Format.{Format}
-use Rattle.nonograde.specs.declared.formats.Format.TheVariants.{Non, Mk, Nin}
+use Rattle.puzzle_text.specs.declared.faults.WriteFault.{WriteFault}
+use Rattle.puzzle_text.specs.declared.faults.WriteFault.TheVariants as written
+use Rattle.puzzle_text.specs.declared.formats.Format.{Format}
+use Rattle.nonograde.specs.declared.converting.ConvertFault.{ConvertFault}
+use Rattle.nonograde.specs.declared.converting.ConvertFault.TheVariants.{Entry, Ambiguous, NoMemory}
+
+-- a writer's answer as that of a conversion
+abbrev pub in_conversion : Result (List ℕ) WriteFault → Result (List ℕ) ConvertFault
+in_conversion (Ok text) = Ok text
+in_conversion (Err written.Ambiguous) = Err Ambiguous
+in_conversion (Err written.NoMemory) = Err NoMemory
 
 -- the puzzle's text in a format. In .nin there is none where it would be read with the sizes the other way round
 abbrev pub text_in : Format → Nonogram → Result (List ℕ) ConvertFault
-text_in Non p = Ok (text_non p)
-text_in Mk p = Ok (text_mk p)
-text_in Nin p = if is_ambiguous p then Err Ambiguous else Ok (text_nin p)
+text_in format p = in_conversion (text_as format p)
 
 -- the text in a format of the puzzle that was read, or the fault
 abbrev pub converted : Format → Result Nonogram EntryFault → Result (List ℕ) ConvertFault

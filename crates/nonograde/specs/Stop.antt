@@ -1,24 +1,15 @@
 -- The line that the program prints where it stops.
-use Rattle.std.specs.Prelude.{ℕ, List, ◌++◌, codes, decimal}
-use Rattle.puzzle_text.specs.Words.{word_of}
-use Rattle.puzzle_text.specs.declared.faults.CollectionFault.{CollectionFault}
-use Rattle.puzzle_text.specs.declared.faults.CollectionFault.TheVariants as collection
+use Rattle.std.specs.Prelude.{ℕ, List, ◌++◌, codes}
+use Rattle.puzzle_text.specs.Words.{word_of, word_of_collection}
 use Rattle.survey_core.specs.declared.faults.RunFault.{RunFault}
 use Rattle.survey_core.specs.declared.faults.RunFault.TheVariants as run
 use Rattle.nonograde.specs.declared.stop.Stop.{Stop}
 use Rattle.nonograde.specs.declared.stop.Stop.TheVariants as stop
 
--- the word of a fault of a collection: its name, and a line's number after a colon
-abbrev pub collection_word : CollectionFault → List ℕ
-collection_word collection.TooLong = codes "TooLong"
-collection_word (collection.Stray number) = codes "Stray:" ++ decimal number
-collection_word collection.TooMany = codes "TooMany"
-collection_word collection.NoMemory = codes "NoMemory"
-
 -- the word of a fault of a survey: a collection's fault has its own word, and a failed writing has no number
 abbrev pub run_word : RunFault → List ℕ
 run_word run.Read = codes "Read"
-run_word (run.Collection fault) = collection_word fault
+run_word (run.Collection fault) = word_of_collection fault
 run_word run.Thread = codes "Thread"
 run_word run.NoMemory = codes "NoMemory"
 run_word (run.Write _) = codes "Write"

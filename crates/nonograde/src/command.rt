@@ -1,13 +1,13 @@
 //! The command line: its words, and what they ask for.
-ghost use Rattle.std.specs.Prelude.{◌≤◌, IfOk};
+ghost use Rattle.std.specs.Prelude.{◌≤◌, IfOk, IfSome};
 ghost use Rattle.nonograde.specs.Command.{HasSettingsInRange};
 
-use crate::formats::Format;
 use clap::error::ErrorKind;
 use clap::{Arg, ArgAction, ArgMatches, Command, Error, value_parser};
 use grid_core::NoMemory;
 use lane_core::MOST_GUESSES;
-use std::alloc::{AllocError, AllocFailed, Global};
+use puzzle_text::Format;
+use std::alloc::{AllocError, Global};
 use survey_core::{
     DEFAULT_GUESSES, DEFAULT_LANES, DEFAULT_RING, LARGEST_RING, MOST_LANES, Settings,
 };
@@ -44,18 +44,6 @@ impl From<Error> for CommandFault {
     }
 }
 
-impl From<AllocError> for CommandFault {
-    fn from(_error: AllocError) -> CommandFault {
-        CommandFault::NoMemory
-    }
-}
-
-impl<T: Drop> From<AllocFailed<T>> for CommandFault {
-    fn from(_error: AllocFailed<T>) -> CommandFault {
-        CommandFault::NoMemory
-    }
-}
-
 impl From<NoMemory> for CommandFault {
     fn from(_error: NoMemory) -> CommandFault {
         CommandFault::NoMemory
@@ -76,7 +64,7 @@ fn guesses_option<'a>(alloc: Global) -> Arg<'a> {
 fn file_word<'a>(alloc: Global) -> Arg<'a> {
     Arg::new(alloc, "file")
         .value_name("FILE")
-        .help("A puzzle, whose name ends in .non, .mk or .nin")
+        .help("A puzzle, whose name's ending tells its format")
         .required(true)
 }
 
@@ -121,14 +109,13 @@ fn solve_command<'a>(alloc: Global) -> Result<Command<'a>, AllocError> {
         .arg(file_word(alloc))
 }
 
-static FORMATS: [&str; 3] = ["non", "mk", "nin"];
-
-fn convert_command<'a>(alloc: Global) -> Result<Command<'a>, AllocError> {
+/// The command `convert`, with the words of the formats.
+fn convert_command<'a>(alloc: Global, formats: &'a [&'a str]) -> Result<Command<'a>, AllocError> {
     let to = Arg::new(alloc, "to")
         .long("to")
         .value_name("FORMAT")
         .help("The format")
-        .value_parser(FORMATS.as_slice())
+        .value_parser(formats)
         .required(true);
     Command::new(alloc, "convert")
         .about("Write a puzzle in another format")
@@ -144,24 +131,26 @@ fn lines_command<'a>(alloc: Global) -> Result<Command<'a>, AllocError> {
         .arg(file_word(alloc))
 }
 
-fn whole_command<'a>(alloc: Global) -> Result<Command<'a>, AllocError> {
-    Command::new(alloc, "nonograde")
+/// All commands, with the words of the formats.
+fn whole_command<'a>(alloc: Global, formats: &'a [&'a str]) -> Result<Command<'a>, NoMemory> {
+    let command = Command::new(alloc, "nonograde")
         .about("Solves and grades nonograms")
         .no_binary_name(true)
         .subcommand_required(true)
         .subcommand(survey_command(alloc)?)?
         .subcommand(solve_command(alloc)?)?
-        .subcommand(convert_command(alloc)?)?
-        .subcommand(lines_command(alloc)?)
+        .subcommand(convert_command(alloc, formats)?)?
+        .subcommand(lines_command(alloc)?)?;
+    Ok(command)
 }
 
 /// The text of an argument.
-fn text_of(alloc: Global, matches: &ArgMatches<'_>, id: &str) -> Result<String, AllocError> {
-    String::from_str(alloc, matches.get_str(id).unwrap_or(""))
+fn text_of(alloc: Global, matches: &ArgMatches<'_>, id: &str) -> Result<String, NoMemory> {
+    Ok(String::from_str(alloc, matches.get_str(id).unwrap_or(""))?)
 }
 
 /// The files that are named.
-fn files_of(alloc: Global, matches: &ArgMatches<'_>) -> Result<Vec<String>, CommandFault> {
+fn files_of(alloc: Global, matches: &ArgMatches<'_>) -> Result<Vec<String>, NoMemory> {
     let mut files = Vec::new(alloc);
     if let Some(words) = matches.get_strs("file") {
         for word in words {
@@ -193,38 +182,53 @@ fn settings_of(matches: &ArgMatches<'_>) -> Settings {
     }
 }
 
-/// The format that is asked for. `clap` has refused all other words.
-fn format_of(matches: &ArgMatches<'_>) -> Format {
-    match matches.get_str("to") {
-        Some("mk") => Format::Mk,
-        Some("nin") => Format::Nin,
-        _ => Format::Non,
-    }
+/// The conversion that is asked for. `clap` has refused words that name no format.
+fn conversion_of(alloc: Global, matches: &ArgMatches<'_>) -> Result<Option<Request>, CommandFault>
+    ensures { IfOk result (λ asked. IfSome asked HasSettingsInRange) }
+{
+    let Some(format) = Format::of_word(matches.get_str("to").unwrap_or("")) else {
+        return Ok(None);
+    };
+    Ok(Some(Request::Convert(format, text_of(alloc, matches, "file")?)))
 }
 
-/// What a command and its words ask for.
-fn request_of(alloc: Global, name: &str, matches: &ArgMatches<'_>) -> Result<Request, CommandFault>
-    ensures { IfOk result HasSettingsInRange }
+/// What a command and its words ask for, if the command is known.
+fn request_of(
+    alloc: Global,
+    name: &str,
+    matches: &ArgMatches<'_>,
+) -> Result<Option<Request>, CommandFault>
+    ensures { IfOk result (λ asked. IfSome asked HasSettingsInRange) }
 {
-    match name {
-        "survey" => Ok(Request::Survey(settings_of(matches), files_of(alloc, matches)?)),
-        "solve" => Ok(Request::Solve(guesses_of(matches), text_of(alloc, matches, "file")?)),
-        "convert" => Ok(Request::Convert(format_of(matches), text_of(alloc, matches, "file")?)),
-        _ => Ok(Request::Lines(text_of(alloc, matches, "file")?)),
-    }
+    let request = match name {
+        "survey" => Request::Survey(settings_of(matches), files_of(alloc, matches)?),
+        "solve" => Request::Solve(guesses_of(matches), text_of(alloc, matches, "file")?),
+        "convert" => return conversion_of(alloc, matches),
+        "lines" => Request::Lines(text_of(alloc, matches, "file")?),
+        _ => return Ok(None),
+    };
+    Ok(Some(request))
+}
+
+/// The fault of words that name no command.
+fn missing_command(command: &mut Command<'_>) -> Result<CommandFault, NoMemory> {
+    let error = command.error(ErrorKind::MissingSubcommand, "a command is missing")?;
+    Ok(CommandFault::from(error))
 }
 
 /// What the words after the program's name ask for.
 pub fn parse_words(alloc: Global, words: Vec<String>) -> Result<Request, CommandFault>
     ensures { IfOk result HasSettingsInRange }
 {
-    let mut command = whole_command(alloc)?;
+    let formats = Format::words();
+    let mut command = whole_command(alloc, &formats)?;
     let matches = command.try_get_matches_from_mut(words.as_slice())?;
-    match matches.subcommand() {
-        Some((name, found)) => request_of(alloc, name, found),
-        None => {
-            let error = command.error(ErrorKind::MissingSubcommand, "a command is missing")?;
-            Err(CommandFault::from(error))
-        }
-    }
+    let asked = match matches.subcommand() {
+        Some((name, found)) => request_of(alloc, name, found)?,
+        None => None,
+    };
+    let Some(request) = asked else {
+        return Err(missing_command(&mut command)?);
+    };
+    Ok(request)
 }

@@ -5,23 +5,23 @@ ghost use Rattle.puzzle_text.specs.Formats.{is_known};
 ghost use Rattle.nonograde.specs.Converting.{GivesConverted, converted, text_in};
 ghost use Rattle.nonograde.specs.Reports.{said};
 
-use crate::formats::{ConvertFault, Format};
-use grid_core::{NoMemory, Puzzle};
-use puzzle_text::{
-    Entry, EntryFault, LONGEST_PUZZLE, TextFault, WriteFault, read_entry, write_mk, write_nin,
-    write_non,
-};
+use grid_core::Puzzle;
+use puzzle_text::{Entry, EntryFault, Format, LONGEST_PUZZLE, TextFault, WriteFault, read_entry};
 use std::alloc::Global;
+use thiserror::Error;
 
-impl From<NoMemory> for ConvertFault {
-    ghost use Rattle.std.specs.Prelude.{◌≡◌};
-    ghost use Rattle.nonograde.specs.declared.formats.ConvertFault.TheVariants.{NoMemory};
-
-    ghost from_gives = { λ _ fault. fault ≡ NoMemory };
-
-    fn from(_refused: NoMemory) -> ConvertFault {
-        ConvertFault::NoMemory
-    }
+/// Why a text is not converted: the first of these, in this order.
+#[derive(Clone, Copy, Debug, PartialEq, Eq, Error)]
+pub enum ConvertFault {
+    /// The text is refused.
+    #[error(transparent)]
+    Entry(EntryFault),
+    /// The puzzle's text in `.nin` would be read with the sizes the other way round.
+    #[error("the text would be read with the sizes the other way round")]
+    Ambiguous,
+    /// A growth of memory was refused in writing.
+    #[error("out of memory")]
+    NoMemory,
 }
 
 /// The text of a puzzle in a format.
@@ -29,14 +29,10 @@ fn text_in(alloc: Global, puzzle: &Puzzle, format: Format) -> Result<Vec<u8>, Co
     ensures answer { GivesConverted result (text_in format puzzle.now) }
     ensures writing { (fault : EntryFault) → result ≡ Err (ConvertFault.Entry fault) → ⊥ }
 {
-    match format {
-        Format::Non => Ok(write_non(alloc, puzzle)?),
-        Format::Mk => Ok(write_mk(alloc, puzzle)?),
-        Format::Nin => match write_nin(alloc, puzzle) {
-            Ok(text) => Ok(text),
-            Err(WriteFault::Ambiguous) => Err(ConvertFault::Ambiguous),
-            Err(WriteFault::NoMemory) => Err(ConvertFault::NoMemory),
-        },
+    match format.write(alloc, puzzle) {
+        Ok(text) => Ok(text),
+        Err(WriteFault::Ambiguous) => Err(ConvertFault::Ambiguous),
+        Err(WriteFault::NoMemory) => Err(ConvertFault::NoMemory),
     }
 }
 

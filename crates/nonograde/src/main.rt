@@ -3,7 +3,6 @@
 
 mod command;
 mod converting;
-mod formats;
 mod program;
 mod reports;
 mod stop;

@@ -4,13 +4,13 @@ ghost use Rattle.std.specs.Prelude.{◌≡◌, ◌≤◌};
 ghost use Rattle.nonograde.specs.Command.{HasSettingsInRange};
 
 use crate::command::{CommandFault, Request, parse_words};
-use crate::converting::convert;
-use crate::formats::{ConvertFault, Format};
+use crate::converting::{ConvertFault, convert};
 use crate::reports::{lines_report, solve_report};
 use crate::stop::{Stop, stop_text};
+use grid_core::NoMemory;
 use lane_core::{MOST_GUESSES, OpenGate};
-use puzzle_text::{Entry, LONGEST_PUZZLE};
-use std::alloc::{AllocError, AllocFailed, Global};
+use puzzle_text::{Entry, Format, LONGEST_PUZZLE};
+use std::alloc::Global;
 use std::io::{Read, Write};
 use std::rt::{Env, Files};
 use std::sync::Wait;
@@ -24,14 +24,8 @@ const FILE_LIMIT: u64 = LONGEST_PUZZLE as u64 + 1;
 /// What the program prints where a growth was refused, also in making its last words.
 const NO_MEMORY: &[u8] = b"nonograde: NoMemory\n";
 
-impl From<AllocError> for Stop {
-    fn from(_refused: AllocError) -> Stop {
-        Stop::NoMemory
-    }
-}
-
-impl<T: Drop> From<AllocFailed<T>> for Stop {
-    fn from(_refused: AllocFailed<T>) -> Stop {
+impl From<NoMemory> for Stop {
+    fn from(_refused: NoMemory) -> Stop {
         Stop::NoMemory
     }
 }
@@ -62,9 +56,10 @@ fn read_file<R: Files + AllocGlobal>(rt: &R, path: &str) -> Result<Vec<u8>, Stop
 
 /// Reads files, in the order of the words that name them.
 fn read_files<R: Files + AllocGlobal>(rt: &R, paths: &[String]) -> Result<Vec<Vec<u8>>, Stop> {
-    let mut bodies = Vec::with_capacity(rt.alloc(), paths.len())?;
+    let mut bodies = Vec::with_capacity(rt.alloc(), paths.len()).map_err(|_| Stop::NoMemory)?;
     for path in paths {
-        bodies.push(read_file(rt, path.as_str())?)?;
+        let body = read_file(rt, path.as_str())?;
+        bodies.push(body).map_err(|_| Stop::NoMemory)?;
     }
     Ok(bodies)
 }
@@ -74,7 +69,7 @@ fn entries_of<'a>(
     alloc: Global,
     paths: &'a [String],
     bodies: &'a [Vec<u8>],
-) -> Result<Vec<Entry<'a>>, Stop> {
+) -> Result<Vec<Entry<'a>>, NoMemory> {
     let mut entries = Vec::with_capacity(alloc, paths.len())?;
     for (path, body) in paths.iter().zip(bodies) {
         entries.push(Entry {

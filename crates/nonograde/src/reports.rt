@@ -10,10 +10,12 @@ ghost use Rattle.nonograde.specs.Reports.{GivesText, closed_word, grid_report, l
 
 use grid_core::{Grid, NoMemory, Puzzle};
 use lane_core::{Answer, Job, MOST_GUESSES, grade};
-use puzzle_text::{Entry, EntryFault, LONGEST_PUZZLE, TextFault, read_entry};
+use puzzle_text::{
+    Entry, EntryFault, LONGEST_PUZZLE, TextFault, push_bytes, push_number, read_entry,
+};
 use solve_core::Solver;
 use std::alloc::Global;
-use survey_core::{Outcome, print_entry, push_bytes, push_grid, push_number};
+use survey_core::{Outcome, print_entry, push_grid};
 
 /// Whether each cell of a grid is known.
 fn is_full(grid: &Grid) -> bool

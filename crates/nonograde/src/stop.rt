@@ -1,11 +1,11 @@
 //! What the program says where it stops at a fault.
 
 ghost use Rattle.std.specs.Prelude.{◌≡◌, ◌++◌, IfOk, codes};
-ghost use Rattle.nonograde.specs.Stop.{collection_word, run_word, stop_line, stop_word};
+ghost use Rattle.puzzle_text.specs.Words.{word_text};
+ghost use Rattle.nonograde.specs.Stop.{run_word, stop_line, stop_word};
 
 use grid_core::NoMemory;
-use itoa::Buffer;
-use puzzle_text::{CollectionFault, EntryFault, fault_text};
+use puzzle_text::{EntryFault, FaultWord};
 use std::alloc::Global;
 use survey_core::RunFault;
 
@@ -26,59 +26,30 @@ pub enum Stop {
     NoMemory,
 }
 
-/// A word by itself.
-fn word(alloc: Global, name: &[u8]) -> Result<Vec<u8>, NoMemory>
-    ensures { IfOk result (λ text. text.items ≡ name.now) }
-{
-    Ok(Vec::from_slice(alloc, name)?)
-}
-
-/// The word of a stray line.
-fn stray_word(alloc: Global, number: u32) -> Result<Vec<u8>, NoMemory>
-    ensures { IfOk result (λ text. text.items ≡ collection_word (CollectionFault.Stray number)) }
-{
-    let mut buffer = Buffer::new();
-    let mut text = word(alloc, b"Stray:")?;
-    text.extend_from_slice(buffer.format(number).as_bytes())?;
-    Ok(text)
-}
-
-/// The word of a collection's fault.
-fn word_of_collection(alloc: Global, fault: CollectionFault) -> Result<Vec<u8>, NoMemory>
-    ensures { IfOk result (λ text. text.items ≡ collection_word fault) }
+/// The word of a survey's fault: that of the collection's fault, if it is one. A failed writing has no number.
+fn word_of_run(fault: RunFault) -> FaultWord
+    ensures { word_text result ≡ run_word fault }
 {
     match fault {
-        CollectionFault::TooLong => word(alloc, b"TooLong"),
-        CollectionFault::Stray(number) => stray_word(alloc, number),
-        CollectionFault::TooMany => word(alloc, b"TooMany"),
-        CollectionFault::NoMemory => word(alloc, b"NoMemory"),
-    }
-}
-
-/// The word of a survey's fault.
-fn word_of_run(alloc: Global, fault: RunFault) -> Result<Vec<u8>, NoMemory>
-    ensures { IfOk result (λ text. text.items ≡ run_word fault) }
-{
-    match fault {
-        RunFault::Read => word(alloc, b"Read"),
-        RunFault::Collection(inner) => word_of_collection(alloc, inner),
-        RunFault::Thread => word(alloc, b"Thread"),
-        RunFault::NoMemory => word(alloc, b"NoMemory"),
-        RunFault::Write(_) => word(alloc, b"Write"),
+        RunFault::Read => FaultWord::alone("Read"),
+        RunFault::Collection(inner) => inner.word(),
+        RunFault::Thread => FaultWord::alone("Thread"),
+        RunFault::NoMemory => FaultWord::alone("NoMemory"),
+        RunFault::Write(_) => FaultWord::alone("Write"),
     }
 }
 
 /// The word of a fault.
-fn word_of(alloc: Global, stop: &Stop) -> Result<Vec<u8>, NoMemory>
-    ensures { IfOk result (λ text. text.items ≡ stop_word stop.now) }
+fn word_of(stop: Stop) -> FaultWord
+    ensures { word_text result ≡ stop_word stop }
 {
     match stop {
-        Stop::Entry(fault) => Ok(fault_text(alloc, fault)?),
-        Stop::Run(fault) => word_of_run(alloc, *fault),
-        Stop::Ambiguous => word(alloc, b"Ambiguous"),
-        Stop::Read => word(alloc, b"Read"),
-        Stop::Write => word(alloc, b"Write"),
-        Stop::NoMemory => word(alloc, b"NoMemory"),
+        Stop::Entry(fault) => fault.word(),
+        Stop::Run(fault) => word_of_run(fault),
+        Stop::Ambiguous => FaultWord::alone("Ambiguous"),
+        Stop::Read => FaultWord::alone("Read"),
+        Stop::Write => FaultWord::alone("Write"),
+        Stop::NoMemory => FaultWord::alone("NoMemory"),
     }
 }
 
@@ -87,7 +58,7 @@ pub fn stop_text(alloc: Global, stop: &Stop) -> Result<Vec<u8>, NoMemory>
     ensures { IfOk result (λ text. text.items ≡ stop_line stop.now) }
 {
     let mut text = Vec::from_slice(alloc, b"nonograde: ")?;
-    text.extend_from_slice(&word_of(alloc, stop)?)?;
+    word_of(*stop).push(&mut text)?;
     text.push(b'\n')?;
     Ok(text)
 }

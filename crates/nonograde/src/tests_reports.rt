@@ -1,13 +1,12 @@
 //! What `lines`, `solve` and `convert` print. Each call is made with ample memory, so that a body that always answers `NoMemory` fails here.
 
-use crate::converting::convert;
-use crate::formats::{ConvertFault, Format};
+use crate::converting::{ConvertFault, convert};
 use crate::reports::{lines_report, solve_report};
 use crate::tests_samples::{
     CLASH, DEMO, DEMO_GRID, DEMO_NIN, FIT, MEETS, MISSES, ONE, PAIR, SIX, THREE, TWO, assert_bytes,
     joined, repeated, text_or_word,
 };
-use puzzle_text::{EntryFault, TextFault};
+use puzzle_text::{EntryFault, Format, TextFault};
 use std::test::Fail;
 
 #[test]
@@ -15,11 +14,11 @@ fn lines_not_always_no_memory(rt: HostRuntime) -> Result<(), Fail> {
     let alloc = rt.alloc();
     let demo = joined(alloc, &[b"one 50\n", DEMO_GRID])?;
     let demo_non = joined(alloc, &[DEMO, MISSES])?;
-    let clues = repeated(alloc, b"128\n", 128)?;
-    let big = joined(alloc, &[b"128 128\n", &clues, b"#\n", &clues])?;
-    let row = repeated(alloc, b"#", 128)?;
-    let rows = repeated(alloc, &joined(alloc, &[&row, b"\n"])?, 128)?;
-    let full = joined(alloc, &[b"one 16384\n", &rows])?;
+    let clues = repeated(alloc, b"256\n", 256)?;
+    let big = joined(alloc, &[b"256 256\n", &clues, b"#\n", &clues])?;
+    let row = repeated(alloc, b"#", 256)?;
+    let rows = repeated(alloc, &joined(alloc, &[&row, b"\n"])?, 256)?;
+    let full = joined(alloc, &[b"one 65536\n", &rows])?;
     let table: [(&[u8], &[u8], &[u8]); 12] = [
         (b"demo.nin", DEMO_NIN, &demo),
         (b"demo.non", &demo_non, &demo),
@@ -28,7 +27,7 @@ fn lines_not_always_no_memory(rt: HostRuntime) -> Result<(), Fail> {
         (b"fit.nin", FIT, b"open 0\n????\n????\n"),
         (b"big.mk", &big, &full),
         (b"a.nin", b"", b"NoSize"),
-        (b"a.nin", b"1 129\n", b"BadSize"),
+        (b"a.nin", b"1 257\n", b"BadSize"),
         (b"a.nin", b"1 1\n1\n", b"BadCount"),
         (b"a.nin", b"1 1\n1\n1 0\n", b"BadNumber:3"),
         (b"a.txt", b"", b"UnknownFormat"),
@@ -164,12 +163,12 @@ fn solve_not_always_no_memory(rt: HostRuntime) -> Result<(), Fail> {
 #[test]
 fn large_puzzles_are_solved(rt: HostRuntime) -> Result<(), Fail> {
     let alloc = rt.alloc();
-    let clues = repeated(alloc, b"128\n", 128)?;
-    let big = joined(alloc, &[b"128 128\n", &clues, b"#\n", &clues])?;
-    let large = joined(alloc, &[b"129 128\n", &clues, b"#\n", &clues])?;
-    let row = repeated(alloc, b"#", 128)?;
-    let rows = repeated(alloc, &joined(alloc, &[&row, b"\n"])?, 128)?;
-    let line = b"1 128x128 one line 16384 16384 0 absent big.mk\n";
+    let clues = repeated(alloc, b"256\n", 256)?;
+    let big = joined(alloc, &[b"256 256\n", &clues, b"#\n", &clues])?;
+    let large = joined(alloc, &[b"257 256\n", &clues, b"#\n", &clues])?;
+    let row = repeated(alloc, b"#", 256)?;
+    let rows = repeated(alloc, &joined(alloc, &[&row, b"\n"])?, 256)?;
+    let line = b"1 256x256 one line 65536 65536 0 absent big.mk\n";
     let solved = joined(alloc, &[line, &rows, b"\n"])?;
     let table: [(&[u8], &[u8]); 2] = [(&big, &solved), (&large, b"BadSize")];
     for (place, (body, expected)) in table.iter().enumerate() {

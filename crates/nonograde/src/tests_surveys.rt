@@ -73,9 +73,14 @@ fn single_puzzles_are_surveyed(rt: HostRuntime) -> Result<(), Fail> {
     let demo = joined(alloc, &[DEMO, MEETS])?;
     let clues = repeated(alloc, b"128\n", 128)?;
     let big = joined(alloc, &[b"128 128\n", &clues, b"#\n", &clues])?;
-    let large = joined(alloc, &[b"129 128\n", &clues, b"#\n", &clues])?;
+    let short = joined(alloc, &[b"129 128\n", &clues, b"#\n", &clues])?;
+    let most = repeated(alloc, b"256\n", 256)?;
+    let huge = joined(alloc, &[b"256 256\n", &most, b"#\n", &most])?;
+    let large = joined(alloc, &[b"257 256\n", &most, b"#\n", &most])?;
+    let ones = repeated(alloc, b"1\n", 200)?;
+    let wide = joined(alloc, &[b"1 200\n200\n#\n", &ones])?;
     // guesses, name, text, the entry's line, and the totals after `entries 1`
-    let table: [(u32, &[u8], &[u8], &[u8], &[u8]); 11] = [
+    let table: [(u32, &[u8], &[u8], &[u8], &[u8]); 16] = [
         (
             0,
             b"demo.non",
@@ -145,6 +150,41 @@ fn single_puzzles_are_surveyed(rt: HostRuntime) -> Result<(), Fail> {
             &big,
             b"1 128x128 one line 16384 16384 0 absent big.mk\n",
             b" refused 0 none 0 one 1 several 0 unsettled 0 line 1 trials 0 search 0\n",
+        ),
+        (
+            1000,
+            b"short.mk",
+            &short,
+            b"1 refused BadCount short.mk\n",
+            b" refused 1 none 0 one 0 several 0 unsettled 0 line 0 trials 0 search 0\n",
+        ),
+        (
+            1000,
+            b"huge.mk",
+            &huge,
+            b"1 256x256 one line 65536 65536 0 absent huge.mk\n",
+            b" refused 0 none 0 one 1 several 0 unsettled 0 line 1 trials 0 search 0\n",
+        ),
+        (
+            1000,
+            b"wide.mk",
+            &wide,
+            b"1 200x1 one line 200 200 0 absent wide.mk\n",
+            b" refused 0 none 0 one 1 several 0 unsettled 0 line 1 trials 0 search 0\n",
+        ),
+        (
+            1000,
+            b"old.mk",
+            b"1 1\n129\n#\n1\n",
+            b"1 1x1 none line 0 0 0 absent old.mk\n",
+            b" refused 0 none 1 one 0 several 0 unsettled 0 line 1 trials 0 search 0\n",
+        ),
+        (
+            1000,
+            b"over.mk",
+            b"1 1\n257\n#\n1\n",
+            b"1 refused BadNumber:2 over.mk\n",
+            b" refused 1 none 0 one 0 several 0 unsettled 0 line 0 trials 0 search 0\n",
         ),
         (
             1000,

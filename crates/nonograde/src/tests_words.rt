@@ -1,13 +1,12 @@
 //! Which words ask for what, and what the program says and answers.
 
 use crate::command::{CommandFault, Request, parse_words};
-use crate::formats::Format;
 use crate::program::run;
 use crate::stop::{Stop, stop_text};
 use crate::tests_samples::assert_bytes;
 use crate::tests_surveys::FailingWriter;
 use grid_core::NoMemory;
-use puzzle_text::{CollectionFault, EntryFault, TextFault};
+use puzzle_text::{CollectionFault, EntryFault, Format, TextFault};
 use std::alloc::{AllocError, Global};
 use std::io::{Read, Write};
 use std::test::Fail;
@@ -49,7 +48,10 @@ fn words_of(alloc: Global, line: &str) -> Result<Vec<String>, AllocError> {
 
 /// What a command line asks for.
 fn asked(alloc: Global, line: &str) -> Result<Request, CommandFault> {
-    parse_words(alloc, words_of(alloc, line)?)
+    parse_words(
+        alloc,
+        words_of(alloc, line).map_err(|_| CommandFault::NoMemory)?,
+    )
 }
 
 #[test]

@@ -6,15 +6,15 @@ use Rattle.std.proofs.lemmas.Bool.{and_parts, leb-true}
 use Rattle.std.proofs.lemmas.List.Sums.{sum_by-cons}
 use Rattle.grid_core.specs.Clues.{is_clue, is_run}
 
-runs_sum : (numbers : List ℕ) → list_all (is_run 128) numbers ≡ true → sum numbers ≤ 128 * length numbers
+runs_sum : (numbers : List ℕ) → list_all (is_run 256) numbers ≡ true → sum numbers ≤ 256 * length numbers
 runs_sum [] runs = omega arith
 runs_sum (number ∷ numbers) runs =
-    let parts = and_parts (is_run 128 number) (list_all (is_run 128) numbers) runs in
-    let run = and_parts (leb 1 number) (leb number 128) parts.0 in
-    omega (arith, sum_by-cons (λ (x : ℕ). x) number numbers, leb-true number 128 run.1, runs_sum numbers parts.1)
+    let parts = and_parts (is_run 256 number) (list_all (is_run 256) numbers) runs in
+    let run = and_parts (leb 1 number) (leb number 256) parts.0 in
+    omega (arith, sum_by-cons (λ (x : ℕ). x) number numbers, leb-true number 256 run.1, runs_sum numbers parts.1)
 
 -- the cells that a clue fills
-pub clue_sum : (numbers : List ℕ) → is_clue 128 numbers ≡ true → sum numbers ≤ 16384
+pub clue_sum : (numbers : List ℕ) → is_clue 256 numbers ≡ true → sum numbers ≤ 32768
 clue_sum numbers clue =
-    let parts = and_parts (leb (length numbers) 128) (list_all (is_run 128) numbers) clue in
+    let parts = and_parts (leb (length numbers) 128) (list_all (is_run 256) numbers) clue in
     omega (arith, leb-true (length numbers) 128 parts.0, runs_sum numbers parts.1)

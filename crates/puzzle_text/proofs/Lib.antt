@@ -17,3 +17,6 @@ pub mod NonText
 pub mod ReadNon
 pub mod CollectionsLemmas
 pub mod FeedsLemmas
+pub mod PlacedWalk
+pub mod StrayWalk
+pub mod FieldsLemmas

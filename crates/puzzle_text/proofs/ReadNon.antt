@@ -25,6 +25,7 @@ use Rattle.puzzle_text.specs.ClueLines.{clues_of}
 use Rattle.puzzle_text.specs.Sections.{choice}
 use Rattle.puzzle_text.specs.Sizes.{size_of}
 use Rattle.puzzle_text.specs.Keywords.{rest, with_keyword, first_with, second_with, after_quote, all_fields, field_word, quoted, quoted_text}
+use Rattle.puzzle_text.proofs.PlacedWalk.{walked, walked-placed}
 use Rattle.puzzle_text.specs.Non.{placed, section, is_stray, least, number_of_line, long_text, bad_line, repeated, refuse_at, cell_of, goal_cells, goal_of, both_clues, field_text, texts_of, sizes_of, rows_first, check_lines, clue_lines_of, non_of, read_non}
 use Rattle.puzzle_text.specs.Written.{clue_text, goal_byte, text_non}
 use Rattle.puzzle_text.proofs.SectionsLemmas.{filter-map}
@@ -254,19 +255,19 @@ long_none word lines (Some text) is lawful =
 -- ---- sections
 
 abbrev StepAt : Bool → Bool → List ℕ → List ℕ → Line → List Line → List (List ℕ × Line)
-StepAt empty hash under word line ls = cond (empty && not hash) ((under, line) ∷ placed (cond empty under word) ls) (placed (cond empty under word) ls)
+StepAt empty hash under word line ls = cond (empty && not hash) ((under, line) ∷ walked (cond empty under word) ls) (walked (cond empty under word) ls)
 
-step_keyword : (empty hash : Bool) (under word : List ℕ) (line : Line) (ls : List Line) → empty ≡ false → StepAt empty hash under word line ls ≡ placed word ls
+step_keyword : (empty hash : Bool) (under word : List ℕ) (line : Line) (ls : List Line) → empty ≡ false → StepAt empty hash under word line ls ≡ walked word ls
 step_keyword true hash under word line ls e = absurd cc
 step_keyword false hash under word line ls e = refl
 
-step_content : (empty hash : Bool) (under word : List ℕ) (line : Line) (ls : List Line) → empty ≡ true → hash ≡ false → StepAt empty hash under word line ls ≡ (under, line) ∷ placed under ls
+step_content : (empty hash : Bool) (under word : List ℕ) (line : Line) (ls : List Line) → empty ≡ true → hash ≡ false → StepAt empty hash under word line ls ≡ (under, line) ∷ walked under ls
 step_content false hash under word line ls e f = absurd cc
 step_content true true under word line ls e f = absurd cc
 step_content true false under word line ls e f = refl
 
 -- keyword lines only set the keyword
-placed_past : (under : List ℕ) (k : ℕ) (xs ys : List (List ℕ)) → AllByRecursion (λ text. is_empty (word_at text) ≡ false) xs → (last : List ℕ) × (m : ℕ) × (placed under (numbered k (xs ++ ys)) ≡ placed last (numbered m ys))
+placed_past : (under : List ℕ) (k : ℕ) (xs ys : List (List ℕ)) → AllByRecursion (λ text. is_empty (word_at text) ≡ false) xs → (last : List ℕ) × (m : ℕ) × (walked under (numbered k (xs ++ ys)) ≡ walked last (numbered m ys))
 placed_past under k [] ys h = (under, k, refl)
 placed_past under k (x ∷ xs) ys h =
     let line : Line = record { number = k; text = x } in
@@ -276,7 +277,7 @@ placed_past under k (x ∷ xs) ys h =
 abbrev under_all : List ℕ → List Line → List (List ℕ × Line)
 under_all word ls = map (λ line. (word, line)) ls
 
-placed_part : (under : List ℕ) (k : ℕ) (xs ys : List (List ℕ)) → AllByRecursion IsContent xs → (m : ℕ) × (placed under (numbered k (xs ++ ys)) ≡ under_all under (numbered k xs) ++ placed under (numbered m ys))
+placed_part : (under : List ℕ) (k : ℕ) (xs ys : List (List ℕ)) → AllByRecursion IsContent xs → (m : ℕ) × (walked under (numbered k (xs ++ ys)) ≡ under_all under (numbered k xs) ++ walked under (numbered m ys))
 placed_part under k [] ys h = (k, refl)
 placed_part under k (x ∷ xs) ys h =
     let line : Line = record { number = k; text = x } in
@@ -298,7 +299,7 @@ fields_words : (ts : Description) (fs : List Field) → AllByRecursion (λ text.
 fields_words ts [] = tt
 fields_words ts (f ∷ fs) = all-append (λ text. is_empty (word_at text) ≡ false) (part ts f) (flat_map (part ts) fs) (has_word (field_word f) (text_of ts f) (word_is_there f)) (fields_words ts fs)
 
-no_places : (o : Option (List Bool)) (k : ℕ) → placed (codes "columns") (numbered k (one (codes "goal") (goal_text o))) ≡ []
+no_places : (o : Option (List Bool)) (k : ℕ) → walked (codes "columns") (numbered k (one (codes "goal") (goal_text o))) ≡ []
 no_places None k = refl
 no_places (Some cells) k = refl
 
@@ -309,7 +310,7 @@ record IsLaidOut (p : Nonogram) (places : List (List ℕ × Line)) : Type 0 wher
   columns_at : ℕ
   are : places ≡ (codes "height", record { number = above; text = [] }) ∷ (under_all (codes "rows") (numbered rows_at (row_part p)) ++ under_all (codes "columns") (numbered columns_at (column_part p)))
 
-laid_out : (limit : ℕ) (p : Nonogram) → limit < 2 ^ 64 → IsNonogramWithin limit p → IsLaidOut p (placed [] (numbered 1 (texts_non p)))
+laid_out : (limit : ℕ) (p : Nonogram) → limit < 2 ^ 64 → IsNonogramWithin limit p → IsLaidOut p (placed (numbered 1 (texts_non p)))
 laid_out limit p wide lawful =
     let start = placed_past [] 1 (fields p.texts) (after_fields p) (fields_words p.texts all_fields) in
     let m = start.1 + 1 + 1 + 1 + 1 in
@@ -322,7 +323,7 @@ laid_out limit p wide lawful =
       above = start.1 + 1 + 1;
       rows_at = m;
       columns_at = rows.0 + 1;
-      are = start.2 ∙ ap (λ (places : List (List ℕ × Line)). (codes "height", gap) ∷ places) (rows.1 ∙ ap (λ (places : List (List ℕ × Line)). row_places ++ places) (columns.1 ∙ ap (λ (places : List (List ℕ × Line)). column_places ++ places) (no_places p.goal columns.0) ∙ append-nil column_places));
+      are = sym (walked-placed (numbered 1 (texts_non p))) ∙ start.2 ∙ ap (λ (places : List (List ℕ × Line)). (codes "height", gap) ∷ places) (rows.1 ∙ ap (λ (places : List (List ℕ × Line)). row_places ++ places) (columns.1 ∙ ap (λ (places : List (List ℕ × Line)). column_places ++ places) (no_places p.goal columns.0) ∙ append-nil column_places));
     }
 
 section_own : (word : List ℕ) (xs : List Line) → bytes_eq word word ≡ true → section word (under_all word xs) ≡ xs
@@ -486,18 +487,18 @@ module _ (limit : ℕ) (p : Nonogram) (wide : limit < 2 ^ 64) (lawful : IsNonogr
       ap (λ (ls : List Line). or_fault NoSection (slice_get ls 0) >>= λ a. or_fault NoSection (first_with (codes "columns") all_lines) >>= λ b. Ok (ltb a.number b.number)) rows_line.1
       ∙ ap (λ (ls : List Line). or_fault NoSection (slice_get ls 0) >>= λ (b : Line). Ok (ltb rows_line.0.number b.number)) columns_line.1
 
-  laid : IsLaidOut p (placed [] all_lines)
+  laid : IsLaidOut p (placed all_lines)
   laid = laid_out limit p wide lawful
 
-  none_bad : bad_line (placed [] all_lines) all_lines ≡ None
+  none_bad : bad_line (placed all_lines) all_lines ≡ None
   none_bad =
-      six_none (option_map (λ (place : List ℕ × Line). place.1.number) (find is_stray (placed [] all_lines)))
+      six_none (option_map (λ (place : List ℕ × Line). place.1.number) (find is_stray (placed all_lines)))
       (number_of_line (long_text all_lines (codes "catalogue")))
       (number_of_line (long_text all_lines (codes "title")))
       (number_of_line (long_text all_lines (codes "by")))
       (number_of_line (long_text all_lines (codes "copyright")))
       (number_of_line (long_text all_lines (codes "license")))
-      (ap (option_map (λ (place : List ℕ × Line). place.1.number)) (no_stray p (placed [] all_lines) laid))
+      (ap (option_map (λ (place : List ℕ × Line). place.1.number)) (no_stray p (placed all_lines) laid))
       (long_none (codes "catalogue") all_lines p.texts.catalogue (field_at Catalogue) lawful.texts.catalogue)
       (long_none (codes "title") all_lines p.texts.title (field_at Title) lawful.texts.title)
       (long_none (codes "by") all_lines p.texts.by (field_at By) lawful.texts.by)
@@ -512,7 +513,7 @@ module _ (limit : ℕ) (p : Nonogram) (wide : limit < 2 ^ 64) (lawful : IsNonogr
       four_none (number_of_line (second_with (codes "width") all_lines)) (number_of_line (second_with (codes "height") all_lines)) (number_of_line (second_with (codes "rows") all_lines)) (number_of_line (second_with (codes "columns") all_lines))
       (second_none (codes "width") (size_text (codes "width") p.width) width_line) (second_none (codes "height") (size_text (codes "height") p.height) height_line) (second_none (codes "rows") (codes "rows") rows_line) (second_none (codes "columns") (codes "columns") columns_line)
 
-  lines_checked : check_lines (placed [] all_lines) all_lines ≡ Ok tt
+  lines_checked : check_lines (placed all_lines) all_lines ≡ Ok tt
   lines_checked = ap (λ (o : Option ℕ). refuse_at BadLine o >>= λ _. refuse_at Twice (repeated all_lines)) none_bad ∙ ap (refuse_at Twice) none_repeated
 
   abbrev row_lines : List Line
@@ -521,13 +522,13 @@ module _ (limit : ℕ) (p : Nonogram) (wide : limit < 2 ^ 64) (lawful : IsNonogr
   abbrev column_lines : List Line
   column_lines = numbered laid.columns_at (map (clue_text 44) p.columns)
 
-  rows_read : clue_lines_of (codes "rows") p.height (placed [] all_lines) ≡ Ok row_lines
+  rows_read : clue_lines_of (codes "rows") p.height (placed all_lines) ≡ Ok row_lines
   rows_read =
       ap (λ (places : List (List ℕ × Line)). or_fault BadCount (choice p.height (section (codes "rows") places))) laid.are
       ∙ ap (λ (ls : List Line). or_fault BadCount (choice p.height ls)) (section_rows (numbered laid.rows_at (row_part p)) (numbered laid.columns_at (column_part p)))
       ∙ ap (or_fault BadCount) (part_again limit laid.rows_at p.height p.rows ([] ∷ []) wide lawful.rows (λ m. (refl, tt)) lawful.clues.0)
 
-  columns_read : clue_lines_of (codes "columns") p.width (placed [] all_lines) ≡ Ok column_lines
+  columns_read : clue_lines_of (codes "columns") p.width (placed all_lines) ≡ Ok column_lines
   columns_read =
       ap (λ (places : List (List ℕ × Line)). or_fault BadCount (choice p.width (section (codes "columns") places))) laid.are
       ∙ ap (λ (ls : List Line). or_fault BadCount (choice p.width ls)) (section_columns (numbered laid.rows_at (row_part p)) (numbered laid.columns_at (column_part p)))

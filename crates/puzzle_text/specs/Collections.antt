@@ -1,5 +1,7 @@
 -- A collection of puzzle texts.
-use Rattle.std.specs.Prelude.{◌≡◌, ℕ, ◌+◌, Bool, false, ◌&&◌, ◌||◌, List, [], ◌∷◌, ◌++◌, length, drop, Option, Some, None, Result, Ok, Err, nat_lt, ◌==◌, if◌then◌else◌}
+use Rattle.std.specs.Prelude.{◌≡◌, ℕ, ◌+◌, Bool, false, not, ◌&&◌, List, [], ◌∷◌, ◌++◌, length, drop, take, Option, Some, None, Result, Ok, Err, IsOk, nat_lt, ◌==◌, if◌then◌else◌}
+use Rattle.std.specs.List.{enumerate_from, find, list_any}
+use Rattle.std.specs.Option.{option_map}
 use Rattle.puzzle_text.specs.declared.faults.CollectionFault.{CollectionFault}
 use Rattle.puzzle_text.specs.declared.faults.CollectionFault.TheVariants.{TooLong, Stray, TooMany, NoMemory}
 use Rattle.puzzle_text.specs.declared.limits.TheConstants.{LONGEST_COLLECTION, MOST_ENTRIES}
@@ -36,14 +38,15 @@ entries_of (raw ∷ raws) =
     let others = entries_of raws in
     if is_marker raw then record { name = name_of raw; body = body_of raws } ∷ others else others
 
--- The number of the first line that belongs to no entry or names none: raws are the lines from number on, and inside tells whether a marker
--- line stands above.
-abbrev pub stray_from : ℕ → Bool → List (List ℕ) → Option ℕ
-stray_from number inside [] = None
-stray_from number inside (raw ∷ raws) =
-    let later = stray_from (number + 1) (inside || is_marker raw) raws in
-    if is_marker raw then (if is_empty (name_of raw) then Some number else later)
-    else (if inside || is_empty (trim (without_ending raw)) then later else Some number)
+-- whether a line below these belongs to no entry or names none: a marker line without a name, or a line that isn't blank with no marker line above
+abbrev pub is_stray : List (List ℕ) → List ℕ → Bool
+is_stray above raw =
+    if is_marker raw then is_empty (name_of raw)
+    else not (list_any is_marker above) && not (is_empty (trim (without_ending raw)))
+
+-- the number of the first such line, from 1
+abbrev pub first_stray : List (List ℕ) → Option ℕ
+first_stray raws = option_map (λ numbered. numbered.0 + 1) (find (λ numbered. is_stray (take numbered.0 raws) numbered.1) (enumerate_from 0 raws))
 
 -- the first check that fails, or the entries
 abbrev pub checked : Option ℕ → List Entry → Result (List Entry) CollectionFault
@@ -53,10 +56,10 @@ checked None entries = if nat_lt MOST_ENTRIES (length entries) then Err TooMany 
 -- the entries of a collection, or its first fault
 abbrev pub cut : List ℕ → Result (List Entry) CollectionFault
 cut bytes = if nat_lt LONGEST_COLLECTION (length bytes) then Err TooLong
-    else checked (stray_from 1 false (raw_lines bytes)) (entries_of (raw_lines bytes))
+    else checked (first_stray (raw_lines bytes)) (entries_of (raw_lines bytes))
 
--- What a call answered, seen by view, is this answer. Want of memory may stand in place of any answer.
+-- What a call answered, seen by view, is this answer. Want of memory may stand in place of entries, and of no fault.
 abbrev pub GivesEntries : {X Y : Type 0} → (X → Y) → Result X CollectionFault → Result Y CollectionFault → Type 0
 GivesEntries view (Ok x) answer = answer ≡ Ok (view x)
-GivesEntries view (Err NoMemory) answer = Unit {0}
+GivesEntries view (Err NoMemory) answer = IsOk answer
 GivesEntries view (Err fault) answer = answer ≡ Err fault

@@ -10,8 +10,8 @@ pub mod Mk
 pub mod Keywords
 pub mod Non
 pub mod Collections
-pub mod Formats
 pub mod Shown
 pub mod Words
 pub mod Written
+pub mod Formats
 pub mod Laws

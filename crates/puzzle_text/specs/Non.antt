@@ -1,9 +1,9 @@
 -- What a text in .non says: the first check that fails, each over all lines, or the puzzle.
-use Rattle.std.specs.Prelude.{ℕ, ◌*◌, Bool, true, false, not, ◌&&◌, ◌||◌, List, [], ◌∷◌, length, map, filter, codes, Option, Some, None, Result, Ok, Err, option_and_then, nat_lt, ◌==◌, min, if◌then◌else◌}
+use Rattle.std.specs.Prelude.{ℕ, ◌*◌, Bool, true, false, not, ◌&&◌, ◌||◌, List, [], ◌∷◌, length, map, filter, codes, Option, Some, None, Result, Ok, Err, option_and_then, nat_lt, ◌==◌, min, take, unwrap_or, if◌then◌else◌}
 use Rattle.std.specs.Option.{option_map}
-use Rattle.std.specs.List.{find}
+use Rattle.std.specs.List.{enumerate_from, find, last_or}
 use Rattle.std.specs.Str.{bytes_eq}
-use Rattle.grid_core.specs.Description.{Description}
+use Rattle.grid_core.specs.Description.{Description, with_text}
 use Rattle.grid_core.specs.declared.fields.Field.{Field}
 use Rattle.grid_core.specs.declared.fields.Field.TheVariants.{Catalogue, Title, By, Copyright, License}
 use Rattle.grid_core.specs.Nonogram.{Nonogram}
@@ -15,7 +15,7 @@ use Rattle.puzzle_text.specs.Answers.{◌>>=◌, or_fault, each_some}
 use Rattle.puzzle_text.specs.ClueLines.{clues_of}
 use Rattle.puzzle_text.specs.Sections.{choice}
 use Rattle.puzzle_text.specs.Sizes.{lines_of, size_of}
-use Rattle.puzzle_text.specs.Keywords.{all_fields, field_word, keyword, rest, first_with, second_with, quoted_text}
+use Rattle.puzzle_text.specs.Keywords.{all_fields, field_word, keyword, rest, is_keyword_line, first_with, second_with, quoted_text}
 
 -- ---- sections
 
@@ -23,12 +23,14 @@ use Rattle.puzzle_text.specs.Keywords.{all_fields, field_word, keyword, rest, fi
 abbrev pub is_content : Line → Bool
 is_content line = is_empty (keyword line) && not (is_hash line)
 
--- each such line, beside the nearest keyword before it; under is the keyword before all
-abbrev pub placed : List ℕ → List Line → List (List ℕ × Line)
-placed under [] = []
-placed under (line ∷ lines) =
-    let others = placed (if is_empty (keyword line) then under else keyword line) lines in
-    if is_content line then (under, line) ∷ others else others
+-- the keyword of the last keyword line among these; no letters, if there is none
+abbrev pub last_keyword : List Line → List ℕ
+last_keyword lines = unwrap_or (option_map keyword (last_or None (filter is_keyword_line lines))) []
+
+-- each such line, beside the keyword of the last keyword line above it
+abbrev pub placed : List Line → List (List ℕ × Line)
+placed lines =
+    map (λ numbered. (last_keyword (take numbered.0 lines), numbered.1)) (filter (λ numbered. is_content numbered.1) (enumerate_from 0 lines))
 
 -- the lines of the section that a keyword opens
 abbrev pub section : List ℕ → List (List ℕ × Line) → List Line
@@ -130,13 +132,15 @@ goal_of count (Some line) = or_fault (BadGoal line.number) (goal_cells count (qu
 abbrev pub field_text : List ℕ → List Line → Option (List ℕ)
 field_text word lines = option_map quoted_text (first_with word lines)
 
--- the description with this text of a field, or none
-abbrev pub with_field : Description → Field → Option (List ℕ) → Description
-with_field d Catalogue text = record d { catalogue = text }
-with_field d Title text = record d { title = text }
-with_field d By text = record d { by = text }
-with_field d Copyright text = record d { copyright = text }
-with_field d License text = record d { license = text }
+-- the description with this text of a field, if there is one
+abbrev pub with_found : Description → Field → Option (List ℕ) → Description
+with_found d field None = d
+with_found d field (Some text) = with_text d field text
+
+-- the description with the texts of these fields, one after the other
+abbrev pub with_all_found : List Line → Description → List Field → Description
+with_all_found lines d [] = d
+with_all_found lines d (field ∷ fields) = with_all_found lines (with_found d field (field_text (field_word field) lines)) fields
 
 -- the texts of all fields
 abbrev pub texts_of : List Line → Description
@@ -164,7 +168,7 @@ puzzle_said limit places lines = do
 
 -- the puzzle that these lines say
 abbrev pub non_of : ℕ → List Line → Result Nonogram TextFault
-non_of limit lines = puzzle_said limit (placed [] lines) lines
+non_of limit lines = puzzle_said limit (placed lines) lines
 
 -- the puzzle that a text says
 abbrev pub read_non : ℕ → List ℕ → Result Nonogram TextFault

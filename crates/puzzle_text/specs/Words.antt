@@ -1,13 +1,25 @@
 -- The words of faults.
-use Rattle.std.specs.Prelude.{ℕ, List, ◌++◌, codes, decimal}
+use Rattle.std.specs.Prelude.{ℕ, List, ◌++◌, codes, decimal, Option, Some, None}
 use Rattle.puzzle_text.specs.declared.faults.TextFault.{TextFault}
 use Rattle.puzzle_text.specs.declared.faults.TextFault.TheVariants as text
 use Rattle.puzzle_text.specs.declared.faults.EntryFault.{EntryFault}
 use Rattle.puzzle_text.specs.declared.faults.EntryFault.TheVariants.{UnknownFormat, Text}
+use Rattle.puzzle_text.specs.declared.faults.CollectionFault.{CollectionFault}
+use Rattle.puzzle_text.specs.declared.faults.CollectionFault.TheVariants as collection
+use Rattle.puzzle_text.specs.declared.words.FaultWord.{FaultWord}
 
 -- a word, and the number of a line after a colon
 abbrev pub at_line : List ℕ → ℕ → List ℕ
 at_line word number = word ++ codes ":" ++ decimal number
+
+-- a word, and the number of its line, if it has one
+abbrev pub with_line : List ℕ → Option ℕ → List ℕ
+with_line word None = word
+with_line word (Some number) = at_line word number
+
+-- what the code keeps of a word as it is printed
+abbrev pub word_text : FaultWord → List ℕ
+word_text word = with_line word.name.now word.line
 
 -- the word of a fault of a puzzle's text
 abbrev pub word_of_text : TextFault → List ℕ
@@ -26,3 +38,10 @@ word_of_text text.NoMemory = codes "NoMemory"
 abbrev pub word_of : EntryFault → List ℕ
 word_of UnknownFormat = codes "UnknownFormat"
 word_of (Text fault) = word_of_text fault
+
+-- the word of a fault of a collection
+abbrev pub word_of_collection : CollectionFault → List ℕ
+word_of_collection collection.TooLong = codes "TooLong"
+word_of_collection (collection.Stray number) = at_line (codes "Stray") number
+word_of_collection collection.TooMany = codes "TooMany"
+word_of_collection collection.NoMemory = codes "NoMemory"

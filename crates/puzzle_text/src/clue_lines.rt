@@ -1,6 +1,6 @@
 //! Lines that say a clue.
 
-ghost use Rattle.std.specs.Prelude.{◌≡◌, map, length, IfOk};
+ghost use Rattle.std.specs.Prelude.{◌≡◌, [], map, length, vec_capacity, vec_len, IfOk};
 ghost use Rattle.std.specs.Option.{option_map};
 ghost use Rattle.puzzle_text.specs.Answers.{Gives};
 ghost use Rattle.puzzle_text.specs.ClueLines.{clue_of, clues_of, numbers_within};
@@ -46,17 +46,26 @@ fn clue_of(alloc: Global, text: &[u8]) -> Result<Option<Clue>, NoMemory>
     }
 }
 
+/// An empty list with room for so many clues.
+fn room_for(alloc: Global, count: usize) -> Result<Vec<Clue>, NoMemory>
+    ensures items { IfOk result (λ clues. clues.items ≡ []) }
+    ensures len { IfOk result (λ clues. vec_len clues ≡ 0) }
+    ensures capacity { IfOk result (λ clues. vec_capacity clues ≡ count) }
+{
+    Ok(Vec::with_capacity(alloc, count)?)
+}
+
 /// The clues that these lines say.
 pub(crate) fn clues_of(alloc: Global, lines: &[Line<'_>]) -> Result<Vec<Clue>, TextFault>
     ensures clues { Gives (λ clues. clues.items) result (clues_of LONGEST_SIDE (map shown_line lines.now)) }
     ensures length { IfOk result (λ clues. length clues.items ≡ length lines.now) }
 {
-    let mut clues = Vec::with_capacity(alloc, lines.len())?;
+    let mut clues = room_for(alloc, lines.len())?;
     for line in lines {
         let Some(clue) = clue_of(alloc, line.text)? else {
             return Err(TextFault::BadNumber(line.number));
         };
-        clues.push(clue)?;
+        clues.push_reserved(clue);
     }
     Ok(clues)
 }

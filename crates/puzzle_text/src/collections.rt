@@ -1,14 +1,15 @@
 //! Collections of puzzle texts.
 
 ghost use Rattle.std.specs.Prelude.{◌≡◌, ◌∷◌, ◌++◌, ◌<◌, ◌≤◌, ◌^◌, drop, take, map, false, length, Err, IfOk};
-ghost use Rattle.puzzle_text.specs.Collections.{GivesEntries, body_of, cut, entries_of, is_marker, name_of, stray_from};
+ghost use Rattle.puzzle_text.specs.Collections.{GivesEntries, body_of, cut, entries_of, first_stray, is_marker, name_of};
 ghost use Rattle.puzzle_text.specs.Lines.{raw_lines};
 ghost use Rattle.puzzle_text.specs.Shown.{shown_entry};
 
 use crate::faults::CollectionFault;
 use crate::limits::{LONGEST_COLLECTION, MOST_ENTRIES};
 use crate::lines::{split_line, trim, without_ending};
-use std::alloc::{AllocError, Global};
+use grid_core::NoMemory;
+use std::alloc::Global;
 
 /// The name and the text of a puzzle. The name's ending tells the text's format.
 #[derive(Clone, Copy, Debug)]
@@ -73,7 +74,7 @@ fn entry_count(bytes: &[u8]) -> usize
     count
 }
 
-fn entries_of<'a>(alloc: Global, bytes: &'a [u8]) -> Result<Vec<Entry<'a>>, AllocError>
+fn entries_of<'a>(alloc: Global, bytes: &'a [u8]) -> Result<Vec<Entry<'a>>, NoMemory>
     ensures { IfOk result (λ found. map shown_entry found.items ≡ entries_of (raw_lines bytes.now)) }
 {
     let mut found = Vec::new(alloc);
@@ -97,7 +98,7 @@ fn entries_of<'a>(alloc: Global, bytes: &'a [u8]) -> Result<Vec<Entry<'a>>, Allo
 /// The number of the first line that belongs to no entry or names none.
 fn first_stray(bytes: &[u8]) -> Option<u32>
     requires { length bytes.now < 2 ^ 32 }
-    ensures { result ≡ stray_from 1 false (raw_lines bytes.now) }
+    ensures { result ≡ first_stray (raw_lines bytes.now) }
 {
     let mut rest = bytes;
     let mut number = 0u32;
@@ -121,7 +122,7 @@ fn first_stray(bytes: &[u8]) -> Option<u32>
 /// The entries of a collection. A line `@ NAME` begins an entry; its text is the lines after that one up to the next such line or the end.
 pub fn entries<'a>(alloc: Global, bytes: &'a [u8]) -> Result<Vec<Entry<'a>>, CollectionFault>
     ensures answer { GivesEntries (λ found. map shown_entry found.items) result (cut bytes.now) }
-    // Want of memory never stands in place of this fault.
+    // Want of memory never stands in place of this fault, nor of another.
     ensures too_long { LONGEST_COLLECTION < length bytes.now → result ≡ Err CollectionFault.TooLong }
 {
     if bytes.len() > LONGEST_COLLECTION {

@@ -1,14 +1,14 @@
 //! The texts of a puzzle in a .non text.
 
-ghost use Rattle.std.specs.Prelude.{◌≡◌, map, true, Option, None, IfOk, OnOk};
+ghost use Rattle.std.specs.Prelude.{◌≡◌, map, true, IfOk, OnOk};
 ghost use Rattle.std.specs.Option.{option_map};
-ghost use Rattle.grid_core.specs.Description.{IsDescription, is_field, text_of};
+ghost use Rattle.grid_core.specs.Description.{IsDescription, is_field};
 ghost use Rattle.puzzle_text.specs.Keywords.{field_word};
-ghost use Rattle.puzzle_text.specs.Non.{field_text, long_text, number_of_line, texts_of, with_field};
+ghost use Rattle.puzzle_text.specs.Non.{field_text, long_text, number_of_line, texts_of, with_all_found, with_found};
 ghost use Rattle.puzzle_text.specs.Shown.{shown_keyword};
 
 use crate::keyword_line::KeywordLine;
-use crate::keywords::{field_word, nth_with, quoted_text};
+use crate::keywords::{FIELDS, field_word, nth_with, quoted_text};
 use grid_core::{Field, LONGEST_TEXT, NoMemory, Texts, TextsFault};
 use std::alloc::Global;
 
@@ -32,16 +32,15 @@ pub(crate) fn long_number(lines: &[KeywordLine<'_>], field: Field) -> Option<u32
     }
 }
 
-/// Sets a field that has no text yet to that of its first line, if there is one.
+/// Sets a field to the text of its first line, if there is one.
 fn set_field(
     alloc: Global,
     texts: &mut Texts,
     field: Field,
     lines: &[KeywordLine<'_>],
 ) -> Result<(), NoMemory>
-    requires unset { text_of texts.old field ≡ None }
-    requires lawful { is_field (field_text (field_word field) (map shown_keyword lines.now)) ≡ true }
-    ensures { OnOk result (texts.new ≡ with_field texts.old field (field_text (field_word field) (map shown_keyword lines.now))) }
+    requires { is_field (field_text (field_word field) (map shown_keyword lines.now)) ≡ true }
+    ensures { OnOk result (texts.new ≡ with_found texts.old field (field_text (field_word field) (map shown_keyword lines.now))) }
 {
     let Some(found) = nth_with(field_word(field), 0, lines) else {
         return Ok(());
@@ -53,16 +52,28 @@ fn set_field(
     }
 }
 
+/// Sets these fields, each to the text of its first line, if there is one.
+fn set_fields(
+    alloc: Global,
+    texts: &mut Texts,
+    fields: &[Field],
+    lines: &[KeywordLine<'_>],
+) -> Result<(), NoMemory>
+    requires { IsDescription (texts_of (map shown_keyword lines.now)) }
+    ensures { OnOk result (texts.new ≡ with_all_found (map shown_keyword lines.now) texts.old fields.now) }
+{
+    for field in fields {
+        set_field(alloc, texts, *field, lines)?;
+    }
+    Ok(())
+}
+
 /// The texts of all fields.
 pub(crate) fn texts_of(alloc: Global, lines: &[KeywordLine<'_>]) -> Result<Texts, NoMemory>
     requires { IsDescription (texts_of (map shown_keyword lines.now)) }
     ensures { IfOk result (λ texts. texts ≡ texts_of (map shown_keyword lines.now)) }
 {
     let mut texts = Texts::none();
-    set_field(alloc, &mut texts, Field::Catalogue, lines)?;
-    set_field(alloc, &mut texts, Field::Title, lines)?;
-    set_field(alloc, &mut texts, Field::By, lines)?;
-    set_field(alloc, &mut texts, Field::Copyright, lines)?;
-    set_field(alloc, &mut texts, Field::License, lines)?;
+    set_fields(alloc, &mut texts, &FIELDS, lines)?;
     Ok(texts)
 }

@@ -6,7 +6,6 @@ ghost use Rattle.puzzle_text.specs.declared.faults.CollectionFault.TheVariants.{
 ghost use Rattle.puzzle_text.specs.declared.faults.WriteFault.TheVariants.{NoMemory as write_memory};
 
 use grid_core::NoMemory;
-use std::alloc::{AllocError, AllocFailed};
 use thiserror::Error;
 
 /// Why a puzzle's text is refused: the first of these, in this order, each looked for in the whole text. A line's number counts from 1.
@@ -18,8 +17,8 @@ pub enum TextFault {
     /// In .non there is no `width` or no `height` line; in the others there is no size line, or it hasn't just two pieces.
     #[error("the size is missing")]
     NoSize,
-    /// One of the two sizes is no number from 1 to 128.
-    #[error("a side is from 1 to 128")]
+    /// One of the two sizes is no number from 1 to 256.
+    #[error("a side is from 1 to 256")]
     BadSize,
     /// In .non there is no `rows` or no `columns` line, in .mk no line after the size line begins with `#`.
     #[error("a section is missing")]
@@ -34,7 +33,7 @@ pub enum TextFault {
     /// A section hasn't as many clue lines as the size asks; in .mk so in both orders of the sizes.
     #[error("the number of clue lines does not fit the size")]
     BadCount,
-    /// This clue line says no clue: it has a piece that is no number, a 0 beside other numbers, a number over 128, or more than 128 numbers;
+    /// This clue line says no clue: it has a piece that is no number, a 0 beside other numbers, a number over 256, or more than 128 numbers;
     /// the least such number.
     #[error("line {0} is no clue")]
     BadNumber(u32),
@@ -44,22 +43,6 @@ pub enum TextFault {
     /// A growth of memory was refused. It may stand in place of any answer but `TooLong`.
     #[error("out of memory")]
     NoMemory,
-}
-
-impl From<AllocError> for TextFault {
-    ghost from_gives = { λ _ e. e ≡ text_memory };
-
-    fn from(_refused: AllocError) -> TextFault {
-        TextFault::NoMemory
-    }
-}
-
-impl<T: Drop> From<AllocFailed<T>> for TextFault {
-    ghost from_gives = { λ _ e. e ≡ text_memory };
-
-    fn from(_refused: AllocFailed<T>) -> TextFault {
-        TextFault::NoMemory
-    }
 }
 
 impl From<NoMemory> for TextFault {
@@ -82,23 +65,15 @@ pub enum CollectionFault {
     /// It has more than `MOST_ENTRIES` marker lines.
     #[error("the collection has more than 10000 entries")]
     TooMany,
-    /// A growth of memory was refused. It may stand in place of any answer but `TooLong`.
+    /// A growth of memory was refused. It never stands in place of another fault.
     #[error("out of memory")]
     NoMemory,
 }
 
-impl From<AllocError> for CollectionFault {
+impl From<NoMemory> for CollectionFault {
     ghost from_gives = { λ _ e. e ≡ collection_memory };
 
-    fn from(_refused: AllocError) -> CollectionFault {
-        CollectionFault::NoMemory
-    }
-}
-
-impl<T: Drop> From<AllocFailed<T>> for CollectionFault {
-    ghost from_gives = { λ _ e. e ≡ collection_memory };
-
-    fn from(_refused: AllocFailed<T>) -> CollectionFault {
+    fn from(_refused: NoMemory) -> CollectionFault {
         CollectionFault::NoMemory
     }
 }
@@ -125,10 +100,10 @@ pub enum WriteFault {
     NoMemory,
 }
 
-impl From<AllocError> for WriteFault {
+impl From<NoMemory> for WriteFault {
     ghost from_gives = { λ _ e. e ≡ write_memory };
 
-    fn from(_refused: AllocError) -> WriteFault {
+    fn from(_refused: NoMemory) -> WriteFault {
         WriteFault::NoMemory
     }
 }

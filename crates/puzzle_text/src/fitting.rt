@@ -1,6 +1,6 @@
 //! Whether clues fit their lines.
 
-ghost use Rattle.std.specs.Prelude.{◌≡◌, ◌+◌, ◌-◌, ◌≤◌, ◌^◌, ◌++◌, sum, length};
+ghost use Rattle.std.specs.Prelude.{◌≡◌, ◌+◌, ◌-◌, ◌<◌, ◌≤◌, ◌^◌, ◌++◌, sum, length};
 ghost use Rattle.std.specs.List.{list_all};
 ghost use Rattle.puzzle_text.specs.Readings.{fits, sum_all};
 
@@ -17,7 +17,7 @@ fn sum_of(numbers: &[u16]) -> u32
 /// How many cells a clue fills.
 fn filled(clue: &Clue) -> u32
     ensures filled { result ≡ sum clue.now }
-    ensures within { result ≤ 16384 }
+    ensures within { result ≤ 32768 }
 {
     sum_of(clue.numbers())
 }
@@ -39,9 +39,9 @@ pub(crate) fn all_fit(len: u16, clues: &[Clue]) -> bool
 
 /// How many cells these clues fill.
 pub(crate) fn sum_all(clues: &[Clue]) -> u32
-    requires { length clues.now ≤ 65536 }
+    requires { length clues.now ≤ 65535 }
     ensures sum { result ≡ sum_all clues.now }
-    ensures within { result ≤ 2 ^ 30 }
+    ensures within { result < 2 ^ 31 }
 {
     let mut sum = 0;
     for clue in clues {
@@ -59,8 +59,8 @@ pub(crate) fn both_fit(len: u16, first: &[Clue], second: &[Clue]) -> bool
 
 /// How many cells the clues of two lists fill.
 pub(crate) fn sum_both(first: &[Clue], second: &[Clue]) -> u32
-    requires first { length first.now ≤ 65536 }
-    requires second { length second.now ≤ 65536 }
+    requires first { length first.now ≤ 65535 }
+    requires second { length second.now ≤ 65535 }
     ensures { result ≡ sum_all (first.now ++ second.now) }
 {
     sum_all(first) + sum_all(second)

@@ -1,19 +1,36 @@
-//! The format that an entry's name tells.
+//! The formats of puzzle texts: how each is named, read and written.
 
-ghost use Rattle.std.specs.Prelude.{◌≡◌, ◌↔◌, ◌<◌, false, true, length, Err};
-ghost use Rattle.std.specs.Str.{str_to_ascii_lowercase};
-ghost use Rattle.puzzle_text.specs.Formats.{GivesPuzzle, has_ending, is_known, read_entry};
+ghost use Rattle.std.specs.Prelude.{◌≡◌, ◌↔◌, ◌<◌, false, true, length, map, Err, IfOk};
+ghost use Rattle.std.specs.List.{find};
+ghost use Rattle.std.specs.Str.{bytes_eq, str_to_ascii_lowercase};
+ghost use Rattle.puzzle_text.specs.Answers.{Gives};
+ghost use Rattle.puzzle_text.specs.Formats.{GivesPuzzle, ending, format_of, formats, has_ending, is_known, read_as, read_entry, text_as, word};
 ghost use Rattle.puzzle_text.specs.Shown.{shown_entry};
 
 use crate::collections::Entry;
-use crate::faults::{EntryFault, TextFault};
+use crate::faults::{EntryFault, TextFault, WriteFault};
 use crate::keywords::same_word;
 use crate::limits::LONGEST_PUZZLE;
 use crate::mk::read_mk;
 use crate::nin::read_nin;
 use crate::non::read_non;
+use crate::writing::{write_mk, write_nin, write_non};
 use grid_core::{LONGEST_SIDE, Puzzle};
 use std::alloc::Global;
+
+/// A format of puzzle texts.
+#[derive(Clone, Copy, Debug, PartialEq, Eq)]
+pub enum Format {
+    /// Keyword lines, texts and a goal.
+    Non,
+    /// Sizes, and the clues of rows and columns apart.
+    Mk,
+    /// Sizes, and all clues one after the other.
+    Nin,
+}
+
+/// All formats.
+const FORMATS: [Format; 3] = [Format::Non, Format::Mk, Format::Nin];
 
 /// Whether a name ends so, letters in either case.
 fn has_ending(name: &[u8], ending: &[u8]) -> bool
@@ -21,6 +38,80 @@ fn has_ending(name: &[u8], ending: &[u8]) -> bool
 {
     let (_, end) = name.split_at(name.len().saturating_sub(ending.len()));
     same_word(end, ending)
+}
+
+impl Format {
+    /// How the name of a text in this format ends, in lower case.
+    fn ending(self) -> &'static [u8]
+        ensures ending { result.now ≡ ending self }
+        ensures lower { str_to_ascii_lowercase result.now ≡ ending self }
+    {
+        match self {
+            Format::Non => b".non",
+            Format::Mk => b".mk",
+            Format::Nin => b".nin",
+        }
+    }
+
+    /// The word that names the format: its ending without the dot.
+    pub fn word(self) -> &'static str
+        ensures { result.now ≡ word self }
+    {
+        match self {
+            Format::Non => "non",
+            Format::Mk => "mk",
+            Format::Nin => "nin",
+        }
+    }
+
+    /// The words of all formats.
+    pub fn words() -> [&'static str; 3]
+        ensures { map (λ shown. shown.now) result ≡ map word formats }
+    {
+        FORMATS.map(|format| format.word())
+    }
+
+    /// The format that this word names, if there is one.
+    pub fn of_word(name: &str) -> Option<Format>
+        ensures { result ≡ find (λ format. bytes_eq (word format) name.now) formats }
+    {
+        FORMATS.into_iter().find(|format| format.word() == name)
+    }
+
+    /// The format that a name's ending tells, letters in either case, if it tells one.
+    pub fn of_name(name: &[u8]) -> Option<Format>
+        ensures { result ≡ format_of name.now }
+    {
+        FORMATS
+            .into_iter()
+            .find(|format| has_ending(name, format.ending()))
+    }
+
+    /// Reads a puzzle in this format: the first fault of the text, in the order of the faults.
+    pub fn read(self, alloc: Global, bytes: &[u8]) -> Result<Puzzle, TextFault>
+        ensures answer { Gives (λ p. p) result (read_as self LONGEST_SIDE bytes.now) }
+        // Want of memory never stands in place of this fault.
+        ensures too_long { LONGEST_PUZZLE < length bytes.now → result ≡ Err TextFault.TooLong }
+    {
+        match self {
+            Format::Non => read_non(alloc, bytes),
+            Format::Mk => read_mk(alloc, bytes),
+            Format::Nin => read_nin(alloc, bytes),
+        }
+    }
+
+    /// The text of a puzzle in this format. `Ambiguous` where that text would be read with the sizes the other way round; else perhaps `NoMemory`.
+    pub fn write(self, alloc: Global, puzzle: &Puzzle) -> Result<Vec<u8>, WriteFault>
+        ensures text { IfOk result (λ text. text_as self puzzle.now ≡ Ok text.items) }
+        // Want of memory never stands in place of this fault.
+        ensures ambiguous { result ≡ Err WriteFault.Ambiguous ↔ text_as self puzzle.now ≡ Err WriteFault.Ambiguous }
+    {
+        match self {
+            Format::Non => Ok(write_non(alloc, puzzle)?),
+            Format::Mk => Ok(write_mk(alloc, puzzle)?),
+            Format::Nin => write_nin(alloc, puzzle),
+        }
+    }
 }
 
 /// Reads the puzzle of an entry, in the format that its name's ending tells: `.non`, `.mk` or `.nin`, letters in either case.
@@ -31,16 +122,10 @@ pub fn read_entry(alloc: Global, entry: &Entry<'_>) -> Result<Puzzle, EntryFault
     ensures too_long { is_known (shown_entry entry.now).name ≡ true → LONGEST_PUZZLE < length (shown_entry entry.now).body
         → result ≡ Err (EntryFault.Text TextFault.TooLong) }
 {
-    let answer = if has_ending(entry.name, b".non") {
-        read_non(alloc, entry.body)
-    } else if has_ending(entry.name, b".mk") {
-        read_mk(alloc, entry.body)
-    } else if has_ending(entry.name, b".nin") {
-        read_nin(alloc, entry.body)
-    } else {
+    let Some(format) = Format::of_name(entry.name) else {
         return Err(EntryFault::UnknownFormat);
     };
-    match answer {
+    match format.read(alloc, entry.body) {
         Ok(puzzle) => Ok(puzzle),
         Err(fault) => Err(EntryFault::Text(fault)),
     }

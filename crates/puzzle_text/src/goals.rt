@@ -10,7 +10,8 @@ ghost use Rattle.puzzle_text.specs.Shown.{shown_keyword};
 use crate::faults::TextFault;
 use crate::keyword_line::KeywordLine;
 use crate::keywords::quoted_text;
-use std::alloc::{AllocError, Global};
+use grid_core::NoMemory;
+use std::alloc::Global;
 
 fn cell_of(byte: u8) -> Option<bool>
     ensures { result ≡ cell_of byte }
@@ -23,7 +24,7 @@ fn cell_of(byte: u8) -> Option<bool>
 }
 
 /// The cells of a goal of this many.
-fn goal_cells(alloc: Global, count: usize, text: &[u8]) -> Result<Option<Vec<bool>>, AllocError>
+fn goal_cells(alloc: Global, count: usize, text: &[u8]) -> Result<Option<Vec<bool>>, NoMemory>
     ensures cells { IfOk result (λ found. option_map (λ cells. cells.items) found ≡ goal_cells count text.now) }
     ensures count { IfOk result (λ found. IfSome found (λ cells. length cells.items ≡ count)) }
 {

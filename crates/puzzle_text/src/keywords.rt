@@ -11,8 +11,17 @@ ghost use Rattle.puzzle_text.specs.Shown.{shown_keyword, shown_line};
 
 use crate::keyword_line::KeywordLine;
 use crate::lines::{Line, trim};
-use grid_core::Field;
-use std::alloc::{AllocError, Global};
+use grid_core::{Field, NoMemory};
+use std::alloc::Global;
+
+/// The text fields, in the order in which they are written.
+pub(crate) const FIELDS: [Field; 5] = [
+    Field::Catalogue,
+    Field::Title,
+    Field::By,
+    Field::Copyright,
+    Field::License,
+];
 
 /// The keyword of a text field.
 pub(crate) fn field_word(field: Field) -> &'static [u8]
@@ -53,7 +62,7 @@ pub(crate) fn keyword<'a>(line: &Line<'a>) -> &'a [u8]
 pub(crate) fn keyword_lines<'a>(
     alloc: Global,
     lines: &[Line<'a>],
-) -> Result<Vec<KeywordLine<'a>>, AllocError>
+) -> Result<Vec<KeywordLine<'a>>, NoMemory>
     ensures { IfOk result (λ found. map shown_keyword found.items ≡ filter is_keyword_line (map shown_line lines.now)) }
 {
     let mut found = Vec::new(alloc);

@@ -35,3 +35,9 @@ pub fn written_is_short()
 pub fn greater_limit_keeps()
     ensures { (limit greater : ℕ) → limit ≤ greater → GreaterLimitKeeps limit greater }
 {}
+
+/// The limit on sides and clue numbers keeps what a limit of 128 says of each text: the same puzzle, or the same fault, unless that is `BadSize`
+/// or `BadNumber`.
+pub fn longest_side_keeps_128()
+    ensures { GreaterLimitKeeps 128 LONGEST_SIDE }
+{}

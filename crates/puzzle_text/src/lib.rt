@@ -22,17 +22,19 @@ mod places;
 mod readings;
 mod sections;
 mod sizes;
+mod texts;
 mod words;
 mod writing;
 
 pub use collections::{Entry, entries};
 pub use faults::{CollectionFault, EntryFault, TextFault, WriteFault};
-pub use formats::read_entry;
+pub use formats::{Format, read_entry};
 pub use limits::{LONGEST_COLLECTION, LONGEST_PUZZLE, MOST_ENTRIES};
 pub use mk::read_mk;
 pub use nin::read_nin;
 pub use non::read_non;
-pub use words::fault_text;
+pub use texts::{push_bytes, push_number};
+pub use words::{FaultWord, fault_text};
 pub use writing::{write_mk, write_nin, write_non};
 
 #[cfg(test)]

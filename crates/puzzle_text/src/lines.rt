@@ -5,7 +5,8 @@ ghost use Rattle.std.specs.List.{position};
 ghost use Rattle.puzzle_text.specs.Lines.{is_blank, is_hash, lines, raw_lines, strip_last, trim, trim_end, trim_start, without_ending};
 ghost use Rattle.puzzle_text.specs.Shown.{shown_line};
 
-use std::alloc::{AllocError, Global};
+use grid_core::NoMemory;
+use std::alloc::Global;
 
 /// A line: its number in the text, from 1, and its bytes without spaces and tabs at both ends.
 #[derive(Clone, Copy, Debug)]
@@ -98,7 +99,7 @@ pub(crate) fn is_hash(line: &Line<'_>) -> bool
 }
 
 /// The lines of a text, all of them.
-pub(crate) fn all_lines(alloc: Global, bytes: &[u8]) -> Result<Vec<Line<'_>>, AllocError>
+pub(crate) fn all_lines(alloc: Global, bytes: &[u8]) -> Result<Vec<Line<'_>>, NoMemory>
     requires { length bytes.now < 2 ^ 32 }
     ensures { IfOk result (λ found. map shown_line found.items ≡ lines bytes.now) }
 {

@@ -16,8 +16,8 @@ use crate::lines::{Line, is_hash};
 use crate::readings::reading;
 use crate::sections::choice;
 use crate::sizes::{lines_of, size_line};
-use grid_core::{LONGEST_SIDE, Puzzle};
-use std::alloc::{AllocError, Global};
+use grid_core::{LONGEST_SIDE, NoMemory, Puzzle};
+use std::alloc::Global;
 
 fn hash_place(lines: &[Line<'_>]) -> Option<usize>
     ensures { result ≡ position (λ line. is_hash (shown_line line)) lines.now }
@@ -51,7 +51,7 @@ fn both_choices<'a>(
     height: u16,
     rows: &[Line<'a>],
     columns: &[Line<'a>],
-) -> Result<Option<Vec<Line<'a>>>, AllocError>
+) -> Result<Option<Vec<Line<'a>>>, NoMemory>
     ensures lines { IfOk result (λ found. option_map (λ chosen. map shown_line chosen.items) found
         ≡ both_choices width height (map shown_line rows.now) (map shown_line columns.now)) }
     ensures length { IfOk result (λ found. IfSome found (λ chosen. length chosen.items ≡ width + height)) }

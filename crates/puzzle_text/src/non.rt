@@ -15,13 +15,13 @@ use crate::descriptions::{long_number, texts_of};
 use crate::faults::TextFault;
 use crate::goals::goal_of;
 use crate::keyword_line::KeywordLine;
-use crate::keywords::{keyword_lines, nth_with, rest};
+use crate::keywords::{FIELDS, keyword_lines, nth_with, rest};
 use crate::limits::LONGEST_PUZZLE;
 use crate::lines::Line;
 use crate::parts::puzzle_of;
 use crate::places::{Place, clue_lines, placed, stray_number};
 use crate::sizes::{lines_of, size_of};
-use grid_core::{Clue, Field, LONGEST_SIDE, Puzzle};
+use grid_core::{Clue, LONGEST_SIDE, Puzzle};
 use std::alloc::Global;
 
 /// The lesser of two numbers that may be missing.
@@ -59,14 +59,8 @@ fn second_number(lines: &[KeywordLine<'_>], word: &[u8]) -> Option<u32>
 fn bad_line(keyword_lines: &[KeywordLine<'_>], places: &[Place<'_>]) -> Option<u32>
     ensures { result ≡ bad_line (map shown_place places.now) (map shown_keyword keyword_lines.now) }
 {
-    let long = least_of(&[
-        long_number(keyword_lines, Field::Catalogue),
-        long_number(keyword_lines, Field::Title),
-        long_number(keyword_lines, Field::By),
-        long_number(keyword_lines, Field::Copyright),
-        long_number(keyword_lines, Field::License),
-    ]);
-    least(stray_number(places), long)
+    let long = FIELDS.map(|field| long_number(keyword_lines, field));
+    least(stray_number(places), least_of(&long))
 }
 
 /// The number of the first line that repeats a keyword which may stand once only.

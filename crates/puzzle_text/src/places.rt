@@ -1,6 +1,6 @@
 //! Which section of a .non text each line stands in.
 
-ghost use Rattle.std.specs.Prelude.{◌≡◌, [], map, filter, length, codes, Some, None, IfOk};
+ghost use Rattle.std.specs.Prelude.{◌≡◌, map, filter, length, codes, Some, None, IfOk};
 ghost use Rattle.std.specs.List.{find};
 ghost use Rattle.std.specs.Option.{option_map};
 ghost use Rattle.std.specs.Str.{bytes_eq, str_to_ascii_lowercase};
@@ -14,7 +14,8 @@ use crate::faults::TextFault;
 use crate::keywords::{keyword, same_word};
 use crate::lines::{Line, is_hash};
 use crate::sections::choice;
-use std::alloc::{AllocError, Global};
+use grid_core::NoMemory;
+use std::alloc::Global;
 
 /// A line that is neither a keyword line nor a comment, and the keyword above it.
 #[derive(Clone, Copy, Debug)]
@@ -23,9 +24,9 @@ pub(crate) struct Place<'a> {
     pub line: Line<'a>,
 }
 
-/// Each line that is neither a keyword line nor a comment, with the nearest keyword before it.
-pub(crate) fn placed<'a>(alloc: Global, lines: &[Line<'a>]) -> Result<Vec<Place<'a>>, AllocError>
-    ensures { IfOk result (λ places. map shown_place places.items ≡ placed [] (map shown_line lines.now)) }
+/// Each line that is neither a keyword line nor a comment, with the keyword of the last keyword line above it.
+pub(crate) fn placed<'a>(alloc: Global, lines: &[Line<'a>]) -> Result<Vec<Place<'a>>, NoMemory>
+    ensures { IfOk result (λ places. map shown_place places.items ≡ placed (map shown_line lines.now)) }
 {
     let mut places = Vec::new(alloc);
     let mut under: &[u8] = &[];
@@ -41,19 +42,16 @@ pub(crate) fn placed<'a>(alloc: Global, lines: &[Line<'a>]) -> Result<Vec<Place<
 }
 
 /// The lines of the section that a keyword opens.
-fn section<'a>(
-    alloc: Global,
-    word: &[u8],
-    places: &[Place<'a>],
-) -> Result<Vec<Line<'a>>, AllocError>
+fn section<'a>(alloc: Global, word: &[u8], places: &[Place<'a>]) -> Result<Vec<Line<'a>>, NoMemory>
     ensures { IfOk result (λ lines. lines.items
         ≡ map (λ place. place.line) (filter (λ place. bytes_eq (shown_place place).0 (str_to_ascii_lowercase word.now)) places.now)) }
 {
-    places
+    let lines = places
         .iter()
         .filter(|place| same_word(place.under, word))
         .map(|place| place.line)
-        .collect(alloc)
+        .collect(alloc)?;
+    Ok(lines)
 }
 
 /// The clue lines of a section.

@@ -12,8 +12,8 @@ use grid_core::{Clue, NoMemory, Puzzle, Texts};
 
 /// Whether each clue fits its line and the rows have as many filled cells as the columns.
 fn are_admissible(width: u16, height: u16, rows: &[Clue], columns: &[Clue]) -> bool
-    requires rows { length rows.now ≤ 65536 }
-    requires columns { length columns.now ≤ 65536 }
+    requires rows { length rows.now ≤ 65535 }
+    requires columns { length columns.now ≤ 65535 }
     ensures { result ≡ is_admissible (plain width height rows.now columns.now) }
 {
     all_fit(width, rows) && all_fit(height, columns) && sum_all(rows) == sum_all(columns)

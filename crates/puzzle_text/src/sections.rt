@@ -8,7 +8,8 @@ ghost use Rattle.puzzle_text.specs.Sections.{choice};
 ghost use Rattle.puzzle_text.specs.Shown.{shown_line};
 
 use crate::lines::Line;
-use std::alloc::{AllocError, Global};
+use grid_core::NoMemory;
+use std::alloc::Global;
 
 /// How many lines aren't blank.
 fn full_count(section: &[Line<'_>]) -> usize
@@ -18,14 +19,15 @@ fn full_count(section: &[Line<'_>]) -> usize
 }
 
 /// The lines that aren't blank.
-fn full_lines<'a>(alloc: Global, section: &[Line<'a>]) -> Result<Vec<Line<'a>>, AllocError>
+fn full_lines<'a>(alloc: Global, section: &[Line<'a>]) -> Result<Vec<Line<'a>>, NoMemory>
     ensures { IfOk result (λ full. full.items ≡ filter (λ line. is_full (shown_line line)) section.now) }
 {
-    section
+    let full = section
         .iter()
         .copied()
         .filter(|line| !line.text.is_empty())
-        .collect(alloc)
+        .collect(alloc)?;
+    Ok(full)
 }
 
 fn are_blank(lines: &[Line<'_>]) -> bool
@@ -39,7 +41,7 @@ pub(crate) fn choice<'a>(
     alloc: Global,
     count: usize,
     section: &[Line<'a>],
-) -> Result<Option<Vec<Line<'a>>>, AllocError>
+) -> Result<Option<Vec<Line<'a>>>, NoMemory>
     ensures lines { IfOk result (λ found. option_map (λ chosen. map shown_line chosen.items) found ≡ choice count (map shown_line section.now)) }
     ensures length { IfOk result (λ found. IfSome found (λ chosen. length chosen.items ≡ count)) }
 {

@@ -43,8 +43,13 @@ const DEMO: &[u8] =
 
 #[test]
 fn puzzles_in_each_format(rt: HostRuntime) {
-    let rows: [(&[u8], &[u8], &[u8]); 9] = [
+    let rows: [(&[u8], &[u8], &[u8]); 10] = [
         (b"demo.non", DEMO, DEMO),
+        (
+            b"old.mk",
+            b"1 1\n129\n#\n1\n",
+            b"width 1\nheight 1\n\nrows\n129\n\ncolumns\n1\n",
+        ),
         (
             b"one.mk",
             b"1 1\n0\n#\n0\n",
@@ -71,12 +76,12 @@ fn puzzles_in_each_format(rt: HostRuntime) {
 
 #[test]
 fn refused_texts(rt: HostRuntime) {
-    let rows: [(&[u8], &[u8], &[u8]); 13] = [
+    let rows: [(&[u8], &[u8], &[u8]); 14] = [
         (b"what.txt", b"", b"UnknownFormat"),
         (b"a.nin", b"", b"NoSize"),
         (b"a.non", b"width 2\nrows\n1\ncolumns\n1\n0\n", b"NoSize"),
         (b"a.non", b"width 0\nheight 1\n", b"BadSize"),
-        (b"a.mk", b"129 128\n", b"BadSize"),
+        (b"a.mk", b"257 256\n", b"BadSize"),
         (b"a.mk", b"1 1\n1\n1\n", b"NoSection"),
         (
             b"a.non",
@@ -95,6 +100,7 @@ fn refused_texts(rt: HostRuntime) {
         ),
         (b"a.mk", b"2 2\n2 x\n1\n#\n1\n1\n", b"BadNumber:2"),
         (b"a.mk", b"1 1\n0 1\n#\n1\n", b"BadNumber:2"),
+        (b"old.mk", b"1 1\n257\n#\n1\n", b"BadNumber:2"),
         (b"a.nin", b"1 1\n1\r\r\n1\n", b"BadNumber:2"),
         (
             b"a.non",
@@ -227,6 +233,32 @@ fn each_front_of_a_text(rt: HostRuntime) {
             "at {len}"
         );
     }
+}
+
+/// A text in .mk that begins with this line and has as many clues of rows and of columns, each `1`.
+fn square(alloc: Global, sizes: &[u8], side: usize) -> Result<Vec<u8>, Fail> {
+    let mut text = repeated(alloc, sizes, b"1\n", side)?;
+    text.extend_from_slice(b"#\n").ok().ok_or("memory")?;
+    let columns = repeated(alloc, b"", b"1\n", side)?;
+    text.extend_from_slice(&columns).ok().ok_or("memory")?;
+    Ok(text)
+}
+
+#[test]
+fn sides_up_to_256(rt: HostRuntime) -> Result<(), Fail> {
+    let wide = square(rt.alloc(), b"129 128\n", 128)?;
+    let over = square(rt.alloc(), b"256 257\n", 256)?;
+    let rows: [(&[u8], &[u8], &[u8]); 2] = [
+        (b"a.mk", &wide, b"BadCount"),
+        (b"a.mk", &over, b"BadSize"),
+    ];
+    assert!(rt; all_said(rt.alloc(), &rows));
+    let most = square(rt.alloc(), b"256 256\n", 256)?;
+    let puzzle = read_mk(rt.alloc(), &most).ok().ok_or("a puzzle")?;
+    assert!(rt; puzzle.width() == 256 && puzzle.height() == 256);
+    let again = write_mk(rt.alloc(), &puzzle).ok().ok_or("memory")?;
+    assert_eq!(rt; again.as_slice(), most.as_slice());
+    Ok(())
 }
 
 #[test]

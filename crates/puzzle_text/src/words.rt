@@ -1,46 +1,95 @@
 //! The words of faults.
 
-ghost use Rattle.std.specs.Prelude.{◌≡◌, ◌++◌, IfOk};
-ghost use Rattle.puzzle_text.specs.Words.{at_line, word_of, word_of_text};
+ghost use Rattle.std.specs.Prelude.{◌≡◌, ◌++◌, IfOk, OnOk};
+ghost use Rattle.puzzle_text.specs.Words.{at_line, word_of, word_of_collection, word_of_text, word_text};
 
-use crate::faults::{EntryFault, TextFault};
+use crate::faults::{CollectionFault, EntryFault, TextFault};
+use crate::texts::{push_bytes, push_number};
 use grid_core::NoMemory;
-use itoa::Buffer;
-use std::alloc::{AllocError, Global};
+use std::alloc::Global;
 
-fn at_line(alloc: Global, word: &[u8], number: u32) -> Result<Vec<u8>, AllocError>
-    ensures { IfOk result (λ text. text.items ≡ at_line word.now number) }
-{
-    let mut buffer = Buffer::new();
-    let mut text = Vec::from_slice(alloc, word)?;
-    text.push(b':')?;
-    text.extend_from_slice(buffer.format(number).as_bytes())?;
-    Ok(text)
+/// The word of a fault, and the number of the line that it is about, if there is one.
+#[derive(Clone, Copy, Debug, PartialEq, Eq)]
+pub struct FaultWord {
+    name: &'static str,
+    line: Option<u32>,
 }
 
-fn word_of_text(alloc: Global, fault: TextFault) -> Result<Vec<u8>, AllocError>
-    ensures { IfOk result (λ text. text.items ≡ word_of_text fault) }
-{
-    match fault {
-        TextFault::TooLong => Vec::from_slice(alloc, b"TooLong"),
-        TextFault::NoSize => Vec::from_slice(alloc, b"NoSize"),
-        TextFault::BadSize => Vec::from_slice(alloc, b"BadSize"),
-        TextFault::NoSection => Vec::from_slice(alloc, b"NoSection"),
-        TextFault::BadLine(number) => at_line(alloc, b"BadLine", number),
-        TextFault::Twice(number) => at_line(alloc, b"Twice", number),
-        TextFault::BadCount => Vec::from_slice(alloc, b"BadCount"),
-        TextFault::BadNumber(number) => at_line(alloc, b"BadNumber", number),
-        TextFault::BadGoal(number) => at_line(alloc, b"BadGoal", number),
-        TextFault::NoMemory => Vec::from_slice(alloc, b"NoMemory"),
+impl FaultWord {
+    /// A word by itself.
+    pub fn alone(name: &'static str) -> FaultWord
+        ensures { word_text result ≡ name.now }
+    {
+        FaultWord { name, line: None }
+    }
+
+    /// A word that is about a line.
+    pub fn at_line(name: &'static str, number: u32) -> FaultWord
+        ensures { word_text result ≡ at_line name.now number }
+    {
+        FaultWord {
+            name,
+            line: Some(number),
+        }
+    }
+
+    /// Adds the word to the end of the text, and after a colon the number of its line, if it has one: `BadCount`, `BadNumber:2`. `NoMemory` if the text
+    /// can't grow.
+    pub fn push(self, text: &mut Vec<u8>) -> Result<(), NoMemory>
+        ensures { OnOk result (text.new.items ≡ text.old.items ++ word_text self) }
+    {
+        push_bytes(text, self.name.as_bytes())?;
+        if let Some(number) = self.line {
+            push_bytes(text, b":")?;
+            push_number(text, u64::from(number))?;
+        }
+        Ok(())
     }
 }
 
-fn word_of(alloc: Global, fault: EntryFault) -> Result<Vec<u8>, AllocError>
-    ensures { IfOk result (λ text. text.items ≡ word_of fault) }
-{
-    match fault {
-        EntryFault::UnknownFormat => Vec::from_slice(alloc, b"UnknownFormat"),
-        EntryFault::Text(fault) => word_of_text(alloc, fault),
+impl TextFault {
+    /// The fault's word.
+    pub fn word(self) -> FaultWord
+        ensures { word_text result ≡ word_of_text self }
+    {
+        match self {
+            TextFault::TooLong => FaultWord::alone("TooLong"),
+            TextFault::NoSize => FaultWord::alone("NoSize"),
+            TextFault::BadSize => FaultWord::alone("BadSize"),
+            TextFault::NoSection => FaultWord::alone("NoSection"),
+            TextFault::BadLine(number) => FaultWord::at_line("BadLine", number),
+            TextFault::Twice(number) => FaultWord::at_line("Twice", number),
+            TextFault::BadCount => FaultWord::alone("BadCount"),
+            TextFault::BadNumber(number) => FaultWord::at_line("BadNumber", number),
+            TextFault::BadGoal(number) => FaultWord::at_line("BadGoal", number),
+            TextFault::NoMemory => FaultWord::alone("NoMemory"),
+        }
+    }
+}
+
+impl EntryFault {
+    /// The fault's word: that of the text's fault, if it is one.
+    pub fn word(self) -> FaultWord
+        ensures { word_text result ≡ word_of self }
+    {
+        match self {
+            EntryFault::UnknownFormat => FaultWord::alone("UnknownFormat"),
+            EntryFault::Text(fault) => fault.word(),
+        }
+    }
+}
+
+impl CollectionFault {
+    /// The fault's word.
+    pub fn word(self) -> FaultWord
+        ensures { word_text result ≡ word_of_collection self }
+    {
+        match self {
+            CollectionFault::TooLong => FaultWord::alone("TooLong"),
+            CollectionFault::Stray(number) => FaultWord::at_line("Stray", number),
+            CollectionFault::TooMany => FaultWord::alone("TooMany"),
+            CollectionFault::NoMemory => FaultWord::alone("NoMemory"),
+        }
     }
 }
 
@@ -48,5 +97,7 @@ fn word_of(alloc: Global, fault: EntryFault) -> Result<Vec<u8>, AllocError>
 pub fn fault_text(alloc: Global, fault: &EntryFault) -> Result<Vec<u8>, NoMemory>
     ensures { IfOk result (λ text. text.items ≡ word_of fault.now) }
 {
-    Ok(word_of(alloc, *fault)?)
+    let mut text = Vec::new(alloc);
+    fault.word().push(&mut text)?;
+    Ok(text)
 }

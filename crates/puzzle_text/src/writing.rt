@@ -1,42 +1,36 @@
 //! Puzzles as texts.
 
 ghost use Rattle.std.specs.Prelude.{◌≡◌, ◌++◌, ◌↔◌, codes, decimal, map, true, Err, OnOk, IfOk};
+ghost use Rattle.std.specs.List.{flat_map};
 ghost use Rattle.std.specs.Option.{option_map};
 ghost use Rattle.grid_core.specs.Description.{text_of};
 ghost use Rattle.puzzle_text.specs.Keywords.{field_word};
 ghost use Rattle.puzzle_text.specs.Written.{clue_lines, clue_text, goal_byte, goal_lines, is_ambiguous, quoted_line, text_fields, text_mk, text_nin, text_non, two_numbers};
 
 use crate::faults::WriteFault;
-use crate::keywords::field_word;
+use crate::keywords::{FIELDS, field_word};
 use crate::readings::is_ambiguous;
+use crate::texts::push_number;
 use grid_core::{Clue, Field, NoMemory, Puzzle, Texts};
-use itoa::Buffer;
-use std::alloc::{AllocError, Global};
+use std::alloc::Global;
 
-fn push_number(out: &mut Vec<u8>, number: u16) -> Result<(), AllocError>
-    ensures { OnOk result (out.new.items ≡ out.old.items ++ decimal number) }
-{
-    let mut buffer = Buffer::new();
-    out.extend_from_slice(buffer.format(number).as_bytes())
-}
-
-fn push_clue(out: &mut Vec<u8>, separator: u8, numbers: &[u16]) -> Result<(), AllocError>
+fn push_clue(out: &mut Vec<u8>, separator: u8, numbers: &[u16]) -> Result<(), NoMemory>
     ensures { OnOk result (out.new.items ≡ out.old.items ++ clue_text separator numbers.now) }
 {
     match numbers {
         [] => out.push(b'0')?,
         [first, others @ ..] => {
-            push_number(out, *first)?;
+            push_number(out, u64::from(*first))?;
             for number in others {
                 out.push(separator)?;
-                push_number(out, *number)?;
+                push_number(out, u64::from(*number))?;
             }
         }
     }
     Ok(())
 }
 
-fn push_clues(out: &mut Vec<u8>, separator: u8, clues: &[Clue]) -> Result<(), AllocError>
+fn push_clues(out: &mut Vec<u8>, separator: u8, clues: &[Clue]) -> Result<(), NoMemory>
     ensures { OnOk result (out.new.items ≡ out.old.items ++ clue_lines separator clues.now) }
 {
     for clue in clues {
@@ -46,12 +40,12 @@ fn push_clues(out: &mut Vec<u8>, separator: u8, clues: &[Clue]) -> Result<(), Al
     Ok(())
 }
 
-fn push_sizes(out: &mut Vec<u8>, a: u16, b: u16) -> Result<(), AllocError>
+fn push_sizes(out: &mut Vec<u8>, a: u16, b: u16) -> Result<(), NoMemory>
     ensures { OnOk result (out.new.items ≡ out.old.items ++ two_numbers a b) }
 {
-    push_number(out, a)?;
+    push_number(out, u64::from(a))?;
     out.push(b' ')?;
-    push_number(out, b)?;
+    push_number(out, u64::from(b))?;
     out.push(b'\n')?;
     Ok(())
 }
@@ -85,7 +79,7 @@ pub fn write_nin(alloc: Global, puzzle: &Puzzle) -> Result<Vec<u8>, WriteFault>
     Ok(out)
 }
 
-fn push_field(out: &mut Vec<u8>, texts: &Texts, field: Field) -> Result<(), AllocError>
+fn push_field(out: &mut Vec<u8>, texts: &Texts, field: Field) -> Result<(), NoMemory>
     ensures { OnOk result (out.new.items ≡ out.old.items ++ quoted_line (field_word field) (text_of texts.now field)) }
 {
     if let Some(text) = texts.get(field) {
@@ -97,19 +91,23 @@ fn push_field(out: &mut Vec<u8>, texts: &Texts, field: Field) -> Result<(), Allo
     Ok(())
 }
 
-fn push_texts(out: &mut Vec<u8>, texts: &Texts) -> Result<(), AllocError>
-    ensures { OnOk result (out.new.items ≡ out.old.items ++ text_fields texts.now) }
+fn push_fields(out: &mut Vec<u8>, texts: &Texts, fields: &[Field]) -> Result<(), NoMemory>
+    ensures { OnOk result (out.new.items ≡ out.old.items ++ flat_map (λ field. quoted_line (field_word field) (text_of texts.now field)) fields.now) }
 {
-    push_field(out, texts, Field::Catalogue)?;
-    push_field(out, texts, Field::Title)?;
-    push_field(out, texts, Field::By)?;
-    push_field(out, texts, Field::Copyright)?;
-    push_field(out, texts, Field::License)?;
+    for field in fields {
+        push_field(out, texts, *field)?;
+    }
     Ok(())
 }
 
+fn push_texts(out: &mut Vec<u8>, texts: &Texts) -> Result<(), NoMemory>
+    ensures { OnOk result (out.new.items ≡ out.old.items ++ text_fields texts.now) }
+{
+    push_fields(out, texts, &FIELDS)
+}
+
 /// The cells of a goal, as they are written.
-fn push_cells(out: &mut Vec<u8>, cells: &[bool]) -> Result<(), AllocError>
+fn push_cells(out: &mut Vec<u8>, cells: &[bool]) -> Result<(), NoMemory>
     ensures { OnOk result (out.new.items ≡ out.old.items ++ map goal_byte cells.now) }
 {
     for cell in cells {
@@ -118,7 +116,7 @@ fn push_cells(out: &mut Vec<u8>, cells: &[bool]) -> Result<(), AllocError>
     Ok(())
 }
 
-fn push_goal(out: &mut Vec<u8>, goal: Option<&[bool]>) -> Result<(), AllocError>
+fn push_goal(out: &mut Vec<u8>, goal: Option<&[bool]>) -> Result<(), NoMemory>
     ensures { OnOk result (out.new.items ≡ out.old.items ++ goal_lines (option_map (λ cells. cells.now) goal.entry)) }
 {
     if let Some(cells) = goal {
@@ -136,9 +134,9 @@ pub fn write_non(alloc: Global, puzzle: &Puzzle) -> Result<Vec<u8>, NoMemory>
     let mut out = Vec::new(alloc);
     push_texts(&mut out, puzzle.texts())?;
     out.extend_from_slice(b"width ")?;
-    push_number(&mut out, puzzle.width())?;
+    push_number(&mut out, u64::from(puzzle.width()))?;
     out.extend_from_slice(b"\nheight ")?;
-    push_number(&mut out, puzzle.height())?;
+    push_number(&mut out, u64::from(puzzle.height()))?;
     out.extend_from_slice(b"\n\nrows\n")?;
     push_clues(&mut out, b',', puzzle.rows())?;
     out.extend_from_slice(b"\ncolumns\n")?;

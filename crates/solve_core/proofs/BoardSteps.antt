@@ -12,7 +12,8 @@ use Rattle.solve_core.specs.Boards.{AreLinesOf, IsBoard}
 use Rattle.solve_core.specs.Trails.{unknown_count}
 use Rattle.solve_core.proofs.TrailSteps.{count-settled, unknown_count-at_most}
 use Rattle.solve_core.proofs.BranchLaws.{unknown_count-cleared_one, all_append, all_split}
-use Rattle.solve_core.proofs.GridSteps.{unique_place, same_or_not, row_within, column_within}
+use Rattle.solve_core.proofs.LineSteps.{same_or_not}
+use Rattle.solve_core.proofs.NumberedLines.{unique_place, row_within, column_within}
 
 pub length-along : (cells : List Cell) (first step n : ℕ) → length (cells_at Unknown cells (places_from first step n)) ≡ n
 length-along cells first step n = length-cells_at Unknown cells (places_from first step n) ∙ length-places_from first step n

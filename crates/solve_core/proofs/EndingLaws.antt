@@ -36,20 +36,9 @@ ending-guess p found spent limit es l h =
     by (a ∷ b ∷ more) k = absurd (omega arith)
 
 -- one turn of a search: a guess is spent, and what happens below it is looked at
-pub ending-next : (p q : Nonogram) (found more : List PartialGrid) (spent limit : ℕ) (whole : Ending) (before : List Event) (below after : Nonogram → List Event)
-    → q ≡ p → before ≡ Guess ∷ below p → length found < 2 → spent < limit → ending p found spent (limit - spent) before ≡ whole
-    → ((s l : ℕ) → ending q more s l (after q) ≡ ending q found s l (below q))
-    → ending p more (spent + 1) (limit - (spent + 1)) (after p) ≡ whole
-ending-next p q found more spent limit whole before below after same e room less told h =
-    let h' : (s l : ℕ) → ending p more s l (after p) ≡ ending p found s l (below p)
-    = subst (λ (x : Nonogram). (s l : ℕ) → ending x more s l (after x) ≡ ending x found s l (below x)) same h in
-    h' (spent + 1) (limit - (spent + 1))
-    ∙ sym (ending-guess p found spent limit (below p) room less)
-    ∙ ap (ending p found spent (limit - spent)) (sym e)
-    ∙ told
-
-pub fewer-next : (p q : Nonogram) (before : List Event) (below after : Nonogram → List Event) → q ≡ p → before ≡ Guess ∷ below p
-    → length (after q) ≤ length (below q) → length (after p) < length before
-fewer-next p q before below after same e h =
-    let h' : length (after p) ≤ length (below p) = subst (λ (x : Nonogram). length (after x) ≤ length (below x)) same h in
-    omega (arith, h', ap length e)
+pub ending-next : (p : Nonogram) (found more : List PartialGrid) (spent limit : ℕ) (whole : Ending) (before below after : List Event)
+    → before ≡ Guess ∷ below → length found < 2 → spent < limit → ending p found spent (limit - spent) before ≡ whole
+    → ((s l : ℕ) → ending p more s l after ≡ ending p found s l below)
+    → ending p more (spent + 1) (limit - (spent + 1)) after ≡ whole
+ending-next p found more spent limit whole before below after e room less told h =
+    h (spent + 1) (limit - (spent + 1)) ∙ sym (ending-guess p found spent limit below room less) ∙ ap (ending p found spent (limit - spent)) (sym e) ∙ told

@@ -4,6 +4,7 @@ pub mod Closing
 pub mod ClosureLaws
 pub mod TrialLaws
 pub mod StepLaws
+pub mod NumberedLines
 pub mod LineSteps
 pub mod GridSteps
 pub mod BoardSteps

@@ -1,6 +1,6 @@
-use Rattle.std.proofs.Common.{◌≡◌, ◌≢◌, ℕ, zero, suc, ◌+◌, ◌-◌, ◌*◌, ◌<◌, ◌≤◌, inl, inr, Bool, true, false, List, [], ◌∷◌, ◌++◌, length, get_or, set, drop, drop-cons, map, Option, Some, None, option_map, refl, sym, ap, ◌∙◌, arith, subst, length-set, get_or-set_same, zero-add, add-zero, add-one}
+use Rattle.std.proofs.Common.{◌≡◌, ◌≢◌, ℕ, zero, suc, ◌+◌, ◌-◌, ◌*◌, ◌<◌, ◌≤◌, inl, inr, Bool, true, false, List, [], ◌∷◌, ◌++◌, length, get_or, set, drop, drop-cons, map, Option, Some, None, option_map, refl, sym, ap, ◌∙◌, arith, subst, ◌⊎◌, length-set, get_or-set_same, zero-add, add-zero, add-one}
 use Rattle.std.specs.List.{AllByRecursion, enumerate_from}
-use Rattle.std.proofs.Math.ListN.{length-map}
+use Rattle.std.proofs.lemmas.List.{set-get_or}
 use Rattle.grid_core.specs.declared.cells.Cell.{Cell}
 use Rattle.grid_core.specs.declared.cells.Cell.TheVariants.{Unknown, Filled, Blank}
 use Rattle.std.proofs.Math.Nat.{mul-le-mul_left}
@@ -38,8 +38,7 @@ AreDistinct [] = Unit {0}
 AreDistinct (p ∷ ps) = ((i : ℕ) → i < length ps → get_or ps i 0 ≢ p) × AreDistinct ps
 
 abbrev pub AreBelow : ℕ → List ℕ → Type 0
-AreBelow n [] = Unit {0}
-AreBelow n (p ∷ ps) = (p < n) × AreBelow n ps
+AreBelow n places = AllByRecursion (λ k. k < n) places
 
 -- what was written at places is read there
 pub cells_at-with_cells : (g : List Cell) (places : List ℕ) (d : List Cell) → AreDistinct places → AreBelow (length g) places → length d ≡ length places → cells_at Unknown (with_cells g places d) places ≡ d
@@ -53,15 +52,35 @@ cells_at-with_cells g (p ∷ ps) (c ∷ d) a b e =
     let rest : cells_at Unknown (with_cells (set g p c) ps d) ps ≡ d = cells_at-with_cells (set g p c) ps d a.1 (rw length-set b.1) (omega arith) in
     λ i. first i ∷ rest i
 
-set-same : (g : List Cell) (p : ℕ) → set g p (get_or g p Unknown) ≡ g
-set-same [] p = refl
-set-same (x ∷ g) zero = refl
-set-same (x ∷ g) (suc p) = ap (λ (r : List Cell). x ∷ r) (set-same g p)
+pub distinct_from : (first step n : ℕ) → 0 < step → AreDistinct (places_from first step n)
+distinct_from first step zero h = tt
+distinct_from first step (suc n) h = (
+  λ i l e. (let within : i < n = omega (arith, length-places_from (first + step) step n) in absurd (omega (arith, get_or-places_from (first + step) step n i within, e))),
+  distinct_from (first + step) step n h,
+)
+
+pub below_from : (first step n size : ℕ) → ((i : ℕ) → i < n → first + i * step < size) → AreBelow size (places_from first step n)
+below_from first step zero size h = tt
+below_from first step (suc n) size h = (
+  (let start = h 0 (omega arith) in omega (arith, start)),
+  below_from (first + step) step n size (λ i l. let next = h (suc i) (omega arith) in omega (arith, next)),
+)
+
+pub same_or_not : (j y : ℕ) → (j ≡ y) ⊎ (j ≢ y)
+same_or_not zero zero = inl refl
+same_or_not zero (suc y) = inr (λ e. omega arith)
+same_or_not (suc j) zero = inr (λ e. omega arith)
+same_or_not (suc j) (suc y) = elim (same_or_not j y) [ inl e ↦ inl (ap suc e) | inr n ↦ inr (λ e. n (omega arith)) ]
+
+pub before_or_from : (k n : ℕ) → (k < n) ⊎ (n ≤ k)
+before_or_from k zero = inr (omega arith)
+before_or_from zero (suc n) = inl (omega arith)
+before_or_from (suc k) (suc n) = elim (before_or_from k n) [ inl less ↦ inl (omega arith) | inr more ↦ inr (omega arith) ]
 
 -- writing what stands there changes nothing
 pub with_cells-same : (g : List Cell) (places : List ℕ) → with_cells g places (cells_at Unknown g places) ≡ g
 with_cells-same g [] = refl
-with_cells-same g (p ∷ ps) = ap (λ (r : List Cell). with_cells r ps (cells_at Unknown g ps)) (set-same g p) ∙ with_cells-same g ps
+with_cells-same g (p ∷ ps) = ap (λ (r : List Cell). with_cells r ps (cells_at Unknown g ps)) (set-get_or g p Unknown) ∙ with_cells-same g ps
 
 pub cells_at-same : (a b : List Cell) (places : List ℕ) → ((i : ℕ) → i < length places → get_or a (get_or places i 0) Unknown ≡ get_or b (get_or places i 0) Unknown) → cells_at Unknown a places ≡ cells_at Unknown b places
 cells_at-same a b [] h = refl
@@ -74,55 +93,45 @@ cells_at-same a b (p ∷ ps) h =
 pub settled_line : (g : List Cell) (line : GridLine) → IsSettled g line → deduce_line g line ≡ Some g
 settled_line g line h = ap (option_map (with_cells g line.places)) h ∙ ap (λ (r : List Cell). Some r) (with_cells-same g line.places)
 
-pub written_line : (changed : Bool) (line : GridLine) (g new : List Cell) (before after : List Bool) → IsWritten changed line g new before after → deduce_line g line ≡ Some new
-written_line changed line g new before after w =
-    ap (option_map (with_cells g line.places)) w.is_certain ∙ ap (λ (r : List Cell). Some r) (sym w.written)
+above_line : (line : GridLine) (g d : List Cell) → deduced (cells_at Unknown g line.places) line.clue ≡ Some d → Extends (cells_at Unknown g line.places) d
+above_line line g d e = rw e at (deduced-above (cells_at Unknown g line.places) line.clue)
 
-length-certain : (changed : Bool) (line : GridLine) (g new : List Cell) (before after : List Bool) (w : IsWritten changed line g new before after) → length w.certain ≡ length line.places
-length-certain changed line g new before after w =
-    let above : Extends (cells_at Unknown g line.places) w.certain = rw w.is_certain at (deduced-above (cells_at Unknown g line.places) line.clue) in
-    sym (length-Extends (cells_at Unknown g line.places) w.certain above) ∙ length-map line.places (λ k. get_or g k Unknown)
+pub written_line : (line : GridLine) (g new : List Cell) → IsWritten line g new → deduce_line g line ≡ Some new
+written_line line g new w = ap (option_map (with_cells g line.places)) w.is_certain ∙ ap (λ (r : List Cell). Some r) (sym w.written)
 
-pub written-extends : (changed : Bool) (line : GridLine) (g new : List Cell) (before after : List Bool) → IsWritten changed line g new before after → Extends g new
-written-extends changed line g new before after w =
-    let above : Extends (cells_at Unknown g line.places) w.certain = rw w.is_certain at (deduced-above (cells_at Unknown g line.places) line.clue) in
-    let old = with_cells-monotone g g line.places (cells_at Unknown g line.places) w.certain (Extends-refl g) above in
+pub written-extends : (line : GridLine) (g new : List Cell) → IsWritten line g new → Extends g new
+written-extends line g new w =
+    let old = with_cells-monotone g g line.places (cells_at Unknown g line.places) w.certain (Extends-refl g) (above_line line g w.certain w.is_certain) in
     rw w.written (rw (with_cells-same g line.places) at old)
 
--- the line that was written is settled
-pub written-settled : (changed : Bool) (line : GridLine) (g new : List Cell) (before after : List Bool) → IsWritten changed line g new before after
-    → AreDistinct line.places → AreBelow (length g) line.places → (cells_at Unknown new line.places ≡ cells_at Unknown new line.places) × IsSettled new line
-written-settled changed line g new before after w a b =
-    let long = length-certain changed line g new before after w in
-    let read : cells_at Unknown new line.places ≡ w.certain =
-    ap (λ (r : List Cell). cells_at Unknown r line.places) w.written ∙ cells_at-with_cells g line.places w.certain a b long in
-    (refl, rw read (deduced-settled (cells_at Unknown g line.places) w.certain line.clue w.is_certain))
+-- what was written is read
+pub written-read : (line : GridLine) (g new : List Cell) (w : IsWritten line g new) → AreDistinct line.places → AreBelow (length g) line.places → cells_at Unknown new line.places ≡ w.certain
+written-read line g new w a b =
+    let long : length w.certain ≡ length line.places =
+    sym (length-Extends (cells_at Unknown g line.places) w.certain (above_line line g w.certain w.is_certain)) ∙ length-cells_at Unknown g line.places in
+    ap (λ (r : List Cell). cells_at Unknown r line.places) w.written ∙ cells_at-with_cells g line.places w.certain a b long
 
--- a line where nothing was written that it didn't know stays settled
-pub others-settled : (changed : Bool) (line other : GridLine) (g new : List Cell) (before after : List Bool) (w : IsWritten changed line g new before after) → IsSettled g other
-    → ((i j : ℕ) → i < length line.places → j < length other.places → get_or line.places i 0 ≡ get_or other.places j 0 → get_or w.certain i Unknown ≡ get_or (cells_at Unknown g line.places) i Unknown) → IsSettled new other
-others-settled changed line other g new before after w settled apart =
-    let same : cells_at Unknown new other.places ≡ cells_at Unknown g other.places =
-    cells_at-same new g other.places (λ j l.
+-- the line that was written is settled
+pub written-settled : (line : GridLine) (g new : List Cell) → IsWritten line g new → AreDistinct line.places → AreBelow (length g) line.places → IsSettled new line
+written-settled line g new w a b = rw (written-read line g new w a b) (deduced-settled (cells_at Unknown g line.places) w.certain line.clue w.is_certain)
+
+-- a cell stays that the line doesn't have, or that it had as it is
+pub written-elsewhere : (line : GridLine) (g new : List Cell) → IsWritten line g new → AreDistinct line.places → AreBelow (length g) line.places → (k : ℕ)
+    → ((i : ℕ) → i < length line.places → get_or line.places i 0 ≡ k → get_or new k Unknown ≡ get_or g k Unknown) → get_or new k Unknown ≡ get_or g k Unknown
+written-elsewhere line g new w a b k h =
     rw w.written
-    (get_or-with_cells g line.places w.certain (get_or other.places j 0) (λ i k e. apart i j k l e ∙ get_or-cells_at Unknown g line.places i k ∙ ap (λ (q : ℕ). get_or g q Unknown) e))) in
-    rw same settled
+    (get_or-with_cells g line.places w.certain k (λ i l e.
+    ap (λ (r : List Cell). get_or r i Unknown) (sym (written-read line g new w a b)) ∙ get_or-cells_at Unknown new line.places i l
+    ∙ ap (λ (q : ℕ). get_or new q Unknown) e ∙ h i l e))
 
 -- fewer cells are unknown where a line learned something
-pub written-fewer : (line : GridLine) (g new : List Cell) (before after : List Bool) → IsWritten true line g new before after → AreDistinct line.places → AreBelow (length g) line.places → unknown_count new < unknown_count g
-written-fewer line g new before after w a b =
-    elim (fewer_unknown g new (written-extends true line g new before after w)) [
-      | inl same ↦
-          (let long = length-certain true line g new before after w in
-          let read : cells_at Unknown new line.places ≡ w.certain =
-          ap (λ (r : List Cell). cells_at Unknown r line.places) w.written ∙ cells_at-with_cells g line.places w.certain a b long in
-          absurd (w.differs refl (sym read ∙ ap (λ (r : List Cell). cells_at Unknown r line.places) same)))
+pub written-fewer : (line : GridLine) (g new : List Cell) (w : IsWritten line g new) → w.certain ≢ cells_at Unknown g line.places → AreDistinct line.places → AreBelow (length g) line.places
+    → unknown_count new < unknown_count g
+written-fewer line g new w n a b =
+    elim (fewer_unknown g new (written-extends line g new w)) [
+      | inl same ↦ absurd (n (sym (written-read line g new w a b) ∙ ap (λ (r : List Cell). cells_at Unknown r line.places) same))
       | inr less ↦ less
     ]
-
-pub written-same : (line : GridLine) (g new : List Cell) (before after : List Bool) → IsWritten false line g new before after → new ≡ g
-written-same line g new before after w =
-    w.written ∙ ap (with_cells g line.places) (w.same refl) ∙ with_cells-same g line.places
 
 -- from a grid between one and its closure the closure is the same
 pub least_between : (f : List Cell → Option (List Cell)) (g z : List Cell) (c d : Option (List Cell)) → IsLeastClosed f g c → IsLeastClosed f z d → Extends g z → AtMost (Some z) c → d ≡ c
@@ -139,51 +148,6 @@ pub line_dead : (lines : List GridLine) (g : List Cell) (line : GridLine) → Is
 line_dead lines g line m e =
     dead_within lines g g line m (closure-IsLeastClosed lines g).above (ap (option_map (with_cells g line.places)) e)
 
--- the lines of a puzzle
-
-one_of_left : (line : GridLine) (xs ys : List GridLine) → IsOneOf line xs → IsOneOf line (xs ++ ys)
-one_of_left line [] ys m = absurd m
-one_of_left line (x ∷ xs) ys (inl e) = inl e
-one_of_left line (x ∷ xs) ys (inr m) = inr (one_of_left line xs ys m)
-
-one_of_right : (line : GridLine) (xs ys : List GridLine) → IsOneOf line ys → IsOneOf line (xs ++ ys)
-one_of_right line [] ys m = m
-one_of_right line (x ∷ xs) ys m = inr (one_of_right line xs ys m)
-
-one_of_numbered : (f : ℕ × List ℕ → GridLine) (n : ℕ) (clues : List (List ℕ)) (k : ℕ) → k < length clues → IsOneOf (f (n + k, get_or clues k [])) (map f (enumerate_from n clues))
-one_of_numbered f n [] k h = absurd (omega arith)
-one_of_numbered f n (c ∷ clues) zero h = inl (ap (λ (q : ℕ). f (q, c)) (sym (add-zero n)))
-one_of_numbered f n (c ∷ clues) (suc k) h =
-    let e : n + 1 + k ≡ n + suc k = omega arith in
-    inr (rw e at (one_of_numbered f (n + 1) clues k (omega arith)))
-
-pub row_is_line : (p : Nonogram) (y : ℕ) → y < length p.rows → IsOneOf (row_at p y) (lines_of p)
-row_is_line p y h =
-    one_of_left (row_at p y) (map (row_line p) (enumerate_from 0 p.rows)) (map (column_line p) (enumerate_from 0 p.columns))
-    (rw zero-add at (one_of_numbered (row_line p) 0 p.rows y h))
-
-pub column_is_line : (p : Nonogram) (x : ℕ) → x < length p.columns → IsOneOf (column_at p x) (lines_of p)
-column_is_line p x h =
-    one_of_right (column_at p x) (map (row_line p) (enumerate_from 0 p.rows)) (map (column_line p) (enumerate_from 0 p.columns))
-    (rw zero-add at (one_of_numbered (column_line p) 0 p.columns x h))
-
-all_append : (P : GridLine → Type 0) (xs ys : List GridLine) → AllByRecursion P xs → AllByRecursion P ys → AllByRecursion P (xs ++ ys)
-all_append P [] ys h k = k
-all_append P (x ∷ xs) ys h k = (h.0, all_append P xs ys h.1 k)
-
-all_numbered : (P : GridLine → Type 0) (f : ℕ × List ℕ → GridLine) (n : ℕ) (clues : List (List ℕ)) → ((k : ℕ) → k < length clues → P (f (n + k, get_or clues k []))) → AllByRecursion P (map f (enumerate_from n clues))
-all_numbered P f n [] h = tt
-all_numbered P f n (c ∷ clues) h = (
-  subst (λ (q : ℕ). P (f (q, c))) (add-zero n) (h 0 (omega arith)),
-  all_numbered P f (n + 1) clues (λ k l. let e : n + suc k ≡ n + 1 + k = omega arith in subst (λ (q : ℕ). P (f (q, get_or clues k []))) e (h (suc k) (omega arith))),
-)
-
-pub all_lines : (P : GridLine → Type 0) (p : Nonogram) → ((y : ℕ) → y < length p.rows → P (row_at p y)) → ((x : ℕ) → x < length p.columns → P (column_at p x)) → AllByRecursion P (lines_of p)
-all_lines P p r c =
-    all_append P (map (row_line p) (enumerate_from 0 p.rows)) (map (column_line p) (enumerate_from 0 p.columns))
-    (all_numbered P (row_line p) 0 p.rows (λ k l. subst (λ (q : ℕ). P (row_line p (q, get_or p.rows k []))) (sym (zero-add k)) (r k l)))
-    (all_numbered P (column_line p) 0 p.columns (λ k l. subst (λ (q : ℕ). P (column_line p (q, get_or p.columns k []))) (sym (zero-add k)) (c k l)))
-
 -- what the loops over one line's places do
 
 pub write-step : (cells line : List Cell) (first step count i : ℕ) → i < count → length line ≡ count
@@ -198,7 +162,7 @@ write-step cells line first step count i h e =
 pub same-step : (cells line : List Cell) (first step count i : ℕ) → i < count → length line ≡ count → get_or line i Unknown ≡ get_or cells (first + i * step) Unknown
     → with_cells cells (places_from (first + (i + 1) * step) step (count - (i + 1))) (drop (i + 1) line) ≡ with_cells cells (places_from (first + i * step) step (count - i)) (drop i line)
 same-step cells line first step count i h e same =
-    let kept : set cells (first + i * step) (get_or line i Unknown) ≡ cells = ap (set cells (first + i * step)) same ∙ set-same cells (first + i * step) in
+    let kept : set cells (first + i * step) (get_or line i Unknown) ≡ cells = ap (set cells (first + i * step)) same ∙ set-get_or cells (first + i * step) Unknown in
     ap (λ (r : List Cell). with_cells r (places_from (first + (i + 1) * step) step (count - (i + 1))) (drop (i + 1) line)) (sym kept) ∙ write-step cells line first step count i h e
 
 -- a line that is read at places has as many cells
@@ -231,6 +195,14 @@ same-rest cells line first step count from l e same =
     let none : count - count ≡ 0 = omega arith in
     let all : with_cells cells (places_from (first + count * step) step (count - count)) (drop count line) ≡ cells = rw none refl in
     sym all ∙ same-until cells line first step count from count l (omega arith) e same
+
+-- a line that was written at places is read there
+pub line-read : (cells new line : List Cell) (first step count : ℕ) → 0 < step → ((i : ℕ) → i < count → first + i * step < length cells) → length line ≡ count
+    → new ≡ with_cells cells (places_from first step count) line → line ≡ cells_at Unknown new (places_from first step count)
+line-read cells new line first step count positive within long e =
+    sym
+    (ap (λ (r : List Cell). cells_at Unknown r (places_from first step count)) e
+    ∙ cells_at-with_cells cells (places_from first step count) line (distinct_from first step count positive) (below_from first step count (length cells) within) (long ∙ sym (length-places_from first step count)))
 
 pub read-old : (cells old : List Cell) (first step count k : ℕ) → old ≡ cells_at Unknown cells (places_from first step count) → k < count → get_or cells (first + k * step) Unknown ≡ get_or old k Unknown
 read-old cells old first step count k e h =
@@ -294,25 +266,3 @@ deduce_line-above g line = to (deduced (cells_at Unknown g line.places) line.clu
     to : (o : Option (List Cell)) → AtMost (Some (cells_at Unknown g line.places)) o → AtMost (Some g) (option_map (with_cells g line.places) o)
     to None above = tt
     to (Some d) above = rw (with_cells-same g line.places) at (with_cells-monotone g g line.places (cells_at Unknown g line.places) d (Extends-refl g) above)
-
--- a line with certain cells, for a program that writes them whether they differ or not
-pub learned_line : (g : List Cell) (line : GridLine) (d : List Cell) → deduced (cells_at Unknown g line.places) line.clue ≡ Some d → deduce_line g line ≡ Some (with_cells g line.places d)
-learned_line g line d e = ap (option_map (with_cells g line.places)) e
-
-pub learned-extends : (g : List Cell) (line : GridLine) (d : List Cell) → deduced (cells_at Unknown g line.places) line.clue ≡ Some d → Extends g (with_cells g line.places d)
-learned-extends g line d e =
-    let above : Extends (cells_at Unknown g line.places) d = rw e at (deduced-above (cells_at Unknown g line.places) line.clue) in
-    let old = with_cells-monotone g g line.places (cells_at Unknown g line.places) d (Extends-refl g) above in
-    rw (with_cells-same g line.places) at old
-
-pub learned-fewer : (g : List Cell) (line : GridLine) (d : List Cell) → deduced (cells_at Unknown g line.places) line.clue ≡ Some d → d ≢ cells_at Unknown g line.places
-    → AreDistinct line.places → AreBelow (length g) line.places → unknown_count (with_cells g line.places d) < unknown_count g
-learned-fewer g line d e n a b =
-    let above : Extends (cells_at Unknown g line.places) d = rw e at (deduced-above (cells_at Unknown g line.places) line.clue) in
-    elim (fewer_unknown g (with_cells g line.places d) (learned-extends g line d e)) [
-      | inl same ↦
-          (let long : length d ≡ length line.places = sym (length-Extends (cells_at Unknown g line.places) d above) ∙ length-cells_at Unknown g line.places in
-          let read : cells_at Unknown (with_cells g line.places d) line.places ≡ d = cells_at-with_cells g line.places d a b long in
-          absurd (n (sym read ∙ ap (λ (r : List Cell). cells_at Unknown r line.places) same)))
-      | inr less ↦ less
-    ]

@@ -8,7 +8,7 @@ use Rattle.solve_core.specs.declared.trials.Trial.TheVariants.{Refuted, Open, Cl
 use Rattle.solve_core.specs.declared.closures.Progress.TheVariants.{Changed}
 use Rattle.solve_core.specs.Closure.{round, closure}
 use Rattle.solve_core.specs.Trials.{is_refuted, left_over, tried, trial_round, trials, IsTried}
-use Rattle.solve_core.specs.Marks.{Progresses, outcome, AreOpen, AddsMarks, IsTrialOf}
+use Rattle.solve_core.specs.Marks.{Progresses, if_alive, AreOpen, AddsMarks, IsTrialOf}
 use Rattle.solve_core.specs.Trails.{unknown_count}
 use Rattle.solve_core.proofs.Order.{AtMost, Extends-refl, Extends-trans, length-Extends}
 use Rattle.solve_core.proofs.Closing.{repeat-fixed, fewer_unknown}
@@ -178,10 +178,10 @@ not_known Unknown e = refl
 not_known Filled e = cc
 not_known Blank e = cc
 
-pub outcome_alive : (alive : Bool) (cells : List Cell) (o : Option (List Cell)) → alive ≡ true → outcome alive cells ≡ o → o ≡ Some cells
-outcome_alive true cells o e h = sym h
-outcome_alive false cells o e h = absurd (true≢false (sym e))
+pub alive_cells : (alive : Bool) (cells : List Cell) (o : Option (List Cell)) → alive ≡ true → if_alive alive cells ≡ o → o ≡ Some cells
+alive_cells true cells o e h = sym h
+alive_cells false cells o e h = absurd (true≢false (sym e))
 
-pub outcome_dead : (alive : Bool) (cells : List Cell) (o : Option (List Cell)) → alive ≡ false → outcome alive cells ≡ o → o ≡ None
-outcome_dead true cells o e h = absurd (true≢false e)
-outcome_dead false cells o e h = sym h
+pub dead_cells : (alive : Bool) (cells : List Cell) (o : Option (List Cell)) → alive ≡ false → if_alive alive cells ≡ o → o ≡ None
+dead_cells true cells o e h = absurd (true≢false e)
+dead_cells false cells o e h = sym h

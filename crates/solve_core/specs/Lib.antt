@@ -5,12 +5,14 @@ pub mod Trails
 pub mod Boards
 pub mod MarkedPuzzles
 pub mod TriedPuzzles
+pub mod Lines
+pub mod Deductions
 pub mod Marks
-pub mod Rounds
-pub mod Grids
+pub mod Sizes
 pub mod Search
 pub mod Report
 pub mod Verdicts
 pub mod Endings
 pub mod FoundGrids
 pub mod Branches
+pub mod Guesses

@@ -2,8 +2,7 @@
 use Rattle.std.specs.Prelude.{Bool, List}
 use Rattle.grid_core.specs.Nonogram.{Nonogram}
 
--- a puzzle, with a mark for each row and for each column
+-- a puzzle, with a mark for each line, the rows first
 pub record MarkedPuzzle : Type 0 where
   pub puzzle : Nonogram
-  pub rows : List Bool
-  pub columns : List Bool
+  pub marks : List Bool

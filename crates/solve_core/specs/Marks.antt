@@ -1,10 +1,11 @@
 -- What closing and trials keep: the marks of lines and of colours, and what a step came to.
-use Rattle.std.specs.Prelude.{◌⊎◌, ◌≡◌, ◌≢◌, ℕ, ◌+◌, ◌*◌, ◌<◌, Bool, true, false, List, length, Option, Some, None, slice_index_or, slice_set}
+use Rattle.std.specs.Prelude.{◌⊎◌, ◌≡◌, ◌≢◌, ℕ, ◌+◌, ◌*◌, ◌<◌, ◌≤◌, Bool, true, false, List, length, Option, Some, None, slice_index_or, slice_set}
 use Rattle.grid_core.specs.declared.cells.Cell.{Cell}
 use Rattle.grid_core.specs.declared.cells.Cell.TheVariants.{Unknown, Filled, Blank}
-use Rattle.grid_core.specs.Nonogram.{Nonogram, IsNonogram, GridLine, lines_of, places_from, row_at, column_at, cells_at}
+use Rattle.grid_core.specs.Nonogram.{Nonogram, IsNonogram, GridLine, lines_of, cells_at}
 use Rattle.line_core.specs.Deduction.{deduced}
 use Rattle.solve_core.specs.Closure.{with_cells, closure}
+use Rattle.solve_core.specs.Lines.{line_count, line_at}
 use Rattle.solve_core.specs.Trails.{unknown_count}
 use Rattle.solve_core.specs.Trials.{is_refuted}
 use Rattle.solve_core.specs.MarkedPuzzles.{MarkedPuzzle}
@@ -16,46 +17,38 @@ use Rattle.solve_core.specs.declared.closures.Progress.{Progress}
 use Rattle.solve_core.specs.declared.closures.Progress.TheVariants.{Dead, Same, Changed}
 
 -- the cells, or none where they are dead
-abbrev pub outcome : Bool → List Cell → Option (List Cell)
-outcome true cells = Some cells
-outcome false cells = None
-
--- the places of a line
-abbrev pub places_of : Places → List ℕ
-places_of p = places_from p.first p.step p.count
-
--- each place is that of a cell
-abbrev pub AreWithin : Places → ℕ → Type 0
-AreWithin p size = (i : ℕ) → i < p.count → p.first + i * p.step < size
+abbrev pub if_alive : Bool → List Cell → Option (List Cell)
+if_alive true cells = Some cells
+if_alive false cells = None
 
 -- the line knows all that is certain of it
 abbrev pub IsSettled : List Cell → GridLine → Type 0
 IsSettled grid line = deduced (cells_at Unknown grid line.places) line.clue ≡ Some (cells_at Unknown grid line.places)
 
--- a line's certain cells stand in the new cells, and where no mark was made the line learned nothing
-pub record IsWritten (changed : Bool) (line : GridLine) (old new : List Cell) (before after : List Bool) : Type 0 where
+-- what is certain of a line stands in the new cells
+pub record IsWritten (line : GridLine) (old new : List Cell) : Type 0 where
   pub certain : List Cell
   pub is_certain : deduced (cells_at Unknown old line.places) line.clue ≡ Some certain
   pub written : new ≡ with_cells old line.places certain
-  pub same : changed ≡ false → certain ≡ cells_at Unknown old line.places
-  pub differs : changed ≡ true → certain ≢ cells_at Unknown old line.places
-  pub kept : changed ≡ false → after ≡ before
-  pub unmarked : (i : ℕ) → i < length line.places → slice_index_or after i false ≡ false → slice_index_or before i false ≡ false
-  pub marked : (i : ℕ) → i < length line.places → slice_index_or after i false ≡ false
-      → slice_index_or certain i Unknown ≡ slice_index_or (cells_at Unknown old line.places) i Unknown
 
--- what became of the cells by deducing a line
-abbrev pub IsDeduced : Progress → GridLine → List Cell → List Cell → List Bool → List Bool → Type 0
-IsDeduced Dead line old new before after = deduced (cells_at Unknown old line.places) line.clue ≡ None
-IsDeduced Same line old new before after = IsWritten false line old new before after
-IsDeduced Changed line old new before after = IsWritten true line old new before after
+-- what became of the cells by deducing a line: it is dead, it had nothing more to give, or what is certain of it was written
+abbrev pub IsLearned : Progress → GridLine → List Cell → List Cell → Type 0
+IsLearned Dead line old new = deduced (cells_at Unknown old line.places) line.clue ≡ None
+IsLearned Same line old new = (new ≡ old) × IsSettled old line
+IsLearned Changed line old new = IsWritten line old new × (unknown_count new < unknown_count old)
+
+-- no mark was taken away, only lines that cross at these places were marked, and each of them where the cell there changed
+pub record MarksChanges (places : Places) (old new : List Cell) (before after : List Bool) : Type 0 where
+  pub kept : (n : ℕ) → slice_index_or after n false ≡ false → slice_index_or before n false ≡ false
+  pub others : (n : ℕ) → (places.crossing ≤ n → places.crossing + places.count ≤ n) → slice_index_or after n false ≡ slice_index_or before n false
+  pub same : (i : ℕ) → i < places.count → slice_index_or after (places.crossing + i) false ≡ false
+      → slice_index_or new (places.first + i * places.step) Unknown ≡ slice_index_or old (places.first + i * places.step) Unknown
 
 -- each line that may have more to give is marked
 pub record HasMarks (m : MarkedPuzzle) (cells : List Cell) : Type 0 where
   pub puzzle : IsNonogram m.puzzle
   pub size : length cells ≡ m.puzzle.width * m.puzzle.height
-  pub rows_settled : (y : ℕ) → y < m.puzzle.height → slice_index_or m.rows y false ≡ false → IsSettled cells (row_at m.puzzle y)
-  pub columns_settled : (x : ℕ) → x < m.puzzle.width → slice_index_or m.columns x false ≡ false → IsSettled cells (column_at m.puzzle x)
+  pub settled : (n : ℕ) → n < line_count m.puzzle → slice_index_or m.marks n false ≡ false → IsSettled cells (line_at m.puzzle n)
 
 -- each line that may have more to give is marked, unless the cells are dead
 abbrev pub MarksAfter : Progress → MarkedPuzzle → List Cell → Type 0
@@ -67,9 +60,21 @@ MarksAfter Changed m cells = HasMarks m cells
 abbrev pub AreUnmarked : List Bool → Type 0
 AreUnmarked marks = (k : ℕ) → slice_index_or marks k false ≡ false
 
+-- no line of a range is marked
+abbrev pub AreUnmarkedFrom : ℕ → ℕ → List Bool → Type 0
+AreUnmarkedFrom start end marks = (n : ℕ) → start ≤ n → n < end → slice_index_or marks n false ≡ false
+
+-- no mark was made
+abbrev pub AddsNone : List Bool → List Bool → Type 0
+AddsNone old new = (n : ℕ) → slice_index_or old n false ≡ false → slice_index_or new n false ≡ false
+
+-- all lines of a range are rows, or all are columns: none of them crosses another
+abbrev pub AreParallel : Nonogram → ℕ → ℕ → Type 0
+AreParallel p start end = (end ≤ p.height) ⊎ (p.height ≤ start)
+
 -- no line is marked
 abbrev pub IsUnmarked : MarkedPuzzle → Type 0
-IsUnmarked m = AreUnmarked m.rows × AreUnmarked m.columns
+IsUnmarked m = AreUnmarkedFrom 0 (line_count m.puzzle) m.marks
 
 -- a step towards f of the cells: they are dead, the same, or fewer are unknown, and f of them is the same
 abbrev pub Progresses : (List Cell → Option (List Cell)) → Progress → List Cell → List Cell → Type 0

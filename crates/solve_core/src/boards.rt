@@ -1,7 +1,9 @@
 //! A grid as its cells, its rows and its columns, with the way back.
-ghost use Rattle.std.specs.Prelude.{◌≡◌, ◌-◌, ◌*◌, ◌<◌, ◌≤◌, [], length, replicate, take, slice_index_or, slice_set, true, IfOk};
+ghost use Rattle.std.specs.Prelude.{◌≡◌, ◌+◌, ◌-◌, ◌*◌, ◌<◌, ◌≤◌, [], length, replicate, take, slice_index_or, slice_set, true, IfOk};
 ghost use Rattle.grid_core.specs.Cells.{is_known};
-ghost use Rattle.grid_core.specs.Nonogram.{cells_at, places_from};
+ghost use Rattle.grid_core.specs.Nonogram.{cells_at};
+ghost use Rattle.grid_core.specs.declared.limits.TheConstants.{LONGEST_SIDE};
+ghost use Rattle.solve_core.specs.Lines.{places_in, places_of};
 ghost use Rattle.grid_core.specs.PartialGrid.{IsSize};
 ghost use Rattle.grid_core.specs.declared.cells.Cell.TheVariants.{Unknown};
 ghost use Rattle.solve_core.specs.Boards.{AreLinesOf, fresh_board, unknown_board};
@@ -37,7 +39,7 @@ impl Model for Board {
 
 /// So many lines of so many cells, of which nothing is known.
 fn unknown_lines(alloc: Global, len: u16, count: u16) -> Result<Vec<Line>, NoMemory>
-    requires { (1 ≤ len) × (len ≤ 128) }
+    requires { (1 ≤ len) × (len ≤ LONGEST_SIDE) }
     ensures { IfOk result (λ lines. lines.items ≡ replicate count (replicate len Unknown)) }
 {
     let mut lines = Vec::with_capacity(alloc, usize::from(count))?;
@@ -104,20 +106,17 @@ impl Board {
         &self.trail
     }
 
-    /// Row y, from 0 at the top: what is known of its cells, from the left.
-    pub fn row(&self, y: u16) -> Line
-        requires { y < self.now.height }
-        ensures { result ≡ cells_at Unknown self.now.cells (places_from (y * self.now.width) 1 self.now.width) }
+    /// What is known of the cells of line n: the rows come first, from the top, and then the columns, from the left.
+    pub fn line(&self, n: usize) -> Line
+        requires { n < self.now.height + self.now.width }
+        ensures { result ≡ cells_at Unknown self.now.cells (places_of (places_in self.now.width self.now.height n)) }
     {
-        self.rows[usize::from(y)].copy()
-    }
-
-    /// Column x, from 0 at the left: what is known of its cells, from the top.
-    pub fn column(&self, x: u16) -> Line
-        requires { x < self.now.width }
-        ensures { result ≡ cells_at Unknown self.now.cells (places_from x self.now.width self.now.height) }
-    {
-        self.columns[usize::from(x)].copy()
+        let height = self.rows.len();
+        if n < height {
+            self.rows[n].copy()
+        } else {
+            self.columns[n - height].copy()
+        }
     }
 
     /// Settles an unknown cell.

@@ -4,6 +4,7 @@
 mod boards;
 mod branches;
 mod closures;
+mod deductions;
 mod findings;
 mod grids;
 pub mod laws;
@@ -18,6 +19,8 @@ mod solver;
 mod test_puzzles;
 #[cfg(test)]
 mod tests;
+#[cfg(test)]
+mod tests_deductions;
 #[cfg(test)]
 mod tests_search;
 mod trials;

@@ -1,56 +1,66 @@
 //! What a deduction changes: the marks of the crossing lines, and the cells.
 ghost use Rattle.std.specs.Prelude.{◌≡◌, ◌≢◌, ℕ, ◌+◌, ◌*◌, ◌<◌, ◌≤◌, ◌↔◌, true, false, length, slice_index_or, IsTrue};
 ghost use Rattle.grid_core.specs.declared.cells.Cell.TheVariants.{Unknown};
-ghost use Rattle.grid_core.specs.Nonogram.{IsNonogram, places_from, cells_at};
+ghost use Rattle.grid_core.specs.Nonogram.{IsNonogram, cells_at};
 ghost use Rattle.solve_core.specs.Closure.{with_cells};
 ghost use Rattle.grid_core.specs.Cells.{Extends};
-ghost use Rattle.solve_core.specs.Marks.{places_of, AreWithin};
+ghost use Rattle.solve_core.specs.Lines.{line_count, line_at, places_in, places_of, AreWithin};
 ghost use Rattle.solve_core.specs.Trails.{IsTrailed};
 
 use crate::boards::Board;
-use grid_core::Puzzle;
+use grid_core::{Clue, Puzzle};
 use line_core::Line;
 
-/// The places of a line's cells: the first, and how far it is from each to the next.
+/// Where a line's cells are, and which lines cross it.
 #[derive(Clone, Copy)]
 pub struct Places {
     /// The place of the first cell.
     pub first: usize,
     /// How far it is from each place to the next: 1 along a row, the grid's width along a column.
     pub step: usize,
-    /// How many cells the line has, from 1 to 128.
+    /// How many cells the line has, from 1 to `LONGEST_SIDE`.
     pub count: u16,
+    /// The number of the line that crosses it at its first cell. The line that crosses it at cell i comes i later.
+    pub crossing: usize,
 }
 
 impl Places {
-    /// Those of row y.
-    pub fn of_row(puzzle: &Puzzle, y: u16) -> Places
-        requires { y < puzzle.now.height }
-        ensures first { result.first ≡ y * puzzle.now.width }
-        ensures step { result.step ≡ 1 }
-        ensures count { result.count ≡ puzzle.now.width }
+    /// Those of line n: the rows come first, from the top, and then the columns, from the left.
+    pub fn of_line(puzzle: &Puzzle, n: usize) -> Places
+        requires { n < line_count puzzle.now }
+        ensures places { result ≡ places_in puzzle.now.width puzzle.now.height n }
         ensures puzzle { IsNonogram puzzle.now }
     {
-        let width = puzzle.width();
-        Places {
-            first: usize::from(y) * usize::from(width),
-            step: 1,
-            count: width,
+        let width = usize::from(puzzle.width());
+        let height = usize::from(puzzle.height());
+        if n < height {
+            Places {
+                first: n * width,
+                step: 1,
+                count: puzzle.width(),
+                crossing: height,
+            }
+        } else {
+            Places {
+                first: n - height,
+                step: width,
+                count: puzzle.height(),
+                crossing: 0,
+            }
         }
     }
+}
 
-    /// Those of column x.
-    pub fn of_column(puzzle: &Puzzle, x: u16) -> Places
-        ensures first { result.first ≡ x }
-        ensures step { result.step ≡ puzzle.now.width }
-        ensures count { result.count ≡ puzzle.now.height }
-        ensures puzzle { IsNonogram puzzle.now }
-    {
-        Places {
-            first: usize::from(x),
-            step: usize::from(puzzle.width()),
-            count: puzzle.height(),
-        }
+/// The clue of line n.
+pub fn clue_of_line(puzzle: &Puzzle, n: usize) -> &Clue
+    requires { n < line_count puzzle.now }
+    ensures { result.now ≡ (line_at puzzle.now n).clue }
+{
+    let height = usize::from(puzzle.height());
+    if n < height {
+        &puzzle.rows()[n]
+    } else {
+        &puzzle.columns()[n - height]
     }
 }
 
@@ -73,20 +83,22 @@ pub fn write_line(board: &mut Board, places: Places, old: &Line, new: &Line)
     }
 }
 
-/// Marks the places where two lines differ. Answers whether they do.
-pub fn mark_changes(old: &Line, new: &Line, marks: &mut [bool]) -> bool
+/// Marks the lines that cross at the cells where two states of a line differ; the first of these lines crosses it at its first cell. Answers
+/// whether they differ.
+pub fn mark_changes(old: &Line, new: &Line, first: usize, marks: &mut [bool]) -> bool
     requires same { length new.now ≡ length old.now }
-    requires marks { length marks.old ≡ length old.now }
+    requires marks { first + length old.now ≤ length marks.old }
     ensures changed { result ≡ true → new.now ≢ old.now }
     ensures same { result ≡ false → new.now ≡ old.now }
     ensures kept { result ≡ false → marks.new ≡ marks.old }
-    ensures unmarked { (i : ℕ) → i < length old.now → slice_index_or marks.new i false ≡ false → slice_index_or marks.old i false ≡ false }
-    ensures marked { (i : ℕ) → i < length old.now → slice_index_or marks.new i false ≡ false
+    ensures others { (k : ℕ) → (first ≤ k → first + length old.now ≤ k) → slice_index_or marks.new k false ≡ slice_index_or marks.old k false }
+    ensures unmarked { (k : ℕ) → slice_index_or marks.new k false ≡ false → slice_index_or marks.old k false ≡ false }
+    ensures marked { (i : ℕ) → i < length old.now → slice_index_or marks.new (first + i) false ≡ false
         → slice_index_or new.now i Unknown ≡ slice_index_or old.now i Unknown }
 {
     let mut from = 0;
     while let Some(i) = old.next_change(new, from) {
-        marks[usize::from(i)] = true;
+        marks[first + usize::from(i)] = true;
         from = i + 1;
     }
     from > 0

@@ -2,19 +2,20 @@
 ghost use Rattle.std.specs.Prelude.{◌≡◌, ◌≢◌, ℕ, ◌+◌, ◌*◌, ◌<◌, ◌≤◌, true, false, List, Some, length, slice_set, slice_index_or, IfOk};
 ghost use Rattle.grid_core.specs.declared.cells.Cell.TheVariants.{Unknown};
 ghost use Rattle.grid_core.specs.Cells.{is_known};
-ghost use Rattle.grid_core.specs.Nonogram.{IsNonogram, lines_of, cells_at, row_at, column_at};
+ghost use Rattle.grid_core.specs.Nonogram.{IsNonogram, lines_of, cells_at};
+ghost use Rattle.grid_core.specs.declared.limits.TheConstants.{LONGEST_SIDE};
 ghost use Rattle.line_core.specs.Deduction.{deduced};
 ghost use Rattle.line_core.specs.Order.{AtMost};
 ghost use Rattle.solve_core.specs.Closure.{with_cells, round, closure};
-ghost use Rattle.solve_core.specs.Grids.{HasSizeOf};
-ghost use Rattle.solve_core.specs.Marks.{places_of, AreWithin, IsSettled, Progresses, outcome};
-ghost use Rattle.solve_core.specs.Rounds.{IsLearned};
+ghost use Rattle.solve_core.specs.Sizes.{HasSizeOf};
+ghost use Rattle.solve_core.specs.Lines.{line_count, line_at, places_of, AreWithin};
+ghost use Rattle.solve_core.specs.Marks.{IsSettled, IsLearned, Progresses, if_alive};
 ghost use Rattle.solve_core.specs.Trials.{is_refuted, trials, IsTried};
 ghost use Rattle.solve_core.specs.declared.closures.Progress.TheVariants.{Dead, Same};
 
 use crate::closures::Progress;
 use crate::grids::{read_grid, write_grid};
-use crate::places::Places;
+use crate::places::{Places, clue_of_line};
 use grid_core::{Cell, Clue, Grid, NoMemory, Puzzle};
 use line_core::{Line, deduce_by_listing};
 use std::alloc::Global;
@@ -22,7 +23,7 @@ use std::alloc::Global;
 /// The cells at some places.
 fn read_line(cells: &[Cell], places: Places) -> Line
     requires from { 1 ≤ places.count }
-    requires to { places.count ≤ 128 }
+    requires to { places.count ≤ LONGEST_SIDE }
     requires within { AreWithin places (length cells.now) }
     ensures { result ≡ cells_at Unknown cells.now (places_of places) }
 {
@@ -66,10 +67,10 @@ fn are_same(old: &Line, new: &Line) -> bool
 }
 
 /// Writes what is certain of a line, by all its placings, at its places.
-fn learn_line(cells: &mut [Cell], places: Places, clue: &Clue) -> Progress
+fn learn_places(cells: &mut [Cell], places: Places, clue: &Clue) -> Progress
     requires within { AreWithin places (length cells.old) }
     requires from { 1 ≤ places.count }
-    requires to { places.count ≤ 128 }
+    requires to { places.count ≤ LONGEST_SIDE }
     requires step { 0 < places.step }
     ensures { IsLearned result (record { places = places_of places; clue = clue.now }) cells.old cells.new }
 {
@@ -84,35 +85,25 @@ fn learn_line(cells: &mut [Cell], places: Places, clue: &Clue) -> Progress
     Progress::Changed
 }
 
-/// Deduces a row.
-fn learn_row(puzzle: &Puzzle, y: u16, cells: &mut [Cell]) -> Progress
-    requires y { y < puzzle.now.height }
+/// Deduces line n.
+fn learn_line(puzzle: &Puzzle, n: usize, cells: &mut [Cell]) -> Progress
+    requires n { n < line_count puzzle.now }
     requires size { length cells.old ≡ puzzle.now.width * puzzle.now.height }
     ensures progress { Progresses (closure (lines_of puzzle.now)) result cells.old cells.new }
-    ensures settled { result ≡ Same → IsSettled cells.new (row_at puzzle.now y) }
+    ensures settled { result ≡ Same → IsSettled cells.new (line_at puzzle.now n) }
 {
-    learn_line(cells, Places::of_row(puzzle, y), puzzle.row_clue(y))
+    learn_places(cells, Places::of_line(puzzle, n), clue_of_line(puzzle, n))
 }
 
-/// Deduces a column.
-fn learn_column(puzzle: &Puzzle, x: u16, cells: &mut [Cell]) -> Progress
-    requires x { x < puzzle.now.width }
+/// Deduces each line once, the rows first.
+fn learn_lines(puzzle: &Puzzle, cells: &mut [Cell]) -> Progress
     requires size { length cells.old ≡ puzzle.now.width * puzzle.now.height }
     ensures progress { Progresses (closure (lines_of puzzle.now)) result cells.old cells.new }
-    ensures settled { result ≡ Same → IsSettled cells.new (column_at puzzle.now x) }
-{
-    learn_line(cells, Places::of_column(puzzle, x), puzzle.col_clue(x))
-}
-
-/// Deduces each row once.
-fn learn_rows(puzzle: &Puzzle, cells: &mut [Cell]) -> Progress
-    requires size { length cells.old ≡ puzzle.now.width * puzzle.now.height }
-    ensures progress { Progresses (closure (lines_of puzzle.now)) result cells.old cells.new }
-    ensures settled { result ≡ Same → (y : ℕ) → y < puzzle.now.height → IsSettled cells.new (row_at puzzle.now y) }
+    ensures settled { result ≡ Same → (n : ℕ) → n < line_count puzzle.now → IsSettled cells.new (line_at puzzle.now n) }
 {
     let mut progress = Progress::Same;
-    for y in 0..puzzle.height() {
-        match learn_row(puzzle, y, cells) {
+    for n in 0..usize::from(puzzle.height()) + usize::from(puzzle.width()) {
+        match learn_line(puzzle, n, cells) {
             Progress::Dead => return Progress::Dead,
             Progress::Same => {}
             Progress::Changed => progress = Progress::Changed,
@@ -121,40 +112,17 @@ fn learn_rows(puzzle: &Puzzle, cells: &mut [Cell]) -> Progress
     progress
 }
 
-/// Deduces each column once.
-fn learn_columns(puzzle: &Puzzle, cells: &mut [Cell]) -> Progress
-    requires size { length cells.old ≡ puzzle.now.width * puzzle.now.height }
-    ensures progress { Progresses (closure (lines_of puzzle.now)) result cells.old cells.new }
-    ensures settled { result ≡ Same → (x : ℕ) → x < puzzle.now.width → IsSettled cells.new (column_at puzzle.now x) }
-{
-    let mut progress = Progress::Same;
-    for x in 0..puzzle.width() {
-        match learn_column(puzzle, x, cells) {
-            Progress::Dead => return Progress::Dead,
-            Progress::Same => {}
-            Progress::Changed => progress = Progress::Changed,
-        }
-    }
-    progress
-}
-
-/// Deduces all rows and all columns, again and again, until nothing changes or a line is dead. Answers whether the cells are alive.
+/// Deduces all lines, again and again, until nothing changes or a line is dead. Answers whether the cells are alive.
 fn close_cells(puzzle: &Puzzle, cells: &mut [Cell]) -> bool
     requires puzzle { IsNonogram puzzle.now }
     requires size { length cells.old ≡ puzzle.now.width * puzzle.now.height }
-    ensures { outcome result cells.new ≡ closure (lines_of puzzle.now) cells.old }
+    ensures { if_alive result cells.new ≡ closure (lines_of puzzle.now) cells.old }
 {
     loop {
-        let rows = learn_rows(puzzle, cells);
-        if rows.is_dead() {
-            return false;
-        }
-        let columns = learn_columns(puzzle, cells);
-        if columns.is_dead() {
-            return false;
-        }
-        if rows.is_same() && columns.is_same() {
-            return true;
+        match learn_lines(puzzle, cells) {
+            Progress::Dead => return false,
+            Progress::Same => return true,
+            Progress::Changed => {}
         }
     }
 }
@@ -162,7 +130,7 @@ fn close_cells(puzzle: &Puzzle, cells: &mut [Cell]) -> bool
 /// Closes a grid under line deduction, by rounds over all its lines. Answers whether it is alive; a dead grid's cells are open.
 pub fn close_by_rounds(alloc: Global, puzzle: &Puzzle, grid: &mut Grid) -> Result<bool, NoMemory>
     requires size { HasSizeOf puzzle.now grid.old }
-    ensures closed { IfOk result (λ alive. outcome alive grid.new.cells ≡ closure (lines_of puzzle.now) grid.old.cells) }
+    ensures closed { IfOk result (λ alive. if_alive alive grid.new.cells ≡ closure (lines_of puzzle.now) grid.old.cells) }
     ensures size { HasSizeOf puzzle.now grid.new }
 {
     let count = usize::from(puzzle.width()) * usize::from(puzzle.height());
@@ -187,15 +155,15 @@ fn is_refuted(
     ensures { IfOk result (λ refuted. refuted ≡ is_refuted (lines_of puzzle.now) cells.now place colour) }
 {
     let mut trial = Vec::from_slice(alloc, cells)?;
-    Ok(!close_trial(puzzle, &mut trial, place, colour))
+    Ok(!assign(puzzle, &mut trial, place, colour))
 }
 
 /// Gives a cell a colour and closes the cells. Answers whether they are alive.
-fn close_trial(puzzle: &Puzzle, cells: &mut [Cell], place: usize, colour: Cell) -> bool
+fn assign(puzzle: &Puzzle, cells: &mut [Cell], place: usize, colour: Cell) -> bool
     requires puzzle { IsNonogram puzzle.now }
     requires size { length cells.old ≡ puzzle.now.width * puzzle.now.height }
     requires place { place < length cells.old }
-    ensures { outcome result cells.new ≡ closure (lines_of puzzle.now) (slice_set cells.old place colour) }
+    ensures { if_alive result cells.new ≡ closure (lines_of puzzle.now) (slice_set cells.old place colour) }
 {
     cells[place] = colour;
     close_cells(puzzle, cells)
@@ -213,7 +181,7 @@ fn keep_colour(puzzle: &Puzzle, cells: &mut [Cell], place: usize, colour: Cell) 
     ensures changed { result ≢ Same }
     ensures closed { result ≢ Dead → round (lines_of puzzle.now) cells.new ≡ Some cells.new }
 {
-    if close_trial(puzzle, cells, place, colour) {
+    if assign(puzzle, cells, place, colour) {
         Progress::Changed
     } else {
         Progress::Dead
@@ -272,7 +240,7 @@ fn try_until_same(alloc: Global, puzzle: &Puzzle, cells: &mut [Cell]) -> Result<
     requires puzzle { IsNonogram puzzle.now }
     requires size { length cells.old ≡ puzzle.now.width * puzzle.now.height }
     requires closed { round (lines_of puzzle.now) cells.old ≡ Some cells.old }
-    ensures { IfOk result (λ alive. outcome alive cells.new ≡ trials (lines_of puzzle.now) cells.old) }
+    ensures { IfOk result (λ alive. if_alive alive cells.new ≡ trials (lines_of puzzle.now) cells.old) }
 {
     loop {
         match try_all(alloc, puzzle, cells)? {
@@ -287,7 +255,7 @@ fn try_until_same(alloc: Global, puzzle: &Puzzle, cells: &mut [Cell]) -> Result<
 fn try_cells(alloc: Global, puzzle: &Puzzle, cells: &mut [Cell]) -> Result<bool, NoMemory>
     requires puzzle { IsNonogram puzzle.now }
     requires size { length cells.old ≡ puzzle.now.width * puzzle.now.height }
-    ensures { IfOk result (λ alive. outcome alive cells.new ≡ trials (lines_of puzzle.now) cells.old) }
+    ensures { IfOk result (λ alive. if_alive alive cells.new ≡ trials (lines_of puzzle.now) cells.old) }
 {
     if !close_cells(puzzle, cells) {
         return Ok(false);
@@ -299,7 +267,7 @@ fn try_cells(alloc: Global, puzzle: &Puzzle, cells: &mut [Cell]) -> Result<bool,
 /// Closes a grid under trials, each of them run, by rounds. Answers whether it is alive; a dead grid's cells are open.
 pub fn try_by_rounds(alloc: Global, puzzle: &Puzzle, grid: &mut Grid) -> Result<bool, NoMemory>
     requires size { HasSizeOf puzzle.now grid.old }
-    ensures tried { IfOk result (λ alive. outcome alive grid.new.cells ≡ trials (lines_of puzzle.now) grid.old.cells) }
+    ensures tried { IfOk result (λ alive. if_alive alive grid.new.cells ≡ trials (lines_of puzzle.now) grid.old.cells) }
     ensures size { HasSizeOf puzzle.now grid.new }
 {
     let count = usize::from(puzzle.width()) * usize::from(puzzle.height());

@@ -4,7 +4,7 @@ ghost use Rattle.std.specs.List.{list_all};
 ghost use Rattle.grid_core.specs.Cells.{is_known};
 ghost use Rattle.solve_core.specs.Search.{first_unknown};
 ghost use Rattle.solve_core.specs.Boards.{unknown_board};
-ghost use Rattle.solve_core.specs.FoundGrids.{AreOfSize};
+ghost use Rattle.solve_core.specs.Sizes.{IsSizeOf};
 ghost use Rattle.solve_core.specs.Report.{report_of, grade_by};
 ghost use Rattle.solve_core.specs.Verdicts.{Holds};
 
@@ -12,7 +12,7 @@ use crate::boards::Board;
 use crate::branches::Branch;
 use crate::search::search;
 use crate::solutions::Solutions;
-use crate::solver::Solver;
+use crate::trials::Trials;
 use crate::{Findings, Grade, Verdict};
 use grid_core::{NoMemory, Puzzle};
 use std::alloc::Global;
@@ -51,20 +51,20 @@ fn grade(lines_settle: bool, trials_settle: bool) -> Grade
 
 /// The report, by a board of which nothing is known and in room that is made.
 fn findings(
-    solver: &mut Solver<'_>,
+    trials: &mut Trials<'_>,
     board: &mut Board,
     branches: &mut Vec<Branch>,
     solutions: Solutions,
     guesses: u32,
 ) -> Findings
-    requires board { board.old ≡ unknown_board solver.old.width solver.old.height }
-    requires size { AreOfSize solver.old solutions }
+    requires board { board.old ≡ unknown_board trials.old.closer.puzzle.width trials.old.closer.puzzle.height }
+    requires size { IsSizeOf trials.old.closer.puzzle solutions.width solutions.height }
     requires branches { branches.old.items ≡ [] }
     requires found { solutions.grids ≡ [] }
     requires room { length board.old.cells ≤ vec_capacity branches.old }
-    ensures { result ≡ report_of first_unknown solver.old guesses }
+    ensures { result ≡ report_of first_unknown trials.old.closer.puzzle guesses }
 {
-    if !solver.close_board(board) {
+    if !trials.closer.propagate_all(board) {
         return Findings {
             verdict: Verdict::Nothing,
             grade: Grade::Lines,
@@ -75,7 +75,7 @@ fn findings(
     }
     let line_known = count_known(board);
     let lines_settle = are_known(board);
-    if !solver.try_board(board) {
+    if !trials.try_at_rest(board) {
         return Findings {
             verdict: Verdict::Nothing,
             grade: grade(lines_settle, true),
@@ -87,13 +87,13 @@ fn findings(
     let trial_known = count_known(board);
     let grade = grade(lines_settle, are_known(board));
     let mut solutions = solutions;
-    let outcome = search(solver, board, branches, &mut solutions, guesses);
+    let end = search(&mut trials.closer, board, branches, &mut solutions, guesses);
     Findings {
-        verdict: solutions.verdict(outcome.cut),
+        verdict: solutions.verdict(end.cut),
         grade,
         line_known,
         trial_known,
-        spent: outcome.spent,
+        spent: end.spent,
     }
 }
 
@@ -106,9 +106,9 @@ pub fn report(alloc: Global, puzzle: &Puzzle, guesses: u32) -> Result<Findings, 
 {
     let width = puzzle.width();
     let height = puzzle.height();
-    let mut solver = Solver::new(alloc, puzzle)?;
+    let mut trials = Trials::new(alloc, puzzle)?;
     let mut board = Board::unknown(alloc, width, height)?;
     let mut branches = Vec::with_capacity(alloc, board.cells().len())?;
     let solutions = Solutions::new(alloc, width, height)?;
-    Ok(findings(&mut solver, &mut board, &mut branches, solutions, guesses))
+    Ok(findings(&mut trials, &mut board, &mut branches, solutions, guesses))
 }

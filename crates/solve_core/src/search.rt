@@ -4,20 +4,22 @@ ghost use Rattle.grid_core.specs.Cells.{is_known};
 ghost use Rattle.grid_core.specs.Nonogram.{Nonogram, lines_of};
 ghost use Rattle.solve_core.specs.declared.branches.Branch.{Branch as BranchValue};
 ghost use Rattle.solve_core.specs.Search.{Event, guess_at, events, first_unknown};
-ghost use Rattle.solve_core.specs.FoundGrids.{AreOfSize};
+ghost use Rattle.solve_core.specs.Sizes.{IsSizeOf};
+ghost use Rattle.solve_core.specs.Marks.{IsAtRest, IsUnmarked};
+ghost use Rattle.solve_core.specs.Guesses.{GoesOn};
 ghost use Rattle.solve_core.specs.Endings.{ending};
 ghost use Rattle.solve_core.specs.Boards.{IsBoardOf};
 ghost use Rattle.solve_core.specs.Branches.{AreKnownBefore, IsClosed, IsNext, IsOpen, IsWork, AreOlder, pending, open_events};
 
 use crate::boards::Board;
 use crate::branches::{Branch, next_guess};
+use crate::closures::Closer;
 use crate::solutions::Solutions;
-use crate::solver::Solver;
 use grid_core::Cell;
 
-/// How a search ends: whether the limit on guesses cut it short, and how many it spent.
+/// How a search ended: whether the limit on guesses cut it short, and how many it spent.
 #[derive(Clone, Copy, Debug)]
-pub struct Outcome {
+pub struct SearchEnd {
     pub cut: bool,
     pub spent: u32,
 }
@@ -41,7 +43,7 @@ fn look_at(board: &Board, start: usize, solutions: &mut Solutions) -> Option<usi
     requires known { AreKnownBefore start board.now.cells }
     requires size { length board.now.cells ≡ solutions.old.width * solutions.old.height }
     requires room { length solutions.old.grids < 2 }
-    ensures ending { (p : Nonogram) → AreOfSize p solutions.old → (spent left : ℕ) (rest : List Event) →
+    ensures ending { (p : Nonogram) → IsSizeOf p solutions.old.width solutions.old.height → (spent left : ℕ) (rest : List Event) →
         ending p solutions.new.grids spent left (open_events first_unknown (lines_of p) board.now.cells result rest)
         ≡ ending p solutions.old.grids spent left (guess_at (events first_unknown (lines_of p)) board.now.cells (first_unknown board.now.cells) ++ rest) }
     ensures fewer { (p : Nonogram) (rest : List Event) → length (open_events first_unknown (lines_of p) board.now.cells result rest)
@@ -62,73 +64,63 @@ fn look_at(board: &Board, start: usize, solutions: &mut Solutions) -> Option<usi
 
 /// Makes a guess and looks at what comes of it.
 fn explore(
-    solver: &mut Solver<'_>,
+    closer: &mut Closer<'_>,
     board: &mut Board,
     place: usize,
     colour: Cell,
     solutions: &mut Solutions,
 ) -> Option<usize>
-    requires size { AreOfSize solver.old solutions.old }
-    requires board { IsBoardOf solver.old board.old }
-    requires next { IsNext first_unknown (lines_of solver.old) board.old.cells place }
+    requires size { IsSizeOf closer.old.puzzle solutions.old.width solutions.old.height }
+    requires board { IsBoardOf closer.old.puzzle board.old }
+    requires rest { IsAtRest closer.old board.old.cells }
+    requires next { IsNext first_unknown (lines_of closer.old.puzzle) board.old.cells place }
     requires colour { is_known colour ≡ true }
     requires found { length solutions.old.grids < 2 }
-    ensures ending { (branches : List BranchValue) → IsWork first_unknown (lines_of solver.old) board.old.cells board.old.trail branches →
-        (spent left : ℕ) → ending solver.old solutions.new.grids spent left
-        (open_events first_unknown (lines_of solver.old) board.new.cells result (pending first_unknown (lines_of solver.old) board.new.cells board.new.trail branches))
-        ≡ ending solver.old solutions.old.grids spent left
-        (events first_unknown (lines_of solver.old) (slice_set board.old.cells place colour)
-        ++ pending first_unknown (lines_of solver.old) board.old.cells board.old.trail branches) }
-    ensures fewer { (branches : List BranchValue) → IsWork first_unknown (lines_of solver.old) board.old.cells board.old.trail branches →
-        length (open_events first_unknown (lines_of solver.old) board.new.cells result (pending first_unknown (lines_of solver.old) board.new.cells board.new.trail branches))
-        ≤ length (events first_unknown (lines_of solver.old) (slice_set board.old.cells place colour)
-        ++ pending first_unknown (lines_of solver.old) board.old.cells board.old.trail branches) }
-    ensures work { (branches : List BranchValue) → IsWork first_unknown (lines_of solver.old) board.old.cells board.old.trail branches →
-        IsWork first_unknown (lines_of solver.old) board.new.cells board.new.trail branches }
-    ensures older { (branches : List BranchValue) → IsWork first_unknown (lines_of solver.old) board.old.cells board.old.trail branches →
-        AreOlder board.new.trail branches result }
-    ensures next { IsOpen first_unknown (lines_of solver.old) board.new.cells result }
-    ensures board { IsBoardOf solver.old board.new }
+    ensures goes_on { (branches : List BranchValue) → IsWork first_unknown (lines_of closer.old.puzzle) board.old.cells board.old.trail branches →
+        GoesOn closer.old.puzzle (events first_unknown (lines_of closer.old.puzzle) (slice_set board.old.cells place colour)) branches
+        board.old solutions.old.grids board.new solutions.new.grids result }
+    ensures unmarked { IsUnmarked closer.new }
+    ensures board { IsBoardOf closer.old.puzzle board.new }
     ensures found { length solutions.new.grids ≤ 2 }
-    ensures size { AreOfSize solver.old solutions.new }
-    ensures puzzle { solver.new ≡ solver.old }
+    ensures size { IsSizeOf closer.old.puzzle solutions.new.width solutions.new.height }
+    ensures puzzle { closer.new.puzzle ≡ closer.old.puzzle }
 {
-    if !solver.close_with(board, place, colour) {
+    if !closer.assign(board, place, colour) {
         return None;
     }
     look_at(board, place, solutions)
 }
 
-/// Searches from a closed board, in place: it remembers what is settled, and each filled guess stands on the branches until its cell is guessed
+/// Searches from a board at rest, in place: it remembers what is settled, and each filled guess stands on the branches until its cell is guessed
 /// blank.
 pub fn search(
-    solver: &mut Solver<'_>,
+    closer: &mut Closer<'_>,
     board: &mut Board,
     branches: &mut Vec<Branch>,
     solutions: &mut Solutions,
     guesses: u32,
-) -> Outcome
-    requires size { AreOfSize solver.old solutions.old }
-    requires board { IsBoardOf solver.old board.old }
-    requires closed { IsClosed (lines_of solver.old) board.old.cells }
+) -> SearchEnd
+    requires size { IsSizeOf closer.old.puzzle solutions.old.width solutions.old.height }
+    requires board { IsBoardOf closer.old.puzzle board.old }
+    requires rest { IsAtRest closer.old board.old.cells }
     requires branches { branches.old.items ≡ [] }
     requires found { solutions.old.grids ≡ [] }
     requires room { length board.old.cells ≤ vec_capacity branches.old }
     ensures ending { record { found = solutions.new.grids; cut = result.cut; spent = result.spent }
-        ≡ ending solver.old [] 0 guesses (events first_unknown (lines_of solver.old) board.old.cells) }
-    ensures puzzle { solver.new ≡ solver.old }
+        ≡ ending closer.old.puzzle [] 0 guesses (events first_unknown (lines_of closer.old.puzzle) board.old.cells) }
+    ensures puzzle { closer.new.puzzle ≡ closer.old.puzzle }
 {
     let mut spent: u32 = 0;
     let mut next = look_at(board, 0, solutions);
     while solutions.len() < 2 {
         let Some((place, colour)) = next_guess(board, branches, next) else {
-            return Outcome { cut: false, spent };
+            return SearchEnd { cut: false, spent };
         };
         if spent == guesses {
-            return Outcome { cut: true, spent };
+            return SearchEnd { cut: true, spent };
         }
         spent += 1;
-        next = explore(solver, board, place, colour, solutions);
+        next = explore(closer, board, place, colour, solutions);
     }
-    Outcome { cut: false, spent }
+    SearchEnd { cut: false, spent }
 }

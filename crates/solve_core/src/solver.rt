@@ -5,10 +5,10 @@ ghost use Rattle.solve_core.specs.Closure.{round, closure};
 ghost use Rattle.solve_core.specs.Trails.{IsTrailed};
 ghost use Rattle.grid_core.specs.declared.cells.Cell.TheVariants.{Unknown};
 ghost use Rattle.grid_core.specs.Cells.{is_known};
-ghost use Rattle.solve_core.specs.Grids.{HasSizeOf};
+ghost use Rattle.solve_core.specs.Sizes.{HasSizeOf};
 ghost use Rattle.solve_core.specs.Boards.{IsBoardOf};
 ghost use Rattle.solve_core.specs.Trials.{trials};
-ghost use Rattle.solve_core.specs.Marks.{outcome};
+ghost use Rattle.solve_core.specs.Marks.{if_alive};
 
 use crate::boards::Board;
 use crate::grids::write_grid;
@@ -49,12 +49,12 @@ impl<'p> Solver<'p> {
     /// Closes a grid under line deduction. Answers whether it is alive; a dead grid's cells are open.
     pub fn close_lines(&mut self, grid: &mut Grid) -> bool
         requires size { HasSizeOf self.old grid.old }
-        ensures closed { outcome result grid.new.cells ≡ closure (lines_of self.old) grid.old.cells }
+        ensures closed { if_alive result grid.new.cells ≡ closure (lines_of self.old) grid.old.cells }
         ensures size { HasSizeOf self.old grid.new }
         ensures puzzle { self.new ≡ self.old }
     {
         self.board.read(grid);
-        let alive = self.trials.close_all(&mut self.board);
+        let alive = self.trials.closer.propagate_all(&mut self.board);
         write_grid(self.board.cells(), grid);
         alive
     }
@@ -62,7 +62,7 @@ impl<'p> Solver<'p> {
     /// Closes a grid under trials. Answers whether it is alive; a dead grid's cells are open.
     pub fn close_trials(&mut self, grid: &mut Grid) -> bool
         requires size { HasSizeOf self.old grid.old }
-        ensures tried { outcome result grid.new.cells ≡ trials (lines_of self.old) grid.old.cells }
+        ensures tried { if_alive result grid.new.cells ≡ trials (lines_of self.old) grid.old.cells }
         ensures size { HasSizeOf self.old grid.new }
         ensures puzzle { self.new ≡ self.old }
     {
@@ -70,41 +70,5 @@ impl<'p> Solver<'p> {
         let alive = self.trials.try_board(&mut self.board);
         write_grid(self.board.cells(), grid);
         alive
-    }
-
-    /// Closes a board under line deduction. Answers whether it is alive; a dead board's cells are open.
-    pub(crate) fn close_board(&mut self, board: &mut Board) -> bool
-        requires board { IsBoardOf self.old board.old }
-        ensures closed { outcome result board.new.cells ≡ closure (lines_of self.old) board.old.cells }
-        ensures board { IsBoardOf self.old board.new }
-        ensures puzzle { self.new ≡ self.old }
-    {
-        self.trials.close_all(board)
-    }
-
-    /// Closes a board under trials. Answers whether it is alive; a dead board's cells are open.
-    pub(crate) fn try_board(&mut self, board: &mut Board) -> bool
-        requires board { IsBoardOf self.old board.old }
-        ensures tried { outcome result board.new.cells ≡ trials (lines_of self.old) board.old.cells }
-        ensures board { IsBoardOf self.old board.new }
-        ensures puzzle { self.new ≡ self.old }
-    {
-        self.trials.try_board(board)
-    }
-
-    /// Gives an unknown cell of a closed board a colour, and closes it by what that says of its row and its column. Answers whether it is alive;
-    /// dead cells are open. The board leads back to where it was.
-    pub(crate) fn close_with(&mut self, board: &mut Board, place: usize, colour: Cell) -> bool
-        requires board { IsBoardOf self.old board.old }
-        requires closed { round (lines_of self.old) board.old.cells ≡ Some board.old.cells }
-        requires place { place < length board.old.cells }
-        requires unknown { slice_index_or board.old.cells place Unknown ≡ Unknown }
-        requires colour { is_known colour ≡ true }
-        ensures closed { outcome result board.new.cells ≡ closure (lines_of self.old) (slice_set board.old.cells place colour) }
-        ensures trail { IsTrailed board.old board.new }
-        ensures board { IsBoardOf self.old board.new }
-        ensures puzzle { self.new ≡ self.old }
-    {
-        self.trials.close_after(board, place, colour)
     }
 }

@@ -1,6 +1,6 @@
 //! Puzzles by the numbers of their clues, for tests.
 
-use grid_core::{Clue, Puzzle, Texts};
+use grid_core::{Clue, LONGEST_SIDE, Puzzle, Texts};
 use std::alloc::Global;
 
 /// The clues with these numbers.
@@ -15,7 +15,8 @@ fn clues_of(alloc: Global, lists: &[&[u16]]) -> Option<Vec<Clue>> {
 
 /// The puzzle with these clues of its rows and of its columns, if there is one.
 pub fn puzzle_of(alloc: Global, rows: &[&[u16]], columns: &[&[u16]]) -> Option<Puzzle> {
-    if rows.len() > 128 || columns.len() > 128 {
+    let longest = usize::from(LONGEST_SIDE);
+    if rows.len() > longest || columns.len() > longest {
         return None;
     }
     let width = columns.len() as u16;

@@ -1,6 +1,6 @@
 //! Tests of closing grids: by lines and under trials, by solvers and by the plain programs.
 ghost use Rattle.std.specs.Prelude.{◌≡◌, ◌<◌, ◌≤◌, IfSome};
-ghost use Rattle.solve_core.specs.Grids.{HasSizeOf};
+ghost use Rattle.solve_core.specs.Sizes.{HasSizeOf};
 
 use super::*;
 use crate::test_puzzles::puzzle_of;

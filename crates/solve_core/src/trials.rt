@@ -6,7 +6,7 @@ ghost use Rattle.grid_core.specs.Cells.{is_known};
 ghost use Rattle.solve_core.specs.Closure.{round, closure};
 ghost use Rattle.line_core.specs.Order.{AtMost};
 ghost use Rattle.solve_core.specs.Trials.{trials, IsTried};
-ghost use Rattle.solve_core.specs.Marks.{Progresses, AreUnmarked, outcome, AreOpenColours, AddsMarks, IsAtRest, IsReady, IsTrialOf};
+ghost use Rattle.solve_core.specs.Marks.{Progresses, AreUnmarked, if_alive, AreOpenColours, AddsMarks, IsAtRest, IsReady, IsTrialOf};
 ghost use Rattle.solve_core.specs.Trails.{IsTrailed};
 ghost use Rattle.solve_core.specs.Boards.{IsBoardOf};
 ghost use Rattle.solve_core.specs.declared.trials.Trial.TheVariants.{Refuted, Closed};
@@ -124,7 +124,7 @@ impl Colours {
         if known {
             return Trial::Open;
         }
-        if !closer.close_copy(board, trial, place, colour) {
+        if !closer.assign_copy(board, trial, place, colour) {
             return Trial::Refuted;
         }
         self.mark(trial);
@@ -135,7 +135,7 @@ impl Colours {
 /// What trials work with: what closes, a board for the trials of each colour, and the colours that they have met.
 #[derive(Drop)]
 pub struct Trials<'p> {
-    closer: Closer<'p>,
+    pub(crate) closer: Closer<'p>,
     filled_trial: Board,
     blank_trial: Board,
     colours: Colours,
@@ -170,31 +170,6 @@ impl<'p> Trials<'p> {
         })
     }
 
-    /// Closes a board under line deduction. Answers whether it is alive.
-    pub fn close_all(&mut self, board: &mut Board) -> bool
-        requires size { IsBoardOf self.old.closer.puzzle board.old }
-        ensures closed { outcome result board.new.cells ≡ closure (lines_of self.old.closer.puzzle) board.old.cells }
-        ensures size { IsBoardOf self.old.closer.puzzle board.new }
-        ensures puzzle { self.new.closer.puzzle ≡ self.old.closer.puzzle }
-    {
-        self.closer.close_all(board)
-    }
-
-    /// Gives an unknown cell of a closed board a colour and closes it. Answers whether it is alive.
-    pub fn close_after(&mut self, board: &mut Board, place: usize, colour: Cell) -> bool
-        requires closed { round (lines_of self.old.closer.puzzle) board.old.cells ≡ Some board.old.cells }
-        requires size { IsBoardOf self.old.closer.puzzle board.old }
-        requires place { place < length board.old.cells }
-        requires unknown { slice_index_or board.old.cells place Unknown ≡ Unknown }
-        requires colour { is_known colour ≡ true }
-        ensures closed { outcome result board.new.cells ≡ closure (lines_of self.old.closer.puzzle) (slice_set board.old.cells place colour) }
-        ensures trail { IsTrailed board.old board.new }
-        ensures size { IsBoardOf self.old.closer.puzzle board.new }
-        ensures puzzle { self.new.closer.puzzle ≡ self.old.closer.puzzle }
-    {
-        self.closer.close_after(board, place, colour)
-    }
-
     /// Gives a cell the colour that is left, and closes the board.
     fn keep_colour(&mut self, board: &mut Board, place: usize, colour: Cell) -> Progress
         requires rest { IsAtRest self.old.closer board.old.cells }
@@ -210,7 +185,7 @@ impl<'p> Trials<'p> {
         ensures puzzle { self.new.closer.puzzle ≡ self.old.closer.puzzle }
     {
         self.colours.forget();
-        if self.closer.close_with(board, place, colour) {
+        if self.closer.assign(board, place, colour) {
             Progress::Changed
         } else {
             Progress::Dead
@@ -284,7 +259,8 @@ impl<'p> Trials<'p> {
     fn try_until_same(&mut self, board: &mut Board) -> bool
         requires ready { IsReady self.old board.old.cells }
         requires size { IsBoardOf self.old.closer.puzzle board.old }
-        ensures tried { outcome result board.new.cells ≡ trials (lines_of self.old.closer.puzzle) board.old.cells }
+        ensures tried { if_alive result board.new.cells ≡ trials (lines_of self.old.closer.puzzle) board.old.cells }
+        ensures rest { IsTrue result → IsAtRest self.new.closer board.new.cells }
         ensures size { IsBoardOf self.old.closer.puzzle board.new }
         ensures puzzle { self.new.closer.puzzle ≡ self.old.closer.puzzle }
     {
@@ -297,17 +273,30 @@ impl<'p> Trials<'p> {
         }
     }
 
-    /// Closes a board under trials. Answers whether it is alive.
-    pub fn try_board(&mut self, board: &mut Board) -> bool
+    /// Closes a board at rest under trials. Answers whether it is alive.
+    pub fn try_at_rest(&mut self, board: &mut Board) -> bool
+        requires rest { IsAtRest self.old.closer board.old.cells }
         requires size { IsBoardOf self.old.closer.puzzle board.old }
-        ensures tried { outcome result board.new.cells ≡ trials (lines_of self.old.closer.puzzle) board.old.cells }
+        ensures tried { if_alive result board.new.cells ≡ trials (lines_of self.old.closer.puzzle) board.old.cells }
+        ensures rest { IsTrue result → IsAtRest self.new.closer board.new.cells }
         ensures size { IsBoardOf self.old.closer.puzzle board.new }
         ensures puzzle { self.new.closer.puzzle ≡ self.old.closer.puzzle }
     {
-        if !self.closer.close_all(board) {
-            return false;
-        }
         self.colours.forget();
         self.try_until_same(board)
+    }
+
+    /// Closes a board under trials. Answers whether it is alive.
+    pub fn try_board(&mut self, board: &mut Board) -> bool
+        requires size { IsBoardOf self.old.closer.puzzle board.old }
+        ensures tried { if_alive result board.new.cells ≡ trials (lines_of self.old.closer.puzzle) board.old.cells }
+        ensures rest { IsTrue result → IsAtRest self.new.closer board.new.cells }
+        ensures size { IsBoardOf self.old.closer.puzzle board.new }
+        ensures puzzle { self.new.closer.puzzle ≡ self.old.closer.puzzle }
+    {
+        if !self.closer.propagate_all(board) {
+            return false;
+        }
+        self.try_at_rest(board)
     }
 }

@@ -7,10 +7,10 @@ ghost use Rattle.survey_core.specs.Entries.{counts_text, entry_line, entry_text,
 ghost use Rattle.survey_core.specs.Goals.{goal_text, goal_word};
 
 use crate::Outcome;
+use crate::names::push_name;
 use crate::pictures::push_grid;
-use crate::texts::{push_bytes, push_name, push_number};
 use grid_core::{GoalWord, Grid, NoMemory, Puzzle};
-use puzzle_text::{EntryFault, fault_text};
+use puzzle_text::{EntryFault, push_bytes, push_number};
 use solve_core::{Findings, Grade, Verdict};
 use std::alloc::Global;
 
@@ -91,35 +91,30 @@ fn push_found(text: &mut Vec<u8>, puzzle: &Puzzle, findings: &Findings) -> Resul
 }
 
 /// Adds why an entry is refused.
-fn push_refusal(alloc: Global, text: &mut Vec<u8>, fault: &EntryFault) -> Result<(), NoMemory>
-    ensures { OnOk result (text.new.items ≡ text.old.items ++ codes "refused " ++ word_of fault.now) }
+fn push_refusal(text: &mut Vec<u8>, fault: EntryFault) -> Result<(), NoMemory>
+    ensures { OnOk result (text.new.items ≡ text.old.items ++ codes "refused " ++ word_of fault) }
 {
     push_bytes(text, b"refused ")?;
-    push_bytes(text, &fault_text(alloc, fault)?)
+    fault.word().push(text)
 }
 
 /// Adds what was found, or why the entry is refused.
-fn push_result(alloc: Global, text: &mut Vec<u8>, outcome: &Outcome) -> Result<(), NoMemory>
+fn push_result(text: &mut Vec<u8>, outcome: &Outcome) -> Result<(), NoMemory>
     ensures { OnOk result (text.new.items ≡ text.old.items ++ result_text (shown_outcome outcome.now).result) }
 {
     match outcome.found() {
         Ok((puzzle, findings)) => push_found(text, puzzle, findings),
-        Err(fault) => push_refusal(alloc, text, &fault),
+        Err(fault) => push_refusal(text, fault),
     }
 }
 
 /// Adds the line of an entry.
-fn push_line(
-    alloc: Global,
-    text: &mut Vec<u8>,
-    number: u32,
-    outcome: &Outcome,
-) -> Result<(), NoMemory>
+fn push_line(text: &mut Vec<u8>, number: u32, outcome: &Outcome) -> Result<(), NoMemory>
     ensures { OnOk result (text.new.items ≡ text.old.items ++ entry_line number (shown_outcome outcome.now)) }
 {
     push_number(text, u64::from(number))?;
     push_bytes(text, b" ")?;
-    push_result(alloc, text, outcome)?;
+    push_result(text, outcome)?;
     push_bytes(text, b" ")?;
     push_name(text, &outcome.name)?;
     push_bytes(text, b"\n")
@@ -161,7 +156,6 @@ fn push_shown(text: &mut Vec<u8>, outcome: &Outcome) -> Result<(), NoMemory>
 
 /// Adds an entry's line, and its solutions if they are shown.
 pub(crate) fn push_entry(
-    alloc: Global,
     text: &mut Vec<u8>,
     number: u32,
     outcome: &Outcome,
@@ -169,7 +163,7 @@ pub(crate) fn push_entry(
 ) -> Result<(), NoMemory>
     ensures { OnOk result (text.new.items ≡ text.old.items ++ entry_text show number (shown_outcome outcome.now)) }
 {
-    push_line(alloc, text, number, outcome)?;
+    push_line(text, number, outcome)?;
     if show {
         push_shown(text, outcome)?;
     }
@@ -187,6 +181,6 @@ pub fn print_entry(
     ensures { IfOk result (λ text. text.items ≡ entry_text show number (shown_outcome outcome.now)) }
 {
     let mut text = Vec::new(alloc);
-    push_entry(alloc, &mut text, number, outcome, show)?;
+    push_entry(&mut text, number, outcome, show)?;
     Ok(text)
 }

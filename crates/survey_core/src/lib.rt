@@ -11,6 +11,7 @@ mod grading;
 mod job_order;
 mod lanes;
 mod lists;
+mod names;
 mod outcomes;
 mod pictures;
 mod printing;
@@ -19,7 +20,6 @@ mod settings;
 mod shared;
 mod streams;
 mod surveys;
-mod texts;
 mod totals;
 mod workers;
 
@@ -35,7 +35,6 @@ pub use settings::{
     DEFAULT_GUESSES, DEFAULT_LANES, DEFAULT_RING, LARGEST_RING, MOST_LANES, Settings,
 };
 pub use surveys::{run_survey, survey_entries};
-pub use texts::{push_bytes, push_number};
 
 #[cfg(test)]
 mod tests;

@@ -12,17 +12,12 @@ use puzzle_text::MOST_ENTRIES;
 use std::alloc::Global;
 
 /// Adds the texts of at most 10,000 entries, numbered from 1.
-fn push_entries(
-    alloc: Global,
-    text: &mut Vec<u8>,
-    outcomes: &[Outcome],
-    show: bool,
-) -> Result<(), NoMemory>
+fn push_entries(text: &mut Vec<u8>, outcomes: &[Outcome], show: bool) -> Result<(), NoMemory>
     requires { length outcomes.now ≤ MOST_ENTRIES }
     ensures { OnOk result (text.new.items ≡ text.old.items ++ entries_text show (map shown_outcome outcomes.now)) }
 {
     for (place, outcome) in outcomes.iter().enumerate() {
-        push_entry(alloc, text, place as u32 + 1, outcome, show)?;
+        push_entry(text, place as u32 + 1, outcome, show)?;
     }
     Ok(())
 }
@@ -34,7 +29,7 @@ pub fn print_survey(alloc: Global, outcomes: &[Outcome], show: bool) -> Result<V
     ensures { IfOk result (λ text. text.items ≡ survey_text show (map shown_outcome outcomes.now)) }
 {
     let mut text = Vec::new(alloc);
-    push_entries(alloc, &mut text, outcomes, show)?;
+    push_entries(&mut text, outcomes, show)?;
     push_totals(&mut text, outcomes)?;
     Ok(text)
 }

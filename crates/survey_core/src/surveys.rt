@@ -1,6 +1,6 @@
 //! The survey of a collection, and of entries in hand.
 
-ghost use Rattle.std.specs.Prelude.{◌≡◌, ◌+◌, ◌-◌, ◌^◌, ◌<◌, ◌≤◌, ◌↔◌, ◌⊎◌, length, map, IfOk, IfErr, IfSome, OnOk, IsErrOf};
+ghost use Rattle.std.specs.Prelude.{◌≡◌, ◌+◌, ◌-◌, ◌^◌, ◌<◌, ◌≤◌, ◌↔◌, ◌⊎◌, length, map, Err, IfOk, IfErr, IfSome, OnOk, IsErrOf};
 ghost use Rattle.std.specs.Io.KnownBytes.{IsAtEnd, Keeps};
 ghost use Rattle.puzzle_text.specs.Shown.{shown_entry};
 ghost use Rattle.survey_core.specs.Counted.{fault_count};
@@ -106,6 +106,8 @@ pub fn survey_entries<H: Threads + Wait + Sync, W: Write, G: Gate + Sync>(
 ) -> Result<(), RunFault>
     requires { fault_count writer.old < 2 ^ 32 - 1 }
     ensures answer { Leaves (survey_of_entries settings.now.guesses settings.now.show (map shown_entry entries.now)) result (W.contents writer.old.inner) (W.contents writer.new.inner) }
+    // Want of memory never stands in place of this fault.
+    ensures too_many { MOST_ENTRIES < length entries.now → result ≡ Err (RunFault.Collection CollectionFault.TooMany) }
     ensures write { IsErrWrite result ↔ (fault_count writer.old < fault_count writer.new) }
     ensures no_read { IsErrOf result RunFault.Read → ⊥ }
 {

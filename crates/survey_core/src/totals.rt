@@ -7,8 +7,8 @@ ghost use Rattle.survey_core.specs.Totals.{count_text, has_grade, has_status, to
 ghost use Rattle.survey_core.specs.Tallies.{HasRoom, IsTotals, grades_text, one_more_where, statuses_text};
 
 use crate::Outcome;
-use crate::texts::{push_bytes, push_number};
 use grid_core::NoMemory;
+use puzzle_text::{push_bytes, push_number};
 use solve_core::{Grade, Verdict};
 
 /// How many puzzles have each verdict.

@@ -1,12 +1,18 @@
-use Rattle.std.proofs.Common.{ℕ, ◌<◌, ◌≤◌, get_or}
-use Rattle.line_core.specs.Masks.{IsMaskOf, SomeFrom, AreLevelsOf}
+use Rattle.std.proofs.Common.{ℕ, ◌<◌, ◌≤◌, get_or, map}
+use Rattle.place_sets.specs.Masks.{IsMaskOf, SomeFrom, AreLevelsOf}
 use Rattle.line_core.specs.Reach.{behind, IsGap, IsGapAhead, IsWholeEnd}
 use Rattle.line_core.specs.Passes.{IsPassOver}
 use Rattle.line_core.proofs.deduction.possible_colours.Given as goal
 
+abbrev pub ghost-gap_ahead : goal.ghost-gap_ahead
+ghost-gap_ahead g a = g.line
+
+abbrev pub ghost-whole_ends : goal.ghost-whole_ends
+ghost-whole_ends g a = g.line
+
 abbrev pub invariant-loop-j : goal.invariant-loop-j
-invariant-loop-j l = record {
-  pass : IsPassOver l.line (behind 0 l.clue l.j) l.pass;
-  blank : IsMaskOf (λ i. (q : ℕ) × (q ≤ l.j) × IsGap l.line l.clue q i × IsGapAhead l.line l.clue q i) l.blankable;
-  filled : AreLevelsOf (λ i. (q : ℕ) × (q < l.j) × SomeFrom (IsWholeEnd l.line l.clue q) (get_or l.clue q 0) i) 7 l.spread;
+invariant-loop-j g l = record {
+  pass : IsPassOver g.W.PlaceSet.WIDTH g.W.PlaceSet.TOP g.line (behind 0 l.clue l.j) (g.W.PlaceSet.number l.pass.free) (map g.W.PlaceSet.number l.windows) l.pass.passed (g.W.PlaceSet.number l.pass.gap);
+  blank : IsMaskOf (λ i. (q : ℕ) × (q ≤ l.j) × IsGap g.line l.clue q i × IsGapAhead g.line l.clue q i) (g.W.PlaceSet.number l.blankable);
+  filled : AreLevelsOf (λ i. (q : ℕ) × (q < l.j) × SomeFrom (IsWholeEnd g.line l.clue q) (get_or l.clue q 0) i) g.W.PlaceSet.TOP (map g.W.PlaceSet.number l.spread);
 }

@@ -1,24 +1,58 @@
-use Rattle.std.proofs.Common.{◌+◌, ◌-◌, length, reverse, get_or, sym, arith}
-use Rattle.std.proofs.lemmas.List.{get_or-reverse}
-use Rattle.line_core.specs.Masks.{IsMaskOf}
+use Rattle.std.proofs.Common.{ℕ, ◌+◌, ◌-◌, ◌<◌, ◌∙◌, List, length, map, reverse, get_or, sym, subst, arith}
+use Rattle.std.proofs.Math.ListN.{length-set}
+use Rattle.std.proofs.lemmas.List.{map-set, length-map, get_or-reverse}
+use Rattle.place_sets.specs.Masks.{IsMaskOf}
 use Rattle.line_core.specs.Reach.{behind, IsGap}
-use Rattle.line_core.proofs.LineCells.{written_more}
+use Rattle.line_core.specs.Passes.{IsPassOver}
+use Rattle.line_core.proofs.LineCells.{written_more, length_at}
 use Rattle.line_core.proofs.Joining.{length_behind}
-use Rattle.line_core.proofs.Composing.{pass_more, gap_is}
+use Rattle.line_core.proofs.Composing.{runs_more}
 use Rattle.line_core.proofs.reach.write_turned_gaps.Goals as goal
 
-pub step-requires-clause-few : goal.step-requires-clause-few
-step-requires-clause-few c = omega (arith, c.loop-j.invariant.pass.passed, length_behind 0 (reverse c.args.clue.now) c.loop-j.j)
+pub loop-j-init : goal.loop-j-init
+loop-j-init g c =
+    let number = g.W.PlaceSet.number in
+    let line = reverse g.line in
+    let clue = reverse c.args.clue.now in
+    let gaps = c.args.gaps.now in
+    let pass = c.new-pass.ensures line (map number c.windows_within-windows.result) c.turned-turned.ensures c.windows_within-windows.ensures in
+    let gap : IsMaskOf (IsGap line clue 0) (number c.gap.result) = subst (λ m. IsMaskOf (IsGap line clue 0) (number m)) (sym c.gap.ensures) pass.gap_is in
+    let some : 0 < length (map number gaps) = omega (arith, length-map gaps number, c.told-gaps) in
+    record {
+      size = length-set gaps _ _ ∙ c.told-gaps;
+      pass = pass;
+      gaps = λ k h.
+          subst (λ (t : List ℕ). IsMaskOf (IsGap line clue k) (get_or t k 0)) (sym (map-set number gaps 0 c.gap.result))
+          (written_more (λ k m. IsMaskOf (IsGap line clue k) m) (map number gaps) 0 (number c.gap.result) some gap (λ k h. absurd (omega arith)) k (omega arith));
+    }
+
+pub step-requires : goal.step-requires
+step-requires g c =
+    let size = c.requires.1.0 in
+    let clue = c.requires.1.1.1.0 in
+    let count = c.requires.1.1.1.1 in
+    let test = c.loop-j-test.true in
+    (omega arith, (omega (arith, c.loop-j.invariant.pass.passed_are, length_behind 0 (reverse c.args.clue.now) c.loop-j.j), (length_at g.W.PlaceSet.WIDTH c.args.clue.now _ clue (omega arith))))
 
 pub loop-j-preserved : goal.loop-j-preserved
-loop-j-preserved c =
-    let line = reverse c.args.line.now in
+loop-j-preserved g c =
+    let number = g.W.PlaceSet.number in
+    let line = reverse g.line in
     let clue = reverse c.args.clue.now in
+    let gaps = c.loop-j.gaps in
     let j = c.loop-j.j in
-    let number = get_or c.args.clue.now (length c.args.clue.now - 1 - j) 0 in
-    let pass = pass_more line clue j number c.step.new.self (sym (get_or-reverse c.args.clue.now j 0 c.loop-j-test.true)) (c.step.ensures.passed line (behind 0 clue j) c.loop-j.invariant.pass) in
-    let gap = gap_is line clue (j + 1) c.gap-in-loop-j.result c.step.new.self c.gap-in-loop-j.ensures pass in
+    let n = get_or c.args.clue.now (length c.args.clue.now - 1 - j) 0 in
+    let new = c.step.new.self in
+    let pass = runs_more (λ (runs : List ℕ). IsPassOver g.W.PlaceSet.WIDTH g.W.PlaceSet.TOP line runs (number new.free) (map number c.windows_within-windows.result) new.passed (number new.gap)) clue j n
+    (sym (get_or-reverse c.args.clue.now j 0 c.loop-j-test.true)) (c.step.ensures.passed line (behind 0 clue j) c.loop-j.invariant.pass) in
+    let gap : IsMaskOf (IsGap line clue (j + 1)) (number c.gap-in-loop-j.result) = subst (λ m. IsMaskOf (IsGap line clue (j + 1)) (number m)) (sym c.gap-in-loop-j.ensures) pass.gap_is in
+    let size = c.loop-j.invariant.size in
+    let test = c.loop-j-test.true in
+    let some : j + 1 < length (map number gaps) = omega (arith, length-map gaps number, c.requires.1.1.1.1) in
     record {
+      size = length-set gaps _ _ ∙ size;
       pass = pass;
-      gaps = λ k h. written_more (λ k m. IsMaskOf (IsGap line clue k) m) c.loop-j.gaps (j + 1) c.gap-in-loop-j.result (omega arith) gap (λ k h. c.loop-j.invariant.gaps k (omega arith)) k (omega arith);
+      gaps = λ k h.
+          subst (λ (t : List ℕ). IsMaskOf (IsGap line clue k) (get_or t k 0)) (sym (map-set number gaps (j + 1) c.gap-in-loop-j.result))
+          (written_more (λ k m. IsMaskOf (IsGap line clue k) m) (map number gaps) (j + 1) (number c.gap-in-loop-j.result) some gap (λ k h. c.loop-j.invariant.gaps k (omega arith)) k (omega arith));
     }

@@ -1,11 +1,15 @@
-use Rattle.std.proofs.Common.{ℕ, ◌≤◌, get_or, reverse}
-use Rattle.line_core.specs.Masks.{IsMaskOf}
+use Rattle.std.proofs.Common.{◌≡◌, ℕ, ◌≤◌, length, get_or, reverse, map}
+use Rattle.place_sets.specs.Masks.{IsMaskOf}
 use Rattle.line_core.specs.Reach.{behind, IsGap}
 use Rattle.line_core.specs.Passes.{IsPassOver}
 use Rattle.line_core.proofs.reach.write_turned_gaps.Given as goal
 
+abbrev pub ghost-turned : goal.ghost-turned
+ghost-turned g a = g.line
+
 abbrev pub invariant-loop-j : goal.invariant-loop-j
-invariant-loop-j l = record {
-  pass : IsPassOver (reverse l.line) (behind 0 (reverse l.clue) l.j) l.pass;
-  gaps : (k : ℕ) → k ≤ l.j → IsMaskOf (IsGap (reverse l.line) (reverse l.clue) k) (get_or l.gaps k 0);
+invariant-loop-j g l = record {
+  size : length l.gaps ≡ 129;
+  pass : IsPassOver g.W.PlaceSet.WIDTH g.W.PlaceSet.TOP (reverse g.line) (behind 0 (reverse l.clue) l.j) (g.W.PlaceSet.number l.pass.free) (map g.W.PlaceSet.number l.windows) l.pass.passed (g.W.PlaceSet.number l.pass.gap);
+  gaps : (k : ℕ) → k ≤ l.j → IsMaskOf (IsGap (reverse g.line) (reverse l.clue) k) (get_or (map g.W.PlaceSet.number l.gaps) k 0);
 }

@@ -1,33 +1,56 @@
-use Rattle.std.proofs.Common.{◌+◌, ◌-◌, ◌<◌, ℕ, get_or, subst, refl, arith}
+use Rattle.std.proofs.Common.{◌≡◌, ◌+◌, ◌-◌, ◌<◌, ℕ, List, map, get_or, subst, refl, sym, ◌∙◌, arith}
+use Rattle.std.proofs.lemmas.Bool.{eqb-true}
 use Rattle.std.proofs.lemmas.List.Elements.{recursion_from_All}
 use Rattle.std.proofs.lemmas.Nat.Bits.{bit_at-zero}
-use Rattle.line_core.specs.Masks.{Has}
+use Rattle.place_sets.specs.Masks.{Has}
 use Rattle.line_core.specs.Reach.{behind}
+use Rattle.line_core.specs.Passes.{IsPassOver}
 use Rattle.line_core.proofs.RunLaws.{ArePositive}
+use Rattle.line_core.proofs.LineCells.{length_at}
 use Rattle.line_core.proofs.Joining.{length_behind}
-use Rattle.line_core.proofs.Composing.{pass_more}
+use Rattle.line_core.proofs.Composing.{runs_more}
 use Rattle.line_core.proofs.Outermost.{some_end, outer_more}
 use Rattle.line_core.proofs.starts.write_starts.Goals as goal
 
-pub returns-then-whole-eq0 : goal.returns-then-whole-eq0
-returns-then-whole-eq0 c = λ p.
-    let clue = c.args.clue.now in
-    let pos : ArePositive clue = recursion_from_All (λ (n : ℕ). 0 < n) clue c.requires.clue.positive in
-    let e = some_end c.args.line.now clue c.loop-j.j pos p c.loop-j-test.true in
-    let there : Has 0 e.0 = subst (λ (m : ℕ). Has m e.0) c.if-whole-eq0.true (c.whole_ends-whole.ensures.from e.0 e.1) in
-    absurd (omega (arith, bit_at-zero e.0))
+pub loop-j-init : goal.loop-j-init
+loop-j-init g c = record {
+  pass = c.new-pass.ensures g.line (map g.W.PlaceSet.number c.windows_within-windows.result) c.requires.1.1.0 c.windows_within-windows.ensures;
+  starts = λ k h. absurd (omega arith);
+}
 
-pub step-ends-requires-clause-few : goal.step-ends-requires-clause-few
-step-ends-requires-clause-few c = omega (arith, c.loop-j.invariant.pass.passed, length_behind 0 c.args.clue.now c.loop-j.j)
+pub step-ends-requires : goal.step-ends-requires
+step-ends-requires g c =
+    let size = c.requires.1.0 in
+    let clue = c.requires.1.1.1.0 in
+    let count = c.requires.1.1.1.1.0.1 in
+    let test = c.loop-j-test.true in
+    (omega arith, (omega (arith, c.loop-j.invariant.pass.passed_are, length_behind 0 c.args.clue.now c.loop-j.j), (length_at g.W.PlaceSet.WIDTH c.args.clue.now c.loop-j.j clue test)))
+
+pub whole_ends-whole-requires : goal.whole_ends-whole-requires
+whole_ends-whole-requires g c = λ κs within. (within, (c.requires.1.1.0, (c.requires.1.1.1.0, (c.loop-j-test.true, (c.step-ends.ensures.ends g.line (behind 0 c.args.clue.now c.loop-j.j) c.loop-j.invariant.pass, c.gap_ahead-ahead.ensures)))))
 
 pub loop-j-preserved : goal.loop-j-preserved
-loop-j-preserved c =
-    let line = c.args.line.now in
+loop-j-preserved g c =
+    let number = g.W.PlaceSet.number in
+    let line = g.line in
     let clue = c.args.clue.now in
     let j = c.loop-j.j in
     let invariant = c.loop-j.invariant in
     let place = c.outermost_place in
+    let new = c.step-ends.new.self in
+    let count = c.requires.1.1.1.1.0.1 in
     record {
-      pass = pass_more line clue j (get_or clue j 0) c.step-ends.new.self refl (c.step-ends.ensures.passed line (behind 0 clue j) invariant.pass);
-      starts = outer_more c.args.side line clue c.loop-j.list j c.whole_ends-whole.result place.result (place.result + 1 - get_or clue j 0) (omega arith) c.whole_ends-whole.ensures place.ensures.in_mask place.ensures.outermost refl invariant.starts;
+      pass = runs_more (λ (runs : List ℕ). IsPassOver g.W.PlaceSet.WIDTH g.W.PlaceSet.TOP line runs (number new.free) (map number c.windows_within-windows.result) new.passed (number new.gap)) clue j (get_or clue j 0) refl
+          (c.step-ends.ensures.passed line (behind 0 clue j) invariant.pass);
+      starts = outer_more c.args.side line clue c.loop-j.list j (number c.whole_ends-whole.result) place.result (place.result + 1 - get_or clue j 0) (omega arith) c.whole_ends-whole.ensures place.ensures.in_mask place.ensures.outermost refl invariant.starts;
     }
+
+pub returns-then-is_empty : goal.returns-then-is_empty
+returns-then-is_empty g c = λ p.
+    let number = g.W.PlaceSet.number in
+    let clue = c.args.clue.now in
+    let pos : ArePositive clue = recursion_from_All (λ (n : ℕ). 0 < n) clue c.requires.1.1.1.0.positive in
+    let e = some_end g.line clue c.loop-j.j pos p c.loop-j-test.true in
+    let none : number c.whole_ends-whole.result ≡ 0 = eqb-true (number c.whole_ends-whole.result) 0 (sym c.is_empty.ensures ∙ c.if-is_empty.true) in
+    let there : Has 0 e.0 = subst (λ (m : ℕ). Has m e.0) none (c.whole_ends-whole.ensures.from e.0 e.1) in
+    absurd (omega (arith, bit_at-zero e.0))

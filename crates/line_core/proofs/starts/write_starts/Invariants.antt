@@ -1,11 +1,17 @@
-use Rattle.std.proofs.Common.{ℕ, ◌<◌, get_or}
+use Rattle.std.proofs.Common.{ℕ, ◌<◌, get_or, map}
 use Rattle.line_core.specs.Reach.{behind}
 use Rattle.line_core.specs.Passes.{IsPassOver}
 use Rattle.line_core.specs.Outermost.{IsOuterStart}
 use Rattle.line_core.proofs.starts.write_starts.Given as goal
 
+abbrev pub ghost-gap_ahead : goal.ghost-gap_ahead
+ghost-gap_ahead g a = g.line
+
+abbrev pub ghost-whole_ends : goal.ghost-whole_ends
+ghost-whole_ends g a = g.line
+
 abbrev pub invariant-loop-j : goal.invariant-loop-j
-invariant-loop-j l = record {
-  pass : IsPassOver l.line (behind 0 l.clue l.j) l.pass;
-  starts : (k : ℕ) → k < l.j → IsOuterStart l.side l.line l.clue k (get_or l.list k 0);
+invariant-loop-j g l = record {
+  pass : IsPassOver g.W.PlaceSet.WIDTH g.W.PlaceSet.TOP g.line (behind 0 l.clue l.j) (g.W.PlaceSet.number l.pass.free) (map g.W.PlaceSet.number l.windows) l.pass.passed (g.W.PlaceSet.number l.pass.gap);
+  starts : (k : ℕ) → k < l.j → IsOuterStart l.side g.line l.clue k (get_or l.list k 0);
 }

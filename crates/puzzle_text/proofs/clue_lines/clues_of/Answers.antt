@@ -8,6 +8,7 @@ use Rattle.puzzle_text.proofs.clue_lines.clues_of.Goals as goal
 
 pub loop-line-init : goal.loop-line-init
 loop-line-init c = record {
-  length = c.in_ok-clues.ensures.len;
+  count = c.in_ok-clues.ensures.len;
+  room = c.in_ok-clues.ensures.capacity;
   so_far = rw c.in_ok-clues.ensures.items (each_begins (λ line. or_fault (BadNumber line.number) (clue_of LONGEST_SIDE line.text)) shown_line c.args.lines.now);
 }

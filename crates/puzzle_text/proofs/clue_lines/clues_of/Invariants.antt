@@ -1,4 +1,4 @@
-use Rattle.std.proofs.Common.{◌≡◌, drop, map, vec_len}
+use Rattle.std.proofs.Common.{◌≡◌, drop, length, map, vec_capacity, vec_len}
 use Rattle.grid_core.specs.declared.limits.TheConstants.{LONGEST_SIDE}
 use Rattle.puzzle_text.specs.declared.faults.TextFault.TheVariants.{BadNumber}
 use Rattle.puzzle_text.specs.Answers.{or_fault, each}
@@ -9,6 +9,7 @@ use Rattle.puzzle_text.proofs.clue_lines.clues_of.Given as goal
 
 abbrev pub invariant-loop-line : goal.invariant-loop-line
 invariant-loop-line l = record {
-  length : vec_len l.clues ≡ l.line-index;
+  count : vec_len l.clues ≡ l.line-index;
+  room : vec_capacity l.clues ≡ length l.lines;
   so_far : with_front l.clues.items (each (λ line. or_fault (BadNumber line.number) (clue_of LONGEST_SIDE line.text.now)) (drop l.line-index l.lines)) ≡ clues_of LONGEST_SIDE (map shown_line l.lines);
 }

@@ -1,11 +1,12 @@
-use Rattle.std.proofs.Common.{◌≡◌, ◌+◌, ◌≤◌, false, length}
+use Rattle.std.proofs.Common.{◌≡◌, ◌+◌, ◌≤◌, length}
 use Rattle.puzzle_text.specs.Lines.{raw_lines}
-use Rattle.puzzle_text.specs.Collections.{stray_from}
+use Rattle.puzzle_text.specs.Collections.{first_stray}
+use Rattle.puzzle_text.proofs.StrayWalk.{stray_from}
 use Rattle.puzzle_text.proofs.collections.first_stray.Given as goal
 
 abbrev pub invariant-lines : goal.invariant-lines
 invariant-lines l = record {
-  later : stray_from (l.number + 1) l.inside (raw_lines l.rest) ≡ stray_from 1 false (raw_lines l.bytes);
+  later : stray_from (l.number + 1) l.inside (raw_lines l.rest) ≡ first_stray (raw_lines l.bytes);
   room : l.number + length l.rest ≤ length l.bytes;
 }
 

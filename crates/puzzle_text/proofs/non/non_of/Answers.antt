@@ -1,4 +1,4 @@
-use Rattle.std.proofs.Common.{ℕ, [], List, map, sym, ap, subst, ◌∙◌}
+use Rattle.std.proofs.Common.{ℕ, List, map, sym, ap, subst, ◌∙◌}
 use Rattle.grid_core.specs.declared.limits.TheConstants.{LONGEST_SIDE}
 use Rattle.puzzle_text.specs.Answers.{Gives}
 use Rattle.puzzle_text.specs.Keywords.{is_keyword_line}
@@ -19,5 +19,5 @@ returns c =
     let lines = map shown_line c.args.lines.now in
     let kept = ap (map shown_keyword) c.deref.ensures.value ∙ c.in_ok-keyword_lines.ensures in
     let places = ap (map shown_place) c.deref-2.ensures.value ∙ c.in_ok-places.ensures in
-    let said = ap (λ (all : List (List ℕ × Line)). puzzle_said LONGEST_SIDE all (map shown_keyword c.deref.result.now)) places ∙ ap (puzzle_said LONGEST_SIDE (placed [] lines)) kept ∙ said_of_kept LONGEST_SIDE (placed [] lines) lines in
+    let said = ap (λ (all : List (List ℕ × Line)). puzzle_said LONGEST_SIDE all (map shown_keyword c.deref.result.now)) places ∙ ap (puzzle_said LONGEST_SIDE (placed lines)) kept ∙ said_of_kept LONGEST_SIDE (placed lines) lines in
     subst (λ answer. Gives (λ p. p) c.puzzle_said.result answer) said c.puzzle_said.ensures

@@ -2,7 +2,7 @@ use Rattle.std.proofs.Common.{◌≡◌, ℕ, ◌+◌, ◌-◌, ◌*◌, ◌<◌
 use Rattle.grid_core.specs.declared.cells.Cell.TheVariants.{Unknown}
 use Rattle.grid_core.specs.Nonogram.{places_from}
 use Rattle.solve_core.specs.Closure.{with_cells}
-use Rattle.solve_core.specs.Marks.{places_of}
+use Rattle.solve_core.specs.Lines.{places_of}
 use Rattle.solve_core.specs.Trails.{IsTrailed}
 use Rattle.solve_core.proofs.places.write_line.Given as goal
 

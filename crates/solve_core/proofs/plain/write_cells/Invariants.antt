@@ -1,7 +1,7 @@
 use Rattle.std.proofs.Common.{◌≡◌, ◌+◌, ◌-◌, ◌*◌, drop}
 use Rattle.grid_core.specs.Nonogram.{places_from}
 use Rattle.solve_core.specs.Closure.{with_cells}
-use Rattle.solve_core.specs.Marks.{places_of}
+use Rattle.solve_core.specs.Lines.{places_of}
 use Rattle.solve_core.proofs.plain.write_cells.Given as goal
 
 abbrev pub invariant-loop-i : goal.invariant-loop-i

@@ -1,47 +1,54 @@
-use Rattle.std.proofs.Common.{true, ap, sym, subst, ◌∙◌, ◌*◌, length}
+use Rattle.std.proofs.Common.{true, ◌≡◌, Some, None, ap, sym, subst, ◌∙◌, ◌*◌, length}
 use Rattle.std.proofs.lemmas.List.{length-replicate}
 use Rattle.grid_core.specs.declared.cells.Cell.TheVariants.{Unknown}
 use Rattle.grid_core.specs.Nonogram.{Nonogram, lines_of}
 use Rattle.solve_core.specs.Report.{grade_by}
 use Rattle.solve_core.specs.Search.{first_unknown}
-use Rattle.solve_core.specs.Branches.{IsClosed}
+use Rattle.solve_core.specs.Boards.{IsBoardOf}
+use Rattle.solve_core.specs.Closure.{closure}
+use Rattle.solve_core.specs.TriedPuzzles.{TriedPuzzle}
 use Rattle.solve_core.specs.Trails.{TrailedGrid}
-use Rattle.solve_core.proofs.ReportLaws.{report-alive, report-dead, report-refuted, trials-closed}
+use Rattle.solve_core.proofs.ReportLaws.{report-alive, report-dead, report-refuted}
 use Rattle.solve_core.proofs.reports.findings.Goals as goal
 
-pub close_board-requires : goal.close_board-requires
-close_board-requires c = record {
-  board = (
-    ap (λ (g : TrailedGrid). g.width) c.requires.board,
-    ap (λ (g : TrailedGrid). g.height) c.requires.board,
-    ap (λ (g : TrailedGrid). length g.cells) c.requires.board ∙ length-replicate (c.args.solver.now.width * c.args.solver.now.height) Unknown,
-  );
-}
+pub propagate_all-requires : goal.propagate_all-requires
+propagate_all-requires c =
+    let p = c.args.trials.now.closer.puzzle in
+    record {
+      size = subst (λ (x : Nonogram). IsBoardOf x c.args.board.now) (sym (ap (λ (t : TriedPuzzle). t.closer.puzzle) c.trials.view_is)) (
+        ap (λ (g : TrailedGrid). g.width) c.requires.board,
+        ap (λ (g : TrailedGrid). g.height) c.requires.board,
+        ap (λ (g : TrailedGrid). length g.cells) c.requires.board ∙ length-replicate (p.width * p.height) Unknown,
+      );
+    }
 
-pub returns-then-not-close_board : goal.returns-then-not-close_board
-returns-then-not-close_board c =
-    report-dead first_unknown c.args.solver.now c.args.board.now.cells c.args.guesses (ap (λ (g : TrailedGrid). g.cells) c.requires.board) c.if-not-close_board.ensures.closed
+pub returns-then-not-propagate_all : goal.returns-then-not-propagate_all
+returns-then-not-propagate_all c =
+    let p = c.args.trials.now.closer.puzzle in
+    report-dead first_unknown p c.args.board.now.cells c.args.guesses (ap (λ (g : TrailedGrid). g.cells) c.requires.board)
+    (subst (λ (t : TriedPuzzle). None ≡ closure (lines_of t.closer.puzzle) c.args.board.now.cells) c.trials.view_is c.if-not-propagate_all.ensures.closed)
 
-pub returns-then-not-try_board : goal.returns-then-not-try_board
-returns-then-not-try_board c =
-    report-refuted first_unknown c.args.solver.now c.close_board.new.self c.args.board.now.cells c.close_board.new.board.cells c.args.guesses c.grade.result c.count_known-line_known.result
-    c.if-not-close_board.ensures.puzzle (ap (λ (g : TrailedGrid). g.cells) c.requires.board) c.if-not-close_board.ensures.closed c.if-not-try_board.ensures.tried
+pub returns-then-not-try_at_rest : goal.returns-then-not-try_at_rest
+returns-then-not-try_at_rest c =
+    let seen = ap (λ (t : TriedPuzzle). t.closer.puzzle) c.trials.view_is in
+    let closed = c.propagate_all.new.board.cells in
+    report-refuted first_unknown c.args.trials.now.closer.puzzle c.propagate_all.new.self.puzzle c.args.board.now.cells closed c.args.guesses c.grade.result c.count_known-line_known.result
+    (c.if-not-propagate_all.ensures.puzzle ∙ seen) (ap (λ (g : TrailedGrid). g.cells) c.requires.board)
+    (subst (λ (t : TriedPuzzle). Some closed ≡ closure (lines_of t.closer.puzzle) c.args.board.now.cells) c.trials.view_is c.if-not-propagate_all.ensures.closed) c.if-not-try_at_rest.ensures.tried
     (c.grade.ensures ∙ ap (λ b. grade_by b true) c.are_known-lines_settle.ensures)
     c.count_known-line_known.ensures
 
-pub search-outcome-requires-clause-closed : goal.search-outcome-requires-clause-closed
-search-outcome-requires-clause-closed c =
-    subst (λ (x : Nonogram). IsClosed (lines_of x) c.try_board.new.board.cells) (sym c.if-not-try_board.ensures.puzzle)
-    (trials-closed (lines_of c.close_board.new.self) c.close_board.new.board.cells c.try_board.new.board.cells c.if-not-try_board.ensures.tried)
-
 pub returns : goal.returns
 returns c =
-    let same = c.if-not-close_board.ensures.puzzle in
-    let last = c.try_board.new.self in
-    report-alive first_unknown c.args.solver.now c.close_board.new.self last c.args.board.now.cells c.close_board.new.board.cells c.try_board.new.board.cells c.args.guesses
-    c.search-outcome.new.solutions.grids c.search-outcome.result.cut c.search-outcome.result.spent c.verdict.result c.grade-grade.result c.count_known-line_known.result c.count_known-trial_known.result
-    same (c.if-not-try_board.ensures.puzzle ∙ same) (ap (λ (g : TrailedGrid). g.cells) c.requires.board) c.if-not-close_board.ensures.closed c.if-not-try_board.ensures.tried
-    c.search-outcome.ensures.ending
+    let seen = ap (λ (t : TriedPuzzle). t.closer.puzzle) c.trials.view_is in
+    let again = ap (λ (t : TriedPuzzle). t.closer.puzzle) c.trials-2.view_is in
+    let same = c.if-not-propagate_all.ensures.puzzle ∙ seen in
+    let closed = c.propagate_all.new.board.cells in
+    report-alive first_unknown c.args.trials.now.closer.puzzle c.propagate_all.new.self.puzzle c.trials-2.inside.closer.puzzle c.args.board.now.cells closed c.try_at_rest.new.board.cells c.args.guesses
+    c.search-end.new.solutions.grids c.search-end.result.cut c.search-end.result.spent c.verdict.result c.grade-grade.result c.count_known-line_known.result c.count_known-trial_known.result
+    same (again ∙ c.if-not-try_at_rest.ensures.puzzle ∙ same) (ap (λ (g : TrailedGrid). g.cells) c.requires.board)
+    (subst (λ (t : TriedPuzzle). Some closed ≡ closure (lines_of t.closer.puzzle) c.args.board.now.cells) c.trials.view_is c.if-not-propagate_all.ensures.closed) c.if-not-try_at_rest.ensures.tried
+    c.search-end.ensures.ending
     c.verdict.ensures
     (c.grade-grade.ensures ∙ (λ i. grade_by (c.are_known-lines_settle.ensures i) (c.are_known.ensures i)))
     c.count_known-line_known.ensures c.count_known-trial_known.ensures

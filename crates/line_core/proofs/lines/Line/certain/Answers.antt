@@ -1,15 +1,27 @@
+use Rattle.std.proofs.Common.{◌∙◌, sym}
+use Rattle.place_sets.specs.Masks.{joined}
 use Rattle.line_core.proofs.Telling.{told_dead, told_some, told_apart}
 use Rattle.line_core.proofs.lines.Line.certain.Goals as goal
 
-pub returns-then-fillable-blankable-eq0 : goal.returns-then-fillable-blankable-eq0
-returns-then-fillable-blankable-eq0 c = told_dead c.args.len c.args.fillable c.args.blankable c.if-fillable-blankable-eq0.true
+pub returns-then-not-has : goal.returns-then-not-has
+returns-then-not-has c =
+    let f = joined c.args.fillable.low c.args.fillable.high in
+    let b = joined c.args.blankable.low c.args.blankable.high in
+    let m = joined c.or.result.low c.or.result.high in
+    told_dead c.args.len f b m c.or.ensures (sym c.has.ensures ∙ c.if-not-has.true)
 
 pub invariant_of-result : goal.invariant_of-result
 invariant_of-result c = record {
   some = c.requires.0;
   short = c.requires.1;
-  apart = λ i x y. told_apart c.args.fillable c.args.blankable i c.ranges.fillable.fits x y;
+  apart = λ i x y. told_apart (joined c.args.fillable.low c.args.fillable.high) (joined c.args.blankable.low c.args.blankable.high)
+      (joined c.without.result.low c.without.result.high) (joined c.without-2.result.low c.without-2.result.high) i c.without.ensures c.without-2.ensures x y;
 }
 
 pub returns : goal.returns
-returns c = told_some c.args.len c.args.fillable c.args.blankable c.requires.1 c.ranges.fillable.fits c.ranges.blankable.fits c.if-fillable-blankable-eq0.false
+returns c =
+    let f = joined c.args.fillable.low c.args.fillable.high in
+    let b = joined c.args.blankable.low c.args.blankable.high in
+    let m = joined c.or.result.low c.or.result.high in
+    told_some c.args.len f b m (joined c.without.result.low c.without.result.high) (joined c.without-2.result.low c.without-2.result.high) c.or.ensures
+    (sym c.has.ensures ∙ c.if-not-has.false) c.without.ensures c.without-2.ensures

@@ -1,55 +1,123 @@
-use Rattle.std.proofs.Common.{arith}
+use Rattle.std.proofs.Common.{ℕ, ◌+◌, ◌<◌, Some, None, rules, subst, arith}
+use Rattle.place_sets.specs.Masks.{joined}
+use Rattle.line_core.specs.Lines.{IsFirstDifference}
 use Rattle.line_core.proofs.LineCells.{length_seen}
-use Rattle.line_core.proofs.Changing.{changes_are, no_change, some_change}
+use Rattle.line_core.proofs.Changing.{change_is, low_found, low_past, low_none, high_found, high_past, high_none}
 use Rattle.line_core.proofs.lines.Line.next_change.Goals as goal
 
-pub returns-then-from-self-clause-change : goal.returns-then-from-self-clause-change
-returns-then-from-self-clause-change c = λ k from within.
-    let line = c.self.inside in
-    let long = length_seen line.len line.filled line.blank c.args.self.now c.self.view_is in
-    let end = c.if-from-self.true in
-    absurd (omega arith)
-
-pub differing-filled-requires : goal.differing-filled-requires
-differing-filled-requires c =
-    let line = c.self.inside in
-    let long = length_seen line.len line.filled line.blank c.args.self.now c.self.view_is in
-    omega (arith, c.requires.from, c.if-from-self.false, c.self.invariant.short)
-
-pub differing-blank-requires : goal.differing-blank-requires
-differing-blank-requires c =
-    let line = c.self.inside in
-    let long = length_seen line.len line.filled line.blank c.args.self.now c.self.view_is in
-    omega (arith, c.requires.from, c.if-from-self.false, c.self.invariant.short)
-
-pub returns-then-changed-eq0-clause-change : goal.returns-then-changed-eq0-clause-change
-returns-then-changed-eq0-clause-change c =
+pub returns-then-place-self-clause-change : goal.returns-then-place-self-clause-change
+returns-then-place-self-clause-change c =
     let line = c.self.inside in
     let other = c.other.inside in
-    no_change line.len line.filled line.blank other.len other.filled other.blank c.args.from _ c.args.self.now c.args.other.now c.self.view_is c.other.view_is c.requires.same
-    (changes_are line.filled other.filled line.blank other.blank c.args.from line.len c.differing-filled.result c.differing-blank.result c.places.result c.differing-filled.ensures c.differing-blank.ensures c.places.ensures)
-    c.if-changed-eq0.true
+    let f = line.filled in
+    let g = other.filled in
+    let b = line.blank in
+    let d = other.blank in
+    change_is line.len (joined f.low f.high) (joined b.low b.high) other.len (joined g.low g.high) (joined d.low d.high) c.args.from c.args.self.now c.args.other.now (Some c.in-Some.place)
+    c.self.view_is c.other.view_is c.requires.same c.self.invariant.apart c.other.invariant.apart
+    (low_found f.low f.high g.low g.high b.low b.high d.low d.high c.args.from line.len c.in-Some.place c.in-Some.ensures c.if-place-self.true)
 
-pub returns-clause-change : goal.returns-clause-change
-returns-clause-change c =
+pub returns-then-place-self-clause-within : goal.returns-then-place-self-clause-within
+returns-then-place-self-clause-within c =
+    let line = c.self.inside in
+    omega (arith, length_seen line.len (joined line.filled.low line.filled.high) (joined line.blank.low line.blank.high) c.args.self.now c.self.view_is, c.self.invariant.short)
+
+pub returns-else-place-self-clause-change : goal.returns-else-place-self-clause-change
+returns-else-place-self-clause-change c =
     let line = c.self.inside in
     let other = c.other.inside in
-    some_change line.len line.filled line.blank other.len other.filled other.blank c.args.from _ c.first_place.result c.args.self.now c.args.other.now c.self.view_is c.other.view_is c.requires.same
-    c.self.invariant.apart c.other.invariant.apart
-    (changes_are line.filled other.filled line.blank other.blank c.args.from line.len c.differing-filled.result c.differing-blank.result c.places.result c.differing-filled.ensures c.differing-blank.ensures c.places.ensures)
-    c.first_place.ensures.in_mask c.first_place.ensures.least
+    let f = line.filled in
+    let g = other.filled in
+    let b = line.blank in
+    let d = other.blank in
+    change_is line.len (joined f.low f.high) (joined b.low b.high) other.len (joined g.low g.high) (joined d.low d.high) c.args.from c.args.self.now c.args.other.now None
+    c.self.view_is c.other.view_is c.requires.same c.self.invariant.apart c.other.invariant.apart
+    (low_past f.low f.high g.low g.high b.low b.high d.low d.high c.args.from line.len c.in-Some.place c.in-Some.ensures (omega (arith, c.if-place-self.false)))
 
-pub returns-then-from-self-clause-within : goal.returns-then-from-self-clause-within
-returns-then-from-self-clause-within c =
+pub returns-else-place-self-clause-within : goal.returns-else-place-self-clause-within
+returns-else-place-self-clause-within c =
     let line = c.self.inside in
-    omega (arith, length_seen line.len line.filled line.blank c.args.self.now c.self.view_is, c.self.invariant.short)
+    omega (arith, length_seen line.len (joined line.filled.low line.filled.high) (joined line.blank.low line.blank.high) c.args.self.now c.self.view_is, c.self.invariant.short)
 
-pub returns-then-changed-eq0-clause-within : goal.returns-then-changed-eq0-clause-within
-returns-then-changed-eq0-clause-within c =
+pub returns-then-self-le128-clause-change : goal.returns-then-self-le128-clause-change
+returns-then-self-le128-clause-change c =
     let line = c.self.inside in
-    omega (arith, length_seen line.len line.filled line.blank c.args.self.now c.self.view_is, c.self.invariant.short)
+    let other = c.other.inside in
+    let f = line.filled in
+    let g = other.filled in
+    let b = line.blank in
+    let d = other.blank in
+    change_is line.len (joined f.low f.high) (joined b.low b.high) other.len (joined g.low g.high) (joined d.low d.high) c.args.from c.args.self.now c.args.other.now None
+    c.self.view_is c.other.view_is c.requires.same c.self.invariant.apart c.other.invariant.apart
+    (low_none f.low f.high g.low g.high b.low b.high d.low d.high c.args.from line.len c.in_default.ensures c.if-self-le128.true)
 
-pub returns-clause-within : goal.returns-clause-within
-returns-clause-within c =
+pub returns-then-self-le128-clause-within : goal.returns-then-self-le128-clause-within
+returns-then-self-le128-clause-within c =
     let line = c.self.inside in
-    omega (arith, length_seen line.len line.filled line.blank c.args.self.now c.self.view_is, c.self.invariant.short)
+    omega (arith, length_seen line.len (joined line.filled.low line.filled.high) (joined line.blank.low line.blank.high) c.args.self.now c.self.view_is, c.self.invariant.short)
+
+pub returns-in_default-high-clause-change : goal.returns-in_default-high-clause-change
+returns-in_default-high-clause-change c =
+    let line = c.self.inside in
+    let other = c.other.inside in
+    let f = line.filled in
+    let g = other.filled in
+    let b = line.blank in
+    let d = other.blank in
+    let ff : f.low < 340282366920938463463374607431768211456 = search rules in
+    let fg : g.low < 340282366920938463463374607431768211456 = search rules in
+    let fb : b.low < 340282366920938463463374607431768211456 = search rules in
+    let fd : d.low < 340282366920938463463374607431768211456 = search rules in
+    change_is line.len (joined f.low f.high) (joined b.low b.high) other.len (joined g.low g.high) (joined d.low d.high) c.args.from c.args.self.now c.args.other.now None
+    c.self.view_is c.other.view_is c.requires.same c.self.invariant.apart c.other.invariant.apart
+    (high_none f.low f.high g.low g.high b.low b.high d.low d.high c.args.from line.len ff fg fb fd c.self.invariant.short c.in_default.ensures
+    (subst (λ (from : ℕ). IsFirstDifference 128 f.high g.high b.high d.high from None) c.saturating_sub.ensures c.in_default-high.ensures))
+
+pub returns-in_default-high-clause-within : goal.returns-in_default-high-clause-within
+returns-in_default-high-clause-within c =
+    let line = c.self.inside in
+    omega (arith, length_seen line.len (joined line.filled.low line.filled.high) (joined line.blank.low line.blank.high) c.args.self.now c.self.view_is, c.self.invariant.short)
+
+pub returns-then-place-self-2-clause-change : goal.returns-then-place-self-2-clause-change
+returns-then-place-self-2-clause-change c =
+    let line = c.self.inside in
+    let other = c.other.inside in
+    let f = line.filled in
+    let g = other.filled in
+    let b = line.blank in
+    let d = other.blank in
+    let ff : f.low < 340282366920938463463374607431768211456 = search rules in
+    let fg : g.low < 340282366920938463463374607431768211456 = search rules in
+    let fb : b.low < 340282366920938463463374607431768211456 = search rules in
+    let fd : d.low < 340282366920938463463374607431768211456 = search rules in
+    change_is line.len (joined f.low f.high) (joined b.low b.high) other.len (joined g.low g.high) (joined d.low d.high) c.args.from c.args.self.now c.args.other.now (Some (c.in-Some-high.place + 128))
+    c.self.view_is c.other.view_is c.requires.same c.self.invariant.apart c.other.invariant.apart
+    (high_found f.low f.high g.low g.high b.low b.high d.low d.high c.args.from line.len c.in-Some-high.place ff fg fb fd c.in_default.ensures
+    (subst (λ (from : ℕ). IsFirstDifference 128 f.high g.high b.high d.high from (Some c.in-Some-high.place)) c.saturating_sub.ensures c.in-Some-high.ensures) c.if-place-self-2.true)
+
+pub returns-then-place-self-2-clause-within : goal.returns-then-place-self-2-clause-within
+returns-then-place-self-2-clause-within c =
+    let line = c.self.inside in
+    omega (arith, length_seen line.len (joined line.filled.low line.filled.high) (joined line.blank.low line.blank.high) c.args.self.now c.self.view_is, c.self.invariant.short)
+
+pub returns-else-place-self-2-clause-change : goal.returns-else-place-self-2-clause-change
+returns-else-place-self-2-clause-change c =
+    let line = c.self.inside in
+    let other = c.other.inside in
+    let f = line.filled in
+    let g = other.filled in
+    let b = line.blank in
+    let d = other.blank in
+    let ff : f.low < 340282366920938463463374607431768211456 = search rules in
+    let fg : g.low < 340282366920938463463374607431768211456 = search rules in
+    let fb : b.low < 340282366920938463463374607431768211456 = search rules in
+    let fd : d.low < 340282366920938463463374607431768211456 = search rules in
+    change_is line.len (joined f.low f.high) (joined b.low b.high) other.len (joined g.low g.high) (joined d.low d.high) c.args.from c.args.self.now c.args.other.now None
+    c.self.view_is c.other.view_is c.requires.same c.self.invariant.apart c.other.invariant.apart
+    (high_past f.low f.high g.low g.high b.low b.high d.low d.high c.args.from line.len c.in-Some-high.place ff fg fb fd c.in_default.ensures
+    (subst (λ (from : ℕ). IsFirstDifference 128 f.high g.high b.high d.high from (Some c.in-Some-high.place)) c.saturating_sub.ensures c.in-Some-high.ensures) (omega (arith, c.if-place-self-2.false)))
+
+pub returns-else-place-self-2-clause-within : goal.returns-else-place-self-2-clause-within
+returns-else-place-self-2-clause-within c =
+    let line = c.self.inside in
+    omega (arith, length_seen line.len (joined line.filled.low line.filled.high) (joined line.blank.low line.blank.high) c.args.self.now c.self.view_is, c.self.invariant.short)

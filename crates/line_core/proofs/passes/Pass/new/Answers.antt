@@ -3,13 +3,14 @@ use Rattle.line_core.proofs.Composing.{gap_none_is}
 use Rattle.line_core.proofs.passes.Pass.new.Goals as goal
 
 pub returns : goal.returns
-returns c =
-    let line = c.args.line.now in
-    let free = c.free_cells-free.ensures in
+returns g c = λ line windows span are.
+    let number = g.W.PlaceSet.number in
     record {
-      short = free.within;
-      free = free.free;
-      room = c.requires;
-      passed = refl;
-      gap = gap_none_is line c.free_cells-free.result c.first_gap.result free.free c.first_gap.ensures;
+      room = number c.args.span.now.room;
+      short = span.short;
+      free_is = span.free_is;
+      room_is = span.room_is;
+      windows_are = are;
+      passed_are = refl;
+      gap_is = gap_none_is line (number c.args.span.now.free) (number c.first_gap.result) span.free_is c.first_gap.ensures;
     }

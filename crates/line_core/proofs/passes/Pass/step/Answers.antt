@@ -1,23 +1,27 @@
-use Rattle.std.proofs.Common.{◌≡◌, ℕ, subst, sym, arith}
-use Rattle.line_core.specs.Passes.{PassState, IsPassOver}
-use Rattle.line_core.specs.Masks.{IsMaskOf}
+use Rattle.std.proofs.Common.{◌≡◌, ℕ, subst, arith}
+use Rattle.place_sets.specs.Masks.{IsMaskOf}
 use Rattle.line_core.proofs.Composing.{ends_are, gap_next_is}
 use Rattle.line_core.proofs.passes.Pass.step.Goals as goal
 
 pub returns-clause-ends : goal.returns-clause-ends
-returns-clause-ends c = λ line runs h.
-    let p = subst (λ (m : PassState). IsPassOver line runs m) (sym c.self.view_is) h in
-    ends_are line runs c.args.number c.self.inside.gap c.self.inside.windows.now c.opening.result c.starts-window.result c.run_ends-ends.result
-    p.short c.requires.number.0 p.gap (subst (λ (n : ℕ). IsMaskOf (λ i. (i ≡ 0) × (n ≡ 0)) c.opening.result) p.passed c.opening.ensures) p.room c.starts-window.ensures c.run_ends-ends.ensures
+returns-clause-ends g c = λ line runs h.
+    let number = g.W.PlaceSet.number in
+    let self = c.args.self.now in
+    ends_are line runs g.W.PlaceSet.WIDTH c.args.number (number self.gap) h.room (number c.opening.result) (number c.window_starts-window.result) (number c.run_ends-ends.result)
+    h.short c.requires.number.0 h.gap_is (subst (λ (n : ℕ). IsMaskOf (λ i. (i ≡ 0) × (n ≡ 0)) (number c.opening.result)) h.passed_are c.opening.ensures) h.room_is
+    (c.window_starts-window.ensures h.room h.windows_are) c.run_ends-ends.ensures
 
 pub returns-clause-passed : goal.returns-clause-passed
-returns-clause-passed c = λ line runs h.
-    let p = subst (λ (m : PassState). IsPassOver line runs m) (sym c.self.view_is) h in
-    let ends = returns-clause-ends c line runs h in
+returns-clause-passed g c = λ line runs h.
+    let number = g.W.PlaceSet.number in
+    let self = c.args.self.now in
+    let ends = returns-clause-ends g c line runs h in
     record {
-      short = p.short;
-      free = p.free;
-      room = p.room;
-      passed = let e = p.passed in omega arith;
-      gap = gap_next_is line runs c.args.number c.self.inside.free c.run_ends-ends.result c.gap_after-self-inside.result p.short c.requires.number.0 p.free ends c.gap_after-self-inside.ensures;
+      room = h.room;
+      short = h.short;
+      free_is = h.free_is;
+      room_is = h.room_is;
+      windows_are = h.windows_are;
+      passed_are = let e = h.passed_are in omega arith;
+      gap_is = gap_next_is line runs g.W.PlaceSet.WIDTH c.args.number (number self.free) (number c.run_ends-ends.result) (number c.gap_after-self.result) h.short c.requires.number.0 h.free_is ends c.gap_after-self.ensures;
     }

@@ -16,3 +16,6 @@ returns-in-Same-clause-tried c =
     (rest_closed c.try_all.new.self.closer new (c.in-Same.ensures.ready (λ e. cc)).rest) in
     subst (λ (p : Nonogram). Some new ≡ trials (lines_of p) first) c.loop.invariant.puzzle
     (sym (tried_ends lines new closed (c.in-Same.ensures.tried refl)) ∙ ap (trials lines) c.in-Same.ensures.progress ∙ c.loop.invariant.same)
+
+pub returns-in-Same-clause-rest : goal.returns-in-Same-clause-rest
+returns-in-Same-clause-rest c = λ alive. (c.in-Same.ensures.ready (λ e. cc)).rest

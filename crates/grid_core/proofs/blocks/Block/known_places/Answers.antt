@@ -1,0 +1,5 @@
+use Rattle.grid_core.proofs.BlockLemmas.{known_either}
+use Rattle.grid_core.proofs.blocks.Block.known_places.Goals as goal
+
+pub returns : goal.returns
+returns c = known_either c.args.self.filled c.args.self.blank

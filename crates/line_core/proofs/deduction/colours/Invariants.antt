@@ -1,0 +1,7 @@
+use Rattle.line_core.proofs.deduction.colours.Given as goal
+
+abbrev pub ghost-write_turned_gaps : goal.ghost-write_turned_gaps
+ghost-write_turned_gaps g a = g.line
+
+abbrev pub ghost-possible_colours : goal.ghost-possible_colours
+ghost-possible_colours g a = g.line

@@ -1,5 +1,0 @@
-use Rattle.line_core.proofs.Turning.{pairs_swapped}
-use Rattle.line_core.proofs.masks.swap_pairs.Goals as goal
-
-pub returns : goal.returns
-returns c = pairs_swapped c.args.mask c.args.low c.args.by c.ranges.low.fits c.requires.low

@@ -1,0 +1,5 @@
+use Rattle.std.proofs.Common.{◌≡◌, ℕ, length}
+use Rattle.line_core.proofs.tests_starts.shown_line.Given as goal
+
+abbrev pub invariant-loop-i : goal.invariant-loop-i
+invariant-loop-i l = ◌≡◌ {A = ℕ} (length l.line) l.len

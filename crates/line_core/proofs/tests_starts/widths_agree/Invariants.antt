@@ -1,0 +1,10 @@
+use Rattle.line_core.proofs.tests_starts.widths_agree.Given as goal
+
+abbrev pub ghost-find_starts : goal.ghost-find_starts
+ghost-find_starts a = a.line.now
+
+abbrev pub ghost-find_starts-2 : goal.ghost-find_starts-2
+ghost-find_starts-2 a = a.line.now
+
+abbrev pub ghost-find_starts-3 : goal.ghost-find_starts-3
+ghost-find_starts-3 a = a.line.now

@@ -1,0 +1,21 @@
+use Rattle.std.proofs.Common.{◌≤◌, take_all, subst, arith}
+use Rattle.std.specs.List.{All}
+use Rattle.std.proofs.lemmas.List.Elements.{All-more}
+use Rattle.line_core.proofs.widths.places_needed.Goals as goal
+
+pub loop-number-preserved : goal.loop-number-preserved
+loop-number-preserved c =
+    let i = c.loop-number.number-index in
+    let clue = c.args.clue.now in
+    let old = c.loop-number.needed in
+    let new = c.max-needed.result in
+    let most = c.max-needed.ensures in
+    let grown : old ≤ new = omega (arith, most) in
+    record {
+      line = omega (arith, c.loop-number.invariant.line);
+      passed = All-more (λ n. n ≤ new) clue i 0 (omega arith) (λ k d h. omega (arith, c.loop-number.invariant.passed k d h)) (omega (arith, most));
+    }
+
+pub returns-clause-clue : goal.returns-clause-clue
+returns-clause-clue c =
+    subst (All (λ n. n ≤ c.loop-number.needed)) (take_all c.loop-number.number-index c.args.clue.now (omega arith)) c.loop-number.invariant.passed

@@ -1,0 +1,28 @@
+//! Lines as words of some width.
+
+ghost use Rattle.std.specs.Prelude.{◌≡◌, ◌<◌, ◌≤◌, List, reverse};
+ghost use Rattle.grid_core.specs.declared.cells.Cell.{Cell};
+ghost use Rattle.line_core.specs.Passes.{IsSpanOf};
+
+use place_sets::{PlaceSet, turn_line};
+
+/// How many cells a line has, and those of them that may be blank, and that may be filled.
+#[derive(Drop)]
+pub struct Span<W: PlaceSet> {
+    pub len: u16,
+    pub free: W,
+    pub room: W,
+}
+
+/// The line seen from its other end.
+pub fn turned<W: PlaceSet>(span: &Span<W>) -> Span<W>
+    ghost line: { List Cell }
+    requires { IsSpanOf W.WIDTH line span.now.len (W.number span.now.free) (W.number span.now.room) }
+    ensures { IsSpanOf W.WIDTH (reverse line) result.len (W.number result.free) (W.number result.room) }
+{
+    Span {
+        len: span.len,
+        free: turn_line(span.free, span.len),
+        room: turn_line(span.room, span.len),
+    }
+}

@@ -1,0 +1,10 @@
+pub mod Flooding
+pub mod Steps
+pub mod HasLemmas
+pub mod Turning
+pub mod WordSteps
+pub mod Halves
+pub mod Doubling
+pub mod LevelSteps
+pub mod Uses
+pub mod Marking

@@ -1,0 +1,5 @@
+use Rattle.place_sets.proofs.WordSteps.{low_ones}
+use Rattle.place_sets.proofs.narrow.U128PlaceSet.all.Goals as goal
+
+pub returns : goal.returns
+returns c = low_ones 128

@@ -1,0 +1,5 @@
+use Rattle.place_sets.proofs.WordSteps.{one_is}
+use Rattle.place_sets.proofs.narrow.U128PlaceSet.first.Goals as goal
+
+pub returns : goal.returns
+returns c = one_is

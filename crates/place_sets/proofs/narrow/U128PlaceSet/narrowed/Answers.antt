@@ -1,0 +1,9 @@
+use Rattle.std.proofs.Common.{◌<◌, rules}
+use Rattle.place_sets.proofs.Halves.{narrow_128}
+use Rattle.place_sets.proofs.narrow.U128PlaceSet.narrowed.Goals as goal
+
+pub returns : goal.returns
+returns c =
+    let a = c.args.wide in
+    let fl : a.low < 340282366920938463463374607431768211456 = search rules in
+    narrow_128 a.low a.high fl

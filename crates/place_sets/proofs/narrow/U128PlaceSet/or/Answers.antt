@@ -1,0 +1,5 @@
+use Rattle.place_sets.proofs.WordSteps.{join_is}
+use Rattle.place_sets.proofs.narrow.U128PlaceSet.or.Goals as goal
+
+pub returns : goal.returns
+returns c = join_is c.args.self c.args.other

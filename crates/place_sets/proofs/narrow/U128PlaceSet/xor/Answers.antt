@@ -1,0 +1,5 @@
+use Rattle.place_sets.proofs.WordSteps.{xor_is}
+use Rattle.place_sets.proofs.narrow.U128PlaceSet.xor.Goals as goal
+
+pub returns : goal.returns
+returns c = xor_is c.args.self c.args.other

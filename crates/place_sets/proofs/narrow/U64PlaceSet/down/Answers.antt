@@ -1,0 +1,5 @@
+use Rattle.place_sets.proofs.WordSteps.{down_is}
+use Rattle.place_sets.proofs.narrow.U64PlaceSet.down.Goals as goal
+
+pub returns : goal.returns
+returns c = down_is c.args.self c.args.by

@@ -1,0 +1,5 @@
+use Rattle.place_sets.proofs.WordSteps.{up_is}
+use Rattle.place_sets.proofs.narrow.U64PlaceSet.up.Goals as goal
+
+pub returns : goal.returns
+returns c = up_is 64 c.args.self c.args.by

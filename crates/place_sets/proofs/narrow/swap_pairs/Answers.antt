@@ -1,0 +1,5 @@
+use Rattle.place_sets.proofs.Turning.{pairs_swapped}
+use Rattle.place_sets.proofs.narrow.swap_pairs.Goals as goal
+
+pub returns : goal.returns
+returns c = pairs_swapped c.args.mask c.args.low c.args.by c.ranges.low.fits c.requires.low

@@ -1,0 +1,16 @@
+use Rattle.std.proofs.Common.{ℕ, ◌<◌, rules, arith}
+use Rattle.place_sets.proofs.Marking.{marked_low, marked_high}
+use Rattle.place_sets.proofs.wide.Wide.mark.Goals as goal
+
+pub returns-then-place-lt128 : goal.returns-then-place-lt128
+returns-then-place-lt128 c =
+    let a = c.args.self.now in
+    let fl : a.low < 340282366920938463463374607431768211456 = search rules in
+    marked_low a.low a.high c.args.place c.marked-self.result c.args.wanted fl c.marked-self.type_inv c.if-place-lt128.true c.marked-self.ensures
+
+pub returns-else-place-lt128 : goal.returns-else-place-lt128
+returns-else-place-lt128 c =
+    let a = c.args.self.now in
+    let b = c.if-place-lt128.false in
+    let fl : a.low < 340282366920938463463374607431768211456 = search rules in
+    marked_high a.low a.high c.args.place c.marked-self-else-place-lt128.result c.args.wanted fl (omega arith) c.marked-self-else-place-lt128.ensures

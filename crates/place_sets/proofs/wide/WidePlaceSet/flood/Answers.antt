@@ -1,0 +1,28 @@
+use Rattle.std.proofs.Common.{◌<◌, rules}
+use Rattle.place_sets.proofs.Halves.{sources_low, sources_high, over_is, flooded_halves}
+use Rattle.place_sets.proofs.wide.WidePlaceSet.flood.Goals as goal
+
+pub flood-low-requires : goal.flood-low-requires
+flood-low-requires c =
+    let s = c.args.sources in
+    let f = c.args.free in
+    let fs : s.low < 340282366920938463463374607431768211456 = search rules in
+    let ff : f.low < 340282366920938463463374607431768211456 = search rules in
+    sources_low s.low s.high f.low f.high fs c.requires
+
+pub flood-requires : goal.flood-requires
+flood-requires c =
+    let s = c.args.sources in
+    let f = c.args.free in
+    let fs : s.low < 340282366920938463463374607431768211456 = search rules in
+    let ff : f.low < 340282366920938463463374607431768211456 = search rules in
+    sources_high s.low s.high f.low f.high c.down.result c.and-over.result c.or.result fs ff c.requires c.and-over.ensures c.or.ensures
+
+pub returns : goal.returns
+returns c =
+    let s = c.args.sources in
+    let f = c.args.free in
+    let fs : s.low < 340282366920938463463374607431768211456 = search rules in
+    let ff : f.low < 340282366920938463463374607431768211456 = search rules in
+    let over = over_is s.low f.low f.high c.flood-low.result c.down.result c.and-over.result c.flood-low.type_inv c.flood-low.ensures c.down.ensures c.and-over.ensures in
+    flooded_halves s.low s.high f.low f.high c.flood-low.result c.and-over.result c.or.result c.flood.result fs ff c.flood-low.type_inv c.flood-low.ensures over c.or.ensures c.flood.ensures

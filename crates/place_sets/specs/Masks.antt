@@ -1,0 +1,75 @@
+-- Words as sets of places: a bit a place.
+use Rattle.std.specs.Prelude.{◌≡◌, ◌≢◌, ℕ, zero, suc, ◌+◌, ◌-◌, ◌*◌, ◌<◌, ◌≤◌, ◌⊎◌, Bool, true, not, ◌&&◌, nat_eq, nat_lt, nat_le, if◌then◌else◌, List, slice_index_or, ◌^◌}
+use Rattle.std.specs.Int.{bit_at}
+
+-- whether a mask has a place
+abbrev pub Has : ℕ → ℕ → Type 0
+Has mask i = bit_at mask i ≡ 1
+
+-- the mask has exactly the places of which something holds
+pub record IsMaskOf (P : ℕ → Type 0) (mask : ℕ) : Type 0 where
+  pub to : (i : ℕ) → Has mask i → P i
+  pub from : (i : ℕ) → P i → Has mask i
+
+-- a place is flooded where one at or before it is a source, and all from there to it are free
+abbrev pub IsFlooded : (ℕ → Type 0) → (ℕ → Type 0) → ℕ → Type 0
+IsFlooded Source Free zero = Source zero
+IsFlooded Source Free (suc i) = Source (suc i) ⊎ (Free (suc i) × IsFlooded Source Free i)
+
+-- all of so many places from a given place on
+abbrev pub AllFrom : (ℕ → Type 0) → ℕ → ℕ → Type 0
+AllFrom P count i = (z : ℕ) → z < count → P (i + z)
+
+-- some one of so many places from a given place on
+abbrev pub SomeFrom : (ℕ → Type 0) → ℕ → ℕ → Type 0
+SomeFrom P count i = (z : ℕ) × (z < count) × P (i + z)
+
+-- a place moved up, within a mask of so many places
+abbrev pub IsMoved : ℕ → (ℕ → Type 0) → ℕ → ℕ → Type 0
+IsMoved width P by i = (i < width) × (by ≤ i) × P (i - by)
+
+-- a place seen from the other end of a mask of so many places
+abbrev pub IsTurned : ℕ → (ℕ → Type 0) → ℕ → Type 0
+IsTurned width P i = (i < width) × P (width - 1 - i)
+
+-- whether a mask has a place, as a test
+abbrev pub has : ℕ → ℕ → Bool
+has mask i = nat_eq (bit_at mask i) 1
+
+-- the same places but one, which is among them exactly if it is wanted
+abbrev pub IsMarked : (ℕ → Type 0) → ℕ → Bool → ℕ → Type 0
+IsMarked P place wanted i = (P i × (i ≢ place)) ⊎ ((i ≡ place) × (wanted ≡ true))
+
+-- whether a test passes at each number below a bound
+abbrev pub all_below : ℕ → (ℕ → Bool) → Bool
+all_below zero p = true
+all_below (suc n) p = p n && all_below n p
+
+-- the place that a step of a turn brings to a place: the low half of each pair is in the mask
+abbrev pub swapped_place : ℕ → ℕ → ℕ → ℕ
+swapped_place low by i = if has low i then i + by else (i - by)
+
+-- whether a mask has the low half of each pair, at a place
+abbrev pub is_pairing_at : ℕ → ℕ → ℕ → ℕ → Bool
+is_pairing_at width low by i = nat_lt (swapped_place low by i) width && (if has low i then not (has low (i + by)) else (nat_le by i && has low (i - by)))
+
+-- the low half of each pair is in the mask, and nothing else
+abbrev pub IsPairing : ℕ → ℕ → ℕ → Type 0
+IsPairing width low by = all_below width (is_pairing_at width low by) ≡ true
+
+-- a table of the starts of windows of 1, 2, 4 and so on cells, up to a top level
+pub record AreWindows (cells top : ℕ) (table : List ℕ) : Type 0 where
+  pub each : (level : ℕ) → level ≤ top → IsMaskOf (AllFrom (Has cells) (2 ^ level)) (slice_index_or table level 0)
+
+-- some one of so many places from one on is in the mask of a level, for some level up to the top one: so many are 2 to the level
+abbrev pub SomeLevel : ℕ → List ℕ → ℕ → Type 0
+SomeLevel top levels i = (level : ℕ) × (level ≤ top) × SomeFrom (Has (slice_index_or levels level 0)) (2 ^ level) i
+
+-- the masks of the levels up to a top one, each spread, have exactly the places of which something holds
+pub record AreLevelsOf (P : ℕ → Type 0) (top : ℕ) (levels : List ℕ) : Type 0 where
+  pub to : (i : ℕ) → SomeLevel top levels i → P i
+  pub from : (i : ℕ) → P i → SomeLevel top levels i
+
+-- the number of a wide word, in two halves
+abbrev pub joined : ℕ → ℕ → ℕ
+joined low high = high * 2 ^ 128 + low

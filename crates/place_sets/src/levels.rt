@@ -1,0 +1,42 @@
+//! Levels: places spread downwards, many lengths at once.
+
+ghost use Rattle.std.specs.Prelude.{◌^◌, ◌≡◌, ◌+◌, ◌<◌, ◌≤◌, ◌⊎◌, ℕ, map};
+ghost use Rattle.place_sets.specs.Masks.{Has, IsMaskOf, SomeFrom, SomeLevel, AreLevelsOf};
+
+use crate::PlaceSet;
+use crate::windows::{LEVELS, level_of};
+
+/// The places in a mask, and those that have one in it so much further on.
+pub fn either<W: PlaceSet>(mask: W, by: u16) -> W
+    requires { by < W.WIDTH }
+    ensures { IsMaskOf (λ i. Has (W.number mask) i ⊎ Has (W.number mask) (i + by)) (W.number result) }
+{
+    mask.or(mask.down(by))
+}
+
+/// Adds the ends of a run to the level of its length, to be spread with all others of that level: over 2 to the level places, after a spread over the rest.
+pub fn add_ends<W: PlaceSet>(levels: &mut [W; LEVELS], ends: W, length: u16)
+    requires { (0 < length) × (length ≤ W.WIDTH) }
+    ensures { AreLevelsOf (λ i. SomeLevel W.TOP (map W.number levels.old) i ⊎ SomeFrom (Has (W.number ends)) length i) W.TOP (map W.number levels.new) }
+{
+    let (level, rest) = level_of(length);
+    levels[level] = levels[level].or(either(ends, rest));
+}
+
+/// Spreads the level above by half of its places, into a level.
+fn spread_into<W: PlaceSet>(levels: &mut [W; LEVELS], level: usize)
+    requires { level < W.TOP }
+    ensures { AreLevelsOf (SomeLevel (level + 1) (map W.number levels.old)) level (map W.number levels.new) }
+{
+    levels[level] = levels[level].or(either(levels[level + 1], 1 << level));
+}
+
+/// The places that have one in the mask of a level among so many from there on, 2 to the level, for some level.
+pub fn spread_levels<W: PlaceSet>(levels: &mut [W; LEVELS]) -> W
+    ensures { IsMaskOf (SomeLevel W.TOP (map W.number levels.old)) (W.number result) }
+{
+    for k in 0..W::TOP {
+        spread_into(levels, W::TOP - 1 - k);
+    }
+    levels[0]
+}

@@ -1,0 +1,15 @@
+//! Sets of places, a bit a place, of three widths.
+#![tactic(auto)]
+
+mod levels;
+mod narrow;
+mod prefixes;
+mod sets;
+mod wide;
+mod windows;
+
+pub use levels::{add_ends, spread_levels};
+pub use prefixes::{lacking, places, turn_line};
+pub use sets::PlaceSet;
+pub use wide::Wide;
+pub use windows::{LEVELS, window_starts, windows_within};

@@ -1,0 +1,210 @@
+//! Sets of 64 and of 128 places, each in one word.
+
+ghost use Rattle.std.specs.Prelude.{◌≡◌, ◌≢◌, ◌+◌, ◌*◌, ◌^◌, ◌<◌, ◌≤◌, ◌==◌, ◌⊎◌, ℕ, false, refl};
+ghost use Rattle.std.proofs.Common.{arith};
+ghost use Rattle.place_sets.specs.Masks.{Has, has, IsMaskOf, IsPairing, swapped_place};
+
+use crate::{PlaceSet, Wide};
+
+/// Swaps the halves of each pair of groups of so many places.
+fn swap_pairs(mask: u64, low: u64, by: u16) -> u64
+    requires by { by < 64 }
+    requires low { IsPairing 64 low by }
+    ensures { IsMaskOf (λ i. (i < 64) × Has mask (swapped_place low by i)) result }
+{
+    ((mask >> by) & low) | ((mask & low) << by)
+}
+
+impl PlaceSet for u64 {
+    ghost number = { λ word. word };
+
+    ghost WIDTH = { 64 };
+
+    ghost TOP = { 6 };
+
+    const WIDTH: u16 = 64;
+
+    const TOP: usize = 6;
+
+    fn none() -> u64 {
+        0
+    }
+
+    fn first() -> u64 {
+        1
+    }
+
+    fn all() -> u64 {
+        u64::MAX
+    }
+
+    fn is_empty(self) -> bool {
+        self == 0
+    }
+
+    fn has(self, place: u16) -> bool {
+        (self >> place) & 1 == 1
+    }
+
+    fn marked(self, place: u16, wanted: bool) -> u64 {
+        if wanted {
+            self | (1 << place)
+        } else {
+            self & !(1 << place)
+        }
+    }
+
+    fn and(self, other: u64) -> u64 {
+        self & other
+    }
+
+    fn or(self, other: u64) -> u64 {
+        self | other
+    }
+
+    fn xor(self, other: u64) -> u64 {
+        self ^ other
+    }
+
+    fn without(self, other: u64) -> u64 {
+        self & !other
+    }
+
+    fn up(self, by: u16) -> u64 {
+        self << by
+    }
+
+    fn down(self, by: u16) -> u64 {
+        self >> by
+    }
+
+    fn flood(sources: u64, free: u64) -> u64 {
+        ((free.wrapping_add(sources) ^ free) & free) | sources
+    }
+
+    fn turn(self) -> u64 {
+        let ones = swap_pairs(self, 0x5555555555555555, 1);
+        let twos = swap_pairs(ones, 0x3333333333333333, 2);
+        let fours = swap_pairs(twos, 0x0f0f0f0f0f0f0f0f, 4);
+        let eights = swap_pairs(fours, 0x00ff00ff00ff00ff, 8);
+        let sixteens = swap_pairs(eights, 0x0000ffff0000ffff, 16);
+        swap_pairs(sixteens, 0x00000000ffffffff, 32)
+    }
+
+    fn first_place(self) -> u16 {
+        self.trailing_zeros() as u16
+    }
+
+    fn last_place(self) -> u16 {
+        self.ilog2() as u16
+    }
+
+    fn narrowed(wide: Wide) -> u64 {
+        (wide.low & 0xffffffffffffffff) as u64
+    }
+
+    fn widened(self) -> Wide {
+        Wide {
+            low: self as u128,
+            high: 0,
+        }
+    }
+
+    ghost width_is = { refl };
+
+    ghost top_is = { (Prim.omega arith, Prim.omega arith) };
+}
+
+impl PlaceSet for u128 {
+    ghost number = { λ word. word };
+
+    ghost WIDTH = { 128 };
+
+    ghost TOP = { 7 };
+
+    const WIDTH: u16 = 128;
+
+    const TOP: usize = 7;
+
+    fn none() -> u128 {
+        0
+    }
+
+    fn first() -> u128 {
+        1
+    }
+
+    fn all() -> u128 {
+        u128::MAX
+    }
+
+    fn is_empty(self) -> bool {
+        self == 0
+    }
+
+    fn has(self, place: u16) -> bool {
+        (self >> place) & 1 == 1
+    }
+
+    fn marked(self, place: u16, wanted: bool) -> u128 {
+        if wanted {
+            self | (1 << place)
+        } else {
+            self & !(1 << place)
+        }
+    }
+
+    fn and(self, other: u128) -> u128 {
+        self & other
+    }
+
+    fn or(self, other: u128) -> u128 {
+        self | other
+    }
+
+    fn xor(self, other: u128) -> u128 {
+        self ^ other
+    }
+
+    fn without(self, other: u128) -> u128 {
+        self & !other
+    }
+
+    fn up(self, by: u16) -> u128 {
+        self << by
+    }
+
+    fn down(self, by: u16) -> u128 {
+        self >> by
+    }
+
+    fn flood(sources: u128, free: u128) -> u128 {
+        ((free.wrapping_add(sources) ^ free) & free) | sources
+    }
+
+    fn turn(self) -> u128 {
+        let low = ((self & 0xffffffffffffffff) as u64).turn();
+        let high = ((self >> 64) as u64).turn();
+        ((low as u128) << 64) | high as u128
+    }
+
+    fn first_place(self) -> u16 {
+        self.trailing_zeros() as u16
+    }
+
+    fn last_place(self) -> u16 {
+        self.ilog2() as u16
+    }
+
+    fn narrowed(wide: Wide) -> u128 {
+        wide.low
+    }
+
+    fn widened(self) -> Wide {
+        Wide { low: self, high: 0 }
+    }
+
+    ghost width_is = { refl };
+
+    ghost top_is = { (Prim.omega arith, Prim.omega arith) };
+}

@@ -1,0 +1,114 @@
+//! Sets of places.
+
+ghost use Rattle.std.specs.Prelude.{◌≡◌, ◌≢◌, ◌+◌, ◌*◌, ◌^◌, ◌<◌, ◌≤◌, ◌==◌, ◌⊎◌, ℕ, false, refl};
+ghost use Rattle.std.proofs.Common.{arith};
+ghost use Rattle.place_sets.specs.Masks.{Has, has, IsFlooded, IsMarked, IsMaskOf, IsMoved, IsTurned, joined};
+
+use crate::Wide;
+
+/// A set of places, a bit a place.
+pub trait PlaceSet: Copy {
+    /// The bits as a number.
+    ghost number: { Self → ℕ };
+
+    /// How many places there are.
+    ghost WIDTH: { ℕ };
+
+    /// The level of all places: 2 to it is their number.
+    ghost TOP: { ℕ };
+
+    /// How many places there are.
+    const WIDTH: u16;
+
+    /// The level of all places: 2 to it is their number.
+    const TOP: usize;
+
+    /// No place.
+    fn none() -> Self
+        ensures { number result ≡ 0 };
+
+    /// The first place alone.
+    fn first() -> Self
+        ensures { IsMaskOf (λ i. i ≡ 0) (number result) };
+
+    /// All places.
+    fn all() -> Self
+        ensures { IsMaskOf (λ i. i < WIDTH) (number result) };
+
+    /// Whether there is no place in it.
+    fn is_empty(self) -> bool
+        ensures { result ≡ (number self == 0) };
+
+    /// Whether a place is in it.
+    fn has(self, place: u16) -> bool
+        requires { place < WIDTH }
+        ensures { result ≡ has (number self) place };
+
+    /// The same places but this one, which is in it exactly if it is wanted.
+    fn marked(self, place: u16, wanted: bool) -> Self
+        requires { place < WIDTH }
+        ensures { IsMaskOf (IsMarked (Has (number self)) place wanted) (number result) };
+
+    /// The places in both.
+    fn and(self, other: Self) -> Self
+        ensures { IsMaskOf (λ i. Has (number self) i × Has (number other) i) (number result) };
+
+    /// The places in either.
+    fn or(self, other: Self) -> Self
+        ensures { IsMaskOf (λ i. Has (number self) i ⊎ Has (number other) i) (number result) };
+
+    /// The places in one of them only.
+    fn xor(self, other: Self) -> Self
+        ensures { IsMaskOf (λ i. has (number self) i ≢ has (number other) i) (number result) };
+
+    /// The places that another lacks.
+    fn without(self, other: Self) -> Self
+        ensures { IsMaskOf (λ i. Has (number self) i × (has (number other) i ≡ false)) (number result) };
+
+    /// The places moved up.
+    fn up(self, by: u16) -> Self
+        requires { by < WIDTH }
+        ensures { IsMaskOf (IsMoved WIDTH (Has (number self)) by) (number result) };
+
+    /// The places moved down.
+    fn down(self, by: u16) -> Self
+        requires { by < WIDTH }
+        ensures { IsMaskOf (λ i. Has (number self) (i + by)) (number result) };
+
+    /// The places that are flooded from some, within the free ones.
+    fn flood(sources: Self, free: Self) -> Self
+        requires { (i : ℕ) → Has (number sources) i → Has (number free) i }
+        ensures { IsMaskOf (IsFlooded (Has (number sources)) (Has (number free))) (number result) };
+
+    /// The places seen from the other end.
+    fn turn(self) -> Self
+        ensures { IsMaskOf (IsTurned WIDTH (Has (number self))) (number result) };
+
+    /// The least place.
+    fn first_place(self) -> u16
+        requires { 0 < number self }
+        ensures within { result < WIDTH }
+        ensures in_mask { Has (number self) result }
+        ensures least { (i : ℕ) → Has (number self) i → result ≤ i };
+
+    /// The greatest place.
+    fn last_place(self) -> u16
+        requires { 0 < number self }
+        ensures within { result < WIDTH }
+        ensures in_mask { Has (number self) result }
+        ensures greatest { (i : ℕ) → Has (number self) i → i ≤ result };
+
+    /// The places of a wide word that there is room for.
+    fn narrowed(wide: Wide) -> Self
+        ensures { IsMaskOf (λ i. (i < WIDTH) × Has (joined wide.low wide.high) i) (number result) };
+
+    /// The same places, in a wide word.
+    fn widened(self) -> Wide
+        ensures { joined result.low result.high ≡ number self };
+
+    /// The width is a power of two.
+    ghost width_is: { WIDTH ≡ 2 ^ TOP };
+
+    /// There are places enough for a level, and no more than in a wide word.
+    ghost top_is: { (1 ≤ TOP) × (TOP ≤ 8) };
+}

@@ -1,0 +1,48 @@
+//! Windows: stretches of places that are all in a set.
+
+ghost use Rattle.std.specs.Prelude.{◌^◌, ◌≡◌, ◌+◌, ◌<◌, ◌≤◌, ℕ, map};
+ghost use Rattle.place_sets.specs.Masks.{Has, IsMaskOf, AllFrom, AreWindows};
+
+use crate::PlaceSet;
+
+/// How many powers of two there are up to 256: 1, 2, 4 and so on. So many windows fit in a table, and so many levels are spread at most.
+pub const LEVELS: usize = 9;
+
+/// The places in a mask that have another one in it so much further on.
+pub fn both<W: PlaceSet>(mask: W, by: u16) -> W
+    requires { by < W.WIDTH }
+    ensures { IsMaskOf (λ i. Has (W.number mask) i × Has (W.number mask) (i + by)) (W.number result) }
+{
+    mask.and(mask.down(by))
+}
+
+/// The level of a length, the exponent of the greatest power of two that it has room for, and how many places are left over.
+pub fn level_of(length: u16) -> (usize, u16)
+    requires { (0 < length) × (length ≤ 256) }
+    ensures level { result.0 < 9 }
+    ensures length { 2 ^ result.0 + result.1 ≡ length }
+    ensures rest { result.1 < 2 ^ result.0 }
+{
+    let level = length.ilog2();
+    (level as usize, length - (1 << level))
+}
+
+/// The starts of windows within a mask, for 1, 2, 4 and so on up to all places.
+pub fn windows_within<W: PlaceSet>(mask: W) -> [W; LEVELS]
+    ensures { AreWindows (W.number mask) W.TOP (map W.number result) }
+{
+    let mut table = [mask; LEVELS];
+    for level in 0..W::TOP {
+        table[level + 1] = both(table[level], 1 << level);
+    }
+    table
+}
+
+/// The starts of windows of so many places.
+pub fn window_starts<W: PlaceSet>(windows: &[W; LEVELS], length: u16) -> W
+    requires { (0 < length) × (length ≤ W.WIDTH) }
+    ensures { (mask : ℕ) → AreWindows mask W.TOP (map W.number windows.now) → IsMaskOf (AllFrom (Has mask) length) (W.number result) }
+{
+    let (level, rest) = level_of(length);
+    both(windows[level], rest)
+}

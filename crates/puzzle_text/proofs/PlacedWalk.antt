@@ -1,0 +1,62 @@
+-- The last keyword line above each line, found on one walk from the top.
+use Rattle.std.proofs.Common.{◌≡◌, ℕ, ◌+◌, Bool, true, false, cond, not, List, [], ◌∷◌, ◌++◌, length, map, take, refl, sym, ap, ◌∙◌, append_assoc, append-nil, Option, Some, None, unwrap_or}
+use Rattle.std.specs.List.{enumerate_from, filter, last_or}
+use Rattle.std.specs.Option.{option_map}
+use Rattle.std.proofs.Math.Seq.{take-append_seam}
+use Rattle.std.proofs.lemmas.List.{length-append}
+use Rattle.std.proofs.lemmas.List.Elements.{filter-append}
+use Rattle.puzzle_text.specs.Lines.{Line, is_empty}
+use Rattle.puzzle_text.specs.Keywords.{is_keyword_line, keyword}
+use Rattle.puzzle_text.specs.Non.{is_content, last_keyword, placed}
+
+-- each content line, beside the nearest keyword before it; under is the keyword before all
+abbrev pub walked : List ℕ → List Line → List (List ℕ × Line)
+walked under [] = []
+walked under (line ∷ lines) =
+    let others = walked (cond (is_empty (keyword line)) under (keyword line)) lines in
+    cond (is_content line) ((under, line) ∷ others) others
+
+-- the content lines among these from a place on, beside the keyword that named tells by the place
+abbrev placed_by : (ℕ → List ℕ) → List (ℕ × Line) → List (List ℕ × Line)
+placed_by named numbered = map (λ one. (named one.0, one.1)) (filter (λ one. is_content one.1) numbered)
+
+abbrev keyword_above : List Line → ℕ → List ℕ
+keyword_above lines place = last_keyword (take place lines)
+
+last_of_more : {X : Type 0} (start : Option X) (xs : List X) (x : X) → last_or start (xs ++ x ∷ []) ≡ Some x
+last_of_more start [] x = refl
+last_of_more start (y ∷ xs) x = last_of_more (Some y) xs x
+
+-- the last keyword after one more line
+word_of_last : (empty : Bool) (line : Line) (kept : List Line) → unwrap_or (option_map keyword (last_or None (kept ++ cond (not empty) (line ∷ []) []))) [] ≡ cond empty (unwrap_or (option_map keyword (last_or None kept)) []) (keyword line)
+word_of_last true line kept = ap (λ (lines : List Line). unwrap_or (option_map keyword (last_or None lines)) []) (append-nil kept)
+word_of_last false line kept = ap (λ (found : Option Line). unwrap_or (option_map keyword found) []) (last_of_more None kept line)
+
+last_keyword-more : (front : List Line) (line : Line) → last_keyword (front ++ line ∷ []) ≡ cond (is_empty (keyword line)) (last_keyword front) (keyword line)
+last_keyword-more front line =
+    ap (λ (lines : List Line). unwrap_or (option_map keyword (last_or None lines)) []) (filter-append is_keyword_line front (line ∷ []))
+    ∙ word_of_last (is_empty (keyword line)) line (filter is_keyword_line front)
+
+one_more : (content : Bool) (named : ℕ → List ℕ) (place : ℕ) (line : Line) (under : List ℕ) (numbered : List (ℕ × Line)) (others : List (List ℕ × Line))
+    → named place ≡ under → others ≡ placed_by named numbered
+    → cond content ((under, line) ∷ others) others ≡ map (λ one. (named one.0, one.1)) (cond content ((place, line) ∷ filter (λ one. is_content one.1) numbered) (filter (λ one. is_content one.1) numbered))
+one_more true named place line under numbered others above later =
+    ap (λ (word : List ℕ). (word, line) ∷ others) (sym above) ∙ ap (λ (all : List (List ℕ × Line)). (named place, line) ∷ all) later
+one_more false named place line under numbered others above later = later
+
+-- the walk below some lines, from their last keyword on
+walk_below : (front lines : List Line) → walked (last_keyword front) lines ≡ placed_by (keyword_above (front ++ lines)) (enumerate_from (length front) lines)
+walk_below front [] = refl
+walk_below front (line ∷ lines) =
+    let whole = front ++ line ∷ lines in
+    let regrouped : (front ++ line ∷ []) ++ lines ≡ whole = append_assoc front (line ∷ []) lines in
+    let next : walked (cond (is_empty (keyword line)) (last_keyword front) (keyword line)) lines ≡ placed_by (keyword_above whole) (enumerate_from (length front + 1) lines) =
+    ap (λ (under : List ℕ). walked under lines) (sym (last_keyword-more front line))
+    ∙ walk_below (front ++ line ∷ []) lines
+    ∙ ap (λ (all : List Line). placed_by (keyword_above all) (enumerate_from (length (front ++ line ∷ [])) lines)) regrouped
+    ∙ ap (λ (place : ℕ). placed_by (keyword_above whole) (enumerate_from place lines)) (length-append front (line ∷ [])) in
+    one_more (is_content line) (keyword_above whole) (length front) line (last_keyword front) (enumerate_from (length front + 1) lines) _ (ap last_keyword (take-append_seam front (line ∷ lines))) next
+
+-- the walk from the top finds the last keyword line above each line
+pub walked-placed : (lines : List Line) → walked [] lines ≡ placed lines
+walked-placed lines = walk_below [] lines

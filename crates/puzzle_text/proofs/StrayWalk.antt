@@ -1,0 +1,60 @@
+-- The first stray line of a collection, found on one walk from the top.
+use Rattle.std.proofs.Common.{◌≡◌, ℕ, ◌+◌, Bool, true, false, cond, not, ◌&&◌, ◌||◌, List, [], ◌∷◌, ◌++◌, length, take, refl, sym, ap, ◌∙◌, append_assoc, Option, Some, None}
+use Rattle.std.specs.List.{enumerate_from, find, list_any}
+use Rattle.std.specs.Option.{option_map}
+use Rattle.std.proofs.Math.Seq.{take-append_seam}
+use Rattle.std.proofs.lemmas.List.{length-append}
+use Rattle.std.proofs.lemmas.List.Folds.{list_any-append}
+use Rattle.puzzle_text.specs.Lines.{is_empty, trim, without_ending}
+use Rattle.puzzle_text.specs.Collections.{first_stray, is_marker, is_stray, name_of}
+
+-- the number of the first stray line: raws are the lines from number on, and inside tells whether a marker line stands above
+abbrev pub stray_from : ℕ → Bool → List (List ℕ) → Option ℕ
+stray_from number inside [] = None
+stray_from number inside (raw ∷ raws) =
+    let later = stray_from (number + 1) (inside || is_marker raw) raws in
+    cond (is_marker raw) (cond (is_empty (name_of raw)) (Some number) later)
+    (cond (inside || is_empty (trim (without_ending raw))) later (Some number))
+
+-- whether a numbered line is stray in a text
+abbrev stray_in : List (List ℕ) → ℕ × List ℕ → Bool
+stray_in whole numbered = is_stray (take numbered.0 whole) numbered.1
+
+-- the number of the first of these lines that is stray in a text
+abbrev stray_number : List (List ℕ) → List (ℕ × List ℕ) → Option ℕ
+stray_number whole numbered = option_map (λ one. one.0 + 1) (find (stray_in whole) numbered)
+
+-- the same at one line, by what is told of it
+at_line : (marker nameless blank inside : Bool) (place : ℕ) (raw : List ℕ) (found : Option (ℕ × List ℕ)) (later : Option ℕ) → later ≡ option_map (λ one. one.0 + 1) found
+    → cond marker (cond nameless (Some (place + 1)) later) (cond (inside || blank) later (Some (place + 1)))
+    ≡ option_map (λ one. one.0 + 1) (cond (cond marker nameless (not inside && not blank)) (Some (place, raw)) found)
+at_line true true blank inside place raw found later e = refl
+at_line true false blank inside place raw found later e = e
+at_line false nameless blank true place raw found later e = e
+at_line false nameless true false place raw found later e = e
+at_line false nameless false false place raw found later e = refl
+
+either-false : (b : Bool) → (b || false) ≡ b
+either-false true = refl
+either-false false = refl
+
+-- the walk below some lines
+walk_below : (front raws : List (List ℕ)) → stray_from (length front + 1) (list_any is_marker front) raws ≡ stray_number (front ++ raws) (enumerate_from (length front) raws)
+walk_below front [] = refl
+walk_below front (raw ∷ raws) =
+    let whole = front ++ raw ∷ raws in
+    let regrouped : (front ++ raw ∷ []) ++ raws ≡ whole = append_assoc front (raw ∷ []) raws in
+    let inside : list_any is_marker (front ++ raw ∷ []) ≡ (list_any is_marker front || is_marker raw) =
+    list_any-append is_marker front (raw ∷ []) ∙ ap (λ (b : Bool). list_any is_marker front || b) (either-false (is_marker raw)) in
+    let next : stray_from (length front + 1 + 1) (list_any is_marker front || is_marker raw) raws ≡ stray_number whole (enumerate_from (length front + 1) raws) =
+    ap (λ (b : Bool). stray_from (length front + 1 + 1) b raws) (sym inside)
+    ∙ ap (λ (place : ℕ). stray_from (place + 1) (list_any is_marker (front ++ raw ∷ [])) raws) (sym (length-append front (raw ∷ [])))
+    ∙ walk_below (front ++ raw ∷ []) raws
+    ∙ ap (λ (all : List (List ℕ)). stray_number all (enumerate_from (length (front ++ raw ∷ [])) raws)) regrouped
+    ∙ ap (λ (place : ℕ). stray_number whole (enumerate_from place raws)) (length-append front (raw ∷ [])) in
+    at_line (is_marker raw) (is_empty (name_of raw)) (is_empty (trim (without_ending raw))) (list_any is_marker front) (length front) raw (find (stray_in whole) (enumerate_from (length front + 1) raws)) _ next
+    ∙ ap (λ (above : List (List ℕ)). option_map (λ (one : ℕ × List ℕ). one.0 + 1) (cond (is_stray above raw) (Some (length front, raw)) (find (stray_in whole) (enumerate_from (length front + 1) raws)))) (sym (take-append_seam front (raw ∷ raws)))
+
+-- the walk from the top finds the first stray line
+pub stray_from-first : (raws : List (List ℕ)) → stray_from 1 false raws ≡ first_stray raws
+stray_from-first raws = walk_below [] raws

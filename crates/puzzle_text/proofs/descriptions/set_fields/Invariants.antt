@@ -1,0 +1,8 @@
+use Rattle.std.proofs.Common.{◌≡◌, drop, map}
+use Rattle.puzzle_text.specs.Non.{with_all_found}
+use Rattle.puzzle_text.specs.Shown.{shown_keyword}
+use Rattle.puzzle_text.proofs.descriptions.set_fields.Given as goal
+
+abbrev pub invariant-loop-field : goal.invariant-loop-field
+invariant-loop-field l =
+    with_all_found (map shown_keyword l.lines) l.texts (drop l.field-index l.fields) ≡ with_all_found (map shown_keyword l.lines) l.fn.texts l.fields

@@ -1,0 +1,19 @@
+use Rattle.std.proofs.Common.{◌≡◌}
+use Rattle.grid_core.specs.Nonogram.{lines_of}
+use Rattle.solve_core.specs.Closure.{closure}
+use Rattle.solve_core.specs.Marks.{HasMarks}
+use Rattle.solve_core.specs.Trails.{IsTrailed, unknown_count}
+use Rattle.solve_core.specs.Boards.{IsBoardOf}
+use Rattle.solve_core.proofs.closures.Closer.deduce_marked.Given as goal
+
+abbrev pub invariant-loop-height : goal.invariant-loop-height
+invariant-loop-height l = record {
+  puzzle : l.self.puzzle ≡ l.fn.self.puzzle;
+  marks : HasMarks l.self l.board.cells;
+  trail : IsTrailed l.fn.board l.board;
+  size : IsBoardOf l.self.puzzle l.board;
+  closed : closure (lines_of l.self.puzzle) l.board.cells ≡ closure (lines_of l.self.puzzle) l.fn.board.cells;
+}
+
+abbrev pub decreases-loop-height : goal.decreases-loop-height
+decreases-loop-height l = unknown_count l.board.cells

@@ -1,0 +1,5 @@
+use Rattle.std.proofs.Common.{◌≡◌}
+use Rattle.solve_core.proofs.tests_deductions.right_of_all.Given as goal
+
+abbrev pub invariant-loop-number : goal.invariant-loop-number
+invariant-loop-number l = (l.deductions ≡ l.puzzle) × (l.tables ≡ 3)

@@ -1,0 +1,169 @@
+//! Deductions of a puzzle's lines, remembered.
+ghost use Rattle.std.specs.Prelude.{◌≡◌, ◌+◌, ◌<◌, ◌≤◌, ◌↔◌, length, vec_capacity, IsTrue, IfOk, All};
+ghost use Rattle.line_core.specs.Deduction.{deduced};
+ghost use Rattle.solve_core.specs.Deductions.{IsKeptFrom};
+ghost use Rattle.solve_core.specs.Lines.{line_at, line_count};
+
+use crate::places::clue_of_line;
+use grid_core::{LONGEST_SIDE, NoMemory, Puzzle};
+use line_core::{Line, Tables, deduce};
+use std::alloc::Global;
+use std::marker::Model;
+
+/// How many deductions are remembered at most.
+pub const MOST_REMEMBERED: usize = 4096;
+
+/// How many deductions are remembered for each cell of a puzzle, as long as they aren't too many.
+const REMEMBERED_PER_CELL: usize = 4;
+
+/// What stands in a slot that no deduction has taken: the index of none.
+const NO_DEDUCTION: u16 = u16::MAX;
+
+/// A line of a puzzle, by its number and its cells, and what is certain of it.
+#[derive(Drop)]
+pub struct Deduction {
+    number: usize,
+    line: Line,
+    answer: Option<Line>,
+}
+
+/// The same answer, once more.
+fn copy_answer(answer: &Option<Line>) -> Option<Line>
+    ensures { result ≡ answer.now }
+{
+    match answer {
+        None => None,
+        Some(line) => Some(line.copy()),
+    }
+}
+
+impl Deduction {
+    /// Whether it is that of the line of this number and with these cells.
+    fn is_of(&self, number: usize, line: &Line) -> bool
+        ensures { IsTrue result ↔ ((self.now.number ≡ number) × (self.now.line ≡ line.now)) }
+    {
+        self.number == number && self.line.is_same(line)
+    }
+}
+
+/// How many deductions are remembered for a puzzle of so many cells: a power of two.
+fn room_for(cells: usize) -> usize
+    requires { cells ≤ 65536 }
+    ensures { (1 ≤ result) × (result ≤ MOST_REMEMBERED) }
+{
+    (cells * REMEMBERED_PER_CELL)
+        .next_power_of_two()
+        .min(MOST_REMEMBERED)
+}
+
+/// Which of so many slots is that of a line.
+fn slot_of(number: usize, line: &Line, slots: usize) -> usize
+    requires { 0 < slots }
+    ensures { result < slots }
+{
+    let mixed = line.hash() ^ (number as u64).wrapping_mul(0x8cb9_2ba7_2f3d_8dd7);
+    (mixed >> 52) as usize & (slots - 1)
+}
+
+/// Keeps a deduction in the place of the one that has the index, or else as one more, and writes its index, if there is room.
+fn keep(kept: &mut Vec<Deduction>, index: &mut u16, room: usize, deduction: Deduction)
+    requires fits { room ≤ vec_capacity kept.old }
+    requires few { room ≤ MOST_REMEMBERED }
+    ensures kept { All (IsKeptFrom kept.old.items deduction) kept.new.items }
+    ensures fits { vec_capacity kept.new ≡ vec_capacity kept.old }
+{
+    let count = kept.len();
+    let place = usize::from(*index);
+    if place < count {
+        kept[place] = deduction;
+    } else if count < room {
+        *index = count as u16;
+        kept.push_reserved(deduction);
+    }
+}
+
+/// What deduces the lines of a puzzle. Once it is open it remembers what it deduced: each line has one slot, and a line that takes a slot takes it
+/// from the one before.
+#[derive(Drop)]
+pub struct Deductions<'p> {
+    puzzle: &'p Puzzle,
+    tables: Tables,
+    room: usize,
+    slots: Vec<u16>,
+    kept: Vec<Deduction>,
+}
+
+impl<'p> Model for Deductions<'p> {
+    ghost use Rattle.std.specs.Prelude.{vec_capacity};
+    ghost use Rattle.grid_core.specs.Nonogram.{Nonogram};
+    ghost use Rattle.solve_core.specs.Deductions.{AreDeductionsOf};
+
+    ghost Value = { Nonogram };
+
+    ghost view = { λ d. d.puzzle.now };
+
+    ghost invariant = { λ d. AreDeductionsOf d.puzzle.now d.tables d.room (vec_capacity d.slots) (vec_capacity d.kept) d.kept.items };
+}
+
+impl<'p> Deductions<'p> {
+    /// Makes all the room that it takes, in proportion to the puzzle. Nothing is remembered before it is opened.
+    pub fn new(alloc: Global, puzzle: &'p Puzzle) -> Result<Deductions<'p>, NoMemory>
+        ensures { IfOk result (λ deductions. deductions ≡ puzzle.now) }
+    {
+        let cells = usize::from(puzzle.width()) * usize::from(puzzle.height());
+        Deductions::with_room(alloc, puzzle, room_for(cells))
+    }
+
+    /// Makes the room for so many deductions, 1 to 4,096.
+    pub(crate) fn with_room(
+        alloc: Global,
+        puzzle: &'p Puzzle,
+        room: usize,
+    ) -> Result<Deductions<'p>, NoMemory>
+        requires { (1 ≤ room) × (room ≤ MOST_REMEMBERED) }
+        ensures { IfOk result (λ deductions. deductions ≡ puzzle.now) }
+    {
+        Ok(Deductions {
+            puzzle,
+            tables: Tables::new(alloc, LONGEST_SIDE)?,
+            room,
+            slots: Vec::with_capacity(alloc, room)?,
+            kept: Vec::with_capacity(alloc, room)?,
+        })
+    }
+
+    /// Remembers from here on. It takes no memory, and does nothing to what is open.
+    pub fn open(&mut self)
+        ensures { self.new ≡ self.old }
+    {
+        while self.slots.len() < self.room {
+            self.slots.push_reserved(NO_DEDUCTION);
+        }
+    }
+
+    /// What is certain of the line of this number, the rows first, with these cells: what all placings of its clue share, or none if there is no
+    /// placing.
+    pub fn deduce(&mut self, number: usize, line: &Line) -> Option<Line>
+        requires number { number < line_count self.old }
+        requires within { length line.now ≤ LONGEST_SIDE }
+        ensures answer { result ≡ deduced line.now (line_at self.old number).clue }
+        ensures puzzle { self.new ≡ self.old }
+    {
+        if self.slots.is_empty() {
+            return deduce(&mut self.tables, line, clue_of_line(self.puzzle, number));
+        }
+        let slot = slot_of(number, line, self.slots.len());
+        let index = usize::from(self.slots[slot]);
+        if index < self.kept.len() && self.kept[index].is_of(number, line) {
+            return copy_answer(&self.kept[index].answer);
+        }
+        let answer = deduce(&mut self.tables, line, clue_of_line(self.puzzle, number));
+        let deduction = Deduction {
+            number,
+            line: line.copy(),
+            answer: copy_answer(&answer),
+        };
+        keep(&mut self.kept, &mut self.slots[slot], self.room, deduction);
+        answer
+    }
+}

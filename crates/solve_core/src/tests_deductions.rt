@@ -1,0 +1,105 @@
+//! Tests of remembered deductions against deducing anew.
+ghost use Rattle.std.specs.Prelude.{◌≡◌, ◌<◌, ◌≤◌, length};
+ghost use Rattle.solve_core.specs.Lines.{line_count};
+
+use crate::deductions::Deductions;
+use crate::places::clue_of_line;
+use crate::test_puzzles::puzzle_of;
+use grid_core::{Cell, Puzzle};
+use line_core::{Line, Tables, deduce};
+use std::alloc::Global;
+use std::test::Fail;
+
+/// How many states a line of three cells has.
+const STATES: u16 = 27;
+
+fn cell_of(digit: u16) -> Cell {
+    match digit {
+        0 => Cell::Unknown,
+        1 => Cell::Filled,
+        _ => Cell::Blank,
+    }
+}
+
+/// The line of three cells that a number tells by its digits to the base 3.
+fn line_of(number: u16) -> Line
+    ensures { length result ≡ 3 }
+{
+    let mut line = Line::unknown(3);
+    line.set(0, cell_of(number % 3));
+    line.set(1, cell_of(number / 3 % 3));
+    line.set(2, cell_of(number / 9 % 3));
+    line
+}
+
+fn is_same_answer(answer: &Option<Line>, other: &Option<Line>) -> bool {
+    match (answer, other) {
+        (None, None) => true,
+        (Some(line), Some(other)) => line.is_same(other),
+        _ => false,
+    }
+}
+
+/// For how many states of a line what is remembered is what is deduced.
+fn right_of_line(
+    puzzle: &Puzzle,
+    deductions: &mut Deductions,
+    tables: &mut Tables,
+    number: usize,
+) -> u32
+    requires puzzle { deductions.old ≡ puzzle.now }
+    requires number { number < line_count puzzle.now }
+    requires tables { tables.old ≡ 3 }
+    ensures puzzle { deductions.new ≡ puzzle.now }
+    ensures tables { tables.new ≡ 3 }
+{
+    let mut right: u32 = 0;
+    for state in 0..STATES {
+        let line = line_of(state);
+        let found = deductions.deduce(number, &line);
+        let wanted = deduce(tables, &line, clue_of_line(puzzle, number));
+        if is_same_answer(&found, &wanted) {
+            right = right.wrapping_add(1);
+        }
+    }
+    right
+}
+
+/// The same for the states of all lines.
+fn right_of_all(puzzle: &Puzzle, deductions: &mut Deductions, tables: &mut Tables) -> u32
+    requires puzzle { deductions.old ≡ puzzle.now }
+    requires tables { tables.old ≡ 3 }
+    ensures puzzle { deductions.new ≡ puzzle.now }
+    ensures tables { tables.new ≡ 3 }
+{
+    let mut right: u32 = 0;
+    let count = usize::from(puzzle.height()) + usize::from(puzzle.width());
+    for number in 0..count {
+        let more = right_of_line(puzzle, deductions, tables, number);
+        right = right.wrapping_add(more);
+    }
+    right
+}
+
+/// How many deductions are right with a table of so many slots: before it is open, after that, and once more.
+fn right_answers(alloc: Global, room: usize) -> Option<[u32; 3]>
+    requires { (1 ≤ room) × (room ≤ 4096) }
+{
+    let puzzle = puzzle_of(alloc, &[&[1, 1], &[2], &[]], &[&[1], &[3], &[1, 1]])?;
+    let mut deductions = Deductions::with_room(alloc, &puzzle, room).ok()?;
+    let mut tables = Tables::new(alloc, 3).ok()?;
+    let closed = right_of_all(&puzzle, &mut deductions, &mut tables);
+    deductions.open();
+    let first = right_of_all(&puzzle, &mut deductions, &mut tables);
+    let again = right_of_all(&puzzle, &mut deductions, &mut tables);
+    Some([closed, first, again])
+}
+
+#[test]
+fn remembered_deductions_are_right(rt: HostRuntime) -> Result<(), Fail> {
+    for room in [1, 16, 4096] {
+        // Six lines in 27 states.
+        assert!(rt; right_answers(rt.alloc(), room) == Some([162, 162, 162]));
+    }
+    Ok(())
+}

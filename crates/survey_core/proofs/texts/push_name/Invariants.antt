@@ -1,6 +1,0 @@
-use Rattle.std.proofs.Common.{◌≡◌, ◌++◌, map, take}
-use Rattle.survey_core.specs.Entries.{printed_byte}
-use Rattle.survey_core.proofs.texts.push_name.Given as goal
-
-abbrev pub invariant-loop-byte : goal.invariant-loop-byte
-invariant-loop-byte l = l.text.items ≡ l.initial.text.items ++ map printed_byte (take l.byte-index l.name)
