@@ -12,7 +12,7 @@ ghost use Rattle.solve_core.specs.declared.closures.Progress.TheVariants.{Dead, 
 
 use crate::boards::Board;
 use crate::deductions::Deductions;
-use crate::places::{Places, mark_changes, write_line};
+use crate::places::{Places, learn_line};
 use grid_core::{Cell, LONGEST_SIDE, NoMemory, Puzzle};
 use line_core::Line;
 use std::alloc::Global;
@@ -86,11 +86,11 @@ fn deduce_places(
     match deductions.deduce(n, old) {
         None => Progress::Dead,
         Some(new) => {
-            if !mark_changes(old, &new, places.crossing, marks) {
-                return Progress::Same;
+            if learn_line(board, places, old, &new, marks) {
+                Progress::Changed
+            } else {
+                Progress::Same
             }
-            write_line(board, places, old, &new);
-            Progress::Changed
         }
     }
 }

@@ -1,10 +1,11 @@
-//! What a deduction changes: the marks of the crossing lines, and the cells.
-ghost use Rattle.std.specs.Prelude.{◌≡◌, ◌≢◌, ℕ, ◌+◌, ◌*◌, ◌<◌, ◌≤◌, ◌↔◌, true, false, length, slice_index_or, IsTrue};
+//! What a deduction changes: the cells, and the marks of the crossing lines.
+ghost use Rattle.std.specs.Prelude.{◌≡◌, ◌≢◌, ◌+◌, ◌<◌, ◌≤◌, true, false, length};
 ghost use Rattle.grid_core.specs.declared.cells.Cell.TheVariants.{Unknown};
 ghost use Rattle.grid_core.specs.Nonogram.{IsNonogram, cells_at};
 ghost use Rattle.solve_core.specs.Closure.{with_cells};
 ghost use Rattle.grid_core.specs.Cells.{Extends};
 ghost use Rattle.solve_core.specs.Lines.{line_count, line_at, places_in, places_of, AreWithin};
+ghost use Rattle.solve_core.specs.Marks.{MarksChanges};
 ghost use Rattle.solve_core.specs.Trails.{IsTrailed};
 
 use crate::boards::Board;
@@ -64,41 +65,33 @@ pub fn clue_of_line(puzzle: &Puzzle, n: usize) -> &Clue
     }
 }
 
-/// Writes what a line learned at its places.
-pub fn write_line(board: &mut Board, places: Places, old: &Line, new: &Line)
+/// Writes what a line learned at its places, and marks the lines that cross it there. Answers whether it learned anything.
+pub fn learn_line(
+    board: &mut Board,
+    places: Places,
+    old: &Line,
+    new: &Line,
+    marks: &mut [bool],
+) -> bool
     requires within { AreWithin places (length board.old.cells) }
     requires step { 0 < places.step }
     requires small { length board.old.cells ≤ 65536 }
     requires count { length new.now ≡ places.count }
     requires old { old.now ≡ cells_at Unknown board.old.cells (places_of places) }
     requires more { Extends old.now new.now }
+    requires marks { places.crossing + places.count ≤ length marks.old }
     ensures cells { board.new.cells ≡ with_cells board.old.cells (places_of places) new.now }
     ensures trail { IsTrailed board.old board.new }
-{
-    let mut from = 0;
-    while let Some(i) = old.next_change(new, from) {
-        let place = places.first + usize::from(i) * places.step;
-        board.settle(place, new.get(i));
-        from = i + 1;
-    }
-}
-
-/// Marks the lines that cross at the cells where two states of a line differ; the first of these lines crosses it at its first cell. Answers
-/// whether they differ.
-pub fn mark_changes(old: &Line, new: &Line, first: usize, marks: &mut [bool]) -> bool
-    requires same { length new.now ≡ length old.now }
-    requires marks { first + length old.now ≤ length marks.old }
-    ensures changed { result ≡ true → new.now ≢ old.now }
+    ensures marks { MarksChanges places board.old.cells board.new.cells marks.old marks.new }
+    ensures learned { result ≡ true → new.now ≢ old.now }
     ensures same { result ≡ false → new.now ≡ old.now }
-    ensures kept { result ≡ false → marks.new ≡ marks.old }
-    ensures others { (k : ℕ) → (first ≤ k → first + length old.now ≤ k) → slice_index_or marks.new k false ≡ slice_index_or marks.old k false }
-    ensures unmarked { (k : ℕ) → slice_index_or marks.new k false ≡ false → slice_index_or marks.old k false ≡ false }
-    ensures marked { (i : ℕ) → i < length old.now → slice_index_or marks.new (first + i) false ≡ false
-        → slice_index_or new.now i Unknown ≡ slice_index_or old.now i Unknown }
+    ensures unmarked { result ≡ false → marks.new ≡ marks.old }
 {
     let mut from = 0;
     while let Some(i) = old.next_change(new, from) {
-        marks[first + usize::from(i)] = true;
+        let along = usize::from(i);
+        board.settle(places.first + along * places.step, new.get(i));
+        marks[places.crossing + along] = true;
         from = i + 1;
     }
     from > 0

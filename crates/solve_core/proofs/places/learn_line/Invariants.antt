@@ -1,10 +1,10 @@
-use Rattle.std.proofs.Common.{◌≡◌, ℕ, ◌+◌, ◌-◌, ◌*◌, ◌<◌, ◌≤◌, drop, length, get_or}
+use Rattle.std.proofs.Common.{◌≡◌, ◌≢◌, ℕ, ◌+◌, ◌-◌, ◌*◌, ◌<◌, ◌≤◌, drop, false, length, get_or}
 use Rattle.grid_core.specs.declared.cells.Cell.TheVariants.{Unknown}
 use Rattle.grid_core.specs.Nonogram.{places_from}
 use Rattle.solve_core.specs.Closure.{with_cells}
 use Rattle.solve_core.specs.Lines.{places_of}
 use Rattle.solve_core.specs.Trails.{IsTrailed}
-use Rattle.solve_core.proofs.places.write_line.Given as goal
+use Rattle.solve_core.proofs.places.learn_line.Given as goal
 
 abbrev pub invariant-loop-i : goal.invariant-loop-i
 invariant-loop-i l = record {
@@ -13,6 +13,11 @@ invariant-loop-i l = record {
   as_old : (k : ℕ) → l.from ≤ k → k < l.places.count → get_or l.board.cells (l.places.first + k * l.places.step) Unknown ≡ get_or l.old k Unknown;
   size : length l.board.cells ≡ length l.fn.board.cells;
   trail : IsTrailed l.fn.board l.board;
+  learned : 0 < l.from → l.new ≢ l.old;
+  same : l.from ≡ 0 → l.marks ≡ l.fn.marks;
+  others : (n : ℕ) → (l.places.crossing ≤ n → l.places.crossing + l.places.count ≤ n) → get_or l.marks n false ≡ get_or l.fn.marks n false;
+  kept : (n : ℕ) → get_or l.marks n false ≡ false → get_or l.fn.marks n false ≡ false;
+  marked : (k : ℕ) → k < l.from → get_or l.marks (l.places.crossing + k) false ≡ false → get_or l.new k Unknown ≡ get_or l.old k Unknown;
 }
 
 abbrev pub decreases-loop-i : goal.decreases-loop-i
