@@ -66,8 +66,8 @@ impl Grid {
         self.at(usize::from(y) * usize::from(self.width) + usize::from(x))
     }
 
-    /// What is known of the cell at a place in row order.
-    pub(crate) fn at(&self, place: usize) -> Cell
+    /// What is known of the cell at a place in row order, from 0.
+    pub fn at(&self, place: usize) -> Cell
         requires { place < length self.now.cells }
         ensures { result ≡ slice_index_or self.now.cells place Unknown }
     {
@@ -81,6 +81,14 @@ impl Grid {
         ensures { self.new ≡ record self.old { cells = slice_set self.old.cells (place self.old x y) cell } }
     {
         let place = usize::from(y) * usize::from(self.width) + usize::from(x);
+        self.set_at(place, cell);
+    }
+
+    /// Changes what is known of the cell at a place in row order, from 0, and nothing else.
+    pub fn set_at(&mut self, place: usize, cell: Cell)
+        requires { place < length self.old.cells }
+        ensures { self.new ≡ record self.old { cells = slice_set self.old.cells place cell } }
+    {
         let block = self.blocks[place / BLOCK];
         self.blocks[place / BLOCK] = block.with((place % BLOCK) as u16, cell);
     }

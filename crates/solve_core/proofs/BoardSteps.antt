@@ -68,20 +68,20 @@ place_in cells rows columns k a l =
     let within : k < length rows * length columns = omega (arith, a.count) in
     (positive, omega arith, div_below k (length columns) (length rows) positive within, omega arith)
 
+-- a cell in a column and a row is one of the board's
+pub cell_in : (cells : List Cell) (rows columns : List (List Cell)) (x y : ℕ) → AreLinesOf cells rows columns → x < length columns → y < length rows → y * length columns + x < length cells
+cell_in cells rows columns x y a lx ly = omega (arith, row_within (length columns) (length rows) y x ly lx, a.count)
+
 -- the lines after a cell was written in its row and its column
-pub lines-written : (cells : List Cell) (rows columns : List (List Cell)) (row column : List Cell) (k : ℕ) (c : Cell) → AreLinesOf cells rows columns → k < length cells
-    → row ≡ set (get_or rows (k / length columns) []) (k % length columns) c → column ≡ set (get_or columns (k % length columns) []) (k / length columns) c
-    → AreLinesOf (set cells k c) (set rows (k / length columns) row) (set columns (k % length columns) column)
-lines-written cells rows columns row column k c a l er ec =
+pub lines-written : (cells : List Cell) (rows columns : List (List Cell)) (row column : List Cell) (x y : ℕ) (c : Cell) → AreLinesOf cells rows columns → x < length columns → y < length rows
+    → row ≡ set (get_or rows y []) x c → column ≡ set (get_or columns x []) y c
+    → AreLinesOf (set cells (y * length columns + x) c) (set rows y row) (set columns x column)
+lines-written cells rows columns row column x y c a lx ly er ec =
     let w = length columns in
     let h = length rows in
-    let x = k % w in
-    let y = k / w in
-    let in_grid = place_in cells rows columns k a l in
-    let positive : 0 < w = in_grid.0 in
-    let lx : x < w = in_grid.1 in
-    let ly : y < h = in_grid.2 in
-    let at : k ≡ y * w + x = in_grid.3 in
+    let k : ℕ = y * w + x in
+    let positive : 0 < w = omega (arith, lx) in
+    let l : k < length cells = cell_in cells rows columns x y a lx ly in
     let lw : length (set columns x column) ≡ w = length-set columns x column in
     let lh : length (set rows y row) ≡ h = length-set rows y row in
     record {
@@ -94,10 +94,10 @@ lines-written cells rows columns row column k c a l er ec =
             | inl same ↦
                 (rw same
                 (get_or-set_same rows y row [] ly ∙ er ∙ ap (λ (line : List Cell). set line x c) (a.rows_are y ly)
-                ∙ sym (along-set cells (y * w) 1 w x k c (omega arith) lx (omega (arith, at)) l)))
+                ∙ sym (along-set cells (y * w) 1 w x k c (omega arith) lx (omega arith) l)))
             | inr other ↦
                 (get_or-set_other rows y j row [] other ∙ a.rows_are j lj
-                ∙ sym (along-elsewhere cells (j * w) 1 w k c (λ i li e. let same : j * w + i ≡ y * w + x = omega (arith, at, e) in other ((unique_place w j y i x li lx same).0))))
+                ∙ sym (along-elsewhere cells (j * w) 1 w k c (λ i li e. let same : j * w + i ≡ y * w + x = omega (arith, e) in other ((unique_place w j y i x li lx same).0))))
           ]);
       columns_are = λ j below.
           let lj : j < w = omega (arith, lw) in
@@ -106,10 +106,10 @@ lines-written cells rows columns row column k c a l er ec =
             | inl same ↦
                 (rw same
                 (get_or-set_same columns x column [] lx ∙ ec ∙ ap (λ (line : List Cell). set line y c) (a.columns_are x lx)
-                ∙ sym (along-set cells x w h y k c positive ly (omega (arith, at)) l)))
+                ∙ sym (along-set cells x w h y k c positive ly (omega arith) l)))
             | inr other ↦
                 (get_or-set_other columns x j column [] other ∙ a.columns_are j lj
-                ∙ sym (along-elsewhere cells j w h k c (λ i li e. let same : i * w + j ≡ y * w + x = omega (arith, at, e) in other ((unique_place w i y j x lj lx same).1))))
+                ∙ sym (along-elsewhere cells j w h k c (λ i li e. let same : i * w + j ≡ y * w + x = omega (arith, e) in other ((unique_place w i y j x lj lx same).1))))
           ]);
     }
 
@@ -173,6 +173,14 @@ board-undone cells new rows columns after across trail less room left k b t e li
       };
       room_is = omega (arith, long, b.room_is);
     }
+
+-- the column and the row of the cell that was settled last
+pub undone_place : (cells : List Cell) (rows columns : List (List Cell)) (trail less : List ℕ) (room k : ℕ) → IsBoard cells rows columns trail room → trail ≡ less ++ k ∷ []
+    → (k % length columns < length columns) × (k / length columns < length rows) × (k / length columns * length columns + k % length columns ≡ k)
+undone_place cells rows columns trail less room k b t =
+    let within : k < length cells = (all_split (λ j. j < length cells) less k (rw t at b.grid.inside)).0 in
+    let at = place_in cells rows columns k b.lines within in
+    (at.1, at.2, sym at.3)
 
 -- a board with other cells, and nothing to go back to
 pub board-fresh : (cells new : List Cell) (rows columns after across : List (List Cell)) (trail less : List ℕ) (room left : ℕ) → IsBoard cells rows columns trail room

@@ -159,6 +159,14 @@ place_marks p cells marks k y x c long m hy hx at = record {
       elim (line-through p.width p.height j b y x l there.0 hx (sym at ∙ s ∙ there.1)) [ inl own ↦ row.0 own.0 | inr own ↦ column.0 own.0 ]);
 }
 
+-- the column and the row of a place
+pub place_split : (p : Nonogram) (cells : List Cell) (k : ℕ) → IsNonogram p → length cells ≡ p.width * p.height → k < length cells
+    → (k % p.width < p.width) × (k / p.width < p.height) × (k / p.width * p.width + k % p.width ≡ k)
+place_split p cells k is size l =
+    let positive : 0 < p.width = omega (arith, is.size.width_from) in
+    let within : k < p.height * p.width = omega (arith, size) in
+    (omega arith, div_below k p.width p.height positive within, omega arith)
+
 pub place_given : (p : Nonogram) (cells : List Cell) (marks : List Bool) (k width height : ℕ) (c : Cell) → width ≡ p.width → height ≡ p.height → length marks ≡ line_count p → HasMarks (marked p marks) cells → k < length cells
     → HasMarks (marked p (set (set marks (k / width) true) (height + k % width) true)) (set cells k c)
 place_given p cells marks k width height c e f long m l =

@@ -9,7 +9,7 @@ use Rattle.grid_core.specs.PartialGrid.{IsSize}
 use Rattle.grid_core.specs.Nonogram.{Nonogram, IsNonogram, GridLine, places_from, row_line, column_line, lines_of, row_at, column_at}
 use Rattle.grid_core.proofs.LineLaws.{length-places_from, get_or-places_from}
 use Rattle.solve_core.specs.declared.places.Places.{Places}
-use Rattle.solve_core.specs.Lines.{line_count, line_at, places_in, places_of, AreWithin}
+use Rattle.solve_core.specs.Lines.{line_count, line_at, places_in, place_along, places_of, AreWithin}
 use Rattle.solve_core.proofs.StepLaws.{IsOneOf}
 
 -- the places of a grid fit 16 bits
@@ -40,6 +40,21 @@ by_kind P w h n row column = by (nat_lt n h) refl
     by : (b : Bool) → nat_lt n h ≡ b → P (cond b (record { first = n * w; step = 1; count = w; crossing = h }) (record { first = n - h; step = w; count = h; crossing = 0 }))
     by true e = row (ltb-true n h e)
     by false e = column (ltb-false n h e)
+
+-- where the cells of a row and of a column are
+pub along-row : (w h n i : ℕ) → n < h → ((places_in w h n).count ≡ w) × (place_along w h n i ≡ n * w + i)
+along-row w h n i l = by_kind (λ q. (q.count ≡ w) × (q.first + i * q.step ≡ n * w + i)) w h n (λ r. (refl, omega arith)) (λ c. absurd (omega arith))
+
+pub along-column : (w h n i : ℕ) → h ≤ n → ((places_in w h n).count ≡ h) × (place_along w h n i ≡ i * w + (n - h))
+along-column w h n i l = by_kind (λ q. (q.count ≡ h) × (q.first + i * q.step ≡ i * w + (n - h))) w h n (λ r. absurd (omega arith)) (λ c. (refl, omega arith))
+
+-- a line has as many cells as a side
+pub line-long : (w h n : ℕ) → IsSize w h → (1 ≤ (places_in w h n).count) × ((places_in w h n).count ≤ 256)
+line-long w h n size = by_kind (λ q. (1 ≤ q.count) × (q.count ≤ 256)) w h n (λ r. (size.width_from, size.width_to)) (λ c. (size.height_from, size.height_to))
+
+-- the lines that cross a line are lines
+pub line-crossed : (w h n : ℕ) → (places_in w h n).crossing + (places_in w h n).count ≤ h + w
+line-crossed w h n = by_kind (λ q. q.crossing + q.count ≤ h + w) w h n (λ r. omega arith) (λ c. omega arith)
 
 pub line-step : (w h n : ℕ) → 0 < w → 0 < (places_in w h n).step
 line-step w h n positive = by_kind (λ l. 0 < l.step) w h n (λ r. omega arith) (λ c. positive)

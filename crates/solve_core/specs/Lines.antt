@@ -19,6 +19,10 @@ places_in width height n =
     (record { first = n * width; step = 1; count = width; crossing = height })
     (record { first = n - height; step = width; count = height; crossing = 0 })
 
+-- where cell i of that line is
+abbrev pub place_along : ℕ → ℕ → ℕ → ℕ → ℕ
+place_along width height n i = (places_in width height n).first + i * (places_in width height n).step
+
 -- the places of a line
 abbrev pub places_of : Places → List ℕ
 places_of p = places_from p.first p.step p.count

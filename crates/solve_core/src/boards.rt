@@ -3,7 +3,7 @@ ghost use Rattle.std.specs.Prelude.{◌≡◌, ◌+◌, ◌-◌, ◌*◌, ◌<�
 ghost use Rattle.grid_core.specs.Cells.{is_known};
 ghost use Rattle.grid_core.specs.Nonogram.{cells_at};
 ghost use Rattle.grid_core.specs.declared.limits.TheConstants.{LONGEST_SIDE};
-ghost use Rattle.solve_core.specs.Lines.{places_in, places_of};
+ghost use Rattle.solve_core.specs.Lines.{places_in, place_along, places_of};
 ghost use Rattle.grid_core.specs.PartialGrid.{IsSize};
 ghost use Rattle.grid_core.specs.declared.cells.Cell.TheVariants.{Unknown};
 ghost use Rattle.solve_core.specs.Boards.{AreLinesOf, fresh_board, unknown_board};
@@ -49,17 +49,22 @@ fn unknown_lines(alloc: Global, len: u16, count: u16) -> Result<Vec<Line>, NoMem
     Ok(lines)
 }
 
-/// Changes a cell, and with it its row and its column.
-fn write(cells: &mut [Cell], rows: &mut [Line], columns: &mut [Line], place: usize, cell: Cell)
+/// Changes the cell in column x and row y, and with it its row and its column.
+fn write(
+    cells: &mut [Cell],
+    rows: &mut [Line],
+    columns: &mut [Line],
+    x: usize,
+    y: usize,
+    cell: Cell,
+)
     requires lines { AreLinesOf cells.old rows.old columns.old }
-    requires place { place < length cells.old }
-    ensures cells { cells.new ≡ slice_set cells.old place cell }
+    requires column { x < length columns.old }
+    requires row { y < length rows.old }
+    ensures cells { cells.new ≡ slice_set cells.old (y * length columns.old + x) cell }
     ensures lines { AreLinesOf cells.new rows.new columns.new }
 {
-    let width = columns.len();
-    let x = place % width;
-    let y = place / width;
-    cells[place] = cell;
+    cells[y * columns.len() + x] = cell;
     rows[y].set(x as u16, cell);
     columns[x].set(y as u16, cell);
 }
@@ -119,22 +124,50 @@ impl Board {
         }
     }
 
-    /// Settles an unknown cell.
-    pub fn settle(&mut self, place: usize, cell: Cell)
-        requires place { place < length self.old.cells }
-        requires unknown { slice_index_or self.old.cells place Unknown ≡ Unknown }
+    /// The number of the line that crosses line n at its first cell. The line that crosses it at cell i comes i later.
+    pub fn crossing(&self, n: usize) -> usize
+        ensures { result ≡ (places_in self.now.width self.now.height n).crossing }
+    {
+        let height = self.rows.len();
+        if n < height { height } else { 0 }
+    }
+
+    /// Settles the unknown cell in column x and row y.
+    pub fn settle(&mut self, x: usize, y: usize, cell: Cell)
+        requires column { x < self.old.width }
+        requires row { y < self.old.height }
+        requires unknown { slice_index_or self.old.cells (y * self.old.width + x) Unknown ≡ Unknown }
         requires known { is_known cell ≡ true }
-        ensures cells { self.new.cells ≡ slice_set self.old.cells place cell }
+        ensures cells { self.new.cells ≡ slice_set self.old.cells (y * self.old.width + x) cell }
         ensures trail { IsTrailed self.old self.new }
     {
+        let place = y * self.columns.len() + x;
         write(
             &mut self.cells,
             &mut self.rows,
             &mut self.columns,
-            place,
+            x,
+            y,
             cell,
         );
         self.trail.push_reserved(place as u16);
+    }
+
+    /// Settles the unknown cell i of line n.
+    pub fn settle_along(&mut self, n: usize, i: usize, cell: Cell)
+        requires n { n < self.old.height + self.old.width }
+        requires i { i < (places_in self.old.width self.old.height n).count }
+        requires unknown { slice_index_or self.old.cells (place_along self.old.width self.old.height n i) Unknown ≡ Unknown }
+        requires known { is_known cell ≡ true }
+        ensures cells { self.new.cells ≡ slice_set self.old.cells (place_along self.old.width self.old.height n i) cell }
+        ensures trail { IsTrailed self.old self.new }
+    {
+        let height = self.rows.len();
+        if n < height {
+            self.settle(i, n, cell);
+        } else {
+            self.settle(n - height, i, cell);
+        }
     }
 
     /// Makes the cell unknown that was settled last.
@@ -148,11 +181,14 @@ impl Board {
         let Some(place) = self.trail.pop() else {
             return;
         };
+        let place = usize::from(place);
+        let width = self.columns.len();
         write(
             &mut self.cells,
             &mut self.rows,
             &mut self.columns,
-            usize::from(place),
+            place % width,
+            place / width,
             Cell::Unknown,
         );
     }
@@ -188,12 +224,14 @@ impl Board {
         let width = usize::from(grid.width());
         self.trail.clear();
         for place in 0..self.cells.len() {
-            let cell = grid.get((place % width) as u16, (place / width) as u16);
+            let (x, y) = (place % width, place / width);
+            let cell = grid.get(x as u16, y as u16);
             write(
                 &mut self.cells,
                 &mut self.rows,
                 &mut self.columns,
-                place,
+                x,
+                y,
                 cell,
             );
         }

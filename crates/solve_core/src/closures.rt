@@ -1,10 +1,10 @@
 //! The closure of a grid, by a mark at each line that may have more to give.
 ghost use Rattle.std.specs.Prelude.{◌≡◌, ◌≢◌, ℕ, ◌+◌, ◌*◌, ◌<◌, ◌≤◌, ◌↔◌, true, false, length, slice_set, slice_index_or, IsTrue, IfOk};
 ghost use Rattle.grid_core.specs.Cells.{is_known};
-ghost use Rattle.grid_core.specs.Nonogram.{lines_of, cells_at};
+ghost use Rattle.grid_core.specs.Nonogram.{IsNonogram, lines_of};
 ghost use Rattle.grid_core.specs.declared.cells.Cell.TheVariants.{Unknown};
 ghost use Rattle.solve_core.specs.Closure.{closure};
-ghost use Rattle.solve_core.specs.Lines.{line_at, line_count, places_of, AreWithin};
+ghost use Rattle.solve_core.specs.Lines.{line_at, line_count, places_in};
 ghost use Rattle.solve_core.specs.Marks.{IsLearned, MarksChanges, HasMarks, Progresses, MarksAfter, AreParallel, AreUnmarkedFrom, AddsNone, IsUnmarked, IsAtRest, if_alive};
 ghost use Rattle.solve_core.specs.Trails.{IsTrailed};
 ghost use Rattle.solve_core.specs.Boards.{IsBoardOf};
@@ -12,7 +12,7 @@ ghost use Rattle.solve_core.specs.declared.closures.Progress.TheVariants.{Dead, 
 
 use crate::boards::Board;
 use crate::deductions::Deductions;
-use crate::places::{Places, learn_line};
+use crate::places::write_line;
 use grid_core::{Cell, LONGEST_SIDE, NoMemory, Puzzle};
 use line_core::Line;
 use std::alloc::Global;
@@ -60,33 +60,28 @@ impl<'p> Model for Closer<'p> {
     ghost invariant = { λ c. IsNonogram c.puzzle.now × (c.deductions ≡ c.puzzle.now) × (length c.marks.items ≡ line_count c.puzzle.now) };
 }
 
-/// Writes what is certain of a line, and marks the lines that cross it at the cells that it learned.
-fn deduce_places(
+/// Writes what is certain of line n, and marks the lines that cross it at the cells that it learned.
+fn learn_line(
     deductions: &mut Deductions<'_>,
     n: usize,
-    places: Places,
-    old: &Line,
     board: &mut Board,
     marks: &mut [bool],
 ) -> Progress
-    requires from { 1 ≤ places.count }
-    requires to { places.count ≤ LONGEST_SIDE }
     requires n { n < line_count deductions.old }
-    requires within { AreWithin places (length board.old.cells) }
-    requires step { 0 < places.step }
-    requires small { length board.old.cells ≤ 65536 }
-    requires old { old.now ≡ cells_at Unknown board.old.cells (places_of places) }
-    requires marks { places.crossing + places.count ≤ length marks.old }
-    ensures learned { IsLearned result (record { places = places_of places; clue = (line_at deductions.old n).clue }) board.old.cells board.new.cells }
-    ensures marks { MarksChanges places board.old.cells board.new.cells marks.old marks.new }
+    requires puzzle { IsNonogram deductions.old }
+    requires board { IsBoardOf deductions.old board.old }
+    requires marks { length marks.old ≡ line_count deductions.old }
+    ensures learned { IsLearned result (line_at deductions.old n) board.old.cells board.new.cells }
+    ensures marks { MarksChanges (places_in deductions.old.width deductions.old.height n) board.old.cells board.new.cells marks.old marks.new }
     ensures same { result ≡ Same → marks.new ≡ marks.old }
     ensures trail { IsTrailed board.old board.new }
     ensures puzzle { deductions.new ≡ deductions.old }
 {
-    match deductions.deduce(n, old) {
+    let old = board.line(n);
+    match deductions.deduce(n, &old) {
         None => Progress::Dead,
         Some(new) => {
-            if learn_line(board, places, old, &new, marks) {
+            if write_line(board, n, &old, &new, marks) {
                 Progress::Changed
             } else {
                 Progress::Same
@@ -121,17 +116,8 @@ impl<'p> Closer<'p> {
         ensures trail { IsTrailed board.old board.new }
         ensures puzzle { self.new.puzzle ≡ self.old.puzzle }
     {
-        let places = Places::of_line(self.puzzle, n);
         self.marks[n] = false;
-        let line = board.line(n);
-        deduce_places(
-            &mut self.deductions,
-            n,
-            places,
-            &line,
-            board,
-            &mut self.marks,
-        )
+        learn_line(&mut self.deductions, n, board, &mut self.marks)
     }
 
     /// Deduces each marked line from `start` on and before `end`: rows, or columns.
@@ -230,9 +216,10 @@ impl<'p> Closer<'p> {
     {
         let width = usize::from(self.puzzle.width());
         let height = usize::from(self.puzzle.height());
-        self.marks[place / width] = true;
-        self.marks[height + place % width] = true;
-        board.settle(place, colour);
+        let (x, y) = (place % width, place / width);
+        self.marks[y] = true;
+        self.marks[height + x] = true;
+        board.settle(x, y, colour);
         self.propagate(board)
     }
 

@@ -16,6 +16,9 @@ pub const MOST_REMEMBERED: usize = 4096;
 /// How many deductions are remembered for each cell of a puzzle, as long as they aren't too many.
 const REMEMBERED_PER_CELL: usize = 4;
 
+/// From how many runs on a line is remembered: with fewer it is deduced as soon as it is looked up.
+const FEWEST_RUNS: usize = 3;
+
 /// What stands in a slot that no deduction has taken: the index of none.
 const NO_DEDUCTION: u16 = u16::MAX;
 
@@ -149,15 +152,16 @@ impl<'p> Deductions<'p> {
         ensures answer { result ≡ deduced line.now (line_at self.old number).clue }
         ensures puzzle { self.new ≡ self.old }
     {
-        if self.slots.is_empty() {
-            return deduce(&mut self.tables, line, clue_of_line(self.puzzle, number));
+        let clue = clue_of_line(self.puzzle, number);
+        if self.slots.is_empty() || clue.numbers().len() < FEWEST_RUNS {
+            return deduce(&mut self.tables, line, clue);
         }
         let slot = slot_of(number, line, self.slots.len());
         let index = usize::from(self.slots[slot]);
         if index < self.kept.len() && self.kept[index].is_of(number, line) {
             return copy_answer(&self.kept[index].answer);
         }
-        let answer = deduce(&mut self.tables, line, clue_of_line(self.puzzle, number));
+        let answer = deduce(&mut self.tables, line, clue);
         let deduction = Deduction {
             number,
             line: line.copy(),

@@ -8,9 +8,9 @@ pub fn read_grid(grid: &Grid, cells: &mut [Cell])
     requires { length cells.old ≡ grid.now.width * grid.now.height }
     ensures { cells.new ≡ grid.now.cells }
 {
-    let width = usize::from(grid.width());
-    for place in 0..cells.len() {
-        cells[place] = grid.get((place % width) as u16, (place / width) as u16);
+    let count = usize::from(grid.width()) * usize::from(grid.height());
+    for place in 0..count {
+        cells[place] = grid.at(place);
     }
 }
 
@@ -21,8 +21,8 @@ pub fn write_grid(cells: &[Cell], grid: &mut Grid)
     ensures width { grid.new.width ≡ grid.old.width }
     ensures height { grid.new.height ≡ grid.old.height }
 {
-    let width = usize::from(grid.width());
-    for place in 0..cells.len() {
-        grid.set((place % width) as u16, (place / width) as u16, cells[place]);
+    let count = usize::from(grid.width()) * usize::from(grid.height());
+    for place in 0..count {
+        grid.set_at(place, cells[place]);
     }
 }

@@ -1,10 +1,11 @@
 //! What a deduction changes: the cells, and the marks of the crossing lines.
-ghost use Rattle.std.specs.Prelude.{◌≡◌, ◌≢◌, ◌+◌, ◌<◌, ◌≤◌, true, false, length};
+ghost use Rattle.std.specs.Prelude.{◌≡◌, ◌≢◌, ◌+◌, ◌*◌, ◌<◌, true, false, length};
 ghost use Rattle.grid_core.specs.declared.cells.Cell.TheVariants.{Unknown};
 ghost use Rattle.grid_core.specs.Nonogram.{IsNonogram, cells_at};
 ghost use Rattle.solve_core.specs.Closure.{with_cells};
 ghost use Rattle.grid_core.specs.Cells.{Extends};
-ghost use Rattle.solve_core.specs.Lines.{line_count, line_at, places_in, places_of, AreWithin};
+ghost use Rattle.grid_core.specs.PartialGrid.{IsSize};
+ghost use Rattle.solve_core.specs.Lines.{line_count, line_at, places_in, places_of};
 ghost use Rattle.solve_core.specs.Marks.{MarksChanges};
 ghost use Rattle.solve_core.specs.Trails.{IsTrailed};
 
@@ -65,33 +66,28 @@ pub fn clue_of_line(puzzle: &Puzzle, n: usize) -> &Clue
     }
 }
 
-/// Writes what a line learned at its places, and marks the lines that cross it there. Answers whether it learned anything.
-pub fn learn_line(
-    board: &mut Board,
-    places: Places,
-    old: &Line,
-    new: &Line,
-    marks: &mut [bool],
-) -> bool
-    requires within { AreWithin places (length board.old.cells) }
-    requires step { 0 < places.step }
-    requires small { length board.old.cells ≤ 65536 }
-    requires count { length new.now ≡ places.count }
-    requires old { old.now ≡ cells_at Unknown board.old.cells (places_of places) }
+/// Writes what line n learned, and marks the lines that cross it there. Answers whether it learned anything.
+pub fn write_line(board: &mut Board, n: usize, old: &Line, new: &Line, marks: &mut [bool]) -> bool
+    requires n { n < board.old.height + board.old.width }
+    requires size { IsSize board.old.width board.old.height }
+    requires cells { length board.old.cells ≡ board.old.width * board.old.height }
+    requires old { old.now ≡ cells_at Unknown board.old.cells (places_of (places_in board.old.width board.old.height n)) }
+    requires count { length new.now ≡ length old.now }
     requires more { Extends old.now new.now }
-    requires marks { places.crossing + places.count ≤ length marks.old }
-    ensures cells { board.new.cells ≡ with_cells board.old.cells (places_of places) new.now }
+    requires marks { length marks.old ≡ board.old.height + board.old.width }
+    ensures cells { board.new.cells ≡ with_cells board.old.cells (places_of (places_in board.old.width board.old.height n)) new.now }
     ensures trail { IsTrailed board.old board.new }
-    ensures marks { MarksChanges places board.old.cells board.new.cells marks.old marks.new }
+    ensures marks { MarksChanges (places_in board.old.width board.old.height n) board.old.cells board.new.cells marks.old marks.new }
     ensures learned { result ≡ true → new.now ≢ old.now }
     ensures same { result ≡ false → new.now ≡ old.now }
     ensures unmarked { result ≡ false → marks.new ≡ marks.old }
 {
+    let crossing = board.crossing(n);
     let mut from = 0;
     while let Some(i) = old.next_change(new, from) {
         let along = usize::from(i);
-        board.settle(places.first + along * places.step, new.get(i));
-        marks[places.crossing + along] = true;
+        board.settle_along(n, along, new.get(i));
+        marks[crossing + along] = true;
         from = i + 1;
     }
     from > 0

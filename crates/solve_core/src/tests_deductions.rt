@@ -10,8 +10,11 @@ use line_core::{Line, Tables, deduce};
 use std::alloc::Global;
 use std::test::Fail;
 
-/// How many states a line of three cells has.
-const STATES: u16 = 27;
+/// How many cells the lines have.
+const CELLS: u16 = 6;
+
+/// How many states a line of six cells has.
+const STATES: u16 = 729;
 
 fn cell_of(digit: u16) -> Cell {
     match digit {
@@ -21,14 +24,16 @@ fn cell_of(digit: u16) -> Cell {
     }
 }
 
-/// The line of three cells that a number tells by its digits to the base 3.
+/// The line of six cells that a number tells by its digits to the base 3.
 fn line_of(number: u16) -> Line
-    ensures { length result ≡ 3 }
+    ensures { length result ≡ 6 }
 {
-    let mut line = Line::unknown(3);
-    line.set(0, cell_of(number % 3));
-    line.set(1, cell_of(number / 3 % 3));
-    line.set(2, cell_of(number / 9 % 3));
+    let mut line = Line::unknown(CELLS);
+    let mut rest = number;
+    for i in 0..CELLS {
+        line.set(i, cell_of(rest % 3));
+        rest /= 3;
+    }
     line
 }
 
@@ -49,9 +54,9 @@ fn right_of_line(
 ) -> u32
     requires puzzle { deductions.old ≡ puzzle.now }
     requires number { number < line_count puzzle.now }
-    requires tables { tables.old ≡ 3 }
+    requires tables { tables.old ≡ 6 }
     ensures puzzle { deductions.new ≡ puzzle.now }
-    ensures tables { tables.new ≡ 3 }
+    ensures tables { tables.new ≡ 6 }
 {
     let mut right: u32 = 0;
     for state in 0..STATES {
@@ -65,16 +70,15 @@ fn right_of_line(
     right
 }
 
-/// The same for the states of all lines.
+/// The same for the states of all rows.
 fn right_of_all(puzzle: &Puzzle, deductions: &mut Deductions, tables: &mut Tables) -> u32
     requires puzzle { deductions.old ≡ puzzle.now }
-    requires tables { tables.old ≡ 3 }
+    requires tables { tables.old ≡ 6 }
     ensures puzzle { deductions.new ≡ puzzle.now }
-    ensures tables { tables.new ≡ 3 }
+    ensures tables { tables.new ≡ 6 }
 {
     let mut right: u32 = 0;
-    let count = usize::from(puzzle.height()) + usize::from(puzzle.width());
-    for number in 0..count {
+    for number in 0..usize::from(puzzle.height()) {
         let more = right_of_line(puzzle, deductions, tables, number);
         right = right.wrapping_add(more);
     }
@@ -85,9 +89,11 @@ fn right_of_all(puzzle: &Puzzle, deductions: &mut Deductions, tables: &mut Table
 fn right_answers(alloc: Global, room: usize) -> Option<[u32; 3]>
     requires { (1 ≤ room) × (room ≤ 4096) }
 {
-    let puzzle = puzzle_of(alloc, &[&[1, 1], &[2], &[]], &[&[1], &[3], &[1, 1]])?;
+    let rows: [&[u16]; 4] = [&[1, 1, 1], &[2, 1, 1], &[1, 2, 1], &[3]];
+    let columns: [&[u16]; 6] = [&[1]; 6];
+    let puzzle = puzzle_of(alloc, &rows, &columns)?;
     let mut deductions = Deductions::with_room(alloc, &puzzle, room).ok()?;
-    let mut tables = Tables::new(alloc, 3).ok()?;
+    let mut tables = Tables::new(alloc, CELLS).ok()?;
     let closed = right_of_all(&puzzle, &mut deductions, &mut tables);
     deductions.open();
     let first = right_of_all(&puzzle, &mut deductions, &mut tables);
@@ -98,8 +104,8 @@ fn right_answers(alloc: Global, room: usize) -> Option<[u32; 3]>
 #[test]
 fn remembered_deductions_are_right(rt: HostRuntime) -> Result<(), Fail> {
     for room in [1, 16, 4096] {
-        // Six lines in 27 states.
-        assert!(rt; right_answers(rt.alloc(), room) == Some([162, 162, 162]));
+        // Four rows in 729 states.
+        assert!(rt; right_answers(rt.alloc(), room) == Some([2916, 2916, 2916]));
     }
     Ok(())
 }

@@ -1,9 +1,31 @@
-use Rattle.std.proofs.Common.{◌≡◌, ◌∙◌, List, Bool, set, true, sym, subst}
+use Rattle.std.proofs.Common.{◌≡◌, ◌≢◌, ◌∙◌, ◌+◌, ◌*◌, ◌/◌, ◌%◌, ◌<◌, ℕ, List, Bool, length, get_or, set, true, ap, sym, subst, arith}
+use Rattle.grid_core.specs.declared.cells.Cell.TheVariants.{Unknown}
+use Rattle.grid_core.specs.Nonogram.{lines_of}
+use Rattle.solve_core.specs.Closure.{closure}
 use Rattle.solve_core.specs.MarkedPuzzles.{MarkedPuzzle}
 use Rattle.solve_core.specs.Marks.{HasMarks}
-use Rattle.solve_core.proofs.GridSteps.{marked, place_given}
+use Rattle.solve_core.proofs.GridSteps.{marked, place_given, place_split}
 use Rattle.solve_core.proofs.TrailSteps.{trailed-trans}
 use Rattle.solve_core.proofs.closures.Closer.assign.Goals as goal
+
+pub settle-requires-clause-column : goal.settle-requires-clause-column
+settle-requires-clause-column c =
+    let p = c.args.self.now.puzzle in
+    let wide : c.from-width.result ≡ p.width = c.from-width.ensures ∙ c.width.ensures.width ∙ ap (λ (m : MarkedPuzzle). m.puzzle.width) c.self.view_is in
+    rw (wide, c.requires.size.0) ((place_split p c.args.board.now.cells c.args.place c.requires.rest.marks.puzzle c.requires.size.2 c.requires.place).0)
+
+pub settle-requires-clause-row : goal.settle-requires-clause-row
+settle-requires-clause-row c =
+    let p = c.args.self.now.puzzle in
+    let wide : c.from-width.result ≡ p.width = c.from-width.ensures ∙ c.width.ensures.width ∙ ap (λ (m : MarkedPuzzle). m.puzzle.width) c.self.view_is in
+    rw (wide, c.requires.size.1) ((place_split p c.args.board.now.cells c.args.place c.requires.rest.marks.puzzle c.requires.size.2 c.requires.place).1)
+
+pub settle-requires-clause-unknown : goal.settle-requires-clause-unknown
+settle-requires-clause-unknown c =
+    let p = c.args.self.now.puzzle in
+    let wide : c.from-width.result ≡ p.width = c.from-width.ensures ∙ c.width.ensures.width ∙ ap (λ (m : MarkedPuzzle). m.puzzle.width) c.self.view_is in
+    let at = (place_split p c.args.board.now.cells c.args.place c.requires.rest.marks.puzzle c.requires.size.2 c.requires.place).2 in
+    rw (wide, c.requires.size.0) (ap (λ (k : ℕ). get_or c.args.board.now.cells k Unknown) at ∙ c.requires.unknown)
 
 pub propagate-requires-clause-marks : goal.propagate-requires-clause-marks
 propagate-requires-clause-marks c =
@@ -11,8 +33,21 @@ propagate-requires-clause-marks c =
     let before = c.self.inside.marks.items in
     let old = c.args.board.now.cells in
     let marks : HasMarks (marked p before) old = subst (λ (m : MarkedPuzzle). HasMarks m old) (sym c.self.view_is) c.requires.rest.marks in
-    rw c.settle.ensures.cells
-    (place_given p old before c.args.place c.from-width.result c.from-height.result c.args.colour (c.from-width.ensures ∙ c.width.ensures.width) (c.from-height.ensures ∙ c.height.ensures) c.self.invariant.2 marks c.requires.place)
+    let wide : c.from-width.result ≡ p.width = c.from-width.ensures ∙ c.width.ensures.width in
+    let over : c.args.board.now.width ≡ p.width = c.requires.size.0 ∙ sym (ap (λ (m : MarkedPuzzle). m.puzzle.width) c.self.view_is) in
+    let at = (place_split p old c.args.place marks.puzzle marks.size c.requires.place).2 in
+    let cells = c.settle.ensures.cells ∙ (λ i. set old (c.args.place / wide i * over i + c.args.place % wide i) c.args.colour) ∙ ap (λ (k : ℕ). set old k c.args.colour) at in
+    rw cells (place_given p old before c.args.place c.from-width.result c.from-height.result c.args.colour wide (c.from-height.ensures ∙ c.height.ensures) c.self.invariant.2 marks c.requires.place)
+
+pub returns-clause-closed : goal.returns-clause-closed
+returns-clause-closed c =
+    let p = c.args.self.now.puzzle in
+    let old = c.args.board.now.cells in
+    let wide : c.from-width.result ≡ p.width = c.from-width.ensures ∙ c.width.ensures.width ∙ ap (λ (m : MarkedPuzzle). m.puzzle.width) c.self.view_is in
+    let at = (place_split p old c.args.place c.requires.rest.marks.puzzle c.requires.size.2 c.requires.place).2 in
+    let cells : c.settle.new.self.cells ≡ set old c.args.place c.args.colour =
+    c.settle.ensures.cells ∙ (λ i. set old (c.args.place / wide i * c.requires.size.0 i + c.args.place % wide i) c.args.colour) ∙ ap (λ (k : ℕ). set old k c.args.colour) at in
+    c.propagate.ensures.closed ∙ (λ i. closure (lines_of (c.self.view_is i).puzzle) (cells i))
 
 pub returns-clause-trail : goal.returns-clause-trail
 returns-clause-trail c =

@@ -1,70 +1,55 @@
-use Rattle.std.proofs.Common.{◌≡◌, ◌∙◌, ◌+◌, ◌*◌, ◌<◌, ◌≤◌, ℕ, List, Bool, arith, false, length, set, ap, sym, subst}
+use Rattle.std.proofs.Common.{◌≡◌, ◌∙◌, ◌+◌, ◌<◌, ◌≤◌, ℕ, List, Bool, arith, false, length, set, ap, sym, subst}
 use Rattle.std.specs.Vec.{with_item}
 use Rattle.std.proofs.lemmas.List.{with_items_is}
-use Rattle.grid_core.specs.Nonogram.{Nonogram, GridLine, lines_of}
-use Rattle.solve_core.specs.declared.places.Places.{Places}
+use Rattle.grid_core.specs.Nonogram.{Nonogram, lines_of}
 use Rattle.solve_core.specs.Closure.{closure}
 use Rattle.solve_core.specs.Lines.{line_count, line_at, places_in}
 use Rattle.solve_core.specs.MarkedPuzzles.{MarkedPuzzle}
 use Rattle.solve_core.specs.Marks.{HasMarks, IsLearned, MarksChanges, MarksAfter, Progresses, AreParallel, AreUnmarkedFrom}
-use Rattle.solve_core.proofs.NumberedLines.{longest_sides_fit, line-is, line_is_one}
-use Rattle.solve_core.proofs.GridSteps.{marked, places-within, learned-progress, marks-after, unmarked-through}
+use Rattle.solve_core.proofs.NumberedLines.{line_is_one}
+use Rattle.solve_core.proofs.GridSteps.{marked, learned-progress, marks-after, unmarked-through}
 use Rattle.solve_core.proofs.closures.Closer.deduce_line.Goals as goal
-
-pub deduce_places-requires-clause-within : goal.deduce_places-requires-clause-within
-deduce_places-requires-clause-within c =
-    let p = c.self.inside.puzzle.now in
-    let seen = ap (λ (m : MarkedPuzzle). m.puzzle) c.self.view_is in
-    places-within p c.args.board.now.cells c.args.n c.of_line-places.result (omega (arith, c.requires.n, ap (λ (m : MarkedPuzzle). line_count m.puzzle) c.self.view_is))
-    (c.requires.size.2 ∙ sym (ap (λ (m : MarkedPuzzle). m.puzzle.width * m.puzzle.height) c.self.view_is)) c.of_line-places.ensures.places
-
-pub deduce_places-requires-clause-small : goal.deduce_places-requires-clause-small
-deduce_places-requires-clause-small c = omega (arith, c.requires.size.2, longest_sides_fit c.args.self.now.puzzle.width c.args.self.now.puzzle.height c.requires.marks.puzzle.size)
 
 pub returns-clause-progress : goal.returns-clause-progress
 returns-clause-progress c =
     let p = c.self.inside.puzzle.now in
     let n = c.args.n in
-    let r = c.deduce_places.result in
+    let r = c.learn_line.result in
     let old = c.args.board.now.cells in
-    let new = c.deduce_places.new.board.cells in
-    let is = c.of_line-places.ensures.puzzle in
+    let new = c.learn_line.new.board.cells in
     let within : n < line_count p = subst (λ (m : MarkedPuzzle). n < line_count m.puzzle) (sym c.self.view_is) c.requires.n in
-    let line = line-is p n c.of_line-places.result (line_at c.self.inside.deductions n).clue is within c.of_line-places.ensures.places (ap (λ (q : Nonogram). (line_at q n).clue) c.self.invariant.1) in
     subst (λ (m : MarkedPuzzle). Progresses (closure (lines_of m.puzzle)) r old new) c.self.view_is
-    (learned-progress (lines_of p) (line_at p n) old new r (line_is_one p n is within) (subst (λ (l : GridLine). IsLearned r l old new) line c.deduce_places.ensures.learned))
+    (learned-progress (lines_of p) (line_at p n) old new r (line_is_one p n c.self.invariant.0 within) (subst (λ (q : Nonogram). IsLearned r (line_at q n) old new) c.self.invariant.1 c.learn_line.ensures.learned))
 
 pub returns-clause-marks : goal.returns-clause-marks
 returns-clause-marks c =
     let p = c.self.inside.puzzle.now in
     let n = c.args.n in
-    let r = c.deduce_places.result in
+    let r = c.learn_line.result in
     let old = c.args.board.now.cells in
-    let new = c.deduce_places.new.board.cells in
+    let new = c.learn_line.new.board.cells in
     let before = c.self.inside.marks.items in
-    let after = c.deduce_places.new.marks in
-    let is = c.of_line-places.ensures.puzzle in
+    let after = c.learn_line.new.marks in
     let within : n < line_count p = subst (λ (m : MarkedPuzzle). n < line_count m.puzzle) (sym c.self.view_is) c.requires.n in
-    let line = line-is p n c.of_line-places.result (line_at c.self.inside.deductions n).clue is within c.of_line-places.ensures.places (ap (λ (q : Nonogram). (line_at q n).clue) c.self.invariant.1) in
-    let changes = subst (λ (q : Places). MarksChanges q old new (set before n false) after) c.of_line-places.ensures.places
-    (subst (λ (marks : List Bool). MarksChanges c.of_line-places.result old new marks after) c.deref_mut.ensures.value c.deduce_places.ensures.marks) in
-    let written = with_items_is (with_item c.self.inside.marks n false) after (c.deduce_places.auto.marks ∙ c.deref_mut.ensures.len) in
+    let changes = subst (λ (q : Nonogram). MarksChanges (places_in q.width q.height n) old new (set before n false) after) c.self.invariant.1
+    (subst (λ (marks : List Bool). MarksChanges (places_in c.self.inside.deductions.width c.self.inside.deductions.height n) old new marks after) c.deref_mut.ensures.value c.learn_line.ensures.marks) in
+    let written = with_items_is (with_item c.self.inside.marks n false) after (c.learn_line.auto.marks ∙ c.deref_mut.ensures.len) in
     subst (λ (marks : List Bool). MarksAfter r (marked p marks) new) (sym written)
     (marks-after p old new before after n r (subst (λ (m : MarkedPuzzle). HasMarks m old) (sym c.self.view_is) c.requires.marks) within
-    (subst (λ (l : GridLine). IsLearned r l old new) line c.deduce_places.ensures.learned) changes)
+    (subst (λ (q : Nonogram). IsLearned r (line_at q n) old new) c.self.invariant.1 c.learn_line.ensures.learned) changes)
 
 pub returns-clause-unmarked : goal.returns-clause-unmarked
 returns-clause-unmarked c =
     let p = c.self.inside.puzzle.now in
     let n = c.args.n in
     let old = c.args.board.now.cells in
-    let new = c.deduce_places.new.board.cells in
+    let new = c.learn_line.new.board.cells in
     let before = c.self.inside.marks.items in
-    let after = c.deduce_places.new.marks in
+    let after = c.learn_line.new.marks in
     let within : n < length before = omega (arith, c.requires.n, c.self.invariant.2, ap (λ (m : MarkedPuzzle). line_count m.puzzle) c.self.view_is) in
-    let changes = subst (λ (q : Places). MarksChanges q old new (set before n false) after) c.of_line-places.ensures.places
-    (subst (λ (marks : List Bool). MarksChanges c.of_line-places.result old new marks after) c.deref_mut.ensures.value c.deduce_places.ensures.marks) in
-    let written = with_items_is (with_item c.self.inside.marks n false) after (c.deduce_places.auto.marks ∙ c.deref_mut.ensures.len) in
+    let changes = subst (λ (q : Nonogram). MarksChanges (places_in q.width q.height n) old new (set before n false) after) c.self.invariant.1
+    (subst (λ (marks : List Bool). MarksChanges (places_in c.self.inside.deductions.width c.self.inside.deductions.height n) old new marks after) c.deref_mut.ensures.value c.learn_line.ensures.marks) in
+    let written = with_items_is (with_item c.self.inside.marks n false) after (c.learn_line.auto.marks ∙ c.deref_mut.ensures.len) in
     subst (λ (marks : List Bool). (start end : ℕ) → AreParallel c.args.self.now.puzzle start end → start ≤ n → n < end → AreUnmarkedFrom start n c.args.self.now.marks → AreUnmarkedFrom start (n + 1) marks) (sym written)
     (subst (λ (m : MarkedPuzzle). (start end : ℕ) → AreParallel m.puzzle start end → start ≤ n → n < end → AreUnmarkedFrom start n m.marks → AreUnmarkedFrom start (n + 1) after) c.self.view_is
     (λ start end. unmarked-through p old new before after n start end within changes))
