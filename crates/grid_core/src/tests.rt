@@ -185,6 +185,18 @@ fn a_new_grid_is_unknown(rt: HostRuntime) -> Result<(), Fail> {
     Ok(())
 }
 
+#[test]
+fn a_cell_by_its_place_in_row_order(rt: HostRuntime) -> Result<(), Fail> {
+    let mut grid = Grid::unknown(rt.alloc(), 3, 2)?;
+    grid.set_at(4, Cell::Filled);
+    assert!(rt; grid.get(1, 1) == Cell::Filled && grid.known() == 1);
+    grid.set(2, 0, Cell::Blank);
+    assert!(rt;
+        grid.at(2) == Cell::Blank && grid.at(4) == Cell::Filled && grid.at(3) == Cell::Unknown
+    );
+    Ok(())
+}
+
 // Whether each cell can be set in turn, every third filled and the others blank: before each is set it is the first unknown one.
 fn fills(grid: &mut Grid) -> bool {
     for y in 0..grid.height() {
