@@ -88,6 +88,15 @@ impl Line {
         }
     }
 
+    /// Becomes the same as another line, in place.
+    pub fn copy_from(&mut self, other: &Line)
+        ensures { self.new ≡ other.now }
+    {
+        self.len = other.len;
+        self.filled = other.filled;
+        self.blank = other.blank;
+    }
+
     /// How many cells it has.
     pub fn len(&self) -> u16
         ensures len { result ≡ length self.now }

@@ -75,7 +75,7 @@ fn copy_lines(lines: &mut [Line], others: &[Line])
     ensures { lines.new ≡ others.now }
 {
     for i in 0..lines.len() {
-        lines[i] = others[i].copy();
+        lines[i].copy_from(&others[i]);
     }
 }
 

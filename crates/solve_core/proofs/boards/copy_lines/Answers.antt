@@ -9,8 +9,8 @@ loop-i-preserved c =
     let within : i < length c.loop-i.lines = omega (arith, c.loop-i.auto.lines, c.loop-i-test.true) in
     let other : i < length c.args.others.now = omega (arith, c.requires, c.loop-i-test.true) in
     below_more _ _
-    (λ j h. let apart : j ≢ i = omega arith in get_or-set_other c.loop-i.lines i j c.copy.result [] apart ∙ c.loop-i.invariant j h)
-    (get_or-set_same c.loop-i.lines i c.copy.result [] within ∙ c.copy.ensures ∙ c.index-others-i.is ∙ line_read c.args.others.now i c.index-others-i.result other)
+    (λ j h. let apart : j ≢ i = omega arith in get_or-set_other c.loop-i.lines i j c.copy_from.new.self [] apart ∙ c.loop-i.invariant j h)
+    (get_or-set_same c.loop-i.lines i c.copy_from.new.self [] within ∙ c.copy_from.ensures ∙ c.index-others-i.is ∙ line_read c.args.others.now i c.index-others-i.result other)
 
 pub returns : goal.returns
 returns c =
