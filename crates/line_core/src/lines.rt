@@ -15,7 +15,8 @@ use std::marker::Model;
 /// The cells of a line, 1 to 256 of them, seen as the list of its cells.
 #[derive(Drop)]
 pub struct Line {
-    len: u16,
+    /// How many cells there are: as wide as half a set, so that there is no gap between the fields, and a line is copied by whole words.
+    len: u128,
     filled: Wide,
     blank: Wide,
 }
@@ -71,7 +72,7 @@ impl Line {
         ensures { result ≡ replicate len Unknown }
     {
         Line {
-            len,
+            len: u128::from(len),
             filled: Wide::none(),
             blank: Wide::none(),
         }
@@ -102,7 +103,7 @@ impl Line {
         ensures len { result ≡ length self.now }
         ensures within { (1 ≤ length self.now) × (length self.now ≤ LONGEST_SIDE) }
     {
-        self.len
+        self.len as u16
     }
 
     /// What is known of the cell at a place, counted from 0.
@@ -155,7 +156,11 @@ impl Line {
             from,
         );
         if let Some(place) = low {
-            return if place < self.len { Some(place) } else { None };
+            return if u128::from(place) < self.len {
+                Some(place)
+            } else {
+                None
+            };
         }
         if self.len <= 128 {
             return None;
@@ -170,7 +175,7 @@ impl Line {
         let Some(place) = high else {
             return None;
         };
-        if place + 128 < self.len {
+        if u128::from(place + 128) < self.len {
             Some(place + 128)
         } else {
             None
@@ -196,10 +201,11 @@ impl Line {
         requires { length self.now ≤ W.WIDTH }
         ensures { IsSpanOf W.WIDTH self.now result.len (W.number result.free) (W.number result.room) }
     {
+        let len = self.len as u16;
         Span {
-            len: self.len,
-            free: lacking(W::narrowed(self.filled), self.len),
-            room: lacking(W::narrowed(self.blank), self.len),
+            len,
+            free: lacking(W::narrowed(self.filled), len),
+            room: lacking(W::narrowed(self.blank), len),
         }
     }
 
@@ -212,7 +218,7 @@ impl Line {
             return None;
         }
         Some(Line {
-            len,
+            len: u128::from(len),
             filled: fillable.without(blankable),
             blank: blankable.without(fillable),
         })

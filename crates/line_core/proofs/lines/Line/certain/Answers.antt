@@ -1,5 +1,6 @@
-use Rattle.std.proofs.Common.{◌∙◌, sym}
+use Rattle.std.proofs.Common.{◌∙◌, ℕ, Some, ap, arith, sym}
 use Rattle.place_sets.specs.Masks.{joined}
+use Rattle.line_core.specs.Lines.{line_cells}
 use Rattle.line_core.proofs.Telling.{told_dead, told_some, told_apart}
 use Rattle.line_core.proofs.lines.Line.certain.Goals as goal
 
@@ -12,8 +13,8 @@ returns-then-not-has c =
 
 pub invariant_of-result : goal.invariant_of-result
 invariant_of-result c = record {
-  some = c.requires.0;
-  short = c.requires.1;
+  some = omega (arith, c.requires.0, c.from.ensures);
+  short = omega (arith, c.requires.1, c.from.ensures);
   apart = λ i x y. told_apart (joined c.args.fillable.low c.args.fillable.high) (joined c.args.blankable.low c.args.blankable.high)
       (joined c.without.result.low c.without.result.high) (joined c.without-2.result.low c.without-2.result.high) i c.without.ensures c.without-2.ensures x y;
 }
@@ -23,5 +24,6 @@ returns c =
     let f = joined c.args.fillable.low c.args.fillable.high in
     let b = joined c.args.blankable.low c.args.blankable.high in
     let m = joined c.or.result.low c.or.result.high in
-    told_some c.args.len f b m (joined c.without.result.low c.without.result.high) (joined c.without-2.result.low c.without-2.result.high) c.or.ensures
+    ap (λ (n : ℕ). Some (line_cells n (joined c.without.result.low c.without.result.high) (joined c.without-2.result.low c.without-2.result.high))) c.from.ensures
+    ∙ told_some c.args.len f b m (joined c.without.result.low c.without.result.high) (joined c.without-2.result.low c.without-2.result.high) c.or.ensures
     (sym c.has.ensures ∙ c.if-not-has.false) c.without.ensures c.without-2.ensures

@@ -5,8 +5,8 @@ use Rattle.line_core.proofs.LineCells.{length_seen}
 use Rattle.line_core.proofs.Changing.{change_is, low_found, low_past, low_none, high_found, high_past, high_none}
 use Rattle.line_core.proofs.lines.Line.next_change.Goals as goal
 
-pub returns-then-place-self-clause-change : goal.returns-then-place-self-clause-change
-returns-then-place-self-clause-change c =
+pub returns-then-from-self-clause-change : goal.returns-then-from-self-clause-change
+returns-then-from-self-clause-change c =
     let line = c.self.inside in
     let other = c.other.inside in
     let f = line.filled in
@@ -15,15 +15,15 @@ returns-then-place-self-clause-change c =
     let d = other.blank in
     change_is line.len (joined f.low f.high) (joined b.low b.high) other.len (joined g.low g.high) (joined d.low d.high) c.args.from c.args.self.now c.args.other.now (Some c.in-Some.place)
     c.self.view_is c.other.view_is c.requires.same c.self.invariant.apart c.other.invariant.apart
-    (low_found f.low f.high g.low g.high b.low b.high d.low d.high c.args.from line.len c.in-Some.place c.in-Some.ensures c.if-place-self.true)
+    (low_found f.low f.high g.low g.high b.low b.high d.low d.high c.args.from line.len c.in-Some.place c.in-Some.ensures (omega (arith, c.from.ensures, c.if-from-self.true)))
 
-pub returns-then-place-self-clause-within : goal.returns-then-place-self-clause-within
-returns-then-place-self-clause-within c =
+pub returns-then-from-self-clause-within : goal.returns-then-from-self-clause-within
+returns-then-from-self-clause-within c =
     let line = c.self.inside in
     omega (arith, length_seen line.len (joined line.filled.low line.filled.high) (joined line.blank.low line.blank.high) c.args.self.now c.self.view_is, c.self.invariant.short)
 
-pub returns-else-place-self-clause-change : goal.returns-else-place-self-clause-change
-returns-else-place-self-clause-change c =
+pub returns-else-from-self-clause-change : goal.returns-else-from-self-clause-change
+returns-else-from-self-clause-change c =
     let line = c.self.inside in
     let other = c.other.inside in
     let f = line.filled in
@@ -32,10 +32,10 @@ returns-else-place-self-clause-change c =
     let d = other.blank in
     change_is line.len (joined f.low f.high) (joined b.low b.high) other.len (joined g.low g.high) (joined d.low d.high) c.args.from c.args.self.now c.args.other.now None
     c.self.view_is c.other.view_is c.requires.same c.self.invariant.apart c.other.invariant.apart
-    (low_past f.low f.high g.low g.high b.low b.high d.low d.high c.args.from line.len c.in-Some.place c.in-Some.ensures (omega (arith, c.if-place-self.false)))
+    (low_past f.low f.high g.low g.high b.low b.high d.low d.high c.args.from line.len c.in-Some.place c.in-Some.ensures (omega (arith, c.from.ensures, c.if-from-self.false)))
 
-pub returns-else-place-self-clause-within : goal.returns-else-place-self-clause-within
-returns-else-place-self-clause-within c =
+pub returns-else-from-self-clause-within : goal.returns-else-from-self-clause-within
+returns-else-from-self-clause-within c =
     let line = c.self.inside in
     omega (arith, length_seen line.len (joined line.filled.low line.filled.high) (joined line.blank.low line.blank.high) c.args.self.now c.self.view_is, c.self.invariant.short)
 
@@ -78,8 +78,8 @@ returns-in_default-high-clause-within c =
     let line = c.self.inside in
     omega (arith, length_seen line.len (joined line.filled.low line.filled.high) (joined line.blank.low line.blank.high) c.args.self.now c.self.view_is, c.self.invariant.short)
 
-pub returns-then-place-self-2-clause-change : goal.returns-then-place-self-2-clause-change
-returns-then-place-self-2-clause-change c =
+pub returns-then-from-self-2-clause-change : goal.returns-then-from-self-2-clause-change
+returns-then-from-self-2-clause-change c =
     let line = c.self.inside in
     let other = c.other.inside in
     let f = line.filled in
@@ -93,15 +93,15 @@ returns-then-place-self-2-clause-change c =
     change_is line.len (joined f.low f.high) (joined b.low b.high) other.len (joined g.low g.high) (joined d.low d.high) c.args.from c.args.self.now c.args.other.now (Some (c.in-Some-high.place + 128))
     c.self.view_is c.other.view_is c.requires.same c.self.invariant.apart c.other.invariant.apart
     (high_found f.low f.high g.low g.high b.low b.high d.low d.high c.args.from line.len c.in-Some-high.place ff fg fb fd c.in_default.ensures
-    (subst (λ (from : ℕ). IsFirstDifference 128 f.high g.high b.high d.high from (Some c.in-Some-high.place)) c.saturating_sub.ensures c.in-Some-high.ensures) c.if-place-self-2.true)
+    (subst (λ (from : ℕ). IsFirstDifference 128 f.high g.high b.high d.high from (Some c.in-Some-high.place)) c.saturating_sub.ensures c.in-Some-high.ensures) (omega (arith, c.from-2.ensures, c.if-from-self-2.true)))
 
-pub returns-then-place-self-2-clause-within : goal.returns-then-place-self-2-clause-within
-returns-then-place-self-2-clause-within c =
+pub returns-then-from-self-2-clause-within : goal.returns-then-from-self-2-clause-within
+returns-then-from-self-2-clause-within c =
     let line = c.self.inside in
     omega (arith, length_seen line.len (joined line.filled.low line.filled.high) (joined line.blank.low line.blank.high) c.args.self.now c.self.view_is, c.self.invariant.short)
 
-pub returns-else-place-self-2-clause-change : goal.returns-else-place-self-2-clause-change
-returns-else-place-self-2-clause-change c =
+pub returns-else-from-self-2-clause-change : goal.returns-else-from-self-2-clause-change
+returns-else-from-self-2-clause-change c =
     let line = c.self.inside in
     let other = c.other.inside in
     let f = line.filled in
@@ -115,9 +115,9 @@ returns-else-place-self-2-clause-change c =
     change_is line.len (joined f.low f.high) (joined b.low b.high) other.len (joined g.low g.high) (joined d.low d.high) c.args.from c.args.self.now c.args.other.now None
     c.self.view_is c.other.view_is c.requires.same c.self.invariant.apart c.other.invariant.apart
     (high_past f.low f.high g.low g.high b.low b.high d.low d.high c.args.from line.len c.in-Some-high.place ff fg fb fd c.in_default.ensures
-    (subst (λ (from : ℕ). IsFirstDifference 128 f.high g.high b.high d.high from (Some c.in-Some-high.place)) c.saturating_sub.ensures c.in-Some-high.ensures) (omega (arith, c.if-place-self-2.false)))
+    (subst (λ (from : ℕ). IsFirstDifference 128 f.high g.high b.high d.high from (Some c.in-Some-high.place)) c.saturating_sub.ensures c.in-Some-high.ensures) (omega (arith, c.from-2.ensures, c.if-from-self-2.false)))
 
-pub returns-else-place-self-2-clause-within : goal.returns-else-place-self-2-clause-within
-returns-else-place-self-2-clause-within c =
+pub returns-else-from-self-2-clause-within : goal.returns-else-from-self-2-clause-within
+returns-else-from-self-2-clause-within c =
     let line = c.self.inside in
     omega (arith, length_seen line.len (joined line.filled.low line.filled.high) (joined line.blank.low line.blank.high) c.args.self.now c.self.view_is, c.self.invariant.short)
