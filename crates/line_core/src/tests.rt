@@ -467,6 +467,17 @@ fn changes_at_word_ends_are_found(rt: HostRuntime) -> Result<(), Fail> {
 }
 
 #[test]
+fn a_line_becomes_another(rt: HostRuntime) -> Result<(), Fail> {
+    let mut other = Line::unknown(130);
+    other.set(129, Cell::Blank);
+    let mut line = Line::unknown(3);
+    line.set(0, Cell::Filled);
+    other.copy_from(&line);
+    assert!(rt; is_line(&other, "#??"));
+    Ok(())
+}
+
+#[test]
 fn cells_become_unknown_again(rt: HostRuntime) -> Result<(), Fail> {
     let mut line = Line::unknown(3);
     line.set(0, Cell::Filled);
