@@ -16,6 +16,7 @@ pub mod GreaterLimit
 pub mod NonText
 pub mod ReadNon
 pub mod CollectionsLemmas
+pub mod PlainLines
 pub mod FeedsLemmas
 pub mod PlacedWalk
 pub mod StrayWalk

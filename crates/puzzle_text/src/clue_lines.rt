@@ -1,9 +1,8 @@
 //! Lines that say a clue.
 
-ghost use Rattle.std.specs.Prelude.{◌≡◌, [], map, length, vec_capacity, vec_len, IfOk};
-ghost use Rattle.std.specs.Option.{option_map};
+ghost use Rattle.std.specs.Prelude.{◌≡◌, [], map, length, vec_capacity, vec_len, IfOk, Some, None, if◌then◌else◌};
 ghost use Rattle.puzzle_text.specs.Answers.{Gives};
-ghost use Rattle.puzzle_text.specs.ClueLines.{clue_of, clues_of, numbers_within};
+ghost use Rattle.puzzle_text.specs.ClueLines.{clue_of, clue_of_numbers, clues_of, numbers_within};
 ghost use Rattle.puzzle_text.specs.Numbers.{pieces};
 ghost use Rattle.puzzle_text.specs.Shown.{shown_line};
 
@@ -13,29 +12,27 @@ use crate::numbers::{next_piece, number_within};
 use grid_core::{Clue, ClueFault, LONGEST_SIDE, NoMemory};
 use std::alloc::Global;
 
-fn numbers_of(alloc: Global, text: &[u8]) -> Result<Option<Vec<u16>>, NoMemory>
-    ensures { IfOk result (λ found. option_map (λ numbers. numbers.items) found ≡ numbers_within LONGEST_SIDE (pieces text.now)) }
+/// Reads the numbers of a line into a list, in place of what is there. Whether each of its pieces is a number.
+fn read_numbers(text: &[u8], numbers: &mut Vec<u16>) -> Result<bool, NoMemory>
+    ensures { IfOk result (λ all. (if all then Some numbers.new.items else None) ≡ numbers_within LONGEST_SIDE (pieces text.now)) }
 {
-    let mut numbers = Vec::new(alloc);
+    numbers.clear();
     let mut rest = text;
     'pieces: while let Some((piece, after)) = next_piece(rest) {
         let Some(number) = number_within(LONGEST_SIDE, piece) else {
-            return Ok(None);
+            return Ok(false);
         };
         numbers.push(number)?;
         rest = after;
     }
-    Ok(Some(numbers))
+    Ok(true)
 }
 
-/// The clue that a line says, if it says one.
-fn clue_of(alloc: Global, text: &[u8]) -> Result<Option<Clue>, NoMemory>
-    ensures { IfOk result (λ found. found ≡ clue_of LONGEST_SIDE text.now) }
+/// The clue that numbers are, if they are one.
+fn clue_of_numbers(alloc: Global, numbers: &[u16]) -> Result<Option<Clue>, NoMemory>
+    ensures { IfOk result (λ found. found ≡ clue_of_numbers LONGEST_SIDE numbers.now) }
 {
-    let Some(numbers) = numbers_of(alloc, text)? else {
-        return Ok(None);
-    };
-    let lengths: &[u16] = match numbers.as_slice() {
+    let lengths: &[u16] = match numbers {
         [0] => &[],
         all => all,
     };
@@ -43,6 +40,17 @@ fn clue_of(alloc: Global, text: &[u8]) -> Result<Option<Clue>, NoMemory>
         Ok(clue) => Ok(Some(clue)),
         Err(ClueFault::BadNumber) => Ok(None),
         Err(ClueFault::NoMemory) => Err(NoMemory),
+    }
+}
+
+/// The clue that a line says, if it says one. The list is room for its numbers.
+fn clue_of(alloc: Global, text: &[u8], numbers: &mut Vec<u16>) -> Result<Option<Clue>, NoMemory>
+    ensures { IfOk result (λ found. found ≡ clue_of LONGEST_SIDE text.now) }
+{
+    if read_numbers(text, numbers)? {
+        clue_of_numbers(alloc, numbers)
+    } else {
+        Ok(None)
     }
 }
 
@@ -61,8 +69,9 @@ pub(crate) fn clues_of(alloc: Global, lines: &[Line<'_>]) -> Result<Vec<Clue>, T
     ensures length { IfOk result (λ clues. length clues.items ≡ length lines.now) }
 {
     let mut clues = room_for(alloc, lines.len())?;
+    let mut numbers = Vec::new(alloc);
     for line in lines {
-        let Some(clue) = clue_of(alloc, line.text)? else {
+        let Some(clue) = clue_of(alloc, line.text, &mut numbers)? else {
             return Err(TextFault::BadNumber(line.number));
         };
         clues.push_reserved(clue);

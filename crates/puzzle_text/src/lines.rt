@@ -103,7 +103,7 @@ pub(crate) fn all_lines(alloc: Global, bytes: &[u8]) -> Result<Vec<Line<'_>>, No
     requires { length bytes.now < 2 ^ 32 }
     ensures { IfOk result (λ found. map shown_line found.items ≡ lines bytes.now) }
 {
-    let mut found = Vec::new(alloc);
+    let mut found = Vec::with_capacity(alloc, bytes.len() / 8 + 8)?;
     let mut rest = bytes;
     let mut number = 0u32;
     while !rest.is_empty() {

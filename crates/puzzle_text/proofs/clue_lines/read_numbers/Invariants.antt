@@ -3,7 +3,7 @@ use Rattle.grid_core.specs.declared.limits.TheConstants.{LONGEST_SIDE}
 use Rattle.puzzle_text.specs.Numbers.{pieces}
 use Rattle.puzzle_text.specs.ClueLines.{numbers_within}
 use Rattle.puzzle_text.proofs.EachLemmas.{some_with_front}
-use Rattle.puzzle_text.proofs.clue_lines.numbers_of.Given as goal
+use Rattle.puzzle_text.proofs.clue_lines.read_numbers.Given as goal
 
 abbrev pub invariant-pieces : goal.invariant-pieces
 invariant-pieces l = some_with_front l.numbers.items (numbers_within LONGEST_SIDE (pieces l.rest)) ≡ numbers_within LONGEST_SIDE (pieces l.text)
