@@ -19,5 +19,6 @@ pub mod CollectionsLemmas
 pub mod PlainLines
 pub mod FeedsLemmas
 pub mod PlacedWalk
+pub mod SectionsWalk
 pub mod StrayWalk
 pub mod FieldsLemmas

@@ -3,12 +3,14 @@
 ghost use Rattle.std.specs.Prelude.{◌≡◌, [], map, length, vec_capacity, vec_len, IfOk, Some, None, if◌then◌else◌};
 ghost use Rattle.puzzle_text.specs.Answers.{Gives};
 ghost use Rattle.puzzle_text.specs.ClueLines.{clue_of, clue_of_numbers, clues_of, numbers_within};
+ghost use Rattle.puzzle_text.specs.Non.{both_clues};
 ghost use Rattle.puzzle_text.specs.Numbers.{pieces};
-ghost use Rattle.puzzle_text.specs.Shown.{shown_line};
+ghost use Rattle.puzzle_text.specs.Shown.{shown_chosen, shown_line};
 
 use crate::faults::TextFault;
 use crate::lines::Line;
 use crate::numbers::{next_piece, number_within};
+use crate::sections::Chosen;
 use grid_core::{Clue, ClueFault, LONGEST_SIDE, NoMemory};
 use std::alloc::Global;
 
@@ -64,7 +66,7 @@ fn room_for(alloc: Global, count: usize) -> Result<Vec<Clue>, NoMemory>
 }
 
 /// The clues that these lines say.
-pub(crate) fn clues_of(alloc: Global, lines: &[Line<'_>]) -> Result<Vec<Clue>, TextFault>
+fn clues_of(alloc: Global, lines: &[Line<'_>]) -> Result<Vec<Clue>, TextFault>
     ensures clues { Gives (λ clues. clues.items) result (clues_of LONGEST_SIDE (map shown_line lines.now)) }
     ensures length { IfOk result (λ clues. length clues.items ≡ length lines.now) }
 {
@@ -77,4 +79,38 @@ pub(crate) fn clues_of(alloc: Global, lines: &[Line<'_>]) -> Result<Vec<Clue>, T
         clues.push_reserved(clue);
     }
     Ok(clues)
+}
+
+/// The clues that these clue lines say.
+pub(crate) fn chosen_clues(alloc: Global, chosen: &Chosen<'_, '_>) -> Result<Vec<Clue>, TextFault>
+    ensures clues { Gives (λ clues. clues.items) result (clues_of LONGEST_SIDE (shown_chosen chosen.now)) }
+    ensures length { IfOk result (λ clues. length clues.items ≡ length (shown_chosen chosen.now)) }
+{
+    match chosen {
+        Chosen::Part(lines) => clues_of(alloc, lines),
+        Chosen::Full(lines) => clues_of(alloc, lines),
+    }
+}
+
+/// The clues of the rows and of the columns. Of the two sections the one that stands first in the text is checked first.
+pub(crate) fn both_clues(
+    alloc: Global,
+    rows_first: bool,
+    rows: &Chosen<'_, '_>,
+    columns: &Chosen<'_, '_>,
+) -> Result<(Vec<Clue>, Vec<Clue>), TextFault>
+    ensures answer { Gives (λ clues. (clues.0.items, clues.1.items)) result
+        (both_clues LONGEST_SIDE rows_first (shown_chosen rows.now) (shown_chosen columns.now)) }
+    ensures rows { IfOk result (λ clues. length clues.0.items ≡ length (shown_chosen rows.now)) }
+    ensures columns { IfOk result (λ clues. length clues.1.items ≡ length (shown_chosen columns.now)) }
+{
+    if rows_first {
+        let row_clues = chosen_clues(alloc, rows)?;
+        let column_clues = chosen_clues(alloc, columns)?;
+        Ok((row_clues, column_clues))
+    } else {
+        let column_clues = chosen_clues(alloc, columns)?;
+        let row_clues = chosen_clues(alloc, rows)?;
+        Ok((row_clues, column_clues))
+    }
 }

@@ -29,7 +29,7 @@ fn is_admissible(width: u16, height: u16, clues: &[Clue]) -> bool
 }
 
 /// The puzzle of these clues, the first of which are its rows.
-pub(crate) fn reading(width: u16, height: u16, clues: Vec<Clue>) -> Result<Puzzle, NoMemory>
+fn reading(width: u16, height: u16, clues: Vec<Clue>) -> Result<Puzzle, NoMemory>
     requires size { IsSize width height }
     requires count { length clues.items ≡ width + height }
     ensures { IfOk result (λ p. p ≡ reading width height clues.items) }
