@@ -9,7 +9,7 @@ ghost use Rattle.puzzle_text.specs.Shown.{shown_chosen, shown_line};
 
 use crate::faults::TextFault;
 use crate::lines::Line;
-use crate::numbers::{next_piece, number_within};
+use crate::numbers::{first_number, from_piece};
 use crate::sections::Chosen;
 use grid_core::{Clue, ClueFault, LONGEST_SIDE, NoMemory};
 use std::alloc::Global;
@@ -19,13 +19,13 @@ fn read_numbers(text: &[u8], numbers: &mut Vec<u16>) -> Result<bool, NoMemory>
     ensures { IfOk result (λ all. (if all then Some numbers.new.items else None) ≡ numbers_within LONGEST_SIDE (pieces text.now)) }
 {
     numbers.clear();
-    let mut rest = text;
-    'pieces: while let Some((piece, after)) = next_piece(rest) {
-        let Some(number) = number_within(LONGEST_SIDE, piece) else {
+    let mut rest = from_piece(text);
+    'pieces: while !rest.is_empty() {
+        let Some((number, after)) = first_number(LONGEST_SIDE, rest) else {
             return Ok(false);
         };
         numbers.push(number)?;
-        rest = after;
+        rest = from_piece(after);
     }
     Ok(true)
 }
