@@ -1,8 +1,9 @@
 -- Lemmas on lines.
-use Rattle.std.proofs.Common.{◌≡◌, ℕ, suc, ◌+◌, ◌<◌, ◌≤◌, Bool, true, false, cond, eqb, ltb, List, [], ◌∷◌, length, take, drop, refl, sym, ap, ◌∙◌, arith, inl, inr, Some, None}
+use Rattle.std.proofs.Common.{◌≡◌, ℕ, suc, ◌+◌, ◌<◌, ◌≤◌, Bool, true, false, cond, eqb, ltb, List, [], ◌∷◌, length, take, drop, get_or, refl, sym, ap, ◌∙◌, arith, inl, inr, Some, None}
 use Rattle.std.specs.List.{position_or_len, position, onto_first}
-use Rattle.std.proofs.lemmas.Bool.{cases_Bool, cond-false, ltb-true, ltb-false}
+use Rattle.std.proofs.lemmas.Bool.{cases_Bool, cond-false, le-ltb, lt-ltb, ltb-true, ltb-false}
 use Rattle.std.proofs.lemmas.List.{take_all, drop_all}
+use Rattle.std.proofs.lemmas.List.Sums.{position_or_len_is}
 use Rattle.puzzle_text.specs.Lines.{raw_lines}
 
 abbrev pub first_end : List ℕ → ℕ
@@ -49,3 +50,18 @@ pub cut_at_end : (bytes : List ℕ) → 0 < length bytes → position (λ byte. 
 cut_at_end bytes h e =
     let past : length bytes ≤ first_end bytes + 1 = omega (arith, ltb-false _ _ (not_chosen (ltb (first_end bytes) (length bytes)) (first_end bytes) e)) in
     rw (cut_at bytes h, take_all (first_end bytes + 1) bytes past, drop_all (first_end bytes + 1) bytes past) refl
+
+-- ---- the first line feed
+
+abbrev NoFeedBefore : List ℕ → ℕ → Type 0
+NoFeedBefore bytes i = (k : ℕ) → k < i → eqb (get_or bytes k 0) 10 ≡ false
+
+pub feed_at : (bytes : List ℕ) (i : ℕ) → i < length bytes → NoFeedBefore bytes i → eqb (get_or bytes i 0) 10 ≡ true → position (λ byte. eqb byte 10) bytes ≡ Some i
+feed_at bytes i h before at =
+    let end : first_end bytes ≡ i = position_or_len_is (λ byte. eqb byte 10) bytes i 0 (omega arith) before (λ _. at) in
+    rw (end, lt-ltb i (length bytes) h) refl
+
+pub no_feed : (bytes : List ℕ) → NoFeedBefore bytes (length bytes) → position (λ byte. eqb byte 10) bytes ≡ None
+no_feed bytes before =
+    let end : first_end bytes ≡ length bytes = position_or_len_is (λ byte. eqb byte 10) bytes (length bytes) 0 (omega arith) before (λ h. absurd (omega arith)) in
+    rw (end, le-ltb (length bytes) (length bytes) (omega arith)) refl

@@ -18,7 +18,12 @@ pub(crate) struct Line<'a> {
 fn first_line_feed(bytes: &[u8]) -> Option<usize>
     ensures { result ≡ position (λ byte. byte == 10) bytes.now }
 {
-    bytes.iter().position(|byte| *byte == b'\n')
+    for (place, byte) in bytes.iter().enumerate() {
+        if *byte == b'\n' {
+            return Some(place);
+        }
+    }
+    None
 }
 
 /// The first line of a text, with its line feed, and what follows.
