@@ -65,13 +65,20 @@ fn room_for(alloc: Global, count: usize) -> Result<Vec<Clue>, NoMemory>
     Ok(Vec::with_capacity(alloc, count)?)
 }
 
+/// An empty list with room for the numbers of most lines.
+fn room_for_numbers(alloc: Global) -> Result<Vec<u16>, NoMemory>
+    ensures { IfOk result (λ numbers. numbers.items ≡ []) }
+{
+    Ok(Vec::with_capacity(alloc, 16)?)
+}
+
 /// The clues that these lines say.
 fn clues_of(alloc: Global, lines: &[Line<'_>]) -> Result<Vec<Clue>, TextFault>
     ensures clues { Gives (λ clues. clues.items) result (clues_of LONGEST_SIDE (map shown_line lines.now)) }
     ensures length { IfOk result (λ clues. length clues.items ≡ length lines.now) }
 {
     let mut clues = room_for(alloc, lines.len())?;
-    let mut numbers = Vec::new(alloc);
+    let mut numbers = room_for_numbers(alloc)?;
     for line in lines {
         let Some(clue) = clue_of(alloc, line.text, &mut numbers)? else {
             return Err(TextFault::BadNumber(line.number));
