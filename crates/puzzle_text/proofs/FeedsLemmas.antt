@@ -1,7 +1,7 @@
 -- No line has a line feed in it, so nor has the text of a field.
 use Rattle.std.proofs.Common.{◌≡◌, ℕ, zero, suc, ◌+◌, ◌-◌, ◌<◌, Bool, true, false, cond, not, eqb, leb, ltb, List, [], ◌∷◌, length, take, drop, get_or, reverse, codes, All, refl, sym, ap, subst, ◌∙◌, arith, inl, inr, Option, Some, None, Ok, Err}
 use Rattle.std.specs.Prelude.{option_and_then, slice_get, unwrap_or}
-use Rattle.std.specs.List.{filter, find, onto_first, prefix_len, AllByRecursion}
+use Rattle.std.specs.List.{filter, onto_first, prefix_len, AllByRecursion}
 use Rattle.std.specs.Option.{option_map}
 use Rattle.std.specs.Char.{is_ascii_alphabetic}
 use Rattle.std.proofs.lemmas.Bool.{and_from, cases_Bool, le-leb, ltb-true, ltb-false}
@@ -15,7 +15,7 @@ use Rattle.puzzle_text.specs.declared.limits.TheConstants.{LONGEST_PUZZLE}
 use Rattle.puzzle_text.specs.Sizes.{lines_of}
 use Rattle.puzzle_text.specs.Lines.{Line, HaveNoFeed, has_no_feed, is_blank, lines, numbered_from, raw_lines, strip_last, trim, trim_start, without_ending}
 use Rattle.puzzle_text.specs.Keywords.{after_quote, before_quote, first_with, has_keyword, rest, quoted_text}
-use Rattle.puzzle_text.specs.Non.{bad_line, field_text, is_stray, least, long_text, number_of_line, texts_of}
+use Rattle.puzzle_text.specs.Non.{bad_line, field_text, least, long_text, number_of_line, texts_of}
 
 abbrev IsOther : ℕ → Type 0
 IsOther byte = not (eqb byte 10) ≡ true
@@ -173,9 +173,8 @@ least_none (Some m) None e = absurd cc
 least_none (Some m) (Some n) e = absurd cc
 
 -- where no line is bad, the texts may stand in their fields
-pub lawful_texts : (places : List (List ℕ × Line)) (text : List Line) → HaveNoFeed text → bad_line places text ≡ None → IsDescription (texts_of text)
-lawful_texts places text h none =
-    let stray = option_map (λ (place : List ℕ × Line). place.1.number) (find is_stray places) in
+pub lawful_texts : (stray : Option ℕ) (text : List Line) → HaveNoFeed text → bad_line stray text ≡ None → IsDescription (texts_of text)
+lawful_texts stray text h none =
     let long = λ (word : List ℕ). number_of_line (long_text text word) in
     let e = long (codes "license") in
     let d = long (codes "copyright") in

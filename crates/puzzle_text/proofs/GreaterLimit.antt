@@ -18,7 +18,7 @@ use Rattle.puzzle_text.specs.Readings.{reading, likelier}
 use Rattle.puzzle_text.specs.Nin.{nin_of, read_nin}
 use Rattle.puzzle_text.specs.Mk.{puzzle_of, at_hash, before_hash, layout, Layout, or_else, mk_of, read_mk}
 use Rattle.puzzle_text.specs.Keywords.{first_with, rest}
-use Rattle.puzzle_text.specs.Non.{placed, sizes_of, rows_first, check_lines, clue_lines_of, both_clues, goal_of, texts_of, non_of, read_non}
+use Rattle.puzzle_text.specs.Non.{placed, sections_of, sizes_of, rows_first, check_lines, clue_lines_of, both_clues, goal_of, texts_of, non_of, read_non}
 use Rattle.puzzle_text.specs.Laws.{KeepsAnswer}
 
 -- ---- options
@@ -93,13 +93,13 @@ abbrev pub with_clues : ℕ → List Line → ℕ × ℕ → Bool → List Line 
 with_clues limit text sizes order rows columns = both_clues limit order rows columns >>= with_goal text sizes
 
 abbrev pub with_columns : ℕ → List Line → ℕ × ℕ → Bool → List Line → Result Nonogram TextFault
-with_columns limit text sizes order rows = clue_lines_of (codes "columns") sizes.0 (placed text) >>= with_clues limit text sizes order rows
+with_columns limit text sizes order rows = clue_lines_of sizes.0 (sections_of (placed text)).columns >>= with_clues limit text sizes order rows
 
 abbrev pub with_rows : ℕ → List Line → ℕ × ℕ → Bool → Result Nonogram TextFault
-with_rows limit text sizes order = clue_lines_of (codes "rows") sizes.1 (placed text) >>= with_columns limit text sizes order
+with_rows limit text sizes order = clue_lines_of sizes.1 (sections_of (placed text)).rows >>= with_columns limit text sizes order
 
 abbrev pub with_order : ℕ → List Line → ℕ × ℕ → Bool → Result Nonogram TextFault
-with_order limit text sizes order = check_lines (placed text) text >>= λ checked. with_rows limit text sizes order
+with_order limit text sizes order = check_lines (sections_of (placed text)).stray text >>= λ checked. with_rows limit text sizes order
 
 abbrev pub with_sizes : ℕ → List Line → ℕ × ℕ → Result Nonogram TextFault
 with_sizes limit text sizes = rows_first text >>= with_order limit text sizes
@@ -215,9 +215,9 @@ module _ (a b : ℕ) (le : a ≤ b) where
   non_of_keeps text =
       keeps-bind (sizes_of a text) (sizes_of b text) (with_sizes a text) (with_sizes b text) (sizes_keep text) (λ sizes.
       keeps-next (rows_first text) (with_order a text sizes) (with_order b text sizes) (λ order.
-      keeps-next (check_lines (placed text) text) (λ checked. with_rows a text sizes order) (λ checked. with_rows b text sizes order) (λ checked.
-      keeps-next (clue_lines_of (codes "rows") sizes.1 (placed text)) (with_columns a text sizes order) (with_columns b text sizes order) (λ rows.
-      keeps-next (clue_lines_of (codes "columns") sizes.0 (placed text)) (with_clues a text sizes order rows) (with_clues b text sizes order rows) (λ columns.
+      keeps-next (check_lines (sections_of (placed text)).stray text) (λ checked. with_rows a text sizes order) (λ checked. with_rows b text sizes order) (λ checked.
+      keeps-next (clue_lines_of sizes.1 (sections_of (placed text)).rows) (with_columns a text sizes order) (with_columns b text sizes order) (λ rows.
+      keeps-next (clue_lines_of sizes.0 (sections_of (placed text)).columns) (with_clues a text sizes order rows) (with_clues b text sizes order rows) (λ columns.
       keeps-bind (both_clues a order rows columns) (both_clues b order rows columns) (with_goal text sizes) (with_goal text sizes) (both_keep order rows columns) (λ clues. keeps-same (with_goal text sizes clues)))))))
 
   -- ---- the readers

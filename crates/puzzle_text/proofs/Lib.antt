@@ -16,7 +16,9 @@ pub mod GreaterLimit
 pub mod NonText
 pub mod ReadNon
 pub mod CollectionsLemmas
+pub mod PlainLines
 pub mod FeedsLemmas
 pub mod PlacedWalk
+pub mod SectionsWalk
 pub mod StrayWalk
 pub mod FieldsLemmas

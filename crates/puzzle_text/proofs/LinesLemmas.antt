@@ -1,9 +1,11 @@
 -- Lemmas on lines.
-use Rattle.std.proofs.Common.{◌≡◌, ℕ, suc, ◌+◌, ◌<◌, ◌≤◌, Bool, true, false, cond, eqb, ltb, List, [], ◌∷◌, length, take, drop, refl, sym, ap, ◌∙◌, arith, inl, inr, Some, None}
+use Rattle.std.proofs.Common.{◌≡◌, ℕ, suc, ◌+◌, ◌-◌, ◌<◌, ◌≤◌, Bool, true, false, cond, eqb, ltb, List, [], ◌∷◌, length, take, drop, get_or, refl, sym, ap, ◌∙◌, arith, inl, inr, Some, None}
 use Rattle.std.specs.List.{position_or_len, position, onto_first}
-use Rattle.std.proofs.lemmas.Bool.{cases_Bool, cond-false, ltb-true, ltb-false}
-use Rattle.std.proofs.lemmas.List.{take_all, drop_all}
-use Rattle.puzzle_text.specs.Lines.{raw_lines}
+use Rattle.std.proofs.lemmas.Bool.{cases_Bool, cond-false, le-ltb, lt-ltb, ltb-true, ltb-false}
+use Rattle.std.proofs.lemmas.List.{take_all, drop_all, get_or-take, length-take-le, take-take}
+use Rattle.std.proofs.lemmas.List.Sums.{fails_before_first, position_or_len_is}
+use Rattle.std.proofs.lemmas.List.Quantifiers.{position-Some}
+use Rattle.puzzle_text.specs.Lines.{Line, numbered_from, raw_lines, strip_last, trim}
 
 abbrev pub first_end : List ℕ → ℕ
 first_end bytes = position_or_len (λ byte. eqb byte 10) bytes
@@ -49,3 +51,47 @@ pub cut_at_end : (bytes : List ℕ) → 0 < length bytes → position (λ byte. 
 cut_at_end bytes h e =
     let past : length bytes ≤ first_end bytes + 1 = omega (arith, ltb-false _ _ (not_chosen (ltb (first_end bytes) (length bytes)) (first_end bytes) e)) in
     rw (cut_at bytes h, take_all (first_end bytes + 1) bytes past, drop_all (first_end bytes + 1) bytes past) refl
+
+-- ---- the first line feed
+
+abbrev NoFeedBefore : List ℕ → ℕ → Type 0
+NoFeedBefore bytes i = (k : ℕ) → k < i → eqb (get_or bytes k 0) 10 ≡ false
+
+pub feed_at : (bytes : List ℕ) (i : ℕ) → i < length bytes → NoFeedBefore bytes i → eqb (get_or bytes i 0) 10 ≡ true → position (λ byte. eqb byte 10) bytes ≡ Some i
+feed_at bytes i h before at =
+    let end : first_end bytes ≡ i = position_or_len_is (λ byte. eqb byte 10) bytes i 0 (omega arith) before (λ _. at) in
+    rw (end, lt-ltb i (length bytes) h) refl
+
+pub no_feed : (bytes : List ℕ) → NoFeedBefore bytes (length bytes) → position (λ byte. eqb byte 10) bytes ≡ None
+no_feed bytes before =
+    let end : first_end bytes ≡ length bytes = position_or_len_is (λ byte. eqb byte 10) bytes (length bytes) 0 (omega arith) before (λ h. absurd (omega arith)) in
+    rw (end, le-ltb (length bytes) (length bytes) (omega arith)) refl
+
+-- ---- the first line without its ending
+
+abbrev pub line_of : ℕ → List ℕ → Line
+line_of number text = record { number = number; text = trim text }
+
+strip_feed : (bytes : List ℕ) (end : ℕ) → end < length bytes → eqb (get_or bytes end 0) 10 ≡ true → strip_last 10 (take (end + 1) bytes) ≡ take end bytes
+strip_feed bytes end h at =
+    let last : length (take (end + 1) bytes) - 1 ≡ end = omega (arith, length-take-le (end + 1) bytes (omega arith)) in
+    rw (last, get_or-take (end + 1) bytes end 0 (omega arith), at, take-take end (end + 1) bytes (omega arith)) refl
+
+pub line_at_feed : (bytes : List ℕ) (end : ℕ) → position (λ byte. eqb byte 10) bytes ≡ Some end → (number : ℕ)
+    → numbered_from number (raw_lines bytes) ≡ record { number = number; text = trim (strip_last 13 (take end bytes)) } ∷ numbered_from (number + 1) (raw_lines (drop (end + 1) bytes))
+line_at_feed bytes end e number =
+    let found = position-Some (λ byte. eqb byte 10) bytes end 0 e in
+    ap (numbered_from number) (cut_at_feed bytes end e)
+    ∙ ap (λ (line : List ℕ). record { number = number; text = trim (strip_last 13 line) } ∷ numbered_from (number + 1) (raw_lines (drop (end + 1) bytes))) (strip_feed bytes end found.0 found.1)
+
+keeps_end : (bytes : List ℕ) → 0 < length bytes → position (λ byte. eqb byte 10) bytes ≡ None → strip_last 10 bytes ≡ bytes
+keeps_end bytes some e =
+    let past = ltb-false _ _ (not_chosen (ltb (first_end bytes) (length bytes)) (first_end bytes) e) in
+    let last : eqb (get_or bytes (length bytes - 1) 0) 10 ≡ false = fails_before_first (λ byte. eqb byte 10) bytes (length bytes - 1) 0 (omega (arith, past)) in
+    rw last refl
+
+pub line_at_end : (bytes : List ℕ) → 0 < length bytes → position (λ byte. eqb byte 10) bytes ≡ None → (number : ℕ)
+    → numbered_from number (raw_lines bytes) ≡ record { number = number; text = trim (strip_last 13 bytes) } ∷ []
+line_at_end bytes some e number =
+    ap (numbered_from number) (cut_at_end bytes some e)
+    ∙ ap (λ (line : List ℕ). record { number = number; text = trim (strip_last 13 line) } ∷ []) (keeps_end bytes some e)

@@ -1,10 +1,18 @@
--- Lemmas on the lines round a line that begins with #.
-use Rattle.std.proofs.Common.{◌≡◌, ℕ, ◌+◌, ◌-◌, Bool, cond, not, ltb, List, [], ◌∷◌, length, take, drop, map, refl, ap, Option, Some, None}
+-- Lemmas on the lines round a line that begins with #, and on the clues of both sections.
+use Rattle.std.proofs.Common.{◌≡◌, ℕ, ◌+◌, ◌-◌, Bool, cond, not, ltb, List, [], ◌∷◌, ◌++◌, length, take, drop, map, true, refl, sym, ap, ◌∙◌, Option, Some, None, Result, Ok, Err}
 use Rattle.std.specs.List.{position, position_or_len, prefix_len}
 use Rattle.std.proofs.lemmas.Bool.{ltb-false}
 use Rattle.std.proofs.lemmas.List.{take-map, drop-map, length-map, take_all, take_rest}
+use Rattle.std.proofs.Math.Seq.{take-append_seam, drop-append_seam}
+use Rattle.grid_core.specs.Nonogram.{Nonogram, plain}
+use Rattle.puzzle_text.specs.declared.faults.TextFault.{TextFault}
+use Rattle.puzzle_text.specs.declared.faults.TextFault.TheVariants.{BadNumber}
+use Rattle.puzzle_text.specs.Answers.{◌>>=◌, each, or_fault}
+use Rattle.puzzle_text.specs.ClueLines.{clue_of, clues_of}
 use Rattle.puzzle_text.specs.Lines.{Line, is_hash}
-use Rattle.puzzle_text.specs.Mk.{at_hash, before_hash}
+use Rattle.puzzle_text.specs.Mk.{at_hash, before_hash, puzzle_of}
+use Rattle.puzzle_text.specs.Non.{both_clues}
+use Rattle.puzzle_text.specs.Readings.{reading}
 use Rattle.puzzle_text.proofs.LinesLemmas.{chosen, not_chosen}
 
 pub prefix_len-map : {X Y : Type 0} (p : Y → Bool) (view : X → Y) (xs : List X) → prefix_len p (map view xs) ≡ prefix_len (λ x. p (view x)) xs
@@ -33,3 +41,43 @@ module _ {X : Type 0} (view : X → Line) where
   before_hash_none xs e =
       let past = ltb-false _ _ (not_chosen (ltb (position_or_len (λ x. is_hash (view x)) xs) (length xs)) (position_or_len (λ x. is_hash (view x)) xs) e) in
       rw (prefix_len-map (λ y. not (is_hash y)) view xs, take-map view (position_or_len (λ x. is_hash (view x)) xs) xs, take_all _ xs past) refl
+
+-- ---- the clues of both sections
+
+abbrev pub with_clues : ℕ → ℕ → List (List ℕ) × List (List ℕ) → Result Nonogram TextFault
+with_clues width height clues = Ok (reading width height (clues.0 ++ clues.1))
+
+-- what two checks give, one after the other
+abbrev joined : {Y : Type 0} → Result (List Y) TextFault → Result (List Y) TextFault → Result (List Y) TextFault
+joined (Ok xs) (Ok ys) = Ok (xs ++ ys)
+joined (Ok xs) (Err fault) = Err fault
+joined (Err fault) other = Err fault
+
+joined_none : {Y : Type 0} (r : Result (List Y) TextFault) → joined (Ok []) r ≡ r
+joined_none (Ok ys) = refl
+joined_none (Err fault) = refl
+
+joined_more : {Y : Type 0} (r : Result Y TextFault) (a b : Result (List Y) TextFault) → r >>= (λ y. joined a b >>= λ all. Ok (y ∷ all)) ≡ joined (r >>= (λ y. a >>= λ ys. Ok (y ∷ ys))) b
+joined_more (Err fault) a b = refl
+joined_more (Ok y) (Err fault) b = refl
+joined_more (Ok y) (Ok xs) (Err fault) = refl
+joined_more (Ok y) (Ok xs) (Ok ys) = refl
+
+each-append : {X Y : Type 0} (step : X → Result Y TextFault) (xs ys : List X) → each step (xs ++ ys) ≡ joined (each step xs) (each step ys)
+each-append step [] ys = sym (joined_none (each step ys))
+each-append {X} {Y} step (x ∷ xs) ys =
+    ap (λ (all : Result (List Y) TextFault). step x >>= λ y. all >>= λ zs. Ok (y ∷ zs)) (each-append step xs ys) ∙ joined_more (step x) (each step xs) (each step ys)
+
+joined_clues : (width height : ℕ) (a b : Result (List (List ℕ)) TextFault) → joined a b >>= (λ clues. Ok (reading width height clues)) ≡ (a >>= λ rows. b >>= λ columns. Ok (rows, columns)) >>= with_clues width height
+joined_clues width height (Err fault) b = refl
+joined_clues width height (Ok rows) (Err fault) = refl
+joined_clues width height (Ok rows) (Ok columns) = refl
+
+-- the puzzle of the clue lines of both sections
+pub puzzle_of_parts : (limit width height : ℕ) (xs ys : List Line) → puzzle_of limit width height (xs ++ ys) ≡ both_clues limit true xs ys >>= with_clues width height
+puzzle_of_parts limit width height xs ys =
+    ap (λ all. all >>= λ clues. Ok (reading width height clues)) (each-append (λ line. or_fault (BadNumber line.number) (clue_of limit line.text)) xs ys)
+    ∙ joined_clues width height (clues_of limit xs) (clues_of limit ys)
+
+pub reading_parts : (width height : ℕ) (rows columns : List (List ℕ)) → length rows ≡ height → reading width height (rows ++ columns) ≡ plain width height rows columns
+reading_parts width height rows columns e = rw (← e, take-append_seam rows columns, drop-append_seam rows columns) refl

@@ -1,17 +1,22 @@
 -- Lemmas on numbers in a line.
-use Rattle.std.proofs.Common.{◌≡◌, ℕ, zero, suc, ◌+◌, ◌-◌, ◌*◌, ◌<◌, ◌≤◌, Bool, true, false, not, ◌&&◌, leb, ltb, List, [], ◌∷◌, ◌++◌, length, take, drop, filter, get_or, All, refl, sym, ap, ◌∙◌, arith, inl, inr, Some, None, lit≤}
+use Rattle.std.proofs.Common.{◌≡◌, ℕ, zero, suc, ◌+◌, ◌-◌, ◌*◌, ◌<◌, ◌≤◌, Bool, true, false, cond, not, ◌&&◌, leb, ltb, List, [], ◌∷◌, ◌++◌, length, take, drop, filter, get_or, All, refl, sym, ap, ◌∙◌, arith, inl, inr, Option, Some, None, lit≤}
+use Rattle.std.specs.Prelude.{option_and_then}
+use Rattle.std.specs.Option.{option_map}
 use Rattle.std.specs.List.{list_all, position, position_or_len, slice_split}
 use Rattle.std.specs.Char.{is_ascii_digit, digit_value}
 use Rattle.std.specs.Str.Parse.{digits_value}
-use Rattle.std.proofs.lemmas.Bool.{cases_Bool, cond-true, lt-leb, ltb-false, ne_eqb}
+use Rattle.std.proofs.lemmas.Bool.{cases_Bool, cond-true, le-leb, lt-leb, lt-ltb, ltb-true, ltb-false, ne_eqb}
 use Rattle.std.proofs.lemmas.Bool.Decides.{nat_tests}
-use Rattle.std.proofs.lemmas.List.{drop_more, get_or-take, get_or_default, length-take-le, take-append-drop, take_more}
+use Rattle.std.proofs.lemmas.List.{drop_more, get_or-take, get_or_default, length-take-le, take-append-drop, take_more, take_all, drop_all, take-take}
 use Rattle.std.proofs.lemmas.List.Quantifiers.{position-Some}
 use Rattle.std.proofs.lemmas.List.Splits.{slice_split_at, slice_split_none}
-use Rattle.std.proofs.lemmas.List.Sums.{fails_before_first}
+use Rattle.std.proofs.lemmas.List.Sums.{AllPass-from_list_all, fails_before_first, position_or_len_is, prefix_len-le-length}
+use Rattle.std.proofs.lemmas.List.Folds.{list_all_at}
+use borrow.Author.Count.{below_more}
 use Rattle.std.proofs.lemmas.List.Recursion.{and_push}
 use Rattle.std.proofs.lemmas.Int.Digits.{digits_value_more}
 use Rattle.std.proofs.lemmas.Str.Parse.{digits_value-take-le}
+use Rattle.puzzle_text.specs.ClueLines.{numbers_within}
 use Rattle.puzzle_text.specs.Lines.{is_empty}
 use Rattle.puzzle_text.specs.Numbers.{is_separator, number_within, pieces}
 use Rattle.puzzle_text.proofs.LinesLemmas.{not_chosen}
@@ -64,3 +69,90 @@ only_piece text h none =
     let past = ltb-false _ _ (not_chosen (ltb (position_or_len is_separator text) (length text)) (position_or_len is_separator text) none) in
     let clear : All (λ byte. is_separator byte ≡ false) text = λ k d lt. ap is_separator (get_or_default text k d 0 lt) ∙ fails_before_first is_separator text k 0 (omega (arith, past)) in
     ap (filter (λ part. not (is_empty part))) (slice_split_none is_separator text clear) ∙ keeps_piece text [] h
+
+-- ---- the number of the first piece
+
+-- the first separator's place, or the length
+abbrev end_of : List ℕ → ℕ
+end_of text = position_or_len is_separator text
+
+cut : (text : List ℕ) → 0 < length text → is_separator (get_or text 0 0) ≡ false → pieces text ≡ take (end_of text) text ∷ pieces (drop (end_of text + 1) text)
+cut text some first = elim (cases_Bool (ltb (end_of text) (length text))) [
+  | inl inside ↦ first_piece text (end_of text) (rw inside refl) first
+  | inr past ↦
+    let at : length text ≤ end_of text = omega (arith, ltb-false _ _ past) in
+    rw (take_all (end_of text) text at, drop_all (end_of text + 1) text (omega arith)) (only_piece text some (rw past refl))
+]
+
+end_within : (text : List ℕ) → end_of text ≤ length text
+end_within text = prefix_len-le-length (λ byte. not (is_separator byte)) text
+
+-- no separator up to a place
+abbrev Clear : List ℕ → ℕ → Type 0
+Clear text i = (k : ℕ) → k < i → is_separator (get_or text k 0) ≡ false
+
+clear_within : (text : List ℕ) (i : ℕ) → i ≤ length text → Clear text i → i ≤ end_of text
+clear_within text i within clear = elim (cases_Bool (ltb (end_of text) i)) [
+  | inl before ↦
+    let low : end_of text < i = ltb-true _ _ before in
+    let found : position is_separator text ≡ Some (end_of text) = rw (lt-ltb (end_of text) (length text) (omega arith)) refl in
+    absurd (let at = (position-Some is_separator text (end_of text) 0 found).1 in let other = clear (end_of text) low in cc)
+  | inr at ↦ omega (arith, ltb-false _ _ at)
+]
+
+digit_clear : (byte : ℕ) → is_ascii_digit byte ≡ true → is_separator byte ≡ false
+digit_clear byte digit = grind (arith, nat_tests)
+
+digits_clear : (text : List ℕ) (i : ℕ) → i ≤ length text → list_all is_ascii_digit (take i text) ≡ true → Clear text i
+digits_clear text i within digits k low =
+    let at : k < length (take i text) = omega (arith, length-take-le i text within) in
+    digit_clear (get_or text k 0) (ap is_ascii_digit (sym (get_or-take i text k 0 low)) ∙ AllPass-from_list_all is_ascii_digit (take i text) digits k 0 at)
+
+number_is : (limit : ℕ) (piece : List ℕ) → 0 < length piece → list_all is_ascii_digit piece ≡ true → digits_value 10 piece ≤ limit → number_within limit piece ≡ Some (digits_value 10 piece)
+number_is limit piece some digits low =
+    let full : is_empty piece ≡ false = ne_eqb (length piece) 0 (λ e. omega arith) in
+    rw (full, digits, le-leb (digits_value 10 piece) limit low) refl
+
+none_of : (b : Bool) (n : ℕ) → cond (b && false) (Some n) None ≡ None
+none_of true n = refl
+none_of false n = refl
+
+no_number : (limit : ℕ) (piece : List ℕ) (i : ℕ) → i < length piece → is_ascii_digit (get_or piece i 0) ≡ false → number_within limit piece ≡ None
+no_number limit piece i h other =
+    let within = λ (n : ℕ). cond (leb n limit) (Some n) None in
+    ap (λ (b : Bool). option_and_then within (cond (not (is_empty piece) && b) (Some (digits_value 10 piece)) None)) (list_all_at is_ascii_digit piece i 0 h other)
+    ∙ ap (option_and_then within) (none_of (not (is_empty piece)) (digits_value 10 piece))
+
+module _ (limit : ℕ) (text : List ℕ) (some : 0 < length text) (first : is_separator (get_or text 0 0) ≡ false) where
+  -- the numbers of all pieces, by that of the first
+  by_first : (number : Option ℕ) → number_within limit (take (end_of text) text) ≡ number
+      → numbers_within limit (pieces text) ≡ option_and_then (λ n. option_map (λ others. n ∷ others) (numbers_within limit (pieces (drop (end_of text + 1) text)))) number
+  by_first number e =
+      ap (numbers_within limit) (cut text some first)
+      ∙ ap (option_and_then (λ (n : ℕ). option_map (λ others. n ∷ others) (numbers_within limit (pieces (drop (end_of text + 1) text))))) e
+
+  -- a piece of digits ends at a separator or with the line
+  pub number_ends : (i : ℕ) → i ≤ length text → list_all is_ascii_digit (take i text) ≡ true → digits_value 10 (take i text) ≤ limit → (i < length text → is_separator (get_or text i 0) ≡ true)
+      → numbers_within limit (pieces text) ≡ option_map (λ others. digits_value 10 (take i text) ∷ others) (numbers_within limit (pieces (drop (i + 1) text)))
+  number_ends zero within digits low stop = absurd (let at = stop some in cc)
+  number_ends (suc k) within digits low stop =
+      let i = suc k in
+      let end : end_of text ≡ i = position_or_len_is is_separator text i 0 within (digits_clear text i within digits) stop in
+      let number : number_within limit (take (end_of text) text) ≡ Some (digits_value 10 (take i text)) =
+      ap (λ (j : ℕ). number_within limit (take j text)) end ∙ number_is limit (take i text) (omega (arith, length-take-le i text within)) digits low in
+      by_first (Some (digits_value 10 (take i text))) number
+      ∙ ap (λ (j : ℕ). option_map (λ others. digits_value 10 (take i text) ∷ others) (numbers_within limit (pieces (drop (j + 1) text)))) end
+
+  -- a byte that is neither a digit nor a separator
+  pub number_refused : (i : ℕ) → i < length text → list_all is_ascii_digit (take i text) ≡ true → is_separator (get_or text i 0) ≡ false → is_ascii_digit (get_or text i 0) ≡ false → numbers_within limit (pieces text) ≡ None
+  number_refused i h digits inside other =
+      let clear : Clear text (i + 1) = below_more (λ k. is_separator (get_or text k 0) ≡ false) i (digits_clear text i (omega arith) digits) inside in
+      let within = clear_within text (i + 1) (omega arith) clear in
+      let at : i < length (take (end_of text) text) = omega (arith, length-take-le (end_of text) text (end_within text)) in
+      by_first None (no_number limit (take (end_of text) text) i at (ap is_ascii_digit (get_or-take (end_of text) text i 0 (omega arith)) ∙ other))
+
+  -- digits that are past the limit already
+  pub number_past : (i : ℕ) → i ≤ length text → list_all is_ascii_digit (take i text) ≡ true → limit < digits_value 10 (take i text) → numbers_within limit (pieces text) ≡ None
+  number_past i h digits past =
+      let within = clear_within text i h (digits_clear text i h digits) in
+      by_first None (past_limit limit (take (end_of text) text) i (rw (take-take i (end_of text) text within) past))

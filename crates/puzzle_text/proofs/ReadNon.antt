@@ -26,7 +26,7 @@ use Rattle.puzzle_text.specs.Sections.{choice}
 use Rattle.puzzle_text.specs.Sizes.{size_of}
 use Rattle.puzzle_text.specs.Keywords.{rest, with_keyword, first_with, second_with, after_quote, all_fields, field_word, quoted, quoted_text}
 use Rattle.puzzle_text.proofs.PlacedWalk.{walked, walked-placed}
-use Rattle.puzzle_text.specs.Non.{placed, section, is_stray, least, number_of_line, long_text, bad_line, repeated, refuse_at, cell_of, goal_cells, goal_of, both_clues, field_text, texts_of, sizes_of, rows_first, check_lines, clue_lines_of, non_of, read_non}
+use Rattle.puzzle_text.specs.Non.{placed, section, sections_of, is_stray, least, number_of_line, long_text, bad_line, repeated, refuse_at, cell_of, goal_cells, goal_of, both_clues, field_text, texts_of, sizes_of, rows_first, check_lines, clue_lines_of, non_of, read_non}
 use Rattle.puzzle_text.specs.Written.{clue_text, goal_byte, text_non}
 use Rattle.puzzle_text.proofs.SectionsLemmas.{filter-map}
 use Rattle.puzzle_text.proofs.ReadBack.{numbered, kept_tidy}
@@ -490,7 +490,7 @@ module _ (limit : ℕ) (p : Nonogram) (wide : limit < 2 ^ 64) (lawful : IsNonogr
   laid : IsLaidOut p (placed all_lines)
   laid = laid_out limit p wide lawful
 
-  none_bad : bad_line (placed all_lines) all_lines ≡ None
+  none_bad : bad_line (sections_of (placed all_lines)).stray all_lines ≡ None
   none_bad =
       six_none (option_map (λ (place : List ℕ × Line). place.1.number) (find is_stray (placed all_lines)))
       (number_of_line (long_text all_lines (codes "catalogue")))
@@ -513,7 +513,7 @@ module _ (limit : ℕ) (p : Nonogram) (wide : limit < 2 ^ 64) (lawful : IsNonogr
       four_none (number_of_line (second_with (codes "width") all_lines)) (number_of_line (second_with (codes "height") all_lines)) (number_of_line (second_with (codes "rows") all_lines)) (number_of_line (second_with (codes "columns") all_lines))
       (second_none (codes "width") (size_text (codes "width") p.width) width_line) (second_none (codes "height") (size_text (codes "height") p.height) height_line) (second_none (codes "rows") (codes "rows") rows_line) (second_none (codes "columns") (codes "columns") columns_line)
 
-  lines_checked : check_lines (placed all_lines) all_lines ≡ Ok tt
+  lines_checked : check_lines (sections_of (placed all_lines)).stray all_lines ≡ Ok tt
   lines_checked = ap (λ (o : Option ℕ). refuse_at BadLine o >>= λ _. refuse_at Twice (repeated all_lines)) none_bad ∙ ap (refuse_at Twice) none_repeated
 
   abbrev row_lines : List Line
@@ -522,13 +522,13 @@ module _ (limit : ℕ) (p : Nonogram) (wide : limit < 2 ^ 64) (lawful : IsNonogr
   abbrev column_lines : List Line
   column_lines = numbered laid.columns_at (map (clue_text 44) p.columns)
 
-  rows_read : clue_lines_of (codes "rows") p.height (placed all_lines) ≡ Ok row_lines
+  rows_read : clue_lines_of p.height (sections_of (placed all_lines)).rows ≡ Ok row_lines
   rows_read =
       ap (λ (places : List (List ℕ × Line)). or_fault BadCount (choice p.height (section (codes "rows") places))) laid.are
       ∙ ap (λ (ls : List Line). or_fault BadCount (choice p.height ls)) (section_rows (numbered laid.rows_at (row_part p)) (numbered laid.columns_at (column_part p)))
       ∙ ap (or_fault BadCount) (part_again limit laid.rows_at p.height p.rows ([] ∷ []) wide lawful.rows (λ m. (refl, tt)) lawful.clues.0)
 
-  columns_read : clue_lines_of (codes "columns") p.width (placed all_lines) ≡ Ok column_lines
+  columns_read : clue_lines_of p.width (sections_of (placed all_lines)).columns ≡ Ok column_lines
   columns_read =
       ap (λ (places : List (List ℕ × Line)). or_fault BadCount (choice p.width (section (codes "columns") places))) laid.are
       ∙ ap (λ (ls : List Line). or_fault BadCount (choice p.width ls)) (section_columns (numbered laid.rows_at (row_part p)) (numbered laid.columns_at (column_part p)))

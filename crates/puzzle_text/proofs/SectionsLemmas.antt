@@ -1,11 +1,12 @@
 -- Lemmas on the choice of clue lines.
-use Rattle.std.proofs.Common.{◌≡◌, ℕ, ◌<◌, ◌≤◌, Bool, true, false, cond, ◌&&◌, eqb, leb, List, [], ◌∷◌, length, take, drop, map, refl, sym, ap, ◌∙◌, arith, Some, None}
+use Rattle.std.proofs.Common.{◌≡◌, ℕ, suc, ◌++◌, append-nil, ◌<◌, ◌≤◌, Bool, true, false, cond, ◌&&◌, eqb, leb, List, [], ◌∷◌, length, take, drop, map, refl, sym, ap, ◌∙◌, arith, Some, None}
 use Rattle.std.specs.List.{count_by, filter, list_all}
-use Rattle.std.proofs.lemmas.Bool.{ne_eqb, eq-eqb, le-leb, lt-leb}
-use Rattle.std.proofs.lemmas.List.{take-map, drop-map, length-map}
+use Rattle.std.proofs.lemmas.Bool.{and_parts, eqb-true, ne_eqb, eq-eqb, le-leb, leb-true, lt-leb}
+use Rattle.std.proofs.lemmas.List.{take-map, drop-map, length-map, length-take-le, take-append-drop}
+use Rattle.std.proofs.lemmas.List.Elements.{filter-append}
 use Rattle.std.proofs.lemmas.List.Sums.{length-filter}
 use Rattle.puzzle_text.specs.Lines.{Line, is_full, is_blank_line}
-use Rattle.puzzle_text.specs.Sections.{choice}
+use Rattle.puzzle_text.specs.Sections.{choice, front}
 
 kept : {X Y : Type 0} (view : X → Y) (b : Bool) (x : X) (xs : List X) (ys : List Y) → ys ≡ map view xs → cond b (view x ∷ ys) ys ≡ map view (cond b (x ∷ xs) xs)
 kept {X} {Y} view true x xs ys e = ap (λ (zs : List Y). view x ∷ zs) e
@@ -35,22 +36,82 @@ module _ {X : Type 0} (view : X → Line) where
       let enough : eqb (length (filter is_full (map view section))) count ≡ true = eq-eqb _ _ (same_count section ∙ n) in
       rw (enough, filter-map is_full view section, ← e) refl
 
-  pub choice_first : (count : ℕ) (section : List X) → (count_by (λ x. is_full (view x)) section ≡ count → ⊥) → count ≤ length section → list_all (λ x. is_blank_line (view x)) (drop count section) ≡ true → choice count (map view section) ≡ Some (map view (take count section))
-  choice_first count section n long blank =
-      let other : eqb (length (filter is_full (map view section))) count ≡ false = ne_eqb _ _ (λ m. n (sym (same_count section) ∙ m)) in
+  -- ---- the first lines
+
+  pub front_first : (count : ℕ) (section : List X) → count ≤ length section → list_all (λ x. is_blank_line (view x)) (drop count section) ≡ true → front count (map view section) ≡ Some (map view (take count section))
+  front_first count section long blank =
       let within : leb count (length (map view section)) ≡ true = le-leb _ _ (omega (arith, length-map section view)) in
       let empty : list_all is_blank_line (drop count (map view section)) ≡ true = rw (drop-map view count section, list_all-map is_blank_line view (drop count section)) blank in
-      rw (other, within, empty, take-map view count section) refl
+      rw (within, empty, take-map view count section) refl
 
-  pub choice_short : (count : ℕ) (section : List X) → (count_by (λ x. is_full (view x)) section ≡ count → ⊥) → length section < count → choice count (map view section) ≡ None
-  choice_short count section n short =
-      let other : eqb (length (filter is_full (map view section))) count ≡ false = ne_eqb _ _ (λ m. n (sym (same_count section) ∙ m)) in
+  pub front_short : (count : ℕ) (section : List X) → length section < count → front count (map view section) ≡ None
+  front_short count section short =
       let past : leb count (length (map view section)) ≡ false = lt-leb _ _ (omega (arith, length-map section view)) in
-      rw (other, past) refl
+      rw past refl
 
-  pub choice_mixed : (count : ℕ) (section : List X) → (count_by (λ x. is_full (view x)) section ≡ count → ⊥) → count ≤ length section → list_all (λ x. is_blank_line (view x)) (drop count section) ≡ false → choice count (map view section) ≡ None
-  choice_mixed count section n long blank =
-      let other : eqb (length (filter is_full (map view section))) count ≡ false = ne_eqb _ _ (λ m. n (sym (same_count section) ∙ m)) in
+  pub front_mixed : (count : ℕ) (section : List X) → count ≤ length section → list_all (λ x. is_blank_line (view x)) (drop count section) ≡ false → front count (map view section) ≡ None
+  front_mixed count section long blank =
       let within : leb count (length (map view section)) ≡ true = le-leb _ _ (omega (arith, length-map section view)) in
       let empty : list_all is_blank_line (drop count (map view section)) ≡ false = rw (drop-map view count section, list_all-map is_blank_line view (drop count section)) blank in
-      rw (other, within, empty) refl
+      rw (within, empty) refl
+
+  pub choice_none : (count : ℕ) (section : List X) → front count (map view section) ≡ None → (count_by (λ x. is_full (view x)) section ≡ count → ⊥) → choice count (map view section) ≡ None
+  choice_none count section none n =
+      let other : eqb (length (filter is_full (map view section))) count ≡ false = ne_eqb _ _ (λ m. n (sym (same_count section) ∙ m)) in
+      rw other none
+
+-- ---- the first lines are the choice, if they are there at all
+
+kept_some : (b : Bool) (line : Line) (full : List Line) (n : ℕ) → length (cond b (line ∷ full) full) ≡ suc n → length full ≤ n → (b ≡ true) × (length full ≡ n)
+kept_some true line full n e le = (refl, omega arith)
+kept_some false line full n e le = absurd (omega arith)
+
+no_more_of : (b : Bool) (line : Line) (full : List Line) (n : ℕ) → length full ≤ n → length (cond b (line ∷ full) full) ≤ suc n
+no_more_of true line full n le = omega arith
+no_more_of false line full n le = omega arith
+
+no_more : (lines : List Line) → length (filter is_full lines) ≤ length lines
+no_more [] = omega arith
+no_more (line ∷ lines) = no_more_of (is_full line) line (filter is_full lines) (length lines) (no_more lines)
+
+-- where as many are kept as there are, all are
+all_kept : (lines : List Line) → length (filter is_full lines) ≡ length lines → filter is_full lines ≡ lines
+all_kept [] e = refl
+all_kept (line ∷ lines) e =
+    let parts = kept_some (is_full line) line (filter is_full lines) (length lines) e (no_more lines) in
+    rw parts.0 (ap (λ (full : List Line). line ∷ full) (all_kept lines parts.1))
+
+none_kept : (lines : List Line) → list_all is_blank_line lines ≡ true → filter is_full lines ≡ []
+none_kept [] blank = refl
+none_kept (line ∷ lines) blank =
+    let parts = and_parts (is_blank_line line) (list_all is_blank_line lines) blank in
+    rw parts.0 (none_kept lines parts.1)
+
+front_kept : (count : ℕ) (lines : List Line) → count ≤ length lines → list_all is_blank_line (drop count lines) ≡ true → length (filter is_full lines) ≡ count → filter is_full lines ≡ take count lines
+front_kept count lines within blank enough =
+    let first = take count lines in
+    let whole : filter is_full lines ≡ filter is_full first =
+    ap (filter is_full) (sym (take-append-drop count lines)) ∙ filter-append is_full first (drop count lines)
+    ∙ ap (λ (more : List Line). filter is_full first ++ more) (none_kept (drop count lines) blank) ∙ append-nil (filter is_full first) in
+    whole ∙ all_kept first (ap length (sym whole) ∙ enough ∙ sym (length-take-le count lines within))
+
+front_choice : (enough within blank : Bool) (full first found : List Line) → (enough ≡ true → within ≡ true → blank ≡ true → full ≡ first)
+    → cond (within && blank) (Some first) None ≡ Some found → cond enough (Some full) (cond (within && blank) (Some first) None) ≡ Some found
+front_choice true true true full first found same e = ap Some (same refl refl refl) ∙ e
+front_choice true true false full first found same e = absurd cc
+front_choice true false blank full first found same e = absurd cc
+front_choice false within blank full first found same e = e
+
+pub front_chosen : (count : ℕ) (lines found : List Line) → front count lines ≡ Some found → choice count lines ≡ Some found
+front_chosen count lines found e =
+    let full = filter is_full lines in
+    front_choice (eqb (length full) count) (leb count (length lines)) (list_all is_blank_line (drop count lines)) full (take count lines) found
+    (λ enough within blank. front_kept count lines (leb-true _ _ within) blank (eqb-true _ _ enough)) e
+
+front_length_of : (within blank : Bool) (first found : List Line) (count : ℕ) → (within ≡ true → length first ≡ count) → cond (within && blank) (Some first) None ≡ Some found → length found ≡ count
+front_length_of true true first found count same e = let is : first ≡ found = cc in ap length (sym is) ∙ same refl
+front_length_of true false first found count same e = absurd cc
+front_length_of false blank first found count same e = absurd cc
+
+pub front_length : (count : ℕ) (lines found : List Line) → front count lines ≡ Some found → length found ≡ count
+front_length count lines found e = front_length_of (leb count (length lines)) (list_all is_blank_line (drop count lines)) (take count lines) found count (λ within. length-take-le count lines (leb-true _ _ within)) e

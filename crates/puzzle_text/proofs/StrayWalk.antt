@@ -3,10 +3,12 @@ use Rattle.std.proofs.Common.{◌≡◌, ℕ, ◌+◌, Bool, true, false, cond, 
 use Rattle.std.specs.List.{enumerate_from, find, list_any}
 use Rattle.std.specs.Option.{option_map}
 use Rattle.std.proofs.Math.Seq.{take-append_seam}
+use Rattle.std.proofs.lemmas.Bool.{and_parts}
 use Rattle.std.proofs.lemmas.List.{length-append}
 use Rattle.std.proofs.lemmas.List.Folds.{list_any-append}
 use Rattle.puzzle_text.specs.Lines.{is_empty, trim, without_ending}
-use Rattle.puzzle_text.specs.Collections.{first_stray, is_marker, is_stray, name_of}
+use Rattle.puzzle_text.specs.Collections.{Entry, are_named, begins_with_marker, body_of, entries_of, first_stray, is_marker, is_stray, name_of}
+use Rattle.puzzle_text.proofs.PlainLines.{not_true}
 
 -- the number of the first stray line: raws are the lines from number on, and inside tells whether a marker line stands above
 abbrev pub stray_from : ℕ → Bool → List (List ℕ) → Option ℕ
@@ -58,3 +60,26 @@ walk_below front (raw ∷ raws) =
 -- the walk from the top finds the first stray line
 pub stray_from-first : (raws : List (List ℕ)) → stray_from 1 false raws ≡ first_stray raws
 stray_from-first raws = walk_below [] raws
+
+-- ---- where each entry has a name
+
+named_line : (marker blank : Bool) (number : ℕ) (later : Option ℕ) (entry : Entry) (others : List Entry) → (are_named others ≡ true → later ≡ None)
+    → are_named (cond marker (entry ∷ others) others) ≡ true → cond marker (cond (is_empty entry.name) (Some number) later) (cond (true || blank) later (Some number)) ≡ None
+named_line true blank number later entry others none named =
+    let parts = and_parts (not (is_empty entry.name)) (are_named others) named in
+    rw (not_true (is_empty entry.name) parts.0) (none parts.1)
+named_line false blank number later entry others none named = none named
+
+-- no line below a marker line is stray
+none_below : (number : ℕ) (raws : List (List ℕ)) → are_named (entries_of raws) ≡ true → stray_from number true raws ≡ None
+none_below number [] named = refl
+none_below number (raw ∷ raws) named =
+    named_line (is_marker raw) (is_empty (trim (without_ending raw))) number (stray_from (number + 1) true raws) (record { name = name_of raw; body = body_of raws }) (entries_of raws) (none_below (number + 1) raws) named
+
+from_first : (number : ℕ) (raws : List (List ℕ)) → begins_with_marker raws ≡ true → are_named (entries_of raws) ≡ true → stray_from number false raws ≡ None
+from_first number [] marker named = refl
+from_first number (raw ∷ raws) marker named = rw marker (rw marker at (none_below number (raw ∷ raws) named))
+
+-- and none at all, where the first line is one
+pub none_stray : (raws : List (List ℕ)) → begins_with_marker raws ≡ true → are_named (entries_of raws) ≡ true → first_stray raws ≡ None
+none_stray raws marker named = sym (stray_from-first raws) ∙ from_first 1 raws marker named

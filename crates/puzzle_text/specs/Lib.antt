@@ -11,6 +11,7 @@ pub mod Keywords
 pub mod Non
 pub mod Collections
 pub mod Shown
+pub mod Places
 pub mod Words
 pub mod Written
 pub mod Formats

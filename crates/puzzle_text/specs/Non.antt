@@ -40,6 +40,20 @@ section word places = map (λ place. place.1) (filter (λ place. bytes_eq place.
 abbrev pub is_stray : List ℕ × Line → Bool
 is_stray place = is_full place.1 && not (bytes_eq place.0 (codes "rows") || bytes_eq place.0 (codes "columns"))
 
+-- the lines of both sections, and the number of the first line that says something and stands in neither
+pub record Sections : Type 0 where
+  pub rows : List Line
+  pub columns : List Line
+  pub stray : Option ℕ
+
+-- the sections of lines that stand beside the keywords above them
+abbrev pub sections_of : List (List ℕ × Line) → Sections
+sections_of places = record {
+  rows = section (codes "rows") places;
+  columns = section (codes "columns") places;
+  stray = option_map (λ place. place.1.number) (find is_stray places);
+}
+
 -- ---- checks
 
 -- the lesser of two numbers, or the one that is there
@@ -74,19 +88,18 @@ single_words = codes "width" ∷ codes "height" ∷ codes "rows" ∷ codes "colu
 abbrev pub number_of_line : Option Line → Option ℕ
 number_of_line found = option_map (λ line. line.number) found
 
--- the least number of a stray line among these places, or of the first line of a text field that is too long
-abbrev pub bad_line : List (List ℕ × Line) → List Line → Option ℕ
-bad_line places lines =
-    least (option_map (λ place. place.1.number) (find is_stray places))
-    (least_of (map (λ word. number_of_line (long_text lines word)) text_words))
+-- the least number of a stray line, or of the first line of a text field that is too long
+abbrev pub bad_line : Option ℕ → List Line → Option ℕ
+bad_line stray lines =
+    least stray (least_of (map (λ word. number_of_line (long_text lines word)) text_words))
 
 -- the first line that repeats a keyword which may stand once only
 abbrev pub repeated : List Line → Option ℕ
 repeated lines = least_of (map (λ word. number_of_line (second_with word lines)) single_words)
 
 -- that no line is out of place, no text is too long, and no keyword that may stand once only is repeated
-abbrev pub check_lines : List (List ℕ × Line) → List Line → Result (Unit {0}) TextFault
-check_lines places lines = refuse_at BadLine (bad_line places lines) >>= λ _. refuse_at Twice (repeated lines)
+abbrev pub check_lines : Option ℕ → List Line → Result (Unit {0}) TextFault
+check_lines stray lines = refuse_at BadLine (bad_line stray lines) >>= λ _. refuse_at Twice (repeated lines)
 
 -- ---- parts
 
@@ -107,8 +120,8 @@ rows_first lines = do
   Ok (nat_lt rows_line.number columns_line.number)
 
 -- the clue lines of a section
-abbrev pub clue_lines_of : List ℕ → ℕ → List (List ℕ × Line) → Result (List Line) TextFault
-clue_lines_of word count places = or_fault BadCount (choice count (section word places))
+abbrev pub clue_lines_of : ℕ → List Line → Result (List Line) TextFault
+clue_lines_of count section = or_fault BadCount (choice count section)
 
 -- the row clues and the column clues; of the two sections the one that stands first in the text is checked first
 abbrev pub both_clues : ℕ → Bool → List Line → List Line → Result (List (List ℕ) × List (List ℕ)) TextFault
@@ -154,21 +167,21 @@ texts_of lines = record {
 
 -- ---- the puzzle
 
--- the puzzle that these places and the keyword lines among these lines say
-abbrev pub puzzle_said : ℕ → List (List ℕ × Line) → List Line → Result Nonogram TextFault
-puzzle_said limit places lines = do
+-- the puzzle that these sections and the keyword lines among these lines say
+abbrev pub puzzle_said : ℕ → Sections → List Line → Result Nonogram TextFault
+puzzle_said limit sections lines = do
   sizes ← sizes_of limit lines
   first ← rows_first lines
-  checked ← check_lines places lines
-  rows ← clue_lines_of (codes "rows") sizes.1 places
-  columns ← clue_lines_of (codes "columns") sizes.0 places
+  checked ← check_lines sections.stray lines
+  rows ← clue_lines_of sizes.1 sections.rows
+  columns ← clue_lines_of sizes.0 sections.columns
   clues ← both_clues limit first rows columns
   goal ← goal_of (sizes.0 * sizes.1) (first_with (codes "goal") lines)
   Ok (record { width = sizes.0; height = sizes.1; rows = clues.0; columns = clues.1; texts = texts_of lines; goal = goal })
 
 -- the puzzle that these lines say
 abbrev pub non_of : ℕ → List Line → Result Nonogram TextFault
-non_of limit lines = puzzle_said limit (placed lines) lines
+non_of limit lines = puzzle_said limit (sections_of (placed lines)) lines
 
 -- the puzzle that a text says
 abbrev pub read_non : ℕ → List ℕ → Result Nonogram TextFault

@@ -1,41 +1,40 @@
 //! Lines that say a clue.
 
-ghost use Rattle.std.specs.Prelude.{◌≡◌, [], map, length, vec_capacity, vec_len, IfOk};
-ghost use Rattle.std.specs.Option.{option_map};
+ghost use Rattle.std.specs.Prelude.{◌≡◌, [], map, length, vec_capacity, vec_len, IfOk, Some, None, if◌then◌else◌};
 ghost use Rattle.puzzle_text.specs.Answers.{Gives};
-ghost use Rattle.puzzle_text.specs.ClueLines.{clue_of, clues_of, numbers_within};
+ghost use Rattle.puzzle_text.specs.ClueLines.{clue_of, clue_of_numbers, clues_of, numbers_within};
+ghost use Rattle.puzzle_text.specs.Non.{both_clues};
 ghost use Rattle.puzzle_text.specs.Numbers.{pieces};
-ghost use Rattle.puzzle_text.specs.Shown.{shown_line};
+ghost use Rattle.puzzle_text.specs.Shown.{shown_chosen, shown_line};
 
 use crate::faults::TextFault;
 use crate::lines::Line;
-use crate::numbers::{next_piece, number_within};
+use crate::numbers::{first_number, from_piece};
+use crate::sections::Chosen;
 use grid_core::{Clue, ClueFault, LONGEST_SIDE, NoMemory};
 use std::alloc::Global;
 
-fn numbers_of(alloc: Global, text: &[u8]) -> Result<Option<Vec<u16>>, NoMemory>
-    ensures { IfOk result (λ found. option_map (λ numbers. numbers.items) found ≡ numbers_within LONGEST_SIDE (pieces text.now)) }
+/// Reads the numbers of a line into a list, in place of what is there. Whether each of its pieces is a number.
+fn read_numbers(text: &[u8], numbers: &mut Vec<u16>) -> Result<bool, NoMemory>
+    ensures { IfOk result (λ all. (if all then Some numbers.new.items else None) ≡ numbers_within LONGEST_SIDE (pieces text.now)) }
 {
-    let mut numbers = Vec::new(alloc);
-    let mut rest = text;
-    'pieces: while let Some((piece, after)) = next_piece(rest) {
-        let Some(number) = number_within(LONGEST_SIDE, piece) else {
-            return Ok(None);
+    numbers.clear();
+    let mut rest = from_piece(text);
+    'pieces: while !rest.is_empty() {
+        let Some((number, after)) = first_number(LONGEST_SIDE, rest) else {
+            return Ok(false);
         };
         numbers.push(number)?;
-        rest = after;
+        rest = from_piece(after);
     }
-    Ok(Some(numbers))
+    Ok(true)
 }
 
-/// The clue that a line says, if it says one.
-fn clue_of(alloc: Global, text: &[u8]) -> Result<Option<Clue>, NoMemory>
-    ensures { IfOk result (λ found. found ≡ clue_of LONGEST_SIDE text.now) }
+/// The clue that numbers are, if they are one.
+fn clue_of_numbers(alloc: Global, numbers: &[u16]) -> Result<Option<Clue>, NoMemory>
+    ensures { IfOk result (λ found. found ≡ clue_of_numbers LONGEST_SIDE numbers.now) }
 {
-    let Some(numbers) = numbers_of(alloc, text)? else {
-        return Ok(None);
-    };
-    let lengths: &[u16] = match numbers.as_slice() {
+    let lengths: &[u16] = match numbers {
         [0] => &[],
         all => all,
     };
@@ -43,6 +42,17 @@ fn clue_of(alloc: Global, text: &[u8]) -> Result<Option<Clue>, NoMemory>
         Ok(clue) => Ok(Some(clue)),
         Err(ClueFault::BadNumber) => Ok(None),
         Err(ClueFault::NoMemory) => Err(NoMemory),
+    }
+}
+
+/// The clue that a line says, if it says one. The list is room for its numbers.
+fn clue_of(alloc: Global, text: &[u8], numbers: &mut Vec<u16>) -> Result<Option<Clue>, NoMemory>
+    ensures { IfOk result (λ found. found ≡ clue_of LONGEST_SIDE text.now) }
+{
+    if read_numbers(text, numbers)? {
+        clue_of_numbers(alloc, numbers)
+    } else {
+        Ok(None)
     }
 }
 
@@ -55,17 +65,59 @@ fn room_for(alloc: Global, count: usize) -> Result<Vec<Clue>, NoMemory>
     Ok(Vec::with_capacity(alloc, count)?)
 }
 
+/// An empty list with room for the numbers of most lines.
+fn room_for_numbers(alloc: Global) -> Result<Vec<u16>, NoMemory>
+    ensures { IfOk result (λ numbers. numbers.items ≡ []) }
+{
+    Ok(Vec::with_capacity(alloc, 16)?)
+}
+
 /// The clues that these lines say.
-pub(crate) fn clues_of(alloc: Global, lines: &[Line<'_>]) -> Result<Vec<Clue>, TextFault>
+fn clues_of(alloc: Global, lines: &[Line<'_>]) -> Result<Vec<Clue>, TextFault>
     ensures clues { Gives (λ clues. clues.items) result (clues_of LONGEST_SIDE (map shown_line lines.now)) }
     ensures length { IfOk result (λ clues. length clues.items ≡ length lines.now) }
 {
     let mut clues = room_for(alloc, lines.len())?;
+    let mut numbers = room_for_numbers(alloc)?;
     for line in lines {
-        let Some(clue) = clue_of(alloc, line.text)? else {
+        let Some(clue) = clue_of(alloc, line.text, &mut numbers)? else {
             return Err(TextFault::BadNumber(line.number));
         };
         clues.push_reserved(clue);
     }
     Ok(clues)
+}
+
+/// The clues that these clue lines say.
+pub(crate) fn chosen_clues(alloc: Global, chosen: &Chosen<'_, '_>) -> Result<Vec<Clue>, TextFault>
+    ensures clues { Gives (λ clues. clues.items) result (clues_of LONGEST_SIDE (shown_chosen chosen.now)) }
+    ensures length { IfOk result (λ clues. length clues.items ≡ length (shown_chosen chosen.now)) }
+{
+    match chosen {
+        Chosen::Part(lines) => clues_of(alloc, lines),
+        Chosen::Full(lines) => clues_of(alloc, lines),
+    }
+}
+
+/// The clues of the rows and of the columns. Of the two sections the one that stands first in the text is checked first.
+pub(crate) fn both_clues(
+    alloc: Global,
+    rows_first: bool,
+    rows: &Chosen<'_, '_>,
+    columns: &Chosen<'_, '_>,
+) -> Result<(Vec<Clue>, Vec<Clue>), TextFault>
+    ensures answer { Gives (λ clues. (clues.0.items, clues.1.items)) result
+        (both_clues LONGEST_SIDE rows_first (shown_chosen rows.now) (shown_chosen columns.now)) }
+    ensures rows { IfOk result (λ clues. length clues.0.items ≡ length (shown_chosen rows.now)) }
+    ensures columns { IfOk result (λ clues. length clues.1.items ≡ length (shown_chosen columns.now)) }
+{
+    if rows_first {
+        let row_clues = chosen_clues(alloc, rows)?;
+        let column_clues = chosen_clues(alloc, columns)?;
+        Ok((row_clues, column_clues))
+    } else {
+        let column_clues = chosen_clues(alloc, columns)?;
+        let row_clues = chosen_clues(alloc, rows)?;
+        Ok((row_clues, column_clues))
+    }
 }

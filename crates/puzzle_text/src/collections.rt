@@ -1,7 +1,8 @@
 //! Collections of puzzle texts.
 
-ghost use Rattle.std.specs.Prelude.{◌≡◌, ◌∷◌, ◌++◌, ◌<◌, ◌≤◌, ◌^◌, drop, take, map, false, length, Err, IfOk};
-ghost use Rattle.puzzle_text.specs.Collections.{GivesEntries, body_of, cut, entries_of, first_stray, is_marker, name_of};
+ghost use Rattle.std.specs.Prelude.{◌≡◌, ◌==◌, ◌∷◌, ◌++◌, ◌<◌, ◌≤◌, ◌^◌, not, drop, take, map, true, false, length, Err, IfOk, None};
+ghost use Rattle.std.specs.List.{list_all};
+ghost use Rattle.puzzle_text.specs.Collections.{FollowsPlain, GivesEntries, are_named, begins_with_marker, body_of, cut, ends_line, entries_of, first_stray, is_marker, name_of};
 ghost use Rattle.puzzle_text.specs.Lines.{raw_lines};
 ghost use Rattle.puzzle_text.specs.Shown.{shown_entry};
 
@@ -9,6 +10,7 @@ use crate::faults::CollectionFault;
 use crate::limits::{LONGEST_COLLECTION, MOST_ENTRIES};
 use crate::lines::{split_line, trim, without_ending};
 use grid_core::NoMemory;
+use memchr::memchr;
 use std::alloc::Global;
 
 /// The name and the text of a puzzle. The name's ending tells the text's format.
@@ -41,19 +43,55 @@ fn name_of(raw: &[u8]) -> &[u8]
     }
 }
 
+/// How many bytes stand before the first `@`.
+fn before_at(bytes: &[u8]) -> usize
+    ensures within { result ≤ length bytes.now }
+    ensures other { list_all (λ byte. not (byte == 64)) (take result bytes.now) ≡ true }
+{
+    match memchr(b'@', bytes) {
+        Some(place) => place,
+        None => bytes.len(),
+    }
+}
+
+/// Whether a line may begin after these bytes.
+fn ends_line(bytes: &[u8]) -> bool
+    ensures { result ≡ ends_line bytes.now }
+{
+    match bytes {
+        [.., last] => *last == b'\n',
+        [] => true,
+    }
+}
+
+/// What follows some lines that begin no entry: the text from the first `@` on, where that begins a line, or else the lines below it.
+fn past_plain(bytes: &[u8]) -> &[u8]
+    ensures { FollowsPlain bytes.now result.now }
+{
+    let (front, tail) = bytes.split_at(before_at(bytes));
+    if tail.is_empty() {
+        return tail;
+    }
+    if ends_line(front) {
+        return tail;
+    }
+    let (_, after) = split_line(tail);
+    after
+}
+
 /// The lines up to the next marker line, and what follows.
 fn split_body(bytes: &[u8]) -> (&[u8], &[u8])
     ensures body { result.0.now ≡ body_of (raw_lines bytes.now) }
     ensures others { entries_of (raw_lines result.1.now) ≡ entries_of (raw_lines bytes.now) }
     ensures within { length result.1.now ≤ length bytes.now }
 {
-    let mut rest = bytes;
+    let mut rest = past_plain(bytes);
     'lines: while !rest.is_empty() {
         let (raw, after) = split_line(rest);
         if is_marker(raw) {
             break;
         }
-        rest = after;
+        rest = past_plain(after);
     }
     bytes.split_at(bytes.len() - rest.len())
 }
@@ -69,7 +107,8 @@ fn entry_count(bytes: &[u8]) -> usize
         if is_marker(raw) {
             count += 1;
         }
-        rest = after;
+        let (_, others) = split_body(after);
+        rest = others;
     }
     count
 }
@@ -93,6 +132,40 @@ fn entries_of<'a>(alloc: Global, bytes: &'a [u8]) -> Result<Vec<Entry<'a>>, NoMe
         }
     }
     Ok(found)
+}
+
+/// Whether the first line begins an entry, if there is one.
+fn begins_with_marker(bytes: &[u8]) -> bool
+    ensures { result ≡ begins_with_marker (raw_lines bytes.now) }
+{
+    if bytes.is_empty() {
+        return true;
+    }
+    let (raw, _) = split_line(bytes);
+    is_marker(raw)
+}
+
+/// Whether each entry has a name.
+fn are_named(bytes: &[u8]) -> bool
+    ensures { result ≡ are_named (entries_of (raw_lines bytes.now)) }
+{
+    let mut rest = bytes;
+    'lines: while !rest.is_empty() {
+        let (raw, after) = split_line(rest);
+        if is_marker(raw) && name_of(raw).is_empty() {
+            return false;
+        }
+        let (_, others) = split_body(after);
+        rest = others;
+    }
+    true
+}
+
+/// Whether a look at the marker lines alone shows that no line is stray.
+fn is_sound(bytes: &[u8]) -> bool
+    ensures { result ≡ true → first_stray (raw_lines bytes.now) ≡ None }
+{
+    begins_with_marker(bytes) && are_named(bytes)
 }
 
 /// The number of the first line that belongs to no entry or names none.
@@ -119,6 +192,18 @@ fn first_stray(bytes: &[u8]) -> Option<u32>
     None
 }
 
+/// The same, looked for line by line only where the marker lines don't show that there is none.
+fn stray_number(bytes: &[u8]) -> Option<u32>
+    requires { length bytes.now < 2 ^ 32 }
+    ensures { result ≡ first_stray (raw_lines bytes.now) }
+{
+    if is_sound(bytes) {
+        None
+    } else {
+        first_stray(bytes)
+    }
+}
+
 /// The entries of a collection. A line `@ NAME` begins an entry; its text is the lines after that one up to the next such line or the end.
 pub fn entries<'a>(alloc: Global, bytes: &'a [u8]) -> Result<Vec<Entry<'a>>, CollectionFault>
     ensures answer { GivesEntries (λ found. map shown_entry found.items) result (cut bytes.now) }
@@ -128,7 +213,7 @@ pub fn entries<'a>(alloc: Global, bytes: &'a [u8]) -> Result<Vec<Entry<'a>>, Col
     if bytes.len() > LONGEST_COLLECTION {
         return Err(CollectionFault::TooLong);
     }
-    if let Some(number) = first_stray(bytes) {
+    if let Some(number) = stray_number(bytes) {
         return Err(CollectionFault::Stray(number));
     }
     if entry_count(bytes) > MOST_ENTRIES {

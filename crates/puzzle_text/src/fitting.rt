@@ -1,6 +1,6 @@
 //! Whether clues fit their lines.
 
-ghost use Rattle.std.specs.Prelude.{◌≡◌, ◌+◌, ◌-◌, ◌<◌, ◌≤◌, ◌^◌, ◌++◌, sum, length};
+ghost use Rattle.std.specs.Prelude.{◌≡◌, ◌+◌, ◌-◌, ◌<◌, ◌≤◌, ◌^◌, ◌++◌, sum, length, Some, None, IfSome, if◌then◌else◌};
 ghost use Rattle.std.specs.List.{list_all};
 ghost use Rattle.puzzle_text.specs.Readings.{fits, sum_all};
 
@@ -22,16 +22,44 @@ fn filled(clue: &Clue) -> u32
     sum_of(clue.numbers())
 }
 
+/// How many cells a clue fills, if it fits a line of this length.
+fn filled_within(len: u16, clue: &Clue) -> Option<u32>
+    ensures cells { result ≡ (if fits len clue.now then Some (sum clue.now) else None) }
+    ensures within { IfSome result (λ cells. cells ≤ 32768) }
+{
+    let cells = filled(clue);
+    let needed = cells + clue.numbers().len() as u32;
+    if needed.saturating_sub(1) <= u32::from(len) {
+        Some(cells)
+    } else {
+        None
+    }
+}
+
+/// How many cells these clues fill, if each of them fits a line of this length.
+pub(crate) fn sum_within(len: u16, clues: &[Clue]) -> Option<u32>
+    requires { length clues.now ≤ 65535 }
+    ensures { result ≡ (if list_all (fits len) clues.now then Some (sum_all clues.now) else None) }
+{
+    let mut sum = 0;
+    for clue in clues {
+        let Some(cells) = filled_within(len, clue) else {
+            return None;
+        };
+        sum += cells;
+    }
+    Some(sum)
+}
+
 /// Whether a clue fits a line of this length.
 fn fits(len: u16, clue: &Clue) -> bool
     ensures { result ≡ fits len clue.now }
 {
-    let needed = filled(clue) + clue.numbers().len() as u32;
-    needed.saturating_sub(1) <= u32::from(len)
+    filled_within(len, clue).is_some()
 }
 
 /// Whether each clue fits a line of this length.
-pub(crate) fn all_fit(len: u16, clues: &[Clue]) -> bool
+fn all_fit(len: u16, clues: &[Clue]) -> bool
     ensures { result ≡ list_all (fits len) clues.now }
 {
     clues.iter().all(|clue| fits(len, clue))

@@ -1,6 +1,6 @@
 //! Goals in .non texts.
 
-ghost use Rattle.std.specs.Prelude.{◌≡◌, ◌==◌, true, length, IfOk, IfSome};
+ghost use Rattle.std.specs.Prelude.{◌≡◌, ◌==◌, [], true, length, vec_capacity, vec_len, IfOk, IfSome};
 ghost use Rattle.std.specs.Option.{option_map};
 ghost use Rattle.grid_core.specs.Nonogram.{bools_of, is_goal};
 ghost use Rattle.puzzle_text.specs.Answers.{Gives};
@@ -23,6 +23,15 @@ fn cell_of(byte: u8) -> Option<bool>
     }
 }
 
+/// An empty list with room for so many cells.
+fn room_for(alloc: Global, count: usize) -> Result<Vec<bool>, NoMemory>
+    ensures items { IfOk result (λ cells. cells.items ≡ []) }
+    ensures len { IfOk result (λ cells. vec_len cells ≡ 0) }
+    ensures capacity { IfOk result (λ cells. vec_capacity cells ≡ count) }
+{
+    Ok(Vec::with_capacity(alloc, count)?)
+}
+
 /// The cells of a goal of this many.
 fn goal_cells(alloc: Global, count: usize, text: &[u8]) -> Result<Option<Vec<bool>>, NoMemory>
     ensures cells { IfOk result (λ found. option_map (λ cells. cells.items) found ≡ goal_cells count text.now) }
@@ -31,12 +40,12 @@ fn goal_cells(alloc: Global, count: usize, text: &[u8]) -> Result<Option<Vec<boo
     if text.len() != count {
         return Ok(None);
     }
-    let mut cells = Vec::with_capacity(alloc, count)?;
+    let mut cells = room_for(alloc, count)?;
     for byte in text {
         let Some(cell) = cell_of(*byte) else {
             return Ok(None);
         };
-        cells.push(cell)?;
+        cells.push_reserved(cell);
     }
     Ok(Some(cells))
 }

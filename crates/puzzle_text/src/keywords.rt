@@ -65,7 +65,7 @@ pub(crate) fn keyword_lines<'a>(
 ) -> Result<Vec<KeywordLine<'a>>, NoMemory>
     ensures { IfOk result (λ found. map shown_keyword found.items ≡ filter is_keyword_line (map shown_line lines.now)) }
 {
-    let mut found = Vec::new(alloc);
+    let mut found = Vec::with_capacity(alloc, 16)?;
     for line in lines {
         let word = keyword(line);
         if !word.is_empty() {

@@ -1,8 +1,8 @@
 //! A text as numbered lines.
 
-ghost use Rattle.std.specs.Prelude.{◌≡◌, ◌==◌, ◌+◌, ◌^◌, ◌<◌, ◌≤◌, ◌∷◌, [], ◌++◌, reverse, length, map, IfOk};
+ghost use Rattle.std.specs.Prelude.{ℕ, ◌≡◌, ◌==◌, ◌+◌, ◌^◌, ◌<◌, ◌≤◌, ◌∷◌, [], ◌++◌, reverse, length, map, IfOk};
 ghost use Rattle.std.specs.List.{position};
-ghost use Rattle.puzzle_text.specs.Lines.{is_blank, is_hash, lines, raw_lines, strip_last, trim, trim_end, trim_start, without_ending};
+ghost use Rattle.puzzle_text.specs.Lines.{is_blank, is_hash, lines, numbered_from, raw_lines, strip_last, trim, trim_end, trim_start, without_ending};
 ghost use Rattle.puzzle_text.specs.Shown.{shown_line};
 
 use grid_core::NoMemory;
@@ -18,7 +18,12 @@ pub(crate) struct Line<'a> {
 fn first_line_feed(bytes: &[u8]) -> Option<usize>
     ensures { result ≡ position (λ byte. byte == 10) bytes.now }
 {
-    bytes.iter().position(|byte| *byte == b'\n')
+    for (place, byte) in bytes.iter().enumerate() {
+        if *byte == b'\n' {
+            return Some(place);
+        }
+    }
+    None
 }
 
 /// The first line of a text, with its line feed, and what follows.
@@ -88,6 +93,19 @@ pub(crate) fn without_ending(raw: &[u8]) -> &[u8]
     strip_last(strip_last(raw, b'\n'), b'\r')
 }
 
+/// The first line of a text, without its ending, and what follows.
+fn next_line(bytes: &[u8]) -> (&[u8], &[u8])
+    requires { 0 < length bytes.now }
+    ensures first { (number : ℕ) → numbered_from number (raw_lines bytes.now)
+        ≡ record { number = number; text = trim result.0.now } ∷ numbered_from (number + 1) (raw_lines result.1.now) }
+    ensures shorter { length result.1.now < length bytes.now }
+{
+    match first_line_feed(bytes) {
+        Some(end) => (strip_last(&bytes[..end], b'\r'), &bytes[end + 1..]),
+        None => (strip_last(bytes, b'\r'), &[]),
+    }
+}
+
 /// Whether a line begins with `#`.
 pub(crate) fn is_hash(line: &Line<'_>) -> bool
     ensures { result ≡ is_hash (shown_line line.now) }
@@ -103,15 +121,15 @@ pub(crate) fn all_lines(alloc: Global, bytes: &[u8]) -> Result<Vec<Line<'_>>, No
     requires { length bytes.now < 2 ^ 32 }
     ensures { IfOk result (λ found. map shown_line found.items ≡ lines bytes.now) }
 {
-    let mut found = Vec::new(alloc);
+    let mut found = Vec::with_capacity(alloc, bytes.len() / 8 + 8)?;
     let mut rest = bytes;
     let mut number = 0u32;
     while !rest.is_empty() {
-        let (raw, after) = split_line(rest);
+        let (line, after) = next_line(rest);
         number += 1;
         found.push(Line {
             number,
-            text: trim(without_ending(raw)),
+            text: trim(line),
         })?;
         rest = after;
     }

@@ -6,17 +6,17 @@ ghost use Rattle.std.specs.Option.{option_map};
 ghost use Rattle.grid_core.specs.PartialGrid.{IsSize};
 ghost use Rattle.puzzle_text.specs.Answers.{Gives};
 ghost use Rattle.puzzle_text.specs.Lines.{is_hash};
-ghost use Rattle.puzzle_text.specs.Mk.{at_hash, before_hash, both_choices, mk_of, puzzle_of, read_mk};
-ghost use Rattle.puzzle_text.specs.Shown.{shown_line};
+ghost use Rattle.puzzle_text.specs.Mk.{at_hash, before_hash, both_choices, mk_of, puzzle_of, puzzle_of_both, read_mk};
+ghost use Rattle.puzzle_text.specs.Shown.{shown_chosen, shown_line};
 
-use crate::clue_lines::clues_of;
+use crate::clue_lines::both_clues;
 use crate::faults::TextFault;
 use crate::limits::LONGEST_PUZZLE;
 use crate::lines::{Line, is_hash};
-use crate::readings::reading;
-use crate::sections::choice;
+use crate::parts;
+use crate::sections::{Chosen, choice};
 use crate::sizes::{lines_of, size_line};
-use grid_core::{LONGEST_SIDE, NoMemory, Puzzle};
+use grid_core::{LONGEST_SIDE, NoMemory, Puzzle, Texts};
 use std::alloc::Global;
 
 fn hash_place(lines: &[Line<'_>]) -> Option<usize>
@@ -45,25 +45,43 @@ fn before_hash<'a, 'b>(lines: &'b [Line<'a>]) -> &'b [Line<'a>]
 }
 
 /// The clue lines of both sections at these sizes.
-fn both_choices<'a>(
+fn both_choices<'a, 'b>(
     alloc: Global,
     width: u16,
     height: u16,
-    rows: &[Line<'a>],
-    columns: &[Line<'a>],
-) -> Result<Option<Vec<Line<'a>>>, NoMemory>
-    ensures lines { IfOk result (λ found. option_map (λ chosen. map shown_line chosen.items) found
+    rows: &'b [Line<'a>],
+    columns: &'b [Line<'a>],
+) -> Result<Option<(Chosen<'a, 'b>, Chosen<'a, 'b>)>, NoMemory>
+    ensures lines { IfOk result (λ found. option_map (λ chosen. shown_chosen chosen.0 ++ shown_chosen chosen.1) found
         ≡ both_choices width height (map shown_line rows.now) (map shown_line columns.now)) }
-    ensures length { IfOk result (λ found. IfSome found (λ chosen. length chosen.items ≡ width + height)) }
+    ensures length { IfOk result (λ found. IfSome found (λ chosen.
+        (length (shown_chosen chosen.0) ≡ height) × (length (shown_chosen chosen.1) ≡ width))) }
 {
-    let Some(mut chosen) = choice(alloc, usize::from(height), rows)? else {
+    let Some(row_lines) = choice(alloc, usize::from(height), rows)? else {
         return Ok(None);
     };
-    let Some(more) = choice(alloc, usize::from(width), columns)? else {
+    let Some(column_lines) = choice(alloc, usize::from(width), columns)? else {
         return Ok(None);
     };
-    chosen.extend_from_slice(&more)?;
-    Ok(Some(chosen))
+    Ok(Some((row_lines, column_lines)))
+}
+
+/// The puzzle of the clues that these clue lines say.
+fn puzzle_with(
+    alloc: Global,
+    width: u16,
+    height: u16,
+    rows: &Chosen<'_, '_>,
+    columns: &Chosen<'_, '_>,
+) -> Result<Puzzle, TextFault>
+    requires size { IsSize width height }
+    requires rows { length (shown_chosen rows.now) ≡ height }
+    requires columns { length (shown_chosen columns.now) ≡ width }
+    ensures { Gives (λ p. p) result (puzzle_of_both LONGEST_SIDE width height (shown_chosen rows.now) (shown_chosen columns.now)) }
+{
+    let (rows, columns) = both_clues(alloc, true, rows, columns)?;
+    let puzzle = parts::puzzle_of(width, height, rows, columns, Texts::none(), None);
+    Ok(puzzle)
 }
 
 /// The puzzle that these clue lines say.
@@ -71,14 +89,15 @@ fn puzzle_of(
     alloc: Global,
     width: u16,
     height: u16,
-    chosen: &[Line<'_>],
+    rows: &Chosen<'_, '_>,
+    columns: &Chosen<'_, '_>,
 ) -> Result<Puzzle, TextFault>
     requires size { IsSize width height }
-    requires count { length chosen.now ≡ width + height }
-    ensures { Gives (λ p. p) result (puzzle_of LONGEST_SIDE width height (map shown_line chosen.now)) }
+    requires rows { length (shown_chosen rows.now) ≡ height }
+    requires columns { length (shown_chosen columns.now) ≡ width }
+    ensures { Gives (λ p. p) result (puzzle_of LONGEST_SIDE width height (shown_chosen rows.now ++ shown_chosen columns.now)) }
 {
-    let clues = clues_of(alloc, chosen)?;
-    Ok(reading(width, height, clues)?)
+    puzzle_with(alloc, width, height, rows, columns)
 }
 
 fn mk_of(alloc: Global, lines: &[Line<'_>]) -> Result<Puzzle, TextFault>
@@ -89,11 +108,11 @@ fn mk_of(alloc: Global, lines: &[Line<'_>]) -> Result<Puzzle, TextFault>
         return Err(TextFault::NoSection);
     };
     let columns = before_hash(after);
-    if let Some(chosen) = both_choices(alloc, b, a, rows, columns)? {
-        return puzzle_of(alloc, b, a, &chosen);
+    if let Some((row_lines, column_lines)) = both_choices(alloc, b, a, rows, columns)? {
+        return puzzle_of(alloc, b, a, &row_lines, &column_lines);
     }
-    if let Some(chosen) = both_choices(alloc, a, b, rows, columns)? {
-        return puzzle_of(alloc, a, b, &chosen);
+    if let Some((row_lines, column_lines)) = both_choices(alloc, a, b, rows, columns)? {
+        return puzzle_of(alloc, a, b, &row_lines, &column_lines);
     }
     Err(TextFault::BadCount)
 }

@@ -5,7 +5,7 @@ ghost use Rattle.puzzle_text.specs.Answers.{Gives};
 ghost use Rattle.puzzle_text.specs.Nin.{nin_of, read_nin};
 ghost use Rattle.puzzle_text.specs.Shown.{shown_line};
 
-use crate::clue_lines::clues_of;
+use crate::clue_lines::chosen_clues;
 use crate::faults::TextFault;
 use crate::limits::LONGEST_PUZZLE;
 use crate::lines::Line;
@@ -23,7 +23,7 @@ fn nin_of(alloc: Global, lines: &[Line<'_>]) -> Result<Puzzle, TextFault>
     let Some(chosen) = choice(alloc, count, section)? else {
         return Err(TextFault::BadCount);
     };
-    let clues = clues_of(alloc, &chosen)?;
+    let clues = chosen_clues(alloc, &chosen)?;
     Ok(likelier(a, b, clues)?)
 }
 

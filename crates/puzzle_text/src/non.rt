@@ -7,10 +7,10 @@ ghost use Rattle.grid_core.specs.PartialGrid.{IsSize};
 ghost use Rattle.puzzle_text.specs.Answers.{Gives};
 ghost use Rattle.puzzle_text.specs.Keywords.{second_with};
 ghost use Rattle.puzzle_text.specs.Lines.{HaveNoFeed};
-ghost use Rattle.puzzle_text.specs.Non.{bad_line, both_clues, check_lines, least, least_of, non_of, number_of_line, puzzle_said, read_non, repeated, rows_first, sizes_of, texts_of};
-ghost use Rattle.puzzle_text.specs.Shown.{shown_keyword, shown_line, shown_place};
+ghost use Rattle.puzzle_text.specs.Non.{bad_line, check_lines, least, least_of, non_of, number_of_line, puzzle_said, read_non, repeated, rows_first, sizes_of, texts_of};
+ghost use Rattle.puzzle_text.specs.Shown.{shown_keyword, shown_line, shown_sections};
 
-use crate::clue_lines::clues_of;
+use crate::clue_lines::both_clues;
 use crate::descriptions::{long_number, texts_of};
 use crate::faults::TextFault;
 use crate::goals::goal_of;
@@ -19,9 +19,9 @@ use crate::keywords::{FIELDS, keyword_lines, nth_with, rest};
 use crate::limits::LONGEST_PUZZLE;
 use crate::lines::Line;
 use crate::parts::puzzle_of;
-use crate::places::{Place, clue_lines, placed, stray_number};
+use crate::places::{Sections, clue_lines, sections_of};
 use crate::sizes::{lines_of, size_of};
-use grid_core::{Clue, LONGEST_SIDE, Puzzle};
+use grid_core::{LONGEST_SIDE, Puzzle};
 use std::alloc::Global;
 
 /// The lesser of two numbers that may be missing.
@@ -56,11 +56,11 @@ fn second_number(lines: &[KeywordLine<'_>], word: &[u8]) -> Option<u32>
 }
 
 /// The least number of a line that stands in no section, or of a text field's first line whose text is too long.
-fn bad_line(keyword_lines: &[KeywordLine<'_>], places: &[Place<'_>]) -> Option<u32>
-    ensures { result ≡ bad_line (map shown_place places.now) (map shown_keyword keyword_lines.now) }
+fn bad_line(keyword_lines: &[KeywordLine<'_>], stray: Option<u32>) -> Option<u32>
+    ensures { result ≡ bad_line stray (map shown_keyword keyword_lines.now) }
 {
     let long = FIELDS.map(|field| long_number(keyword_lines, field));
-    least(stray_number(places), least_of(&long))
+    least(stray, least_of(&long))
 }
 
 /// The number of the first line that repeats a keyword which may stand once only.
@@ -76,12 +76,12 @@ fn repeated(lines: &[KeywordLine<'_>]) -> Option<u32>
 }
 
 /// Checks that no line is out of place, no text is too long, and no keyword that may stand once only is repeated.
-fn check_lines(keyword_lines: &[KeywordLine<'_>], places: &[Place<'_>]) -> Result<(), TextFault>
+fn check_lines(keyword_lines: &[KeywordLine<'_>], stray: Option<u32>) -> Result<(), TextFault>
     requires { HaveNoFeed (map shown_keyword keyword_lines.now) }
-    ensures answer { Gives (λ done. done) result (check_lines (map shown_place places.now) (map shown_keyword keyword_lines.now)) }
+    ensures answer { Gives (λ done. done) result (check_lines stray (map shown_keyword keyword_lines.now)) }
     ensures texts { OnOk result (IsDescription (texts_of (map shown_keyword keyword_lines.now))) }
 {
-    if let Some(number) = bad_line(keyword_lines, places) {
+    if let Some(number) = bad_line(keyword_lines, stray) {
         return Err(TextFault::BadLine(number));
     }
     if let Some(number) = repeated(keyword_lines) {
@@ -117,43 +117,20 @@ fn rows_first(lines: &[KeywordLine<'_>]) -> Result<bool, TextFault>
     Ok(rows.line.number < columns.line.number)
 }
 
-/// The clues of the rows and of the columns. Of the two sections the one that stands first in the text is checked first.
-fn both_clues(
-    alloc: Global,
-    rows_first: bool,
-    rows: &[Line<'_>],
-    columns: &[Line<'_>],
-) -> Result<(Vec<Clue>, Vec<Clue>), TextFault>
-    ensures answer { Gives (λ clues. (clues.0.items, clues.1.items)) result
-        (both_clues LONGEST_SIDE rows_first (map shown_line rows.now) (map shown_line columns.now)) }
-    ensures rows { IfOk result (λ clues. length clues.0.items ≡ length rows.now) }
-    ensures columns { IfOk result (λ clues. length clues.1.items ≡ length columns.now) }
-{
-    if rows_first {
-        let row_clues = clues_of(alloc, rows)?;
-        let column_clues = clues_of(alloc, columns)?;
-        Ok((row_clues, column_clues))
-    } else {
-        let column_clues = clues_of(alloc, columns)?;
-        let row_clues = clues_of(alloc, rows)?;
-        Ok((row_clues, column_clues))
-    }
-}
-
-/// The puzzle that a text says by its keyword lines and by the places of its other lines.
+/// The puzzle that a text says by its keyword lines and by its sections.
 fn puzzle_said(
     alloc: Global,
     keyword_lines: &[KeywordLine<'_>],
-    places: &[Place<'_>],
+    sections: &Sections<'_>,
 ) -> Result<Puzzle, TextFault>
     requires { HaveNoFeed (map shown_keyword keyword_lines.now) }
-    ensures { Gives (λ p. p) result (puzzle_said LONGEST_SIDE (map shown_place places.now) (map shown_keyword keyword_lines.now)) }
+    ensures { Gives (λ p. p) result (puzzle_said LONGEST_SIDE (shown_sections sections.now) (map shown_keyword keyword_lines.now)) }
 {
     let (width, height) = sizes_of(keyword_lines)?;
     let rows_first = rows_first(keyword_lines)?;
-    check_lines(keyword_lines, places)?;
-    let rows = clue_lines(alloc, b"rows", height, places)?;
-    let columns = clue_lines(alloc, b"columns", width, places)?;
+    check_lines(keyword_lines, sections.stray)?;
+    let rows = clue_lines(alloc, height, &sections.rows)?;
+    let columns = clue_lines(alloc, width, &sections.columns)?;
     let (rows, columns) = both_clues(alloc, rows_first, &rows, &columns)?;
     let count = usize::from(width) * usize::from(height);
     let goal = goal_of(alloc, count, nth_with(b"goal", 0, keyword_lines))?;
@@ -166,8 +143,8 @@ fn non_of(alloc: Global, lines: &[Line<'_>]) -> Result<Puzzle, TextFault>
     ensures { Gives (λ p. p) result (non_of LONGEST_SIDE (map shown_line lines.now)) }
 {
     let keyword_lines = keyword_lines(alloc, lines)?;
-    let places = placed(alloc, lines)?;
-    puzzle_said(alloc, &keyword_lines, &places)
+    let sections = sections_of(alloc, lines)?;
+    puzzle_said(alloc, &keyword_lines, &sections)
 }
 
 /// Reads a puzzle in the format .non: keyword lines for the texts, the sizes and the goal, and a section of clue lines each under `rows` and

@@ -1,7 +1,9 @@
 //! The numbers of a line.
 
-ghost use Rattle.std.specs.Prelude.{◌≡◌, ◌==◌, ◌||◌, ◌<◌, ◌≤◌, ◌^◌, [], ◌∷◌, length, false, slice_index, IfSome, IfNone};
+ghost use Rattle.std.specs.Prelude.{◌≡◌, ◌==◌, ◌||◌, ◌<◌, ◌≤◌, ◌^◌, [], ◌∷◌, length, false, slice_index, IfSome, IfNone, None};
 ghost use Rattle.std.specs.List.{position};
+ghost use Rattle.std.specs.Option.{option_map};
+ghost use Rattle.puzzle_text.specs.ClueLines.{numbers_within};
 ghost use Rattle.puzzle_text.specs.Numbers.{is_separator, number_within, pieces};
 
 /// The number that a piece writes in decimal, where it is no more than the limit.
@@ -32,7 +34,7 @@ fn is_separator(byte: u8) -> bool
 }
 
 /// What is left of a line from the first byte that is no separator.
-fn from_piece(mut text: &[u8]) -> &[u8]
+pub(crate) fn from_piece(mut text: &[u8]) -> &[u8]
     ensures pieces { pieces result.now ≡ pieces text.entry.now }
     ensures first { 0 < length result.now → is_separator (slice_index result.now 0) ≡ false }
     ensures within { length result.now ≤ length text.entry.now }
@@ -66,4 +68,28 @@ pub(crate) fn next_piece(text: &[u8]) -> Option<(&[u8], &[u8])>
         Some(end) => Some((&text[..end], &text[end + 1..])),
         None => Some((text, &[])),
     }
+}
+
+/// The number that the first piece writes in decimal, where it is no more than the limit, and what follows the piece.
+pub(crate) fn first_number(limit: u16, text: &[u8]) -> Option<(u16, &[u8])>
+    requires some { 0 < length text.now }
+    requires first { is_separator (slice_index text.now 0) ≡ false }
+    ensures none { IfNone result (numbers_within limit (pieces text.now) ≡ None) }
+    ensures some { IfSome result (λ found. numbers_within limit (pieces text.now) ≡ option_map (λ others. found.0 ∷ others) (numbers_within limit (pieces found.1.now))) }
+    ensures shorter { IfSome result (λ found. length found.1.now < length text.now) }
+{
+    let mut value = 0u32;
+    for (place, byte) in text.iter().enumerate() {
+        if is_separator(*byte) {
+            return Some((value as u16, &text[place + 1..]));
+        }
+        if !byte.is_ascii_digit() {
+            return None;
+        }
+        value = value * 10 + u32::from(*byte - b'0');
+        if value > u32::from(limit) {
+            return None;
+        }
+    }
+    Some((value as u16, &[]))
 }

@@ -1,96 +1,100 @@
 //! Which section of a .non text each line stands in.
 
-ghost use Rattle.std.specs.Prelude.{◌≡◌, map, filter, length, codes, Some, None, IfOk};
-ghost use Rattle.std.specs.List.{find};
-ghost use Rattle.std.specs.Option.{option_map};
-ghost use Rattle.std.specs.Str.{bytes_eq, str_to_ascii_lowercase};
-ghost use Rattle.puzzle_text.specs.declared.faults.TextFault.TheVariants.{BadCount};
-ghost use Rattle.puzzle_text.specs.Answers.{Gives, or_fault};
-ghost use Rattle.puzzle_text.specs.Non.{is_stray, placed, section};
-ghost use Rattle.puzzle_text.specs.Sections.{choice};
-ghost use Rattle.puzzle_text.specs.Shown.{shown_line, shown_place};
+ghost use Rattle.std.specs.Prelude.{◌≡◌, map, length, IfOk, OnOk};
+ghost use Rattle.std.specs.Str.{str_to_ascii_lowercase};
+ghost use Rattle.puzzle_text.specs.Answers.{Gives};
+ghost use Rattle.puzzle_text.specs.Non.{clue_lines_of, placed, sections_of};
+ghost use Rattle.puzzle_text.specs.Places.{IsUnder, with_line};
+ghost use Rattle.puzzle_text.specs.Shown.{shown_chosen, shown_line, shown_sections};
 
 use crate::faults::TextFault;
 use crate::keywords::{keyword, same_word};
 use crate::lines::{Line, is_hash};
-use crate::sections::choice;
+use crate::sections::{Chosen, choice};
 use grid_core::NoMemory;
 use std::alloc::Global;
 
-/// A line that is neither a keyword line nor a comment, and the keyword above it.
+/// Which section a line stands in.
 #[derive(Clone, Copy, Debug)]
-pub(crate) struct Place<'a> {
-    pub under: &'a [u8],
-    pub line: Line<'a>,
+pub(crate) enum Under {
+    Rows,
+    Columns,
+    /// Neither.
+    Other,
 }
 
-/// Each line that is neither a keyword line nor a comment, with the keyword of the last keyword line above it.
-pub(crate) fn placed<'a>(alloc: Global, lines: &[Line<'a>]) -> Result<Vec<Place<'a>>, NoMemory>
-    ensures { IfOk result (λ places. map shown_place places.items ≡ placed (map shown_line lines.now)) }
+/// The lines of both sections, and the number of the first line that says something and stands in neither. Keyword lines and comments stand in
+/// none.
+#[derive(Debug, Drop)]
+pub(crate) struct Sections<'a> {
+    pub rows: Vec<Line<'a>>,
+    pub columns: Vec<Line<'a>>,
+    pub stray: Option<u32>,
+}
+
+/// Which section a keyword opens.
+fn opened_by(word: &[u8]) -> Under
+    ensures { IsUnder (str_to_ascii_lowercase word.now) result }
 {
-    let mut places = Vec::new(alloc);
-    let mut under: &[u8] = &[];
+    if same_word(word, b"rows") {
+        return Under::Rows;
+    }
+    if same_word(word, b"columns") {
+        return Under::Columns;
+    }
+    Under::Other
+}
+
+impl<'a> Sections<'a> {
+    /// Adds a line at the end of its section, or notes it where it stands in none.
+    fn put(&mut self, under: Under, line: Line<'a>) -> Result<(), NoMemory>
+        ensures { OnOk result (shown_sections self.new ≡ with_line (shown_sections self.old) under (shown_line line.entry)) }
+    {
+        match under {
+            Under::Rows => self.rows.push(line)?,
+            Under::Columns => self.columns.push(line)?,
+            Under::Other => {
+                if self.stray.is_none() && !line.text.is_empty() {
+                    self.stray = Some(line.number);
+                }
+            }
+        }
+        Ok(())
+    }
+}
+
+/// The sections of a text.
+pub(crate) fn sections_of<'a>(alloc: Global, lines: &[Line<'a>]) -> Result<Sections<'a>, NoMemory>
+    ensures { IfOk result (λ found. shown_sections found ≡ sections_of (placed (map shown_line lines.now))) }
+{
+    let mut sections = Sections {
+        rows: Vec::with_capacity(alloc, lines.len())?,
+        columns: Vec::with_capacity(alloc, lines.len())?,
+        stray: None,
+    };
+    let mut place = Under::Other;
     for line in lines {
         let word = keyword(line);
         if !word.is_empty() {
-            under = word;
+            place = opened_by(word);
         } else if !is_hash(line) {
-            places.push(Place { under, line: *line })?;
+            sections.put(place, *line)?;
         }
     }
-    Ok(places)
-}
-
-/// The lines of the section that a keyword opens.
-fn section<'a>(alloc: Global, word: &[u8], places: &[Place<'a>]) -> Result<Vec<Line<'a>>, NoMemory>
-    ensures { IfOk result (λ lines. lines.items
-        ≡ map (λ place. place.line) (filter (λ place. bytes_eq (shown_place place).0 (str_to_ascii_lowercase word.now)) places.now)) }
-{
-    let lines = places
-        .iter()
-        .filter(|place| same_word(place.under, word))
-        .map(|place| place.line)
-        .collect(alloc)?;
-    Ok(lines)
+    Ok(sections)
 }
 
 /// The clue lines of a section.
-pub(crate) fn clue_lines<'a>(
+pub(crate) fn clue_lines<'a, 'b>(
     alloc: Global,
-    word: &[u8],
     count: u16,
-    places: &[Place<'a>],
-) -> Result<Vec<Line<'a>>, TextFault>
-    ensures answer { Gives (λ chosen. map shown_line chosen.items) result
-        (or_fault BadCount (choice count (section (str_to_ascii_lowercase word.now) (map shown_place places.now)))) }
-    ensures length { IfOk result (λ chosen. length chosen.items ≡ count) }
+    section: &'b [Line<'a>],
+) -> Result<Chosen<'a, 'b>, TextFault>
+    ensures answer { Gives (λ chosen. shown_chosen chosen) result (clue_lines_of count (map shown_line section.now)) }
+    ensures length { IfOk result (λ chosen. length (shown_chosen chosen) ≡ count) }
 {
-    let lines = section(alloc, word, places)?;
-    match choice(alloc, usize::from(count), &lines)? {
+    match choice(alloc, usize::from(count), section)? {
         Some(chosen) => Ok(chosen),
         None => Err(TextFault::BadCount),
-    }
-}
-
-fn is_stray(place: &Place<'_>) -> bool
-    ensures { result ≡ is_stray (shown_place place.now) }
-{
-    !place.line.text.is_empty()
-        && !(same_word(place.under, b"rows") || same_word(place.under, b"columns"))
-}
-
-fn first_stray<'a, 'b>(places: &'b [Place<'a>]) -> Option<&'b Place<'a>>
-    ensures { option_map (λ place. place.now) result ≡ find (λ place. is_stray (shown_place place)) places.now }
-{
-    places.iter().find(|place| is_stray(place))
-}
-
-/// The number of the first line that says something and stands in no section.
-pub(crate) fn stray_number(places: &[Place<'_>]) -> Option<u32>
-    ensures { result ≡ option_map (λ place. place.1.number) (find is_stray (map shown_place places.now)) }
-{
-    match first_stray(places) {
-        Some(place) => Some(place.line.number),
-        None => None,
     }
 }

@@ -6,7 +6,7 @@ ghost use Rattle.grid_core.specs.PartialGrid.{IsSize};
 ghost use Rattle.puzzle_text.specs.Readings.{is_admissible, likelier, reading};
 ghost use Rattle.puzzle_text.specs.Written.{is_ambiguous};
 
-use crate::fitting::{all_fit, both_fit, sum_all, sum_both};
+use crate::fitting::{both_fit, sum_both, sum_within};
 use crate::parts::puzzle_of;
 use grid_core::{Clue, NoMemory, Puzzle, Texts};
 
@@ -16,7 +16,13 @@ fn are_admissible(width: u16, height: u16, rows: &[Clue], columns: &[Clue]) -> b
     requires columns { length columns.now ≤ 65535 }
     ensures { result ≡ is_admissible (plain width height rows.now columns.now) }
 {
-    all_fit(width, rows) && all_fit(height, columns) && sum_all(rows) == sum_all(columns)
+    let Some(in_rows) = sum_within(width, rows) else {
+        return false;
+    };
+    let Some(in_columns) = sum_within(height, columns) else {
+        return false;
+    };
+    in_rows == in_columns
 }
 
 /// Whether the puzzle of these clues, the first of which are its rows, is admissible.
@@ -29,7 +35,7 @@ fn is_admissible(width: u16, height: u16, clues: &[Clue]) -> bool
 }
 
 /// The puzzle of these clues, the first of which are its rows.
-pub(crate) fn reading(width: u16, height: u16, clues: Vec<Clue>) -> Result<Puzzle, NoMemory>
+fn reading(width: u16, height: u16, clues: Vec<Clue>) -> Result<Puzzle, NoMemory>
     requires size { IsSize width height }
     requires count { length clues.items ≡ width + height }
     ensures { IfOk result (λ p. p ≡ reading width height clues.items) }

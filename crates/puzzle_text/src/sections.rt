@@ -4,12 +4,21 @@ ghost use Rattle.std.specs.Prelude.{◌≡◌, ◌==◌, ◌<◌, ◌^◌, not, 
 ghost use Rattle.std.specs.List.{list_all};
 ghost use Rattle.std.specs.Option.{option_map};
 ghost use Rattle.puzzle_text.specs.Lines.{is_blank_line, is_full};
-ghost use Rattle.puzzle_text.specs.Sections.{choice};
-ghost use Rattle.puzzle_text.specs.Shown.{shown_line};
+ghost use Rattle.puzzle_text.specs.Sections.{choice, front};
+ghost use Rattle.puzzle_text.specs.Shown.{shown_chosen, shown_line};
 
 use crate::lines::Line;
 use grid_core::NoMemory;
 use std::alloc::Global;
+
+/// The clue lines of a section.
+#[derive(Debug, Drop)]
+pub(crate) enum Chosen<'a, 'b> {
+    /// A part of the section.
+    Part(&'b [Line<'a>]),
+    /// Its lines that aren't blank.
+    Full(Vec<Line<'a>>),
+}
 
 /// How many lines aren't blank.
 fn full_count(section: &[Line<'_>]) -> usize
@@ -36,25 +45,36 @@ fn are_blank(lines: &[Line<'_>]) -> bool
     lines.iter().all(|line| line.text.is_empty())
 }
 
-/// This many lines of a section, to be read as clues: its lines that aren't blank, or else its first ones.
-pub(crate) fn choice<'a>(
-    alloc: Global,
-    count: usize,
-    section: &[Line<'a>],
-) -> Result<Option<Vec<Line<'a>>>, NoMemory>
-    ensures lines { IfOk result (λ found. option_map (λ chosen. map shown_line chosen.items) found ≡ choice count (map shown_line section.now)) }
-    ensures length { IfOk result (λ found. IfSome found (λ chosen. length chosen.items ≡ count)) }
+/// The first lines of a section, this many, if all after them are blank.
+fn front<'a, 'b>(count: usize, section: &'b [Line<'a>]) -> Option<&'b [Line<'a>]>
+    ensures { option_map (λ first. map shown_line first.now) result ≡ front count (map shown_line section.now) }
 {
-    if full_count(section) == count {
-        let full = full_lines(alloc, section)?;
-        return Ok(Some(full));
-    }
     if section.len() < count {
-        return Ok(None);
+        return None;
     }
     let (first, others) = section.split_at(count);
     if !are_blank(others) {
+        return None;
+    }
+    Some(first)
+}
+
+/// This many lines of a section, to be read as clues: its lines that aren't blank, or else its first ones. Its first ones are tried first, since
+/// they are the ones that aren't blank, if these are as many and the others are blank.
+pub(crate) fn choice<'a, 'b>(
+    alloc: Global,
+    count: usize,
+    section: &'b [Line<'a>],
+) -> Result<Option<Chosen<'a, 'b>>, NoMemory>
+    ensures lines { IfOk result (λ found. option_map shown_chosen found ≡ choice count (map shown_line section.now)) }
+    ensures length { IfOk result (λ found. IfSome found (λ chosen. length (shown_chosen chosen) ≡ count)) }
+{
+    if let Some(first) = front(count, section) {
+        return Ok(Some(Chosen::Part(first)));
+    }
+    if full_count(section) != count {
         return Ok(None);
     }
-    Ok(Some(Vec::from_slice(alloc, first)?))
+    let full = full_lines(alloc, section)?;
+    Ok(Some(Chosen::Full(full)))
 }

@@ -1,4 +1,4 @@
-use Rattle.std.proofs.Common.{◌≡◌, drop, vec_len}
+use Rattle.std.proofs.Common.{◌≡◌, drop, length, vec_capacity, vec_len}
 use Rattle.puzzle_text.specs.Answers.{each_some}
 use Rattle.puzzle_text.specs.Non.{cell_of}
 use Rattle.puzzle_text.proofs.EachLemmas.{some_with_front}
@@ -6,6 +6,7 @@ use Rattle.puzzle_text.proofs.goals.goal_cells.Given as goal
 
 abbrev pub invariant-loop-byte : goal.invariant-loop-byte
 invariant-loop-byte l = record {
-  length : vec_len l.cells ≡ l.byte-index;
+  count : vec_len l.cells ≡ l.byte-index;
+  room : vec_capacity l.cells ≡ length l.text;
   so_far : some_with_front l.cells.items (each_some cell_of (drop l.byte-index l.text)) ≡ each_some cell_of l.text;
 }

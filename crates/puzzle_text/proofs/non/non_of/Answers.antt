@@ -3,8 +3,8 @@ use Rattle.grid_core.specs.declared.limits.TheConstants.{LONGEST_SIDE}
 use Rattle.puzzle_text.specs.Answers.{Gives}
 use Rattle.puzzle_text.specs.Keywords.{is_keyword_line}
 use Rattle.puzzle_text.specs.Lines.{Line, HaveNoFeed}
-use Rattle.puzzle_text.specs.Non.{placed, puzzle_said}
-use Rattle.puzzle_text.specs.Shown.{shown_keyword, shown_line, shown_place}
+use Rattle.puzzle_text.specs.Non.{Sections, placed, puzzle_said, sections_of}
+use Rattle.puzzle_text.specs.Shown.{shown_keyword, shown_line}
 use Rattle.puzzle_text.proofs.FeedsLemmas.{clean_filter}
 use Rattle.puzzle_text.proofs.KeywordsLemmas.{said_of_kept}
 use Rattle.puzzle_text.proofs.non.non_of.Goals as goal
@@ -18,6 +18,5 @@ pub returns : goal.returns
 returns c =
     let lines = map shown_line c.args.lines.now in
     let kept = ap (map shown_keyword) c.deref.ensures.value ∙ c.in_ok-keyword_lines.ensures in
-    let places = ap (map shown_place) c.deref-2.ensures.value ∙ c.in_ok-places.ensures in
-    let said = ap (λ (all : List (List ℕ × Line)). puzzle_said LONGEST_SIDE all (map shown_keyword c.deref.result.now)) places ∙ ap (puzzle_said LONGEST_SIDE (placed lines)) kept ∙ said_of_kept LONGEST_SIDE (placed lines) lines in
+    let said = ap (λ (all : Sections). puzzle_said LONGEST_SIDE all (map shown_keyword c.deref.result.now)) c.in_ok-sections.ensures ∙ ap (puzzle_said LONGEST_SIDE (sections_of (placed lines))) kept ∙ said_of_kept LONGEST_SIDE (sections_of (placed lines)) lines in
     subst (λ answer. Gives (λ p. p) c.puzzle_said.result answer) said c.puzzle_said.ensures

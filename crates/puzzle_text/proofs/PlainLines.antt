@@ -1,0 +1,182 @@
+-- Lines of a collection that begin no entry, passed over many at a time.
+use Rattle.std.proofs.Common.{◌≡◌, ℕ, zero, suc, ◌-◌, ◌<◌, ◌≤◌, Bool, true, false, cond, not, eqb, List, [], ◌∷◌, ◌++◌, length, take, get_or, refl, sym, ap, ◌∙◌, append_assoc, arith}
+use Rattle.std.specs.List.{list_all, onto_first}
+use Rattle.std.proofs.lemmas.Bool.{and_parts, cond-false, ne_eqb}
+use Rattle.std.proofs.lemmas.List.{get_or-take, get_or_default, length-take-le}
+use Rattle.std.proofs.lemmas.List.Sums.{list_all-from_AllPass}
+use Rattle.puzzle_text.specs.Lines.{raw_lines, strip_last, without_ending}
+use Rattle.puzzle_text.specs.Collections.{Entry, FollowsPlain, body_of, ends_line, entries_of, is_marker, is_marker_text, name_of}
+
+-- there is no @ among these bytes
+abbrev pub HasNoAt : List ℕ → Type 0
+HasNoAt bytes = list_all (λ byte. not (eqb byte 64)) bytes ≡ true
+
+pub not_true : (b : Bool) → not b ≡ true → b ≡ false
+not_true true e = absurd cc
+not_true false e = refl
+
+is_other : (b : Bool) → (b ≡ true → ⊥) → not b ≡ true
+is_other true h = absurd (h refl)
+is_other false h = refl
+
+-- a place with no @ before it
+pub no_at_before : (bytes : List ℕ) (i : ℕ) → i ≤ length bytes → ((k : ℕ) → 0 ≤ k → k < i → eqb (get_or bytes k 0) 64 ≡ true → ⊥) → HasNoAt (take i bytes)
+no_at_before bytes i within none = list_all-from_AllPass _ (take i bytes) (λ k d lt.
+    let low : k < i = omega (arith, length-take-le i bytes) in
+    ap (λ (byte : ℕ). not (eqb byte 64)) (get_or_default (take i bytes) k d 0 lt ∙ get_or-take i bytes k 0 low)
+    ∙ is_other (eqb (get_or bytes k 0) 64) (none k (omega arith) low))
+
+-- ---- a line that begins with another byte than @
+
+take_first : (k : ℕ) (bytes : List ℕ) → eqb (get_or bytes 0 0) 64 ≡ false → eqb (get_or (take k bytes) 0 0) 64 ≡ false
+take_first zero bytes other = refl
+take_first (suc k) [] other = refl
+take_first (suc k) (byte ∷ bytes) other = other
+
+strip_first : (b : Bool) (k : ℕ) (bytes : List ℕ) → eqb (get_or bytes 0 0) 64 ≡ false → eqb (get_or (cond b (take k bytes) bytes) 0 0) 64 ≡ false
+strip_first true k bytes other = take_first k bytes other
+strip_first false k bytes other = other
+
+no_marker_text : (bytes : List ℕ) → eqb (get_or bytes 0 0) 64 ≡ false → is_marker_text bytes ≡ false
+no_marker_text [] other = refl
+no_marker_text (first ∷ []) other = other
+no_marker_text (first ∷ second ∷ others) other = rw other refl
+
+no_marker : (raw : List ℕ) → eqb (get_or raw 0 0) 64 ≡ false → is_marker raw ≡ false
+no_marker raw other =
+    let text = strip_last 10 raw in
+    let once : eqb (get_or text 0 0) 64 ≡ false = strip_first (eqb (get_or raw (length raw - 1) 0) 10) (length raw - 1) raw other in
+    no_marker_text (without_ending raw) (strip_first (eqb (get_or text (length text - 1) 0) 13) (length text - 1) text once)
+
+-- ---- where the first line begins no entry
+
+-- what goes into the body of lines the first of which begins no entry
+abbrev with_first : List (List ℕ) → List ℕ
+with_first [] = []
+with_first (raw ∷ raws) = raw ++ body_of raws
+
+-- the lines below the first
+abbrev below_first : List (List ℕ) → List (List ℕ)
+below_first [] = []
+below_first (raw ∷ raws) = raws
+
+-- the first of these lines begins no entry
+abbrev IsPlain : List (List ℕ) → Type 0
+IsPlain raws = (body_of raws ≡ with_first raws) × (entries_of raws ≡ entries_of (below_first raws))
+
+plain : (raw : List ℕ) (raws : List (List ℕ)) → eqb (get_or raw 0 0) 64 ≡ false → IsPlain (raw ∷ raws)
+plain raw raws other = (
+  cond-false (is_marker raw) [] (raw ++ body_of raws) (no_marker raw other),
+  cond-false (is_marker raw) (record { name = name_of raw; body = body_of raws } ∷ entries_of raws) (entries_of raws) (no_marker raw other),
+)
+
+plain_line : (feed : Bool) (byte : ℕ) (raws : List (List ℕ)) → eqb byte 64 ≡ false → IsPlain (cond feed ((byte ∷ []) ∷ raws) (onto_first byte raws))
+plain_line true byte raws other = plain (byte ∷ []) raws other
+plain_line false byte [] other = plain (byte ∷ []) [] other
+plain_line false byte (raw ∷ raws) other = plain (byte ∷ raw) raws other
+
+-- ---- from the start of a line, or from amid one that begins no entry
+
+abbrev body_in : Bool → List (List ℕ) → List ℕ
+body_in true raws = body_of raws
+body_in false raws = with_first raws
+
+abbrev entries_in : Bool → List (List ℕ) → List Entry
+entries_in true raws = entries_of raws
+entries_in false raws = entries_of (below_first raws)
+
+amid_body : (feed : Bool) (byte : ℕ) (raws : List (List ℕ)) → with_first (cond feed ((byte ∷ []) ∷ raws) (onto_first byte raws)) ≡ byte ∷ body_in feed raws
+amid_body true byte raws = refl
+amid_body false byte [] = refl
+amid_body false byte (raw ∷ raws) = refl
+
+amid_entries : (feed : Bool) (byte : ℕ) (raws : List (List ℕ)) → entries_of (below_first (cond feed ((byte ∷ []) ∷ raws) (onto_first byte raws))) ≡ entries_in feed raws
+amid_entries true byte raws = refl
+amid_entries false byte [] = refl
+amid_entries false byte (raw ∷ raws) = refl
+
+-- after a front without @, from where some lines are read
+abbrev GoesOn : Bool → Bool → List ℕ → List (List ℕ) → List (List ℕ) → Type 0
+GoesOn start later front raws others = (body_in start raws ≡ front ++ body_in later others) × (entries_in start raws ≡ entries_in later others)
+
+one_byte : (start : Bool) (byte : ℕ) (bytes : List ℕ) → eqb byte 64 ≡ false → GoesOn start (eqb byte 10) (byte ∷ []) (raw_lines (byte ∷ bytes)) (raw_lines bytes)
+one_byte false byte bytes other = (amid_body (eqb byte 10) byte (raw_lines bytes), amid_entries (eqb byte 10) byte (raw_lines bytes))
+one_byte true byte bytes other =
+    let first = plain_line (eqb byte 10) byte (raw_lines bytes) other in
+    (first.0 ∙ amid_body (eqb byte 10) byte (raw_lines bytes), first.1 ∙ amid_entries (eqb byte 10) byte (raw_lines bytes))
+
+-- whether a line begins after these bytes, if one begins before them or not
+abbrev starts_after : Bool → List ℕ → Bool
+starts_after start [] = start
+starts_after start (byte ∷ bytes) = starts_after (eqb byte 10) bytes
+
+over_front : (start : Bool) (front tail : List ℕ) → HasNoAt front → GoesOn start (starts_after start front) front (raw_lines (front ++ tail)) (raw_lines tail)
+over_front start [] tail h = (refl, refl)
+over_front start (byte ∷ front) tail h =
+    let parts = and_parts (not (eqb byte 64)) (list_all (λ b. not (eqb b 64)) front) h in
+    let one = one_byte start byte (front ++ tail) (not_true (eqb byte 64) parts.0) in
+    let others = over_front (eqb byte 10) front tail parts.1 in
+    (one.0 ∙ ap (λ (bytes : List ℕ). byte ∷ bytes) others.0, one.1 ∙ others.1)
+
+last_feed : (start : Bool) (byte : ℕ) (bytes : List ℕ) → starts_after start (byte ∷ bytes) ≡ eqb (get_or (byte ∷ bytes) (length bytes) 0) 10
+last_feed start byte [] = refl
+last_feed start byte (next ∷ bytes) = last_feed (eqb byte 10) next bytes
+
+starts_where : (front : List ℕ) → starts_after true front ≡ ends_line front
+starts_where [] = refl
+starts_where (byte ∷ bytes) =
+    let some : eqb (length (byte ∷ bytes)) 0 ≡ false = ne_eqb _ _ (λ e. omega arith) in
+    let last : length (byte ∷ bytes) - 1 ≡ length bytes = omega arith in
+    rw (some, last) (last_feed true byte bytes)
+
+-- ---- what follows
+
+body_none : (start : Bool) → body_in start [] ≡ []
+body_none true = refl
+body_none false = refl
+
+entries_none : (start : Bool) → entries_in start [] ≡ []
+entries_none true = refl
+entries_none false = refl
+
+-- nothing follows
+pub follows_none : (bytes front tail : List ℕ) → bytes ≡ front ++ tail → HasNoAt front → length tail ≡ 0 → FollowsPlain bytes tail
+follows_none bytes front (byte ∷ tail) whole h none = absurd (omega arith)
+follows_none bytes front [] whole h none =
+    let over = over_front true front [] h in
+    let start = starts_after true front in
+    let body : body_of (raw_lines (front ++ [])) ≡ front ++ [] = over.0 ∙ ap (λ (more : List ℕ). front ++ more) (body_none start) in
+    (front, whole, sym (ap (λ all. body_of (raw_lines all)) whole ∙ body), sym (ap (λ all. entries_of (raw_lines all)) whole ∙ over.1 ∙ entries_none start))
+
+-- a line follows
+pub follows_line : (bytes front tail : List ℕ) → bytes ≡ front ++ tail → HasNoAt front → ends_line front ≡ true → FollowsPlain bytes tail
+follows_line bytes front tail whole h ends =
+    let over = over_front true front tail h in
+    let start : starts_after true front ≡ true = starts_where front ∙ ends in
+    let body : body_of (raw_lines (front ++ tail)) ≡ front ++ body_of (raw_lines tail) = over.0 ∙ ap (λ b. front ++ body_in b (raw_lines tail)) start in
+    let entries : entries_of (raw_lines (front ++ tail)) ≡ entries_of (raw_lines tail) = over.1 ∙ ap (λ b. entries_in b (raw_lines tail)) start in
+    (front, whole, sym (ap (λ all. body_of (raw_lines all)) whole ∙ body), sym (ap (λ all. entries_of (raw_lines all)) whole ∙ entries))
+
+-- the end of a line follows, and then others
+pub follows_amid : (bytes front tail raw after : List ℕ) → bytes ≡ front ++ tail → HasNoAt front → ends_line front ≡ false → tail ≡ raw ++ after → raw_lines tail ≡ raw ∷ raw_lines after → FollowsPlain bytes after
+follows_amid bytes front tail raw after whole h ends parts first =
+    let over = over_front true front tail h in
+    let amid : starts_after true front ≡ false = starts_where front ∙ ends in
+    let body : body_of (raw_lines (front ++ tail)) ≡ front ++ (raw ++ body_of (raw_lines after)) =
+    over.0 ∙ ap (λ b. front ++ body_in b (raw_lines tail)) amid ∙ ap (λ raws. front ++ with_first raws) first in
+    let entries : entries_of (raw_lines (front ++ tail)) ≡ entries_of (raw_lines after) =
+    over.1 ∙ ap (λ b. entries_in b (raw_lines tail)) amid ∙ ap (λ raws. entries_of (below_first raws)) first in (
+      front ++ raw,
+      whole ∙ ap (λ (r : List ℕ). front ++ r) parts ∙ sym (append_assoc front raw after),
+      append_assoc front raw (body_of (raw_lines after)) ∙ sym (ap (λ all. body_of (raw_lines all)) whole ∙ body),
+      sym (ap (λ all. entries_of (raw_lines all)) whole ∙ entries),
+    )
+
+-- one after the other
+pub follow_on : (bytes rest next : List ℕ) → FollowsPlain bytes rest → FollowsPlain rest next → FollowsPlain bytes next
+follow_on bytes rest next one other = (
+  one.0 ++ other.0,
+  one.1 ∙ ap (λ (r : List ℕ). one.0 ++ r) other.1 ∙ sym (append_assoc one.0 other.0 next),
+  append_assoc one.0 other.0 (body_of (raw_lines next)) ∙ ap (λ (r : List ℕ). one.0 ++ r) other.2 ∙ one.2,
+  other.3 ∙ one.3,
+)

@@ -1,0 +1,15 @@
+use Rattle.std.proofs.Common.{◌≡◌, ◌<◌, false, get_or, length}
+use Rattle.grid_core.specs.declared.limits.TheConstants.{LONGEST_SIDE}
+use Rattle.puzzle_text.specs.Numbers.{is_separator, pieces}
+use Rattle.puzzle_text.specs.ClueLines.{numbers_within}
+use Rattle.puzzle_text.proofs.EachLemmas.{some_with_front}
+use Rattle.puzzle_text.proofs.clue_lines.read_numbers.Given as goal
+
+abbrev pub invariant-pieces : goal.invariant-pieces
+invariant-pieces l = record {
+  so_far : some_with_front l.numbers.items (numbers_within LONGEST_SIDE (pieces l.rest)) ≡ numbers_within LONGEST_SIDE (pieces l.text);
+  first : 0 < length l.rest → is_separator (get_or l.rest 0 0) ≡ false;
+}
+
+abbrev pub decreases-pieces : goal.decreases-pieces
+decreases-pieces l = length l.rest

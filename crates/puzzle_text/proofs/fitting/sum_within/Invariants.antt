@@ -1,0 +1,11 @@
+use Rattle.std.proofs.Common.{◌≡◌, ◌*◌, ◌≤◌, take, true}
+use Rattle.std.specs.List.{list_all}
+use Rattle.puzzle_text.specs.Readings.{fits, sum_all}
+use Rattle.puzzle_text.proofs.fitting.sum_within.Given as goal
+
+abbrev pub invariant-loop-clue : goal.invariant-loop-clue
+invariant-loop-clue l = record {
+  fit : list_all (fits l.len) (take l.clue-index l.clues) ≡ true;
+  so_far : l.sum ≡ sum_all (take l.clue-index l.clues);
+  within : l.sum ≤ l.clue-index * 32768;
+}

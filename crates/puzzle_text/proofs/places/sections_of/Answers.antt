@@ -1,0 +1,38 @@
+use Rattle.std.proofs.Common.{◌+◌, [], drop, ap, arith, map, refl, subst, sym, ◌∙◌}
+use Rattle.std.specs.Str.{str_to_ascii_lowercase}
+use Rattle.puzzle_text.specs.Non.{Sections, placed, sections_of}
+use Rattle.puzzle_text.specs.Places.{IsUnder}
+use Rattle.puzzle_text.specs.Shown.{shown_line, shown_sections}
+use Rattle.puzzle_text.proofs.SectionsWalk.{below, join, next_comment, next_content, next_keyword, nothing_above}
+use Rattle.puzzle_text.proofs.places.sections_of.Goals as goal
+use Rattle.puzzle_text.proofs.places.sections_of.Goals.{then-not-is_empty, else-not-is_empty+then-not-is_hash+in_ok-put, else-not-is_empty+else-not-is_hash}
+
+pub loop-line-init : goal.loop-line-init
+loop-line-init c = ([], (refl, refl), nothing_above _ _ (map shown_line c.args.lines.now) (ap (map shown_line) c.in_ok-with_capacity.ensures.items) (ap (map shown_line) c.in_ok-with_capacity-2.ensures.items))
+
+pub loop-line-preserved : goal.loop-line-preserved
+loop-line-preserved c =
+    let lines = c.args.lines.now in
+    let i = c.loop-line.line-index in
+    let word = c.loop-line.invariant.0 in
+    let own = c.keyword-word.result.now in
+    let above = shown_sections c.loop-line.sections in
+    let whole = sections_of (placed (map shown_line lines)) in
+    elim c.if-not-is_empty.branch [
+      | then-not-is_empty w ↦ (
+        str_to_ascii_lowercase own,
+        subst (IsUnder (str_to_ascii_lowercase own)) (sym w.place-is) w.opened_by-place.ensures,
+        rw w.sections-is (next_keyword lines i _ word own above whole c.loop-line-test.true c.loop-line.invariant.2 c.keyword-word.ensures (sym c.is_empty.ensures ∙ w.if-not-is_empty.true)),
+      )
+      | else-not-is_empty+then-not-is_hash+in_ok-put w ↦ (
+        word,
+        subst (IsUnder word) (sym w.place-is) c.loop-line.invariant.1,
+        ap (λ (sections : Sections). join sections (below word (map shown_line (drop (i + 1) lines)))) (ap shown_sections w.sections-is ∙ w.in_ok-put.ensures)
+            ∙ next_content lines i _ word own above whole c.loop-line-test.true c.loop-line.invariant.2 c.keyword-word.ensures c.loop-line.place c.loop-line.invariant.1 (sym c.is_empty.ensures ∙ w.if-not-is_empty.false) (sym w.is_hash.ensures ∙ w.if-not-is_hash.true),
+      )
+      | else-not-is_empty+else-not-is_hash w ↦ (
+        word,
+        subst (IsUnder word) (sym w.place-is) c.loop-line.invariant.1,
+        rw w.sections-is (next_comment lines i _ word own above whole c.loop-line-test.true c.loop-line.invariant.2 c.keyword-word.ensures (sym c.is_empty.ensures ∙ w.if-not-is_empty.false) (sym w.is_hash.ensures ∙ w.if-not-is_hash.false)),
+      )
+    ]

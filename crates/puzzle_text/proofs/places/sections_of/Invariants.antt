@@ -1,0 +1,10 @@
+use Rattle.std.proofs.Common.{◌≡◌, ℕ, List, drop, map}
+use Rattle.puzzle_text.specs.Non.{placed, sections_of}
+use Rattle.puzzle_text.specs.Places.{IsUnder}
+use Rattle.puzzle_text.specs.Shown.{shown_line, shown_sections}
+use Rattle.puzzle_text.proofs.SectionsWalk.{below, join}
+use Rattle.puzzle_text.proofs.places.sections_of.Given as goal
+
+-- the sections so far and what is still to come below the last keyword, of which the code keeps which section it opens
+abbrev pub invariant-loop-line : goal.invariant-loop-line
+invariant-loop-line l = (word : List ℕ) × IsUnder word l.place × (join (shown_sections l.sections) (below word (map shown_line (drop l.line-index l.lines))) ≡ sections_of (placed (map shown_line l.lines)))
