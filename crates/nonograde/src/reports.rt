@@ -4,18 +4,16 @@ ghost use Rattle.std.specs.Prelude.{◌≡◌, ◌≤◌, ◌<◌, ◌↔◌, �
 ghost use Rattle.std.specs.List.{list_all};
 ghost use Rattle.grid_core.specs.Cells.{is_known};
 ghost use Rattle.puzzle_text.specs.Formats.{is_known as is_known_format};
-ghost use Rattle.survey_core.specs.Entries.{found_of};
-ghost use Rattle.survey_core.specs.Survey.{reported};
 ghost use Rattle.nonograde.specs.Reports.{GivesText, closed_word, grid_report, lines_text, outcome_report, said, solve_text, text_or_fault};
 
 use grid_core::{Grid, NoMemory, Puzzle};
-use lane_core::{Answer, Job, MOST_GUESSES, grade};
+use lane_core::{Job, MOST_GUESSES, grade};
 use puzzle_text::{
     Entry, EntryFault, LONGEST_PUZZLE, TextFault, push_bytes, push_number, read_entry,
 };
 use solve_core::Solver;
 use std::alloc::Global;
-use survey_core::{Outcome, print_entry, push_grid};
+use survey_core::{print_graded, push_grid};
 
 /// Whether each cell of a grid is known.
 fn is_full(grid: &Grid) -> bool
@@ -97,28 +95,13 @@ pub fn lines_report(alloc: Global, name: &[u8], body: &[u8]) -> Result<Vec<u8>, 
     }
 }
 
-/// The answer to a puzzle, if there was memory for grading it.
-fn answer_to(alloc: Global, puzzle: Puzzle, guesses: u32) -> Result<Answer, NoMemory>
-    requires { guesses ≤ MOST_GUESSES }
-    ensures { IfOk result (λ answer. found_of answer.puzzle answer.outcome ≡ reported guesses (Ok puzzle)) }
-{
-    let answer = grade(alloc, Job::new(1, puzzle, guesses));
-    match answer.outcome() {
-        Ok(_) => Ok(answer),
-        Err(refused) => Err(refused),
-    }
-}
-
 /// What is printed of a graded puzzle and its solutions.
 fn solve_text(alloc: Global, name: &[u8], puzzle: Puzzle, guesses: u32) -> Result<Vec<u8>, NoMemory>
     requires { guesses ≤ MOST_GUESSES }
     ensures { IfOk result (λ text. text.items ≡ solve_text name.now guesses puzzle) }
 {
-    let outcome = Outcome {
-        name: Vec::from_slice(alloc, name)?,
-        result: Ok(answer_to(alloc, puzzle, guesses)?),
-    };
-    print_entry(alloc, 1, &outcome, true)
+    let answer = grade(alloc, Job::new(1, puzzle, guesses));
+    print_graded(alloc, 1, name, &answer, true)
 }
 
 /// The line of a puzzle's text in a survey, numbered 1, and its solutions, each followed by an empty line. At most 1,000,000 guesses. Else the text's fault, or

@@ -1,8 +1,8 @@
 pub mod Front
 pub mod NumberedLemmas
 pub mod PrintedLemmas
+pub mod TotalsLemmas
 pub mod GoalLemmas
-pub mod Graded
 pub mod ReadingLemmas
 pub mod SurveyLemmas
 pub mod JobsLemmas

@@ -1,5 +1,5 @@
 -- Entries that are read, and the answers beside them.
-use Rattle.std.proofs.Common.{◌≡◌, false, true, ℕ, ◌+◌, ◌<◌, List, [], ◌∷◌, ◌++◌, length, map, take, drop, get_or, Option, None, Result, Ok, Err, IsOk, sym, ap, subst, ◌∙◌, add-one, arith}
+use Rattle.std.proofs.Common.{◌≡◌, false, true, ℕ, ◌+◌, ◌-◌, ◌<◌, ◌≤◌, List, [], ◌∷◌, ◌++◌, length, map, take, drop, get_or, Option, None, Some, Result, Ok, Err, IsOk, sym, ap, subst, ◌∙◌, add-one, arith}
 use Rattle.std.proofs.Math.Seq.{drop-cons}
 use Rattle.std.proofs.lemmas.List.{get_or-map, length-map, map-append, map_more}
 use Rattle.grid_core.specs.Nonogram.{Nonogram}
@@ -14,12 +14,12 @@ use Rattle.lane_core.specs.Answers.{AreAnswersTo}
 use Rattle.lane_core.specs.Outcome.{IsOutcome}
 use Rattle.lane_core.specs.declared.answers.Answer.{Answer}
 use Rattle.lane_core.specs.declared.jobs.Job.{Job}
-use Rattle.survey_core.proofs.Graded.{AreGraded}
+use Rattle.survey_core.proofs.Front.{rest_of}
 use Rattle.survey_core.proofs.NumberedLemmas.{made-more}
-use Rattle.survey_core.specs.Entries.{GradedEntry, found_of, shown_outcome, shown_result}
+use Rattle.survey_core.specs.Entries.{GradedEntry, found_of}
+use Rattle.survey_core.specs.Graded.{AreGraded}
 use Rattle.survey_core.specs.Readings.{NumberedPuzzle, TakesAnswer, fault_of, job_of, jobs_from, jobs_of, reading, readings, shown_job}
 use Rattle.survey_core.specs.Survey.{graded, reported}
-use Rattle.survey_core.specs.declared.outcomes.Outcome.{Outcome}
 
 -- the jobs of one more entry
 pub jobs_of-more : (guesses : ℕ) (entries : List Entry) (i : ℕ) (d : Entry) → i < length entries
@@ -57,26 +57,37 @@ has_answer guesses (Err fault) others answers graded e = cc
 has_answer guesses (Ok p) others [] graded e = absurd graded
 has_answer guesses (Ok p) others (answer ∷ answers) graded e = omega arith
 
-found_is : (guesses : ℕ) (p q : Nonogram) (outcome : Result Findings NoMemory) → q ≡ p → IsOutcome p guesses outcome → IsOk outcome
+-- what an answer found is the report on the puzzle, where it is one
+pub found_is : (guesses : ℕ) (p q : Nonogram) (outcome : Result Findings NoMemory) → q ≡ p → IsOutcome p guesses outcome → IsOk outcome
     → found_of q outcome ≡ Ok (p, report_of first_unknown p guesses)
 found_is guesses p q (Err refused) e is_outcome ok = let bad : false ≡ true = ok in cc
 found_is guesses p q (Ok findings) e is_outcome ok =
     ap (λ (r : Nonogram). found_of r (Ok findings)) e ∙ ap (λ (found : Findings). found_of p (Ok found)) is_outcome
 
--- the outcome of the first entry is its report or its fault, and the answers that are left are those to the other entries
-pub takes_next : (guesses : ℕ) (read : Result Nonogram EntryFault) (others : List (Result Nonogram EntryFault)) (old new : List Answer) (result : Result Answer EntryFault)
-    → AreGraded guesses (read ∷ others) old → TakesAnswer (fault_of read) old new result → (shown_result result ≡ reported guesses read) × AreGraded guesses others new
-takes_next guesses (Err fault) others old new result graded taken = (ap shown_result taken.0, subst (AreGraded guesses others) (sym taken.1) graded)
+-- the first of the answers is taken
+pub taken_first : (fault : Option EntryFault) (answers : List Answer) (answer : Answer) (result : Result (Nonogram × Findings) EntryFault) → fault ≡ None
+    → 1 ≤ length answers → answer ≡ get_or answers 0 answer → result ≡ found_of answer.puzzle answer.outcome → IsOk answer.outcome
+    → TakesAnswer fault answers (take (length answers - 1) (drop 1 answers)) result
+taken_first (Some fault) answers answer result none some at found ok = cc
+taken_first None [] answer result none some at found ok = absurd (omega arith)
+taken_first None (first ∷ answers) answer result none some at found ok =
+    (answer, (ap (λ (x : Answer). x ∷ answers) (sym at) ∙ ap (λ (left : List Answer). answer ∷ left) (sym (rest_of (first ∷ answers) 1)), found, ok))
+
+-- what is listed of the first entry is its report or its fault, and the answers that are left are those to the other entries
+pub takes_next : (guesses : ℕ) (read : Result Nonogram EntryFault) (others : List (Result Nonogram EntryFault)) (old new : List Answer)
+    (result : Result (Nonogram × Findings) EntryFault) → AreGraded guesses (read ∷ others) old → TakesAnswer (fault_of read) old new result
+    → (result ≡ reported guesses read) × AreGraded guesses others new
+takes_next guesses (Err fault) others old new result graded taken = (taken.0, subst (AreGraded guesses others) (sym taken.1) graded)
 takes_next guesses (Ok p) others old new result graded taken =
     let both = subst (AreGraded guesses (Ok p ∷ others)) taken.1.0 graded in
-    (ap shown_result taken.1.1 ∙ found_is guesses p taken.0.puzzle taken.0.outcome both.0 both.1 taken.1.2, both.2)
+    (taken.1.1 ∙ found_is guesses p taken.0.puzzle taken.0.outcome both.0 both.1 taken.1.2, both.2)
 
 -- the fault of the entry at a place
-pub fault_at : (faults : List (Option EntryFault)) (entries : List Entry) (i : ℕ) (fault : Option EntryFault) (d : Entry) → faults ≡ map fault_of (readings entries)
-    → fault ≡ get_or faults i fault → i < length entries → fault ≡ fault_of (reading (get_or entries i d))
-fault_at faults entries i fault d e at h =
+pub fault_at : (faults : List (Option EntryFault)) (entries : List Entry) (i : ℕ) (d : Entry) → faults ≡ map fault_of (readings entries) → i < length entries
+    → get_or faults i None ≡ fault_of (reading (get_or entries i d))
+fault_at faults entries i d e h =
     let long : i < length (readings entries) = rw length-map h in
-    at ∙ ap (λ (all : List (Option EntryFault)). get_or all i fault) e ∙ get_or-map fault_of (readings entries) i (reading d) fault long
+    ap (λ (all : List (Option EntryFault)). get_or all i None) e ∙ get_or-map fault_of (readings entries) i (reading d) None long
     ∙ ap fault_of (get_or-map reading entries i d (reading d) h)
 
 -- what stands for an entry past the end
@@ -94,17 +105,14 @@ pub faults-more : (entries : List Entry) (i : ℕ) (d : Entry) → i < length en
     → map fault_of (readings (take (i + 1) entries)) ≡ map fault_of (readings (take i entries)) ++ fault_of (reading (get_or entries i d)) ∷ []
 faults-more entries i d h = mapped-more fault_of reading entries i d h
 
--- the outcomes of one more entry
-pub outcomes-more : (guesses : ℕ) (entries : List Entry) (i : ℕ) (d : Entry) (old new : List Outcome) (outcome : Outcome) → i < length entries
-    → map shown_outcome old ≡ map (graded guesses) (map shown_entry (take i entries)) → new ≡ old ++ outcome ∷ [] → outcome.name.items ≡ (get_or entries i d).name.now
-    → shown_result outcome.result ≡ reported guesses (reading (get_or entries i d))
-    → map shown_outcome new ≡ map (graded guesses) (map shown_entry (take (i + 1) entries))
-outcomes-more guesses entries i d old new outcome h so_far more name result =
+-- the graded entries with one more
+pub graded-more : (guesses : ℕ) (entries : List Entry) (i : ℕ) (d : Entry) (listed : GradedEntry) → i < length entries
+    → listed.name ≡ (get_or entries i d).name.now → listed.result ≡ reported guesses (reading (get_or entries i d))
+    → map (graded guesses) (map shown_entry (take (i + 1) entries)) ≡ map (graded guesses) (map shown_entry (take i entries)) ++ listed ∷ []
+graded-more guesses entries i d listed h name result =
     let entry = get_or entries i d in
-    let same : shown_outcome outcome ≡ graded guesses (shown_entry entry) =
-    ap (λ (name' : List ℕ). record { name = name'; result = shown_result outcome.result }) name
+    let same : listed ≡ graded guesses (shown_entry entry) =
+    ap (λ (name' : List ℕ). record { name = name'; result = listed.result }) name
     ∙ ap (λ (result' : Result (Nonogram × Findings) EntryFault). record { name = entry.name.now; result = result' }) result in
-    ap (map shown_outcome) more ∙ map-append shown_outcome old (outcome ∷ [])
-    ∙ ap (λ (front : List GradedEntry). front ++ shown_outcome outcome ∷ []) so_far
-    ∙ ap (λ (last : GradedEntry). map (graded guesses) (map shown_entry (take i entries)) ++ last ∷ []) same
-    ∙ sym (mapped-more (graded guesses) shown_entry entries i d h)
+    mapped-more (graded guesses) shown_entry entries i d h
+    ∙ ap (λ (last : GradedEntry). map (graded guesses) (map shown_entry (take i entries)) ++ last ∷ []) (sym same)

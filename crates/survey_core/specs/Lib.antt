@@ -7,6 +7,8 @@ pub mod Entries
 pub mod Totals
 pub mod Tallies
 pub mod Survey
+pub mod SurveyTexts
 pub mod Readings
+pub mod Graded
 pub mod Reading
 pub mod Leaving

@@ -9,6 +9,8 @@ use Rattle.puzzle_text.specs.declared.collections.Entry.{Entry}
 use Rattle.puzzle_text.specs.declared.faults.EntryFault.{EntryFault}
 use Rattle.lane_core.specs.declared.answers.Answer.{Answer}
 use Rattle.lane_core.specs.declared.jobs.Job.{Job}
+use Rattle.solve_core.specs.declared.findings.Findings.{Findings}
+use Rattle.survey_core.specs.Entries.{found_of}
 
 -- what an entry says
 abbrev pub reading : Entry → Result Nonogram EntryFault
@@ -46,7 +48,7 @@ jobs_from guesses first readings = flat_map (λ numbered. job_of guesses numbere
 abbrev pub jobs_of : ℕ → List (Result Nonogram EntryFault) → List NumberedPuzzle
 jobs_of guesses readings = jobs_from guesses 1 readings
 
--- the fault, or else the first of the answers, which has a report
-abbrev pub TakesAnswer : Option EntryFault → List Answer → List Answer → Result Answer EntryFault → Type 0
+-- the fault, or else what the first of the answers found, which is a report
+abbrev pub TakesAnswer : Option EntryFault → List Answer → List Answer → Result (Nonogram × Findings) EntryFault → Type 0
 TakesAnswer (Some fault) old new result = (result ≡ Err fault) × (new ≡ old)
-TakesAnswer None old new result = (answer : Answer) × ((old ≡ answer ∷ new) × (result ≡ Ok answer) × IsOk answer.outcome)
+TakesAnswer None old new result = (answer : Answer) × ((old ≡ answer ∷ new) × (result ≡ found_of answer.puzzle answer.outcome) × IsOk answer.outcome)

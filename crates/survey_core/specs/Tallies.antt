@@ -1,5 +1,5 @@
 -- Counts of entries, kept while these are gone through.
-use Rattle.std.specs.Prelude.{◌≡◌, ℕ, ◌+◌, ◌^◌, ◌<◌, Bool, true, false, List, ◌++◌, count_by, codes}
+use Rattle.std.specs.Prelude.{◌≡◌, ℕ, ◌+◌, ◌^◌, ◌<◌, Bool, true, false, List, ◌++◌, length, count_by, codes, decimal}
 use Rattle.survey_core.specs.Entries.{GradedEntry}
 use Rattle.survey_core.specs.Totals.{count_text, has_grade, has_status}
 use Rattle.survey_core.specs.declared.totals.Totals.{Totals}
@@ -9,8 +9,9 @@ abbrev pub one_more_where : Bool → ℕ → ℕ
 one_more_where true count = count + 1
 one_more_where false count = count
 
--- each total can grow
+-- each total can grow, and the next entry has a number
 pub record HasRoom (totals : Totals) : Type 0 where
+  pub all : totals.entries < 2 ^ 31
   pub refused : totals.refused < 2 ^ 63
   pub none : totals.verdicts.none < 2 ^ 63
   pub one : totals.verdicts.one < 2 ^ 63
@@ -22,6 +23,7 @@ pub record HasRoom (totals : Totals) : Type 0 where
 
 -- each total is the number of entries that are counted under its word
 pub record IsTotals (totals : Totals) (entries : List GradedEntry) : Type 0 where
+  pub all : totals.entries ≡ length entries
   pub refused : totals.refused ≡ count_by (has_status (codes "refused")) entries
   pub none : totals.verdicts.none ≡ count_by (has_status (codes "none")) entries
   pub one : totals.verdicts.one ≡ count_by (has_status (codes "one")) entries
@@ -41,3 +43,7 @@ statuses_text totals =
 abbrev pub grades_text : Totals → List ℕ
 grades_text totals =
     count_text (codes "line") totals.grades.by_lines ++ count_text (codes "trials") totals.grades.by_trials ++ count_text (codes "search") totals.grades.by_search
+
+-- how many entries there are, how many are refused, and how many have each verdict and each grade
+abbrev pub totals_text : Totals → List ℕ
+totals_text totals = codes "entries " ++ decimal totals.entries ++ statuses_text totals ++ grades_text totals ++ codes "\n"

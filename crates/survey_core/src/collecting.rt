@@ -6,7 +6,7 @@ ghost use Rattle.lane_core.specs.Answers.{AreAnswersTo};
 ghost use Rattle.survey_core.specs.Collected.{waiting_jobs, dealt_jobs, complete_jobs, EachAnswered};
 
 use crate::bells::{answers_before_ringing, worker_bells};
-use crate::job_order::{deal_out, gather};
+use crate::job_order::{deal_out, gather, room_for_answers};
 use crate::lanes::{CompleteLane, OpenLane, RunningLane};
 use crate::lists::Lists;
 use crate::settings::{LARGEST_RING, MOST_LANES};
@@ -15,7 +15,7 @@ use crate::workers::NoThread;
 use grid_core::NoMemory;
 use lane_core::{Answer, Gate, Job};
 use puzzle_text::MOST_ENTRIES;
-use std::alloc::{AllocError, AllocFailed, Global};
+use std::alloc::Global;
 use std::collections::VecDeque;
 use std::snapshot::Snapshot;
 use std::sync::Wait;
@@ -39,18 +39,6 @@ pub enum CollectFault {
 
 impl From<NoMemory> for CollectFault {
     fn from(_refused: NoMemory) -> CollectFault {
-        CollectFault::NoMemory
-    }
-}
-
-impl From<AllocError> for CollectFault {
-    fn from(_refused: AllocError) -> CollectFault {
-        CollectFault::NoMemory
-    }
-}
-
-impl<T: Drop> From<AllocFailed<T>> for CollectFault {
-    fn from(_refused: AllocFailed<T>) -> CollectFault {
         CollectFault::NoMemory
     }
 }
@@ -107,7 +95,7 @@ fn collect_some<R: Threads + Wait + Sync, G: Gate + Sync>(
     let alloc = shared.alloc;
     let all = Snapshot::of(&jobs);
     let count = jobs.len();
-    let gathered = Vec::with_capacity(alloc, count)?;
+    let gathered = room_for_answers(alloc, count)?;
     let bells = worker_bells(alloc, lanes)?;
     let lists = Lists::new(alloc, deal_out(alloc, jobs, lanes)?, &bells, ring)?;
     let queues = thread::scope(

@@ -1,15 +1,17 @@
 //! The text of an entry.
 
-ghost use Rattle.std.specs.Prelude.{◌≡◌, ◌++◌, IfOk, OnOk, codes, Ok, Err};
+ghost use Rattle.std.specs.Prelude.{◌≡◌, ◌++◌, IfOk, IsOk, OnOk, codes, Ok, Err};
 ghost use Rattle.std.specs.List.{flat_map};
 ghost use Rattle.puzzle_text.specs.Words.{word_of};
-ghost use Rattle.survey_core.specs.Entries.{counts_text, entry_line, entry_text, grade_word, result_text, shown_outcome, solution_text, solutions_of, solutions_text, verdict_text, verdict_word};
+ghost use Rattle.survey_core.specs.Entries.{counts_text, entry_line, entry_text, found_of, grade_word, result_text, shown_listed, shown_outcome, solution_text, solutions_of, solutions_text, verdict_text, verdict_word};
 ghost use Rattle.survey_core.specs.Goals.{goal_text, goal_word};
 
 use crate::Outcome;
+use crate::listed::ListedEntry;
 use crate::names::push_name;
 use crate::pictures::push_grid;
 use grid_core::{GoalWord, Grid, NoMemory, Puzzle};
+use lane_core::Answer;
 use puzzle_text::{EntryFault, push_bytes, push_number};
 use solve_core::{Findings, Grade, Verdict};
 use std::alloc::Global;
@@ -99,24 +101,24 @@ fn push_refusal(text: &mut Vec<u8>, fault: EntryFault) -> Result<(), NoMemory>
 }
 
 /// Adds what was found, or why the entry is refused.
-fn push_result(text: &mut Vec<u8>, outcome: &Outcome) -> Result<(), NoMemory>
-    ensures { OnOk result (text.new.items ≡ text.old.items ++ result_text (shown_outcome outcome.now).result) }
+fn push_result(text: &mut Vec<u8>, entry: &ListedEntry<'_>) -> Result<(), NoMemory>
+    ensures { OnOk result (text.new.items ≡ text.old.items ++ result_text (shown_listed entry.now).result) }
 {
-    match outcome.found() {
-        Ok((puzzle, findings)) => push_found(text, puzzle, findings),
-        Err(fault) => push_refusal(text, fault),
+    match &entry.result {
+        Ok(found) => push_found(text, found.puzzle, found.findings),
+        Err(fault) => push_refusal(text, *fault),
     }
 }
 
 /// Adds the line of an entry.
-fn push_line(text: &mut Vec<u8>, number: u32, outcome: &Outcome) -> Result<(), NoMemory>
-    ensures { OnOk result (text.new.items ≡ text.old.items ++ entry_line number (shown_outcome outcome.now)) }
+fn push_line(text: &mut Vec<u8>, number: u32, entry: &ListedEntry<'_>) -> Result<(), NoMemory>
+    ensures { OnOk result (text.new.items ≡ text.old.items ++ entry_line number (shown_listed entry.now)) }
 {
     push_number(text, u64::from(number))?;
     push_bytes(text, b" ")?;
-    push_result(text, outcome)?;
+    push_result(text, entry)?;
     push_bytes(text, b" ")?;
-    push_name(text, &outcome.name)?;
+    push_name(text, entry.name)?;
     push_bytes(text, b"\n")
 }
 
@@ -145,11 +147,11 @@ fn push_solutions(text: &mut Vec<u8>, verdict: &Verdict) -> Result<(), NoMemory>
 }
 
 /// Adds the solutions of an entry, none where it is refused.
-fn push_shown(text: &mut Vec<u8>, outcome: &Outcome) -> Result<(), NoMemory>
-    ensures { OnOk result (text.new.items ≡ text.old.items ++ solutions_text (shown_outcome outcome.now).result) }
+fn push_shown(text: &mut Vec<u8>, entry: &ListedEntry<'_>) -> Result<(), NoMemory>
+    ensures { OnOk result (text.new.items ≡ text.old.items ++ solutions_text (shown_listed entry.now).result) }
 {
-    match outcome.found() {
-        Ok((_, findings)) => push_solutions(text, &findings.verdict),
+    match &entry.result {
+        Ok(found) => push_solutions(text, &found.findings.verdict),
         Err(_) => Ok(()),
     }
 }
@@ -158,14 +160,14 @@ fn push_shown(text: &mut Vec<u8>, outcome: &Outcome) -> Result<(), NoMemory>
 pub(crate) fn push_entry(
     text: &mut Vec<u8>,
     number: u32,
-    outcome: &Outcome,
+    entry: &ListedEntry<'_>,
     show: bool,
 ) -> Result<(), NoMemory>
-    ensures { OnOk result (text.new.items ≡ text.old.items ++ entry_text show number (shown_outcome outcome.now)) }
+    ensures { OnOk result (text.new.items ≡ text.old.items ++ entry_text show number (shown_listed entry.now)) }
 {
-    push_line(text, number, outcome)?;
+    push_line(text, number, entry)?;
     if show {
-        push_shown(text, outcome)?;
+        push_shown(text, entry)?;
     }
     Ok(())
 }
@@ -181,6 +183,23 @@ pub fn print_entry(
     ensures { IfOk result (λ text. text.items ≡ entry_text show number (shown_outcome outcome.now)) }
 {
     let mut text = Vec::new(alloc);
-    push_entry(&mut text, number, outcome, show)?;
+    push_entry(&mut text, number, &outcome.listed(), show)?;
+    Ok(text)
+}
+
+/// The same of an entry whose puzzle was graded. `NoMemory` also where the answer says so.
+pub fn print_graded(
+    alloc: Global,
+    number: u32,
+    name: &[u8],
+    answer: &Answer,
+    show: bool,
+) -> Result<Vec<u8>, NoMemory>
+    ensures text { IfOk result (λ text. text.items ≡ entry_text show number (record { name = name.now; result = found_of answer.now.puzzle answer.now.outcome })) }
+    ensures report { OnOk result (IsOk answer.now.outcome) }
+{
+    let entry = ListedEntry::graded(name, answer)?;
+    let mut text = Vec::new(alloc);
+    push_entry(&mut text, number, &entry, show)?;
     Ok(text)
 }

@@ -1,86 +1,79 @@
-//! Grading entries: reading them, collecting the answers to their puzzles, and putting these beside the entries.
+//! Grading entries: reading them, collecting the answers to their puzzles, and printing these beside the entries.
 
 ghost use Rattle.std.specs.Prelude.{◌≡◌, ◌≤◌, ◌<◌, None, length, map, IfOk};
 ghost use Rattle.puzzle_text.specs.Shown.{shown_entry};
-ghost use Rattle.survey_core.specs.Entries.{shown_outcome};
-ghost use Rattle.survey_core.specs.Readings.{TakesAnswer};
-ghost use Rattle.survey_core.specs.Survey.{graded};
+ghost use Rattle.survey_core.specs.Entries.{shown_listed};
+ghost use Rattle.survey_core.specs.Graded.{AreGraded};
+ghost use Rattle.survey_core.specs.Readings.{TakesAnswer, fault_of, readings};
+ghost use Rattle.survey_core.specs.Survey.{survey_of_list};
 
+use crate::Settings;
 use crate::collecting::{CollectFault, collect};
+use crate::listed::ListedEntry;
+use crate::printing::SurveyText;
 use crate::readings::{Readings, read_entries};
-use crate::{Outcome, Settings};
 use grid_core::NoMemory;
 use lane_core::{Answer, Gate};
 use puzzle_text::{Entry, EntryFault, MOST_ENTRIES};
 use std::alloc::Global;
-use std::collections::VecDeque;
 use std::sync::Wait;
 use std::thread::Threads;
 
-/// The outcome of an entry: its fault, or the next answer. `NoMemory` also where that answer says so.
-fn outcome_of(
-    alloc: Global,
-    entry: &Entry<'_>,
+/// An entry with its fault, or else with the first of the answers, and the answers that are left. `NoMemory` where that answer says so.
+fn list_entry<'a>(
+    name: &'a [u8],
     fault: Option<EntryFault>,
-    answers: &mut VecDeque<Answer>,
-) -> Result<Outcome, NoMemory>
-    requires { fault ≡ None → 0 < length answers.old.items }
-    ensures name { IfOk result (λ outcome. outcome.name.items ≡ entry.now.name.now) }
-    ensures result { IfOk result (λ outcome. TakesAnswer fault answers.old.items answers.new.items outcome.result) }
+    answers: &'a [Answer],
+) -> Result<(ListedEntry<'a>, &'a [Answer]), NoMemory>
+    requires { fault ≡ None → 0 < length answers.now }
+    ensures name { IfOk result (λ listed. (shown_listed listed.0).name ≡ name.now) }
+    ensures result { IfOk result (λ listed. TakesAnswer fault answers.now listed.1.now (shown_listed listed.0).result) }
 {
-    let name = Vec::from_slice(alloc, entry.name)?;
-    match fault {
-        Some(fault) => Ok(Outcome {
-            name,
-            result: Err(fault),
-        }),
-        None => {
-            let answer = next_answer(answers)?;
-            Ok(Outcome {
-                name,
-                result: Ok(answer),
-            })
-        }
+    if let Some(fault) = fault {
+        return Ok((ListedEntry::refused(name, fault), answers));
     }
-}
-
-/// The next answer, unless it says `NoMemory`.
-fn next_answer(answers: &mut VecDeque<Answer>) -> Result<Answer, NoMemory>
-    requires { 0 < length answers.old.items }
-    ensures { IfOk result (λ answer. TakesAnswer None answers.old.items answers.new.items (Ok answer)) }
-{
-    let Some(answer) = answers.pop_front() else {
+    let [answer, others @ ..] = answers else {
         unreachable!()
     };
-    match answer.outcome() {
-        Ok(_) => Ok(answer),
-        Err(refused) => Err(refused),
-    }
+    let listed = ListedEntry::graded(name, answer)?;
+    Ok((listed, others))
 }
 
-/// The outcomes of entries, graded over lanes.
-pub(crate) fn grade_entries<H: Threads + Wait + Sync, G: Gate + Sync>(
+/// The survey of entries that were read, with the answers to the puzzles among them. `NoMemory` also where an answer says so.
+fn print_answers(
+    alloc: Global,
+    entries: &[Entry<'_>],
+    faults: &[Option<EntryFault>],
+    answers: &[Answer],
+    settings: &Settings,
+) -> Result<Vec<u8>, NoMemory>
+    requires few { length entries.now ≤ MOST_ENTRIES }
+    requires faults { faults.now ≡ map fault_of (readings entries.now) }
+    requires answers { AreGraded settings.now.guesses (readings entries.now) answers.now }
+    ensures { IfOk result (λ text. text.items ≡ survey_of_list settings.now.guesses settings.now.show (map shown_entry entries.now)) }
+{
+    let mut survey = SurveyText::new(alloc, settings.show);
+    let mut left = answers;
+    for (place, entry) in entries.iter().enumerate() {
+        let (listed, others) = list_entry(entry.name, faults[place], left)?;
+        survey.add(&listed)?;
+        left = others;
+    }
+    survey.finish()
+}
+
+/// The survey of entries, graded over lanes.
+pub(crate) fn survey_text<H: Threads + Wait + Sync, G: Gate + Sync>(
     rt: &H,
     alloc: Global,
     entries: &[Entry<'_>],
     settings: &Settings,
     gate: &G,
-) -> Result<Vec<Outcome>, CollectFault>
+) -> Result<Vec<u8>, CollectFault>
     requires { length entries.now ≤ MOST_ENTRIES }
-    ensures { IfOk result (λ outcomes. map shown_outcome outcomes.items ≡ map (graded settings.now.guesses) (map shown_entry entries.now)) }
+    ensures { IfOk result (λ text. text.items ≡ survey_of_list settings.now.guesses settings.now.show (map shown_entry entries.now)) }
 {
     let Readings { jobs, faults } = read_entries(alloc, entries, settings.guesses)?;
-    let mut answers = VecDeque::from(collect(
-        rt,
-        alloc,
-        jobs,
-        settings.lanes,
-        settings.ring,
-        gate,
-    )?);
-    let mut outcomes = Vec::with_capacity(alloc, entries.len())?;
-    for (place, entry) in entries.iter().enumerate() {
-        outcomes.push(outcome_of(alloc, entry, faults[place], &mut answers)?)?;
-    }
-    Ok(outcomes)
+    let answers = collect(rt, alloc, jobs, settings.lanes, settings.ring, gate)?;
+    Ok(print_answers(alloc, entries, &faults, &answers, settings)?)
 }

@@ -20,8 +20,8 @@ pub fn deal_out(
     ensures lanes { IfOk result (λ queues. vec_len queues ≡ lanes) }
     ensures dealt { IfOk result (λ queues. (k : ℕ) → k < lanes → slice_index_or (map (λ q. q.items) queues.items) k [] ≡ dealt jobs.items lanes k) }
 {
-    let mut queues = no_jobs(alloc, lanes)?;
     let count = jobs.len();
+    let mut queues = no_jobs(alloc, lanes, count.div_ceil(lanes))?;
     let mut jobs = jobs.into_iter();
     for place in 0..count {
         let Some(job) = jobs.next() else {
@@ -33,16 +33,24 @@ pub fn deal_out(
     Ok(queues)
 }
 
-/// As many empty queues as lanes.
-fn no_jobs(alloc: Global, lanes: usize) -> Result<Vec<VecDeque<Job, Global>>, NoMemory>
+/// As many empty queues as lanes, each with room for so many jobs.
+fn no_jobs(alloc: Global, lanes: usize, room: usize) -> Result<Vec<VecDeque<Job, Global>>, NoMemory>
     ensures lanes { IfOk result (λ queues. vec_len queues ≡ lanes) }
     ensures empty { IfOk result (λ queues. (k : ℕ) → slice_index_or (map (λ q. q.items) queues.items) k [] ≡ []) }
 {
     let mut queues = Vec::with_capacity(alloc, lanes)?;
     for _ in 0..lanes {
-        queues.push(VecDeque::new(alloc))?;
+        queues.push(VecDeque::with_capacity(alloc, room)?)?;
     }
     Ok(queues)
+}
+
+/// An empty list with room for so many answers.
+pub fn room_for_answers(alloc: Global, count: usize) -> Result<Vec<Answer>, NoMemory>
+    ensures empty { IfOk result (λ answers. answers.items ≡ []) }
+    ensures room { IfOk result (λ answers. vec_capacity answers ≡ count) }
+{
+    Ok(Vec::with_capacity(alloc, count)?)
 }
 
 /// The answers of all lanes in job order: the next answer of each lane in turn, so that answer j of lane k goes to place k + j times the number of lanes.

@@ -1,9 +1,8 @@
 //! What became of an entry.
 
-use grid_core::Puzzle;
+use crate::listed::ListedEntry;
 use lane_core::Answer;
 use puzzle_text::{EntryFault, TextFault};
-use solve_core::Findings;
 
 /// An entry's name, and the answer to its job, or why it is refused.
 #[derive(Drop)]
@@ -15,19 +14,20 @@ pub struct Outcome {
 }
 
 impl Outcome {
-    ghost use Rattle.std.specs.Prelude.{◌≡◌, Ok, Err, MatchResult};
-    ghost use Rattle.survey_core.specs.Entries.{shown_outcome};
+    ghost use Rattle.std.specs.Prelude.{◌≡◌};
+    ghost use Rattle.survey_core.specs.Entries.{shown_listed, shown_outcome};
 
-    /// The puzzle with what was found of it, or the fault. Want of memory in an answer stands as a fault.
-    pub(crate) fn found(&self) -> Result<(&Puzzle, &Findings), EntryFault>
-        ensures { MatchResult result (λ found. (shown_outcome self.now).result ≡ Ok (found.0.now, found.1.now)) (λ fault. (shown_outcome self.now).result ≡ Err fault) }
+    /// The entry as a survey lists it. Want of memory in an answer stands as a fault.
+    pub(crate) fn listed(&self) -> ListedEntry<'_>
+        ensures { shown_listed result ≡ shown_outcome self.now }
     {
+        let name = self.name.as_slice();
         match &self.result {
-            Ok(answer) => match answer.outcome() {
-                Ok(findings) => Ok((answer.puzzle(), findings)),
-                Err(_) => Err(EntryFault::Text(TextFault::NoMemory)),
+            Ok(answer) => match ListedEntry::graded(name, answer) {
+                Ok(listed) => listed,
+                Err(_) => ListedEntry::refused(name, EntryFault::Text(TextFault::NoMemory)),
             },
-            Err(fault) => Err(*fault),
+            Err(fault) => ListedEntry::refused(name, *fault),
         }
     }
 }

@@ -1,25 +1,60 @@
 //! The text of a survey.
 
-ghost use Rattle.std.specs.Prelude.{◌≡◌, ◌++◌, ◌≤◌, length, IfOk, OnOk, map};
-ghost use Rattle.survey_core.specs.Entries.{shown_outcome};
-ghost use Rattle.survey_core.specs.Survey.{entries_text, survey_text};
+ghost use Rattle.std.specs.Prelude.{◌≡◌, ◌++◌, ◌∷◌, ◌≤◌, [], List, Bool, length, IfOk, OnOk, map};
+ghost use Rattle.survey_core.specs.Entries.{GradedEntry, shown_listed, shown_outcome};
+ghost use Rattle.survey_core.specs.Survey.{survey_text};
+ghost use Rattle.survey_core.specs.SurveyTexts.{IsSurveyText};
+ghost use Rattle.survey_core.specs.Tallies.{HasRoom};
 
 use crate::Outcome;
 use crate::entries::push_entry;
-use crate::totals::push_totals;
+use crate::listed::ListedEntry;
+use crate::totals::Totals;
 use grid_core::NoMemory;
 use puzzle_text::MOST_ENTRIES;
 use std::alloc::Global;
 
-/// Adds the texts of at most 10,000 entries, numbered from 1.
-fn push_entries(text: &mut Vec<u8>, outcomes: &[Outcome], show: bool) -> Result<(), NoMemory>
-    requires { length outcomes.now ≤ MOST_ENTRIES }
-    ensures { OnOk result (text.new.items ≡ text.old.items ++ entries_text show (map shown_outcome outcomes.now)) }
-{
-    for (place, outcome) in outcomes.iter().enumerate() {
-        push_entry(text, place as u32 + 1, outcome, show)?;
+/// The text of a survey as far as it has come: that of its first entries, numbered from 1, and their totals.
+#[derive(Drop)]
+pub(crate) struct SurveyText {
+    show: bool,
+    text: Vec<u8>,
+    /// The totals of the entries.
+    pub totals: Totals,
+}
+
+impl SurveyText {
+    /// The survey of no entry, in which solutions are shown or not.
+    pub fn new(alloc: Global, show: bool) -> SurveyText
+        ensures { IsSurveyText show result [] }
+    {
+        SurveyText {
+            show,
+            text: Vec::new(alloc),
+            totals: Totals::none(),
+        }
     }
-    Ok(())
+
+    /// Adds an entry.
+    pub fn add(&mut self, entry: &ListedEntry<'_>) -> Result<(), NoMemory>
+        requires { HasRoom self.old.totals }
+        ensures { (show : Bool) (entries : List GradedEntry) → IsSurveyText show self.old entries
+            → OnOk result (IsSurveyText show self.new (entries ++ shown_listed entry.now ∷ [])) }
+    {
+        let number = self.totals.entries as u32 + 1;
+        push_entry(&mut self.text, number, entry, self.show)?;
+        self.totals.count(entry);
+        Ok(())
+    }
+
+    /// The text of the entries and the line of totals.
+    pub fn finish(self) -> Result<Vec<u8>, NoMemory>
+        ensures { (show : Bool) (entries : List GradedEntry) → IsSurveyText show self entries → IfOk result (λ text. text.items ≡ survey_text show entries) }
+    {
+        let mut text = self.text;
+        self.totals.push(&mut text)?;
+        Ok(text)
+    }
 }
 
 /// The texts of at most 10,000 entries, numbered from 1, and the line of totals. An answer that says `NoMemory` is printed as a refused entry with that
@@ -28,8 +63,9 @@ pub fn print_survey(alloc: Global, outcomes: &[Outcome], show: bool) -> Result<V
     requires { length outcomes.now ≤ MOST_ENTRIES }
     ensures { IfOk result (λ text. text.items ≡ survey_text show (map shown_outcome outcomes.now)) }
 {
-    let mut text = Vec::new(alloc);
-    push_entries(&mut text, outcomes, show)?;
-    push_totals(&mut text, outcomes)?;
-    Ok(text)
+    let mut survey = SurveyText::new(alloc, show);
+    for outcome in outcomes {
+        survey.add(&outcome.listed())?;
+    }
+    survey.finish()
 }

@@ -56,7 +56,7 @@ pub(crate) fn read_entries(
     ensures faults { IfOk result (λ read. read.faults.items ≡ map fault_of (readings entries.now)) }
 {
     let mut read = Readings {
-        jobs: Vec::new(alloc),
+        jobs: Vec::with_capacity(alloc, entries.len())?,
         faults: Vec::with_capacity(alloc, entries.len())?,
     };
     for (place, entry) in entries.iter().enumerate() {

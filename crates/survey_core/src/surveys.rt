@@ -1,6 +1,6 @@
 //! The survey of a collection, and of entries in hand.
 
-ghost use Rattle.std.specs.Prelude.{◌≡◌, ◌+◌, ◌-◌, ◌^◌, ◌<◌, ◌≤◌, ◌↔◌, ◌⊎◌, length, map, Err, IfOk, IfErr, IfSome, OnOk, IsErrOf};
+ghost use Rattle.std.specs.Prelude.{◌≡◌, ◌+◌, ◌-◌, ◌^◌, ◌<◌, ◌≤◌, ◌↔◌, ◌⊎◌, length, map, Err, IfErr, IfSome, OnOk, IsErrOf};
 ghost use Rattle.std.specs.Io.KnownBytes.{IsAtEnd, Keeps};
 ghost use Rattle.puzzle_text.specs.Shown.{shown_entry};
 ghost use Rattle.survey_core.specs.Counted.{fault_count};
@@ -9,8 +9,7 @@ ghost use Rattle.survey_core.specs.Leaving.{IsErrWrite, IsWrite, Leaves};
 ghost use Rattle.survey_core.specs.Survey.{survey_of, survey_of_entries, survey_of_list};
 
 use crate::collecting::CollectFault;
-use crate::grading::grade_entries;
-use crate::printing::print_survey;
+use crate::grading::survey_text;
 use crate::streams::{ReadFault, read_collection, write_text};
 use crate::{Counted, RunFault, Settings};
 use lane_core::Gate;
@@ -19,21 +18,6 @@ use std::alloc::Global;
 use std::io::{Read, Write};
 use std::sync::Wait;
 use std::thread::Threads;
-
-/// The survey of entries, graded over lanes.
-fn survey_text<H: Threads + Wait + Sync, G: Gate + Sync>(
-    rt: &H,
-    alloc: Global,
-    entries: &[Entry<'_>],
-    settings: &Settings,
-    gate: &G,
-) -> Result<Vec<u8>, CollectFault>
-    requires { length entries.now ≤ MOST_ENTRIES }
-    ensures { IfOk result (λ text. text.items ≡ survey_of_list settings.now.guesses settings.now.show (map shown_entry entries.now)) }
-{
-    let outcomes = grade_entries(rt, alloc, entries, settings, gate)?;
-    Ok(print_survey(alloc, &outcomes, settings.show)?)
-}
 
 /// Writes the survey of entries, graded over lanes.
 fn write_survey<H: Threads + Wait + Sync, W: Write, G: Gate + Sync>(

@@ -1,12 +1,12 @@
 //! The last line of a survey.
 
-ghost use Rattle.std.specs.Prelude.{◌≡◌, ◌++◌, ◌^◌, ◌<◌, OnOk, codes, map};
+ghost use Rattle.std.specs.Prelude.{◌≡◌, ◌+◌, ◌++◌, ◌^◌, ◌<◌, [], OnOk, codes};
 ghost use Rattle.std.specs.Str.{bytes_eq};
-ghost use Rattle.survey_core.specs.Entries.{grade_word, shown_outcome, verdict_word};
-ghost use Rattle.survey_core.specs.Totals.{count_text, has_grade, has_status, totals_line};
-ghost use Rattle.survey_core.specs.Tallies.{HasRoom, IsTotals, grades_text, one_more_where, statuses_text};
+ghost use Rattle.survey_core.specs.Entries.{grade_word, shown_listed, verdict_word};
+ghost use Rattle.survey_core.specs.Totals.{count_text, has_grade, has_status};
+ghost use Rattle.survey_core.specs.Tallies.{HasRoom, IsTotals, grades_text, one_more_where, statuses_text, totals_text};
 
-use crate::Outcome;
+use crate::listed::ListedEntry;
 use grid_core::NoMemory;
 use puzzle_text::{push_bytes, push_number};
 use solve_core::{Grade, Verdict};
@@ -67,20 +67,24 @@ impl GradeTotals {
     }
 }
 
-/// How many entries are refused, and how many have each verdict and each grade.
+/// How many entries there are, how many are refused, and how many have each verdict and each grade.
 #[derive(Clone, Copy, Debug, PartialEq, Eq)]
 pub(crate) struct Totals {
-    refused: usize,
+    /// How many entries there are.
+    pub entries: usize,
+    /// How many of them are refused.
+    pub refused: usize,
     verdicts: VerdictTotals,
     grades: GradeTotals,
 }
 
 impl Totals {
-    /// The totals of entries.
-    fn of(outcomes: &[Outcome]) -> Totals
-        ensures { IsTotals result (map shown_outcome outcomes.now) }
+    /// The totals of no entry.
+    pub fn none() -> Totals
+        ensures { IsTotals result [] }
     {
-        let mut totals = Totals {
+        Totals {
+            entries: 0,
             refused: 0,
             verdicts: VerdictTotals {
                 none: 0,
@@ -93,29 +97,27 @@ impl Totals {
                 by_trials: 0,
                 by_search: 0,
             },
-        };
-        for outcome in outcomes {
-            totals.count(outcome);
         }
-        totals
     }
 
     /// Counts an entry.
-    fn count(&mut self, outcome: &Outcome)
+    pub fn count(&mut self, entry: &ListedEntry<'_>)
         requires { HasRoom self.old }
-        ensures refused { self.new.refused ≡ one_more_where (has_status (codes "refused") (shown_outcome outcome.now)) self.old.refused }
-        ensures none { self.new.verdicts.none ≡ one_more_where (has_status (codes "none") (shown_outcome outcome.now)) self.old.verdicts.none }
-        ensures one { self.new.verdicts.one ≡ one_more_where (has_status (codes "one") (shown_outcome outcome.now)) self.old.verdicts.one }
-        ensures several { self.new.verdicts.several ≡ one_more_where (has_status (codes "several") (shown_outcome outcome.now)) self.old.verdicts.several }
-        ensures unsettled { self.new.verdicts.unsettled ≡ one_more_where (has_status (codes "unsettled") (shown_outcome outcome.now)) self.old.verdicts.unsettled }
-        ensures by_lines { self.new.grades.by_lines ≡ one_more_where (has_grade (codes "line") (shown_outcome outcome.now)) self.old.grades.by_lines }
-        ensures by_trials { self.new.grades.by_trials ≡ one_more_where (has_grade (codes "trials") (shown_outcome outcome.now)) self.old.grades.by_trials }
-        ensures by_search { self.new.grades.by_search ≡ one_more_where (has_grade (codes "search") (shown_outcome outcome.now)) self.old.grades.by_search }
+        ensures entries { self.new.entries ≡ self.old.entries + 1 }
+        ensures refused { self.new.refused ≡ one_more_where (has_status (codes "refused") (shown_listed entry.now)) self.old.refused }
+        ensures none { self.new.verdicts.none ≡ one_more_where (has_status (codes "none") (shown_listed entry.now)) self.old.verdicts.none }
+        ensures one { self.new.verdicts.one ≡ one_more_where (has_status (codes "one") (shown_listed entry.now)) self.old.verdicts.one }
+        ensures several { self.new.verdicts.several ≡ one_more_where (has_status (codes "several") (shown_listed entry.now)) self.old.verdicts.several }
+        ensures unsettled { self.new.verdicts.unsettled ≡ one_more_where (has_status (codes "unsettled") (shown_listed entry.now)) self.old.verdicts.unsettled }
+        ensures by_lines { self.new.grades.by_lines ≡ one_more_where (has_grade (codes "line") (shown_listed entry.now)) self.old.grades.by_lines }
+        ensures by_trials { self.new.grades.by_trials ≡ one_more_where (has_grade (codes "trials") (shown_listed entry.now)) self.old.grades.by_trials }
+        ensures by_search { self.new.grades.by_search ≡ one_more_where (has_grade (codes "search") (shown_listed entry.now)) self.old.grades.by_search }
     {
-        match outcome.found() {
-            Ok((_, findings)) => {
-                self.verdicts.count(&findings.verdict);
-                self.grades.count(findings.grade);
+        self.entries += 1;
+        match &entry.result {
+            Ok(found) => {
+                self.verdicts.count(&found.findings.verdict);
+                self.grades.count(found.findings.grade);
             }
             Err(_) => self.refused += 1,
         }
@@ -140,6 +142,17 @@ impl Totals {
         push_count(text, "trials", self.grades.by_trials)?;
         push_count(text, "search", self.grades.by_search)
     }
+
+    /// Adds the last line of a survey: how many entries there are, how many are refused, and how many have each verdict and each grade.
+    pub fn push(&self, text: &mut Vec<u8>) -> Result<(), NoMemory>
+        ensures { OnOk result (text.new.items ≡ text.old.items ++ totals_text self.now) }
+    {
+        push_bytes(text, b"entries ")?;
+        push_number(text, self.entries as u64)?;
+        self.push_statuses(text)?;
+        self.push_grades(text)?;
+        push_bytes(text, b"\n")
+    }
 }
 
 /// Adds a word and a count, each after a space.
@@ -150,16 +163,4 @@ fn push_count(text: &mut Vec<u8>, word: &str, count: usize) -> Result<(), NoMemo
     push_bytes(text, word.as_bytes())?;
     push_bytes(text, b" ")?;
     push_number(text, count as u64)
-}
-
-/// Adds the last line of a survey: how many entries there are, how many are refused, and how many have each verdict and each grade.
-pub(crate) fn push_totals(text: &mut Vec<u8>, outcomes: &[Outcome]) -> Result<(), NoMemory>
-    ensures { OnOk result (text.new.items ≡ text.old.items ++ totals_line (map shown_outcome outcomes.now)) }
-{
-    let totals = Totals::of(outcomes);
-    push_bytes(text, b"entries ")?;
-    push_number(text, outcomes.len() as u64)?;
-    totals.push_statuses(text)?;
-    totals.push_grades(text)?;
-    push_bytes(text, b"\n")
 }

@@ -1,0 +1,13 @@
+use Rattle.std.proofs.Common.{map, take, drop}
+use Rattle.puzzle_text.specs.Shown.{shown_entry}
+use Rattle.survey_core.specs.Graded.{AreGraded}
+use Rattle.survey_core.specs.Readings.{readings}
+use Rattle.survey_core.specs.Survey.{graded}
+use Rattle.survey_core.specs.SurveyTexts.{IsSurveyText}
+use Rattle.survey_core.proofs.grading.print_answers.Given as goal
+
+abbrev pub invariant-loop-place : goal.invariant-loop-place
+invariant-loop-place l = record {
+  survey : IsSurveyText l.settings.show l.survey (map (graded l.settings.guesses) (map shown_entry (take l.place l.entries)));
+  answers : AreGraded l.settings.guesses (readings (drop l.place l.entries)) l.left;
+}

@@ -1,0 +1,7 @@
+use Rattle.std.proofs.Common.{map, take}
+use Rattle.survey_core.specs.Entries.{shown_outcome}
+use Rattle.survey_core.specs.SurveyTexts.{IsSurveyText}
+use Rattle.survey_core.proofs.printing.print_survey.Given as goal
+
+abbrev pub invariant-loop-outcome : goal.invariant-loop-outcome
+invariant-loop-outcome l = IsSurveyText l.show l.survey (map shown_outcome (take l.outcome-index l.outcomes))

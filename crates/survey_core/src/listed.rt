@@ -1,0 +1,57 @@
+//! Entries as a survey lists them.
+
+use grid_core::{NoMemory, Puzzle};
+use lane_core::Answer;
+use puzzle_text::EntryFault;
+use solve_core::Findings;
+
+/// A puzzle with what was found of it.
+#[derive(Drop)]
+pub(crate) struct GradedPuzzle<'a> {
+    /// The puzzle.
+    pub puzzle: &'a Puzzle,
+    /// What was found of it.
+    pub findings: &'a Findings,
+}
+
+/// An entry's name, and its puzzle with what was found of it, or why it is refused.
+#[derive(Drop)]
+pub(crate) struct ListedEntry<'a> {
+    /// The entry's name.
+    pub name: &'a [u8],
+    /// What was found of its puzzle, or why it is refused.
+    pub result: Result<GradedPuzzle<'a>, EntryFault>,
+}
+
+impl<'a> ListedEntry<'a> {
+    ghost use Rattle.std.specs.Prelude.{◌≡◌, Err, IfErr, IfOk, IsOk, OnOk};
+    ghost use Rattle.survey_core.specs.Entries.{found_of, shown_listed};
+
+    /// An entry that is refused.
+    pub fn refused(name: &'a [u8], fault: EntryFault) -> ListedEntry<'a>
+        ensures { shown_listed result ≡ record { name = name.now; result = Err fault } }
+    {
+        ListedEntry {
+            name,
+            result: Err(fault),
+        }
+    }
+
+    /// An entry whose puzzle was graded. `NoMemory` where the answer says so.
+    pub fn graded(name: &'a [u8], answer: &'a Answer) -> Result<ListedEntry<'a>, NoMemory>
+        ensures listed { IfOk result (λ listed. shown_listed listed ≡ record { name = name.now; result = found_of answer.now.puzzle answer.now.outcome }) }
+        ensures report { OnOk result (IsOk answer.now.outcome) }
+        ensures refused { IfErr result (λ refused. answer.now.outcome ≡ Err refused) }
+    {
+        match answer.outcome() {
+            Ok(findings) => Ok(ListedEntry {
+                name,
+                result: Ok(GradedPuzzle {
+                    puzzle: answer.puzzle(),
+                    findings,
+                }),
+            }),
+            Err(refused) => Err(refused),
+        }
+    }
+}
