@@ -4,10 +4,10 @@ ghost use Rattle.std.specs.Prelude.{◌≡◌, ◌++◌, IfOk, IsOk, OnOk, codes
 ghost use Rattle.std.specs.List.{flat_map};
 ghost use Rattle.puzzle_text.specs.Words.{word_of};
 ghost use Rattle.survey_core.specs.Entries.{counts_text, entry_line, entry_text, found_of, grade_word, result_text, shown_listed, shown_outcome, solution_text, solutions_of, solutions_text, verdict_text, verdict_word};
-ghost use Rattle.survey_core.specs.Goals.{goal_text, goal_word};
+ghost use Rattle.survey_core.specs.Goals.{goal_text};
 
 use crate::Outcome;
-use crate::listed::ListedEntry;
+use crate::listed::{GradedPuzzle, ListedEntry};
 use crate::names::push_name;
 use crate::pictures::push_grid;
 use grid_core::{GoalWord, Grid, NoMemory, Puzzle};
@@ -50,13 +50,6 @@ fn goal_text(word: GoalWord) -> &'static str
     }
 }
 
-/// What is said of the puzzle's goal.
-fn goal_word(puzzle: &Puzzle) -> GoalWord
-    ensures { result ≡ goal_word puzzle.now }
-{
-    puzzle.goal_word()
-}
-
 /// Adds the sizes, the verdict and the grade.
 fn push_verdict(text: &mut Vec<u8>, puzzle: &Puzzle, findings: &Findings) -> Result<(), NoMemory>
     ensures { OnOk result (text.new.items ≡ text.old.items ++ verdict_text puzzle.now findings.now) }
@@ -71,25 +64,26 @@ fn push_verdict(text: &mut Vec<u8>, puzzle: &Puzzle, findings: &Findings) -> Res
 }
 
 /// Adds the cells known after lines and after trials, the guesses spent, and what is said of the goal.
-fn push_counts(text: &mut Vec<u8>, puzzle: &Puzzle, findings: &Findings) -> Result<(), NoMemory>
-    ensures { OnOk result (text.new.items ≡ text.old.items ++ counts_text puzzle.now findings.now) }
+fn push_counts(text: &mut Vec<u8>, found: &GradedPuzzle<'_>) -> Result<(), NoMemory>
+    ensures { OnOk result (text.new.items ≡ text.old.items ++ counts_text found.now.puzzle.now found.now.findings.now) }
 {
+    let findings = found.findings;
     push_number(text, u64::from(findings.line_known))?;
     push_bytes(text, b" ")?;
     push_number(text, u64::from(findings.trial_known))?;
     push_bytes(text, b" ")?;
     push_number(text, u64::from(findings.spent))?;
     push_bytes(text, b" ")?;
-    push_bytes(text, goal_text(goal_word(puzzle)).as_bytes())
+    push_bytes(text, goal_text(found.goal).as_bytes())
 }
 
 /// Adds what was found of a puzzle.
-fn push_found(text: &mut Vec<u8>, puzzle: &Puzzle, findings: &Findings) -> Result<(), NoMemory>
-    ensures { OnOk result (text.new.items ≡ text.old.items ++ result_text (Ok (puzzle.now, findings.now))) }
+fn push_found(text: &mut Vec<u8>, found: &GradedPuzzle<'_>) -> Result<(), NoMemory>
+    ensures { OnOk result (text.new.items ≡ text.old.items ++ result_text (Ok (found.now.puzzle.now, found.now.findings.now))) }
 {
-    push_verdict(text, puzzle, findings)?;
+    push_verdict(text, found.puzzle, found.findings)?;
     push_bytes(text, b" ")?;
-    push_counts(text, puzzle, findings)
+    push_counts(text, found)
 }
 
 /// Adds why an entry is refused.
@@ -105,7 +99,7 @@ fn push_result(text: &mut Vec<u8>, entry: &ListedEntry<'_>) -> Result<(), NoMemo
     ensures { OnOk result (text.new.items ≡ text.old.items ++ result_text (shown_listed entry.now).result) }
 {
     match &entry.result {
-        Ok(found) => push_found(text, found.puzzle, found.findings),
+        Ok(found) => push_found(text, found),
         Err(fault) => push_refusal(text, *fault),
     }
 }

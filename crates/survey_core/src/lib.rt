@@ -7,6 +7,7 @@ mod collecting_one;
 mod counted;
 mod entries;
 mod faults;
+mod goals;
 mod grading;
 mod job_order;
 mod lanes;

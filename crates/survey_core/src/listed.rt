@@ -1,6 +1,10 @@
 //! Entries as a survey lists them.
 
-use grid_core::{NoMemory, Puzzle};
+ghost use Rattle.std.specs.Prelude.{◌≡◌};
+ghost use Rattle.survey_core.specs.Goals.{goal_word};
+
+use crate::goals::goal_word;
+use grid_core::{GoalWord, NoMemory, Puzzle};
 use lane_core::Answer;
 use puzzle_text::EntryFault;
 use solve_core::Findings;
@@ -12,6 +16,9 @@ pub(crate) struct GradedPuzzle<'a> {
     pub puzzle: &'a Puzzle,
     /// What was found of it.
     pub findings: &'a Findings,
+    /// What is said of its goal.
+    pub goal: GoalWord,
+    pub ghost said: { goal ≡ goal_word puzzle.now },
 }
 
 /// An entry's name, and its puzzle with what was found of it, or why it is refused.
@@ -44,13 +51,18 @@ impl<'a> ListedEntry<'a> {
         ensures refused { IfErr result (λ refused. answer.now.outcome ≡ Err refused) }
     {
         match answer.outcome() {
-            Ok(findings) => Ok(ListedEntry {
-                name,
-                result: Ok(GradedPuzzle {
-                    puzzle: answer.puzzle(),
-                    findings,
-                }),
-            }),
+            Ok(findings) => {
+                let puzzle = answer.puzzle();
+                let goal = goal_word(puzzle, &findings.verdict);
+                Ok(ListedEntry {
+                    name,
+                    result: Ok(GradedPuzzle {
+                        puzzle,
+                        findings,
+                        goal,
+                    }),
+                })
+            }
             Err(refused) => Err(refused),
         }
     }

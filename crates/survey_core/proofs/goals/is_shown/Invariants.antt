@@ -1,0 +1,6 @@
+use Rattle.std.proofs.Common.{◌<◌, ℕ}
+use Rattle.survey_core.specs.Goals.{IsRowShown}
+use Rattle.survey_core.proofs.goals.is_shown.Given as goal
+
+abbrev pub invariant-loop-y : goal.invariant-loop-y
+invariant-loop-y l = (k : ℕ) → k < l.y → IsRowShown l.grid l.values k
