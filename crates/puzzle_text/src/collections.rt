@@ -1,9 +1,9 @@
 //! Collections of puzzle texts.
 
-ghost use Rattle.std.specs.Prelude.{◌≡◌, ◌==◌, ◌∷◌, ◌++◌, ◌<◌, ◌≤◌, ◌^◌, not, drop, take, map, true, false, length, Err, IfOk, None};
+ghost use Rattle.std.specs.Prelude.{◌≡◌, ◌==◌, ◌∷◌, ◌++◌, ◌<◌, ◌≤◌, ◌^◌, not, drop, take, map, true, false, length, Err, IfErr, IfOk, IfSome, Some, None, if◌then◌else◌};
 ghost use Rattle.std.specs.List.{list_all};
 ghost use Rattle.puzzle_text.specs.Collections.{FollowsPlain, GivesEntries, are_named, begins_with_marker, body_of, cut, ends_line, entries_of, first_stray, is_marker, name_of};
-ghost use Rattle.puzzle_text.specs.Lines.{raw_lines};
+ghost use Rattle.puzzle_text.specs.Lines.{is_empty, raw_lines};
 ghost use Rattle.puzzle_text.specs.Shown.{shown_entry};
 
 use crate::faults::CollectionFault;
@@ -145,27 +145,42 @@ fn begins_with_marker(bytes: &[u8]) -> bool
     is_marker(raw)
 }
 
-/// Whether each entry has a name.
-fn are_named(bytes: &[u8]) -> bool
-    ensures { result ≡ are_named (entries_of (raw_lines bytes.now)) }
+/// Whether a marker line gives a name.
+fn is_named(raw: &[u8]) -> bool
+    ensures { result ≡ not (is_empty (name_of raw.now)) }
+{
+    !name_of(raw).is_empty()
+}
+
+/// How many entries a collection has, if each of them has a name.
+fn named_count(bytes: &[u8]) -> Option<usize>
+    ensures { result ≡ (if are_named (entries_of (raw_lines bytes.now)) then Some (length (entries_of (raw_lines bytes.now))) else None) }
 {
     let mut rest = bytes;
+    let mut count = 0;
     'lines: while !rest.is_empty() {
         let (raw, after) = split_line(rest);
-        if is_marker(raw) && name_of(raw).is_empty() {
-            return false;
+        if is_marker(raw) {
+            if !is_named(raw) {
+                return None;
+            }
+            count += 1;
         }
         let (_, others) = split_body(after);
         rest = others;
     }
-    true
+    Some(count)
 }
 
-/// Whether a look at the marker lines alone shows that no line is stray.
-fn is_sound(bytes: &[u8]) -> bool
-    ensures { result ≡ true → first_stray (raw_lines bytes.now) ≡ None }
+/// How many entries a collection has, if a look at its marker lines alone shows that no line is stray.
+fn sound_count(bytes: &[u8]) -> Option<usize>
+    ensures { IfSome result (λ count. (first_stray (raw_lines bytes.now) ≡ None) × (count ≡ length (entries_of (raw_lines bytes.now)))) }
 {
-    begins_with_marker(bytes) && are_named(bytes)
+    if begins_with_marker(bytes) {
+        named_count(bytes)
+    } else {
+        None
+    }
 }
 
 /// The number of the first line that belongs to no entry or names none.
@@ -192,15 +207,19 @@ fn first_stray(bytes: &[u8]) -> Option<u32>
     None
 }
 
-/// The same, looked for line by line only where the marker lines don't show that there is none.
-fn stray_number(bytes: &[u8]) -> Option<u32>
+/// How many entries a collection has, or the number of its first stray line, looked for line by line only where the marker lines don't show that
+/// there is none.
+fn checked_count(bytes: &[u8]) -> Result<usize, u32>
     requires { length bytes.now < 2 ^ 32 }
-    ensures { result ≡ first_stray (raw_lines bytes.now) }
+    ensures count { IfOk result (λ count. (first_stray (raw_lines bytes.now) ≡ None) × (count ≡ length (entries_of (raw_lines bytes.now)))) }
+    ensures stray { IfErr result (λ number. first_stray (raw_lines bytes.now) ≡ Some number) }
 {
-    if is_sound(bytes) {
-        None
-    } else {
-        first_stray(bytes)
+    if let Some(count) = sound_count(bytes) {
+        return Ok(count);
+    }
+    match first_stray(bytes) {
+        Some(number) => Err(number),
+        None => Ok(entry_count(bytes)),
     }
 }
 
@@ -213,10 +232,11 @@ pub fn entries<'a>(alloc: Global, bytes: &'a [u8]) -> Result<Vec<Entry<'a>>, Col
     if bytes.len() > LONGEST_COLLECTION {
         return Err(CollectionFault::TooLong);
     }
-    if let Some(number) = stray_number(bytes) {
-        return Err(CollectionFault::Stray(number));
-    }
-    if entry_count(bytes) > MOST_ENTRIES {
+    let count = match checked_count(bytes) {
+        Ok(count) => count,
+        Err(number) => return Err(CollectionFault::Stray(number)),
+    };
+    if count > MOST_ENTRIES {
         return Err(CollectionFault::TooMany);
     }
     Ok(entries_of(alloc, bytes)?)

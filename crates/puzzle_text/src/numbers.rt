@@ -80,10 +80,10 @@ pub(crate) fn first_number(limit: u16, text: &[u8]) -> Option<(u16, &[u8])>
 {
     let mut value = 0u32;
     for (place, byte) in text.iter().enumerate() {
+        if is_separator(*byte) {
+            return Some((value as u16, &text[place + 1..]));
+        }
         if !byte.is_ascii_digit() {
-            if is_separator(*byte) {
-                return Some((value as u16, &text[place + 1..]));
-            }
             return None;
         }
         value = value * 10 + u32::from(*byte - b'0');

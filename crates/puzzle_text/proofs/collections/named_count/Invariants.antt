@@ -1,0 +1,14 @@
+use Rattle.std.proofs.Common.{◌≡◌, ◌+◌, ◌≤◌, length}
+use Rattle.puzzle_text.specs.Lines.{raw_lines}
+use Rattle.puzzle_text.specs.Collections.{are_named, entries_of}
+use Rattle.puzzle_text.proofs.collections.named_count.Given as goal
+
+abbrev pub invariant-lines : goal.invariant-lines
+invariant-lines l = record {
+  named : are_named (entries_of (raw_lines l.rest)) ≡ are_named (entries_of (raw_lines l.bytes));
+  counted : l.count + length (entries_of (raw_lines l.rest)) ≡ length (entries_of (raw_lines l.bytes));
+  room : l.count + length l.rest ≤ length l.bytes;
+}
+
+abbrev pub decreases-lines : goal.decreases-lines
+decreases-lines l = length l.rest
