@@ -80,8 +80,8 @@ cut : (text : List ℕ) → 0 < length text → is_separator (get_or text 0 0) �
 cut text some first = elim (cases_Bool (ltb (end_of text) (length text))) [
   | inl inside ↦ first_piece text (end_of text) (rw inside refl) first
   | inr past ↦
-    let at : length text ≤ end_of text = omega (arith, ltb-false _ _ past) in
-    rw (take_all (end_of text) text at, drop_all (end_of text + 1) text (omega arith)) (only_piece text some (rw past refl))
+      let at : length text ≤ end_of text = omega (arith, ltb-false _ _ past) in
+      rw (take_all (end_of text) text at, drop_all (end_of text + 1) text (omega arith)) (only_piece text some (rw past refl))
 ]
 
 end_within : (text : List ℕ) → end_of text ≤ length text
@@ -94,9 +94,9 @@ Clear text i = (k : ℕ) → k < i → is_separator (get_or text k 0) ≡ false
 clear_within : (text : List ℕ) (i : ℕ) → i ≤ length text → Clear text i → i ≤ end_of text
 clear_within text i within clear = elim (cases_Bool (ltb (end_of text) i)) [
   | inl before ↦
-    let low : end_of text < i = ltb-true _ _ before in
-    let found : position is_separator text ≡ Some (end_of text) = rw (lt-ltb (end_of text) (length text) (omega arith)) refl in
-    absurd (let at = (position-Some is_separator text (end_of text) 0 found).1 in let other = clear (end_of text) low in cc)
+      let low : end_of text < i = ltb-true _ _ before in
+      let found : position is_separator text ≡ Some (end_of text) = rw (lt-ltb (end_of text) (length text) (omega arith)) refl in
+      absurd (let at = (position-Some is_separator text (end_of text) 0 found).1 in let other = clear (end_of text) low in cc)
   | inr at ↦ omega (arith, ltb-false _ _ at)
 ]
 

@@ -1,5 +1,5 @@
 -- Which section a line stands in, by the keyword above it.
-use Rattle.std.specs.Prelude.{◌≡◌, ℕ, ◌++◌, [], ◌∷◌, List, codes, false, Option, Some, None, if◌then◌else◌}
+use Rattle.std.specs.Prelude.{◌≡◌, ℕ, ◌++◌, [], ◌∷◌, List, codes, false, Some, None, if◌then◌else◌}
 use Rattle.std.specs.Str.{bytes_eq}
 use Rattle.puzzle_text.specs.declared.places.Under.{Under}
 use Rattle.puzzle_text.specs.declared.places.Under.TheVariants.{Rows, Columns, Other}

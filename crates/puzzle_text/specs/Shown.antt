@@ -1,5 +1,5 @@
 -- What the code keeps, as the definitions see it.
-use Rattle.std.specs.Prelude.{ℕ, List, map}
+use Rattle.std.specs.Prelude.{List, map}
 use Rattle.puzzle_text.specs.declared.lines.Line.{Line as KeptLine}
 use Rattle.puzzle_text.specs.declared.keyword_line.KeywordLine.{KeywordLine}
 use Rattle.puzzle_text.specs.declared.places.Sections.{Sections as KeptSections}

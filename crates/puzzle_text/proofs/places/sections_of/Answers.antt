@@ -1,4 +1,4 @@
-use Rattle.std.proofs.Common.{◌+◌, [], drop, ap, arith, map, refl, subst, sym, ◌∙◌}
+use Rattle.std.proofs.Common.{◌+◌, [], drop, ap, map, refl, subst, sym, ◌∙◌}
 use Rattle.std.specs.Str.{str_to_ascii_lowercase}
 use Rattle.puzzle_text.specs.Non.{Sections, placed, sections_of}
 use Rattle.puzzle_text.specs.Places.{IsUnder}
