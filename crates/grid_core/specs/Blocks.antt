@@ -1,5 +1,5 @@
 -- Blocks of 64 cells, two bits a cell.
-use Rattle.std.specs.Prelude.{◌≡◌, ℕ, ◌+◌, ◌*◌, ◌/◌, ◌%◌, ◌≤◌, Bool, true, false, List, length, map, slice_index_or}
+use Rattle.std.specs.Prelude.{◌≡◌, ℕ, ◌+◌, ◌/◌, ◌%◌, ◌≤◌, Bool, true, false, List, length, map, slice_index_or}
 use Rattle.std.specs.List.{range_with_len}
 use Rattle.place_sets.specs.Masks.{has}
 use Rattle.grid_core.specs.declared.blocks.Block.{Block}

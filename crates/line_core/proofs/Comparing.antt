@@ -1,5 +1,5 @@
 -- Lines compared whole.
-use Rattle.std.proofs.Common.{◌≡◌, ℕ, ◌≤◌, ◌≢◌, Bool, true, false, nat_eq, List, length, get_or, sym, ap, ◌∙◌, arith, true≢false, ext_get_or, refl, Option, Some, None, is_some, not, IsTrue}
+use Rattle.std.proofs.Common.{◌≡◌, ℕ, ◌≢◌, Bool, true, false, nat_eq, List, length, get_or, sym, ap, ◌∙◌, arith, true≢false, ext_get_or, refl, Option, Some, None, is_some, not, IsTrue}
 use Rattle.std.proofs.lemmas.Bool.{eqb-true}
 use Rattle.grid_core.specs.declared.cells.Cell.{Cell}
 use Rattle.grid_core.specs.declared.cells.Cell.TheVariants.{Unknown}

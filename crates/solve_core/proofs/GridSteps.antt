@@ -1,20 +1,20 @@
-use Rattle.std.proofs.Common.{◌≡◌, ◌≢◌, ℕ, zero, suc, ◌+◌, ◌*◌, ◌/◌, ◌%◌, ◌<◌, ◌≤◌, ◌⊎◌, inl, inr, Bool, true, false, List, [], length, get_or, set, Option, Some, refl, sym, ap, ◌∙◌, arith, subst, length-set, get_or-set_same, get_or-set_other, below_more}
+use Rattle.std.proofs.Common.{◌≡◌, ◌≢◌, ℕ, ◌+◌, ◌*◌, ◌/◌, ◌%◌, ◌<◌, ◌≤◌, inl, inr, Bool, true, false, List, length, get_or, set, Option, Some, refl, sym, ap, ◌∙◌, arith, subst, length-set, get_or-set_same, get_or-set_other}
 use Rattle.std.proofs.lemmas.Nat.{div_below}
 use Rattle.grid_core.specs.declared.cells.Cell.{Cell}
 use Rattle.grid_core.specs.declared.cells.Cell.TheVariants.{Unknown}
-use Rattle.grid_core.specs.Nonogram.{Nonogram, IsNonogram, GridLine, places_from, lines_of, cells_at}
+use Rattle.grid_core.specs.Nonogram.{Nonogram, IsNonogram, GridLine, lines_of}
 use Rattle.solve_core.specs.declared.closures.Progress.{Progress}
 use Rattle.solve_core.specs.declared.closures.Progress.TheVariants.{Dead, Same, Changed}
 use Rattle.solve_core.specs.Closure.{round, closure, deduce_line}
 use Rattle.solve_core.specs.declared.places.Places.{Places}
-use Rattle.solve_core.specs.Lines.{line_count, line_at, places_in, places_of, AreWithin}
+use Rattle.solve_core.specs.Lines.{line_count, line_at, places_in, AreWithin}
 use Rattle.solve_core.specs.Marks.{IsSettled, IsWritten, IsLearned, MarksChanges, HasMarks, MarksAfter, Progresses, AreParallel, AreUnmarkedFrom, AddsNone, IsUnmarked, IsAtRest}
 use Rattle.solve_core.specs.MarkedPuzzles.{MarkedPuzzle}
 use Rattle.solve_core.specs.Trails.{unknown_count}
 use Rattle.solve_core.proofs.Order.{Extends-refl, length-Extends}
 use Rattle.solve_core.proofs.ClosureLaws.{closure-IsLeastClosed}
 use Rattle.solve_core.proofs.StepLaws.{IsOneOf, done_within}
-use Rattle.solve_core.proofs.LineSteps.{closed_settled, deduce_line-above, set-unmarked, cells_at-same, settled-elsewhere, AreDistinct, AreBelow, settled_line, distinct_from, below_from, same_or_not, before_or_from, written_line, written-extends, written-settled, written-elsewhere, line_keeps, line_dead}
+use Rattle.solve_core.proofs.LineSteps.{closed_settled, set-unmarked, cells_at-same, settled-elsewhere, AreDistinct, AreBelow, settled_line, distinct_from, below_from, same_or_not, before_or_from, written_line, written-extends, written-settled, written-elsewhere, line_keeps, line_dead}
 use Rattle.solve_core.proofs.NumberedLines.{line-step, line-within, line-through, line-crosses, line-parallel, line_at-places, line_is_one, all_lines}
 use Rattle.grid_core.proofs.LineLaws.{length-places_from, get_or-places_from}
 

@@ -1,11 +1,11 @@
-use Rattle.std.proofs.Common.{◌≡◌, ◌≢◌, ℕ, zero, suc, ◌+◌, ◌-◌, ◌*◌, ◌<◌, ◌≤◌, inl, inr, Bool, true, false, List, [], ◌∷◌, ◌++◌, length, get_or, set, drop, drop-cons, map, Option, Some, None, option_map, refl, sym, ap, ◌∙◌, arith, subst, ◌⊎◌, length-set, get_or-set_same, zero-add, add-zero, add-one}
-use Rattle.std.specs.List.{AllByRecursion, enumerate_from}
+use Rattle.std.proofs.Common.{◌≡◌, ◌≢◌, ℕ, zero, suc, ◌+◌, ◌-◌, ◌*◌, ◌<◌, ◌≤◌, inl, inr, Bool, true, false, List, [], ◌∷◌, length, get_or, set, drop, drop-cons, Option, Some, None, option_map, refl, sym, ap, ◌∙◌, arith, ◌⊎◌, length-set, get_or-set_same, add-one}
+use Rattle.std.specs.List.{AllByRecursion}
 use Rattle.std.proofs.lemmas.List.{set-get_or}
 use Rattle.grid_core.specs.declared.cells.Cell.{Cell}
 use Rattle.grid_core.specs.declared.cells.Cell.TheVariants.{Unknown, Filled, Blank}
 use Rattle.std.proofs.Math.Nat.{mul-le-mul_left}
 use Rattle.grid_core.specs.Cells.{CellExtends, Extends, is_known}
-use Rattle.grid_core.specs.Nonogram.{Nonogram, GridLine, places_from, row_line, column_line, lines_of, cells_at, row_at, column_at}
+use Rattle.grid_core.specs.Nonogram.{GridLine, places_from, cells_at}
 use Rattle.line_core.specs.Deduction.{deduced}
 use Rattle.grid_core.proofs.LineLaws.{length-places_from, get_or-places_from, length-cells_at, get_or-cells_at}
 use Rattle.solve_core.specs.Closure.{with_cells, deduce_line, round, closure}

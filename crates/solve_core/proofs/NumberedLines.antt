@@ -1,5 +1,5 @@
 -- The lines of a puzzle by number.
-use Rattle.std.proofs.Common.{◌≡◌, ◌≢◌, ℕ, zero, suc, ◌+◌, ◌-◌, ◌*◌, ◌<◌, ◌≤◌, ◌⊎◌, inl, inr, Bool, true, false, List, [], ◌∷◌, ◌++◌, length, map, get_or, cond, nat_lt, refl, sym, ap, ◌∙◌, arith, ltb-true, ltb-false, length-append}
+use Rattle.std.proofs.Common.{◌≡◌, ◌≢◌, ℕ, zero, suc, ◌+◌, ◌-◌, ◌*◌, ◌<◌, ◌≤◌, ◌⊎◌, inl, inr, Bool, true, false, List, [], ◌∷◌, length, map, get_or, cond, nat_lt, refl, sym, ap, ◌∙◌, arith, ltb-true, ltb-false, length-append}
 use Rattle.std.specs.List.{AllByRecursion, enumerate_from}
 use Rattle.std.proofs.Math.Nat.{mul-le-mul_left}
 use Rattle.std.proofs.lemmas.List.{length-map, get_or-map, get_or_append_left, get_or-append_right}
@@ -7,7 +7,6 @@ use Rattle.std.proofs.lemmas.List.Elements.{recursion_from_All, All-from_get_or}
 use Rattle.std.proofs.lemmas.List.FromFn.{length-enumerate_from, get_or-enumerate_from}
 use Rattle.grid_core.specs.PartialGrid.{IsSize}
 use Rattle.grid_core.specs.Nonogram.{Nonogram, IsNonogram, GridLine, places_from, row_line, column_line, lines_of, row_at, column_at}
-use Rattle.grid_core.proofs.LineLaws.{length-places_from, get_or-places_from}
 use Rattle.solve_core.specs.declared.places.Places.{Places}
 use Rattle.solve_core.specs.Lines.{line_count, line_at, places_in, place_along, places_of, AreWithin}
 use Rattle.solve_core.proofs.StepLaws.{IsOneOf}

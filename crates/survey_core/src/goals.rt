@@ -39,6 +39,7 @@ fn goal_word_beside(puzzle: &Puzzle, solution: &Grid) -> GoalWord
     requires { IsOnlySolution puzzle.now solution.now }
     ensures { result ≡ goal_word puzzle.now }
 {
+    // For what it says of the grid: that its cells are as many as its sides tell.
     solution.width();
     match puzzle.goal() {
         None => GoalWord::Absent,

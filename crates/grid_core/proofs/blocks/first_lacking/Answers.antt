@@ -1,4 +1,4 @@
-use Rattle.std.proofs.Common.{◌∙◌, arith}
+use Rattle.std.proofs.Common.{arith}
 use Rattle.grid_core.proofs.BlockLemmas.{held, is_zero, nothing_in}
 use Rattle.grid_core.proofs.blocks.first_lacking.Goals as goal
 

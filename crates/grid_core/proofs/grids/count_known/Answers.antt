@@ -1,4 +1,4 @@
-use Rattle.std.proofs.Common.{◌≡◌, ◌*◌, ◌+◌, refl, arith}
+use Rattle.std.proofs.Common.{refl, arith}
 use Rattle.grid_core.specs.Blocks.{cells_of}
 use Rattle.grid_core.proofs.BlockLemmas.{known-more}
 use Rattle.grid_core.proofs.grids.count_known.Goals as goal

@@ -1,4 +1,4 @@
-use Rattle.std.proofs.Common.{◌≡◌, ◌*◌, ◌+◌, arith}
+use Rattle.std.proofs.Common.{arith}
 use Rattle.grid_core.proofs.FirstUnknown.{before-more}
 use Rattle.grid_core.proofs.grids.first_unknown_place.Goals as goal
 

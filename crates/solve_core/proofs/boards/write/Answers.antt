@@ -1,4 +1,4 @@
-use Rattle.std.proofs.Common.{◌∙◌, ◌*◌, ◌+◌, List, length, set, ap, arith}
+use Rattle.std.proofs.Common.{◌∙◌, ◌*◌, List, length, set, ap, arith}
 use Rattle.grid_core.specs.declared.cells.Cell.{Cell}
 use Rattle.solve_core.proofs.BoardSteps.{cell_in, lines-written, line_read, length-along}
 use Rattle.solve_core.proofs.boards.write.Goals as goal

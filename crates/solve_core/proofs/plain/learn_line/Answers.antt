@@ -1,4 +1,4 @@
-use Rattle.std.proofs.Common.{arith, subst}
+use Rattle.std.proofs.Common.{subst}
 use Rattle.grid_core.specs.Nonogram.{GridLine, lines_of}
 use Rattle.solve_core.specs.Lines.{line_at}
 use Rattle.solve_core.specs.Marks.{IsLearned}

@@ -1,7 +1,6 @@
-use Rattle.std.proofs.Common.{◌≡◌, ◌≢◌, ◌∙◌, sym, refl, ap, length, Some, List}
+use Rattle.std.proofs.Common.{◌≡◌, ◌∙◌, sym, refl, ap, length, Some, List}
 use Rattle.grid_core.specs.declared.cells.Cell.{Cell}
-use Rattle.grid_core.specs.declared.cells.Cell.TheVariants.{Unknown}
-use Rattle.grid_core.specs.Nonogram.{GridLine, cells_at}
+use Rattle.grid_core.specs.Nonogram.{GridLine}
 use Rattle.line_core.specs.Deduction.{deduced}
 use Rattle.line_core.proofs.DeductionLaws.{length-deduced}
 use Rattle.solve_core.specs.Lines.{places_of}

@@ -1,4 +1,4 @@
-use Rattle.std.proofs.Common.{◌≡◌, ◌+◌, ◌-◌, ◌*◌, ◌≤◌, ◌++◌, [], List, Some, refl, ap, sym, subst, ◌∙◌, arith, length, slice_set}
+use Rattle.std.proofs.Common.{◌≡◌, ◌+◌, ◌-◌, ◌*◌, ◌≤◌, ◌++◌, [], Some, refl, ap, sym, subst, ◌∙◌, arith, length, slice_set}
 use Rattle.grid_core.specs.Nonogram.{Nonogram, IsNonogram, lines_of}
 use Rattle.solve_core.specs.Search.{first_unknown, events}
 use Rattle.solve_core.specs.Sizes.{IsSizeOf}

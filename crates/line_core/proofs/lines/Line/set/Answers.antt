@@ -1,9 +1,9 @@
-use Rattle.std.proofs.Common.{◌≡◌, ◌∙◌, ◌<◌, ℕ, ap, subst, sym, arith, List, set}
+use Rattle.std.proofs.Common.{◌∙◌, ap, subst, sym, arith, List, set}
 use Rattle.grid_core.specs.declared.cells.Cell.{Cell}
 use Rattle.grid_core.specs.Cells.{is_filled}
 use Rattle.place_sets.specs.Masks.{Has, IsMarked, IsMaskOf, joined}
 use Rattle.line_core.specs.Lines.{is_blank}
-use Rattle.line_core.proofs.LineCells.{length_seen, cells-set, apart-set}
+use Rattle.line_core.proofs.LineCells.{length_seen, cells-set}
 use Rattle.line_core.proofs.lines.Line.set.Goals as goal
 
 pub mark-requires : goal.mark-requires

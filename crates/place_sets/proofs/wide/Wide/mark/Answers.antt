@@ -1,4 +1,4 @@
-use Rattle.std.proofs.Common.{ℕ, ◌<◌, rules, arith}
+use Rattle.std.proofs.Common.{◌<◌, rules, arith}
 use Rattle.place_sets.proofs.Marking.{marked_low, marked_high}
 use Rattle.place_sets.proofs.wide.Wide.mark.Goals as goal
 

@@ -1,5 +1,4 @@
-use Rattle.std.proofs.Common.{◌≡◌, ◌∙◌, ◌-◌, ◌+◌, ◌*◌, ◌<◌, ℕ, List, arith, ap, sym, get_or, set, length}
-use Rattle.grid_core.specs.declared.cells.Cell.{Cell}
+use Rattle.std.proofs.Common.{◌≡◌, ◌∙◌, ◌-◌, ◌+◌, ◌*◌, ◌<◌, ℕ, arith, ap, sym, get_or, set}
 use Rattle.grid_core.specs.declared.cells.Cell.TheVariants.{Unknown}
 use Rattle.solve_core.specs.Trails.{TrailedGrid}
 use Rattle.solve_core.proofs.NumberedLines.{along-row, along-column}

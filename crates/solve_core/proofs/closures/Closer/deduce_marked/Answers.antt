@@ -1,6 +1,4 @@
-use Rattle.std.proofs.Common.{◌≡◌, ◌≢◌, ◌∙◌, ◌+◌, ℕ, List, Bool, Some, sym, refl, subst, ap, arith, true≢false}
-use Rattle.solve_core.specs.declared.closures.Progress.{Progress}
-use Rattle.solve_core.specs.declared.closures.Progress.TheVariants.{Dead, Same, Changed}
+use Rattle.std.proofs.Common.{◌≡◌, ◌∙◌, ◌+◌, ℕ, Some, sym, refl, subst, ap, arith, true≢false}
 use Rattle.solve_core.specs.Lines.{line_count}
 use Rattle.solve_core.specs.MarkedPuzzles.{MarkedPuzzle}
 use Rattle.solve_core.specs.Marks.{AreUnmarkedFrom, Progresses, IsUnmarked}

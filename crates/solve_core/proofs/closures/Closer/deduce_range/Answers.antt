@@ -1,6 +1,6 @@
-use Rattle.std.proofs.Common.{rules, ◌≡◌, ◌∙◌, ◌<◌, ◌≤◌, refl, false, sym, subst, get_or}
+use Rattle.std.proofs.Common.{rules, ◌≡◌, ◌∙◌, refl, false, sym, subst, get_or}
 use Rattle.grid_core.specs.Nonogram.{Nonogram}
-use Rattle.solve_core.specs.Marks.{AreParallel, AreUnmarkedFrom}
+use Rattle.solve_core.specs.Marks.{AreParallel}
 use Rattle.solve_core.proofs.TrailSteps.{trailed-trans, trailed-size}
 use Rattle.solve_core.proofs.GridSteps.{unmarked-more}
 use Rattle.solve_core.proofs.closures.Closer.deduce_range.Goals as goal
