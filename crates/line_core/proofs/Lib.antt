@@ -13,4 +13,3 @@ pub mod Changing
 pub mod Telling
 pub mod Learning
 pub mod Examples
-pub mod Comparing

@@ -1,7 +1,8 @@
-use Rattle.std.proofs.Common.{◌≡◌, ℕ, ◌+◌, ◌<◌, ◌≤◌, ◌≢◌, Bool, true, false, List, length, get_or, set, refl, sym, ap, ◌∙◌, subst, arith, true≢false, inl, inr, rules, zero-add, get_or-set_same, get_or-set_other, ◌⊎◌, ext_get_or, length-set, replicate}
+use Rattle.std.proofs.Common.{◌≡◌, ℕ, ◌+◌, ◌^◌, ◌<◌, ◌≤◌, ◌≢◌, Bool, true, false, List, length, get_or, set, refl, sym, ap, ◌∙◌, subst, arith, true≢false, inl, inr, rules, zero-add, get_or-set_same, get_or-set_other, ◌⊎◌, ext_get_or, length-set, replicate}
 use Rattle.std.proofs.lemmas.Bool.{cases_lt}
 use Rattle.std.proofs.lemmas.List.{length-replicate, get_or-replicate}
 use Rattle.std.proofs.lemmas.Nat.Bits.{bit_at-zero}
+use Rattle.std.proofs.Math.Pow.{pow_mono}
 use Rattle.std.proofs.lemmas.List.FromFn.{length-map-range_with_len, get_or-map-range_with_len}
 use Rattle.grid_core.specs.declared.cells.Cell.{Cell}
 use Rattle.grid_core.specs.declared.cells.Cell.TheVariants.{Unknown, Filled, Blank}
@@ -105,7 +106,7 @@ marked_elsewhere m n p i wanted h ne = has_by n i (has m i) to (λ w. h.from i (
     to : Has n i → has m i ≡ true
     to x = elim (h.to i x) [ inl y ↦ has_true m i y.0 | inr y ↦ absurd (ne y.0) ]
 
-cell_itself : (c : Cell) → cell_by (is_filled c) (is_blank c) ≡ c
+pub cell_itself : (c : Cell) → cell_by (is_filled c) (is_blank c) ≡ c
 cell_itself Unknown = refl
 cell_itself Filled = refl
 cell_itself Blank = refl
@@ -149,12 +150,21 @@ cells-none len =
     let within : k < len = omega (arith, length_line len 0 0) in
     cell_at len 0 0 k within ∙ ap (λ (v : Bool). cell_by v (has 0 k)) (has_false 0 k (bit_at-zero k)) ∙ ap (cell_by false) (has_false 0 k (bit_at-zero k)) ∙ sym (get_or-replicate len k Unknown Unknown within))
 
--- the cells that a narrowed mask lacks are those that the mask lacks
-pub lacks_narrow : (width len m n lacking : ℕ) → len ≤ width → IsMaskOf (λ i. (i < width) × Has m i) n → IsMaskOf (λ i. (i < len) × (has n i ≡ false)) lacking → IsMaskOf (λ i. (i < len) × (has m i ≡ false)) lacking
-lacks_narrow width len m n lacking fits p q =
-    mask_same (λ i. (i < len) × (has n i ≡ false)) (λ i. (i < len) × (has m i ≡ false)) lacking q
-    (λ i a. let l : i < len = a.0 in (l, sym (same i (omega arith)) ∙ a.1))
-    (λ i a. let l : i < len = a.0 in (l, same i (omega arith) ∙ a.1))
+-- the same cells by masks of another width
+pub cells-resized : (width len f b wf wb nf nb : ℕ) → len ≤ width → wf ≡ f → wb ≡ b → IsMaskOf (λ i. (i < width) × Has wf i) nf → IsMaskOf (λ i. (i < width) × Has wb i) nb
+    → line_cells len nf nb ≡ line_cells len f b
+cells-resized width len f b wf wb nf nb fits ef eb pf pb =
+    ext_get_or Unknown (line_cells len nf nb) (line_cells len f b) (length_line len nf nb ∙ sym (length_line len f b)) (λ k l.
+    let within : k < len = omega (arith, length_line len nf nb) in
+    cell_at len nf nb k within ∙ ap (λ (v : Bool). cell_by v (has nb k)) (same wf f nf k (omega arith) ef pf) ∙ ap (cell_by (has f k)) (same wb b nb k (omega arith) eb pb) ∙ sym (cell_at len f b k within))
   where
-    same : (i : ℕ) → i < width → has n i ≡ has m i
-    same i l = has_by n i (has m i) (λ h. has_true m i (p.to i h).1) (λ e. p.from i (l, true_has m i e))
+    same : (w m n i : ℕ) → i < width → w ≡ m → IsMaskOf (λ i. (i < width) × Has w i) n → has n i ≡ has m i
+    same w m n i l e p = has_by n i (has w i) (λ h. has_true w i (p.to i h).1) (λ t. p.from i (l, true_has w i t)) ∙ ap (λ (z : ℕ). has z i) e
+
+pub apart-resized : (width f b wf wb nf nb : ℕ) → wf ≡ f → wb ≡ b → IsMaskOf (λ i. (i < width) × Has wf i) nf → IsMaskOf (λ i. (i < width) × Has wb i) nb
+    → ((i : ℕ) → Has f i → Has b i → ⊥) → (i : ℕ) → Has nf i → Has nb i → ⊥
+apart-resized width f b wf wb nf nb ef eb pf pb apart i x y = apart i (subst (λ (z : ℕ). Has z i) ef (pf.to i x).1) (subst (λ (z : ℕ). Has z i) eb (pb.to i y).1)
+
+-- no set has more than 256 places
+pub width_within : (width top : ℕ) → width ≡ 2 ^ top → top ≤ 8 → width ≤ 256
+width_within width top e h = let l : 2 ^ top ≤ 2 ^ 8 = pow_mono h in omega (arith, e, l)

@@ -1,6 +1,6 @@
 //! What is certain of a line.
 
-ghost use Rattle.std.specs.Prelude.{◌≡◌, ◌≤◌, List, length, map, IfOk};
+ghost use Rattle.std.specs.Prelude.{◌≡◌, ◌≤◌, List, length, map, IfOk, All};
 ghost use Rattle.grid_core.specs.declared.cells.Cell.{Cell};
 ghost use Rattle.place_sets.specs.Masks.{IsMaskOf};
 ghost use Rattle.line_core.specs.Deduction.{deduced};
@@ -8,13 +8,14 @@ ghost use Rattle.line_core.specs.Passes.{IsSpanOf};
 ghost use Rattle.line_core.specs.Reach.{AreLengths, AreTurnedGaps, IsFillable, IsBlankable};
 
 use crate::Line;
+use crate::lines::LineOf;
 use crate::passes::Pass;
 use crate::reach::{GAPS, gap_ahead, whole_ends, write_turned_gaps};
-use crate::rooms::Rooms;
+use crate::rooms::{Room, Rooms};
 use crate::spans::Span;
 use crate::widths::places_needed;
 use grid_core::{Clue, LONGEST_SIDE, MOST_RUNS, NoMemory};
-use place_sets::{LEVELS, PlaceSet, add_ends, spread_levels, windows_within};
+use place_sets::{LEVELS, PlaceSet, Wide, add_ends, spread_levels, windows_within};
 use std::alloc::Global;
 use std::marker::Model;
 
@@ -55,19 +56,37 @@ pub fn colours<W: PlaceSet>(span: &Span<W>, clue: &[u16], gaps: &mut [W; GAPS]) 
     possible_colours(span, clue, gaps)
 }
 
-/// What is certain of a line, whose cells are `cells`, by sets of a width that has room for the line and for the clue's numbers, with room for
-/// the gaps of the runs.
-pub fn deduce_within<W: PlaceSet>(line: &Line, clue: &[u16], gaps: &mut [W; GAPS]) -> Option<Line>
+/// What is certain of a line, given the numbers of its clue, with room for the gaps of the runs: what all placings share, or none if there is no
+/// placing.
+fn deduce_numbers<W: PlaceSet>(
+    room: &mut Room<W>,
+    line: &LineOf<W>,
+    clue: &[u16],
+) -> Option<LineOf<W>>
     ghost cells: { List Cell }
     requires cells { line.now ≡ cells }
-    requires line { length cells ≤ W.WIDTH }
     requires clue { AreLengths W.WIDTH clue.now }
     requires count { length clue.now ≤ MOST_RUNS }
     ensures { result ≡ deduced cells clue.now }
 {
-    let span = line.span::<W>();
-    let (fillable, blankable) = colours(&span, clue, gaps);
-    Line::certain(line.len(), fillable.widened(), blankable.widened())
+    let span = line.span();
+    let (fillable, blankable) = colours(&span, clue, &mut room.gaps);
+    LineOf::certain(span.len, fillable, blankable)
+}
+
+/// What is certain of a line, in sets of a width that has room for the line and for the clue's numbers.
+pub(crate) fn deduce_at<W: PlaceSet>(room: &mut Room<W>, line: &Line, clue: &[u16]) -> Option<Line>
+    requires line { length line.now ≤ W.WIDTH }
+    requires clue { AreLengths W.WIDTH clue.now }
+    requires count { length clue.now ≤ MOST_RUNS }
+    ensures { result ≡ deduced line.now clue.now }
+{
+    match deduce_numbers(room, &line.cells.resized(), clue) {
+        None => None,
+        Some(certain) => Some(Line {
+            cells: certain.widened(),
+        }),
+    }
 }
 
 /// What is certain of a line, by the narrowest sets that have room for it and for the clue's numbers.
@@ -78,11 +97,11 @@ fn deduce_with(line: &Line, clue: &[u16], rooms: &mut Rooms) -> Option<Line>
 {
     let needed = places_needed(line.len(), clue);
     if needed <= 64 {
-        deduce_within(line, clue, &mut rooms.narrow)
+        deduce_at(&mut rooms.narrow, line, clue)
     } else if needed <= 128 {
-        deduce_within(line, clue, &mut rooms.middle)
+        deduce_at(&mut rooms.middle, line, clue)
     } else {
-        deduce_within(line, clue, &mut rooms.wide)
+        deduce_at(&mut rooms.wide, line, clue)
     }
 }
 
@@ -121,4 +140,44 @@ pub fn deduce(tables: &mut Tables, line: &Line, clue: &Clue) -> Option<Line>
     ensures room { tables.new ≡ tables.old }
 {
     deduce_with(line, clue.numbers(), &mut tables.rooms)
+}
+
+/// What is certain of a line, given its clue, whose numbers are no greater than its sets have places.
+fn deduce_within<W: PlaceSet>(
+    room: &mut Room<W>,
+    line: &LineOf<W>,
+    clue: &Clue,
+) -> Option<LineOf<W>>
+    requires { All (λ number. number ≤ W.WIDTH) clue.now }
+    ensures { result ≡ deduced line.now clue.now }
+{
+    deduce_numbers(room, line, clue.numbers())
+}
+
+/// Sets that lines are kept in and deduced by.
+pub trait LineSet: PlaceSet {
+    /// What is certain of a line, given its clue, whose numbers are no greater than the sets have places: what all placings share, or none if
+    /// there is no placing.
+    fn deduce(tables: &mut Tables, line: &LineOf<Self>, clue: &Clue) -> Option<LineOf<Self>>
+        requires { All (λ number. number ≤ Self.WIDTH) clue.now }
+        ensures answer { result ≡ deduced line.now clue.now }
+        ensures room { tables.new ≡ tables.old };
+}
+
+impl LineSet for u64 {
+    fn deduce(tables: &mut Tables, line: &LineOf<u64>, clue: &Clue) -> Option<LineOf<u64>> {
+        deduce_within(&mut tables.rooms.narrow, line, clue)
+    }
+}
+
+impl LineSet for u128 {
+    fn deduce(tables: &mut Tables, line: &LineOf<u128>, clue: &Clue) -> Option<LineOf<u128>> {
+        deduce_within(&mut tables.rooms.middle, line, clue)
+    }
+}
+
+impl LineSet for Wide {
+    fn deduce(tables: &mut Tables, line: &LineOf<Wide>, clue: &Clue) -> Option<LineOf<Wide>> {
+        deduce_within(&mut tables.rooms.wide, line, clue)
+    }
 }

@@ -4,6 +4,7 @@
 mod deduction;
 mod gaps;
 pub mod laws;
+mod line;
 mod lines;
 mod listing;
 mod passes;
@@ -17,7 +18,9 @@ mod tests;
 mod tests_starts;
 mod widths;
 
-pub use deduction::{Tables, deduce};
-pub use lines::Line;
+pub use deduction::{LineSet, Tables, deduce};
+pub use line::Line;
+pub use lines::LineOf;
 pub use listing::deduce_by_listing;
 pub use starts::{Starts, leftmost, rightmost};
+pub use widths::places_needed;

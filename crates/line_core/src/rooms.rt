@@ -5,26 +5,41 @@ use grid_core::NoMemory;
 use place_sets::{PlaceSet, Wide};
 use std::alloc::Global;
 
-/// Room for the gaps before each run of a clue and after the last one, in sets of 64, 128 and 256 places.
+/// Room for the gaps before each run of a clue and after the last one.
+#[derive(Drop)]
+pub struct Room<W: PlaceSet> {
+    pub(crate) gaps: [W; GAPS],
+}
+
+impl<W: PlaceSet> Room<W> {
+    /// Makes the room.
+    pub fn new() -> Room<W> {
+        Room {
+            gaps: [W::none(); GAPS],
+        }
+    }
+}
+
+/// Room in sets of 64, 128 and 256 places.
 #[derive(Drop)]
 pub struct Rooms {
     /// Sets of 64 places.
-    pub narrow: [u64; GAPS],
+    pub narrow: Room<u64>,
     /// Sets of 128 places.
-    pub middle: [u128; GAPS],
+    pub middle: Room<u128>,
     /// Sets of 256 places.
-    pub wide: [Wide; GAPS],
+    pub wide: Room<Wide>,
 }
 
 impl Rooms {
-    /// Rooms in one box.
+    /// Makes the room of all three.
     pub fn new(alloc: Global) -> Result<Box<Rooms>, NoMemory> {
         Ok(Box::new(
             alloc,
             Rooms {
-                narrow: [0; GAPS],
-                middle: [0; GAPS],
-                wide: [Wide::none(); GAPS],
+                narrow: Room::new(),
+                middle: Room::new(),
+                wide: Room::new(),
             },
         )?)
     }

@@ -10,9 +10,10 @@ ghost use Rattle.line_core.specs.Reach.{AreLengths, AreTurnedGaps, HasPlacing};
 
 use crate::Line;
 use crate::gaps::first_gap;
+use crate::lines::LineOf;
 use crate::passes::Pass;
 use crate::reach::{GAPS, gap_ahead, whole_ends, write_turned_gaps};
-use crate::rooms::Rooms;
+use crate::rooms::{Room, Rooms};
 use crate::spans::Span;
 use crate::widths::places_needed;
 use grid_core::{Clue, LONGEST_SIDE, MOST_RUNS, NoMemory};
@@ -87,14 +88,13 @@ fn write_starts<W: PlaceSet>(
 /// Writes the starts of the placing that is furthest to a side, found in sets of one width. Answers whether there is a placing.
 pub fn find_starts<W: PlaceSet>(
     side: Side,
-    line: &Line,
+    line: &LineOf<W>,
     clue: &[u16],
-    gaps: &mut [W; GAPS],
+    room: &mut Room<W>,
     list: &mut [u16; MOST_RUNS],
 ) -> bool
     ghost cells: { List Cell }
     requires cells { line.now ≡ cells }
-    requires len { length line.now ≤ W.WIDTH }
     requires clue { AreLengths W.WIDTH clue.now }
     requires count { length clue.now ≤ MOST_RUNS }
     ensures { MatchBool result
@@ -102,11 +102,11 @@ pub fn find_starts<W: PlaceSet>(
         (outermost side cells clue.now ≡ None) }
 {
     let span = line.span();
-    write_turned_gaps(&span, clue, gaps);
+    write_turned_gaps(&span, clue, &mut room.gaps);
     if clue.is_empty() {
-        may_have_no_run(&span, clue, gaps)
+        may_have_no_run(&span, clue, &room.gaps)
     } else {
-        write_starts(side, &span, clue, gaps, list)
+        write_starts(side, &span, clue, &room.gaps, list)
     }
 }
 
@@ -127,11 +127,11 @@ fn find_by_width(
 {
     let needed = places_needed(line.len(), clue);
     if needed <= 64 {
-        find_starts(side, line, clue, &mut rooms.narrow, list)
+        find_starts(side, &line.cells.resized(), clue, &mut rooms.narrow, list)
     } else if needed <= 128 {
-        find_starts(side, line, clue, &mut rooms.middle, list)
+        find_starts(side, &line.cells.resized(), clue, &mut rooms.middle, list)
     } else {
-        find_starts(side, line, clue, &mut rooms.wide, list)
+        find_starts(side, &line.cells.resized(), clue, &mut rooms.wide, list)
     }
 }
 

@@ -4,10 +4,11 @@ ghost use Rattle.std.specs.Prelude.{◌≡◌, ◌+◌, ◌<◌, ◌≤◌, leng
 ghost use Rattle.line_core.specs.Reach.{AreLengths};
 
 use super::*;
-use crate::deduction::deduce_within;
+use crate::deduction::deduce_at;
 use crate::rooms::Rooms;
 use crate::widths::places_needed;
 use grid_core::{Cell, Clue, LONGEST_SIDE, MOST_RUNS};
+use place_sets::{PlaceSet, Wide};
 use std::alloc::Global;
 use std::test::Fail;
 
@@ -411,9 +412,9 @@ fn widths_agree(line: &Line, clue: &[u16], rooms: &mut Rooms) -> bool
     if places_needed(line.len(), clue) > 64 {
         return false;
     }
-    let narrow = deduce_within(line, clue, &mut rooms.narrow);
-    let middle = deduce_within(line, clue, &mut rooms.middle);
-    let wide = deduce_within(line, clue, &mut rooms.wide);
+    let narrow = deduce_at(&mut rooms.narrow, line, clue);
+    let middle = deduce_at(&mut rooms.middle, line, clue);
+    let wide = deduce_at(&mut rooms.wide, line, clue);
     is_same(&narrow, &middle) && is_same(&narrow, &wide)
 }
 
@@ -432,48 +433,60 @@ fn widths_deduce_alike(rt: HostRuntime) -> Result<(), Fail> {
     Ok(())
 }
 
-#[test]
-fn changes_of_a_copy_are_found(rt: HostRuntime) -> Result<(), Fail> {
-    let mut line = Line::unknown(6);
-    line.set(1, Cell::Filled);
-    line.set(3, Cell::Blank);
-    let mut other = line.copy();
-    assert!(rt; is_line(&other, "?#?.??"), "a copy");
-    other.set(1, Cell::Blank);
-    other.set(4, Cell::Filled);
-    assert!(rt; line.next_change(&other, 0) == Some(1), "the first change");
-    assert!(rt; line.next_change(&other, 2) == Some(4), "the next");
-    assert!(rt; line.next_change(&other, 5) == None, "no more");
-    assert!(rt; line.next_change(&other, 6) == None, "at the end");
-    Ok(())
+/// Whether these are the places where two lines of 256 cells differ.
+fn are_changes(line: &LineOf<Wide>, other: &LineOf<Wide>, places: &[u16]) -> bool {
+    if line.len() != other.len() {
+        return false;
+    }
+    let changes = line.changes(other);
+    (0..line.len()).all(|i| changes.has(i) == places.contains(&i))
 }
 
 #[test]
-fn changes_at_word_ends_are_found(rt: HostRuntime) -> Result<(), Fail> {
-    let line = Line::unknown(256);
+fn changes_are_found(rt: HostRuntime) -> Result<(), Fail> {
+    let line = LineOf::<Wide>::unknown(256);
     let mut other = line.copy();
-    assert!(rt; line.next_change(&other, 0) == None, "no change");
-    other.set(64, Cell::Filled);
+    assert!(rt; are_changes(&line, &other, &[]), "no change");
+    other.set(0, Cell::Filled);
     other.set(127, Cell::Blank);
     other.set(128, Cell::Filled);
     other.set(255, Cell::Blank);
-    assert!(rt; line.next_change(&other, 0) == Some(64), "the first change");
-    assert!(rt; line.next_change(&other, 64) == Some(64), "at the change");
-    assert!(rt; line.next_change(&other, 65) == Some(127), "the next");
-    assert!(rt; line.next_change(&other, 128) == Some(128), "past the half");
-    assert!(rt; line.next_change(&other, 129) == Some(255), "the last");
-    assert!(rt; line.next_change(&other, 256) == None, "at the end");
+    assert!(rt; are_changes(&line, &other, &[0, 127, 128, 255]), "changes");
+    other.set(127, Cell::Unknown);
+    assert!(rt; are_changes(&line, &other, &[0, 128, 255]), "one less");
+    let mut filled = other.copy();
+    filled.set(255, Cell::Filled);
+    assert!(rt; are_changes(&other, &filled, &[255]), "another colour");
     Ok(())
 }
 
 #[test]
 fn a_line_becomes_another(rt: HostRuntime) -> Result<(), Fail> {
-    let mut other = Line::unknown(130);
-    other.set(129, Cell::Blank);
-    let mut line = Line::unknown(3);
+    let mut other = LineOf::<u128>::unknown(100);
+    other.set(99, Cell::Blank);
+    let mut line = LineOf::<u128>::unknown(3);
     line.set(0, Cell::Filled);
+    assert!(rt; !other.is_same(&line), "two lines");
     other.copy_from(&line);
-    assert!(rt; is_line(&other, "#??"));
+    assert!(rt; other.is_same(&line), "the same");
+    assert!(rt; other.hash() == line.hash(), "one hash");
+    assert!(rt;
+        other.len() == 3 && other.get(0) == Cell::Filled,
+        "its cells"
+    );
+    Ok(())
+}
+
+#[test]
+fn a_line_is_deduced_in_its_own_sets(rt: HostRuntime) -> Result<(), Fail> {
+    let alloc = rt.alloc();
+    let mut tables = Tables::new(alloc, 64)?;
+    let clue = Clue::from_numbers(alloc, &[3])?;
+    let mut wanted = LineOf::<u64>::unknown(5);
+    let line = wanted.copy();
+    wanted.set(2, Cell::Filled);
+    let deduced = u64::deduce(&mut tables, &line, &clue).ok_or("no placing")?;
+    assert!(rt; deduced.is_same(&wanted));
     Ok(())
 }
 

@@ -260,9 +260,27 @@ fn widths_agree(
     let mut narrow = [0; MOST_RUNS];
     let mut middle = [0; MOST_RUNS];
     let mut wide = [0; MOST_RUNS];
-    let by_narrow = find_starts(side, line, clue, &mut rooms.narrow, &mut narrow);
-    let by_middle = find_starts(side, line, clue, &mut rooms.middle, &mut middle);
-    let by_wide = find_starts(side, line, clue, &mut rooms.wide, &mut wide);
+    let by_narrow = find_starts(
+        side,
+        &line.cells.resized(),
+        clue,
+        &mut rooms.narrow,
+        &mut narrow,
+    );
+    let by_middle = find_starts(
+        side,
+        &line.cells.resized(),
+        clue,
+        &mut rooms.middle,
+        &mut middle,
+    );
+    let by_wide = find_starts(
+        side,
+        &line.cells.resized(),
+        clue,
+        &mut rooms.wide,
+        &mut wide,
+    );
     if by_narrow != found || by_middle != found || by_wide != found {
         return false;
     }

@@ -1,11 +1,11 @@
 -- What one step on a word comes to, as a set of places.
-use Rattle.std.proofs.Common.{◌≡◌, ◌≢◌, ℕ, ◌+◌, ◌-◌, ◌*◌, ◌/◌, ◌%◌, ◌^◌, ◌<◌, ◌≤◌, ◌⊎◌, inl, inr, Bool, true, false, refl, sym, ap, ◌∙◌, arith}
+use Rattle.std.proofs.Common.{◌≡◌, ◌≢◌, ℕ, zero, suc, ◌+◌, ◌-◌, ◌*◌, ◌/◌, ◌%◌, ◌^◌, ◌<◌, ◌≤◌, ◌⊎◌, inl, inr, Bool, true, false, refl, sym, ap, ◌∙◌, arith}
 use Rattle.std.specs.Int.{bit_at, w64, w128}
 use Rattle.std.specs.Int.Bits.{bit_xor}
 use Rattle.std.specs.Int.RustNames.{bit_and, bit_or}
 use Rattle.std.proofs.lemmas.Bool.{cases_lt}
 use Rattle.std.proofs.lemmas.Nat.Bits.{bit_at_xor, bit_at_not, bit_at-lt, bit_at-zero, bit_at_ones, bit_at_ones_above, bit_at_cat_high}
-use Rattle.std.proofs.lemmas.Nat.{pow_pos}
+use Rattle.std.proofs.lemmas.Nat.{pow-add, pow_pos}
 use Rattle.std.proofs.Math.Nat.{mod-lt}
 use Rattle.place_sets.specs.Masks.{Has, has, IsMaskOf, IsMoved}
 use Rattle.place_sets.proofs.Flooding.{has_below, bit_at_mod}
@@ -94,3 +94,18 @@ low_places w n = record {
   to = λ i h. let l = has_below w (n % 2 ^ w) i (mod-lt n (pow_pos w)) h in (l, sym (bit_at_mod w n i l) ∙ h);
   from = λ i h. bit_at_mod w n i h.0 ∙ h.1;
 }
+
+below_power : (m : ℕ) → m < 2 ^ m
+below_power zero = omega arith
+below_power (suc m) = let e : 2 ^ (m + 1) ≡ 2 ^ m * 2 ^ 1 = pow-add 2 m 1 in omega (arith, e, below_power m)
+
+power_of : (n m : ℕ) → m < 2 ^ n → 0 < m → (r : ℕ) × (2 ^ r ≤ m) × (m < 2 * 2 ^ r)
+power_of zero m h p = absurd (omega (arith, h, p))
+power_of (suc n) m h p = elim (cases_lt m (2 ^ n)) [
+  | inl l ↦ power_of n m l p
+  | inr l ↦ (let e : 2 ^ (n + 1) ≡ 2 ^ n * 2 ^ 1 = pow-add 2 n 1 in (n, l, omega (arith, e, h)))
+]
+
+-- a mask that is not 0 has a place
+pub some_place : (m : ℕ) → 0 < m → (i : ℕ) × Has m i
+some_place m p = let r = power_of m m (below_power m) p in (r.0, top_place m r.0 r.1 r.2)

@@ -1,5 +1,5 @@
 -- Words as sets of places: a bit a place.
-use Rattle.std.specs.Prelude.{◌≡◌, ◌≢◌, ℕ, zero, suc, ◌+◌, ◌-◌, ◌*◌, ◌<◌, ◌≤◌, ◌⊎◌, Bool, true, not, ◌&&◌, nat_eq, nat_lt, nat_le, if◌then◌else◌, List, slice_index_or, ◌^◌}
+use Rattle.std.specs.Prelude.{◌≡◌, ◌≢◌, ℕ, zero, suc, ◌+◌, ◌-◌, ◌*◌, ◌<◌, ◌≤◌, ◌⊎◌, Bool, true, not, ◌&&◌, nat_eq, nat_lt, nat_le, if◌then◌else◌, List, slice_index_or, ◌^◌, Option, Some, None}
 use Rattle.std.specs.Int.{bit_at}
 
 -- whether a mask has a place
@@ -73,3 +73,8 @@ pub record AreLevelsOf (P : ℕ → Type 0) (top : ℕ) (levels : List ℕ) : Ty
 -- the number of a wide word, in two halves
 abbrev pub joined : ℕ → ℕ → ℕ
 joined low high = high * 2 ^ 128 + low
+
+-- the first place is taken out of a mask, if there is one
+abbrev pub IsTaken : ℕ → Option ℕ → ℕ → Type 0
+IsTaken old None new = (i : ℕ) → Has old i → ⊥
+IsTaken old (Some first) new = Has old first × ((i : ℕ) → Has old i → first ≤ i) × IsMaskOf (λ i. Has old i × (first < i)) new

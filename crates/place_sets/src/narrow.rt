@@ -110,6 +110,10 @@ impl PlaceSet for u64 {
         }
     }
 
+    fn folded(self) -> u64 {
+        self
+    }
+
     ghost width_is = { refl };
 
     ghost top_is = { (Prim.omega arith, Prim.omega arith) };
@@ -202,6 +206,10 @@ impl PlaceSet for u128 {
 
     fn widened(self) -> Wide {
         Wide { low: self, high: 0 }
+    }
+
+    fn folded(self) -> u64 {
+        ((self >> 64) as u64) ^ ((self & 0xffffffffffffffff) as u64)
     }
 
     ghost width_is = { refl };

@@ -106,6 +106,9 @@ pub trait PlaceSet: Copy {
     fn widened(self) -> Wide
         ensures { joined result.low result.high ≡ number self };
 
+    /// All places in one word, for hashes: sets with the same places share it.
+    fn folded(self) -> u64;
+
     /// The width is a power of two.
     ghost width_is: { WIDTH ≡ 2 ^ TOP };
 

@@ -13,21 +13,6 @@ pub struct Wide {
     pub high: u128,
 }
 
-impl Wide {
-    /// Puts a place into the set if it is wanted there, and else takes it out. It touches the half that has the place.
-    pub fn mark(&mut self, place: u16, wanted: bool)
-        requires { place < 256 }
-        ensures { IsMaskOf (IsMarked (Has (joined self.old.low self.old.high)) place wanted) (joined self.new.low self.new.high) }
-    {
-        let low = self.low;
-        if place < 128 {
-            self.low = low.marked(place, wanted);
-        } else {
-            self.high = self.high.marked(place - 128, wanted);
-        }
-    }
-}
-
 impl PlaceSet for Wide {
     ghost number = { λ word. joined word.low word.high };
 
@@ -178,6 +163,10 @@ impl PlaceSet for Wide {
 
     fn widened(self) -> Wide {
         self
+    }
+
+    fn folded(self) -> u64 {
+        self.low.folded() ^ self.high.folded().rotate_left(17)
     }
 
     ghost width_is = { refl };

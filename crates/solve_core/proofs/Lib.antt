@@ -16,3 +16,5 @@ pub mod AnswerLaws
 pub mod BranchLaws
 pub mod SearchSteps
 pub mod Examples
+pub mod Fitting
+pub mod Changes

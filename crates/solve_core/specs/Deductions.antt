@@ -1,24 +1,24 @@
 -- Deductions of a puzzle's lines that are remembered.
 use Rattle.std.specs.Prelude.{◌≡◌, ◌⊎◌, ℕ, ◌≤◌, List, All}
 use Rattle.std.specs.List.{Contains}
-use Rattle.grid_core.specs.declared.limits.TheConstants.{LONGEST_SIDE}
 use Rattle.grid_core.specs.Nonogram.{Nonogram}
 use Rattle.line_core.specs.Deduction.{deduced}
 use Rattle.solve_core.specs.Lines.{line_at}
+use Rattle.solve_core.specs.Widths.{FitsIn}
 use Rattle.solve_core.specs.declared.deductions.TheConstants.{MOST_REMEMBERED}
 use Rattle.solve_core.specs.declared.deductions.Deduction.{Deduction}
 
 -- what is remembered of a line is what is certain of it
-abbrev pub IsDeductionOf : Nonogram → Deduction → Type 0
+abbrev pub IsDeductionOf : {W : Type 0} → Nonogram → Deduction W → Type 0
 IsDeductionOf p d = d.answer ≡ deduced d.line (line_at p d.number).clue
 
 -- a deduction is the new one, or one of the old ones
-abbrev pub IsKeptFrom : List Deduction → Deduction → Deduction → Type 0
+abbrev pub IsKeptFrom : {W : Type 0} → List (Deduction W) → Deduction W → Deduction W → Type 0
 IsKeptFrom old new d = (d ≡ new) ⊎ Contains old d
 
--- what is kept with the deductions of a puzzle: each is one, and there is room for so many, and for so many slots
-pub record AreDeductionsOf (p : Nonogram) (longest room slots_room kept_room : ℕ) (kept : List Deduction) : Type 0 where
-  pub tables : longest ≡ LONGEST_SIDE
+-- what is kept with the deductions of a puzzle: each is one, there is room for so many, and for so many slots, and sets of the width have room for the puzzle
+pub record AreDeductionsOf {W : Type 0} (p : Nonogram) (width room slots_room kept_room : ℕ) (kept : List (Deduction W)) : Type 0 where
+  pub fits : FitsIn width p
   pub some : 1 ≤ room
   pub few : room ≤ MOST_REMEMBERED
   pub slots_fit : room ≤ slots_room

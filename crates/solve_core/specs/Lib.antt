@@ -16,3 +16,5 @@ pub mod Endings
 pub mod FoundGrids
 pub mod Branches
 pub mod Guesses
+pub mod Widths
+pub mod Fittings

@@ -2,7 +2,6 @@
 ghost use Rattle.std.specs.Prelude.{◌≡◌, ◌+◌, ◌-◌, ◌*◌, ◌<◌, ◌≤◌, [], length, replicate, take, slice_index_or, slice_set, true, IfOk};
 ghost use Rattle.grid_core.specs.Cells.{is_known};
 ghost use Rattle.grid_core.specs.Nonogram.{cells_at};
-ghost use Rattle.grid_core.specs.declared.limits.TheConstants.{LONGEST_SIDE};
 ghost use Rattle.solve_core.specs.Lines.{places_in, place_along, places_of};
 ghost use Rattle.grid_core.specs.PartialGrid.{IsSize};
 ghost use Rattle.grid_core.specs.declared.cells.Cell.TheVariants.{Unknown};
@@ -11,21 +10,21 @@ ghost use Rattle.solve_core.specs.Branches.{cells_before};
 ghost use Rattle.solve_core.specs.Trails.{IsTrailed, IsTrailedGrid};
 
 use grid_core::{Cell, Grid, NoMemory};
-use line_core::Line;
+use line_core::{LineOf, LineSet};
 use std::alloc::Global;
 use std::marker::Model;
 
 /// A grid, each row and each column of it as a line, so that none has to be gathered cell by cell. It keeps the places of the cells in the order
 /// in which they were settled, in room that is made once, and so leads back.
 #[derive(Drop)]
-pub struct Board {
+pub struct Board<W: LineSet> {
     cells: Vec<Cell>,
-    rows: Vec<Line>,
-    columns: Vec<Line>,
+    rows: Vec<LineOf<W>>,
+    columns: Vec<LineOf<W>>,
     trail: Vec<u16>,
 }
 
-impl Model for Board {
+impl<W: LineSet> Model for Board<W> {
     ghost use Rattle.std.specs.Prelude.{length, vec_capacity};
     ghost use Rattle.solve_core.specs.Boards.{IsBoard};
     ghost use Rattle.solve_core.specs.Trails.{TrailedGrid};
@@ -38,22 +37,26 @@ impl Model for Board {
 }
 
 /// So many lines of so many cells, of which nothing is known.
-fn unknown_lines(alloc: Global, len: u16, count: u16) -> Result<Vec<Line>, NoMemory>
-    requires { (1 ≤ len) × (len ≤ LONGEST_SIDE) }
+fn unknown_lines<W: LineSet>(
+    alloc: Global,
+    len: u16,
+    count: u16,
+) -> Result<Vec<LineOf<W>>, NoMemory>
+    requires { (1 ≤ len) × (len ≤ W.WIDTH) }
     ensures { IfOk result (λ lines. lines.items ≡ replicate count (replicate len Unknown)) }
 {
     let mut lines = Vec::with_capacity(alloc, usize::from(count))?;
     for _ in 0..count {
-        lines.push_reserved(Line::unknown(len));
+        lines.push_reserved(LineOf::unknown(len));
     }
     Ok(lines)
 }
 
 /// Changes the cell in column x and row y, and with it its row and its column.
-fn write(
+fn write<W: LineSet>(
     cells: &mut [Cell],
-    rows: &mut [Line],
-    columns: &mut [Line],
+    rows: &mut [LineOf<W>],
+    columns: &mut [LineOf<W>],
     x: usize,
     y: usize,
     cell: Cell,
@@ -70,7 +73,7 @@ fn write(
 }
 
 /// Copies lines.
-fn copy_lines(lines: &mut [Line], others: &[Line])
+fn copy_lines<W: LineSet>(lines: &mut [LineOf<W>], others: &[LineOf<W>])
     requires { length others.now ≡ length lines.old }
     ensures { lines.new ≡ others.now }
 {
@@ -79,10 +82,11 @@ fn copy_lines(lines: &mut [Line], others: &[Line])
     }
 }
 
-impl Board {
+impl<W: LineSet> Board<W> {
     /// A board of which nothing is known.
-    pub fn unknown(alloc: Global, width: u16, height: u16) -> Result<Board, NoMemory>
-        requires { IsSize width height }
+    pub fn unknown(alloc: Global, width: u16, height: u16) -> Result<Board<W>, NoMemory>
+        requires size { IsSize width height }
+        requires fits { (width ≤ W.WIDTH) × (height ≤ W.WIDTH) }
         ensures { IfOk result (λ board. board ≡ unknown_board width height) }
     {
         let count = usize::from(width) * usize::from(height);
@@ -112,7 +116,7 @@ impl Board {
     }
 
     /// What is known of the cells of line n: the rows come first, from the top, and then the columns, from the left.
-    pub fn line(&self, n: usize) -> Line
+    pub fn line(&self, n: usize) -> LineOf<W>
         requires { n < self.now.height + self.now.width }
         ensures { result ≡ cells_at Unknown self.now.cells (places_of (places_in self.now.width self.now.height n)) }
     {
@@ -203,7 +207,7 @@ impl Board {
     }
 
     /// Takes over another board's cells, with nothing to go back to.
-    pub fn restart_from(&mut self, other: &Board)
+    pub fn restart_from(&mut self, other: &Board<W>)
         requires width { other.now.width ≡ self.old.width }
         requires height { other.now.height ≡ self.old.height }
         ensures { self.new ≡ record other.now { trail = [] } }

@@ -8,6 +8,7 @@ ghost use Rattle.solve_core.specs.Branches.{IsWork, AreOlder, IsOpen, IsReady, p
 
 use crate::boards::Board;
 use grid_core::Cell;
+use line_core::LineSet;
 
 /// A filled guess whose cell is still to be guessed blank: its place, and how many places the trail had.
 #[derive(Clone, Copy, Debug)]
@@ -20,8 +21,8 @@ pub struct Branch {
 
 /// The next guess, a place and a colour, and the board made ready for it: the cell to guess is filled, or else the last branch's cell is blank
 /// in the board as it was. None where neither is left.
-pub(crate) fn next_guess(
-    board: &mut Board,
+pub(crate) fn next_guess<W: LineSet>(
+    board: &mut Board<W>,
     branches: &mut Vec<Branch>,
     next: Option<usize>,
 ) -> Option<(usize, Cell)>

@@ -7,14 +7,15 @@ ghost use Rattle.solve_core.specs.Closure.{closure};
 ghost use Rattle.solve_core.specs.Lines.{line_at, line_count, places_in};
 ghost use Rattle.solve_core.specs.Marks.{IsLearned, MarksChanges, HasMarks, Progresses, MarksAfter, AreParallel, AreUnmarkedFrom, AddsNone, IsUnmarked, IsAtRest, if_alive};
 ghost use Rattle.solve_core.specs.Trails.{IsTrailed};
+ghost use Rattle.solve_core.specs.Widths.{FitsIn};
 ghost use Rattle.solve_core.specs.Boards.{IsBoardOf};
 ghost use Rattle.solve_core.specs.declared.closures.Progress.TheVariants.{Dead, Same};
 
 use crate::boards::Board;
 use crate::deductions::Deductions;
 use crate::places::write_line;
-use grid_core::{Cell, LONGEST_SIDE, NoMemory, Puzzle};
-use line_core::Line;
+use grid_core::{Cell, NoMemory, Puzzle};
+use line_core::LineSet;
 use std::alloc::Global;
 use std::marker::Model;
 
@@ -40,15 +41,14 @@ impl Progress {
 
 /// What closing works with: a puzzle, its tables, and a mark for each line that may have more to give, the rows first.
 #[derive(Drop)]
-pub struct Closer<'p> {
+pub struct Closer<'p, W: LineSet> {
     puzzle: &'p Puzzle,
-    deductions: Deductions<'p>,
+    deductions: Deductions<'p, W>,
     marks: Vec<bool>,
 }
 
-impl<'p> Model for Closer<'p> {
+impl<'p, W: LineSet> Model for Closer<'p, W> {
     ghost use Rattle.std.specs.Prelude.{◌≡◌, length};
-    ghost use Rattle.grid_core.specs.declared.limits.TheConstants.{LONGEST_SIDE};
     ghost use Rattle.grid_core.specs.Nonogram.{IsNonogram};
     ghost use Rattle.solve_core.specs.Lines.{line_count};
     ghost use Rattle.solve_core.specs.MarkedPuzzles.{MarkedPuzzle};
@@ -61,10 +61,10 @@ impl<'p> Model for Closer<'p> {
 }
 
 /// Writes what is certain of line n, and marks the lines that cross it at the cells that it learned.
-fn learn_line(
-    deductions: &mut Deductions<'_>,
+fn learn_line<W: LineSet>(
+    deductions: &mut Deductions<'_, W>,
     n: usize,
-    board: &mut Board,
+    board: &mut Board<W>,
     marks: &mut [bool],
 ) -> Progress
     requires n { n < line_count deductions.old }
@@ -90,9 +90,10 @@ fn learn_line(
     }
 }
 
-impl<'p> Closer<'p> {
+impl<'p, W: LineSet> Closer<'p, W> {
     /// Makes the room that closing takes. No line is marked.
-    pub fn new(alloc: Global, puzzle: &'p Puzzle) -> Result<Closer<'p>, NoMemory>
+    pub fn new(alloc: Global, puzzle: &'p Puzzle) -> Result<Closer<'p, W>, NoMemory>
+        requires { FitsIn W.WIDTH puzzle.now }
         ensures { IfOk result (λ closer. closer.puzzle ≡ puzzle.now) }
     {
         let count = usize::from(puzzle.height()) + usize::from(puzzle.width());
@@ -104,7 +105,7 @@ impl<'p> Closer<'p> {
     }
 
     /// Deduces line n.
-    fn deduce_line(&mut self, n: usize, board: &mut Board) -> Progress
+    fn deduce_line(&mut self, n: usize, board: &mut Board<W>) -> Progress
         requires n { n < line_count self.old.puzzle }
         requires marks { HasMarks self.old board.old.cells }
         requires size { IsBoardOf self.old.puzzle board.old }
@@ -121,7 +122,7 @@ impl<'p> Closer<'p> {
     }
 
     /// Deduces each marked line from `start` on and before `end`: rows, or columns.
-    fn deduce_range(&mut self, start: usize, end: usize, board: &mut Board) -> Progress
+    fn deduce_range(&mut self, start: usize, end: usize, board: &mut Board<W>) -> Progress
         requires end { end ≤ line_count self.old.puzzle }
         requires parallel { AreParallel self.old.puzzle start end }
         requires marks { HasMarks self.old board.old.cells }
@@ -147,7 +148,7 @@ impl<'p> Closer<'p> {
     }
 
     /// Deduces marked lines until none is marked: all rows in turn, then all columns, and again. Answers whether the grid is alive.
-    fn deduce_marked(&mut self, board: &mut Board) -> bool
+    fn deduce_marked(&mut self, board: &mut Board<W>) -> bool
         requires marks { HasMarks self.old board.old.cells }
         requires size { IsBoardOf self.old.puzzle board.old }
         ensures closed { if_alive result board.new.cells ≡ closure (lines_of self.old.puzzle) board.old.cells }
@@ -170,7 +171,7 @@ impl<'p> Closer<'p> {
     }
 
     /// Closes a board by the marked lines. Answers whether it is alive. No line is marked then.
-    fn propagate(&mut self, board: &mut Board) -> bool
+    fn propagate(&mut self, board: &mut Board<W>) -> bool
         requires marks { HasMarks self.old board.old.cells }
         requires size { IsBoardOf self.old.puzzle board.old }
         ensures closed { if_alive result board.new.cells ≡ closure (lines_of self.old.puzzle) board.old.cells }
@@ -188,7 +189,7 @@ impl<'p> Closer<'p> {
     }
 
     /// Closes a board by all lines, whatever was marked. Answers whether it is alive. No line is marked then.
-    pub fn propagate_all(&mut self, board: &mut Board) -> bool
+    pub fn propagate_all(&mut self, board: &mut Board<W>) -> bool
         requires size { IsBoardOf self.old.puzzle board.old }
         ensures closed { if_alive result board.new.cells ≡ closure (lines_of self.old.puzzle) board.old.cells }
         ensures rest { IsTrue result → IsAtRest self.new board.new.cells }
@@ -201,7 +202,7 @@ impl<'p> Closer<'p> {
 
     /// Gives an unknown cell of a board at rest a colour, and closes the board by what that says of the cell's row and its column. Answers
     /// whether it is alive; dead cells are open. No line is marked then, and the board leads back to where it was.
-    pub fn assign(&mut self, board: &mut Board, place: usize, colour: Cell) -> bool
+    pub fn assign(&mut self, board: &mut Board<W>, place: usize, colour: Cell) -> bool
         requires rest { IsAtRest self.old board.old.cells }
         requires size { IsBoardOf self.old.puzzle board.old }
         requires place { place < length board.old.cells }
@@ -226,8 +227,8 @@ impl<'p> Closer<'p> {
     /// Gives an unknown cell of a board at rest a colour, on a copy. Answers whether the copy is alive, which then is closed.
     pub fn assign_copy(
         &mut self,
-        board: &Board,
-        trial: &mut Board,
+        board: &Board<W>,
+        trial: &mut Board<W>,
         place: usize,
         colour: Cell,
     ) -> bool

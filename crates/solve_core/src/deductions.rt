@@ -1,12 +1,13 @@
 //! Deductions of a puzzle's lines, remembered.
-ghost use Rattle.std.specs.Prelude.{◌≡◌, ◌+◌, ◌<◌, ◌≤◌, ◌↔◌, length, vec_capacity, IsTrue, IfOk, All};
+ghost use Rattle.std.specs.Prelude.{◌≡◌, ◌+◌, ◌<◌, ◌≤◌, ◌↔◌, vec_capacity, IsTrue, IfOk, All};
 ghost use Rattle.line_core.specs.Deduction.{deduced};
 ghost use Rattle.solve_core.specs.Deductions.{IsKeptFrom};
 ghost use Rattle.solve_core.specs.Lines.{line_at, line_count};
+ghost use Rattle.solve_core.specs.Widths.{FitsIn};
 
 use crate::places::clue_of_line;
 use grid_core::{LONGEST_SIDE, NoMemory, Puzzle};
-use line_core::{Line, Tables, deduce};
+use line_core::{LineOf, LineSet, Tables};
 use std::alloc::Global;
 use std::marker::Model;
 
@@ -24,14 +25,14 @@ const NO_DEDUCTION: u16 = u16::MAX;
 
 /// A line of a puzzle, by its number and its cells, and what is certain of it.
 #[derive(Drop)]
-pub struct Deduction {
+pub struct Deduction<W: LineSet> {
     number: usize,
-    line: Line,
-    answer: Option<Line>,
+    line: LineOf<W>,
+    answer: Option<LineOf<W>>,
 }
 
 /// The same answer, once more.
-fn copy_answer(answer: &Option<Line>) -> Option<Line>
+fn copy_answer<W: LineSet>(answer: &Option<LineOf<W>>) -> Option<LineOf<W>>
     ensures { result ≡ answer.now }
 {
     match answer {
@@ -40,9 +41,9 @@ fn copy_answer(answer: &Option<Line>) -> Option<Line>
     }
 }
 
-impl Deduction {
+impl<W: LineSet> Deduction<W> {
     /// Whether it is that of the line of this number and with these cells.
-    fn is_of(&self, number: usize, line: &Line) -> bool
+    fn is_of(&self, number: usize, line: &LineOf<W>) -> bool
         ensures { IsTrue result ↔ ((self.now.number ≡ number) × (self.now.line ≡ line.now)) }
     {
         self.number == number && self.line.is_same(line)
@@ -60,7 +61,7 @@ fn room_for(cells: usize) -> usize
 }
 
 /// Which of so many slots is that of a line.
-fn slot_of(number: usize, line: &Line, slots: usize) -> usize
+fn slot_of<W: LineSet>(number: usize, line: &LineOf<W>, slots: usize) -> usize
     requires { 0 < slots }
     ensures { result < slots }
 {
@@ -69,7 +70,12 @@ fn slot_of(number: usize, line: &Line, slots: usize) -> usize
 }
 
 /// Keeps a deduction in the place of the one that has the index, or else as one more, and writes its index, if there is room.
-fn keep(kept: &mut Vec<Deduction>, index: &mut u16, room: usize, deduction: Deduction)
+fn keep<W: LineSet>(
+    kept: &mut Vec<Deduction<W>>,
+    index: &mut u16,
+    room: usize,
+    deduction: Deduction<W>,
+)
     requires fits { room ≤ vec_capacity kept.old }
     requires few { room ≤ MOST_REMEMBERED }
     ensures kept { All (IsKeptFrom kept.old.items deduction) kept.new.items }
@@ -88,15 +94,15 @@ fn keep(kept: &mut Vec<Deduction>, index: &mut u16, room: usize, deduction: Dedu
 /// What deduces the lines of a puzzle. Once it is open it remembers what it deduced: each line has one slot, and a line that takes a slot takes it
 /// from the one before.
 #[derive(Drop)]
-pub struct Deductions<'p> {
+pub struct Deductions<'p, W: LineSet> {
     puzzle: &'p Puzzle,
     tables: Tables,
     room: usize,
     slots: Vec<u16>,
-    kept: Vec<Deduction>,
+    kept: Vec<Deduction<W>>,
 }
 
-impl<'p> Model for Deductions<'p> {
+impl<'p, W: LineSet> Model for Deductions<'p, W> {
     ghost use Rattle.std.specs.Prelude.{vec_capacity};
     ghost use Rattle.grid_core.specs.Nonogram.{Nonogram};
     ghost use Rattle.solve_core.specs.Deductions.{AreDeductionsOf};
@@ -105,12 +111,13 @@ impl<'p> Model for Deductions<'p> {
 
     ghost view = { λ d. d.puzzle.now };
 
-    ghost invariant = { λ d. AreDeductionsOf d.puzzle.now d.tables d.room (vec_capacity d.slots) (vec_capacity d.kept) d.kept.items };
+    ghost invariant = { λ d. AreDeductionsOf d.puzzle.now W.WIDTH d.room (vec_capacity d.slots) (vec_capacity d.kept) d.kept.items };
 }
 
-impl<'p> Deductions<'p> {
+impl<'p, W: LineSet> Deductions<'p, W> {
     /// Makes all the room that it takes, in proportion to the puzzle. Nothing is remembered before it is opened.
-    pub fn new(alloc: Global, puzzle: &'p Puzzle) -> Result<Deductions<'p>, NoMemory>
+    pub fn new(alloc: Global, puzzle: &'p Puzzle) -> Result<Deductions<'p, W>, NoMemory>
+        requires { FitsIn W.WIDTH puzzle.now }
         ensures { IfOk result (λ deductions. deductions ≡ puzzle.now) }
     {
         let cells = usize::from(puzzle.width()) * usize::from(puzzle.height());
@@ -122,8 +129,9 @@ impl<'p> Deductions<'p> {
         alloc: Global,
         puzzle: &'p Puzzle,
         room: usize,
-    ) -> Result<Deductions<'p>, NoMemory>
-        requires { (1 ≤ room) × (room ≤ MOST_REMEMBERED) }
+    ) -> Result<Deductions<'p, W>, NoMemory>
+        requires room { (1 ≤ room) × (room ≤ MOST_REMEMBERED) }
+        requires fits { FitsIn W.WIDTH puzzle.now }
         ensures { IfOk result (λ deductions. deductions ≡ puzzle.now) }
     {
         Ok(Deductions {
@@ -146,22 +154,21 @@ impl<'p> Deductions<'p> {
 
     /// What is certain of the line of this number, the rows first, with these cells: what all placings of its clue share, or none if there is no
     /// placing.
-    pub fn deduce(&mut self, number: usize, line: &Line) -> Option<Line>
+    pub fn deduce(&mut self, number: usize, line: &LineOf<W>) -> Option<LineOf<W>>
         requires number { number < line_count self.old }
-        requires within { length line.now ≤ LONGEST_SIDE }
         ensures answer { result ≡ deduced line.now (line_at self.old number).clue }
         ensures puzzle { self.new ≡ self.old }
     {
         let clue = clue_of_line(self.puzzle, number);
         if self.slots.is_empty() || clue.numbers().len() < FEWEST_RUNS {
-            return deduce(&mut self.tables, line, clue);
+            return W::deduce(&mut self.tables, line, clue);
         }
         let slot = slot_of(number, line, self.slots.len());
         let index = usize::from(self.slots[slot]);
         if index < self.kept.len() && self.kept[index].is_of(number, line) {
             return copy_answer(&self.kept[index].answer);
         }
-        let answer = deduce(&mut self.tables, line, clue);
+        let answer = W::deduce(&mut self.tables, line, clue);
         let deduction = Deduction {
             number,
             line: line.copy(),

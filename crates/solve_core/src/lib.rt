@@ -24,6 +24,8 @@ mod tests_deductions;
 #[cfg(test)]
 mod tests_search;
 mod trials;
+mod widths;
+mod workspaces;
 
 pub use findings::{Findings, Grade, Verdict};
 pub use reports::report;

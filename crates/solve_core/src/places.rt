@@ -11,7 +11,8 @@ ghost use Rattle.solve_core.specs.Trails.{IsTrailed};
 
 use crate::boards::Board;
 use grid_core::{Clue, Puzzle};
-use line_core::Line;
+use line_core::{LineOf, LineSet};
+use place_sets::take_first;
 
 /// Where a line's cells are, and which lines cross it.
 #[derive(Clone, Copy)]
@@ -56,7 +57,8 @@ impl Places {
 /// The clue of line n.
 pub fn clue_of_line(puzzle: &Puzzle, n: usize) -> &Clue
     requires { n < line_count puzzle.now }
-    ensures { result.now ≡ (line_at puzzle.now n).clue }
+    ensures clue { result.now ≡ (line_at puzzle.now n).clue }
+    ensures puzzle { IsNonogram puzzle.now }
 {
     let height = usize::from(puzzle.height());
     if n < height {
@@ -67,7 +69,13 @@ pub fn clue_of_line(puzzle: &Puzzle, n: usize) -> &Clue
 }
 
 /// Writes what line n learned, and marks the lines that cross it there. Answers whether it learned anything.
-pub fn write_line(board: &mut Board, n: usize, old: &Line, new: &Line, marks: &mut [bool]) -> bool
+pub fn write_line<W: LineSet>(
+    board: &mut Board<W>,
+    n: usize,
+    old: &LineOf<W>,
+    new: &LineOf<W>,
+    marks: &mut [bool],
+) -> bool
     requires n { n < board.old.height + board.old.width }
     requires size { IsSize board.old.width board.old.height }
     requires cells { length board.old.cells ≡ board.old.width * board.old.height }
@@ -83,8 +91,9 @@ pub fn write_line(board: &mut Board, n: usize, old: &Line, new: &Line, marks: &m
     ensures unmarked { result ≡ false → marks.new ≡ marks.old }
 {
     let crossing = board.crossing(n);
+    let mut changes = old.changes(new);
     let mut from = 0;
-    while let Some(i) = old.next_change(new, from) {
+    while let Some(i) = take_first(&mut changes) {
         let along = usize::from(i);
         board.settle_along(n, along, new.get(i));
         marks[crossing + along] = true;

@@ -7,18 +7,22 @@ ghost use Rattle.solve_core.specs.Boards.{unknown_board};
 ghost use Rattle.solve_core.specs.Sizes.{IsSizeOf};
 ghost use Rattle.solve_core.specs.Report.{report_of, grade_by};
 ghost use Rattle.solve_core.specs.Verdicts.{Holds};
+ghost use Rattle.solve_core.specs.Widths.{FitsIn};
 
 use crate::boards::Board;
 use crate::branches::Branch;
 use crate::search::search;
 use crate::solutions::Solutions;
 use crate::trials::Trials;
+use crate::widths::places_for;
 use crate::{Findings, Grade, Verdict};
 use grid_core::{NoMemory, Puzzle};
+use line_core::LineSet;
+use place_sets::Wide;
 use std::alloc::Global;
 
 /// How many cells are known.
-fn count_known(board: &Board) -> u32
+fn count_known<W: LineSet>(board: &Board<W>) -> u32
     ensures { result ≡ count_by is_known board.now.cells }
 {
     let mut count = 0;
@@ -31,7 +35,7 @@ fn count_known(board: &Board) -> u32
 }
 
 /// Whether each cell is known.
-fn are_known(board: &Board) -> bool
+fn are_known<W: LineSet>(board: &Board<W>) -> bool
     ensures { result ≡ list_all is_known board.now.cells }
 {
     board.cells().iter().all(|cell| cell.is_known())
@@ -50,9 +54,9 @@ fn grade(lines_settle: bool, trials_settle: bool) -> Grade
 }
 
 /// The report, by a board of which nothing is known and in room that is made.
-fn findings(
-    trials: &mut Trials<'_>,
-    board: &mut Board,
+fn findings<W: LineSet>(
+    trials: &mut Trials<'_, W>,
+    board: &mut Board<W>,
     branches: &mut Vec<Branch>,
     solutions: Solutions,
     guesses: u32,
@@ -97,6 +101,26 @@ fn findings(
     }
 }
 
+/// The report on a puzzle, by sets of a width that has room for its lines and the numbers of its clues.
+fn report_within<W: LineSet>(
+    alloc: Global,
+    puzzle: &Puzzle,
+    guesses: u32,
+) -> Result<Findings, NoMemory>
+    requires { FitsIn W.WIDTH puzzle.now }
+    ensures findings { IfOk result (λ findings. findings ≡ report_of first_unknown puzzle.now guesses) }
+    ensures holds { IfOk result (λ findings. Holds first_unknown puzzle.now guesses findings.verdict) }
+    ensures spent { IfOk result (λ findings. findings.spent ≤ guesses) }
+{
+    let width = puzzle.width();
+    let height = puzzle.height();
+    let mut trials = Trials::<W>::new(alloc, puzzle)?;
+    let mut board = Board::<W>::unknown(alloc, width, height)?;
+    let mut branches = Vec::with_capacity(alloc, board.cells().len())?;
+    let solutions = Solutions::new(alloc, width, height)?;
+    Ok(findings(&mut trials, &mut board, &mut branches, solutions, guesses))
+}
+
 /// The report on a puzzle: what lines and trials settle, and then a search with at most so many guesses. All of its room is made before the first
 /// line is deduced; `NoMemory` where that is refused.
 pub fn report(alloc: Global, puzzle: &Puzzle, guesses: u32) -> Result<Findings, NoMemory>
@@ -104,11 +128,12 @@ pub fn report(alloc: Global, puzzle: &Puzzle, guesses: u32) -> Result<Findings, 
     ensures holds { IfOk result (λ findings. Holds first_unknown puzzle.now guesses findings.verdict) }
     ensures spent { IfOk result (λ findings. findings.spent ≤ guesses) }
 {
-    let width = puzzle.width();
-    let height = puzzle.height();
-    let mut trials = Trials::new(alloc, puzzle)?;
-    let mut board = Board::unknown(alloc, width, height)?;
-    let mut branches = Vec::with_capacity(alloc, board.cells().len())?;
-    let solutions = Solutions::new(alloc, width, height)?;
-    Ok(findings(&mut trials, &mut board, &mut branches, solutions, guesses))
+    let needed = places_for(puzzle);
+    if needed <= 64 {
+        report_within::<u64>(alloc, puzzle, guesses)
+    } else if needed <= 128 {
+        report_within::<u128>(alloc, puzzle, guesses)
+    } else {
+        report_within::<Wide>(alloc, puzzle, guesses)
+    }
 }

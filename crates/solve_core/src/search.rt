@@ -16,6 +16,7 @@ use crate::branches::{Branch, next_guess};
 use crate::closures::Closer;
 use crate::solutions::Solutions;
 use grid_core::Cell;
+use line_core::LineSet;
 
 /// How a search ended: whether the limit on guesses cut it short, and how many it spent.
 #[derive(Clone, Copy, Debug)]
@@ -39,7 +40,7 @@ fn first_unknown(cells: &[Cell], start: usize) -> Option<usize>
 
 /// Looks at a closed board, of which no cell before `start` is unknown: the place of the next guess, or none, and then it is a solution, which is
 /// kept.
-fn look_at(board: &Board, start: usize, solutions: &mut Solutions) -> Option<usize>
+fn look_at<W: LineSet>(board: &Board<W>, start: usize, solutions: &mut Solutions) -> Option<usize>
     requires known { AreKnownBefore start board.now.cells }
     requires size { length board.now.cells ≡ solutions.old.width * solutions.old.height }
     requires room { length solutions.old.grids < 2 }
@@ -63,9 +64,9 @@ fn look_at(board: &Board, start: usize, solutions: &mut Solutions) -> Option<usi
 }
 
 /// Makes a guess and looks at what comes of it.
-fn explore(
-    closer: &mut Closer<'_>,
-    board: &mut Board,
+fn explore<W: LineSet>(
+    closer: &mut Closer<'_, W>,
+    board: &mut Board<W>,
     place: usize,
     colour: Cell,
     solutions: &mut Solutions,
@@ -93,9 +94,9 @@ fn explore(
 
 /// Searches from a board at rest, in place: it remembers what is settled, and each filled guess stands on the branches until its cell is guessed
 /// blank.
-pub fn search(
-    closer: &mut Closer<'_>,
-    board: &mut Board,
+pub fn search<W: LineSet>(
+    closer: &mut Closer<'_, W>,
+    board: &mut Board<W>,
     branches: &mut Vec<Branch>,
     solutions: &mut Solutions,
     guesses: u32,

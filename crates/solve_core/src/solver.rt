@@ -1,38 +1,39 @@
 //! A puzzle with the room for closing its grids.
-ghost use Rattle.std.specs.Prelude.{◌≡◌, ℕ, ◌+◌, ◌*◌, ◌<◌, ◌≤◌, true, Some, length, slice_set, slice_index_or, IfOk};
-ghost use Rattle.grid_core.specs.Nonogram.{Nonogram as NonogramValue, IsNonogram, lines_of};
-ghost use Rattle.solve_core.specs.Closure.{round, closure};
-ghost use Rattle.solve_core.specs.Trails.{IsTrailed};
-ghost use Rattle.grid_core.specs.declared.cells.Cell.TheVariants.{Unknown};
-ghost use Rattle.grid_core.specs.Cells.{is_known};
+ghost use Rattle.std.specs.Prelude.{◌≡◌, IfOk};
+ghost use Rattle.grid_core.specs.Nonogram.{lines_of};
+ghost use Rattle.solve_core.specs.Closure.{closure};
 ghost use Rattle.solve_core.specs.Sizes.{HasSizeOf};
-ghost use Rattle.solve_core.specs.Boards.{IsBoardOf};
 ghost use Rattle.solve_core.specs.Trials.{trials};
 ghost use Rattle.solve_core.specs.Marks.{if_alive};
 
-use crate::boards::Board;
-use crate::grids::write_grid;
-use crate::trials::Trials;
-use grid_core::{Cell, Grid, NoMemory, Puzzle};
+use crate::widths::places_for;
+use crate::workspaces::Workspace;
+use grid_core::{Grid, NoMemory, Puzzle};
+use place_sets::Wide;
 use std::alloc::Global;
 use std::marker::Model;
+
+/// A workspace in the narrowest sets that have room for its puzzle.
+#[derive(Drop)]
+pub enum Fitting<'p> {
+    Narrow(Workspace<'p, u64>),
+    Middle(Workspace<'p, u128>),
+    Wide(Workspace<'p, Wide>),
+}
 
 /// A puzzle with the room for closing its grids.
 #[derive(Drop)]
 pub struct Solver<'p> {
-    trials: Trials<'p>,
-    board: Board,
+    workspace: Fitting<'p>,
 }
 
 impl<'p> Model for Solver<'p> {
     ghost use Rattle.grid_core.specs.Nonogram.{Nonogram};
-    ghost use Rattle.solve_core.specs.Boards.{IsBoardOf};
+    ghost use Rattle.solve_core.specs.Fittings.{puzzle_of};
 
     ghost Value = { Nonogram };
 
-    ghost view = { λ s. s.trials.closer.puzzle };
-
-    ghost invariant = { λ s. IsBoardOf s.trials.closer.puzzle s.board };
+    ghost view = { λ s. puzzle_of s.workspace };
 }
 
 impl<'p> Solver<'p> {
@@ -40,10 +41,15 @@ impl<'p> Solver<'p> {
     pub fn new(alloc: Global, puzzle: &'p Puzzle) -> Result<Solver<'p>, NoMemory>
         ensures { IfOk result (λ solver. solver ≡ puzzle.now) }
     {
-        Ok(Solver {
-            trials: Trials::new(alloc, puzzle)?,
-            board: Board::unknown(alloc, puzzle.width(), puzzle.height())?,
-        })
+        let needed = places_for(puzzle);
+        let workspace = if needed <= 64 {
+            Fitting::Narrow(Workspace::new(alloc, puzzle)?)
+        } else if needed <= 128 {
+            Fitting::Middle(Workspace::new(alloc, puzzle)?)
+        } else {
+            Fitting::Wide(Workspace::new(alloc, puzzle)?)
+        };
+        Ok(Solver { workspace })
     }
 
     /// Closes a grid under line deduction. Answers whether it is alive; a dead grid's cells are open.
@@ -53,10 +59,11 @@ impl<'p> Solver<'p> {
         ensures size { HasSizeOf self.old grid.new }
         ensures puzzle { self.new ≡ self.old }
     {
-        self.board.read(grid);
-        let alive = self.trials.closer.propagate_all(&mut self.board);
-        write_grid(self.board.cells(), grid);
-        alive
+        match &mut self.workspace {
+            Fitting::Narrow(workspace) => workspace.close_lines(grid),
+            Fitting::Middle(workspace) => workspace.close_lines(grid),
+            Fitting::Wide(workspace) => workspace.close_lines(grid),
+        }
     }
 
     /// Closes a grid under trials. Answers whether it is alive; a dead grid's cells are open.
@@ -66,9 +73,10 @@ impl<'p> Solver<'p> {
         ensures size { HasSizeOf self.old grid.new }
         ensures puzzle { self.new ≡ self.old }
     {
-        self.board.read(grid);
-        let alive = self.trials.try_board(&mut self.board);
-        write_grid(self.board.cells(), grid);
-        alive
+        match &mut self.workspace {
+            Fitting::Narrow(workspace) => workspace.close_trials(grid),
+            Fitting::Middle(workspace) => workspace.close_trials(grid),
+            Fitting::Wide(workspace) => workspace.close_trials(grid),
+        }
     }
 }

@@ -8,6 +8,7 @@ ghost use Rattle.line_core.specs.Order.{AtMost};
 ghost use Rattle.solve_core.specs.Trials.{trials, IsTried};
 ghost use Rattle.solve_core.specs.Marks.{Progresses, AreUnmarked, if_alive, AreOpenColours, AddsMarks, IsAtRest, IsReady, IsTrialOf};
 ghost use Rattle.solve_core.specs.Trails.{IsTrailed};
+ghost use Rattle.solve_core.specs.Widths.{FitsIn};
 ghost use Rattle.solve_core.specs.Boards.{IsBoardOf};
 ghost use Rattle.solve_core.specs.declared.trials.Trial.TheVariants.{Refuted, Closed};
 ghost use Rattle.solve_core.specs.declared.closures.Progress.TheVariants.{Dead, Same};
@@ -15,6 +16,7 @@ ghost use Rattle.solve_core.specs.declared.closures.Progress.TheVariants.{Dead, 
 use crate::boards::Board;
 use crate::closures::{Closer, Progress};
 use grid_core::{Cell, NoMemory, Puzzle};
+use line_core::LineSet;
 use std::alloc::Global;
 use std::marker::Model;
 
@@ -73,7 +75,7 @@ impl Colours {
     }
 
     /// Marks the colours of the cells that a trial settled.
-    fn mark(&mut self, trial: &Board)
+    fn mark<W: LineSet>(&mut self, trial: &Board<W>)
         requires filled_count { length self.old.fillable.items ≡ length trial.now.cells }
         requires blank_count { length self.old.blankable.items ≡ length trial.now.cells }
         ensures filled { AddsMarks Filled trial.now.cells self.old.fillable.items self.new.fillable.items }
@@ -94,11 +96,11 @@ impl Colours {
 
     /// Tries a colour at an unknown cell, on a copy, unless another trial of the same grid has met it. Where the copy closes alive, the colours
     /// that it has need no trial.
-    fn try_colour(
+    fn try_colour<W: LineSet>(
         &mut self,
-        closer: &mut Closer<'_>,
-        board: &Board,
-        trial: &mut Board,
+        closer: &mut Closer<'_, W>,
+        board: &Board<W>,
+        trial: &mut Board<W>,
         place: usize,
         colour: Cell,
     ) -> Trial
@@ -134,14 +136,14 @@ impl Colours {
 
 /// What trials work with: what closes, a board for the trials of each colour, and the colours that they have met.
 #[derive(Drop)]
-pub struct Trials<'p> {
-    pub(crate) closer: Closer<'p>,
-    filled_trial: Board,
-    blank_trial: Board,
+pub struct Trials<'p, W: LineSet> {
+    pub(crate) closer: Closer<'p, W>,
+    filled_trial: Board<W>,
+    blank_trial: Board<W>,
     colours: Colours,
 }
 
-impl<'p> Model for Trials<'p> {
+impl<'p, W: LineSet> Model for Trials<'p, W> {
     ghost use Rattle.std.specs.Prelude.{◌≡◌, ◌*◌, length};
     ghost use Rattle.solve_core.specs.TriedPuzzles.{TriedPuzzle};
     ghost use Rattle.solve_core.specs.Boards.{IsBoardOf};
@@ -155,9 +157,10 @@ impl<'p> Model for Trials<'p> {
         × (length t.colours.blankable.items ≡ t.closer.puzzle.width * t.closer.puzzle.height) };
 }
 
-impl<'p> Trials<'p> {
+impl<'p, W: LineSet> Trials<'p, W> {
     /// Makes the room that closing and trials take.
-    pub fn new(alloc: Global, puzzle: &'p Puzzle) -> Result<Trials<'p>, NoMemory>
+    pub fn new(alloc: Global, puzzle: &'p Puzzle) -> Result<Trials<'p, W>, NoMemory>
+        requires { FitsIn W.WIDTH puzzle.now }
         ensures { IfOk result (λ trials. trials.closer.puzzle ≡ puzzle.now) }
     {
         let width = puzzle.width();
@@ -171,7 +174,7 @@ impl<'p> Trials<'p> {
     }
 
     /// Gives a cell the colour that is left, and closes the board.
-    fn keep_colour(&mut self, board: &mut Board, place: usize, colour: Cell) -> Progress
+    fn keep_colour(&mut self, board: &mut Board<W>, place: usize, colour: Cell) -> Progress
         requires rest { IsAtRest self.old.closer board.old.cells }
         requires size { IsBoardOf self.old.closer.puzzle board.old }
         requires place { place < length board.old.cells }
@@ -193,7 +196,7 @@ impl<'p> Trials<'p> {
     }
 
     /// Tries both colours at a place, where it is unknown.
-    fn try_place(&mut self, board: &mut Board, place: usize) -> Progress
+    fn try_place(&mut self, board: &mut Board<W>, place: usize) -> Progress
         requires ready { IsReady self.old board.old.cells }
         requires size { IsBoardOf self.old.closer.puzzle board.old }
         requires place { place < length board.old.cells }
@@ -235,7 +238,7 @@ impl<'p> Trials<'p> {
     }
 
     /// Tries each unknown cell once.
-    fn try_all(&mut self, board: &mut Board) -> Progress
+    fn try_all(&mut self, board: &mut Board<W>) -> Progress
         requires ready { IsReady self.old board.old.cells }
         requires size { IsBoardOf self.old.closer.puzzle board.old }
         ensures progress { Progresses (trials (lines_of self.old.closer.puzzle)) result board.old.cells board.new.cells }
@@ -256,7 +259,7 @@ impl<'p> Trials<'p> {
     }
 
     /// Tries cells until a whole pass changes nothing. Answers whether the board is alive.
-    fn try_until_same(&mut self, board: &mut Board) -> bool
+    fn try_until_same(&mut self, board: &mut Board<W>) -> bool
         requires ready { IsReady self.old board.old.cells }
         requires size { IsBoardOf self.old.closer.puzzle board.old }
         ensures tried { if_alive result board.new.cells ≡ trials (lines_of self.old.closer.puzzle) board.old.cells }
@@ -274,7 +277,7 @@ impl<'p> Trials<'p> {
     }
 
     /// Closes a board at rest under trials. Answers whether it is alive.
-    pub fn try_at_rest(&mut self, board: &mut Board) -> bool
+    pub fn try_at_rest(&mut self, board: &mut Board<W>) -> bool
         requires rest { IsAtRest self.old.closer board.old.cells }
         requires size { IsBoardOf self.old.closer.puzzle board.old }
         ensures tried { if_alive result board.new.cells ≡ trials (lines_of self.old.closer.puzzle) board.old.cells }
@@ -287,7 +290,7 @@ impl<'p> Trials<'p> {
     }
 
     /// Closes a board under trials. Answers whether it is alive.
-    pub fn try_board(&mut self, board: &mut Board) -> bool
+    pub fn try_board(&mut self, board: &mut Board<W>) -> bool
         requires size { IsBoardOf self.old.closer.puzzle board.old }
         ensures tried { if_alive result board.new.cells ≡ trials (lines_of self.old.closer.puzzle) board.old.cells }
         ensures rest { IsTrue result → IsAtRest self.new.closer board.new.cells }

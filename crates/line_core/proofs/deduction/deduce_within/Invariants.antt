@@ -1,4 +1,4 @@
 use Rattle.line_core.proofs.deduction.deduce_within.Given as goal
 
-abbrev pub ghost-colours : goal.ghost-colours
-ghost-colours g a = g.cells
+abbrev pub ghost-deduce_numbers : goal.ghost-deduce_numbers
+ghost-deduce_numbers g a = a.line.now

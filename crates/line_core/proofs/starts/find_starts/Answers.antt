@@ -11,7 +11,7 @@ pub returns-then-is_empty : goal.returns-then-is_empty
 returns-then-is_empty g c =
     let line = g.cells in
     let clue = c.args.clue.now in
-    let pos : ArePositive clue = recursion_from_All (λ (n : ℕ). 0 < n) clue c.requires.1.1.1.1.0.positive in
+    let pos : ArePositive clue = recursion_from_All (λ (n : ℕ). 0 < n) clue c.requires.1.1.1.0.positive in
     let none : length clue ≡ 0 = eqb-true (length clue) 0 (sym c.is_empty.ensures ∙ c.if-is_empty.true) in
     answered c.args.side line clue c.args.list.now c.may_have_no_run.result pos (omega arith)
     (match_more c.may_have_no_run.result (HasPlacing line clue) (HasPlacing line clue → ⊥)
@@ -22,9 +22,9 @@ pub returns-else-is_empty : goal.returns-else-is_empty
 returns-else-is_empty g c =
     let line = g.cells in
     let clue = c.args.clue.now in
-    let pos : ArePositive clue = recursion_from_All (λ (n : ℕ). 0 < n) clue c.requires.1.1.1.1.0.positive in
+    let pos : ArePositive clue = recursion_from_All (λ (n : ℕ). 0 < n) clue c.requires.1.1.1.0.positive in
     let list = c.write_starts.new.list in
-    let few = c.requires.1.1.1.1.1 in
+    let few = c.requires.1.1.1.1 in
     let some : 0 < length clue = (let ne = eqb-false (length clue) 0 (sym c.is_empty.ensures ∙ c.if-is_empty.false) in omega arith) in
     answered c.args.side line clue list c.write_starts.result pos (omega arith)
     (match_more c.write_starts.result ((j : ℕ) → j < length clue → IsOuterStart c.args.side line clue j (get_or list j 0)) (HasPlacing line clue → ⊥)

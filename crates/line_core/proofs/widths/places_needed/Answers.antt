@@ -13,6 +13,7 @@ loop-number-preserved c =
     let grown : old ≤ new = omega (arith, most) in
     record {
       line = omega (arith, c.loop-number.invariant.line);
+      least = λ m a b. omega (arith, most, c.loop-number.invariant.least m a b, b i 0 (omega arith));
       passed = All-more (λ n. n ≤ new) clue i 0 (omega arith) (λ k d h. omega (arith, c.loop-number.invariant.passed k d h)) (omega (arith, most));
     }
 

@@ -1,9 +1,10 @@
-use Rattle.std.proofs.Common.{◌≤◌, take}
+use Rattle.std.proofs.Common.{◌≤◌, ℕ, take}
 use Rattle.std.specs.List.{All}
 use Rattle.line_core.proofs.widths.places_needed.Given as goal
 
 abbrev pub invariant-loop-number : goal.invariant-loop-number
 invariant-loop-number l = record {
   line : l.len ≤ l.needed;
+  least : (most : ℕ) → l.len ≤ most → All (λ n. n ≤ most) l.clue → l.needed ≤ most;
   passed : All (λ n. n ≤ l.needed) (take l.number-index l.clue);
 }

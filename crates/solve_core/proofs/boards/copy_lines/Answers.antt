@@ -4,7 +4,7 @@ use Rattle.solve_core.proofs.BoardSteps.{line_read}
 use Rattle.solve_core.proofs.boards.copy_lines.Goals as goal
 
 pub loop-i-preserved : goal.loop-i-preserved
-loop-i-preserved c =
+loop-i-preserved g c =
     let i = c.loop-i.i in
     let within : i < length c.loop-i.lines = omega (arith, c.loop-i.auto.lines, c.loop-i-test.true) in
     let other : i < length c.args.others.now = omega (arith, c.requires, c.loop-i-test.true) in
@@ -13,6 +13,6 @@ loop-i-preserved c =
     (get_or-set_same c.loop-i.lines i c.copy_from.new.self [] within ∙ c.copy_from.ensures ∙ c.index-others-i.is ∙ line_read c.args.others.now i c.index-others-i.result other)
 
 pub returns : goal.returns
-returns c =
+returns g c =
     ext_get_or [] c.loop-i.lines c.args.others.now (c.loop-i.auto.lines ∙ sym c.requires)
     (λ k h. c.loop-i.invariant k (omega (arith, c.loop-i.auto.lines, c.loop-i-test.false)))

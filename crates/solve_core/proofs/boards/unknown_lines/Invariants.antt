@@ -3,4 +3,4 @@ use Rattle.grid_core.specs.declared.cells.Cell.TheVariants.{Unknown}
 use Rattle.solve_core.proofs.boards.unknown_lines.Given as goal
 
 abbrev pub invariant-loop : goal.invariant-loop
-invariant-loop l = record { items : l.lines.items ≡ replicate l.counter (replicate l.len Unknown); room : l.count ≤ vec_capacity l.lines }
+invariant-loop g l = record { items : l.lines.items ≡ replicate l.counter (replicate l.len Unknown); room : l.count ≤ vec_capacity l.lines }

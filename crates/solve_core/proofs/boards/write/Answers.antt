@@ -4,10 +4,10 @@ use Rattle.solve_core.proofs.BoardSteps.{cell_in, lines-written, line_read, leng
 use Rattle.solve_core.proofs.boards.write.Goals as goal
 
 pub bounds-cells-y : goal.bounds-cells-y
-bounds-cells-y c = cell_in c.args.cells.now c.args.rows.now c.args.columns.now c.args.x c.args.y c.requires.lines c.requires.column c.requires.row
+bounds-cells-y g c = cell_in c.args.cells.now c.args.rows.now c.args.columns.now c.args.x c.args.y c.requires.lines c.requires.column c.requires.row
 
 pub set-requires : goal.set-requires
-set-requires c =
+set-requires g c =
     let rows = c.args.rows.now in
     let w = length c.args.columns.now in
     omega (
@@ -18,7 +18,7 @@ set-requires c =
     )
 
 pub set-requires-2 : goal.set-requires-2
-set-requires-2 c =
+set-requires-2 g c =
     let columns = c.args.columns.now in
     let w = length columns in
     omega (
@@ -29,7 +29,7 @@ set-requires-2 c =
     )
 
 pub returns-clause-lines : goal.returns-clause-lines
-returns-clause-lines c =
+returns-clause-lines g c =
     let rows = c.args.rows.now in
     let columns = c.args.columns.now in
     lines-written c.args.cells.now rows columns c.set.new.self c.set-2.new.self c.args.x c.args.y c.args.cell c.requires.lines c.requires.column c.requires.row

@@ -18,24 +18,14 @@ use Rattle.solve_core.proofs.closures.learn_line.Goals as goal
 same_places : (p : Nonogram) (g : TrailedGrid) (n : ℕ) → IsNonogram p → n < line_count p → IsBoardOf p g → places_of (places_in g.width g.height n) ≡ (line_at p n).places
 same_places p g n is l b = (λ i. places_of (places_in (b.0 i) (b.1 i) n)) ∙ sym (line_at-places p n is l)
 
-pub deduce-requires-clause-within : goal.deduce-requires-clause-within
-deduce-requires-clause-within c =
-    let g = c.args.board.now in
-    let places = places_in g.width g.height c.args.n in
-    omega (
-      arith,
-      length-seen g.cells c.line-old.result places.first places.step places.count c.line-old.ensures,
-      (line-long g.width g.height c.args.n (rw (c.requires.board.0, c.requires.board.1) c.requires.puzzle.size)).1,
-    )
-
 pub write_line-requires-clause-count : goal.write_line-requires-clause-count
-write_line-requires-clause-count c = length-deduced c.line-old.result c.in-Some.new (line_at c.args.deductions.now c.args.n).clue (sym c.in-Some.is ∙ c.deduce.ensures.answer)
+write_line-requires-clause-count g c = length-deduced c.line-old.result c.in-Some.new (line_at c.args.deductions.now c.args.n).clue (sym c.in-Some.is ∙ c.deduce.ensures.answer)
 
 pub write_line-requires-clause-more : goal.write_line-requires-clause-more
-write_line-requires-clause-more c = rw (sym c.deduce.ensures.answer ∙ c.in-Some.is) at (deduced-above c.line-old.result (line_at c.args.deductions.now c.args.n).clue)
+write_line-requires-clause-more g c = rw (sym c.deduce.ensures.answer ∙ c.in-Some.is) at (deduced-above c.line-old.result (line_at c.args.deductions.now c.args.n).clue)
 
 pub returns-in-None-clause-learned : goal.returns-in-None-clause-learned
-returns-in-None-clause-learned c =
+returns-in-None-clause-learned g c =
     let p = c.args.deductions.now in
     let g = c.args.board.now in
     let line = line_at p c.args.n in
@@ -43,7 +33,7 @@ returns-in-None-clause-learned c =
     ap (λ (ps : List ℕ). deduced (cells_at Unknown g.cells ps) line.clue) (sym places) ∙ ap (λ (r : List Cell). deduced r line.clue) (sym c.line-old.ensures) ∙ sym c.deduce.ensures.answer ∙ c.in-None.is
 
 pub returns-else-write_line-clause-learned : goal.returns-else-write_line-clause-learned
-returns-else-write_line-clause-learned c =
+returns-else-write_line-clause-learned g c =
     let p = c.args.deductions.now in
     let g = c.args.board.now in
     let line = line_at p c.args.n in
@@ -55,7 +45,7 @@ returns-else-write_line-clause-learned c =
     )
 
 pub returns-then-write_line-clause-learned : goal.returns-then-write_line-clause-learned
-returns-then-write_line-clause-learned c =
+returns-then-write_line-clause-learned g c =
     let p = c.args.deductions.now in
     let g = c.args.board.now in
     let n = c.args.n in

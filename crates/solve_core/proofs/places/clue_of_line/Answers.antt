@@ -4,8 +4,8 @@ use Rattle.grid_core.specs.Nonogram.{GridLine}
 use Rattle.solve_core.proofs.NumberedLines.{line_at-row, line_at-column}
 use Rattle.solve_core.proofs.places.clue_of_line.Goals as goal
 
-pub returns-then-n-height : goal.returns-then-n-height
-returns-then-n-height c =
+pub returns-then-n-height-clause-clue : goal.returns-then-n-height-clause-clue
+returns-then-n-height-clause-clue c =
     let p = c.args.puzzle.now in
     let n = c.args.n in
     let within : n < length p.rows = omega (arith, c.rows.ensures.puzzle.clues.0, c.if-n-height.true, c.from-height.ensures, c.height.ensures) in
@@ -13,8 +13,8 @@ returns-then-n-height c =
     ∙ ap (λ (clues : List (List ℕ)). get_or clues n []) c.rows.ensures.rows
     ∙ sym (ap (λ (line : GridLine). line.clue) (line_at-row p n within))
 
-pub returns-else-n-height : goal.returns-else-n-height
-returns-else-n-height c =
+pub returns-else-n-height-clause-clue : goal.returns-else-n-height-clause-clue
+returns-else-n-height-clause-clue c =
     let p = c.args.puzzle.now in
     let n = c.args.n in
     let h = c.from-height.result in

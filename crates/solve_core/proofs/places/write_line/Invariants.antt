@@ -4,12 +4,15 @@ use Rattle.grid_core.specs.Nonogram.{places_from}
 use Rattle.solve_core.specs.Closure.{with_cells}
 use Rattle.solve_core.specs.Lines.{places_in, places_of}
 use Rattle.solve_core.specs.Trails.{IsTrailed}
+use Rattle.place_sets.specs.Masks.{IsMaskOf}
+use Rattle.solve_core.proofs.Changes.{IsChangedFrom}
 use Rattle.solve_core.proofs.places.write_line.Given as goal
 
 abbrev pub invariant-loop-i : goal.invariant-loop-i
-invariant-loop-i l =
+invariant-loop-i g l =
     let places = places_in l.fn.board.width l.fn.board.height l.n in
     record {
+      left : IsMaskOf (IsChangedFrom l.old l.new l.from) (g.W.PlaceSet.number l.changes);
       within : l.from ≤ places.count;
       written : with_cells l.board.cells (places_from (places.first + l.from * places.step) places.step (places.count - l.from)) (drop l.from l.new) ≡ with_cells l.fn.board.cells (places_of places) l.new;
       as_old : (k : ℕ) → l.from ≤ k → k < places.count → get_or l.board.cells (places.first + k * places.step) Unknown ≡ get_or l.old k Unknown;
@@ -23,4 +26,4 @@ invariant-loop-i l =
     }
 
 abbrev pub decreases-loop-i : goal.decreases-loop-i
-decreases-loop-i l = (places_in l.fn.board.width l.fn.board.height l.n).count - l.from
+decreases-loop-i g l = (places_in l.fn.board.width l.fn.board.height l.n).count - l.from

@@ -4,7 +4,7 @@ use Rattle.solve_core.proofs.NumberedLines.{longest_sides_fit}
 use Rattle.solve_core.proofs.reports.count_known.Goals as goal
 
 pub loop-cell-init : goal.loop-cell-init
-loop-cell-init c =
+loop-cell-init g c =
     let board = c.args.board.now in
     let count : length board.cells ≡ board.width * board.height = c.cells-cell-items.ensures.count in
     let fits : length board.cells ≤ 65536 = omega (arith, count, longest_sides_fit board.width board.height c.cells-cell-items.ensures.size) in

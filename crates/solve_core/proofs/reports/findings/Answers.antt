@@ -12,7 +12,7 @@ use Rattle.solve_core.proofs.ReportLaws.{report-alive, report-dead, report-refut
 use Rattle.solve_core.proofs.reports.findings.Goals as goal
 
 pub propagate_all-requires : goal.propagate_all-requires
-propagate_all-requires c =
+propagate_all-requires g c =
     let p = c.args.trials.now.closer.puzzle in
     record {
       size = subst (λ (x : Nonogram). IsBoardOf x c.args.board.now) (sym (ap (λ (t : TriedPuzzle). t.closer.puzzle) c.trials.view_is)) (
@@ -23,13 +23,13 @@ propagate_all-requires c =
     }
 
 pub returns-then-not-propagate_all : goal.returns-then-not-propagate_all
-returns-then-not-propagate_all c =
+returns-then-not-propagate_all g c =
     let p = c.args.trials.now.closer.puzzle in
     report-dead first_unknown p c.args.board.now.cells c.args.guesses (ap (λ (g : TrailedGrid). g.cells) c.requires.board)
     (subst (λ (t : TriedPuzzle). None ≡ closure (lines_of t.closer.puzzle) c.args.board.now.cells) c.trials.view_is c.if-not-propagate_all.ensures.closed)
 
 pub returns-then-not-try_at_rest : goal.returns-then-not-try_at_rest
-returns-then-not-try_at_rest c =
+returns-then-not-try_at_rest g c =
     let seen = ap (λ (t : TriedPuzzle). t.closer.puzzle) c.trials.view_is in
     let closed = c.propagate_all.new.board.cells in
     report-refuted first_unknown c.args.trials.now.closer.puzzle c.propagate_all.new.self.puzzle c.args.board.now.cells closed c.args.guesses c.grade.result c.count_known-line_known.result
@@ -39,7 +39,7 @@ returns-then-not-try_at_rest c =
     c.count_known-line_known.ensures
 
 pub returns : goal.returns
-returns c =
+returns g c =
     let seen = ap (λ (t : TriedPuzzle). t.closer.puzzle) c.trials.view_is in
     let again = ap (λ (t : TriedPuzzle). t.closer.puzzle) c.trials-2.view_is in
     let same = c.if-not-propagate_all.ensures.puzzle ∙ seen in

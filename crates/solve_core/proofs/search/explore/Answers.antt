@@ -9,11 +9,11 @@ use Rattle.solve_core.proofs.SearchSteps.{dead-events, alive-events, closure-clo
 use Rattle.solve_core.proofs.search.explore.Goals as goal
 
 pub assign-requires-clause-unknown : goal.assign-requires-clause-unknown
-assign-requires-clause-unknown c =
+assign-requires-clause-unknown g c =
     (next-unknown first_unknown first_unknown-IsPick (lines_of c.args.closer.now.puzzle) c.args.board.now.cells c.args.place c.requires.next).1
 
 pub returns-then-not-assign-clause-goes_on : goal.returns-then-not-assign-clause-goes_on
-returns-then-not-assign-clause-goes_on c =
+returns-then-not-assign-clause-goes_on g c =
     let p = c.args.closer.now.puzzle in
     let lines = lines_of p in
     let old = c.args.board.now in
@@ -30,11 +30,11 @@ returns-then-not-assign-clause-goes_on c =
     }
 
 pub look_at-requires-clause-known : goal.look_at-requires-clause-known
-look_at-requires-clause-known c =
+look_at-requires-clause-known g c =
     known-before (lines_of c.args.closer.now.puzzle) c.args.board.now.cells c.assign.new.board.cells c.args.place c.args.colour c.requires.next.0 c.if-not-assign.ensures.closed
 
 pub returns-clause-goes_on : goal.returns-clause-goes_on
-returns-clause-goes_on c =
+returns-clause-goes_on g c =
     let p = c.args.closer.now.puzzle in
     let lines = lines_of p in
     let old = c.args.board.now in

@@ -15,7 +15,7 @@ use Rattle.solve_core.proofs.GridSteps.{closed_rest, rest_closed}
 use Rattle.solve_core.proofs.search.search.Goals as goal
 
 pub loop-next-init : goal.loop-next-init
-loop-next-init c =
+loop-next-init g c =
     let p = c.args.closer.now.puzzle in
     let lines = lines_of p in
     let board = c.args.board.now in
@@ -49,7 +49,7 @@ loop-next-init c =
     }
 
 pub next_guess-requires : goal.next_guess-requires
-next_guess-requires c =
+next_guess-requires g c =
     let lines = lines_of c.args.closer.now.puzzle in
     let now = c.loop-next.board in
     let kept = c.loop-next.invariant in
@@ -60,13 +60,13 @@ next_guess-requires c =
     }
 
 pub explore-next-requires-clause-next : goal.explore-next-requires-clause-next
-explore-next-requires-clause-next c =
+explore-next-requires-clause-next g c =
     let kept = c.loop-next.invariant in
     subst (λ (x : Nonogram). IsReady first_unknown (lines_of x) c.next_guess.new.board.cells (Some (c.in-Some.place, c.in-Some.colour))) (sym kept.same)
     (c.in-Some.ensures.ready (lines_of c.args.closer.now.puzzle) kept.under_way.work kept.under_way.next_open)
 
 pub explore-next-requires-clause-rest : goal.explore-next-requires-clause-rest
-explore-next-requires-clause-rest c =
+explore-next-requires-clause-rest g c =
     let kept = c.loop-next.invariant in
     let p = c.args.closer.now.puzzle in
     let cells = c.next_guess.new.board.cells in
@@ -77,7 +77,7 @@ explore-next-requires-clause-rest c =
     kept.unmarked
 
 pub loop-next-smaller : goal.loop-next-smaller
-loop-next-smaller c =
+loop-next-smaller g c =
     let p = c.args.closer.now.puzzle in
     let kept = c.loop-next.invariant in
     let now = c.next_guess.new.board in
@@ -89,7 +89,7 @@ loop-next-smaller c =
     omega (arith, on.fewer, ap length (c.in-Some.ensures.events (lines_of p) kept.under_way.work))
 
 pub loop-next-preserved : goal.loop-next-preserved
-loop-next-preserved c =
+loop-next-preserved g c =
     let p = c.args.closer.now.puzzle in
     let kept = c.loop-next.invariant in
     let now = c.next_guess.new.board in

@@ -10,7 +10,7 @@ use Rattle.solve_core.proofs.search.search.Given as goal
 
 -- the search so far and what is still to happen end as the whole search
 abbrev pub invariant-loop-next : goal.invariant-loop-next
-invariant-loop-next l =
+invariant-loop-next g l =
     let p = l.fn.closer.puzzle in
     record {
       under_way : IsUnderWay p l.branches.items l.board l.next;
@@ -27,4 +27,4 @@ invariant-loop-next l =
     }
 
 abbrev pub decreases-loop-next : goal.decreases-loop-next
-decreases-loop-next l = length (owed l.fn.closer.puzzle l.branches.items l.board l.next)
+decreases-loop-next g l = length (owed l.fn.closer.puzzle l.branches.items l.board l.next)

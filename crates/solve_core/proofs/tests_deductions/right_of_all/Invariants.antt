@@ -2,4 +2,4 @@ use Rattle.std.proofs.Common.{◌≡◌}
 use Rattle.solve_core.proofs.tests_deductions.right_of_all.Given as goal
 
 abbrev pub invariant-loop-number : goal.invariant-loop-number
-invariant-loop-number l = (l.deductions ≡ l.puzzle) × (l.tables ≡ 6)
+invariant-loop-number l = l.deductions ≡ l.puzzle

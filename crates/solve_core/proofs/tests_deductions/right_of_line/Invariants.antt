@@ -2,4 +2,4 @@ use Rattle.std.proofs.Common.{◌≡◌}
 use Rattle.solve_core.proofs.tests_deductions.right_of_line.Given as goal
 
 abbrev pub invariant-loop-state : goal.invariant-loop-state
-invariant-loop-state l = (l.deductions ≡ l.puzzle) × (l.tables ≡ 6)
+invariant-loop-state l = l.deductions ≡ l.puzzle

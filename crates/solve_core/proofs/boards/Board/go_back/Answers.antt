@@ -5,7 +5,7 @@ use Rattle.solve_core.proofs.BranchLaws.{before-back, take_least}
 use Rattle.solve_core.proofs.boards.Board.go_back.Goals as goal
 
 pub loop-self-preserved : goal.loop-self-preserved
-loop-self-preserved c =
+loop-self-preserved g c =
     let g = c.loop-self.self in
     let before = c.loop-self.invariant in
     let less : c.args.mark ≤ length g.trail - 1 = omega (arith, ap length c.trail.ensures.trail, c.loop-self-test.true) in

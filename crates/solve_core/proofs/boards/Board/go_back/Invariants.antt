@@ -3,7 +3,7 @@ use Rattle.solve_core.specs.Branches.{cells_before}
 use Rattle.solve_core.proofs.boards.Board.go_back.Given as goal
 
 abbrev pub invariant-loop-self : goal.invariant-loop-self
-invariant-loop-self l = record {
+invariant-loop-self g l = record {
   width : l.self.width ≡ l.fn.self.width;
   height : l.self.height ≡ l.fn.self.height;
   cells : cells_before l.self.cells l.self.trail l.mark ≡ cells_before l.fn.self.cells l.fn.self.trail l.mark;
@@ -11,4 +11,4 @@ invariant-loop-self l = record {
 }
 
 abbrev pub decreases-loop-self : goal.decreases-loop-self
-decreases-loop-self l = length l.self.trail
+decreases-loop-self g l = length l.self.trail

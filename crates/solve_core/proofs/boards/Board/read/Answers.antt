@@ -7,7 +7,7 @@ use Rattle.solve_core.proofs.GridSteps.{place_again}
 use Rattle.solve_core.proofs.boards.Board.read.Goals as goal
 
 pub loop-place-preserved : goal.loop-place-preserved
-loop-place-preserved c =
+loop-place-preserved g c =
     let b = c.loop-place.self-inside in
     let before = c.loop-place.invariant in
     let k = c.loop-place.place in
@@ -34,7 +34,7 @@ loop-place-preserved c =
     }
 
 pub returns-clause-board : goal.returns-clause-board
-returns-clause-board c =
+returns-clause-board g c =
     let b = c.loop-place.self-inside in
     let before = c.loop-place.invariant in
     let long : length b.cells.items ≡ length c.args.grid.now.cells = before.board.lines.count ∙ (λ i. before.width i * before.height i) ∙ sym c.width.ensures.cells in
@@ -42,13 +42,13 @@ returns-clause-board c =
     λ i. record { width = before.width i; height = before.height i; cells = cells i; trail = before.trail i }
 
 pub write-requires-clause-column : goal.write-requires-clause-column
-write-requires-clause-column c =
+write-requires-clause-column g c =
     let b = c.loop-place.self-inside in
     let wide : c.from-width.result ≡ length b.columns.items = c.from-width.ensures ∙ c.width.ensures.width ∙ sym c.loop-place.invariant.width in
     rw (wide, c.deref_mut-in-loop-place-2.ensures.value) ((place_in b.cells.items b.rows.items b.columns.items c.loop-place.place c.loop-place.invariant.board.lines (omega (arith, c.loop-place.invariant.count, c.loop-place-test.true))).1)
 
 pub write-requires-clause-row : goal.write-requires-clause-row
-write-requires-clause-row c =
+write-requires-clause-row g c =
     let b = c.loop-place.self-inside in
     let wide : c.from-width.result ≡ length b.columns.items = c.from-width.ensures ∙ c.width.ensures.width ∙ sym c.loop-place.invariant.width in
     rw (wide, c.deref_mut-in-loop-place.ensures.value) ((place_in b.cells.items b.rows.items b.columns.items c.loop-place.place c.loop-place.invariant.board.lines (omega (arith, c.loop-place.invariant.count, c.loop-place-test.true))).2)

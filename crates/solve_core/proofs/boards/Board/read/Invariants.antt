@@ -4,7 +4,7 @@ use Rattle.solve_core.specs.Boards.{IsBoard}
 use Rattle.solve_core.proofs.boards.Board.read.Given as goal
 
 abbrev pub invariant-loop-place : goal.invariant-loop-place
-invariant-loop-place l = record {
+invariant-loop-place g l = record {
   board : IsBoard l.self-inside.cells.items l.self-inside.rows.items l.self-inside.columns.items l.self-inside.trail.items (vec_capacity l.self-inside.trail);
   width : length l.self-inside.columns.items ≡ l.grid.width;
   height : length l.self-inside.rows.items ≡ l.grid.height;

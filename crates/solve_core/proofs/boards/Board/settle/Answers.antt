@@ -7,7 +7,7 @@ use Rattle.solve_core.proofs.TrailSteps.{trailed-one, count-settled}
 use Rattle.solve_core.proofs.boards.Board.settle.Goals as goal
 
 pub push_reserved-requires : goal.push_reserved-requires
-push_reserved-requires c =
+push_reserved-requires g c =
     let b = c.self.inside in
     let k : ℕ = c.args.y * length b.columns.items + c.args.x in
     let wide = ap (λ (g : TrailedGrid). g.width) c.self.view_is in
@@ -16,7 +16,7 @@ push_reserved-requires c =
     omega (arith, b.trail.ok.0, c.self.invariant.grid.settled, c.self.invariant.room_is, count-settled b.cells.items k c.args.cell within unknown c.requires.known)
 
 pub invariant_of-self : goal.invariant_of-self
-invariant_of-self c =
+invariant_of-self g c =
     let b = c.self.inside in
     let w = length b.columns.items in
     let k : ℕ = c.args.y * w + c.args.x in
@@ -33,7 +33,7 @@ invariant_of-self c =
     (c.push_reserved.ensures.items ∙ (λ i. b.trail.items ++ (c.args.y * placed i + c.args.x) ∷ [])) c.push_reserved.ensures.capacity
 
 pub returns-clause-trail : goal.returns-clause-trail
-returns-clause-trail c =
+returns-clause-trail g c =
     let b = c.self.inside in
     let g = c.args.self.now in
     let w = length b.columns.items in

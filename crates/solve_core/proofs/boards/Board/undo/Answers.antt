@@ -5,19 +5,19 @@ use Rattle.solve_core.proofs.BoardSteps.{board-undone, undone_place}
 use Rattle.solve_core.proofs.boards.Board.undo.Goals as goal
 
 pub write-requires-clause-column : goal.write-requires-clause-column
-write-requires-clause-column c =
+write-requires-clause-column g c =
     let b = c.self.inside in
     let at = undone_place b.cells.items b.rows.items b.columns.items b.trail.items c.pop.new.self.items _ c.in-Some.place c.self.invariant c.in-Some.ensures.items in
     rw (c.from-place.ensures, c.len-width.ensures, b.columns.ok.0, c.deref_mut-3.ensures.value) at.0
 
 pub write-requires-clause-row : goal.write-requires-clause-row
-write-requires-clause-row c =
+write-requires-clause-row g c =
     let b = c.self.inside in
     let at = undone_place b.cells.items b.rows.items b.columns.items b.trail.items c.pop.new.self.items _ c.in-Some.place c.self.invariant c.in-Some.ensures.items in
     rw (c.from-place.ensures, c.len-width.ensures, b.columns.ok.0, c.deref_mut-2.ensures.value) at.1
 
 pub invariant_of-self-2 : goal.invariant_of-self-2
-invariant_of-self-2 c =
+invariant_of-self-2 g c =
     let b = c.self.inside in
     let w = length b.columns.items in
     let at = undone_place b.cells.items b.rows.items b.columns.items b.trail.items c.pop.new.self.items _ c.in-Some.place c.self.invariant c.in-Some.ensures.items in

@@ -9,26 +9,26 @@ use Rattle.solve_core.proofs.TrailSteps.{trailed-trans}
 use Rattle.solve_core.proofs.closures.Closer.assign.Goals as goal
 
 pub settle-requires-clause-column : goal.settle-requires-clause-column
-settle-requires-clause-column c =
+settle-requires-clause-column g c =
     let p = c.args.self.now.puzzle in
     let wide : c.from-width.result ≡ p.width = c.from-width.ensures ∙ c.width.ensures.width ∙ ap (λ (m : MarkedPuzzle). m.puzzle.width) c.self.view_is in
     rw (wide, c.requires.size.0) ((place_split p c.args.board.now.cells c.args.place c.requires.rest.marks.puzzle c.requires.size.2 c.requires.place).0)
 
 pub settle-requires-clause-row : goal.settle-requires-clause-row
-settle-requires-clause-row c =
+settle-requires-clause-row g c =
     let p = c.args.self.now.puzzle in
     let wide : c.from-width.result ≡ p.width = c.from-width.ensures ∙ c.width.ensures.width ∙ ap (λ (m : MarkedPuzzle). m.puzzle.width) c.self.view_is in
     rw (wide, c.requires.size.1) ((place_split p c.args.board.now.cells c.args.place c.requires.rest.marks.puzzle c.requires.size.2 c.requires.place).1)
 
 pub settle-requires-clause-unknown : goal.settle-requires-clause-unknown
-settle-requires-clause-unknown c =
+settle-requires-clause-unknown g c =
     let p = c.args.self.now.puzzle in
     let wide : c.from-width.result ≡ p.width = c.from-width.ensures ∙ c.width.ensures.width ∙ ap (λ (m : MarkedPuzzle). m.puzzle.width) c.self.view_is in
     let at = (place_split p c.args.board.now.cells c.args.place c.requires.rest.marks.puzzle c.requires.size.2 c.requires.place).2 in
     rw (wide, c.requires.size.0) (ap (λ (k : ℕ). get_or c.args.board.now.cells k Unknown) at ∙ c.requires.unknown)
 
 pub propagate-requires-clause-marks : goal.propagate-requires-clause-marks
-propagate-requires-clause-marks c =
+propagate-requires-clause-marks g c =
     let p = c.self.inside.puzzle.now in
     let before = c.self.inside.marks.items in
     let old = c.args.board.now.cells in
@@ -40,7 +40,7 @@ propagate-requires-clause-marks c =
     rw cells (place_given p old before c.args.place c.from-width.result c.from-height.result c.args.colour wide (c.from-height.ensures ∙ c.height.ensures) c.self.invariant.2 marks c.requires.place)
 
 pub returns-clause-closed : goal.returns-clause-closed
-returns-clause-closed c =
+returns-clause-closed g c =
     let p = c.args.self.now.puzzle in
     let old = c.args.board.now.cells in
     let wide : c.from-width.result ≡ p.width = c.from-width.ensures ∙ c.width.ensures.width ∙ ap (λ (m : MarkedPuzzle). m.puzzle.width) c.self.view_is in
@@ -50,5 +50,5 @@ returns-clause-closed c =
     c.propagate.ensures.closed ∙ (λ i. closure (lines_of (c.self.view_is i).puzzle) (cells i))
 
 pub returns-clause-trail : goal.returns-clause-trail
-returns-clause-trail c =
+returns-clause-trail g c =
     trailed-trans c.args.board.now c.settle.new.self c.propagate.new.board c.settle.ensures.trail c.propagate.ensures.trail

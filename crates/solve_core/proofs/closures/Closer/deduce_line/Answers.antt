@@ -11,7 +11,7 @@ use Rattle.solve_core.proofs.GridSteps.{marked, learned-progress, marks-after, u
 use Rattle.solve_core.proofs.closures.Closer.deduce_line.Goals as goal
 
 pub returns-clause-progress : goal.returns-clause-progress
-returns-clause-progress c =
+returns-clause-progress g c =
     let p = c.self.inside.puzzle.now in
     let n = c.args.n in
     let r = c.learn_line.result in
@@ -22,7 +22,7 @@ returns-clause-progress c =
     (learned-progress (lines_of p) (line_at p n) old new r (line_is_one p n c.self.invariant.0 within) (subst (λ (q : Nonogram). IsLearned r (line_at q n) old new) c.self.invariant.1 c.learn_line.ensures.learned))
 
 pub returns-clause-marks : goal.returns-clause-marks
-returns-clause-marks c =
+returns-clause-marks g c =
     let p = c.self.inside.puzzle.now in
     let n = c.args.n in
     let r = c.learn_line.result in
@@ -39,7 +39,7 @@ returns-clause-marks c =
     (subst (λ (q : Nonogram). IsLearned r (line_at q n) old new) c.self.invariant.1 c.learn_line.ensures.learned) changes)
 
 pub returns-clause-unmarked : goal.returns-clause-unmarked
-returns-clause-unmarked c =
+returns-clause-unmarked g c =
     let p = c.self.inside.puzzle.now in
     let n = c.args.n in
     let old = c.args.board.now.cells in

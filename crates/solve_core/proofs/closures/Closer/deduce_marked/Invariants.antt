@@ -7,7 +7,7 @@ use Rattle.solve_core.specs.Boards.{IsBoardOf}
 use Rattle.solve_core.proofs.closures.Closer.deduce_marked.Given as goal
 
 abbrev pub invariant-loop-height : goal.invariant-loop-height
-invariant-loop-height l = record {
+invariant-loop-height g l = record {
   puzzle : l.self.puzzle ≡ l.fn.self.puzzle;
   marks : HasMarks l.self l.board.cells;
   trail : IsTrailed l.fn.board l.board;
@@ -16,4 +16,4 @@ invariant-loop-height l = record {
 }
 
 abbrev pub decreases-loop-height : goal.decreases-loop-height
-decreases-loop-height l = unknown_count l.board.cells
+decreases-loop-height g l = unknown_count l.board.cells

@@ -7,7 +7,7 @@ use Rattle.solve_core.proofs.closures.Closer.deduce_range.Goals as goal
 use Rattle.solve_core.proofs.closures.Closer.deduce_range.Goals.{then-index+in-Same, then-index+in-Changed, else-index}
 
 pub loop-n-preserved : goal.loop-n-preserved
-loop-n-preserved c =
+loop-n-preserved g c =
     let before = c.loop-n.invariant in
     let n = c.loop-n.n in
     let parallel = subst (λ (p : Nonogram). AreParallel p c.args.start c.args.end) (sym before.puzzle) c.requires.parallel in
@@ -49,5 +49,5 @@ loop-n-preserved c =
     ]
 
 pub returns-in-Dead-clause-trail : goal.returns-in-Dead-clause-trail
-returns-in-Dead-clause-trail c =
+returns-in-Dead-clause-trail g c =
     trailed-trans c.args.board.now c.loop-n.board c.deduce_line.new.board c.loop-n.invariant.trail c.deduce_line.ensures.trail

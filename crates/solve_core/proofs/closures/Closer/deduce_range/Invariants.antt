@@ -8,7 +8,7 @@ use Rattle.solve_core.specs.Boards.{IsBoardOf}
 use Rattle.solve_core.proofs.closures.Closer.deduce_range.Given as goal
 
 abbrev pub invariant-loop-n : goal.invariant-loop-n
-invariant-loop-n l = record {
+invariant-loop-n g l = record {
   puzzle : l.self.puzzle ≡ l.fn.self.puzzle;
   marks : HasMarks l.self l.board.cells;
   trail : IsTrailed l.fn.board l.board;

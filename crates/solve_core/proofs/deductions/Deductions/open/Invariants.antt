@@ -2,7 +2,7 @@ use Rattle.std.proofs.Common.{◌≡◌, ◌-◌, vec_len, vec_capacity}
 use Rattle.solve_core.proofs.deductions.Deductions.open.Given as goal
 
 abbrev pub invariant-loop-self : goal.invariant-loop-self
-invariant-loop-self l = record {
+invariant-loop-self g l = record {
   puzzle : l.self-inside.puzzle ≡ l.initial.self-inside.puzzle;
   tables : l.self-inside.tables ≡ l.initial.self-inside.tables;
   room : l.self-inside.room ≡ l.initial.self-inside.room;
@@ -11,4 +11,4 @@ invariant-loop-self l = record {
 }
 
 abbrev pub decreases-loop-self : goal.decreases-loop-self
-decreases-loop-self l = l.self-inside.room - vec_len l.self-inside.slots
+decreases-loop-self g l = l.self-inside.room - vec_len l.self-inside.slots

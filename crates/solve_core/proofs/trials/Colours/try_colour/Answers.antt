@@ -5,7 +5,7 @@ use Rattle.solve_core.proofs.TrialSteps.{added-open}
 use Rattle.solve_core.proofs.trials.Colours.try_colour.Goals as goal
 
 pub returns-clause-colours : goal.returns-clause-colours
-returns-clause-colours c =
+returns-clause-colours g c =
     let lines = lines_of c.args.closer.now.puzzle in
     let cells = c.args.board.now.cells in
     let before = c.requires.colours in

@@ -8,7 +8,7 @@ use Rattle.solve_core.proofs.trials.Trials.keep_colour.Goals as goal
 use Rattle.solve_core.proofs.trials.Trials.keep_colour.Goals.{then-assign, else-assign}
 
 pub returns-clause-progress : goal.returns-clause-progress
-returns-clause-progress c =
+returns-clause-progress g c =
     let lines = lines_of c.args.self.now.closer.puzzle in
     let old = c.args.board.now.cells in
     let new = c.assign.new.board.cells in

@@ -7,7 +7,7 @@ use Rattle.solve_core.proofs.trials.Trials.try_all.Goals as goal
 use Rattle.solve_core.proofs.trials.Trials.try_all.Goals.{in-Same, in-Changed}
 
 pub loop-place-preserved : goal.loop-place-preserved
-loop-place-preserved c =
+loop-place-preserved g c =
     let before = c.loop-place.invariant in
     let p = c.loop-place.self.closer.puzzle in
     let first = c.args.board.now.cells in

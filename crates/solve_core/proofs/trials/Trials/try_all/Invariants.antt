@@ -7,7 +7,7 @@ use Rattle.solve_core.specs.Marks.{IsReady, Progresses}
 use Rattle.solve_core.proofs.trials.Trials.try_all.Given as goal
 
 abbrev pub invariant-loop-place : goal.invariant-loop-place
-invariant-loop-place l = record {
+invariant-loop-place g l = record {
   puzzle : l.self.closer.puzzle ≡ l.fn.self.closer.puzzle;
   size : IsBoardOf l.self.closer.puzzle l.board;
   ready : IsReady l.self l.board.cells;

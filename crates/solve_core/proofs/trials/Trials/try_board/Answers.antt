@@ -8,13 +8,13 @@ use Rattle.solve_core.proofs.TrialSteps.{closure_dead, closure_trials}
 use Rattle.solve_core.proofs.trials.Trials.try_board.Goals as goal
 
 pub returns-then-not-propagate_all-clause-tried : goal.returns-then-not-propagate_all-clause-tried
-returns-then-not-propagate_all-clause-tried c =
+returns-then-not-propagate_all-clause-tried g c =
     let first = c.args.board.now.cells in
     subst (λ (t : TriedPuzzle). None ≡ trials (lines_of t.closer.puzzle) first) c.self.view_is
     (sym (closure_dead (lines_of c.self.inside.closer.puzzle) first (sym c.if-not-propagate_all.ensures.closed)))
 
 pub returns-clause-tried : goal.returns-clause-tried
-returns-clause-tried c =
+returns-clause-tried g c =
     let first = c.args.board.now.cells in
     let closed = c.propagate_all.new.board.cells in
     let seen : c.self.inside.closer.puzzle ≡ c.args.self.now.closer.puzzle = ap (λ (t : TriedPuzzle). t.closer.puzzle) c.self.view_is in

@@ -10,7 +10,7 @@ use Rattle.solve_core.proofs.TrialSteps.{blank_below, filled_below, trial-refute
 use Rattle.solve_core.proofs.trials.Trials.try_place.Goals as goal
 
 pub keep_colour-requires-clause-below : goal.keep_colour-requires-clause-below
-keep_colour-requires-clause-below c =
+keep_colour-requires-clause-below g c =
     let lines = lines_of c.self.inside.closer.puzzle in
     let g = c.args.board.now.cells in
     let k = c.args.place in
@@ -18,7 +18,7 @@ keep_colour-requires-clause-below c =
     (blank_below lines g k c.requires.place (trial-refuted c.try_colour-filled.result lines g c.try_colour-filled.new.trial.cells k Filled (c.is_refuted.ensures.0 c.if-is_refuted.true) c.try_colour-filled.ensures.tried))
 
 pub returns-then-is_closed-clause-progress : goal.returns-then-is_closed-clause-progress
-returns-then-is_closed-clause-progress c =
+returns-then-is_closed-clause-progress g c =
     let lines = lines_of c.args.self.now.closer.puzzle in
     let g = c.args.board.now.cells in
     let k = c.args.place in
@@ -31,7 +31,7 @@ returns-then-is_closed-clause-progress c =
     rw (ap (λ (g : TrailedGrid). g.cells) c.restart_from.ensures) (settle-changed lines g c.try_colour-filled.new.trial.cells k Filled c.requires.place unknown refl below closed)
 
 pub keep_colour-requires-2-clause-below : goal.keep_colour-requires-2-clause-below
-keep_colour-requires-2-clause-below c =
+keep_colour-requires-2-clause-below g c =
     let lines = lines_of c.try_colour-filled.new.closer.puzzle in
     let g = c.args.board.now.cells in
     let k = c.args.place in

@@ -7,7 +7,7 @@ use Rattle.solve_core.proofs.GridSteps.{rest_closed}
 use Rattle.solve_core.proofs.trials.Trials.try_until_same.Goals as goal
 
 pub returns-in-Same-clause-tried : goal.returns-in-Same-clause-tried
-returns-in-Same-clause-tried c =
+returns-in-Same-clause-tried g c =
     let lines = lines_of c.loop.self.closer.puzzle in
     let first = c.args.board.now.cells in
     let new = c.try_all.new.board.cells in
@@ -18,4 +18,4 @@ returns-in-Same-clause-tried c =
     (sym (tried_ends lines new closed (c.in-Same.ensures.tried refl)) ∙ ap (trials lines) c.in-Same.ensures.progress ∙ c.loop.invariant.same)
 
 pub returns-in-Same-clause-rest : goal.returns-in-Same-clause-rest
-returns-in-Same-clause-rest c = λ alive. (c.in-Same.ensures.ready (λ e. cc)).rest
+returns-in-Same-clause-rest g c = λ alive. (c.in-Same.ensures.ready (λ e. cc)).rest

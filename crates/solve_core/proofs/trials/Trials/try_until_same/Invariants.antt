@@ -7,7 +7,7 @@ use Rattle.solve_core.specs.Trails.{unknown_count}
 use Rattle.solve_core.proofs.trials.Trials.try_until_same.Given as goal
 
 abbrev pub invariant-loop : goal.invariant-loop
-invariant-loop l = record {
+invariant-loop g l = record {
   puzzle : l.self.closer.puzzle ≡ l.fn.self.closer.puzzle;
   size : IsBoardOf l.self.closer.puzzle l.board;
   ready : IsReady l.self l.board.cells;
@@ -15,4 +15,4 @@ invariant-loop l = record {
 }
 
 abbrev pub decreases-loop : goal.decreases-loop
-decreases-loop l = unknown_count l.board.cells
+decreases-loop g l = unknown_count l.board.cells

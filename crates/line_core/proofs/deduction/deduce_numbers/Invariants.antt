@@ -1,0 +1,4 @@
+use Rattle.line_core.proofs.deduction.deduce_numbers.Given as goal
+
+abbrev pub ghost-colours : goal.ghost-colours
+ghost-colours g a = g.cells

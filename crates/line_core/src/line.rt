@@ -1,0 +1,60 @@
+//! Lines of any length.
+
+ghost use Rattle.std.specs.Prelude.{◌≡◌, ◌<◌, ◌≤◌, length, replicate, slice_index_or, slice_set};
+ghost use Rattle.grid_core.specs.declared.cells.Cell.TheVariants.{Unknown};
+
+use crate::lines::LineOf;
+use grid_core::{Cell, LONGEST_SIDE};
+use place_sets::Wide;
+use std::marker::Model;
+
+/// The cells of a line, 1 to 256 of them, seen as the list of its cells.
+#[derive(Drop)]
+pub struct Line {
+    pub(crate) cells: LineOf<Wide>,
+}
+
+impl Model for Line {
+    ghost use Rattle.std.specs.Prelude.{List};
+    ghost use Rattle.grid_core.specs.declared.cells.Cell.{Cell as CellValue};
+
+    ghost Value = { List CellValue };
+
+    ghost view = { λ line. line.cells };
+}
+
+impl Line {
+    /// A line of `len` cells, 1 to 256, of which nothing is known.
+    pub fn unknown(len: u16) -> Line
+        requires { (1 ≤ len) × (len ≤ LONGEST_SIDE) }
+        ensures { result ≡ replicate len Unknown }
+    {
+        Line {
+            cells: LineOf::unknown(len),
+        }
+    }
+
+    /// How many cells it has.
+    pub fn len(&self) -> u16
+        ensures len { result ≡ length self.now }
+        ensures within { (1 ≤ length self.now) × (length self.now ≤ LONGEST_SIDE) }
+    {
+        self.cells.len()
+    }
+
+    /// What is known of the cell at a place, counted from 0.
+    pub fn get(&self, i: u16) -> Cell
+        requires { i < length self.now }
+        ensures { result ≡ slice_index_or self.now i Unknown }
+    {
+        self.cells.get(i)
+    }
+
+    /// Changes what is known of the cell at a place.
+    pub fn set(&mut self, i: u16, cell: Cell)
+        requires { i < length self.old }
+        ensures { self.new ≡ slice_set self.old i cell }
+    {
+        self.cells.set(i, cell);
+    }
+}

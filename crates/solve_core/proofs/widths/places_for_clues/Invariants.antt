@@ -1,0 +1,11 @@
+use Rattle.std.proofs.Common.{◌≤◌, take}
+use Rattle.std.specs.List.{All}
+use Rattle.grid_core.specs.declared.limits.TheConstants.{LONGEST_SIDE}
+use Rattle.solve_core.proofs.widths.places_for_clues.Given as goal
+
+abbrev pub invariant-loop-clue : goal.invariant-loop-clue
+invariant-loop-clue l = record {
+  least : l.least ≤ l.needed;
+  passed : All (All (λ number. number ≤ l.needed)) (take l.clue-index l.clues);
+  most : l.needed ≤ LONGEST_SIDE;
+}

@@ -1,0 +1,31 @@
+//! The width of the sets that a puzzle is solved in.
+ghost use Rattle.std.specs.Prelude.{◌≤◌, All};
+ghost use Rattle.grid_core.specs.declared.limits.TheConstants.{LONGEST_SIDE};
+ghost use Rattle.solve_core.specs.Widths.{FitsIn};
+
+use grid_core::{Clue, Puzzle};
+use line_core::places_needed;
+
+/// How many places sets need that have `least` places at least, and have room for each number of some clues.
+fn places_for_clues(clues: &[Clue], least: u16) -> u16
+    requires { least ≤ LONGEST_SIDE }
+    ensures least { least ≤ result }
+    ensures clues { All (All (λ number. number ≤ result)) clues.now }
+    ensures most { result ≤ LONGEST_SIDE }
+{
+    let mut needed = least;
+    for clue in clues {
+        needed = places_needed(needed, clue.numbers());
+    }
+    needed
+}
+
+/// How many places sets need for the lines of a puzzle and for the numbers of its clues.
+pub fn places_for(puzzle: &Puzzle) -> u16
+    ensures fits { FitsIn result puzzle.now }
+    ensures most { result ≤ LONGEST_SIDE }
+{
+    let sides = puzzle.width().max(puzzle.height());
+    let rows = places_for_clues(puzzle.rows(), sides);
+    places_for_clues(puzzle.columns(), rows)
+}

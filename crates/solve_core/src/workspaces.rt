@@ -1,0 +1,74 @@
+//! A puzzle with the room for closing its grids, in sets of one width.
+ghost use Rattle.std.specs.Prelude.{◌≡◌, IfOk};
+ghost use Rattle.grid_core.specs.Nonogram.{lines_of};
+ghost use Rattle.solve_core.specs.Closure.{closure};
+ghost use Rattle.solve_core.specs.Sizes.{HasSizeOf};
+ghost use Rattle.solve_core.specs.Trials.{trials};
+ghost use Rattle.solve_core.specs.Marks.{if_alive};
+ghost use Rattle.solve_core.specs.Widths.{FitsIn};
+
+use crate::boards::Board;
+use crate::grids::write_grid;
+use crate::trials::Trials;
+use grid_core::{Grid, NoMemory, Puzzle};
+use line_core::LineSet;
+use std::alloc::Global;
+use std::marker::Model;
+
+/// A puzzle with the room for closing its grids, in sets that have room for its lines and the numbers of its clues.
+#[derive(Drop)]
+pub struct Workspace<'p, W: LineSet> {
+    trials: Trials<'p, W>,
+    board: Board<W>,
+}
+
+impl<'p, W: LineSet> Model for Workspace<'p, W> {
+    ghost use Rattle.grid_core.specs.Nonogram.{Nonogram};
+    ghost use Rattle.solve_core.specs.Boards.{IsBoardOf};
+
+    ghost Value = { Nonogram };
+
+    ghost view = { λ s. s.trials.closer.puzzle };
+
+    ghost invariant = { λ s. IsBoardOf s.trials.closer.puzzle s.board };
+}
+
+impl<'p, W: LineSet> Workspace<'p, W> {
+    /// Makes all the room that closing takes.
+    pub fn new(alloc: Global, puzzle: &'p Puzzle) -> Result<Workspace<'p, W>, NoMemory>
+        requires { FitsIn W.WIDTH puzzle.now }
+        ensures { IfOk result (λ workspace. workspace ≡ puzzle.now) }
+    {
+        Ok(Workspace {
+            trials: Trials::new(alloc, puzzle)?,
+            board: Board::unknown(alloc, puzzle.width(), puzzle.height())?,
+        })
+    }
+
+    /// Closes a grid under line deduction. Answers whether it is alive; a dead grid's cells are open.
+    pub fn close_lines(&mut self, grid: &mut Grid) -> bool
+        requires size { HasSizeOf self.old grid.old }
+        ensures closed { if_alive result grid.new.cells ≡ closure (lines_of self.old) grid.old.cells }
+        ensures size { HasSizeOf self.old grid.new }
+        ensures puzzle { self.new ≡ self.old }
+    {
+        self.board.read(grid);
+        let trials = &mut self.trials;
+        let alive = trials.closer.propagate_all(&mut self.board);
+        write_grid(self.board.cells(), grid);
+        alive
+    }
+
+    /// Closes a grid under trials. Answers whether it is alive; a dead grid's cells are open.
+    pub fn close_trials(&mut self, grid: &mut Grid) -> bool
+        requires size { HasSizeOf self.old grid.old }
+        ensures tried { if_alive result grid.new.cells ≡ trials (lines_of self.old) grid.old.cells }
+        ensures size { HasSizeOf self.old grid.new }
+        ensures puzzle { self.new ≡ self.old }
+    {
+        self.board.read(grid);
+        let alive = self.trials.try_board(&mut self.board);
+        write_grid(self.board.cells(), grid);
+        alive
+    }
+}
