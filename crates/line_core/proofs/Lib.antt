@@ -14,3 +14,4 @@ pub mod Telling
 pub mod Learning
 pub mod Examples
 pub mod Comparing
+pub mod Packing

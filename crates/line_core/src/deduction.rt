@@ -8,6 +8,7 @@ ghost use Rattle.line_core.specs.Passes.{IsSpanOf};
 ghost use Rattle.line_core.specs.Reach.{AreLengths, AreTurnedGaps, IsFillable, IsBlankable};
 
 use crate::Line;
+use crate::overlaps::{is_unknown, unknown_colours};
 use crate::passes::Pass;
 use crate::reach::{GAPS, gap_ahead, whole_ends, write_turned_gaps};
 use crate::rooms::Rooms;
@@ -51,6 +52,9 @@ pub fn colours<W: PlaceSet>(span: &Span<W>, clue: &[u16], gaps: &mut [W; GAPS]) 
     ensures filled { IsMaskOf (IsFillable line clue.now) (W.number result.0) }
     ensures blank { IsMaskOf (IsBlankable line clue.now) (W.number result.1) }
 {
+    if is_unknown(span) {
+        return unknown_colours(span.len, clue);
+    }
     write_turned_gaps(span, clue, gaps);
     possible_colours(span, clue, gaps)
 }

@@ -6,6 +6,7 @@ mod gaps;
 pub mod laws;
 mod lines;
 mod listing;
+mod overlaps;
 mod passes;
 mod reach;
 mod rooms;
@@ -13,6 +14,8 @@ mod spans;
 mod starts;
 #[cfg(test)]
 mod tests;
+#[cfg(test)]
+mod tests_overlaps;
 #[cfg(test)]
 mod tests_starts;
 mod widths;

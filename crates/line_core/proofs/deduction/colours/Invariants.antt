@@ -1,5 +1,8 @@
 use Rattle.line_core.proofs.deduction.colours.Given as goal
 
+abbrev pub ghost-is_unknown : goal.ghost-is_unknown
+ghost-is_unknown g a = g.line
+
 abbrev pub ghost-write_turned_gaps : goal.ghost-write_turned_gaps
 ghost-write_turned_gaps g a = g.line
 
