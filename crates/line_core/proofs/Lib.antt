@@ -13,3 +13,4 @@ pub mod Changing
 pub mod Telling
 pub mod Learning
 pub mod Examples
+pub mod Packing

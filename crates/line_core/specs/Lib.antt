@@ -6,5 +6,6 @@ pub mod Lines
 pub mod Reach
 pub mod Passes
 pub mod Told
+pub mod Overlaps
 pub mod Outermost
 pub mod Listing

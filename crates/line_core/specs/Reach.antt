@@ -4,7 +4,7 @@ use Rattle.grid_core.specs.declared.cells.Cell.{Cell}
 use Rattle.grid_core.specs.declared.cells.Cell.TheVariants.{Unknown}
 use Rattle.grid_core.specs.Cells.{allows, agrees}
 use Rattle.grid_core.specs.Runs.{runs}
-use Rattle.place_sets.specs.Masks.{IsMaskOf, AllFrom, SomeFrom}
+use Rattle.place_sets.specs.Masks.{Has, IsMaskOf, AllFrom, SomeFrom}
 
 -- each number is the length of a run, within so many places
 pub record AreLengths (width : ℕ) (clue : List ℕ) : Type 0 where
@@ -48,6 +48,10 @@ IsGap line clue j i = IsGapAfter line (behind 0 clue j) i
 abbrev pub AreTurnedGaps : List Cell → List ℕ → List ℕ → Type 0
 AreTurnedGaps line clue gaps = (j : ℕ) → j ≤ length clue → IsMaskOf (IsGap (reverse line) (reverse clue) j) (slice_index gaps j)
 
+-- masks that are others seen from the other end of a line of so many cells
+abbrev pub AreTurnedMasks : ℕ → List ℕ → List ℕ → Type 0
+AreTurnedMasks len old new = (length new ≡ length old) × ((k : ℕ) → k < length old → IsMaskOf (λ i. (i < len) × Has (slice_index old k) (len - 1 - i)) (slice_index new k))
+
 -- run j (the first is run 0) can end here, with exactly the runs before it in the cells before
 abbrev pub IsEnd : List Cell → List ℕ → ℕ → ℕ → Type 0
 IsEnd line clue j e = IsEndAfter line (behind 0 clue j) (slice_index_or clue j 0) e
@@ -55,6 +59,10 @@ IsEnd line clue j e = IsEndAfter line (behind 0 clue j) (slice_index_or clue j 0
 -- the cells from this one on can hold exactly the runs from the jth on, with this one blank
 abbrev pub IsGapAhead : List Cell → List ℕ → ℕ → ℕ → Type 0
 IsGapAhead line clue j i = MayBe line false i × HasPlacing (drop (i + 1) line) (drop j clue)
+
+-- masks of the gaps before each run and after the last one, as the cells after allow them, the last one first
+abbrev pub AreGapsAhead : List Cell → List ℕ → List ℕ → Type 0
+AreGapsAhead line clue gaps = (j : ℕ) → j ≤ length clue → IsMaskOf (IsGapAhead line clue j) (slice_index gaps (length clue - j))
 
 -- run j ends here in some whole placing
 abbrev pub IsWholeEnd : List Cell → List ℕ → ℕ → ℕ → Type 0

@@ -5,12 +5,13 @@ ghost use Rattle.grid_core.specs.declared.cells.Cell.{Cell};
 ghost use Rattle.place_sets.specs.Masks.{IsMaskOf};
 ghost use Rattle.line_core.specs.Deduction.{deduced};
 ghost use Rattle.line_core.specs.Passes.{IsSpanOf};
-ghost use Rattle.line_core.specs.Reach.{AreLengths, AreTurnedGaps, IsFillable, IsBlankable};
+ghost use Rattle.line_core.specs.Reach.{AreLengths, AreGapsAhead, IsFillable, IsBlankable};
 
 use crate::Line;
 use crate::lines::LineOf;
+use crate::overlaps::{is_unknown, unknown_colours};
 use crate::passes::Pass;
-use crate::reach::{GAPS, gap_ahead, whole_ends, write_turned_gaps};
+use crate::reach::{GAPS, gap_ahead, whole_ends, write_gaps_ahead};
 use crate::rooms::{Room, Rooms};
 use crate::spans::Span;
 use crate::widths::places_needed;
@@ -20,22 +21,22 @@ use std::alloc::Global;
 use std::marker::Model;
 
 /// The cells that are filled in some placing, and those that are blank in some.
-fn possible_colours<W: PlaceSet>(span: &Span<W>, clue: &[u16], turned_gaps: &[W; GAPS]) -> (W, W)
+fn possible_colours<W: PlaceSet>(span: &Span<W>, clue: &[u16], gaps: &[W; GAPS]) -> (W, W)
     ghost line: { List Cell }
     requires span { IsSpanOf W.WIDTH line span.now.len (W.number span.now.free) (W.number span.now.room) }
     requires clue { AreLengths W.WIDTH clue.now }
     requires count { length clue.now ≤ MOST_RUNS }
-    requires turned { AreTurnedGaps line clue.now (map W.number turned_gaps.now) }
+    requires ahead { AreGapsAhead line clue.now (map W.number gaps.now) }
     ensures filled { IsMaskOf (IsFillable line clue.now) (W.number result.0) }
     ensures blank { IsMaskOf (IsBlankable line clue.now) (W.number result.1) }
 {
     let windows = windows_within(span.room);
     let mut pass = Pass::new(span);
-    let mut blankable = pass.gap().and(gap_ahead(span, clue, turned_gaps, 0));
+    let mut blankable = pass.gap().and(gap_ahead(clue, gaps, 0));
     let mut spread = [W::none(); LEVELS];
     for j in 0..clue.len() {
         let ends = pass.step(&windows, clue[j]);
-        let ahead = gap_ahead(span, clue, turned_gaps, j + 1);
+        let ahead = gap_ahead(clue, gaps, j + 1);
         let whole = whole_ends(span, clue, j, ends, ahead);
         add_ends(&mut spread, whole, clue[j]);
         blankable = blankable.or(pass.gap().and(ahead));
@@ -52,7 +53,10 @@ pub fn colours<W: PlaceSet>(span: &Span<W>, clue: &[u16], gaps: &mut [W; GAPS]) 
     ensures filled { IsMaskOf (IsFillable line clue.now) (W.number result.0) }
     ensures blank { IsMaskOf (IsBlankable line clue.now) (W.number result.1) }
 {
-    write_turned_gaps(span, clue, gaps);
+    if is_unknown(span) {
+        return unknown_colours(span.len, clue);
+    }
+    write_gaps_ahead(span, clue, gaps);
     possible_colours(span, clue, gaps)
 }
 

@@ -7,6 +7,7 @@ pub mod laws;
 mod line;
 mod lines;
 mod listing;
+mod overlaps;
 mod passes;
 mod reach;
 mod rooms;
@@ -14,6 +15,8 @@ mod spans;
 mod starts;
 #[cfg(test)]
 mod tests;
+#[cfg(test)]
+mod tests_overlaps;
 #[cfg(test)]
 mod tests_starts;
 mod widths;

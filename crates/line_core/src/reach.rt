@@ -4,7 +4,8 @@ ghost use Rattle.std.specs.Prelude.{◌≡◌, ◌+◌, ◌-◌, ◌<◌, ◌≤
 ghost use Rattle.grid_core.specs.declared.cells.Cell.{Cell};
 ghost use Rattle.place_sets.specs.Masks.{IsMaskOf};
 ghost use Rattle.line_core.specs.Passes.{IsSpanOf};
-ghost use Rattle.line_core.specs.Reach.{AreLengths, AreTurnedGaps, IsEnd, IsGapAhead, IsWholeEnd};
+ghost use Rattle.line_core.specs.declared.reach.TheConstants.{GAPS};
+ghost use Rattle.line_core.specs.Reach.{AreLengths, AreTurnedGaps, AreTurnedMasks, AreGapsAhead, IsEnd, IsGapAhead, IsWholeEnd};
 
 use crate::passes::Pass;
 use crate::spans::{Span, turned};
@@ -16,12 +17,13 @@ pub const GAPS: usize = MOST_RUNS + 1;
 
 /// Writes the gaps before each run and after the last one, as the cells before allow them, of a line and a clue that are both seen from
 /// their other end.
-pub fn write_turned_gaps<W: PlaceSet>(span: &Span<W>, clue: &[u16], gaps: &mut [W; GAPS])
+fn write_turned_gaps<W: PlaceSet>(span: &Span<W>, clue: &[u16], gaps: &mut [W; GAPS])
     ghost line: { List Cell }
     requires span { IsSpanOf W.WIDTH line span.now.len (W.number span.now.free) (W.number span.now.room) }
     requires clue { AreLengths W.WIDTH clue.now }
     requires count { length clue.now ≤ MOST_RUNS }
-    ensures { AreTurnedGaps line clue.now (map W.number gaps.new) }
+    ensures gaps { AreTurnedGaps line clue.now (map W.number gaps.new) }
+    ensures count { length gaps.new ≡ GAPS }
 {
     let turned = turned(span);
     let windows = windows_within(turned.room);
@@ -34,16 +36,37 @@ pub fn write_turned_gaps<W: PlaceSet>(span: &Span<W>, clue: &[u16], gaps: &mut [
     }
 }
 
-/// The gaps before a run, as the cells after allow them.
-pub fn gap_ahead<W: PlaceSet>(span: &Span<W>, clue: &[u16], turned_gaps: &[W; GAPS], j: usize) -> W
+/// Sees each of the masks from a line's other end.
+fn turn_all<W: PlaceSet>(masks: &mut [W], len: u16)
+    requires { (0 < len) × (len ≤ W.WIDTH) }
+    ensures { AreTurnedMasks len (map W.number masks.old) (map W.number masks.new) }
+{
+    for i in 0..masks.len() {
+        masks[i] = turn_line(masks[i], len);
+    }
+}
+
+/// Writes the gaps before each run and after the last one, as the cells after allow them, the last one first.
+pub fn write_gaps_ahead<W: PlaceSet>(span: &Span<W>, clue: &[u16], gaps: &mut [W; GAPS])
     ghost line: { List Cell }
     requires span { IsSpanOf W.WIDTH line span.now.len (W.number span.now.free) (W.number span.now.room) }
+    requires clue { AreLengths W.WIDTH clue.now }
+    requires count { length clue.now ≤ MOST_RUNS }
+    ensures { AreGapsAhead line clue.now (map W.number gaps.new) }
+{
+    write_turned_gaps(span, clue, gaps);
+    turn_all(&mut gaps[..clue.len() + 1], span.len);
+}
+
+/// The gaps before run j, or after the last one, as the cells after allow them.
+pub fn gap_ahead<W: PlaceSet>(clue: &[u16], gaps: &[W; GAPS], j: usize) -> W
+    ghost line: { List Cell }
     requires count { length clue.now ≤ MOST_RUNS }
     requires j { j ≤ length clue.now }
-    requires turned { AreTurnedGaps line clue.now (map W.number turned_gaps.now) }
+    requires ahead { AreGapsAhead line clue.now (map W.number gaps.now) }
     ensures { IsMaskOf (IsGapAhead line clue.now j) (W.number result) }
 {
-    turn_line(turned_gaps[clue.len() - j], span.len)
+    gaps[clue.len() - j]
 }
 
 /// The last cell of a line, where a run that ends there is the last one.

@@ -6,13 +6,13 @@ ghost use Rattle.place_sets.specs.Masks.{Has};
 ghost use Rattle.line_core.specs.Ends.{leftmost, rightmost};
 ghost use Rattle.line_core.specs.Outermost.{outermost, IsAsFar, IsOuterStart};
 ghost use Rattle.line_core.specs.Passes.{IsSpanOf};
-ghost use Rattle.line_core.specs.Reach.{AreLengths, AreTurnedGaps, HasPlacing};
+ghost use Rattle.line_core.specs.Reach.{AreLengths, AreGapsAhead, HasPlacing};
 
 use crate::Line;
 use crate::gaps::first_gap;
 use crate::lines::LineOf;
 use crate::passes::Pass;
-use crate::reach::{GAPS, gap_ahead, whole_ends, write_turned_gaps};
+use crate::reach::{GAPS, gap_ahead, whole_ends, write_gaps_ahead};
 use crate::rooms::{Room, Rooms};
 use crate::spans::Span;
 use crate::widths::places_needed;
@@ -42,15 +42,15 @@ fn outermost_place<W: PlaceSet>(side: Side, places: W) -> u16
 }
 
 /// Whether a line has a placing with no run: its first cell is blank in one.
-fn may_have_no_run<W: PlaceSet>(span: &Span<W>, clue: &[u16], turned_gaps: &[W; GAPS]) -> bool
+fn may_have_no_run<W: PlaceSet>(span: &Span<W>, clue: &[u16], gaps: &[W; GAPS]) -> bool
     ghost line: { List Cell }
     requires span { IsSpanOf W.WIDTH line span.now.len (W.number span.now.free) (W.number span.now.room) }
     requires clue { length clue.now ≡ 0 }
-    requires turned { AreTurnedGaps line clue.now (map W.number turned_gaps.now) }
+    requires ahead { AreGapsAhead line clue.now (map W.number gaps.now) }
     ensures { MatchBool result (HasPlacing line clue.now) (HasPlacing line clue.now → ⊥) }
 {
     let gap = first_gap(span.free);
-    let blankable = gap.and(gap_ahead(span, clue, turned_gaps, 0));
+    let blankable = gap.and(gap_ahead(clue, gaps, 0));
     blankable.has(0)
 }
 
@@ -59,14 +59,14 @@ fn write_starts<W: PlaceSet>(
     side: Side,
     span: &Span<W>,
     clue: &[u16],
-    turned_gaps: &[W; GAPS],
+    gaps: &[W; GAPS],
     list: &mut [u16; MOST_RUNS],
 ) -> bool
     ghost line: { List Cell }
     requires span { IsSpanOf W.WIDTH line span.now.len (W.number span.now.free) (W.number span.now.room) }
     requires clue { AreLengths W.WIDTH clue.now }
     requires count { (0 < length clue.now) × (length clue.now ≤ MOST_RUNS) }
-    requires turned { AreTurnedGaps line clue.now (map W.number turned_gaps.now) }
+    requires ahead { AreGapsAhead line clue.now (map W.number gaps.now) }
     ensures { MatchBool result
         ((j : ℕ) → j < length clue.now → IsOuterStart side line clue.now j (slice_index list.new j))
         (HasPlacing line clue.now → ⊥) }
@@ -75,7 +75,7 @@ fn write_starts<W: PlaceSet>(
     let mut pass = Pass::new(span);
     for j in 0..clue.len() {
         let ends = pass.step(&windows, clue[j]);
-        let ahead = gap_ahead(span, clue, turned_gaps, j + 1);
+        let ahead = gap_ahead(clue, gaps, j + 1);
         let whole = whole_ends(span, clue, j, ends, ahead);
         if whole.is_empty() {
             return false;
@@ -102,7 +102,7 @@ pub fn find_starts<W: PlaceSet>(
         (outermost side cells clue.now ≡ None) }
 {
     let span = line.span();
-    write_turned_gaps(&span, clue, &mut room.gaps);
+    write_gaps_ahead(&span, clue, &mut room.gaps);
     if clue.is_empty() {
         may_have_no_run(&span, clue, &room.gaps)
     } else {

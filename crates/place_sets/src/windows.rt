@@ -23,7 +23,7 @@ pub fn level_of(length: u16) -> (usize, u16)
     ensures length { 2 ^ result.0 + result.1 ≡ length }
     ensures rest { result.1 < 2 ^ result.0 }
 {
-    let level = length.ilog2();
+    let level = u32::from(length).ilog2();
     (level as usize, length - (1 << level))
 }
 

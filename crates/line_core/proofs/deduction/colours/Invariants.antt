@@ -1,7 +1,10 @@
 use Rattle.line_core.proofs.deduction.colours.Given as goal
 
-abbrev pub ghost-write_turned_gaps : goal.ghost-write_turned_gaps
-ghost-write_turned_gaps g a = g.line
+abbrev pub ghost-is_unknown : goal.ghost-is_unknown
+ghost-is_unknown g a = g.line
+
+abbrev pub ghost-write_gaps_ahead : goal.ghost-write_gaps_ahead
+ghost-write_gaps_ahead g a = g.line
 
 abbrev pub ghost-possible_colours : goal.ghost-possible_colours
 ghost-possible_colours g a = g.line

@@ -1,7 +1,7 @@
 use Rattle.line_core.proofs.starts.find_starts.Given as goal
 
-abbrev pub ghost-write_turned_gaps : goal.ghost-write_turned_gaps
-ghost-write_turned_gaps g a = g.cells
+abbrev pub ghost-write_gaps_ahead : goal.ghost-write_gaps_ahead
+ghost-write_gaps_ahead g a = g.cells
 
 abbrev pub ghost-may_have_no_run : goal.ghost-may_have_no_run
 ghost-may_have_no_run g a = g.cells

@@ -1,0 +1,11 @@
+use Rattle.std.proofs.Common.{arith}
+use Rattle.line_core.proofs.Packing.{start_few}
+use Rattle.line_core.proofs.overlaps.cells_needed.Goals as goal
+
+-- src/overlaps.rt:32:9
+pub overflow_add-needed-in-loop-number : goal.overflow_add-needed-in-loop-number
+overflow_add-needed-in-loop-number c =
+    let i = c.loop-number.number-index in
+    let clue = c.args.clue.now in
+    let few = start_few clue i c.requires.clue c.loop-number-test.true in
+    omega (arith, c.loop-number.invariant)

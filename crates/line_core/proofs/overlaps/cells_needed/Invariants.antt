@@ -1,0 +1,6 @@
+use Rattle.std.proofs.Common.{◌≡◌}
+use Rattle.line_core.specs.Overlaps.{least_start}
+use Rattle.line_core.proofs.overlaps.cells_needed.Given as goal
+
+abbrev pub invariant-loop-number : goal.invariant-loop-number
+invariant-loop-number l = l.needed ≡ least_start l.clue l.number-index

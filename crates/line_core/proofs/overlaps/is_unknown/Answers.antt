@@ -1,0 +1,14 @@
+use Rattle.std.proofs.Common.{◌∙◌, sym}
+use Rattle.std.proofs.lemmas.Bool.{eqb-true, eq-eqb}
+use Rattle.line_core.proofs.Packing.{unknown_to, unknown_from}
+use Rattle.line_core.proofs.overlaps.is_unknown.Goals as goal
+
+pub returns : goal.returns
+returns g c =
+    let number = g.W.PlaceSet.number in
+    let span = c.args.span.now in
+    let are = c.requires.1 in
+    let known = number c.xor.result in (
+      (λ t. unknown_to g.line span.len (number span.free) (number span.room) known are.len_is are.free_is are.room_is c.xor.ensures (eqb-true known 0 (sym c.is_empty.ensures ∙ t))),
+      (λ e. c.is_empty.ensures ∙ eq-eqb known 0 (unknown_from g.line span.len (number span.free) (number span.room) known are.free_is are.room_is c.xor.ensures e)),
+    )

@@ -1,0 +1,43 @@
+use Rattle.std.proofs.Common.{◌≡◌, ◌+◌, ◌∙◌, suc, get_or, sym, ap, add-one, arith, subst}
+use Rattle.place_sets.specs.Masks.{IsMaskOf}
+use Rattle.place_sets.proofs.Doubling.{width_most}
+use Rattle.line_core.specs.Overlaps.{least_start, IsOverlapBefore}
+use Rattle.line_core.proofs.Packing.{start_next, start_within, overlap_more, overlap_same}
+use Rattle.line_core.proofs.overlaps.overlaps.Goals as goal
+use Rattle.line_core.proofs.overlaps.overlaps.Goals.{then-number-slack, else-number-slack}
+
+pub up-requires : goal.up-requires
+up-requires g c =
+    let clue = c.args.clue.now in
+    let j = c.loop-number.number-index in
+    let next = start_next clue j c.loop-number-test.true in
+    let last = start_within clue (suc j) in
+    omega (arith, c.requires.fits, c.loop-number.invariant.start)
+
+pub overflow_add-greatest_start-in-loop-number : goal.overflow_add-greatest_start-in-loop-number
+overflow_add-greatest_start-in-loop-number g c =
+    let clue = c.args.clue.now in
+    let j = c.loop-number.number-index in
+    let next = start_next clue j c.loop-number-test.true in
+    let last = start_within clue (suc j) in
+    let most = width_most g.W.PlaceSet.WIDTH g.W.PlaceSet.TOP g.met.W.PlaceSet.top_is.1 g.met.W.PlaceSet.width_is in
+    omega (arith, c.requires.fits, c.loop-number.invariant.start)
+
+pub loop-number-preserved : goal.loop-number-preserved
+loop-number-preserved g c =
+    let number = g.W.PlaceSet.number in
+    let clue = c.args.clue.now in
+    let j = c.loop-number.number-index in
+    let slack = c.args.slack in
+    let invariant = c.loop-number.invariant in
+    let next : least_start clue (j + 1) ≡ least_start clue j + get_or clue j 0 + 1 = ap (least_start clue) (add-one j) ∙ start_next clue j c.loop-number-test.true in
+    record {
+      start = omega (arith, invariant.start);
+      found = elim c.if-number-slack.branch [
+        | then-number-slack w ↦
+            subst (λ m. IsMaskOf (IsOverlapBefore (j + 1) clue slack) (number m)) (sym w.certain-is)
+            (overlap_more clue g.W.PlaceSet.WIDTH slack j c.loop-number.greatest_start (number c.loop-number.certain) (number w.places.result) (number w.up.result) (number w.or-certain.result)
+            c.requires.fits c.loop-number-test.true w.if-number-slack.true invariant.start invariant.found w.places.ensures w.up.ensures w.or-certain.ensures)
+        | else-number-slack w ↦ subst (λ m. IsMaskOf (IsOverlapBefore (j + 1) clue slack) (number m)) (sym w.certain-is) (overlap_same clue slack j (number c.loop-number.certain) w.if-number-slack.false invariant.found)
+      ];
+    }

@@ -1,0 +1,10 @@
+use Rattle.std.proofs.Common.{◌≡◌, ◌+◌}
+use Rattle.place_sets.specs.Masks.{IsMaskOf}
+use Rattle.line_core.specs.Overlaps.{least_start, IsOverlapBefore}
+use Rattle.line_core.proofs.overlaps.overlaps.Given as goal
+
+abbrev pub invariant-loop-number : goal.invariant-loop-number
+invariant-loop-number g l = record {
+  start : l.greatest_start ≡ least_start l.clue l.number-index + l.slack;
+  found : IsMaskOf (IsOverlapBefore l.number-index l.clue l.slack) (g.W.PlaceSet.number l.certain);
+}

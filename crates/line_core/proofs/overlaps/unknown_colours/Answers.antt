@@ -1,0 +1,74 @@
+use Rattle.std.proofs.Common.{◌≡◌, ◌+◌, ◌-◌, ◌<◌, ◌∙◌, ◌⊎◌, inl, inr, ℕ, length, replicate, arith, sym, subst, true≢false}
+use Rattle.std.proofs.lemmas.Bool.{eqb-true, eqb-false, eq-eqb}
+use Rattle.std.proofs.lemmas.List.{length-replicate}
+use Rattle.std.proofs.lemmas.List.Elements.{recursion_from_All}
+use Rattle.grid_core.specs.declared.cells.Cell.TheVariants.{Unknown}
+use Rattle.place_sets.specs.Masks.{IsMaskOf}
+use Rattle.line_core.specs.Overlaps.{needed}
+use Rattle.line_core.specs.Reach.{IsFillable}
+use Rattle.line_core.proofs.RunLaws.{ArePositive}
+use Rattle.line_core.proofs.Packing.{unknown_any, unfit_fillable, unfit_blankable, blankable_is, all_fillable, overlaps_fillable}
+use Rattle.line_core.proofs.overlaps.unknown_colours.Goals as goal
+use Rattle.line_core.proofs.overlaps.unknown_colours.Goals.{then-is_empty, else-is_empty, then-slack-eq0, else-slack-eq0}
+
+pub returns-then-len-needed-clause-filled : goal.returns-then-len-needed-clause-filled
+returns-then-len-needed-clause-filled g c =
+    let line = replicate c.args.len Unknown in
+    let clue = c.args.clue.now in
+    let long = length-replicate c.args.len Unknown in
+    let pos : ArePositive clue = recursion_from_All (λ (n : ℕ). 0 < n) clue c.requires.clue.positive in
+    unfit_fillable line clue (g.W.PlaceSet.number c.none.result) pos (omega (arith, c.cells_needed-needed.ensures)) c.none.ensures
+
+pub returns-then-len-needed-clause-blank : goal.returns-then-len-needed-clause-blank
+returns-then-len-needed-clause-blank g c =
+    let line = replicate c.args.len Unknown in
+    let clue = c.args.clue.now in
+    let long = length-replicate c.args.len Unknown in
+    let pos : ArePositive clue = recursion_from_All (λ (n : ℕ). 0 < n) clue c.requires.clue.positive in
+    unfit_blankable line clue (g.W.PlaceSet.number c.none-then-len-needed.result) pos (omega (arith, c.cells_needed-needed.ensures)) c.none-then-len-needed.ensures
+
+pub returns-clause-filled : goal.returns-clause-filled
+returns-clause-filled g c =
+    let number = g.W.PlaceSet.number in
+    let len = c.args.len in
+    let line = replicate len Unknown in
+    let clue = c.args.clue.now in
+    let long = length-replicate len Unknown in
+    let slack = len + 1 - c.cells_needed-needed.result in
+    let pos : ArePositive clue = recursion_from_All (λ (n : ℕ). 0 < n) clue c.requires.clue.positive in
+    let fits : needed clue + slack ≡ length line + 1 = omega (arith, c.cells_needed-needed.ensures) in
+    elim c.if-is_empty.branch [
+      | then-is_empty w ↦
+          (let still : (slack ≡ 0) ⊎ (length clue ≡ 0) =
+          elim c.if-slack-eq0.branch [
+            | then-slack-eq0 v ↦ inl (omega (arith, v.if-slack-eq0.true))
+            | else-slack-eq0 v ↦ inr (eqb-true (length clue) 0 (sym v.is_empty.ensures ∙ sym v.value-is ∙ w.if-is_empty.true))
+          ] in
+          subst (λ m. IsMaskOf (IsFillable line clue) (number m)) (sym w.fillable-is)
+          (overlaps_fillable line clue slack (number c.overlaps-certain.result) (unknown_any len) pos fits still c.overlaps-certain.ensures))
+      | else-is_empty w ↦
+          (let moves : (0 < slack) × (0 < length clue) =
+          elim c.if-slack-eq0.branch [
+            | then-slack-eq0 v ↦ absurd (true≢false (sym (eq-eqb slack 0 v.if-slack-eq0.true) ∙ sym v.value-is ∙ w.if-is_empty.false))
+            | else-slack-eq0 v ↦
+                (let no = eqb-false (length clue) 0 (sym v.is_empty.ensures ∙ sym v.value-is ∙ w.if-is_empty.false) in
+                let some = v.if-slack-eq0.false in
+                (omega arith, omega arith))
+          ] in
+          let cells : IsMaskOf (λ i. i < length line) (number c.places-line.result) = subst (λ (n : ℕ). IsMaskOf (λ i. i < n) (number c.places-line.result)) (sym long) c.places-line.ensures in
+          subst (λ m. IsMaskOf (IsFillable line clue) (number m)) (sym w.fillable-is)
+          (all_fillable line clue slack (number c.places-line.result) (unknown_any len) pos fits moves.0 moves.1 cells))
+    ]
+
+pub returns-clause-blank : goal.returns-clause-blank
+returns-clause-blank g c =
+    let number = g.W.PlaceSet.number in
+    let len = c.args.len in
+    let line = replicate len Unknown in
+    let clue = c.args.clue.now in
+    let long = length-replicate len Unknown in
+    let slack = len + 1 - c.cells_needed-needed.result in
+    let pos : ArePositive clue = recursion_from_All (λ (n : ℕ). 0 < n) clue c.requires.clue.positive in
+    let fits : needed clue + slack ≡ length line + 1 = omega (arith, c.cells_needed-needed.ensures) in
+    let cells : IsMaskOf (λ i. i < length line) (number c.places-line.result) = subst (λ (n : ℕ). IsMaskOf (λ i. i < n) (number c.places-line.result)) (sym long) c.places-line.ensures in
+    blankable_is line clue slack (number c.overlaps-certain.result) (number c.places-line.result) (number c.without.result) (unknown_any len) pos fits c.overlaps-certain.ensures cells c.without.ensures
