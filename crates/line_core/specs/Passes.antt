@@ -13,12 +13,12 @@ pub record IsSpanOf (width : ℕ) (line : List Cell) (len free room : ℕ) : Typ
   pub room_is : IsMaskOf (MayBe line true) room
 
 -- a pass over a line that has passed some runs, the last of them first: it has the mask of the cells that may be blank, windows of those that may be
--- filled, how many runs were passed, and the mask of the gap after them
-pub record IsPassOver (width top : ℕ) (line : List Cell) (runs : List ℕ) (free : ℕ) (windows : List ℕ) (passed gap : ℕ) : Type 0 where
+-- filled, where a run can start with no gap before it, and the mask of the gap after them
+pub record IsPassOver (width top : ℕ) (line : List Cell) (runs : List ℕ) (free : ℕ) (windows : List ℕ) (opening gap : ℕ) : Type 0 where
   pub room : ℕ
   pub short : length line ≤ width
   pub free_is : IsMaskOf (MayBe line false) free
   pub room_is : IsMaskOf (MayBe line true) room
   pub windows_are : AreWindows room top windows
-  pub passed_are : passed ≡ length runs
+  pub opening_is : IsMaskOf (λ i. (i ≡ 0) × (length runs ≡ 0)) opening
   pub gap_is : IsMaskOf (IsGapAfter line runs) gap

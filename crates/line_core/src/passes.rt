@@ -8,7 +8,6 @@ ghost use Rattle.line_core.specs.Passes.{IsSpanOf, IsPassOver};
 
 use crate::gaps::{first_gap, gap_after, run_ends};
 use crate::spans::Span;
-use grid_core::MOST_RUNS;
 use place_sets::{LEVELS, PlaceSet, window_starts};
 
 /// A pass over the runs of a line, from its left.
@@ -16,17 +15,10 @@ use place_sets::{LEVELS, PlaceSet, window_starts};
 pub struct Pass<W: PlaceSet> {
     /// The cells that may be blank.
     free: W,
-    /// How many runs were passed.
-    passed: usize,
+    /// The first cell as long as no run was passed, where one can start with no gap before it, and no cell after that.
+    opening: W,
     /// The gap after the runs that were passed.
     gap: W,
-}
-
-/// The first cell, where no run was passed: a run can start there with no gap before it.
-fn opening<W: PlaceSet>(passed: usize) -> W
-    ensures { IsMaskOf (λ i. (i ≡ 0) × (passed ≡ 0)) (W.number result) }
-{
-    if passed == 0 { W::first() } else { W::none() }
 }
 
 impl<W: PlaceSet> Pass<W> {
@@ -34,11 +26,11 @@ impl<W: PlaceSet> Pass<W> {
     pub fn new(span: &Span<W>) -> Pass<W>
         ensures { (line : List Cell) (windows : List ℕ) → IsSpanOf W.WIDTH line span.now.len (W.number span.now.free) (W.number span.now.room)
             → AreWindows (W.number span.now.room) W.TOP windows
-            → IsPassOver W.WIDTH W.TOP line [] (W.number result.free) windows result.passed (W.number result.gap) }
+            → IsPassOver W.WIDTH W.TOP line [] (W.number result.free) windows (W.number result.opening) (W.number result.gap) }
     {
         Pass {
             free: span.free,
-            passed: 0,
+            opening: W::first(),
             gap: first_gap(span.free),
         }
     }
@@ -52,18 +44,17 @@ impl<W: PlaceSet> Pass<W> {
 
     /// Passes a run of so many cells. Gives its ends, as the cells before them allow them.
     pub fn step(&mut self, windows: &[W; LEVELS], number: u16) -> W
-        requires few { self.old.passed < MOST_RUNS }
-        requires number { (0 < number) × (number ≤ W.WIDTH) }
+        requires { (0 < number) × (number ≤ W.WIDTH) }
         ensures ends { (line : List Cell) (runs : List ℕ)
-            → IsPassOver W.WIDTH W.TOP line runs (W.number self.old.free) (map W.number windows.now) self.old.passed (W.number self.old.gap)
+            → IsPassOver W.WIDTH W.TOP line runs (W.number self.old.free) (map W.number windows.now) (W.number self.old.opening) (W.number self.old.gap)
             → IsMaskOf (IsEndAfter line runs number) (W.number result) }
         ensures passed { (line : List Cell) (runs : List ℕ)
-            → IsPassOver W.WIDTH W.TOP line runs (W.number self.old.free) (map W.number windows.now) self.old.passed (W.number self.old.gap)
-            → IsPassOver W.WIDTH W.TOP line (number ∷ runs) (W.number self.new.free) (map W.number windows.now) self.new.passed (W.number self.new.gap) }
+            → IsPassOver W.WIDTH W.TOP line runs (W.number self.old.free) (map W.number windows.now) (W.number self.old.opening) (W.number self.old.gap)
+            → IsPassOver W.WIDTH W.TOP line (number ∷ runs) (W.number self.new.free) (map W.number windows.now) (W.number self.new.opening) (W.number self.new.gap) }
     {
         let window = window_starts(windows, number);
-        let ends = run_ends(self.gap, opening(self.passed), window, number);
-        self.passed += 1;
+        let ends = run_ends(self.gap, self.opening, window, number);
+        self.opening = W::none();
         self.gap = gap_after(ends, self.free);
         ends
     }

@@ -28,7 +28,7 @@ step-ends-requires g c =
     let clue = c.requires.1.1.1.0 in
     let count = c.requires.1.1.1.1.0 in
     let test = c.loop-j-test.true in
-    (omega arith, (omega (arith, c.loop-j.invariant.pass.passed_are, length_behind 0 c.args.clue.now c.loop-j.j), (length_at g.W.PlaceSet.WIDTH c.args.clue.now c.loop-j.j clue test)))
+    (omega arith, length_at g.W.PlaceSet.WIDTH c.args.clue.now c.loop-j.j clue test)
 
 pub whole_ends-whole-requires : goal.whole_ends-whole-requires
 whole_ends-whole-requires g c = λ κs within. (within, (c.requires.1.1.0, (c.requires.1.1.1.0, (c.loop-j-test.true, (c.step-ends.ensures.ends g.line (behind 0 c.args.clue.now c.loop-j.j) c.loop-j.invariant.pass, c.gap_ahead-ahead.ensures)))))
@@ -41,7 +41,7 @@ loop-j-preserved g c =
     let j = c.loop-j.j in
     let invariant = c.loop-j.invariant in
     let new = c.step-ends.new.self in
-    let pass = runs_more (λ (runs : List ℕ). IsPassOver g.W.PlaceSet.WIDTH g.W.PlaceSet.TOP line runs (number new.free) (map number c.windows_within-windows.result) new.passed (number new.gap)) clue j (get_or clue j 0) refl
+    let pass = runs_more (λ (runs : List ℕ). IsPassOver g.W.PlaceSet.WIDTH g.W.PlaceSet.TOP line runs (number new.free) (map number c.windows_within-windows.result) (number new.opening) (number new.gap)) clue j (get_or clue j 0) refl
     (c.step-ends.ensures.passed line (behind 0 clue j) invariant.pass) in
     let gap : IsMaskOf (IsGap line clue (j + 1)) (number c.gap-in-loop-j.result) = subst (λ m. IsMaskOf (IsGap line clue (j + 1)) (number m)) (sym c.gap-in-loop-j.ensures) pass.gap_is in
     record {

@@ -32,7 +32,7 @@ step-requires g c =
     let clue = c.requires.1.1.1.0 in
     let count = c.requires.1.1.1.1 in
     let test = c.loop-j-test.true in
-    (omega arith, (omega (arith, c.loop-j.invariant.pass.passed_are, length_behind 0 (reverse c.args.clue.now) c.loop-j.j), (length_at g.W.PlaceSet.WIDTH c.args.clue.now _ clue (omega arith))))
+    (omega arith, length_at g.W.PlaceSet.WIDTH c.args.clue.now _ clue (omega arith))
 
 pub loop-j-preserved : goal.loop-j-preserved
 loop-j-preserved g c =
@@ -43,7 +43,7 @@ loop-j-preserved g c =
     let j = c.loop-j.j in
     let n = get_or c.args.clue.now (length c.args.clue.now - 1 - j) 0 in
     let new = c.step.new.self in
-    let pass = runs_more (λ (runs : List ℕ). IsPassOver g.W.PlaceSet.WIDTH g.W.PlaceSet.TOP line runs (number new.free) (map number c.windows_within-windows.result) new.passed (number new.gap)) clue j n
+    let pass = runs_more (λ (runs : List ℕ). IsPassOver g.W.PlaceSet.WIDTH g.W.PlaceSet.TOP line runs (number new.free) (map number c.windows_within-windows.result) (number new.opening) (number new.gap)) clue j n
     (sym (get_or-reverse c.args.clue.now j 0 c.loop-j-test.true)) (c.step.ensures.passed line (behind 0 clue j) c.loop-j.invariant.pass) in
     let gap : IsMaskOf (IsGap line clue (j + 1)) (number c.gap-in-loop-j.result) = subst (λ m. IsMaskOf (IsGap line clue (j + 1)) (number m)) (sym c.gap-in-loop-j.ensures) pass.gap_is in
     let size = c.loop-j.invariant.size in

@@ -24,7 +24,7 @@ step-ends-requires g c =
     let clue = c.requires.1.1.1.0 in
     let count = c.requires.1.1.1.1.0.1 in
     let test = c.loop-j-test.true in
-    (omega arith, (omega (arith, c.loop-j.invariant.pass.passed_are, length_behind 0 c.args.clue.now c.loop-j.j), (length_at g.W.PlaceSet.WIDTH c.args.clue.now c.loop-j.j clue test)))
+    (omega arith, length_at g.W.PlaceSet.WIDTH c.args.clue.now c.loop-j.j clue test)
 
 pub whole_ends-whole-requires : goal.whole_ends-whole-requires
 whole_ends-whole-requires g c = λ κs within. (within, (c.requires.1.1.0, (c.requires.1.1.1.0, (c.loop-j-test.true, (c.step-ends.ensures.ends g.line (behind 0 c.args.clue.now c.loop-j.j) c.loop-j.invariant.pass, c.gap_ahead-ahead.ensures)))))
@@ -40,7 +40,7 @@ loop-j-preserved g c =
     let new = c.step-ends.new.self in
     let count = c.requires.1.1.1.1.0.1 in
     record {
-      pass = runs_more (λ (runs : List ℕ). IsPassOver g.W.PlaceSet.WIDTH g.W.PlaceSet.TOP line runs (number new.free) (map number c.windows_within-windows.result) new.passed (number new.gap)) clue j (get_or clue j 0) refl
+      pass = runs_more (λ (runs : List ℕ). IsPassOver g.W.PlaceSet.WIDTH g.W.PlaceSet.TOP line runs (number new.free) (map number c.windows_within-windows.result) (number new.opening) (number new.gap)) clue j (get_or clue j 0) refl
           (c.step-ends.ensures.passed line (behind 0 clue j) invariant.pass);
       starts = outer_more c.args.side line clue c.loop-j.list j (number c.whole_ends-whole.result) place.result (place.result + 1 - get_or clue j 0) (omega arith) c.whole_ends-whole.ensures place.ensures.in_mask place.ensures.outermost refl invariant.starts;
     }

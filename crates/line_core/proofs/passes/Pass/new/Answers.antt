@@ -11,6 +11,6 @@ returns g c = λ line windows span are.
       free_is = span.free_is;
       room_is = span.room_is;
       windows_are = are;
-      passed_are = refl;
+      opening_is = record { to = λ i h. (c.first.ensures.to i h, refl); from = λ i h. c.first.ensures.from i h.0 };
       gap_is = gap_none_is line (number c.args.span.now.free) (number c.first_gap.result) span.free_is c.first_gap.ensures;
     }

@@ -1,5 +1,6 @@
-use Rattle.std.proofs.Common.{◌≡◌, ℕ, subst, arith}
-use Rattle.place_sets.specs.Masks.{IsMaskOf}
+use Rattle.std.proofs.Common.{ℕ, ap, arith}
+use Rattle.std.specs.Int.{bit_at}
+use Rattle.std.proofs.lemmas.Nat.Bits.{bit_at-zero}
 use Rattle.line_core.proofs.Composing.{ends_are, gap_next_is}
 use Rattle.line_core.proofs.passes.Pass.step.Goals as goal
 
@@ -7,8 +8,8 @@ pub returns-clause-ends : goal.returns-clause-ends
 returns-clause-ends g c = λ line runs h.
     let number = g.W.PlaceSet.number in
     let self = c.args.self.now in
-    ends_are line runs g.W.PlaceSet.WIDTH c.args.number (number self.gap) h.room (number c.opening.result) (number c.window_starts-window.result) (number c.run_ends-ends.result)
-    h.short c.requires.number.0 h.gap_is (subst (λ (n : ℕ). IsMaskOf (λ i. (i ≡ 0) × (n ≡ 0)) (number c.opening.result)) h.passed_are c.opening.ensures) h.room_is
+    ends_are line runs g.W.PlaceSet.WIDTH c.args.number (number self.gap) h.room (number self.opening) (number c.window_starts-window.result) (number c.run_ends-ends.result)
+    h.short c.requires.0 h.gap_is h.opening_is h.room_is
     (c.window_starts-window.ensures h.room h.windows_are) c.run_ends-ends.ensures
 
 pub returns-clause-passed : goal.returns-clause-passed
@@ -22,6 +23,9 @@ returns-clause-passed g c = λ line runs h.
       free_is = h.free_is;
       room_is = h.room_is;
       windows_are = h.windows_are;
-      passed_are = let e = h.passed_are in omega arith;
-      gap_is = gap_next_is line runs g.W.PlaceSet.WIDTH c.args.number (number self.free) (number c.run_ends-ends.result) (number c.gap_after-self.result) h.short c.requires.number.0 h.free_is ends c.gap_after-self.ensures;
+      opening_is = record {
+        to = λ i x. absurd (omega (arith, x, bit_at-zero i, ap (λ (m : ℕ). bit_at m i) c.none-self.ensures));
+        from = λ i x. absurd (omega (arith, x.1));
+      };
+      gap_is = gap_next_is line runs g.W.PlaceSet.WIDTH c.args.number (number self.free) (number c.run_ends-ends.result) (number c.gap_after-self.result) h.short c.requires.0 h.free_is ends c.gap_after-self.ensures;
     }
