@@ -94,13 +94,13 @@ has_by m i false to from = by (has m i) refl
     by true e = absurd (true≢false (sym (to (true_has m i e))))
     by false e = refl
 
-marked_at : (m n p : ℕ) (wanted : Bool) → IsMaskOf (IsMarked (Has m) p wanted) n → has n p ≡ wanted
+pub marked_at : (m n p : ℕ) (wanted : Bool) → IsMaskOf (IsMarked (Has m) p wanted) n → has n p ≡ wanted
 marked_at m n p wanted h = has_by n p wanted to (λ w. h.from p (inr (refl, w)))
   where
     to : Has n p → wanted ≡ true
     to x = elim (h.to p x) [ inl y ↦ absurd (y.1 refl) | inr y ↦ y.1 ]
 
-marked_elsewhere : (m n p i : ℕ) (wanted : Bool) → IsMaskOf (IsMarked (Has m) p wanted) n → i ≢ p → has n i ≡ has m i
+pub marked_elsewhere : (m n p i : ℕ) (wanted : Bool) → IsMaskOf (IsMarked (Has m) p wanted) n → i ≢ p → has n i ≡ has m i
 marked_elsewhere m n p i wanted h ne = has_by n i (has m i) to (λ w. h.from i (inl (true_has m i w, ne)))
   where
     to : Has n i → has m i ≡ true

@@ -110,7 +110,8 @@ impl<W: PlaceSet> LineOf<W> {
     /// The places where another line of the same length differs.
     pub fn changes(&self, other: &LineOf<W>) -> W
         requires { length other.now ≡ length self.now }
-        ensures { IsMaskOf (IsChanged self.now other.now) (W.number result) }
+        ensures changes { IsMaskOf (IsChanged self.now other.now) (W.number result) }
+        ensures fits { length self.now ≤ W.WIDTH }
     {
         let filled = self.filled.xor(other.filled);
         let blank = self.blank.xor(other.blank);

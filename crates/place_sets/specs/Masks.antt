@@ -74,7 +74,7 @@ pub record AreLevelsOf (P : ℕ → Type 0) (top : ℕ) (levels : List ℕ) : Ty
 abbrev pub joined : ℕ → ℕ → ℕ
 joined low high = high * 2 ^ 128 + low
 
--- the first place is taken out of a mask, if there is one
-abbrev pub IsTaken : ℕ → Option ℕ → ℕ → Type 0
-IsTaken old None new = (i : ℕ) → Has old i → ⊥
-IsTaken old (Some first) new = Has old first × ((i : ℕ) → Has old i → first ≤ i) × IsMaskOf (λ i. Has old i × (first < i)) new
+-- the first place of a mask from a given place on, if there is one
+abbrev pub IsFirstFrom : ℕ → ℕ → ℕ → Option ℕ → Type 0
+IsFirstFrom width mask from None = (i : ℕ) → from ≤ i → i < width → Has mask i → ⊥
+IsFirstFrom width mask from (Some first) = (from ≤ first) × (first < width) × Has mask first × ((i : ℕ) → from ≤ i → i < first → Has mask i → ⊥)

@@ -4,14 +4,14 @@
 mod levels;
 mod narrow;
 mod prefixes;
+mod searching;
 mod sets;
-mod taking;
 mod wide;
 mod windows;
 
 pub use levels::{add_ends, spread_levels};
 pub use prefixes::{lacking, places, turn_line};
+pub use searching::first_from;
 pub use sets::PlaceSet;
-pub use taking::take_first;
 pub use wide::Wide;
 pub use windows::{LEVELS, window_starts, windows_within};

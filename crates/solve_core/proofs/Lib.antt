@@ -18,3 +18,4 @@ pub mod SearchSteps
 pub mod Examples
 pub mod Fitting
 pub mod Changes
+pub mod MarkSteps

@@ -32,7 +32,7 @@ pub column_within : (w h x i : ℕ) → x < w → i < h → x + i * w < w * h
 column_within w h x i a b = let more : w * (i + 1) ≤ w * h = mul-le-mul_left w (omega arith) in omega (arith, more)
 
 -- what holds of rows and of columns holds of lines
-by_kind : (P : Places → Type 0) (w h n : ℕ) → (n < h → P (record { first = n * w; step = 1; count = w; crossing = h }))
+pub by_kind : (P : Places → Type 0) (w h n : ℕ) → (n < h → P (record { first = n * w; step = 1; count = w; crossing = h }))
     → (h ≤ n → P (record { first = n - h; step = w; count = h; crossing = 0 })) → P (places_in w h n)
 by_kind P w h n row column = by (nat_lt n h) refl
   where

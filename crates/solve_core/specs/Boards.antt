@@ -4,6 +4,7 @@ use Rattle.grid_core.specs.declared.cells.Cell.{Cell}
 use Rattle.grid_core.specs.declared.cells.Cell.TheVariants.{Unknown}
 use Rattle.grid_core.specs.Nonogram.{Nonogram, places_from, cells_at}
 use Rattle.grid_core.specs.PartialGrid.{PartialGrid, IsSize}
+use Rattle.solve_core.specs.Lines.{places_in, places_of}
 use Rattle.solve_core.specs.Trails.{TrailedGrid, IsTrailedGrid}
 
 -- a grid of which nothing is known
@@ -30,3 +31,7 @@ pub record IsBoard (cells : List Cell) (rows columns : List (List Cell)) (trail 
 -- the board has the puzzle's size
 abbrev pub IsBoardOf : Nonogram → TrailedGrid → Type 0
 IsBoardOf p g = (g.width ≡ p.width) × (g.height ≡ p.height) × (length g.cells ≡ p.width * p.height)
+
+-- the cells of a grid along line n
+abbrev pub cells_along : TrailedGrid → ℕ → List Cell
+cells_along g n = cells_at Unknown g.cells (places_of (places_in g.width g.height n))

@@ -18,3 +18,4 @@ pub mod Branches
 pub mod Guesses
 pub mod Widths
 pub mod Fittings
+pub mod LineMarks

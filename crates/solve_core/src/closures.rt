@@ -13,6 +13,7 @@ ghost use Rattle.solve_core.specs.declared.closures.Progress.TheVariants.{Dead, 
 
 use crate::boards::Board;
 use crate::deductions::Deductions;
+use crate::marks::Marks;
 use crate::places::write_line;
 use grid_core::{Cell, NoMemory, Puzzle};
 use line_core::LineSet;
@@ -44,7 +45,7 @@ impl Progress {
 pub struct Closer<'p, W: LineSet> {
     puzzle: &'p Puzzle,
     deductions: Deductions<'p, W>,
-    marks: Vec<bool>,
+    marks: Marks<W>,
 }
 
 impl<'p, W: LineSet> Model for Closer<'p, W> {
@@ -55,9 +56,9 @@ impl<'p, W: LineSet> Model for Closer<'p, W> {
 
     ghost Value = { MarkedPuzzle };
 
-    ghost view = { λ c. record { puzzle = c.puzzle.now; marks = c.marks.items } };
+    ghost view = { λ c. record { puzzle = c.puzzle.now; marks = c.marks.list } };
 
-    ghost invariant = { λ c. IsNonogram c.puzzle.now × (c.deductions ≡ c.puzzle.now) × (length c.marks.items ≡ line_count c.puzzle.now) };
+    ghost invariant = { λ c. IsNonogram c.puzzle.now × (c.deductions ≡ c.puzzle.now) × (length c.marks.list ≡ line_count c.puzzle.now) × (c.marks.height ≡ c.puzzle.now.height) };
 }
 
 /// Writes what is certain of line n, and marks the lines that cross it at the cells that it learned.
@@ -65,29 +66,32 @@ fn learn_line<W: LineSet>(
     deductions: &mut Deductions<'_, W>,
     n: usize,
     board: &mut Board<W>,
-    marks: &mut [bool],
+    marks: &mut Marks<W>,
 ) -> Progress
     requires n { n < line_count deductions.old }
     requires puzzle { IsNonogram deductions.old }
     requires board { IsBoardOf deductions.old board.old }
-    requires marks { length marks.old ≡ line_count deductions.old }
+    requires marks { length marks.old.list ≡ line_count deductions.old }
+    requires height { marks.old.height ≡ deductions.old.height }
     ensures learned { IsLearned result (line_at deductions.old n) board.old.cells board.new.cells }
-    ensures marks { MarksChanges (places_in deductions.old.width deductions.old.height n) board.old.cells board.new.cells marks.old marks.new }
+    ensures marks { MarksChanges (places_in deductions.old.width deductions.old.height n) board.old.cells board.new.cells marks.old.list marks.new.list }
     ensures same { result ≡ Same → marks.new ≡ marks.old }
+    ensures count { length marks.new.list ≡ length marks.old.list }
+    ensures height { marks.new.height ≡ marks.old.height }
     ensures trail { IsTrailed board.old board.new }
     ensures puzzle { deductions.new ≡ deductions.old }
 {
     let old = board.line(n);
-    match deductions.deduce(n, &old) {
-        None => Progress::Dead,
-        Some(new) => {
-            if write_line(board, n, &old, &new, marks) {
-                Progress::Changed
-            } else {
-                Progress::Same
-            }
-        }
+    let Some(new) = deductions.deduce(n, &old) else {
+        return Progress::Dead;
+    };
+    let changes = old.changes(&new);
+    if changes.is_empty() {
+        return Progress::Same;
     }
+    marks.mark_crossing(n, changes);
+    write_line(board, n, &new, changes);
+    Progress::Changed
 }
 
 impl<'p, W: LineSet> Closer<'p, W> {
@@ -96,11 +100,10 @@ impl<'p, W: LineSet> Closer<'p, W> {
         requires { FitsIn W.WIDTH puzzle.now }
         ensures { IfOk result (λ closer. closer.puzzle ≡ puzzle.now) }
     {
-        let count = usize::from(puzzle.height()) + usize::from(puzzle.width());
         Ok(Closer {
             puzzle,
             deductions: Deductions::new(alloc, puzzle)?,
-            marks: vec![in alloc; false; count]?,
+            marks: Marks::new(puzzle.height(), puzzle.width()),
         })
     }
 
@@ -117,7 +120,7 @@ impl<'p, W: LineSet> Closer<'p, W> {
         ensures trail { IsTrailed board.old board.new }
         ensures puzzle { self.new.puzzle ≡ self.old.puzzle }
     {
-        self.marks[n] = false;
+        self.marks.set(n, false);
         learn_line(&mut self.deductions, n, board, &mut self.marks)
     }
 
@@ -135,14 +138,14 @@ impl<'p, W: LineSet> Closer<'p, W> {
         ensures puzzle { self.new.puzzle ≡ self.old.puzzle }
     {
         let mut progress = Progress::Same;
-        for n in start..end {
-            if self.marks[n] {
-                match self.deduce_line(n, board) {
-                    Progress::Dead => return Progress::Dead,
-                    Progress::Same => {}
-                    Progress::Changed => progress = Progress::Changed,
-                }
+        let mut from = start;
+        while let Some(n) = self.marks.first(from, end) {
+            match self.deduce_line(n, board) {
+                Progress::Dead => return Progress::Dead,
+                Progress::Same => {}
+                Progress::Changed => progress = Progress::Changed,
             }
+            from = n + 1;
         }
         progress
     }
@@ -183,7 +186,7 @@ impl<'p, W: LineSet> Closer<'p, W> {
     {
         let alive = self.deduce_marked(board);
         if !alive {
-            self.marks.fill(false);
+            self.marks.clear();
         }
         alive
     }
@@ -196,7 +199,7 @@ impl<'p, W: LineSet> Closer<'p, W> {
         ensures size { IsBoardOf self.old.puzzle board.new }
         ensures puzzle { self.new.puzzle ≡ self.old.puzzle }
     {
-        self.marks.fill(true);
+        self.marks.mark_all();
         self.propagate(board)
     }
 
@@ -218,8 +221,8 @@ impl<'p, W: LineSet> Closer<'p, W> {
         let width = usize::from(self.puzzle.width());
         let height = usize::from(self.puzzle.height());
         let (x, y) = (place % width, place / width);
-        self.marks[y] = true;
-        self.marks[height + x] = true;
+        self.marks.set(y, true);
+        self.marks.set(height + x, true);
         board.settle(x, y, colour);
         self.propagate(board)
     }

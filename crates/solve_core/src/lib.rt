@@ -8,6 +8,7 @@ mod deductions;
 mod findings;
 mod grids;
 pub mod laws;
+mod marks;
 mod places;
 pub mod plain;
 mod reports;

@@ -1,18 +1,19 @@
-//! What a deduction changes: the cells, and the marks of the crossing lines.
-ghost use Rattle.std.specs.Prelude.{◌≡◌, ◌≢◌, ◌+◌, ◌*◌, ◌<◌, true, false, length};
-ghost use Rattle.grid_core.specs.declared.cells.Cell.TheVariants.{Unknown};
-ghost use Rattle.grid_core.specs.Nonogram.{IsNonogram, cells_at};
+//! The places of lines, and what a deduction changes there.
+ghost use Rattle.std.specs.Prelude.{◌≡◌, ◌+◌, ◌*◌, ◌<◌, ◌≤◌, length};
+ghost use Rattle.grid_core.specs.Nonogram.{IsNonogram};
 ghost use Rattle.solve_core.specs.Closure.{with_cells};
 ghost use Rattle.grid_core.specs.Cells.{Extends};
 ghost use Rattle.grid_core.specs.PartialGrid.{IsSize};
 ghost use Rattle.solve_core.specs.Lines.{line_count, line_at, places_in, places_of};
-ghost use Rattle.solve_core.specs.Marks.{MarksChanges};
+ghost use Rattle.solve_core.specs.Boards.{cells_along};
+ghost use Rattle.place_sets.specs.Masks.{IsMaskOf};
+ghost use Rattle.line_core.specs.Lines.{IsChanged};
 ghost use Rattle.solve_core.specs.Trails.{IsTrailed};
 
 use crate::boards::Board;
 use grid_core::{Clue, Puzzle};
 use line_core::{LineOf, LineSet};
-use place_sets::take_first;
+use place_sets::first_from;
 
 /// Where a line's cells are, and which lines cross it.
 #[derive(Clone, Copy)]
@@ -68,36 +69,21 @@ pub fn clue_of_line(puzzle: &Puzzle, n: usize) -> &Clue
     }
 }
 
-/// Writes what line n learned, and marks the lines that cross it there. Answers whether it learned anything.
-pub fn write_line<W: LineSet>(
-    board: &mut Board<W>,
-    n: usize,
-    old: &LineOf<W>,
-    new: &LineOf<W>,
-    marks: &mut [bool],
-) -> bool
+/// Writes the cells of line n that change.
+pub fn write_line<W: LineSet>(board: &mut Board<W>, n: usize, new: &LineOf<W>, changes: W)
     requires n { n < board.old.height + board.old.width }
     requires size { IsSize board.old.width board.old.height }
     requires cells { length board.old.cells ≡ board.old.width * board.old.height }
-    requires old { old.now ≡ cells_at Unknown board.old.cells (places_of (places_in board.old.width board.old.height n)) }
-    requires count { length new.now ≡ length old.now }
-    requires more { Extends old.now new.now }
-    requires marks { length marks.old ≡ board.old.height + board.old.width }
+    requires fits { (places_in board.old.width board.old.height n).count ≤ W.WIDTH }
+    requires count { length new.now ≡ (places_in board.old.width board.old.height n).count }
+    requires more { Extends (cells_along board.old n) new.now }
+    requires changes { IsMaskOf (IsChanged (cells_along board.old n) new.now) (W.number changes) }
     ensures cells { board.new.cells ≡ with_cells board.old.cells (places_of (places_in board.old.width board.old.height n)) new.now }
     ensures trail { IsTrailed board.old board.new }
-    ensures marks { MarksChanges (places_in board.old.width board.old.height n) board.old.cells board.new.cells marks.old marks.new }
-    ensures learned { result ≡ true → new.now ≢ old.now }
-    ensures same { result ≡ false → new.now ≡ old.now }
-    ensures unmarked { result ≡ false → marks.new ≡ marks.old }
 {
-    let crossing = board.crossing(n);
-    let mut changes = old.changes(new);
     let mut from = 0;
-    while let Some(i) = take_first(&mut changes) {
-        let along = usize::from(i);
-        board.settle_along(n, along, new.get(i));
-        marks[crossing + along] = true;
+    while let Some(i) = first_from(changes, from) {
+        board.settle_along(n, usize::from(i), new.get(i));
         from = i + 1;
     }
-    from > 0
 }

@@ -20,7 +20,7 @@ returns-then-other-self g c =
     (same_without_change c.args.self.now c.args.other.now (number c.changes.result)
     (length_seen other.len (number other.filled) (number other.blank) c.args.other.now c.other.view_is ∙ c.if-other-self.true
     ∙ sym (length_seen line.len (number line.filled) (number line.blank) c.args.self.now c.self.view_is))
-    c.changes.ensures)
+    c.changes.ensures.changes)
 
 pub returns-else-other-self : goal.returns-else-other-self
 returns-else-other-self g c =

@@ -1,6 +1,4 @@
 use Rattle.std.proofs.Common.{◌∙◌, ◌+◌, ◌<◌, ◌≤◌, ℕ, List, Bool, arith, false, length, set, ap, sym, subst}
-use Rattle.std.specs.Vec.{with_item}
-use Rattle.std.proofs.lemmas.List.{with_items_is}
 use Rattle.grid_core.specs.Nonogram.{Nonogram, lines_of}
 use Rattle.solve_core.specs.Closure.{closure}
 use Rattle.solve_core.specs.Lines.{line_count, line_at, places_in}
@@ -28,15 +26,13 @@ returns-clause-marks g c =
     let r = c.learn_line.result in
     let old = c.args.board.now.cells in
     let new = c.learn_line.new.board.cells in
-    let before = c.self.inside.marks.items in
-    let after = c.learn_line.new.marks in
+    let before = c.self.inside.marks.list in
+    let after = c.learn_line.new.marks.list in
     let within : n < line_count p = subst (λ (m : MarkedPuzzle). n < line_count m.puzzle) (sym c.self.view_is) c.requires.n in
     let changes = subst (λ (q : Nonogram). MarksChanges (places_in q.width q.height n) old new (set before n false) after) c.self.invariant.1
-    (subst (λ (marks : List Bool). MarksChanges (places_in c.self.inside.deductions.width c.self.inside.deductions.height n) old new marks after) c.deref_mut.ensures.value c.learn_line.ensures.marks) in
-    let written = with_items_is (with_item c.self.inside.marks n false) after (c.learn_line.auto.marks ∙ c.deref_mut.ensures.len) in
-    subst (λ (marks : List Bool). MarksAfter r (marked p marks) new) (sym written)
-    (marks-after p old new before after n r (subst (λ (m : MarkedPuzzle). HasMarks m old) (sym c.self.view_is) c.requires.marks) within
-    (subst (λ (q : Nonogram). IsLearned r (line_at q n) old new) c.self.invariant.1 c.learn_line.ensures.learned) changes)
+    (subst (λ (marks : List Bool). MarksChanges (places_in c.self.inside.deductions.width c.self.inside.deductions.height n) old new marks after) c.set.ensures.list c.learn_line.ensures.marks) in
+    marks-after p old new before after n r (subst (λ (m : MarkedPuzzle). HasMarks m old) (sym c.self.view_is) c.requires.marks) within
+    (subst (λ (q : Nonogram). IsLearned r (line_at q n) old new) c.self.invariant.1 c.learn_line.ensures.learned) changes
 
 pub returns-clause-unmarked : goal.returns-clause-unmarked
 returns-clause-unmarked g c =
@@ -44,12 +40,10 @@ returns-clause-unmarked g c =
     let n = c.args.n in
     let old = c.args.board.now.cells in
     let new = c.learn_line.new.board.cells in
-    let before = c.self.inside.marks.items in
-    let after = c.learn_line.new.marks in
+    let before = c.self.inside.marks.list in
+    let after = c.learn_line.new.marks.list in
     let within : n < length before = omega (arith, c.requires.n, c.self.invariant.2, ap (λ (m : MarkedPuzzle). line_count m.puzzle) c.self.view_is) in
     let changes = subst (λ (q : Nonogram). MarksChanges (places_in q.width q.height n) old new (set before n false) after) c.self.invariant.1
-    (subst (λ (marks : List Bool). MarksChanges (places_in c.self.inside.deductions.width c.self.inside.deductions.height n) old new marks after) c.deref_mut.ensures.value c.learn_line.ensures.marks) in
-    let written = with_items_is (with_item c.self.inside.marks n false) after (c.learn_line.auto.marks ∙ c.deref_mut.ensures.len) in
-    subst (λ (marks : List Bool). (start end : ℕ) → AreParallel c.args.self.now.puzzle start end → start ≤ n → n < end → AreUnmarkedFrom start n c.args.self.now.marks → AreUnmarkedFrom start (n + 1) marks) (sym written)
-    (subst (λ (m : MarkedPuzzle). (start end : ℕ) → AreParallel m.puzzle start end → start ≤ n → n < end → AreUnmarkedFrom start n m.marks → AreUnmarkedFrom start (n + 1) after) c.self.view_is
-    (λ start end. unmarked-through p old new before after n start end within changes))
+    (subst (λ (marks : List Bool). MarksChanges (places_in c.self.inside.deductions.width c.self.inside.deductions.height n) old new marks after) c.set.ensures.list c.learn_line.ensures.marks) in
+    subst (λ (m : MarkedPuzzle). (start end : ℕ) → AreParallel m.puzzle start end → start ≤ n → n < end → AreUnmarkedFrom start n m.marks → AreUnmarkedFrom start (n + 1) after) c.self.view_is
+    (λ start end. unmarked-through p old new before after n start end within changes)

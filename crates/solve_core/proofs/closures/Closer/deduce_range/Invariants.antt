@@ -1,4 +1,4 @@
-use Rattle.std.proofs.Common.{◌≡◌, ◌≢◌}
+use Rattle.std.proofs.Common.{◌≡◌, ◌≢◌, ◌-◌, ◌≤◌}
 use Rattle.grid_core.specs.Nonogram.{lines_of}
 use Rattle.solve_core.specs.declared.closures.Progress.TheVariants.{Dead, Same}
 use Rattle.solve_core.specs.Closure.{closure}
@@ -16,5 +16,9 @@ invariant-loop-n g l = record {
   progress : Progresses (closure (lines_of l.self.puzzle)) l.progress l.fn.board.cells l.board.cells;
   alive : l.progress ≢ Dead;
   same : l.progress ≡ Same → AddsNone l.fn.self.marks l.self.marks;
-  unmarked : AreUnmarkedFrom l.start l.n l.self.marks;
+  unmarked : AreUnmarkedFrom l.start l.from l.self.marks;
+  ordered : l.start ≤ l.from;
 }
+
+abbrev pub decreases-loop-n : goal.decreases-loop-n
+decreases-loop-n g l = l.end - l.from
