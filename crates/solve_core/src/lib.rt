@@ -24,6 +24,7 @@ mod tests_deductions;
 #[cfg(test)]
 mod tests_search;
 mod trials;
+mod witnesses;
 
 pub use findings::{Findings, Grade, Verdict};
 pub use reports::report;
