@@ -1,7 +1,7 @@
-use Rattle.std.proofs.Common.{◌≡◌, ◌∙◌, ◌*◌, ℕ, length, replicate, sym, ap, arith}
+use Rattle.std.proofs.Common.{◌≡◌, ◌∙◌, ◌*◌, ℕ, length, replicate, sym, ap, subst, arith}
 use Rattle.std.proofs.lemmas.List.{length-take}
 use Rattle.solve_core.specs.WitnessedPuzzles.{WitnessedPuzzle}
-use Rattle.solve_core.specs.Witnesses.{AreNumbered}
+use Rattle.solve_core.specs.Witnesses.{AreWitnesses}
 use Rattle.solve_core.proofs.WitnessLaws.{forgotten, no_witnesses}
 use Rattle.solve_core.proofs.witnesses.Witnesses.forget.Goals as goal
 
@@ -19,3 +19,11 @@ returns-clause-witnesses c = λ cells size.
     let inside = c.self.inside in
     let new : WitnessedPuzzle = record { puzzle = inside.puzzle.now; witnesses = c.truncate.new.self.items; fillable = c.fill.new.self.items; blankable = c.fill-2.new.self.items } in
     no_witnesses new cells (invariant_of-self c) (size ∙ ap (λ (q : WitnessedPuzzle). q.puzzle.width * q.puzzle.height) (sym c.self.view_is)) (omega (arith, ap length c.truncate.ensures.items, length-take 1 inside.witnesses.items))
+
+pub returns-then-len-eq1-clause-witnesses : goal.returns-then-len-eq1-clause-witnesses
+returns-then-len-eq1-clause-witnesses c = λ cells size.
+    let inside = c.self.inside in
+    let w : WitnessedPuzzle = record { puzzle = inside.puzzle.now; witnesses = inside.witnesses.items; fillable = inside.fillable.items; blankable = inside.blankable.items } in
+    let same : w.puzzle.width * w.puzzle.height ≡ c.args.self.now.puzzle.width * c.args.self.now.puzzle.height = ap (λ (q : WitnessedPuzzle). q.puzzle.width * q.puzzle.height) c.self.view_is in
+    subst (λ (q : WitnessedPuzzle). AreWitnesses q cells) c.self.view_is
+    (no_witnesses w cells c.self.invariant (size ∙ sym same) (omega (arith, c.len.ensures, c.if-len-eq1.true, inside.witnesses.ok.0)))
