@@ -1,29 +1,26 @@
 -- What an alive trial of a grid tells of a grid that has learned more.
-use Rattle.std.proofs.Common.{◌≡◌, ◌≢◌, ℕ, zero, suc, ◌+◌, ◌-◌, ◌*◌, ◌/◌, ◌%◌, ◌<◌, ◌≤◌, ◌⊎◌, inl, inr, Bool, true, false, List, [], ◌∷◌, ◌++◌, length, map, take, drop, replicate, get_or, set, Option, Some, refl, sym, ap, ◌∙◌, arith, subst, true≢false, get_or-set_same, get_or-set_other, length-append}
+use Rattle.std.proofs.Common.{◌≡◌, ◌≢◌, ℕ, zero, suc, ◌+◌, ◌-◌, ◌*◌, ◌/◌, ◌%◌, ◌<◌, ◌≤◌, ◌⊎◌, inl, inr, Bool, true, false, List, [], ◌∷◌, ◌++◌, length, take, replicate, get_or, set, Some, refl, sym, ap, ◌∙◌, arith, subst, true≢false, get_or-set_other, length-append}
 use Rattle.std.proofs.Math.ListN.{get_or-map}
-use Rattle.std.proofs.lemmas.Bool.{cases_lt}
 use Rattle.std.proofs.lemmas.List.{get_or_append_left, get_or_past, get_or-take, get_or-replicate, length-take-le, length-replicate, length-map}
-use Rattle.std.proofs.Math.Seq.{get_or-append_seam, drop-append_seam}
+use Rattle.std.proofs.Math.Seq.{get_or-append_seam}
 use Rattle.grid_core.specs.declared.cells.Cell.{Cell}
 use Rattle.grid_core.specs.declared.cells.Cell.TheVariants.{Unknown, Filled, Blank}
 use Rattle.grid_core.specs.Cells.{CellExtends, Extends, is_known}
 use Rattle.grid_core.specs.Nonogram.{Nonogram, IsNonogram, GridLine, lines_of, cells_at}
-use Rattle.grid_core.proofs.LineLaws.{get_or-cells_at}
 use Rattle.line_core.specs.Deduction.{deduced}
 use Rattle.line_core.proofs.DeductionLaws.{Extends-at}
 use Rattle.solve_core.specs.Closure.{round, closure}
 use Rattle.solve_core.specs.Lines.{line_count, line_at}
-use Rattle.solve_core.specs.Trials.{is_refuted}
-use Rattle.solve_core.specs.Marks.{IsSettled, AreOpen, AreOpenColours}
-use Rattle.solve_core.specs.Trails.{TrailedGrid, IsTrailed, cleared}
+use Rattle.solve_core.specs.Marks.{IsSettled, AreOpen}
+use Rattle.solve_core.specs.Trails.{cleared}
 use Rattle.solve_core.specs.Overlaid.{over, overlaid, AreAlike, AreApart}
 use Rattle.solve_core.specs.declared.witnesses.Crossed.{Crossed}
 use Rattle.solve_core.specs.declared.witnesses.Witness.{Witness}
 use Rattle.solve_core.specs.WitnessedPuzzles.{WitnessedPuzzle, no_witness, witness_at, met_by, open_marks}
 use Rattle.solve_core.specs.Witnesses.{has_side, IsCrossed, DifferWithin, ShareNoLine, IsWitness, AreWitnesses, AreNumbered, IsKept, AddsMet}
-use Rattle.solve_core.proofs.Order.{Extends-refl, Extends-trans, Extends-antisym, length-Extends}
-use Rattle.solve_core.proofs.ClosureLaws.{closure-IsLeastClosed, cells_at-monotone}
-use Rattle.solve_core.proofs.TrialSteps.{met_open, set_within, set-extends}
+use Rattle.solve_core.proofs.Order.{Extends-refl, Extends-antisym, length-Extends}
+use Rattle.solve_core.proofs.ClosureLaws.{closure-IsLeastClosed}
+use Rattle.solve_core.proofs.TrialSteps.{met_open, set_within}
 use Rattle.solve_core.proofs.NumberedLines.{unique_place, along-row, along-column, line_is_one}
 use Rattle.solve_core.proofs.GridSteps.{settled_closed, place_again, line_place, line-distinct, line-below}
 use Rattle.solve_core.proofs.LineSteps.{cells_at-same, closed_settled, before_or_from}

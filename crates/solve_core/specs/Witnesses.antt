@@ -3,7 +3,7 @@ use Rattle.std.specs.Prelude.{◌≡◌, ◌⊎◌, ℕ, ◌*◌, ◌/◌, ◌%�
 use Rattle.grid_core.specs.declared.cells.Cell.{Cell}
 use Rattle.grid_core.specs.declared.cells.Cell.TheVariants.{Unknown, Filled, Blank}
 use Rattle.grid_core.specs.Cells.{Extends}
-use Rattle.grid_core.specs.Nonogram.{Nonogram, IsNonogram, lines_of}
+use Rattle.grid_core.specs.Nonogram.{IsNonogram, lines_of}
 use Rattle.place_sets.specs.Masks.{has}
 use Rattle.solve_core.specs.Closure.{round}
 use Rattle.solve_core.specs.Marks.{AreOpenColours}

@@ -178,7 +178,8 @@ impl<'p> Trials<'p> {
             return Progress::Same;
         }
         if filled.is_closed() {
-            self.witnesses.keep(&self.filled_trial, 0, place, Cell::Filled);
+            self.witnesses
+                .keep(&self.filled_trial, 0, place, Cell::Filled);
             board.restart_from(&self.filled_trial);
             return Progress::Changed;
         }

@@ -1,4 +1,4 @@
-use Rattle.std.proofs.Common.{◌≡◌, ◌∙◌, ◌++◌, ◌*◌, List, [], ◌∷◌, length, Some, ap, arith, sym, subst, true}
+use Rattle.std.proofs.Common.{◌≡◌, ◌∙◌, ◌++◌, ◌*◌, [], ◌∷◌, length, Some, ap, arith, sym, subst, true}
 use Rattle.grid_core.specs.Nonogram.{Nonogram, lines_of}
 use Rattle.solve_core.specs.Closure.{round}
 use Rattle.solve_core.specs.Trails.{cleared}
