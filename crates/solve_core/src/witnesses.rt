@@ -21,7 +21,7 @@ use std::marker::Model;
 const WITNESSES_PER_CELL: usize = 4;
 
 /// How many witnesses there are at most.
-const MOST_WITNESSES: usize = 16384;
+const MOST_WITNESSES: usize = 32768;
 
 /// How many rows, or columns, a set tells apart.
 const SIDES: u16 = 64;
@@ -67,7 +67,7 @@ pub struct Witness {
 }
 
 impl Witness {
-    /// What no cell was met by.
+    /// What stands for no witness: it doesn't count.
     fn none() -> Witness
         ensures { result.counts ≡ false }
     {
@@ -90,7 +90,7 @@ impl Witness {
     }
 }
 
-/// Lets those witnesses count on that share no row and no column with what was learned, and the one that holds it.
+/// Lets those witnesses count on that share no row and no column with what was learned, and the one of a number, which holds it.
 fn keep_each(witnesses: &mut [Witness], learned: &Crossed, holder: usize)
     ensures { (i : ℕ) → i < length witnesses.old → IsKept learned.now (i ≡ holder) (witness_at witnesses.old i) (witness_at witnesses.new i) }
 {
@@ -137,7 +137,7 @@ impl<'p> Witnesses<'p> {
         })
     }
 
-    /// Drops all witnesses.
+    /// Drops all witnesses, so that there is none for any grid of the puzzle's size.
     pub fn forget(&mut self)
         ensures witnesses { (cells : List CellValue) → length cells ≡ self.old.puzzle.width * self.old.puzzle.height → AreWitnesses self.new cells }
         ensures puzzle { self.new.puzzle ≡ self.old.puzzle }
