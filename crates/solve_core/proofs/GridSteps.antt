@@ -34,7 +34,7 @@ line-below p size n is l e =
     rw (e, line_at-places) (below_from q.first q.step q.count (p.width * p.height) (line-within p.width p.height n l))
 
 -- a place of a line, by its number along the line
-line_place : (p : Nonogram) (n i : ℕ) → IsNonogram p → n < line_count p → i < length ((line_at p n).places)
+pub line_place : (p : Nonogram) (n i : ℕ) → IsNonogram p → n < line_count p → i < length ((line_at p n).places)
     → (let q = places_in p.width p.height n in (i < q.count) × (get_or ((line_at p n).places) i 0 ≡ q.first + i * q.step))
 line_place p n i is l h =
     let q = places_in p.width p.height n in

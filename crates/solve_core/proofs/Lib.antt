@@ -9,6 +9,7 @@ pub mod LineSteps
 pub mod GridSteps
 pub mod BoardSteps
 pub mod TrialSteps
+pub mod WitnessLaws
 pub mod SearchLaws
 pub mod EndingLaws
 pub mod ReportLaws

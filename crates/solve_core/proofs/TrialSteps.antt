@@ -8,7 +8,7 @@ use Rattle.solve_core.specs.declared.trials.Trial.TheVariants.{Refuted, Open, Cl
 use Rattle.solve_core.specs.declared.closures.Progress.TheVariants.{Changed}
 use Rattle.solve_core.specs.Closure.{round, closure}
 use Rattle.solve_core.specs.Trials.{is_refuted, left_over, tried, trial_round, trials, IsTried}
-use Rattle.solve_core.specs.Marks.{Progresses, if_alive, AreOpen, AddsMarks, IsTrialOf}
+use Rattle.solve_core.specs.Marks.{Progresses, if_alive, IsTrialOf}
 use Rattle.solve_core.specs.Trails.{unknown_count}
 use Rattle.solve_core.proofs.Order.{AtMost, Extends-refl, Extends-trans, length-Extends}
 use Rattle.solve_core.proofs.Closing.{repeat-fixed, fewer_unknown}
@@ -42,7 +42,8 @@ none_only (Some z) h = absurd h
 pub closure_dead : (lines : List GridLine) (g : List Cell) → closure lines g ≡ None → trials lines g ≡ None
 closure_dead lines g e = none_only (trials lines g) (rw e at (closure_below lines g))
 
-set_within : (a b : List Cell) (i : ℕ) (d : Cell) → Extends a b → CellExtends d (get_or b i Unknown) → Extends (set a i d) b
+-- a grid with a cell that another one has is below that one
+pub set_within : (a b : List Cell) (i : ℕ) (d : Cell) → Extends a b → CellExtends d (get_or b i Unknown) → Extends (set a i d) b
 set_within [] [] i d e f = tt
 set_within [] (y ∷ b) i d e f = absurd e
 set_within (x ∷ a) [] i d e f = absurd e
@@ -126,19 +127,18 @@ not_none : (o : Option (List Cell)) (z : List Cell) → AtMost o (Some z) → is
 not_none None z h = absurd h
 not_none (Some g) z h = refl
 
--- the colour of a cell of a trial that is alive isn't refuted in the grid that it was tried in
-pub alive_open : (lines : List GridLine) (g z : List Cell) (k j : ℕ) (c d : Cell) → get_or g k Unknown ≡ Unknown → closure lines (set g k c) ≡ Some z → get_or z j Unknown ≡ d → is_refuted lines g j d ≡ false
-alive_open lines g z k j c d unknown e at =
-    let law = closure-IsLeastClosed lines (set g k c) in
-    let above : Extends (set g k c) z = rw e at law.above in
-    let gz : Extends g z = Extends-trans g (set g k c) z (set-extends g k c unknown) above in
+-- the colour of a cell of a line-closed grid isn't refuted in a grid that knows no more
+pub met_open : (lines : List GridLine) (g z : List Cell) (k : ℕ) (d : Cell) → round lines z ≡ Some z → Extends g z → get_or z k Unknown ≡ d → is_refuted lines g k d ≡ false
+met_open lines g z k d closed h at =
     let same : CellExtends d d = Extends-at (d ∷ []) (d ∷ []) 0 (Extends-refl (d ∷ [])) in
-    let with_it : Extends (set g j d) z = set_within g z j d gz (subst (λ (q : Cell). CellExtends d q) (sym at) same) in
-    not_none (closure lines (set g j d)) z ((closure-IsLeastClosed lines (set g j d)).least z (law.closed z e) with_it)
+    let with_it : Extends (set g k d) z = set_within g z k d h (subst (λ (q : Cell). CellExtends d q) (sym at) same) in
+    not_none (closure lines (set g k d)) z ((closure-IsLeastClosed lines (set g k d)).least z closed with_it)
 
--- marks that an alive trial adds
-pub added-open : (lines : List GridLine) (g z : List Cell) (k : ℕ) (c d : Cell) (old new : List Bool) → get_or g k Unknown ≡ Unknown → closure lines (set g k c) ≡ Some z → AddsMarks d z old new → AreOpen lines g d old → AreOpen lines g d new
-added-open lines g z k c d old new unknown e adds before j m = elim (adds j m) [ inl o ↦ before j o | inr at ↦ alive_open lines g z k j c d unknown e at ]
+-- a grid that a cell was settled in and that was closed knows more
+pub settled-extends : (lines : List GridLine) (g z : List Cell) (k : ℕ) (c : Cell) → get_or g k Unknown ≡ Unknown → closure lines (set g k c) ≡ Some z → Extends g z
+settled-extends lines g z k c unknown e =
+    let above : Extends (set g k c) z = rw e at ((closure-IsLeastClosed lines (set g k c)).above) in
+    Extends-trans g (set g k c) z (set-extends g k c unknown) above
 
 count-set : (g : List Cell) (k : ℕ) (c : Cell) → k < length g → get_or g k Unknown ≡ Unknown → is_known c ≡ true → unknown_count (set g k c) < unknown_count g
 count-set [] k c h e n = absurd (omega arith)

@@ -1,6 +1,9 @@
 pub mod Closure
 pub mod LeastClosed
 pub mod Trials
+pub mod Overlaid
+pub mod WitnessedPuzzles
+pub mod Witnesses
 pub mod Trails
 pub mod Boards
 pub mod MarkedPuzzles

@@ -9,7 +9,6 @@ use Rattle.solve_core.specs.Lines.{line_count, line_at}
 use Rattle.solve_core.specs.Trails.{unknown_count}
 use Rattle.solve_core.specs.Trials.{is_refuted}
 use Rattle.solve_core.specs.MarkedPuzzles.{MarkedPuzzle}
-use Rattle.solve_core.specs.TriedPuzzles.{TriedPuzzle}
 use Rattle.solve_core.specs.declared.places.Places.{Places}
 use Rattle.solve_core.specs.declared.trials.Trial.{Trial}
 use Rattle.solve_core.specs.declared.trials.Trial.TheVariants.{Refuted, Open, Closed}
@@ -97,15 +96,6 @@ pub record AreOpenColours (p : Nonogram) (cells : List Cell) (fillable blankable
   pub blank_count : length blankable ≡ length cells
   pub filled : AreOpen (lines_of p) cells Filled fillable
   pub blank : AreOpen (lines_of p) cells Blank blankable
-
--- no line has more to give, and the marked colours aren't refuted: what a trial of these cells starts from
-pub record IsReady (t : TriedPuzzle) (cells : List Cell) : Type 0 where
-  pub rest : IsAtRest t.closer cells
-  pub colours : AreOpenColours t.closer.puzzle cells t.fillable t.blankable
-
--- each new mark is at a cell of the trial that has the colour
-abbrev pub AddsMarks : Cell → List Cell → List Bool → List Bool → Type 0
-AddsMarks colour trial old new = (k : ℕ) → slice_index_or new k false ≡ true → (slice_index_or old k false ≡ true) ⊎ (slice_index_or trial k Unknown ≡ colour)
 
 -- what a trial of a colour at a place came to: no grid, the closed one, or one that another trial met
 abbrev pub IsTrialOf : Trial → List GridLine → List Cell → ℕ → Cell → List Cell → Type 0

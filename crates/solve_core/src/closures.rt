@@ -6,7 +6,7 @@ ghost use Rattle.grid_core.specs.declared.cells.Cell.TheVariants.{Unknown};
 ghost use Rattle.solve_core.specs.Closure.{closure};
 ghost use Rattle.solve_core.specs.Lines.{line_at, line_count, places_in};
 ghost use Rattle.solve_core.specs.Marks.{IsLearned, MarksChanges, HasMarks, Progresses, MarksAfter, AreParallel, AreUnmarkedFrom, AddsNone, IsUnmarked, IsAtRest, if_alive};
-ghost use Rattle.solve_core.specs.Trails.{IsTrailed};
+ghost use Rattle.solve_core.specs.Trails.{IsTrailed, cleared};
 ghost use Rattle.solve_core.specs.Widths.{FitsIn};
 ghost use Rattle.solve_core.specs.Boards.{IsBoardOf};
 ghost use Rattle.solve_core.specs.declared.closures.Progress.TheVariants.{Dead, Same};
@@ -244,6 +244,7 @@ impl<'p, W: LineSet> Closer<'p, W> {
         ensures closed { if_alive result trial.new.cells ≡ closure (lines_of self.old.puzzle) (slice_set board.now.cells place colour) }
         ensures rest { IsAtRest self.new board.now.cells }
         ensures closed_rest { IsTrue result → IsAtRest self.new trial.new.cells }
+        ensures back { cleared trial.new.cells trial.new.trail ≡ board.now.cells }
         ensures trial { IsBoardOf self.old.puzzle trial.new }
         ensures puzzle { self.new.puzzle ≡ self.old.puzzle }
     {

@@ -26,6 +26,7 @@ mod tests_deductions;
 mod tests_search;
 mod trials;
 mod widths;
+mod witnesses;
 mod workspaces;
 
 pub use findings::{Findings, Grade, Verdict};

@@ -6,15 +6,18 @@ ghost use Rattle.grid_core.specs.Cells.{is_known};
 ghost use Rattle.solve_core.specs.Closure.{round, closure};
 ghost use Rattle.line_core.specs.Order.{AtMost};
 ghost use Rattle.solve_core.specs.Trials.{trials, IsTried};
-ghost use Rattle.solve_core.specs.Marks.{Progresses, AreUnmarked, if_alive, AreOpenColours, AddsMarks, IsAtRest, IsReady, IsTrialOf};
-ghost use Rattle.solve_core.specs.Trails.{IsTrailed};
+ghost use Rattle.solve_core.specs.Marks.{Progresses, if_alive, IsAtRest, IsTrialOf};
+ghost use Rattle.solve_core.specs.Trails.{cleared};
+ghost use Rattle.solve_core.specs.TriedPuzzles.{IsReady};
 ghost use Rattle.solve_core.specs.Widths.{FitsIn};
+ghost use Rattle.solve_core.specs.Witnesses.{AreWitnesses};
 ghost use Rattle.solve_core.specs.Boards.{IsBoardOf};
 ghost use Rattle.solve_core.specs.declared.trials.Trial.TheVariants.{Refuted, Closed};
 ghost use Rattle.solve_core.specs.declared.closures.Progress.TheVariants.{Dead, Same};
 
 use crate::boards::Board;
 use crate::closures::{Closer, Progress};
+use crate::witnesses::Witnesses;
 use grid_core::{Cell, NoMemory, Puzzle};
 use line_core::LineSet;
 use std::alloc::Global;
@@ -45,116 +48,62 @@ impl Trial {
     }
 }
 
-/// For each cell and each of the two colours a mark that the colour is open: a trial of the same grid has met it there.
-#[derive(Drop)]
-struct Colours {
-    fillable: Vec<bool>,
-    blankable: Vec<bool>,
+/// Tries a colour at an unknown cell, on a copy, unless a witness has met it there. If the copy closes alive, it is a witness.
+fn try_colour<W: LineSet>(
+    closer: &mut Closer<'_, W>,
+    witnesses: &mut Witnesses<'_>,
+    board: &Board<W>,
+    trial: &mut Board<W>,
+    place: usize,
+    colour: Cell,
+) -> Trial
+    requires rest { IsAtRest closer.old board.now.cells }
+    requires witnesses { AreWitnesses witnesses.old board.now.cells }
+    requires puzzle { witnesses.old.puzzle ≡ closer.old.puzzle }
+    requires size { IsBoardOf closer.old.puzzle board.now }
+    requires trial { IsBoardOf closer.old.puzzle trial.old }
+    requires place { place < length board.now.cells }
+    requires unknown { slice_index_or board.now.cells place Unknown ≡ Unknown }
+    requires colour { is_known colour ≡ true }
+    ensures tried { IsTrialOf result (lines_of closer.old.puzzle) board.now.cells place colour trial.new.cells }
+    ensures witnesses { AreWitnesses witnesses.new board.now.cells }
+    ensures witnessed { witnesses.new.puzzle ≡ witnesses.old.puzzle }
+    ensures rest { IsAtRest closer.new board.now.cells }
+    ensures closed_rest { result ≡ Closed → IsAtRest closer.new trial.new.cells }
+    ensures back { result ≡ Closed → cleared trial.new.cells trial.new.trail ≡ board.now.cells }
+    ensures trial { IsBoardOf closer.old.puzzle trial.new }
+    ensures puzzle { closer.new.puzzle ≡ closer.old.puzzle }
+{
+    if witnesses.has_met(place, colour) {
+        return Trial::Open;
+    }
+    if !closer.assign_copy(board, trial, place, colour) {
+        return Trial::Refuted;
+    }
+    witnesses.add(trial);
+    Trial::Closed
 }
 
-impl Colours {
-    /// Makes the room for so many cells. No colour is marked.
-    fn new(alloc: Global, count: usize) -> Result<Colours, NoMemory>
-        ensures { IfOk result (λ colours. (length colours.fillable.items ≡ count) × (length colours.blankable.items ≡ count)) }
-    {
-        Ok(Colours {
-            fillable: vec![in alloc; false; count]?,
-            blankable: vec![in alloc; false; count]?,
-        })
-    }
-
-    /// Takes back all marks.
-    fn forget(&mut self)
-        ensures filled { AreUnmarked self.new.fillable.items }
-        ensures blank { AreUnmarked self.new.blankable.items }
-        ensures filled_count { length self.new.fillable.items ≡ length self.old.fillable.items }
-        ensures blank_count { length self.new.blankable.items ≡ length self.old.blankable.items }
-    {
-        self.fillable.fill(false);
-        self.blankable.fill(false);
-    }
-
-    /// Marks the colours of the cells that a trial settled.
-    fn mark<W: LineSet>(&mut self, trial: &Board<W>)
-        requires filled_count { length self.old.fillable.items ≡ length trial.now.cells }
-        requires blank_count { length self.old.blankable.items ≡ length trial.now.cells }
-        ensures filled { AddsMarks Filled trial.now.cells self.old.fillable.items self.new.fillable.items }
-        ensures blank { AddsMarks Blank trial.now.cells self.old.blankable.items self.new.blankable.items }
-        ensures filled_count { length self.new.fillable.items ≡ length self.old.fillable.items }
-        ensures blank_count { length self.new.blankable.items ≡ length self.old.blankable.items }
-    {
-        let cells = trial.cells();
-        for settled in trial.trail() {
-            let place = usize::from(*settled);
-            match cells[place] {
-                Cell::Unknown => {}
-                Cell::Filled => self.fillable[place] = true,
-                Cell::Blank => self.blankable[place] = true,
-            }
-        }
-    }
-
-    /// Tries a colour at an unknown cell, on a copy, unless another trial of the same grid has met it. Where the copy closes alive, the colours
-    /// that it has need no trial.
-    fn try_colour<W: LineSet>(
-        &mut self,
-        closer: &mut Closer<'_, W>,
-        board: &Board<W>,
-        trial: &mut Board<W>,
-        place: usize,
-        colour: Cell,
-    ) -> Trial
-        requires rest { IsAtRest closer.old board.now.cells }
-        requires colours { AreOpenColours closer.old.puzzle board.now.cells self.old.fillable.items self.old.blankable.items }
-        requires size { IsBoardOf closer.old.puzzle board.now }
-        requires trial { IsBoardOf closer.old.puzzle trial.old }
-        requires place { place < length board.now.cells }
-        requires unknown { slice_index_or board.now.cells place Unknown ≡ Unknown }
-        requires colour { is_known colour ≡ true }
-        ensures tried { IsTrialOf result (lines_of closer.old.puzzle) board.now.cells place colour trial.new.cells }
-        ensures colours { AreOpenColours closer.old.puzzle board.now.cells self.new.fillable.items self.new.blankable.items }
-        ensures rest { IsAtRest closer.new board.now.cells }
-        ensures closed_rest { result ≡ Closed → IsAtRest closer.new trial.new.cells }
-        ensures trial { IsBoardOf closer.old.puzzle trial.new }
-        ensures puzzle { closer.new.puzzle ≡ closer.old.puzzle }
-    {
-        let known = match colour {
-            Cell::Unknown => false,
-            Cell::Filled => self.fillable[place],
-            Cell::Blank => self.blankable[place],
-        };
-        if known {
-            return Trial::Open;
-        }
-        if !closer.assign_copy(board, trial, place, colour) {
-            return Trial::Refuted;
-        }
-        self.mark(trial);
-        Trial::Closed
-    }
-}
-
-/// What trials work with: what closes, a board for the trials of each colour, and the colours that they have met.
+/// What trials work with: what closes, a board for the trials of each colour, and the witnesses.
 #[derive(Drop)]
 pub struct Trials<'p, W: LineSet> {
     pub(crate) closer: Closer<'p, W>,
     filled_trial: Board<W>,
     blank_trial: Board<W>,
-    colours: Colours,
+    witnesses: Witnesses<'p>,
 }
 
 impl<'p, W: LineSet> Model for Trials<'p, W> {
-    ghost use Rattle.std.specs.Prelude.{◌≡◌, ◌*◌, length};
+    ghost use Rattle.std.specs.Prelude.{◌≡◌};
     ghost use Rattle.solve_core.specs.TriedPuzzles.{TriedPuzzle};
     ghost use Rattle.solve_core.specs.Boards.{IsBoardOf};
 
     ghost Value = { TriedPuzzle };
 
-    ghost view = { λ t. record { closer = t.closer; fillable = t.colours.fillable.items; blankable = t.colours.blankable.items } };
+    ghost view = { λ t. record { closer = t.closer; witnesses = t.witnesses } };
 
     ghost invariant = { λ t. IsBoardOf t.closer.puzzle t.filled_trial × IsBoardOf t.closer.puzzle t.blank_trial
-        × (length t.colours.fillable.items ≡ t.closer.puzzle.width * t.closer.puzzle.height)
-        × (length t.colours.blankable.items ≡ t.closer.puzzle.width * t.closer.puzzle.height) };
+        × (t.witnesses.puzzle ≡ t.closer.puzzle) };
 }
 
 impl<'p, W: LineSet> Trials<'p, W> {
@@ -169,13 +118,13 @@ impl<'p, W: LineSet> Trials<'p, W> {
             closer: Closer::new(alloc, puzzle)?,
             filled_trial: Board::unknown(alloc, width, height)?,
             blank_trial: Board::unknown(alloc, width, height)?,
-            colours: Colours::new(alloc, usize::from(width) * usize::from(height))?,
+            witnesses: Witnesses::new(alloc, puzzle)?,
         })
     }
 
     /// Gives a cell the colour that is left, and closes the board.
     fn keep_colour(&mut self, board: &mut Board<W>, place: usize, colour: Cell) -> Progress
-        requires rest { IsAtRest self.old.closer board.old.cells }
+        requires ready { IsReady self.old board.old.cells }
         requires size { IsBoardOf self.old.closer.puzzle board.old }
         requires place { place < length board.old.cells }
         requires unknown { slice_index_or board.old.cells place Unknown ≡ Unknown }
@@ -187,12 +136,12 @@ impl<'p, W: LineSet> Trials<'p, W> {
         ensures size { IsBoardOf self.old.closer.puzzle board.new }
         ensures puzzle { self.new.closer.puzzle ≡ self.old.closer.puzzle }
     {
-        self.colours.forget();
-        if self.closer.assign(board, place, colour) {
-            Progress::Changed
-        } else {
-            Progress::Dead
+        let mark = board.trail().len();
+        if !self.closer.assign(board, place, colour) {
+            return Progress::Dead;
         }
+        self.witnesses.keep(board, mark, place, colour);
+        Progress::Changed
     }
 
     /// Tries both colours at a place, where it is unknown.
@@ -209,8 +158,9 @@ impl<'p, W: LineSet> Trials<'p, W> {
         if board.cells()[place].is_known() {
             return Progress::Same;
         }
-        let filled = self.colours.try_colour(
+        let filled = try_colour(
             &mut self.closer,
+            &mut self.witnesses,
             board,
             &mut self.filled_trial,
             place,
@@ -219,8 +169,9 @@ impl<'p, W: LineSet> Trials<'p, W> {
         if filled.is_refuted() {
             return self.keep_colour(board, place, Cell::Blank);
         }
-        let blank = self.colours.try_colour(
+        let blank = try_colour(
             &mut self.closer,
+            &mut self.witnesses,
             board,
             &mut self.blank_trial,
             place,
@@ -230,7 +181,8 @@ impl<'p, W: LineSet> Trials<'p, W> {
             return Progress::Same;
         }
         if filled.is_closed() {
-            self.colours.forget();
+            self.witnesses
+                .keep(&self.filled_trial, 0, place, Cell::Filled);
             board.restart_from(&self.filled_trial);
             return Progress::Changed;
         }
@@ -285,7 +237,7 @@ impl<'p, W: LineSet> Trials<'p, W> {
         ensures size { IsBoardOf self.old.closer.puzzle board.new }
         ensures puzzle { self.new.closer.puzzle ≡ self.old.closer.puzzle }
     {
-        self.colours.forget();
+        self.witnesses.forget();
         self.try_until_same(board)
     }
 

@@ -109,7 +109,7 @@ returns-clause-learned g c =
     } in (
       w,
       written-fewer line b.cells new w (λ e. true≢false (sym (same.1 (read ∙ sym e)) ∙ sym c.is_empty.ensures ∙ c.if-is_empty.false)) (line-distinct p n c.requires.puzzle c.requires.n)
-      (line-below p (length b.cells) n c.requires.puzzle c.requires.n c.requires.board.2),
+          (line-below p (length b.cells) n c.requires.puzzle c.requires.n c.requires.board.2),
     )
 
 pub returns-clause-marks : goal.returns-clause-marks

@@ -15,10 +15,10 @@ loop-n-preserved g c =
     let first = c.in-Some.ensures in
     let parallel = subst (λ (p : Nonogram). AreParallel p c.args.start c.args.end) (sym before.puzzle) c.requires.parallel in
     let skipped : AreUnmarkedFrom c.args.start n c.loop-n.self.marks = λ k a b.
-        elim (before_or_from k c.loop-n.from) [
-          | inl sooner ↦ before.unmarked k a sooner
-          | inr later ↦ subst (λ (m : MarkedPuzzle). get_or m.marks k false ≡ false) c.self.view_is (first.3 k later b)
-        ] in
+    elim (before_or_from k c.loop-n.from) [
+      | inl sooner ↦ before.unmarked k a sooner
+      | inr later ↦ subst (λ (m : MarkedPuzzle). get_or m.marks k false ≡ false) c.self.view_is (first.3 k later b)
+    ] in
     let from : c.args.start ≤ n = omega (arith, before.ordered, first.0) in
     let unmarked = c.deduce_line.ensures.unmarked c.args.start c.args.end parallel from first.1 skipped in
     let trail = trailed-trans c.args.board.now c.loop-n.board c.deduce_line.new.board before.trail c.deduce_line.ensures.trail in

@@ -2,7 +2,7 @@ use Rattle.std.proofs.Common.{◌≡◌}
 use Rattle.grid_core.specs.Nonogram.{lines_of}
 use Rattle.solve_core.specs.Trials.{trials}
 use Rattle.solve_core.specs.Boards.{IsBoardOf}
-use Rattle.solve_core.specs.Marks.{IsReady}
+use Rattle.solve_core.specs.TriedPuzzles.{IsReady}
 use Rattle.solve_core.specs.Trails.{unknown_count}
 use Rattle.solve_core.proofs.trials.Trials.try_until_same.Given as goal
 

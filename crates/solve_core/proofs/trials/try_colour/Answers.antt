@@ -1,0 +1,23 @@
+use Rattle.std.proofs.Common.{◌≡◌, List, Some, set, sym, subst}
+use Rattle.grid_core.specs.declared.cells.Cell.{Cell}
+use Rattle.grid_core.specs.Cells.{Extends}
+use Rattle.grid_core.specs.Nonogram.{Nonogram, lines_of}
+use Rattle.solve_core.specs.Closure.{round}
+use Rattle.solve_core.proofs.ClosureLaws.{closure-IsLeastClosed}
+use Rattle.solve_core.proofs.TrialSteps.{settled-extends}
+use Rattle.solve_core.proofs.trials.try_colour.Goals as goal
+
+pub add-requires-clause-closed : goal.add-requires-clause-closed
+add-requires-clause-closed g c =
+    let lines = lines_of c.args.closer.now.puzzle in
+    let given = set c.args.board.now.cells c.args.place c.args.colour in
+    let new = c.assign_copy.new.trial.cells in
+    subst (λ (p : Nonogram). round (lines_of p) new ≡ Some new) (sym c.requires.puzzle) ((closure-IsLeastClosed lines given).closed new (sym c.if-not-assign_copy.ensures.closed))
+
+pub add-requires-clause-extends : goal.add-requires-clause-extends
+add-requires-clause-extends g c =
+    let lines = lines_of c.args.closer.now.puzzle in
+    let old = c.args.board.now.cells in
+    let new = c.assign_copy.new.trial.cells in
+    subst (λ (cells : List Cell). Extends cells new) (sym c.assign_copy.ensures.back)
+    (settled-extends lines old new c.args.place c.args.colour c.requires.unknown (sym c.if-not-assign_copy.ensures.closed))

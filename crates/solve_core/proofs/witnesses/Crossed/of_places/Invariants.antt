@@ -1,0 +1,6 @@
+use Rattle.std.proofs.Common.{ℕ, ◌<◌, get_or}
+use Rattle.solve_core.specs.Witnesses.{IsCrossed}
+use Rattle.solve_core.proofs.witnesses.Crossed.of_places.Given as goal
+
+abbrev pub invariant-loop-i : goal.invariant-loop-i
+invariant-loop-i l = (j : ℕ) → j < l.i → IsCrossed l.lines l.width (get_or l.places j 0)

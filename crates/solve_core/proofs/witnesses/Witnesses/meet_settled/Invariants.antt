@@ -1,0 +1,5 @@
+use Rattle.solve_core.specs.Witnesses.{AddsMet}
+use Rattle.solve_core.proofs.witnesses.Witnesses.meet_settled.Given as goal
+
+abbrev pub invariant-loop-settled : goal.invariant-loop-settled
+invariant-loop-settled g l = AddsMet l.fn.self l.self l.number l.trial.cells

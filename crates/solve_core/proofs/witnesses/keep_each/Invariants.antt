@@ -1,0 +1,10 @@
+use Rattle.std.proofs.Common.{◌≡◌, ℕ, ◌<◌, ◌≤◌}
+use Rattle.solve_core.specs.WitnessedPuzzles.{witness_at}
+use Rattle.solve_core.specs.Witnesses.{IsKept}
+use Rattle.solve_core.proofs.witnesses.keep_each.Given as goal
+
+abbrev pub invariant-loop-i : goal.invariant-loop-i
+invariant-loop-i l = record {
+  done : (j : ℕ) → j < l.i → IsKept l.learned (j ≡ l.holder) (witness_at l.fn.witnesses j) (witness_at l.witnesses j);
+  left : (j : ℕ) → l.i ≤ j → witness_at l.witnesses j ≡ witness_at l.fn.witnesses j;
+}

@@ -1,0 +1,26 @@
+-- Two grids that came from the same one, as one.
+use Rattle.std.specs.Prelude.{◌≡◌, ◌⊎◌, ℕ, ◌<◌, List, [], ◌∷◌}
+use Rattle.grid_core.specs.declared.cells.Cell.{Cell}
+use Rattle.grid_core.specs.declared.cells.Cell.TheVariants.{Unknown, Filled, Blank}
+use Rattle.grid_core.specs.Nonogram.{Nonogram, GridLine, cells_at}
+use Rattle.solve_core.specs.Lines.{line_at, line_count}
+
+-- the cell, or the other one where nothing is known of it
+abbrev pub over : Cell → Cell → Cell
+over Unknown other = other
+over Filled other = Filled
+over Blank other = Blank
+
+-- what a grid knows, and elsewhere what the other one knows
+abbrev pub overlaid : List Cell → List Cell → List Cell
+overlaid [] others = []
+overlaid (cell ∷ cells) [] = cell ∷ cells
+overlaid (cell ∷ cells) (other ∷ others) = over cell other ∷ overlaid cells others
+
+-- two grids have the same cells along a line
+abbrev pub AreAlike : List Cell → List Cell → GridLine → Type 0
+AreAlike grid other line = cells_at Unknown grid line.places ≡ cells_at Unknown other line.places
+
+-- along each line one grid or the other knows no more than the one that both came from
+abbrev pub AreApart : Nonogram → List Cell → List Cell → List Cell → Type 0
+AreApart p from one other = (n : ℕ) → n < line_count p → AreAlike from one (line_at p n) ⊎ AreAlike from other (line_at p n)

@@ -1,0 +1,242 @@
+//! Witnesses: trials of a grid that stayed alive, kept while the grid learns more.
+ghost use Rattle.std.specs.Prelude.{◌≡◌, ◌*◌, ◌<◌, ◌≤◌, ℕ, List, Some, length, slice_index_or, slice_set, true, false, IsTrue, IfOk};
+ghost use Rattle.grid_core.specs.declared.cells.Cell.{Cell as CellValue};
+ghost use Rattle.grid_core.specs.declared.cells.Cell.TheVariants.{Unknown};
+ghost use Rattle.grid_core.specs.Cells.{Extends};
+ghost use Rattle.grid_core.specs.Nonogram.{lines_of};
+ghost use Rattle.solve_core.specs.Boards.{IsBoardOf};
+ghost use Rattle.solve_core.specs.Branches.{cells_before};
+ghost use Rattle.solve_core.specs.Closure.{round, closure};
+ghost use Rattle.solve_core.specs.Trails.{cleared};
+ghost use Rattle.solve_core.specs.WitnessedPuzzles.{witness_at, met_by, open_marks};
+ghost use Rattle.solve_core.specs.Witnesses.{AddsMet, AreWitnesses, IsCrossed, IsKept, ShareNoLine};
+
+use crate::boards::Board;
+use grid_core::{Cell, NoMemory, Puzzle};
+use line_core::LineSet;
+use place_sets::PlaceSet;
+use std::alloc::Global;
+use std::marker::Model;
+
+/// How many witnesses there are for each cell of a puzzle, as long as they aren't too many.
+const WITNESSES_PER_CELL: usize = 4;
+
+/// How many witnesses there are at most.
+const MOST_WITNESSES: usize = 32768;
+
+/// How many rows, or columns, a set tells apart.
+const SIDES: u16 = 64;
+
+/// Rows and columns. Those that are 64 apart are taken as one.
+#[derive(Clone, Copy)]
+pub struct Crossed {
+    rows: u64,
+    columns: u64,
+}
+
+impl Crossed {
+    /// The rows and the columns of some places of a grid.
+    fn of_places(places: &[u16], width: u16) -> Crossed
+        requires { 0 < width }
+        ensures { (j : ℕ) → j < length places.now → IsCrossed result width (slice_index_or places.now j 0) }
+    {
+        let mut lines = Crossed {
+            rows: 0,
+            columns: 0,
+        };
+        for i in 0..places.len() {
+            let place = places[i];
+            lines.rows = lines.rows.marked(place / width % SIDES, true);
+            lines.columns = lines.columns.marked(place % width % SIDES, true);
+        }
+        lines
+    }
+
+    /// Whether they have no row and no column in common with others.
+    fn shares_no_line(&self, other: &Crossed) -> bool
+        ensures { IsTrue result → ShareNoLine self.now other.now }
+    {
+        self.rows.and(other.rows).is_empty() && self.columns.and(other.columns).is_empty()
+    }
+}
+
+/// A trial that stayed alive, by the rows and the columns in which it settled cells. It counts as long as it is alive for the grid.
+#[derive(Clone, Copy)]
+pub struct Witness {
+    lines: Crossed,
+    counts: bool,
+}
+
+impl Witness {
+    /// What stands for no witness: it doesn't count.
+    fn none() -> Witness
+        ensures { result.counts ≡ false }
+    {
+        Witness {
+            lines: Crossed {
+                rows: 0,
+                columns: 0,
+            },
+            counts: false,
+        }
+    }
+
+    /// Lets the witness count on only if it holds what was learned, or shares no row and no column with it.
+    fn keep(&mut self, learned: &Crossed, holds: bool)
+        ensures { IsKept learned.now (holds ≡ true) self.old self.new }
+    {
+        if self.counts && !self.lines.shares_no_line(learned) {
+            self.counts = holds;
+        }
+    }
+}
+
+/// Lets those witnesses count on that share no row and no column with what was learned, and the one of a number, which holds it.
+fn keep_each(witnesses: &mut [Witness], learned: &Crossed, holder: usize)
+    ensures { (i : ℕ) → i < length witnesses.old → IsKept learned.now (i ≡ holder) (witness_at witnesses.old i) (witness_at witnesses.new i) }
+{
+    for i in 0..witnesses.len() {
+        witnesses[i].keep(learned, i == holder);
+    }
+}
+
+/// The witnesses of a grid, and for each cell and each of the two colours the number of one that met it there, in room that is made once.
+/// Witness 0 stands for none.
+#[derive(Drop)]
+pub struct Witnesses<'p> {
+    puzzle: &'p Puzzle,
+    witnesses: Vec<Witness>,
+    fillable: Vec<u16>,
+    blankable: Vec<u16>,
+}
+
+impl<'p> Model for Witnesses<'p> {
+    ghost use Rattle.solve_core.specs.WitnessedPuzzles.{WitnessedPuzzle};
+    ghost use Rattle.solve_core.specs.Witnesses.{AreNumbered};
+
+    ghost Value = { WitnessedPuzzle };
+
+    ghost view = { λ w. record { puzzle = w.puzzle.now; witnesses = w.witnesses.items; fillable = w.fillable.items; blankable = w.blankable.items } };
+
+    ghost invariant = { λ w. AreNumbered (record { puzzle = w.puzzle.now; witnesses = w.witnesses.items; fillable = w.fillable.items; blankable = w.blankable.items }) };
+}
+
+impl<'p> Witnesses<'p> {
+    /// Makes the room, in proportion to the puzzle. There is no witness.
+    pub fn new(alloc: Global, puzzle: &'p Puzzle) -> Result<Witnesses<'p>, NoMemory>
+        ensures { IfOk result (λ made. made.puzzle ≡ puzzle.now) }
+    {
+        let cells = usize::from(puzzle.width()) * usize::from(puzzle.height());
+        let room = (cells * WITNESSES_PER_CELL).min(MOST_WITNESSES);
+        let mut witnesses = Vec::with_capacity(alloc, room)?;
+        witnesses.push_reserved(Witness::none());
+        Ok(Witnesses {
+            puzzle,
+            witnesses,
+            fillable: vec![in alloc; 0; cells]?,
+            blankable: vec![in alloc; 0; cells]?,
+        })
+    }
+
+    /// Drops all witnesses, so that there is none for any grid of the puzzle's size.
+    pub fn forget(&mut self)
+        ensures witnesses { (cells : List CellValue) → length cells ≡ self.old.puzzle.width * self.old.puzzle.height → AreWitnesses self.new cells }
+        ensures puzzle { self.new.puzzle ≡ self.old.puzzle }
+    {
+        if self.witnesses.len() == 1 {
+            return;
+        }
+        self.witnesses.truncate(1);
+        self.fillable.fill(0);
+        self.blankable.fill(0);
+    }
+
+    /// The number of the witness that met a colour at a place, whether or not it counts.
+    fn number_at(&self, place: usize, colour: Cell) -> usize
+        requires { place < self.now.puzzle.width * self.now.puzzle.height }
+        ensures { result ≡ slice_index_or (met_by self.now colour) place 0 }
+    {
+        match colour {
+            Cell::Unknown => 0,
+            Cell::Filled => usize::from(self.fillable[place]),
+            Cell::Blank => usize::from(self.blankable[place]),
+        }
+    }
+
+    /// Whether a witness that counts met a colour at a place.
+    pub fn has_met(&self, place: usize, colour: Cell) -> bool
+        requires { place < self.now.puzzle.width * self.now.puzzle.height }
+        ensures { result ≡ slice_index_or (open_marks self.now colour) place false }
+    {
+        self.witnesses[self.number_at(place, colour)].counts
+    }
+
+    /// Notes that a witness met the colour of its cell at a place, unless another one that counts did.
+    fn meet(&mut self, number: u16, cells: &[Cell], place: usize)
+        requires number { number < length self.old.witnesses }
+        requires cells { length cells.now ≡ self.old.puzzle.width * self.old.puzzle.height }
+        requires place { place < length cells.now }
+        ensures { AddsMet self.old self.new number cells.now }
+    {
+        let colour = cells[place];
+        if self.has_met(place, colour) {
+            return;
+        }
+        match colour {
+            Cell::Unknown => {}
+            Cell::Filled => self.fillable[place] = number,
+            Cell::Blank => self.blankable[place] = number,
+        }
+    }
+
+    /// Notes that a witness met the colours of the cells that it settled.
+    fn meet_settled<W: LineSet>(&mut self, number: u16, trial: &Board<W>)
+        requires number { number < length self.old.witnesses }
+        requires size { IsBoardOf self.old.puzzle trial.now }
+        ensures { AddsMet self.old self.new number trial.now.cells }
+    {
+        let cells = trial.cells();
+        for settled in trial.trail() {
+            self.meet(number, cells, usize::from(*settled));
+        }
+    }
+
+    /// Keeps an alive trial of the grid that its trail leads back to. If there is no room left, all witnesses are dropped.
+    pub fn add<W: LineSet>(&mut self, trial: &Board<W>)
+        requires size { IsBoardOf self.old.puzzle trial.now }
+        requires closed { round (lines_of self.old.puzzle) trial.now.cells ≡ Some trial.now.cells }
+        requires extends { Extends (cleared trial.now.cells trial.now.trail) trial.now.cells }
+        requires witnesses { AreWitnesses self.old (cleared trial.now.cells trial.now.trail) }
+        ensures witnesses { AreWitnesses self.new (cleared trial.now.cells trial.now.trail) }
+        ensures puzzle { self.new.puzzle ≡ self.old.puzzle }
+    {
+        let number = self.witnesses.len();
+        if number == self.witnesses.capacity() || number >= MOST_WITNESSES {
+            self.forget();
+            return;
+        }
+        let lines = Crossed::of_places(trial.trail(), self.puzzle.width());
+        self.witnesses.push_reserved(Witness {
+            lines,
+            counts: true,
+        });
+        self.meet_settled(number as u16, trial);
+    }
+
+    /// Keeps those witnesses that hold for a board after an unknown cell was settled, when its trail had `mark` places, and the board was closed:
+    /// those that share no row and no column with the places that it learned, and the one that met the colour at the cell.
+    pub fn keep<W: LineSet>(&mut self, board: &Board<W>, mark: usize, place: usize, colour: Cell)
+        requires size { IsBoardOf self.old.puzzle board.now }
+        requires place { place < length board.now.cells }
+        requires mark { mark ≤ length board.now.trail }
+        requires unknown { slice_index_or (cells_before board.now.cells board.now.trail mark) place Unknown ≡ Unknown }
+        requires settled { closure (lines_of self.old.puzzle) (slice_set (cells_before board.now.cells board.now.trail mark) place colour) ≡ Some board.now.cells }
+        requires witnesses { AreWitnesses self.old (cells_before board.now.cells board.now.trail mark) }
+        ensures witnesses { AreWitnesses self.new board.now.cells }
+        ensures puzzle { self.new.puzzle ≡ self.old.puzzle }
+    {
+        let learned = Crossed::of_places(&board.trail()[mark..], self.puzzle.width());
+        let holder = self.number_at(place, colour);
+        keep_each(&mut self.witnesses, &learned, holder);
+    }
+}
