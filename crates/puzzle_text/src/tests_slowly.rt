@@ -1,5 +1,5 @@
-//! Each reader's answer is that of its slow reader: on the fronts of five texts, on these with one byte replaced, on a front of one with an end of
-//! another, and on random texts.
+//! Each reader's answer is that of its slow reader: on the fronts of five texts, on these with one byte replaced or put in, on a front of one with
+//! an end of another, and on random texts.
 
 use super::tests_slow::agree;
 use super::tests_slow_mk::slow_mk;
@@ -40,8 +40,13 @@ fn fronts_agree(rt: HostRuntime) {
     }
 }
 
-/// Asserts it of a text with each of its bytes replaced.
-fn assert_with(rt: &impl Abort, alloc: Global, text: &[u8], byte: u8) -> Result<(), AllocError> {
+/// Asserts it of a text with each of its bytes replaced by this one.
+fn assert_replaced(
+    rt: &impl Abort,
+    alloc: Global,
+    text: &[u8],
+    byte: u8,
+) -> Result<(), AllocError> {
     for place in 0..text.len() {
         let mut changed = text.to_vec(alloc)?;
         changed[place] = byte;
@@ -53,8 +58,28 @@ fn assert_with(rt: &impl Abort, alloc: Global, text: &[u8], byte: u8) -> Result<
 #[test]
 fn replaced_bytes_agree(rt: HostRuntime) -> Result<(), Fail> {
     for text in TEXTS {
-        for byte in [b'0', b'x', b'#', b'"', b'\n', b'\r', 255] {
-            assert_with(&rt, rt.alloc(), text, byte)?;
+        for byte in b"0x#\"\n\r\xff" {
+            assert_replaced(&rt, rt.alloc(), text, *byte)?;
+        }
+    }
+    Ok(())
+}
+
+/// Asserts it of a text with this byte put in at each place.
+fn assert_put_in(rt: &impl Abort, alloc: Global, text: &[u8], byte: u8) -> Result<(), AllocError> {
+    for place in 0..=text.len() {
+        let mut changed = text.to_vec(alloc)?;
+        changed.insert(place, byte)?;
+        assert_agree(rt, alloc, &changed);
+    }
+    Ok(())
+}
+
+#[test]
+fn bytes_put_in_agree(rt: HostRuntime) -> Result<(), Fail> {
+    for text in TEXTS {
+        for byte in b"-+0x#\" ,\t\n\r\xff" {
+            assert_put_in(&rt, rt.alloc(), text, *byte)?;
         }
     }
     Ok(())
