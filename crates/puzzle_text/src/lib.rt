@@ -42,6 +42,10 @@ mod tests;
 #[cfg(test)]
 mod tests_hostile;
 #[cfg(test)]
+mod tests_refusals;
+#[cfg(test)]
+mod tests_refused;
+#[cfg(test)]
 mod tests_slow;
 #[cfg(test)]
 mod tests_slow_mk;
