@@ -26,7 +26,7 @@ count() {
 # Sweeps a test.
 sweep_test() {
     local crate=$1 name=$2 least=$3 tests=$top/crates/$1/out/$1_tests said status swept
-    said=$(cd "$room" && LD_PRELOAD=$room/sweep.so timeout 60 "$tests" "$name" 2>&1)
+    said=$(cd "$room" && timeout 60 env LD_PRELOAD="$room/sweep.so" "$tests" "$name" 2>&1)
     status=$?
     swept=$(sed -n 's/^swept \([0-9]*\)$/\1/p' <<<"$said" | tail -n 1)
     echo "$crate $name: ${swept:-0} refused"
@@ -66,7 +66,7 @@ sweep_program() {
     }
     while :; do
         growth=$((growth + 1))
-        SWEEP_GROWTH=$growth LD_PRELOAD=$room/sweep.so timeout 60 "$program" "$@" \
+        timeout 60 env SWEEP_GROWTH=$growth LD_PRELOAD="$room/sweep.so" "$program" "$@" \
             <"$input" >"$room/printed" 2>"$room/said" 9>"$room/told"
         status=$?
         wrong=$(wrong_with $status)
