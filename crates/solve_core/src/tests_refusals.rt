@@ -52,15 +52,16 @@ pub fn assert_swept<T: Drop, C: Fn() -> T, J: Fn(T) -> Told>(
     requires judge { J.IsAlwaysCallable judge }
 {
     for growths in 0..MOST_GROWTHS {
-        refuse(alloc, growths + 1);
+        let growth = growths + 1;
+        refuse(alloc, growth);
         let answer = call();
         let refused = was_refused(alloc);
         let told = judge(answer);
         assert!(rt;
             told == Told::Wanted || refused && told == Told::NoMemory,
-            "{told:?} at growth {growths}"
+            "{told:?} with growth {growth} refused"
         );
-        assert!(rt; judge(call()) == Told::Wanted, "after growth {growths}");
+        assert!(rt; judge(call()) == Told::Wanted, "after growth {growth}");
         if !refused {
             return growths;
         }
