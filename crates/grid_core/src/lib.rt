@@ -24,3 +24,7 @@ pub use runs::has_runs;
 
 #[cfg(test)]
 mod tests;
+#[cfg(test)]
+mod tests_refusals;
+#[cfg(test)]
+mod tests_refused;

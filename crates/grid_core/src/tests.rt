@@ -11,7 +11,7 @@ const WIDTH: u16 = 5;
 
 const HEIGHT: u16 = 10;
 
-static ROWS: [&[u16]; 10] = [
+pub(crate) static ROWS: [&[u16]; 10] = [
     &[2],
     &[2, 1],
     &[1, 1],
@@ -24,11 +24,11 @@ static ROWS: [&[u16]; 10] = [
     &[2],
 ];
 
-static COLUMNS: [&[u16]; 5] = [&[2, 1], &[2, 1, 3], &[7], &[1, 3], &[2, 1]];
+pub(crate) static COLUMNS: [&[u16]; 5] = [&[2, 1], &[2, 1, 3], &[7], &[1, 3], &[2, 1]];
 
-static GOAL: &str = "01100011010010101110101001010000110010100101111000";
+pub(crate) static GOAL: &str = "01100011010010101110101001010000110010100101111000";
 
-fn clues_of(alloc: Global, lists: &[&[u16]]) -> Option<Vec<Clue>> {
+pub(crate) fn clues_of(alloc: Global, lists: &[&[u16]]) -> Option<Vec<Clue>> {
     let mut clues = Vec::new(alloc);
     for numbers in lists {
         clues.push(Clue::from_numbers(alloc, numbers).ok()?).ok()?;
@@ -36,7 +36,7 @@ fn clues_of(alloc: Global, lists: &[&[u16]]) -> Option<Vec<Clue>> {
     Some(clues)
 }
 
-fn goal_of(alloc: Global, digits: &str) -> Option<Vec<bool>> {
+pub(crate) fn goal_of(alloc: Global, digits: &str) -> Option<Vec<bool>> {
     let mut goal = Vec::new(alloc);
     for digit in digits.as_bytes() {
         goal.push(*digit == b'1').ok()?;
@@ -45,7 +45,7 @@ fn goal_of(alloc: Global, digits: &str) -> Option<Vec<bool>> {
 }
 
 // The demonstration puzzle, with a title and this goal.
-fn demonstration(alloc: Global, goal: Option<Vec<bool>>) -> Option<Puzzle>
+pub(crate) fn demonstration(alloc: Global, goal: Option<Vec<bool>>) -> Option<Puzzle>
     ensures { IfSome result (λ p. (p.width ≡ WIDTH) × (p.height ≡ HEIGHT)) }
 {
     let rows = clues_of(alloc, &ROWS)?;
@@ -78,7 +78,7 @@ fn are_same_texts(some: &Texts, others: &Texts) -> bool {
     true
 }
 
-fn are_same(some: &Puzzle, others: &Puzzle) -> bool {
+pub(crate) fn are_same(some: &Puzzle, others: &Puzzle) -> bool {
     are_same_clues(some.rows(), others.rows())
         && are_same_clues(some.columns(), others.columns())
         && some.goal() == others.goal()
@@ -121,7 +121,7 @@ fn copies_equal_their_sources(rt: HostRuntime) -> Result<(), Fail> {
 }
 
 // The grid of these digits, set cell by cell; before each cell is set it is the first unknown one.
-fn drawn(alloc: Global, digits: &[u8]) -> Result<Option<Grid>, NoMemory>
+pub(crate) fn drawn(alloc: Global, digits: &[u8]) -> Result<Option<Grid>, NoMemory>
     ensures { IfOk result (λ drawn. IfSome drawn (λ grid. (grid.width ≡ WIDTH) × (grid.height ≡ HEIGHT))) }
 {
     let mut grid = Grid::unknown(alloc, WIDTH, HEIGHT)?;

@@ -18,6 +18,10 @@ mod tests;
 #[cfg(test)]
 mod tests_overlaps;
 #[cfg(test)]
+mod tests_refusals;
+#[cfg(test)]
+mod tests_refused;
+#[cfg(test)]
 mod tests_starts;
 mod widths;
 

@@ -26,6 +26,10 @@ fn main(rt: HostRuntime) -> ExitCode {
 #[cfg(test)]
 mod tests_files;
 #[cfg(test)]
+mod tests_refusals;
+#[cfg(test)]
+mod tests_refused;
+#[cfg(test)]
 mod tests_reports;
 #[cfg(test)]
 mod tests_samples;

@@ -41,3 +41,17 @@ pub use writing::{write_mk, write_nin, write_non};
 mod tests;
 #[cfg(test)]
 mod tests_hostile;
+#[cfg(test)]
+mod tests_refusals;
+#[cfg(test)]
+mod tests_refused;
+#[cfg(test)]
+mod tests_slow;
+#[cfg(test)]
+mod tests_slow_mk;
+#[cfg(test)]
+mod tests_slow_nin;
+#[cfg(test)]
+mod tests_slow_non;
+#[cfg(test)]
+mod tests_slowly;

@@ -26,7 +26,12 @@ fn all_said(alloc: Global, rows: &[(&[u8], &[u8], &[u8])]) -> bool {
 }
 
 /// A text, and so many times another one.
-fn repeated(alloc: Global, front: &[u8], piece: &[u8], count: usize) -> Result<Vec<u8>, Fail> {
+pub(crate) fn repeated(
+    alloc: Global,
+    front: &[u8],
+    piece: &[u8],
+    count: usize,
+) -> Result<Vec<u8>, Fail> {
     let mut text = Vec::from_slice(alloc, front).ok().ok_or("memory")?;
     for _ in 0..count {
         text.extend_from_slice(piece).ok().ok_or("memory")?;

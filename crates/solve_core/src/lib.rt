@@ -23,6 +23,10 @@ mod tests;
 #[cfg(test)]
 mod tests_deductions;
 #[cfg(test)]
+mod tests_refusals;
+#[cfg(test)]
+mod tests_refused;
+#[cfg(test)]
 mod tests_search;
 mod trials;
 mod widths;

@@ -47,6 +47,10 @@ mod tests_collect;
 #[cfg(test)]
 mod tests_counted;
 #[cfg(test)]
+mod tests_refusals;
+#[cfg(test)]
+mod tests_refused;
+#[cfg(test)]
 mod tests_samples;
 #[cfg(test)]
 mod tests_sleep;

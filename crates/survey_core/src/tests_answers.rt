@@ -12,7 +12,7 @@ use std::process::Abort;
 use std::test::Fail;
 
 /// Of each puzzle among the ten entries: its number, its verdict, its grade, the guesses spent, and what is said of its goal.
-const EIGHT: [(u32, &str, Grade, u32, GoalWord); 8] = [
+pub(crate) const EIGHT: [(u32, &str, Grade, u32, GoalWord); 8] = [
     (1, "one", Grade::Lines, 0, GoalWord::Absent),
     (2, "none", Grade::Lines, 0, GoalWord::Absent),
     (4, "one", Grade::Trials, 0, GoalWord::Absent),
@@ -24,7 +24,7 @@ const EIGHT: [(u32, &str, Grade, u32, GoalWord); 8] = [
 ];
 
 /// The jobs of the puzzles among the ten entries, with their numbers and 1,000 guesses.
-fn eight_jobs(alloc: Global) -> Result<Vec<Job>, Fail> {
+pub(crate) fn eight_jobs(alloc: Global) -> Result<Vec<Job>, Fail> {
     let mut jobs = Vec::new(alloc);
     for (entry, number) in entries(alloc, TEN.as_bytes())?.iter().zip(1u32..) {
         if let Ok(puzzle) = read_entry(alloc, entry) {

@@ -1,0 +1,154 @@
+//! Calls whose growths of memory are refused, each in turn, and texts that are too long with every growth refused.
+
+use crate::converting::{ConvertFault, convert};
+use crate::reports::{lines_report, solve_report};
+use crate::stop::{Stop, stop_text};
+use crate::tests_refusals::{Told, assert_heeded, assert_swept, refuse, told_if, was_refused};
+use crate::tests_samples::{DEMO, DEMO_GRID, DEMO_NIN, MEETS, PAIR, TWO, joined, repeated};
+use grid_core::NoMemory;
+use puzzle_text::{EntryFault, Format, LONGEST_PUZZLE, TextFault};
+use std::test::Fail;
+use survey_core::RunFault;
+
+/// What a report told, whose text is to be this one.
+fn told_of_text(answer: Result<Vec<u8>, EntryFault>, wanted: &[u8]) -> Told {
+    match answer {
+        Ok(text) => told_if(text.as_slice() == wanted),
+        Err(EntryFault::Text(TextFault::NoMemory)) => Told::NoMemory,
+        Err(_) => Told::Other,
+    }
+}
+
+#[test]
+fn lines_are_reported_or_refused(rt: HostRuntime) -> Result<(), Fail> {
+    let alloc = rt.alloc();
+    let demo = joined(alloc, &[DEMO, MEETS])?;
+    let wanted = joined(alloc, &[b"one 50\n", DEMO_GRID])?;
+    assert_swept(
+        &rt,
+        alloc,
+        || lines_report(alloc, b"demo.non", &demo),
+        |answer| told_of_text(answer, &wanted),
+    );
+    Ok(())
+}
+
+#[test]
+fn puzzles_are_solved_or_refused(rt: HostRuntime) -> Result<(), Fail> {
+    let alloc = rt.alloc();
+    let demo = joined(alloc, &[DEMO, MEETS])?;
+    let line = b"1 5x10 one line 50 50 0 meets demo.non\n";
+    let wanted = joined(alloc, &[line, DEMO_GRID, b"\n"])?;
+    assert_swept(
+        &rt,
+        alloc,
+        || solve_report(alloc, b"demo.non", &demo, 1000),
+        |answer| told_of_text(answer, &wanted),
+    );
+    assert_swept(
+        &rt,
+        alloc,
+        || solve_report(alloc, b"two.mk", TWO, 2),
+        |answer| {
+            told_of_text(
+                answer,
+                b"1 2x2 several search 0 0 2 absent two.mk\n#.\n.#\n\n.#\n#.\n\n",
+            )
+        },
+    );
+    Ok(())
+}
+
+/// What a conversion told, whose text is to be this one, or which is to be ambiguous.
+fn told_of_converted(answer: Result<Vec<u8>, ConvertFault>, wanted: Option<&[u8]>) -> Told {
+    match answer {
+        Ok(text) => told_if(wanted == Some(text.as_slice())),
+        Err(ConvertFault::NoMemory) => Told::NoMemory,
+        Err(ConvertFault::Entry(EntryFault::Text(TextFault::NoMemory))) => Told::NoMemory,
+        Err(ConvertFault::Ambiguous) => told_if(wanted.is_none()),
+        Err(_) => Told::Other,
+    }
+}
+
+#[test]
+fn texts_are_converted_or_refused(rt: HostRuntime) -> Result<(), Fail> {
+    let alloc = rt.alloc();
+    let demo = joined(alloc, &[DEMO, MEETS])?;
+    assert_swept(
+        &rt,
+        alloc,
+        || convert(alloc, b"demo.non", &demo, Format::Non),
+        |answer| told_of_converted(answer, Some(&demo)),
+    );
+    assert_swept(
+        &rt,
+        alloc,
+        || convert(alloc, b"demo.non", &demo, Format::Nin),
+        |answer| told_of_converted(answer, Some(DEMO_NIN)),
+    );
+    assert_swept(
+        &rt,
+        alloc,
+        || convert(alloc, b"pair.mk", PAIR, Format::Mk),
+        |answer| told_of_converted(answer, Some(PAIR)),
+    );
+    assert_swept(
+        &rt,
+        alloc,
+        || convert(alloc, b"flat.mk", b"1 2\n1\n#\n1\n2\n", Format::Nin),
+        |answer| told_of_converted(answer, None),
+    );
+    Ok(())
+}
+
+fn told_of_stop(answer: Result<Vec<u8>, NoMemory>, wanted: &[u8]) -> Told {
+    match answer {
+        Ok(text) => told_if(text.as_slice() == wanted),
+        Err(NoMemory) => Told::NoMemory,
+    }
+}
+
+#[test]
+fn stops_are_told_or_refused(rt: HostRuntime) {
+    let alloc = rt.alloc();
+    let stops = [
+        (
+            Stop::Entry(EntryFault::Text(TextFault::BadNumber(1234567))),
+            b"nonograde: BadNumber:1234567\n".as_slice(),
+        ),
+        (
+            Stop::Run(RunFault::Thread),
+            b"nonograde: Thread\n".as_slice(),
+        ),
+        (Stop::NoMemory, b"nonograde: NoMemory\n".as_slice()),
+    ];
+    for (stop, wanted) in &stops {
+        assert_swept(
+            &rt,
+            alloc,
+            || stop_text(alloc, stop),
+            |answer| told_of_stop(answer, wanted),
+        );
+    }
+}
+
+/// What is said of a text that is too long.
+const TOO_LONG: EntryFault = EntryFault::Text(TextFault::TooLong);
+
+#[test]
+fn long_texts_are_too_long(rt: HostRuntime) -> Result<(), Fail> {
+    let alloc = rt.alloc();
+    let text = repeated(alloc, b"\n", LONGEST_PUZZLE + 1)?;
+    refuse(alloc, 0);
+    let lines = lines_report(alloc, b"a.non", &text);
+    let solved = solve_report(alloc, b"a.mk", &text, 1000);
+    let converted = convert(alloc, b"a.nin", &text, Format::Non);
+    let unknown = lines_report(alloc, b"a", &text);
+    assert!(rt; !was_refused(alloc), "no growth");
+    assert!(rt; lines.err() == Some(TOO_LONG));
+    assert!(rt; solved.err() == Some(TOO_LONG));
+    assert!(rt; converted.err() == Some(ConvertFault::Entry(TOO_LONG)));
+    assert!(rt; unknown.err() == Some(EntryFault::UnknownFormat));
+    assert_heeded(&rt, alloc);
+    Ok(())
+}

@@ -1,0 +1,58 @@
+#!/usr/bin/env bash
+# Passes all tests: `rt ci` (every proof from nothing, the must-fail edits, the tests and the stored run), and then the scripts over what that
+# leaves. It installs what it needs and doesn't find, and stops at the first step that fails. Its last line is `N passed, M failed` over all steps.
+set -u
+cd "$(dirname "$0")/.."
+log=$(mktemp)
+trap 'rm -f "$log"' EXIT
+passed=0 failed=0
+
+# Prints the counts of all steps so far, and ends.
+finish() {
+    echo "$passed passed, $failed failed"
+    exit "$1"
+}
+
+# Installs packages, unless a test shows that what they have is there.
+need() {
+    local test=$1
+    shift
+    $test 2>"$log" && return
+    echo "gate: installing $*"
+    export DEBIAN_FRONTEND=noninteractive
+    if ! { apt-get -q update && apt-get -q install -y --no-install-recommends "$@" && $test; } >"$log" 2>&1; then
+        tail -n 5 "$log"
+        echo "gate: $* can't be installed"
+        failed=1
+        finish 1
+    fi
+}
+
+# Whether there is a C compiler with the headers of the C library.
+compiles() {
+    echo '#include <stdio.h>' | cc -x c -c -o /dev/null -
+}
+
+# Runs a step, and adds what its last line counts. A step that fails ends the gate.
+step() {
+    local status counts
+    "$@" 2>&1 | tee "$log"
+    status=${PIPESTATUS[0]}
+    counts=$(tail -n 1 "$log" | grep -xE '[0-9]+ passed, [0-9]+ failed')
+    if [[ $counts =~ ^([0-9]+)\ passed,\ ([0-9]+)\ failed$ ]]; then
+        passed=$((passed + BASH_REMATCH[1]))
+        failed=$((failed + BASH_REMATCH[2]))
+    elif [ "$status" = 0 ]; then
+        echo "gate: $* ended without its counts"
+        status=1
+    fi
+    [ "$status" = 0 ] && return
+    [ $failed -gt 0 ] || failed=1
+    echo "gate: $* failed"
+    finish 1
+}
+
+need compiles gcc libc6-dev
+step rt ci
+step tools/sweep.sh
+finish 0

@@ -1,0 +1,91 @@
+/* Refuses growths of memory to a program that is run under it, as tools/sweep.sh does. A start of a thread counts as a growth.
+ *
+ * Tests ask for it by signs (src/tests_refusals.rt of the crates). A request of SIGN + n bytes, which no machine grants, has the n-th growth
+ * from there refused, or with n = 0 each of them; a request of QUESTION bytes ends that, and is refused if there was a refusal. At each
+ * question the number of refusals since the program began goes to standard error, as `swept N`.
+ *
+ * Another program has the growth refused whose number is in SWEEP_GROWTH, from 1, and the refusal is told on file descriptor 9.
+ *
+ * cc -O2 -shared -fPIC sweep.c -o sweep.so -ldl;  LD_PRELOAD=./sweep.so TESTS NAME;  SWEEP_GROWTH=3 LD_PRELOAD=./sweep.so PROGRAM 9>told */
+#define _GNU_SOURCE
+#include <dlfcn.h>
+#include <errno.h>
+#include <pthread.h>
+#include <stdatomic.h>
+#include <stdio.h>
+#include <stdlib.h>
+#include <string.h>
+#include <unistd.h>
+
+#define SIGN ((size_t)1 << 61)
+#define MOST 100000
+#define QUESTION 1060921
+#define EACH -1
+
+/* The number of the growth to refuse, counted from the next one: 0 none, EACH each of them. */
+static atomic_long wanted;
+static atomic_long swept;
+static atomic_int was_refused;
+static int tells;
+
+static void tell(int to, const char *text) { (void)!write(to, text, strlen(text)); }
+
+static int note_refusal(void) {
+    atomic_fetch_add(&swept, 1);
+    atomic_store(&was_refused, 1);
+    if (tells) tell(9, "refused\n");
+    return 1;
+}
+
+/* Counts a growth. Whether it is to be refused. */
+static int refused(void) {
+    long number = atomic_load(&wanted);
+    if (number == EACH) return note_refusal();
+    while (number > 0)
+        if (atomic_compare_exchange_weak(&wanted, &number, number - 1)) return number == 1 ? note_refusal() : 0;
+    return 0;
+}
+
+static void begin(long number) {
+    atomic_store(&was_refused, 0);
+    atomic_store(&wanted, number ? number : EACH);
+}
+
+/* Ends the refusals. Whether there was one. */
+static int end(void) {
+    char line[64];
+    atomic_store(&wanted, 0);
+    snprintf(line, sizeof line, "swept %ld\n", atomic_load(&swept));
+    tell(2, line);
+    return atomic_load(&was_refused);
+}
+
+__attribute__((constructor)) static void begin_by_number(void) {
+    const char *number = getenv("SWEEP_GROWTH");
+    if (!number) return;
+    tells = 1;
+    begin(atol(number));
+}
+
+void *malloc(size_t size) {
+    static void *(*real)(size_t);
+    if (!real) real = (void *(*)(size_t))dlsym(RTLD_NEXT, "malloc");
+    if (!tells && size >= SIGN && size - SIGN < MOST) {
+        begin((long)(size - SIGN));
+        return NULL;
+    }
+    if (!tells && size == QUESTION) return end() ? NULL : real(size);
+    return refused() ? NULL : real(size);
+}
+
+void *realloc(void *old, size_t size) {
+    static void *(*real)(void *, size_t);
+    if (!real) real = (void *(*)(void *, size_t))dlsym(RTLD_NEXT, "realloc");
+    return refused() ? NULL : real(old, size);
+}
+
+int pthread_create(pthread_t *thread, const pthread_attr_t *how, void *(*start)(void *), void *given) {
+    static int (*real)(pthread_t *, const pthread_attr_t *, void *(*)(void *), void *);
+    if (!real) real = (int (*)(pthread_t *, const pthread_attr_t *, void *(*)(void *), void *))dlsym(RTLD_NEXT, "pthread_create");
+    return refused() ? EAGAIN : real(thread, how, start, given);
+}
