@@ -116,7 +116,7 @@ fn is_line(line: &Line, text: &str) -> bool {
 }
 
 /// Whether two lines have the same cells.
-fn is_same_line(some: &Line, other: &Line) -> bool {
+pub(crate) fn is_same_line(some: &Line, other: &Line) -> bool {
     if some.len() != other.len() {
         return false;
     }

@@ -1,6 +1,6 @@
 //! Calls whose growths of memory are refused, each in turn, and calls that take no memory with every growth refused.
 
-use super::tests::line_of;
+use super::tests::{is_same_line, line_of};
 use super::tests_refusals::{Told, assert_heeded, assert_swept, refuse, told_if, was_refused};
 use super::*;
 use grid_core::{Cell, Clue, NoMemory};
@@ -15,7 +15,7 @@ fn deduced(alloc: Global, clue: &Clue) -> Result<Option<Line>, NoMemory> {
 
 fn is_shown(line: &Line, text: &str) -> bool {
     match line_of(text) {
-        Some(shown) => line.is_same(&shown),
+        Some(shown) => is_same_line(line, &shown),
         None => false,
     }
 }
@@ -32,12 +32,7 @@ fn told_of_deduced(answer: Result<Option<Line>, NoMemory>) -> Told {
 fn tables_are_made_or_refused(rt: HostRuntime) -> Result<(), Fail> {
     let alloc = rt.alloc();
     let clue = Clue::from_numbers(alloc, &[8])?;
-    assert_swept(
-        &rt,
-        alloc,
-        || deduced(alloc, &clue),
-        |answer| told_of_deduced(answer),
-    );
+    assert_swept(&rt, alloc, || told_of_deduced(deduced(alloc, &clue)));
     Ok(())
 }
 
@@ -56,24 +51,19 @@ fn told_of_starts(answer: Result<Starts, NoMemory>, clue: &Clue) -> Told {
 fn starts_are_made_or_refused(rt: HostRuntime) -> Result<(), Fail> {
     let alloc = rt.alloc();
     let clue = Clue::from_numbers(alloc, &[8])?;
-    assert_swept(
-        &rt,
-        alloc,
-        || Starts::new(alloc),
-        |answer| told_of_starts(answer, &clue),
-    );
+    assert_swept(&rt, alloc, || told_of_starts(Starts::new(alloc), &clue));
     Ok(())
 }
 
 /// Whether lines are set, copied and compared as they should be.
 fn are_lines_well() -> bool {
-    let mut line = Line::unknown(10);
+    let mut line = LineOf::<u64>::unknown(10);
     line.set(3, Cell::Filled);
     let mut copy = line.copy();
     copy.set(9, Cell::Blank);
-    let change = line.next_change(&copy, 0);
+    let changed = line.changes(&copy) == 1 << 9;
     line.copy_from(&copy);
-    change == Some(9) && line.is_same(&copy) && line.hash() == copy.hash()
+    changed && line.is_same(&copy) && line.hash() == copy.hash()
 }
 
 #[test]
