@@ -64,13 +64,20 @@ fn after_trials(alloc: Global, puzzle: &Puzzle, solver: &mut Solver) -> Option<P
 }
 
 /// What one solver makes of unknown grids: by lines, by trials, and again by lines and by trials.
+fn pictures_by(alloc: Global, puzzle: &Puzzle, solver: &mut Solver) -> Option<[Picture; 4]>
+    requires { solver.old ≡ puzzle.now }
+{
+    let lines = after_lines(alloc, puzzle, solver)?;
+    let trials = after_trials(alloc, puzzle, solver)?;
+    let lines_again = after_lines(alloc, puzzle, solver)?;
+    let trials_again = after_trials(alloc, puzzle, solver)?;
+    Some([lines, trials, lines_again, trials_again])
+}
+
+/// The same of a new solver.
 fn solver_pictures(alloc: Global, puzzle: &Puzzle) -> Option<[Picture; 4]> {
     let mut solver = Solver::new(alloc, puzzle).ok()?;
-    let lines = after_lines(alloc, puzzle, &mut solver)?;
-    let trials = after_trials(alloc, puzzle, &mut solver)?;
-    let lines_again = after_lines(alloc, puzzle, &mut solver)?;
-    let trials_again = after_trials(alloc, puzzle, &mut solver)?;
-    Some([lines, trials, lines_again, trials_again])
+    pictures_by(alloc, puzzle, &mut solver)
 }
 
 fn plain_lines(alloc: Global, puzzle: &Puzzle) -> Option<Picture> {
