@@ -32,14 +32,12 @@ fn clues_are_made_or_refused(rt: HostRuntime) {
     assert_swept(
         &rt,
         alloc,
-        || Clue::from_numbers(alloc, &TWELVE),
-        |answer| told_of_made(answer),
+        || told_of_made(Clue::from_numbers(alloc, &TWELVE)),
     );
     assert_swept(
         &rt,
         alloc,
-        || Clue::from_numbers(alloc, &[0; 12]),
-        |answer| told_of_bad(answer),
+        || told_of_bad(Clue::from_numbers(alloc, &[0; 12])),
     );
 }
 
@@ -54,12 +52,7 @@ fn told_of_clue(answer: Result<Clue, NoMemory>) -> Told {
 fn clues_are_copied_or_refused(rt: HostRuntime) -> Result<(), Fail> {
     let alloc = rt.alloc();
     let clue = Clue::from_numbers(alloc, &TWELVE)?;
-    assert_swept(
-        &rt,
-        alloc,
-        || clue.copy(alloc),
-        |answer| told_of_clue(answer),
-    );
+    assert_swept(&rt, alloc, || told_of_clue(clue.copy(alloc)));
     assert!(rt; clue.numbers() == TWELVE.as_slice());
     Ok(())
 }
@@ -116,12 +109,7 @@ fn told_of_puzzle(puzzle: &Puzzle, answer: Result<Puzzle, NoMemory>) -> Told {
 fn puzzles_are_copied_or_refused(rt: HostRuntime) -> Result<(), Fail> {
     let alloc = rt.alloc();
     let puzzle = demonstration(alloc, goal_of(alloc, GOAL)).ok_or("puzzle")?;
-    assert_swept(
-        &rt,
-        alloc,
-        || puzzle.copy(alloc),
-        |answer| told_of_puzzle(&puzzle, answer),
-    );
+    assert_swept(&rt, alloc, || told_of_puzzle(&puzzle, puzzle.copy(alloc)));
     Ok(())
 }
 
@@ -136,12 +124,7 @@ fn long_clues(alloc: Global) -> Option<Puzzle> {
 fn long_clues_are_copied_or_refused(rt: HostRuntime) -> Result<(), Fail> {
     let alloc = rt.alloc();
     let puzzle = long_clues(alloc).ok_or("puzzle")?;
-    assert_swept(
-        &rt,
-        alloc,
-        || puzzle.copy(alloc),
-        |answer| told_of_puzzle(&puzzle, answer),
-    );
+    assert_swept(&rt, alloc, || told_of_puzzle(&puzzle, puzzle.copy(alloc)));
     Ok(())
 }
 
@@ -166,17 +149,11 @@ fn grids_are_made_or_refused(rt: HostRuntime) -> Result<(), Fail> {
     assert_swept(
         &rt,
         alloc,
-        || Grid::unknown(alloc, 256, 255),
-        |answer| told_of_unknown(answer),
+        || told_of_unknown(Grid::unknown(alloc, 256, 255)),
     );
     let puzzle = demonstration(alloc, None).ok_or("puzzle")?;
     let grid = drawn(alloc, GOAL.as_bytes())?.ok_or("grid")?;
-    assert_swept(
-        &rt,
-        alloc,
-        || grid.copy(alloc),
-        |answer| told_of_grid(&puzzle, answer),
-    );
+    assert_swept(&rt, alloc, || told_of_grid(&puzzle, grid.copy(alloc)));
     Ok(())
 }
 

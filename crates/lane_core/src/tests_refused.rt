@@ -26,18 +26,8 @@ fn told_of_ends(answer: Result<(LaneFront, LaneBack), NoMemory>) -> Told {
 #[test]
 fn lanes_are_opened_or_refused(rt: HostRuntime) {
     let alloc = rt.alloc();
-    assert_swept(
-        &rt,
-        alloc,
-        || BatchLane::new(alloc, 3),
-        |answer| told_of_lane(answer),
-    );
-    assert_swept(
-        &rt,
-        alloc,
-        || open_lane(alloc, 3),
-        |answer| told_of_ends(answer),
-    );
+    assert_swept(&rt, alloc, || told_of_lane(BatchLane::new(alloc, 3)));
+    assert_swept(&rt, alloc, || told_of_ends(open_lane(alloc, 3)));
 }
 
 /// Asserts that a job is graded, or that the growth of this number was refused and its answer says so. Whether it was refused.

@@ -40,28 +40,21 @@ pub fn was_refused(alloc: Global) -> bool {
     Vec::<u8>::with_capacity(alloc, QUESTION).is_err()
 }
 
-/// Refuses each growth of a call in turn, and asserts that the call answers what is wanted, or `NoMemory` and a growth was refused, and that the
-/// next call answers what is wanted. Gives how many growths were refused.
-pub fn assert_swept<T: Drop, C: Fn() -> T, J: Fn(T) -> Told>(
-    rt: &impl Abort,
-    alloc: Global,
-    call: C,
-    judge: J,
-) -> usize
-    requires call { C.IsAlwaysCallable call }
-    requires judge { J.IsAlwaysCallable judge }
+/// Refuses each growth of a call in turn, and asserts that it tells what is wanted, or `NoMemory` and a growth was refused, and that the next call
+/// tells what is wanted. Gives how many growths were refused.
+pub fn assert_swept<C: Fn() -> Told>(rt: &impl Abort, alloc: Global, call: C) -> usize
+    requires { C.IsAlwaysCallable call }
 {
     for growths in 0..MOST_GROWTHS {
         let growth = growths + 1;
         refuse(alloc, growth);
-        let answer = call();
+        let told = call();
         let refused = was_refused(alloc);
-        let told = judge(answer);
         assert!(rt;
             told == Told::Wanted || refused && told == Told::NoMemory,
             "{told:?} with growth {growth} refused"
         );
-        assert!(rt; judge(call()) == Told::Wanted, "after growth {growth}");
+        assert!(rt; call() == Told::Wanted, "after growth {growth}");
         if !refused {
             return growths;
         }

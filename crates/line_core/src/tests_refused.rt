@@ -32,12 +32,7 @@ fn told_of_deduced(answer: Result<Option<Line>, NoMemory>) -> Told {
 fn tables_are_made_or_refused(rt: HostRuntime) -> Result<(), Fail> {
     let alloc = rt.alloc();
     let clue = Clue::from_numbers(alloc, &[8])?;
-    assert_swept(
-        &rt,
-        alloc,
-        || deduced(alloc, &clue),
-        |answer| told_of_deduced(answer),
-    );
+    assert_swept(&rt, alloc, || told_of_deduced(deduced(alloc, &clue)));
     Ok(())
 }
 
@@ -56,12 +51,7 @@ fn told_of_starts(answer: Result<Starts, NoMemory>, clue: &Clue) -> Told {
 fn starts_are_made_or_refused(rt: HostRuntime) -> Result<(), Fail> {
     let alloc = rt.alloc();
     let clue = Clue::from_numbers(alloc, &[8])?;
-    assert_swept(
-        &rt,
-        alloc,
-        || Starts::new(alloc),
-        |answer| told_of_starts(answer, &clue),
-    );
+    assert_swept(&rt, alloc, || told_of_starts(Starts::new(alloc), &clue));
     Ok(())
 }
 

@@ -27,8 +27,7 @@ fn lines_are_reported_or_refused(rt: HostRuntime) -> Result<(), Fail> {
     assert_swept(
         &rt,
         alloc,
-        || lines_report(alloc, b"demo.non", &demo),
-        |answer| told_of_text(answer, &wanted),
+        || told_of_text(lines_report(alloc, b"demo.non", &demo), &wanted),
     );
     Ok(())
 }
@@ -42,19 +41,15 @@ fn puzzles_are_solved_or_refused(rt: HostRuntime) -> Result<(), Fail> {
     assert_swept(
         &rt,
         alloc,
-        || solve_report(alloc, b"demo.non", &demo, 1000),
-        |answer| told_of_text(answer, &wanted),
+        || told_of_text(solve_report(alloc, b"demo.non", &demo, 1000), &wanted),
     );
     assert_swept(
         &rt,
         alloc,
-        || solve_report(alloc, b"two.mk", TWO, 2),
-        |answer| {
-            told_of_text(
-                answer,
-                b"1 2x2 several search 0 0 2 absent two.mk\n#.\n.#\n\n.#\n#.\n\n",
-            )
-        },
+        || told_of_text(
+            solve_report(alloc, b"two.mk", TWO, 2),
+            b"1 2x2 several search 0 0 2 absent two.mk\n#.\n.#\n\n.#\n#.\n\n",
+        ),
     );
     Ok(())
 }
@@ -77,26 +72,28 @@ fn texts_are_converted_or_refused(rt: HostRuntime) -> Result<(), Fail> {
     assert_swept(
         &rt,
         alloc,
-        || convert(alloc, b"demo.non", &demo, Format::Non),
-        |answer| told_of_converted(answer, Some(&demo)),
+        || told_of_converted(convert(alloc, b"demo.non", &demo, Format::Non), Some(&demo)),
     );
     assert_swept(
         &rt,
         alloc,
-        || convert(alloc, b"demo.non", &demo, Format::Nin),
-        |answer| told_of_converted(answer, Some(DEMO_NIN)),
+        || told_of_converted(
+            convert(alloc, b"demo.non", &demo, Format::Nin),
+            Some(DEMO_NIN),
+        ),
     );
     assert_swept(
         &rt,
         alloc,
-        || convert(alloc, b"pair.mk", PAIR, Format::Mk),
-        |answer| told_of_converted(answer, Some(PAIR)),
+        || told_of_converted(convert(alloc, b"pair.mk", PAIR, Format::Mk), Some(PAIR)),
     );
     assert_swept(
         &rt,
         alloc,
-        || convert(alloc, b"flat.mk", b"1 2\n1\n#\n1\n2\n", Format::Nin),
-        |answer| told_of_converted(answer, None),
+        || told_of_converted(
+            convert(alloc, b"flat.mk", b"1 2\n1\n#\n1\n2\n", Format::Nin),
+            None,
+        ),
     );
     Ok(())
 }
@@ -123,12 +120,7 @@ fn stops_are_told_or_refused(rt: HostRuntime) {
         (Stop::NoMemory, b"nonograde: NoMemory\n".as_slice()),
     ];
     for (stop, wanted) in &stops {
-        assert_swept(
-            &rt,
-            alloc,
-            || stop_text(alloc, stop),
-            |answer| told_of_stop(answer, wanted),
-        );
+        assert_swept(&rt, alloc, || told_of_stop(stop_text(alloc, stop), wanted));
     }
 }
 

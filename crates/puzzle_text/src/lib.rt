@@ -40,8 +40,6 @@ pub use writing::{write_mk, write_nin, write_non};
 #[cfg(test)]
 mod tests;
 #[cfg(test)]
-mod tests_hostile;
-#[cfg(test)]
 mod tests_refusals;
 #[cfg(test)]
 mod tests_refused;

@@ -49,38 +49,26 @@ const FAULTY_NIN: [&[u8]; 4] = [
 ];
 
 /// What a reader told, beside what the slow reader says.
-fn told_of_read(answer: Result<Puzzle, TextFault>, slow: Result<Said<'_>, TextFault>) -> Told {
-    match answer {
+fn told_of_read(answer: Result<Puzzle, TextFault>, slow: &Result<Said<'_>, TextFault>) -> Told {
+    match &answer {
         Err(TextFault::NoMemory) => Told::NoMemory,
-        other => told_if(agree(other, slow)),
+        _ => told_if(agree(&answer, slow)),
     }
 }
 
 fn assert_non(rt: &impl Abort, alloc: Global, text: &[u8]) {
-    assert_swept(
-        rt,
-        alloc,
-        || read_non(alloc, text),
-        |answer| told_of_read(answer, slow_non(alloc, text)),
-    );
+    let slow = slow_non(alloc, text);
+    assert_swept(rt, alloc, || told_of_read(read_non(alloc, text), &slow));
 }
 
 fn assert_mk(rt: &impl Abort, alloc: Global, text: &[u8]) {
-    assert_swept(
-        rt,
-        alloc,
-        || read_mk(alloc, text),
-        |answer| told_of_read(answer, slow_mk(alloc, text)),
-    );
+    let slow = slow_mk(alloc, text);
+    assert_swept(rt, alloc, || told_of_read(read_mk(alloc, text), &slow));
 }
 
 fn assert_nin(rt: &impl Abort, alloc: Global, text: &[u8]) {
-    assert_swept(
-        rt,
-        alloc,
-        || read_nin(alloc, text),
-        |answer| told_of_read(answer, slow_nin(alloc, text)),
-    );
+    let slow = slow_nin(alloc, text);
+    assert_swept(rt, alloc, || told_of_read(read_nin(alloc, text), &slow));
 }
 
 #[test]
@@ -108,7 +96,7 @@ fn nin_is_read_or_refused(rt: HostRuntime) {
 }
 
 /// What `read_entry` told, of an entry in .mk.
-fn told_of_entry(answer: Result<Puzzle, EntryFault>, slow: Result<Said<'_>, TextFault>) -> Told {
+fn told_of_entry(answer: Result<Puzzle, EntryFault>, slow: &Result<Said<'_>, TextFault>) -> Told {
     match answer {
         Ok(puzzle) => told_of_read(Ok(puzzle), slow),
         Err(EntryFault::Text(fault)) => told_of_read(Err(fault), slow),
@@ -123,11 +111,11 @@ fn entries_are_read_or_refused(rt: HostRuntime) {
         name: b"a.mk",
         body: MK,
     };
+    let slow = slow_mk(alloc, MK);
     assert_swept(
         &rt,
         alloc,
-        || read_entry(alloc, &entry),
-        |answer| told_of_entry(answer, slow_mk(alloc, MK)),
+        || told_of_entry(read_entry(alloc, &entry), &slow),
     );
 }
 
@@ -160,20 +148,17 @@ fn puzzles_are_written_or_refused(rt: HostRuntime) -> Result<(), Fail> {
     assert_swept(
         &rt,
         alloc,
-        || write_non(alloc, &puzzle),
-        |answer| told_of_text(answer, WRITTEN_NON),
+        || told_of_text(write_non(alloc, &puzzle), WRITTEN_NON),
     );
     assert_swept(
         &rt,
         alloc,
-        || write_mk(alloc, &puzzle),
-        |answer| told_of_text(answer, WRITTEN_MK),
+        || told_of_text(write_mk(alloc, &puzzle), WRITTEN_MK),
     );
     assert_swept(
         &rt,
         alloc,
-        || write_nin(alloc, &puzzle),
-        |answer| told_of_written(answer, Some(WRITTEN_NIN)),
+        || told_of_written(write_nin(alloc, &puzzle), Some(WRITTEN_NIN)),
     );
     Ok(())
 }
@@ -185,14 +170,12 @@ fn ambiguous_puzzles_are_ambiguous_or_refused(rt: HostRuntime) -> Result<(), Fai
     assert_swept(
         &rt,
         alloc,
-        || Format::Nin.write(alloc, &flat),
-        |answer| told_of_written(answer, None),
+        || told_of_written(Format::Nin.write(alloc, &flat), None),
     );
     assert_swept(
         &rt,
         alloc,
-        || Format::Mk.write(alloc, &flat),
-        |answer| told_of_written(answer, Some(b"1 2\n1\n#\n1\n2\n")),
+        || told_of_written(Format::Mk.write(alloc, &flat), Some(b"1 2\n1\n#\n1\n2\n")),
     );
     Ok(())
 }
@@ -221,7 +204,6 @@ fn collections_are_cut_or_refused(rt: HostRuntime) {
         &rt,
         alloc,
         || told_of_entries(entries(alloc, b"\n@ a\n1\n@ b\n")),
-        |told| told,
     );
 }
 
@@ -232,8 +214,7 @@ fn words_are_told_or_refused(rt: HostRuntime) {
     assert_swept(
         &rt,
         alloc,
-        || fault_text(alloc, &fault),
-        |answer| told_of_text(answer, b"BadNumber:1234"),
+        || told_of_text(fault_text(alloc, &fault), b"BadNumber:1234"),
     );
 }
 
@@ -277,25 +258,24 @@ fn are_well() -> bool {
 }
 
 #[test]
-fn collections_with_a_fault_take_no_memory(rt: HostRuntime) -> Result<(), Fail> {
+fn words_take_no_memory(rt: HostRuntime) {
+    refuse(rt.alloc(), 0);
+    let well = are_well();
+    assert!(rt; !was_refused(rt.alloc()), "no growth");
+    assert!(rt; well);
+    assert_heeded(&rt, rt.alloc());
+}
+
+#[test]
+fn refused_collections_take_no_memory(rt: HostRuntime) -> Result<(), Fail> {
     let alloc = rt.alloc();
     let more = repeated(alloc, b"", b"@ a.mk\n", MOST_ENTRIES + 1)?;
     refuse(alloc, 0);
-    let stray = entries(alloc, b"@ a\n1\n@\n");
-    let many = entries(alloc, &more);
-    let unknown = read_entry(
-        alloc,
-        &Entry {
-            name: b"a",
-            body: b"",
-        },
-    );
-    let well = are_well();
+    let stray = entries(alloc, b"@ a\n1\n@\n").err();
+    let many = entries(alloc, &more).err();
     assert!(rt; !was_refused(alloc), "no growth");
-    assert!(rt; matches!(stray, Err(CollectionFault::Stray(3))));
-    assert!(rt; matches!(many, Err(CollectionFault::TooMany)));
-    assert!(rt; matches!(unknown, Err(EntryFault::UnknownFormat)));
-    assert!(rt; well);
+    assert_eq!(rt; stray, Some(CollectionFault::Stray(3)));
+    assert_eq!(rt; many, Some(CollectionFault::TooMany));
     assert_heeded(&rt, alloc);
     Ok(())
 }

@@ -6,46 +6,42 @@ use grid_core::{Clue, Field, NoMemory, Puzzle};
 use std::alloc::Global;
 
 /// A line: its number, from 1, and its bytes without spaces and tabs at both ends.
-#[derive(Clone, Copy, Debug)]
+#[derive(Clone, Copy)]
 pub(crate) struct SlowLine<'a> {
     pub number: u32,
     pub text: &'a [u8],
 }
 
 /// What a text says.
-#[derive(Debug, Drop)]
+#[derive(Drop)]
 pub(crate) struct Said<'a> {
     pub width: u16,
     pub height: u16,
     /// The numbers of each clue: those of the rows, and then those of the columns.
     pub clues: Vec<Vec<u16>>,
-    /// The texts, in the order of `FIELDS`.
-    pub texts: [Option<&'a [u8]>; 5],
+    /// The texts that are there.
+    pub texts: Vec<(Field, &'a [u8])>,
     /// The characters of the goal.
     pub goal: Option<&'a [u8]>,
 }
 
 impl<'a> Said<'a> {
     /// What a text says in a format that has no place for texts and a goal.
-    pub(crate) fn plainly(width: u16, height: u16, clues: Vec<Vec<u16>>) -> Said<'a> {
+    pub(crate) fn plainly(
+        alloc: Global,
+        width: u16,
+        height: u16,
+        clues: Vec<Vec<u16>>,
+    ) -> Said<'a> {
         Said {
             width,
             height,
             clues,
-            texts: [None; 5],
+            texts: Vec::new(alloc),
             goal: None,
         }
     }
 }
-
-/// The texts that a puzzle may have.
-pub(crate) const FIELDS: [Field; 5] = [
-    Field::Catalogue,
-    Field::Title,
-    Field::By,
-    Field::Copyright,
-    Field::License,
-];
 
 fn without_return(text: &[u8]) -> &[u8] {
     match text {
@@ -216,11 +212,29 @@ fn have_clues(puzzle: &Puzzle, lists: &[Vec<u16>]) -> bool {
     }
 }
 
-fn has_texts(puzzle: &Puzzle, texts: &[Option<&[u8]>]) -> bool {
-    FIELDS
-        .iter()
-        .zip(texts)
-        .all(|(field, text)| puzzle.texts().get(*field) == *text)
+/// The text of a field, if it is there.
+fn text_in<'a>(texts: &[(Field, &'a [u8])], field: Field) -> Option<&'a [u8]> {
+    for (other, text) in texts {
+        if *other == field {
+            return Some(*text);
+        }
+    }
+    None
+}
+
+fn has_texts(puzzle: &Puzzle, texts: &[(Field, &[u8])]) -> bool {
+    for field in [
+        Field::Catalogue,
+        Field::Title,
+        Field::By,
+        Field::Copyright,
+        Field::License,
+    ] {
+        if puzzle.texts().get(field) != text_in(texts, field) {
+            return false;
+        }
+    }
+    true
 }
 
 fn are_cells(cells: &[bool], characters: &[u8]) -> bool {
@@ -237,26 +251,22 @@ fn has_goal(puzzle: &Puzzle, goal: Option<&[u8]>) -> bool {
     }
 }
 
-fn is_said(puzzle: &Puzzle, said: Said<'_>) -> bool {
-    let Said {
-        width,
-        height,
-        clues,
-        texts,
-        goal,
-    } = said;
-    puzzle.width() == width
-        && puzzle.height() == height
-        && have_clues(puzzle, &clues)
-        && has_texts(puzzle, &texts)
-        && has_goal(puzzle, goal)
+fn is_said(puzzle: &Puzzle, said: &Said<'_>) -> bool {
+    puzzle.width() == said.width
+        && puzzle.height() == said.height
+        && have_clues(puzzle, &said.clues)
+        && has_texts(puzzle, &said.texts)
+        && has_goal(puzzle, said.goal)
 }
 
 /// Whether a reader's answer is what the slow reader answers, which is never want of memory.
-pub(crate) fn agree(answer: Result<Puzzle, TextFault>, slow: Result<Said<'_>, TextFault>) -> bool {
+pub(crate) fn agree(
+    answer: &Result<Puzzle, TextFault>,
+    slow: &Result<Said<'_>, TextFault>,
+) -> bool {
     match (answer, slow) {
-        (Ok(puzzle), Ok(said)) => is_said(&puzzle, said),
-        (Err(fault), Err(slow_fault)) => fault == slow_fault && fault != TextFault::NoMemory,
+        (Ok(puzzle), Ok(said)) => is_said(puzzle, said),
+        (Err(fault), Err(slow_fault)) => fault == slow_fault && *fault != TextFault::NoMemory,
         _ => false,
     }
 }

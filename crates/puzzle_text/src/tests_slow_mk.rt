@@ -42,10 +42,10 @@ pub(crate) fn slow_mk(alloc: Global, text: &[u8]) -> Result<Said<'_>, TextFault>
         None => after,
     };
     if let Some(lines) = both(alloc, (first, second), rows, columns)? {
-        return Ok(Said::plainly(second, first, slow_clues(alloc, &lines)?));
+        return Ok(Said::plainly(alloc, second, first, slow_clues(alloc, &lines)?));
     }
     if let Some(lines) = both(alloc, (second, first), rows, columns)? {
-        return Ok(Said::plainly(first, second, slow_clues(alloc, &lines)?));
+        return Ok(Said::plainly(alloc, first, second, slow_clues(alloc, &lines)?));
     }
     Err(TextFault::BadCount)
 }

@@ -45,8 +45,8 @@ pub(crate) fn slow_nin(alloc: Global, text: &[u8]) -> Result<Said<'_>, TextFault
     };
     let clues = slow_clues(alloc, &lines)?;
     if is_admissible(first, second, &clues) || !is_admissible(second, first, &clues) {
-        Ok(Said::plainly(first, second, clues))
+        Ok(Said::plainly(alloc, first, second, clues))
     } else {
-        Ok(Said::plainly(second, first, clues))
+        Ok(Said::plainly(alloc, second, first, clues))
     }
 }

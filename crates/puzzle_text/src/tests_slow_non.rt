@@ -5,11 +5,17 @@ use super::TextFault;
 use super::tests_slow::{
     Said, SlowLine, clue_lines, slow_clues, slow_lines, slow_size, without_blanks,
 };
-use grid_core::NoMemory;
+use grid_core::{Field, NoMemory};
 use std::alloc::Global;
 
-/// The keywords of the texts, in the order in which the fields are listed.
-const TEXTS: [&[u8]; 5] = [b"catalogue", b"title", b"by", b"copyright", b"license"];
+/// The texts, each with its keyword.
+const TEXTS: [(Field, &[u8]); 5] = [
+    (Field::Catalogue, b"catalogue"),
+    (Field::Title, b"title"),
+    (Field::By, b"by"),
+    (Field::Copyright, b"copyright"),
+    (Field::License, b"license"),
+];
 
 /// The keywords that must be there just once.
 const ONCE: [&[u8]; 4] = [b"width", b"height", b"rows", b"columns"];
@@ -111,7 +117,7 @@ fn is_out_of_place(lines: &[SlowLine<'_>], place: usize, line: &SlowLine<'_>) ->
 /// Whether a line is the first of a text keyword, and its text is too long.
 fn is_too_long(lines: &[SlowLine<'_>], line: &SlowLine<'_>) -> bool {
     text_of(line).len() > 65_536
-        && TEXTS.iter().any(|word| match first_with(lines, word) {
+        && TEXTS.iter().any(|(_, word)| match first_with(lines, word) {
             Some(first) => first.number == line.number,
             None => false,
         })
@@ -161,6 +167,17 @@ fn is_goal(width: u16, height: u16, text: &[u8]) -> bool {
         && text.iter().all(|byte| *byte == b'0' || *byte == b'1')
 }
 
+/// The texts that are there, each of its first line.
+fn texts_of<'a>(alloc: Global, lines: &[SlowLine<'a>]) -> Result<Vec<(Field, &'a [u8])>, NoMemory> {
+    let mut texts = Vec::new(alloc);
+    for (field, word) in TEXTS {
+        if let Some(line) = first_with(lines, word) {
+            texts.push((field, text_of(&line)))?;
+        }
+    }
+    Ok(texts)
+}
+
 /// What a text in .non says.
 pub(crate) fn slow_non(alloc: Global, text: &[u8]) -> Result<Said<'_>, TextFault> {
     let lines = slow_lines(alloc, text)?;
@@ -194,7 +211,7 @@ pub(crate) fn slow_non(alloc: Global, text: &[u8]) -> Result<Said<'_>, TextFault
         width,
         height,
         clues,
-        texts: TEXTS.map(|word| first_with(&lines, word).map(|line| text_of(&line))),
+        texts: texts_of(alloc, &lines)?,
         goal: goal.map(|line| text_of(&line)),
     })
 }

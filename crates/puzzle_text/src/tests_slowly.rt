@@ -21,9 +21,9 @@ const TEXTS: [&[u8]; 5] = [
 
 /// Whether the three readers answer what the slow ones answer.
 fn all_agree(alloc: Global, text: &[u8]) -> bool {
-    agree(read_non(alloc, text), slow_non(alloc, text))
-        && agree(read_mk(alloc, text), slow_mk(alloc, text))
-        && agree(read_nin(alloc, text), slow_nin(alloc, text))
+    agree(&read_non(alloc, text), &slow_non(alloc, text))
+        && agree(&read_mk(alloc, text), &slow_mk(alloc, text))
+        && agree(&read_nin(alloc, text), &slow_nin(alloc, text))
 }
 
 /// Asserts that they do.

@@ -42,8 +42,7 @@ fn solvers_are_made_or_refused(rt: HostRuntime) -> Result<(), Fail> {
     assert_swept(
         &rt,
         alloc,
-        || settled_by_lines(alloc, &puzzle),
-        |answer| told_of_count(answer, 2),
+        || told_of_count(settled_by_lines(alloc, &puzzle), 2),
     );
     Ok(())
 }
@@ -131,8 +130,7 @@ fn growths_with(rt: &impl Abort, alloc: Global, puzzle: &Puzzle, guesses: u32) -
     assert_swept(
         rt,
         alloc,
-        || report(alloc, puzzle, guesses),
-        |answer| told_of_report(answer, puzzle, guesses),
+        || told_of_report(report(alloc, puzzle, guesses), puzzle, guesses),
     )
 }
 
