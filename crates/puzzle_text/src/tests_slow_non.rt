@@ -178,40 +178,66 @@ fn texts_of<'a>(alloc: Global, lines: &[SlowLine<'a>]) -> Result<Vec<(Field, &'a
     Ok(texts)
 }
 
+/// The width and the height.
+fn sizes_of(lines: &[SlowLine<'_>]) -> Result<(u16, u16), TextFault> {
+    match (first_with(lines, b"width"), first_with(lines, b"height")) {
+        (Some(width), Some(height)) => Ok((slow_size(rest(&width))?, slow_size(rest(&height))?)),
+        _ => Err(TextFault::NoSize),
+    }
+}
+
+/// Checks that both sections are there, that no line is out of place or too long, and that no keyword is repeated that must be there just once.
+fn check_lines(lines: &[SlowLine<'_>]) -> Result<(), TextFault> {
+    if first_with(lines, b"rows").is_none() || first_with(lines, b"columns").is_none() {
+        return Err(TextFault::NoSection);
+    }
+    if let Some(number) = bad_line(lines) {
+        return Err(TextFault::BadLine(number));
+    }
+    match lines.iter().find(|line| is_repeated(lines, line)) {
+        Some(line) => Err(TextFault::Twice(line.number)),
+        None => Ok(()),
+    }
+}
+
+/// The clues of both sections.
+fn clues_of(
+    alloc: Global,
+    lines: &[SlowLine<'_>],
+    width: u16,
+    height: u16,
+) -> Result<Vec<Vec<u16>>, TextFault> {
+    let rows = clue_lines(alloc, height, &section(alloc, lines, b"rows")?)?;
+    let columns = clue_lines(alloc, width, &section(alloc, lines, b"columns")?)?;
+    match (rows, columns) {
+        (Some(rows), Some(columns)) => both_clues(alloc, &rows, &columns),
+        _ => Err(TextFault::BadCount),
+    }
+}
+
+/// The characters of the goal, if there is one.
+fn goal_of<'a>(
+    lines: &[SlowLine<'a>],
+    width: u16,
+    height: u16,
+) -> Result<Option<&'a [u8]>, TextFault> {
+    match first_with(lines, b"goal") {
+        Some(line) if is_goal(width, height, text_of(&line)) => Ok(Some(text_of(&line))),
+        Some(line) => Err(TextFault::BadGoal(line.number)),
+        None => Ok(None),
+    }
+}
+
 /// What a text in .non says.
 pub(crate) fn slow_non(alloc: Global, text: &[u8]) -> Result<Said<'_>, TextFault> {
     let lines = slow_lines(alloc, text)?;
-    let (Some(width), Some(height)) = (first_with(&lines, b"width"), first_with(&lines, b"height"))
-    else {
-        return Err(TextFault::NoSize);
-    };
-    let (width, height) = (slow_size(rest(&width))?, slow_size(rest(&height))?);
-    if first_with(&lines, b"rows").is_none() || first_with(&lines, b"columns").is_none() {
-        return Err(TextFault::NoSection);
-    }
-    if let Some(number) = bad_line(&lines) {
-        return Err(TextFault::BadLine(number));
-    }
-    if let Some(line) = lines.iter().find(|line| is_repeated(&lines, line)) {
-        return Err(TextFault::Twice(line.number));
-    }
-    let rows = clue_lines(alloc, height, &section(alloc, &lines, b"rows")?)?;
-    let columns = clue_lines(alloc, width, &section(alloc, &lines, b"columns")?)?;
-    let (Some(rows), Some(columns)) = (rows, columns) else {
-        return Err(TextFault::BadCount);
-    };
-    let clues = both_clues(alloc, &rows, &columns)?;
-    let goal = first_with(&lines, b"goal");
-    if let Some(line) = goal
-        && !is_goal(width, height, text_of(&line))
-    {
-        return Err(TextFault::BadGoal(line.number));
-    }
+    let (width, height) = sizes_of(&lines)?;
+    check_lines(&lines)?;
     Ok(Said {
         width,
         height,
-        clues,
+        clues: clues_of(alloc, &lines, width, height)?,
+        goal: goal_of(&lines, width, height)?,
         texts: texts_of(alloc, &lines)?,
-        goal: goal.map(|line| text_of(&line)),
     })
 }
