@@ -154,7 +154,7 @@ fn lines_settle_two_puzzles(rt: HostRuntime) -> Result<(), Fail> {
     Ok(())
 }
 
-// A report whose growths are counted: `tools/count_growths.sh` runs each of the three tests alone.
+// A report on permutations with a limit on guesses is made with ample memory.
 fn assert_permutations(rt: &(impl Abort + AllocGlobal), guesses: u32) {
     match permutations(rt.alloc()) {
         Some(puzzle) => assert!(rt; report(rt.alloc(), &puzzle, guesses).is_ok()),
