@@ -174,3 +174,23 @@ pub none_at : {A : Type 0} (number : A → ℕ) (none : A) → number none ≡ 0
 none_at number none e zero k = refl
 none_at number none e (suc count) zero = e
 none_at number none e (suc count) (suc k) = none_at number none e count k
+
+-- ---- one mask spread alone
+
+pub spread_one : (a : ℕ) → IsMaskOf (SomeFrom (Has a) 1) a
+spread_one a = record {
+  to = λ i h. let e : i + 0 ≡ i = omega arith in (0, omega arith, subst (Has a) (sym e) h);
+  from = λ i h. let below : h.0 < 1 = h.1 in let e : i + h.0 ≡ i = omega arith in subst (Has a) e h.2;
+}
+
+pub spread_more : (P : ℕ → Type 0) (w m s next : ℕ) → s ≤ m → IsMaskOf (SomeFrom P m) w → IsMaskOf (λ i. Has w i ⊎ Has w (i + s)) next → IsMaskOf (SomeFrom P (m + s)) next
+spread_more P w m s next few p q = record {
+  to = λ i h. elim (q.to i h) [
+    | inl x ↦ (let y = p.to i x in let below : y.0 < m = y.1 in (y.0, omega arith, y.2))
+    | inr x ↦ (let y = p.to (i + s) x in let below : y.0 < m = y.1 in let e : i + s + y.0 ≡ i + (s + y.0) = omega arith in (s + y.0, omega arith, subst P e y.2))
+  ];
+  from = λ i h. let below : h.0 < m + s = h.1 in q.from i (elim (cases_lt h.0 m) [
+    | inl low ↦ inl (p.from i (h.0, low, h.2))
+    | inr high ↦ (let e : i + h.0 ≡ i + s + (h.0 - s) = omega arith in inr (p.from (i + s) (h.0 - s, omega arith, subst P e h.2)))
+  ]);
+}

@@ -40,3 +40,17 @@ pub fn spread_levels<W: PlaceSet>(levels: &mut [W; LEVELS]) -> W
     }
     levels[0]
 }
+
+/// The places that have one in the mask among so many from there on.
+pub fn spread<W: PlaceSet>(mask: W, length: u16) -> W
+    requires { (0 < length) × (length ≤ W.WIDTH) }
+    ensures { IsMaskOf (SomeFrom (Has (W.number mask)) length) (W.number result) }
+{
+    let mut spread = mask;
+    let mut have = 1;
+    while 2 * have <= length {
+        spread = either(spread, have);
+        have *= 2;
+    }
+    either(spread, length - have)
+}

@@ -9,9 +9,9 @@ mod sets;
 mod wide;
 mod windows;
 
-pub use levels::{add_ends, spread_levels};
+pub use levels::{add_ends, spread, spread_levels};
 pub use prefixes::{lacking, places, turn_line};
 pub use searching::first_from;
 pub use sets::PlaceSet;
 pub use wide::Wide;
-pub use windows::{LEVELS, window_starts, windows_within};
+pub use windows::{LEVELS, starts_within, window_starts, windows_within};

@@ -23,8 +23,9 @@ pub fn level_of(length: u16) -> (usize, u16)
     ensures length { 2 ^ result.0 + result.1 ≡ length }
     ensures rest { result.1 < 2 ^ result.0 }
 {
-    let level = u32::from(length).ilog2();
-    (level as usize, length - (1 << level))
+    // The lowest bit leaves the level as it is, and shows the compiler that there is one.
+    let level = u32::from(length | 1).ilog2();
+    (level as usize, length ^ (1 << level))
 }
 
 /// The starts of windows within a mask, for 1, 2, 4 and so on up to all places.
@@ -45,4 +46,18 @@ pub fn window_starts<W: PlaceSet>(windows: &[W; LEVELS], length: u16) -> W
 {
     let (level, rest) = level_of(length);
     both(windows[level], rest)
+}
+
+/// The starts of windows of so many places within a mask.
+pub fn starts_within<W: PlaceSet>(mask: W, length: u16) -> W
+    requires { (0 < length) × (length ≤ W.WIDTH) }
+    ensures { IsMaskOf (AllFrom (Has (W.number mask)) length) (W.number result) }
+{
+    let mut starts = mask;
+    let mut have = 1;
+    while 2 * have <= length {
+        starts = both(starts, have);
+        have *= 2;
+    }
+    both(starts, length - have)
 }

@@ -1,0 +1,13 @@
+use Rattle.std.proofs.Common.{◌-◌, ◌≤◌}
+use Rattle.place_sets.specs.Masks.{Has, IsMaskOf, SomeFrom}
+use Rattle.place_sets.proofs.levels.spread.Given as goal
+
+abbrev pub invariant-loop-have : goal.invariant-loop-have
+invariant-loop-have g l = record {
+  some : 1 ≤ l.have;
+  most : l.have ≤ l.length;
+  spread : IsMaskOf (SomeFrom (Has (g.W.PlaceSet.number l.fn.mask)) l.have) (g.W.PlaceSet.number l.spread);
+}
+
+abbrev pub decreases-loop-have : goal.decreases-loop-have
+decreases-loop-have g l = l.length - l.have
