@@ -79,7 +79,7 @@ unknown_kept n m blocks is count = subst (AreBlocks n) (sym is) (record {
 
 -- ---- one cell changed
 
-same_or_other : (i p : ℕ) → (i ≡ p) ⊎ (i ≢ p)
+pub same_or_other : (i p : ℕ) → (i ≡ p) ⊎ (i ≢ p)
 same_or_other i p =
     elim (cases_lt i p) [
       | inl low ↦ inr (λ e. absurd (omega arith))

@@ -106,7 +106,7 @@ cells-range d cells first (suc n) h =
     rw (whole, ← add-one first) (ap (λ xs. get_or cells first d ∷ xs) rest)
 
 -- a row ends within the grid
-row-within : (w h y : ℕ) → y < h → y * w + w ≤ w * h
+pub row-within : (w h y : ℕ) → y < h → y * w + w ≤ w * h
 row-within w h y l =
     let more = mul-le-mul_right w l in
     omega (arith, more)

@@ -1,5 +1,5 @@
 -- Blocks of 64 cells, two bits a cell.
-use Rattle.std.specs.Prelude.{◌≡◌, ℕ, ◌+◌, ◌/◌, ◌%◌, ◌≤◌, Bool, true, false, List, length, map, slice_index_or}
+use Rattle.std.specs.Prelude.{◌≡◌, ℕ, ◌+◌, ◌/◌, ◌%◌, ◌<◌, ◌≤◌, ◌⊎◌, Bool, true, false, List, length, map, slice_index_or}
 use Rattle.std.specs.List.{range_with_len}
 use Rattle.place_sets.specs.Masks.{has}
 use Rattle.grid_core.specs.declared.blocks.Block.{Block}
@@ -41,3 +41,10 @@ pub record AreBlocks (count : ℕ) (blocks : List Block) : Type 0 where
   pub count_of : length blocks ≡ (count + 63) / 64
   pub each : (k : ℕ) → IsBlock (slice_index_or blocks k empty)
   pub behind : (place : ℕ) → count ≤ place → cell_of_blocks blocks place ≡ Unknown
+
+-- of the new blocks so many cells from the first place on are those that are told, and the others those of the old ones
+pub record AreWritten (old new : List Block) (first count : ℕ) (told : ℕ → Cell) : Type 0 where
+  pub size : length new ≡ length old
+  pub here : (i : ℕ) → i < count → cell_of_blocks new (first + i) ≡ told i
+  pub others : (k : ℕ) → (k < first) ⊎ (first + count ≤ k) → cell_of_blocks new k ≡ cell_of_blocks old k
+  pub each : ((k : ℕ) → IsBlock (slice_index_or old k empty)) → (k : ℕ) → IsBlock (slice_index_or new k empty)

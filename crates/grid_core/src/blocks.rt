@@ -1,14 +1,15 @@
 //! Blocks of 64 cells, two bits a cell.
 
-ghost use Rattle.std.specs.Prelude.{◌≡◌, ◌≢◌, ℕ, ◌<◌, ◌≤◌, true, false, IfNone, IfSome, count_by};
+ghost use Rattle.std.specs.Prelude.{◌≡◌, ◌≢◌, ℕ, ◌+◌, ◌-◌, ◌*◌, ◌<◌, ◌≤◌, true, false, if◌then◌else◌, IfNone, IfSome, count_by, length};
 ghost use Rattle.std.specs.List.{range_with_len};
-ghost use Rattle.place_sets.specs.Masks.{has};
-ghost use Rattle.grid_core.specs.Blocks.{IsBlock, cell_in, cells_in, empty};
+ghost use Rattle.place_sets.specs.Masks.{Has, has, joined};
+ghost use Rattle.grid_core.specs.Blocks.{AreWritten, IsBlock, cell_in, cells_in, empty};
 ghost use Rattle.grid_core.specs.Cells.{is_known};
+ghost use Rattle.grid_core.specs.Rows.{cell_told};
 ghost use Rattle.grid_core.specs.declared.cells.Cell.TheVariants.{Unknown};
 
 use crate::Cell;
-use place_sets::PlaceSet;
+use place_sets::{PlaceSet, Wide, places};
 
 /// How many cells a block has.
 pub(crate) const BLOCK: usize = 64;
@@ -60,6 +61,53 @@ impl Block {
         }
     }
 
+    /// The first 64 of the cells that two sets of places tell. No place is in both.
+    fn first_of(filled: u128, blank: u128) -> Block
+        requires { (i : ℕ) → Has filled i → Has blank i → ⊥ }
+        ensures cells { (i : ℕ) → i < 64 → cell_in result i ≡ cell_told filled blank i }
+        ensures block { IsBlock result }
+    {
+        Block {
+            filled: u64::narrowed(filled.widened()),
+            blank: u64::narrowed(blank.widened()),
+        }
+    }
+
+    /// The cells that are moved up.
+    fn up(self, by: u16) -> Block
+        requires { by < 64 }
+        ensures cells { (i : ℕ) → by ≤ i → i < 64 → cell_in result i ≡ cell_in self (i - by) }
+        ensures block { IsBlock self → IsBlock result }
+    {
+        Block {
+            filled: self.filled.up(by),
+            blank: self.blank.up(by),
+        }
+    }
+
+    /// The cells that are moved down.
+    fn down(self, by: u16) -> Block
+        requires { by < 64 }
+        ensures cells { (i : ℕ) → cell_in result i ≡ cell_in self (i + by) }
+        ensures block { IsBlock self → IsBlock result }
+    {
+        Block {
+            filled: self.filled.down(by),
+            blank: self.blank.down(by),
+        }
+    }
+
+    /// The same block but for the cells at some places, which are those of another one.
+    fn with_part(self, places: u64, other: Block) -> Block
+        ensures cells { (i : ℕ) → cell_in result i ≡ (if has places i then cell_in other i else cell_in self i) }
+        ensures block { IsBlock self → IsBlock other → IsBlock result }
+    {
+        Block {
+            filled: self.filled.without(places).or(other.filled.and(places)),
+            blank: self.blank.without(places).or(other.blank.and(places)),
+        }
+    }
+
     /// The places of the known cells.
     fn known_places(self) -> u64
         ensures { (i : ℕ) → has result i ≡ is_known (cell_in self i) }
@@ -104,5 +152,53 @@ fn first_lacking(places: u64) -> Option<u16>
         None
     } else {
         Some(lacking.first_place())
+    }
+}
+
+/// Writes the first cells of a word, as many as are wanted, from a place on into blocks that follow one another.
+fn write_word(blocks: &mut [Block], place: usize, count: u16, word: Block)
+    requires count { (0 < count) × (count ≤ 64) }
+    requires room { place + count ≤ 64 * length blocks.old }
+    requires word { IsBlock word }
+    ensures { AreWritten blocks.old blocks.new place count (cell_in word) }
+{
+    let row = places::<u64>(count);
+    let index = place / BLOCK;
+    let by = (place % BLOCK) as u16;
+    let block = blocks[index];
+    blocks[index] = block.with_part(row.up(by), word.up(by));
+    if by + count > 64 {
+        let over = 64 - by;
+        let next = blocks[index + 1];
+        blocks[index + 1] = next.with_part(row.down(over), word.down(over));
+    }
+}
+
+/// Writes the first cells that two sets of places tell, 128 at most, from a place on into blocks that follow one another.
+fn write_half(blocks: &mut [Block], place: usize, count: u16, filled: u128, blank: u128)
+    requires count { (0 < count) × (count ≤ 128) }
+    requires few { length blocks.old ≤ 1024 }
+    requires room { place + count ≤ 64 * length blocks.old }
+    requires apart { (i : ℕ) → Has filled i → Has blank i → ⊥ }
+    ensures { AreWritten blocks.old blocks.new place count (cell_told filled blank) }
+{
+    write_word(blocks, place, count.min(64), Block::first_of(filled, blank));
+    if count > 64 {
+        let rest = Block::first_of(filled.down(64), blank.down(64));
+        write_word(blocks, place + 64, count - 64, rest);
+    }
+}
+
+/// Writes the first cells that two sets of places tell, as many as are wanted, from a place on into blocks that follow one another.
+pub(crate) fn write_cells(blocks: &mut [Block], place: usize, count: u16, filled: Wide, blank: Wide)
+    requires count { (0 < count) × (count ≤ 256) }
+    requires few { length blocks.old ≤ 1024 }
+    requires room { place + count ≤ 64 * length blocks.old }
+    requires apart { (i : ℕ) → Has (joined filled.low filled.high) i → Has (joined blank.low blank.high) i → ⊥ }
+    ensures { AreWritten blocks.old blocks.new place count (cell_told (joined filled.low filled.high) (joined blank.low blank.high)) }
+{
+    write_half(blocks, place, count.min(128), filled.low, blank.low);
+    if count > 128 {
+        write_half(blocks, place + 128, count - 128, filled.high, blank.high);
     }
 }

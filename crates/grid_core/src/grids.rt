@@ -4,10 +4,13 @@ ghost use Rattle.std.specs.Prelude.{◌≡◌, ℕ, ◌+◌, ◌*◌, ◌/◌, �
 ghost use Rattle.grid_core.specs.Blocks.{AreBlocks, cell_of_blocks, cells_of};
 ghost use Rattle.grid_core.specs.Cells.{is_known, is_unknown};
 ghost use Rattle.grid_core.specs.PartialGrid.{PartialGrid, cell_at, IsSize, place};
+ghost use Rattle.grid_core.specs.Rows.{cells_told, with_row};
+ghost use Rattle.place_sets.specs.Masks.{Has, joined};
 ghost use Rattle.grid_core.specs.declared.cells.Cell.TheVariants.{Unknown};
 
-use crate::blocks::{BLOCK, Block};
+use crate::blocks::{BLOCK, Block, write_cells};
 use crate::{Cell, NoMemory};
+use place_sets::Wide;
 use std::alloc::Global;
 use std::marker::Model;
 
@@ -91,6 +94,18 @@ impl Grid {
     {
         let block = self.blocks[place / BLOCK];
         self.blocks[place / BLOCK] = block.with((place % BLOCK) as u16, cell);
+    }
+
+    /// Changes what is known of the cells of row y, and nothing else: they are filled and blank at the places of these two sets, from 0 at the
+    /// left. No place is in both; those at or beyond the width don't count.
+    pub fn write_row(&mut self, y: u16, filled: Wide, blank: Wide)
+        requires row { y < self.old.height }
+        requires apart { (x : ℕ) → Has (joined filled.low filled.high) x → Has (joined blank.low blank.high) x → ⊥ }
+        ensures row { self.new ≡ with_row self.old y (cells_told (joined filled.low filled.high) (joined blank.low blank.high) self.old.width) }
+        ensures count { length self.old.cells ≡ self.old.width * self.old.height }
+    {
+        let first = usize::from(y) * usize::from(self.width);
+        write_cells(&mut self.blocks, first, self.width, filled, blank);
     }
 
     /// How many cells are known.

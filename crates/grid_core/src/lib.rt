@@ -28,3 +28,5 @@ mod tests;
 mod tests_refusals;
 #[cfg(test)]
 mod tests_refused;
+#[cfg(test)]
+mod tests_rows;

@@ -1,0 +1,19 @@
+-- Rows of a grid that are written whole.
+use Rattle.std.specs.Prelude.{ℕ, ◌+◌, ◌*◌, List, ◌++◌, map, take, drop}
+use Rattle.std.specs.List.{range_with_len}
+use Rattle.place_sets.specs.Masks.{has}
+use Rattle.grid_core.specs.declared.cells.Cell.{Cell}
+use Rattle.grid_core.specs.Blocks.{cell_of}
+use Rattle.grid_core.specs.PartialGrid.{PartialGrid}
+
+-- the cell at a place, as the sets of the filled and of the blank places tell it
+abbrev pub cell_told : ℕ → ℕ → ℕ → Cell
+cell_told filled blank place = cell_of (has filled place) (has blank place)
+
+-- so many cells that two sets tell, from the first place on
+abbrev pub cells_told : ℕ → ℕ → ℕ → List Cell
+cells_told filled blank count = map (λ place. cell_of (has filled place) (has blank place)) (range_with_len 0 count)
+
+-- the grid with other cells in row y
+abbrev pub with_row : PartialGrid → ℕ → List Cell → PartialGrid
+with_row g y row = record g { cells = take (y * g.width) g.cells ++ row ++ drop (y * g.width + g.width) g.cells }
