@@ -9,7 +9,8 @@ use Rattle.grid_core.specs.Cells.{is_filled}
 use Rattle.place_sets.specs.Masks.{Has, has, IsMaskOf}
 use Rattle.place_sets.proofs.HasLemmas.{true_has}
 use Rattle.place_sets.proofs.WordSteps.{some_place}
-use Rattle.line_core.specs.Lines.{cell_by, line_cells, is_blank, IsChanged}
+use Rattle.grid_core.specs.Blocks.{cell_of}
+use Rattle.line_core.specs.Lines.{line_cells, is_blank, IsChanged}
 use Rattle.line_core.proofs.LineCells.{cell_at, cell_itself, length_seen}
 
 -- the masks of two lines tell the same of a place
@@ -30,27 +31,27 @@ same_unless f g b d k none = by (same_or_not (has f k) (has g k)) (same_or_not (
     by (inr x) y = absurd (none (inl x))
     by (inl x) (inr y) = absurd (none (inr y))
 
-filled_told : (f b : Bool) → is_filled (cell_by f b) ≡ f
+filled_told : (f b : Bool) → is_filled (cell_of f b) ≡ f
 filled_told true b = refl
 filled_told false true = refl
 filled_told false false = refl
 
-blank_told : (f b : Bool) → (f ≡ true → b ≡ true → ⊥) → is_blank (cell_by f b) ≡ b
+blank_told : (f b : Bool) → (f ≡ true → b ≡ true → ⊥) → is_blank (cell_of f b) ≡ b
 blank_told true true n = absurd (n refl refl)
 blank_told true false n = refl
 blank_told false true n = refl
 blank_told false false n = refl
 
-seen_at : (len f b i : ℕ) (l : List Cell) → line_cells len f b ≡ l → i < length l → get_or l i Unknown ≡ cell_by (has f i) (has b i)
+seen_at : (len f b i : ℕ) (l : List Cell) → line_cells len f b ≡ l → i < length l → get_or l i Unknown ≡ cell_of (has f i) (has b i)
 seen_at len f b i l e h =
     let long = length_seen len f b l e in
     ap (λ (z : List Cell). get_or z i Unknown) (sym e) ∙ cell_at len f b i (omega arith)
 
-same_cell : (f g b d i : ℕ) → IsSameAt f g b d i → cell_by (has g i) (has d i) ≡ cell_by (has f i) (has b i)
-same_cell f g b d i s = ap (λ (v : Bool). cell_by v (has d i)) (sym s.0) ∙ ap (cell_by (has f i)) (sym s.1)
+same_cell : (f g b d i : ℕ) → IsSameAt f g b d i → cell_of (has g i) (has d i) ≡ cell_of (has f i) (has b i)
+same_cell f g b d i s = ap (λ (v : Bool). cell_of v (has d i)) (sym s.0) ∙ ap (cell_of (has f i)) (sym s.1)
 
 cell_same : (f g b d i : ℕ) → ((k : ℕ) → Has f k → Has b k → ⊥) → ((k : ℕ) → Has g k → Has d k → ⊥)
-    → cell_by (has g i) (has d i) ≡ cell_by (has f i) (has b i) → IsSameAt f g b d i
+    → cell_of (has g i) (has d i) ≡ cell_of (has f i) (has b i) → IsSameAt f g b d i
 cell_same f g b d i apart far e = (
   sym (filled_told (has f i) (has b i)) ∙ sym (ap is_filled e) ∙ filled_told (has g i) (has d i),
   sym (blank_told (has f i) (has b i) (λ u v. apart i (true_has f i u) (true_has b i v))) ∙ sym (ap is_blank e)
@@ -92,7 +93,7 @@ same_cells c d n = elim (same_or_not (is_filled d) (is_filled c)) [
   | inr x ↦ absurd (n (λ e. x (ap is_filled e)))
   | inl x ↦ elim (same_or_not (is_blank d) (is_blank c)) [
     | inr y ↦ absurd (n (λ e. y (ap is_blank e)))
-    | inl y ↦ sym (cell_itself d) ∙ ap (λ (v : Bool). cell_by v (is_blank d)) x ∙ ap (cell_by (is_filled c)) y ∙ cell_itself c
+    | inl y ↦ sym (cell_itself d) ∙ ap (λ (v : Bool). cell_of v (is_blank d)) x ∙ ap (cell_of (is_filled c)) y ∙ cell_itself c
   ]
 ]
 

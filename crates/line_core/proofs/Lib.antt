@@ -6,6 +6,7 @@ pub mod Certain
 pub mod Composing
 pub mod LineCells
 pub mod RunStarts
+mod Seeking
 pub mod Painting
 pub mod Outermost
 pub mod EndLaws
@@ -14,3 +15,4 @@ pub mod Telling
 pub mod Learning
 pub mod Examples
 pub mod Packing
+pub mod LoneRuns

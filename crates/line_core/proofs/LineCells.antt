@@ -6,38 +6,39 @@ use Rattle.std.proofs.Math.Pow.{pow_mono}
 use Rattle.std.proofs.lemmas.List.FromFn.{length-map-range_with_len, get_or-map-range_with_len}
 use Rattle.grid_core.specs.declared.cells.Cell.{Cell}
 use Rattle.grid_core.specs.declared.cells.Cell.TheVariants.{Unknown, Filled, Blank}
-use Rattle.grid_core.specs.Cells.{allows, is_filled}
+use Rattle.grid_core.specs.Cells.{allows, is_filled, is_known}
 use Rattle.place_sets.specs.Masks.{Has, has, IsMarked, IsMaskOf}
 use Rattle.place_sets.proofs.Steps.{mask_same}
 use Rattle.place_sets.proofs.HasLemmas.{has_true, true_has, has_false}
-use Rattle.line_core.specs.Lines.{cell_by, line_cells, is_blank}
+use Rattle.grid_core.specs.Blocks.{cell_of}
+use Rattle.line_core.specs.Lines.{line_cells, is_blank}
 use Rattle.line_core.specs.Reach.{MayBe, AreLengths}
 
-pub cell_at : (len filled blank i : ℕ) → i < len → get_or (line_cells len filled blank) i Unknown ≡ cell_by (has filled i) (has blank i)
-cell_at len filled blank i h = get_or-map-range_with_len (λ (k : ℕ). cell_by (has filled k) (has blank k)) 0 len i i Unknown h (zero-add i)
+pub cell_at : (len filled blank i : ℕ) → i < len → get_or (line_cells len filled blank) i Unknown ≡ cell_of (has filled i) (has blank i)
+cell_at len filled blank i h = get_or-map-range_with_len (λ (k : ℕ). cell_of (has filled k) (has blank k)) 0 len i i Unknown h (zero-add i)
 
 pub length_line : (len filled blank : ℕ) → length (line_cells len filled blank) ≡ len
-length_line len filled blank = length-map-range_with_len (λ (k : ℕ). cell_by (has filled k) (has blank k)) 0 len
+length_line len filled blank = length-map-range_with_len (λ (k : ℕ). cell_of (has filled k) (has blank k)) 0 len
 
 -- the length of a line that is seen as a list
 pub length_seen : (len filled blank : ℕ) (l : List Cell) → line_cells len filled blank ≡ l → length l ≡ len
 length_seen len filled blank l e = ap length (sym e) ∙ length_line len filled blank
 
-free_to : (f b : Bool) → f ≡ false → allows (cell_by f b) false ≡ true
+free_to : (f b : Bool) → f ≡ false → allows (cell_of f b) false ≡ true
 free_to true b e = absurd (true≢false e)
 free_to false true e = refl
 free_to false false e = refl
 
-free_from : (f b : Bool) → allows (cell_by f b) false ≡ true → f ≡ false
+free_from : (f b : Bool) → allows (cell_of f b) false ≡ true → f ≡ false
 free_from true b e = absurd (true≢false (sym e))
 free_from false b e = refl
 
-open_to : (f b : Bool) → b ≡ false → allows (cell_by f b) true ≡ true
+open_to : (f b : Bool) → b ≡ false → allows (cell_of f b) true ≡ true
 open_to f true e = absurd (true≢false e)
 open_to true false e = refl
 open_to false false e = refl
 
-open_from : (f b : Bool) → (f ≡ true → b ≡ true → ⊥) → allows (cell_by f b) true ≡ true → b ≡ false
+open_from : (f b : Bool) → (f ≡ true → b ≡ true → ⊥) → allows (cell_of f b) true ≡ true → b ≡ false
 open_from f false n e = refl
 open_from true true n e = absurd (n refl refl)
 open_from false true n e = absurd (true≢false (sym e))
@@ -106,7 +107,7 @@ marked_elsewhere m n p i wanted h ne = has_by n i (has m i) to (λ w. h.from i (
     to : Has n i → has m i ≡ true
     to x = elim (h.to i x) [ inl y ↦ has_true m i y.0 | inr y ↦ absurd (ne y.0) ]
 
-pub cell_itself : (c : Cell) → cell_by (is_filled c) (is_blank c) ≡ c
+pub cell_itself : (c : Cell) → cell_of (is_filled c) (is_blank c) ≡ c
 cell_itself Unknown = refl
 cell_itself Filled = refl
 cell_itself Blank = refl
@@ -119,12 +120,12 @@ cells-set len f b nf nb p c h mf mb =
     let long = length_line len f b in
     ext_get_or Unknown (line_cells len nf nb) (set old p c) (length_line len nf nb ∙ sym (length-set old p c ∙ long)) (λ k l.
     let within : k < len = omega (arith, length_line len nf nb) in
-    cell_at len nf nb k within ∙ elim (same_or_other k p) as (λ z. cell_by (has nf k) (has nb k) ≡ get_or (set old p c) k Unknown) [
+    cell_at len nf nb k within ∙ elim (same_or_other k p) as (λ z. cell_of (has nf k) (has nb k) ≡ get_or (set old p c) k Unknown) [
       | inl e ↦
-          (let at : cell_by (has nf p) (has nb p) ≡ c = ap (λ (v : Bool). cell_by v (has nb p)) (marked_at f nf p (is_filled c) mf) ∙ ap (cell_by (is_filled c)) (marked_at b nb p (is_blank c) mb) ∙ cell_itself c in
-          subst (λ (z : ℕ). cell_by (has nf z) (has nb z) ≡ get_or (set old p c) z Unknown) (sym e) (at ∙ sym (get_or-set_same old p c Unknown (omega arith))))
+          (let at : cell_of (has nf p) (has nb p) ≡ c = ap (λ (v : Bool). cell_of v (has nb p)) (marked_at f nf p (is_filled c) mf) ∙ ap (cell_of (is_filled c)) (marked_at b nb p (is_blank c) mb) ∙ cell_itself c in
+          subst (λ (z : ℕ). cell_of (has nf z) (has nb z) ≡ get_or (set old p c) z Unknown) (sym e) (at ∙ sym (get_or-set_same old p c Unknown (omega arith))))
       | inr ne ↦
-          ap (λ (v : Bool). cell_by v (has nb k)) (marked_elsewhere f nf p k (is_filled c) mf ne) ∙ ap (cell_by (has f k)) (marked_elsewhere b nb p k (is_blank c) mb ne)
+          ap (λ (v : Bool). cell_of v (has nb k)) (marked_elsewhere f nf p k (is_filled c) mf ne) ∙ ap (cell_of (has f k)) (marked_elsewhere b nb p k (is_blank c) mb ne)
           ∙ sym (cell_at len f b k within) ∙ sym (get_or-set_other old p k c Unknown ne)
     ])
 
@@ -143,12 +144,41 @@ apart-set f b nf nb p c apart mf mb i x y = by (mf.to i x) (mb.to i y)
     by (inr u) (inl v) = v.1 u.0
     by (inr u) (inr v) = not_both c u.1 v.1
 
+-- a set that lacks a place is the same with that place unwanted
+pub unmarked : (m p : ℕ) (wanted : Bool) → has m p ≡ false → wanted ≡ false → IsMaskOf (IsMarked (Has m) p wanted) m
+unmarked m p wanted lacks un = record {
+  to = λ i h. inl (h, λ e. true≢false (sym (has_true m i h) ∙ ap (has m) e ∙ lacks));
+  from = λ i h. elim h [ inl x ↦ x.0 | inr y ↦ absurd (true≢false (sym y.1 ∙ un)) ];
+}
+
+neither : (f b : Bool) → cell_of f b ≡ Unknown → (f ≡ false) × (b ≡ false)
+neither true b e = absurd (true≢false (ap is_filled e))
+neither false true e = absurd (true≢false (ap is_blank e))
+neither false false e = (refl, refl)
+
+-- both masks lack the place of an unknown cell
+pub unknown_at : (len f b p : ℕ) (l : List Cell) → line_cells len f b ≡ l → p < length l → get_or l p Unknown ≡ Unknown → (has f p ≡ false) × (has b p ≡ false)
+unknown_at len f b p l e h u =
+    let long = length_seen len f b l e in
+    neither (has f p) (has b p) (sym (cell_at len f b p (omega arith)) ∙ ap (λ (z : List Cell). get_or z p Unknown) e ∙ u)
+
+-- a known cell is filled or blank
+pub blank_unless_filled : (c : Cell) → is_filled c ≡ true → is_blank c ≡ false
+blank_unless_filled Unknown e = refl
+blank_unless_filled Filled e = refl
+blank_unless_filled Blank e = absurd (true≢false (sym e))
+
+pub blank_if_not_filled : (c : Cell) → is_known c ≡ true → is_filled c ≡ false → is_blank c ≡ true
+blank_if_not_filled Unknown k e = absurd (true≢false (sym k))
+blank_if_not_filled Filled k e = absurd (true≢false e)
+blank_if_not_filled Blank k e = refl
+
 -- nothing is known where both masks are empty
 pub cells-none : (len : ℕ) → line_cells len 0 0 ≡ replicate len Unknown
 cells-none len =
     ext_get_or Unknown (line_cells len 0 0) (replicate len Unknown) (length_line len 0 0 ∙ sym (length-replicate len Unknown)) (λ k l.
     let within : k < len = omega (arith, length_line len 0 0) in
-    cell_at len 0 0 k within ∙ ap (λ (v : Bool). cell_by v (has 0 k)) (has_false 0 k (bit_at-zero k)) ∙ ap (cell_by false) (has_false 0 k (bit_at-zero k)) ∙ sym (get_or-replicate len k Unknown Unknown within))
+    cell_at len 0 0 k within ∙ ap (λ (v : Bool). cell_of v (has 0 k)) (has_false 0 k (bit_at-zero k)) ∙ ap (cell_of false) (has_false 0 k (bit_at-zero k)) ∙ sym (get_or-replicate len k Unknown Unknown within))
 
 -- the same cells by masks of another width
 pub cells-resized : (width len f b wf wb nf nb : ℕ) → len ≤ width → wf ≡ f → wb ≡ b → IsMaskOf (λ i. (i < width) × Has wf i) nf → IsMaskOf (λ i. (i < width) × Has wb i) nb
@@ -156,7 +186,7 @@ pub cells-resized : (width len f b wf wb nf nb : ℕ) → len ≤ width → wf �
 cells-resized width len f b wf wb nf nb fits ef eb pf pb =
     ext_get_or Unknown (line_cells len nf nb) (line_cells len f b) (length_line len nf nb ∙ sym (length_line len f b)) (λ k l.
     let within : k < len = omega (arith, length_line len nf nb) in
-    cell_at len nf nb k within ∙ ap (λ (v : Bool). cell_by v (has nb k)) (same wf f nf k (omega arith) ef pf) ∙ ap (cell_by (has f k)) (same wb b nb k (omega arith) eb pb) ∙ sym (cell_at len f b k within))
+    cell_at len nf nb k within ∙ ap (λ (v : Bool). cell_of v (has nb k)) (same wf f nf k (omega arith) ef pf) ∙ ap (cell_of (has f k)) (same wb b nb k (omega arith) eb pb) ∙ sym (cell_at len f b k within))
   where
     same : (w m n i : ℕ) → i < width → w ≡ m → IsMaskOf (λ i. (i < width) × Has w i) n → has n i ≡ has m i
     same w m n i l e p = has_by n i (has w i) (λ h. has_true w i (p.to i h).1) (λ t. p.from i (l, true_has w i t)) ∙ ap (λ (z : ℕ). has z i) e

@@ -1,9 +1,10 @@
 -- Lines that are kept as two masks.
-use Rattle.std.specs.Prelude.{◌≢◌, ◌<◌, ◌≤◌, ℕ, Bool, true, false, List, length, map, slice_index_or}
-use Rattle.std.specs.List.{range_with_len}
+use Rattle.std.specs.Prelude.{◌≡◌, ◌≢◌, ◌<◌, ◌≤◌, ℕ, Bool, true, false, List, length, slice_index_or, Option, Some, None}
 use Rattle.grid_core.specs.declared.cells.Cell.{Cell}
 use Rattle.grid_core.specs.declared.cells.Cell.TheVariants.{Unknown, Filled, Blank}
-use Rattle.place_sets.specs.Masks.{Has, has}
+use Rattle.grid_core.specs.Cells.{is_unknown}
+use Rattle.grid_core.specs.Rows.{cells_told}
+use Rattle.place_sets.specs.Masks.{Has}
 
 -- whether the cell is known to be blank
 abbrev pub is_blank : Cell → Bool
@@ -11,15 +12,9 @@ is_blank Unknown = false
 is_blank Filled = false
 is_blank Blank = true
 
--- the cell that two masks tell of
-abbrev pub cell_by : Bool → Bool → Cell
-cell_by true blank = Filled
-cell_by false true = Blank
-cell_by false false = Unknown
-
 -- the cells of a line that is kept as two masks
 abbrev pub line_cells : ℕ → ℕ → ℕ → List Cell
-line_cells len filled blank = map (λ i. cell_by (has filled i) (has blank i)) (range_with_len 0 len)
+line_cells len filled blank = cells_told filled blank len
 
 -- a line has a cell at least, no more of them than there are places, and none of them is filled and blank
 pub record IsLine (width len filled blank : ℕ) : Type 0 where
@@ -31,3 +26,10 @@ pub record IsLine (width len filled blank : ℕ) : Type 0 where
 -- a place where two lines differ
 abbrev pub IsChanged : List Cell → List Cell → ℕ → Type 0
 IsChanged line other i = (i < length line) × (slice_index_or other i Unknown ≢ slice_index_or line i Unknown)
+
+-- the first cell from a place on that is unknown, or none if all from there on are known
+abbrev pub IsUnknownFrom : List Cell → ℕ → Option ℕ → Type 0
+IsUnknownFrom cells from None = (k : ℕ) → from ≤ k → k < length cells → is_unknown (slice_index_or cells k Unknown) ≡ false
+IsUnknownFrom cells from (Some place) =
+    (from ≤ place) × (place < length cells) × (slice_index_or cells place Unknown ≡ Unknown)
+    × ((k : ℕ) → from ≤ k → k < place → is_unknown (slice_index_or cells k Unknown) ≡ false)

@@ -9,10 +9,11 @@ ghost use Rattle.line_core.specs.Reach.{AreLengths, AreGapsAhead, IsFillable, Is
 
 use crate::Line;
 use crate::lines::LineOf;
+use crate::lone::lone_colours;
 use crate::overlaps::{is_unknown, unknown_colours};
 use crate::passes::Pass;
-use crate::reach::{GAPS, gap_ahead, whole_ends, write_gaps_ahead};
-use crate::rooms::{Room, Rooms};
+use crate::reach::{GAPS, gap_ahead, inner_ends, whole_ends, write_gaps_ahead};
+use crate::rooms::{Rooms, make_ready};
 use crate::spans::Span;
 use crate::widths::places_needed;
 use grid_core::{Clue, LONGEST_SIDE, MOST_RUNS, NoMemory};
@@ -33,14 +34,23 @@ fn possible_colours<W: PlaceSet>(span: &Span<W>, clue: &[u16], gaps: &[W; GAPS])
     let windows = windows_within(span.room);
     let mut pass = Pass::new(span);
     let mut blankable = pass.gap().and(gap_ahead(clue, gaps, 0));
+    if clue.is_empty() {
+        return (W::none(), blankable);
+    }
     let mut spread = [W::none(); LEVELS];
-    for j in 0..clue.len() {
+    let last = clue.len() - 1;
+    for j in 0..last {
         let ends = pass.step(&windows, clue[j]);
         let ahead = gap_ahead(clue, gaps, j + 1);
-        let whole = whole_ends(span, clue, j, ends, ahead);
+        let whole = inner_ends(clue, j, ends, ahead);
         add_ends(&mut spread, whole, clue[j]);
         blankable = blankable.or(pass.gap().and(ahead));
     }
+    let last_ends = pass.step(&windows, clue[last]);
+    let after = gap_ahead(clue, gaps, clue.len());
+    let last_whole = whole_ends(span, clue, last, last_ends, after);
+    add_ends(&mut spread, last_whole, clue[last]);
+    blankable = blankable.or(pass.gap().and(after));
     (spread_levels(&mut spread), blankable)
 }
 
@@ -56,6 +66,9 @@ pub fn colours<W: PlaceSet>(span: &Span<W>, clue: &[u16], gaps: &mut [W; GAPS]) 
     if is_unknown(span) {
         return unknown_colours(span.len, clue);
     }
+    if clue.len() == 1 {
+        return lone_colours(span, clue);
+    }
     write_gaps_ahead(span, clue, gaps);
     possible_colours(span, clue, gaps)
 }
@@ -63,7 +76,7 @@ pub fn colours<W: PlaceSet>(span: &Span<W>, clue: &[u16], gaps: &mut [W; GAPS]) 
 /// What is certain of a line, given the numbers of its clue, with room for the gaps of the runs: what all placings share, or none if there is no
 /// placing.
 fn deduce_numbers<W: PlaceSet>(
-    room: &mut Room<W>,
+    gaps: &mut [W; GAPS],
     line: &LineOf<W>,
     clue: &[u16],
 ) -> Option<LineOf<W>>
@@ -74,18 +87,22 @@ fn deduce_numbers<W: PlaceSet>(
     ensures { result ≡ deduced cells clue.now }
 {
     let span = line.span();
-    let (fillable, blankable) = colours(&span, clue, &mut room.gaps);
+    let (fillable, blankable) = colours(&span, clue, gaps);
     LineOf::certain(span.len, fillable, blankable)
 }
 
 /// What is certain of a line, in sets of a width that has room for the line and for the clue's numbers.
-pub(crate) fn deduce_at<W: PlaceSet>(room: &mut Room<W>, line: &Line, clue: &[u16]) -> Option<Line>
+pub(crate) fn deduce_at<W: PlaceSet>(
+    gaps: &mut [W; GAPS],
+    line: &Line,
+    clue: &[u16],
+) -> Option<Line>
     requires line { length line.now ≤ W.WIDTH }
     requires clue { AreLengths W.WIDTH clue.now }
     requires count { length clue.now ≤ MOST_RUNS }
     ensures { result ≡ deduced line.now clue.now }
 {
-    match deduce_numbers(room, &line.cells.resized(), clue) {
+    match deduce_numbers(gaps, &line.cells.resized(), clue) {
         None => None,
         Some(certain) => Some(Line {
             cells: certain.widened(),
@@ -101,11 +118,14 @@ fn deduce_with(line: &Line, clue: &[u16], rooms: &mut Rooms) -> Option<Line>
 {
     let needed = places_needed(line.len(), clue);
     if needed <= 64 {
-        deduce_at(&mut rooms.narrow, line, clue)
+        make_ready(&mut rooms.narrow);
+        deduce_at(&mut rooms.narrow[0], line, clue)
     } else if needed <= 128 {
-        deduce_at(&mut rooms.middle, line, clue)
+        make_ready(&mut rooms.middle);
+        deduce_at(&mut rooms.middle[0], line, clue)
     } else {
-        deduce_at(&mut rooms.wide, line, clue)
+        make_ready(&mut rooms.wide);
+        deduce_at(&mut rooms.wide[0], line, clue)
     }
 }
 
@@ -113,7 +133,7 @@ fn deduce_with(line: &Line, clue: &[u16], rooms: &mut Rooms) -> Option<Line>
 #[derive(Drop)]
 pub struct Tables {
     longest: u16,
-    rooms: Box<Rooms>,
+    rooms: Rooms,
 }
 
 impl Model for Tables {
@@ -148,14 +168,14 @@ pub fn deduce(tables: &mut Tables, line: &Line, clue: &Clue) -> Option<Line>
 
 /// What is certain of a line, given its clue, whose numbers are no greater than its sets have places.
 fn deduce_within<W: PlaceSet>(
-    room: &mut Room<W>,
+    gaps: &mut [W; GAPS],
     line: &LineOf<W>,
     clue: &Clue,
 ) -> Option<LineOf<W>>
     requires { All (λ number. number ≤ W.WIDTH) clue.now }
     ensures { result ≡ deduced line.now clue.now }
 {
-    deduce_numbers(room, line, clue.numbers())
+    deduce_numbers(gaps, line, clue.numbers())
 }
 
 /// Sets that lines are kept in and deduced by.
@@ -170,18 +190,24 @@ pub trait LineSet: PlaceSet {
 
 impl LineSet for u64 {
     fn deduce(tables: &mut Tables, line: &LineOf<u64>, clue: &Clue) -> Option<LineOf<u64>> {
-        deduce_within(&mut tables.rooms.narrow, line, clue)
+        let room = &mut tables.rooms.narrow;
+        make_ready(room);
+        deduce_within(&mut room[0], line, clue)
     }
 }
 
 impl LineSet for u128 {
     fn deduce(tables: &mut Tables, line: &LineOf<u128>, clue: &Clue) -> Option<LineOf<u128>> {
-        deduce_within(&mut tables.rooms.middle, line, clue)
+        let room = &mut tables.rooms.middle;
+        make_ready(room);
+        deduce_within(&mut room[0], line, clue)
     }
 }
 
 impl LineSet for Wide {
     fn deduce(tables: &mut Tables, line: &LineOf<Wide>, clue: &Clue) -> Option<LineOf<Wide>> {
-        deduce_within(&mut tables.rooms.wide, line, clue)
+        let room = &mut tables.rooms.wide;
+        make_ready(room);
+        deduce_within(&mut room[0], line, clue)
     }
 }

@@ -7,6 +7,7 @@ pub mod laws;
 mod line;
 mod lines;
 mod listing;
+mod lone;
 mod overlaps;
 mod passes;
 mod reach;
@@ -15,6 +16,8 @@ mod spans;
 mod starts;
 #[cfg(test)]
 mod tests;
+#[cfg(test)]
+mod tests_lines;
 #[cfg(test)]
 mod tests_overlaps;
 #[cfg(test)]

@@ -1,16 +1,18 @@
 //! Lines, kept as two sets of places of one width.
 
-ghost use Rattle.std.specs.Prelude.{◌≡◌, ◌≢◌, ◌<◌, ◌≤◌, ◌↔◌, IsTrue, length, replicate, slice_index_or, slice_set};
+ghost use Rattle.std.specs.Prelude.{◌≡◌, ◌≢◌, ◌*◌, ◌<◌, ◌≤◌, ◌↔◌, IsTrue, length, replicate, slice_index_or, slice_set, true};
 ghost use Rattle.grid_core.specs.declared.cells.Cell.TheVariants.{Unknown};
+ghost use Rattle.grid_core.specs.Cells.{is_known};
+ghost use Rattle.grid_core.specs.Rows.{with_row};
 ghost use Rattle.grid_core.specs.declared.limits.TheConstants.{LONGEST_SIDE};
 ghost use Rattle.place_sets.specs.Masks.{IsMaskOf};
-ghost use Rattle.line_core.specs.Lines.{IsChanged, is_blank};
+ghost use Rattle.line_core.specs.Lines.{IsChanged, IsUnknownFrom, is_blank};
 ghost use Rattle.line_core.specs.Passes.{IsSpanOf};
 ghost use Rattle.line_core.specs.Told.{told_by};
 
 use crate::spans::Span;
-use grid_core::Cell;
-use place_sets::{PlaceSet, Wide, lacking, places};
+use grid_core::{Cell, Grid};
+use place_sets::{PlaceSet, Wide, first_from, lacking, places};
 use std::marker::Model;
 
 /// The cells of a line, as many as its sets have places at most, seen as the list of its cells.
@@ -65,11 +67,11 @@ impl<W: PlaceSet> LineOf<W> {
         }
     }
 
-    /// Becomes the same as another line, in place.
+    /// Becomes the same as another line of the same length, in place.
     pub fn copy_from(&mut self, other: &LineOf<W>)
+        requires { length other.now ≡ length self.old }
         ensures { self.new ≡ other.now }
     {
-        self.len = other.len;
         self.filled = other.filled;
         self.blank = other.blank;
     }
@@ -107,6 +109,29 @@ impl<W: PlaceSet> LineOf<W> {
         self.blank = self.blank.marked(i, is_blank(cell));
     }
 
+    /// The first cell from a place on of which nothing is known, if there is one.
+    pub fn first_unknown(&self, from: u16) -> Option<u16>
+        requires { from ≤ length self.now }
+        ensures { IsUnknownFrom self.now from result }
+    {
+        let known = self.filled.or(self.blank);
+        first_from(lacking(known, self.len as u16), from)
+    }
+
+    /// Settles the unknown cell at a place, counted from 0.
+    pub fn settle(&mut self, i: u16, cell: Cell)
+        requires i { i < length self.old }
+        requires unknown { slice_index_or self.old i Unknown ≡ Unknown }
+        requires known { is_known cell ≡ true }
+        ensures { self.new ≡ slice_set self.old i cell }
+    {
+        if cell.is_filled() {
+            self.filled = self.filled.marked(i, true);
+        } else {
+            self.blank = self.blank.marked(i, true);
+        }
+    }
+
     /// The places where another line of the same length differs.
     pub fn changes(&self, other: &LineOf<W>) -> W
         requires { length other.now ≡ length self.now }
@@ -125,11 +150,21 @@ impl<W: PlaceSet> LineOf<W> {
         other.len == self.len && self.changes(other).is_empty()
     }
 
+    /// Writes its cells into row y of a grid whose rows are as long.
+    pub fn write_row(&self, grid: &mut Grid, y: u16)
+        requires row { y < grid.old.height }
+        requires width { grid.old.width ≡ length self.now }
+        ensures row { grid.new ≡ with_row grid.old y self.now }
+        ensures count { length grid.old.cells ≡ grid.old.width * grid.old.height }
+    {
+        grid.write_row(y, self.filled.widened(), self.blank.widened());
+    }
+
     /// A number that lines with the same cells share, mostly, and that others seldom do, for tables of lines.
     pub fn hash(&self) -> u64 {
         let filled = self.filled.folded().wrapping_mul(0x9e37_79b9_7f4a_7c15);
         let blank = self.blank.folded().wrapping_mul(0xd1b5_4a32_d192_ed03);
-        (filled ^ blank.rotate_left(29)).wrapping_mul(0x2545_f491_4f6c_dd1d)
+        filled.wrapping_add(blank)
     }
 
     /// The same line in sets of another width that has room for it.

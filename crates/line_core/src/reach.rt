@@ -94,3 +94,15 @@ pub fn whole_ends<W: PlaceSet>(span: &Span<W>, clue: &[u16], j: usize, ends: W, 
     let last = last_end(span.len, j + 1 == clue.len());
     ends.and(ahead.down(1).or(last))
 }
+
+/// The ends in whole placings of a run that is not the last one.
+pub fn inner_ends<W: PlaceSet>(clue: &[u16], j: usize, ends: W, ahead: W) -> W
+    ghost line: { List Cell }
+    requires clue { AreLengths W.WIDTH clue.now }
+    requires j { j + 1 < length clue.now }
+    requires ends { IsMaskOf (IsEnd line clue.now j) (W.number ends) }
+    requires ahead { IsMaskOf (IsGapAhead line clue.now (j + 1)) (W.number ahead) }
+    ensures { IsMaskOf (IsWholeEnd line clue.now j) (W.number result) }
+{
+    ends.and(ahead.down(1))
+}

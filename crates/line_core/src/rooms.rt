@@ -1,46 +1,44 @@
 //! Room for the gaps between the runs of a clue.
 
+ghost use Rattle.std.specs.Prelude.{◌<◌, vec_capacity, vec_len};
+
 use crate::reach::GAPS;
 use grid_core::NoMemory;
 use place_sets::{PlaceSet, Wide};
 use std::alloc::Global;
 
-/// Room for the gaps before each run of a clue and after the last one.
-#[derive(Drop)]
-pub struct Room<W: PlaceSet> {
-    pub(crate) gaps: [W; GAPS],
-}
-
-impl<W: PlaceSet> Room<W> {
-    /// Makes the room.
-    pub fn new() -> Room<W> {
-        Room {
-            gaps: [W::none(); GAPS],
-        }
-    }
-}
-
-/// Room in sets of 64, 128 and 256 places.
+/// Room for the gaps in sets of 64, 128 and 256 places, each written only once it is needed.
 #[derive(Drop)]
 pub struct Rooms {
     /// Sets of 64 places.
-    pub narrow: Room<u64>,
+    pub narrow: Vec<[u64; GAPS]>,
     /// Sets of 128 places.
-    pub middle: Room<u128>,
+    pub middle: Vec<[u128; GAPS]>,
     /// Sets of 256 places.
-    pub wide: Room<Wide>,
+    pub wide: Vec<[Wide; GAPS]>,
+    ghost narrow_fits: { 0 < vec_capacity narrow },
+    ghost middle_fits: { 0 < vec_capacity middle },
+    ghost wide_fits: { 0 < vec_capacity wide },
 }
 
 impl Rooms {
     /// Makes the room of all three.
-    pub fn new(alloc: Global) -> Result<Box<Rooms>, NoMemory> {
-        Ok(Box::new(
-            alloc,
-            Rooms {
-                narrow: Room::new(),
-                middle: Room::new(),
-                wide: Room::new(),
-            },
-        )?)
+    pub fn new(alloc: Global) -> Result<Rooms, NoMemory> {
+        Ok(Rooms {
+            narrow: Vec::with_capacity(alloc, 1)?,
+            middle: Vec::with_capacity(alloc, 1)?,
+            wide: Vec::with_capacity(alloc, 1)?,
+        })
+    }
+}
+
+/// Clears the room of one width, if it was not yet used.
+pub fn make_ready<W: PlaceSet>(room: &mut Vec<[W; GAPS]>)
+    requires { 0 < vec_capacity room.old }
+    ensures ready { 0 < vec_len room.new }
+    ensures fits { 0 < vec_capacity room.new }
+{
+    if room.is_empty() {
+        room.push_reserved([W::none(); GAPS]);
     }
 }

@@ -13,7 +13,7 @@ use crate::gaps::first_gap;
 use crate::lines::LineOf;
 use crate::passes::Pass;
 use crate::reach::{GAPS, gap_ahead, whole_ends, write_gaps_ahead};
-use crate::rooms::{Room, Rooms};
+use crate::rooms::{Rooms, make_ready};
 use crate::spans::Span;
 use crate::widths::places_needed;
 use grid_core::{Clue, LONGEST_SIDE, MOST_RUNS, NoMemory};
@@ -90,7 +90,7 @@ pub fn find_starts<W: PlaceSet>(
     side: Side,
     line: &LineOf<W>,
     clue: &[u16],
-    room: &mut Room<W>,
+    gaps: &mut [W; GAPS],
     list: &mut [u16; MOST_RUNS],
 ) -> bool
     ghost cells: { List Cell }
@@ -102,11 +102,11 @@ pub fn find_starts<W: PlaceSet>(
         (outermost side cells clue.now ≡ None) }
 {
     let span = line.span();
-    write_gaps_ahead(&span, clue, &mut room.gaps);
+    write_gaps_ahead(&span, clue, gaps);
     if clue.is_empty() {
-        may_have_no_run(&span, clue, &room.gaps)
+        may_have_no_run(&span, clue, gaps)
     } else {
-        write_starts(side, &span, clue, &room.gaps, list)
+        write_starts(side, &span, clue, gaps, list)
     }
 }
 
@@ -127,11 +127,26 @@ fn find_by_width(
 {
     let needed = places_needed(line.len(), clue);
     if needed <= 64 {
-        find_starts(side, &line.cells.resized(), clue, &mut rooms.narrow, list)
+        make_ready(&mut rooms.narrow);
+        find_starts(
+            side,
+            &line.cells.resized(),
+            clue,
+            &mut rooms.narrow[0],
+            list,
+        )
     } else if needed <= 128 {
-        find_starts(side, &line.cells.resized(), clue, &mut rooms.middle, list)
+        make_ready(&mut rooms.middle);
+        find_starts(
+            side,
+            &line.cells.resized(),
+            clue,
+            &mut rooms.middle[0],
+            list,
+        )
     } else {
-        find_starts(side, &line.cells.resized(), clue, &mut rooms.wide, list)
+        make_ready(&mut rooms.wide);
+        find_starts(side, &line.cells.resized(), clue, &mut rooms.wide[0], list)
     }
 }
 
@@ -140,7 +155,7 @@ fn find_by_width(
 pub struct Starts {
     count: usize,
     list: [u16; MOST_RUNS],
-    rooms: Box<Rooms>,
+    rooms: Rooms,
 }
 
 impl Model for Starts {

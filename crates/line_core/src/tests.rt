@@ -5,7 +5,7 @@ ghost use Rattle.line_core.specs.Reach.{AreLengths};
 
 use super::*;
 use crate::deduction::deduce_at;
-use crate::rooms::Rooms;
+use crate::reach::GAPS;
 use crate::widths::places_needed;
 use grid_core::{Cell, Clue, LONGEST_SIDE, MOST_RUNS};
 use place_sets::{PlaceSet, Wide};
@@ -19,11 +19,26 @@ struct Row {
     deduced: &'static str,
 }
 
-static ROWS: [Row; 11] = [
+static ROWS: [Row; 14] = [
     Row {
         line: "?????",
         clue: &[3],
         deduced: "??#??",
+    },
+    Row {
+        line: "?#???",
+        clue: &[3],
+        deduced: "?##?.",
+    },
+    Row {
+        line: "??.???",
+        clue: &[3],
+        deduced: "...###",
+    },
+    Row {
+        line: "#???#",
+        clue: &[3],
+        deduced: "",
     },
     Row {
         line: "??#??",
@@ -102,7 +117,7 @@ pub fn line_of(text: &str) -> Option<Line>
 }
 
 /// Whether a line has the cells that a text stands for.
-fn is_line(line: &Line, text: &str) -> bool {
+pub(crate) fn is_line(line: &Line, text: &str) -> bool {
     let bytes = text.as_bytes();
     if bytes.len() != line.len() as usize {
         return false;
@@ -405,117 +420,29 @@ fn partly_known_line(len: u16, full: u64, state: &mut u64) -> Line
 }
 
 /// Whether a line of up to 64 cells is deduced alike by sets of 64, of 128 and of 256 places.
-fn widths_agree(line: &Line, clue: &[u16], rooms: &mut Rooms) -> bool
+fn widths_agree(line: &Line, clue: &[u16]) -> bool
     requires clue { AreLengths LONGEST_SIDE clue.now }
     requires count { length clue.now ≤ MOST_RUNS }
 {
     if places_needed(line.len(), clue) > 64 {
         return false;
     }
-    let narrow = deduce_at(&mut rooms.narrow, line, clue);
-    let middle = deduce_at(&mut rooms.middle, line, clue);
-    let wide = deduce_at(&mut rooms.wide, line, clue);
+    let narrow = deduce_at(&mut [0u64; GAPS], line, clue);
+    let middle = deduce_at(&mut [0u128; GAPS], line, clue);
+    let wide = deduce_at(&mut [Wide::none(); GAPS], line, clue);
     is_same(&narrow, &middle) && is_same(&narrow, &wide)
 }
 
 #[test]
 fn widths_deduce_alike(rt: HostRuntime) -> Result<(), Fail> {
     let alloc = rt.alloc();
-    let mut rooms = Rooms::new(alloc)?;
     let mut state = 1u64;
     for round in 0..10_000u32 {
         let len = (next_random(&mut state) % 64) as u16 + 1;
         let full = next_random(&mut state) << 33 ^ next_random(&mut state);
         let clue = numbered_clue(alloc, len, full)?;
         let line = partly_known_line(len, full, &mut state);
-        assert!(rt; widths_agree(&line, clue.numbers(), &mut rooms), "{round}");
-    }
-    Ok(())
-}
-
-/// Whether these are the places where two lines of 256 cells differ.
-fn are_changes(line: &LineOf<Wide>, other: &LineOf<Wide>, places: &[u16]) -> bool {
-    if line.len() != other.len() {
-        return false;
-    }
-    let changes = line.changes(other);
-    (0..line.len()).all(|i| changes.has(i) == places.contains(&i))
-}
-
-#[test]
-fn changes_are_found(rt: HostRuntime) -> Result<(), Fail> {
-    let line = LineOf::<Wide>::unknown(256);
-    let mut other = line.copy();
-    assert!(rt; are_changes(&line, &other, &[]), "no change");
-    other.set(0, Cell::Filled);
-    other.set(127, Cell::Blank);
-    other.set(128, Cell::Filled);
-    other.set(255, Cell::Blank);
-    assert!(rt; are_changes(&line, &other, &[0, 127, 128, 255]), "changes");
-    other.set(127, Cell::Unknown);
-    assert!(rt; are_changes(&line, &other, &[0, 128, 255]), "one less");
-    let mut filled = other.copy();
-    filled.set(255, Cell::Filled);
-    assert!(rt; are_changes(&other, &filled, &[255]), "another colour");
-    Ok(())
-}
-
-#[test]
-fn a_line_becomes_another(rt: HostRuntime) -> Result<(), Fail> {
-    let mut other = LineOf::<u128>::unknown(100);
-    other.set(99, Cell::Blank);
-    let mut line = LineOf::<u128>::unknown(3);
-    line.set(0, Cell::Filled);
-    assert!(rt; !other.is_same(&line), "two lines");
-    other.copy_from(&line);
-    assert!(rt; other.is_same(&line), "the same");
-    assert!(rt; other.hash() == line.hash(), "one hash");
-    assert!(rt;
-        other.len() == 3 && other.get(0) == Cell::Filled,
-        "its cells"
-    );
-    Ok(())
-}
-
-#[test]
-fn a_line_is_deduced_in_its_own_sets(rt: HostRuntime) -> Result<(), Fail> {
-    let alloc = rt.alloc();
-    let mut tables = Tables::new(alloc, 64)?;
-    let clue = Clue::from_numbers(alloc, &[3])?;
-    let mut wanted = LineOf::<u64>::unknown(5);
-    let line = wanted.copy();
-    wanted.set(2, Cell::Filled);
-    let deduced = u64::deduce(&mut tables, &line, &clue).ok_or("no placing")?;
-    assert!(rt; deduced.is_same(&wanted));
-    Ok(())
-}
-
-#[test]
-fn cells_become_unknown_again(rt: HostRuntime) -> Result<(), Fail> {
-    let mut line = Line::unknown(3);
-    line.set(0, Cell::Filled);
-    line.set(1, Cell::Blank);
-    assert!(rt; is_line(&line, "#.?"), "known");
-    line.set(0, Cell::Unknown);
-    line.set(1, Cell::Unknown);
-    assert!(rt; is_line(&line, "???"), "unknown again");
-    Ok(())
-}
-
-#[test]
-fn cells_of_both_halves_are_kept_apart(rt: HostRuntime) -> Result<(), Fail> {
-    let mut line = Line::unknown(256);
-    line.set(0, Cell::Filled);
-    line.set(127, Cell::Filled);
-    line.set(128, Cell::Blank);
-    line.set(255, Cell::Blank);
-    for i in 0..line.len() {
-        let wanted = match i {
-            0 | 127 => Cell::Filled,
-            128 | 255 => Cell::Blank,
-            _ => Cell::Unknown,
-        };
-        assert!(rt; line.get(i) == wanted, "{i}");
+        assert!(rt; widths_agree(&line, clue.numbers()), "{round}");
     }
     Ok(())
 }

@@ -3,12 +3,13 @@
 ghost use Rattle.std.specs.Prelude.{◌≡◌, ◌≤◌, length};
 ghost use Rattle.line_core.specs.Reach.{AreLengths};
 
-use crate::rooms::Rooms;
+use crate::reach::GAPS;
 use crate::starts::{Side, find_starts};
 use crate::tests::line_of;
 use crate::widths::places_needed;
 use crate::{Line, Starts, leftmost, rightmost};
 use grid_core::{Cell, Clue, LONGEST_SIDE, MOST_RUNS};
+use place_sets::{PlaceSet, Wide};
 use std::alloc::Global;
 use std::test::Fail;
 
@@ -243,14 +244,7 @@ fn clue_of(alloc: Global, len: u16, full: u64) -> Result<Clue, Fail>
 }
 
 /// Whether sets of each width find what was found of a line of at most 64 cells: the same starts, or none.
-fn widths_agree(
-    side: Side,
-    line: &Line,
-    clue: &[u16],
-    rooms: &mut Rooms,
-    found: bool,
-    starts: &[u16],
-) -> bool
+fn widths_agree(side: Side, line: &Line, clue: &[u16], found: bool, starts: &[u16]) -> bool
     requires clue { AreLengths LONGEST_SIDE clue.now }
     requires count { length clue.now ≤ MOST_RUNS }
 {
@@ -264,21 +258,21 @@ fn widths_agree(
         side,
         &line.cells.resized(),
         clue,
-        &mut rooms.narrow,
+        &mut [0u64; GAPS],
         &mut narrow,
     );
     let by_middle = find_starts(
         side,
         &line.cells.resized(),
         clue,
-        &mut rooms.middle,
+        &mut [0u128; GAPS],
         &mut middle,
     );
     let by_wide = find_starts(
         side,
         &line.cells.resized(),
         clue,
-        &mut rooms.wide,
+        &mut [Wide::none(); GAPS],
         &mut wide,
     );
     if by_narrow != found || by_middle != found || by_wide != found {
@@ -288,32 +282,17 @@ fn widths_agree(
 }
 
 /// Whether sets of each width agree on both sides of a line of at most 64 cells.
-fn sides_agree(line: &Line, clue: &Clue, rooms: &mut Rooms, starts: &mut Starts) -> bool {
+fn sides_agree(line: &Line, clue: &Clue, starts: &mut Starts) -> bool {
     let found = leftmost(line, clue, starts);
-    let left = widths_agree(
-        Side::Left,
-        line,
-        clue.numbers(),
-        rooms,
-        found,
-        starts.list(),
-    );
+    let left = widths_agree(Side::Left, line, clue.numbers(), found, starts.list());
     let found = rightmost(line, clue, starts);
-    left && widths_agree(
-        Side::Right,
-        line,
-        clue.numbers(),
-        rooms,
-        found,
-        starts.list(),
-    )
+    left && widths_agree(Side::Right, line, clue.numbers(), found, starts.list())
 }
 
 #[test]
 fn widths_agree_on_random_lines(rt: HostRuntime) -> Result<(), Fail> {
     let alloc = rt.alloc();
     let mut starts = Starts::new(alloc)?;
-    let mut rooms = Rooms::new(alloc)?;
     let mut full = 0x2545_f491_4f6c_dd1du64;
     for turn in 0..2000u16 {
         let len = turn % 64 + 1;
@@ -321,17 +300,14 @@ fn widths_agree_on_random_lines(rt: HostRuntime) -> Result<(), Fail> {
         let shown = next_random(full ^ 0x9e37_79b9) & next_random(full ^ 0x7f4a_7c15);
         let clue = clue_of(alloc, len, full)?;
         let line = shown_line(len, full, shown);
-        assert!(rt;
-            sides_agree(&line, &clue, &mut rooms, &mut starts),
-            "turn {turn}"
-        );
+        assert!(rt; sides_agree(&line, &clue, &mut starts), "turn {turn}");
         assert!(rt;
             leftmost(&line, &clue, &mut starts),
             "turn {turn} has a placing"
         );
         let other = shown_line(len, full ^ 1 << (turn % 61), shown);
         assert!(rt;
-            sides_agree(&other, &clue, &mut rooms, &mut starts),
+            sides_agree(&other, &clue, &mut starts),
             "turn {turn} otherwise"
         );
     }

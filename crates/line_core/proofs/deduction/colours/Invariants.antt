@@ -8,3 +8,6 @@ ghost-write_gaps_ahead g a = g.line
 
 abbrev pub ghost-possible_colours : goal.ghost-possible_colours
 ghost-possible_colours g a = g.line
+
+abbrev pub ghost-lone_colours : goal.ghost-lone_colours
+ghost-lone_colours g a = g.line

@@ -16,3 +16,6 @@ invariant-loop-j g l = record {
   blank : IsMaskOf (λ i. (q : ℕ) × (q ≤ l.j) × IsGap g.line l.clue q i × IsGapAhead g.line l.clue q i) (g.W.PlaceSet.number l.blankable);
   filled : AreLevelsOf (λ i. (q : ℕ) × (q < l.j) × SomeFrom (IsWholeEnd g.line l.clue q) (get_or l.clue q 0) i) g.W.PlaceSet.TOP (map g.W.PlaceSet.number l.spread);
 }
+
+abbrev pub ghost-inner_ends : goal.ghost-inner_ends
+ghost-inner_ends g a = g.line

@@ -1,4 +1,4 @@
-use Rattle.std.proofs.Common.{ℕ, ◌-◌, ◌<◌, length, sym, subst, arith}
+use Rattle.std.proofs.Common.{◌-◌, ◌<◌, length, sym, subst, arith}
 use Rattle.place_sets.specs.Masks.{IsMaskOf}
 use Rattle.line_core.specs.Reach.{IsGapAhead}
 use Rattle.place_sets.proofs.LevelSteps.{number_at}

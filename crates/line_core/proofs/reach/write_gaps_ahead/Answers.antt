@@ -2,7 +2,6 @@ use Rattle.std.proofs.Common.{◌≡◌, ℕ, ◌+◌, ◌-◌, ◌<◌, ◌∙�
 use Rattle.std.proofs.lemmas.List.{map-append, length-map, get_or_append_left, get_or-take, length-take-le}
 use Rattle.place_sets.specs.Masks.{Has, IsMaskOf}
 use Rattle.place_sets.proofs.LevelSteps.{number_at}
-use Rattle.line_core.specs.Reach.{IsGapAhead}
 use Rattle.line_core.proofs.Composing.{ahead_of}
 use Rattle.line_core.proofs.reach.write_gaps_ahead.Goals as goal
 

@@ -5,7 +5,6 @@ use Rattle.place_sets.specs.Masks.{IsMaskOf}
 use Rattle.line_core.specs.Reach.{behind, IsGap}
 use Rattle.line_core.specs.Passes.{IsPassOver}
 use Rattle.line_core.proofs.LineCells.{written_more, length_at}
-use Rattle.line_core.proofs.Joining.{length_behind}
 use Rattle.line_core.proofs.Composing.{runs_more}
 use Rattle.line_core.proofs.reach.write_turned_gaps.Goals as goal
 

@@ -7,7 +7,6 @@ use Rattle.line_core.specs.Reach.{behind}
 use Rattle.line_core.specs.Passes.{IsPassOver}
 use Rattle.line_core.proofs.RunLaws.{ArePositive}
 use Rattle.line_core.proofs.LineCells.{length_at}
-use Rattle.line_core.proofs.Joining.{length_behind}
 use Rattle.line_core.proofs.Composing.{runs_more}
 use Rattle.line_core.proofs.Outermost.{some_end, outer_more}
 use Rattle.line_core.proofs.starts.write_starts.Goals as goal

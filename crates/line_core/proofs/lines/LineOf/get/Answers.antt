@@ -2,7 +2,7 @@ use Rattle.std.proofs.Common.{◌<◌, ◌∙◌, Bool, sym, ap, arith, List, ge
 use Rattle.grid_core.specs.declared.cells.Cell.{Cell}
 use Rattle.grid_core.specs.declared.cells.Cell.TheVariants.{Unknown}
 use Rattle.place_sets.specs.Masks.{has}
-use Rattle.line_core.specs.Lines.{cell_by}
+use Rattle.grid_core.specs.Blocks.{cell_of}
 use Rattle.line_core.proofs.LineCells.{length_seen, cell_at}
 use Rattle.line_core.proofs.lines.LineOf.get.Goals as goal
 
@@ -26,7 +26,7 @@ returns-then-has g c =
     let long = length_seen line.len f b c.args.self.now c.self.view_is in
     let within : c.args.i < line.len = omega (arith, c.requires) in
     sym (ap (λ (l : List Cell). get_or l c.args.i Unknown) (sym c.self.view_is) ∙ cell_at line.len f b c.args.i within
-    ∙ ap (λ (v : Bool). cell_by v (has b c.args.i)) (sym c.has.ensures ∙ c.if-has.true))
+    ∙ ap (λ (v : Bool). cell_of v (has b c.args.i)) (sym c.has.ensures ∙ c.if-has.true))
 
 pub returns-then-has-2 : goal.returns-then-has-2
 returns-then-has-2 g c =
@@ -36,7 +36,7 @@ returns-then-has-2 g c =
     let long = length_seen line.len f b c.args.self.now c.self.view_is in
     let within : c.args.i < line.len = omega (arith, c.requires) in
     sym (ap (λ (l : List Cell). get_or l c.args.i Unknown) (sym c.self.view_is) ∙ cell_at line.len f b c.args.i within
-    ∙ ap (λ (v : Bool). cell_by v (has b c.args.i)) (sym c.has.ensures ∙ c.if-has.false) ∙ ap (cell_by false) (sym c.has-else-has.ensures ∙ c.if-has-2.true))
+    ∙ ap (λ (v : Bool). cell_of v (has b c.args.i)) (sym c.has.ensures ∙ c.if-has.false) ∙ ap (cell_of false) (sym c.has-else-has.ensures ∙ c.if-has-2.true))
 
 pub returns-else-has-2 : goal.returns-else-has-2
 returns-else-has-2 g c =
@@ -46,4 +46,4 @@ returns-else-has-2 g c =
     let long = length_seen line.len f b c.args.self.now c.self.view_is in
     let within : c.args.i < line.len = omega (arith, c.requires) in
     sym (ap (λ (l : List Cell). get_or l c.args.i Unknown) (sym c.self.view_is) ∙ cell_at line.len f b c.args.i within
-    ∙ ap (λ (v : Bool). cell_by v (has b c.args.i)) (sym c.has.ensures ∙ c.if-has.false) ∙ ap (cell_by false) (sym c.has-else-has.ensures ∙ c.if-has-2.false))
+    ∙ ap (λ (v : Bool). cell_of v (has b c.args.i)) (sym c.has.ensures ∙ c.if-has.false) ∙ ap (cell_of false) (sym c.has-else-has.ensures ∙ c.if-has-2.false))

@@ -1,0 +1,260 @@
+-- A clue of one run: its starts tell which cells can be filled and which can be blank.
+use Rattle.std.proofs.Common.{◌≡◌, ℕ, ◌+◌, ◌-◌, ◌<◌, ◌≤◌, Bool, true, false, List, [], ◌∷◌, length, refl, sym, ap, ◌∙◌, subst, arith, true≢false, ◌⊎◌, inl, inr, get_or}
+use Rattle.std.proofs.lemmas.Bool.{cases_lt}
+use Rattle.std.proofs.lemmas.Nat.Bits.{bit_at-zero}
+use Rattle.grid_core.specs.declared.cells.Cell.{Cell}
+use Rattle.grid_core.specs.Cells.{agrees}
+use Rattle.grid_core.specs.Runs.{runs}
+use Rattle.place_sets.specs.Masks.{Has, has, IsMaskOf, IsMoved, AllFrom, SomeFrom}
+use Rattle.place_sets.proofs.HasLemmas.{has_true, true_has}
+use Rattle.place_sets.proofs.Steps.{mask_same}
+use Rattle.line_core.specs.Reach.{MayBe, IsFillable, IsBlankable}
+use Rattle.line_core.specs.Lone.{IsLoneStart}
+use Rattle.line_core.proofs.RunLaws.{ArePositive}
+use Rattle.line_core.proofs.LineCells.{has_by}
+use Rattle.line_core.proofs.Joining.{fillable_to, fillable_from, blankable_to, blankable_from}
+use Rattle.line_core.proofs.RunStarts.{starts_from, run_of, filled_in_run, covered}
+use Rattle.line_core.proofs.Painting.{laid, placing_of}
+
+-- ---- placings and starts
+
+-- a placing of the run that starts here
+record LonePlacing (l : List Cell) (clue : List ℕ) (s : ℕ) : Type 0 where
+  full : List Bool
+  agree : agrees l full ≡ true
+  runs_are : runs full ≡ clue
+  start : get_or (starts_from 0 false full) 0 0 ≡ s
+
+lone_placing : (l : List Cell) (clue : List ℕ) (s : ℕ) → ArePositive clue → length clue ≡ 1 → IsLoneStart l (get_or clue 0 0) s → LonePlacing l clue s
+lone_placing l clue s pos one start =
+    let number = get_or clue 0 0 in
+    let p = placing_of l clue (s ∷ []) pos (record {
+      count = sym one;
+      windows = λ j h. first (λ j. AllFrom (MayBe l true) (get_or clue j 0) (get_or (s ∷ []) j 0)) start.window j h;
+      apart = λ j h. absurd (omega arith);
+      blanks = λ i h free. start.blanks i h (λ low high. free 0 (omega arith) low high);
+    }) in
+    record { full = p.0; agree = p.1; runs_are = p.2; start = ap (λ (ss : List ℕ). get_or ss 0 0) p.3 }
+  where
+    first : (P : ℕ → Type 0) → P 0 → (j : ℕ) → j < length clue → P j
+    first P at j h = let e : 0 ≡ j = omega arith in subst P e at
+
+lone_start : (l : List Cell) (clue : List ℕ) (x : List Bool) → length clue ≡ 1 → agrees l x ≡ true → runs x ≡ clue → IsLoneStart l (get_or clue 0 0) (get_or (starts_from 0 false x) 0 0)
+lone_start l clue x one agree is =
+    let d = laid l clue x agree is in
+    record {
+      window = d.windows 0 (omega arith);
+      blanks = λ i h free. d.blanks i h (λ j k low high. let e : j ≡ 0 = omega arith in
+          free (subst (λ (z : ℕ). get_or (starts_from 0 false x) z 0 ≤ i) e low) (subst (λ (z : ℕ). i < get_or (starts_from 0 false x) z 0 + get_or clue z 0) e high));
+    }
+
+-- the cell is in the placing's run
+in_run : (clue : List ℕ) (x : List Bool) (i : ℕ) → length clue ≡ 1 → runs x ≡ clue → get_or (starts_from 0 false x) 0 0 ≤ i → i < get_or (starts_from 0 false x) 0 0 + get_or clue 0 0 → get_or x i false ≡ true
+in_run clue x i one is low high =
+    let s = get_or (starts_from 0 false x) 0 0 in
+    let e : s + (i - s) ≡ i = omega arith in
+    subst (λ (k : ℕ). get_or x k false ≡ true) e (filled_in_run x clue 0 (run_of x clue 0 is (omega arith)) (i - s) (omega arith))
+
+-- and each filled cell is
+of_run : (clue : List ℕ) (x : List Bool) (i : ℕ) → length clue ≡ 1 → runs x ≡ clue → get_or x i false ≡ true
+    → (get_or (starts_from 0 false x) 0 0 ≤ i) × (i < get_or (starts_from 0 false x) 0 0 + get_or clue 0 0)
+of_run clue x i one is filled =
+    let c = covered x clue i is filled in
+    let inside = c.inside in
+    let e : c.index ≡ 0 = omega arith in
+    (subst (λ (z : ℕ). get_or (starts_from 0 false x) z 0 ≤ i) e c.from, subst (λ (z : ℕ). i < get_or (starts_from 0 false x) z 0 + get_or clue z 0) e c.to)
+
+-- a start from which the run fills the cell
+pub record FillsFrom (l : List Cell) (number i : ℕ) : Type 0 where
+  pub s : ℕ
+  pub start : IsLoneStart l number s
+  pub low : s ≤ i
+  pub high : i < s + number
+
+-- a start from which the run leaves the cell blank
+pub record LeavesFrom (l : List Cell) (number i : ℕ) : Type 0 where
+  pub s : ℕ
+  pub start : IsLoneStart l number s
+  pub out : (i < s) ⊎ (s + number ≤ i)
+
+pub fills_to : (l : List Cell) (clue : List ℕ) (i : ℕ) → ArePositive clue → length clue ≡ 1 → IsFillable l clue i → FillsFrom l (get_or clue 0 0) i
+fills_to l clue i pos one h =
+    let x = fillable_to l clue i pos h in
+    let r = of_run clue x.0 i one x.2 x.3 in
+    record { s = get_or (starts_from 0 false x.0) 0 0; start = lone_start l clue x.0 one x.1 x.2; low = r.0; high = r.1 }
+
+pub fills_from : (l : List Cell) (clue : List ℕ) (i s : ℕ) → ArePositive clue → length clue ≡ 1 → IsLoneStart l (get_or clue 0 0) s → s ≤ i → i < s + get_or clue 0 0 → IsFillable l clue i
+fills_from l clue i s pos one start low high =
+    let p = lone_placing l clue s pos one start in
+    let at = p.start in
+    let e : s + (i - s) ≡ i = omega arith in
+    let within : i < length l = (subst (MayBe l true) e (start.window (i - s) (omega arith))).0 in
+    fillable_from l clue i within (p.full, p.agree, p.runs_are, in_run clue p.full i one p.runs_are (omega arith) (omega arith))
+
+pub leaves_to : (l : List Cell) (clue : List ℕ) (i : ℕ) → length clue ≡ 1 → IsBlankable l clue i → LeavesFrom l (get_or clue 0 0) i
+leaves_to l clue i one h =
+    let x = blankable_to l clue i h in
+    let s = get_or (starts_from 0 false x.0) 0 0 in
+    record {
+      s = s;
+      start = lone_start l clue x.0 one x.1 x.2;
+      out = elim (cases_lt i s) [
+        | inl before ↦ inl before
+        | inr from ↦ elim (cases_lt i (s + get_or clue 0 0)) [
+          | inl inside ↦ absurd (true≢false (sym (in_run clue x.0 i one x.2 from inside) ∙ x.3))
+          | inr after ↦ inr after
+        ]
+      ];
+    }
+
+pub leaves_from : (l : List Cell) (clue : List ℕ) (i s : ℕ) → ArePositive clue → length clue ≡ 1 → i < length l → IsLoneStart l (get_or clue 0 0) s → (i < s) ⊎ (s + get_or clue 0 0 ≤ i) → IsBlankable l clue i
+leaves_from l clue i s pos one within start out =
+    let p = lone_placing l clue s pos one start in
+    blankable_from l clue i within (p.full, p.agree, p.runs_are, blank (get_or p.full i false) p refl)
+  where
+    blank : (b : Bool) → (p : LonePlacing l clue s) → get_or p.full i false ≡ b → get_or p.full i false ≡ false
+    blank false p e = e
+    blank true p e =
+        let r = of_run clue p.full i one p.runs_are e in
+        let low = r.0 in
+        let high = r.1 in
+        let at = p.start in
+        elim out [ inl x ↦ absurd (omega arith) | inr y ↦ absurd (omega arith) ]
+
+-- ---- the masks
+
+free_unless : (l : List Cell) (free filled : ℕ) (i : ℕ) → IsMaskOf (MayBe l false) free → ((k : ℕ) → k < length l → has free k ≡ false → Has filled k) → (Has filled i → ⊥) → i < length l → MayBe l false i
+free_unless l free filled i f from none h = by (has free i) refl
+  where
+    by : (b : Bool) → has free i ≡ b → MayBe l false i
+    by true e = f.to i (true_has free i e)
+    by false e = absurd (none (from i h e))
+
+window_to : (l : List Cell) (room number i : ℕ) → IsMaskOf (MayBe l true) room → AllFrom (Has room) number i → AllFrom (MayBe l true) number i
+window_to l room number i r h = λ z b. r.to (i + z) (h z b)
+
+window_from : (l : List Cell) (room number i : ℕ) → IsMaskOf (MayBe l true) room → AllFrom (MayBe l true) number i → AllFrom (Has room) number i
+window_from l room number i r h = λ z b. r.from (i + z) (h z b)
+
+-- a cell that must be filled is in the run
+must_fill : (l : List Cell) (free number s k : ℕ) → IsMaskOf (MayBe l false) free → IsLoneStart l number s → k < length l → has free k ≡ false → (s ≤ k) × (k < s + number)
+must_fill l free number s k f start h lacks =
+    elim (cases_lt k s) [
+      | inl before ↦ absurd (true≢false (sym (has_true free k (f.from k (start.blanks k h (λ low high. absurd (omega arith))))) ∙ lacks))
+      | inr low ↦ elim (cases_lt k (s + number)) [
+        | inl high ↦ (low, high)
+        | inr after ↦ absurd (true≢false (sym (has_true free k (f.from k (start.blanks k h (λ low high. absurd (omega arith))))) ∙ lacks))
+      ]
+    ]
+
+-- no cell must be filled
+pub starts_anywhere : (l : List Cell) (number free room len line filled starts : ℕ) → len ≡ length l → IsMaskOf (MayBe l false) free → IsMaskOf (MayBe l true) room
+    → IsMaskOf (λ i. i < len) line → IsMaskOf (λ i. Has line i × (has free i ≡ false)) filled → filled ≡ 0 → IsMaskOf (AllFrom (Has room) number) starts → IsMaskOf (IsLoneStart l number) starts
+starts_anywhere l number free room len line filled starts e f r a p none w =
+    mask_same (AllFrom (Has room) number) (IsLoneStart l number) starts w
+    (λ i h. record { window = window_to l room number i r h; blanks = λ k b out. free_unless l free filled k f (λ z c lacks. p.from z (a.from z (omega arith), lacks)) (nothing k) b })
+    (λ i s. window_from l room number i r s.window)
+  where
+    nothing : (k : ℕ) → Has filled k → ⊥
+    nothing k h = let z : Has 0 k = subst (λ (m : ℕ). Has m k) none h in omega (arith, bit_at-zero k)
+
+-- the run has the first and the last cell that must be filled
+pub starts_about : (l : List Cell) (w number free room len line filled starts first last before some all after m : ℕ) → len ≡ length l → 0 < number → IsMaskOf (MayBe l false) free → IsMaskOf (MayBe l true) room
+    → IsMaskOf (λ i. i < len) line → IsMaskOf (λ i. Has line i × (has free i ≡ false)) filled → IsMaskOf (AllFrom (Has room) number) starts
+    → Has filled first → ((i : ℕ) → Has filled i → first ≤ i) → Has filled last → ((i : ℕ) → Has filled i → i ≤ last) → first < w
+    → IsMaskOf (λ i. i < first + 1) before → IsMaskOf (λ i. Has starts i × Has before i) some
+    → IsMaskOf (λ i. i < w) all → IsMaskOf (IsMoved w (Has all) (last + 1 - number)) after → IsMaskOf (λ i. Has some i × Has after i) m → IsMaskOf (IsLoneStart l number) m
+starts_about l w number free room len line filled starts first last before some all after m e pos f r a p s at_first least at_last greatest short b q c d t =
+    mask_same (λ i. Has some i × Has after i) (IsLoneStart l number) m t to from
+  where
+    to : (i : ℕ) → Has some i × Has after i → IsLoneStart l number i
+    to i h =
+        let two = q.to i h.0 in
+        let low : i < first + 1 = b.to i two.1 in
+        let high : last + 1 - number ≤ i = (d.to i h.1).1 in
+        record {
+          window = window_to l room number i r (s.to i two.0);
+          blanks = λ k within out. free_unless l free filled k f (λ z c lacks. p.from z (a.from z (omega arith), lacks))
+              (λ x. let l0 = least k x in let g0 = greatest k x in out (omega arith) (omega arith)) within;
+        }
+
+    must : (i k : ℕ) → IsLoneStart l number i → Has filled k → (i ≤ k) × (k < i + number)
+    must i k start x = let y = p.to k x in let within : k < len = a.to k y.0 in must_fill l free number i k f start (omega arith) y.1
+
+    from : (i : ℕ) → IsLoneStart l number i → Has some i × Has after i
+    from i start =
+        let x = must i first start at_first in
+        let y = must i last start at_last in
+        let low : i ≤ first = x.0 in
+        let high : last < i + number = y.1 in (
+          q.from i (s.from i (window_from l room number i r start.window), b.from i (omega arith)),
+          d.from i (omega arith, omega arith, c.from (i - (last + 1 - number)) (omega arith)),
+        )
+
+-- no start, no placing
+pub lone_unfillable : (l : List Cell) (clue : List ℕ) (starts m : ℕ) → ArePositive clue → length clue ≡ 1 → IsMaskOf (IsLoneStart l (get_or clue 0 0)) starts → starts ≡ 0 → m ≡ 0 → IsMaskOf (IsFillable l clue) m
+lone_unfillable l clue starts m pos one s none e = record {
+  to = λ i h. let z : Has 0 i = subst (λ (k : ℕ). Has k i) e h in absurd (omega (arith, bit_at-zero i));
+  from = λ i h. let f = fills_to l clue i pos one h in let z : Has 0 f.s = subst (λ (k : ℕ). Has k f.s) none (s.from f.s f.start) in absurd (omega (arith, bit_at-zero f.s));
+}
+
+pub lone_unblankable : (l : List Cell) (clue : List ℕ) (starts m : ℕ) → length clue ≡ 1 → IsMaskOf (IsLoneStart l (get_or clue 0 0)) starts → starts ≡ 0 → m ≡ 0 → IsMaskOf (IsBlankable l clue) m
+lone_unblankable l clue starts m one s none e = record {
+  to = λ i h. let z : Has 0 i = subst (λ (k : ℕ). Has k i) e h in absurd (omega (arith, bit_at-zero i));
+  from = λ i h. let f = leaves_to l clue i one h in let z : Has 0 f.s = subst (λ (k : ℕ). Has k f.s) none (s.from f.s f.start) in absurd (omega (arith, bit_at-zero f.s));
+}
+
+-- each cell among as many from a start on
+pub lone_fillable : (l : List Cell) (clue : List ℕ) (w starts ends m : ℕ) → ArePositive clue → length clue ≡ 1 → 0 < get_or clue 0 0 → length l ≤ w → IsMaskOf (IsLoneStart l (get_or clue 0 0)) starts
+    → IsMaskOf (IsMoved w (Has starts) (get_or clue 0 0 - 1)) ends → IsMaskOf (SomeFrom (Has ends) (get_or clue 0 0)) m → IsMaskOf (IsFillable l clue) m
+lone_fillable l clue w starts ends m pos one some short s p q = mask_same (SomeFrom (Has ends) (get_or clue 0 0)) (IsFillable l clue) m q to from
+  where
+    to : (i : ℕ) → SomeFrom (Has ends) (get_or clue 0 0) i → IsFillable l clue i
+    to i h =
+        let z = h.0 in
+        let below : z < get_or clue 0 0 = h.1 in
+        let e = p.to (i + z) h.2 in
+        let enough : get_or clue 0 0 - 1 ≤ i + z = e.1 in
+        fills_from l clue i (i + z - (get_or clue 0 0 - 1)) pos one (s.to (i + z - (get_or clue 0 0 - 1)) e.2) (omega arith) (omega arith)
+
+    from : (i : ℕ) → IsFillable l clue i → SomeFrom (Has ends) (get_or clue 0 0) i
+    from i h =
+        let f = fills_to l clue i pos one h in
+        let low = f.low in
+        let high = f.high in
+        let last : f.s + (get_or clue 0 0 - 1) < length l = (f.start.window (get_or clue 0 0 - 1) (omega arith)).0 in
+        let z = f.s + (get_or clue 0 0 - 1) - i in
+        let back : i + z - (get_or clue 0 0 - 1) ≡ f.s = omega arith in
+        (z, omega arith, p.from (i + z) (omega arith, omega arith, subst (Has starts) (sym back) (s.from f.s f.start)))
+
+-- each cell but those that the run fills from each start
+pub lone_blankable : (l : List Cell) (clue : List ℕ) (w len line starts first last certain m : ℕ) → ArePositive clue → length clue ≡ 1 → len ≡ length l → length l ≤ w → IsMaskOf (IsLoneStart l (get_or clue 0 0)) starts
+    → Has starts first → ((i : ℕ) → Has starts i → first ≤ i) → Has starts last → ((i : ℕ) → Has starts i → i ≤ last)
+    → IsMaskOf (λ i. (i < w) × (last ≤ i) × (i < first + get_or clue 0 0)) certain → IsMaskOf (λ i. i < len) line → IsMaskOf (λ i. Has line i × (has certain i ≡ false)) m → IsMaskOf (IsBlankable l clue) m
+lone_blankable l clue w len line starts first last certain m pos one e short s at_first least at_last greatest c a p =
+    mask_same (λ i. Has line i × (has certain i ≡ false)) (IsBlankable l clue) m p to from
+  where
+    to : (i : ℕ) → Has line i × (has certain i ≡ false) → IsBlankable l clue i
+    to i h =
+        let within : i < len = a.to i h.0 in
+        elim (cases_lt i last) [
+          | inl before ↦ leaves_from l clue i last pos one (omega arith) (s.to last at_last) (inl before)
+          | inr from ↦ elim (cases_lt i (first + get_or clue 0 0)) [
+            | inl inside ↦ absurd (true≢false (sym (has_true certain i (c.from i (omega arith, from, inside))) ∙ h.1))
+            | inr after ↦ leaves_from l clue i first pos one (omega arith) (s.to first at_first) (inr after)
+          ]
+        ]
+
+    out : (i : ℕ) → LeavesFrom l (get_or clue 0 0) i → Has certain i → ⊥
+    out i f h =
+        let x = c.to i h in
+        let low : last ≤ i = x.1 in
+        let high : i < first + get_or clue 0 0 = x.2 in
+        let most = greatest f.s (s.from f.s f.start) in
+        let few = least f.s (s.from f.s f.start) in
+        elim f.out [ inl y ↦ absurd (omega arith) | inr y ↦ absurd (omega arith) ]
+
+    from : (i : ℕ) → IsBlankable l clue i → Has line i × (has certain i ≡ false)
+    from i h =
+        let within : i < length l = h.2.0.0 in
+        (a.from i (omega arith), has_by certain i false (λ x. absurd (out i (leaves_to l clue i one h) x)) (λ e. absurd (true≢false (sym e))))

@@ -1,0 +1,31 @@
+use Rattle.std.proofs.Common.{◌≡◌, ◌+◌, ◌-◌, ◌⊎◌, inl, inr, ℕ, ◌<◌, length, arith}
+use Rattle.std.proofs.lemmas.Nat.Bits.{bit_at-zero}
+use Rattle.std.proofs.lemmas.List.Elements.{recursion_from_All}
+use Rattle.place_sets.specs.Masks.{Has, IsMaskOf}
+use Rattle.place_sets.proofs.Steps.{mask_same}
+use Rattle.line_core.proofs.RunLaws.{ArePositive}
+use Rattle.line_core.proofs.Joining.{positive_at}
+use Rattle.line_core.proofs.Composing.{whole_is}
+use Rattle.place_sets.proofs.Uses.{meet_of, has_of}
+use Rattle.place_sets.proofs.Doubling.{one_within}
+use Rattle.line_core.proofs.reach.inner_ends.Goals as goal
+
+pub down-requires : goal.down-requires
+down-requires g c = one_within g.W.PlaceSet.WIDTH g.W.PlaceSet.TOP g.met.W.PlaceSet.top_is.0 g.met.W.PlaceSet.width_is
+
+pub returns : goal.returns
+returns g c =
+    let number = g.W.PlaceSet.number in
+    let line = g.line in
+    let clue = c.args.clue.now in
+    let j = c.args.j in
+    let ends = number c.args.ends in
+    let ahead = number c.args.ahead in
+    let inner = c.requires.1.1.0 in
+    let pos : ArePositive clue = recursion_from_All (λ (n : ℕ). 0 < n) clue c.requires.1.0.positive in
+    let none : IsMaskOf (λ i. (i ≡ length line - 1) × (j + 1 ≡ length clue)) 0 =
+    record { to = λ i h. absurd (omega (arith, bit_at-zero i)); from = λ i h. let e : j + 1 ≡ length clue = h.1 in absurd (omega arith) } in
+    whole_is line clue j ends ahead 0 (number c.and.result) (omega arith) (positive_at clue pos j (omega arith)) c.requires.1.1.1.0 c.requires.1.1.1.1 none
+    (mask_same (λ i. Has ends i × Has ahead (i + 1)) (λ i. Has ends i × (Has ahead (i + 1) ⊎ Has 0 i)) (number c.and.result)
+    (meet_of (Has ends) (λ i. Has ahead (i + 1)) ends (number c.down.result) (number c.and.result) (has_of ends) c.down.ensures c.and.ensures)
+    (λ i h. (h.0, inl h.1)) (λ i h. (h.0, elim h.1 [ inl x ↦ x | inr z ↦ absurd (omega (arith, bit_at-zero i)) ])))

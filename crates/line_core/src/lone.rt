@@ -1,0 +1,61 @@
+//! Deduction on a line whose clue is one run: the places at which it can start tell all.
+
+ghost use Rattle.std.specs.Prelude.{◌≡◌, ◌+◌, ◌<◌, ◌≤◌, List, length};
+ghost use Rattle.grid_core.specs.declared.cells.Cell.{Cell};
+ghost use Rattle.place_sets.specs.Masks.{IsMaskOf};
+ghost use Rattle.line_core.specs.Lone.{IsLoneStart};
+ghost use Rattle.line_core.specs.Passes.{IsSpanOf};
+ghost use Rattle.line_core.specs.Reach.{AreLengths, IsFillable, IsBlankable};
+
+use crate::spans::Span;
+use place_sets::{PlaceSet, places, spread, starts_within};
+
+/// The starts of a run of so many cells that is alone on its line: from there on as many cells may be filled, and each cell that is filled is among
+/// them.
+fn lone_starts<W: PlaceSet>(span: &Span<W>, number: u16) -> W
+    ghost line: { List Cell }
+    requires span { IsSpanOf W.WIDTH line span.now.len (W.number span.now.free) (W.number span.now.room) }
+    requires number { (0 < number) × (number ≤ W.WIDTH) }
+    ensures { IsMaskOf (IsLoneStart line number) (W.number result) }
+{
+    let starts = starts_within(span.room, number);
+    let filled = places::<W>(span.len).without(span.free);
+    if filled.is_empty() {
+        return starts;
+    }
+    let least = (filled.last_place() + 1).saturating_sub(number);
+    let greatest = filled.first_place();
+    starts.and(places(greatest + 1)).and(W::all().up(least))
+}
+
+/// The cells that a run of so many cells fills from each of its starts, given the least and the greatest.
+fn lone_overlap<W: PlaceSet>(least: u16, greatest: u16, number: u16) -> W
+    requires order { least ≤ greatest }
+    requires within { greatest < W.WIDTH }
+    requires number { (0 < number) × (number ≤ W.WIDTH) }
+    ensures { IsMaskOf (λ i. (i < W.WIDTH) × (greatest ≤ i) × (i < least + number)) (W.number result) }
+{
+    if least + number <= greatest {
+        return W::none();
+    }
+    places::<W>(least + number - greatest).up(greatest)
+}
+
+/// The cells that are filled in some placing, and those that are blank in some, by a clue of one run.
+pub fn lone_colours<W: PlaceSet>(span: &Span<W>, clue: &[u16]) -> (W, W)
+    ghost line: { List Cell }
+    requires span { IsSpanOf W.WIDTH line span.now.len (W.number span.now.free) (W.number span.now.room) }
+    requires clue { AreLengths W.WIDTH clue.now }
+    requires one { length clue.now ≡ 1 }
+    ensures filled { IsMaskOf (IsFillable line clue.now) (W.number result.0) }
+    ensures blank { IsMaskOf (IsBlankable line clue.now) (W.number result.1) }
+{
+    let number = clue[0];
+    let starts = lone_starts(span, number);
+    if starts.is_empty() {
+        return (W::none(), W::none());
+    }
+    let certain = lone_overlap::<W>(starts.first_place(), starts.last_place(), number);
+    let fillable = spread(starts.up(number - 1), number);
+    (fillable, places::<W>(span.len).without(certain))
+}
