@@ -7,6 +7,7 @@ pub mod StepLaws
 pub mod NumberedLines
 pub mod LineSteps
 pub mod GridSteps
+pub mod GridLineSteps
 pub mod BoardSteps
 pub mod TrialSteps
 pub mod WitnessLaws
@@ -20,3 +21,4 @@ pub mod Examples
 pub mod Fitting
 pub mod Changes
 pub mod MarkSteps
+pub mod Counting

@@ -1,5 +1,5 @@
 -- Marks of lines that are kept as two masks, seen as one list.
-use Rattle.std.proofs.Common.{◌≡◌, ◌≢◌, ◌∙◌, ℕ, ◌+◌, ◌-◌, ◌<◌, ◌≤◌, ◌⊎◌, ◌++◌, inl, inr, Bool, true, false, List, length, map, get_or, set, Option, Some, None, ap, sym, arith, true≢false, zero-add, ext_get_or, length-set, get_or-set_same, get_or-set_other}
+use Rattle.std.proofs.Common.{◌≡◌, ◌≢◌, ◌∙◌, ℕ, ◌+◌, ◌-◌, ◌<◌, ◌≤◌, ◌⊎◌, inl, inr, Bool, true, false, length, map, get_or, set, Option, Some, None, ap, sym, arith, true≢false, zero-add, ext_get_or, length-set, get_or-set_same, get_or-set_other}
 use Rattle.std.specs.Int.{bit_at}
 use Rattle.std.specs.List.{range_with_len}
 use Rattle.std.proofs.lemmas.Nat.Bits.{bit_at-zero}
@@ -8,7 +8,7 @@ use Rattle.std.proofs.Math.ListN.{get_or-eq_default}
 use Rattle.std.proofs.lemmas.List.{length-append, get_or_append_left, get_or-append_right}
 use Rattle.std.proofs.lemmas.List.FromFn.{length-map-range_with_len, get_or-map-range_with_len}
 use Rattle.place_sets.specs.Masks.{Has, has, IsMarked, IsMaskOf}
-use Rattle.place_sets.proofs.HasLemmas.{has_true, true_has, has_false}
+use Rattle.place_sets.proofs.HasLemmas.{has_true}
 use Rattle.line_core.proofs.LineCells.{has_by, marked_at, marked_elsewhere}
 use Rattle.solve_core.specs.LineMarks.{marks_by, IsFirstBetween, IsFirstMarked, MarksPlaces}
 use Rattle.solve_core.specs.Lines.{places_in}

@@ -1,4 +1,4 @@
-use Rattle.std.proofs.Common.{◌≡◌, ◌≢◌, ℕ, zero, suc, ◌+◌, ◌<◌, ◌≤◌, List, [], ◌∷◌, ◌++◌, length, get_or, set, refl, sym, ap, ◌∙◌, arith, subst, Option, Some, None, IfSome, true, false, Bool, cond, position, true≢false, get_or-set_other}
+use Rattle.std.proofs.Common.{◌≡◌, ◌≢◌, ℕ, zero, suc, ◌+◌, ◌<◌, ◌≤◌, inl, inr, List, [], ◌∷◌, ◌++◌, length, get_or, set, refl, sym, ap, ◌∙◌, arith, subst, Option, Some, None, IfSome, true, false, Bool, cond, position, true≢false, get_or-set_other}
 use Rattle.std.specs.List.{position_from}
 use Rattle.std.proofs.lemmas.List.Quantifiers.{position-Some}
 use Rattle.std.proofs.lemmas.Iterator.Adapters.{position_from-zero}
@@ -12,6 +12,8 @@ use Rattle.solve_core.specs.Search.{Event, IsPick, guess_at, search_from, events
 use Rattle.solve_core.specs.Trails.{unknown_count}
 use Rattle.solve_core.specs.Branches.{AreKnownBefore, IsClosed, IsNext, IsOpen, IsWork, AreOlder}
 use Rattle.line_core.proofs.DeductionLaws.{Extends-at}
+use Rattle.line_core.specs.Lines.{IsUnknownFrom}
+use Rattle.solve_core.proofs.LineSteps.{before_or_from}
 use Rattle.solve_core.proofs.Closing.{repeat-fixed}
 use Rattle.solve_core.proofs.ClosureLaws.{closure-IsLeastClosed}
 use Rattle.solve_core.proofs.SearchLaws.{events-unfold, unknown_is, unknown_count-more}
@@ -111,3 +113,14 @@ known-before lines cells now place c first closed k l =
     let other : k ≢ place = omega arith in
     let before : is_unknown (get_or (set cells place c) k Unknown) ≡ false = rw get_or-set_other ((position-Some is_unknown cells place Unknown first).2 k l) in
     known_stays (get_or (set cells place c) k Unknown) (get_or now k Unknown) before (Extends-at (set cells place c) now k above)
+
+-- if no cell before a place is unknown, the first unknown one from there on is the first of all
+pub first-from : (cells seen : List Cell) (start : ℕ) (found : Option ℕ) → seen ≡ cells → AreKnownBefore start cells → IsUnknownFrom seen start found → found ≡ first_unknown cells
+first-from cells seen start found e before h = by found (subst (λ (r : List Cell). IsUnknownFrom r start found) e h)
+  where
+    by : (found : Option ℕ) → IsUnknownFrom cells start found → found ≡ first_unknown cells
+    by None none = sym (position-none is_unknown cells (λ j l. elim (before_or_from j start) [ inl early ↦ before j early | inr late ↦ none j late l ]))
+    by (Some place) at =
+        sym
+        (position-at is_unknown cells place at.1 (ap is_unknown at.2)
+        (λ j l. elim (before_or_from j start) [ inl early ↦ before j early | inr late ↦ at.3 j late l ]))

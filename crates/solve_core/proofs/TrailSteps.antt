@@ -1,12 +1,13 @@
 -- How the trail of settled cells grows.
-use Rattle.std.proofs.Common.{◌≡◌, ℕ, zero, suc, ◌+◌, ◌<◌, ◌≤◌, true, List, [], ◌∷◌, ◌++◌, length, get_or, set, refl, sym, ap, ◌∙◌, arith, subst, length-append, length-set, append-nil, append_assoc, true≢false}
+use Rattle.std.proofs.Common.{◌≡◌, ℕ, zero, suc, ◌+◌, ◌<◌, ◌≤◌, true, List, [], ◌∷◌, ◌++◌, length, get_or, set, refl, sym, ap, ◌∙◌, arith, subst, length-append, length-set, append-nil, append_assoc, true≢false, replicate}
+use Rattle.std.proofs.lemmas.List.{length-replicate}
 use Rattle.std.specs.List.{AllByRecursion}
 use Rattle.grid_core.specs.declared.cells.Cell.{Cell}
 use Rattle.grid_core.specs.declared.cells.Cell.TheVariants.{Unknown, Filled, Blank}
 use Rattle.grid_core.specs.Cells.{is_known}
 use Rattle.grid_core.specs.Nonogram.{Nonogram}
 use Rattle.solve_core.specs.Boards.{IsBoardOf}
-use Rattle.solve_core.specs.Trails.{TrailedGrid, unknown_count, cleared, IsTrailed}
+use Rattle.solve_core.specs.Trails.{TrailedGrid, unknown_count, cleared, IsFullTrail, IsTrailed}
 
 pub cleared-append : (cells : List Cell) (ks js : List ℕ) → cleared cells (ks ++ js) ≡ cleared (cleared cells js) ks
 cleared-append cells [] js = refl
@@ -82,3 +83,24 @@ unknown_count-at_most [] = omega arith
 unknown_count-at_most (Unknown ∷ g) = omega (arith, unknown_count-at_most g)
 unknown_count-at_most (Filled ∷ g) = omega (arith, unknown_count-at_most g)
 unknown_count-at_most (Blank ∷ g) = omega (arith, unknown_count-at_most g)
+
+unknown_count-all : (n : ℕ) → unknown_count (replicate n Unknown) ≡ n
+unknown_count-all zero = refl
+unknown_count-all (suc n) = ap suc (unknown_count-all n)
+
+-- if nothing was known of a grid, each cell that was settled stands on the trail
+pub full-trail : (old new : TrailedGrid) (n : ℕ) → IsTrailed old new → old.trail ≡ [] → old.cells ≡ replicate n Unknown → IsFullTrail new
+full-trail old new n t e u =
+    omega (
+      arith,
+      ap length t.kept,
+      length-append old.trail t.added,
+      ap length e,
+      t.count,
+      ap unknown_count u,
+      unknown_count-all n,
+      ap length u,
+      length-replicate n Unknown,
+      ap length t.undo,
+      length-cleared new.cells t.added,
+    )

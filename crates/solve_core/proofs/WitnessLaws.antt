@@ -1,5 +1,5 @@
 -- What an alive trial of a grid tells of a grid that has learned more.
-use Rattle.std.proofs.Common.{◌≡◌, ◌≢◌, ℕ, zero, suc, ◌+◌, ◌-◌, ◌*◌, ◌/◌, ◌%◌, ◌<◌, ◌≤◌, ◌⊎◌, inl, inr, Bool, true, false, List, [], ◌∷◌, ◌++◌, length, take, replicate, get_or, set, Some, refl, sym, ap, ◌∙◌, arith, subst, true≢false, get_or-set_other, length-append}
+use Rattle.std.proofs.Common.{◌≡◌, ◌≢◌, ℕ, zero, suc, ◌+◌, ◌-◌, ◌*◌, ◌/◌, ◌%◌, ◌<◌, ◌≤◌, ◌⊎◌, inl, inr, Bool, true, false, List, [], ◌∷◌, ◌++◌, length, take, replicate, get_or, set, Some, refl, sym, ap, ◌∙◌, arith, subst, true≢false, get_or-set_same, get_or-set_other, length-append, length-set}
 use Rattle.std.proofs.Math.ListN.{get_or-map}
 use Rattle.std.proofs.lemmas.List.{get_or_append_left, get_or_past, get_or-take, get_or-replicate, length-take-le, length-replicate, length-map}
 use Rattle.std.proofs.Math.Seq.{get_or-append_seam}
@@ -23,7 +23,7 @@ use Rattle.solve_core.proofs.ClosureLaws.{closure-IsLeastClosed}
 use Rattle.solve_core.proofs.TrialSteps.{met_open, set_within}
 use Rattle.solve_core.proofs.NumberedLines.{unique_place, along-row, along-column, line_is_one}
 use Rattle.solve_core.proofs.GridSteps.{settled_closed, place_again, line_place, line-distinct, line-below}
-use Rattle.solve_core.proofs.LineSteps.{cells_at-same, closed_settled, before_or_from}
+use Rattle.solve_core.proofs.LineSteps.{cells_at-same, closed_settled, before_or_from, same_or_not}
 
 -- ---- two grids as one
 
@@ -335,6 +335,35 @@ added_numbered w last n = record {
   none = ap (λ (q : Witness). q.counts) (get_or_append_left w.witnesses (last ∷ []) no_witness 0 (n.within 0 Unknown)) ∙ n.none;
   within = λ k c. let before = n.within k c in omega (arith, length-append w.witnesses (last ∷ []));
 }
+
+-- a number noted at a place where a trial has the colour
+pub meets-filled : (w : WitnessedPuzzle) (place number : ℕ) (trial : List Cell) → place < length w.fillable → get_or trial place Unknown ≡ Filled
+    → AddsMet w (record w { fillable = set w.fillable place number }) number trial
+meets-filled w place number trial h e = record { puzzle = refl; witnesses = refl; filled_count = length-set w.fillable place number; blank_count = refl; met = by }
+  where
+    by : (k : ℕ) (colour : Cell) → (get_or (met_by (record w { fillable = set w.fillable place number }) colour) k 0 ≡ get_or (met_by w colour) k 0)
+        ⊎ ((get_or (met_by (record w { fillable = set w.fillable place number }) colour) k 0 ≡ number) × (get_or trial k Unknown ≡ colour))
+    by k Unknown = inl refl
+    by k Filled =
+        elim (same_or_not k place) [
+          | inl same ↦ inr (ap (λ (q : ℕ). get_or (set w.fillable place number) q 0) same ∙ get_or-set_same w.fillable place number 0 h, ap (λ (q : ℕ). get_or trial q Unknown) same ∙ e)
+          | inr other ↦ inl (get_or-set_other w.fillable place k number 0 other)
+        ]
+    by k Blank = inl refl
+
+pub meets-blank : (w : WitnessedPuzzle) (place number : ℕ) (trial : List Cell) → place < length w.blankable → get_or trial place Unknown ≡ Blank
+    → AddsMet w (record w { blankable = set w.blankable place number }) number trial
+meets-blank w place number trial h e = record { puzzle = refl; witnesses = refl; filled_count = refl; blank_count = length-set w.blankable place number; met = by }
+  where
+    by : (k : ℕ) (colour : Cell) → (get_or (met_by (record w { blankable = set w.blankable place number }) colour) k 0 ≡ get_or (met_by w colour) k 0)
+        ⊎ ((get_or (met_by (record w { blankable = set w.blankable place number }) colour) k 0 ≡ number) × (get_or trial k Unknown ≡ colour))
+    by k Unknown = inl refl
+    by k Filled = inl refl
+    by k Blank =
+        elim (same_or_not k place) [
+          | inl same ↦ inr (ap (λ (q : ℕ). get_or (set w.blankable place number) q 0) same ∙ get_or-set_same w.blankable place number 0 h, ap (λ (q : ℕ). get_or trial q Unknown) same ∙ e)
+          | inr other ↦ inl (get_or-set_other w.blankable place k number 0 other)
+        ]
 
 -- noted numbers of a witness are those of witnesses
 pub more_numbered : (w new : WitnessedPuzzle) (number : ℕ) (trial : List Cell) → AreNumbered w → number < length w.witnesses → AddsMet w new number trial → AreNumbered new

@@ -1,5 +1,5 @@
 -- Deductions of a puzzle's lines that are remembered.
-use Rattle.std.specs.Prelude.{◌≡◌, ◌⊎◌, ℕ, ◌≤◌, List, All}
+use Rattle.std.specs.Prelude.{◌≡◌, ◌⊎◌, ℕ, ◌*◌, ◌≤◌, List, All}
 use Rattle.std.specs.List.{Contains}
 use Rattle.grid_core.specs.Nonogram.{Nonogram}
 use Rattle.line_core.specs.Deduction.{deduced}
@@ -16,11 +16,11 @@ IsDeductionOf p d = d.answer ≡ deduced d.line (line_at p d.number).clue
 abbrev pub IsKeptFrom : {W : Type 0} → List (Deduction W) → Deduction W → Deduction W → Type 0
 IsKeptFrom old new d = (d ≡ new) ⊎ Contains old d
 
--- what is kept with the deductions of a puzzle: each is one, there is room for so many, and for so many slots, and sets of the width have room for the puzzle
+-- what is kept with the deductions of a puzzle: each is one, there is room for so many, and for so many groups of slots, and sets of the width have room for the puzzle
 pub record AreDeductionsOf {W : Type 0} (p : Nonogram) (width room slots_room kept_room : ℕ) (kept : List (Deduction W)) : Type 0 where
   pub fits : FitsIn width p
   pub some : 1 ≤ room
   pub few : room ≤ MOST_REMEMBERED
-  pub slots_fit : room ≤ slots_room
+  pub slots_fit : room ≤ 64 * slots_room
   pub kept_fit : room ≤ kept_room
   pub right : All (IsDeductionOf p) kept

@@ -6,6 +6,7 @@ pub mod WitnessedPuzzles
 pub mod Witnesses
 pub mod Trails
 pub mod Boards
+pub mod GridLines
 pub mod MarkedPuzzles
 pub mod TriedPuzzles
 pub mod Lines

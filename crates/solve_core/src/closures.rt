@@ -81,8 +81,8 @@ fn learn_line<W: LineSet>(
     ensures trail { IsTrailed board.old board.new }
     ensures puzzle { deductions.new ≡ deductions.old }
 {
-    let old = board.line(n);
-    let Some(new) = deductions.deduce(n, &old) else {
+    let old = board.lines().line(n);
+    let Some(new) = deductions.deduce(n, old) else {
         return Progress::Dead;
     };
     let changes = old.changes(&new);
@@ -196,6 +196,7 @@ impl<'p, W: LineSet> Closer<'p, W> {
         requires size { IsBoardOf self.old.puzzle board.old }
         ensures closed { if_alive result board.new.cells ≡ closure (lines_of self.old.puzzle) board.old.cells }
         ensures rest { IsTrue result → IsAtRest self.new board.new.cells }
+        ensures trail { IsTrailed board.old board.new }
         ensures size { IsBoardOf self.old.puzzle board.new }
         ensures puzzle { self.new.puzzle ≡ self.old.puzzle }
     {

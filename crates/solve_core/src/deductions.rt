@@ -1,5 +1,5 @@
 //! Deductions of a puzzle's lines, remembered.
-ghost use Rattle.std.specs.Prelude.{◌≡◌, ◌+◌, ◌<◌, ◌≤◌, ◌↔◌, vec_capacity, IsTrue, IfOk, All};
+ghost use Rattle.std.specs.Prelude.{◌≡◌, ◌+◌, ◌*◌, ◌<◌, ◌≤◌, ◌↔◌, length, vec_capacity, IsTrue, IfOk, IfSome, All};
 ghost use Rattle.line_core.specs.Deduction.{deduced};
 ghost use Rattle.solve_core.specs.Deductions.{IsKeptFrom};
 ghost use Rattle.solve_core.specs.Lines.{line_at, line_count};
@@ -11,11 +11,14 @@ use line_core::{LineOf, LineSet, Tables};
 use std::alloc::Global;
 use std::marker::Model;
 
-/// How many deductions are remembered at most.
-pub const MOST_REMEMBERED: usize = 4096;
+/// How many deductions are remembered at most, in sets of 64 places.
+pub const MOST_REMEMBERED: usize = 16384;
 
 /// How many deductions are remembered for each cell of a puzzle, as long as they aren't too many.
-const REMEMBERED_PER_CELL: usize = 4;
+const REMEMBERED_PER_CELL: usize = 16;
+
+/// How many slots are made at once.
+const GROUP: usize = 64;
 
 /// From how many runs on a line is remembered: with fewer it is deduced as soon as it is looked up.
 const FEWEST_RUNS: usize = 3;
@@ -50,23 +53,47 @@ impl<W: LineSet> Deduction<W> {
     }
 }
 
+/// How many deductions are remembered at most in sets of a width: the wider they are the fewer, so that they take the same room.
+fn most_remembered<W: LineSet>() -> usize
+    ensures { (1 ≤ result) × (result ≤ MOST_REMEMBERED) }
+{
+    (MOST_REMEMBERED * 64 / usize::from(W::WIDTH)).min(MOST_REMEMBERED)
+}
+
 /// How many deductions are remembered for a puzzle of so many cells: a power of two.
-fn room_for(cells: usize) -> usize
+fn room_for<W: LineSet>(cells: usize) -> usize
     requires { cells ≤ 65536 }
     ensures { (1 ≤ result) × (result ≤ MOST_REMEMBERED) }
 {
     (cells * REMEMBERED_PER_CELL)
         .next_power_of_two()
-        .min(MOST_REMEMBERED)
+        .min(most_remembered::<W>())
 }
 
-/// Which of so many slots is that of a line.
-fn slot_of<W: LineSet>(number: usize, line: &LineOf<W>, slots: usize) -> usize
+/// Which of so many slots, a power of two, is that of a line, by its group and its place there. None if there is no slot yet, or if the line's
+/// clue has so few runs that it is deduced as soon as it is looked up.
+fn slot_of<W: LineSet>(
+    groups: &[[u16; GROUP]],
+    slots: usize,
+    number: usize,
+    line: &LineOf<W>,
+    runs: usize,
+) -> Option<(usize, usize)>
     requires { 0 < slots }
-    ensures { result < slots }
+    ensures { IfSome result (λ slot. (slot.0 < length groups.now) × (slot.1 < 64)) }
 {
-    let mixed = line.hash() ^ (number as u64).wrapping_mul(0x8cb9_2ba7_2f3d_8dd7);
-    (mixed >> 52) as usize & (slots - 1)
+    if groups.is_empty() || runs < FEWEST_RUNS {
+        return None;
+    }
+    let mixed = line
+        .hash()
+        .wrapping_add((number as u64).wrapping_mul(0x8cb9_2ba7_2f3d_8dd7));
+    let slot = (mixed >> 50) as usize & (slots - 1);
+    if slot / GROUP < groups.len() {
+        Some((slot / GROUP, slot % GROUP))
+    } else {
+        None
+    }
 }
 
 /// Keeps a deduction in the place of the one that has the index, or else as one more, and writes its index, if there is room.
@@ -98,7 +125,7 @@ pub struct Deductions<'p, W: LineSet> {
     puzzle: &'p Puzzle,
     tables: Tables,
     room: usize,
-    slots: Vec<u16>,
+    slots: Vec<[u16; GROUP]>,
     kept: Vec<Deduction<W>>,
 }
 
@@ -121,10 +148,10 @@ impl<'p, W: LineSet> Deductions<'p, W> {
         ensures { IfOk result (λ deductions. deductions ≡ puzzle.now) }
     {
         let cells = usize::from(puzzle.width()) * usize::from(puzzle.height());
-        Deductions::with_room(alloc, puzzle, room_for(cells))
+        Deductions::with_room(alloc, puzzle, room_for::<W>(cells))
     }
 
-    /// Makes the room for so many deductions, 1 to 4,096.
+    /// Makes the room for so many deductions, 1 to 16,384.
     pub(crate) fn with_room(
         alloc: Global,
         puzzle: &'p Puzzle,
@@ -138,7 +165,7 @@ impl<'p, W: LineSet> Deductions<'p, W> {
             puzzle,
             tables: Tables::new(alloc, LONGEST_SIDE)?,
             room,
-            slots: Vec::with_capacity(alloc, room)?,
+            slots: Vec::with_capacity(alloc, room.div_ceil(GROUP))?,
             kept: Vec::with_capacity(alloc, room)?,
         })
     }
@@ -147,8 +174,8 @@ impl<'p, W: LineSet> Deductions<'p, W> {
     pub fn open(&mut self)
         ensures { self.new ≡ self.old }
     {
-        while self.slots.len() < self.room {
-            self.slots.push_reserved(NO_DEDUCTION);
+        while self.slots.len() < self.room.div_ceil(GROUP) {
+            self.slots.push_reserved([NO_DEDUCTION; GROUP]);
         }
     }
 
@@ -160,11 +187,11 @@ impl<'p, W: LineSet> Deductions<'p, W> {
         ensures puzzle { self.new ≡ self.old }
     {
         let clue = clue_of_line(self.puzzle, number);
-        if self.slots.is_empty() || clue.numbers().len() < FEWEST_RUNS {
+        let runs = clue.numbers().len();
+        let Some((group, place)) = slot_of(&self.slots, self.room, number, line, runs) else {
             return W::deduce(&mut self.tables, line, clue);
-        }
-        let slot = slot_of(number, line, self.slots.len());
-        let index = usize::from(self.slots[slot]);
+        };
+        let index = usize::from(self.slots[group][place]);
         if index < self.kept.len() && self.kept[index].is_of(number, line) {
             return copy_answer(&self.kept[index].answer);
         }
@@ -174,7 +201,12 @@ impl<'p, W: LineSet> Deductions<'p, W> {
             line: line.copy(),
             answer: copy_answer(&answer),
         };
-        keep(&mut self.kept, &mut self.slots[slot], self.room, deduction);
+        keep(
+            &mut self.kept,
+            &mut self.slots[group][place],
+            self.room,
+            deduction,
+        );
         answer
     }
 }

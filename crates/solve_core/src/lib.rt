@@ -6,6 +6,7 @@ mod branches;
 mod closures;
 mod deductions;
 mod findings;
+mod grid_lines;
 mod grids;
 pub mod laws;
 mod marks;
@@ -28,6 +29,8 @@ mod tests_refusals;
 mod tests_refused;
 #[cfg(test)]
 mod tests_search;
+#[cfg(test)]
+mod tests_widths;
 mod trials;
 mod widths;
 mod witnesses;

@@ -13,7 +13,6 @@ ghost use Rattle.solve_core.specs.Trails.{IsTrailed};
 use crate::boards::Board;
 use grid_core::{Clue, Puzzle};
 use line_core::{LineOf, LineSet};
-use place_sets::first_from;
 
 /// Where a line's cells are, and which lines cross it.
 #[derive(Clone, Copy)]
@@ -81,9 +80,10 @@ pub fn write_line<W: LineSet>(board: &mut Board<W>, n: usize, new: &LineOf<W>, c
     ensures cells { board.new.cells ≡ with_cells board.old.cells (places_of (places_in board.old.width board.old.height n)) new.now }
     ensures trail { IsTrailed board.old board.new }
 {
-    let mut from = 0;
-    while let Some(i) = first_from(changes, from) {
+    let mut left = changes;
+    while !left.is_empty() {
+        let i = left.first_place();
+        left = left.marked(i, false);
         board.settle_along(n, usize::from(i), new.get(i));
-        from = i + 1;
     }
 }

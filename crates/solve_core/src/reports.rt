@@ -1,9 +1,13 @@
 //! The report on a puzzle.
-ghost use Rattle.std.specs.Prelude.{◌≡◌, ◌≤◌, [], length, count_by, vec_capacity, IfOk};
+ghost use Rattle.std.specs.Prelude.{◌≡◌, ◌≤◌, [], length, count_by, vec_capacity, true, IfOk, IsTrue};
 ghost use Rattle.std.specs.List.{list_all};
 ghost use Rattle.grid_core.specs.Cells.{is_known};
 ghost use Rattle.solve_core.specs.Search.{first_unknown};
-ghost use Rattle.solve_core.specs.Boards.{unknown_board};
+ghost use Rattle.grid_core.specs.Nonogram.{lines_of};
+ghost use Rattle.solve_core.specs.Boards.{IsBoardOf, unknown_board};
+ghost use Rattle.solve_core.specs.Marks.{IsAtRest, if_alive};
+ghost use Rattle.solve_core.specs.Trails.{IsFullTrail};
+ghost use Rattle.solve_core.specs.Trials.{trials as trials_of};
 ghost use Rattle.solve_core.specs.Sizes.{IsSizeOf};
 ghost use Rattle.solve_core.specs.Report.{report_of, grade_by};
 ghost use Rattle.solve_core.specs.Verdicts.{Holds};
@@ -21,24 +25,56 @@ use line_core::LineSet;
 use place_sets::Wide;
 use std::alloc::Global;
 
+/// How many cells are known of a board each known cell of which stands on its trail.
+fn count_settled<W: LineSet>(board: &Board<W>) -> u32
+    requires { IsFullTrail board.now }
+    ensures { result ≡ count_by is_known board.now.cells }
+{
+    board.trail().len() as u32
+}
+
 /// How many cells are known.
 fn count_known<W: LineSet>(board: &Board<W>) -> u32
     ensures { result ≡ count_by is_known board.now.cells }
 {
+    let lines = board.lines();
     let mut count = 0;
-    for cell in board.cells() {
-        if cell.is_known() {
+    for place in 0..lines.count() {
+        if lines.at(place).is_known() {
             count += 1;
         }
     }
     count
 }
 
-/// Whether each cell is known.
-fn are_known<W: LineSet>(board: &Board<W>) -> bool
+/// How many cells are known, if it is known that so many are in a full board.
+fn count_unless_full<W: LineSet>(board: &Board<W>, full: bool, count: u32) -> u32
+    requires { full ≡ true → count ≡ count_by is_known board.now.cells }
+    ensures { result ≡ count_by is_known board.now.cells }
+{
+    if full { count } else { count_known(board) }
+}
+
+/// Whether each cell is known, if so many are.
+fn are_known<W: LineSet>(board: &Board<W>, known: u32) -> bool
+    requires { known ≡ count_by is_known board.now.cells }
     ensures { result ≡ list_all is_known board.now.cells }
 {
-    board.cells().iter().all(|cell| cell.is_known())
+    known as usize == board.lines().count()
+}
+
+/// Closes a board at rest under trials, of which nothing is left to do if it is full. Answers whether it is alive.
+fn try_unless_full<W: LineSet>(trials: &mut Trials<'_, W>, board: &mut Board<W>, full: bool) -> bool
+    requires rest { IsAtRest trials.old.closer board.old.cells }
+    requires size { IsBoardOf trials.old.closer.puzzle board.old }
+    requires full { full ≡ list_all is_known board.old.cells }
+    ensures tried { if_alive result board.new.cells ≡ trials_of (lines_of trials.old.closer.puzzle) board.old.cells }
+    ensures rest { IsTrue result → IsAtRest trials.new.closer board.new.cells }
+    ensures size { IsBoardOf trials.old.closer.puzzle board.new }
+    ensures full { full ≡ true → board.new ≡ board.old }
+    ensures puzzle { trials.new.closer.puzzle ≡ trials.old.closer.puzzle }
+{
+    full || trials.try_at_rest(board)
 }
 
 fn grade(lines_settle: bool, trials_settle: bool) -> Grade
@@ -77,9 +113,9 @@ fn findings<W: LineSet>(
             spent: 0,
         };
     }
-    let line_known = count_known(board);
-    let lines_settle = are_known(board);
-    if !trials.try_at_rest(board) {
+    let line_known = count_settled(board);
+    let lines_settle = are_known(board, line_known);
+    if !try_unless_full(trials, board, lines_settle) {
         return Findings {
             verdict: Verdict::Nothing,
             grade: grade(lines_settle, true),
@@ -88,8 +124,8 @@ fn findings<W: LineSet>(
             spent: 0,
         };
     }
-    let trial_known = count_known(board);
-    let grade = grade(lines_settle, are_known(board));
+    let trial_known = count_unless_full(board, lines_settle, line_known);
+    let grade = grade(lines_settle, are_known(board, trial_known));
     let mut solutions = solutions;
     let end = search(&mut trials.closer, board, branches, &mut solutions, guesses);
     Findings {
@@ -116,7 +152,7 @@ fn report_within<W: LineSet>(
     let height = puzzle.height();
     let mut trials = Trials::<W>::new(alloc, puzzle)?;
     let mut board = Board::<W>::unknown(alloc, width, height)?;
-    let mut branches = Vec::with_capacity(alloc, board.cells().len())?;
+    let mut branches = Vec::with_capacity(alloc, board.lines().count())?;
     let solutions = Solutions::new(alloc, width, height)?;
     Ok(findings(&mut trials, &mut board, &mut branches, solutions, guesses))
 }

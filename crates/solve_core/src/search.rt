@@ -25,24 +25,22 @@ pub struct SearchEnd {
     pub spent: u32,
 }
 
-/// The place of the first unknown cell in row order, where no cell before `start` is unknown.
-fn first_unknown(cells: &[Cell], start: usize) -> Option<usize>
-    requires { AreKnownBefore start cells.now }
-    ensures { result ≡ first_unknown cells.now }
+/// The place of the first unknown cell in row order, if no cell before `start` is unknown.
+fn first_unknown<W: LineSet>(board: &Board<W>, start: usize) -> Option<usize>
+    requires start { start ≤ length board.now.cells }
+    requires known { AreKnownBefore start board.now.cells }
+    ensures { result ≡ first_unknown board.now.cells }
 {
-    for place in start..cells.len() {
-        if cells[place].is_unknown() {
-            return Some(place);
-        }
-    }
-    None
+    board.lines().first_unknown(start)
 }
 
 /// Looks at a closed board, of which no cell before `start` is unknown: the place of the next guess, or none, and then it is a solution, which is
 /// kept.
 fn look_at<W: LineSet>(board: &Board<W>, start: usize, solutions: &mut Solutions) -> Option<usize>
+    requires start { start ≤ length board.now.cells }
     requires known { AreKnownBefore start board.now.cells }
-    requires size { length board.now.cells ≡ solutions.old.width * solutions.old.height }
+    requires width { board.now.width ≡ solutions.old.width }
+    requires height { board.now.height ≡ solutions.old.height }
     requires room { length solutions.old.grids < 2 }
     ensures ending { (p : Nonogram) → IsSizeOf p solutions.old.width solutions.old.height → (spent left : ℕ) (rest : List Event) →
         ending p solutions.new.grids spent left (open_events first_unknown (lines_of p) board.now.cells result rest)
@@ -54,10 +52,10 @@ fn look_at<W: LineSet>(board: &Board<W>, start: usize, solutions: &mut Solutions
     ensures width { solutions.new.width ≡ solutions.old.width }
     ensures height { solutions.new.height ≡ solutions.old.height }
 {
-    match first_unknown(board.cells(), start) {
+    match first_unknown(board, start) {
         Some(place) => Some(place),
         None => {
-            solutions.keep(board.cells());
+            solutions.keep(board.lines());
             None
         }
     }

@@ -1,12 +1,13 @@
 //! The solutions that a search keeps.
-ghost use Rattle.std.specs.Prelude.{◌≡◌, ◌*◌, ◌<◌, ◌≤◌, ◌++◌, [], ◌∷◌, length, IfOk};
+ghost use Rattle.std.specs.Prelude.{◌≡◌, ◌<◌, ◌≤◌, ◌++◌, [], ◌∷◌, length, IfOk};
 ghost use Rattle.grid_core.specs.PartialGrid.{IsSize};
 ghost use Rattle.solve_core.specs.FoundGrids.{FoundGrids};
 ghost use Rattle.solve_core.specs.Report.{verdict_by};
 
 use crate::Verdict;
-use crate::grids::write_grid;
-use grid_core::{Cell, Grid, NoMemory};
+use crate::grid_lines::GridLines;
+use grid_core::{Grid, NoMemory};
+use line_core::LineSet;
 use std::alloc::Global;
 use std::marker::Model;
 
@@ -51,15 +52,16 @@ impl Solutions {
     }
 
     /// Keeps one more.
-    pub fn keep(&mut self, cells: &[Cell])
+    pub fn keep<W: LineSet>(&mut self, lines: &GridLines<W>)
         requires room { length self.old.grids < 2 }
-        requires size { length cells.now ≡ self.old.width * self.old.height }
-        ensures { self.new ≡ record self.old { grids = self.old.grids ++ (record { width = self.old.width; height = self.old.height; cells = cells.now } ∷ []) } }
+        requires width { lines.now.width ≡ self.old.width }
+        requires height { lines.now.height ≡ self.old.height }
+        ensures { self.new ≡ record self.old { grids = self.old.grids ++ (record { width = self.old.width; height = self.old.height; cells = lines.now.cells } ∷ []) } }
     {
         if self.count == 0 {
-            write_grid(cells, &mut self.first);
+            lines.write(&mut self.first);
         } else {
-            write_grid(cells, &mut self.second);
+            lines.write(&mut self.second);
         }
         self.count += 1;
     }

@@ -178,18 +178,26 @@ fn after_filling(puzzle: &Puzzle, solver: &mut Solver, grid: &mut Grid, x: u16) 
     picture(alive, grid)
 }
 
-/// What a solver makes of the 2 by 2 puzzle with a 1 for each line: by trials, then with a cell filled, then with its neighbour filled too.
+/// What a solver makes of a puzzle: by trials, then with a cell filled, then with its neighbour filled too.
+fn closed_by(alloc: Global, puzzle: &Puzzle, solver: &mut Solver) -> Option<[Picture; 3]>
+    requires solver { solver.old ≡ puzzle.now }
+    requires width { 2 ≤ puzzle.now.width }
+{
+    let open = after_trials(alloc, puzzle, solver)?;
+    let mut grid = unknown_grid(alloc, puzzle)?;
+    let full = after_filling(puzzle, solver, &mut grid, 1);
+    let dead = after_filling(puzzle, solver, &mut grid, 0);
+    Some([open, full, dead])
+}
+
+/// What a solver makes so of the 2 by 2 puzzle with a 1 for each line.
 fn closed_again(alloc: Global) -> Option<[Picture; 3]> {
     let puzzle = puzzle_of(alloc, &[ONE, ONE], &[ONE, ONE])?;
     if puzzle.width() < 2 {
         return None;
     }
     let mut solver = Solver::new(alloc, &puzzle).ok()?;
-    let open = after_trials(alloc, &puzzle, &mut solver)?;
-    let mut grid = unknown_grid(alloc, &puzzle)?;
-    let full = after_filling(&puzzle, &mut solver, &mut grid, 1);
-    let dead = after_filling(&puzzle, &mut solver, &mut grid, 0);
-    Some([open, full, dead])
+    closed_by(alloc, &puzzle, &mut solver)
 }
 
 #[test]

@@ -154,6 +154,53 @@ fn lines_settle_two_puzzles(rt: HostRuntime) -> Result<(), Fail> {
     Ok(())
 }
 
+// The second row is blank, and so each column fills its first cell.
+#[test]
+fn lines_settle_each_cell(rt: HostRuntime) -> Result<(), Fail> {
+    let none: &[u16] = &[];
+    let one: &[u16] = &[1];
+    let Some(puzzle) = puzzle_of(rt.alloc(), &[&[2], none], &[one, one]) else {
+        assert!(rt; false);
+        return Ok(());
+    };
+    assert_report(&rt, &puzzle, 0, "lines 4 4 0 one ## ..");
+    Ok(())
+}
+
+// By lines the last row is blank, and no more.
+#[test]
+fn trials_settle_the_cells_that_lines_leave(rt: HostRuntime) -> Result<(), Fail> {
+    let one: &[u16] = &[1];
+    let Some(puzzle) = puzzle_of(rt.alloc(), &[&[2], &[1, 1], &[]], &[one, one, one, one]) else {
+        assert!(rt; false);
+        return Ok(());
+    };
+    assert_report(&rt, &puzzle, 0, "trials 4 12 0 one .##. #..# ....");
+    Ok(())
+}
+
+// By lines the last column fills its middle cell, and so the cell left of it is blank. If a trial fills one of the first two cells of the first row,
+// both rows below have to fill the other one's column, which has a single 1. The guesses are the third cell of the first row, and then the first cell
+// of the second row.
+#[test]
+fn a_search_goes_on_from_lines_and_trials(rt: HostRuntime) -> Result<(), Fail> {
+    let one: &[u16] = &[1];
+    let pair: &[u16] = &[1, 1];
+    let Some(puzzle) = puzzle_of(rt.alloc(), &[one, pair, pair], &[one, one, one, &[2]]) else {
+        assert!(rt; false);
+        return Ok(());
+    };
+    for (guesses, expected) in [
+        (0, "search 2 4 0 unsettled"),
+        (1, "search 2 4 1 unsettled"),
+        (2, "search 2 4 2 unsettled ..#. #..# .#.#"),
+        (3, "search 2 4 3 several ..#. #..# .#.# ..#. .#.# #..#"),
+    ] {
+        assert_report(&rt, &puzzle, guesses, expected);
+    }
+    Ok(())
+}
+
 // A report on permutations with a limit on guesses is made with ample memory.
 fn assert_permutations(rt: &(impl Abort + AllocGlobal), guesses: u32) {
     match permutations(rt.alloc()) {

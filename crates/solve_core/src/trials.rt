@@ -144,20 +144,18 @@ impl<'p, W: LineSet> Trials<'p, W> {
         Progress::Changed
     }
 
-    /// Tries both colours at a place, where it is unknown.
+    /// Tries both colours at an unknown cell.
     fn try_place(&mut self, board: &mut Board<W>, place: usize) -> Progress
         requires ready { IsReady self.old board.old.cells }
         requires size { IsBoardOf self.old.closer.puzzle board.old }
         requires place { place < length board.old.cells }
+        requires unknown { slice_index_or board.old.cells place Unknown ≡ Unknown }
         ensures progress { Progresses (trials (lines_of self.old.closer.puzzle)) result board.old.cells board.new.cells }
         ensures ready { result ≢ Dead → IsReady self.new board.new.cells }
         ensures tried { result ≡ Same → IsTried (lines_of self.old.closer.puzzle) board.new.cells place }
         ensures size { IsBoardOf self.old.closer.puzzle board.new }
         ensures puzzle { self.new.closer.puzzle ≡ self.old.closer.puzzle }
     {
-        if board.cells()[place].is_known() {
-            return Progress::Same;
-        }
         let filled = try_colour(
             &mut self.closer,
             &mut self.witnesses,
@@ -200,12 +198,14 @@ impl<'p, W: LineSet> Trials<'p, W> {
         ensures puzzle { self.new.closer.puzzle ≡ self.old.closer.puzzle }
     {
         let mut progress = Progress::Same;
-        for place in 0..board.cells().len() {
+        let mut from = 0;
+        while let Some(place) = board.lines().first_unknown(from) {
             match self.try_place(board, place) {
                 Progress::Dead => return Progress::Dead,
                 Progress::Same => {}
                 Progress::Changed => progress = Progress::Changed,
             }
+            from = place + 1;
         }
         progress
     }

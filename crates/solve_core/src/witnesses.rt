@@ -12,6 +12,7 @@ ghost use Rattle.solve_core.specs.WitnessedPuzzles.{witness_at, met_by, open_mar
 ghost use Rattle.solve_core.specs.Witnesses.{AddsMet, AreWitnesses, IsCrossed, IsKept, ShareNoLine};
 
 use crate::boards::Board;
+use crate::grid_lines::GridLines;
 use grid_core::{Cell, NoMemory, Puzzle};
 use line_core::LineSet;
 use place_sets::PlaceSet;
@@ -172,13 +173,13 @@ impl<'p> Witnesses<'p> {
     }
 
     /// Notes that a witness met the colour of its cell at a place, unless another one that counts did.
-    fn meet(&mut self, number: u16, cells: &[Cell], place: usize)
+    fn meet<W: LineSet>(&mut self, number: u16, trial: &GridLines<W>, place: usize)
         requires number { number < length self.old.witnesses }
-        requires cells { length cells.now ≡ self.old.puzzle.width * self.old.puzzle.height }
-        requires place { place < length cells.now }
-        ensures { AddsMet self.old self.new number cells.now }
+        requires cells { length trial.now.cells ≡ self.old.puzzle.width * self.old.puzzle.height }
+        requires place { place < length trial.now.cells }
+        ensures { AddsMet self.old self.new number trial.now.cells }
     {
-        let colour = cells[place];
+        let colour = trial.at(place);
         if self.has_met(place, colour) {
             return;
         }
@@ -195,9 +196,9 @@ impl<'p> Witnesses<'p> {
         requires size { IsBoardOf self.old.puzzle trial.now }
         ensures { AddsMet self.old self.new number trial.now.cells }
     {
-        let cells = trial.cells();
+        let lines = trial.lines();
         for settled in trial.trail() {
-            self.meet(number, cells, usize::from(*settled));
+            self.meet(number, lines, usize::from(*settled));
         }
     }
 

@@ -8,7 +8,6 @@ ghost use Rattle.solve_core.specs.Marks.{if_alive};
 ghost use Rattle.solve_core.specs.Widths.{FitsIn};
 
 use crate::boards::Board;
-use crate::grids::write_grid;
 use crate::trials::Trials;
 use grid_core::{Grid, NoMemory, Puzzle};
 use line_core::LineSet;
@@ -55,7 +54,7 @@ impl<'p, W: LineSet> Workspace<'p, W> {
         self.board.read(grid);
         let trials = &mut self.trials;
         let alive = trials.closer.propagate_all(&mut self.board);
-        write_grid(self.board.cells(), grid);
+        self.board.lines().write(grid);
         alive
     }
 
@@ -68,7 +67,7 @@ impl<'p, W: LineSet> Workspace<'p, W> {
     {
         self.board.read(grid);
         let alive = self.trials.try_board(&mut self.board);
-        write_grid(self.board.cells(), grid);
+        self.board.lines().write(grid);
         alive
     }
 }

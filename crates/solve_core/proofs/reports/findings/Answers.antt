@@ -1,6 +1,7 @@
-use Rattle.std.proofs.Common.{true, ◌≡◌, Some, None, ap, sym, subst, ◌∙◌, ◌*◌, length}
+use Rattle.std.proofs.Common.{true, ◌≡◌, Some, None, ap, sym, subst, ◌∙◌, ◌*◌, length, count_by}
 use Rattle.std.proofs.lemmas.List.{length-replicate}
 use Rattle.grid_core.specs.declared.cells.Cell.TheVariants.{Unknown}
+use Rattle.grid_core.specs.Cells.{is_known}
 use Rattle.grid_core.specs.Nonogram.{Nonogram, lines_of}
 use Rattle.solve_core.specs.Report.{grade_by}
 use Rattle.solve_core.specs.Search.{first_unknown}
@@ -8,6 +9,7 @@ use Rattle.solve_core.specs.Boards.{IsBoardOf}
 use Rattle.solve_core.specs.Closure.{closure}
 use Rattle.solve_core.specs.TriedPuzzles.{TriedPuzzle}
 use Rattle.solve_core.specs.Trails.{TrailedGrid}
+use Rattle.solve_core.proofs.TrailSteps.{full-trail}
 use Rattle.solve_core.proofs.ReportLaws.{report-alive, report-dead, report-refuted}
 use Rattle.solve_core.proofs.reports.findings.Goals as goal
 
@@ -28,15 +30,15 @@ returns-then-not-propagate_all g c =
     report-dead first_unknown p c.args.board.now.cells c.args.guesses (ap (λ (g : TrailedGrid). g.cells) c.requires.board)
     (subst (λ (t : TriedPuzzle). None ≡ closure (lines_of t.closer.puzzle) c.args.board.now.cells) c.trials.view_is c.if-not-propagate_all.ensures.closed)
 
-pub returns-then-not-try_at_rest : goal.returns-then-not-try_at_rest
-returns-then-not-try_at_rest g c =
+pub returns-then-not-try_unless_full : goal.returns-then-not-try_unless_full
+returns-then-not-try_unless_full g c =
     let seen = ap (λ (t : TriedPuzzle). t.closer.puzzle) c.trials.view_is in
     let closed = c.propagate_all.new.board.cells in
-    report-refuted first_unknown c.args.trials.now.closer.puzzle c.propagate_all.new.self.puzzle c.args.board.now.cells closed c.args.guesses c.grade.result c.count_known-line_known.result
+    report-refuted first_unknown c.args.trials.now.closer.puzzle c.propagate_all.new.self.puzzle c.args.board.now.cells closed c.args.guesses c.grade.result c.count_settled-line_known.result
     (c.if-not-propagate_all.ensures.puzzle ∙ seen) (ap (λ (g : TrailedGrid). g.cells) c.requires.board)
-    (subst (λ (t : TriedPuzzle). Some closed ≡ closure (lines_of t.closer.puzzle) c.args.board.now.cells) c.trials.view_is c.if-not-propagate_all.ensures.closed) c.if-not-try_at_rest.ensures.tried
+    (subst (λ (t : TriedPuzzle). Some closed ≡ closure (lines_of t.closer.puzzle) c.args.board.now.cells) c.trials.view_is c.if-not-propagate_all.ensures.closed) c.if-not-try_unless_full.ensures.tried
     (c.grade.ensures ∙ ap (λ b. grade_by b true) c.are_known-lines_settle.ensures)
-    c.count_known-line_known.ensures
+    c.count_settled-line_known.ensures
 
 pub returns : goal.returns
 returns g c =
@@ -44,11 +46,20 @@ returns g c =
     let again = ap (λ (t : TriedPuzzle). t.closer.puzzle) c.trials-2.view_is in
     let same = c.if-not-propagate_all.ensures.puzzle ∙ seen in
     let closed = c.propagate_all.new.board.cells in
-    report-alive first_unknown c.args.trials.now.closer.puzzle c.propagate_all.new.self.puzzle c.trials-2.inside.closer.puzzle c.args.board.now.cells closed c.try_at_rest.new.board.cells c.args.guesses
-    c.search-end.new.solutions.grids c.search-end.result.cut c.search-end.result.spent c.verdict.result c.grade-grade.result c.count_known-line_known.result c.count_known-trial_known.result
-    same (again ∙ c.if-not-try_at_rest.ensures.puzzle ∙ same) (ap (λ (g : TrailedGrid). g.cells) c.requires.board)
-    (subst (λ (t : TriedPuzzle). Some closed ≡ closure (lines_of t.closer.puzzle) c.args.board.now.cells) c.trials.view_is c.if-not-propagate_all.ensures.closed) c.if-not-try_at_rest.ensures.tried
+    report-alive first_unknown c.args.trials.now.closer.puzzle c.propagate_all.new.self.puzzle c.trials-2.inside.closer.puzzle c.args.board.now.cells closed c.try_unless_full.new.board.cells c.args.guesses
+    c.search-end.new.solutions.grids c.search-end.result.cut c.search-end.result.spent c.verdict.result c.grade-grade.result c.count_settled-line_known.result c.count_unless_full-trial_known.result
+    same (again ∙ c.if-not-try_unless_full.ensures.puzzle ∙ same) (ap (λ (g : TrailedGrid). g.cells) c.requires.board)
+    (subst (λ (t : TriedPuzzle). Some closed ≡ closure (lines_of t.closer.puzzle) c.args.board.now.cells) c.trials.view_is c.if-not-propagate_all.ensures.closed) c.if-not-try_unless_full.ensures.tried
     c.search-end.ensures.ending
     c.verdict.ensures
     (c.grade-grade.ensures ∙ (λ i. grade_by (c.are_known-lines_settle.ensures i) (c.are_known.ensures i)))
-    c.count_known-line_known.ensures c.count_known-trial_known.ensures
+    c.count_settled-line_known.ensures c.count_unless_full-trial_known.ensures
+
+pub count_settled-line_known-requires : goal.count_settled-line_known-requires
+count_settled-line_known-requires g c =
+    full-trail c.args.board.now c.propagate_all.new.board _ c.if-not-propagate_all.ensures.trail (ap (λ (g : TrailedGrid). g.trail) c.requires.board)
+    (ap (λ (g : TrailedGrid). g.cells) c.requires.board)
+
+pub count_unless_full-trial_known-requires : goal.count_unless_full-trial_known-requires
+count_unless_full-trial_known-requires g c = λ full.
+    c.count_settled-line_known.ensures ∙ ap (λ (b : TrailedGrid). count_by is_known b.cells) (sym (c.try_unless_full.ensures.full full))

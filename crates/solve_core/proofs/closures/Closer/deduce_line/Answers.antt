@@ -1,11 +1,11 @@
-use Rattle.std.proofs.Common.{◌∙◌, ◌+◌, ◌<◌, ◌≤◌, ℕ, List, Bool, arith, false, length, set, ap, sym, subst}
+use Rattle.std.proofs.Common.{◌+◌, ◌<◌, ◌≤◌, ℕ, List, Bool, arith, false, length, set, ap, sym, subst}
 use Rattle.grid_core.specs.Nonogram.{Nonogram, lines_of}
 use Rattle.solve_core.specs.Closure.{closure}
 use Rattle.solve_core.specs.Lines.{line_count, line_at, places_in}
 use Rattle.solve_core.specs.MarkedPuzzles.{MarkedPuzzle}
-use Rattle.solve_core.specs.Marks.{HasMarks, IsLearned, MarksChanges, MarksAfter, Progresses, AreParallel, AreUnmarkedFrom}
+use Rattle.solve_core.specs.Marks.{HasMarks, IsLearned, MarksChanges, Progresses, AreParallel, AreUnmarkedFrom}
 use Rattle.solve_core.proofs.NumberedLines.{line_is_one}
-use Rattle.solve_core.proofs.GridSteps.{marked, learned-progress, marks-after, unmarked-through}
+use Rattle.solve_core.proofs.GridSteps.{learned-progress, marks-after, unmarked-through}
 use Rattle.solve_core.proofs.closures.Closer.deduce_line.Goals as goal
 
 pub returns-clause-progress : goal.returns-clause-progress

@@ -24,8 +24,8 @@ pub deduce-answer-requires : goal.deduce-answer-requires
 deduce-answer-requires g c =
     fits_clue g.W.PlaceSet.WIDTH c.self.inside.puzzle.now c.args.self.now c.args.number _ c.self.invariant.fits c.clue_of_line-clue.ensures.puzzle c.self.view_is c.requires.number c.clue_of_line-clue.ensures.clue
 
-pub returns-then-is_empty-clause-answer : goal.returns-then-is_empty-clause-answer
-returns-then-is_empty-clause-answer g c =
+pub returns-in_default-clause-answer : goal.returns-in_default-clause-answer
+returns-in_default-clause-answer g c =
     c.deduce.ensures.answer ∙ ap (deduced c.args.line.now) (c.clue_of_line-clue.ensures.clue ∙ ap (λ (p : Nonogram). (line_at p c.args.number).clue) c.self.view_is)
 
 pub returns-clause-answer : goal.returns-clause-answer
@@ -46,7 +46,7 @@ pub returns-then-is_of-clause-answer : goal.returns-then-is_of-clause-answer
 returns-then-is_of-clause-answer g c =
     c.copy_answer.ensures
     ∙ remembered c.self.inside.puzzle.now c.args.self.now c.self.inside.kept.items c.from-index.result c.args.number c.args.line.now c.index-then-is_of.result.now c.index-then-index-len.result.now
-    c.self.invariant.right (omega (arith, c.if-index-len.true, c.len-2.ensures)) c.index-then-is_of.ensures c.index-then-index-len.ensures (c.is_of.ensures.0 c.if-is_of.true) c.self.view_is
+    c.self.invariant.right (omega (arith, c.if-index-len.true, c.len.ensures)) c.index-then-is_of.ensures c.index-then-index-len.ensures (c.is_of.ensures.0 c.if-is_of.true) c.self.view_is
 
 pub invariant_of-self-2 : goal.invariant_of-self-2
 invariant_of-self-2 g c =

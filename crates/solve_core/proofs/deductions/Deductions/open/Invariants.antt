@@ -1,4 +1,4 @@
-use Rattle.std.proofs.Common.{◌≡◌, ◌-◌, vec_len, vec_capacity}
+use Rattle.std.proofs.Common.{◌≡◌, ◌*◌, ◌-◌, vec_len, vec_capacity}
 use Rattle.solve_core.proofs.deductions.Deductions.open.Given as goal
 
 abbrev pub invariant-loop-self : goal.invariant-loop-self
@@ -11,4 +11,4 @@ invariant-loop-self g l = record {
 }
 
 abbrev pub decreases-loop-self : goal.decreases-loop-self
-decreases-loop-self g l = l.self-inside.room - vec_len l.self-inside.slots
+decreases-loop-self g l = l.self-inside.room - 64 * vec_len l.self-inside.slots

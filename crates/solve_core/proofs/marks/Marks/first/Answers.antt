@@ -1,4 +1,4 @@
-use Rattle.std.proofs.Common.{◌≡◌, ◌∙◌, ℕ, ◌+◌, ◌-◌, ◌<◌, ◌≤◌, ◌⊎◌, inl, inr, Some, None, length, ap, sym, subst, arith}
+use Rattle.std.proofs.Common.{◌≡◌, ◌∙◌, ℕ, ◌+◌, ◌-◌, ◌≤◌, ◌⊎◌, inl, inr, Some, None, length, ap, sym, subst, arith}
 use Rattle.solve_core.specs.LineMarks.{LineMarks, IsFirstBetween, IsFirstMarked}
 use Rattle.solve_core.proofs.MarkSteps.{first_row, no_column, first_column, count_marks}
 use Rattle.solve_core.proofs.marks.Marks.first.Goals as goal

@@ -1,5 +1,5 @@
-use Rattle.std.proofs.Common.{◌≡◌, ◌∙◌, ℕ, ◌+◌, ◌-◌, ◌<◌, ◌≤◌, List, Bool, length, set, ap, sym, subst, arith}
-use Rattle.solve_core.specs.LineMarks.{LineMarks, marks_by, IsFirstMarked, MarksPlaces}
+use Rattle.std.proofs.Common.{◌∙◌, length, ap, sym, arith}
+use Rattle.solve_core.specs.LineMarks.{LineMarks}
 use Rattle.solve_core.proofs.MarkSteps.{all_marked, count_marks}
 use Rattle.solve_core.proofs.marks.Marks.mark_all.Goals as goal
 

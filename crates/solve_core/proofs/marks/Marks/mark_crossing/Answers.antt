@@ -1,4 +1,4 @@
-use Rattle.std.proofs.Common.{◌≡◌, ◌∙◌, ℕ, ◌+◌, ◌-◌, ◌<◌, inl, inr, length, ap, sym, subst, arith}
+use Rattle.std.proofs.Common.{◌≡◌, ◌∙◌, ℕ, ◌-◌, inl, inr, length, ap, sym, subst, arith}
 use Rattle.solve_core.specs.LineMarks.{LineMarks, marks_by, MarksPlaces}
 use Rattle.solve_core.specs.Lines.{places_in}
 use Rattle.place_sets.specs.Masks.{Has}

@@ -1,4 +1,4 @@
-use Rattle.std.proofs.Common.{rules, ◌≡◌, ◌∙◌, ℕ, ◌+◌, ◌-◌, ◌<◌, ◌≤◌, inl, inr, length, set, ap, sym, subst, arith}
+use Rattle.std.proofs.Common.{rules, ◌∙◌, ℕ, ◌-◌, ◌<◌, inl, inr, length, set, ap, sym, subst, arith}
 use Rattle.place_sets.specs.Masks.{Has, IsMarked, IsMaskOf}
 use Rattle.solve_core.specs.LineMarks.{LineMarks}
 use Rattle.line_core.proofs.LineCells.{width_within}

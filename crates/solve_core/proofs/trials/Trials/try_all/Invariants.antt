@@ -1,4 +1,4 @@
-use Rattle.std.proofs.Common.{◌≡◌, ◌≢◌, ◌<◌, ℕ}
+use Rattle.std.proofs.Common.{◌≡◌, ◌≢◌, ◌-◌, ◌<◌, ◌≤◌, ℕ, length}
 use Rattle.grid_core.specs.Nonogram.{lines_of}
 use Rattle.solve_core.specs.declared.closures.Progress.TheVariants.{Dead, Same}
 use Rattle.solve_core.specs.Trials.{trials, IsTried}
@@ -14,5 +14,9 @@ invariant-loop-place g l = record {
   ready : IsReady l.self l.board.cells;
   alive : l.progress ≢ Dead;
   progress : Progresses (trials (lines_of l.self.closer.puzzle)) l.progress l.fn.board.cells l.board.cells;
-  tried : l.progress ≡ Same → (k : ℕ) → k < l.place → IsTried (lines_of l.self.closer.puzzle) l.board.cells k;
+  from : l.from ≤ length l.board.cells;
+  tried : l.progress ≡ Same → (k : ℕ) → k < l.from → IsTried (lines_of l.self.closer.puzzle) l.board.cells k;
 }
+
+abbrev pub decreases-loop-place : goal.decreases-loop-place
+decreases-loop-place g l = length l.board.cells - l.from

@@ -1,12 +1,10 @@
-use Rattle.std.proofs.Common.{◌≡◌, ◌∙◌, List, sym, refl, ap, subst, get_or}
-use Rattle.grid_core.specs.Cells.{is_known}
-use Rattle.grid_core.specs.declared.cells.Cell.{Cell}
+use Rattle.std.proofs.Common.{◌≡◌, ◌∙◌, refl, ap, subst}
 use Rattle.grid_core.specs.Nonogram.{Nonogram, lines_of}
-use Rattle.grid_core.specs.declared.cells.Cell.TheVariants.{Unknown, Filled, Blank}
+use Rattle.grid_core.specs.declared.cells.Cell.TheVariants.{Filled, Blank}
 use Rattle.solve_core.specs.Marks.{IsTrialOf}
 use Rattle.solve_core.specs.Trails.{TrailedGrid}
 use Rattle.solve_core.specs.TriedPuzzles.{TriedPuzzle}
-use Rattle.solve_core.proofs.TrialSteps.{blank_below, filled_below, trial-refuted, trial-closed, settle-changed, not_known}
+use Rattle.solve_core.proofs.TrialSteps.{blank_below, filled_below, trial-refuted, trial-closed, settle-changed}
 use Rattle.solve_core.proofs.trials.Trials.try_place.Goals as goal
 
 pub keep_colour-requires-clause-below : goal.keep_colour-requires-clause-below
@@ -27,8 +25,7 @@ returns-then-is_closed-clause-progress g c =
     let blank = subst (λ (p : Nonogram). IsTrialOf c.try_colour-blank.result (lines_of p) g k Blank c.try_colour-blank.new.trial.cells) (c.try_colour-filled.ensures.puzzle ∙ seen) c.try_colour-blank.ensures.tried in
     let closed = trial-closed c.try_colour-filled.result lines g c.try_colour-filled.new.trial.cells k Filled (c.is_closed.ensures.0 c.if-is_closed.true) filled in
     let below = filled_below lines g k c.requires.place (trial-refuted c.try_colour-blank.result lines g c.try_colour-blank.new.trial.cells k Blank (c.is_refuted-2.ensures.0 c.if-not-is_refuted.false) blank) in
-    let unknown = not_known (get_or g k Unknown) (ap (λ (r : List Cell). is_known (get_or r k Unknown)) (sym c.cells.ensures.cells) ∙ sym c.is_known.ensures ∙ c.if-is_known.false) in
-    rw (ap (λ (g : TrailedGrid). g.cells) c.restart_from.ensures) (settle-changed lines g c.try_colour-filled.new.trial.cells k Filled c.requires.place unknown refl below closed)
+    rw (ap (λ (g : TrailedGrid). g.cells) c.restart_from.ensures) (settle-changed lines g c.try_colour-filled.new.trial.cells k Filled c.requires.place c.requires.unknown refl below closed)
 
 pub keep_colour-requires-2-clause-below : goal.keep_colour-requires-2-clause-below
 keep_colour-requires-2-clause-below g c =

@@ -1,6 +1,6 @@
 use Rattle.std.proofs.Common.{◌≡◌, ◌≤◌, replicate, vec_capacity}
 use Rattle.grid_core.specs.declared.cells.Cell.TheVariants.{Unknown}
-use Rattle.solve_core.proofs.boards.unknown_lines.Given as goal
+use Rattle.solve_core.proofs.grid_lines.unknown_lines.Given as goal
 
 abbrev pub invariant-loop : goal.invariant-loop
 invariant-loop g l = record { items : l.lines.items ≡ replicate l.counter (replicate l.len Unknown); room : l.count ≤ vec_capacity l.lines }

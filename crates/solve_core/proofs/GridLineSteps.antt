@@ -1,0 +1,289 @@
+-- A grid as its rows and its columns: its cells, and what changing one of them does.
+use Rattle.std.proofs.Common.{◌≡◌, ◌≢◌, ℕ, zero, suc, ◌+◌, ◌-◌, ◌*◌, ◌/◌, ◌%◌, ◌<◌, ◌≤◌, inl, inr, false, Some, None, List, [], ◌∷◌, ◌++◌, length, take, drop, get_or, set, refl, sym, ap, subst, ◌∙◌, arith, length-append, length-set, get_or-set_same, get_or-set_other, replicate}
+use Rattle.std.proofs.lemmas.List.{ext_get_or, get_or_default, get_or-replicate, length-replicate, get_or_append_left, get_or-append_right}
+use Rattle.std.proofs.lemmas.Nat.{div_below}
+use Rattle.grid_core.specs.declared.cells.Cell.{Cell}
+use Rattle.grid_core.specs.declared.cells.Cell.TheVariants.{Unknown}
+use Rattle.grid_core.specs.Cells.{is_unknown}
+use Rattle.grid_core.specs.PartialGrid.{PartialGrid, IsSize}
+use Rattle.grid_core.specs.Nonogram.{places_from, cells_at}
+use Rattle.grid_core.proofs.LineLaws.{length-places_from, get_or-places_from, length-cells_at, get_or-cells_at}
+use Rattle.line_core.specs.Lines.{IsUnknownFrom}
+use Rattle.solve_core.specs.GridLines.{AreLinesOf, cells_of_rows}
+use Rattle.grid_core.specs.Rows.{with_row}
+use Rattle.grid_core.proofs.RowLemmas.{length-replaced, replaced-here, replaced-others}
+use Rattle.std.proofs.Math.Nat.{mul-le-mul_left}
+use Rattle.solve_core.proofs.LineSteps.{before_or_from, same_or_not}
+use Rattle.solve_core.proofs.NumberedLines.{unique_place, row_within, column_within}
+
+pub length-along : (cells : List Cell) (first step n : ℕ) → length (cells_at Unknown cells (places_from first step n)) ≡ n
+length-along cells first step n = length-cells_at Unknown cells (places_from first step n) ∙ length-places_from first step n
+
+pub get_or-along : (cells : List Cell) (first step n i : ℕ) → i < n → get_or (cells_at Unknown cells (places_from first step n)) i Unknown ≡ get_or cells (first + i * step) Unknown
+get_or-along cells first step n i h =
+    let within : i < length (places_from first step n) = omega (arith, length-places_from first step n) in
+    get_or-cells_at Unknown cells (places_from first step n) i within ∙ ap (λ (q : ℕ). get_or cells q Unknown) (get_or-places_from first step n i h)
+
+-- a written cell is written in a line that has its place
+pub along-set : (cells : List Cell) (first step n i k : ℕ) (c : Cell) → 0 < step → i < n → k ≡ first + i * step → k < length cells
+    → cells_at Unknown (set cells k c) (places_from first step n) ≡ set (cells_at Unknown cells (places_from first step n)) i c
+along-set cells first step n i k c s h e l =
+    let old = cells_at Unknown cells (places_from first step n) in
+    let new = cells_at Unknown (set cells k c) (places_from first step n) in
+    ext_get_or Unknown new (set old i c) (length-along (set cells k c) first step n ∙ sym (length-set old i c ∙ length-along cells first step n))
+    (λ j below.
+    let lj : j < n = omega (arith, length-along (set cells k c) first step n) in
+    let read : get_or new j Unknown ≡ get_or (set cells k c) (first + j * step) Unknown = get_or-along (set cells k c) first step n j lj in
+    elim (same_or_not j i) [
+      | inl same ↦
+          (let at : first + j * step ≡ k = ap (λ (q : ℕ). first + q * step) same ∙ sym e in
+          read ∙ ap (λ (q : ℕ). get_or (set cells k c) q Unknown) at ∙ get_or-set_same cells k c Unknown l
+          ∙ sym (ap (λ (q : ℕ). get_or (set old i c) q Unknown) same ∙ get_or-set_same old i c Unknown (omega (arith, length-along cells first step n))))
+      | inr other ↦
+          (let apart : first + j * step ≢ k = λ x. other (unique_step step first j i s (x ∙ e)) in
+          read ∙ get_or-set_other cells k (first + j * step) c Unknown apart ∙ sym (get_or-set_other old i j c Unknown other ∙ get_or-along cells first step n j lj))
+    ])
+  where
+    unique_step : (step first j i : ℕ) → 0 < step → first + j * step ≡ first + i * step → j ≡ i
+    unique_step step first zero zero h e = refl
+    unique_step step first zero (suc i) h e = absurd (omega arith)
+    unique_step step first (suc j) zero h e = absurd (omega arith)
+    unique_step step first (suc j) (suc i) h e = ap suc (unique_step step first j i h (omega arith))
+
+-- and nothing changes in another line
+pub along-elsewhere : (cells : List Cell) (first step n k : ℕ) (c : Cell) → ((i : ℕ) → i < n → first + i * step ≢ k)
+    → cells_at Unknown (set cells k c) (places_from first step n) ≡ cells_at Unknown cells (places_from first step n)
+along-elsewhere cells first step n k c apart =
+    let old = cells_at Unknown cells (places_from first step n) in
+    let new = cells_at Unknown (set cells k c) (places_from first step n) in
+    ext_get_or Unknown new old (length-along (set cells k c) first step n ∙ sym (length-along cells first step n))
+    (λ j below.
+    let lj : j < n = omega (arith, length-along (set cells k c) first step n) in
+    get_or-along (set cells k c) first step n j lj ∙ get_or-set_other cells k (first + j * step) c Unknown (apart j lj) ∙ sym (get_or-along cells first step n j lj))
+
+-- the column and the row of a place
+pub place_in : (cells : List Cell) (rows columns : List (List Cell)) (k : ℕ) → AreLinesOf cells rows columns → k < length cells
+    → (0 < length columns) × (k % length columns < length columns) × (k / length columns < length rows) × (k ≡ k / length columns * length columns + k % length columns)
+place_in cells rows columns k a l =
+    let positive : 0 < length columns = omega (arith, a.size.width_from) in
+    let within : k < length rows * length columns = omega (arith, a.count) in
+    (positive, omega arith, div_below k (length columns) (length rows) positive within, omega arith)
+
+-- a cell in a column and a row is one of the board's
+pub cell_in : (cells : List Cell) (rows columns : List (List Cell)) (x y : ℕ) → AreLinesOf cells rows columns → x < length columns → y < length rows → y * length columns + x < length cells
+cell_in cells rows columns x y a lx ly = omega (arith, row_within (length columns) (length rows) y x ly lx, a.count)
+
+-- the lines after a cell was written in its row and its column
+pub lines-written : (cells : List Cell) (rows columns : List (List Cell)) (row column : List Cell) (x y : ℕ) (c : Cell) → AreLinesOf cells rows columns → x < length columns → y < length rows
+    → row ≡ set (get_or rows y []) x c → column ≡ set (get_or columns x []) y c
+    → AreLinesOf (set cells (y * length columns + x) c) (set rows y row) (set columns x column)
+lines-written cells rows columns row column x y c a lx ly er ec =
+    let w = length columns in
+    let h = length rows in
+    let k : ℕ = y * w + x in
+    let positive : 0 < w = omega (arith, lx) in
+    let l : k < length cells = cell_in cells rows columns x y a lx ly in
+    let lw : length (set columns x column) ≡ w = length-set columns x column in
+    let lh : length (set rows y row) ≡ h = length-set rows y row in
+    record {
+      size = rw (lw, lh) a.size;
+      count = rw (lw, lh) (length-set cells k c ∙ a.count);
+      rows_are = λ j below.
+          let lj : j < h = omega (arith, lh) in
+          rw lw
+          (elim (same_or_not j y) [
+            | inl same ↦
+                (rw same
+                (get_or-set_same rows y row [] ly ∙ er ∙ ap (λ (line : List Cell). set line x c) (a.rows_are y ly)
+                ∙ sym (along-set cells (y * w) 1 w x k c (omega arith) lx (omega arith) l)))
+            | inr other ↦
+                (get_or-set_other rows y j row [] other ∙ a.rows_are j lj
+                ∙ sym (along-elsewhere cells (j * w) 1 w k c (λ i li e. let same : j * w + i ≡ y * w + x = omega (arith, e) in other ((unique_place w j y i x li lx same).0))))
+          ]);
+      columns_are = λ j below.
+          let lj : j < w = omega (arith, lw) in
+          rw (lw, lh)
+          (elim (same_or_not j x) [
+            | inl same ↦
+                (rw same
+                (get_or-set_same columns x column [] lx ∙ ec ∙ ap (λ (line : List Cell). set line y c) (a.columns_are x lx)
+                ∙ sym (along-set cells x w h y k c positive ly (omega arith) l)))
+            | inr other ↦
+                (get_or-set_other columns x j column [] other ∙ a.columns_are j lj
+                ∙ sym (along-elsewhere cells j w h k c (λ i li e. let same : i * w + j ≡ y * w + x = omega (arith, e) in other ((unique_place w i y j x lj lx same).1))))
+          ]);
+    }
+
+-- the line that is read at an index, whatever stands for one outside
+pub line_read : (lines : List (List Cell)) (i : ℕ) (line : List Cell) → i < length lines → get_or lines i line ≡ get_or lines i []
+line_read lines i line h = get_or_default lines i line [] h
+
+-- ---- the cells of rows
+
+-- so many rows of so many cells
+pub length-rows : (w : ℕ) (rows : List (List Cell)) → ((y : ℕ) → y < length rows → length (get_or rows y []) ≡ w) → length (cells_of_rows rows) ≡ length rows * w
+length-rows w [] h = omega arith
+length-rows w (row ∷ rows) h = omega (arith, length-append row (cells_of_rows rows), h 0 (omega arith), length-rows w rows (λ y l. h (suc y) (omega arith)))
+
+-- each cell of a row is among the cells
+pub get_or-rows : (w : ℕ) (rows : List (List Cell)) (y x : ℕ) → ((k : ℕ) → k < length rows → length (get_or rows k []) ≡ w) → y < length rows → x < w
+    → get_or (cells_of_rows rows) (y * w + x) Unknown ≡ get_or (get_or rows y []) x Unknown
+get_or-rows w [] y x h l m = absurd (omega arith)
+get_or-rows w (row ∷ rows) zero x h l m =
+    let at : 0 * w + x ≡ x = omega arith in
+    ap (λ (k : ℕ). get_or (row ++ cells_of_rows rows) k Unknown) at ∙ get_or_append_left row (cells_of_rows rows) Unknown x (omega (arith, h 0 (omega arith)))
+get_or-rows w (row ∷ rows) (suc y) x h l m =
+    let long : length row ≡ w = h 0 (omega arith) in
+    let next : suc y * w + x - w ≡ y * w + x = omega arith in
+    get_or-append_right row (cells_of_rows rows) w (suc y * w + x) Unknown long (omega arith)
+    ∙ ap (λ (k : ℕ). get_or (cells_of_rows rows) k Unknown) next
+    ∙ get_or-rows w rows y x (λ k n. h (suc k) (omega arith)) (omega arith) m
+
+-- the cells of the rows of a grid are its cells
+pub lines-cells : (cells : List Cell) (rows columns : List (List Cell)) → AreLinesOf cells rows columns → cells_of_rows rows ≡ cells
+lines-cells cells rows columns a =
+    let w = length columns in
+    let long = length-rows w rows wide in
+    ext_get_or Unknown (cells_of_rows rows) cells (omega (arith, long, a.count)) (λ k l.
+    let within : k < length cells = omega (arith, long, a.count) in
+    let at = place_in cells rows columns k a within in
+    let split : k / w * w + k % w ≡ k = sym at.3 in
+    ap (λ (q : ℕ). get_or (cells_of_rows rows) q Unknown) (sym split)
+    ∙ get_or-rows w rows (k / w) (k % w) wide at.2 at.1
+    ∙ ap (λ (row : List Cell). get_or row (k % w) Unknown) (a.rows_are (k / w) at.2)
+    ∙ get_or-along cells (k / w * w) 1 w (k % w) at.1
+    ∙ ap (λ (q : ℕ). get_or cells q Unknown) (omega (arith, split)))
+  where
+    wide : (y : ℕ) → y < length rows → length (get_or rows y []) ≡ length columns
+    wide y l = ap length (a.rows_are y l) ∙ length-along cells (y * length columns) 1 (length columns)
+
+-- the lines of a grid whose cells are those of its rows, after a cell was written in its row and its column
+pub cell-written : (rows columns : List (List Cell)) (row column : List Cell) (x y : ℕ) (c : Cell) → AreLinesOf (cells_of_rows rows) rows columns → x < length columns → y < length rows
+    → row ≡ set (get_or rows y []) x c → column ≡ set (get_or columns x []) y c
+    → (cells_of_rows (set rows y row) ≡ set (cells_of_rows rows) (y * length columns + x) c) × AreLinesOf (cells_of_rows (set rows y row)) (set rows y row) (set columns x column)
+cell-written rows columns row column x y c a lx ly er ec =
+    let after = lines-written (cells_of_rows rows) rows columns row column x y c a lx ly er ec in
+    let same = lines-cells (set (cells_of_rows rows) (y * length columns + x) c) (set rows y row) (set columns x column) after in
+    (same, subst (λ (cells : List Cell). AreLinesOf cells (set rows y row) (set columns x column)) (sym same) after)
+
+-- a row and a column read at a cell
+pub cell-read : (rows columns : List (List Cell)) (x y : ℕ) → AreLinesOf (cells_of_rows rows) rows columns → x < length columns → y < length rows
+    → (get_or (get_or rows y []) x Unknown ≡ get_or (cells_of_rows rows) (y * length columns + x) Unknown) × (get_or (get_or columns x []) y Unknown ≡ get_or (cells_of_rows rows) (y * length columns + x) Unknown)
+cell-read rows columns x y a lx ly =
+    let cells = cells_of_rows rows in
+    let w = length columns in
+    let along : y * w + x * 1 ≡ y * w + x = omega arith in
+    let down : x + y * w ≡ y * w + x = omega arith in (
+      ap (λ (row : List Cell). get_or row x Unknown) (a.rows_are y ly) ∙ get_or-along cells (y * w) 1 w x lx ∙ ap (λ (k : ℕ). get_or cells k Unknown) along,
+      ap (λ (column : List Cell). get_or column y Unknown) (a.columns_are x lx) ∙ get_or-along cells x w (length rows) y ly ∙ ap (λ (k : ℕ). get_or cells k Unknown) down,
+    )
+
+-- how long a row and a column are
+pub lines-long : (rows columns : List (List Cell)) (x y : ℕ) → AreLinesOf (cells_of_rows rows) rows columns → x < length columns → y < length rows
+    → (length (get_or rows y []) ≡ length columns) × (length (get_or columns x []) ≡ length rows)
+lines-long rows columns x y a lx ly = (
+  ap length (a.rows_are y ly) ∙ length-along (cells_of_rows rows) (y * length columns) 1 (length columns),
+  ap length (a.columns_are x lx) ∙ length-along (cells_of_rows rows) x (length columns) (length rows),
+)
+
+-- lines of which nothing is known
+pub lines-unknown : (w h : ℕ) (rows columns : List (List Cell)) → IsSize w h → rows ≡ replicate h (replicate w Unknown) → columns ≡ replicate w (replicate h Unknown)
+    → (cells_of_rows rows ≡ replicate (w * h) Unknown) × AreLinesOf (cells_of_rows rows) rows columns
+lines-unknown w h rows columns size er el =
+    let are = lines in
+    let same = lines-cells cells rows columns are in
+    (same, subst (λ (r : List Cell). AreLinesOf r rows columns) (sym same) are)
+  where
+    cells : List Cell
+    cells = replicate (w * h) Unknown
+
+    wide : length columns ≡ w
+    wide = ap length el ∙ length-replicate w (replicate h Unknown)
+
+    high : length rows ≡ h
+    high = ap length er ∙ length-replicate h (replicate w Unknown)
+
+    along : (first step n : ℕ) → ((i : ℕ) → i < n → first + i * step < w * h) → replicate n Unknown ≡ cells_at Unknown cells (places_from first step n)
+    along first step n within =
+        ext_get_or Unknown (replicate n Unknown) (cells_at Unknown cells (places_from first step n)) (length-replicate n Unknown ∙ sym (length-along cells first step n))
+        (λ i below.
+        let l : i < n = omega (arith, length-replicate n Unknown) in
+        get_or-replicate n i Unknown Unknown l
+        ∙ sym (get_or-along cells first step n i l ∙ get_or-replicate (w * h) (first + i * step) Unknown Unknown (within i l)))
+
+    lines : AreLinesOf cells rows columns
+    lines = record {
+      size = rw (wide, high) size;
+      count = rw (wide, high) (length-replicate (w * h) Unknown);
+      rows_are = λ y below.
+          let l : y < h = omega (arith, high) in
+          rw wide (rw er (get_or-replicate h y (replicate w Unknown) [] l) ∙ along (y * w) 1 w (λ i k. row_within w h y i l k));
+      columns_are = λ x below.
+          let l : x < w = omega (arith, wide) in
+          rw (wide, high) (rw el (get_or-replicate w x (replicate h Unknown) [] l) ∙ along x w h (λ i k. column_within w h x i l k));
+    }
+
+-- ---- unknown cells
+
+-- the cells of a row that has no unknown one from a cell on
+pub row-known : (rows columns : List (List Cell)) (y column : ℕ) → AreLinesOf (cells_of_rows rows) rows columns → y < length rows → IsUnknownFrom (get_or rows y []) column None
+    → (k : ℕ) → y * length columns + column ≤ k → k < y * length columns + length columns → is_unknown (get_or (cells_of_rows rows) k Unknown) ≡ false
+row-known rows columns y column a ly none k from to =
+    let w = length columns in
+    let x : ℕ = k - y * w in
+    let at : y * w + x ≡ k = omega arith in
+    let lx : x < w = omega arith in
+    let long = (lines-long rows columns x y a lx ly).0 in
+    ap is_unknown (ap (λ (q : ℕ). get_or (cells_of_rows rows) q Unknown) (sym at) ∙ sym (cell-read rows columns x y a lx ly).0) ∙ none x (omega arith) (omega (arith, long, lx))
+
+-- the first unknown cell of a row
+pub row-unknown : (rows columns : List (List Cell)) (y column x : ℕ) → AreLinesOf (cells_of_rows rows) rows columns → y < length rows → IsUnknownFrom (get_or rows y []) column (Some x)
+    → (x < length columns) × (get_or (cells_of_rows rows) (y * length columns + x) Unknown ≡ Unknown)
+    × ((k : ℕ) → y * length columns + column ≤ k → k < y * length columns + x → is_unknown (get_or (cells_of_rows rows) k Unknown) ≡ false)
+row-unknown rows columns y column x a ly found =
+    let w = length columns in
+    let positive : 0 < w = a.size.width_from in
+    let lx : x < w = omega (arith, found.1, (lines-long rows columns 0 y a positive ly).0) in (
+      lx,
+      sym (cell-read rows columns x y a lx ly).0 ∙ found.2,
+      λ k from to.
+          (let z : ℕ = k - y * w in
+          let at : y * w + z ≡ k = omega arith in
+          let lz : z < w = omega (arith, lx) in
+          ap is_unknown (ap (λ (q : ℕ). get_or (cells_of_rows rows) q Unknown) (sym at) ∙ sym (cell-read rows columns z y a lz ly).0) ∙ found.3 z (omega arith) (omega arith)),
+    )
+
+-- ---- rows written into a grid
+
+-- a grid that has the cells of the rows above, with one more row written
+pub rows-written : (old : PartialGrid) (rows columns : List (List Cell)) (y : ℕ) (row : List Cell) → AreLinesOf (cells_of_rows rows) rows columns → old.width ≡ length columns
+    → length old.cells ≡ length columns * length rows → y < length rows → row ≡ get_or rows y []
+    → ((k : ℕ) → k < y * length columns → get_or old.cells k Unknown ≡ get_or (cells_of_rows rows) k Unknown)
+    → (length (with_row old y row).cells ≡ length (cells_of_rows rows))
+    × ((k : ℕ) → k < (y + 1) * length columns → get_or (with_row old y row).cells k Unknown ≡ get_or (cells_of_rows rows) k Unknown)
+rows-written old rows columns y row a wide count ly is above = rw wide (size, each)
+  where
+    w : ℕ
+    w = length columns
+
+    long : length row ≡ w
+    long = ap length is ∙ (lines-long rows columns 0 y a a.size.width_from ly).0
+
+    fits : y * w + w ≤ length old.cells
+    fits = let more : w * (y + 1) ≤ w * length rows = mul-le-mul_left w (omega arith) in omega (arith, more, count)
+
+    new : List Cell
+    new = take (y * w) old.cells ++ row ++ drop (y * w + w) old.cells
+
+    size : length new ≡ length (cells_of_rows rows)
+    size = length-replaced old.cells row (y * w) w long fits ∙ count ∙ sym a.count
+
+    here : (x : ℕ) → x < w → get_or new (y * w + x) Unknown ≡ get_or (cells_of_rows rows) (y * w + x) Unknown
+    here x lx = replaced-here old.cells row (y * w) w long fits x lx ∙ ap (λ (line : List Cell). get_or line x Unknown) is ∙ (cell-read rows columns x y a lx ly).0
+
+    each : (k : ℕ) → k < (y + 1) * w → get_or new k Unknown ≡ get_or (cells_of_rows rows) k Unknown
+    each k l =
+        elim (before_or_from k (y * w)) [
+          | inl low ↦ replaced-others old.cells row (y * w) w long fits k (inl low) ∙ above k low
+          | inr from ↦ (let at : y * w + (k - y * w) ≡ k = omega arith in rw at at (here (k - y * w) (omega arith)))
+        ]

@@ -1,0 +1,33 @@
+use Rattle.std.proofs.Common.{◌≡◌, ◌∙◌, ◌/◌, ◌%◌, [], length, get_or, ap, sym, arith}
+use Rattle.grid_core.specs.declared.cells.Cell.TheVariants.{Unknown}
+use Rattle.grid_core.specs.PartialGrid.{PartialGrid}
+use Rattle.solve_core.specs.GridLines.{cells_of_rows}
+use Rattle.solve_core.proofs.GridLineSteps.{cell-read, line_read, lines-long, place_in}
+use Rattle.solve_core.proofs.grid_lines.GridLines.at.Goals as goal
+
+pub get-requires : goal.get-requires
+get-requires g c =
+    let rows = c.self.inside.rows.items in
+    let columns = c.self.inside.columns.items in
+    let k = c.args.place in
+    let w = length columns in
+    let wide : c.len-width.result ≡ w = c.len-width.ensures ∙ c.self.inside.columns.ok.0 in
+    let seen : cells_of_rows rows ≡ c.args.self.now.cells = ap (λ (g : PartialGrid). g.cells) c.self.view_is in
+    let at = place_in (cells_of_rows rows) rows columns k c.self.invariant (omega (arith, c.requires, ap length seen)) in
+    let long = (lines-long rows columns (k % w) (k / w) c.self.invariant at.1 at.2).0 in
+    let row : c.index.result.now ≡ get_or rows (k / w) [] = c.index.ensures ∙ (λ i. get_or rows (k / wide i) c.index.result.now) ∙ line_read rows (k / w) c.index.result.now at.2 in
+    rw wide (omega (arith, at.1, ap length row, long))
+
+pub returns : goal.returns
+returns g c =
+    let rows = c.self.inside.rows.items in
+    let columns = c.self.inside.columns.items in
+    let k = c.args.place in
+    let w = length columns in
+    let wide : c.len-width.result ≡ w = c.len-width.ensures ∙ c.self.inside.columns.ok.0 in
+    let seen : cells_of_rows rows ≡ c.args.self.now.cells = ap (λ (g : PartialGrid). g.cells) c.self.view_is in
+    let at = place_in (cells_of_rows rows) rows columns k c.self.invariant (omega (arith, c.requires, ap length seen)) in
+    let row : c.index.result.now ≡ get_or rows (k / w) [] = c.index.ensures ∙ (λ i. get_or rows (k / wide i) c.index.result.now) ∙ line_read rows (k / w) c.index.result.now at.2 in
+    c.get.ensures ∙ (λ i. get_or (row i) (k % wide i) Unknown)
+    ∙ (cell-read rows columns (k % w) (k / w) c.self.invariant at.1 at.2).0
+    ∙ (λ i. get_or (seen i) (sym at.3 i) Unknown)

@@ -1,0 +1,15 @@
+use Rattle.std.proofs.Common.{◌∙◌, sym, ap}
+use Rattle.grid_core.specs.Nonogram.{lines_of}
+use Rattle.solve_core.specs.Marks.{if_alive}
+use Rattle.solve_core.proofs.Counting.{full-tried}
+use Rattle.solve_core.proofs.GridSteps.{rest_closed}
+use Rattle.solve_core.proofs.TrialSteps.{tried_ends}
+use Rattle.solve_core.proofs.reports.try_unless_full.Goals as goal
+
+pub returns-then-full-clause-tried : goal.returns-then-full-clause-tried
+returns-then-full-clause-tried g c =
+    let closer = c.args.trials.now.closer in
+    let lines = lines_of closer.puzzle in
+    let cells = c.args.board.now.cells in
+    ap (λ b. if_alive b cells) c.if-full.true
+    ∙ sym (tried_ends lines cells (rest_closed closer cells c.requires.rest) (full-tried lines cells (sym c.requires.full ∙ c.if-full.true)))

@@ -1,0 +1,231 @@
+//! A grid as its rows and its columns.
+ghost use Rattle.std.specs.Prelude.{◌≡◌, ◌+◌, ◌*◌, ◌<◌, ◌≤◌, ℕ, [], length, replicate, slice_index_or, slice_set, true, IfOk};
+ghost use Rattle.grid_core.specs.Cells.{is_known};
+ghost use Rattle.grid_core.specs.Nonogram.{cells_at};
+ghost use Rattle.grid_core.specs.PartialGrid.{IsSize};
+ghost use Rattle.grid_core.specs.declared.cells.Cell.TheVariants.{Unknown};
+ghost use Rattle.line_core.specs.Lines.{IsUnknownFrom};
+ghost use Rattle.solve_core.specs.GridLines.{AreLinesOf, cells_of_rows};
+ghost use Rattle.solve_core.specs.Lines.{places_in, places_of};
+
+use grid_core::{Cell, Grid, NoMemory};
+use line_core::{LineOf, LineSet};
+use std::alloc::Global;
+use std::marker::Model;
+
+/// A grid, each row and each column of it as a line, so that none has to be gathered cell by cell. A cell is read from its row.
+#[derive(Drop)]
+pub struct GridLines<W: LineSet> {
+    rows: Vec<LineOf<W>>,
+    columns: Vec<LineOf<W>>,
+}
+
+impl<W: LineSet> Model for GridLines<W> {
+    ghost use Rattle.std.specs.Prelude.{length};
+    ghost use Rattle.grid_core.specs.PartialGrid.{PartialGrid};
+    ghost use Rattle.solve_core.specs.GridLines.{AreLinesOf, cells_of_rows};
+
+    ghost Value = { PartialGrid };
+
+    ghost view = { λ g. record { width = length g.columns.items; height = length g.rows.items; cells = cells_of_rows g.rows.items } };
+
+    ghost invariant = { λ g. AreLinesOf (cells_of_rows g.rows.items) g.rows.items g.columns.items };
+}
+
+/// So many lines of so many cells, of which nothing is known.
+fn unknown_lines<W: LineSet>(
+    alloc: Global,
+    len: u16,
+    count: u16,
+) -> Result<Vec<LineOf<W>>, NoMemory>
+    requires { (1 ≤ len) × (len ≤ W.WIDTH) }
+    ensures { IfOk result (λ lines. lines.items ≡ replicate count (replicate len Unknown)) }
+{
+    let mut lines = Vec::with_capacity(alloc, usize::from(count))?;
+    for _ in 0..count {
+        lines.push_reserved(LineOf::unknown(len));
+    }
+    Ok(lines)
+}
+
+/// Changes the cell in column x and row y in its row and in its column.
+fn set_cell<W: LineSet>(
+    rows: &mut [LineOf<W>],
+    columns: &mut [LineOf<W>],
+    x: usize,
+    y: usize,
+    cell: Cell,
+)
+    requires lines { AreLinesOf (cells_of_rows rows.old) rows.old columns.old }
+    requires column { x < length columns.old }
+    requires row { y < length rows.old }
+    ensures cells { cells_of_rows rows.new ≡ slice_set (cells_of_rows rows.old) (y * length columns.old + x) cell }
+    ensures lines { AreLinesOf (cells_of_rows rows.new) rows.new columns.new }
+{
+    rows[y].set(x as u16, cell);
+    columns[x].set(y as u16, cell);
+}
+
+/// Settles the unknown cell in column x and row y in its row and in its column.
+fn settle_cell<W: LineSet>(
+    rows: &mut [LineOf<W>],
+    columns: &mut [LineOf<W>],
+    x: usize,
+    y: usize,
+    cell: Cell,
+)
+    requires lines { AreLinesOf (cells_of_rows rows.old) rows.old columns.old }
+    requires column { x < length columns.old }
+    requires row { y < length rows.old }
+    requires unknown { slice_index_or (cells_of_rows rows.old) (y * length columns.old + x) Unknown ≡ Unknown }
+    requires known { is_known cell ≡ true }
+    ensures cells { cells_of_rows rows.new ≡ slice_set (cells_of_rows rows.old) (y * length columns.old + x) cell }
+    ensures lines { AreLinesOf (cells_of_rows rows.new) rows.new columns.new }
+{
+    rows[y].settle(x as u16, cell);
+    columns[x].settle(y as u16, cell);
+}
+
+/// Copies lines over others of the same lengths.
+fn copy_lines<W: LineSet>(lines: &mut [LineOf<W>], others: &[LineOf<W>])
+    requires count { length others.now ≡ length lines.old }
+    requires lengths { (i : ℕ) → i < length lines.old → length (slice_index_or others.now i []) ≡ length (slice_index_or lines.old i []) }
+    ensures { lines.new ≡ others.now }
+{
+    for i in 0..lines.len() {
+        lines[i].copy_from(&others[i]);
+    }
+}
+
+impl<W: LineSet> GridLines<W> {
+    /// A grid of this size of which nothing is known.
+    pub fn unknown(alloc: Global, width: u16, height: u16) -> Result<GridLines<W>, NoMemory>
+        requires size { IsSize width height }
+        requires fits { (width ≤ W.WIDTH) × (height ≤ W.WIDTH) }
+        ensures { IfOk result (λ g. g ≡ record { width = width; height = height; cells = replicate (width * height) Unknown }) }
+    {
+        Ok(GridLines {
+            rows: unknown_lines(alloc, width, height)?,
+            columns: unknown_lines(alloc, height, width)?,
+        })
+    }
+
+    /// How many cells a row has.
+    pub fn width(&self) -> usize
+        ensures width { result ≡ self.now.width }
+        ensures size { IsSize self.now.width self.now.height }
+        ensures count { length self.now.cells ≡ self.now.width * self.now.height }
+    {
+        self.columns.len()
+    }
+
+    /// How many cells a column has.
+    pub fn height(&self) -> usize
+        ensures { result ≡ self.now.height }
+    {
+        self.rows.len()
+    }
+
+    /// How many cells there are.
+    pub fn count(&self) -> usize
+        ensures count { result ≡ length self.now.cells }
+        ensures product { length self.now.cells ≡ self.now.width * self.now.height }
+        ensures within { length self.now.cells ≤ 65536 }
+    {
+        self.rows.len() * self.columns.len()
+    }
+
+    /// What is known of the cell at a place in row order, from 0.
+    pub fn at(&self, place: usize) -> Cell
+        requires { place < length self.now.cells }
+        ensures { result ≡ slice_index_or self.now.cells place Unknown }
+    {
+        let width = self.columns.len();
+        self.rows[place / width].get((place % width) as u16)
+    }
+
+    /// What is known of the cells of line n: the rows come first, from the top, and then the columns, from the left.
+    pub fn line(&self, n: usize) -> &LineOf<W>
+        requires { n < self.now.height + self.now.width }
+        ensures { result.now ≡ cells_at Unknown self.now.cells (places_of (places_in self.now.width self.now.height n)) }
+    {
+        let height = self.rows.len();
+        if n < height {
+            &self.rows[n]
+        } else {
+            &self.columns[n - height]
+        }
+    }
+
+    /// The place of the first unknown cell from a place on in row order, if there is one.
+    pub fn first_unknown(&self, from: usize) -> Option<usize>
+        requires { from ≤ length self.now.cells }
+        ensures { IsUnknownFrom self.now.cells from result }
+    {
+        let width = self.columns.len();
+        let mut column = from % width;
+        for y in from / width..self.rows.len() {
+            if let Some(x) = self.rows[y].first_unknown(column as u16) {
+                return Some(y * width + usize::from(x));
+            }
+            column = 0;
+        }
+        None
+    }
+
+    /// Changes what is known of the cell in column x and row y, and nothing else.
+    pub fn set(&mut self, x: usize, y: usize, cell: Cell)
+        requires column { x < self.old.width }
+        requires row { y < self.old.height }
+        ensures { self.new ≡ record self.old { cells = slice_set self.old.cells (y * self.old.width + x) cell } }
+    {
+        set_cell(&mut self.rows, &mut self.columns, x, y, cell);
+    }
+
+    /// Settles the unknown cell in column x and row y.
+    pub fn settle(&mut self, x: usize, y: usize, cell: Cell)
+        requires column { x < self.old.width }
+        requires row { y < self.old.height }
+        requires unknown { slice_index_or self.old.cells (y * self.old.width + x) Unknown ≡ Unknown }
+        requires known { is_known cell ≡ true }
+        ensures { self.new ≡ record self.old { cells = slice_set self.old.cells (y * self.old.width + x) cell } }
+    {
+        settle_cell(&mut self.rows, &mut self.columns, x, y, cell);
+    }
+
+    /// Becomes the same as another grid of its size, in place.
+    pub fn copy_from(&mut self, other: &GridLines<W>)
+        requires width { other.now.width ≡ self.old.width }
+        requires height { other.now.height ≡ self.old.height }
+        ensures { self.new ≡ other.now }
+    {
+        copy_lines(&mut self.rows, &other.rows);
+        copy_lines(&mut self.columns, &other.columns);
+    }
+
+    /// Takes over the cells of a grid of its size.
+    pub fn read(&mut self, grid: &Grid)
+        requires width { grid.now.width ≡ self.old.width }
+        requires height { grid.now.height ≡ self.old.height }
+        ensures lines { self.new ≡ grid.now }
+        ensures count { length grid.now.cells ≡ grid.now.width * grid.now.height }
+    {
+        let width = usize::from(grid.width());
+        for place in 0..self.count() {
+            let (x, y) = (place % width, place / width);
+            let cell = grid.get(x as u16, y as u16);
+            self.set(x, y, cell);
+        }
+    }
+
+    /// Writes its cells into a grid of its size.
+    pub fn write(&self, grid: &mut Grid)
+        requires width { grid.old.width ≡ self.now.width }
+        requires height { grid.old.height ≡ self.now.height }
+        ensures { grid.new ≡ self.now }
+    {
+        for y in 0..self.rows.len() {
+            self.rows[y].write_row(grid, y as u16);
+        }
+    }
+}
