@@ -164,6 +164,47 @@ fn puzzles_are_written_or_refused(rt: HostRuntime) -> Result<(), Fail> {
 }
 
 #[test]
+fn formats_read_or_refuse(rt: HostRuntime) {
+    let alloc = rt.alloc();
+    let non = slow_non(alloc, NON);
+    assert_swept(
+        &rt,
+        alloc,
+        || told_of_read(Format::Non.read(alloc, NON), &non),
+    );
+    let mk = slow_mk(alloc, MK);
+    assert_swept(&rt, alloc, || told_of_read(Format::Mk.read(alloc, MK), &mk));
+    let nin = slow_nin(alloc, NIN);
+    assert_swept(
+        &rt,
+        alloc,
+        || told_of_read(Format::Nin.read(alloc, NIN), &nin),
+    );
+}
+
+#[test]
+fn formats_write_or_refuse(rt: HostRuntime) -> Result<(), Fail> {
+    let alloc = rt.alloc();
+    let puzzle = read_non(alloc, NON)?;
+    assert_swept(
+        &rt,
+        alloc,
+        || told_of_written(Format::Non.write(alloc, &puzzle), Some(WRITTEN_NON)),
+    );
+    assert_swept(
+        &rt,
+        alloc,
+        || told_of_written(Format::Mk.write(alloc, &puzzle), Some(WRITTEN_MK)),
+    );
+    assert_swept(
+        &rt,
+        alloc,
+        || told_of_written(Format::Nin.write(alloc, &puzzle), Some(WRITTEN_NIN)),
+    );
+    Ok(())
+}
+
+#[test]
 fn ambiguous_puzzles_are_ambiguous_or_refused(rt: HostRuntime) -> Result<(), Fail> {
     let alloc = rt.alloc();
     let flat = read_mk(alloc, b"1 2\n1\n#\n1\n2\n")?;
