@@ -5,28 +5,31 @@ use Rattle.std.specs.Coded.{×_prop, Unit-prop, Coded-set, coded_ℕ}
 use Rattle.grid_core.specs.Nonogram.{Nonogram, IsNonogram}
 use Rattle.grid_core.specs.declared.memory.NoMemory.{NoMemory}
 use Rattle.grid_core.specs.contracts.puzzles.Puzzle.{the_row as puzzle_row}
-use Rattle.solve_core.specs.Search.{first_unknown}
+use Rattle.solve_core.specs.Picks.{picked}
+use Rattle.solve_core.specs.declared.picks.Pick.{Pick}
+use Rattle.solve_core.specs.contracts.picks.Pick.{the_row as pick_row}
 use Rattle.solve_core.specs.Report.{report_of}
 use Rattle.solve_core.specs.Verdicts.{Holds}
 use Rattle.solve_core.specs.declared.findings.Findings.{Findings}
 use Rattle.solve_core.specs.contracts.findings.Findings.{the_row}
-use Rattle.solve_core.proofs.SearchLaws.{first_unknown-IsPick}
+use Rattle.solve_core.proofs.PickLaws.{picked-IsPick}
 use Rattle.solve_core.proofs.AnswerLaws.{verdict-Holds}
 use Rattle.lane_core.specs.Outcome.{IsOutcome}
 use Rattle.lane_core.specs.Answers.{IsAnswerTo, AreAnswersTo}
 use Rattle.lane_core.specs.declared.jobs.Job.{Job}
 use Rattle.lane_core.specs.declared.answers.Answer.{Answer}
 
-pub IsOutcome-prop : (puzzle : Nonogram) (guesses : ℕ) (outcome : Result Findings NoMemory) → IsProp (IsOutcome puzzle guesses outcome)
-IsOutcome-prop puzzle guesses (Ok found) = Coded-set the_row.coded _ _
-IsOutcome-prop puzzle guesses (Err refused) = Unit-prop
+pub IsOutcome-prop : (puzzle : Nonogram) (guesses : ℕ) (pick : Pick) (outcome : Result Findings NoMemory) → IsProp (IsOutcome puzzle guesses pick outcome)
+IsOutcome-prop puzzle guesses pick (Ok found) = Coded-set the_row.coded _ _
+IsOutcome-prop puzzle guesses pick (Err refused) = Unit-prop
 
 pub IsAnswerTo-prop : (job : Job) (answer : Answer) → IsProp (IsAnswerTo job answer)
 IsAnswerTo-prop job answer a b = λ i. record {
   number = Coded-set coded_ℕ _ _ a.number b.number i;
   puzzle = Coded-set puzzle_row.coded _ _ a.puzzle b.puzzle i;
   guesses = Coded-set coded_ℕ _ _ a.guesses b.guesses i;
-  outcome = IsOutcome-prop job.puzzle job.guesses answer.outcome a.outcome b.outcome i;
+  pick = Coded-set pick_row.coded _ _ a.pick b.pick i;
+  outcome = IsOutcome-prop job.puzzle job.guesses job.pick answer.outcome a.outcome b.outcome i;
 }
 
 pub AreAnswersTo-prop : (jobs : List Job) (answers : List Answer) → IsProp (AreAnswersTo jobs answers)
@@ -53,14 +56,14 @@ AreAnswersTo-front (job ∷ jobs) more (answer ∷ answers) rest h = (h.0, AreAn
 AreAnswersTo-front [] more (answer ∷ answers) rest h = absurd h
 
 -- what an answer reports is the report of its own puzzle and limit
-pub found_is_report : (puzzle : Nonogram) (guesses : ℕ) (outcome : Result Findings NoMemory) (found : Findings) →
-    outcome ≡ Ok found → ∥ IsOutcome puzzle guesses outcome ∥₁ → found ≡ report_of first_unknown puzzle guesses
-found_is_report puzzle guesses outcome found is h =
-    ∥∥₁_elim h (Coded-set the_row.coded _ _) (λ o. subst (λ r. IsOutcome puzzle guesses r) is o)
+pub found_is_report : (puzzle : Nonogram) (guesses : ℕ) (pick : Pick) (outcome : Result Findings NoMemory) (found : Findings) →
+    outcome ≡ Ok found → ∥ IsOutcome puzzle guesses pick outcome ∥₁ → found ≡ report_of (picked pick puzzle.width) puzzle guesses
+found_is_report puzzle guesses pick outcome found is h =
+    ∥∥₁_elim h (Coded-set the_row.coded _ _) (λ o. subst (λ r. IsOutcome puzzle guesses pick r) is o)
 
 -- and so its verdict holds
-pub found_holds : (puzzle : Nonogram) → IsNonogram puzzle → (guesses : ℕ) (outcome : Result Findings NoMemory) (found : Findings) →
-    outcome ≡ Ok found → ∥ IsOutcome puzzle guesses outcome ∥₁ → Holds first_unknown puzzle guesses found.verdict
-found_holds puzzle lawful guesses outcome found is h =
-    subst (λ f. Holds first_unknown puzzle guesses f.verdict) (sym (found_is_report puzzle guesses outcome found is h))
-    (verdict-Holds first_unknown first_unknown-IsPick puzzle lawful guesses)
+pub found_holds : (puzzle : Nonogram) → IsNonogram puzzle → (guesses : ℕ) (pick : Pick) (outcome : Result Findings NoMemory) (found : Findings) →
+    outcome ≡ Ok found → ∥ IsOutcome puzzle guesses pick outcome ∥₁ → Holds (picked pick puzzle.width) puzzle guesses found.verdict
+found_holds puzzle lawful guesses pick outcome found is h =
+    subst (λ f. Holds (picked pick puzzle.width) puzzle guesses f.verdict) (sym (found_is_report puzzle guesses pick outcome found is h))
+    (verdict-Holds (picked pick puzzle.width) (picked-IsPick pick puzzle.width) puzzle lawful guesses)

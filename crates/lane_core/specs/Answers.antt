@@ -4,12 +4,13 @@ use Rattle.lane_core.specs.Outcome.{IsOutcome}
 use Rattle.lane_core.specs.declared.jobs.Job.{Job}
 use Rattle.lane_core.specs.declared.answers.Answer.{Answer}
 
--- the answer has the job's number, puzzle and limit, and its outcome is theirs
+-- the answer has the job's number, puzzle, limit and rule, and its outcome is theirs
 pub record IsAnswerTo (job : Job) (answer : Answer) : Type 0 where
   pub number : answer.number ≡ job.number
   pub puzzle : answer.puzzle ≡ job.puzzle
   pub guesses : answer.guesses ≡ job.guesses
-  pub outcome : IsOutcome job.puzzle job.guesses answer.outcome
+  pub pick : answer.pick ≡ job.pick
+  pub outcome : IsOutcome job.puzzle job.guesses job.pick answer.outcome
 
 -- as many answers as jobs, and each answers the job at its place
 abbrev pub AreAnswersTo : List Job → List Answer → Type 0

@@ -2,42 +2,47 @@
 
 ghost use Rattle.std.specs.Prelude.{◌≡◌, MatchResult, IfOk};
 ghost use Rattle.grid_core.specs.Nonogram.{IsNonogram};
-ghost use Rattle.solve_core.specs.Search.{first_unknown};
+ghost use Rattle.solve_core.specs.Picks.{picked};
 ghost use Rattle.solve_core.specs.Report.{report_of};
 ghost use Rattle.solve_core.specs.Verdicts.{Holds};
 ghost use Rattle.lane_core.specs.Outcome.{IsOutcome};
 
 use grid_core::{NoMemory, Puzzle};
-use solve_core::Findings;
+use solve_core::{Findings, Pick};
 
-/// A graded job, with its number, its puzzle and its limit on guesses. The outcome is the report of this puzzle under this limit, or want of memory.
+/// A graded job, with its number, its puzzle, its limit on guesses and its rule for them. The outcome is the report of this puzzle under this limit
+/// and by this rule, or want of memory.
 #[derive(Drop)]
 pub struct Answer {
     number: u32,
     puzzle: Puzzle,
     guesses: u32,
+    pick: Pick,
     outcome: Result<Findings, NoMemory>,
-    pub ghost reported: { ∥ IsOutcome puzzle guesses outcome ∥₁ },
+    pub ghost reported: { ∥ IsOutcome puzzle guesses pick outcome ∥₁ },
 }
 
 impl Answer {
-    /// The answer with these parts, whose outcome is the report of this puzzle under this limit, or want of memory.
+    /// The answer with these parts, whose outcome is the report of this puzzle under this limit and by this rule, or want of memory.
     pub(crate) fn new(
         number: u32,
         puzzle: Puzzle,
         guesses: u32,
+        pick: Pick,
         outcome: Result<Findings, NoMemory>,
     ) -> Answer
-        requires { IsOutcome puzzle guesses outcome }
+        requires { IsOutcome puzzle guesses pick outcome }
         ensures number { result.number ≡ number }
         ensures puzzle { result.puzzle ≡ puzzle }
         ensures guesses { result.guesses ≡ guesses }
+        ensures pick { result.pick ≡ pick }
         ensures outcome { result.outcome ≡ outcome }
     {
         Answer {
             number,
             puzzle,
             guesses,
+            pick,
             outcome,
         }
     }
@@ -63,12 +68,19 @@ impl Answer {
         self.guesses
     }
 
-    /// The report of the answer's own puzzle under its own limit on guesses: its verdict holds of all grids. `NoMemory` where a growth was refused while the
+    /// The job's rule for the cell of the next guess.
+    pub fn pick(&self) -> Pick
+        ensures { result ≡ self.now.pick }
+    {
+        self.pick
+    }
+
+    /// The report of the answer's own puzzle under its own limit on guesses and by its own rule: its verdict holds of all grids. `NoMemory` where a growth was refused while the
     /// job was graded.
     pub fn outcome(&self) -> Result<&Findings, NoMemory>
         ensures value { MatchResult result (λ found. self.now.outcome ≡ Ok found.now) (λ refused. self.now.outcome ≡ Err refused) }
-        ensures report { IfOk result (λ found. found.now ≡ report_of first_unknown self.now.puzzle self.now.guesses) }
-        ensures holds { IfOk result (λ found. Holds first_unknown self.now.puzzle self.now.guesses found.now.verdict) }
+        ensures report { IfOk result (λ found. found.now ≡ report_of (picked self.now.pick self.now.puzzle.width) self.now.puzzle self.now.guesses) }
+        ensures holds { IfOk result (λ found. Holds (picked self.now.pick self.now.puzzle.width) self.now.puzzle self.now.guesses found.now.verdict) }
     {
         see_puzzle(&self.puzzle);
         match &self.outcome {

@@ -15,7 +15,8 @@ pub fn grade(alloc: Global, job: Job) -> Answer
         number,
         puzzle,
         guesses,
+        pick,
     } = job;
-    let outcome = report(alloc, &puzzle, guesses);
-    Answer::new(number, puzzle, guesses, outcome)
+    let outcome = report(alloc, &puzzle, guesses, pick);
+    Answer::new(number, puzzle, guesses, pick, outcome)
 }

@@ -5,7 +5,7 @@ ghost use Rattle.lane_core.specs.Ends.{AreOneLane};
 
 use super::*;
 use grid_core::{Clue, NoMemory, Puzzle, Texts};
-use solve_core::{Grade, Verdict};
+use solve_core::{Grade, Pick, Verdict};
 use std::alloc::Global;
 use std::collections::VecDeque;
 use std::process::Abort;
@@ -25,7 +25,7 @@ fn one_cell(alloc: Global) -> Result<Puzzle, Fail> {
 }
 
 pub(crate) fn job(alloc: Global, number: u32) -> Result<Job, Fail> {
-    Ok(Job::new(number, one_cell(alloc)?, 1000))
+    Ok(Job::new(number, one_cell(alloc)?, 1000, Pick::First))
 }
 
 /// A call on a lane.

@@ -27,6 +27,10 @@ pub record IsLine (width len filled blank : ℕ) : Type 0 where
 abbrev pub IsChanged : List Cell → List Cell → ℕ → Type 0
 IsChanged line other i = (i < length line) × (slice_index_or other i Unknown ≢ slice_index_or line i Unknown)
 
+-- a place of an unknown cell
+abbrev pub IsUnknownCell : List Cell → ℕ → Type 0
+IsUnknownCell cells i = (i < length cells) × (slice_index_or cells i Unknown ≡ Unknown)
+
 -- the first cell from a place on that is unknown, or none if all from there on are known
 abbrev pub IsUnknownFrom : List Cell → ℕ → Option ℕ → Type 0
 IsUnknownFrom cells from None = (k : ℕ) → from ≤ k → k < length cells → is_unknown (slice_index_or cells k Unknown) ≡ false

@@ -6,7 +6,7 @@ ghost use Rattle.grid_core.specs.Cells.{is_known};
 ghost use Rattle.grid_core.specs.Rows.{with_row};
 ghost use Rattle.grid_core.specs.declared.limits.TheConstants.{LONGEST_SIDE};
 ghost use Rattle.place_sets.specs.Masks.{IsMaskOf};
-ghost use Rattle.line_core.specs.Lines.{IsChanged, IsUnknownFrom, is_blank};
+ghost use Rattle.line_core.specs.Lines.{IsChanged, IsUnknownCell, IsUnknownFrom, is_blank};
 ghost use Rattle.line_core.specs.Passes.{IsSpanOf};
 ghost use Rattle.line_core.specs.Told.{told_by};
 
@@ -109,13 +109,20 @@ impl<W: PlaceSet> LineOf<W> {
         self.blank = self.blank.marked(i, is_blank(cell));
     }
 
+    /// The cells of which nothing is known.
+    pub fn unknown_cells(&self) -> W
+        ensures cells { IsMaskOf (IsUnknownCell self.now) (W.number result) }
+        ensures fits { length self.now ≤ W.WIDTH }
+    {
+        lacking(self.filled.or(self.blank), self.len as u16)
+    }
+
     /// The first cell from a place on of which nothing is known, if there is one.
     pub fn first_unknown(&self, from: u16) -> Option<u16>
         requires { from ≤ length self.now }
         ensures { IsUnknownFrom self.now from result }
     {
-        let known = self.filled.or(self.blank);
-        first_from(lacking(known, self.len as u16), from)
+        first_from(self.unknown_cells(), from)
     }
 
     /// Settles the unknown cell at a place, counted from 0.

@@ -8,6 +8,7 @@ use Rattle.grid_core.specs.Cells.{is_known}
 use Rattle.grid_core.specs.Nonogram.{Nonogram}
 use Rattle.grid_core.specs.PartialGrid.{PartialGrid}
 use Rattle.solve_core.specs.Report.{grid_of, line_closure}
+use Rattle.solve_core.specs.declared.picks.Pick.{Pick}
 use Rattle.puzzle_text.specs.Formats.{read_entry}
 use Rattle.puzzle_text.specs.declared.faults.EntryFault.{EntryFault}
 use Rattle.puzzle_text.specs.declared.faults.EntryFault.TheVariants.{Text}
@@ -38,9 +39,9 @@ closed_text p (Some cells) = grid_report (grid_of p cells)
 abbrev pub lines_text : Nonogram → List ℕ
 lines_text p = closed_text p (line_closure p)
 
--- the puzzle's line in a survey, numbered 1, and its solutions
-abbrev pub solve_text : List ℕ → ℕ → Nonogram → List ℕ
-solve_text name guesses p = entry_text true 1 (record { name = name; result = reported guesses (Ok p) })
+-- the puzzle's line in a survey with this limit on guesses and this rule for them, numbered 1, and its solutions
+abbrev pub solve_text : List ℕ → ℕ → Pick → Nonogram → List ℕ
+solve_text name limit pick p = entry_text true 1 (record { name = name; result = reported (record { limit = limit; pick = pick }) (Ok p) })
 
 -- what the text of this name and body says
 abbrev pub said : List ℕ → List ℕ → Result Nonogram EntryFault

@@ -7,6 +7,7 @@ use clap::{Arg, ArgAction, ArgMatches, Command, Error, value_parser};
 use grid_core::NoMemory;
 use lane_core::MOST_GUESSES;
 use puzzle_text::Format;
+use solve_core::Pick;
 use std::alloc::{AllocError, Global};
 use survey_core::{
     DEFAULT_GUESSES, DEFAULT_LANES, DEFAULT_RING, LARGEST_RING, MOST_LANES, Settings,
@@ -17,8 +18,8 @@ use survey_core::{
 pub enum Request {
     /// A survey of these files, or of the collection on standard input where there is none.
     Survey(Settings, Vec<String>),
-    /// The solutions of a file's puzzle, with so many guesses at most.
-    Solve(u32, String),
+    /// The solutions of a file's puzzle, with so many guesses at most, each by the rule.
+    Solve(u32, Pick, String),
     /// A file's puzzle in another format.
     Convert(Format, String),
     /// The grid of a file's puzzle as far as line logic gets.
@@ -60,6 +61,16 @@ fn guesses_option<'a>(alloc: Global) -> Arg<'a> {
         .default_value("1000")
 }
 
+/// The option `--pick`, with the words of the rules.
+fn pick_option<'a>(alloc: Global, picks: &'a [&'a str]) -> Arg<'a> {
+    Arg::new(alloc, "pick")
+        .long("pick")
+        .value_name("RULE")
+        .help("Guess the first unknown cell, or the one with the most known neighbours")
+        .value_parser(picks)
+        .default_value("first")
+}
+
 /// The word that names a file.
 fn file_word<'a>(alloc: Global) -> Arg<'a> {
     Arg::new(alloc, "file")
@@ -68,8 +79,8 @@ fn file_word<'a>(alloc: Global) -> Arg<'a> {
         .required(true)
 }
 
-/// The command `survey`.
-fn survey_command<'a>(alloc: Global) -> Result<Command<'a>, AllocError> {
+/// The command `survey`, with the words of the rules for guesses.
+fn survey_command<'a>(alloc: Global, picks: &'a [&'a str]) -> Result<Command<'a>, AllocError> {
     let lanes = Arg::new(alloc, "lanes")
         .long("lanes")
         .value_name("N")
@@ -97,15 +108,18 @@ fn survey_command<'a>(alloc: Global) -> Result<Command<'a>, AllocError> {
         .arg(lanes)?
         .arg(ring)?
         .arg(guesses_option(alloc))?
+        .arg(pick_option(alloc, picks))?
         .arg(show)?
         .arg(files)
 }
 
-fn solve_command<'a>(alloc: Global) -> Result<Command<'a>, AllocError> {
+/// The command `solve`, with the words of the rules for guesses.
+fn solve_command<'a>(alloc: Global, picks: &'a [&'a str]) -> Result<Command<'a>, AllocError> {
     Command::new(alloc, "solve")
         .about("Solve a puzzle")
         .override_usage("nonograde solve [OPTIONS] <FILE>")
         .arg(guesses_option(alloc))?
+        .arg(pick_option(alloc, picks))?
         .arg(file_word(alloc))
 }
 
@@ -131,14 +145,18 @@ fn lines_command<'a>(alloc: Global) -> Result<Command<'a>, AllocError> {
         .arg(file_word(alloc))
 }
 
-/// All commands, with the words of the formats.
-fn whole_command<'a>(alloc: Global, formats: &'a [&'a str]) -> Result<Command<'a>, NoMemory> {
+/// All commands, with the words of the formats and those of the rules for guesses.
+fn whole_command<'a>(
+    alloc: Global,
+    formats: &'a [&'a str],
+    picks: &'a [&'a str],
+) -> Result<Command<'a>, NoMemory> {
     let command = Command::new(alloc, "nonograde")
         .about("Solves and grades nonograms")
         .no_binary_name(true)
         .subcommand_required(true)
-        .subcommand(survey_command(alloc)?)?
-        .subcommand(solve_command(alloc)?)?
+        .subcommand(survey_command(alloc, picks)?)?
+        .subcommand(solve_command(alloc, picks)?)?
         .subcommand(convert_command(alloc, formats)?)?
         .subcommand(lines_command(alloc)?)?;
     Ok(command)
@@ -170,6 +188,14 @@ fn guesses_of(matches: &ArgMatches<'_>) -> u32
         .min(MOST_GUESSES)
 }
 
+/// The rule for guesses that is asked for. `clap` has refused other words.
+fn pick_of(matches: &ArgMatches<'_>) -> Pick {
+    match matches.get_str("pick") {
+        Some("most") => Pick::Most,
+        _ => Pick::First,
+    }
+}
+
 /// The settings of a survey. `clap` has refused those out of range.
 fn settings_of(matches: &ArgMatches<'_>) -> Settings {
     let lanes = matches.get_one::<u16>("lanes").unwrap_or(DEFAULT_LANES);
@@ -178,6 +204,7 @@ fn settings_of(matches: &ArgMatches<'_>) -> Settings {
         lanes: lanes.clamp(1, MOST_LANES),
         ring: ring.clamp(1, LARGEST_RING),
         guesses: guesses_of(matches),
+        pick: pick_of(matches),
         show: matches.get_flag("show"),
     }
 }
@@ -202,7 +229,10 @@ fn request_of(
 {
     let request = match name {
         "survey" => Request::Survey(settings_of(matches), files_of(alloc, matches)?),
-        "solve" => Request::Solve(guesses_of(matches), text_of(alloc, matches, "file")?),
+        "solve" => {
+            let file = text_of(alloc, matches, "file")?;
+            Request::Solve(guesses_of(matches), pick_of(matches), file)
+        }
         "convert" => return conversion_of(alloc, matches),
         "lines" => Request::Lines(text_of(alloc, matches, "file")?),
         _ => return Ok(None),
@@ -221,7 +251,8 @@ pub fn parse_words(alloc: Global, words: Vec<String>) -> Result<Request, Command
     ensures { IfOk result HasSettingsInRange }
 {
     let formats = Format::words();
-    let mut command = whole_command(alloc, &formats)?;
+    let picks = ["first", "most"];
+    let mut command = whole_command(alloc, &formats, &picks)?;
     let matches = command.try_get_matches_from_mut(words.as_slice())?;
     let asked = match matches.subcommand() {
         Some((name, found)) => request_of(alloc, name, found)?,

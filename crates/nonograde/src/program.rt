@@ -10,6 +10,7 @@ use crate::stop::{Stop, stop_text};
 use grid_core::NoMemory;
 use lane_core::{MOST_GUESSES, OpenGate};
 use puzzle_text::{Entry, Format, LONGEST_PUZZLE};
+use solve_core::Pick;
 use std::alloc::Global;
 use std::io::{Read, Write};
 use std::rt::{Env, Files};
@@ -119,13 +120,15 @@ fn survey_files<R: Files + Threads + Wait + Sync + AllocGlobal, O: Write>(
 fn solve_file<R: Files + AllocGlobal, O: Write>(
     rt: &R,
     guesses: u32,
+    pick: Pick,
     path: &str,
     output: &mut O,
 ) -> Result<(), Stop>
     requires { guesses ≤ MOST_GUESSES }
 {
     let body = read_file(rt, path)?;
-    let report = solve_report(rt.alloc(), path.as_bytes(), &body, guesses).map_err(Stop::Entry)?;
+    let name = path.as_bytes();
+    let report = solve_report(rt.alloc(), name, &body, guesses, pick).map_err(Stop::Entry)?;
     print_text(output, &report)
 }
 
@@ -169,7 +172,9 @@ fn perform<R: Files + Threads + Wait + Sync + AllocGlobal, I: Read, O: Write>(
                 survey_files(rt, settings, paths, output)
             }
         }
-        Request::Solve(guesses, path) => solve_file(rt, *guesses, path.as_str(), output),
+        Request::Solve(guesses, pick, path) => {
+            solve_file(rt, *guesses, *pick, path.as_str(), output)
+        }
         Request::Convert(format, path) => convert_file(rt, *format, path.as_str(), output),
         Request::Lines(path) => close_file(rt, path.as_str(), output),
     }

@@ -11,7 +11,7 @@ use lane_core::{Job, MOST_GUESSES, grade};
 use puzzle_text::{
     Entry, EntryFault, LONGEST_PUZZLE, TextFault, push_bytes, push_number, read_entry,
 };
-use solve_core::Solver;
+use solve_core::{Pick, Solver};
 use std::alloc::Global;
 use survey_core::{print_graded, push_grid};
 
@@ -96,30 +96,37 @@ pub fn lines_report(alloc: Global, name: &[u8], body: &[u8]) -> Result<Vec<u8>, 
 }
 
 /// What is printed of a graded puzzle and its solutions.
-fn solve_text(alloc: Global, name: &[u8], puzzle: Puzzle, guesses: u32) -> Result<Vec<u8>, NoMemory>
+fn solve_text(
+    alloc: Global,
+    name: &[u8],
+    puzzle: Puzzle,
+    guesses: u32,
+    pick: Pick,
+) -> Result<Vec<u8>, NoMemory>
     requires { guesses ≤ MOST_GUESSES }
-    ensures { IfOk result (λ text. text.items ≡ solve_text name.now guesses puzzle) }
+    ensures { IfOk result (λ text. text.items ≡ solve_text name.now guesses pick puzzle) }
 {
-    let answer = grade(alloc, Job::new(1, puzzle, guesses));
+    let answer = grade(alloc, Job::new(1, puzzle, guesses, pick));
     print_graded(alloc, 1, name, &answer, true)
 }
 
-/// The line of a puzzle's text in a survey, numbered 1, and its solutions, each followed by an empty line. At most 1,000,000 guesses. Else the text's fault, or
+/// The line of a puzzle's text in a survey, numbered 1, and its solutions, each followed by an empty line. At most 1,000,000 guesses, each by the rule. Else the text's fault, or
 /// `NoMemory`.
 pub fn solve_report(
     alloc: Global,
     name: &[u8],
     body: &[u8],
     guesses: u32,
+    pick: Pick,
 ) -> Result<Vec<u8>, EntryFault>
     requires { guesses ≤ MOST_GUESSES }
-    ensures answer { GivesText result (text_or_fault (solve_text name.now guesses) (said name.now body.now)) }
+    ensures answer { GivesText result (text_or_fault (solve_text name.now guesses pick) (said name.now body.now)) }
     // Want of memory never stands in place of these faults.
     ensures unknown { result ≡ Err EntryFault.UnknownFormat ↔ is_known_format name.now ≡ false }
     ensures too_long { is_known_format name.now ≡ true → LONGEST_PUZZLE < length body.now → result ≡ Err (EntryFault.Text TextFault.TooLong) }
 {
     match read_entry(alloc, &Entry { name, body }) {
-        Ok(puzzle) => text_or_fault(solve_text(alloc, name, puzzle, guesses)),
+        Ok(puzzle) => text_or_fault(solve_text(alloc, name, puzzle, guesses, pick)),
         Err(fault) => Err(fault),
     }
 }

@@ -7,6 +7,7 @@ use crate::tests_refusals::{Told, assert_heeded, assert_swept, refuse, told_if, 
 use crate::tests_samples::{DEMO, DEMO_GRID, DEMO_NIN, MEETS, PAIR, TWO, joined, repeated};
 use grid_core::NoMemory;
 use puzzle_text::{EntryFault, Format, LONGEST_PUZZLE, TextFault};
+use solve_core::Pick;
 use std::test::Fail;
 use survey_core::RunFault;
 
@@ -41,13 +42,16 @@ fn puzzles_are_solved_or_refused(rt: HostRuntime) -> Result<(), Fail> {
     assert_swept(
         &rt,
         alloc,
-        || told_of_text(solve_report(alloc, b"demo.non", &demo, 1000), &wanted),
+        || told_of_text(
+            solve_report(alloc, b"demo.non", &demo, 1000, Pick::First),
+            &wanted,
+        ),
     );
     assert_swept(
         &rt,
         alloc,
         || told_of_text(
-            solve_report(alloc, b"two.mk", TWO, 2),
+            solve_report(alloc, b"two.mk", TWO, 2, Pick::First),
             b"1 2x2 several search 0 0 2 absent two.mk\n#.\n.#\n\n.#\n#.\n\n",
         ),
     );
@@ -133,7 +137,7 @@ fn long_texts_are_too_long(rt: HostRuntime) -> Result<(), Fail> {
     let text = repeated(alloc, b"\n", LONGEST_PUZZLE + 1)?;
     refuse(alloc, 0);
     let lines = lines_report(alloc, b"a.non", &text);
-    let solved = solve_report(alloc, b"a.mk", &text, 1000);
+    let solved = solve_report(alloc, b"a.mk", &text, 1000, Pick::First);
     let converted = convert(alloc, b"a.nin", &text, Format::Non);
     let unknown = lines_report(alloc, b"a", &text);
     assert!(rt; !was_refused(alloc), "no growth");

@@ -3,10 +3,11 @@
 use crate::converting::{ConvertFault, convert};
 use crate::reports::{lines_report, solve_report};
 use crate::tests_samples::{
-    CLASH, DEMO, DEMO_GRID, DEMO_NIN, FIT, MEETS, MISSES, ONE, PAIR, SIX, THREE, TWO, assert_bytes,
-    joined, repeated, text_or_word,
+    CLASH, DEMO, DEMO_GRID, DEMO_NIN, FIT, MEETS, MISSES, ONE, PAIR, SIX, THREE, TWIN, TWO,
+    assert_bytes, joined, repeated, text_or_word,
 };
 use puzzle_text::{EntryFault, Format, TextFault};
+use solve_core::Pick;
 use std::test::Fail;
 
 #[test]
@@ -154,10 +155,42 @@ fn solve_not_always_no_memory(rt: HostRuntime) -> Result<(), Fail> {
     ];
     for (place, (guesses, name, body, expected)) in table.iter().enumerate() {
         let guesses = (*guesses).min(1000);
-        let found = text_or_word(alloc, solve_report(alloc, name, body, guesses));
+        let found = text_or_word(alloc, solve_report(alloc, name, body, guesses, Pick::First));
         assert_bytes(&rt, found, expected, place);
     }
     Ok(())
+}
+
+#[test]
+fn rule_told_by_second_solution(rt: HostRuntime) {
+    let alloc = rt.alloc();
+    let table: [(u32, Pick, &[u8]); 4] = [
+        (
+            1000,
+            Pick::First,
+            b"1 5x8 several search 32 32 3 absent twin.mk\n#....\n.#...\n.....\n#####\n#####\n.....\n..#..\n....#\n\n#....\n.#...\n.....\n#####\n#####\n.....\n....#\n..#..\n\n",
+        ),
+        (
+            1000,
+            Pick::Most,
+            b"1 5x8 several search 32 32 3 absent twin.mk\n#....\n.#...\n.....\n#####\n#####\n.....\n..#..\n....#\n\n.#...\n#....\n.....\n#####\n#####\n.....\n..#..\n....#\n\n",
+        ),
+        (
+            2,
+            Pick::First,
+            b"1 5x8 unsettled search 32 32 2 absent twin.mk\n#....\n.#...\n.....\n#####\n#####\n.....\n..#..\n....#\n\n",
+        ),
+        (
+            2,
+            Pick::Most,
+            b"1 5x8 unsettled search 32 32 2 absent twin.mk\n#....\n.#...\n.....\n#####\n#####\n.....\n..#..\n....#\n\n",
+        ),
+    ];
+    for (place, (guesses, pick, expected)) in table.iter().enumerate() {
+        let guesses = (*guesses).min(1000);
+        let found = text_or_word(alloc, solve_report(alloc, b"twin.mk", TWIN, guesses, *pick));
+        assert_bytes(&rt, found, expected, place);
+    }
 }
 
 #[test]
@@ -172,7 +205,10 @@ fn large_puzzles_are_solved(rt: HostRuntime) -> Result<(), Fail> {
     let solved = joined(alloc, &[line, &rows, b"\n"])?;
     let table: [(&[u8], &[u8]); 2] = [(&big, &solved), (&large, b"BadSize")];
     for (place, (body, expected)) in table.iter().enumerate() {
-        let found = text_or_word(alloc, solve_report(alloc, b"big.mk", body, 1000));
+        let found = text_or_word(
+            alloc,
+            solve_report(alloc, b"big.mk", body, 1000, Pick::First),
+        );
         assert_bytes(&rt, found, expected, place);
     }
     Ok(())

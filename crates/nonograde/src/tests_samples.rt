@@ -32,6 +32,9 @@ pub const TWO: &[u8] = b"2 2\n1\n1\n#\n1\n1\n";
 
 pub const THREE: &[u8] = b"3 3\n1\n1\n1\n#\n1\n1\n1\n";
 
+/// A puzzle whose second solution tells the rule for guesses.
+pub const TWIN: &[u8] = b"8 5\n1\n1\n0\n5\n5\n0\n1\n1\n#\n1 2\n1 2\n2 1\n2\n2 1\n";
+
 pub const FIT: &[u8] = b"2 4\n2\n1 1\n1\n1\n1\n1\n";
 
 pub const TEN: &[u8] = b"1 1x1 one line 1 1 0 absent one.mk

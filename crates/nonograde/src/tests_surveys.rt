@@ -3,6 +3,7 @@
 use crate::tests_samples::{DEMO, MEETS, TEN, THREE, TWO, joined, repeated, ten_entries};
 use lane_core::OpenGate;
 use puzzle_text::{CollectionFault, entries};
+use solve_core::Pick;
 use std::io;
 use std::io::{ErrorKind, Read, Write};
 use std::sync::Wait;
@@ -15,6 +16,7 @@ fn settings(lanes: u16, ring: u16) -> Settings {
         lanes: lanes.clamp(1, 16),
         ring: ring.clamp(1, 64),
         guesses: 1000,
+        pick: Pick::First,
         show: false,
     }
 }
@@ -201,6 +203,7 @@ fn single_puzzles_are_surveyed(rt: HostRuntime) -> Result<(), Fail> {
             lanes: 2,
             ring: 1,
             guesses: guesses.min(1000),
+            pick: Pick::First,
             show: false,
         };
         let found = surveyed(&rt, &collection, &wanted).ok().ok_or("a survey")?;

@@ -7,6 +7,7 @@ use crate::tests_samples::assert_bytes;
 use crate::tests_surveys::FailingWriter;
 use grid_core::NoMemory;
 use puzzle_text::{CollectionFault, EntryFault, Format, TextFault};
+use solve_core::Pick;
 use std::alloc::{AllocError, Global};
 use std::io::{Read, Write};
 use std::test::Fail;
@@ -60,6 +61,7 @@ fn words_ignored_by_surveys(rt: HostRuntime) {
         lanes: 3,
         ring: 1,
         guesses: 1000,
+        pick: Pick::First,
         show: false,
     };
     match &asked(rt.alloc(), "survey --lanes 3 --ring 1") {
@@ -73,6 +75,7 @@ fn words_ignored_by_surveys(rt: HostRuntime) {
         lanes: 4,
         ring: 8,
         guesses: 7,
+        pick: Pick::First,
         show: true,
     };
     match &asked(rt.alloc(), "survey --show a.mk --guesses 7 b.nin") {
@@ -87,14 +90,44 @@ fn words_ignored_by_surveys(rt: HostRuntime) {
 }
 
 #[test]
+fn rule_for_guesses_ignored(rt: HostRuntime) {
+    let most = Settings {
+        lanes: 4,
+        ring: 8,
+        guesses: 1000,
+        pick: Pick::Most,
+        show: false,
+    };
+    match &asked(rt.alloc(), "survey --pick most") {
+        Ok(Request::Survey(settings, files)) => {
+            assert_eq!(rt; *settings, most);
+            assert!(rt; files.is_empty());
+        }
+        _ => assert!(rt; false),
+    }
+    match &asked(rt.alloc(), "solve --pick most two.mk") {
+        Ok(Request::Solve(guesses, pick, file)) => {
+            assert_eq!(rt;
+                (*guesses, *pick, file.as_str()),
+                (1000, Pick::Most, "two.mk")
+            );
+        }
+        _ => assert!(rt; false),
+    }
+}
+
+#[test]
 fn words_ignored_on_one_file(rt: HostRuntime) {
     match &asked(rt.alloc(), "lines demo.nin") {
         Ok(Request::Lines(file)) => assert_eq!(rt; file.as_str(), "demo.nin"),
         _ => assert!(rt; false),
     }
     match &asked(rt.alloc(), "solve --guesses 2 two.mk") {
-        Ok(Request::Solve(guesses, file)) => {
-            assert_eq!(rt; (*guesses, file.as_str()), (2, "two.mk"));
+        Ok(Request::Solve(guesses, pick, file)) => {
+            assert_eq!(rt;
+                (*guesses, *pick, file.as_str()),
+                (2, Pick::First, "two.mk")
+            );
         }
         _ => assert!(rt; false),
     }
@@ -104,7 +137,7 @@ fn words_ignored_on_one_file(rt: HostRuntime) {
         ("solve --guesses 1000000 two.mk", 1_000_000),
     ] {
         match &asked(rt.alloc(), line) {
-            Ok(Request::Solve(guesses, _file)) => assert_eq!(rt; *guesses, wanted),
+            Ok(Request::Solve(guesses, _pick, _file)) => assert_eq!(rt; *guesses, wanted),
             _ => assert!(rt; false, "{line}"),
         }
     }
@@ -134,6 +167,8 @@ fn refused_words(rt: HostRuntime) {
         ("survey --ring 65", 2),
         ("survey --ring 0", 2),
         ("solve --guesses 1000001 a.mk", 2),
+        ("survey --pick last", 2),
+        ("solve --pick last a.mk", 2),
         ("convert --to txt a.mk", 2),
         ("convert a.mk", 2),
         ("lnes a.mk", 2),

@@ -22,3 +22,6 @@ pub mod Fitting
 pub mod Changes
 pub mod MarkSteps
 pub mod Counting
+pub mod PickLaws
+pub mod CountLaws
+pub mod PickRows

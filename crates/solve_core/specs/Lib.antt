@@ -23,3 +23,5 @@ pub mod Guesses
 pub mod Widths
 pub mod Fittings
 pub mod LineMarks
+pub mod Picks
+pub mod Counts

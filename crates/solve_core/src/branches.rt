@@ -1,9 +1,9 @@
 //! Going back in a search.
-ghost use Rattle.std.specs.Prelude.{◌≡◌, ◌≢◌, ◌<◌, ◌≤◌, List, None, true, IfSome, length, slice_index_or, vec_capacity};
+ghost use Rattle.std.specs.Prelude.{◌≡◌, ◌≢◌, ◌<◌, ◌≤◌, ℕ, List, Option, None, true, IfSome, length, slice_index_or, vec_capacity};
+ghost use Rattle.grid_core.specs.declared.cells.Cell.{Cell as CellValue};
 ghost use Rattle.grid_core.specs.Cells.{is_known};
 ghost use Rattle.grid_core.specs.Nonogram.{GridLine};
 ghost use Rattle.grid_core.specs.declared.cells.Cell.TheVariants.{Unknown};
-ghost use Rattle.solve_core.specs.Search.{first_unknown};
 ghost use Rattle.solve_core.specs.Branches.{IsWork, AreOlder, IsOpen, IsReady, pending, open_events, ready_events};
 
 use crate::boards::Board;
@@ -29,14 +29,14 @@ pub(crate) fn next_guess<W: LineSet>(
     requires next { IfSome next (λ place. (place < length board.old.cells) × (slice_index_or board.old.cells place Unknown ≡ Unknown)) }
     requires older { next ≢ None → length branches.old.items ≤ length board.old.trail }
     requires room { length board.old.cells ≤ vec_capacity branches.old }
-    ensures events { (lines : List GridLine) → IsWork first_unknown lines board.old.cells board.old.trail branches.old.items →
-        open_events first_unknown lines board.old.cells next (pending first_unknown lines board.old.cells board.old.trail branches.old.items)
-        ≡ ready_events first_unknown lines board.new.cells result (pending first_unknown lines board.new.cells board.new.trail branches.new.items) }
-    ensures work { (lines : List GridLine) → IsWork first_unknown lines board.old.cells board.old.trail branches.old.items →
-        AreOlder board.old.trail branches.old.items next → IsOpen first_unknown lines board.old.cells next →
-        IsWork first_unknown lines board.new.cells board.new.trail branches.new.items }
-    ensures ready { (lines : List GridLine) → IsWork first_unknown lines board.old.cells board.old.trail branches.old.items →
-        IsOpen first_unknown lines board.old.cells next → IsReady first_unknown lines board.new.cells result }
+    ensures events { (rule : List CellValue → Option ℕ) (lines : List GridLine) → IsWork rule lines board.old.cells board.old.trail branches.old.items →
+        open_events rule lines board.old.cells next (pending rule lines board.old.cells board.old.trail branches.old.items)
+        ≡ ready_events rule lines board.new.cells result (pending rule lines board.new.cells board.new.trail branches.new.items) }
+    ensures work { (rule : List CellValue → Option ℕ) (lines : List GridLine) → IsWork rule lines board.old.cells board.old.trail branches.old.items →
+        AreOlder board.old.trail branches.old.items next → IsOpen rule lines board.old.cells next →
+        IsWork rule lines board.new.cells board.new.trail branches.new.items }
+    ensures ready { (rule : List CellValue → Option ℕ) (lines : List GridLine) → IsWork rule lines board.old.cells board.old.trail branches.old.items →
+        IsOpen rule lines board.old.cells next → IsReady rule lines board.new.cells result }
     ensures colour { IfSome result (λ guess. is_known guess.1 ≡ true) }
     ensures width { board.new.width ≡ board.old.width }
     ensures height { board.new.height ≡ board.old.height }

@@ -1,15 +1,20 @@
 //! A grid as its rows and its columns.
-ghost use Rattle.std.specs.Prelude.{◌≡◌, ◌+◌, ◌*◌, ◌<◌, ◌≤◌, ℕ, [], length, replicate, slice_index_or, slice_set, true, IfOk};
+ghost use Rattle.std.specs.Prelude.{◌≡◌, ◌+◌, ◌-◌, ◌*◌, ◌<◌, ◌≤◌, ℕ, nat_eq, [], length, replicate, slice_index_or, slice_set, true, IfOk};
 ghost use Rattle.grid_core.specs.Cells.{is_known};
 ghost use Rattle.grid_core.specs.Nonogram.{cells_at};
 ghost use Rattle.grid_core.specs.PartialGrid.{IsSize};
 ghost use Rattle.grid_core.specs.declared.cells.Cell.TheVariants.{Unknown};
 ghost use Rattle.line_core.specs.Lines.{IsUnknownFrom};
 ghost use Rattle.solve_core.specs.GridLines.{AreLinesOf, cells_of_rows};
+ghost use Rattle.place_sets.specs.Masks.{has};
+ghost use Rattle.solve_core.specs.Counts.{is_sure};
 ghost use Rattle.solve_core.specs.Lines.{places_in, places_of};
+ghost use Rattle.solve_core.specs.Picks.{most_known};
 
+use crate::picks::{known_cells, most_in_row};
 use grid_core::{Cell, Grid, NoMemory};
 use line_core::{LineOf, LineSet};
+use place_sets::places;
 use std::alloc::Global;
 use std::marker::Model;
 
@@ -97,6 +102,30 @@ fn copy_lines<W: LineSet>(lines: &mut [LineOf<W>], others: &[LineOf<W>])
     }
 }
 
+/// The places of which the cell of the row above row y is known, or all if there is no row above.
+fn sure_above<W: LineSet>(rows: &[LineOf<W>], y: usize) -> W
+    requires { y < length rows.now }
+    ensures { (x : ℕ) → x < length (slice_index_or rows.now y []) → has (W.number result) x ≡ is_sure (nat_eq y 0) (slice_index_or (slice_index_or rows.now (y - 1) []) x Unknown) }
+{
+    if y == 0 {
+        places(rows[y].len())
+    } else {
+        known_cells(&rows[y - 1])
+    }
+}
+
+/// The places of which the cell of the row below row y is known, or all if there is no row below.
+fn sure_below<W: LineSet>(rows: &[LineOf<W>], y: usize) -> W
+    requires { y < length rows.now }
+    ensures { (x : ℕ) → x < length (slice_index_or rows.now y []) → has (W.number result) x ≡ is_sure (nat_eq (y + 1) (length rows.now)) (slice_index_or (slice_index_or rows.now (y + 1) []) x Unknown) }
+{
+    if y + 1 == rows.len() {
+        places(rows[y].len())
+    } else {
+        known_cells(&rows[y + 1])
+    }
+}
+
 impl<W: LineSet> GridLines<W> {
     /// A grid of this size of which nothing is known.
     pub fn unknown(alloc: Global, width: u16, height: u16) -> Result<GridLines<W>, NoMemory>
@@ -171,6 +200,25 @@ impl<W: LineSet> GridLines<W> {
             column = 0;
         }
         None
+    }
+
+    /// The place of the unknown cell of whose neighbours the most are known or outside the grid, and of several the first in row order, if there is
+    /// one.
+    pub fn most_known(&self) -> Option<usize>
+        ensures { result ≡ most_known self.now.width self.now.cells }
+    {
+        let width = self.columns.len();
+        let mut best = None;
+        let mut least = 0;
+        for y in 0..self.rows.len() {
+            let above = sure_above(&self.rows, y);
+            let below = sure_below(&self.rows, y);
+            if let Some((count, x)) = most_in_row(&self.rows[y], above, below, least) {
+                best = Some(y * width + usize::from(x));
+                least = count + 1;
+            }
+        }
+        best
     }
 
     /// Changes what is known of the cell in column x and row y, and nothing else.

@@ -8,8 +8,10 @@ mod deductions;
 mod findings;
 mod grid_lines;
 mod grids;
+mod guessing;
 pub mod laws;
 mod marks;
+mod picks;
 mod places;
 pub mod plain;
 mod reports;
@@ -37,5 +39,7 @@ mod witnesses;
 mod workspaces;
 
 pub use findings::{Findings, Grade, Verdict};
+pub use guessing::next_guess;
+pub use picks::Pick;
 pub use reports::report;
 pub use solver::Solver;

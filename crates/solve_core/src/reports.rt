@@ -2,7 +2,7 @@
 ghost use Rattle.std.specs.Prelude.{◌≡◌, ◌≤◌, [], length, count_by, vec_capacity, true, IfOk, IsTrue};
 ghost use Rattle.std.specs.List.{list_all};
 ghost use Rattle.grid_core.specs.Cells.{is_known};
-ghost use Rattle.solve_core.specs.Search.{first_unknown};
+ghost use Rattle.solve_core.specs.Picks.{picked};
 ghost use Rattle.grid_core.specs.Nonogram.{lines_of};
 ghost use Rattle.solve_core.specs.Boards.{IsBoardOf, unknown_board};
 ghost use Rattle.solve_core.specs.Marks.{IsAtRest, if_alive};
@@ -15,6 +15,7 @@ ghost use Rattle.solve_core.specs.Widths.{FitsIn};
 
 use crate::boards::Board;
 use crate::branches::Branch;
+use crate::picks::Pick;
 use crate::search::search;
 use crate::solutions::Solutions;
 use crate::trials::Trials;
@@ -96,13 +97,14 @@ fn findings<W: LineSet>(
     branches: &mut Vec<Branch>,
     solutions: Solutions,
     guesses: u32,
+    pick: Pick,
 ) -> Findings
     requires board { board.old ≡ unknown_board trials.old.closer.puzzle.width trials.old.closer.puzzle.height }
     requires size { IsSizeOf trials.old.closer.puzzle solutions.width solutions.height }
     requires branches { branches.old.items ≡ [] }
     requires found { solutions.grids ≡ [] }
     requires room { length board.old.cells ≤ vec_capacity branches.old }
-    ensures { result ≡ report_of first_unknown trials.old.closer.puzzle guesses }
+    ensures { result ≡ report_of (picked pick trials.old.closer.puzzle.width) trials.old.closer.puzzle guesses }
 {
     if !trials.closer.propagate_all(board) {
         return Findings {
@@ -127,7 +129,14 @@ fn findings<W: LineSet>(
     let trial_known = count_unless_full(board, lines_settle, line_known);
     let grade = grade(lines_settle, are_known(board, trial_known));
     let mut solutions = solutions;
-    let end = search(&mut trials.closer, board, branches, &mut solutions, guesses);
+    let end = search(
+        &mut trials.closer,
+        board,
+        branches,
+        &mut solutions,
+        guesses,
+        pick,
+    );
     Findings {
         verdict: solutions.verdict(end.cut),
         grade,
@@ -142,10 +151,11 @@ fn report_within<W: LineSet>(
     alloc: Global,
     puzzle: &Puzzle,
     guesses: u32,
+    pick: Pick,
 ) -> Result<Findings, NoMemory>
     requires { FitsIn W.WIDTH puzzle.now }
-    ensures findings { IfOk result (λ findings. findings ≡ report_of first_unknown puzzle.now guesses) }
-    ensures holds { IfOk result (λ findings. Holds first_unknown puzzle.now guesses findings.verdict) }
+    ensures findings { IfOk result (λ findings. findings ≡ report_of (picked pick puzzle.now.width) puzzle.now guesses) }
+    ensures holds { IfOk result (λ findings. Holds (picked pick puzzle.now.width) puzzle.now guesses findings.verdict) }
     ensures spent { IfOk result (λ findings. findings.spent ≤ guesses) }
 {
     let width = puzzle.width();
@@ -154,22 +164,34 @@ fn report_within<W: LineSet>(
     let mut board = Board::<W>::unknown(alloc, width, height)?;
     let mut branches = Vec::with_capacity(alloc, board.lines().count())?;
     let solutions = Solutions::new(alloc, width, height)?;
-    Ok(findings(&mut trials, &mut board, &mut branches, solutions, guesses))
+    Ok(findings(
+        &mut trials,
+        &mut board,
+        &mut branches,
+        solutions,
+        guesses,
+        pick,
+    ))
 }
 
 /// The report on a puzzle: what lines and trials settle, and then a search with at most so many guesses. All of its room is made before the first
 /// line is deduced; `NoMemory` where that is refused.
-pub fn report(alloc: Global, puzzle: &Puzzle, guesses: u32) -> Result<Findings, NoMemory>
-    ensures findings { IfOk result (λ findings. findings ≡ report_of first_unknown puzzle.now guesses) }
-    ensures holds { IfOk result (λ findings. Holds first_unknown puzzle.now guesses findings.verdict) }
+pub fn report(
+    alloc: Global,
+    puzzle: &Puzzle,
+    guesses: u32,
+    pick: Pick,
+) -> Result<Findings, NoMemory>
+    ensures findings { IfOk result (λ findings. findings ≡ report_of (picked pick puzzle.now.width) puzzle.now guesses) }
+    ensures holds { IfOk result (λ findings. Holds (picked pick puzzle.now.width) puzzle.now guesses findings.verdict) }
     ensures spent { IfOk result (λ findings. findings.spent ≤ guesses) }
 {
     let needed = places_for(puzzle);
     if needed <= 64 {
-        report_within::<u64>(alloc, puzzle, guesses)
+        report_within::<u64>(alloc, puzzle, guesses, pick)
     } else if needed <= 128 {
-        report_within::<u128>(alloc, puzzle, guesses)
+        report_within::<u128>(alloc, puzzle, guesses, pick)
     } else {
-        report_within::<Wide>(alloc, puzzle, guesses)
+        report_within::<Wide>(alloc, puzzle, guesses, pick)
     }
 }

@@ -3,7 +3,9 @@ ghost use Rattle.std.specs.Prelude.{◌≡◌, ℕ, ◌*◌, ◌<◌, ◌≤◌,
 ghost use Rattle.grid_core.specs.Cells.{is_known};
 ghost use Rattle.grid_core.specs.Nonogram.{Nonogram, lines_of};
 ghost use Rattle.solve_core.specs.declared.branches.Branch.{Branch as BranchValue};
-ghost use Rattle.solve_core.specs.Search.{Event, guess_at, events, first_unknown};
+ghost use Rattle.solve_core.specs.Search.{Event, guess_at, events};
+ghost use Rattle.solve_core.specs.Picks.{picked};
+ghost use Rattle.solve_core.specs.declared.picks.Pick.TheVariants.{First};
 ghost use Rattle.solve_core.specs.Sizes.{IsSizeOf};
 ghost use Rattle.solve_core.specs.Marks.{IsAtRest, IsUnmarked};
 ghost use Rattle.solve_core.specs.Guesses.{GoesOn};
@@ -14,6 +16,7 @@ ghost use Rattle.solve_core.specs.Branches.{AreKnownBefore, IsClosed, IsNext, Is
 use crate::boards::Board;
 use crate::branches::{Branch, next_guess};
 use crate::closures::Closer;
+use crate::picks::Pick;
 use crate::solutions::Solutions;
 use grid_core::Cell;
 use line_core::LineSet;
@@ -25,34 +28,42 @@ pub struct SearchEnd {
     pub spent: u32,
 }
 
-/// The place of the first unknown cell in row order, if no cell before `start` is unknown.
-fn first_unknown<W: LineSet>(board: &Board<W>, start: usize) -> Option<usize>
+/// The place of the next guess, by the rule. By the first unknown cell no cell before `start` is unknown.
+fn next_place<W: LineSet>(board: &Board<W>, start: usize, pick: Pick) -> Option<usize>
     requires start { start ≤ length board.now.cells }
-    requires known { AreKnownBefore start board.now.cells }
-    ensures { result ≡ first_unknown board.now.cells }
+    requires known { pick ≡ First → AreKnownBefore start board.now.cells }
+    ensures { result ≡ picked pick board.now.width board.now.cells }
 {
-    board.lines().first_unknown(start)
+    match pick {
+        Pick::First => board.lines().first_unknown(start),
+        Pick::Most => board.lines().most_known(),
+    }
 }
 
-/// Looks at a closed board, of which no cell before `start` is unknown: the place of the next guess, or none, and then it is a solution, which is
-/// kept.
-fn look_at<W: LineSet>(board: &Board<W>, start: usize, solutions: &mut Solutions) -> Option<usize>
+/// Looks at a closed board: the place of the next guess, or none, and then it is a solution, which is kept. By the first unknown cell no cell
+/// before `start` is unknown.
+fn look_at<W: LineSet>(
+    board: &Board<W>,
+    start: usize,
+    pick: Pick,
+    solutions: &mut Solutions,
+) -> Option<usize>
     requires start { start ≤ length board.now.cells }
-    requires known { AreKnownBefore start board.now.cells }
+    requires known { pick ≡ First → AreKnownBefore start board.now.cells }
     requires width { board.now.width ≡ solutions.old.width }
     requires height { board.now.height ≡ solutions.old.height }
     requires room { length solutions.old.grids < 2 }
     ensures ending { (p : Nonogram) → IsSizeOf p solutions.old.width solutions.old.height → (spent left : ℕ) (rest : List Event) →
-        ending p solutions.new.grids spent left (open_events first_unknown (lines_of p) board.now.cells result rest)
-        ≡ ending p solutions.old.grids spent left (guess_at (events first_unknown (lines_of p)) board.now.cells (first_unknown board.now.cells) ++ rest) }
-    ensures fewer { (p : Nonogram) (rest : List Event) → length (open_events first_unknown (lines_of p) board.now.cells result rest)
-        ≤ length (guess_at (events first_unknown (lines_of p)) board.now.cells (first_unknown board.now.cells) ++ rest) }
-    ensures next { (p : Nonogram) → IsClosed (lines_of p) board.now.cells → IsOpen first_unknown (lines_of p) board.now.cells result }
+        ending p solutions.new.grids spent left (open_events (picked pick board.now.width) (lines_of p) board.now.cells result rest)
+        ≡ ending p solutions.old.grids spent left (guess_at (events (picked pick board.now.width) (lines_of p)) board.now.cells (picked pick board.now.width board.now.cells) ++ rest) }
+    ensures fewer { (p : Nonogram) (rest : List Event) → length (open_events (picked pick board.now.width) (lines_of p) board.now.cells result rest)
+        ≤ length (guess_at (events (picked pick board.now.width) (lines_of p)) board.now.cells (picked pick board.now.width board.now.cells) ++ rest) }
+    ensures next { (p : Nonogram) → IsClosed (lines_of p) board.now.cells → IsOpen (picked pick board.now.width) (lines_of p) board.now.cells result }
     ensures found { length solutions.new.grids ≤ 2 }
     ensures width { solutions.new.width ≡ solutions.old.width }
     ensures height { solutions.new.height ≡ solutions.old.height }
 {
-    match first_unknown(board, start) {
+    match next_place(board, start, pick) {
         Some(place) => Some(place),
         None => {
             solutions.keep(board.lines());
@@ -67,16 +78,17 @@ fn explore<W: LineSet>(
     board: &mut Board<W>,
     place: usize,
     colour: Cell,
+    pick: Pick,
     solutions: &mut Solutions,
 ) -> Option<usize>
     requires size { IsSizeOf closer.old.puzzle solutions.old.width solutions.old.height }
     requires board { IsBoardOf closer.old.puzzle board.old }
     requires rest { IsAtRest closer.old board.old.cells }
-    requires next { IsNext first_unknown (lines_of closer.old.puzzle) board.old.cells place }
+    requires next { IsNext (picked pick closer.old.puzzle.width) (lines_of closer.old.puzzle) board.old.cells place }
     requires colour { is_known colour ≡ true }
     requires found { length solutions.old.grids < 2 }
-    ensures goes_on { (branches : List BranchValue) → IsWork first_unknown (lines_of closer.old.puzzle) board.old.cells board.old.trail branches →
-        GoesOn closer.old.puzzle (events first_unknown (lines_of closer.old.puzzle) (slice_set board.old.cells place colour)) branches
+    ensures goes_on { (branches : List BranchValue) → IsWork (picked pick closer.old.puzzle.width) (lines_of closer.old.puzzle) board.old.cells board.old.trail branches →
+        GoesOn (picked pick closer.old.puzzle.width) closer.old.puzzle (events (picked pick closer.old.puzzle.width) (lines_of closer.old.puzzle) (slice_set board.old.cells place colour)) branches
         board.old solutions.old.grids board.new solutions.new.grids result }
     ensures unmarked { IsUnmarked closer.new }
     ensures board { IsBoardOf closer.old.puzzle board.new }
@@ -87,7 +99,7 @@ fn explore<W: LineSet>(
     if !closer.assign(board, place, colour) {
         return None;
     }
-    look_at(board, place, solutions)
+    look_at(board, place, pick, solutions)
 }
 
 /// Searches from a board at rest, in place: it remembers what is settled, and each filled guess stands on the branches until its cell is guessed
@@ -98,6 +110,7 @@ pub fn search<W: LineSet>(
     branches: &mut Vec<Branch>,
     solutions: &mut Solutions,
     guesses: u32,
+    pick: Pick,
 ) -> SearchEnd
     requires size { IsSizeOf closer.old.puzzle solutions.old.width solutions.old.height }
     requires board { IsBoardOf closer.old.puzzle board.old }
@@ -106,11 +119,11 @@ pub fn search<W: LineSet>(
     requires found { solutions.old.grids ≡ [] }
     requires room { length board.old.cells ≤ vec_capacity branches.old }
     ensures ending { record { found = solutions.new.grids; cut = result.cut; spent = result.spent }
-        ≡ ending closer.old.puzzle [] 0 guesses (events first_unknown (lines_of closer.old.puzzle) board.old.cells) }
+        ≡ ending closer.old.puzzle [] 0 guesses (events (picked pick closer.old.puzzle.width) (lines_of closer.old.puzzle) board.old.cells) }
     ensures puzzle { closer.new.puzzle ≡ closer.old.puzzle }
 {
     let mut spent: u32 = 0;
-    let mut next = look_at(board, 0, solutions);
+    let mut next = look_at(board, 0, pick, solutions);
     while solutions.len() < 2 {
         let Some((place, colour)) = next_guess(board, branches, next) else {
             return SearchEnd { cut: false, spent };
@@ -119,7 +132,7 @@ pub fn search<W: LineSet>(
             return SearchEnd { cut: true, spent };
         }
         spent += 1;
-        next = explore(closer, board, place, colour, solutions);
+        next = explore(closer, board, place, colour, pick, solutions);
     }
     SearchEnd { cut: false, spent }
 }

@@ -3,6 +3,7 @@ ghost use Rattle.std.specs.Prelude.{◌≡◌, ◌≤◌, ℕ, List, Option};
 ghost use Rattle.grid_core.specs.declared.cells.Cell.{Cell};
 ghost use Rattle.grid_core.specs.Nonogram.{GridLine, Nonogram, IsNonogram};
 ghost use Rattle.solve_core.specs.Closure.{closure};
+ghost use Rattle.solve_core.specs.Picks.{most_known};
 ghost use Rattle.solve_core.specs.Search.{IsPick, first_unknown, search_from, events};
 ghost use Rattle.solve_core.specs.Report.{verdict_of, guesses_of, report_of};
 ghost use Rattle.solve_core.specs.Verdicts.{Holds, IsFinal};
@@ -31,4 +32,9 @@ pub fn final_report_stays()
 /// The first unknown cell is a lawful pick.
 pub fn first_unknown_is_pick()
     ensures { IsPick first_unknown }
+{}
+
+/// The unknown cell of which most neighbours are known is a lawful pick.
+pub fn most_known_is_pick()
+    ensures { (width : ℕ) → IsPick (most_known width) }
 {}

@@ -1,7 +1,7 @@
 //! Tests of reports.
 
 use crate::test_puzzles::puzzle_of;
-use crate::{Findings, Grade, Verdict, report};
+use crate::{Findings, Grade, Pick, Verdict, report};
 use grid_core::{Grid, Puzzle};
 use std::alloc::{AllocError, Global};
 use std::process::Abort;
@@ -69,7 +69,7 @@ fn text_of(alloc: Global, findings: &Findings) -> Result<String, AllocError> {
 
 fn assert_report(rt: &(impl Abort + AllocGlobal), puzzle: &Puzzle, guesses: u32, expected: &str) {
     let alloc = rt.alloc();
-    match report(alloc, puzzle, guesses) {
+    match report(alloc, puzzle, guesses, Pick::First) {
         Ok(findings) => match text_of(alloc, &findings) {
             Ok(text) => assert_eq!(rt; text.as_str(), expected),
             Err(_) => assert!(rt; false),

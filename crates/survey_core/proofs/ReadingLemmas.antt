@@ -5,7 +5,8 @@ use Rattle.std.proofs.lemmas.List.{get_or-map, length-map, map-append, map_more}
 use Rattle.grid_core.specs.Nonogram.{Nonogram}
 use Rattle.grid_core.specs.declared.memory.NoMemory.{NoMemory}
 use Rattle.solve_core.specs.Report.{report_of}
-use Rattle.solve_core.specs.Search.{first_unknown}
+use Rattle.solve_core.specs.Picks.{picked}
+use Rattle.solve_core.specs.declared.picks.Pick.{Pick}
 use Rattle.solve_core.specs.declared.findings.Findings.{Findings}
 use Rattle.puzzle_text.specs.Shown.{shown_entry}
 use Rattle.puzzle_text.specs.declared.collections.Entry.{Entry}
@@ -18,16 +19,17 @@ use Rattle.survey_core.proofs.Front.{rest_of}
 use Rattle.survey_core.proofs.NumberedLemmas.{made-more}
 use Rattle.survey_core.specs.Entries.{GradedEntry, found_of}
 use Rattle.survey_core.specs.Graded.{AreGraded}
+use Rattle.survey_core.specs.Guessing.{Guessing}
 use Rattle.survey_core.specs.Readings.{NumberedPuzzle, TakesAnswer, fault_of, job_of, jobs_from, jobs_of, reading, readings, shown_job}
 use Rattle.survey_core.specs.Survey.{graded, reported}
 
 -- the jobs of one more entry
-pub jobs_of-more : (guesses : ℕ) (entries : List Entry) (i : ℕ) (d : Entry) → i < length entries
+pub jobs_of-more : (guesses : Guessing) (entries : List Entry) (i : ℕ) (d : Entry) → i < length entries
     → jobs_of guesses (readings (take (i + 1) entries)) ≡ jobs_of guesses (readings (take i entries)) ++ job_of guesses (i + 1) (reading (get_or entries i d))
 jobs_of-more guesses entries i d h = made-more (λ (numbered : ℕ × Result Nonogram EntryFault). job_of guesses numbered.0 numbered.1) reading entries i d h
 
 -- answers to the jobs of entries are those to the puzzles that were read
-pub are_graded : (guesses first : ℕ) (read : List (Result Nonogram EntryFault)) (jobs : List Job) (answers : List Answer)
+pub are_graded : (guesses : Guessing) (first : ℕ) (read : List (Result Nonogram EntryFault)) (jobs : List Job) (answers : List Answer)
     → map shown_job jobs ≡ jobs_from guesses first read → AreAnswersTo jobs answers → AreGraded guesses read answers
 are_graded guesses first [] [] [] made answered = tt
 are_graded guesses first [] [] (answer ∷ answers) made answered = absurd answered
@@ -36,30 +38,31 @@ are_graded guesses first (Err fault ∷ read) jobs answers made answered = are_g
 are_graded guesses first (Ok p ∷ read) [] answers made answered = cc
 are_graded guesses first (Ok p ∷ read) (job ∷ jobs) [] made answered = absurd answered
 are_graded guesses first (Ok p ∷ read) (job ∷ jobs) (answer ∷ answers) made answered =
-    let head : shown_job job ≡ record { number = first; puzzle = p; guesses = guesses } = cc in
+    let head : shown_job job ≡ record { number = first; puzzle = p; guesses = guesses.limit; pick = guesses.pick } = cc in
     let others : map shown_job jobs ≡ jobs_from guesses (first + 1) read = cc in
     let puzzle : job.puzzle ≡ p = ap (λ (shown : NumberedPuzzle). shown.puzzle) head in
-    let limit : job.guesses ≡ guesses = ap (λ (shown : NumberedPuzzle). shown.guesses) head in
-    let outcome = subst (λ (q : Nonogram). IsOutcome q job.guesses answer.outcome) puzzle answered.0.outcome in
-    (answered.0.puzzle ∙ puzzle, subst (λ (limit' : ℕ). IsOutcome p limit' answer.outcome) limit outcome, are_graded guesses (first + 1) read jobs answers others answered.1)
+    let limit : job.guesses ≡ guesses.limit = ap (λ (shown : NumberedPuzzle). shown.guesses) head in
+    let pick : job.pick ≡ guesses.pick = ap (λ (shown : NumberedPuzzle). shown.pick) head in
+    let outcome = subst (λ (q : Nonogram). IsOutcome q job.guesses job.pick answer.outcome) puzzle answered.0.outcome in
+    (answered.0.puzzle ∙ puzzle, subst (λ (pick' : Pick). IsOutcome p guesses.limit pick' answer.outcome) pick (subst (λ (limit' : ℕ). IsOutcome p limit' job.pick answer.outcome) limit outcome), are_graded guesses (first + 1) read jobs answers others answered.1)
 
 -- the first of the entries that are left
-pub next_graded : (guesses : ℕ) (entries : List Entry) (i : ℕ) (d : Entry) (answers : List Answer) → i < length entries → AreGraded guesses (readings (drop i entries)) answers
+pub next_graded : (guesses : Guessing) (entries : List Entry) (i : ℕ) (d : Entry) (answers : List Answer) → i < length entries → AreGraded guesses (readings (drop i entries)) answers
     → AreGraded guesses (reading (get_or entries i d) ∷ readings (drop (i + 1) entries)) answers
 next_graded guesses entries i d answers h graded =
     let parts : drop i entries ≡ get_or entries i d ∷ drop (i + 1) entries = rw (add-one i) (drop-cons entries i d h) in
     subst (λ (left : List Entry). AreGraded guesses (readings left) answers) parts graded
 
 -- where the first entry is a puzzle, there is an answer
-pub has_answer : (guesses : ℕ) (read : Result Nonogram EntryFault) (others : List (Result Nonogram EntryFault)) (answers : List Answer)
+pub has_answer : (guesses : Guessing) (read : Result Nonogram EntryFault) (others : List (Result Nonogram EntryFault)) (answers : List Answer)
     → AreGraded guesses (read ∷ others) answers → fault_of read ≡ None → 0 < length answers
 has_answer guesses (Err fault) others answers graded e = cc
 has_answer guesses (Ok p) others [] graded e = absurd graded
 has_answer guesses (Ok p) others (answer ∷ answers) graded e = omega arith
 
 -- what an answer found is the report on the puzzle, where it is one
-pub found_is : (guesses : ℕ) (p q : Nonogram) (outcome : Result Findings NoMemory) → q ≡ p → IsOutcome p guesses outcome → IsOk outcome
-    → found_of q outcome ≡ Ok (p, report_of first_unknown p guesses)
+pub found_is : (guesses : Guessing) (p q : Nonogram) (outcome : Result Findings NoMemory) → q ≡ p → IsOutcome p guesses.limit guesses.pick outcome → IsOk outcome
+    → found_of q outcome ≡ Ok (p, report_of (picked guesses.pick p.width) p guesses.limit)
 found_is guesses p q (Err refused) e is_outcome ok = let bad : false ≡ true = ok in cc
 found_is guesses p q (Ok findings) e is_outcome ok =
     ap (λ (r : Nonogram). found_of r (Ok findings)) e ∙ ap (λ (found : Findings). found_of p (Ok found)) is_outcome
@@ -74,7 +77,7 @@ taken_first None (first ∷ answers) answer result none some at found ok =
     (answer, (ap (λ (x : Answer). x ∷ answers) (sym at) ∙ ap (λ (left : List Answer). answer ∷ left) (sym (rest_of (first ∷ answers) 1)), found, ok))
 
 -- what is listed of the first entry is its report or its fault, and the answers that are left are those to the other entries
-pub takes_next : (guesses : ℕ) (read : Result Nonogram EntryFault) (others : List (Result Nonogram EntryFault)) (old new : List Answer)
+pub takes_next : (guesses : Guessing) (read : Result Nonogram EntryFault) (others : List (Result Nonogram EntryFault)) (old new : List Answer)
     (result : Result (Nonogram × Findings) EntryFault) → AreGraded guesses (read ∷ others) old → TakesAnswer (fault_of read) old new result
     → (result ≡ reported guesses read) × AreGraded guesses others new
 takes_next guesses (Err fault) others old new result graded taken = (taken.0, subst (AreGraded guesses others) (sym taken.1) graded)
@@ -106,7 +109,7 @@ pub faults-more : (entries : List Entry) (i : ℕ) (d : Entry) → i < length en
 faults-more entries i d h = mapped-more fault_of reading entries i d h
 
 -- the graded entries with one more
-pub graded-more : (guesses : ℕ) (entries : List Entry) (i : ℕ) (d : Entry) (listed : GradedEntry) → i < length entries
+pub graded-more : (guesses : Guessing) (entries : List Entry) (i : ℕ) (d : Entry) (listed : GradedEntry) → i < length entries
     → listed.name ≡ (get_or entries i d).name.now → listed.result ≡ reported guesses (reading (get_or entries i d))
     → map (graded guesses) (map shown_entry (take (i + 1) entries)) ≡ map (graded guesses) (map shown_entry (take i entries)) ++ listed ∷ []
 graded-more guesses entries i d listed h name result =

@@ -5,6 +5,7 @@ use Rattle.std.specs.Io.KnownBytes.{Consumes, IsAtEnd}
 use Rattle.std.proofs.KnownBytes.{Consumes-whole}
 use Rattle.puzzle_text.specs.Collections.{Entry, cut}
 use Rattle.puzzle_text.specs.declared.faults.CollectionFault.{CollectionFault}
+use Rattle.survey_core.specs.Guessing.{Guessing}
 use Rattle.survey_core.specs.Leaving.{Leaves}
 use Rattle.survey_core.specs.Survey.{survey_of, survey_of_list, survey_or_fault}
 use Rattle.survey_core.specs.declared.faults.RunFault.{RunFault}
@@ -13,7 +14,7 @@ pub at_most : (n limit : ℕ) → (limit < n → ⊥) → n ≤ limit
 at_most n limit h = omega (arith, h)
 
 -- what the survey of the entries leaves is what the survey of the whole input leaves
-pub survey_of_input : (guesses : ℕ) (show : Bool) (known left : Option (List ℕ)) (bytes : List ℕ) (entries : List Entry) (result : Result (Unit {0}) RunFault)
+pub survey_of_input : (guesses : Guessing) (show : Bool) (known left : Option (List ℕ)) (bytes : List ℕ) (entries : List Entry) (result : Result (Unit {0}) RunFault)
     (before after : Option (List ℕ)) → Consumes known left bytes → IsAtEnd left → cut bytes ≡ Ok entries
     → Leaves (Ok (survey_of_list guesses show entries)) result before after → IfSome known (λ input. Leaves (survey_of guesses show input) result before after)
 survey_of_input guesses show known left bytes entries result before after consumes ended pieces leaves =

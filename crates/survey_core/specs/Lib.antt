@@ -6,6 +6,7 @@ pub mod Goals
 pub mod Entries
 pub mod Totals
 pub mod Tallies
+pub mod Guessing
 pub mod Survey
 pub mod SurveyTexts
 pub mod Readings

@@ -10,7 +10,9 @@ use Rattle.puzzle_text.specs.declared.faults.EntryFault.{EntryFault}
 use Rattle.lane_core.specs.declared.answers.Answer.{Answer}
 use Rattle.lane_core.specs.declared.jobs.Job.{Job}
 use Rattle.solve_core.specs.declared.findings.Findings.{Findings}
+use Rattle.solve_core.specs.declared.picks.Pick.{Pick}
 use Rattle.survey_core.specs.Entries.{found_of}
+use Rattle.survey_core.specs.Guessing.{Guessing}
 
 -- what an entry says
 abbrev pub reading : Entry → Result Nonogram EntryFault
@@ -25,27 +27,28 @@ abbrev pub fault_of : Result Nonogram EntryFault → Option EntryFault
 fault_of (Ok p) = None
 fault_of (Err fault) = Some fault
 
--- a job's number, puzzle and limit on guesses
+-- a job's number, puzzle, limit on guesses and rule for them
 pub record NumberedPuzzle : Type 0 where
   pub number : ℕ
   pub puzzle : Nonogram
   pub guesses : ℕ
+  pub pick : Pick
 
 -- a job as the definitions see it
 abbrev pub shown_job : Job → NumberedPuzzle
-shown_job job = record { number = job.number; puzzle = job.puzzle; guesses = job.guesses }
+shown_job job = record { number = job.number; puzzle = job.puzzle; guesses = job.guesses; pick = job.pick }
 
 -- the job of an entry of this number, if it is a puzzle
-abbrev pub job_of : ℕ → ℕ → Result Nonogram EntryFault → List NumberedPuzzle
-job_of guesses number (Ok p) = record { number = number; puzzle = p; guesses = guesses } ∷ []
+abbrev pub job_of : Guessing → ℕ → Result Nonogram EntryFault → List NumberedPuzzle
+job_of guesses number (Ok p) = record { number = number; puzzle = p; guesses = guesses.limit; pick = guesses.pick } ∷ []
 job_of guesses number (Err fault) = []
 
 -- the jobs of entries, numbered from here on. A refused entry keeps its number, and makes no job
-abbrev pub jobs_from : ℕ → ℕ → List (Result Nonogram EntryFault) → List NumberedPuzzle
+abbrev pub jobs_from : Guessing → ℕ → List (Result Nonogram EntryFault) → List NumberedPuzzle
 jobs_from guesses first readings = flat_map (λ numbered. job_of guesses numbered.0 numbered.1) (enumerate_from first readings)
 
 -- the jobs of entries, numbered from 1
-abbrev pub jobs_of : ℕ → List (Result Nonogram EntryFault) → List NumberedPuzzle
+abbrev pub jobs_of : Guessing → List (Result Nonogram EntryFault) → List NumberedPuzzle
 jobs_of guesses readings = jobs_from guesses 1 readings
 
 -- the fault, or else what the first of the answers found, which is a report

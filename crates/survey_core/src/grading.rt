@@ -2,6 +2,7 @@
 
 ghost use Rattle.std.specs.Prelude.{◌≡◌, ◌≤◌, ◌<◌, None, length, map, IfOk};
 ghost use Rattle.puzzle_text.specs.Shown.{shown_entry};
+ghost use Rattle.survey_core.specs.Guessing.{guessing};
 ghost use Rattle.survey_core.specs.Entries.{shown_listed};
 ghost use Rattle.survey_core.specs.Graded.{AreGraded};
 ghost use Rattle.survey_core.specs.Readings.{TakesAnswer, fault_of, readings};
@@ -49,8 +50,8 @@ fn print_answers(
 ) -> Result<Vec<u8>, NoMemory>
     requires few { length entries.now ≤ MOST_ENTRIES }
     requires faults { faults.now ≡ map fault_of (readings entries.now) }
-    requires answers { AreGraded settings.now.guesses (readings entries.now) answers.now }
-    ensures { IfOk result (λ text. text.items ≡ survey_of_list settings.now.guesses settings.now.show (map shown_entry entries.now)) }
+    requires answers { AreGraded (guessing settings.now) (readings entries.now) answers.now }
+    ensures { IfOk result (λ text. text.items ≡ survey_of_list (guessing settings.now) settings.now.show (map shown_entry entries.now)) }
 {
     let mut survey = SurveyText::new(alloc, settings.show);
     let mut left = answers;
@@ -71,9 +72,9 @@ pub(crate) fn survey_text<H: Threads + Wait + Sync, G: Gate + Sync>(
     gate: &G,
 ) -> Result<Vec<u8>, CollectFault>
     requires { length entries.now ≤ MOST_ENTRIES }
-    ensures { IfOk result (λ text. text.items ≡ survey_of_list settings.now.guesses settings.now.show (map shown_entry entries.now)) }
+    ensures { IfOk result (λ text. text.items ≡ survey_of_list (guessing settings.now) settings.now.show (map shown_entry entries.now)) }
 {
-    let Readings { jobs, faults } = read_entries(alloc, entries, settings.guesses)?;
+    let Readings { jobs, faults } = read_entries(alloc, entries, settings)?;
     let answers = collect(rt, alloc, jobs, settings.lanes, settings.ring, gate)?;
     Ok(print_answers(alloc, entries, &faults, &answers, settings)?)
 }

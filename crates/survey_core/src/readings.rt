@@ -1,10 +1,12 @@
 //! Reading entries.
 
 ghost use Rattle.std.specs.Prelude.{◌≡◌, ◌≤◌, ◌+◌, ◌∷◌, [], ◌++◌, length, map, vec_len, IfOk, OnOk};
+ghost use Rattle.survey_core.specs.Guessing.{guessing};
 ghost use Rattle.survey_core.specs.Readings.{fault_of, job_of, jobs_of, reading, readings, shown_job};
 
+use crate::settings::Settings;
 use grid_core::NoMemory;
-use lane_core::{Job, MOST_GUESSES};
+use lane_core::Job;
 use puzzle_text::{Entry, EntryFault, MOST_ENTRIES, TextFault, read_entry};
 use std::alloc::Global;
 
@@ -24,16 +26,15 @@ impl Readings {
         alloc: Global,
         entry: &Entry<'_>,
         number: u32,
-        guesses: u32,
+        settings: &Settings,
     ) -> Result<(), NoMemory>
-        requires { guesses ≤ MOST_GUESSES }
-        ensures jobs { OnOk result (map shown_job self.new.jobs.items ≡ map shown_job self.old.jobs.items ++ job_of guesses number (reading entry.now)) }
+        ensures jobs { OnOk result (map shown_job self.new.jobs.items ≡ map shown_job self.old.jobs.items ++ job_of (guessing settings.now) number (reading entry.now)) }
         ensures few { OnOk result (vec_len self.new.jobs ≤ vec_len self.old.jobs + 1) }
         ensures faults { OnOk result (self.new.faults.items ≡ self.old.faults.items ++ fault_of (reading entry.now) ∷ []) }
     {
         match read_entry(alloc, entry) {
             Ok(puzzle) => {
-                self.jobs.push(Job::new(number, puzzle, guesses))?;
+                self.jobs.push(Job::new(number, puzzle, settings.guesses, settings.pick))?;
                 self.faults.push(None)?;
             }
             Err(EntryFault::Text(TextFault::NoMemory)) => return Err(NoMemory),
@@ -47,11 +48,10 @@ impl Readings {
 pub(crate) fn read_entries(
     alloc: Global,
     entries: &[Entry<'_>],
-    guesses: u32,
+    settings: &Settings,
 ) -> Result<Readings, NoMemory>
     requires few { length entries.now ≤ MOST_ENTRIES }
-    requires guesses { guesses ≤ MOST_GUESSES }
-    ensures jobs { IfOk result (λ read. map shown_job read.jobs.items ≡ jobs_of guesses (readings entries.now)) }
+    ensures jobs { IfOk result (λ read. map shown_job read.jobs.items ≡ jobs_of (guessing settings.now) (readings entries.now)) }
     ensures few { IfOk result (λ read. vec_len read.jobs ≤ length entries.now) }
     ensures faults { IfOk result (λ read. read.faults.items ≡ map fault_of (readings entries.now)) }
 {
@@ -60,7 +60,7 @@ pub(crate) fn read_entries(
         faults: Vec::with_capacity(alloc, entries.len())?,
     };
     for (place, entry) in entries.iter().enumerate() {
-        read.add(alloc, entry, place as u32 + 1, guesses)?;
+        read.add(alloc, entry, place as u32 + 1, settings)?;
     }
     Ok(read)
 }

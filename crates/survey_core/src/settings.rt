@@ -4,6 +4,8 @@ ghost use Rattle.std.specs.Prelude.{◌≤◌};
 ghost use Rattle.lane_core.specs.declared.jobs.TheConstants.{MOST_GUESSES};
 ghost use Rattle.survey_core.specs.declared.settings.TheConstants.{LARGEST_RING, MOST_LANES};
 
+use solve_core::Pick;
+
 /// The most lanes of a collection.
 pub const MOST_LANES: u16 = 16;
 
@@ -28,6 +30,8 @@ pub struct Settings {
     pub ring: u16,
     /// The most guesses for a puzzle: 0 to 1,000,000.
     pub guesses: u32,
+    /// The rule for the cell of the next guess.
+    pub pick: Pick,
     /// Whether the solutions are shown.
     pub show: bool,
     pub ghost lanes_in_range: { (1 ≤ lanes) × (lanes ≤ MOST_LANES) },

@@ -6,7 +6,7 @@ use super::{MOST_JOBS, collect, collect_one};
 use grid_core::GoalWord;
 use lane_core::{Answer, Job, OpenGate};
 use puzzle_text::{entries, read_entry};
-use solve_core::Grade;
+use solve_core::{Grade, Pick};
 use std::alloc::Global;
 use std::process::Abort;
 use std::test::Fail;
@@ -28,7 +28,7 @@ pub(crate) fn eight_jobs(alloc: Global) -> Result<Vec<Job>, Fail> {
     let mut jobs = Vec::new(alloc);
     for (entry, number) in entries(alloc, TEN.as_bytes())?.iter().zip(1u32..) {
         if let Ok(puzzle) = read_entry(alloc, entry) {
-            jobs.push(Job::new(number, puzzle, 1000))?;
+            jobs.push(Job::new(number, puzzle, 1000, Pick::First))?;
         }
     }
     Ok(jobs)

@@ -3,6 +3,7 @@
 use super::{MOST_JOBS, MOST_LANES, collect, collect_one};
 use grid_core::{Clue, Puzzle, Texts};
 use lane_core::{Gate, Job, OpenGate};
+use solve_core::Pick;
 use std::alloc::Global;
 use std::sync::atomic::{AtomicU32, Ordering};
 use std::test::Fail;
@@ -25,7 +26,7 @@ fn one_cell(alloc: Global) -> Result<Puzzle, Fail> {
 pub fn jobs_numbered(alloc: Global, count: u32) -> Result<Vec<Job>, Fail> {
     let mut jobs = Vec::new(alloc);
     for number in 0..count {
-        jobs.push(Job::new(number, one_cell(alloc)?, 1000))?;
+        jobs.push(Job::new(number, one_cell(alloc)?, 1000, Pick::First))?;
     }
     Ok(jobs)
 }

@@ -1,6 +1,7 @@
 //! Collections and their surveys, worked out by hand.
 
 use super::{LARGEST_RING, MOST_LANES, Settings};
+use solve_core::Pick;
 
 /// Ten entries: each verdict and grade, both orders of the sizes, a bad number, and a name without a format.
 pub const TEN: &str = "@ one.mk\n1 1\n0\n#\n0\n\
@@ -43,6 +44,7 @@ pub const DEMO_SURVEY: &str = "1 5x10 one line 50 50 0 meets demo.non\n\
 /// Settings with 1,000 guesses, the others drawn into their ranges.
 pub fn settings(lanes: u16, ring: u16, show: bool) -> Settings {
     Settings {
+        pick: Pick::First,
         lanes: lanes.clamp(1, MOST_LANES),
         ring: ring.clamp(1, LARGEST_RING),
         guesses: 1000,

@@ -12,6 +12,7 @@ use super::{
 };
 use lane_core::{Gate, Job, OpenGate};
 use puzzle_text::{Entry, MOST_ENTRIES, entries, read_entry};
+use solve_core::Pick;
 use std::alloc::Global;
 use std::process::Abort;
 use std::sync::Wait;
@@ -41,7 +42,7 @@ fn jobs_of(alloc: Global, entries: &[Entry<'_>]) -> Result<Vec<Job>, Fail> {
     let mut jobs = Vec::new(alloc);
     for (entry, number) in entries.iter().zip(1u32..) {
         let puzzle = read_entry(alloc, entry).ok().ok_or("puzzle")?;
-        jobs.push(Job::new(number, puzzle, 1000))?;
+        jobs.push(Job::new(number, puzzle, 1000, Pick::First))?;
     }
     Ok(jobs)
 }

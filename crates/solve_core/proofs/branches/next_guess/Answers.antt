@@ -1,6 +1,5 @@
 use Rattle.std.proofs.Common.{◌≡◌, ◌<◌, ℕ, Option, IfSome, subst, ap, ◌∙◌, arith, length, drop, get_or}
 use Rattle.grid_core.specs.declared.cells.Cell.TheVariants.{Unknown}
-use Rattle.solve_core.specs.Search.{first_unknown}
 use Rattle.solve_core.specs.Trails.{TrailedGrid}
 use Rattle.solve_core.specs.Branches.{pending, open_events, IsOpen, AreOlder}
 use Rattle.solve_core.proofs.BranchLaws.{fork-work, fork-events, back-work, back-events, back-ready}
@@ -10,33 +9,33 @@ use Rattle.solve_core.proofs.branches.next_guess.Goals as goal
 
 pub returns-in-Some-clause-events : goal.returns-in-Some-clause-events
 returns-in-Some-clause-events g c =
-    λ lines w.
-    ap (λ next. open_events first_unknown lines c.args.board.now.cells next (pending first_unknown lines c.args.board.now.cells c.args.board.now.trail c.args.branches.now.items)) c.in-Some.is
-    ∙ fork-events first_unknown lines c.args.board.now.cells c.args.board.now.trail c.args.branches.now.items c.push_reserved.new.self.items _ c.push_reserved.ensures.items (omega (arith, ap length c.trail-mark.ensures.trail))
+    λ rule lines w.
+    ap (λ next. open_events rule lines c.args.board.now.cells next (pending rule lines c.args.board.now.cells c.args.board.now.trail c.args.branches.now.items)) c.in-Some.is
+    ∙ fork-events rule lines c.args.board.now.cells c.args.board.now.trail c.args.branches.now.items c.push_reserved.new.self.items _ c.push_reserved.ensures.items (omega (arith, ap length c.trail-mark.ensures.trail))
 
 pub returns-in-Some-clause-work : goal.returns-in-Some-clause-work
 returns-in-Some-clause-work g c =
-    λ lines w older n.
-    fork-work first_unknown lines c.args.board.now.cells c.args.board.now.trail c.args.branches.now.items c.push_reserved.new.self.items _ c.push_reserved.ensures.items (omega (arith, ap length c.trail-mark.ensures.trail)) w
-    (subst (AreOlder c.args.board.now.trail c.args.branches.now.items) c.in-Some.is older) (subst (IsOpen first_unknown lines c.args.board.now.cells) c.in-Some.is n)
+    λ rule lines w older n.
+    fork-work rule lines c.args.board.now.cells c.args.board.now.trail c.args.branches.now.items c.push_reserved.new.self.items _ c.push_reserved.ensures.items (omega (arith, ap length c.trail-mark.ensures.trail)) w
+    (subst (AreOlder c.args.board.now.trail c.args.branches.now.items) c.in-Some.is older) (subst (IsOpen rule lines c.args.board.now.cells) c.in-Some.is n)
 
 pub returns-in-Some-pop-clause-events : goal.returns-in-Some-pop-clause-events
 returns-in-Some-pop-clause-events g c =
-    λ lines w.
-    ap (λ next. open_events first_unknown lines c.args.board.now.cells next (pending first_unknown lines c.args.board.now.cells c.args.board.now.trail c.args.branches.now.items)) c.in-None.is
-    ∙ back-events first_unknown lines c.args.board.now.cells c.go_back.new.self.cells c.args.board.now.trail c.go_back.new.self.trail c.args.branches.now.items c.pop.new.self.items c.in-Some-pop.branch
+    λ rule lines w.
+    ap (λ next. open_events rule lines c.args.board.now.cells next (pending rule lines c.args.board.now.cells c.args.board.now.trail c.args.branches.now.items)) c.in-None.is
+    ∙ back-events rule lines c.args.board.now.cells c.go_back.new.self.cells c.args.board.now.trail c.go_back.new.self.trail c.args.branches.now.items c.pop.new.self.items c.in-Some-pop.branch
     c.in-Some-pop.ensures.items (ap (λ (g : TrailedGrid). g.cells) c.go_back.ensures) (ap (λ (g : TrailedGrid). g.trail) c.go_back.ensures) w
 
 pub returns-in-Some-pop-clause-work : goal.returns-in-Some-pop-clause-work
 returns-in-Some-pop-clause-work g c =
-    λ lines w older n.
-    back-work first_unknown lines c.args.board.now.cells c.go_back.new.self.cells c.args.board.now.trail c.go_back.new.self.trail c.args.branches.now.items c.pop.new.self.items c.in-Some-pop.branch
+    λ rule lines w older n.
+    back-work rule lines c.args.board.now.cells c.go_back.new.self.cells c.args.board.now.trail c.go_back.new.self.trail c.args.branches.now.items c.pop.new.self.items c.in-Some-pop.branch
     c.in-Some-pop.ensures.items (ap (λ (g : TrailedGrid). g.cells) c.go_back.ensures) (ap (λ (g : TrailedGrid). g.trail) c.go_back.ensures) w
 
 pub returns-in-Some-pop-clause-ready : goal.returns-in-Some-pop-clause-ready
 returns-in-Some-pop-clause-ready g c =
-    λ lines w n.
-    back-ready first_unknown lines c.args.board.now.cells c.go_back.new.self.cells c.args.board.now.trail c.args.branches.now.items c.pop.new.self.items c.in-Some-pop.branch
+    λ rule lines w n.
+    back-ready rule lines c.args.board.now.cells c.go_back.new.self.cells c.args.board.now.trail c.args.branches.now.items c.pop.new.self.items c.in-Some-pop.branch
     c.in-Some-pop.ensures.items (ap (λ (g : TrailedGrid). g.cells) c.go_back.ensures) w
 
 pub returns-in-Some-pop-clause-count : goal.returns-in-Some-pop-clause-count

@@ -1,10 +1,12 @@
-use Rattle.std.proofs.Common.{true, ◌≡◌, Some, None, ap, sym, subst, ◌∙◌, ◌*◌, length, count_by}
+use Rattle.std.proofs.Common.{[], true, ◌≡◌, Some, None, ap, sym, subst, ◌∙◌, ◌*◌, length, count_by}
 use Rattle.std.proofs.lemmas.List.{length-replicate}
 use Rattle.grid_core.specs.declared.cells.Cell.TheVariants.{Unknown}
 use Rattle.grid_core.specs.Cells.{is_known}
 use Rattle.grid_core.specs.Nonogram.{Nonogram, lines_of}
 use Rattle.solve_core.specs.Report.{grade_by}
-use Rattle.solve_core.specs.Search.{first_unknown}
+use Rattle.solve_core.specs.Picks.{picked}
+use Rattle.solve_core.specs.Endings.{ending}
+use Rattle.solve_core.specs.Search.{events}
 use Rattle.solve_core.specs.Boards.{IsBoardOf}
 use Rattle.solve_core.specs.Closure.{closure}
 use Rattle.solve_core.specs.TriedPuzzles.{TriedPuzzle}
@@ -27,14 +29,14 @@ propagate_all-requires g c =
 pub returns-then-not-propagate_all : goal.returns-then-not-propagate_all
 returns-then-not-propagate_all g c =
     let p = c.args.trials.now.closer.puzzle in
-    report-dead first_unknown p c.args.board.now.cells c.args.guesses (ap (λ (g : TrailedGrid). g.cells) c.requires.board)
+    report-dead (picked c.args.pick c.args.trials.now.closer.puzzle.width) p c.args.board.now.cells c.args.guesses (ap (λ (g : TrailedGrid). g.cells) c.requires.board)
     (subst (λ (t : TriedPuzzle). None ≡ closure (lines_of t.closer.puzzle) c.args.board.now.cells) c.trials.view_is c.if-not-propagate_all.ensures.closed)
 
 pub returns-then-not-try_unless_full : goal.returns-then-not-try_unless_full
 returns-then-not-try_unless_full g c =
     let seen = ap (λ (t : TriedPuzzle). t.closer.puzzle) c.trials.view_is in
     let closed = c.propagate_all.new.board.cells in
-    report-refuted first_unknown c.args.trials.now.closer.puzzle c.propagate_all.new.self.puzzle c.args.board.now.cells closed c.args.guesses c.grade.result c.count_settled-line_known.result
+    report-refuted (picked c.args.pick c.args.trials.now.closer.puzzle.width) c.args.trials.now.closer.puzzle c.propagate_all.new.self.puzzle c.args.board.now.cells closed c.args.guesses c.grade.result c.count_settled-line_known.result
     (c.if-not-propagate_all.ensures.puzzle ∙ seen) (ap (λ (g : TrailedGrid). g.cells) c.requires.board)
     (subst (λ (t : TriedPuzzle). Some closed ≡ closure (lines_of t.closer.puzzle) c.args.board.now.cells) c.trials.view_is c.if-not-propagate_all.ensures.closed) c.if-not-try_unless_full.ensures.tried
     (c.grade.ensures ∙ ap (λ b. grade_by b true) c.are_known-lines_settle.ensures)
@@ -46,11 +48,12 @@ returns g c =
     let again = ap (λ (t : TriedPuzzle). t.closer.puzzle) c.trials-2.view_is in
     let same = c.if-not-propagate_all.ensures.puzzle ∙ seen in
     let closed = c.propagate_all.new.board.cells in
-    report-alive first_unknown c.args.trials.now.closer.puzzle c.propagate_all.new.self.puzzle c.trials-2.inside.closer.puzzle c.args.board.now.cells closed c.try_unless_full.new.board.cells c.args.guesses
+    report-alive (picked c.args.pick c.args.trials.now.closer.puzzle.width) c.args.trials.now.closer.puzzle c.propagate_all.new.self.puzzle c.trials-2.inside.closer.puzzle c.args.board.now.cells closed c.try_unless_full.new.board.cells c.args.guesses
     c.search-end.new.solutions.grids c.search-end.result.cut c.search-end.result.spent c.verdict.result c.grade-grade.result c.count_settled-line_known.result c.count_unless_full-trial_known.result
     same (again ∙ c.if-not-try_unless_full.ensures.puzzle ∙ same) (ap (λ (g : TrailedGrid). g.cells) c.requires.board)
     (subst (λ (t : TriedPuzzle). Some closed ≡ closure (lines_of t.closer.puzzle) c.args.board.now.cells) c.trials.view_is c.if-not-propagate_all.ensures.closed) c.if-not-try_unless_full.ensures.tried
-    c.search-end.ensures.ending
+    (c.search-end.ensures.ending
+    ∙ (λ i. ending c.trials-2.inside.closer.puzzle [] 0 c.args.guesses (events (picked c.args.pick ((again ∙ c.if-not-try_unless_full.ensures.puzzle ∙ same) i).width) (lines_of c.trials-2.inside.closer.puzzle) c.try_unless_full.new.board.cells)))
     c.verdict.ensures
     (c.grade-grade.ensures ∙ (λ i. grade_by (c.are_known-lines_settle.ensures i) (c.are_known.ensures i)))
     c.count_settled-line_known.ensures c.count_unless_full-trial_known.ensures

@@ -1,21 +1,22 @@
 use Rattle.std.proofs.Common.{◌≡◌, ◌-◌, ◌≤◌, [], length, vec_capacity}
 use Rattle.grid_core.specs.Nonogram.{lines_of}
-use Rattle.solve_core.specs.Search.{first_unknown, events}
+use Rattle.solve_core.specs.Search.{events}
 use Rattle.solve_core.specs.Sizes.{IsSizeOf}
 use Rattle.solve_core.specs.Endings.{ending}
 use Rattle.solve_core.specs.Boards.{IsBoardOf}
 use Rattle.solve_core.specs.Marks.{IsUnmarked}
 use Rattle.solve_core.specs.Guesses.{owed, IsUnderWay}
 use Rattle.solve_core.proofs.search.search.Given as goal
+use Rattle.solve_core.specs.Picks.{picked}
 
 -- the search so far and what is still to happen end as the whole search
-abbrev pub invariant-loop-next : goal.invariant-loop-next
-invariant-loop-next g l =
+abbrev pub invariant-loop-pick : goal.invariant-loop-pick
+invariant-loop-pick g l =
     let p = l.fn.closer.puzzle in
     record {
-      under_way : IsUnderWay p l.branches.items l.board l.next;
-      ends : ending p l.solutions.grids l.spent (l.guesses - l.spent) (owed p l.branches.items l.board l.next)
-          ≡ ending p [] 0 l.guesses (events first_unknown (lines_of p) l.fn.board.cells);
+      under_way : IsUnderWay (picked l.pick l.fn.closer.puzzle.width) p l.branches.items l.board l.next;
+      ends : ending p l.solutions.grids l.spent (l.guesses - l.spent) (owed (picked l.pick l.fn.closer.puzzle.width) p l.branches.items l.board l.next)
+          ≡ ending p [] 0 l.guesses (events (picked l.pick l.fn.closer.puzzle.width) (lines_of p) l.fn.board.cells);
       room : length l.fn.board.cells ≤ vec_capacity l.branches;
       cells : length l.board.cells ≡ length l.fn.board.cells;
       board : IsBoardOf p l.board;
@@ -26,5 +27,5 @@ invariant-loop-next g l =
       found : length l.solutions.grids ≤ 2;
     }
 
-abbrev pub decreases-loop-next : goal.decreases-loop-next
-decreases-loop-next g l = length (owed l.fn.closer.puzzle l.branches.items l.board l.next)
+abbrev pub decreases-loop-pick : goal.decreases-loop-pick
+decreases-loop-pick g l = length (owed (picked l.pick l.fn.closer.puzzle.width) l.fn.closer.puzzle l.branches.items l.board l.next)

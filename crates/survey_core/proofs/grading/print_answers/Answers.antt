@@ -3,6 +3,7 @@ use Rattle.std.proofs.lemmas.Grind.{common_steps}
 use Rattle.puzzle_text.specs.Shown.{shown_entry}
 use Rattle.puzzle_text.specs.declared.collections.Entry.{Entry}
 use Rattle.puzzle_text.specs.declared.faults.EntryFault.{EntryFault}
+use Rattle.survey_core.specs.Guessing.{guessing}
 use Rattle.survey_core.specs.Entries.{GradedEntry, shown_listed}
 use Rattle.survey_core.specs.Readings.{TakesAnswer, reading, readings}
 use Rattle.survey_core.specs.Survey.{graded, survey_of_list}
@@ -16,7 +17,7 @@ loop-place-init c = record { survey = c.new-survey.ensures; answers = c.requires
 
 pub list_entry-requires : goal.list_entry-requires
 list_entry-requires c = λ none.
-    let guesses = c.args.settings.now.guesses in
+    let guesses = (guessing c.args.settings.now) in
     let entries = c.args.entries.now in
     let place = c.loop-place.place in
     let within = c.loop-place-test.true in
@@ -27,11 +28,11 @@ list_entry-requires c = λ none.
 pub add-requires : goal.add-requires
 add-requires c =
     has_room _ _ c.loop-place.invariant.survey.totals
-    (few_mapped_twice (graded c.args.settings.now.guesses) shown_entry c.args.entries.now c.loop-place.place (omega arith))
+    (few_mapped_twice (graded (guessing c.args.settings.now)) shown_entry c.args.entries.now c.loop-place.place (omega arith))
 
 pub loop-place-preserved : goal.loop-place-preserved
 loop-place-preserved c =
-    let guesses = c.args.settings.now.guesses in
+    let guesses = (guessing c.args.settings.now) in
     let show = c.args.settings.now.show in
     let entries = c.args.entries.now in
     let place = c.loop-place.place in
@@ -52,7 +53,7 @@ loop-place-preserved c =
 
 pub returns : goal.returns
 returns c =
-    let guesses = c.args.settings.now.guesses in
+    let guesses = (guessing c.args.settings.now) in
     let show = c.args.settings.now.show in
     let entries = c.args.entries.now in
     let place = c.loop-place.place in

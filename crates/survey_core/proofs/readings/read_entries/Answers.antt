@@ -1,12 +1,13 @@
 use Rattle.std.proofs.Common.{◌+◌, ◌++◌, ◌∷◌, [], List, Option, get_or, ap, sym, ◌∙◌, arith}
 use Rattle.puzzle_text.specs.declared.faults.EntryFault.{EntryFault}
+use Rattle.survey_core.specs.Guessing.{guessing}
 use Rattle.survey_core.specs.Readings.{NumberedPuzzle, fault_of, job_of, reading}
 use Rattle.survey_core.proofs.ReadingLemmas.{faults-more, jobs_of-more, no_entry}
 use Rattle.survey_core.proofs.readings.read_entries.Goals as goal
 
 pub loop-place-preserved : goal.loop-place-preserved
 loop-place-preserved c =
-    let guesses = c.args.guesses in
+    let guesses = guessing c.args.settings.now in
     let entries = c.args.entries.now in
     let place = c.loop-place.place in
     let within = c.loop-place-test.true in

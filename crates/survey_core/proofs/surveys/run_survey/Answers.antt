@@ -3,6 +3,7 @@ use Rattle.puzzle_text.specs.Collections.{cut}
 use Rattle.puzzle_text.specs.Shown.{shown_entry}
 use Rattle.puzzle_text.specs.declared.limits.TheConstants.{LONGEST_COLLECTION}
 use Rattle.puzzle_text.specs.declared.collections.Entry.{Entry}
+use Rattle.survey_core.specs.Guessing.{guessing}
 use Rattle.survey_core.specs.Leaving.{Leaves}
 use Rattle.survey_core.specs.Survey.{survey_of_list}
 use Rattle.survey_core.proofs.SurveyLemmas.{at_most, survey_of_input}
@@ -10,7 +11,7 @@ use Rattle.survey_core.proofs.surveys.run_survey.Goals as goal
 
 pub returns-in-Ok-entries-clause-answer : goal.returns-in-Ok-entries-clause-answer
 returns-in-Ok-entries-clause-answer g c =
-    let guesses = c.args.settings.now.guesses in
+    let guesses = (guessing c.args.settings.now) in
     let show = c.args.settings.now.show in
     let short : vec_len c.in-Ok.collection ≤ LONGEST_COLLECTION = at_most _ _ (λ long. let bad = c.in-Ok-entries.ensures.too_long (omega (arith, c.deref.ensures.len)) in cc) in
     let pieces : cut c.in-Ok.collection.items ≡ Ok (map shown_entry c.in-Ok-entries.entries.items) = subst (λ (bytes : List ℕ). cut bytes ≡ Ok (map shown_entry c.in-Ok-entries.entries.items)) c.deref.ensures.value c.in-Ok-entries.ensures.answer in

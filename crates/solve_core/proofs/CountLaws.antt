@@ -1,0 +1,125 @@
+-- In how many sets a place is, and what that says of a row's neighbours.
+use Rattle.std.proofs.Common.{◌≡◌, ℕ, zero, suc, ◌+◌, ◌-◌, ◌<◌, ◌≤◌, ◌⊎◌, inl, inr, Bool, true, false, nat_eq, List, length, get_or, Option, Some, None, IfSome, IfNone, refl, sym, ap, ◌∙◌, subst, arith, true≢false}
+use Rattle.std.proofs.lemmas.Bool.{eqb-true, eq-eqb}
+use Rattle.grid_core.specs.declared.cells.Cell.{Cell}
+use Rattle.grid_core.specs.declared.cells.Cell.TheVariants.{Unknown}
+use Rattle.grid_core.specs.Cells.{is_known}
+use Rattle.place_sets.specs.Masks.{Has, has, IsMaskOf, IsMoved}
+use Rattle.place_sets.proofs.HasLemmas.{true_has, has_true}
+use Rattle.line_core.specs.Lines.{IsUnknownCell}
+use Rattle.line_core.proofs.LineCells.{has_by}
+use Rattle.solve_core.specs.Counts.{AreCounts, IsKnownCell, IsMostInRow, is_sure, row_score, two_of}
+
+at_most_one : (n : ℕ) → (n ≤ 1) ⊎ (2 ≤ n)
+at_most_one zero = inl (omega arith)
+at_most_one (suc zero) = inl (omega arith)
+at_most_one (suc (suc n)) = inr (omega arith)
+
+none_or_some : (n : ℕ) → (n ≡ 0) ⊎ (1 ≤ n)
+none_or_some zero = inl refl
+none_or_some (suc n) = inr (omega arith)
+
+zero_or : (n : ℕ) → (n ≡ 0) ⊎ (1 ≤ n)
+zero_or zero = inl refl
+zero_or (suc n) = inr (omega arith)
+
+last_or : (n m : ℕ) → (n + 1 ≡ m) ⊎ (n < m → n + 1 < m)
+last_or n zero = inr (λ l. absurd (omega arith))
+last_or zero (suc zero) = inl refl
+last_or zero (suc (suc m)) = inr (λ l. omega arith)
+last_or (suc n) (suc m) = elim (last_or n m) [ inl e ↦ inl (omega (arith, e)) | inr more ↦ inr (λ l. let up = more (omega (arith, l)) in omega (arith, up)) ]
+
+lacking : (m i : ℕ) → has m i ≡ false → Has m i → ⊥
+lacking m i e h = true≢false (sym (has_true m i h) ∙ e)
+
+-- a count is told by the two sets
+pub counts_by : (f : ℕ → ℕ) (e b : ℕ) → AreCounts f e b → (i : ℕ) → two_of (has e i) (has b i) ≡ f i
+counts_by f e b c i = by (has e i) (has b i) refl refl
+  where
+    by : (x y : Bool) → has e i ≡ x → has b i ≡ y → two_of x y ≡ f i
+    by true true p q = let two : 2 ≤ f i = c.both_is.to i (true_has b i q) in omega (arith, two, c.most i)
+    by true false p q =
+        let one : 1 ≤ f i = c.either_is.to i (true_has e i p) in
+        elim (at_most_one (f i)) [ inl few ↦ omega (arith, one, few) | inr two ↦ absurd (lacking b i q (c.both_is.from i two)) ]
+    by false true p q = let two : 2 ≤ f i = c.both_is.to i (true_has b i q) in absurd (lacking e i p (c.either_is.from i (omega (arith, two))))
+    by false false p q = elim (none_or_some (f i)) [ inl none ↦ omega (arith, none) | inr some ↦ absurd (lacking e i p (c.either_is.from i some)) ]
+
+pub counts_own : (f : ℕ → ℕ) (e b : ℕ) → AreCounts f e b → AreCounts (λ i. two_of (has e i) (has b i)) e b
+counts_own f e b c = record {
+  most = λ i. omega (arith, counts_by f e b c i, c.most i);
+  either_is = record { to = λ i h. (let one = c.either_is.to i h in omega (arith, counts_by f e b c i, one)); from = λ i h. c.either_is.from i (omega (arith, counts_by f e b c i, h)) };
+  both_is = record { to = λ i h. (let two = c.both_is.to i h in omega (arith, counts_by f e b c i, two)); from = λ i h. c.both_is.from i (omega (arith, counts_by f e b c i, h)) };
+}
+
+sure_by : (outside : Bool) (c : Cell) → (outside ≡ true) ⊎ (is_known c ≡ true) → is_sure outside c ≡ true
+sure_by true c h = refl
+sure_by false c (inl e) = absurd (true≢false (sym e))
+sure_by false c (inr e) = e
+
+by_sure : (outside : Bool) (c : Cell) → is_sure outside c ≡ true → (outside ≡ true) ⊎ (is_known c ≡ true)
+by_sure true c h = inl refl
+by_sure false c h = inr h
+
+-- the cells with a known cell to their left, and the first one
+pub left_is : (row : List Cell) (w known up first left : ℕ) → length row ≤ w → IsMaskOf (IsKnownCell row) known → IsMaskOf (IsMoved w (Has known) 1) up → IsMaskOf (λ i. i ≡ 0) first
+    → IsMaskOf (λ i. Has up i ⊎ Has first i) left → (x : ℕ) → x < length row → has left x ≡ is_sure (nat_eq x 0) (get_or row (x - 1) Unknown)
+left_is row w known up first left fits k u f l x h = has_by left x (is_sure (nat_eq x 0) (get_or row (x - 1) Unknown)) to from
+  where
+    to : Has left x → is_sure (nat_eq x 0) (get_or row (x - 1) Unknown) ≡ true
+    to y = elim (l.to x y) [
+      | inl moved ↦ sure_by (nat_eq x 0) (get_or row (x - 1) Unknown) (inr (k.to (x - 1) (u.to x moved).2).1)
+      | inr start ↦ sure_by (nat_eq x 0) (get_or row (x - 1) Unknown) (inl (eq-eqb x 0 (f.to x start)))
+    ]
+
+    from : is_sure (nat_eq x 0) (get_or row (x - 1) Unknown) ≡ true → Has left x
+    from e = elim (by_sure (nat_eq x 0) (get_or row (x - 1) Unknown) e) [
+      | inl start ↦ l.from x (inr (f.from x (eqb-true x 0 start)))
+      | inr sure ↦ elim (zero_or x) [
+        | inl start ↦ l.from x (inr (f.from x start))
+        | inr later ↦ l.from x (inl (u.from x (omega (arith, h, fits), later, k.from (x - 1) (omega (arith, h), sure))))
+      ]
+    ]
+
+-- the cells with a known cell to their right, and the last one
+pub right_is : (row : List Cell) (w known down first last right : ℕ) → length row ≤ w → 1 ≤ length row → IsMaskOf (IsKnownCell row) known → IsMaskOf (λ i. Has known (i + 1)) down
+    → IsMaskOf (λ i. i ≡ 0) first → IsMaskOf (IsMoved w (Has first) (length row - 1)) last → IsMaskOf (λ i. Has down i ⊎ Has last i) right
+    → (x : ℕ) → x < length row → has right x ≡ is_sure (nat_eq (x + 1) (length row)) (get_or row (x + 1) Unknown)
+right_is row w known down first last right fits some k d f m r x h = has_by right x (is_sure (nat_eq (x + 1) (length row)) (get_or row (x + 1) Unknown)) to from
+  where
+    to : Has right x → is_sure (nat_eq (x + 1) (length row)) (get_or row (x + 1) Unknown) ≡ true
+    to y = elim (r.to x y) [
+      | inl moved ↦ sure_by (nat_eq (x + 1) (length row)) (get_or row (x + 1) Unknown) (inr (k.to (x + 1) (d.to x moved)).1)
+      | inr end ↦
+          (let at = m.to x end in
+          let start : x - (length row - 1) ≡ 0 = f.to (x - (length row - 1)) at.2 in
+          sure_by (nat_eq (x + 1) (length row)) (get_or row (x + 1) Unknown) (inl (eq-eqb (x + 1) (length row) (omega (arith, start, at.1, h, some)))))
+    ]
+
+    from : is_sure (nat_eq (x + 1) (length row)) (get_or row (x + 1) Unknown) ≡ true → Has right x
+    from e = elim (by_sure (nat_eq (x + 1) (length row)) (get_or row (x + 1) Unknown) e) [
+      | inl end ↦
+          (let at : x + 1 ≡ length row = eqb-true (x + 1) (length row) end in
+          r.from x (inr (m.from x (omega (arith, h, fits), omega (arith, at), f.from (x - (length row - 1)) (omega (arith, at))))))
+      | inr sure ↦ elim (last_or x (length row)) [
+        | inl at ↦ r.from x (inr (m.from x (omega (arith, h, fits), omega (arith, at), f.from (x - (length row - 1)) (omega (arith, at)))))
+        | inr more ↦ r.from x (inl (d.from x (k.from (x + 1) (more h, sure))))
+      ]
+    ]
+
+-- what is found by a count that is the row's score at each unknown cell
+pub most_by : (row : List Cell) (above below : ℕ → Bool) (least cells : ℕ) (f g : ℕ → ℕ) (result : Option (ℕ × ℕ)) → IsMaskOf (IsUnknownCell row) cells
+    → ((x : ℕ) → x < length row → f x + g x ≡ row_score row above below x)
+    → IfNone result ((i : ℕ) → Has cells i → f i + g i < least)
+    → IfSome result (λ found. Has cells found.1 × (found.0 ≡ f found.1 + g found.1) × (least ≤ found.0))
+    → IfSome result (λ found. (i : ℕ) → Has cells i → f i + g i ≤ found.0)
+    → IfSome result (λ found. (i : ℕ) → Has cells i → i < found.1 → f i + g i < found.0)
+    → IsMostInRow row above below least result
+most_by row above below least cells f g None m score none found most earliest = λ x u. (let few = none x (m.from x u) in omega (arith, few, score x u.0))
+most_by row above below least cells f g (Some (n, k)) m score none found most earliest =
+    let at = m.to k found.0 in (
+      at,
+      omega (arith, found.1, score k at.0),
+      found.2,
+      λ x u. (let few = most x (m.from x u) in omega (arith, few, score x u.0)),
+      λ x l u. (let few = earliest x (m.from x u) l in omega (arith, few, score x u.0)),
+    )

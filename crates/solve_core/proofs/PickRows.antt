@@ -1,0 +1,260 @@
+-- The cell to guess, found row by row.
+use Rattle.std.proofs.Common.{◌≡◌, ◌≢◌, ℕ, zero, suc, ◌+◌, ◌-◌, ◌*◌, ◌/◌, ◌%◌, ◌<◌, ◌≤◌, ◌⊎◌, inl, inr, Bool, true, false, cond, nat_eq, nat_lt, nat_le, List, [], length, get_or, Option, Some, None, refl, sym, ap, ◌∙◌, subst, arith, true≢false, ltb-true, ltb-false, leb-true, leb-false}
+use Rattle.std.proofs.lemmas.Bool.{eqb-true, eqb-false, eq-eqb}
+use Rattle.std.proofs.lemmas.Nat.{div-mul-add}
+use Rattle.grid_core.specs.declared.cells.Cell.{Cell}
+use Rattle.grid_core.specs.declared.cells.Cell.TheVariants.{Unknown, Filled, Blank}
+use Rattle.grid_core.specs.Cells.{is_unknown}
+use Rattle.line_core.specs.Lines.{IsUnknownCell}
+use Rattle.solve_core.specs.Counts.{IsMostInRow, is_sure, row_score, two_of}
+use Rattle.solve_core.specs.GridLines.{AreLinesOf, cells_of_rows}
+use Rattle.solve_core.specs.Picks.{is_left_sure, is_right_sure, is_above_sure, is_below_sure, sure_neighbours}
+use Rattle.solve_core.proofs.GridLineSteps.{cell-read, lines-long}
+use Rattle.solve_core.proofs.LineSteps.{before_or_from}
+use Rattle.solve_core.proofs.NumberedLines.{row_within}
+use Rattle.solve_core.proofs.PickLaws.{IsFirstMost, least_after}
+
+sure_same : (o p : Bool) (c d : Cell) → o ≡ p → (o ≡ false → c ≡ d) → is_sure o c ≡ is_sure p d
+sure_same true true c d e h = refl
+sure_same true false c d e h = absurd (true≢false e)
+sure_same false true c d e h = absurd (true≢false (sym e))
+sure_same false false c d e h = ap (is_sure false) (h refl)
+
+column_is : (w y x : ℕ) → x < w → (y * w + x) % w ≡ x
+column_is w y x l =
+    let parts : y * w + x ≡ (y * w + x) / w * w + (y * w + x) % w = omega (arith, l) in
+    let same : y * w + x ≡ y * w + (y * w + x) % w = rw (div-mul-add y w x l) at parts in
+    omega (arith, same)
+
+not_top : (w z x : ℕ) → z * w + x < w → z ≢ 0 → ⊥
+not_top w zero x low n = n refl
+not_top w (suc z) x low n = omega (arith, low)
+
+top_is : (w y x : ℕ) → x < w → nat_eq y 0 ≡ nat_lt (y * w + x) w
+top_is w y x l = by (nat_eq y 0) (nat_lt (y * w + x) w) refl refl
+  where
+    by : (a b : Bool) → nat_eq y 0 ≡ a → nat_lt (y * w + x) w ≡ b → a ≡ b
+    by true true e f = refl
+    by false false e f = refl
+    by true false e f = (let top : y ≡ 0 = eqb-true y 0 e in let high : w ≤ y * w + x = ltb-false (y * w + x) w f in let at : y * w + x ≡ x = rw top (omega arith) in absurd (omega (arith, high, at, l)))
+    by false true e f =
+        let low : y * w + x < w = ltb-true (y * w + x) w f in
+        absurd (not_top w y x low (eqb-false y 0 e))
+
+bottom_is : (w h y x : ℕ) → y < h → x < w → nat_eq (y + 1) h ≡ nat_le (w * h) (y * w + x + w)
+bottom_is w h y x ly lx = by (nat_eq (y + 1) h) (nat_le (w * h) (y * w + x + w)) refl refl
+  where
+    by : (a b : Bool) → nat_eq (y + 1) h ≡ a → nat_le (w * h) (y * w + x + w) ≡ b → a ≡ b
+    by true true e f = refl
+    by false false e f = refl
+    by true false e f =
+        let last : y + 1 ≡ h = eqb-true (y + 1) h e in
+        let more : y * w + x + w < w * h = leb-false (w * h) (y * w + x + w) f in
+        let all : w * h ≡ y * w + w = rw (← last) (omega arith) in
+        absurd (omega (arith, more, all))
+    by false true e f =
+        let few : w * h ≤ y * w + x + w = leb-true (w * h) (y * w + x + w) f in
+        let other : y + 1 ≢ h = eqb-false (y + 1) h e in
+        let next : (y + 1) * w + x * 1 < w * h = row_within w h (y + 1) x (omega (arith, ly, other)) lx in
+        absurd (omega (arith, few, next))
+
+row_back : (w z x : ℕ) → z ≢ 0 → (z - 1) * w + x ≡ z * w + x - w
+row_back w zero x n = absurd (n refl)
+row_back w (suc z) x n = let less : suc z - 1 ≡ z = omega arith in rw less (omega arith)
+
+-- the count of a row's cell is that of the grid's
+pub score-is : (rows columns : List (List Cell)) (y x : ℕ) (above below : ℕ → Bool) → AreLinesOf (cells_of_rows rows) rows columns → y < length rows → x < length columns
+    → above x ≡ is_sure (nat_eq y 0) (get_or (get_or rows (y - 1) []) x Unknown) → below x ≡ is_sure (nat_eq (y + 1) (length rows)) (get_or (get_or rows (y + 1) []) x Unknown)
+    → row_score (get_or rows y []) above below x ≡ sure_neighbours (length columns) (cells_of_rows rows) (y * length columns + x)
+score-is rows columns y x above below a ly lx up down =
+    (λ i. two_of (left i) (right i) + two_of ((up ∙ over) i) ((down ∙ under) i)) ∙ omega arith
+  where
+    w : ℕ
+    w = length columns
+
+    k : ℕ
+    k = y * w + x
+
+    cells : List Cell
+    cells = cells_of_rows rows
+
+    row : List Cell
+    row = get_or rows y []
+
+    long : length row ≡ w
+    long = (lines-long rows columns x y a lx ly).0
+
+    left : is_sure (nat_eq x 0) (get_or row (x - 1) Unknown) ≡ is_left_sure w cells k
+    left = sure_same (nat_eq x 0) (nat_eq (k % w) 0) (get_or row (x - 1) Unknown) (get_or cells (k - 1) Unknown) (ap (λ (n : ℕ). nat_eq n 0) (sym (column_is w y x lx)))
+        (λ e. (let some : x ≢ 0 = eqb-false x 0 e in
+        let at : y * w + (x - 1) ≡ k - 1 = omega (arith, some) in
+        (cell-read rows columns (x - 1) y a (omega (arith, lx)) ly).0 ∙ ap (λ (n : ℕ). get_or cells n Unknown) at))
+
+    right : is_sure (nat_eq (x + 1) (length row)) (get_or row (x + 1) Unknown) ≡ is_right_sure w cells k
+    right = sure_same (nat_eq (x + 1) (length row)) (nat_eq (k % w + 1) w) (get_or row (x + 1) Unknown) (get_or cells (k + 1) Unknown)
+        (λ i. nat_eq (sym (column_is w y x lx) i + 1) (long i))
+        (λ e. (let some : x + 1 ≢ length row = eqb-false (x + 1) (length row) e in
+        let at : y * w + (x + 1) ≡ k + 1 = omega arith in
+        (cell-read rows columns (x + 1) y a (omega (arith, lx, some, long)) ly).0 ∙ ap (λ (n : ℕ). get_or cells n Unknown) at))
+
+    over : is_sure (nat_eq y 0) (get_or (get_or rows (y - 1) []) x Unknown) ≡ is_above_sure w cells k
+    over = sure_same (nat_eq y 0) (nat_lt k w) (get_or (get_or rows (y - 1) []) x Unknown) (get_or cells (k - w) Unknown) (top_is w y x lx)
+        (λ e. (let some : y ≢ 0 = eqb-false y 0 e in
+        let at : (y - 1) * w + x ≡ k - w = row_back w y x some in
+        (cell-read rows columns x (y - 1) a lx (omega (arith, ly))).0 ∙ ap (λ (n : ℕ). get_or cells n Unknown) at))
+
+    under : is_sure (nat_eq (y + 1) (length rows)) (get_or (get_or rows (y + 1) []) x Unknown) ≡ is_below_sure w cells k
+    under = sure_same (nat_eq (y + 1) (length rows)) (nat_le (length cells) (k + w)) (get_or (get_or rows (y + 1) []) x Unknown) (get_or cells (k + w) Unknown)
+        (bottom_is w (length rows) y x ly lx ∙ ap (λ (n : ℕ). nat_le n (k + w)) (sym a.count))
+        (λ e. (let some : y + 1 ≢ length rows = eqb-false (y + 1) (length rows) e in
+        let at : (y + 1) * w + x ≡ k + w = omega arith in
+        (cell-read rows columns x (y + 1) a lx (omega (arith, ly, some))).0 ∙ ap (λ (n : ℕ). get_or cells n Unknown) at))
+
+false_if : (b : Bool) → (b ≡ true → ⊥) → b ≡ false
+false_if true n = absurd (n refl)
+false_if false n = refl
+
+-- if no place of a row counts for enough, the best one stays
+pub row-none : (score : ℕ → ℕ) (passes : ℕ → Bool) (s w : ℕ) (best : Option ℕ) → IsFirstMost score passes 0 s best
+    → ((x : ℕ) → x < w → passes (s + x) ≡ true → score (s + x) < least_after score best) → IsFirstMost score passes 0 (s + w) best
+row-none score passes s w None h none = λ j l m.
+    elim (before_or_from j s) [
+      | inl early ↦ h j l (omega arith)
+      | inr late ↦ false_if (passes j) (λ p. (let at : s + (j - s) ≡ j = omega arith in let few = none (j - s) (omega arith) (rw at p) in omega (arith, few)))
+    ]
+row-none score passes s w (Some k) h none = (
+  omega arith,
+  omega (arith, h.1),
+  h.2,
+  λ j l m p. elim (before_or_from j s) [
+    | inl early ↦ h.3 j l (omega arith) p
+    | inr late ↦ (let at : s + (j - s) ≡ j = omega arith in let few = none (j - s) (omega arith) (rw at p) in let less : score j < score k + 1 = rw at at few in omega (arith, less))
+  ],
+  λ j l m p. h.4 j l m p,
+)
+
+-- and if one does, the first of those for which the most counts is the best
+pub row-some : (score : ℕ → ℕ) (passes : ℕ → Bool) (s w x : ℕ) (best : Option ℕ) → IsFirstMost score passes 0 s best → x < w → passes (s + x) ≡ true → least_after score best ≤ score (s + x)
+    → ((z : ℕ) → z < w → passes (s + z) ≡ true → score (s + z) ≤ score (s + x)) → ((z : ℕ) → z < x → passes (s + z) ≡ true → score (s + z) < score (s + x))
+    → IsFirstMost score passes 0 (s + w) (Some (s + x))
+row-some score passes s w x best h lx here least most earliest = (
+  omega arith,
+  omega arith,
+  here,
+  λ j l m p. elim (before_or_from j s) [
+    | inl early ↦ (let less = before best h least j early p in omega (arith, less))
+    | inr late ↦ (let at : s + (j - s) ≡ j = omega arith in let few = most (j - s) (omega arith) (rw at p) in let less : score j ≤ score (s + x) = rw at at few in less)
+  ],
+  λ j l m p. elim (before_or_from j s) [
+    | inl early ↦ before best h least j early p
+    | inr late ↦ (let at : s + (j - s) ≡ j = omega arith in let few = earliest (j - s) (omega arith) (rw at p) in let less : score j < score (s + x) = rw at at few in less)
+  ],
+)
+  where
+    before : (b : Option ℕ) → IsFirstMost score passes 0 s b → least_after score b ≤ score (s + x) → (j : ℕ) → j < s → passes j ≡ true → score j < score (s + x)
+    before None h least j l p = absurd (true≢false (sym p ∙ h j (omega arith) (omega arith)))
+    before (Some k) h least j l p = let up = h.3 j (omega arith) (omega arith) p in omega (arith, up, least)
+
+-- the best place after one more row, and how much a later one has to count for
+abbrev pub best_after : ℕ → Option ℕ → Option (ℕ × ℕ) → Option ℕ
+best_after first best None = best
+best_after first best (Some found) = Some (first + found.1)
+
+abbrev pub least_then : ℕ → Option (ℕ × ℕ) → ℕ
+least_then least None = least
+least_then least (Some found) = found.0 + 1
+
+unknown_here : (c : Cell) → is_unknown c ≡ true → c ≡ Unknown
+unknown_here Unknown e = refl
+unknown_here Filled e = cc
+unknown_here Blank e = cc
+
+-- one more row looked at
+pub row-step : (rows columns : List (List Cell)) (y width : ℕ) (cells row : List Cell) (above below : ℕ → Bool) (best : Option ℕ) (least : ℕ) (found : Option (ℕ × ℕ))
+    → AreLinesOf (cells_of_rows rows) rows columns → y < length rows → width ≡ length columns → cells_of_rows rows ≡ cells → row ≡ get_or rows y []
+    → ((x : ℕ) → x < length columns → above x ≡ is_sure (nat_eq y 0) (get_or (get_or rows (y - 1) []) x Unknown))
+    → ((x : ℕ) → x < length columns → below x ≡ is_sure (nat_eq (y + 1) (length rows)) (get_or (get_or rows (y + 1) []) x Unknown))
+    → IsFirstMost (sure_neighbours width cells) (λ k. is_unknown (get_or cells k Unknown)) 0 (y * width) best → least ≡ least_after (sure_neighbours width cells) best
+    → IsMostInRow row above below least found
+    → IsFirstMost (sure_neighbours width cells) (λ k. is_unknown (get_or cells k Unknown)) 0 ((y + 1) * width) (best_after (y * width) best found)
+    × (least_then least found ≡ least_after (sure_neighbours width cells) (best_after (y * width) best found))
+row-step rows columns y width cells row above below best least found a ly wide seen is up down first l m = rw (wide, ← seen) (by found (rw is at m))
+  where
+    w : ℕ
+    w = length columns
+
+    grid : List Cell
+    grid = cells_of_rows rows
+
+    score : ℕ → ℕ
+    score = sure_neighbours w grid
+
+    passes : ℕ → Bool
+    passes k = is_unknown (get_or grid k Unknown)
+
+    line : List Cell
+    line = get_or rows y []
+
+    old : IsFirstMost score passes 0 (y * w) best
+    old = rw (wide, ← seen) at first
+
+    low : least ≡ least_after score best
+    low = rw (wide, ← seen) at l
+
+    long : length line ≡ w
+    long = (lines-long rows columns 0 y a a.size.width_from ly).0
+
+    same : (x : ℕ) → x < w → row_score line above below x ≡ score (y * w + x)
+    same x lx = score-is rows columns y x above below a ly lx (up x lx) (down x lx)
+
+    here : (x : ℕ) → x < w → passes (y * w + x) ≡ true → IsUnknownCell line x
+    here x lx p = (omega (arith, lx, long), (cell-read rows columns x y a lx ly).0 ∙ unknown_here (get_or grid (y * w + x) Unknown) p)
+
+    next : y * w + w ≡ (y + 1) * w
+    next = omega arith
+
+    by : (f : Option (ℕ × ℕ)) → IsMostInRow line above below least f
+        → IsFirstMost score passes 0 ((y + 1) * w) (best_after (y * w) best f) × (least_then least f ≡ least_after score (best_after (y * w) best f))
+    by None none = (
+      rw next at (row-none score passes (y * w) w best old (λ x lx p. (let few = none x (here x lx p) in omega (arith, few, same x lx, low)))),
+      low,
+    )
+    by (Some (n, x)) some =
+        let lx : x < w = omega (arith, some.0.0, long) in
+        let counted : n ≡ score (y * w + x) = some.1 ∙ same x lx in (
+          rw next at
+              (row-some score passes (y * w) w x best old lx
+              (ap is_unknown (sym (cell-read rows columns x y a lx ly).0 ∙ some.0.1))
+              (omega (arith, low, some.2, counted))
+              (λ z lz p. (let few = some.3 z (here z lz p) in omega (arith, few, same z lz, counted)))
+              (λ z lz p. (let within : z < w = omega (arith, lz, lx) in let few = some.4 z lz (here z within p) in omega (arith, few, same z within, counted)))),
+          omega (arith, counted),
+        )
+
+-- ---- one more cell looked at
+
+only-one : (x : ℕ) → x < 1 → x ≡ 0
+only-one zero l = refl
+only-one (suc x) l = absurd (omega arith)
+
+-- a cell that isn't unknown, or for which not enough counts, changes nothing
+pub cell-none : (score : ℕ → ℕ) (passes : ℕ → Bool) (s : ℕ) (best : Option ℕ) → IsFirstMost score passes 0 s best → (passes s ≡ true → score s < least_after score best) → IsFirstMost score passes 0 (s + 1) best
+cell-none score passes s best h few = row-none score passes s 1 best h (λ x lx p. (let at : s + x ≡ s = omega (arith, only-one x lx) in rw at (few (rw at at p))))
+
+-- and one for which enough does is the best
+pub cell-some : (score : ℕ → ℕ) (passes : ℕ → Bool) (s : ℕ) (best : Option ℕ) → IsFirstMost score passes 0 s best → passes s ≡ true → least_after score best ≤ score s
+    → IsFirstMost score passes 0 (s + 1) (Some s)
+cell-some score passes s best h p enough =
+    let at : s + 0 ≡ s = omega arith in
+    rw at at
+    (row-some score passes s 1 0 best h (omega arith) (rw at p) (rw at enough)
+    (λ z lz q. (let same : s + z ≡ s + 0 = omega (arith, only-one z lz) in rw same (omega arith)))
+    (λ z lz q. absurd (omega arith)))
+
+one_at_most : (b : Bool) → cond b 1 0 ≤ 1
+one_at_most true = omega arith
+one_at_most false = omega arith
+
+-- there are four neighbours
+pub score-few : (w : ℕ) (cells : List Cell) (k : ℕ) → sure_neighbours w cells k ≤ 4
+score-few w cells k = omega (arith, one_at_most (is_left_sure w cells k), one_at_most (is_right_sure w cells k), one_at_most (is_above_sure w cells k), one_at_most (is_below_sure w cells k))

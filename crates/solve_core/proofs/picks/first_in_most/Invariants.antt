@@ -1,0 +1,15 @@
+use Rattle.std.proofs.Common.{◌+◌, ◌-◌, ◌<◌, ◌≤◌, ℕ}
+use Rattle.place_sets.specs.Masks.{Has}
+use Rattle.solve_core.proofs.picks.first_in_most.Given as goal
+
+abbrev pub ghost-in_so_many : goal.ghost-in_so_many
+ghost-in_so_many g a = g.counts
+
+abbrev pub invariant-loop-count : goal.invariant-loop-count
+invariant-loop-count g l = record {
+  within : l.count ≤ 5;
+  more : (i : ℕ) → Has (g.W.PlaceSet.number l.places) i → g.counts.0 i + g.counts.1 i < l.count;
+}
+
+abbrev pub decreases-loop-count : goal.decreases-loop-count
+decreases-loop-count g l = l.count - l.least

@@ -1,0 +1,5 @@
+use Rattle.solve_core.proofs.PickLaws.{most_known-IsPick}
+use Rattle.solve_core.proofs.search_laws.most_known_is_pick.Goals as goal
+
+pub returns : goal.returns
+returns c = most_known-IsPick

@@ -1,0 +1,38 @@
+-- In how many sets a place is.
+use Rattle.std.specs.Prelude.{◌≡◌, ℕ, ◌+◌, ◌-◌, ◌<◌, ◌≤◌, Bool, true, ◌||◌, cond, nat_eq, List, length, slice_index_or, Option, Some, None}
+use Rattle.grid_core.specs.declared.cells.Cell.{Cell}
+use Rattle.grid_core.specs.declared.cells.Cell.TheVariants.{Unknown}
+use Rattle.grid_core.specs.Cells.{is_known}
+use Rattle.place_sets.specs.Masks.{IsMaskOf}
+use Rattle.line_core.specs.Lines.{IsUnknownCell}
+
+-- how many of two hold
+abbrev pub two_of : Bool → Bool → ℕ
+two_of a b = cond a 1 0 + cond b 1 0
+
+-- the places for which the count, of two at most, is one at least, and those for which it is two
+pub record AreCounts (count : ℕ → ℕ) (either both : ℕ) : Type 0 where
+  pub most : (i : ℕ) → count i ≤ 2
+  pub either_is : IsMaskOf (λ i. 1 ≤ count i) either
+  pub both_is : IsMaskOf (λ i. 2 ≤ count i) both
+
+-- a place of a known cell
+abbrev pub IsKnownCell : List Cell → ℕ → Type 0
+IsKnownCell cells i = (i < length cells) × (is_known (slice_index_or cells i Unknown) ≡ true)
+
+-- whether a neighbour is outside the grid, or else known
+abbrev pub is_sure : Bool → Cell → Bool
+is_sure outside cell = outside || is_known cell
+
+-- how many neighbours of a row's cell are known or outside the grid, given for each cell whether the one above is, and the one below
+abbrev pub row_score : List Cell → (ℕ → Bool) → (ℕ → Bool) → ℕ → ℕ
+row_score row above below x =
+    two_of (is_sure (nat_eq x 0) (slice_index_or row (x - 1) Unknown)) (is_sure (nat_eq (x + 1) (length row)) (slice_index_or row (x + 1) Unknown)) + two_of (above x) (below x)
+
+-- of the unknown cells of a row the first of those for which the most counts, and how many, if these are as many as wanted
+abbrev pub IsMostInRow : List Cell → (ℕ → Bool) → (ℕ → Bool) → ℕ → Option (ℕ × ℕ) → Type 0
+IsMostInRow row above below least None = (x : ℕ) → IsUnknownCell row x → row_score row above below x < least
+IsMostInRow row above below least (Some found) =
+    IsUnknownCell row found.1 × (found.0 ≡ row_score row above below found.1) × (least ≤ found.0)
+    × ((x : ℕ) → IsUnknownCell row x → row_score row above below x ≤ found.0)
+    × ((x : ℕ) → x < found.1 → IsUnknownCell row x → row_score row above below x < found.0)

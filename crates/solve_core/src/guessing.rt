@@ -1,0 +1,65 @@
+//! The cell of the next guess in a grid.
+
+ghost use Rattle.std.specs.Prelude.{◌≡◌, ◌<◌, ◌%◌, ◌/◌, false, length, option_map, slice_index_or};
+ghost use Rattle.grid_core.specs.declared.cells.Cell.TheVariants.{Unknown};
+ghost use Rattle.solve_core.specs.Counts.{is_sure};
+ghost use Rattle.solve_core.specs.Picks.{most_known, picked, sure_neighbours};
+
+use crate::picks::Pick;
+use grid_core::Grid;
+
+/// Whether a neighbour is outside the grid, or else the cell at that place is known.
+fn is_sure(grid: &Grid, outside: bool, place: usize) -> bool
+    requires { outside ≡ false → place < length grid.now.cells }
+    ensures { result ≡ is_sure outside (slice_index_or grid.now.cells place Unknown) }
+{
+    outside || grid.at(place).is_known()
+}
+
+/// How many of a cell's neighbours are known or outside the grid.
+fn sure_neighbours(grid: &Grid, place: usize) -> usize
+    requires { place < length grid.now.cells }
+    ensures { result ≡ sure_neighbours grid.now.width grid.now.cells place }
+{
+    let width = usize::from(grid.width());
+    let count = width * usize::from(grid.height());
+    let column = place % width;
+    let left = is_sure(grid, column == 0, place.saturating_sub(1));
+    let right = is_sure(grid, column + 1 == width, place + 1);
+    let above = is_sure(grid, place < width, place.saturating_sub(width));
+    let below = is_sure(grid, count <= place + width, place + width);
+    usize::from(left) + usize::from(right) + usize::from(above) + usize::from(below)
+}
+
+/// The place of the unknown cell of whose neighbours the most are known or outside the grid, and of several the first.
+fn most_known(grid: &Grid) -> Option<usize>
+    ensures { result ≡ most_known grid.now.width grid.now.cells }
+{
+    let count = usize::from(grid.width()) * usize::from(grid.height());
+    let mut best = None;
+    let mut least = 0;
+    for place in 0..count {
+        if grid.at(place).is_unknown() {
+            let sure = sure_neighbours(grid, place);
+            if sure >= least {
+                best = Some(place);
+                least = sure + 1;
+            }
+        }
+    }
+    best
+}
+
+/// The column and the row of the cell that is guessed next in a grid, by the rule. It takes no memory; `None` exactly if the grid is full.
+pub fn next_guess(grid: &Grid, pick: Pick) -> Option<(u16, u16)>
+    ensures { result ≡ option_map (λ k. (k % grid.now.width, k / grid.now.width)) (picked pick grid.now.width grid.now.cells) }
+{
+    match pick {
+        Pick::First => grid.first_unknown(),
+        Pick::Most => {
+            let place = most_known(grid)?;
+            let width = usize::from(grid.width());
+            Some(((place % width) as u16, (place / width) as u16))
+        }
+    }
+}

@@ -1,0 +1,115 @@
+//! The rules for the cell of the next guess.
+
+ghost use Rattle.std.specs.Prelude.{◌≡◌, ◌+◌, ◌<◌, ◌≤◌, ℕ, IfNone, IfSome};
+ghost use Rattle.place_sets.specs.Masks.{Has, has, IsMaskOf};
+ghost use Rattle.solve_core.specs.Counts.{AreCounts, IsKnownCell, IsMostInRow, two_of};
+
+use line_core::LineOf;
+use place_sets::{PlaceSet, lacking};
+
+/// Which unknown cell is guessed next.
+#[derive(Clone, Copy, Debug, PartialEq, Eq)]
+pub enum Pick {
+    /// The first one in row order.
+    First,
+    /// The one of whose four neighbours the most are known or outside the grid, and of several the first in row order.
+    Most,
+}
+
+/// The places that are in one of two sets at least, and those in both.
+#[derive(Drop)]
+pub struct Two<W: PlaceSet> {
+    either: W,
+    both: W,
+}
+
+impl<W: PlaceSet> Two<W> {
+    /// Those of two sets.
+    pub fn of(set: W, other: W) -> Two<W>
+        ensures { AreCounts (λ i. two_of (has (W.number set) i) (has (W.number other) i)) (W.number result.either) (W.number result.both) }
+    {
+        Two {
+            either: set.or(other),
+            both: set.and(other),
+        }
+    }
+}
+
+/// Those of some places that are in so many of four sets at least, 0 to 4.
+fn in_so_many<W: PlaceSet>(places: W, first: &Two<W>, second: &Two<W>, count: usize) -> W
+    ghost counts: { (ℕ → ℕ) × (ℕ → ℕ) }
+    requires first { AreCounts counts.0 (W.number first.now.either) (W.number first.now.both) }
+    requires second { AreCounts counts.1 (W.number second.now.either) (W.number second.now.both) }
+    requires count { count ≤ 4 }
+    ensures { IsMaskOf (λ i. Has (W.number places) i × (count ≤ counts.0 i + counts.1 i)) (W.number result) }
+{
+    match count {
+        0 => places,
+        1 => places.and(first.either.or(second.either)),
+        2 => places.and(
+            first
+                .both
+                .or(second.both)
+                .or(first.either.and(second.either)),
+        ),
+        3 => places.and(
+            first
+                .both
+                .and(second.either)
+                .or(first.either.and(second.both)),
+        ),
+        _ => places.and(first.both.and(second.both)),
+    }
+}
+
+/// The first of those places that are in the most of four sets, and in how many it is, if that is `least` or more.
+pub fn first_in_most<W: PlaceSet>(
+    places: W,
+    first: &Two<W>,
+    second: &Two<W>,
+    least: usize,
+) -> Option<(usize, u16)>
+    ghost counts: { (ℕ → ℕ) × (ℕ → ℕ) }
+    requires first { AreCounts counts.0 (W.number first.now.either) (W.number first.now.both) }
+    requires second { AreCounts counts.1 (W.number second.now.either) (W.number second.now.both) }
+    ensures none { IfNone result ((i : ℕ) → Has (W.number places) i → counts.0 i + counts.1 i < least) }
+    ensures found { IfSome result (λ found. Has (W.number places) found.1 × (found.0 ≡ counts.0 found.1 + counts.1 found.1) × (least ≤ found.0)) }
+    ensures most { IfSome result (λ found. (i : ℕ) → Has (W.number places) i → counts.0 i + counts.1 i ≤ found.0) }
+    ensures earliest { IfSome result (λ found. (i : ℕ) → Has (W.number places) i → i < found.1 → counts.0 i + counts.1 i < found.0) }
+{
+    let mut count = 5;
+    while count > least {
+        count -= 1;
+        let found = in_so_many(places, first, second, count);
+        if !found.is_empty() {
+            return Some((count, found.first_place()));
+        }
+    }
+    None
+}
+
+/// The known cells of a line.
+pub fn known_cells<W: PlaceSet>(line: &LineOf<W>) -> W
+    ensures { IsMaskOf (IsKnownCell line.now) (W.number result) }
+{
+    lacking(line.unknown_cells(), line.len())
+}
+
+/// The first of a row's unknown cells of whose neighbours the most are known or outside the grid, and of how many, if these are `least` or more.
+/// Above and below are the cells of which the neighbour there is.
+pub fn most_in_row<W: PlaceSet>(
+    row: &LineOf<W>,
+    above: W,
+    below: W,
+    least: usize,
+) -> Option<(usize, u16)>
+    ensures { IsMostInRow row.now (has (W.number above)) (has (W.number below)) least result }
+{
+    let unknown = row.unknown_cells();
+    let known = known_cells(row);
+    let left = known.up(1).or(W::first());
+    let right = known.down(1).or(W::first().up(row.len() - 1));
+    let beside = Two::of(left, right);
+    let across = Two::of(above, below);
+    first_in_most(unknown, &beside, &across, least)
+}
