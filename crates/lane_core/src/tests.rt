@@ -308,6 +308,17 @@ fn grades_a_job(rt: HostRuntime) -> Result<(), Fail> {
     Ok(())
 }
 
+#[test]
+fn answers_keep_the_rule(rt: HostRuntime) -> Result<(), Fail> {
+    let alloc = rt.alloc();
+    for pick in [Pick::First, Pick::Most] {
+        let answer = grade(alloc, Job::new(7, one_cell(alloc)?, 1000, pick));
+        assert_eq!(rt; answer.pick(), pick);
+        assert!(rt; answer.outcome().is_ok());
+    }
+    Ok(())
+}
+
 /// A gate that notes the number of the last job that entered.
 #[derive(Drop)]
 struct LastEntry {

@@ -1,8 +1,8 @@
 //! Tests of reports.
 
 use crate::test_puzzles::puzzle_of;
-use crate::{Findings, Grade, Pick, Verdict, report};
-use grid_core::{Grid, Puzzle};
+use crate::{Findings, Grade, Pick, Solver, Verdict, next_guess, report};
+use grid_core::{Cell, Grid, Puzzle};
 use std::alloc::{AllocError, Global};
 use std::process::Abort;
 use std::test::Fail;
@@ -67,14 +67,27 @@ fn text_of(alloc: Global, findings: &Findings) -> Result<String, AllocError> {
     Ok(text)
 }
 
-fn assert_report(rt: &(impl Abort + AllocGlobal), puzzle: &Puzzle, guesses: u32, expected: &str) {
+fn assert_report_by(
+    rt: &(impl Abort + AllocGlobal),
+    puzzle: &Puzzle,
+    guesses: u32,
+    pick: Pick,
+    expected: &str,
+) {
     let alloc = rt.alloc();
-    match report(alloc, puzzle, guesses, Pick::First) {
+    match report(alloc, puzzle, guesses, pick) {
         Ok(findings) => match text_of(alloc, &findings) {
             Ok(text) => assert_eq!(rt; text.as_str(), expected),
             Err(_) => assert!(rt; false),
         },
         Err(_) => assert!(rt; false),
+    }
+}
+
+// Both rules give the report.
+fn assert_report(rt: &(impl Abort + AllocGlobal), puzzle: &Puzzle, guesses: u32, expected: &str) {
+    for pick in [Pick::First, Pick::Most] {
+        assert_report_by(rt, puzzle, guesses, pick, expected);
     }
 }
 
@@ -201,28 +214,81 @@ fn a_search_goes_on_from_lines_and_trials(rt: HostRuntime) -> Result<(), Fail> {
     Ok(())
 }
 
-// A report on permutations with a limit on guesses is made with ample memory.
-fn assert_permutations(rt: &(impl Abort + AllocGlobal), guesses: u32) {
-    match permutations(rt.alloc()) {
-        Some(puzzle) => assert!(rt; report(rt.alloc(), &puzzle, guesses).is_ok()),
-        None => assert!(rt; false),
+// Two switches, one in the corner above and one a cell above and left of the corner below: the rows and columns between them are settled by lines.
+fn twin(alloc: Global) -> Option<Puzzle> {
+    let none: &[u16] = &[];
+    let one: &[u16] = &[1];
+    let five: &[u16] = &[5];
+    let rows: [&[u16]; 8] = [one, one, none, five, five, none, one, one];
+    let columns: [&[u16]; 5] = [&[1, 2], &[1, 2], &[2, 1], &[2], &[2, 1]];
+    puzzle_of(alloc, &rows, &columns)
+}
+
+// Each rule guesses three times. The switch that is guessed last is the one that turns: the lower one with the first unknown cell, which lies in the
+// upper one, and the upper one with the cell that has three known cells beside it, the first of the lower one.
+#[test]
+fn rules_guess_different_cells(rt: HostRuntime) -> Result<(), Fail> {
+    let Some(puzzle) = twin(rt.alloc()) else {
+        assert!(rt; false);
+        return Ok(());
+    };
+    let cut = "search 32 32 2 unsettled #.... .#... ..... ##### ##### ..... ..#.. ....#";
+    let lower =
+        "search 32 32 3 several #.... .#... ..... ##### ##### ..... ..#.. ....# #.... .#... ..... ##### ##### ..... ....# ..#..";
+    let upper =
+        "search 32 32 3 several #.... .#... ..... ##### ##### ..... ..#.. ....# .#... #.... ..... ##### ##### ..... ..#.. ....#";
+    for (guesses, pick, expected) in [
+        (2, Pick::First, cut),
+        (2, Pick::Most, cut),
+        (3, Pick::First, lower),
+        (3, Pick::Most, upper),
+        (1000, Pick::First, lower),
+        (1000, Pick::Most, upper),
+    ] {
+        assert_report_by(&rt, &puzzle, guesses, pick, expected);
     }
-}
-
-#[test]
-fn report_growths_with_0(rt: HostRuntime) -> Result<(), Fail> {
-    assert_permutations(&rt, 0);
     Ok(())
 }
 
 #[test]
-fn report_growths_with_2(rt: HostRuntime) -> Result<(), Fail> {
-    assert_permutations(&rt, 2);
+fn rules_pick_different_cells(rt: HostRuntime) -> Result<(), Fail> {
+    let alloc = rt.alloc();
+    let puzzle = twin(alloc).ok_or("puzzle")?;
+    let mut grid = Grid::unknown(alloc, puzzle.width(), puzzle.height())?;
+    assert!(rt; Solver::new(alloc, &puzzle)?.close_lines(&mut grid));
+    assert_eq!(rt; next_guess(&grid, Pick::First), Some((0, 0)));
+    assert_eq!(rt; next_guess(&grid, Pick::Most), Some((2, 6)));
+    Ok(())
+}
+
+// In a grid of one cell all neighbours are outside. In an unknown grid a corner has two of them, and of four corners the first is guessed.
+#[test]
+fn cells_outside_count_as_known(rt: HostRuntime) -> Result<(), Fail> {
+    let alloc = rt.alloc();
+    for (width, height, expected) in [
+        (1, 1, (0, 0)),
+        (3, 3, (0, 0)),
+        (1, 3, (0, 0)),
+        (3, 1, (0, 0)),
+    ] {
+        let grid = Grid::unknown(alloc, width, height)?;
+        assert_eq!(rt; next_guess(&grid, Pick::Most), Some(expected));
+    }
+    let mut grid = Grid::unknown(alloc, 3, 3)?;
+    grid.set(0, 0, Cell::Blank);
+    assert_eq!(rt; next_guess(&grid, Pick::Most), Some((1, 0)));
+    grid.set(1, 2, Cell::Filled);
+    assert_eq!(rt; next_guess(&grid, Pick::Most), Some((0, 2)));
+    assert_eq!(rt; next_guess(&grid, Pick::First), Some((1, 0)));
     Ok(())
 }
 
 #[test]
-fn report_growths_with_3(rt: HostRuntime) -> Result<(), Fail> {
-    assert_permutations(&rt, 3);
+fn full_grids_have_no_next_guess(rt: HostRuntime) -> Result<(), Fail> {
+    let mut grid = Grid::unknown(rt.alloc(), 1, 1)?;
+    grid.set(0, 0, Cell::Filled);
+    for pick in [Pick::First, Pick::Most] {
+        assert_eq!(rt; next_guess(&grid, pick), None);
+    }
     Ok(())
 }

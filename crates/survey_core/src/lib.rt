@@ -51,6 +51,8 @@ mod tests_refusals;
 #[cfg(test)]
 mod tests_refused;
 #[cfg(test)]
+mod tests_rules;
+#[cfg(test)]
 mod tests_samples;
 #[cfg(test)]
 mod tests_sleep;

@@ -34,7 +34,8 @@ impl Readings {
     {
         match read_entry(alloc, entry) {
             Ok(puzzle) => {
-                self.jobs.push(Job::new(number, puzzle, settings.guesses, settings.pick))?;
+                self.jobs
+                    .push(Job::new(number, puzzle, settings.guesses, settings.pick))?;
                 self.faults.push(None)?;
             }
             Err(EntryFault::Text(TextFault::NoMemory)) => return Err(NoMemory),

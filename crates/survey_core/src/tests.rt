@@ -11,7 +11,8 @@ use std::sync::atomic::{AtomicU32, Ordering};
 use std::test::Fail;
 use std::thread::Threads;
 
-fn assert_survey(
+/// Asserts what a survey of a collection answers and prints.
+pub(crate) fn assert_survey(
     rt: &(impl Threads + Wait + Sync + Abort + AllocGlobal),
     collection: &[u8],
     settings: &Settings,
