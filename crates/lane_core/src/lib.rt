@@ -39,4 +39,6 @@ mod tests_refusals;
 #[cfg(test)]
 mod tests_refused;
 #[cfg(test)]
+mod tests_refused_lanes;
+#[cfg(test)]
 mod tests_scripts;

@@ -96,8 +96,25 @@ impl Both {
             Call::Send(number) => sent(self.front.send(job(alloc, number)?)),
             Call::Finish => finished(self.front.finish()),
             Call::Take => taken(self.front.take()),
-            Call::Work => Reply::Stepped(self.back.step(alloc, &OpenGate)),
+            Call::Work => Reply::Stepped(self.step(alloc)),
         })
+    }
+
+    /// Sends a job. Whether it was accepted.
+    pub(crate) fn send(&mut self, job: Job) -> bool {
+        self.front.send(job).is_ok()
+    }
+
+    pub(crate) fn take(&mut self) -> Option<Answer> {
+        self.front.take()
+    }
+
+    pub(crate) fn step(&mut self, alloc: Global) -> Step {
+        self.back.step(alloc, &OpenGate)
+    }
+
+    pub(crate) fn finish(&mut self) -> bool {
+        self.front.finish().is_ok()
     }
 
     pub(crate) fn settle(self) -> Result<(), (SettleFault, Both)> {

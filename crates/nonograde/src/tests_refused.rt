@@ -1,15 +1,18 @@
 //! Calls whose growths of memory are refused, each in turn, and texts that are too long with every growth refused.
 
+use crate::command::{CommandFault, Request};
 use crate::converting::{ConvertFault, convert};
 use crate::reports::{lines_report, solve_report};
 use crate::stop::{Stop, stop_text};
 use crate::tests_refusals::{Told, assert_heeded, assert_swept, refuse, told_if, was_refused};
 use crate::tests_samples::{DEMO, DEMO_GRID, DEMO_NIN, MEETS, PAIR, TWO, joined, repeated};
+use crate::tests_words::asked;
+use clap::error::ErrorKind;
 use grid_core::NoMemory;
 use puzzle_text::{EntryFault, Format, LONGEST_PUZZLE, TextFault};
 use solve_core::Pick;
 use std::test::Fail;
-use survey_core::RunFault;
+use survey_core::{RunFault, Settings};
 
 /// What a report told, whose text is to be this one.
 fn told_of_text(answer: Result<Vec<u8>, EntryFault>, wanted: &[u8]) -> Told {
@@ -126,6 +129,40 @@ fn stops_are_told_or_refused(rt: HostRuntime) {
     for (stop, wanted) in &stops {
         assert_swept(&rt, alloc, || told_of_stop(stop_text(alloc, stop), wanted));
     }
+}
+
+/// What words told that are to ask for this survey of two files.
+fn told_of_survey(answer: Result<Request, CommandFault>, wanted: Settings) -> Told {
+    match answer {
+        Ok(Request::Survey(settings, files)) => told_if(settings == wanted && files.len() == 2),
+        Err(CommandFault::NoMemory) => Told::NoMemory,
+        _ => Told::Other,
+    }
+}
+
+/// What words told that are to be refused for a value.
+fn told_of_bad_value(answer: Result<Request, CommandFault>) -> Told {
+    match answer {
+        Err(CommandFault::Words(error)) => told_if(error.kind() == ErrorKind::ValueValidation),
+        Err(CommandFault::NoMemory) => Told::NoMemory,
+        Ok(_) => Told::Other,
+    }
+}
+
+#[test]
+fn words_are_parsed_or_refused(rt: HostRuntime) {
+    let alloc = rt.alloc();
+    let wanted = Settings {
+        lanes: 3,
+        ring: 1,
+        guesses: 7,
+        pick: Pick::Most,
+        show: true,
+    };
+    let line = "survey --lanes 3 --ring 1 --guesses 7 --pick most --show a.mk b.nin";
+    assert_swept(&rt, alloc, || told_of_survey(asked(alloc, line), wanted));
+    let line = "survey --lanes 17";
+    assert_swept(&rt, alloc, || told_of_bad_value(asked(alloc, line)));
 }
 
 /// What is said of a text that is too long.

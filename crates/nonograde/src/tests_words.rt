@@ -48,7 +48,7 @@ fn words_of(alloc: Global, line: &str) -> Result<Vec<String>, AllocError> {
 }
 
 /// What a command line asks for.
-fn asked(alloc: Global, line: &str) -> Result<Request, CommandFault> {
+pub(crate) fn asked(alloc: Global, line: &str) -> Result<Request, CommandFault> {
     parse_words(
         alloc,
         words_of(alloc, line).map_err(|_| CommandFault::NoMemory)?,

@@ -1,7 +1,7 @@
 //! Surveys by both rules for guesses.
 
 use super::tests::assert_survey;
-use super::tests_samples::{TEN, TEN_SURVEY, TWIN, settings};
+use super::tests_samples::{TEN, TEN_SURVEY, TWIN};
 use super::*;
 use solve_core::Pick;
 
@@ -19,6 +19,17 @@ const CUT_SHORT: &str = "1 5x8 unsettled search 32 32 2 absent twin.mk\n\
     #....\n.#...\n.....\n#####\n#####\n.....\n..#..\n....#\n\n\
     entries 1 refused 0 none 0 one 0 several 0 unsettled 1 line 0 trials 0 search 1\n";
 
+/// Settings with rings of 8, the others drawn into their ranges.
+fn settings(lanes: u16, guesses: u32, pick: Pick, show: bool) -> Settings {
+    Settings {
+        lanes: lanes.clamp(1, MOST_LANES),
+        ring: 8,
+        guesses: guesses.min(1000),
+        pick,
+        show,
+    }
+}
+
 #[test]
 fn rules_find_different_solutions(rt: HostRuntime) {
     for lanes in [1u16, 3] {
@@ -28,11 +39,7 @@ fn rules_find_different_solutions(rt: HostRuntime) {
             (1000, Pick::First, LOWER_TURNED),
             (1000, Pick::Most, UPPER_TURNED),
         ] {
-            let settings = Settings {
-                guesses,
-                pick,
-                ..settings(lanes, 8, true)
-            };
+            let settings = settings(lanes, guesses, pick, true);
             assert_survey(&rt, TWIN.as_bytes(), &settings, Ok(()), text);
         }
     }
@@ -41,10 +48,7 @@ fn rules_find_different_solutions(rt: HostRuntime) {
 #[test]
 fn ten_entries_are_alike_by_both_rules(rt: HostRuntime) {
     for lanes in [1u16, 3] {
-        let settings = Settings {
-            pick: Pick::Most,
-            ..settings(lanes, 8, false)
-        };
+        let settings = settings(lanes, 1000, Pick::Most, false);
         assert_survey(&rt, TEN.as_bytes(), &settings, Ok(()), TEN_SURVEY);
     }
 }
