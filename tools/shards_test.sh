@@ -100,7 +100,7 @@ END
 }
 
 # A collection of 25,000 entries, against direct surveys of its parts.
-settings=(--guesses 2 --pick neighbours)
+settings=(--guesses 2 --pick most)
 {
     cat "$puzzles"
     printf '@ %s\n' heart.txt bare.non wide.mk crossed.nin long.nin
