@@ -33,6 +33,11 @@ compiles() {
     echo '#include <stdio.h>' | cc -x c -c -o /dev/null -
 }
 
+# Whether there is GNU parallel.
+spreads() {
+    parallel --version | grep -q '^GNU parallel'
+}
+
 # Runs a step, and adds what its last line counts. A step that fails ends the gate.
 step() {
     local status counts
@@ -53,6 +58,8 @@ step() {
 }
 
 need compiles gcc libc6-dev
+need spreads parallel
 step rt ci
 step tools/sweep.sh
+step tools/shards_test.sh
 finish 0
