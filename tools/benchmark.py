@@ -1,7 +1,7 @@
 #!/usr/bin/env python3
 """Times the built program on puzzles that it makes itself, from a fixed seed, and prints Markdown tables.
 
-    tools/benchmark.py crates/nonograde/out/nonograde [solve] [trials] [survey] [lanes] [texts]
+    tools/benchmark.py crates/nonograde/out/nonograde [solve] [trials] [survey] [lanes] [rules] [texts]
 
 Each figure is the least wall time of three runs of the program as a whole (start, reading, solving, printing), or that of one run where it takes
 over a second, and, where it says so, the greatest peak memory of a process. Nothing here is part of the product or of its gate.
@@ -181,6 +181,25 @@ def lanes(program, _folder):
     table(["lanes", "time", "peak memory", "last line"], rows)
 
 
+def searched(program, text, rule):
+    """The guesses spent on each puzzle that needs a search, by a rule, or None if it stays unsettled."""
+    _, _, out = run([program, "survey", "--guesses", "1000", "--pick", rule], text, 1)
+    entries = [line.split() for line in out.decode().splitlines()[:-1]]
+    return [None if words[2] == "unsettled" else int(words[6]) for words in entries if words[3] == "search"]
+
+
+def rules(program, _folder):
+    kinds = [("noise", 2_000, 10, 0), ("noise", 2_000, 15, 0), ("noise", 1_000, 20, 0), ("rough", 2_000, 30, 1), ("rough", 2_000, 40, 1), ("rough", 500, 50, 1)]
+    rows = []
+    for name, count, side, rounds in kinds:
+        text = collection(count, side, side, 50, rounds)
+        first, most = searched(program, text, "first"), searched(program, text, "most")
+        both = [(a, b) for a, b in zip(first, most) if a is not None and b is not None]
+        rows.append([f"{count:,} {name}, {side} by {side}", len(first), f"{first.count(None)} and {most.count(None)}",
+                     f"{sum(a for a, _ in both):,} and {sum(b for _, b in both):,}", f"{sum(b < a for a, b in both)} and {sum(b > a for a, b in both)}"])
+    table(["pictures", "that need a search", "unsettled by `first` and by `most`", "guesses of the others by `first` and by `most`", "fewer and more by `most`"], rows)
+
+
 def texts(program, folder):
     size = 1_048_576
     shapes = [("blank lines", b"\n" * size), ("one line of spaces", b" " * size), ("one line of digits", b"1" * size),
@@ -200,7 +219,7 @@ def texts(program, folder):
 
 def main():
     program = os.path.abspath(sys.argv[1])
-    parts = {"solve": solve, "trials": trials, "survey": survey, "lanes": lanes, "texts": texts}
+    parts = {"solve": solve, "trials": trials, "survey": survey, "lanes": lanes, "rules": rules, "texts": texts}
     chosen = sys.argv[2:] or list(parts)
     print(f"{time.strftime('%Y-%m-%d')}, {os.cpu_count()} cores\n")
     with tempfile.TemporaryDirectory() as folder:
