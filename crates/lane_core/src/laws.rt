@@ -1,4 +1,4 @@
-//! Laws of lanes. The first two are over every list of events from the opening.
+//! Laws of lanes. The first two are over every list of events from the opening, and the last one tells the limits.
 
 ghost use Rattle.std.specs.Prelude.{◌≡◌, ℕ, List, length, take, true};
 ghost use mathlib.Core.List.{IsPrefix};
@@ -8,6 +8,10 @@ ghost use Rattle.lane_core.specs.Lane.{Lane, Event, Run, opening, IsAnswered, Is
 ghost use Rattle.lane_core.specs.Ends.{front_lists, back_lists};
 ghost use Rattle.lane_core.specs.declared.fronts.LaneFront.{LaneFront};
 ghost use Rattle.lane_core.specs.declared.backs.LaneBack.{LaneBack};
+ghost use Rattle.lane_core.specs.declared.jobs.TheConstants.{MOST_GUESSES};
+ghost use Rattle.lane_core.specs.declared.opening.TheConstants.{LARGEST_RING};
+ghost use Rattle.lane_core.specs.declared.batches.TheConstants.{LARGEST_BATCH};
+ghost use Rattle.lane_core.specs.declared.dealing.TheConstants.{MOST_TAKEN};
 
 /// What was put and what is held answers the jobs that were taken, place by place. So what was received answers the first of the jobs that were sent. No message
 /// follows the finish.
@@ -32,4 +36,12 @@ pub fn backs_are_answered()
 /// Each collector's end that there is keeps this: no message follows the finish in what it sent.
 pub fn fronts_end_with_the_finish()
     ensures { (front : LaneFront) → finish_is_last (front_lists front).sent ≡ true }
+{}
+
+/// The limits on jobs, on lanes and on turns at them are these numbers.
+pub fn limits_are_numbers()
+    ensures guesses { MOST_GUESSES ≡ 1000000 }
+    ensures ring { LARGEST_RING ≡ 64 }
+    ensures batch { LARGEST_BATCH ≡ 10001 }
+    ensures taken { MOST_TAKEN ≡ 64 }
 {}

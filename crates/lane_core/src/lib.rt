@@ -35,6 +35,8 @@ pub use steps::Step;
 #[cfg(test)]
 mod tests;
 #[cfg(test)]
+mod tests_limits;
+#[cfg(test)]
 mod tests_refusals;
 #[cfg(test)]
 mod tests_refused;

@@ -1,7 +1,8 @@
 //! Laws of the formats, each the contract of a function that does nothing.
 
-ghost use Rattle.std.specs.Prelude.{ℕ, ◌≤◌};
+ghost use Rattle.std.specs.Prelude.{ℕ, ◌≡◌, ◌≤◌};
 ghost use Rattle.puzzle_text.specs.Laws.{AmbiguousIsReadOtherwise, GreaterLimitKeeps, MkIsReadBack, NinIsReadBack, NonIsReadBack, WrittenIsShort};
+ghost use Rattle.puzzle_text.specs.declared.limits.TheConstants.{LONGEST_COLLECTION, LONGEST_PUZZLE, MOST_ENTRIES};
 
 use grid_core::LONGEST_SIDE;
 
@@ -40,4 +41,11 @@ pub fn greater_limit_keeps()
 /// or `BadNumber`.
 pub fn longest_side_keeps_128()
     ensures { GreaterLimitKeeps 128 LONGEST_SIDE }
+{}
+
+/// The limits on puzzles' texts and on collections are these numbers.
+pub fn limits_are_numbers()
+    ensures puzzle { LONGEST_PUZZLE ≡ 1048576 }
+    ensures collection { LONGEST_COLLECTION ≡ 16777216 }
+    ensures entries { MOST_ENTRIES ≡ 10000 }
 {}

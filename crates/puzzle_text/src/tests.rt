@@ -267,18 +267,38 @@ fn sides_up_to_256(rt: HostRuntime) -> Result<(), Fail> {
 }
 
 #[test]
-fn long_texts(rt: HostRuntime) -> Result<(), Fail> {
-    let feeds = repeated(rt.alloc(), b"", b"\n", LONGEST_PUZZLE)?;
-    let more = repeated(rt.alloc(), b"", b"\n", LONGEST_PUZZLE + 1)?;
-    let front = b"width 1\nheight 1\nrows\n1\ncolumns\n1\ntitle ";
-    let title = repeated(rt.alloc(), front, b"a", 65_537)?;
-    let front = b"width 1\nheight 1\nrows\n1\ncolumns\n1\ngoal ";
-    let goal = repeated(rt.alloc(), front, b"1", 65_537)?;
-    let rows: [(&[u8], &[u8], &[u8]); 6] = [
+fn texts_up_to_1048576_bytes(rt: HostRuntime) -> Result<(), Fail> {
+    let feeds = repeated(rt.alloc(), b"", b"\n", 1_048_576)?;
+    let more = repeated(rt.alloc(), b"", b"\n", 1_048_577)?;
+    let front = b"1 1\n1\n#\n1\n";
+    let most = repeated(rt.alloc(), front, b" ", 1_048_566)?;
+    let over = repeated(rt.alloc(), front, b" ", 1_048_567)?;
+    let rows: [(&[u8], &[u8], &[u8]); 8] = [
         (b".non", &more, b"TooLong"),
         (b".mk", &more, b"TooLong"),
         (b".nin", &more, b"TooLong"),
+        (b".non", &feeds, b"NoSize"),
+        (b".mk", &feeds, b"NoSize"),
         (b".nin", &feeds, b"NoSize"),
+        (b".mk", &most, ONE),
+        (b".mk", &over, b"TooLong"),
+    ];
+    assert!(rt; all_said(rt.alloc(), &rows));
+    Ok(())
+}
+
+#[test]
+fn long_texts(rt: HostRuntime) -> Result<(), Fail> {
+    let front = b"width 1\nheight 1\nrows\n1\ncolumns\n1\ntitle ";
+    let fits = repeated(rt.alloc(), front, b"a", 65_536)?;
+    let title = repeated(rt.alloc(), front, b"a", 65_537)?;
+    let mut written = repeated(rt.alloc(), b"title \"", b"a", 65_536)?;
+    written.extend_from_slice(b"\"\n").ok().ok_or("memory")?;
+    written.extend_from_slice(ONE).ok().ok_or("memory")?;
+    let front = b"width 1\nheight 1\nrows\n1\ncolumns\n1\ngoal ";
+    let goal = repeated(rt.alloc(), front, b"1", 65_537)?;
+    let rows: [(&[u8], &[u8], &[u8]); 3] = [
+        (b".non", &fits, &written),
         (b".non", &title, b"BadLine:7"),
         (b".non", &goal, b"BadGoal:7"),
     ];
@@ -317,10 +337,11 @@ fn collections(rt: HostRuntime) -> Result<(), Fail> {
 
 #[test]
 fn refused_collections(rt: HostRuntime) -> Result<(), Fail> {
-    let most = repeated(rt.alloc(), b"", b"@ a.mk\n", MOST_ENTRIES)?;
-    let more = repeated(rt.alloc(), b"", b"@ a.mk\n", MOST_ENTRIES + 1)?;
-    let feeds = repeated(rt.alloc(), b"", b"\n", LONGEST_COLLECTION + 1)?;
-    let rows: [(&[u8], Option<CollectionFault>); 10] = [
+    let most = repeated(rt.alloc(), b"", b"@ a.mk\n", 10_000)?;
+    let more = repeated(rt.alloc(), b"", b"@ a.mk\n", 10_001)?;
+    let feeds = repeated(rt.alloc(), b"", b"\n", 16_777_216)?;
+    let longer = repeated(rt.alloc(), b"", b"\n", 16_777_217)?;
+    let rows: [(&[u8], Option<CollectionFault>); 11] = [
         (b"", None),
         (b"x\n", Some(CollectionFault::Stray(1))),
         (b"x\n@ a.mk\n", Some(CollectionFault::Stray(1))),
@@ -330,7 +351,8 @@ fn refused_collections(rt: HostRuntime) -> Result<(), Fail> {
         (b"@ a.mk\n@\rb\n", None),
         (&most, None),
         (&more, Some(CollectionFault::TooMany)),
-        (&feeds, Some(CollectionFault::TooLong)),
+        (&feeds, None),
+        (&longer, Some(CollectionFault::TooLong)),
     ];
     for (text, fault) in &rows {
         assert_eq!(rt; entries(rt.alloc(), text).err(), *fault);

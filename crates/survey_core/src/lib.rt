@@ -11,6 +11,7 @@ mod goals;
 mod grading;
 mod job_order;
 mod lanes;
+pub mod laws;
 mod listed;
 mod lists;
 mod names;

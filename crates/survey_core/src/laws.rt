@@ -1,0 +1,12 @@
+//! Laws of surveys, each the contract of a function that does nothing.
+
+ghost use Rattle.std.specs.Prelude.{◌≡◌};
+ghost use Rattle.survey_core.specs.declared.collecting.TheConstants.{MOST_JOBS};
+ghost use Rattle.survey_core.specs.declared.settings.TheConstants.{LARGEST_RING, MOST_LANES};
+
+/// The limits on surveys are these numbers.
+pub fn limits_are_numbers()
+    ensures lanes { MOST_LANES ≡ 16 }
+    ensures ring { LARGEST_RING ≡ 64 }
+    ensures jobs { MOST_JOBS ≡ 10000 }
+{}
