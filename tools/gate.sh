@@ -55,4 +55,5 @@ step() {
 need compiles gcc libc6-dev
 step rt ci
 step tools/sweep.sh
+step tools/outside.sh
 finish 0
