@@ -266,10 +266,10 @@ word_in_little_room() {
 # Runs the program in ever more room up to so many KiB, and counts it as one case: each run prints this text, or says that memory, or of a survey
 # a thread, was refused, and prints nothing. In the least room the loader can't load the program, which then has not run.
 try_little_room() {
-    local most=$1 prints=$2 room status=0 refused=0 wrong=
+    local most=$1 prints=$2 size status=0 refused=0 wrong=
     shift 2
-    for ((room = least; room < most; room += room / 64)); do
-        memory $room "$@"
+    for ((size = least; size < most; size += size / 40)); do
+        memory $size "$@"
         status=$?
         [ $status != 127 ] || continue
         if [ $status = 0 ]; then
@@ -280,10 +280,10 @@ try_little_room() {
         fi
         [ -z "$wrong" ] || break
     done
-    echo "nonograde $*: in $refused rooms too little"
+    echo "nonograde $*: too little room in $refused runs"
     [ -n "$wrong" ] || [ $refused -gt 0 ] || wrong="none was too little"
     [ -n "$wrong" ] || [ $status = 0 ] || wrong="$most KiB are too little"
-    count "little room $*" "${wrong:+$room KiB: $wrong}"
+    count "little room $*" "${wrong:+$size KiB: $wrong}"
 }
 
 # How a command is run by a user who isn't root, and how the program is limited. Root takes a number that no system gives to a user.
@@ -294,7 +294,7 @@ chmod 755 "$room"
 cd "$room" || exit 1
 cp "$program" nonograde
 chmod 755 nonograde
-least=$(($(stat -c %s nonograde) / 1024 + 1000))
+least=$(($(stat -c %s nonograde) / 1024 + 2000))
 far=$(repeated 1994 ./).//heart.non
 long=$(repeated 4000 n)
 two_lines=$'two\nlines.non'
@@ -384,11 +384,11 @@ else
 fi
 
 # Little room for addresses.
-try_little_room 20000 closed_heart lines heart.non
-try_little_room 20000 solved_heart solve heart.non
-try_little_room 20000 heart_in_mk convert --to mk heart.non
-try_little_room 600000 survey survey
-try_little_room 600000 surveyed_heart survey heart.non
+try_little_room 10000 closed_full lines full.non
+try_little_room 10000 solved_full solve full.non
+try_little_room 10000 written_ones convert --to non ones.non
+try_little_room 100000 survey survey
+try_little_room 100000 shown_full survey --show full.non full.non full.non
 
 echo "$passed passed, $failed failed"
 [ $failed = 0 ] && [ $passed -gt 0 ]
