@@ -286,9 +286,10 @@ try_little_room() {
     count "little room $*" "${wrong:+$size KiB: $wrong}"
 }
 
-# How a command is run by a user who isn't root, and how the program is limited. Root takes a number that no system gives to a user.
+# How a command is run by a user who isn't root, and how the program is limited. Root takes a number that no system gives to a user, and that
+# no other run of this script takes at the same time.
 another=()
-[ "$(id -u)" != 0 ] || another=(setpriv --reuid=61000 --regid=61000 --clear-groups)
+[ "$(id -u)" != 0 ] || another=(setpriv --reuid=$((60600 + $$ % 500)) --regid=61000 --clear-groups)
 limits=()
 chmod 755 "$room"
 cd "$room" || exit 1
