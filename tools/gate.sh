@@ -61,5 +61,6 @@ need compiles gcc libc6-dev
 need spreads parallel
 step rt ci
 step tools/sweep.sh
+step tools/outside.sh
 step tools/shards_test.sh
 finish 0

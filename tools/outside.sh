@@ -1,0 +1,395 @@
+#!/usr/bin/env bash
+# Runs the program where the outside fails it: outputs that are closed, full or no longer read, inputs that can't be read or come slowly, files
+# of many kinds, and limits on threads and on memory. It builds and proves nothing: it runs what `rt ci` left in crates/nonograde/out, or the
+# program that its one argument names. Its last line is `N passed, M failed`.
+#
+# A case says what is outside, what the program is to say on standard error, what it is to print on standard output, and its words.
+#   - It says `-`, nothing, and ends with status 0; or a fault's word, as `nonograde: WORD`, and ends with status 1; or `refused`, some text on
+#     the words, and ends with status 2; or `unsaid`, nothing, since standard error takes nothing, and ends with status 1.
+#   - It prints `-`, nothing; or one of the texts that make_texts makes; or `TEXT:K`, the first K bytes of one.
+# A case fails too if the program ends by a signal or runs for ten seconds.
+set -u
+program=$(realpath "${1:-$(dirname "$0")/../crates/nonograde/out/nonograde}")
+cd "$(dirname "$0")/.."
+top=$PWD
+room=$(mktemp -d)
+trap 'rm -rf "$room"' EXIT
+passed=0 failed=0
+
+# Counts a result, and tells it if it is bad: its name, and what is wrong with it.
+count() {
+    if [ -z "$2" ]; then
+        passed=$((passed + 1))
+    else
+        failed=$((failed + 1))
+        echo "FAILED $1: $2"
+    fi
+}
+
+# Prints a line so many times.
+lines() {
+    local place
+    for ((place = 0; place < $1; place++)); do
+        echo "$2"
+    done
+}
+
+# Prints a text so many times, with no line feeds.
+repeated() {
+    lines "$1" "$2" | tr -d '\n'
+}
+
+# A puzzle in the written form of `.non`: its width, its height, the clue of each row, and the clue of each column.
+non_text() {
+    printf 'width %s\nheight %s\n\nrows\n' "$1" "$2"
+    lines "$2" "$3"
+    printf '\ncolumns\n'
+    lines "$1" "$4"
+}
+
+# The last line of a survey of so many entries, all of them solved by line logic.
+totals() {
+    echo "entries $1 refused 0 none 0 one $1 several 0 unsettled 0 line $1 trials 0 search 0"
+}
+
+# The entry of the heart under this name.
+heart_line() {
+    echo "1 7x6 one line 42 42 0 meets $1"
+}
+
+# Makes the files that the program is to read.
+make_files() {
+    local ones
+    cp "$top/crates/nonograde/stdin" collection
+    cp "$top/puzzles/heart.non" heart.non
+    cp heart.non secret.non
+    chmod 000 secret.non
+    cp heart.non "$two_lines"
+    head -n 4 heart.non >cut.non
+    printf '1 2\n1\n#\n1\n2\n' >flat.mk
+    printf 'x\n' >stray
+    ones=$(repeated 127 1,)1
+    non_text 256 256 "$ones" "$ones" >ones.non
+    non_text 256 256 256 256 >full.non
+    mkdir folder.non
+    mkfifo fifo.non pipe
+    ln -s /dev/zero zeros.non
+    ln -s /dev/zero zeros
+}
+
+# Makes the texts that the program is to print.
+make_texts() {
+    local number picture row
+    cp "$top/crates/nonograde/stdout" survey
+    picture=$(printf '%s\n' .##.##. '#######' '#######' .#####. ..###.. ...#...)
+    printf '%s\n' 'one 42' "$picture" >closed_heart
+    printf '%s\n' '6 7' '2 2' 7 7 5 3 1 '#' 2 4 5 5 5 4 2 >heart_in_mk
+    printf '%s\n' "$(heart_line heart.non)" "$picture" '' >solved_heart
+    printf '%s\n' "$(heart_line fifo.non)" "$picture" '' >solved_fifo
+    printf '%s\n' "$(heart_line "$far")" "$picture" '' >solved_far
+    printf '%s\n' "$(heart_line 'two?lines.non')" "$picture" '' >solved_two_lines
+    printf '%s\n' "$(heart_line heart.non)" "$(totals 1)" >surveyed_heart
+    printf '%s\n' "$(heart_line "$far")" "$(totals 1)" >surveyed_far
+    printf '%s\n' "$(heart_line 'two?lines.non')" "$(totals 1)" >surveyed_two_lines
+    printf '%s\n' '1 refused TooLong zeros.non' '2 refused UnknownFormat zeros' \
+        'entries 2 refused 2 none 0 one 0 several 0 unsettled 0 line 0 trials 0 search 0' >surveyed_zeros
+    cp ones.non written_ones
+    row=$(repeated 256 '#')
+    picture=$(lines 256 "$row")
+    printf '%s\n' 'one 65536' "$picture" >closed_full
+    printf '%s\n' '1 256x256 one line 65536 65536 0 absent full.non' "$picture" '' >solved_full
+    for number in 1 2 3; do
+        printf '%s\n' "$number 256x256 one line 65536 65536 0 absent full.non" "$picture" ''
+    done >shown_full
+    totals 3 >>shown_full
+}
+
+# The program, for ten seconds at most. (The signal of a closed pipe is as a shell usually leaves it, whatever called this script.)
+bounded() {
+    timeout --kill-after=1 10 env --default-signal=PIPE "${limits[@]}" "$room/nonograde" "$@"
+}
+
+# The program with its standard error in `said`.
+run() {
+    bounded "$@" 2>said
+}
+
+# What is outside. Each of these runs the program on its words and gives its status.
+
+ordinary() {
+    run "$@" <collection >printed
+}
+
+output_closed() {
+    run "$@" <collection >&-
+}
+
+output_full() {
+    run "$@" <collection >/dev/full
+}
+
+# Nobody reads the output, from the start.
+output_left() (
+    exec 7<>pipe >pipe 7>&-
+    run "$@" <collection
+)
+
+# The output is read for so many bytes, and then no longer.
+output_left_after() {
+    local count=$1
+    shift
+    run "$@" <collection | head -c "$count" >printed
+    return "${PIPESTATUS[0]}"
+}
+
+errors_closed() {
+    bounded "$@" <collection >printed 2>&-
+}
+
+errors_full() {
+    bounded "$@" <collection >printed 2>/dev/full
+}
+
+input_closed() {
+    run "$@" <&- >printed
+}
+
+input_from() {
+    local file=$1
+    shift
+    run "$@" <"$file" >printed
+}
+
+# The input comes in small pieces, with a pause after each.
+input_slow() {
+    local piece
+    for piece in {1..20}; do
+        dd bs=9 count=1 status=none
+        sleep 0.02
+    done <collection | run "$@" >printed
+}
+
+# A file's bytes are written to fifo.non by a writer that comes after a while, and goes.
+fifo_from() {
+    local status
+    timeout 10 bash -c 'sleep 0.2; cat "$0" >fifo.non' "$1" &
+    shift
+    ordinary "$@"
+    status=$?
+    wait
+    return $status
+}
+
+# The user is another than root.
+by_another() {
+    local limits=("${another[@]}")
+    ordinary "$@"
+}
+
+# A user who has no other process may have so many threads, the first one of the program among them.
+threads() {
+    local limits=("${another[@]}" bash -c 'ulimit -u "$0" && exec "$@"' "$1")
+    shift
+    ordinary "$@"
+}
+
+# The program may have so many KiB of addresses.
+memory() {
+    local limits=(sh -c 'ulimit -v "$0" && exec "$@"' "$1")
+    shift
+    ordinary "$@"
+}
+
+# What is wrong with how the program ended: the status that is wanted, and its own.
+wrong_status() {
+    if [ "$2" = 124 ]; then
+        echo "it ran for ten seconds; "
+    elif [ "$2" -gt 128 ]; then
+        echo "signal $(($2 - 128)); "
+    elif [ "$2" != "$1" ]; then
+        echo "status $2; "
+    fi
+}
+
+# What is wrong with what the program printed: the text that is wanted.
+wrong_print() {
+    local text count
+    IFS=: read -r text count <<<"$1"
+    [ "$text" != - ] || text=/dev/null
+    head -c "${count:-1000000}" "$text" | cmp -s - printed || echo "it printed $(wc -c <printed) bytes, and not $1; "
+}
+
+# What is wrong with what the program said: what is wanted.
+wrong_word() {
+    case "$1" in
+        - | unsaid) [ ! -s said ] ;;
+        refused) [ -s said ] ;;
+        *) cmp -s - said <<<"nonograde: $1" ;;
+    esac || echo "it said $(head -c 100 said); "
+}
+
+# The status with which the program says this.
+status_of() {
+    case "$1" in
+        -) echo 0 ;;
+        refused) echo 2 ;;
+        *) echo 1 ;;
+    esac
+}
+
+# What is wrong with the last run: what it was to say, what it was to print, and its status.
+wrong_with() {
+    echo "$(wrong_status "$(status_of "$1")" "$3")$(wrong_word "$1")$(wrong_print "$2")"
+}
+
+# Runs a case, and counts it.
+try() {
+    local outside=$1 says=$2 prints=$3 words status
+    shift 3
+    words="${*//$'\n'/?}"
+    : >printed
+    : >said
+    ${outside/:/ } "$@"
+    status=$?
+    count "$outside ${words:0:60}" "$(wrong_with "$says" "$prints" $status)"
+}
+
+# The word that the last run may say in little room, by its command.
+word_in_little_room() {
+    if [ "$1" = survey ] && cmp -s - said <<<'nonograde: Thread'; then
+        echo Thread
+    else
+        echo NoMemory
+    fi
+}
+
+# Runs the program in ever more room up to so many KiB, and counts it as one case: each run prints this text, or says that memory, or of a survey
+# a thread, was refused, and prints nothing. In the least room the loader can't load the program, which then has not run.
+try_little_room() {
+    local most=$1 prints=$2 size status=0 refused=0 wrong=
+    shift 2
+    for ((size = least; size < most; size += size / 40)); do
+        memory $size "$@"
+        status=$?
+        [ $status != 127 ] || continue
+        if [ $status = 0 ]; then
+            wrong=$(wrong_with - "$prints" 0)
+        else
+            refused=$((refused + 1))
+            wrong=$(wrong_with "$(word_in_little_room "$1")" - $status)
+        fi
+        [ -z "$wrong" ] || break
+    done
+    echo "nonograde $*: too little room in $refused runs"
+    [ -n "$wrong" ] || [ $refused -gt 0 ] || wrong="none was too little"
+    [ -n "$wrong" ] || [ $status = 0 ] || wrong="$most KiB are too little"
+    count "little room $*" "${wrong:+$size KiB: $wrong}"
+}
+
+# How a command is run by a user who isn't root, and how the program is limited. Root takes a number that no system gives to a user, and that
+# no other run of this script takes at the same time.
+another=()
+[ "$(id -u)" != 0 ] || another=(setpriv --reuid=$((60600 + $$ % 500)) --regid=61000 --clear-groups)
+limits=()
+chmod 755 "$room"
+cd "$room" || exit 1
+cp "$program" nonograde
+chmod 755 nonograde
+least=$(($(stat -c %s nonograde) / 1024 + 2000))
+far=$(repeated 1994 ./).//heart.non
+long=$(repeated 4000 n)
+two_lines=$'two\nlines.non'
+make_files
+make_texts
+
+# Nothing fails but what is asked for.
+try ordinary - survey survey
+try ordinary - surveyed_heart survey heart.non
+try ordinary - closed_heart lines heart.non
+try ordinary - solved_heart solve heart.non
+try ordinary - heart_in_mk convert --to mk heart.non
+try input_from:stray Stray:1 - survey
+try ordinary NoSection - lines cut.non
+try ordinary NoSection - solve cut.non
+try ordinary Ambiguous - convert --to nin flat.mk
+try ordinary refused - lines
+try ordinary refused - lines $'\xff.non'
+
+# The streams of the program.
+for words in survey 'survey heart.non' 'lines heart.non' 'solve heart.non' 'convert --to mk heart.non' --help; do
+    try output_closed Write - $words
+    try output_full Write - $words
+    try output_left Write - $words
+done
+for count in 1 39 4096 100000; do
+    try output_left_after:$count Write shown_full:$count survey --show full.non full.non full.non
+done
+for count in 1 39; do
+    try output_left_after:$count Write closed_full:$count lines full.non
+    try output_left_after:$count Write solved_full:$count solve full.non
+done
+for count in 1 39 4096 50000; do
+    try output_left_after:$count Write written_ones:$count convert --to non ones.non
+done
+try input_closed Read - survey
+try input_closed - closed_heart lines heart.non
+try input_from:folder.non Read - survey
+try input_from:/dev/zero TooLong - survey
+try input_slow - survey survey
+for outside in errors_closed errors_full; do
+    try $outside unsaid - lines nowhere.non
+    try $outside - closed_heart lines heart.non
+done
+
+# Files. One that can't be read is told before anything is printed.
+for words in survey 'survey heart.non' lines solve 'convert --to mk'; do
+    for file in folder.non nowhere.non "$long"; do
+        try ordinary Read - $words "$file"
+    done
+done
+for words in lines solve 'convert --to mk'; do
+    try ordinary TooLong - $words zeros.non
+    try ordinary UnknownFormat - $words zeros
+done
+try ordinary - surveyed_zeros survey zeros.non zeros
+try ordinary - surveyed_far survey "$far"
+try ordinary - closed_heart lines "$far"
+try ordinary - solved_far solve "$far"
+try ordinary - heart_in_mk convert --to mk "$far"
+try ordinary - surveyed_two_lines survey "$two_lines"
+try ordinary - closed_heart lines "$two_lines"
+try ordinary - solved_two_lines solve "$two_lines"
+try ordinary - heart_in_mk convert --to mk "$two_lines"
+try fifo_from:heart.non - solved_fifo solve fifo.non
+try fifo_from:cut.non NoSection - lines fifo.non
+try fifo_from:/dev/null NoSize - convert --to mk fifo.non
+
+# What root is never refused. Other users than root have other processes, so that for them only the first thread is surely refused.
+if "${another[@]}" true; then
+    for words in survey 'survey heart.non' lines solve 'convert --to mk'; do
+        try by_another Read - $words secret.non
+    done
+    try threads:1 Thread - survey
+    try threads:1 - closed_heart lines heart.non
+else
+    echo "left out: an unreadable file and refused threads, since root can't become another user here"
+    another=()
+fi
+if [ ${#another[@]} -gt 0 ]; then
+    for most in 2 3 4; do
+        try threads:$most Thread - survey --lanes 4
+    done
+    try threads:5 - survey survey --lanes 4
+else
+    echo "left out: threads of which only some are refused"
+fi
+
+# Little room for addresses.
+try_little_room 10000 closed_full lines full.non
+try_little_room 10000 solved_full solve full.non
+try_little_room 10000 written_ones convert --to non ones.non
+try_little_room 100000 survey survey
+try_little_room 100000 shown_full survey --show full.non full.non full.non
+
+echo "$passed passed, $failed failed"
+[ $failed = 0 ] && [ $passed -gt 0 ]
