@@ -53,13 +53,25 @@ struct FailingWriter {
     room: usize,
     takes_nothing: bool,
     flush_fails: bool,
+    is_interrupted: bool,
+}
+
+impl FailingWriter {
+    /// What a call that fails says.
+    fn error(&self) -> io::Error {
+        io::Error::from(if self.is_interrupted {
+            ErrorKind::Interrupted
+        } else {
+            ErrorKind::BrokenPipe
+        })
+    }
 }
 
 impl Write for FailingWriter {
     fn write(&mut self, bytes: &[u8]) -> io::Result<usize> {
         let count = self.piece.min(self.room).min(bytes.len());
         if count == 0 && !self.takes_nothing {
-            return Err(io::Error::from(ErrorKind::BrokenPipe));
+            return Err(self.error());
         }
         self.taken.extend_from_slice(&bytes[..count])?;
         self.room -= count;
@@ -68,7 +80,7 @@ impl Write for FailingWriter {
 
     fn flush(&mut self) -> io::Result<()> {
         if self.flush_fails {
-            return Err(io::Error::from(ErrorKind::BrokenPipe));
+            return Err(self.error());
         }
         Ok(())
     }
@@ -88,6 +100,7 @@ fn failing_writer(
         room,
         takes_nothing,
         flush_fails: false,
+        is_interrupted: false,
     })
 }
 
@@ -162,6 +175,20 @@ fn flush_fails_at_the_end(rt: HostRuntime) {
             writer.inner.flush_fails = true;
             assert_write_fails(&rt, collection, lanes, writer, survey.as_bytes());
         }
+    }
+}
+
+#[test]
+fn interrupted_writes_and_flushes_fail(rt: HostRuntime) {
+    let line = b"1 5x10 one line 50 50 0 meets demo.non\n";
+    for lanes in [1u16, 4] {
+        let mut writer = failing_writer(rt.alloc(), 1, line.len(), false);
+        writer.inner.is_interrupted = true;
+        assert_write_fails(&rt, DEMO, lanes, writer, line);
+        let mut writer = failing_writer(rt.alloc(), 3, 1000, false);
+        writer.inner.is_interrupted = true;
+        writer.inner.flush_fails = true;
+        assert_write_fails(&rt, DEMO, lanes, writer, DEMO_SURVEY.as_bytes());
     }
 }
 
