@@ -34,9 +34,9 @@ pub struct Findings {
     pub verdict: Verdict,
     /// What it took.
     pub grade: Grade,
-    /// How many cells are known once the unknown grid is closed under line deduction, from 0 to 16,384; and 0 where that finds a contradiction.
+    /// How many cells are known once the unknown grid is closed under line deduction, from 0 to 65,536; and 0 where that finds a contradiction.
     pub line_known: u32,
-    /// How many cells are known once that grid is closed under trials, from 0 to 16,384; and 0 where either finds a contradiction.
+    /// How many cells are known once that grid is closed under trials, from 0 to 65,536; and 0 where either finds a contradiction.
     pub trial_known: u32,
     /// How many guesses were spent: one for each colour that a guessed cell was given. Never more than the limit.
     pub spent: u32,
