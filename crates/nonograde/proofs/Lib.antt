@@ -1,3 +1,4 @@
 mod FoundLemmas
 mod FullLemmas
 mod LinesLemmas
+mod WordLemmas

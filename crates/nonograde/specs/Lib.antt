@@ -2,3 +2,4 @@ pub mod Command
 pub mod Stop
 pub mod Reports
 pub mod Converting
+pub mod Words

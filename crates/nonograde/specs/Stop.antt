@@ -3,6 +3,8 @@ use Rattle.std.specs.Prelude.{ℕ, List, ◌++◌, codes}
 use Rattle.puzzle_text.specs.Words.{word_of, word_of_collection}
 use Rattle.survey_core.specs.declared.faults.RunFault.{RunFault}
 use Rattle.survey_core.specs.declared.faults.RunFault.TheVariants as run
+use Rattle.nonograde.specs.declared.converting.ConvertFault.{ConvertFault}
+use Rattle.nonograde.specs.declared.converting.ConvertFault.TheVariants as convert
 use Rattle.nonograde.specs.declared.stop.Stop.{Stop}
 use Rattle.nonograde.specs.declared.stop.Stop.TheVariants as stop
 
@@ -26,3 +28,15 @@ stop_word stop.NoMemory = codes "NoMemory"
 -- the line that the program prints where it stops
 abbrev pub stop_line : Stop → List ℕ
 stop_line stop = codes "nonograde: " ++ stop_word stop ++ codes "\n"
+
+-- why the program stops where a text is not converted
+abbrev pub stop_of_convert : ConvertFault → Stop
+stop_of_convert (convert.Entry fault) = stop.Entry fault
+stop_of_convert convert.Ambiguous = stop.Ambiguous
+stop_of_convert convert.NoMemory = stop.NoMemory
+
+-- the file can't be read, or there is no room for its bytes
+abbrev pub IsUnread : Stop → Type 0
+IsUnread stop.Read = Unit {0}
+IsUnread stop.NoMemory = Unit {0}
+IsUnread _ = ⊥

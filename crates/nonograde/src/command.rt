@@ -1,6 +1,11 @@
 //! The command line: its words, and what they ask for.
-ghost use Rattle.std.specs.Prelude.{◌≤◌, IfOk, IfSome};
+ghost use Rattle.std.specs.Prelude.{◌≡◌, ◌≢◌, ◌≤◌, IfOk, IfSome, map, string_bytes, codes};
+ghost use Rattle.clap.specs.Walk.{one_of, rows_of};
+ghost use Rattle.clap.specs.Words.{found_of, kind_of};
+ghost use Rattle.clap.specs.declared.error.kind.ErrorKind.TheVariants.{OutOfMemory};
+ghost use Rattle.nonograde.specs.declared.command.CommandFault.TheVariants.{NoMemory as command_memory, Words as refused_words};
 ghost use Rattle.nonograde.specs.Command.{HasSettingsInRange};
+ghost use Rattle.nonograde.specs.Words.{AreSettingsIn, Asks, IsNumberIn, pick_of_word, text_in, texts_in};
 
 use clap::error::ErrorKind;
 use clap::{Arg, ArgAction, ArgMatches, Command, Error, value_parser};
@@ -36,6 +41,8 @@ pub enum CommandFault {
 }
 
 impl From<Error> for CommandFault {
+    ghost from_gives = { λ error fault. (kind_of error ≡ OutOfMemory → fault ≡ command_memory) × (kind_of error ≢ OutOfMemory → fault ≡ refused_words error) };
+
     fn from(error: Error) -> CommandFault {
         if error.kind() == ErrorKind::OutOfMemory {
             CommandFault::NoMemory
@@ -46,6 +53,8 @@ impl From<Error> for CommandFault {
 }
 
 impl From<NoMemory> for CommandFault {
+    ghost from_gives = { λ _ fault. fault ≡ command_memory };
+
     fn from(_error: NoMemory) -> CommandFault {
         CommandFault::NoMemory
     }
@@ -162,25 +171,35 @@ fn whole_command<'a>(
     Ok(command)
 }
 
-/// The text of an argument.
-fn text_of(alloc: Global, matches: &ArgMatches<'_>, id: &str) -> Result<String, NoMemory> {
-    Ok(String::from_str(alloc, matches.get_str(id).unwrap_or(""))?)
+/// The text of an argument, or the empty one if it has none.
+fn word_of<'a>(matches: &ArgMatches<'a>, id: &str) -> &'a str
+    ensures { result.now ≡ text_in id.now (rows_of (found_of matches.now)) }
+{
+    matches.get_str(id).unwrap_or("")
+}
+
+/// The same, as a value of its own.
+fn text_of(alloc: Global, matches: &ArgMatches<'_>, id: &str) -> Result<String, NoMemory>
+    ensures { IfOk result (λ text. string_bytes text ≡ text_in id.now (rows_of (found_of matches.now))) }
+{
+    Ok(String::from_str(alloc, word_of(matches, id))?)
 }
 
 /// The files that are named.
-fn files_of(alloc: Global, matches: &ArgMatches<'_>) -> Result<Vec<String>, NoMemory> {
+fn files_of(alloc: Global, matches: &ArgMatches<'_>) -> Result<Vec<String>, NoMemory>
+    ensures { IfOk result (λ files. map string_bytes files.items ≡ texts_in (codes "file") (rows_of (found_of matches.now))) }
+{
     let mut files = Vec::new(alloc);
-    if let Some(words) = matches.get_strs("file") {
-        for word in words {
-            files.push(String::from_str(alloc, word)?)?;
-        }
+    for word in matches.get_strs("file").unwrap_or(&[]) {
+        files.push(String::from_str(alloc, word)?)?;
     }
     Ok(files)
 }
 
 /// The guesses that are asked for. `clap` has refused those out of range.
 fn guesses_of(matches: &ArgMatches<'_>) -> u32
-    ensures { result ≤ MOST_GUESSES }
+    ensures range { result ≤ MOST_GUESSES }
+    ensures asked { IsNumberIn 0 MOST_GUESSES (one_of (codes "guesses") (rows_of (found_of matches.now))) result }
 {
     matches
         .get_one::<u32>("guesses")
@@ -189,15 +208,19 @@ fn guesses_of(matches: &ArgMatches<'_>) -> u32
 }
 
 /// The rule for guesses that is asked for. `clap` has refused other words.
-fn pick_of(matches: &ArgMatches<'_>) -> Pick {
-    match matches.get_str("pick") {
-        Some("most") => Pick::Most,
+fn pick_of(matches: &ArgMatches<'_>) -> Pick
+    ensures { result ≡ pick_of_word (text_in (codes "pick") (rows_of (found_of matches.now))) }
+{
+    match word_of(matches, "pick") {
+        "most" => Pick::Most,
         _ => Pick::First,
     }
 }
 
 /// The settings of a survey. `clap` has refused those out of range.
-fn settings_of(matches: &ArgMatches<'_>) -> Settings {
+fn settings_of(matches: &ArgMatches<'_>) -> Settings
+    ensures { AreSettingsIn (rows_of (found_of matches.now)) result }
+{
     let lanes = matches.get_one::<u16>("lanes").unwrap_or(DEFAULT_LANES);
     let ring = matches.get_one::<u16>("ring").unwrap_or(DEFAULT_RING);
     Settings {
@@ -211,9 +234,10 @@ fn settings_of(matches: &ArgMatches<'_>) -> Settings {
 
 /// The conversion that is asked for. `clap` has refused words that name no format.
 fn conversion_of(alloc: Global, matches: &ArgMatches<'_>) -> Result<Option<Request>, CommandFault>
-    ensures { IfOk result (λ asked. IfSome asked HasSettingsInRange) }
+    ensures range { IfOk result (λ asked. IfSome asked HasSettingsInRange) }
+    ensures asked { IfOk result (λ asked. IfSome asked (Asks (codes "convert") (rows_of (found_of matches.now)))) }
 {
-    let Some(format) = Format::of_word(matches.get_str("to").unwrap_or("")) else {
+    let Some(format) = Format::of_word(word_of(matches, "to")) else {
         return Ok(None);
     };
     Ok(Some(Request::Convert(format, text_of(alloc, matches, "file")?)))
@@ -225,7 +249,8 @@ fn request_of(
     name: &str,
     matches: &ArgMatches<'_>,
 ) -> Result<Option<Request>, CommandFault>
-    ensures { IfOk result (λ asked. IfSome asked HasSettingsInRange) }
+    ensures range { IfOk result (λ asked. IfSome asked HasSettingsInRange) }
+    ensures asked { IfOk result (λ asked. IfSome asked (Asks name.now (rows_of (found_of matches.now)))) }
 {
     let request = match name {
         "survey" => Request::Survey(settings_of(matches), files_of(alloc, matches)?),

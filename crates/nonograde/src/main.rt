@@ -24,6 +24,8 @@ fn main(rt: HostRuntime) -> ExitCode {
 }
 
 #[cfg(test)]
+mod tests_edge;
+#[cfg(test)]
 mod tests_files;
 #[cfg(test)]
 mod tests_refusals;

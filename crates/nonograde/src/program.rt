@@ -1,7 +1,11 @@
 //! What the program does with its words, its files and its standard streams.
 
-ghost use Rattle.std.specs.Prelude.{◌≡◌, ◌≤◌};
+ghost use Rattle.std.specs.Prelude.{◌≡◌, ◌≢◌, ◌≤◌, IfErr, OnOk};
+ghost use Rattle.std.specs.Io.KnownBytes.{Appends};
+ghost use Rattle.std.specs.IoError.{error_kind};
 ghost use Rattle.nonograde.specs.Command.{HasSettingsInRange};
+ghost use Rattle.nonograde.specs.Stop.{IsUnread, stop_of_convert};
+ghost use Rattle.nonograde.specs.declared.stop.Stop.TheVariants.{NoMemory as memory_stop};
 
 use crate::command::{CommandFault, Request, parse_words};
 use crate::converting::{ConvertFault, convert};
@@ -12,7 +16,7 @@ use lane_core::{MOST_GUESSES, OpenGate};
 use puzzle_text::{Entry, Format, LONGEST_PUZZLE};
 use solve_core::Pick;
 use std::alloc::Global;
-use std::io::{Read, Write};
+use std::io::{ErrorKind, Read, Write};
 use std::rt::{Env, Files};
 use std::sync::Wait;
 use std::thread::Threads;
@@ -26,12 +30,16 @@ const FILE_LIMIT: u64 = LONGEST_PUZZLE as u64 + 1;
 const NO_MEMORY: &[u8] = b"nonograde: NoMemory\n";
 
 impl From<NoMemory> for Stop {
+    ghost from_gives = { λ _ stop. stop ≡ memory_stop };
+
     fn from(_refused: NoMemory) -> Stop {
         Stop::NoMemory
     }
 }
 
 impl From<ConvertFault> for Stop {
+    ghost from_gives = { λ fault stop. stop ≡ stop_of_convert fault };
+
     fn from(fault: ConvertFault) -> Stop {
         match fault {
             ConvertFault::Entry(fault) => Stop::Entry(fault),
@@ -41,17 +49,37 @@ impl From<ConvertFault> for Stop {
     }
 }
 
-/// Reads a file, or as much of it as shows that it is too long.
-fn read_file<R: Files + AllocGlobal>(rt: &R, path: &str) -> Result<Vec<u8>, Stop> {
-    let mut body = Vec::new(rt.alloc());
-    let outcome = match fs::open(rt, path) {
-        Ok(file) => file.take(FILE_LIMIT).read_to_end(&mut body),
-        Err(error) => Err(error),
-    };
-    match outcome {
+/// Why the program stops where a file gives this error.
+fn stop_of_error(error: &io::Error) -> Stop
+    ensures memory { error_kind error.now ≡ ErrorKind.OutOfMemory → result ≡ Stop.NoMemory }
+    ensures other { error_kind error.now ≢ ErrorKind.OutOfMemory → result ≡ Stop.Read }
+    ensures unread { IsUnread result }
+{
+    if error.kind() == ErrorKind::OutOfMemory {
+        Stop::NoMemory
+    } else {
+        Stop::Read
+    }
+}
+
+/// The first bytes of an open file: all of them, or as many as show that it is too long.
+fn read_front<F: Read + Drop>(alloc: Global, file: F) -> Result<Vec<u8>, Stop>
+    ensures { IfErr result IsUnread }
+{
+    let mut body = Vec::new(alloc);
+    match file.take(FILE_LIMIT).read_to_end(&mut body) {
         Ok(_) => Ok(body),
-        Err(error) if error.kind() == io::ErrorKind::OutOfMemory => Err(Stop::NoMemory),
-        Err(_) => Err(Stop::Read),
+        Err(error) => Err(stop_of_error(&error)),
+    }
+}
+
+/// Reads a file, or as much of it as shows that it is too long.
+fn read_file<R: Files + AllocGlobal>(rt: &R, path: &str) -> Result<Vec<u8>, Stop>
+    ensures { IfErr result IsUnread }
+{
+    match fs::open(rt, path) {
+        Ok(file) => read_front(rt.alloc(), file),
+        Err(error) => Err(stop_of_error(&error)),
     }
 }
 
@@ -81,9 +109,15 @@ fn entries_of<'a>(
     Ok(entries)
 }
 
-/// Prints a text.
-fn print_text<W: Write>(writer: &mut W, text: &[u8]) -> Result<(), Stop> {
-    match writer.write_all(text).and_then(|()| writer.flush()) {
+/// Prints a text, and flushes.
+fn print_text<W: Write>(writer: &mut W, text: &[u8]) -> Result<(), Stop>
+    ensures ok { OnOk result (Appends (W.contents writer.old) (W.contents writer.new) text.now) }
+    ensures write { IfErr result (λ stop. stop ≡ Stop.Write) }
+{
+    if writer.write_all(text).is_err() {
+        return Err(Stop::Write);
+    }
+    match writer.flush() {
         Ok(()) => Ok(()),
         Err(_) => Err(Stop::Write),
     }
@@ -198,9 +232,10 @@ fn report_stop<E: Write>(alloc: Global, errors: &mut E, stop: &Stop) -> u8
 
 /// Says that the words can't be read, and gives the program's status: 1 where a growth was refused, else 2.
 pub fn refuse_words<E: Write>(errors: &mut E, error: &io::Error) -> u8
-    ensures { (1 ≤ result) × (result ≤ 2) }
+    ensures memory { error_kind error.now ≡ ErrorKind.OutOfMemory → result ≡ 1 }
+    ensures other { error_kind error.now ≢ ErrorKind.OutOfMemory → result ≡ 2 }
 {
-    if error.kind() == io::ErrorKind::OutOfMemory {
+    if error.kind() == ErrorKind::OutOfMemory {
         let _ = errors.write_all(NO_MEMORY);
         return 1;
     }

@@ -13,3 +13,4 @@ pub mod Readings
 pub mod Graded
 pub mod Reading
 pub mod Leaving
+pub mod Faults

@@ -3,6 +3,7 @@
 ghost use Rattle.std.specs.Prelude.{◌≡◌, ◌+◌, ◌<◌, ◌≤◌, ◌++◌, [], IfOk, IsOk, map, vec_len, vec_capacity};
 ghost use Rattle.std.specs.VecDeque.{deque_len, deque_capacity};
 ghost use Rattle.lane_core.specs.Answers.{AreAnswersTo};
+ghost use Rattle.survey_core.specs.declared.collecting.CollectFault.TheVariants.{NoMemory as collect_memory, Thread as collect_thread};
 ghost use Rattle.survey_core.specs.Collected.{waiting_jobs, dealt_jobs, complete_jobs, EachAnswered};
 
 use crate::bells::{answers_before_ringing, worker_bells};
@@ -38,12 +39,16 @@ pub enum CollectFault {
 }
 
 impl From<NoMemory> for CollectFault {
+    ghost from_gives = { λ _ fault. fault ≡ collect_memory };
+
     fn from(_refused: NoMemory) -> CollectFault {
         CollectFault::NoMemory
     }
 }
 
 impl From<NoThread> for CollectFault {
+    ghost from_gives = { λ _ fault. fault ≡ collect_thread };
+
     fn from(_refused: NoThread) -> CollectFault {
         CollectFault::Thread
     }

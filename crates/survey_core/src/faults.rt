@@ -1,5 +1,9 @@
 //! Why a survey is not written.
 
+ghost use Rattle.std.specs.Prelude.{◌≡◌};
+ghost use Rattle.survey_core.specs.Faults.{run_fault};
+
+use crate::collecting::CollectFault;
 use puzzle_text::CollectionFault;
 use thiserror::Error;
 
@@ -21,4 +25,15 @@ pub enum RunFault {
     /// The writer failed, or took nothing, after so many bytes of the survey.
     #[error("the writer failed after {0} bytes")]
     Write(u64),
+}
+
+impl From<CollectFault> for RunFault {
+    ghost from_gives = { λ fault run. run ≡ run_fault fault };
+
+    fn from(fault: CollectFault) -> RunFault {
+        match fault {
+            CollectFault::NoMemory => RunFault::NoMemory,
+            CollectFault::Thread => RunFault::Thread,
+        }
+    }
 }

@@ -37,6 +37,7 @@ pub use printing::print_survey;
 pub use settings::{
     DEFAULT_GUESSES, DEFAULT_LANES, DEFAULT_RING, LARGEST_RING, MOST_LANES, Settings,
 };
+pub use streams::write_text;
 pub use surveys::{run_survey, survey_entries};
 
 #[cfg(test)]

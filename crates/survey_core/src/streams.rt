@@ -52,7 +52,7 @@ pub(crate) fn read_collection<R: Read>(
 }
 
 /// Writes the text and flushes. An `Err` has the number of bytes that went out.
-pub(crate) fn write_text<W: Write>(writer: &mut Counted<W>, text: &[u8]) -> Result<(), u64>
+pub fn write_text<W: Write>(writer: &mut Counted<W>, text: &[u8]) -> Result<(), u64>
     requires { fault_count writer.old < 2 ^ 32 - 1 }
     ensures ok { OnOk result (Appends (W.contents writer.old.inner) (W.contents writer.new.inner) text.now) }
     ensures front { IfErr result (λ sent. sent ≤ length text.now) }

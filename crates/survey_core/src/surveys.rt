@@ -9,7 +9,6 @@ ghost use Rattle.survey_core.specs.Reading.{ReadsWithin};
 ghost use Rattle.survey_core.specs.Leaving.{IsErrWrite, IsWrite, Leaves};
 ghost use Rattle.survey_core.specs.Survey.{survey_of, survey_of_entries, survey_of_list};
 
-use crate::collecting::CollectFault;
 use crate::grading::survey_text;
 use crate::streams::{ReadFault, read_collection, write_text};
 use crate::{Counted, RunFault, Settings};
@@ -37,8 +36,7 @@ fn write_survey<H: Threads + Wait + Sync, W: Write, G: Gate + Sync>(
 {
     match survey_text(rt, alloc, entries, settings, gate) {
         Ok(text) => write_text(writer, &text).map_err(RunFault::Write),
-        Err(CollectFault::NoMemory) => Err(RunFault::NoMemory),
-        Err(CollectFault::Thread) => Err(RunFault::Thread),
+        Err(fault) => Err(RunFault::from(fault)),
     }
 }
 

@@ -1,0 +1,83 @@
+-- What the entries of a command line say.
+use Rattle.std.proofs.Common.{◌≡◌, ◌∙◌, ◌≤◌, ◌<◌, ◌^◌, ℕ, Bool, true, false, List, [], Option, Some, None, Result, Ok, Err, refl, sym, ap, arith, option_map, codes}
+use Rattle.std.specs.Prelude.{unwrap_or}
+use Rattle.std.specs.Borrow.{Bor}
+use Rattle.std.specs.Str.{bytes_eq}
+use Rattle.std.specs.Str.Parse.{ExplainsUnsignedError, HasUnsignedDigitsIfOk, IsNumeral, ParsesUnsigned, digits_value, without_leading_plus}
+use Rattle.std.specs.declared.num.ParseIntError.{ParseIntError}
+use Rattle.std.proofs.lemmas.Slice.Eq.{bytes_eq-Decides}
+use Rattle.std.proofs.Common.{inl, inr, length, map, max, min, take}
+use Rattle.std.proofs.Math.Seq.{take-length}
+use Rattle.std.proofs.lemmas.Bool.{cases_Bool}
+use Rattle.clap.specs.Matches.{ReadsOne, first_value, matched_of, one_text, raw_values}
+use Rattle.clap.specs.Walk.{Row, Text, all_of, first_of, one_of, rows_of}
+use Rattle.clap.specs.declared.parser.matches.Found.{Found}
+use Rattle.clap.proofs.WalkLemmas.{first_value-rows, one_text-rows, raw_values-rows}
+use Rattle.nonograde.specs.Words.{IsNumberIn, pick_of_word, text_in, texts_in}
+use Rattle.solve_core.specs.declared.picks.Pick.TheVariants.{First, Most}
+
+-- what an unsigned number's `from_str` gives
+abbrev Gives : ℕ → Text → Result ℕ ParseIntError → Type 0
+Gives bits text r = ParsesUnsigned bits 10 text r × ExplainsUnsignedError 10 text r × HasUnsignedDigitsIfOk text r
+
+-- what a typed getter read, as a caller takes it
+number_of_text : (bits least most n : ℕ) (text : Option Text) (given : Option ℕ) → ((t : Text) → text ≡ Some t → ReadsOne (Gives bits) t given) → most < 2 ^ bits
+    → ((v : ℕ) → given ≡ Some v → least ≤ v → v ≤ most → n ≡ v) → IsNumberIn least most text n
+number_of_text bits least most n None given reads small kept = tt
+number_of_text bits least most n (Some t) None reads small kept = λ numeral low high. absurd ((reads t refl).1.0 (numeral, omega arith))
+number_of_text bits least most n (Some t) (Some v) reads small kept = λ numeral low high.
+    let is : v ≡ digits_value 10 (without_leading_plus t) = (reads t refl).0.1 in
+    kept v refl (omega arith) (omega arith) ∙ is
+
+-- the same of a command's entry
+pub number_of_entry : (bits least most n : ℕ) (f : Found) (id : Text) (given : Option ℕ) → ((t : Text) → one_text f id ≡ Some t → ReadsOne (Gives bits) t given)
+    → most < 2 ^ bits → ((v : ℕ) → given ≡ Some v → least ≤ v → v ≤ most → n ≡ v) → IsNumberIn least most (one_of id (rows_of f)) n
+number_of_entry bits least most n f id given reads small kept =
+    number_of_text bits least most n (one_of id (rows_of f)) given (λ t is. reads t (one_text-rows f id ∙ is)) small kept
+
+-- the least of a number and a greater one
+pub kept_below : (n v most other : ℕ) (given : Option ℕ) → n ≡ min (unwrap_or given other) most → given ≡ Some v → v ≤ most → n ≡ v
+kept_below n v most other None is same below = cc
+kept_below n v most other (Some w) is same below =
+    let e : w ≡ v = cc in
+    omega arith
+
+-- the same where it is clamped
+pub kept_within : (n v least most other : ℕ) (given : Option ℕ) → n ≡ max least (min (unwrap_or given other) most) → given ≡ Some v → least ≤ v → v ≤ most → n ≡ v
+kept_within n v least most other None is same above below = cc
+kept_within n v least most other (Some w) is same above below =
+    let e : w ≡ v = cc in
+    omega arith
+
+-- the text of an entry
+pub text_of_entry : (f : Found) (id : Text) (given : Option (Bor Text)) (d : Bor Text) → option_map (λ s. s.now) given ≡ first_value f id → d.now ≡ []
+    → (unwrap_or given d).now ≡ text_in id (rows_of f)
+text_of_entry f id None d reads empty = empty ∙ ap (λ o. unwrap_or o []) (reads ∙ first_value-rows f id)
+text_of_entry f id (Some x) d reads empty = ap (λ o. unwrap_or o []) (reads ∙ first_value-rows f id)
+
+-- the rule that a word names
+pub pick_of_most : (word : Text) → word ≡ codes "most" → Most ≡ pick_of_word word
+pick_of_most word is = rw is refl
+
+pub pick_of_other : (word : Text) → (word ≡ codes "most" → ⊥) → First ≡ pick_of_word word
+pick_of_other word other = elim (cases_Bool (bytes_eq word (codes "most"))) [
+  | inl same ↦ absurd (other ((bytes_eq-Decides word (codes "most")).0 same))
+  | inr differs ↦ rw differs refl
+]
+
+-- the texts of an entry
+pub texts_of_entry : (f : Found) (id : Text) (given : Option (Bor (List (Bor Text)))) (d : Bor (List (Bor Text)))
+    → option_map (λ s. map (λ v. v.now) s.now) given ≡ option_map raw_values (matched_of f id) → d.now ≡ []
+    → map (λ v. v.now) (unwrap_or given d).now ≡ texts_in id (rows_of f)
+texts_of_entry f id None d reads empty = ap (map (λ v. v.now)) empty ∙ ap (λ o. unwrap_or o []) (reads ∙ raw_values-rows f id)
+texts_of_entry f id (Some x) d reads empty = ap (λ o. unwrap_or o []) (reads ∙ raw_values-rows f id)
+
+-- what a flag says
+pub flag_of_entry : (f : Found) (id word : Text) (flag value : Bool) → (one_text f id ≡ Some word → flag ≡ value) → one_of id (rows_of f) ≡ Some word → flag ≡ value
+flag_of_entry f id word flag value reads is = reads (one_text-rows f id ∙ is)
+
+-- a list up to its end
+pub take_end : (n : ℕ) (xs : List (Bor Text)) → length xs ≤ n → n ≤ length xs → take n xs ≡ xs
+take_end n xs past within =
+    let e : n ≡ length xs = omega arith in
+    rw e (take-length xs)

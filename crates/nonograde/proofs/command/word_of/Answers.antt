@@ -1,0 +1,10 @@
+use Rattle.std.proofs.Common.{ap, ◌∙◌, refl, List, ℕ}
+use Rattle.std.specs.Borrow.{Bor}
+use Rattle.clap.specs.Words.{found_of}
+use Rattle.nonograde.proofs.WordLemmas.{text_of_entry}
+use Rattle.nonograde.proofs.command.word_of.Goals as goal
+
+pub returns : goal.returns
+returns c =
+    ap (λ (s : Bor (List ℕ)). s.now) c.unwrap_or.ensures
+    ∙ text_of_entry (found_of c.args.matches.now) c.args.id.now c.get_str.result _ c.get_str.ensures refl
