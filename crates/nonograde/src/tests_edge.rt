@@ -75,15 +75,9 @@ fn write_file<R: Files>(rt: &R, name: &str, bytes: &[u8]) -> Result<(), Fail> {
 #[test]
 fn limits_on_guesses_ignored(rt: HostRuntime) -> Result<(), Fail> {
     let alloc = rt.alloc();
-    let holes = joined(
-        alloc,
-        &[
-            b"10 9\n",
-            &repeated(alloc, b"1\n", 10)?,
-            b"#\n",
-            &repeated(alloc, b"1\n", 9)?,
-        ],
-    )?;
+    let rows = repeated(alloc, b"1\n", 10)?;
+    let columns = repeated(alloc, b"1\n", 9)?;
+    let holes = joined(alloc, &[b"10 9\n", &rows, b"#\n", &columns])?;
     write_file(&rt, "edge-two.mk", TWO)?;
     write_file(&rt, "edge-holes.mk", &holes)?;
     let table: [(&str, &[u8]); 4] = [
