@@ -1,7 +1,7 @@
 //! Tests of reports.
 
 use crate::test_puzzles::puzzle_of;
-use crate::{Findings, Grade, Pick, Solver, Verdict, next_guess, report};
+use crate::{Findings, Grade, Pick, Verdict, next_guess, plain, report};
 use grid_core::{Cell, Grid, Puzzle};
 use std::alloc::{AllocError, Global};
 use std::process::Abort;
@@ -255,7 +255,7 @@ fn rules_pick_different_cells(rt: HostRuntime) -> Result<(), Fail> {
     let alloc = rt.alloc();
     let puzzle = twin(alloc).ok_or("puzzle")?;
     let mut grid = Grid::unknown(alloc, puzzle.width(), puzzle.height())?;
-    assert!(rt; Solver::new(alloc, &puzzle)?.close_lines(&mut grid));
+    assert!(rt; plain::close_by_rounds(alloc, &puzzle, &mut grid)?);
     assert_eq!(rt; next_guess(&grid, Pick::First), Some((0, 0)));
     assert_eq!(rt; next_guess(&grid, Pick::Most), Some((2, 6)));
     Ok(())
