@@ -38,7 +38,7 @@ unknown_cells len f b n m either rest = record {
       let at = rest.to i x in (
         omega (arith, at.0, length_line len f b),
         cell_at len f b i at.0
-        ∙ unknown_by (has f i) (has b i) (λ t. neither n i at.1 (either.from i (inl (true_has f i t)))) (λ t. neither n i at.1 (either.from i (inr (true_has b i t)))),
+            ∙ unknown_by (has f i) (has b i) (λ t. neither n i at.1 (either.from i (inl (true_has f i t)))) (λ t. neither n i at.1 (either.from i (inr (true_has b i t)))),
       );
   from = λ i x.
       let within : i < len = omega (arith, x.0, length_line len f b) in
