@@ -1,6 +1,5 @@
 -- What the rule of most known neighbours picks.
-use Rattle.std.proofs.Common.{◌≡◌, ℕ, zero, suc, ◌+◌, ◌<◌, ◌≤◌, ◌≢◌, ◌⊎◌, inl, inr, Bool, true, false, cond, nat_le, List, length, get_or, Option, Some, None, refl, sym, ap, ◌∙◌, subst, arith, true≢false, leb-true, leb-false}
-use Rattle.grid_core.specs.declared.cells.Cell.{Cell}
+use Rattle.std.proofs.Common.{◌≡◌, ℕ, zero, suc, ◌+◌, ◌<◌, ◌≤◌, ◌≢◌, ◌⊎◌, inl, inr, Bool, true, false, cond, nat_le, length, get_or, Option, Some, None, refl, sym, ap, ◌∙◌, subst, arith, true≢false, leb-true, leb-false}
 use Rattle.grid_core.specs.declared.cells.Cell.TheVariants.{Unknown}
 use Rattle.grid_core.specs.Cells.{is_unknown}
 use Rattle.solve_core.specs.declared.picks.Pick.{Pick}

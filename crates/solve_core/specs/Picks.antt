@@ -1,8 +1,8 @@
 -- The rules for the cell of the next guess.
-use Rattle.std.specs.Prelude.{◌≡◌, ℕ, zero, suc, ◌+◌, ◌-◌, ◌%◌, ◌<◌, ◌≤◌, Bool, true, false, ◌||◌, cond, nat_eq, nat_lt, nat_le, List, length, slice_index_or, Option, Some, None, position}
+use Rattle.std.specs.Prelude.{ℕ, zero, suc, ◌+◌, ◌-◌, ◌%◌, Bool, cond, nat_eq, nat_lt, nat_le, List, length, slice_index_or, Option, Some, None}
 use Rattle.grid_core.specs.declared.cells.Cell.{Cell}
 use Rattle.grid_core.specs.declared.cells.Cell.TheVariants.{Unknown}
-use Rattle.grid_core.specs.Cells.{is_known, is_unknown}
+use Rattle.grid_core.specs.Cells.{is_unknown}
 use Rattle.solve_core.specs.declared.picks.Pick.{Pick}
 use Rattle.solve_core.specs.declared.picks.Pick.TheVariants.{First, Most}
 use Rattle.solve_core.specs.Counts.{is_sure}

@@ -1,4 +1,4 @@
-use Rattle.std.proofs.Common.{ap, ◌∙◌, refl, map, List, ℕ, ◌≡◌, take, length, rules}
+use Rattle.std.proofs.Common.{ap, ◌∙◌, refl, map, List, ℕ, ◌≡◌, take}
 use Rattle.std.specs.Borrow.{Bor}
 use Rattle.clap.specs.Words.{found_of}
 use Rattle.nonograde.proofs.WordLemmas.{take_end, texts_of_entry}

@@ -1,4 +1,4 @@
-use Rattle.std.proofs.Common.{◌≡◌, ◌∙◌, ◌*◌, ◌<◌, ◌≤◌, ◌/◌, Some, length, sym, arith}
+use Rattle.std.proofs.Common.{◌≡◌, ◌∙◌, ◌<◌, ◌/◌, Some, sym, arith}
 use Rattle.std.proofs.lemmas.Nat.{div_below}
 use Rattle.solve_core.specs.Picks.{most_known}
 use Rattle.solve_core.proofs.PickLaws.{most_known-IsPick}

@@ -1,4 +1,3 @@
-use Rattle.std.proofs.Common.{ℕ}
 use Rattle.place_sets.specs.Masks.{has}
 use Rattle.solve_core.specs.Counts.{two_of}
 use Rattle.solve_core.proofs.picks.most_in_row.Given as goal

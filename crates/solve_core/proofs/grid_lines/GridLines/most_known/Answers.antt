@@ -1,11 +1,9 @@
-use Rattle.std.proofs.Common.{◌≡◌, ◌∙◌, ◌+◌, ◌-◌, ◌*◌, ◌<◌, ℕ, Bool, [], List, Option, Some, None, length, get_or, nat_eq, ap, sym, refl, subst, arith}
-use Rattle.grid_core.specs.declared.cells.Cell.{Cell}
+use Rattle.std.proofs.Common.{◌≡◌, ◌∙◌, ◌+◌, ◌-◌, ◌*◌, ◌<◌, ℕ, Bool, [], Option, Some, length, get_or, nat_eq, ap, sym, subst, arith}
 use Rattle.grid_core.specs.declared.cells.Cell.TheVariants.{Unknown}
 use Rattle.grid_core.specs.Cells.{is_unknown}
 use Rattle.grid_core.specs.PartialGrid.{PartialGrid}
 use Rattle.place_sets.specs.Masks.{has}
 use Rattle.solve_core.specs.Counts.{is_sure}
-use Rattle.solve_core.specs.GridLines.{cells_of_rows}
 use Rattle.solve_core.specs.Picks.{most_known, sure_neighbours}
 use Rattle.solve_core.proofs.GridLineSteps.{line_read, lines-long}
 use Rattle.solve_core.proofs.PickLaws.{IsFirstMost, least_after, first_most-is, first_most-only}
