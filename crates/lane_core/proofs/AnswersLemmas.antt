@@ -19,7 +19,8 @@ use Rattle.lane_core.specs.Answers.{IsAnswerTo, AreAnswersTo}
 use Rattle.lane_core.specs.declared.jobs.Job.{Job}
 use Rattle.lane_core.specs.declared.answers.Answer.{Answer}
 
-pub IsOutcome-prop : (puzzle : Nonogram) (guesses : ℕ) (pick : Pick) (outcome : Result Findings NoMemory) → IsProp (IsOutcome puzzle guesses pick outcome)
+pub IsOutcome-prop : (puzzle : Nonogram) (guesses : ℕ) (pick : Pick) (outcome : Result Findings NoMemory)
+    → IsProp (IsOutcome puzzle guesses pick outcome)
 IsOutcome-prop puzzle guesses pick (Ok found) = Coded-set the_row.coded _ _
 IsOutcome-prop puzzle guesses pick (Err refused) = Unit-prop
 
@@ -62,7 +63,8 @@ found_is_report puzzle guesses pick outcome found is h =
     ∥∥₁_elim h (Coded-set the_row.coded _ _) (λ o. subst (λ r. IsOutcome puzzle guesses pick r) is o)
 
 -- and so its verdict holds
-pub found_holds : (puzzle : Nonogram) → IsNonogram puzzle → (guesses : ℕ) (pick : Pick) (outcome : Result Findings NoMemory) (found : Findings) →
+pub found_holds : (puzzle : Nonogram) → IsNonogram puzzle
+    → (guesses : ℕ) (pick : Pick) (outcome : Result Findings NoMemory) (found : Findings) →
     outcome ≡ Ok found → ∥ IsOutcome puzzle guesses pick outcome ∥₁ → Holds (picked pick puzzle.width) puzzle guesses found.verdict
 found_holds puzzle lawful guesses pick outcome found is h =
     subst (λ f. Holds (picked pick puzzle.width) puzzle guesses f.verdict) (sym (found_is_report puzzle guesses pick outcome found is h))

@@ -18,7 +18,8 @@ use Rattle.lane_core.proofs.MessagesLemmas.{jobs_of-append, jobs_of-push_finish,
 use Rattle.lane_core.proofs.AnswersLemmas.{AreAnswersTo-push}
 
 pub taken_is_answered : (message : Message) (taken : List Message) (put : List Answer) (held : Option Answer) →
-    IsHeldFor message held → AreAnswersTo (jobs_of taken) (put ++ []) → AreAnswersTo (jobs_of (taken ++ message ∷ [])) (put ++ option_to_list held)
+    IsHeldFor message held → AreAnswersTo (jobs_of taken) (put ++ [])
+    → AreAnswersTo (jobs_of (taken ++ message ∷ [])) (put ++ option_to_list held)
 taken_is_answered (Work job) taken put (Some answer) h all =
     subst (λ js. AreAnswersTo js (put ++ answer ∷ [])) (sym (jobs_of-append taken (Work job ∷ [])))
     (AreAnswersTo-push (jobs_of taken) put job answer (subst (λ l. AreAnswersTo (jobs_of taken) l) (append-nil put) all) h)
@@ -57,7 +58,8 @@ IsLawful-opening capacity = record { answered = tt; taken = ([], refl); received
 IsLawful-happens : (event : Event) (old new : Lane) → IsLawful old → Happens event old new → IsLawful new
 IsLawful-happens (Put_message message) old new l h = record {
   answered = subst IsAnswered (sym h.3) l.answered;
-  taken = subst (λ b. IsPrefix b.taken new.front.sent) (sym h.3) (subst (λ s. IsPrefix old.back.taken s) (sym h.2.sent) (prefix_more old.back.taken old.front.sent _ l.taken));
+  taken = subst (λ b. IsPrefix b.taken new.front.sent) (sym h.3)
+      (subst (λ s. IsPrefix old.back.taken s) (sym h.2.sent) (prefix_more old.back.taken old.front.sent _ l.taken));
   received = subst (λ b. IsPrefix new.front.received b.put) (sym h.3) (subst (λ r. IsPrefix r old.back.put) (sym h.2.received) l.received);
   last = ap finish_is_last h.2.sent ∙ finish_is_last-push old.front.sent message h.0;
 }
@@ -70,7 +72,9 @@ IsLawful-happens (Take_message message) old new l h = record {
 IsLawful-happens (Put_answer answer) old new l h = record {
   answered = PutsAnswer-answered answer old.back new.back h.1 l.answered;
   taken = subst (λ f. IsPrefix new.back.taken f.sent) (sym h.2) (subst (λ t. IsPrefix t old.front.sent) (sym h.1.taken) l.taken);
-  received = subst (λ f. IsPrefix f.received new.back.put) (sym h.2) (subst (λ p. IsPrefix old.front.received p) (sym h.1.put) (prefix_more old.front.received old.back.put _ l.received));
+  received =
+      subst (λ f. IsPrefix f.received new.back.put) (sym h.2)
+      (subst (λ p. IsPrefix old.front.received p) (sym h.1.put) (prefix_more old.front.received old.back.put _ l.received));
   last = ap (λ f. finish_is_last f.sent) h.2 ∙ l.last;
 }
 IsLawful-happens (Receive_answer answer) old new l h = record {
@@ -87,7 +91,8 @@ IsLawful-after (event ∷ events) old new l r = IsLawful-after events r.0 new (I
 pub IsLawful-run : (capacity : ℕ) (events : List Event) (lane : Lane) → Run (opening capacity) events lane → IsLawful lane
 IsLawful-run capacity events lane r = IsLawful-after events (opening capacity) lane (IsLawful-opening capacity) r
 
-pub drained_is_answered : (lane : Lane) → IsLawful lane → IsDrained lane.front lane.back → AreAnswersTo (jobs_of lane.front.sent) lane.front.received
+pub drained_is_answered : (lane : Lane) → IsLawful lane → IsDrained lane.front lane.back
+    → AreAnswersTo (jobs_of lane.front.sent) lane.front.received
 drained_is_answered lane l d =
     subst (λ s. AreAnswersTo (jobs_of s) lane.front.received) d.taken
     (subst (λ a. AreAnswersTo (jobs_of lane.back.taken) a) (append-nil lane.back.put ∙ sym d.received)
@@ -102,7 +107,8 @@ some_is_some held answer h = subst (λ o. IsSome o) (sym h) refl
 
 -- an answer that was held is offered
 pub StepsBeforeFinish-offer_held : (capacity : ℕ) (answer : Answer) (result : Step) (old new : BackLists) →
-    old.held ≡ Some answer → new.taken ≡ old.taken → IsOffered capacity answer result old.put new.put new.held → StepsBeforeFinish capacity result old new
+    old.held ≡ Some answer → new.taken ≡ old.taken → IsOffered capacity answer result old.put new.put new.held
+    → StepsBeforeFinish capacity result old new
 StepsBeforeFinish-offer_held capacity answer Idle old new h t o = absurd o
 StepsBeforeFinish-offer_held capacity answer Done old new h t o = absurd o
 StepsBeforeFinish-offer_held capacity answer Graded old new h t o = inl (answer, record { was_held = h; taken = t; held = o.1; put = o.0 })
@@ -111,14 +117,22 @@ StepsBeforeFinish-offer_held capacity answer Waiting old new h t o =
 
 -- the answer to a job that is taken is offered
 pub StepsBeforeFinish-offer_taken : (capacity : ℕ) (job : Job) (answer : Answer) (result : Step) (old new : BackLists) →
-    old.held ≡ None → new.taken ≡ old.taken ++ Work job ∷ [] → IsAnswerTo job answer → IsOffered capacity answer result old.put new.put new.held → StepsBeforeFinish capacity result old new
+    old.held ≡ None → new.taken ≡ old.taken ++ Work job ∷ [] → IsAnswerTo job answer
+    → IsOffered capacity answer result old.put new.put new.held → StepsBeforeFinish capacity result old new
 StepsBeforeFinish-offer_taken capacity job answer Idle old new h t a o = absurd o
 StepsBeforeFinish-offer_taken capacity job answer Done old new h t a o = absurd o
 StepsBeforeFinish-offer_taken capacity job answer Graded old new h t a o =
     let mid : BackLists = record { taken = new.taken; held = Some answer; put = old.put } in
-    inr (mid, (Work job, record { free = h; taken = t; held = a; put = refl }), (answer, record { was_held = refl; taken = refl; held = o.1; put = o.0 }))
-StepsBeforeFinish-offer_taken capacity job answer Waiting old new h t a o =
-    (inr (Work job, record { free = h; taken = t; held = subst (λ x. IsHeldFor (Work job) x) (sym o.1) a; put = o.0 }), some_is_some new.held answer o.1, subst (λ l. capacity ≤ length l) (sym o.0) o.2)
+    inr (
+      mid,
+      (Work job, record { free = h; taken = t; held = a; put = refl }),
+      (answer, record { was_held = refl; taken = refl; held = o.1; put = o.0 }),
+    )
+StepsBeforeFinish-offer_taken capacity job answer Waiting old new h t a o = (
+  inr (Work job, record { free = h; taken = t; held = subst (λ x. IsHeldFor (Work job) x) (sym o.1) a; put = o.0 }),
+  some_is_some new.held answer o.1,
+  subst (λ l. capacity ≤ length l) (sym o.0) o.2,
+)
 
 -- whether it was put or is held, it comes last
 pub IsOffered-all : (capacity : ℕ) (answer : Answer) (result : Step) (old new : List Answer) (held : Option Answer) →
@@ -129,7 +143,8 @@ IsOffered-all capacity answer Graded old new held o = ap (λ h. new ++ option_to
 IsOffered-all capacity answer Waiting old new held o = ap (λ h. new ++ option_to_list h) o.1 ∙ ap (λ l. l ++ answer ∷ []) o.0
 
 -- the answers of a back that offers the answer to a job that it has taken
-pub offered_is_answered : (capacity : ℕ) (job : Job) (answer : Answer) (result : Step) (old : BackLists) (taken : List Message) (put : List Answer) (held : Option Answer) →
+pub offered_is_answered : (capacity : ℕ) (job : Job) (answer : Answer) (result : Step) (old : BackLists) (taken : List Message)
+    (put : List Answer) (held : Option Answer) →
     old.held ≡ None → taken ≡ old.taken ++ Work job ∷ [] → IsAnswerTo job answer → IsOffered capacity answer result old.put put held →
     IsAnswered old → AreAnswersTo (jobs_of taken) (put ++ option_to_list held)
 offered_is_answered capacity job answer result old taken put held free t a o all =
@@ -137,7 +152,8 @@ offered_is_answered capacity job answer result old taken put held free t a o all
     subst (λ l. AreAnswersTo (jobs_of taken) l) (sym (IsOffered-all capacity answer result old.put put held o))
     (TakesMessage-answered (Work job) old mid (record { free = free; taken = t; held = a; put = refl }) all)
 
-pub taken_as : {A : Type 0} (after before : List A) (popped message : A) → after ≡ before ++ popped ∷ [] → popped ≡ message → after ≡ before ++ message ∷ []
+pub taken_as : {A : Type 0} (after before : List A) (popped message : A) → after ≡ before ++ popped ∷ [] → popped ≡ message
+    → after ≡ before ++ message ∷ []
 taken_as after before popped message e m = e ∙ ap (λ x. before ++ x ∷ []) m
 
 pub nothing_is_held : (held : Option Answer) → held ≡ None → IsHeldFor Finish held

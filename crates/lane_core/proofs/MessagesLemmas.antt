@@ -43,5 +43,6 @@ pub ruleset messages = (jobs_of-append, jobs_of-push_finish, has_finish-push_wor
 pub has_finish-took_finish : (after before : List Message) → after ≡ before ++ Finish ∷ [] → has_finish after ≡ true
 has_finish-took_finish after before e = ap has_finish e ∙ has_finish-push_finish before
 
-pub has_finish-took_work : (after before : List Message) (job : Job) → after ≡ before ++ Work job ∷ [] → has_finish after ≡ has_finish before
+pub has_finish-took_work : (after before : List Message) (job : Job) → after ≡ before ++ Work job ∷ []
+    → has_finish after ≡ has_finish before
 has_finish-took_work after before job e = ap has_finish e ∙ has_finish-push_work before job

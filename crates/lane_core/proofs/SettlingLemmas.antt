@@ -15,9 +15,11 @@ pub first_are_answered : (front : FrontLists) (back : BackLists) (known : List M
     back.taken ++ known ≡ front.sent → front.received ++ waiting ≡ back.put → IsAnswered back →
     AreAnswersTo (take (length front.received) (jobs_of front.sent)) front.received
 first_are_answered front back known waiting messages answers h =
-    subst (λ js. AreAnswersTo (take (length front.received) js) front.received) (sym (jobs_of-append back.taken known) ∙ ap jobs_of messages)
+    subst (λ js. AreAnswersTo (take (length front.received) js) front.received)
+    (sym (jobs_of-append back.taken known) ∙ ap jobs_of messages)
     (AreAnswersTo-front (jobs_of back.taken) (jobs_of known) front.received (waiting ++ option_to_list back.held)
-    (subst (λ l. AreAnswersTo (jobs_of back.taken) l) (ap (λ l. l ++ option_to_list back.held) (sym answers) ∙ append_assoc front.received waiting (option_to_list back.held)) h))
+    (subst (λ l. AreAnswersTo (jobs_of back.taken) l)
+    (ap (λ l. l ++ option_to_list back.held) (sym answers) ∙ append_assoc front.received waiting (option_to_list back.held)) h))
 
 -- the same of what a back keeps
 pub received_is_answered : (front : FrontLists) (back : BackLists) (known : List Message) (waiting : List Answer) →
@@ -25,7 +27,8 @@ pub received_is_answered : (front : FrontLists) (back : BackLists) (known : List
     ∥ AreAnswersTo (jobs_of back.taken) (back.put ++ option_to_list back.held) ∥₁ →
     AreAnswersTo (take (length front.received) (jobs_of front.sent)) front.received
 received_is_answered front back known waiting messages answers h =
-    first_are_answered front back known waiting messages answers (AreAnswersTo-open (jobs_of back.taken) (back.put ++ option_to_list back.held) h)
+    first_are_answered front back known waiting messages answers
+    (AreAnswersTo-open (jobs_of back.taken) (back.put ++ option_to_list back.held) h)
 
 none_of : (held : Option Answer) → is_none held ≡ true → held ≡ None
 none_of None h = refl

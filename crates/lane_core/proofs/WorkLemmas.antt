@@ -11,7 +11,8 @@ use Rattle.lane_core.specs.declared.steps.Step.TheVariants.{Idle, Graded, Waitin
 use Rattle.lane_core.proofs.SettlingLemmas.{nil_of}
 
 one_less : (front : FrontLists) (old mid new : BackLists) (message : Message) (answer : Answer) (known : List Message) →
-    TakesMessage message old mid → PutsAnswer answer mid new → old.taken ++ known ≡ front.sent → 0 < length known → work_left front new < work_left front old
+    TakesMessage message old mid → PutsAnswer answer mid new → old.taken ++ known ≡ front.sent → 0 < length known
+    → work_left front new < work_left front old
 one_less front old mid new message answer known t p fifo some =
     let sent = ap length (sym fifo) ∙ length-append old.taken known in
     let taken = ap length (p.taken ∙ t.taken) ∙ length-append old.taken (message ∷ []) in
@@ -19,7 +20,8 @@ one_less front old mid new message answer known t p fifo some =
     let none' = ap (λ h. length (option_to_list h)) p.held in
     omega arith
 
-one_held_less : (front : FrontLists) (old new : BackLists) (answer : Answer) → PutsAnswer answer old new → work_left front new < work_left front old
+one_held_less : (front : FrontLists) (old new : BackLists) (answer : Answer) → PutsAnswer answer old new
+    → work_left front new < work_left front old
 one_held_less front old new answer p =
     let taken = ap length p.taken in
     let held = ap (λ h. length (option_to_list h)) p.was_held in
@@ -28,7 +30,8 @@ one_held_less front old new answer p =
 
 -- a step that puts an answer leaves less work
 pub Graded-smaller : (capacity : ℕ) (front : FrontLists) (old new : BackLists) (known : List Message) →
-    Steps capacity Graded old new → old.taken ++ known ≡ front.sent → (old.held ≡ None → 0 < length known) → work_left front new < work_left front old
+    Steps capacity Graded old new → old.taken ++ known ≡ front.sent → (old.held ≡ None → 0 < length known)
+    → work_left front new < work_left front old
 Graded-smaller capacity front old new known (inl f) fifo waits = absurd (let no = f.1 in cc)
 Graded-smaller capacity front old new known (inr (_, inl p)) fifo waits = one_held_less front old new p.0 p.1
 Graded-smaller capacity front old new known (inr (_, inr t)) fifo waits =
@@ -36,11 +39,13 @@ Graded-smaller capacity front old new known (inr (_, inr t)) fifo waits =
 
 -- a step that puts none is the last
 pub work_ends : (capacity : ℕ) (result : Step) (front : FrontLists) (old new : BackLists) (known : List Message) →
-    Steps capacity result old new → old.taken ++ known ≡ front.sent → (result ≡ Idle → length known ≡ 0) → ((result ≡ Done) ↔ IsFinished new) → result ≢ Graded →
+    Steps capacity result old new → old.taken ++ known ≡ front.sent → (result ≡ Idle → length known ≡ 0)
+    → ((result ≡ Done) ↔ IsFinished new) → result ≢ Graded →
     IsWorkDone capacity front new
 work_ends capacity result front old new known (inl f) fifo idle done other = inl (done.0 f.1)
 work_ends capacity Idle front old new known (inr s) fifo idle done other =
-    inr (inl (ap (λ b. b.taken) s.1.0 ∙ sym (append-nil old.taken) ∙ ap (λ l. old.taken ++ l) (sym (nil_of known (idle refl))) ∙ fifo, s.1.1))
+    inr (inl
+    (ap (λ b. b.taken) s.1.0 ∙ sym (append-nil old.taken) ∙ ap (λ l. old.taken ++ l) (sym (nil_of known (idle refl))) ∙ fifo, s.1.1))
 work_ends capacity Graded front old new known (inr s) fifo idle done other = absurd (other refl)
 work_ends capacity Waiting front old new known (inr s) fifo idle done other = inr (inr (s.1.1, s.1.2))
 work_ends capacity Done front old new known (inr s) fifo idle done other = inl (done.0 refl)
@@ -48,7 +53,8 @@ work_ends capacity Done front old new known (inr s) fifo idle done other = inl (
 pub Works-one : (capacity : ℕ) (result : Step) (old new : BackLists) → Steps capacity result old new → Works capacity old new
 Works-one capacity result old new s = (result ∷ [], (new, s, refl))
 
-StepRun-append : (capacity : ℕ) (steps more : List Step) (old mid new : BackLists) → StepRun capacity steps old mid → StepRun capacity more mid new → StepRun capacity (steps ++ more) old new
+StepRun-append : (capacity : ℕ) (steps more : List Step) (old mid new : BackLists) → StepRun capacity steps old mid
+    → StepRun capacity more mid new → StepRun capacity (steps ++ more) old new
 StepRun-append capacity [] more old mid new r s = subst (λ b. StepRun capacity more b new) r s
 StepRun-append capacity (step ∷ steps) more old mid new r s = (r.0, r.1, StepRun-append capacity steps more r.0 mid new r.2 s)
 
@@ -69,9 +75,11 @@ pub work_last : (capacity capacity' : ℕ) (result : Step) (front : FrontLists) 
     (result ≡ Idle → length known ≡ 0) → ((result ≡ Done) ↔ IsFinished new) → result ≢ Graded →
     Works capacity old new × IsWorkDone capacity front new
 work_last capacity capacity' result front old old' new known room same s fifo idle done other =
-    let step : Steps capacity result old new = subst (λ c. Steps c result old new) room (subst (λ b. Steps capacity' result b new) same s) in
+    let step : Steps capacity result old new =
+    subst (λ c. Steps c result old new) room (subst (λ b. Steps capacity' result b new) same s) in
     (Works-one capacity result old new step, work_ends capacity result front old new known step fifo idle done other)
 
 -- works that follow others, at a capacity by another name
-pub Works-more : (capacity capacity' : ℕ) (old mid new : BackLists) → capacity' ≡ capacity → Works capacity old mid → Works capacity' mid new → Works capacity old new
+pub Works-more : (capacity capacity' : ℕ) (old mid new : BackLists) → capacity' ≡ capacity → Works capacity old mid
+    → Works capacity' mid new → Works capacity old new
 Works-more capacity capacity' old mid new room r s = Works-append capacity old mid new r (subst (λ c. Works c mid new) room s)

@@ -48,8 +48,14 @@ SameFront-refl a = record { messages = ((refl, refl, refl, refl), refl); answers
 
 pub SameFront-trans : (a b c : LaneFront) → SameFront a b → SameFront b c → SameFront a c
 SameFront-trans a b c h k = record {
-  messages = ((k.messages.0.0 ∙ h.messages.0.0, k.messages.0.1 ∙ h.messages.0.1, k.messages.0.2 ∙ h.messages.0.2, k.messages.0.3 ∙ h.messages.0.3), k.messages.1 ∙ h.messages.1);
-  answers = ((k.answers.0.0 ∙ h.answers.0.0, k.answers.0.1 ∙ h.answers.0.1, k.answers.0.2 ∙ h.answers.0.2, k.answers.0.3 ∙ h.answers.0.3), k.answers.1 ∙ h.answers.1);
+  messages = (
+    (k.messages.0.0 ∙ h.messages.0.0, k.messages.0.1 ∙ h.messages.0.1, k.messages.0.2 ∙ h.messages.0.2, k.messages.0.3 ∙ h.messages.0.3),
+    k.messages.1 ∙ h.messages.1,
+  );
+  answers = (
+    (k.answers.0.0 ∙ h.answers.0.0, k.answers.0.1 ∙ h.answers.0.1, k.answers.0.2 ∙ h.answers.0.2, k.answers.0.3 ∙ h.answers.0.3),
+    k.answers.1 ∙ h.answers.1,
+  );
 }
 
 pub SameFront-capacity : (a b : LaneFront) → SameFront a b → front_capacity b ≡ front_capacity a
@@ -60,6 +66,12 @@ SameBack-refl a = record { messages = ((refl, refl, refl, refl), refl); answers 
 
 pub SameBack-trans : (a b c : LaneBack) → SameBack a b → SameBack b c → SameBack a c
 SameBack-trans a b c h k = record {
-  messages = ((k.messages.0.0 ∙ h.messages.0.0, k.messages.0.1 ∙ h.messages.0.1, k.messages.0.2 ∙ h.messages.0.2, k.messages.0.3 ∙ h.messages.0.3), k.messages.1 ∙ h.messages.1);
-  answers = ((k.answers.0.0 ∙ h.answers.0.0, k.answers.0.1 ∙ h.answers.0.1, k.answers.0.2 ∙ h.answers.0.2, k.answers.0.3 ∙ h.answers.0.3), k.answers.1 ∙ h.answers.1);
+  messages = (
+    (k.messages.0.0 ∙ h.messages.0.0, k.messages.0.1 ∙ h.messages.0.1, k.messages.0.2 ∙ h.messages.0.2, k.messages.0.3 ∙ h.messages.0.3),
+    k.messages.1 ∙ h.messages.1,
+  );
+  answers = (
+    (k.answers.0.0 ∙ h.answers.0.0, k.answers.0.1 ∙ h.answers.0.1, k.answers.0.2 ∙ h.answers.0.2, k.answers.0.3 ∙ h.answers.0.3),
+    k.answers.1 ∙ h.answers.1,
+  );
 }

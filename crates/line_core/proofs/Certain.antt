@@ -23,29 +23,36 @@ pub record Tells (P : Type 0) (b : Bool) : Type 0 where
   pub to : b ≡ true → P
   pub from : P → b ≡ true
 
-certain_is : (l : List Cell) (clue : List ℕ) (ps : List (List Bool)) (k : ℕ) → ListsPlacings l clue ps → (y : List Bool) → IsPlacing l clue y → (f b : Bool)
+certain_is : (l : List Cell) (clue : List ℕ) (ps : List (List Bool)) (k : ℕ) → ListsPlacings l clue ps → (y : List Bool)
+    → IsPlacing l clue y → (f b : Bool)
     → Tells (CanBe l clue true k) f → Tells (CanBe l clue false k) b → shared_at ps k ≡ certain_by f b
 certain_is l clue ps k listed y p true true tf tb =
     let x = tf.to refl in
     let z = tb.to refl in
     let not_filled : list_all (filled_at k) ps ≡ false =
-    false_unless (list_all (filled_at k) ps) (λ e. true≢false (sym (listed.each (filled_at k) e z.0 (record { extends = agrees-Extends l z.0 z.1; runs_are = z.2 })) ∙ z.3)) in
+    false_unless (list_all (filled_at k) ps)
+    (λ e. true≢false (sym (listed.each (filled_at k) e z.0 (record { extends = agrees-Extends l z.0 z.1; runs_are = z.2 })) ∙ z.3)) in
     let not_blank : list_all (blank_at k) ps ≡ false =
-    false_unless (list_all (blank_at k) ps) (λ e. true≢false (sym (listed.each (blank_at k) e x.0 (record { extends = agrees-Extends l x.0 x.1; runs_are = x.2 })) ∙ ap not x.3)) in
+    false_unless (list_all (blank_at k) ps)
+    (λ e. true≢false (sym (listed.each (blank_at k) e x.0 (record { extends = agrees-Extends l x.0 x.1; runs_are = x.2 })) ∙ ap not x.3)) in
     rw (not_filled, not_blank) refl
 certain_is l clue ps k listed y p true false tf tb =
     let all : list_all (filled_at k) ps ≡ true =
-    listed.every (filled_at k) (λ x q. true_unless (get_or x k false) (λ e. true≢false (sym (tb.from (x, Extends-agrees l x q.extends, q.runs_are, e))))) in
+    listed.every (filled_at k)
+    (λ x q. true_unless (get_or x k false) (λ e. true≢false (sym (tb.from (x, Extends-agrees l x q.extends, q.runs_are, e))))) in
     rw all refl
 certain_is l clue ps k listed y p false true tf tb =
     let z = tb.to refl in
     let not_filled : list_all (filled_at k) ps ≡ false =
-    false_unless (list_all (filled_at k) ps) (λ e. true≢false (sym (listed.each (filled_at k) e z.0 (record { extends = agrees-Extends l z.0 z.1; runs_are = z.2 })) ∙ z.3)) in
+    false_unless (list_all (filled_at k) ps)
+    (λ e. true≢false (sym (listed.each (filled_at k) e z.0 (record { extends = agrees-Extends l z.0 z.1; runs_are = z.2 })) ∙ z.3)) in
     let all : list_all (blank_at k) ps ≡ true =
-    listed.every (blank_at k) (λ x q. ap not (false_unless (get_or x k false) (λ e. true≢false (sym (tf.from (x, Extends-agrees l x q.extends, q.runs_are, e)))))) in
+    listed.every (blank_at k)
+    (λ x q. ap not (false_unless (get_or x k false) (λ e. true≢false (sym (tf.from (x, Extends-agrees l x q.extends, q.runs_are, e)))))) in
     rw (not_filled, all) refl
 certain_is l clue ps k listed y p false false tf tb =
-    let filled : get_or y k false ≡ true = true_unless (get_or y k false) (λ e. true≢false (sym (tb.from (y, Extends-agrees l y p.extends, p.runs_are, e)))) in
+    let filled : get_or y k false ≡ true =
+    true_unless (get_or y k false) (λ e. true≢false (sym (tb.from (y, Extends-agrees l y p.extends, p.runs_are, e)))) in
     absurd (true≢false (sym (tf.from (y, Extends-agrees l y p.extends, p.runs_are, filled))))
 
 certain_listed : (l : List Cell) (clue : List ℕ) (d : List Cell) (f b : ℕ → Bool) (ps : List (List Bool)) → ListsPlacings l clue ps
@@ -69,7 +76,8 @@ pub deduced-told : (l : List Cell) (clue : List ℕ) (d : List Cell) (f b : ℕ 
     → ((k : ℕ) → k < length l → get_or d k Unknown ≡ certain_by (f k) (b k)) → Some d ≡ deduced l clue
 deduced-told l clue d f b tf tb y p e each = certain_listed l clue d f b (placings l clue) (placings_listed l clue) tf tb y p e each
 
-dead_listed : (l : List Cell) (clue : List ℕ) (ps : List (List Bool)) → ListsPlacings l clue ps → ((y : List Bool) → IsPlacing l clue y → ⊥) → None ≡ shared (length l) ps
+dead_listed : (l : List Cell) (clue : List ℕ) (ps : List (List Bool)) → ListsPlacings l clue ps → ((y : List Bool) → IsPlacing l clue y → ⊥)
+    → None ≡ shared (length l) ps
 dead_listed l clue [] listed none = refl
 dead_listed l clue (y ∷ ys) listed none = absurd (none y listed.members.0)
 

@@ -59,9 +59,11 @@ cell_same f g b d i apart far e = (
 )
 
 -- the places of either mask's difference, within the line
-pub changed_is : (len f b more g d x y z all m : ℕ) (l other : List Cell) → line_cells len f b ≡ l → line_cells more g d ≡ other → length other ≡ length l
+pub changed_is : (len f b more g d x y z all m : ℕ) (l other : List Cell) → line_cells len f b ≡ l → line_cells more g d ≡ other
+    → length other ≡ length l
     → ((k : ℕ) → Has f k → Has b k → ⊥) → ((k : ℕ) → Has g k → Has d k → ⊥)
-    → IsMaskOf (λ i. has f i ≢ has g i) x → IsMaskOf (λ i. has b i ≢ has d i) y → IsMaskOf (λ i. Has x i ⊎ Has y i) z → IsMaskOf (λ i. i < len) all
+    → IsMaskOf (λ i. has f i ≢ has g i) x → IsMaskOf (λ i. has b i ≢ has d i) y → IsMaskOf (λ i. Has x i ⊎ Has y i) z
+    → IsMaskOf (λ i. i < len) all
     → IsMaskOf (λ i. Has z i × Has all i) m → IsMaskOf (IsChanged l other) m
 changed_is len f b more g d x y z all m l other e o same apart far px py pz pa pm = record {
   to = λ i h.
@@ -80,7 +82,8 @@ changed_is len f b more g d x y z all m l other e o same apart far px py pz pa p
           | inr n ↦ pz.from i (inl (px.from i n))
           | inl u ↦ elim (same_or_not (has b i) (has d i)) [
             | inr n ↦ pz.from i (inr (py.from i n))
-            | inl v ↦ absurd (h.1 (seen_at more g d i other o (omega arith) ∙ same_cell f g b d i (u, v) ∙ sym (seen_at len f b i l e within)))
+            | inl v ↦
+                absurd (h.1 (seen_at more g d i other o (omega arith) ∙ same_cell f g b d i (u, v) ∙ sym (seen_at len f b i l e within)))
           ]
         ],
         pa.from i (omega (arith, length_seen len f b l e)),
@@ -101,7 +104,8 @@ same_cells c d n = elim (same_or_not (is_filled d) (is_filled c)) [
 pub same_without_change : (line other : List Cell) (m : ℕ) → length other ≡ length line → IsMaskOf (IsChanged line other) m
     → (IsTrue (nat_eq m 0) → line ≡ other) × (line ≡ other → IsTrue (nat_eq m 0))
 same_without_change line other m e p = (
-  (λ t. ext_get_or Unknown line other (sym e) (λ k l. sym (same_cells (get_or line k Unknown) (get_or other k Unknown) (λ n. none_at (eqb-true m 0 t) k (p.from k (l, n)))))),
+  (λ t. ext_get_or Unknown line other (sym e)
+      (λ k l. sym (same_cells (get_or line k Unknown) (get_or other k Unknown) (λ n. none_at (eqb-true m 0 t) k (p.from k (l, n)))))),
   (λ s. elim (cases_lt 0 m) [
     | inl some ↦ absurd (let at = some_place m some in (p.to at.0 at.1).1 (ap (λ (l : List Cell). get_or l at.0 Unknown) (sym s)))
     | inr none ↦ eq-eqb m 0 (omega arith)

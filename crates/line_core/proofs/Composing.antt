@@ -18,12 +18,14 @@ gap_none_is l free m f p =
     (first_gap_to l) (first_gap_from l)
 
 -- the mask of the gaps after a run, from that of its ends
-pub gap_next_is : (l : List Cell) (runs : List ℕ) (w n free ends m : ℕ) → length l ≤ w → 0 < n → IsMaskOf (MayBe l false) free → IsMaskOf (IsEndAfter l runs n) ends
+pub gap_next_is : (l : List Cell) (runs : List ℕ) (w n free ends m : ℕ) → length l ≤ w → 0 < n → IsMaskOf (MayBe l false) free
+    → IsMaskOf (IsEndAfter l runs n) ends
     → IsMaskOf (IsFlooded (λ k. IsMoved w (Has ends) 1 k × Has free k) (Has free)) m → IsMaskOf (IsGapAfter l (n ∷ runs)) m
 gap_next_is l runs w n free ends m short pos f e p =
     mask_same (IsFlooded (After l n runs) (MayBe l false)) (IsGapAfter l (n ∷ runs)) m
     (flood_same (λ k. IsMoved w (Has ends) 1 k × Has free k) (Has free) (After l n runs) (MayBe l false) m
-    (λ i h. (f.to i h.1, h.0.1, e.to (i - 1) h.0.2)) (λ i h. let within : i < length l = h.0.0 in ((omega arith, h.1, e.from (i - 1) h.2), f.from i h.0)) f.to f.from p)
+    (λ i h. (f.to i h.1, h.0.1, e.to (i - 1) h.0.2))
+    (λ i h. let within : i < length l = h.0.0 in ((omega arith, h.1, e.from (i - 1) h.2), f.from i h.0)) f.to f.from p)
     (λ i h. gap_after_to l runs n i pos h) (gap_after_from l runs n)
 
 -- where a run of so many cells ends that starts after a gap or at an opening, and within a window
@@ -32,18 +34,27 @@ EndsAt w gap opening window n = IsMoved w (λ s. (IsMoved w (Has gap) 1 s ⊎ Ha
 
 -- the mask of a run's ends, from that of the gaps before it
 pub ends_are : (l : List Cell) (runs : List ℕ) (w n gap room opening window m : ℕ) → length l ≤ w → 0 < n
-    → IsMaskOf (IsGapAfter l runs) gap → IsMaskOf (λ i. (i ≡ 0) × (length runs ≡ 0)) opening → IsMaskOf (MayBe l true) room → IsMaskOf (AllFrom (Has room) n) window
+    → IsMaskOf (IsGapAfter l runs) gap → IsMaskOf (λ i. (i ≡ 0) × (length runs ≡ 0)) opening → IsMaskOf (MayBe l true) room
+    → IsMaskOf (AllFrom (Has room) n) window
     → IsMaskOf (EndsAt w gap opening window n) m → IsMaskOf (IsEndAfter l runs n) m
-ends_are l runs w n gap room opening window m short some g f a v p = mask_same (EndsAt w gap opening window n) (IsEndAfter l runs n) m p to from
+ends_are l runs w n gap room opening window m short some g f a v p =
+    mask_same (EndsAt w gap opening window n) (IsEndAfter l runs n) m p to from
   where
     start_to : (s : ℕ) → (IsMoved w (Has gap) 1 s ⊎ Has opening s) × Has window s → IsStartAfter l runs n s
-    start_to s h =
-        (closed_behind_from l runs s (elim h.0 [ inl x ↦ inr (x.1, g.to (s - 1) x.2) | inr x ↦ inl (f.to s x) ]), λ z b. a.to (s + z) (v.to s h.1 z b))
+    start_to s h = (
+      closed_behind_from l runs s (elim h.0 [ inl x ↦ inr (x.1, g.to (s - 1) x.2) | inr x ↦ inl (f.to s x) ]),
+      λ z b. a.to (s + z) (v.to s h.1 z b),
+    )
 
     start_from : (s : ℕ) → IsStartAfter l runs n s → (IsMoved w (Has gap) 1 s ⊎ Has opening s) × Has window s
     start_from s h =
-        let here : s + 0 < length l = (h.1 0 some).0 in
-        (elim (closed_behind_to l runs s (omega arith) h.0) [ inl x ↦ inr (f.from s x) | inr x ↦ inl (omega arith, x.0, g.from (s - 1) x.1) ], v.from s (λ z b. a.from (s + z) (h.1 z b)))
+        let here : s + 0 < length l = (h.1 0 some).0 in (
+          elim (closed_behind_to l runs s (omega arith) h.0) [
+            | inl x ↦ inr (f.from s x)
+            | inr x ↦ inl (omega arith, x.0, g.from (s - 1) x.1)
+          ],
+          v.from s (λ z b. a.from (s + z) (h.1 z b)),
+        )
 
     to : (e : ℕ) → EndsAt w gap opening window n e → IsEndAfter l runs n e
     to e h =
@@ -59,7 +70,8 @@ ends_are l runs w n gap room opening window m short some g f a v p = mask_same (
         (omega arith, omega arith, start_from (e - (n - 1)) (subst (IsStartAfter l runs n) same h.1))
 
 -- the mask of the gaps ahead of a run, from that of the turned line
-pub ahead_is : (l : List Cell) (clue : List ℕ) (j gap m : ℕ) → j ≤ length clue → IsMaskOf (IsGap (reverse l) (reverse clue) (length clue - j)) gap
+pub ahead_is : (l : List Cell) (clue : List ℕ) (j gap m : ℕ) → j ≤ length clue
+    → IsMaskOf (IsGap (reverse l) (reverse clue) (length clue - j)) gap
     → IsMaskOf (λ i. (i < length l) × Has gap (length l - 1 - i)) m → IsMaskOf (IsGapAhead l clue j) m
 ahead_is l clue j gap m jl g p =
     mask_same (λ i. (i < length l) × Has gap (length l - 1 - i)) (IsGapAhead l clue j) m p
@@ -68,7 +80,8 @@ ahead_is l clue j gap m jl g p =
 
 -- the mask of the ends of a run in whole placings
 pub whole_is : (l : List Cell) (clue : List ℕ) (j ends ahead last m : ℕ) → j < length clue → 0 < get_or clue j 0
-    → IsMaskOf (IsEnd l clue j) ends → IsMaskOf (IsGapAhead l clue (j + 1)) ahead → IsMaskOf (λ i. (i ≡ length l - 1) × (j + 1 ≡ length clue)) last
+    → IsMaskOf (IsEnd l clue j) ends → IsMaskOf (IsGapAhead l clue (j + 1)) ahead
+    → IsMaskOf (λ i. (i ≡ length l - 1) × (j + 1 ≡ length clue)) last
     → IsMaskOf (λ i. Has ends i × (Has ahead (i + 1) ⊎ Has last i)) m → IsMaskOf (IsWholeEnd l clue j) m
 whole_is l clue j ends ahead last m jl cp e a z p =
     mask_same (λ i. Has ends i × (Has ahead (i + 1) ⊎ Has last i)) (IsWholeEnd l clue j) m p to from
@@ -107,18 +120,21 @@ pub fill_more : (l : List Cell) (clue : List ℕ) (top j whole : ℕ) (old new :
     → AreLevelsOf (λ i. (q : ℕ) × (q < j + 1) × SomeFrom (IsWholeEnd l clue q) (get_or clue q 0) i) top new
 fill_more l clue top j whole old new w s f = record { to = λ i x. to i (s.to i x); from = λ i x. s.from i (from i x) }
   where
-    to : (i : ℕ) → SomeLevel top old i ⊎ SomeFrom (Has whole) (get_or clue j 0) i → (q : ℕ) × (q < j + 1) × SomeFrom (IsWholeEnd l clue q) (get_or clue q 0) i
+    to : (i : ℕ) → SomeLevel top old i ⊎ SomeFrom (Has whole) (get_or clue j 0) i
+        → (q : ℕ) × (q < j + 1) × SomeFrom (IsWholeEnd l clue q) (get_or clue q 0) i
     to i (inl x) = let y = f.to i x in (y.0, omega (arith, y.1), y.2)
     to i (inr x) = (j, omega arith, (x.0, x.1, w.to (i + x.0) x.2))
 
-    from : (i : ℕ) → (q : ℕ) × (q < j + 1) × SomeFrom (IsWholeEnd l clue q) (get_or clue q 0) i → SomeLevel top old i ⊎ SomeFrom (Has whole) (get_or clue j 0) i
+    from : (i : ℕ) → (q : ℕ) × (q < j + 1) × SomeFrom (IsWholeEnd l clue q) (get_or clue q 0) i
+        → SomeLevel top old i ⊎ SomeFrom (Has whole) (get_or clue j 0) i
     from i x =
         elim (cases_lt x.0 j) [
           | inl low ↦ inl (f.from i (x.0, low, x.2))
           | inr high ↦
               (let below : x.0 < j + 1 = x.1 in
               let e : x.0 ≡ j = omega arith in
-              let y : SomeFrom (IsWholeEnd l clue j) (get_or clue j 0) i = subst (λ (q : ℕ). SomeFrom (IsWholeEnd l clue q) (get_or clue q 0) i) e x.2 in
+              let y : SomeFrom (IsWholeEnd l clue j) (get_or clue j 0) i =
+              subst (λ (q : ℕ). SomeFrom (IsWholeEnd l clue q) (get_or clue q 0) i) e x.2 in
               inr (y.0, y.1, w.from (i + y.0) y.2))
         ]
 
@@ -129,9 +145,12 @@ pub blank_first : (l : List Cell) (clue : List ℕ) (gap ahead m : ℕ) → IsMa
 blank_first l clue gap ahead m g a p =
     mask_same (λ i. IsGap l clue 0 i × IsGapAhead l clue 0 i) (λ i. (q : ℕ) × (q ≤ 0) × IsGap l clue q i × IsGapAhead l clue q i) m
     (meet_of (IsGap l clue 0) (IsGapAhead l clue 0) gap ahead m g a p) (λ i x. (0, omega arith, x.0, x.1))
-    (λ i x. let b : x.0 ≤ 0 = x.1 in let e : x.0 ≡ 0 = omega arith in subst (λ (q : ℕ). IsGap l clue q i × IsGapAhead l clue q i) e (x.2, x.3))
+    (λ i x. let b : x.0 ≤ 0 = x.1 in
+    let e : x.0 ≡ 0 = omega arith in
+    subst (λ (q : ℕ). IsGap l clue q i × IsGapAhead l clue q i) e (x.2, x.3))
 
-pub blank_more : (l : List Cell) (clue : List ℕ) (j gap ahead blank part m : ℕ) → IsMaskOf (IsGap l clue (j + 1)) gap → IsMaskOf (IsGapAhead l clue (j + 1)) ahead
+pub blank_more : (l : List Cell) (clue : List ℕ) (j gap ahead blank part m : ℕ) → IsMaskOf (IsGap l clue (j + 1)) gap
+    → IsMaskOf (IsGapAhead l clue (j + 1)) ahead
     → IsMaskOf (λ i. (q : ℕ) × (q ≤ j) × IsGap l clue q i × IsGapAhead l clue q i) blank
     → IsMaskOf (λ i. Has gap i × Has ahead i) part
     → IsMaskOf (λ i. Has blank i ⊎ Has part i) m
@@ -139,27 +158,35 @@ pub blank_more : (l : List Cell) (clue : List ℕ) (j gap ahead blank part m : �
 blank_more l clue j gap ahead blank part m g a b p r =
     mask_same (λ i. ((q : ℕ) × (q ≤ j) × IsGap l clue q i × IsGapAhead l clue q i) ⊎ (IsGap l clue (j + 1) i × IsGapAhead l clue (j + 1) i))
     (λ i. (q : ℕ) × (q ≤ j + 1) × IsGap l clue q i × IsGapAhead l clue q i) m
-    (join_of (λ i. (q : ℕ) × (q ≤ j) × IsGap l clue q i × IsGapAhead l clue q i) (λ i. IsGap l clue (j + 1) i × IsGapAhead l clue (j + 1) i) blank part m b
+    (join_of (λ i. (q : ℕ) × (q ≤ j) × IsGap l clue q i × IsGapAhead l clue q i)
+    (λ i. IsGap l clue (j + 1) i × IsGapAhead l clue (j + 1) i) blank part m b
     (meet_of (IsGap l clue (j + 1)) (IsGapAhead l clue (j + 1)) gap ahead part g a p) r) to from
   where
-    to : (i : ℕ) → ((q : ℕ) × (q ≤ j) × IsGap l clue q i × IsGapAhead l clue q i) ⊎ (IsGap l clue (j + 1) i × IsGapAhead l clue (j + 1) i) → (q : ℕ) × (q ≤ j + 1) × IsGap l clue q i × IsGapAhead l clue q i
+    to : (i : ℕ) → ((q : ℕ) × (q ≤ j) × IsGap l clue q i × IsGapAhead l clue q i) ⊎ (IsGap l clue (j + 1) i × IsGapAhead l clue (j + 1) i)
+        → (q : ℕ) × (q ≤ j + 1) × IsGap l clue q i × IsGapAhead l clue q i
     to i (inl x) = (x.0, omega (arith, x.1), x.2, x.3)
     to i (inr x) = (j + 1, omega arith, x.0, x.1)
 
-    from : (i : ℕ) → (q : ℕ) × (q ≤ j + 1) × IsGap l clue q i × IsGapAhead l clue q i → ((q : ℕ) × (q ≤ j) × IsGap l clue q i × IsGapAhead l clue q i) ⊎ (IsGap l clue (j + 1) i × IsGapAhead l clue (j + 1) i)
+    from : (i : ℕ) → (q : ℕ) × (q ≤ j + 1) × IsGap l clue q i × IsGapAhead l clue q i
+        → ((q : ℕ) × (q ≤ j) × IsGap l clue q i × IsGapAhead l clue q i) ⊎ (IsGap l clue (j + 1) i × IsGapAhead l clue (j + 1) i)
     from i x =
         elim (cases_lt x.0 (j + 1)) [
           | inl low ↦ inl (x.0, omega arith, x.2, x.3)
-          | inr high ↦ (let b : x.0 ≤ j + 1 = x.1 in let e : x.0 ≡ j + 1 = omega arith in inr (subst (λ (q : ℕ). IsGap l clue q i × IsGapAhead l clue q i) e (x.2, x.3)))
+          | inr high ↦
+              (let b : x.0 ≤ j + 1 = x.1 in
+              let e : x.0 ≡ j + 1 = omega arith in
+              inr (subst (λ (q : ℕ). IsGap l clue q i × IsGapAhead l clue q i) e (x.2, x.3)))
         ]
 
 -- the gaps ahead, from the turned line's gaps
-pub ahead_of : (l : List Cell) (clue : List ℕ) (j p : ℕ) (turned : List ℕ) (len m : ℕ) → length l ≡ len → p + j ≡ length clue → j ≤ length clue
+pub ahead_of : (l : List Cell) (clue : List ℕ) (j p : ℕ) (turned : List ℕ) (len m : ℕ) → length l ≡ len → p + j ≡ length clue
+    → j ≤ length clue
     → ((k : ℕ) → k ≤ length clue → IsMaskOf (IsGap (reverse l) (reverse clue) k) (get_or turned k 0))
     → IsMaskOf (λ i. (i < len) × Has (get_or turned p 0) (len - 1 - i)) m → IsMaskOf (IsGapAhead l clue j) m
 ahead_of l clue j p turned len m e s jl g h =
     let same : length clue - j ≡ p = omega arith in
-    ahead_is l clue j (get_or turned p 0) m jl (subst (λ (k : ℕ). IsMaskOf (IsGap (reverse l) (reverse clue) k) (get_or turned p 0)) (sym same) (g p (omega arith)))
+    ahead_is l clue j (get_or turned p 0) m jl
+    (subst (λ (k : ℕ). IsMaskOf (IsGap (reverse l) (reverse clue) k) (get_or turned p 0)) (sym same) (g p (omega arith)))
     (subst (λ (n : ℕ). IsMaskOf (λ i. (i < n) × Has (get_or turned p 0) (n - 1 - i)) m) (sym e) h)
 
 -- one more run of a clue behind

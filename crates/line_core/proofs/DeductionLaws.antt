@@ -109,7 +109,8 @@ pub agrees-Extends : (l : List Cell) (x : List Bool) → agrees l x ≡ true →
 agrees-Extends [] [] h = tt
 agrees-Extends [] (b ∷ x) h = cc
 agrees-Extends (c ∷ l) [] h = cc
-agrees-Extends (c ∷ l) (b ∷ x) h = (allows-Extends c b (first_true (allows c b) (agrees l x) h), agrees-Extends l x (second_true (allows c b) (agrees l x) h))
+agrees-Extends (c ∷ l) (b ∷ x) h =
+    (allows-Extends c b (first_true (allows c b) (agrees l x) h), agrees-Extends l x (second_true (allows c b) (agrees l x) h))
 
 pub Extends-agrees : (l : List Cell) (x : List Bool) → Extends l (map colour x) → agrees l x ≡ true
 Extends-agrees [] [] h = refl
@@ -154,9 +155,11 @@ each_full (suc n) q h (b ∷ x) e =
     let with_blank = map (λ (cells : List Bool). false ∷ cells) (full_lines n) in
     let both : (list_all q with_filled && list_all q with_blank) ≡ true = sym (list_all-append q with_filled with_blank) ∙ h in
     let filled : list_all (λ cells. q (true ∷ cells)) (full_lines n) ≡ true =
-    sym (list_all-map q (λ (cells : List Bool). true ∷ cells) (full_lines n)) ∙ first_true (list_all q with_filled) (list_all q with_blank) both in
+    sym (list_all-map q (λ (cells : List Bool). true ∷ cells) (full_lines n))
+    ∙ first_true (list_all q with_filled) (list_all q with_blank) both in
     let blank : list_all (λ cells. q (false ∷ cells)) (full_lines n) ≡ true =
-    sym (list_all-map q (λ (cells : List Bool). false ∷ cells) (full_lines n)) ∙ second_true (list_all q with_filled) (list_all q with_blank) both in
+    sym (list_all-map q (λ (cells : List Bool). false ∷ cells) (full_lines n))
+    ∙ second_true (list_all q with_filled) (list_all q with_blank) both in
     elim b as (λ b. q (b ∷ x) ≡ true) [
       | true ↦ each_full n (λ cells. q (true ∷ cells)) filled x (omega arith)
       | false ↦ each_full n (λ cells. q (false ∷ cells)) blank x (omega arith)
@@ -165,7 +168,8 @@ each_full (suc n) q h (b ∷ x) e =
 list_all-filter : (p q : List Bool → Bool) (xs : List (List Bool)) → list_all q (filter p xs) ≡ list_all (λ x. cond (p x) (q x) true) xs
 list_all-filter p q [] = refl
 list_all-filter p q (x ∷ xs) =
-    elim (p x) as (λ b. list_all q (cond b (x ∷ filter p xs) (filter p xs)) ≡ (cond b (q x) true && list_all (λ y. cond (p y) (q y) true) xs))
+    elim (p x) as
+    (λ b. list_all q (cond b (x ∷ filter p xs) (filter p xs)) ≡ (cond b (q x) true && list_all (λ y. cond (p y) (q y) true) xs))
     [ true ↦ ap (λ (b : Bool). q x && b) (list_all-filter p q xs) | false ↦ list_all-filter p q xs ]
 
 list_all_from : {X : Type 0} (q : X → Bool) (xs : List X) → AllByRecursion (λ x. q x ≡ true) xs → list_all q xs ≡ true
@@ -181,7 +185,8 @@ kept_pass : {X : Type 0} (p : X → Bool) (xs : List X) → AllByRecursion (λ x
 kept_pass p [] = tt
 kept_pass p (x ∷ xs) = kept_pass_one (p x) refl (kept_pass p xs)
   where
-    kept_pass_one : (b : Bool) → p x ≡ b → AllByRecursion (λ y. p y ≡ true) (filter p xs) → AllByRecursion (λ y. p y ≡ true) (cond b (x ∷ filter p xs) (filter p xs))
+    kept_pass_one : (b : Bool) → p x ≡ b → AllByRecursion (λ y. p y ≡ true) (filter p xs)
+        → AllByRecursion (λ y. p y ≡ true) (cond b (x ∷ filter p xs) (filter p xs))
     kept_pass_one true e h = (e, h)
     kept_pass_one false e h = h
 
@@ -189,11 +194,14 @@ pub placings_listed : (l : List Cell) (clue : List ℕ) → ListsPlacings l clue
 placings_listed l clue =
     let p = is_placing l clue in
     let members : AllByRecursion (IsPlacing l clue) (placings l clue) =
-    each_weaker (λ (x : List Bool). p x ≡ true) (IsPlacing l clue) (placings l clue) (test_IsPlacing l clue) (kept_pass p (full_lines (length l))) in
+    each_weaker (λ (x : List Bool). p x ≡ true) (IsPlacing l clue) (placings l clue) (test_IsPlacing l clue)
+    (kept_pass p (full_lines (length l))) in
     record {
       each = λ q h x placing.
-          let all : list_all (λ y. cond (p y) (q y) true) (full_lines (length l)) ≡ true = sym (list_all-filter p q (full_lines (length l))) ∙ h in
-          let at : cond (p x) (q x) true ≡ true = each_full (length l) (λ y. cond (p y) (q y) true) all x (length-IsPlacing l clue x placing) in
+          let all : list_all (λ y. cond (p y) (q y) true) (full_lines (length l)) ≡ true =
+          sym (list_all-filter p q (full_lines (length l))) ∙ h in
+          let at : cond (p x) (q x) true ≡ true =
+          each_full (length l) (λ y. cond (p y) (q y) true) all x (length-IsPlacing l clue x placing) in
           rw (IsPlacing_test l clue x placing) at at;
       every = λ q h. list_all_from q (placings l clue) (each_weaker (IsPlacing l clue) (λ x. q x ≡ true) (placings l clue) h members);
       members = members;
@@ -203,7 +211,8 @@ pub no_placing : (l : List Cell) (clue : List ℕ) → ListsPlacings l clue [] �
 no_placing l clue listed x p = true≢false (sym (listed.each (λ _. false) refl x p))
 
 -- a line extends another where it does so at each place
-pub Extends-from_places : (a b : List Cell) → length a ≡ length b → ((k : ℕ) → k < length a → CellExtends (get_or a k Unknown) (get_or b k Unknown)) → Extends a b
+pub Extends-from_places : (a b : List Cell) → length a ≡ length b
+    → ((k : ℕ) → k < length a → CellExtends (get_or a k Unknown) (get_or b k Unknown)) → Extends a b
 Extends-from_places [] [] e h = tt
 Extends-from_places [] (d ∷ b) e h = cc
 Extends-from_places (c ∷ a) [] e h = cc
@@ -227,12 +236,14 @@ get_or-map_colour [] k h = absurd (omega arith)
 get_or-map_colour (b ∷ x) zero h = refl
 get_or-map_colour (b ∷ x) (suc k) h = get_or-map_colour x k (omega arith)
 
-below_cell : (c : Cell) (filled blank : Bool) → (filled ≡ true → c ≡ Filled) → (blank ≡ true → c ≡ Blank) → CellExtends (cond filled Filled (cond blank Blank Unknown)) c
+below_cell : (c : Cell) (filled blank : Bool) → (filled ≡ true → c ≡ Filled) → (blank ≡ true → c ≡ Blank)
+    → CellExtends (cond filled Filled (cond blank Blank Unknown)) c
 below_cell c true blank f b = subst (CellExtends Filled) (sym (f refl)) tt
 below_cell c false true f b = subst (CellExtends Blank) (sym (b refl)) tt
 below_cell c false false f b = tt
 
-above_cell : (c : Cell) (filled blank : Bool) → (c ≡ Filled → filled ≡ true) → (c ≡ Blank → (filled ≡ false) × (blank ≡ true)) → CellExtends c (cond filled Filled (cond blank Blank Unknown))
+above_cell : (c : Cell) (filled blank : Bool) → (c ≡ Filled → filled ≡ true) → (c ≡ Blank → (filled ≡ false) × (blank ≡ true))
+    → CellExtends c (cond filled Filled (cond blank Blank Unknown))
 above_cell Unknown filled blank f b = tt
 above_cell Filled filled blank f b = rw (f refl) tt
 above_cell Blank filled blank f b = let h = b refl in rw (h.0, h.1) tt
@@ -246,12 +257,14 @@ blank_of true h = absurd h
 blank_of false h = refl
 
 -- the colour of a known cell in a placing
-known_filled : (l : List Cell) (clue : List ℕ) (x : List Bool) (k : ℕ) → IsPlacing l clue x → k < length l → get_or l k Unknown ≡ Filled → get_or x k false ≡ true
+known_filled : (l : List Cell) (clue : List ℕ) (x : List Bool) (k : ℕ) → IsPlacing l clue x → k < length l → get_or l k Unknown ≡ Filled
+    → get_or x k false ≡ true
 known_filled l clue x k p h e =
     let at : CellExtends (get_or l k Unknown) (get_or (map colour x) k Unknown) = Extends-at l (map colour x) k p.extends in
     filled_of (get_or x k false) (rw (e, get_or-map_colour x k (omega (arith, length-IsPlacing l clue x p))) at at)
 
-known_blank : (l : List Cell) (clue : List ℕ) (x : List Bool) (k : ℕ) → IsPlacing l clue x → k < length l → get_or l k Unknown ≡ Blank → get_or x k false ≡ false
+known_blank : (l : List Cell) (clue : List ℕ) (x : List Bool) (k : ℕ) → IsPlacing l clue x → k < length l → get_or l k Unknown ≡ Blank
+    → get_or x k false ≡ false
 known_blank l clue x k p h e =
     let at : CellExtends (get_or l k Unknown) (get_or (map colour x) k Unknown) = Extends-at l (map colour x) k p.extends in
     blank_of (get_or x k false) (rw (e, get_or-map_colour x k (omega (arith, length-IsPlacing l clue x p))) at at)
@@ -259,10 +272,12 @@ known_blank l clue x k p h e =
 length-shared : (n : ℕ) (ps : List (List Bool)) → length (map (shared_at ps) (range_with_len 0 n)) ≡ n
 length-shared n ps = length-map-range_with_len (shared_at ps) 0 n
 
-get_or-shared : (n : ℕ) (ps : List (List Bool)) (k : ℕ) → k < n → get_or (map (shared_at ps) (range_with_len 0 n)) k Unknown ≡ shared_at ps k
+get_or-shared : (n : ℕ) (ps : List (List Bool)) (k : ℕ) → k < n
+    → get_or (map (shared_at ps) (range_with_len 0 n)) k Unknown ≡ shared_at ps k
 get_or-shared n ps k h = get_or-map-range_with_len (shared_at ps) 0 n k k Unknown h (zero-add k)
 
-not_all_filled : (l : List Cell) (clue : List ℕ) (ps : List (List Bool)) (k : ℕ) → ListsPlacings l clue ps → (y : List Bool) → IsPlacing l clue y → get_or y k false ≡ false → list_all (filled_at k) ps ≡ false
+not_all_filled : (l : List Cell) (clue : List ℕ) (ps : List (List Bool)) (k : ℕ) → ListsPlacings l clue ps → (y : List Bool)
+    → IsPlacing l clue y → get_or y k false ≡ false → list_all (filled_at k) ps ≡ false
 not_all_filled l clue ps k listed y p e =
     false_unless (list_all (filled_at k) ps) (λ h. true≢false (sym (listed.each (filled_at k) h y p) ∙ e))
 
@@ -288,13 +303,15 @@ not_true : (b : Bool) → not b ≡ true → b ≡ false
 not_true true h = cc
 not_true false h = refl
 
-below_listed : (l : List Cell) (clue : List ℕ) (ps : List (List Bool)) → ListsPlacings l clue ps → (x : List Bool) → IsPlacing l clue x → AtMost (shared (length l) ps) (Some (map colour x))
+below_listed : (l : List Cell) (clue : List ℕ) (ps : List (List Bool)) → ListsPlacings l clue ps → (x : List Bool) → IsPlacing l clue x
+    → AtMost (shared (length l) ps) (Some (map colour x))
 below_listed l clue [] listed x p = absurd (no_placing l clue listed x p)
 below_listed l clue (y ∷ ys) listed x p =
     let ps = y ∷ ys in
     let n = length l in
     let long : length x ≡ n = length-IsPlacing l clue x p in
-    Extends-from_places (map (shared_at ps) (range_with_len 0 n)) (map colour x) (length-shared n ps ∙ sym long ∙ sym (length-map x colour)) (λ k h.
+    Extends-from_places (map (shared_at ps) (range_with_len 0 n)) (map colour x)
+    (length-shared n ps ∙ sym long ∙ sym (length-map x colour)) (λ k h.
     let within : k < n = omega (arith, length-shared n ps) in
     rw (get_or-shared n ps k within, get_or-map_colour x k (omega arith))
     (below_cell (colour (get_or x k false)) (list_all (filled_at k) ps) (list_all (blank_at k) ps)
@@ -308,7 +325,8 @@ deduced-below l clue x p = below_listed l clue (placings l clue) (placings_liste
 weaker_placing : (l m : List Cell) (clue : List ℕ) → Extends l m → (x : List Bool) → IsPlacing m clue x → IsPlacing l clue x
 weaker_placing l m clue h x p = record { extends = Extends-trans l m (map colour x) h p.extends; runs_are = p.runs_are }
 
-monotone_listed : (l m : List Cell) (clue : List ℕ) (ps qs : List (List Bool)) → ListsPlacings l clue ps → ListsPlacings m clue qs → Extends l m → AtMost (shared (length l) ps) (shared (length m) qs)
+monotone_listed : (l m : List Cell) (clue : List ℕ) (ps qs : List (List Bool)) → ListsPlacings l clue ps → ListsPlacings m clue qs
+    → Extends l m → AtMost (shared (length l) ps) (shared (length m) qs)
 monotone_listed l m clue ps [] lp lq h = tt
 monotone_listed l m clue [] (z ∷ zs) lp lq h = absurd (no_placing l clue lp z (weaker_placing l m clue h z lq.members.0))
 monotone_listed l m clue (y ∷ ys) (z ∷ zs) lp lq h =
@@ -316,7 +334,8 @@ monotone_listed l m clue (y ∷ ys) (z ∷ zs) lp lq h =
     let qs = z ∷ zs in
     let n = length l in
     let same : length l ≡ length m = length-Extends l m h in
-    Extends-from_places (map (shared_at ps) (range_with_len 0 n)) (map (shared_at qs) (range_with_len 0 (length m))) (length-shared n ps ∙ same ∙ sym (length-shared (length m) qs)) (λ k i.
+    Extends-from_places (map (shared_at ps) (range_with_len 0 n)) (map (shared_at qs) (range_with_len 0 (length m)))
+    (length-shared n ps ∙ same ∙ sym (length-shared (length m) qs)) (λ k i.
     let within : k < n = omega (arith, length-shared n ps) in
     rw (get_or-shared n ps k within, get_or-shared (length m) qs k (omega arith))
     (below_cell (shared_at qs k) (list_all (filled_at k) ps) (list_all (blank_at k) ps)
@@ -328,7 +347,8 @@ monotone_listed l m clue (y ∷ ys) (z ∷ zs) lp lq h =
 
 -- where more is known no less is deduced
 pub deduced-monotone : (l m : List Cell) (clue : List ℕ) → Extends l m → AtMost (deduced l clue) (deduced m clue)
-deduced-monotone l m clue h = monotone_listed l m clue (placings l clue) (placings m clue) (placings_listed l clue) (placings_listed m clue) h
+deduced-monotone l m clue h =
+    monotone_listed l m clue (placings l clue) (placings m clue) (placings_listed l clue) (placings_listed m clue) h
 
 colour_inj : (a b : Bool) → CellExtends (colour a) (colour b) → b ≡ a
 colour_inj true true h = refl
@@ -342,7 +362,8 @@ full_same [] (b ∷ y) h = absurd h
 full_same (a ∷ x) [] h = absurd h
 full_same (a ∷ x) (b ∷ y) h = λ i. colour_inj a b h.0 i ∷ full_same x y h.1 i
 
-full_listed : (x : List Bool) (clue : List ℕ) (ps : List (List Bool)) → ListsPlacings (map colour x) clue ps → (d : List Cell) → shared (length (map colour x)) ps ≡ Some d → runs x ≡ clue
+full_listed : (x : List Bool) (clue : List ℕ) (ps : List (List Bool)) → ListsPlacings (map colour x) clue ps → (d : List Cell)
+    → shared (length (map colour x)) ps ≡ Some d → runs x ≡ clue
 full_listed x clue [] listed d e = cc
 full_listed x clue (y ∷ ys) listed d e = ap runs (sym (full_same x y listed.members.0.extends)) ∙ listed.members.0.runs_are
 
@@ -361,19 +382,22 @@ filter-same : (p q : List Bool → Bool) → ((x : List Bool) → p x ≡ q x) �
 filter-same p q h [] = refl
 filter-same p q h (x ∷ xs) = rw (h x, filter-same p q h xs) refl
 
-same_placings : (l d : List Cell) (clue : List ℕ) → Extends l d → ((x : List Bool) → IsPlacing l clue x → Extends d (map colour x)) → filter (is_placing d clue) (full_lines (length l)) ≡ placings l clue
+same_placings : (l d : List Cell) (clue : List ℕ) → Extends l d → ((x : List Bool) → IsPlacing l clue x → Extends d (map colour x))
+    → filter (is_placing d clue) (full_lines (length l)) ≡ placings l clue
 same_placings l d clue h below =
     (filter-same (is_placing d clue) (is_placing l clue)
     (λ x.
     same_test (is_placing d clue x) (is_placing l clue x)
-    (λ t. let p = test_IsPlacing d clue x t in IsPlacing_test l clue x (record { extends = Extends-trans l d (map colour x) h p.extends; runs_are = p.runs_are }))
+    (λ t. let p = test_IsPlacing d clue x t in
+    IsPlacing_test l clue x (record { extends = Extends-trans l d (map colour x) h p.extends; runs_are = p.runs_are }))
     (λ t. let p = test_IsPlacing l clue x t in IsPlacing_test d clue x (record { extends = below x p; runs_are = p.runs_are })))
     (full_lines (length l)))
 
 pub deduced-settled : (l d : List Cell) (clue : List ℕ) → deduced l clue ≡ Some d → deduced d clue ≡ Some d
 deduced-settled l d clue e =
     let h : Extends l d = rw e at (deduced-above l clue) in
-    let same : filter (is_placing d clue) (full_lines (length l)) ≡ placings l clue = same_placings l d clue h (λ x p. rw e at (deduced-below l clue x p)) in
+    let same : filter (is_placing d clue) (full_lines (length l)) ≡ placings l clue =
+    same_placings l d clue h (λ x p. rw e at (deduced-below l clue x p)) in
     rw (sym (length-Extends l d h)) (ap (shared (length l)) same ∙ e)
 
 pub length-deduced : (l d : List Cell) (clue : List ℕ) → Some d ≡ deduced l clue → length d ≡ length l

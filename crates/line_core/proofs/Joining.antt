@@ -43,9 +43,11 @@ agrees_onto [] t [] b h k = k
 agrees_onto [] t (x ∷ a) b h k = cc
 agrees_onto (c ∷ s) t [] b h k = cc
 agrees_onto (c ∷ s) t (x ∷ a) b h k =
-    agrees_onto s (c ∷ t) a (x ∷ b) (and_right (allows c x) (agrees s a) h) (and_both (allows c x) (agrees t b) (and_left (allows c x) (agrees s a) h) k)
+    agrees_onto s (c ∷ t) a (x ∷ b) (and_right (allows c x) (agrees s a) h)
+    (and_both (allows c x) (agrees t b) (and_left (allows c x) (agrees s a) h) k)
 
-pub onto_agrees : (s t : List Cell) (a b : List Bool) → length s ≡ length a → agrees (onto s t) (onto a b) ≡ true → (agrees s a ≡ true) × (agrees t b ≡ true)
+pub onto_agrees : (s t : List Cell) (a b : List Bool) → length s ≡ length a → agrees (onto s t) (onto a b) ≡ true
+    → (agrees s a ≡ true) × (agrees t b ≡ true)
 onto_agrees [] t [] b e h = (refl, h)
 onto_agrees [] t (x ∷ a) b e h = absurd (omega arith)
 onto_agrees (c ∷ s) t [] b e h = absurd (omega arith)
@@ -59,7 +61,8 @@ drop_head [] (suc i) r q e = cc
 drop_head (x ∷ xs) zero r q e = (cc, cc, omega arith)
 drop_head (x ∷ xs) (suc i) r q e = let t = drop_head xs i r q e in (t.0, t.1, omega (arith, t.2))
 
-pub onto_split : (p q clue : List ℕ) → onto p q ≡ clue → (p ≡ behind 0 clue (length p)) × (q ≡ drop (length p) clue) × (length p ≤ length clue)
+pub onto_split : (p q clue : List ℕ) → onto p q ≡ clue
+    → (p ≡ behind 0 clue (length p)) × (q ≡ drop (length p) clue) × (length p ≤ length clue)
 onto_split [] q clue e = (refl, e, omega arith)
 onto_split (r ∷ p) q clue e =
     let t = onto_split p (r ∷ q) clue e in
@@ -123,25 +126,30 @@ positive_at (c ∷ clue) p (suc j) h = positive_at clue p.1 j (omega arith)
 
 -- ---- a run on the line
 
-pub agrees_run : (l : List Cell) (n s : ℕ) (y : List Bool) → AllFrom (MayBe l true) n s → agrees (drop (s + n) l) y ≡ true → agrees (drop s l) (replicate n true ++ y) ≡ true
+pub agrees_run : (l : List Cell) (n s : ℕ) (y : List Bool) → AllFrom (MayBe l true) n s → agrees (drop (s + n) l) y ≡ true
+    → agrees (drop s l) (replicate n true ++ y) ≡ true
 agrees_run l zero s y o h = let e : s + 0 ≡ s = omega arith in subst (λ (k : ℕ). agrees (drop k l) y ≡ true) e h
 agrees_run l (suc n) s y o h =
     let zeroth : s + 0 ≡ s = omega arith in
     let first : MayBe l true s = subst (MayBe l true) zeroth (o 0 (omega arith)) in
     let e : s + suc n ≡ suc s + n = omega arith in
     let rest : agrees (drop (suc s) l) (replicate n true ++ y) ≡ true =
-    agrees_run l n (suc s) y (λ z b. let f : s + suc z ≡ suc s + z = omega arith in subst (MayBe l true) f (o (suc z) (omega arith))) (subst (λ (k : ℕ). agrees (drop k l) y ≡ true) e h) in
+    agrees_run l n (suc s) y (λ z b. let f : s + suc z ≡ suc s + z = omega arith in subst (MayBe l true) f (o (suc z) (omega arith)))
+    (subst (λ (k : ℕ). agrees (drop k l) y ≡ true) e h) in
     let split : drop s l ≡ get_or l s Unknown ∷ drop (suc s) l = drop-cons l s Unknown first.0 in
-    subst (λ (t : List Cell). agrees t (true ∷ (replicate n true ++ y)) ≡ true) (sym split) (and_both (allows (get_or l s Unknown) true) (agrees (drop (suc s) l) (replicate n true ++ y)) first.1 rest)
+    subst (λ (t : List Cell). agrees t (true ∷ (replicate n true ++ y)) ≡ true) (sym split)
+    (and_both (allows (get_or l s Unknown) true) (agrees (drop (suc s) l) (replicate n true ++ y)) first.1 rest)
 
 -- what remains of a line after its cells at s
-drop_past : (l : List Cell) (s : ℕ) (b : Bool) (y : List Bool) → agrees (drop s l) (b ∷ y) ≡ true → (MayBe l b s) × (agrees (drop (suc s) l) y ≡ true)
+drop_past : (l : List Cell) (s : ℕ) (b : Bool) (y : List Bool) → agrees (drop s l) (b ∷ y) ≡ true
+    → (MayBe l b s) × (agrees (drop (suc s) l) y ≡ true)
 drop_past [] zero b y h = cc
 drop_past [] (suc s) b y h = cc
 drop_past (c ∷ l) zero b y h = ((omega arith, and_left (allows c b) (agrees l y) h), and_right (allows c b) (agrees l y) h)
 drop_past (c ∷ l) (suc s) b y h = let r = drop_past l s b y h in ((omega (arith, r.0.0), r.0.1), r.1)
 
-pub run_agrees : (l : List Cell) (n s : ℕ) (y : List Bool) → agrees (drop s l) (replicate n true ++ y) ≡ true → AllFrom (MayBe l true) n s × (agrees (drop (s + n) l) y ≡ true)
+pub run_agrees : (l : List Cell) (n s : ℕ) (y : List Bool) → agrees (drop s l) (replicate n true ++ y) ≡ true
+    → AllFrom (MayBe l true) n s × (agrees (drop (s + n) l) y ≡ true)
 run_agrees l zero s y h =
     let e : s ≡ s + 0 = omega arith in
     (λ z b. absurd (omega arith), subst (λ (k : ℕ). agrees (drop k l) y ≡ true) e h)
@@ -170,7 +178,8 @@ pub record Begins (y : List Bool) : Type 0 where
 pub begins : (y : List Bool) → Begins y
 begins [] = record { count = 0; rest = []; whole = refl; closed = refl }
 begins (false ∷ y) = record { count = 0; rest = false ∷ y; whole = refl; closed = refl }
-begins (true ∷ y) = let b = begins y in record { count = suc b.count; rest = b.rest; whole = ap (λ (t : List Bool). true ∷ t) b.whole; closed = b.closed }
+begins (true ∷ y) =
+    let b = begins y in record { count = suc b.count; rest = b.rest; whole = ap (λ (t : List Bool). true ∷ t) b.whole; closed = b.closed }
 
 onto_run : (z : ℕ) (a w : List Bool) → onto (replicate z true ++ a) w ≡ onto a (replicate z true ++ w)
 onto_run zero a w = refl
@@ -182,7 +191,9 @@ onto_run (suc z) a w = onto_run z a (true ∷ w) ∙ ap (onto a) (moved z w)
 
 run_run : (z m : ℕ) (w : List Bool) → replicate z true ++ (replicate m true ++ w) ≡ replicate (z + m) true ++ w
 run_run zero m w = ap (λ (k : ℕ). replicate k true ++ w) (sym (zero-add m))
-run_run (suc z) m w = let e : suc (z + m) ≡ suc z + m = omega arith in ap (λ (t : List Bool). true ∷ t) (run_run z m w) ∙ ap (λ (k : ℕ). replicate k true ++ w) e
+run_run (suc z) m w =
+    let e : suc (z + m) ≡ suc z + m = omega arith in
+    ap (λ (t : List Bool). true ∷ t) (run_run z m w) ∙ ap (λ (k : ℕ). replicate k true ++ w) e
 
 -- ---- the two final facts, and back
 
@@ -195,10 +206,12 @@ blankable_to l clue i (j, jl, gap, ahead) =
     let split : drop i l ≡ get_or l i Unknown ∷ drop (suc i) l = drop-cons l i Unknown within in
     let after : agrees (drop (suc i) l) b.0 ≡ true = subst (λ (k : ℕ). agrees (drop k l) b.0 ≡ true) (add-one i) b.1 in
     let here : agrees (drop i l) (false ∷ b.0) ≡ true =
-    subst (λ (t : List Cell). agrees t (false ∷ b.0) ≡ true) (sym split) (and_both (allows (get_or l i Unknown) false) (agrees (drop (suc i) l) b.0) gap.0.1 after) in
+    subst (λ (t : List Cell). agrees t (false ∷ b.0) ≡ true) (sym split)
+    (and_both (allows (get_or l i Unknown) false) (agrees (drop (suc i) l) b.0) gap.0.1 after) in
     let at : length a.0 + 0 ≡ i = omega arith in (
       onto a.0 (false ∷ b.0),
-      subst (λ (t : List Cell). agrees t (onto a.0 (false ∷ b.0)) ≡ true) (onto_behind Unknown l i (omega arith)) (agrees_onto (behind Unknown l i) (drop i l) a.0 (false ∷ b.0) a.1 here),
+      subst (λ (t : List Cell). agrees t (onto a.0 (false ∷ b.0)) ≡ true) (onto_behind Unknown l i (omega arith))
+          (agrees_onto (behind Unknown l i) (drop i l) a.0 (false ∷ b.0) a.1 here),
       runs_cut a.0 b.0 ∙ ap (λ (p : List ℕ). onto p (runs b.0)) a.2 ∙ ap (onto (behind 0 clue j)) b.2 ∙ onto_behind 0 clue j jl,
       ap (λ (k : ℕ). get_or (onto a.0 (false ∷ b.0)) k false) (sym at) ∙ get_or-onto false a.0 (false ∷ b.0) 0,
     )
@@ -214,7 +227,8 @@ blankable_from l clue i h (x, agree, is, at) =
     let parts = onto_split (runs a) (runs b) clue (sym (runs_cut a b) ∙ ap runs whole ∙ is) in
     let j = length (runs a) in
     let both : agrees (onto (behind Unknown l i) (drop i l)) (onto a (false ∷ b)) ≡ true =
-    subst (λ (t : List Cell). agrees t (onto a (false ∷ b)) ≡ true) (sym (onto_behind Unknown l i (omega arith))) (subst (λ (t : List Bool). agrees l t ≡ true) (sym whole) agree) in
+    subst (λ (t : List Cell). agrees t (onto a (false ∷ b)) ≡ true) (sym (onto_behind Unknown l i (omega arith)))
+    (subst (λ (t : List Bool). agrees l t ≡ true) (sym whole) agree) in
     let cut = onto_agrees (behind Unknown l i) (drop i l) a (false ∷ b) (length_behind Unknown l i ∙ sym (length_behind false x i)) both in
     let here = drop_past l i false b cut.1 in
     let after : agrees (drop (i + 1) l) b ≡ true = subst (λ (k : ℕ). agrees (drop k l) b ≡ true) (sym (add-one i)) here.1 in (
@@ -251,10 +265,13 @@ fillable_to l clue i pos (j, jl, (z, zb, w)) =
     let x = onto a.0 (replicate c true ++ b.0) in
     let clue_at : c ∷ drop (j + 1) clue ≡ drop j clue = ap (λ (k : ℕ). c ∷ drop k clue) (add-one j) ∙ sym (drop-cons clue j 0 jl) in (
       x,
-      subst (λ (t : List Cell). agrees t x ≡ true) (onto_behind Unknown l s (omega arith)) (agrees_onto (behind Unknown l s) (drop s l) a.0 (replicate c true ++ b.0) a.1 here),
-      runs_about a.0 c b.0 cp a.3 b.3 ∙ ap (λ (p : List ℕ). onto p (c ∷ runs b.0)) a.2 ∙ ap (λ (q : List ℕ). onto (behind 0 clue j) (c ∷ q)) b.2
+      subst (λ (t : List Cell). agrees t x ≡ true) (onto_behind Unknown l s (omega arith))
+          (agrees_onto (behind Unknown l s) (drop s l) a.0 (replicate c true ++ b.0) a.1 here),
+      runs_about a.0 c b.0 cp a.3 b.3 ∙ ap (λ (p : List ℕ). onto p (c ∷ runs b.0)) a.2
+          ∙ ap (λ (q : List ℕ). onto (behind 0 clue j) (c ∷ q)) b.2
           ∙ ap (onto (behind 0 clue j)) clue_at ∙ onto_behind 0 clue j (omega arith),
-      ap (λ (k : ℕ). get_or x k false) (sym at) ∙ get_or-onto false a.0 (replicate c true ++ b.0) (i - s) ∙ get_or-run c b.0 (i - s) (omega arith),
+      ap (λ (k : ℕ). get_or x k false) (sym at) ∙ get_or-onto false a.0 (replicate c true ++ b.0) (i - s)
+          ∙ get_or-run c b.0 (i - s) (omega arith),
     )
 
 pub begins_some : (y : List Bool) (b : Begins y) → get_or y 0 false ≡ true → 0 < b.count
@@ -278,13 +295,17 @@ fillable_from l clue i h (x, agree, is, at) =
     let y = replicate c true ++ v.rest in
     let whole : onto u.rest y ≡ x =
     ap (onto u.rest) (sym (run_run u.count v.count v.rest)) ∙ sym (onto_run u.count u.rest (replicate v.count true ++ v.rest))
-    ∙ ap (λ (t : List Bool). onto t (replicate v.count true ++ v.rest)) (sym u.whole) ∙ ap (onto (behind false x i)) (sym v.whole) ∙ onto_behind false x i (omega arith) in
-    let parts = onto_split (runs u.rest) (c ∷ runs v.rest) clue (sym (runs_about u.rest c v.rest (omega arith) u.closed v.closed) ∙ ap runs whole ∙ is) in
+    ∙ ap (λ (t : List Bool). onto t (replicate v.count true ++ v.rest)) (sym u.whole) ∙ ap (onto (behind false x i)) (sym v.whole)
+    ∙ onto_behind false x i (omega arith) in
+    let parts =
+    onto_split (runs u.rest) (c ∷ runs v.rest) clue
+    (sym (runs_about u.rest c v.rest (omega arith) u.closed v.closed) ∙ ap runs whole ∙ is) in
     let j = length (runs u.rest) in
     let head = drop_head clue j c (runs v.rest) parts.1 in
     let inside : s ≤ length l = omega arith in
     let both : agrees (onto (behind Unknown l s) (drop s l)) (onto u.rest y) ≡ true =
-    subst (λ (t : List Cell). agrees t (onto u.rest y) ≡ true) (sym (onto_behind Unknown l s inside)) (subst (λ (t : List Bool). agrees l t ≡ true) (sym whole) agree) in
+    subst (λ (t : List Cell). agrees t (onto u.rest y) ≡ true) (sym (onto_behind Unknown l s inside))
+    (subst (λ (t : List Bool). agrees l t ≡ true) (sym whole) agree) in
     let cut = onto_agrees (behind Unknown l s) (drop s l) u.rest y (length_behind Unknown l s) both in
     let run = run_agrees l c s v.rest cut.1 in
     let start : s ≡ i + (v.count - 1) + 1 - c = omega arith in
@@ -298,8 +319,12 @@ fillable_from l clue i h (x, agree, is, at) =
     (omega arith, subst (λ (k : ℕ). IsClosed (behind Unknown l k) (behind 0 clue j) × AllFrom (MayBe l true) c k) start (before, run.0)) in
     let enough : v.count - 1 < c = omega arith in
     let found : SomeFrom (λ e. IsEndAfter l (behind 0 clue j) c e × IsClosed (drop (e + 1) l) (drop (j + 1) clue)) c i =
-    (v.count - 1, enough, (ends, subst (λ (k : ℕ). IsClosed (drop k l) (drop (j + 1) clue)) past after)) in
-    (j, head.2, subst (λ (n : ℕ). SomeFrom (λ e. IsEndAfter l (behind 0 clue j) n e × IsClosed (drop (e + 1) l) (drop (j + 1) clue)) n i) (sym head.0) found)
+    (v.count - 1, enough, (ends, subst (λ (k : ℕ). IsClosed (drop k l) (drop (j + 1) clue)) past after)) in (
+      j,
+      head.2,
+      subst (λ (n : ℕ). SomeFrom (λ e. IsEndAfter l (behind 0 clue j) n e × IsClosed (drop (e + 1) l) (drop (j + 1) clue)) n i)
+          (sym head.0) found,
+    )
 
 -- ---- no run at an end: the end of the line, or a gap
 
@@ -311,7 +336,8 @@ closed_none cs (b ∷ y, agree, is, closed) = cc
 pub closed_first : (c : Cell) (cells : List Cell) (cs : List ℕ) → IsClosed (c ∷ cells) cs → (allows c false ≡ true) × HasPlacing cells cs
 closed_first c cells cs ([], agree, is, closed) = cc
 closed_first c cells cs (true ∷ y, agree, is, closed) = cc
-closed_first c cells cs (false ∷ y, agree, is, closed) = (and_left (allows c false) (agrees cells y) agree, (y, and_right (allows c false) (agrees cells y) agree, is))
+closed_first c cells cs (false ∷ y, agree, is, closed) =
+    (and_left (allows c false) (agrees cells y) agree, (y, and_right (allows c false) (agrees cells y) agree, is))
 
 pub first_closed : (c : Cell) (cells : List Cell) (cs : List ℕ) → allows c false ≡ true → HasPlacing cells cs → IsClosed (c ∷ cells) cs
 first_closed c cells cs a (y, agree, is) = (false ∷ y, and_both (allows c false) (agrees cells y) a agree, is, refl)
@@ -320,7 +346,8 @@ pub none_closed : (cs : List ℕ) → length cs ≡ 0 → IsClosed [] cs
 none_closed [] h = ([], refl, refl, refl)
 none_closed (c ∷ cs) h = absurd (omega arith)
 
-pub closed_behind_to : (l : List Cell) (runs : List ℕ) (s : ℕ) → s ≤ length l → IsClosed (behind Unknown l s) runs → ((s ≡ 0) × (length runs ≡ 0)) ⊎ ((1 ≤ s) × IsGapAfter l runs (s - 1))
+pub closed_behind_to : (l : List Cell) (runs : List ℕ) (s : ℕ) → s ≤ length l → IsClosed (behind Unknown l s) runs
+    → ((s ≡ 0) × (length runs ≡ 0)) ⊎ ((1 ≤ s) × IsGapAfter l runs (s - 1))
 closed_behind_to l runs zero sl h = inl (refl, closed_none runs h)
 closed_behind_to l runs (suc s) sl h =
     let first = closed_first (get_or l s Unknown) (behind Unknown l s) runs h in
@@ -328,7 +355,8 @@ closed_behind_to l runs (suc s) sl h =
     let gap : IsGapAfter l runs s = ((omega arith, first.0), first.1) in
     inr (omega arith, subst (IsGapAfter l runs) e gap)
 
-pub closed_behind_from : (l : List Cell) (runs : List ℕ) (s : ℕ) → ((s ≡ 0) × (length runs ≡ 0)) ⊎ ((1 ≤ s) × IsGapAfter l runs (s - 1)) → IsClosed (behind Unknown l s) runs
+pub closed_behind_from : (l : List Cell) (runs : List ℕ) (s : ℕ) → ((s ≡ 0) × (length runs ≡ 0)) ⊎ ((1 ≤ s) × IsGapAfter l runs (s - 1))
+    → IsClosed (behind Unknown l s) runs
 closed_behind_from l runs zero (inl h) = none_closed runs h.1
 closed_behind_from l runs zero (inr h) = let bad : 1 ≤ 0 = h.0 in absurd (omega arith)
 closed_behind_from l runs (suc s) (inl h) = let bad : suc s ≡ 0 = h.0 in absurd (omega arith)
@@ -343,35 +371,44 @@ behind_turned : {A : Type 0} (d : A) (xs : List A) (p m : ℕ) → p + m ≡ len
 behind_turned {A = A} d xs zero m e = sym (drop_of_length-le xs {i = m} (omega arith))
 behind_turned {A = A} d xs (suc p) m e =
     let within : m < length xs = omega arith in
-    let at : get_or (reverse xs) p d ≡ get_or xs m d = (let f : length xs - 1 - p ≡ m = omega arith in get_or-reverse xs p d (omega arith) ∙ ap (λ (k : ℕ). get_or xs k d) f) in
-    ap (λ (z : List A). get_or (reverse xs) p d ∷ z) (behind_turned d xs p (suc m) (omega arith)) ∙ ap (λ (z : A). z ∷ drop (suc m) xs) at ∙ sym (drop-cons xs m d within)
+    let at : get_or (reverse xs) p d ≡ get_or xs m d =
+    (let f : length xs - 1 - p ≡ m = omega arith in get_or-reverse xs p d (omega arith) ∙ ap (λ (k : ℕ). get_or xs k d) f) in
+    ap (λ (z : List A). get_or (reverse xs) p d ∷ z) (behind_turned d xs p (suc m) (omega arith)) ∙ ap (λ (z : A). z ∷ drop (suc m) xs) at
+    ∙ sym (drop-cons xs m d within)
 
 -- a gap of the turned line is a gap ahead
-pub turned_gap_to : (l : List Cell) (clue : List ℕ) (j i : ℕ) → j ≤ length clue → i < length l → IsGap (reverse l) (reverse clue) (length clue - j) (length l - 1 - i) → IsGapAhead l clue j i
+pub turned_gap_to : (l : List Cell) (clue : List ℕ) (j i : ℕ) → j ≤ length clue → i < length l
+    → IsGap (reverse l) (reverse clue) (length clue - j) (length l - 1 - i) → IsGapAhead l clue j i
 turned_gap_to l clue j i jl il g =
     let p = length l - 1 - i in
     let back : length l - 1 - p ≡ i = omega arith in
-    let cell : get_or (reverse l) p Unknown ≡ get_or l i Unknown = get_or-reverse l p Unknown (omega arith) ∙ ap (λ (k : ℕ). get_or l k Unknown) back in
+    let cell : get_or (reverse l) p Unknown ≡ get_or l i Unknown =
+    get_or-reverse l p Unknown (omega arith) ∙ ap (λ (k : ℕ). get_or l k Unknown) back in
     let cells : behind Unknown (reverse l) p ≡ drop (i + 1) l = behind_turned Unknown l p (i + 1) (omega arith) in
     let runs : behind 0 (reverse clue) (length clue - j) ≡ drop j clue = behind_turned 0 clue (length clue - j) j (omega arith) in (
       (il, subst (λ (c : Cell). allows c false ≡ true) cell g.0.1),
-      subst (λ (cs : List ℕ). HasPlacing (drop (i + 1) l) cs) runs (subst (λ (t : List Cell). HasPlacing t (behind 0 (reverse clue) (length clue - j))) cells g.1),
+      subst (λ (cs : List ℕ). HasPlacing (drop (i + 1) l) cs) runs
+          (subst (λ (t : List Cell). HasPlacing t (behind 0 (reverse clue) (length clue - j))) cells g.1),
     )
 
-pub turned_gap_from : (l : List Cell) (clue : List ℕ) (j i : ℕ) → j ≤ length clue → i < length l → IsGapAhead l clue j i → IsGap (reverse l) (reverse clue) (length clue - j) (length l - 1 - i)
+pub turned_gap_from : (l : List Cell) (clue : List ℕ) (j i : ℕ) → j ≤ length clue → i < length l → IsGapAhead l clue j i
+    → IsGap (reverse l) (reverse clue) (length clue - j) (length l - 1 - i)
 turned_gap_from l clue j i jl il g =
     let p = length l - 1 - i in
     let back : length l - 1 - p ≡ i = omega arith in
-    let cell : get_or (reverse l) p Unknown ≡ get_or l i Unknown = get_or-reverse l p Unknown (omega arith) ∙ ap (λ (k : ℕ). get_or l k Unknown) back in
+    let cell : get_or (reverse l) p Unknown ≡ get_or l i Unknown =
+    get_or-reverse l p Unknown (omega arith) ∙ ap (λ (k : ℕ). get_or l k Unknown) back in
     let cells : behind Unknown (reverse l) p ≡ drop (i + 1) l = behind_turned Unknown l p (i + 1) (omega arith) in
     let runs : behind 0 (reverse clue) (length clue - j) ≡ drop j clue = behind_turned 0 clue (length clue - j) j (omega arith) in
     let within : p < length (reverse l) = omega (arith, length-reverse l) in (
       (within, subst (λ (c : Cell). allows c false ≡ true) (sym cell) g.0.1),
-      subst (λ (t : List Cell). HasPlacing t (behind 0 (reverse clue) (length clue - j))) (sym cells) (subst (λ (cs : List ℕ). HasPlacing (drop (i + 1) l) cs) (sym runs) g.1),
+      subst (λ (t : List Cell). HasPlacing t (behind 0 (reverse clue) (length clue - j))) (sym cells)
+          (subst (λ (cs : List ℕ). HasPlacing (drop (i + 1) l) cs) (sym runs) g.1),
     )
 
 -- the end of the line, or a gap, after a run's end
-pub closed_ahead_to : (l : List Cell) (clue : List ℕ) (j p : ℕ) → j ≤ length clue → p ≤ length l → IsClosed (drop p l) (drop j clue) → ((p ≡ length l) × (j ≡ length clue)) ⊎ IsGapAhead l clue j p
+pub closed_ahead_to : (l : List Cell) (clue : List ℕ) (j p : ℕ) → j ≤ length clue → p ≤ length l → IsClosed (drop p l) (drop j clue)
+    → ((p ≡ length l) × (j ≡ length clue)) ⊎ IsGapAhead l clue j p
 closed_ahead_to l clue j p jl pl h = by (cases_lt p (length l))
   where
     by : (p < length l) ⊎ (length l ≤ p) → ((p ≡ length l) × (j ≡ length clue)) ⊎ IsGapAhead l clue j p
@@ -381,10 +418,12 @@ closed_ahead_to l clue j p jl pl h = by (cases_lt p (length l))
         inl (omega arith, omega (arith, length-drop j clue))
     by (inl within) =
         let split : drop p l ≡ get_or l p Unknown ∷ drop (suc p) l = drop-cons l p Unknown within in
-        let first = closed_first (get_or l p Unknown) (drop (suc p) l) (drop j clue) (subst (λ (t : List Cell). IsClosed t (drop j clue)) split h) in
+        let first =
+        closed_first (get_or l p Unknown) (drop (suc p) l) (drop j clue) (subst (λ (t : List Cell). IsClosed t (drop j clue)) split h) in
         inr ((within, first.0), subst (λ (k : ℕ). HasPlacing (drop k l) (drop j clue)) (sym (add-one p)) first.1)
 
-pub closed_ahead_from : (l : List Cell) (clue : List ℕ) (j p : ℕ) → ((p ≡ length l) × (j ≡ length clue)) ⊎ IsGapAhead l clue j p → IsClosed (drop p l) (drop j clue)
+pub closed_ahead_from : (l : List Cell) (clue : List ℕ) (j p : ℕ) → ((p ≡ length l) × (j ≡ length clue)) ⊎ IsGapAhead l clue j p
+    → IsClosed (drop p l) (drop j clue)
 closed_ahead_from l clue j p (inl h) =
     let gone : [] ≡ drop p l = sym (drop_of_length-le l {i = p} (omega (arith, h.0))) in
     let none : length (drop j clue) ≡ 0 = ap length (drop_of_length-le clue {i = j} (omega (arith, h.1))) in

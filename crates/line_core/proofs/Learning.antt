@@ -21,21 +21,29 @@ map-append : {X Y : Type 0} (f : X → Y) (xs ys : List X) → map f (xs ++ ys) 
 map-append f [] ys = refl
 map-append f (x ∷ xs) ys = λ i. f x ∷ map-append f xs ys i
 
-one_further : (b : Bool) (first : List Bool) (lines : List (List Bool)) → map (λ rest. first ++ rest) (map (λ cells. b ∷ cells) lines) ≡ map (λ rest. (first ++ b ∷ []) ++ rest) lines
+one_further : (b : Bool) (first : List Bool) (lines : List (List Bool))
+    → map (λ rest. first ++ rest) (map (λ cells. b ∷ cells) lines) ≡ map (λ rest. (first ++ b ∷ []) ++ rest) lines
 one_further b first [] = refl
 one_further b first (x ∷ xs) = λ i. sym (append_assoc first (b ∷ []) x) i ∷ one_further b first xs i
 
-beginning-suc : (n : ℕ) (first : List Bool) (line : List Cell) (clue : List ℕ) → beginning (suc n) first line clue ≡ beginning n (first ++ true ∷ []) line clue ++ beginning n (first ++ false ∷ []) line clue
+beginning-suc : (n : ℕ) (first : List Bool) (line : List Cell) (clue : List ℕ)
+    → beginning (suc n) first line clue ≡ beginning n (first ++ true ∷ []) line clue ++ beginning n (first ++ false ∷ []) line clue
 beginning-suc n first line clue =
     let f = λ (rest : List Bool). first ++ rest in
     let lines = full_lines n in
-    ap (filter (is_placing line clue)) (map-append f (map (λ (cells : List Bool). true ∷ cells) lines) (map (λ (cells : List Bool). false ∷ cells) lines))
-    ∙ ap (λ (xs : List (List Bool)). filter (is_placing line clue) (xs ++ map f (map (λ (cells : List Bool). false ∷ cells) lines))) (one_further true first lines)
-    ∙ ap (λ (xs : List (List Bool)). filter (is_placing line clue) (map (λ rest. (first ++ true ∷ []) ++ rest) lines ++ xs)) (one_further false first lines)
-    ∙ filter-append (is_placing line clue) (map (λ rest. (first ++ true ∷ []) ++ rest) lines) (map (λ rest. (first ++ false ∷ []) ++ rest) lines)
+    ap (filter (is_placing line clue))
+    (map-append f (map (λ (cells : List Bool). true ∷ cells) lines) (map (λ (cells : List Bool). false ∷ cells) lines))
+    ∙ ap (λ (xs : List (List Bool)). filter (is_placing line clue) (xs ++ map f (map (λ (cells : List Bool). false ∷ cells) lines)))
+    (one_further true first lines)
+    ∙ ap (λ (xs : List (List Bool)). filter (is_placing line clue) (map (λ rest. (first ++ true ∷ []) ++ rest) lines ++ xs))
+    (one_further false first lines)
+    ∙ filter-append (is_placing line clue) (map (λ rest. (first ++ true ∷ []) ++ rest) lines)
+    (map (λ rest. (first ++ false ∷ []) ++ rest) lines)
 
 -- where a cell is left, a placing goes on with it filled or blank
-pub placings_beginning-split : (first : List Bool) (line : List Cell) (clue : List ℕ) → length first < length line → placings_beginning first line clue ≡ placings_beginning (first ++ true ∷ []) line clue ++ placings_beginning (first ++ false ∷ []) line clue
+pub placings_beginning-split : (first : List Bool) (line : List Cell) (clue : List ℕ) → length first < length line
+    → placings_beginning first line clue
+    ≡ placings_beginning (first ++ true ∷ []) line clue ++ placings_beginning (first ++ false ∷ []) line clue
 placings_beginning-split first line clue h =
     let n = length line - length first - 1 in
     let e : length line - length first ≡ suc n = omega arith in
@@ -44,7 +52,8 @@ placings_beginning-split first line clue h =
     rw (e, et, ef) (beginning-suc n first line clue)
 
 -- and where none is left, the cells are the placing, or there is none
-pub placings_beginning-full : (full : List Bool) (line : List Cell) (clue : List ℕ) → length full ≡ length line → placings_beginning full line clue ≡ cond (is_placing line clue full) (full ∷ []) []
+pub placings_beginning-full : (full : List Bool) (line : List Cell) (clue : List ℕ) → length full ≡ length line
+    → placings_beginning full line clue ≡ cond (is_placing line clue full) (full ∷ []) []
 placings_beginning-full full line clue h =
     let e : length line - length full ≡ 0 = omega arith in
     rw e (ap (λ (x : List Bool). filter (is_placing line clue) (x ∷ [])) (append-nil full))
@@ -65,14 +74,16 @@ take-set_same (suc n) [] b = refl
 take-set_same (suc n) (y ∷ ys) b = λ i. y ∷ take-set_same n ys b i
 
 -- where the cells below n + 1 are those with one written at n, the cells below n are the same
-pub kept_below : (n : ℕ) (xs ys : List Bool) (b : Bool) → n < length ys → take (n + 1) xs ≡ take (n + 1) (set ys n b) → take n xs ≡ take n ys
+pub kept_below : (n : ℕ) (xs ys : List Bool) (b : Bool) → n < length ys → take (n + 1) xs ≡ take (n + 1) (set ys n b)
+    → take n xs ≡ take n ys
 kept_below n xs ys b h e =
     let by_suc : take (suc n) xs ≡ take (suc n) (set ys n b) = rw (← add-one n) e in
     first_of n xs (set ys n b) by_suc ∙ take-set_same n ys b
 
 -- the placings that go on with a filled cell, and then those that go on with a blank one
 pub both_colours : (first : List Bool) (line : List Cell) (clue : List ℕ) (x y z : Option (List Cell)) → length first < length line
-    → y ≡ fold learn x (placings_beginning (first ++ true ∷ []) line clue) → z ≡ fold learn y (placings_beginning (first ++ false ∷ []) line clue)
+    → y ≡ fold learn x (placings_beginning (first ++ true ∷ []) line clue)
+    → z ≡ fold learn y (placings_beginning (first ++ false ∷ []) line clue)
     → z ≡ fold learn x (placings_beginning first line clue)
 both_colours first line clue x y z h filled blank =
     blank
@@ -80,7 +91,8 @@ both_colours first line clue x y z h filled blank =
     ∙ sym (fold-append learn x (placings_beginning (first ++ true ∷ []) line clue) (placings_beginning (first ++ false ∷ []) line clue))
     ∙ ap (fold learn x) (sym (placings_beginning-split first line clue h))
 
-pub is_placing-holds : (line : List Cell) (clue : List ℕ) (full : List Bool) → agrees line full ≡ true → runs full ≡ clue → is_placing line clue full ≡ true
+pub is_placing-holds : (line : List Cell) (clue : List ℕ) (full : List Bool) → agrees line full ≡ true → runs full ≡ clue
+    → is_placing line clue full ≡ true
 is_placing-holds line clue full a r = rw (a, (bytes_eq-Decides (runs full) clue).1 r) refl
 
 pub is_placing-agrees : (line : List Cell) (clue : List ℕ) (full : List Bool) → agrees line full ≡ false → is_placing line clue full ≡ false
@@ -96,7 +108,8 @@ false_by_second false b h = refl
 
 pub is_placing-runs : (line : List Cell) (clue : List ℕ) (full : List Bool) → (runs full ≡ clue → ⊥) → is_placing line clue full ≡ false
 is_placing-runs line clue full r =
-    false_by_second (agrees line full) (bytes_eq (runs full) clue) (false_unless (bytes_eq (runs full) clue) (λ e. r ((bytes_eq-Decides (runs full) clue).0 e)))
+    false_by_second (agrees line full) (bytes_eq (runs full) clue)
+    (false_unless (bytes_eq (runs full) clue) (λ e. r ((bytes_eq-Decides (runs full) clue).0 e)))
 
 each_append : {X : Type 0} (P : X → Type 0) (xs ys : List X) → AllByRecursion P xs → AllByRecursion P ys → AllByRecursion P (xs ++ ys)
 each_append P [] ys h k = k
@@ -108,7 +121,8 @@ each_kept P test (x ∷ xs) h =
     elim (test x) as (λ b. AllByRecursion P (cond b (x ∷ filter test xs) (filter test xs)))
     [ true ↦ (h.0, each_kept P test xs h.1) | false ↦ each_kept P test xs h.1 ]
 
-one_longer : (b : Bool) (n : ℕ) (lines : List (List Bool)) → AllByRecursion (λ cells. length cells ≡ n) lines → AllByRecursion (λ cells. length cells ≡ suc n) (map (λ cells. b ∷ cells) lines)
+one_longer : (b : Bool) (n : ℕ) (lines : List (List Bool)) → AllByRecursion (λ cells. length cells ≡ n) lines
+    → AllByRecursion (λ cells. length cells ≡ suc n) (map (λ cells. b ∷ cells) lines)
 one_longer b n [] h = h
 one_longer b n (x ∷ xs) h = (ap suc h.0, one_longer b n xs h.1)
 
@@ -129,18 +143,22 @@ kept_at-unknown (x ∷ xs) k = kept_at-unknown xs k
 kept_at-filled : (xs : List (List Bool)) (k : ℕ) → kept_at Filled xs k ≡ cond (list_all (λ x. get_or x k false) xs) Filled Unknown
 kept_at-filled [] k = refl
 kept_at-filled (x ∷ xs) k =
-    elim (get_or x k false) as (λ b. kept_at (common Filled (colour b)) xs k ≡ cond (b && list_all (λ y. get_or y k false) xs) Filled Unknown)
+    elim (get_or x k false) as
+    (λ b. kept_at (common Filled (colour b)) xs k ≡ cond (b && list_all (λ y. get_or y k false) xs) Filled Unknown)
     [ true ↦ kept_at-filled xs k | false ↦ kept_at-unknown xs k ]
 
 kept_at-blank : (xs : List (List Bool)) (k : ℕ) → kept_at Blank xs k ≡ cond (list_all (λ x. not (get_or x k false)) xs) Blank Unknown
 kept_at-blank [] k = refl
 kept_at-blank (x ∷ xs) k =
-    elim (get_or x k false) as (λ b. kept_at (common Blank (colour b)) xs k ≡ cond (not b && list_all (λ y. not (get_or y k false)) xs) Blank Unknown)
+    elim (get_or x k false) as
+    (λ b. kept_at (common Blank (colour b)) xs k ≡ cond (not b && list_all (λ y. not (get_or y k false)) xs) Blank Unknown)
     [ true ↦ kept_at-unknown xs k | false ↦ kept_at-blank xs k ]
 
 kept_at-shared : (x : List Bool) (xs : List (List Bool)) (k : ℕ) → kept_at (colour (get_or x k false)) xs k ≡ shared_at (x ∷ xs) k
 kept_at-shared x xs k =
-    elim (get_or x k false) as (λ b. kept_at (colour b) xs k ≡ cond (b && list_all (λ y. get_or y k false) xs) Filled (cond (not b && list_all (λ y. not (get_or y k false)) xs) Blank Unknown))
+    elim (get_or x k false) as
+    (λ b. kept_at (colour b) xs k
+    ≡ cond (b && list_all (λ y. get_or y k false) xs) Filled (cond (not b && list_all (λ y. not (get_or y k false)) xs) Blank Unknown))
     [ true ↦ kept_at-filled xs k | false ↦ kept_at-blank xs k ]
 
 length-common_all : (cells : List Cell) (x : List Bool) → length x ≡ length cells → length (common_all cells x) ≡ length cells
@@ -148,7 +166,8 @@ length-common_all [] x h = refl
 length-common_all (c ∷ cells) [] h = cc
 length-common_all (c ∷ cells) (b ∷ x) h = ap suc (length-common_all cells x (omega arith))
 
-get_or-common_all : (cells : List Cell) (x : List Bool) (k : ℕ) → length x ≡ length cells → k < length cells → get_or (common_all cells x) k Unknown ≡ common (get_or cells k Unknown) (colour (get_or x k false))
+get_or-common_all : (cells : List Cell) (x : List Bool) (k : ℕ) → length x ≡ length cells → k < length cells
+    → get_or (common_all cells x) k Unknown ≡ common (get_or cells k Unknown) (colour (get_or x k false))
 get_or-common_all [] x k e h = absurd (omega arith)
 get_or-common_all (c ∷ cells) [] k e h = cc
 get_or-common_all (c ∷ cells) (b ∷ x) zero e h = refl
@@ -199,4 +218,5 @@ fold_learn-deduced line clue =
     let lines = full_lines (length line) in
     let none_left : length line - 0 ≡ length line = omega arith in
     rw (none_left, map-id lines)
-    (fold_learn-shared (length line) (placings line clue) (each_kept (λ x. length x ≡ length line) (is_placing line clue) lines (length-full_lines (length line))))
+    (fold_learn-shared (length line) (placings line clue)
+    (each_kept (λ x. length x ≡ length line) (is_placing line clue) lines (length-full_lines (length line))))

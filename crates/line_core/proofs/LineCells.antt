@@ -43,35 +43,53 @@ open_from f false n e = refl
 open_from true true n e = absurd (n refl refl)
 open_from false true n e = absurd (true≢false (sym e))
 
-pub free_is : (len filled blank m : ℕ) → IsMaskOf (λ i. (i < len) × (has filled i ≡ false)) m → IsMaskOf (MayBe (line_cells len filled blank) false) m
+pub free_is : (len filled blank m : ℕ) → IsMaskOf (λ i. (i < len) × (has filled i ≡ false)) m
+    → IsMaskOf (MayBe (line_cells len filled blank) false) m
 free_is len filled blank m p =
     let long = length_line len filled blank in
     mask_same (λ i. (i < len) × (has filled i ≡ false)) (MayBe (line_cells len filled blank) false) m p
-    (λ i a. let l : i < len = a.0 in (omega arith, subst (λ (c : Cell). allows c false ≡ true) (sym (cell_at len filled blank i l)) (free_to (has filled i) (has blank i) a.1)))
-    (λ i a. let within : i < length (line_cells len filled blank) = a.0 in let l : i < len = omega arith in (l, free_from (has filled i) (has blank i) (subst (λ (c : Cell). allows c false ≡ true) (cell_at len filled blank i l) a.1)))
+    (λ i a. let l : i < len = a.0 in (
+      omega arith,
+      subst (λ (c : Cell). allows c false ≡ true) (sym (cell_at len filled blank i l)) (free_to (has filled i) (has blank i) a.1),
+    ))
+    (λ i a. let within : i < length (line_cells len filled blank) = a.0 in
+    let l : i < len = omega arith in
+    (l, free_from (has filled i) (has blank i) (subst (λ (c : Cell). allows c false ≡ true) (cell_at len filled blank i l) a.1)))
 
-pub open_is : (len filled blank m : ℕ) → ((i : ℕ) → Has filled i → Has blank i → ⊥) → IsMaskOf (λ i. (i < len) × (has blank i ≡ false)) m → IsMaskOf (MayBe (line_cells len filled blank) true) m
+pub open_is : (len filled blank m : ℕ) → ((i : ℕ) → Has filled i → Has blank i → ⊥) → IsMaskOf (λ i. (i < len) × (has blank i ≡ false)) m
+    → IsMaskOf (MayBe (line_cells len filled blank) true) m
 open_is len filled blank m apart p =
     let long = length_line len filled blank in
     mask_same (λ i. (i < len) × (has blank i ≡ false)) (MayBe (line_cells len filled blank) true) m p
-    (λ i a. let l : i < len = a.0 in (omega arith, subst (λ (c : Cell). allows c true ≡ true) (sym (cell_at len filled blank i l)) (open_to (has filled i) (has blank i) a.1)))
-    (λ i a. let within : i < length (line_cells len filled blank) = a.0 in let l : i < len = omega arith in
-    (l, open_from (has filled i) (has blank i) (λ f e. apart i (true_has filled i f) (true_has blank i e)) (subst (λ (c : Cell). allows c true ≡ true) (cell_at len filled blank i l) a.1)))
+    (λ i a. let l : i < len = a.0 in (
+      omega arith,
+      subst (λ (c : Cell). allows c true ≡ true) (sym (cell_at len filled blank i l)) (open_to (has filled i) (has blank i) a.1),
+    ))
+    (λ i a. let within : i < length (line_cells len filled blank) = a.0 in let l : i < len = omega arith in (
+      l,
+      open_from (has filled i) (has blank i) (λ f e. apart i (true_has filled i f) (true_has blank i e))
+          (subst (λ (c : Cell). allows c true ≡ true) (cell_at len filled blank i l) a.1),
+    ))
 
 -- one more element written
-pub written_more : (P : ℕ → ℕ → Type 0) (xs : List ℕ) (j v : ℕ) → j < length xs → P j v → ((k : ℕ) → k < j → P k (get_or xs k 0)) → (k : ℕ) → k < j + 1 → P k (get_or (set xs j v) k 0)
+pub written_more : (P : ℕ → ℕ → Type 0) (xs : List ℕ) (j v : ℕ) → j < length xs → P j v → ((k : ℕ) → k < j → P k (get_or xs k 0)) → (k : ℕ)
+    → k < j + 1 → P k (get_or (set xs j v) k 0)
 written_more P xs j v l here below k h =
     elim (cases_lt k j) [
       | inl low ↦ (let ne : k ≢ j = omega arith in subst (P k) (sym (get_or-set_other xs j k v 0 ne)) (below k low))
-      | inr high ↦ (let e : j ≡ k = omega arith in subst (λ (z : ℕ). P z (get_or (set xs j v) z 0)) e (subst (P j) (sym (get_or-set_same xs j v 0 l)) here))
+      | inr high ↦
+          (let e : j ≡ k = omega arith in
+          subst (λ (z : ℕ). P z (get_or (set xs j v) z 0)) e (subst (P j) (sym (get_or-set_same xs j v 0 l)) here))
     ]
 
 -- a number of a clue is the length of a run
-pub length_at : (width : ℕ) (clue : List ℕ) (j : ℕ) → AreLengths width clue → j < length clue → (0 < get_or clue j 0) × (get_or clue j 0 ≤ width)
+pub length_at : (width : ℕ) (clue : List ℕ) (j : ℕ) → AreLengths width clue → j < length clue
+    → (0 < get_or clue j 0) × (get_or clue j 0 ≤ width)
 length_at width clue j are l = (search rules, search rules)
 
 -- a line of which nothing is known
-pub all_may_be : (len : ℕ) (f : Bool) (m : ℕ) → allows Unknown f ≡ true → IsMaskOf (λ i. i < len) m → IsMaskOf (MayBe (replicate len Unknown) f) m
+pub all_may_be : (len : ℕ) (f : Bool) (m : ℕ) → allows Unknown f ≡ true → IsMaskOf (λ i. i < len) m
+    → IsMaskOf (MayBe (replicate len Unknown) f) m
 all_may_be len f m a p =
     let e = length-replicate len Unknown in
     mask_same (λ i. i < len) (MayBe (replicate len Unknown) f) m p
@@ -113,7 +131,8 @@ cell_itself Filled = refl
 cell_itself Blank = refl
 
 -- a cell written into both masks
-pub cells-set : (len f b nf nb p : ℕ) (c : Cell) → p < len → IsMaskOf (IsMarked (Has f) p (is_filled c)) nf → IsMaskOf (IsMarked (Has b) p (is_blank c)) nb
+pub cells-set : (len f b nf nb p : ℕ) (c : Cell) → p < len → IsMaskOf (IsMarked (Has f) p (is_filled c)) nf
+    → IsMaskOf (IsMarked (Has b) p (is_blank c)) nb
     → line_cells len nf nb ≡ set (line_cells len f b) p c
 cells-set len f b nf nb p c h mf mb =
     let old = line_cells len f b in
@@ -122,10 +141,14 @@ cells-set len f b nf nb p c h mf mb =
     let within : k < len = omega (arith, length_line len nf nb) in
     cell_at len nf nb k within ∙ elim (same_or_other k p) as (λ z. cell_of (has nf k) (has nb k) ≡ get_or (set old p c) k Unknown) [
       | inl e ↦
-          (let at : cell_of (has nf p) (has nb p) ≡ c = ap (λ (v : Bool). cell_of v (has nb p)) (marked_at f nf p (is_filled c) mf) ∙ ap (cell_of (is_filled c)) (marked_at b nb p (is_blank c) mb) ∙ cell_itself c in
-          subst (λ (z : ℕ). cell_of (has nf z) (has nb z) ≡ get_or (set old p c) z Unknown) (sym e) (at ∙ sym (get_or-set_same old p c Unknown (omega arith))))
+          (let at : cell_of (has nf p) (has nb p) ≡ c =
+          ap (λ (v : Bool). cell_of v (has nb p)) (marked_at f nf p (is_filled c) mf)
+          ∙ ap (cell_of (is_filled c)) (marked_at b nb p (is_blank c) mb) ∙ cell_itself c in
+          subst (λ (z : ℕ). cell_of (has nf z) (has nb z) ≡ get_or (set old p c) z Unknown) (sym e)
+          (at ∙ sym (get_or-set_same old p c Unknown (omega arith))))
       | inr ne ↦
-          ap (λ (v : Bool). cell_of v (has nb k)) (marked_elsewhere f nf p k (is_filled c) mf ne) ∙ ap (cell_of (has f k)) (marked_elsewhere b nb p k (is_blank c) mb ne)
+          ap (λ (v : Bool). cell_of v (has nb k)) (marked_elsewhere f nf p k (is_filled c) mf ne)
+          ∙ ap (cell_of (has f k)) (marked_elsewhere b nb p k (is_blank c) mb ne)
           ∙ sym (cell_at len f b k within) ∙ sym (get_or-set_other old p k c Unknown ne)
     ])
 
@@ -135,7 +158,8 @@ not_both Filled e h = true≢false (sym h)
 not_both Blank e h = true≢false (sym e)
 
 -- and they stay apart
-pub apart-set : (f b nf nb p : ℕ) (c : Cell) → ((i : ℕ) → Has f i → Has b i → ⊥) → IsMaskOf (IsMarked (Has f) p (is_filled c)) nf → IsMaskOf (IsMarked (Has b) p (is_blank c)) nb → (i : ℕ) → Has nf i → Has nb i → ⊥
+pub apart-set : (f b nf nb p : ℕ) (c : Cell) → ((i : ℕ) → Has f i → Has b i → ⊥) → IsMaskOf (IsMarked (Has f) p (is_filled c)) nf
+    → IsMaskOf (IsMarked (Has b) p (is_blank c)) nb → (i : ℕ) → Has nf i → Has nb i → ⊥
 apart-set f b nf nb p c apart mf mb i x y = by (mf.to i x) (mb.to i y)
   where
     by : IsMarked (Has f) p (is_filled c) i → IsMarked (Has b) p (is_blank c) i → ⊥
@@ -157,7 +181,8 @@ neither false true e = absurd (true≢false (ap is_blank e))
 neither false false e = (refl, refl)
 
 -- both masks lack the place of an unknown cell
-pub unknown_at : (len f b p : ℕ) (l : List Cell) → line_cells len f b ≡ l → p < length l → get_or l p Unknown ≡ Unknown → (has f p ≡ false) × (has b p ≡ false)
+pub unknown_at : (len f b p : ℕ) (l : List Cell) → line_cells len f b ≡ l → p < length l → get_or l p Unknown ≡ Unknown
+    → (has f p ≡ false) × (has b p ≡ false)
 unknown_at len f b p l e h u =
     let long = length_seen len f b l e in
     neither (has f p) (has b p) (sym (cell_at len f b p (omega arith)) ∙ ap (λ (z : List Cell). get_or z p Unknown) e ∙ u)
@@ -178,22 +203,28 @@ pub cells-none : (len : ℕ) → line_cells len 0 0 ≡ replicate len Unknown
 cells-none len =
     ext_get_or Unknown (line_cells len 0 0) (replicate len Unknown) (length_line len 0 0 ∙ sym (length-replicate len Unknown)) (λ k l.
     let within : k < len = omega (arith, length_line len 0 0) in
-    cell_at len 0 0 k within ∙ ap (λ (v : Bool). cell_of v (has 0 k)) (has_false 0 k (bit_at-zero k)) ∙ ap (cell_of false) (has_false 0 k (bit_at-zero k)) ∙ sym (get_or-replicate len k Unknown Unknown within))
+    cell_at len 0 0 k within ∙ ap (λ (v : Bool). cell_of v (has 0 k)) (has_false 0 k (bit_at-zero k))
+    ∙ ap (cell_of false) (has_false 0 k (bit_at-zero k)) ∙ sym (get_or-replicate len k Unknown Unknown within))
 
 -- the same cells by masks of another width
-pub cells-resized : (width len f b wf wb nf nb : ℕ) → len ≤ width → wf ≡ f → wb ≡ b → IsMaskOf (λ i. (i < width) × Has wf i) nf → IsMaskOf (λ i. (i < width) × Has wb i) nb
+pub cells-resized : (width len f b wf wb nf nb : ℕ) → len ≤ width → wf ≡ f → wb ≡ b → IsMaskOf (λ i. (i < width) × Has wf i) nf
+    → IsMaskOf (λ i. (i < width) × Has wb i) nb
     → line_cells len nf nb ≡ line_cells len f b
 cells-resized width len f b wf wb nf nb fits ef eb pf pb =
     ext_get_or Unknown (line_cells len nf nb) (line_cells len f b) (length_line len nf nb ∙ sym (length_line len f b)) (λ k l.
     let within : k < len = omega (arith, length_line len nf nb) in
-    cell_at len nf nb k within ∙ ap (λ (v : Bool). cell_of v (has nb k)) (same wf f nf k (omega arith) ef pf) ∙ ap (cell_of (has f k)) (same wb b nb k (omega arith) eb pb) ∙ sym (cell_at len f b k within))
+    cell_at len nf nb k within ∙ ap (λ (v : Bool). cell_of v (has nb k)) (same wf f nf k (omega arith) ef pf)
+    ∙ ap (cell_of (has f k)) (same wb b nb k (omega arith) eb pb) ∙ sym (cell_at len f b k within))
   where
     same : (w m n i : ℕ) → i < width → w ≡ m → IsMaskOf (λ i. (i < width) × Has w i) n → has n i ≡ has m i
-    same w m n i l e p = has_by n i (has w i) (λ h. has_true w i (p.to i h).1) (λ t. p.from i (l, true_has w i t)) ∙ ap (λ (z : ℕ). has z i) e
+    same w m n i l e p =
+        has_by n i (has w i) (λ h. has_true w i (p.to i h).1) (λ t. p.from i (l, true_has w i t)) ∙ ap (λ (z : ℕ). has z i) e
 
-pub apart-resized : (width f b wf wb nf nb : ℕ) → wf ≡ f → wb ≡ b → IsMaskOf (λ i. (i < width) × Has wf i) nf → IsMaskOf (λ i. (i < width) × Has wb i) nb
+pub apart-resized : (width f b wf wb nf nb : ℕ) → wf ≡ f → wb ≡ b → IsMaskOf (λ i. (i < width) × Has wf i) nf
+    → IsMaskOf (λ i. (i < width) × Has wb i) nb
     → ((i : ℕ) → Has f i → Has b i → ⊥) → (i : ℕ) → Has nf i → Has nb i → ⊥
-apart-resized width f b wf wb nf nb ef eb pf pb apart i x y = apart i (subst (λ (z : ℕ). Has z i) ef (pf.to i x).1) (subst (λ (z : ℕ). Has z i) eb (pb.to i y).1)
+apart-resized width f b wf wb nf nb ef eb pf pb apart i x y =
+    apart i (subst (λ (z : ℕ). Has z i) ef (pf.to i x).1) (subst (λ (z : ℕ). Has z i) eb (pb.to i y).1)
 
 -- no set has more than 256 places
 pub width_within : (width top : ℕ) → width ≡ 2 ^ top → top ≤ 8 → width ≤ 256

@@ -25,7 +25,8 @@ record LonePlacing (l : List Cell) (clue : List ℕ) (s : ℕ) : Type 0 where
   runs_are : runs full ≡ clue
   start : get_or (starts_from 0 false full) 0 0 ≡ s
 
-lone_placing : (l : List Cell) (clue : List ℕ) (s : ℕ) → ArePositive clue → length clue ≡ 1 → IsLoneStart l (get_or clue 0 0) s → LonePlacing l clue s
+lone_placing : (l : List Cell) (clue : List ℕ) (s : ℕ) → ArePositive clue → length clue ≡ 1 → IsLoneStart l (get_or clue 0 0) s
+    → LonePlacing l clue s
 lone_placing l clue s pos one start =
     let number = get_or clue 0 0 in
     let p = placing_of l clue (s ∷ []) pos (record {
@@ -39,17 +40,20 @@ lone_placing l clue s pos one start =
     first : (P : ℕ → Type 0) → P 0 → (j : ℕ) → j < length clue → P j
     first P at j h = let e : 0 ≡ j = omega arith in subst P e at
 
-lone_start : (l : List Cell) (clue : List ℕ) (x : List Bool) → length clue ≡ 1 → agrees l x ≡ true → runs x ≡ clue → IsLoneStart l (get_or clue 0 0) (get_or (starts_from 0 false x) 0 0)
+lone_start : (l : List Cell) (clue : List ℕ) (x : List Bool) → length clue ≡ 1 → agrees l x ≡ true → runs x ≡ clue
+    → IsLoneStart l (get_or clue 0 0) (get_or (starts_from 0 false x) 0 0)
 lone_start l clue x one agree is =
     let d = laid l clue x agree is in
     record {
       window = d.windows 0 (omega arith);
       blanks = λ i h free. d.blanks i h (λ j k low high. let e : j ≡ 0 = omega arith in
-          free (subst (λ (z : ℕ). get_or (starts_from 0 false x) z 0 ≤ i) e low) (subst (λ (z : ℕ). i < get_or (starts_from 0 false x) z 0 + get_or clue z 0) e high));
+          free (subst (λ (z : ℕ). get_or (starts_from 0 false x) z 0 ≤ i) e low)
+          (subst (λ (z : ℕ). i < get_or (starts_from 0 false x) z 0 + get_or clue z 0) e high));
     }
 
 -- the cell is in the placing's run
-in_run : (clue : List ℕ) (x : List Bool) (i : ℕ) → length clue ≡ 1 → runs x ≡ clue → get_or (starts_from 0 false x) 0 0 ≤ i → i < get_or (starts_from 0 false x) 0 0 + get_or clue 0 0 → get_or x i false ≡ true
+in_run : (clue : List ℕ) (x : List Bool) (i : ℕ) → length clue ≡ 1 → runs x ≡ clue → get_or (starts_from 0 false x) 0 0 ≤ i
+    → i < get_or (starts_from 0 false x) 0 0 + get_or clue 0 0 → get_or x i false ≡ true
 in_run clue x i one is low high =
     let s = get_or (starts_from 0 false x) 0 0 in
     let e : s + (i - s) ≡ i = omega arith in
@@ -61,8 +65,10 @@ of_run : (clue : List ℕ) (x : List Bool) (i : ℕ) → length clue ≡ 1 → r
 of_run clue x i one is filled =
     let c = covered x clue i is filled in
     let inside = c.inside in
-    let e : c.index ≡ 0 = omega arith in
-    (subst (λ (z : ℕ). get_or (starts_from 0 false x) z 0 ≤ i) e c.from, subst (λ (z : ℕ). i < get_or (starts_from 0 false x) z 0 + get_or clue z 0) e c.to)
+    let e : c.index ≡ 0 = omega arith in (
+      subst (λ (z : ℕ). get_or (starts_from 0 false x) z 0 ≤ i) e c.from,
+      subst (λ (z : ℕ). i < get_or (starts_from 0 false x) z 0 + get_or clue z 0) e c.to,
+    )
 
 -- a start from which the run fills the cell
 pub record FillsFrom (l : List Cell) (number i : ℕ) : Type 0 where
@@ -77,13 +83,15 @@ pub record LeavesFrom (l : List Cell) (number i : ℕ) : Type 0 where
   pub start : IsLoneStart l number s
   pub out : (i < s) ⊎ (s + number ≤ i)
 
-pub fills_to : (l : List Cell) (clue : List ℕ) (i : ℕ) → ArePositive clue → length clue ≡ 1 → IsFillable l clue i → FillsFrom l (get_or clue 0 0) i
+pub fills_to : (l : List Cell) (clue : List ℕ) (i : ℕ) → ArePositive clue → length clue ≡ 1 → IsFillable l clue i
+    → FillsFrom l (get_or clue 0 0) i
 fills_to l clue i pos one h =
     let x = fillable_to l clue i pos h in
     let r = of_run clue x.0 i one x.2 x.3 in
     record { s = get_or (starts_from 0 false x.0) 0 0; start = lone_start l clue x.0 one x.1 x.2; low = r.0; high = r.1 }
 
-pub fills_from : (l : List Cell) (clue : List ℕ) (i s : ℕ) → ArePositive clue → length clue ≡ 1 → IsLoneStart l (get_or clue 0 0) s → s ≤ i → i < s + get_or clue 0 0 → IsFillable l clue i
+pub fills_from : (l : List Cell) (clue : List ℕ) (i s : ℕ) → ArePositive clue → length clue ≡ 1 → IsLoneStart l (get_or clue 0 0) s → s ≤ i
+    → i < s + get_or clue 0 0 → IsFillable l clue i
 fills_from l clue i s pos one start low high =
     let p = lone_placing l clue s pos one start in
     let at = p.start in
@@ -107,7 +115,8 @@ leaves_to l clue i one h =
       ];
     }
 
-pub leaves_from : (l : List Cell) (clue : List ℕ) (i s : ℕ) → ArePositive clue → length clue ≡ 1 → i < length l → IsLoneStart l (get_or clue 0 0) s → (i < s) ⊎ (s + get_or clue 0 0 ≤ i) → IsBlankable l clue i
+pub leaves_from : (l : List Cell) (clue : List ℕ) (i s : ℕ) → ArePositive clue → length clue ≡ 1 → i < length l
+    → IsLoneStart l (get_or clue 0 0) s → (i < s) ⊎ (s + get_or clue 0 0 ≤ i) → IsBlankable l clue i
 leaves_from l clue i s pos one within start out =
     let p = lone_placing l clue s pos one start in
     blankable_from l clue i within (p.full, p.agree, p.runs_are, blank (get_or p.full i false) p refl)
@@ -123,21 +132,25 @@ leaves_from l clue i s pos one within start out =
 
 -- ---- the masks
 
-free_unless : (l : List Cell) (free filled : ℕ) (i : ℕ) → IsMaskOf (MayBe l false) free → ((k : ℕ) → k < length l → has free k ≡ false → Has filled k) → (Has filled i → ⊥) → i < length l → MayBe l false i
+free_unless : (l : List Cell) (free filled : ℕ) (i : ℕ) → IsMaskOf (MayBe l false) free
+    → ((k : ℕ) → k < length l → has free k ≡ false → Has filled k) → (Has filled i → ⊥) → i < length l → MayBe l false i
 free_unless l free filled i f from none h = by (has free i) refl
   where
     by : (b : Bool) → has free i ≡ b → MayBe l false i
     by true e = f.to i (true_has free i e)
     by false e = absurd (none (from i h e))
 
-window_to : (l : List Cell) (room number i : ℕ) → IsMaskOf (MayBe l true) room → AllFrom (Has room) number i → AllFrom (MayBe l true) number i
+window_to : (l : List Cell) (room number i : ℕ) → IsMaskOf (MayBe l true) room → AllFrom (Has room) number i
+    → AllFrom (MayBe l true) number i
 window_to l room number i r h = λ z b. r.to (i + z) (h z b)
 
-window_from : (l : List Cell) (room number i : ℕ) → IsMaskOf (MayBe l true) room → AllFrom (MayBe l true) number i → AllFrom (Has room) number i
+window_from : (l : List Cell) (room number i : ℕ) → IsMaskOf (MayBe l true) room → AllFrom (MayBe l true) number i
+    → AllFrom (Has room) number i
 window_from l room number i r h = λ z b. r.from (i + z) (h z b)
 
 -- a cell that must be filled is in the run
-must_fill : (l : List Cell) (free number s k : ℕ) → IsMaskOf (MayBe l false) free → IsLoneStart l number s → k < length l → has free k ≡ false → (s ≤ k) × (k < s + number)
+must_fill : (l : List Cell) (free number s k : ℕ) → IsMaskOf (MayBe l false) free → IsLoneStart l number s → k < length l
+    → has free k ≡ false → (s ≤ k) × (k < s + number)
 must_fill l free number s k f start h lacks =
     elim (cases_lt k s) [
       | inl before ↦ absurd (true≢false (sym (has_true free k (f.from k (start.blanks k h (λ low high. absurd (omega arith))))) ∙ lacks))
@@ -148,23 +161,31 @@ must_fill l free number s k f start h lacks =
     ]
 
 -- no cell must be filled
-pub starts_anywhere : (l : List Cell) (number free room len line filled starts : ℕ) → len ≡ length l → IsMaskOf (MayBe l false) free → IsMaskOf (MayBe l true) room
-    → IsMaskOf (λ i. i < len) line → IsMaskOf (λ i. Has line i × (has free i ≡ false)) filled → filled ≡ 0 → IsMaskOf (AllFrom (Has room) number) starts → IsMaskOf (IsLoneStart l number) starts
+pub starts_anywhere : (l : List Cell) (number free room len line filled starts : ℕ) → len ≡ length l → IsMaskOf (MayBe l false) free
+    → IsMaskOf (MayBe l true) room
+    → IsMaskOf (λ i. i < len) line → IsMaskOf (λ i. Has line i × (has free i ≡ false)) filled → filled ≡ 0
+    → IsMaskOf (AllFrom (Has room) number) starts → IsMaskOf (IsLoneStart l number) starts
 starts_anywhere l number free room len line filled starts e f r a p none w =
     mask_same (AllFrom (Has room) number) (IsLoneStart l number) starts w
-    (λ i h. record { window = window_to l room number i r h; blanks = λ k b out. free_unless l free filled k f (λ z c lacks. p.from z (a.from z (omega arith), lacks)) (nothing k) b })
+    (λ i h. record {
+      window = window_to l room number i r h;
+      blanks = λ k b out. free_unless l free filled k f (λ z c lacks. p.from z (a.from z (omega arith), lacks)) (nothing k) b;
+    })
     (λ i s. window_from l room number i r s.window)
   where
     nothing : (k : ℕ) → Has filled k → ⊥
     nothing k h = let z : Has 0 k = subst (λ (m : ℕ). Has m k) none h in omega (arith, bit_at-zero k)
 
 -- the run has the first and the last cell that must be filled
-pub starts_about : (l : List Cell) (w number free room len line filled starts first last before some all after m : ℕ) → len ≡ length l → 0 < number → IsMaskOf (MayBe l false) free → IsMaskOf (MayBe l true) room
+pub starts_about : (l : List Cell) (w number free room len line filled starts first last before some all after m : ℕ) → len ≡ length l
+    → 0 < number → IsMaskOf (MayBe l false) free → IsMaskOf (MayBe l true) room
     → IsMaskOf (λ i. i < len) line → IsMaskOf (λ i. Has line i × (has free i ≡ false)) filled → IsMaskOf (AllFrom (Has room) number) starts
     → Has filled first → ((i : ℕ) → Has filled i → first ≤ i) → Has filled last → ((i : ℕ) → Has filled i → i ≤ last) → first < w
     → IsMaskOf (λ i. i < first + 1) before → IsMaskOf (λ i. Has starts i × Has before i) some
-    → IsMaskOf (λ i. i < w) all → IsMaskOf (IsMoved w (Has all) (last + 1 - number)) after → IsMaskOf (λ i. Has some i × Has after i) m → IsMaskOf (IsLoneStart l number) m
-starts_about l w number free room len line filled starts first last before some all after m e pos f r a p s at_first least at_last greatest short b q c d t =
+    → IsMaskOf (λ i. i < w) all → IsMaskOf (IsMoved w (Has all) (last + 1 - number)) after → IsMaskOf (λ i. Has some i × Has after i) m
+    → IsMaskOf (IsLoneStart l number) m
+starts_about l w number free room len line filled starts first last before some all after m e pos f r a p s at_first least at_last greatest
+    short b q c d t =
     mask_same (λ i. Has some i × Has after i) (IsLoneStart l number) m t to from
   where
     to : (i : ℕ) → Has some i × Has after i → IsLoneStart l number i
@@ -192,22 +213,31 @@ starts_about l w number free room len line filled starts first last before some 
         )
 
 -- no start, no placing
-pub lone_unfillable : (l : List Cell) (clue : List ℕ) (starts m : ℕ) → ArePositive clue → length clue ≡ 1 → IsMaskOf (IsLoneStart l (get_or clue 0 0)) starts → starts ≡ 0 → m ≡ 0 → IsMaskOf (IsFillable l clue) m
+pub lone_unfillable : (l : List Cell) (clue : List ℕ) (starts m : ℕ) → ArePositive clue → length clue ≡ 1
+    → IsMaskOf (IsLoneStart l (get_or clue 0 0)) starts → starts ≡ 0 → m ≡ 0 → IsMaskOf (IsFillable l clue) m
 lone_unfillable l clue starts m pos one s none e = record {
   to = λ i h. let z : Has 0 i = subst (λ (k : ℕ). Has k i) e h in absurd (omega (arith, bit_at-zero i));
-  from = λ i h. let f = fills_to l clue i pos one h in let z : Has 0 f.s = subst (λ (k : ℕ). Has k f.s) none (s.from f.s f.start) in absurd (omega (arith, bit_at-zero f.s));
+  from = λ i h. let f = fills_to l clue i pos one h in
+      let z : Has 0 f.s = subst (λ (k : ℕ). Has k f.s) none (s.from f.s f.start) in
+      absurd (omega (arith, bit_at-zero f.s));
 }
 
-pub lone_unblankable : (l : List Cell) (clue : List ℕ) (starts m : ℕ) → length clue ≡ 1 → IsMaskOf (IsLoneStart l (get_or clue 0 0)) starts → starts ≡ 0 → m ≡ 0 → IsMaskOf (IsBlankable l clue) m
+pub lone_unblankable : (l : List Cell) (clue : List ℕ) (starts m : ℕ) → length clue ≡ 1 → IsMaskOf (IsLoneStart l (get_or clue 0 0)) starts
+    → starts ≡ 0 → m ≡ 0 → IsMaskOf (IsBlankable l clue) m
 lone_unblankable l clue starts m one s none e = record {
   to = λ i h. let z : Has 0 i = subst (λ (k : ℕ). Has k i) e h in absurd (omega (arith, bit_at-zero i));
-  from = λ i h. let f = leaves_to l clue i one h in let z : Has 0 f.s = subst (λ (k : ℕ). Has k f.s) none (s.from f.s f.start) in absurd (omega (arith, bit_at-zero f.s));
+  from = λ i h. let f = leaves_to l clue i one h in
+      let z : Has 0 f.s = subst (λ (k : ℕ). Has k f.s) none (s.from f.s f.start) in
+      absurd (omega (arith, bit_at-zero f.s));
 }
 
 -- each cell among as many from a start on
-pub lone_fillable : (l : List Cell) (clue : List ℕ) (w starts ends m : ℕ) → ArePositive clue → length clue ≡ 1 → 0 < get_or clue 0 0 → length l ≤ w → IsMaskOf (IsLoneStart l (get_or clue 0 0)) starts
-    → IsMaskOf (IsMoved w (Has starts) (get_or clue 0 0 - 1)) ends → IsMaskOf (SomeFrom (Has ends) (get_or clue 0 0)) m → IsMaskOf (IsFillable l clue) m
-lone_fillable l clue w starts ends m pos one some short s p q = mask_same (SomeFrom (Has ends) (get_or clue 0 0)) (IsFillable l clue) m q to from
+pub lone_fillable : (l : List Cell) (clue : List ℕ) (w starts ends m : ℕ) → ArePositive clue → length clue ≡ 1 → 0 < get_or clue 0 0
+    → length l ≤ w → IsMaskOf (IsLoneStart l (get_or clue 0 0)) starts
+    → IsMaskOf (IsMoved w (Has starts) (get_or clue 0 0 - 1)) ends → IsMaskOf (SomeFrom (Has ends) (get_or clue 0 0)) m
+    → IsMaskOf (IsFillable l clue) m
+lone_fillable l clue w starts ends m pos one some short s p q =
+    mask_same (SomeFrom (Has ends) (get_or clue 0 0)) (IsFillable l clue) m q to from
   where
     to : (i : ℕ) → SomeFrom (Has ends) (get_or clue 0 0) i → IsFillable l clue i
     to i h =
@@ -228,9 +258,11 @@ lone_fillable l clue w starts ends m pos one some short s p q = mask_same (SomeF
         (z, omega arith, p.from (i + z) (omega arith, omega arith, subst (Has starts) (sym back) (s.from f.s f.start)))
 
 -- each cell but those that the run fills from each start
-pub lone_blankable : (l : List Cell) (clue : List ℕ) (w len line starts first last certain m : ℕ) → ArePositive clue → length clue ≡ 1 → len ≡ length l → length l ≤ w → IsMaskOf (IsLoneStart l (get_or clue 0 0)) starts
+pub lone_blankable : (l : List Cell) (clue : List ℕ) (w len line starts first last certain m : ℕ) → ArePositive clue → length clue ≡ 1
+    → len ≡ length l → length l ≤ w → IsMaskOf (IsLoneStart l (get_or clue 0 0)) starts
     → Has starts first → ((i : ℕ) → Has starts i → first ≤ i) → Has starts last → ((i : ℕ) → Has starts i → i ≤ last)
-    → IsMaskOf (λ i. (i < w) × (last ≤ i) × (i < first + get_or clue 0 0)) certain → IsMaskOf (λ i. i < len) line → IsMaskOf (λ i. Has line i × (has certain i ≡ false)) m → IsMaskOf (IsBlankable l clue) m
+    → IsMaskOf (λ i. (i < w) × (last ≤ i) × (i < first + get_or clue 0 0)) certain → IsMaskOf (λ i. i < len) line
+    → IsMaskOf (λ i. Has line i × (has certain i ≡ false)) m → IsMaskOf (IsBlankable l clue) m
 lone_blankable l clue w len line starts first last certain m pos one e short s at_first least at_last greatest c a p =
     mask_same (λ i. Has line i × (has certain i ≡ false)) (IsBlankable l clue) m p to from
   where
@@ -256,5 +288,7 @@ lone_blankable l clue w len line starts first last certain m pos one e short s a
 
     from : (i : ℕ) → IsBlankable l clue i → Has line i × (has certain i ≡ false)
     from i h =
-        let within : i < length l = h.2.0.0 in
-        (a.from i (omega arith), has_by certain i false (λ x. absurd (out i (leaves_to l clue i one h) x)) (λ e. absurd (true≢false (sym e))))
+        let within : i < length l = h.2.0.0 in (
+          a.from i (omega arith),
+          has_by certain i false (λ x. absurd (out i (leaves_to l clue i one h) x)) (λ e. absurd (true≢false (sym e))),
+        )

@@ -27,7 +27,8 @@ use Rattle.line_core.proofs.Painting.{IsLaid, Witness, laid, placing_of, least_l
 -- ---- the ends of a run in whole placings, and the starts of placings
 
 -- a run of a placing ends where the masks say
-pub whole_of : (l : List Cell) (clue : List ℕ) (x : List Bool) (k e : ℕ) → ArePositive clue → agrees l x ≡ true → runs x ≡ clue → k < length clue
+pub whole_of : (l : List Cell) (clue : List ℕ) (x : List Bool) (k e : ℕ) → ArePositive clue → agrees l x ≡ true → runs x ≡ clue
+    → k < length clue
     → e + 1 ≡ get_or (starts_from 0 false x) k 0 + get_or clue k 0 → IsWholeEnd l clue k e
 whole_of l clue x k e pos agree is h at =
     let c = get_or clue k 0 in
@@ -39,17 +40,21 @@ whole_of l clue x k e pos agree is h at =
     let y = replicate c true ++ r.back in
     let long : length r.front ≡ s = r.start in
     let both : agrees (onto (behind Unknown l s) (drop s l)) (onto r.front y) ≡ true =
-    subst (λ (t : List Cell). agrees t (onto r.front y) ≡ true) (sym (onto_behind Unknown l s (omega arith))) (subst (λ (t : List Bool). agrees l t ≡ true) (sym r.whole) agree) in
+    subst (λ (t : List Cell). agrees t (onto r.front y) ≡ true) (sym (onto_behind Unknown l s (omega arith)))
+    (subst (λ (t : List Bool). agrees l t ≡ true) (sym r.whole) agree) in
     let cut = onto_agrees (behind Unknown l s) (drop s l) r.front y (length_behind Unknown l s ∙ sym long) both in
     let run = run_agrees l c s r.back cut.1 in
     let before : IsClosed (behind Unknown l s) (behind 0 clue k) = (r.front, cut.0, r.front_runs, r.front_closed) in
     let rest_is : runs r.back ≡ drop (k + 1) clue = r.back_runs ∙ ap (λ (n : ℕ). drop n clue) (sym (add-one k)) in
     let after : IsClosed (drop (s + c) l) (drop (k + 1) clue) = (r.back, run.1, rest_is, r.back_closed) in
-    let start : s ≡ e + 1 - c = omega arith in
-    ((omega arith, subst (IsStartAfter l (behind 0 clue k) c) start (before, run.0)), subst (λ (n : ℕ). IsClosed (drop n l) (drop (k + 1) clue)) (sym at) after)
+    let start : s ≡ e + 1 - c = omega arith in (
+      (omega arith, subst (IsStartAfter l (behind 0 clue k) c) start (before, run.0)),
+      subst (λ (n : ℕ). IsClosed (drop n l) (drop (k + 1) clue)) (sym at) after,
+    )
 
 -- and each such end is one in a placing
-pub witness_of : (l : List Cell) (clue : List ℕ) (k e : ℕ) → ArePositive clue → k < length clue → IsWholeEnd l clue k e → Witness l clue k (e + 1 - get_or clue k 0)
+pub witness_of : (l : List Cell) (clue : List ℕ) (k e : ℕ) → ArePositive clue → k < length clue → IsWholeEnd l clue k e
+    → Witness l clue k (e + 1 - get_or clue k 0)
 witness_of l clue k e pos h w =
     let c = get_or clue k 0 in
     let some : 0 < c = positive_at clue pos k h in
@@ -60,14 +65,17 @@ witness_of l clue k e pos h w =
     let a = w.0.1.0 in
     let b = w.1 in
     let past : e + 1 ≡ s + c = omega arith in
-    let here : agrees (drop s l) (replicate c true ++ b.0) ≡ true = agrees_run l c s b.0 cells (subst (λ (n : ℕ). agrees (drop n l) b.0 ≡ true) past b.1) in
+    let here : agrees (drop s l) (replicate c true ++ b.0) ≡ true =
+    agrees_run l c s b.0 cells (subst (λ (n : ℕ). agrees (drop n l) b.0 ≡ true) past b.1) in
     let long : length a.0 ≡ s = length-agrees (behind Unknown l s) a.0 a.1 ∙ length_behind Unknown l s in
     let x = onto a.0 (replicate c true ++ b.0) in
     let clue_at : c ∷ drop (k + 1) clue ≡ drop k clue = ap (λ (n : ℕ). c ∷ drop n clue) (add-one k) ∙ sym (drop-cons clue k 0 h) in
     let agree : agrees l x ≡ true =
-    subst (λ (t : List Cell). agrees t x ≡ true) (onto_behind Unknown l s (omega arith)) (agrees_onto (behind Unknown l s) (drop s l) a.0 (replicate c true ++ b.0) a.1 here) in
+    subst (λ (t : List Cell). agrees t x ≡ true) (onto_behind Unknown l s (omega arith))
+    (agrees_onto (behind Unknown l s) (drop s l) a.0 (replicate c true ++ b.0) a.1 here) in
     let is : runs x ≡ clue =
-    runs_about a.0 c b.0 some a.3 b.3 ∙ ap (λ (p : List ℕ). onto p (c ∷ runs b.0)) a.2 ∙ ap (λ (q : List ℕ). onto (behind 0 clue k) (c ∷ q)) b.2
+    runs_about a.0 c b.0 some a.3 b.3 ∙ ap (λ (p : List ℕ). onto p (c ∷ runs b.0)) a.2
+    ∙ ap (λ (q : List ℕ). onto (behind 0 clue k) (c ∷ q)) b.2
     ∙ ap (onto (behind 0 clue k)) clue_at ∙ onto_behind 0 clue k (omega arith) in
     let index : length (runs a.0) ≡ k = ap length a.2 ∙ length_behind 0 clue k in
     record {
@@ -78,11 +86,13 @@ witness_of l clue k e pos h w =
 
 -- ---- the definitions
 
-pointwise_from : (xs ys : List ℕ) → length xs ≡ length ys → ((j : ℕ) → j < length xs → get_or xs j 0 ≤ get_or ys j 0) → pointwise nat_le xs ys ≡ true
+pointwise_from : (xs ys : List ℕ) → length xs ≡ length ys → ((j : ℕ) → j < length xs → get_or xs j 0 ≤ get_or ys j 0)
+    → pointwise nat_le xs ys ≡ true
 pointwise_from [] [] e h = refl
 pointwise_from [] (y ∷ ys) e h = absurd (omega arith)
 pointwise_from (x ∷ xs) [] e h = absurd (omega arith)
-pointwise_from (x ∷ xs) (y ∷ ys) e h = rw (le-leb x y (h 0 (omega arith)), pointwise_from xs ys (omega arith) (λ j l. h (suc j) (omega arith))) refl
+pointwise_from (x ∷ xs) (y ∷ ys) e h =
+    rw (le-leb x y (h 0 (omega arith)), pointwise_from xs ys (omega arith) (λ j l. h (suc j) (omega arith))) refl
 
 both_true : (a b : Bool) → (a && b) ≡ true → (a ≡ true) × (b ≡ true)
 both_true true b h = (refl, h)
@@ -126,70 +136,88 @@ pub laid_placing : (l : List Cell) (clue : List ℕ) (x : List Bool) → IsPlaci
 laid_placing l clue x p = subst (IsLaid l clue) (sym (run_starts-from x)) (laid l clue x (Extends-agrees l x p.extends) p.runs_are)
 
 -- a test that passes for the starts of all placings
-all_pass : (l : List Cell) (clue : List ℕ) (p : List ℕ → Bool) → ((ss : List ℕ) → IsLaid l clue ss → p ss ≡ true) → list_all p (all_starts l clue) ≡ true
+all_pass : (l : List Cell) (clue : List ℕ) (p : List ℕ → Bool) → ((ss : List ℕ) → IsLaid l clue ss → p ss ≡ true)
+    → list_all p (all_starts l clue) ≡ true
 all_pass l clue p h =
-    list_all-map p run_starts (placings l clue) ∙ (placings_listed l clue).every (λ x. p (run_starts x)) (λ x q. h (run_starts x) (laid_placing l clue x q))
+    list_all-map p run_starts (placings l clue)
+    ∙ (placings_listed l clue).every (λ x. p (run_starts x)) (λ x q. h (run_starts x) (laid_placing l clue x q))
 
-pub pass_all : (l : List Cell) (clue : List ℕ) (p : List ℕ → Bool) → list_all p (all_starts l clue) ≡ true → (x : List Bool) → IsPlacing l clue x → p (run_starts x) ≡ true
+pub pass_all : (l : List Cell) (clue : List ℕ) (p : List ℕ → Bool) → list_all p (all_starts l clue) ≡ true → (x : List Bool)
+    → IsPlacing l clue x → p (run_starts x) ≡ true
 pass_all l clue p h x q = (placings_listed l clue).each (λ x. p (run_starts x)) (sym (list_all-map p run_starts (placings l clue)) ∙ h) x q
 
 found_is : (l : List Cell) (clue m : List ℕ) (p : List ℕ → Bool) (x : List Bool) → IsPlacing l clue x → run_starts x ≡ m → p m ≡ true
     → ((y : List Bool) → IsPlacing l clue y → p (run_starts y) ≡ true → run_starts y ≡ m) → find p (all_starts l clue) ≡ Some m
 found_is l clue m p x q at pass only =
-    find_only p m (placings l clue) (every (IsPlacing l clue) (λ y. p (run_starts y) ≡ true → run_starts y ≡ m) (placings l clue) only (placings_listed l clue).members)
+    find_only p m (placings l clue)
+    (every (IsPlacing l clue) (λ y. p (run_starts y) ≡ true → run_starts y ≡ m) (placings l clue) only (placings_listed l clue).members)
     (false_unless (list_all (λ y. not (p (run_starts y))) (placings l clue)) (λ e.
     let no : not (p (run_starts x)) ≡ true = (placings_listed l clue).each (λ y. not (p (run_starts y))) e x q in
     true≢false (sym no ∙ ap (λ (z : List ℕ). not (p z)) at ∙ ap not pass)))
 
-pub placed : (l : List Cell) (clue m : List ℕ) → ArePositive clue → IsLaid l clue m → (x : List Bool) × IsPlacing l clue x × (run_starts x ≡ m)
+pub placed : (l : List Cell) (clue m : List ℕ) → ArePositive clue → IsLaid l clue m
+    → (x : List Bool) × IsPlacing l clue x × (run_starts x ≡ m)
 placed l clue m pos d =
     let x = placing_of l clue m pos d in
     (x.0, record { extends = agrees-Extends l x.0 x.1; runs_are = x.2 }, run_starts-from x.0 ∙ x.3)
 
 -- starts that lay the clue and are at most those of every placing are the leftmost
-pub leftmost_is : (l : List Cell) (clue m : List ℕ) → ArePositive clue → IsLaid l clue m → ((ss : List ℕ) → IsLaid l clue ss → (j : ℕ) → j < length clue → get_or m j 0 ≤ get_or ss j 0) → leftmost l clue ≡ Some m
+pub leftmost_is : (l : List Cell) (clue m : List ℕ) → ArePositive clue → IsLaid l clue m
+    → ((ss : List ℕ) → IsLaid l clue ss → (j : ℕ) → j < length clue → get_or m j 0 ≤ get_or ss j 0) → leftmost l clue ≡ Some m
 leftmost_is l clue m pos d least =
     let x = placed l clue m pos d in
     let test = λ (starts : List ℕ). list_all (pointwise nat_le starts) (all_starts l clue) in
-    let pass : test m ≡ true = all_pass l clue (pointwise nat_le m) (λ ss e. pointwise_from m ss (d.count ∙ sym e.count) (λ j h. least ss e j (omega (arith, d.count)))) in
+    let pass : test m ≡ true =
+    all_pass l clue (pointwise nat_le m)
+    (λ ss e. pointwise_from m ss (d.count ∙ sym e.count) (λ j h. least ss e j (omega (arith, d.count)))) in
     found_is l clue m test x.0 x.1 x.2 pass (λ y q t.
     pointwise_antisym (run_starts y) m
     (ap (pointwise nat_le (run_starts y)) (sym x.2) ∙ pass_all l clue (pointwise nat_le (run_starts y)) t x.0 x.1)
     (pass_all l clue (pointwise nat_le m) pass y q))
 
 -- and those that are at least those of every placing the rightmost
-pub rightmost_is : (l : List Cell) (clue m : List ℕ) → ArePositive clue → IsLaid l clue m → ((ss : List ℕ) → IsLaid l clue ss → (j : ℕ) → j < length clue → get_or ss j 0 ≤ get_or m j 0) → rightmost l clue ≡ Some m
+pub rightmost_is : (l : List Cell) (clue m : List ℕ) → ArePositive clue → IsLaid l clue m
+    → ((ss : List ℕ) → IsLaid l clue ss → (j : ℕ) → j < length clue → get_or ss j 0 ≤ get_or m j 0) → rightmost l clue ≡ Some m
 rightmost_is l clue m pos d greatest =
     let x = placed l clue m pos d in
     let test = λ (starts : List ℕ). list_all (λ other. pointwise nat_le other starts) (all_starts l clue) in
-    let pass : test m ≡ true = all_pass l clue (λ other. pointwise nat_le other m) (λ ss e. pointwise_from ss m (e.count ∙ sym d.count) (λ j h. greatest ss e j (omega (arith, e.count)))) in
+    let pass : test m ≡ true =
+    all_pass l clue (λ other. pointwise nat_le other m)
+    (λ ss e. pointwise_from ss m (e.count ∙ sym d.count) (λ j h. greatest ss e j (omega (arith, e.count)))) in
     found_is l clue m test x.0 x.1 x.2 pass (λ y q t.
     pointwise_antisym (run_starts y) m
     (pass_all l clue (λ other. pointwise nat_le other m) pass y q)
-    (ap (λ (z : List ℕ). pointwise nat_le z (run_starts y)) (sym x.2) ∙ pass_all l clue (λ other. pointwise nat_le other (run_starts y)) t x.0 x.1))
+    (ap (λ (z : List ℕ). pointwise nat_le z (run_starts y)) (sym x.2)
+    ∙ pass_all l clue (λ other. pointwise nat_le other (run_starts y)) t x.0 x.1))
 
-none_listed : (l : List Cell) (clue : List ℕ) (ps : List (List Bool)) → ListsPlacings l clue ps → ((x : List Bool) → IsPlacing l clue x → ⊥) → ps ≡ []
+none_listed : (l : List Cell) (clue : List ℕ) (ps : List (List Bool)) → ListsPlacings l clue ps → ((x : List Bool) → IsPlacing l clue x → ⊥)
+    → ps ≡ []
 none_listed l clue [] listed none = refl
 none_listed l clue (x ∷ ps) listed none = absurd (none x listed.members.0)
 
 pub leftmost_none : (l : List Cell) (clue : List ℕ) → ((x : List Bool) → IsPlacing l clue x → ⊥) → leftmost l clue ≡ None
 leftmost_none l clue none =
-    ap (λ (ps : List (List Bool)). find (λ starts. list_all (pointwise nat_le starts) (map run_starts ps)) (map run_starts ps)) (none_listed l clue (placings l clue) (placings_listed l clue) none)
+    ap (λ (ps : List (List Bool)). find (λ starts. list_all (pointwise nat_le starts) (map run_starts ps)) (map run_starts ps))
+    (none_listed l clue (placings l clue) (placings_listed l clue) none)
 
 pub rightmost_none : (l : List Cell) (clue : List ℕ) → ((x : List Bool) → IsPlacing l clue x → ⊥) → rightmost l clue ≡ None
 rightmost_none l clue none =
-    ap (λ (ps : List (List Bool)). find (λ starts. list_all (λ other. pointwise nat_le other starts) (map run_starts ps)) (map run_starts ps)) (none_listed l clue (placings l clue) (placings_listed l clue) none)
+    ap (λ (ps : List (List Bool)).
+    find (λ starts. list_all (λ other. pointwise nat_le other starts) (map run_starts ps)) (map run_starts ps))
+    (none_listed l clue (placings l clue) (placings_listed l clue) none)
 
 -- ---- either side
 
 -- each run ends somewhere in whole placings, if there is one
-pub some_end : (l : List Cell) (clue : List ℕ) (j : ℕ) → ArePositive clue → HasPlacing l clue → j < length clue → (e : ℕ) × IsWholeEnd l clue j e
+pub some_end : (l : List Cell) (clue : List ℕ) (j : ℕ) → ArePositive clue → HasPlacing l clue → j < length clue
+    → (e : ℕ) × IsWholeEnd l clue j e
 some_end l clue j pos p h =
     let some : 0 < get_or clue j 0 = positive_at clue pos j h in
     let e = get_or (starts_from 0 false p.0) j 0 + get_or clue j 0 - 1 in
     (e, whole_of l clue p.0 j e pos p.1 p.2 h (omega arith))
 
-laid_end : (l : List Cell) (clue ss : List ℕ) (j : ℕ) → ArePositive clue → IsLaid l clue ss → j < length clue → IsWholeEnd l clue j (get_or ss j 0 + get_or clue j 0 - 1)
+laid_end : (l : List Cell) (clue ss : List ℕ) (j : ℕ) → ArePositive clue → IsLaid l clue ss → j < length clue
+    → IsWholeEnd l clue j (get_or ss j 0 + get_or clue j 0 - 1)
 laid_end l clue ss j pos d h =
     let some : 0 < get_or clue j 0 = positive_at clue pos j h in
     let x = placing_of l clue ss pos d in
@@ -210,7 +238,8 @@ outermost_is Left l clue m pos p count each =
         let o = each j h in
         let at : get_or m j 0 ≡ o.end + 1 - get_or clue j 0 = o.start_is in
         let some : 0 < get_or clue j 0 = positive_at clue pos j h in
-        let far : o.end ≤ get_or ss j 0 + get_or clue j 0 - 1 = o.outermost_so (get_or ss j 0 + get_or clue j 0 - 1) (laid_end l clue ss j pos d h) in
+        let far : o.end ≤ get_or ss j 0 + get_or clue j 0 - 1 =
+        o.outermost_so (get_or ss j 0 + get_or clue j 0 - 1) (laid_end l clue ss j pos d h) in
         omega arith
 outermost_is Right l clue m pos p count each =
     rightmost_is l clue m pos (greatest_laid l clue m (starts_from 0 false p.0) (laid l clue p.0 p.1 p.2) count witness greatest) greatest
@@ -223,7 +252,8 @@ outermost_is Right l clue m pos p count each =
         let o = each j h in
         let at : get_or m j 0 ≡ o.end + 1 - get_or clue j 0 = o.start_is in
         let some : 0 < get_or clue j 0 = positive_at clue pos j h in
-        let far : get_or ss j 0 + get_or clue j 0 - 1 ≤ o.end = o.outermost_so (get_or ss j 0 + get_or clue j 0 - 1) (laid_end l clue ss j pos d h) in
+        let far : get_or ss j 0 + get_or clue j 0 - 1 ≤ o.end =
+        o.outermost_so (get_or ss j 0 + get_or clue j 0 - 1) (laid_end l clue ss j pos d h) in
         omega arith
 
 pub outermost_none : (side : Side) (l : List Cell) (clue : List ℕ) → (HasPlacing l clue → ⊥) → outermost side l clue ≡ None
@@ -231,22 +261,27 @@ outermost_none Left l clue none = leftmost_none l clue (λ x p. none (x, Extends
 outermost_none Right l clue none = rightmost_none l clue (λ x p. none (x, Extends-agrees l x p.extends, p.runs_are))
 
 -- one more run's start
-pub outer_more : (side : Side) (l : List Cell) (clue : List ℕ) (list : List ℕ) (j whole place start : ℕ) → j < length list → IsMaskOf (IsWholeEnd l clue j) whole
+pub outer_more : (side : Side) (l : List Cell) (clue : List ℕ) (list : List ℕ) (j whole place start : ℕ) → j < length list
+    → IsMaskOf (IsWholeEnd l clue j) whole
     → Has whole place → ((i : ℕ) → Has whole i → IsAsFar side place i) → start ≡ place + 1 - get_or clue j 0
-    → ((k : ℕ) → k < j → IsOuterStart side l clue k (get_or list k 0)) → (k : ℕ) → k < j + 1 → IsOuterStart side l clue k (get_or (set list j start) k 0)
+    → ((k : ℕ) → k < j → IsOuterStart side l clue k (get_or list k 0)) → (k : ℕ) → k < j + 1
+    → IsOuterStart side l clue k (get_or (set list j start) k 0)
 outer_more side l clue list j whole place start h mask in_mask far at below =
-    written_more (IsOuterStart side l clue) list j start h (record { end = place; whole = mask.to place in_mask; start_is = at; outermost_so = λ e w. far e (mask.from e w) }) below
+    written_more (IsOuterStart side l clue) list j start h
+    (record { end = place; whole = mask.to place in_mask; start_is = at; outermost_so = λ e w. far e (mask.from e w) }) below
 
 -- ---- a line with no run
 
 -- its first cell is blank in each placing
-pub no_run_to : (l : List Cell) (clue : List ℕ) (gap ahead m : ℕ) → IsMaskOf (IsGap l clue 0) gap → IsMaskOf (IsGapAhead l clue 0) ahead → IsMaskOf (λ i. Has gap i × Has ahead i) m → Has m 0 → HasPlacing l clue
+pub no_run_to : (l : List Cell) (clue : List ℕ) (gap ahead m : ℕ) → IsMaskOf (IsGap l clue 0) gap → IsMaskOf (IsGapAhead l clue 0) ahead
+    → IsMaskOf (λ i. Has gap i × Has ahead i) m → Has m 0 → HasPlacing l clue
 no_run_to l clue gap ahead m g a p h =
     let b = (meet_of (IsGap l clue 0) (IsGapAhead l clue 0) gap ahead m g a p).to 0 h in
     let can = blankable_to l clue 0 (0, omega arith, b.0, b.1) in
     (can.0, can.1, can.2)
 
-pub no_run_from : (l : List Cell) (clue : List ℕ) (gap ahead m : ℕ) → length clue ≡ 0 → 0 < length l → IsMaskOf (IsGap l clue 0) gap → IsMaskOf (IsGapAhead l clue 0) ahead
+pub no_run_from : (l : List Cell) (clue : List ℕ) (gap ahead m : ℕ) → length clue ≡ 0 → 0 < length l → IsMaskOf (IsGap l clue 0) gap
+    → IsMaskOf (IsGapAhead l clue 0) ahead
     → IsMaskOf (λ i. Has gap i × Has ahead i) m → HasPlacing l clue → Has m 0
 no_run_from l clue gap ahead m none some g a q p = by (get_or p.0 0 false) refl
   where
@@ -256,7 +291,8 @@ no_run_from l clue gap ahead m none some g a q p = by (get_or p.0 0 false) refl
         let b = blankable_from l clue 0 some (p.0, p.1, p.2, e) in
         let low : b.0 ≤ length clue = b.1 in
         let at : b.0 ≡ 0 = omega arith in
-        (meet_of (IsGap l clue 0) (IsGapAhead l clue 0) gap ahead m g a q).from 0 (subst (λ (k : ℕ). IsGap l clue k 0 × IsGapAhead l clue k 0) at (b.2, b.3))
+        (meet_of (IsGap l clue 0) (IsGapAhead l clue 0) gap ahead m g a q).from 0
+        (subst (λ (k : ℕ). IsGap l clue k 0 × IsGapAhead l clue k 0) at (b.2, b.3))
 
 -- ---- what the two searches answer
 
@@ -272,7 +308,8 @@ answered side l clue list true pos long h =
     (λ j k. subst (IsOuterStart side l clue j) (sym (get_or-take (length clue) list j 0 k)) (h.1 j k))
 answered side l clue list false pos long h = outermost_none side l clue h
 
-pub some_placing : (l : List Cell) (clue : List ℕ) (j e : ℕ) → ArePositive clue → j < length clue → IsWholeEnd l clue j e → HasPlacing l clue
+pub some_placing : (l : List Cell) (clue : List ℕ) (j e : ℕ) → ArePositive clue → j < length clue → IsWholeEnd l clue j e
+    → HasPlacing l clue
 some_placing l clue j e pos h w =
     let y = witness_of l clue j e pos h w in
     let x = placing_of l clue y.starts pos y.laid_so in

@@ -71,24 +71,32 @@ at_most l clue ss (suc later) j pos d e =
     let apart = d.apart j (omega arith) in
     omega arith
 
-starts_within : (l : List Cell) (clue ss : List ℕ) (j : ℕ) → ArePositive clue → IsLaid l clue ss → j < length clue → get_or ss j 0 + needed clue ≤ length l + 1 + least_start clue j
-starts_within l clue ss j pos d h = let e : j + suc (length clue - suc j) ≡ length clue = omega arith in at_most l clue ss (length clue - suc j) j pos d e
+starts_within : (l : List Cell) (clue ss : List ℕ) (j : ℕ) → ArePositive clue → IsLaid l clue ss → j < length clue
+    → get_or ss j 0 + needed clue ≤ length l + 1 + least_start clue j
+starts_within l clue ss j pos d h =
+    let e : j + suc (length clue - suc j) ≡ length clue = omega arith in at_most l clue ss (length clue - suc j) j pos d e
 
 -- a clue that has a placing needs no more than there is
-pub fits : (l : List Cell) (clue : List ℕ) (x : List Bool) → ArePositive clue → agrees l x ≡ true → runs x ≡ clue → needed clue ≤ length l + 1
+pub fits : (l : List Cell) (clue : List ℕ) (x : List Bool) → ArePositive clue → agrees l x ≡ true → runs x ≡ clue
+    → needed clue ≤ length l + 1
 fits l clue x pos agree is = elim (cases_lt 0 (length clue)) [
   | inl some ↦
       (let first = starts_within l clue (starts_from 0 false x) 0 pos (laid l clue x agree is) some in
       let none : least_start clue 0 ≡ 0 = refl in
       omega arith)
-  | inr none ↦ (let e : length clue ≡ 0 = omega arith in let all : least_start clue 0 ≡ needed clue = ap (least_start clue) (sym e) ∙ start_last clue in let zeroth : least_start clue 0 ≡ 0 = refl in omega arith)
+  | inr none ↦
+      (let e : length clue ≡ 0 = omega arith in
+      let all : least_start clue 0 ≡ needed clue = ap (least_start clue) (sym e) ∙ start_last clue in
+      let zeroth : least_start clue 0 ≡ 0 = refl in
+      omega arith)
 ]
 
 same_place : (x : List Bool) (s i : ℕ) → s ≤ i → get_or x (s + (i - s)) false ≡ true → get_or x i false ≡ true
 same_place x s i h filled = let e : s + (i - s) ≡ i = omega arith in subst (λ (k : ℕ). get_or x k false ≡ true) e filled
 
 -- an overlap is filled in each placing
-pub overlap_filled : (l : List Cell) (clue : List ℕ) (x : List Bool) (slack i : ℕ) → ArePositive clue → agrees l x ≡ true → runs x ≡ clue → needed clue + slack ≡ length l + 1
+pub overlap_filled : (l : List Cell) (clue : List ℕ) (x : List Bool) (slack i : ℕ) → ArePositive clue → agrees l x ≡ true → runs x ≡ clue
+    → needed clue + slack ≡ length l + 1
     → IsOverlap clue slack i → get_or x i false ≡ true
 overlap_filled l clue x slack i pos agree is e (j, h, from, to) =
     let d = laid l clue x agree is in
@@ -97,7 +105,8 @@ overlap_filled l clue x slack i pos agree is e (j, h, from, to) =
     let high = starts_within l clue (starts_from 0 false x) j pos d h in
     same_place x s i (omega arith) (filled_in_run x clue j (run_of x clue j is h) (i - s) (omega arith))
 
-filled_within : (l : List Cell) (clue : List ℕ) (x : List Bool) (i : ℕ) → agrees l x ≡ true → runs x ≡ clue → get_or x i false ≡ true → i < length l
+filled_within : (l : List Cell) (clue : List ℕ) (x : List Bool) (i : ℕ) → agrees l x ≡ true → runs x ≡ clue → get_or x i false ≡ true
+    → i < length l
 filled_within l clue x i agree is filled =
     let c = covered x clue i is filled in
     let s = get_or (starts_from 0 false x) c.index 0 in
@@ -130,10 +139,12 @@ pub record Shifted (l : List Cell) (clue : List ℕ) (shift : ℕ → ℕ) : Typ
 abbrev shifted_starts : List ℕ → (ℕ → ℕ) → List ℕ
 shifted_starts clue shift = map (λ (j : ℕ). least_start clue j + shift j) (range_with_len 0 (length clue))
 
-shifted_at : (clue : List ℕ) (shift : ℕ → ℕ) (j : ℕ) → j < length clue → get_or (shifted_starts clue shift) j 0 ≡ least_start clue j + shift j
+shifted_at : (clue : List ℕ) (shift : ℕ → ℕ) (j : ℕ) → j < length clue
+    → get_or (shifted_starts clue shift) j 0 ≡ least_start clue j + shift j
 shifted_at clue shift j h = get_or-map-range_with_len (λ (j : ℕ). least_start clue j + shift j) 0 (length clue) j j 0 h (omega arith)
 
-pub shifted : (l : List Cell) (clue : List ℕ) (slack : ℕ) (shift : ℕ → ℕ) → AnyColour l → ArePositive clue → needed clue + slack ≡ length l + 1
+pub shifted : (l : List Cell) (clue : List ℕ) (slack : ℕ) (shift : ℕ → ℕ) → AnyColour l → ArePositive clue
+    → needed clue + slack ≡ length l + 1
     → ((j : ℕ) → shift j ≤ slack) → ((j : ℕ) → suc j < length clue → shift j ≤ shift (suc j)) → Shifted l clue shift
 shifted l clue slack shift any_cell pos e most up =
     let x = placing_of l clue (shifted_starts clue shift) pos (record {
@@ -152,7 +163,8 @@ shifted l clue slack shift any_cell pos e most up =
         let far = most j in
         any_cell true (get_or (shifted_starts clue shift) j 0 + z) (omega arith)
 
-    apart : (j : ℕ) → suc j < length clue → get_or (shifted_starts clue shift) j 0 + get_or clue j 0 < get_or (shifted_starts clue shift) (suc j) 0
+    apart : (j : ℕ) → suc j < length clue
+        → get_or (shifted_starts clue shift) j 0 + get_or clue j 0 < get_or (shifted_starts clue shift) (suc j) 0
     apart j h =
         let here = shifted_at clue shift j (omega arith) in
         let after = shifted_at clue shift (suc j) h in
@@ -166,18 +178,22 @@ shifted l clue slack shift any_cell pos e most up =
 away_from : ℕ → ℕ → ℕ → ℕ
 away_from start slack i = cond (nat_le (start + slack) i) 0 slack
 
-away_from-is : (start slack i : ℕ) → ((start + slack ≤ i) × (away_from start slack i ≡ 0)) ⊎ ((i < start + slack) × (away_from start slack i ≡ slack))
+away_from-is : (start slack i : ℕ)
+    → ((start + slack ≤ i) × (away_from start slack i ≡ 0)) ⊎ ((i < start + slack) × (away_from start slack i ≡ slack))
 unfolding away_from
 away_from-is start slack i = by (nat_le (start + slack) i) refl
   where
-    by : (b : Bool) → nat_le (start + slack) i ≡ b → ((start + slack ≤ i) × (cond (nat_le (start + slack) i) 0 slack ≡ 0)) ⊎ ((i < start + slack) × (cond (nat_le (start + slack) i) 0 slack ≡ slack))
+    by : (b : Bool) → nat_le (start + slack) i ≡ b
+        → ((start + slack ≤ i) × (cond (nat_le (start + slack) i) 0 slack ≡ 0))
+        ⊎ ((i < start + slack) × (cond (nat_le (start + slack) i) 0 slack ≡ slack))
     by true e = inl (leb-true (start + slack) i e, ap (λ (b : Bool). cond b 0 slack) e)
     by false e = elim (cases_lt i (start + slack)) [
       | inl low ↦ inr (low, ap (λ (b : Bool). cond b 0 slack) e)
       | inr high ↦ absurd (true≢false (sym (le-leb (start + slack) i high) ∙ e))
     ]
 
-shifted_away : (l : List Cell) (clue : List ℕ) (slack i : ℕ) → AnyColour l → ArePositive clue → needed clue + slack ≡ length l + 1 → Shifted l clue (λ (j : ℕ). away_from (least_start clue j) slack i)
+shifted_away : (l : List Cell) (clue : List ℕ) (slack i : ℕ) → AnyColour l → ArePositive clue → needed clue + slack ≡ length l + 1
+    → Shifted l clue (λ (j : ℕ). away_from (least_start clue j) slack i)
 shifted_away l clue slack i any_cell pos e = shifted l clue slack (λ (j : ℕ). away_from (least_start clue j) slack i) any_cell pos e most up
   where
     most : (j : ℕ) → away_from (least_start clue j) slack i ≤ slack
@@ -193,9 +209,11 @@ shifted_away l clue slack i any_cell pos e = shifted l clue slack (λ (j : ℕ).
 
 pub can_be_blank : (l : List Cell) (clue : List ℕ) (slack i : ℕ) → AnyColour l → ArePositive clue → needed clue + slack ≡ length l + 1
     → (IsOverlap clue slack i → ⊥) → CanBe l clue false i
-can_be_blank l clue slack i any_cell pos e none = let x = shifted_away l clue slack i any_cell pos e in (x.full, x.agree, x.runs_are, by x (get_or x.full i false) refl)
+can_be_blank l clue slack i any_cell pos e none =
+    let x = shifted_away l clue slack i any_cell pos e in (x.full, x.agree, x.runs_are, by x (get_or x.full i false) refl)
   where
-    by : (x : Shifted l clue (λ (j : ℕ). away_from (least_start clue j) slack i)) → (v : Bool) → get_or x.full i false ≡ v → get_or x.full i false ≡ false
+    by : (x : Shifted l clue (λ (j : ℕ). away_from (least_start clue j) slack i)) → (v : Bool) → get_or x.full i false ≡ v
+        → get_or x.full i false ≡ false
     by x false f = f
     by x true f =
         let c = covered x.full clue i x.runs_are f in
@@ -214,7 +232,8 @@ pub record Reaches (clue : List ℕ) (slack i : ℕ) : Type 0 where
   pub from : least_start clue index ≤ i
   pub to : i < least_start clue index + get_or clue index 0 + slack
 
-reaches : (clue : List ℕ) (slack i j : ℕ) → 0 < slack → j < length clue → i < least_start clue j + get_or clue j 0 + slack → Reaches clue slack i
+reaches : (clue : List ℕ) (slack i j : ℕ) → 0 < slack → j < length clue → i < least_start clue j + get_or clue j 0 + slack
+    → Reaches clue slack i
 reaches clue slack i zero some h to = record { index = 0; inside = h; from = omega arith; to = to }
 reaches clue slack i (suc j) some h to =
     let next = start_next clue j (omega arith) in
@@ -231,14 +250,16 @@ shift_from-is : (first by j : ℕ) → ((j < first) × (shift_from first by j �
 unfolding shift_from
 shift_from-is first by j = go (nat_lt j first) refl
   where
-    go : (b : Bool) → nat_lt j first ≡ b → ((j < first) × (cond (nat_lt j first) 0 by ≡ 0)) ⊎ ((first ≤ j) × (cond (nat_lt j first) 0 by ≡ by))
+    go : (b : Bool) → nat_lt j first ≡ b
+        → ((j < first) × (cond (nat_lt j first) 0 by ≡ 0)) ⊎ ((first ≤ j) × (cond (nat_lt j first) 0 by ≡ by))
     go true e = inl (ltb-true j first e, ap (λ (b : Bool). cond b 0 by) e)
     go false e = elim (cases_lt j first) [
       | inl low ↦ absurd (true≢false (sym (lt-ltb j first low) ∙ e))
       | inr high ↦ inr (high, ap (λ (b : Bool). cond b 0 by) e)
     ]
 
-shifted_on : (l : List Cell) (clue : List ℕ) (slack first by : ℕ) → AnyColour l → ArePositive clue → needed clue + slack ≡ length l + 1 → by ≤ slack → Shifted l clue (shift_from first by)
+shifted_on : (l : List Cell) (clue : List ℕ) (slack first by : ℕ) → AnyColour l → ArePositive clue → needed clue + slack ≡ length l + 1
+    → by ≤ slack → Shifted l clue (shift_from first by)
 shifted_on l clue slack first by any_cell pos e within = shifted l clue slack (shift_from first by) any_cell pos e most up
   where
     most : (j : ℕ) → shift_from first by j ≤ slack
@@ -251,7 +272,8 @@ shifted_on l clue slack first by any_cell pos e within = shifted l clue slack (s
           | inr far ↦ elim (shift_from-is first by (suc j)) [ inl low ↦ absurd (omega arith) | inr high ↦ omega arith ]
         ]
 
-filled_by : (l : List Cell) (clue : List ℕ) (slack i : ℕ) → AnyColour l → ArePositive clue → needed clue + slack ≡ length l + 1 → Reaches clue slack i → CanBe l clue true i
+filled_by : (l : List Cell) (clue : List ℕ) (slack i : ℕ) → AnyColour l → ArePositive clue → needed clue + slack ≡ length l + 1
+    → Reaches clue slack i → CanBe l clue true i
 filled_by l clue slack i any_cell pos e r =
     let some = positive_at clue pos r.index r.inside in
     let low = r.from in
@@ -259,7 +281,8 @@ filled_by l clue slack i any_cell pos e r =
     let by = i + 1 - (least_start clue r.index + get_or clue r.index 0) in
     let x = shifted_on l clue slack r.index by any_cell pos e (omega arith) in
     let start = get_or (starts_from 0 false x.full) r.index 0 in
-    let shift : shift_from r.index by r.index ≡ by = elim (shift_from-is r.index by r.index) [ inl low ↦ absurd (omega arith) | inr high ↦ high.1 ] in
+    let shift : shift_from r.index by r.index ≡ by =
+    elim (shift_from-is r.index by r.index) [ inl low ↦ absurd (omega arith) | inr high ↦ high.1 ] in
     let at = x.starts r.index r.inside in
     let filled = filled_in_run x.full clue r.index (run_of x.full clue r.index x.runs_are r.inside) (i - start) (omega arith) in
     (x.full, x.agree, x.runs_are, same_place x.full start i (omega arith) filled)
@@ -276,21 +299,30 @@ can_be_filled l clue slack i any_cell pos e some any within =
 -- ---- the masks
 
 -- a clue that needs more than there is has no placing
-pub unfit : (l : List Cell) (clue : List ℕ) (filled : Bool) (i : ℕ) → ArePositive clue → length l + 1 < needed clue → CanBe l clue filled i → ⊥
+pub unfit : (l : List Cell) (clue : List ℕ) (filled : Bool) (i : ℕ) → ArePositive clue → length l + 1 < needed clue → CanBe l clue filled i
+    → ⊥
 unfit l clue filled i pos long x = let most = fits l clue x.0 pos x.1 x.2 in omega arith
 
 -- the cells of the line without the overlaps
-pub blankable_is : (l : List Cell) (clue : List ℕ) (slack certain line m : ℕ) → AnyColour l → ArePositive clue → needed clue + slack ≡ length l + 1
-    → IsMaskOf (IsOverlap clue slack) certain → IsMaskOf (λ i. i < length l) line → IsMaskOf (λ i. Has line i × (has certain i ≡ false)) m → IsMaskOf (IsBlankable l clue) m
-blankable_is l clue slack certain line m any_cell pos e c a p = mask_same (λ i. Has line i × (has certain i ≡ false)) (IsBlankable l clue) m p to from
+pub blankable_is : (l : List Cell) (clue : List ℕ) (slack certain line m : ℕ) → AnyColour l → ArePositive clue
+    → needed clue + slack ≡ length l + 1
+    → IsMaskOf (IsOverlap clue slack) certain → IsMaskOf (λ i. i < length l) line → IsMaskOf (λ i. Has line i × (has certain i ≡ false)) m
+    → IsMaskOf (IsBlankable l clue) m
+blankable_is l clue slack certain line m any_cell pos e c a p =
+    mask_same (λ i. Has line i × (has certain i ≡ false)) (IsBlankable l clue) m p to from
   where
     to : (i : ℕ) → Has line i × (has certain i ≡ false) → IsBlankable l clue i
-    to i h = blankable_from l clue i (a.to i h.0) (can_be_blank l clue slack i any_cell pos e (λ o. true≢false (sym (has_true certain i (c.from i o)) ∙ h.1)))
+    to i h =
+        blankable_from l clue i (a.to i h.0)
+        (can_be_blank l clue slack i any_cell pos e (λ o. true≢false (sym (has_true certain i (c.from i o)) ∙ h.1)))
 
     from : (i : ℕ) → IsBlankable l clue i → Has line i × (has certain i ≡ false)
     from i h =
-        let x = blankable_to l clue i h in
-        (a.from i h.2.0.0, has_by certain i false (λ o. absurd (true≢false (sym (overlap_filled l clue x.0 slack i pos x.1 x.2 e (c.to i o)) ∙ x.3))) (λ e. absurd (true≢false (sym e))))
+        let x = blankable_to l clue i h in (
+          a.from i h.2.0.0,
+          has_by certain i false (λ o. absurd (true≢false (sym (overlap_filled l clue x.0 slack i pos x.1 x.2 e (c.to i o)) ∙ x.3)))
+              (λ e. absurd (true≢false (sym e))),
+        )
 
 -- each cell of the line, if there is a run that can move
 pub all_fillable : (l : List Cell) (clue : List ℕ) (slack line : ℕ) → AnyColour l → ArePositive clue → needed clue + slack ≡ length l + 1
@@ -304,7 +336,8 @@ all_fillable l clue slack line any_cell pos e some any a = mask_same (λ i. i < 
     from i h = fillable_within l clue i pos h
 
 -- and else the overlaps alone
-pub overlaps_fillable : (l : List Cell) (clue : List ℕ) (slack certain : ℕ) → AnyColour l → ArePositive clue → needed clue + slack ≡ length l + 1
+pub overlaps_fillable : (l : List Cell) (clue : List ℕ) (slack certain : ℕ) → AnyColour l → ArePositive clue
+    → needed clue + slack ≡ length l + 1
     → (slack ≡ 0) ⊎ (length clue ≡ 0) → IsMaskOf (IsOverlap clue slack) certain → IsMaskOf (IsFillable l clue) certain
 overlaps_fillable l clue slack certain any_cell pos e still c = mask_same (IsOverlap clue slack) (IsFillable l clue) certain c to from
   where
@@ -332,10 +365,13 @@ overlaps_fillable l clue slack certain any_cell pos e still c = mask_same (IsOve
 -- ---- the overlaps, run by run
 
 -- one more run's overlap: so many cells from its greatest start on
-pub overlap_more : (clue : List ℕ) (w slack j start old some moved new : ℕ) → needed clue + slack ≤ w + 1 → j < length clue → slack < get_or clue j 0 → start ≡ least_start clue j + slack
-    → IsMaskOf (IsOverlapBefore j clue slack) old → IsMaskOf (λ i. i < get_or clue j 0 - slack) some → IsMaskOf (IsMoved w (Has some) start) moved
+pub overlap_more : (clue : List ℕ) (w slack j start old some moved new : ℕ) → needed clue + slack ≤ w + 1 → j < length clue
+    → slack < get_or clue j 0 → start ≡ least_start clue j + slack
+    → IsMaskOf (IsOverlapBefore j clue slack) old → IsMaskOf (λ i. i < get_or clue j 0 - slack) some
+    → IsMaskOf (IsMoved w (Has some) start) moved
     → IsMaskOf (λ i. Has old i ⊎ Has moved i) new → IsMaskOf (IsOverlapBefore (j + 1) clue slack) new
-overlap_more clue w slack j start old some moved new within h long at o p q r = mask_same (λ i. Has old i ⊎ Has moved i) (IsOverlapBefore (j + 1) clue slack) new r to from
+overlap_more clue w slack j start old some moved new within h long at o p q r =
+    mask_same (λ i. Has old i ⊎ Has moved i) (IsOverlapBefore (j + 1) clue slack) new r to from
   where
     to : (i : ℕ) → Has old i ⊎ Has moved i → IsOverlapBefore (j + 1) clue slack i
     to i (inl x) = let y = o.to i x in (y.0, omega (arith, y.1), y.2, y.3)
@@ -360,8 +396,10 @@ overlap_more clue w slack j start old some moved new within h long at o p q r = 
         ]
 
 -- a run that isn't longer than the slack has none
-pub overlap_same : (clue : List ℕ) (slack j m : ℕ) → get_or clue j 0 ≤ slack → IsMaskOf (IsOverlapBefore j clue slack) m → IsMaskOf (IsOverlapBefore (j + 1) clue slack) m
-overlap_same clue slack j m short o = mask_same (IsOverlapBefore j clue slack) (IsOverlapBefore (j + 1) clue slack) m o (λ i x. (x.0, omega (arith, x.1), x.2, x.3)) from
+pub overlap_same : (clue : List ℕ) (slack j m : ℕ) → get_or clue j 0 ≤ slack → IsMaskOf (IsOverlapBefore j clue slack) m
+    → IsMaskOf (IsOverlapBefore (j + 1) clue slack) m
+overlap_same clue slack j m short o =
+    mask_same (IsOverlapBefore j clue slack) (IsOverlapBefore (j + 1) clue slack) m o (λ i x. (x.0, omega (arith, x.1), x.2, x.3)) from
   where
     from : (i : ℕ) → IsOverlapBefore (j + 1) clue slack i → IsOverlapBefore j clue slack i
     from i x =
@@ -378,12 +416,20 @@ overlap_same clue slack j m short o = mask_same (IsOverlapBefore j clue slack) (
 -- ---- a clue that needs more than there is
 
 pub none_is : (P : ℕ → Type 0) (m : ℕ) → m ≡ 0 → ((i : ℕ) → P i → ⊥) → IsMaskOf P m
-none_is P m e none = record { to = λ i h. let some : bit_at m i ≡ 1 = h in let zeroth : bit_at m i ≡ 0 = ap (λ (n : ℕ). bit_at n i) e ∙ bit_at-zero i in absurd (omega arith); from = λ i h. absurd (none i h) }
+none_is P m e none =
+    record {
+      to = λ i h. let some : bit_at m i ≡ 1 = h in
+          let zeroth : bit_at m i ≡ 0 = ap (λ (n : ℕ). bit_at n i) e ∙ bit_at-zero i in
+          absurd (omega arith);
+      from = λ i h. absurd (none i h);
+    }
 
-pub unfit_fillable : (l : List Cell) (clue : List ℕ) (m : ℕ) → ArePositive clue → length l + 1 < needed clue → m ≡ 0 → IsMaskOf (IsFillable l clue) m
+pub unfit_fillable : (l : List Cell) (clue : List ℕ) (m : ℕ) → ArePositive clue → length l + 1 < needed clue → m ≡ 0
+    → IsMaskOf (IsFillable l clue) m
 unfit_fillable l clue m pos long e = none_is (IsFillable l clue) m e (λ i h. unfit l clue true i pos long (fillable_to l clue i pos h))
 
-pub unfit_blankable : (l : List Cell) (clue : List ℕ) (m : ℕ) → ArePositive clue → length l + 1 < needed clue → m ≡ 0 → IsMaskOf (IsBlankable l clue) m
+pub unfit_blankable : (l : List Cell) (clue : List ℕ) (m : ℕ) → ArePositive clue → length l + 1 < needed clue → m ≡ 0
+    → IsMaskOf (IsBlankable l clue) m
 unfit_blankable l clue m pos long e = none_is (IsBlankable l clue) m e (λ i h. unfit l clue false i pos long (blankable_to l clue i h))
 
 -- ---- a line of which nothing is known
@@ -405,17 +451,20 @@ unknown_to l len free room known long f r p e =
     by i h Filled at =
         absurd (same i (λ same.
         let in_room : has room i ≡ true = has_true room i (r.from i (h, subst (λ (c : Cell). allows c true ≡ true) (sym at) refl)) in
-        let no : allows Filled false ≡ true = subst (λ (c : Cell). allows c false ≡ true) at (f.to i (true_has free i (same ∙ in_room))).1 in
+        let no : allows Filled false ≡ true =
+        subst (λ (c : Cell). allows c false ≡ true) at (f.to i (true_has free i (same ∙ in_room))).1 in
         true≢false (sym no)))
     by i h Blank at =
         absurd (same i (λ same.
         let in_free : has free i ≡ true = has_true free i (f.from i (h, subst (λ (c : Cell). allows c false ≡ true) (sym at) refl)) in
-        let no : allows Blank true ≡ true = subst (λ (c : Cell). allows c true ≡ true) at (r.to i (true_has room i (sym same ∙ in_free))).1 in
+        let no : allows Blank true ≡ true =
+        subst (λ (c : Cell). allows c true ≡ true) at (r.to i (true_has room i (sym same ∙ in_free))).1 in
         true≢false (sym no)))
 
 pub unknown_from : (l : List Cell) (len free room known : ℕ) → IsMaskOf (MayBe l false) free → IsMaskOf (MayBe l true) room
     → IsMaskOf (λ i. has free i ≢ has room i) known → l ≡ replicate len Unknown → known ≡ 0
-unknown_from l len free room known f r p e = same_from_bits known 0 (λ i. by i (bit_at known i) refl (bit_at-lt known i) ∙ sym (bit_at-zero i))
+unknown_from l len free room known f r p e =
+    same_from_bits known 0 (λ i. by i (bit_at known i) refl (bit_at-lt known i) ∙ sym (bit_at-zero i))
   where
     any_cell : (v : Bool) (i : ℕ) → i < length l → MayBe l v i
     any_cell = subst AnyColour (sym e) (unknown_any len)

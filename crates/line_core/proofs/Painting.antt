@@ -16,9 +16,11 @@ pub record IsLaid (l : List Cell) (clue ss : List ℕ) : Type 0 where
   pub count : length ss ≡ length clue
   pub windows : (j : ℕ) → j < length clue → AllFrom (MayBe l true) (get_or clue j 0) (get_or ss j 0)
   pub apart : (j : ℕ) → suc j < length clue → get_or ss j 0 + get_or clue j 0 < get_or ss (suc j) 0
-  pub blanks : (i : ℕ) → i < length l → ((j : ℕ) → j < length clue → get_or ss j 0 ≤ i → i < get_or ss j 0 + get_or clue j 0 → ⊥) → MayBe l false i
+  pub blanks : (i : ℕ) → i < length l → ((j : ℕ) → j < length clue → get_or ss j 0 ≤ i → i < get_or ss j 0 + get_or clue j 0 → ⊥)
+      → MayBe l false i
 
-agrees_at : (l : List Cell) (x : List Bool) (i : ℕ) → agrees l x ≡ true → i < length l → allows (get_or l i Unknown) (get_or x i false) ≡ true
+agrees_at : (l : List Cell) (x : List Bool) (i : ℕ) → agrees l x ≡ true → i < length l
+    → allows (get_or l i Unknown) (get_or x i false) ≡ true
 agrees_at [] x i a h = absurd (omega arith)
 agrees_at (c ∷ l) [] i a h = cc
 agrees_at (c ∷ l) (b ∷ x) zero a h = and_left (allows c b) (agrees l x) a
@@ -42,7 +44,9 @@ laid l clue x agree is = record {
   blanks = λ i h free. by i h free (get_or x i false) refl;
 }
   where
-    by : (i : ℕ) → i < length l → ((j : ℕ) → j < length clue → get_or (starts_from 0 false x) j 0 ≤ i → i < get_or (starts_from 0 false x) j 0 + get_or clue j 0 → ⊥) → (v : Bool) → get_or x i false ≡ v → MayBe l false i
+    by : (i : ℕ) → i < length l
+        → ((j : ℕ) → j < length clue → get_or (starts_from 0 false x) j 0 ≤ i → i < get_or (starts_from 0 false x) j 0 + get_or clue j 0
+        → ⊥) → (v : Bool) → get_or x i false ≡ v → MayBe l false i
     by i h free true e = let c = covered x clue i is e in absurd (free c.index c.inside c.from c.to)
     by i h free false e = (h, subst (λ (v : Bool). allows (get_or l i Unknown) v ≡ true) e (agrees_at l x i agree h))
 
@@ -61,16 +65,19 @@ Laid l g p [] (s ∷ ss) = ⊥
 Laid l g p (c ∷ clue) [] = ⊥
 Laid l g p (c ∷ clue) (s ∷ ss) = (p + g ≤ s) × AllFrom (MayBe l false) (s - p) p × AllFrom (MayBe l true) c s × Laid l 1 (s + c) clue ss
 
-first_least : (clue ss : List ℕ) → ((j : ℕ) → suc j < length clue → get_or ss j 0 + get_or clue j 0 < get_or ss (suc j) 0) → (j : ℕ) → j < length clue → get_or ss 0 0 ≤ get_or ss j 0
+first_least : (clue ss : List ℕ) → ((j : ℕ) → suc j < length clue → get_or ss j 0 + get_or clue j 0 < get_or ss (suc j) 0) → (j : ℕ)
+    → j < length clue → get_or ss 0 0 ≤ get_or ss j 0
 first_least clue ss apart zero h = omega arith
 first_least clue ss apart (suc j) h = let below = first_least clue ss apart j (omega arith) in let next = apart j h in omega arith
 
 laid_from : (l : List Cell) (g p : ℕ) (clue ss : List ℕ) → length ss ≡ length clue → (0 < length clue → p + g ≤ get_or ss 0 0)
     → ((j : ℕ) → j < length clue → AllFrom (MayBe l true) (get_or clue j 0) (get_or ss j 0))
     → ((j : ℕ) → suc j < length clue → get_or ss j 0 + get_or clue j 0 < get_or ss (suc j) 0)
-    → ((i : ℕ) → p ≤ i → i < length l → ((j : ℕ) → j < length clue → get_or ss j 0 ≤ i → i < get_or ss j 0 + get_or clue j 0 → ⊥) → MayBe l false i)
+    → ((i : ℕ) → p ≤ i → i < length l → ((j : ℕ) → j < length clue → get_or ss j 0 ≤ i → i < get_or ss j 0 + get_or clue j 0 → ⊥)
+    → MayBe l false i)
     → ArePositive clue → Laid l g p clue ss
-laid_from l g p [] [] e first windows apart blanks pos = λ z b. blanks (p + z) (omega arith) (omega arith) (λ j h from to. absurd (omega arith))
+laid_from l g p [] [] e first windows apart blanks pos =
+    λ z b. blanks (p + z) (omega arith) (omega arith) (λ j h from to. absurd (omega arith))
 laid_from l g p [] (s ∷ ss) e first windows apart blanks pos = absurd (omega arith)
 laid_from l g p (c ∷ clue) [] e first windows apart blanks pos = absurd (omega arith)
 laid_from l g p (c ∷ clue) (s ∷ ss) e first windows apart blanks pos =
@@ -82,7 +89,8 @@ laid_from l g p (c ∷ clue) (s ∷ ss) e first windows apart blanks pos =
           let least = first_least (c ∷ clue) (s ∷ ss) apart j h in
           absurd (omega arith))),
       window,
-      laid_from l 1 (s + c) clue ss (omega arith) (λ h. let next = apart 0 (omega arith) in omega arith) (λ j h. windows (suc j) (omega arith)) (λ j h. apart (suc j) (omega arith))
+      laid_from l 1 (s + c) clue ss (omega arith) (λ h. let next = apart 0 (omega arith) in omega arith)
+          (λ j h. windows (suc j) (omega arith)) (λ j h. apart (suc j) (omega arith))
           (λ i a h free. blanks i (omega arith) h (by i a free)) pos.1,
     )
   where
@@ -91,18 +99,22 @@ laid_from l g p (c ∷ clue) (s ∷ ss) e first windows apart blanks pos =
     by i a free zero h from to = absurd (omega arith)
     by i a free (suc j) h from to = free j (omega arith) from to
 
-agrees_span : (l : List Cell) (v : Bool) (n p : ℕ) (y : List Bool) → AllFrom (MayBe l v) n p → agrees (drop (p + n) l) y ≡ true → agrees (drop p l) (replicate n v ++ y) ≡ true
+agrees_span : (l : List Cell) (v : Bool) (n p : ℕ) (y : List Bool) → AllFrom (MayBe l v) n p → agrees (drop (p + n) l) y ≡ true
+    → agrees (drop p l) (replicate n v ++ y) ≡ true
 agrees_span l v zero p y o h = let e : p + 0 ≡ p = omega arith in subst (λ (k : ℕ). agrees (drop k l) y ≡ true) e h
 agrees_span l v (suc n) p y o h =
     let zeroth : p + 0 ≡ p = omega arith in
     let first : MayBe l v p = subst (MayBe l v) zeroth (o 0 (omega arith)) in
     let e : p + suc n ≡ suc p + n = omega arith in
     let rest : agrees (drop (suc p) l) (replicate n v ++ y) ≡ true =
-    agrees_span l v n (suc p) y (λ z b. let f : p + suc z ≡ suc p + z = omega arith in subst (MayBe l v) f (o (suc z) (omega arith))) (subst (λ (k : ℕ). agrees (drop k l) y ≡ true) e h) in
+    agrees_span l v n (suc p) y (λ z b. let f : p + suc z ≡ suc p + z = omega arith in subst (MayBe l v) f (o (suc z) (omega arith)))
+    (subst (λ (k : ℕ). agrees (drop k l) y ≡ true) e h) in
     let split : drop p l ≡ get_or l p Unknown ∷ drop (suc p) l = drop-cons l p Unknown first.0 in
-    subst (λ (t : List Cell). agrees t (v ∷ (replicate n v ++ y)) ≡ true) (sym split) (and_both (allows (get_or l p Unknown) v) (agrees (drop (suc p) l) (replicate n v ++ y)) first.1 rest)
+    subst (λ (t : List Cell). agrees t (v ∷ (replicate n v ++ y)) ≡ true) (sym split)
+    (and_both (allows (get_or l p Unknown) v) (agrees (drop (suc p) l) (replicate n v ++ y)) first.1 rest)
 
-painted_agrees : (l : List Cell) (g p : ℕ) (clue ss : List ℕ) → ArePositive clue → p ≤ length l → Laid l g p clue ss → agrees (drop p l) (painted (length l) p clue ss) ≡ true
+painted_agrees : (l : List Cell) (g p : ℕ) (clue ss : List ℕ) → ArePositive clue → p ≤ length l → Laid l g p clue ss
+    → agrees (drop p l) (painted (length l) p clue ss) ≡ true
 painted_agrees l g p [] [] pos h d =
     let e : length l ≤ p + (length l - p) = omega arith in
     let gone : [] ≡ drop (p + (length l - p)) l = sym (drop_of_length-le l {i = p + (length l - p)} e) in
@@ -116,7 +128,8 @@ painted_agrees l g p (c ∷ clue) (s ∷ ss) pos h d =
     let e : s ≡ p + (s - p) = omega arith in
     let rest = painted_agrees l 1 (s + c) clue ss pos.1 (omega arith) d.3 in
     let run = agrees_span l true c s (painted (length l) (s + c) clue ss) d.2 rest in
-    agrees_span l false (s - p) p (replicate c true ++ painted (length l) (s + c) clue ss) d.1 (subst (λ (k : ℕ). agrees (drop k l) (replicate c true ++ painted (length l) (s + c) clue ss) ≡ true) e run)
+    agrees_span l false (s - p) p (replicate c true ++ painted (length l) (s + c) clue ss) d.1
+    (subst (λ (k : ℕ). agrees (drop k l) (replicate c true ++ painted (length l) (s + c) clue ss) ≡ true) e run)
 
 -- after a run comes a blank cell, or none
 painted_head : (l : List Cell) (n p : ℕ) (clue ss : List ℕ) → Laid l 1 p clue ss → get_or (painted n p clue ss) 0 false ≡ false
@@ -147,11 +160,13 @@ painted_runs l g n p [] (s ∷ ss) pos d = absurd d
 painted_runs l g n p (c ∷ clue) [] pos d = absurd d
 painted_runs l g n p (c ∷ clue) (s ∷ ss) pos d =
     let rest = painted n (s + c) clue ss in
-    runs_blanks (s - p) (replicate c true ++ rest) ∙ runs_first c rest pos.0 (painted_head l n (s + c) clue ss d.3) ∙ ap (λ (z : List ℕ). c ∷ z) (painted_runs l 1 n (s + c) clue ss pos.1 d.3)
+    runs_blanks (s - p) (replicate c true ++ rest) ∙ runs_first c rest pos.0 (painted_head l n (s + c) clue ss d.3)
+    ∙ ap (λ (z : List ℕ). c ∷ z) (painted_runs l 1 n (s + c) clue ss pos.1 d.3)
 
 starts_blanks : (m p : ℕ) (y : List Bool) → starts_from p false (replicate m false ++ y) ≡ starts_from (p + m) false y
 starts_blanks zero p y = let e : p ≡ p + 0 = omega arith in ap (λ (k : ℕ). starts_from k false y) e
-starts_blanks (suc m) p y = let e : suc p + m ≡ p + suc m = omega arith in starts_blanks m (suc p) y ∙ ap (λ (k : ℕ). starts_from k false y) e
+starts_blanks (suc m) p y =
+    let e : suc p + m ≡ p + suc m = omega arith in starts_blanks m (suc p) y ∙ ap (λ (k : ℕ). starts_from k false y) e
 
 starts_open : (m p : ℕ) (y : List Bool) → starts_from p true (replicate m true ++ y) ≡ starts_from (p + m) true y
 starts_open zero p y = let e : p ≡ p + 0 = omega arith in ap (λ (k : ℕ). starts_from k true y) e
@@ -162,13 +177,15 @@ starts_closed p [] h = refl
 starts_closed p (true ∷ y) h = cc
 starts_closed p (false ∷ y) h = refl
 
-starts_first : (c s : ℕ) (y : List Bool) → 0 < c → get_or y 0 false ≡ false → starts_from s false (replicate c true ++ y) ≡ s ∷ starts_from (s + c) false y
+starts_first : (c s : ℕ) (y : List Bool) → 0 < c → get_or y 0 false ≡ false
+    → starts_from s false (replicate c true ++ y) ≡ s ∷ starts_from (s + c) false y
 starts_first zero s y h k = absurd (omega arith)
 starts_first (suc n) s y h k =
     let e : suc s + n ≡ s + suc n = omega arith in
     ap (λ (z : List ℕ). s ∷ z) (starts_open n (suc s) y ∙ ap (λ (q : ℕ). starts_from q true y) e ∙ starts_closed (s + suc n) y k)
 
-painted_starts : (l : List Cell) (g n p : ℕ) (clue ss : List ℕ) → ArePositive clue → Laid l g p clue ss → starts_from p false (painted n p clue ss) ≡ ss
+painted_starts : (l : List Cell) (g n p : ℕ) (clue ss : List ℕ) → ArePositive clue → Laid l g p clue ss
+    → starts_from p false (painted n p clue ss) ≡ ss
 painted_starts l g n p [] [] pos d = starts_blanks (n - p) p []
 painted_starts l g n p [] (s ∷ ss) pos d = absurd d
 painted_starts l g n p (c ∷ clue) [] pos d = absurd d
@@ -177,18 +194,25 @@ painted_starts l g n p (c ∷ clue) (s ∷ ss) pos d =
     let rest = painted n (s + c) clue ss in
     let e : p + (s - p) ≡ s = omega arith in
     starts_blanks (s - p) p (replicate c true ++ rest) ∙ ap (λ (k : ℕ). starts_from k false (replicate c true ++ rest)) e
-    ∙ starts_first c s rest pos.0 (painted_head l n (s + c) clue ss d.3) ∙ ap (λ (z : List ℕ). s ∷ z) (painted_starts l 1 n (s + c) clue ss pos.1 d.3)
+    ∙ starts_first c s rest pos.0 (painted_head l n (s + c) clue ss d.3)
+    ∙ ap (λ (z : List ℕ). s ∷ z) (painted_starts l 1 n (s + c) clue ss pos.1 d.3)
 
 -- starts that lay a clue are those of a placing
-pub placing_of : (l : List Cell) (clue ss : List ℕ) → ArePositive clue → IsLaid l clue ss → (x : List Bool) × (agrees l x ≡ true) × (runs x ≡ clue) × (starts_from 0 false x ≡ ss)
+pub placing_of : (l : List Cell) (clue ss : List ℕ) → ArePositive clue → IsLaid l clue ss
+    → (x : List Bool) × (agrees l x ≡ true) × (runs x ≡ clue) × (starts_from 0 false x ≡ ss)
 placing_of l clue ss pos d =
-    let steps = laid_from l 0 0 clue ss d.count (λ h. omega arith) d.windows d.apart (λ i a h free. d.blanks i h free) pos in
-    (painted (length l) 0 clue ss, painted_agrees l 0 0 clue ss pos (omega arith) steps, painted_runs l 0 (length l) 0 clue ss pos steps, painted_starts l 0 (length l) 0 clue ss pos steps)
+    let steps = laid_from l 0 0 clue ss d.count (λ h. omega arith) d.windows d.apart (λ i a h free. d.blanks i h free) pos in (
+      painted (length l) 0 clue ss,
+      painted_agrees l 0 0 clue ss pos (omega arith) steps,
+      painted_runs l 0 (length l) 0 clue ss pos steps,
+      painted_starts l 0 (length l) 0 clue ss pos steps,
+    )
 
 -- ---- the least starts and the greatest
 
 -- each run ends before all later ones
-pub laid_apart : (l : List Cell) (clue ss : List ℕ) → IsLaid l clue ss → (i j : ℕ) → i < j → j < length clue → get_or ss i 0 + get_or clue i 0 < get_or ss j 0
+pub laid_apart : (l : List Cell) (clue ss : List ℕ) → IsLaid l clue ss → (i j : ℕ) → i < j → j < length clue
+    → get_or ss i 0 + get_or clue i 0 < get_or ss j 0
 laid_apart l clue ss d i zero h k = absurd (omega arith)
 laid_apart l clue ss d i (suc j) h k =
     let next = d.apart j k in
@@ -219,7 +243,8 @@ least_laid l clue m y some count each least = record {
   blanks = λ i h free. go i h free (length clue) (omega arith) (λ q a b. absurd (omega arith));
 }
   where
-    at_run : (i n : ℕ) → i < length l → n < length clue → get_or m n 0 + get_or clue n 0 ≤ i → ((q : ℕ) → suc n ≤ q → q < length clue → i < get_or m q 0) → MayBe l false i
+    at_run : (i n : ℕ) → i < length l → n < length clue → get_or m n 0 + get_or clue n 0 ≤ i
+        → ((q : ℕ) → suc n ≤ q → q < length clue → i < get_or m q 0) → MayBe l false i
     at_run i n h k after later =
         let w = each n k in
         let at : get_or w.starts n 0 ≡ get_or m n 0 = w.at in
@@ -227,14 +252,20 @@ least_laid l clue m y some count each least = record {
         elim (cases_lt q n) [
           | inl low ↦ (let gap = laid_apart l clue w.starts w.laid_so q n low k in absurd (omega arith))
           | inr high ↦ elim (cases_lt n q) [
-            | inl above ↦ (let bound = later q (omega arith) inside in let least_q = least w.starts w.laid_so q inside in absurd (omega arith))
-            | inr same ↦ (let e : q ≡ n = omega arith in let bad = subst (λ (z : ℕ). i < get_or w.starts z 0 + get_or clue z 0) e to in absurd (omega arith))
+            | inl above ↦
+                (let bound = later q (omega arith) inside in let least_q = least w.starts w.laid_so q inside in absurd (omega arith))
+            | inr same ↦
+                (let e : q ≡ n = omega arith in
+                let bad = subst (λ (z : ℕ). i < get_or w.starts z 0 + get_or clue z 0) e to in
+                absurd (omega arith))
           ]
         ])
 
     go : (i : ℕ) → i < length l → ((j : ℕ) → j < length clue → get_or m j 0 ≤ i → i < get_or m j 0 + get_or clue j 0 → ⊥)
         → (n : ℕ) → n ≤ length clue → ((q : ℕ) → n ≤ q → q < length clue → i < get_or m q 0) → MayBe l false i
-    go i h free zero k later = some.blanks i h (λ q inside from to. let bound = later q (omega arith) inside in let low = least y some q inside in absurd (omega arith))
+    go i h free zero k later =
+        some.blanks i h
+        (λ q inside from to. let bound = later q (omega arith) inside in let low = least y some q inside in absurd (omega arith))
     go i h free (suc n) k later =
         elim (cases_lt i (get_or m n 0)) [
           | inl low ↦ go i h free n (omega arith) (λ q a b. elim (cases_lt n q) [
@@ -263,7 +294,8 @@ greatest_laid l clue m y some count each greatest = record {
   blanks = λ i h free. go i h free (length clue) 0 (omega arith) (λ q a. absurd (omega arith));
 }
   where
-    at_run : (i n : ℕ) → i < length l → n < length clue → i < get_or m n 0 → ((q : ℕ) → q < n → get_or m q 0 + get_or clue q 0 ≤ i) → MayBe l false i
+    at_run : (i n : ℕ) → i < length l → n < length clue → i < get_or m n 0 → ((q : ℕ) → q < n → get_or m q 0 + get_or clue q 0 ≤ i)
+        → MayBe l false i
     at_run i n h k before earlier =
         let w = each n k in
         let at : get_or w.starts n 0 ≡ get_or m n 0 = w.at in
@@ -272,13 +304,16 @@ greatest_laid l clue m y some count each greatest = record {
           | inl low ↦ (let bound = earlier q low in let high = greatest w.starts w.laid_so q inside in absurd (omega arith))
           | inr high ↦ elim (cases_lt n q) [
             | inl above ↦ (let gap = laid_apart l clue w.starts w.laid_so n q above inside in absurd (omega arith))
-            | inr same ↦ (let e : q ≡ n = omega arith in let bad = subst (λ (z : ℕ). get_or w.starts z 0 ≤ i) e from in absurd (omega arith))
+            | inr same ↦
+                (let e : q ≡ n = omega arith in let bad = subst (λ (z : ℕ). get_or w.starts z 0 ≤ i) e from in absurd (omega arith))
           ]
         ])
 
     go : (i : ℕ) → i < length l → ((j : ℕ) → j < length clue → get_or m j 0 ≤ i → i < get_or m j 0 + get_or clue j 0 → ⊥)
         → (fuel n : ℕ) → n + fuel ≡ length clue → ((q : ℕ) → q < n → get_or m q 0 + get_or clue q 0 ≤ i) → MayBe l false i
-    go i h free zero n k earlier = some.blanks i h (λ q inside from to. let bound = earlier q (omega arith) in let high = greatest y some q inside in absurd (omega arith))
+    go i h free zero n k earlier =
+        some.blanks i h
+        (λ q inside from to. let bound = earlier q (omega arith) in let high = greatest y some q inside in absurd (omega arith))
     go i h free (suc fuel) n k earlier =
         elim (cases_lt i (get_or m n 0 + get_or clue n 0)) [
           | inr past ↦ go i h free fuel (suc n) (omega arith) (λ q a. elim (cases_lt q n) [

@@ -21,9 +21,11 @@ pub record BeginsWithRun (cells : List Cell) (cs : List ℕ) : Type 0 where
   pub runs_are : count ∷ runs rest ≡ cs
   pub closed : get_or rest 0 false ≡ false
 
-first_cell : (c : Cell) (cells : List Cell) (cs : List ℕ) → HasPlacing (c ∷ cells) cs → ((allows c false ≡ true) × HasPlacing cells cs) ⊎ BeginsWithRun (c ∷ cells) cs
+first_cell : (c : Cell) (cells : List Cell) (cs : List ℕ) → HasPlacing (c ∷ cells) cs
+    → ((allows c false ≡ true) × HasPlacing cells cs) ⊎ BeginsWithRun (c ∷ cells) cs
 first_cell c cells cs ([], agree, is) = cc
-first_cell c cells cs (false ∷ y, agree, is) = inl (and_left (allows c false) (agrees cells y) agree, (y, and_right (allows c false) (agrees cells y) agree, is))
+first_cell c cells cs (false ∷ y, agree, is) =
+    inl (and_left (allows c false) (agrees cells y) agree, (y, and_right (allows c false) (agrees cells y) agree, is))
 first_cell c cells cs (true ∷ y, agree, is) =
     let b = begins (true ∷ y) in
     let some : 0 < b.count = begins_some (true ∷ y) b refl in
@@ -81,7 +83,8 @@ open_run l (suc m) (suc p) rest h =
     below_or_at zero (suc m) h = inl (omega arith)
     below_or_at (suc z) (suc m) h = elim (below_or_at z m (omega arith)) [ inl a ↦ inl (omega arith) | inr a ↦ inr (omega arith) ]
 
-    by : OpenRun l m p rest → allows (get_or l p Unknown) true ≡ true → (z : ℕ) → z < suc m → (z < m) ⊎ (z ≡ m) → allows (get_or l (suc p - suc m + z) Unknown) true ≡ true
+    by : OpenRun l m p rest → allows (get_or l p Unknown) true ≡ true → (z : ℕ) → z < suc m → (z < m) ⊎ (z ≡ m)
+        → allows (get_or l (suc p - suc m + z) Unknown) true ≡ true
     by r a z b (inl low) =
         let e : p - m + z ≡ suc p - suc m + z = omega arith in
         subst (λ (q : ℕ). allows (get_or l q Unknown) true ≡ true) e (r.cells z low)
@@ -97,22 +100,28 @@ run_open l (suc m) (suc p) rest r =
     let enough : suc m ≤ suc p = r.enough in
     let e : suc p - suc m ≡ p - m = omega arith in
     let at : suc p - suc m + m ≡ p = omega arith in
-    let nearest : allows (get_or l p Unknown) true ≡ true = subst (λ (q : ℕ). allows (get_or l q Unknown) true ≡ true) at (r.cells m (omega arith)) in
+    let nearest : allows (get_or l p Unknown) true ≡ true =
+    subst (λ (q : ℕ). allows (get_or l q Unknown) true ≡ true) at (r.cells m (omega arith)) in
     let others : OpenRun l m p rest = record {
       enough = omega arith;
-      cells = λ z b. let f : suc p - suc m + z ≡ p - m + z = omega arith in subst (λ (q : ℕ). allows (get_or l q Unknown) true ≡ true) f (r.cells z (omega arith));
+      cells = λ z b. let f : suc p - suc m + z ≡ p - m + z = omega arith in
+          subst (λ (q : ℕ). allows (get_or l q Unknown) true ≡ true) f (r.cells z (omega arith));
       before = subst (λ (q : ℕ). agrees (behind Unknown l q) rest ≡ true) e r.before;
     } in
-    and_both (allows (get_or l p Unknown) true) (agrees (behind Unknown l p) (replicate m true ++ rest)) nearest (run_open l m p rest others)
+    and_both (allows (get_or l p Unknown) true) (agrees (behind Unknown l p) (replicate m true ++ rest)) nearest
+    (run_open l m p rest others)
 
 -- a run of so many cells that ends here is a placing of the cells up to here that begins with it
-end_from_run : (l : List Cell) (cs : List ℕ) (n i : ℕ) (rest : List Bool) → i < length l → OpenRun l n (suc i) rest → runs rest ≡ cs → get_or rest 0 false ≡ false → IsEndAfter l cs n i
+end_from_run : (l : List Cell) (cs : List ℕ) (n i : ℕ) (rest : List Bool) → i < length l → OpenRun l n (suc i) rest → runs rest ≡ cs
+    → get_or rest 0 false ≡ false → IsEndAfter l cs n i
 end_from_run l cs n i rest within o is closed =
     let enough : n ≤ suc i = o.enough in
     let e : suc i - n ≡ i + 1 - n = omega arith in
-    let start : IsClosed (behind Unknown l (i + 1 - n)) cs = (rest, subst (λ (q : ℕ). agrees (behind Unknown l q) rest ≡ true) e o.before, is, closed) in
+    let start : IsClosed (behind Unknown l (i + 1 - n)) cs =
+    (rest, subst (λ (q : ℕ). agrees (behind Unknown l q) rest ≡ true) e o.before, is, closed) in
     let cells : AllFrom (MayBe l true) n (i + 1 - n) =
-    λ z b. let f : suc i - n + z ≡ i + 1 - n + z = omega arith in (omega arith, subst (λ (q : ℕ). allows (get_or l q Unknown) true ≡ true) f (o.cells z b)) in
+    λ z b. let f : suc i - n + z ≡ i + 1 - n + z = omega arith in
+    (omega arith, subst (λ (q : ℕ). allows (get_or l q Unknown) true ≡ true) f (o.cells z b)) in
     (omega arith, (start, cells))
 
 run_from_end : (l : List Cell) (cs : List ℕ) (n i : ℕ) → 0 < n → IsEndAfter l cs n i → HasPlacing (behind Unknown l (suc i)) (n ∷ cs)
@@ -122,7 +131,8 @@ run_from_end l cs n i some x =
     let e : i + 1 - n ≡ suc i - n = omega arith in
     let o : OpenRun l n (suc i) y.0 = record {
       enough = omega arith;
-      cells = λ z b. let f : i + 1 - n + z ≡ suc i - n + z = omega arith in subst (λ (q : ℕ). allows (get_or l q Unknown) true ≡ true) f (x.1.1 z b).1;
+      cells = λ z b. let f : i + 1 - n + z ≡ suc i - n + z = omega arith in
+          subst (λ (q : ℕ). allows (get_or l q Unknown) true ≡ true) f (x.1.1 z b).1;
       before = subst (λ (q : ℕ). agrees (behind Unknown l q) y.0 ≡ true) e y.1;
     } in
     (replicate n true ++ y.0, run_open l n (suc i) y.0 o, runs_about [] n y.0 some refl y.3 ∙ ap (λ (rs : List ℕ). n ∷ rs) y.2)
@@ -151,6 +161,8 @@ gap_after_from l cs n (suc i) g = elim (first_cell (get_or l i Unknown) (behind 
       let same : r.count ≡ n = cc in
       let others : runs r.rest ≡ cs = cc in
       let e : i ≡ suc i - 1 = omega arith in
-      let end : IsEndAfter l cs n i = end_from_run l cs n i r.rest (omega arith) (subst (λ (m : ℕ). OpenRun l m (suc i) r.rest) same (open_run l r.count (suc i) r.rest r.agree)) others r.closed in
+      let end : IsEndAfter l cs n i =
+      end_from_run l cs n i r.rest (omega arith)
+      (subst (λ (m : ℕ). OpenRun l m (suc i) r.rest) same (open_run l r.count (suc i) r.rest r.agree)) others r.closed in
       inl (g.0, omega arith, subst (IsEndAfter l cs n) e end))
 ]

@@ -28,12 +28,18 @@ starts-filter : (whole rest : List Bool) (p : ℕ) (after : Bool) → ((k : ℕ)
 starts-filter whole [] p after h = refl
 starts-filter whole (b ∷ rest) p after h =
     let here : starts_run whole p ≡ (b && not after) = ap (starts_run whole) (sym (add-zero p)) ∙ h 0 in
-    let later : filter (starts_run whole) (range_with_len (suc p) (length rest)) ≡ starts_from (suc p) b rest = starts-filter whole rest (suc p) b next in
-    ap (λ (q : ℕ). cond (starts_run whole p) (p ∷ filter (starts_run whole) (range_with_len q (length rest))) (filter (starts_run whole) (range_with_len q (length rest)))) (add-one p)
-    ∙ ap (λ (t : Bool). cond t (p ∷ filter (starts_run whole) (range_with_len (suc p) (length rest))) (filter (starts_run whole) (range_with_len (suc p) (length rest)))) here
+    let later : filter (starts_run whole) (range_with_len (suc p) (length rest)) ≡ starts_from (suc p) b rest =
+    starts-filter whole rest (suc p) b next in
+    ap (λ (q : ℕ).
+    cond (starts_run whole p) (p ∷ filter (starts_run whole) (range_with_len q (length rest)))
+    (filter (starts_run whole) (range_with_len q (length rest)))) (add-one p)
+    ∙ ap (λ (t : Bool).
+    cond t (p ∷ filter (starts_run whole) (range_with_len (suc p) (length rest)))
+    (filter (starts_run whole) (range_with_len (suc p) (length rest)))) here
     ∙ ap (λ (xs : List ℕ). cond (b && not after) (p ∷ xs) xs) later ∙ by b after
   where
-    by : (b after : Bool) → cond (b && not after) (p ∷ starts_from (suc p) b rest) (starts_from (suc p) b rest) ≡ starts_from p after (b ∷ rest)
+    by : (b after : Bool)
+        → cond (b && not after) (p ∷ starts_from (suc p) b rest) (starts_from (suc p) b rest) ≡ starts_from p after (b ∷ rest)
     by true true = refl
     by true false = refl
     by false true = refl
@@ -63,13 +69,15 @@ starts_one p true false w = refl
 starts_one p false false w = refl
 
 -- the starts of a line that is cut somewhere
-pub starts-onto : (a w : List Bool) → starts_from 0 false (onto a w) ≡ starts_from 0 false (onto a []) ++ starts_from (length a) (get_or a 0 false) w
+pub starts-onto : (a w : List Bool)
+    → starts_from 0 false (onto a w) ≡ starts_from 0 false (onto a []) ++ starts_from (length a) (get_or a 0 false) w
 starts-onto [] w = refl
 starts-onto (b ∷ a) w =
     let before = starts_from 0 false (onto a []) in
     let one = starts_from (length a) (get_or a 0 false) (b ∷ []) in
     let rest = starts_from (suc (length a)) b w in
-    starts-onto a (b ∷ w) ∙ ap (λ (xs : List ℕ). before ++ xs) (starts_one (length a) (get_or a 0 false) b w) ∙ sym (append_assoc before one rest)
+    starts-onto a (b ∷ w) ∙ ap (λ (xs : List ℕ). before ++ xs) (starts_one (length a) (get_or a 0 false) b w)
+    ∙ sym (append_assoc before one rest)
     ∙ ap (λ (xs : List ℕ). xs ++ rest) (sym (starts-onto a (b ∷ [])))
 
 mutual
@@ -104,7 +112,8 @@ starts_at_least (true ∷ x) p zero false h = omega arith
 starts_at_least (true ∷ x) p (suc k) false h = let rest = starts_at_least x (suc p) k true (omega arith) in omega arith
 starts_at_least (false ∷ x) p k after h = let rest = starts_at_least x (suc p) k false h in omega arith
 
-pub starts_increase : (x : List Bool) (p i j : ℕ) (after : Bool) → i < j → j < length (starts_from p after x) → get_or (starts_from p after x) i 0 < get_or (starts_from p after x) j 0
+pub starts_increase : (x : List Bool) (p i j : ℕ) (after : Bool) → i < j → j < length (starts_from p after x)
+    → get_or (starts_from p after x) i 0 < get_or (starts_from p after x) j 0
 starts_increase [] p i j after l h = absurd (omega arith)
 starts_increase (true ∷ x) p i j true l h = starts_increase x (suc p) i j true l h
 starts_increase (true ∷ x) p i zero false l h = absurd (omega arith)
@@ -141,12 +150,16 @@ filled_within (b ∷ x) zero h = omega arith
 filled_within (b ∷ x) (suc i) h = omega (arith, filled_within x i h)
 
 -- the start of a run that a line is cut round
-pub start_of_cut : (a : List Bool) (c : ℕ) (b : List Bool) → 0 < c → get_or a 0 false ≡ false → get_or (starts_from 0 false (onto a (replicate c true ++ b))) (length (runs a)) 0 ≡ length a
+pub start_of_cut : (a : List Bool) (c : ℕ) (b : List Bool) → 0 < c → get_or a 0 false ≡ false
+    → get_or (starts_from 0 false (onto a (replicate c true ++ b))) (length (runs a)) 0 ≡ length a
 start_of_cut a c b some closed =
     let count : length (starts_from 0 false (onto a [])) ≡ length (runs a) = starts_before a closed in
-    let all : starts_from 0 false (onto a (replicate c true ++ b)) ≡ starts_from 0 false (onto a []) ++ starts_from (length a) false (replicate c true ++ b) =
-    starts-onto a (replicate c true ++ b) ∙ ap (λ (t : Bool). starts_from 0 false (onto a []) ++ starts_from (length a) t (replicate c true ++ b)) closed in
-    ap (λ (xs : List ℕ). get_or xs (length (runs a)) 0) all ∙ ap (λ (n : ℕ). get_or (starts_from 0 false (onto a []) ++ starts_from (length a) false (replicate c true ++ b)) n 0) (sym count)
+    let all : starts_from 0 false (onto a (replicate c true ++ b))
+    ≡ starts_from 0 false (onto a []) ++ starts_from (length a) false (replicate c true ++ b) =
+    starts-onto a (replicate c true ++ b)
+    ∙ ap (λ (t : Bool). starts_from 0 false (onto a []) ++ starts_from (length a) t (replicate c true ++ b)) closed in
+    ap (λ (xs : List ℕ). get_or xs (length (runs a)) 0) all
+    ∙ ap (λ (n : ℕ). get_or (starts_from 0 false (onto a []) ++ starts_from (length a) false (replicate c true ++ b)) n 0) (sym count)
     ∙ past (starts_from 0 false (onto a [])) (starts_from (length a) false (replicate c true ++ b)) ∙ first_of c some
   where
     past : (xs ys : List ℕ) → get_or (xs ++ ys) (length xs) 0 ≡ get_or ys 0 0
@@ -185,10 +198,12 @@ run_at x clue s is filled first =
     let closed : get_or a 0 false ≡ false = head s first in
     let long : length a ≡ s = length_behind false x s in
     let whole : onto a (replicate v.count true ++ v.rest) ≡ x = ap (onto a) (sym v.whole) ∙ onto_behind false x s (omega arith) in
-    let parts = onto_split (runs a) (v.count ∷ runs v.rest) clue (sym (runs_about a v.count v.rest some closed v.closed) ∙ ap runs whole ∙ is) in
+    let parts =
+    onto_split (runs a) (v.count ∷ runs v.rest) clue (sym (runs_about a v.count v.rest some closed v.closed) ∙ ap runs whole ∙ is) in
     let j = length (runs a) in
     let cut = drop_head clue j v.count (runs v.rest) parts.1 in
-    let at : get_or (starts_from 0 false x) j 0 ≡ s = ap (λ (y : List Bool). get_or (starts_from 0 false y) j 0) (sym whole) ∙ start_of_cut a v.count v.rest some closed ∙ long in
+    let at : get_or (starts_from 0 false x) j 0 ≡ s =
+    ap (λ (y : List Bool). get_or (starts_from 0 false y) j 0) (sym whole) ∙ start_of_cut a v.count v.rest some closed ∙ long in
     record {
       index = j;
       inside = cut.2;
@@ -209,7 +224,8 @@ run_at x clue s is filled first =
     head zero h = refl
     head (suc s) h = h
 
-same_index : (x : List Bool) (i j : ℕ) → i < length (starts_from 0 false x) → j < length (starts_from 0 false x) → get_or (starts_from 0 false x) i 0 ≡ get_or (starts_from 0 false x) j 0 → i ≡ j
+same_index : (x : List Bool) (i j : ℕ) → i < length (starts_from 0 false x) → j < length (starts_from 0 false x)
+    → get_or (starts_from 0 false x) i 0 ≡ get_or (starts_from 0 false x) j 0 → i ≡ j
 same_index x i j hi hj e =
     elim (cases_lt i j) [
       | inl low ↦ absurd (omega (arith, starts_increase x 0 i j false low hj))
@@ -229,23 +245,28 @@ run_of x clue k is h =
     subst (Run x clue) same r.run
 
 -- the cells of a run are filled
-pub filled_in_run : (x : List Bool) (clue : List ℕ) (k : ℕ) → Run x clue k → (z : ℕ) → z < get_or clue k 0 → get_or x (get_or (starts_from 0 false x) k 0 + z) false ≡ true
+pub filled_in_run : (x : List Bool) (clue : List ℕ) (k : ℕ) → Run x clue k → (z : ℕ) → z < get_or clue k 0
+    → get_or x (get_or (starts_from 0 false x) k 0 + z) false ≡ true
 filled_in_run x clue k r z h =
     ap (λ (n : ℕ). get_or x (n + z) false) (sym r.start) ∙ ap (λ (y : List Bool). get_or y (length r.front + z) false) (sym r.whole)
     ∙ get_or-onto false r.front (replicate (get_or clue k 0) true ++ r.back) z ∙ get_or-run (get_or clue k 0) r.back z h
 
 -- the cell after it isn't
-pub blank_after_run : (x : List Bool) (clue : List ℕ) (k : ℕ) → Run x clue k → get_or x (get_or (starts_from 0 false x) k 0 + get_or clue k 0) false ≡ false
+pub blank_after_run : (x : List Bool) (clue : List ℕ) (k : ℕ) → Run x clue k
+    → get_or x (get_or (starts_from 0 false x) k 0 + get_or clue k 0) false ≡ false
 blank_after_run x clue k r =
-    ap (λ (n : ℕ). get_or x (n + get_or clue k 0) false) (sym r.start) ∙ ap (λ (y : List Bool). get_or y (length r.front + get_or clue k 0) false) (sym r.whole)
-    ∙ get_or-onto false r.front (replicate (get_or clue k 0) true ++ r.back) (get_or clue k 0) ∙ past (get_or clue k 0) r.back ∙ r.back_closed
+    ap (λ (n : ℕ). get_or x (n + get_or clue k 0) false) (sym r.start)
+    ∙ ap (λ (y : List Bool). get_or y (length r.front + get_or clue k 0) false) (sym r.whole)
+    ∙ get_or-onto false r.front (replicate (get_or clue k 0) true ++ r.back) (get_or clue k 0) ∙ past (get_or clue k 0) r.back
+    ∙ r.back_closed
   where
     past : (n : ℕ) (w : List Bool) → get_or (replicate n true ++ w) n false ≡ get_or w 0 false
     past zero w = refl
     past (suc n) w = past n w
 
 -- runs stand apart
-pub runs_apart : (x : List Bool) (clue : List ℕ) (k : ℕ) → runs x ≡ clue → suc k < length clue → get_or (starts_from 0 false x) k 0 + get_or clue k 0 < get_or (starts_from 0 false x) (suc k) 0
+pub runs_apart : (x : List Bool) (clue : List ℕ) (k : ℕ) → runs x ≡ clue → suc k < length clue
+    → get_or (starts_from 0 false x) k 0 + get_or clue k 0 < get_or (starts_from 0 false x) (suc k) 0
 runs_apart x clue k is h =
     let count : length (starts_from 0 false x) ≡ length clue = length-run_starts x ∙ ap length is in
     let s = get_or (starts_from 0 false x) k 0 in
@@ -259,11 +280,14 @@ runs_apart x clue k is h =
       | inr near ↦ absurd (close s t.0 (get_or clue k 0) more near t.2 t.3 (filled_in_run x clue k r) (blank_after_run x clue k r))
     ]
   where
-    close : (s t c : ℕ) → s < t → t ≤ s + c → get_or x t false ≡ true → before false x t ≡ false → ((z : ℕ) → z < c → get_or x (s + z) false ≡ true) → get_or x (s + c) false ≡ false → ⊥
+    close : (s t c : ℕ) → s < t → t ≤ s + c → get_or x t false ≡ true → before false x t ≡ false
+        → ((z : ℕ) → z < c → get_or x (s + z) false ≡ true) → get_or x (s + c) false ≡ false → ⊥
     close s zero c more near filled first run after = absurd (omega arith)
     close s (suc t) c more near filled first run after =
         elim (cases_lt (suc t) (s + c)) [
-          | inl low ↦ (let e : s + (t - s) ≡ t = omega arith in true≢false (sym (ap (λ (n : ℕ). get_or x n false) (sym e) ∙ run (t - s) (omega arith)) ∙ first))
+          | inl low ↦
+              (let e : s + (t - s) ≡ t = omega arith in
+              true≢false (sym (ap (λ (n : ℕ). get_or x n false) (sym e) ∙ run (t - s) (omega arith)) ∙ first))
           | inr high ↦ (let e : suc t ≡ s + c = omega arith in true≢false (sym filled ∙ ap (λ (n : ℕ). get_or x n false) e ∙ after))
         ]
 
@@ -281,11 +305,23 @@ record Stretch (x : List Bool) (i : ℕ) : Type 0 where
   free : before false x first ≡ false
 
 stretch_of : (x : List Bool) (i : ℕ) → get_or x i false ≡ true → Stretch x i
-stretch_of x zero h = record { first = 0; from = omega arith; all = λ z a b. let e : 0 ≡ z = omega arith in subst (λ (n : ℕ). get_or x n false ≡ true) e h; free = refl }
+stretch_of x zero h =
+    record {
+      first = 0;
+      from = omega arith;
+      all = λ z a b. let e : 0 ≡ z = omega arith in subst (λ (n : ℕ). get_or x n false ≡ true) e h;
+      free = refl;
+    }
 stretch_of x (suc i) h = by (get_or x i false) refl (stretch_of x i)
   where
     by : (b : Bool) → get_or x i false ≡ b → (get_or x i false ≡ true → Stretch x i) → Stretch x (suc i)
-    by false e below = record { first = suc i; from = omega arith; all = λ z a b. let e : suc i ≡ z = omega arith in subst (λ (n : ℕ). get_or x n false ≡ true) e h; free = e }
+    by false e below =
+        record {
+          first = suc i;
+          from = omega arith;
+          all = λ z a b. let e : suc i ≡ z = omega arith in subst (λ (n : ℕ). get_or x n false ≡ true) e h;
+          free = e;
+        }
     by true e below =
         let r = below e in
         let from : r.first ≤ i = r.from in
@@ -311,6 +347,9 @@ covered x clue i is h =
       from = omega arith;
       to = elim (cases_lt i (get_or (starts_from 0 false x) r.index 0 + get_or clue r.index 0)) [
         | inl low ↦ low
-        | inr high ↦ absurd (true≢false (sym (t.all (get_or (starts_from 0 false x) r.index 0 + get_or clue r.index 0) (omega arith) high) ∙ blank_after_run x clue r.index r.run))
+        | inr high ↦
+            absurd (true≢false
+            (sym (t.all (get_or (starts_from 0 false x) r.index 0 + get_or clue r.index 0) (omega arith) high)
+            ∙ blank_after_run x clue r.index r.run))
       ];
     }

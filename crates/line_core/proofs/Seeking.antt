@@ -32,13 +32,15 @@ lacks m i n = by (has m i) refl
     by false e = refl
 
 -- the mask of what neither mask has is that of the unknown cells
-pub unknown_cells : (len f b n m : ℕ) → IsMaskOf (λ i. Has f i ⊎ Has b i) n → IsMaskOf (λ i. (i < len) × (has n i ≡ false)) m → IsMaskOf (IsUnknownCell (line_cells len f b)) m
+pub unknown_cells : (len f b n m : ℕ) → IsMaskOf (λ i. Has f i ⊎ Has b i) n → IsMaskOf (λ i. (i < len) × (has n i ≡ false)) m
+    → IsMaskOf (IsUnknownCell (line_cells len f b)) m
 unknown_cells len f b n m either rest = record {
   to = λ i x.
       let at = rest.to i x in (
         omega (arith, at.0, length_line len f b),
         cell_at len f b i at.0
-            ∙ unknown_by (has f i) (has b i) (λ t. neither n i at.1 (either.from i (inl (true_has f i t)))) (λ t. neither n i at.1 (either.from i (inr (true_has b i t)))),
+            ∙ unknown_by (has f i) (has b i) (λ t. neither n i at.1 (either.from i (inl (true_has f i t))))
+            (λ t. neither n i at.1 (either.from i (inr (true_has b i t)))),
       );
   from = λ i x.
       let within : i < len = omega (arith, x.0, length_line len f b) in
@@ -52,11 +54,14 @@ known_if Filled n = refl
 known_if Blank n = refl
 
 -- the first of the unknown cells
-pub unknown_from : (width from m : ℕ) (l : List Cell) (first : Option ℕ) → length l ≤ width → IsMaskOf (IsUnknownCell l) m → IsFirstFrom width m from first → IsUnknownFrom l from first
-unknown_from width from m l None fits cells none = λ k le lt. known_if (get_or l k Unknown) (λ e. none k le (omega (arith, fits)) (cells.from k (lt, e)))
+pub unknown_from : (width from m : ℕ) (l : List Cell) (first : Option ℕ) → length l ≤ width → IsMaskOf (IsUnknownCell l) m
+    → IsFirstFrom width m from first → IsUnknownFrom l from first
+unknown_from width from m l None fits cells none =
+    λ k le lt. known_if (get_or l k Unknown) (λ e. none k le (omega (arith, fits)) (cells.from k (lt, e)))
 unknown_from width from m l (Some i) fits cells found = (
   found.0,
   (cells.to i found.2).0,
   (cells.to i found.2).1,
-  λ k le lt. known_if (get_or l k Unknown) (λ e. found.3 k le lt (cells.from k (let within = (cells.to i found.2).0 in omega (arith, within), e))),
+  λ k le lt.
+      known_if (get_or l k Unknown) (λ e. found.3 k le lt (cells.from k (let within = (cells.to i found.2).0 in omega (arith, within), e))),
 )

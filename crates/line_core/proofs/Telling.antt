@@ -24,7 +24,11 @@ either_first f b m p = by (has f 0) (has b 0) refl refl
     by true y u v = sym (has_true m 0 (p.from 0 (inl (true_has f 0 u))))
     by false true u v = sym (has_true m 0 (p.from 0 (inr (true_has b 0 v))))
     by false false u v =
-        sym (has_by m 0 false (λ h. elim (p.to 0 h) [ inl x ↦ absurd (true≢false (sym (has_true f 0 x) ∙ u)) | inr x ↦ absurd (true≢false (sym (has_true b 0 x) ∙ v)) ]) (λ e. absurd (true≢false (sym e))))
+        sym (has_by m 0 false
+        (λ h. elim (p.to 0 h) [
+          | inl x ↦ absurd (true≢false (sym (has_true f 0 x) ∙ u))
+          | inr x ↦ absurd (true≢false (sym (has_true b 0 x) ∙ v))
+        ]) (λ e. absurd (true≢false (sym e))))
 
 -- the answer where the first cell can have no colour
 pub told_dead : (len f b m : ℕ) → IsMaskOf (λ i. Has f i ⊎ Has b i) m → has m 0 ≡ false → None ≡ told_by len f b
@@ -45,38 +49,53 @@ told_cell true false = refl
 told_cell false true = refl
 told_cell false false = refl
 
-pub told_some : (len f b m nf nb : ℕ) → IsMaskOf (λ i. Has f i ⊎ Has b i) m → has m 0 ≡ true → IsMaskOf (λ i. Has f i × (has b i ≡ false)) nf → IsMaskOf (λ i. Has b i × (has f i ≡ false)) nb
+pub told_some : (len f b m nf nb : ℕ) → IsMaskOf (λ i. Has f i ⊎ Has b i) m → has m 0 ≡ true
+    → IsMaskOf (λ i. Has f i × (has b i ≡ false)) nf → IsMaskOf (λ i. Has b i × (has f i ≡ false)) nb
     → Some (line_cells len nf nb) ≡ told_by len f b
 told_some len f b m nf nb p some pf pb =
     let all = map (λ (i : ℕ). certain_by (has f i) (has b i)) (range_with_len 0 len) in
     let same : line_cells len nf nb ≡ all =
-    ext_get_or Unknown (line_cells len nf nb) all (length_line len nf nb ∙ sym (length-map-range_with_len (λ (i : ℕ). certain_by (has f i) (has b i)) 0 len)) (λ k i.
+    ext_get_or Unknown (line_cells len nf nb) all
+    (length_line len nf nb ∙ sym (length-map-range_with_len (λ (i : ℕ). certain_by (has f i) (has b i)) 0 len)) (λ k i.
     let within : k < len = omega (arith, length_line len nf nb) in
-    cell_at len nf nb k within ∙ ap (λ (z : Bool). cell_of z (has nb k)) (without_at f b nf k pf) ∙ ap (cell_of (has f k && not (has b k))) (without_at b f nb k pb)
-    ∙ told_cell (has f k) (has b k) ∙ sym (get_or-map-range_with_len (λ (i : ℕ). certain_by (has f i) (has b i)) 0 len k k Unknown within (zero-add k))) in
+    cell_at len nf nb k within ∙ ap (λ (z : Bool). cell_of z (has nb k)) (without_at f b nf k pf)
+    ∙ ap (cell_of (has f k && not (has b k))) (without_at b f nb k pb)
+    ∙ told_cell (has f k) (has b k)
+    ∙ sym (get_or-map-range_with_len (λ (i : ℕ). certain_by (has f i) (has b i)) 0 len k k Unknown within (zero-add k))) in
     ap (λ (cells : List Cell). Some cells) same ∙ ap (λ (t : Bool). cond t (Some all) None) (sym (either_first f b m p ∙ some))
 
 -- no cell of the answer is in both masks
-pub told_apart : (f b nf nb i : ℕ) → IsMaskOf (λ i. Has f i × (has b i ≡ false)) nf → IsMaskOf (λ i. Has b i × (has f i ≡ false)) nb → Has nf i → Has nb i → ⊥
+pub told_apart : (f b nf nb i : ℕ) → IsMaskOf (λ i. Has f i × (has b i ≡ false)) nf → IsMaskOf (λ i. Has b i × (has f i ≡ false)) nb
+    → Has nf i → Has nb i → ⊥
 told_apart f b nf nb i pf pb x y = true≢false (sym (has_true f i (pf.to i x).0) ∙ (pb.to i y).1)
 
 -- ---- the deduction
 
-pub told-deduced : (l : List Cell) (clue : List ℕ) (len f b : ℕ) → ArePositive clue → 0 < len → length l ≡ len → IsMaskOf (IsFillable l clue) f → IsMaskOf (IsBlankable l clue) b → told_by len f b ≡ deduced l clue
+pub told-deduced : (l : List Cell) (clue : List ℕ) (len f b : ℕ) → ArePositive clue → 0 < len → length l ≡ len
+    → IsMaskOf (IsFillable l clue) f → IsMaskOf (IsBlankable l clue) b → told_by len f b ≡ deduced l clue
 told-deduced l clue len f b pos some long fill blank = by (has f 0) (has b 0) refl refl
   where
     filled_tells : (k : ℕ) → k < length l → Tells (CanBe l clue true k) (has f k)
-    filled_tells k h = record { to = λ e. fillable_to l clue k pos (fill.to k (true_has f k e)); from = λ x. has_true f k (fill.from k (fillable_from l clue k h x)) }
+    filled_tells k h =
+        record {
+          to = λ e. fillable_to l clue k pos (fill.to k (true_has f k e));
+          from = λ x. has_true f k (fill.from k (fillable_from l clue k h x));
+        }
 
     blank_tells : (k : ℕ) → k < length l → Tells (CanBe l clue false k) (has b k)
-    blank_tells k h = record { to = λ e. blankable_to l clue k (blank.to k (true_has b k e)); from = λ x. has_true b k (blank.from k (blankable_from l clue k h x)) }
+    blank_tells k h =
+        record {
+          to = λ e. blankable_to l clue k (blank.to k (true_has b k e));
+          from = λ x. has_true b k (blank.from k (blankable_from l clue k h x));
+        }
 
     all : List Cell
     all = map (λ (i : ℕ). certain_by (has f i) (has b i)) (range_with_len 0 len)
 
     found : (c : Bool) → CanBe l clue c 0 → Some (map (λ (i : ℕ). certain_by (has f i) (has b i)) (range_with_len 0 len)) ≡ deduced l clue
     found c x =
-        deduced-told l clue (map (λ (i : ℕ). certain_by (has f i) (has b i)) (range_with_len 0 len)) (has f) (has b) filled_tells blank_tells x.0 (record { extends = agrees-Extends l x.0 x.1; runs_are = x.2 })
+        deduced-told l clue (map (λ (i : ℕ). certain_by (has f i) (has b i)) (range_with_len 0 len)) (has f)
+        (has b) filled_tells blank_tells x.0 (record { extends = agrees-Extends l x.0 x.1; runs_are = x.2 })
         (length-map-range_with_len (λ (i : ℕ). certain_by (has f i) (has b i)) 0 len ∙ sym long)
         (λ k h. get_or-map-range_with_len (λ (i : ℕ). certain_by (has f i) (has b i)) 0 len k k Unknown (omega arith) (zero-add k))
 
@@ -87,7 +106,8 @@ told-deduced l clue len f b pos some long fill blank = by (has f 0) (has b 0) re
         pick true e = true≢false (sym ((filled_tells 0 (omega arith)).from (y, Extends-agrees l y x.extends, x.runs_are, e)) ∙ p)
         pick false e = true≢false (sym ((blank_tells 0 (omega arith)).from (y, Extends-agrees l y x.extends, x.runs_are, e)) ∙ q)
 
-    by : (x y : Bool) → has f 0 ≡ x → has b 0 ≡ y → cond (x || y) (Some (map (λ (i : ℕ). certain_by (has f i) (has b i)) (range_with_len 0 len))) None ≡ deduced l clue
+    by : (x y : Bool) → has f 0 ≡ x → has b 0 ≡ y
+        → cond (x || y) (Some (map (λ (i : ℕ). certain_by (has f i) (has b i)) (range_with_len 0 len))) None ≡ deduced l clue
     by true y p q = found true ((filled_tells 0 (omega arith)).to p)
     by false true p q = found false ((blank_tells 0 (omega arith)).to q)
     by false false p q = dead-told l clue (none p q)

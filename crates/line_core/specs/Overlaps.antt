@@ -12,7 +12,8 @@ least_start clue j = needed (take j clue)
 
 -- one of the first count runs fills the cell at each of its starts, which are its least start and those up to slack cells further
 abbrev pub IsOverlapBefore : ℕ → List ℕ → ℕ → ℕ → Type 0
-IsOverlapBefore count clue slack i = (j : ℕ) × (j < count) × (least_start clue j + slack ≤ i) × (i < least_start clue j + slice_index_or clue j 0)
+IsOverlapBefore count clue slack i =
+    (j : ℕ) × (j < count) × (least_start clue j + slack ≤ i) × (i < least_start clue j + slice_index_or clue j 0)
 
 -- and one of all runs does
 abbrev pub IsOverlap : List ℕ → ℕ → ℕ → Type 0

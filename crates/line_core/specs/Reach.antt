@@ -50,7 +50,9 @@ AreTurnedGaps line clue gaps = (j : ℕ) → j ≤ length clue → IsMaskOf (IsG
 
 -- masks that are others seen from the other end of a line of so many cells
 abbrev pub AreTurnedMasks : ℕ → List ℕ → List ℕ → Type 0
-AreTurnedMasks len old new = (length new ≡ length old) × ((k : ℕ) → k < length old → IsMaskOf (λ i. (i < len) × Has (slice_index old k) (len - 1 - i)) (slice_index new k))
+AreTurnedMasks len old new =
+    (length new ≡ length old)
+    × ((k : ℕ) → k < length old → IsMaskOf (λ i. (i < len) × Has (slice_index old k) (len - 1 - i)) (slice_index new k))
 
 -- run j (the first is run 0) can end here, with exactly the runs before it in the cells before
 abbrev pub IsEnd : List Cell → List ℕ → ℕ → ℕ → Type 0

@@ -15,4 +15,5 @@ certain_by false false = Unknown
 -- what two masks tell of a line, which is dead where its first cell can have no colour
 abbrev pub told_by : ℕ → ℕ → ℕ → Option (List Cell)
 told_by len fillable blankable =
-    if has fillable 0 || has blankable 0 then Some (map (λ i. certain_by (has fillable i) (has blankable i)) (range_with_len 0 len)) else None
+    if has fillable 0
+    || has blankable 0 then Some (map (λ i. certain_by (has fillable i) (has blankable i)) (range_with_len 0 len)) else None

@@ -1,3 +1,4 @@
+-- The trick of a flood: sources that are added to the free places carry on as far as these go.
 use Rattle.std.proofs.Common.{◌≡◌, ℕ, zero, suc, ◌+◌, ◌/◌, ◌%◌, ◌^◌, ◌<◌, ◌≤◌, inl, inr, refl, sym, ap, ◌∙◌, arith, min, max}
 use Rattle.std.specs.Int.{bit_at}
 use Rattle.std.specs.Int.RustNames.{bit_and, bit_or, bit_xor}
@@ -6,7 +7,7 @@ use Rattle.std.proofs.lemmas.Bool.{cases_lt}
 use Rattle.std.proofs.lemmas.Nat.{div-add-mod', or_lt, and_le_r}
 use Rattle.place_sets.specs.Masks.{Has, IsFlooded, IsMaskOf}
 
--- the carry into a place, where the sources x and the free places n are added
+-- the carry into a place, if the sources x and the free places n are added
 abbrev carry : ℕ → ℕ → ℕ → ℕ → ℕ
 carry x n c zero = c
 carry x n c (suc i) = carry (x / 2) (n / 2) ((n % 2 + x % 2 + c) / 2) i
@@ -45,7 +46,11 @@ from_carry x n (suc i) h e =
   where
     by : (b : ℕ) → bit_at x (suc i) ≡ b → (bit_at n (suc i) + bit_at x (suc i) + carry x n 0 (suc i)) / 2 ≡ 1
         → (carry x n 0 (suc i) ≡ 1 → IsFlooded (Has x) (Has n) i) → IsFlooded (Has x) (Has n) (suc i)
-    by zero b s ih = inr (omega (arith, bit_at-lt n (suc i), carry_below (suc i) x n 0 (omega arith)), ih (omega (arith, bit_at-lt n (suc i), carry_below (suc i) x n 0 (omega arith))))
+    by zero b s ih =
+        inr (
+          omega (arith, bit_at-lt n (suc i), carry_below (suc i) x n 0 (omega arith)),
+          ih (omega (arith, bit_at-lt n (suc i), carry_below (suc i) x n 0 (omega arith))),
+        )
     by (suc z) b s ih = inl (omega (arith, bit_at-lt x (suc i)))
 
 to_carry : (x n i : ℕ) → ((j : ℕ) → Has x j → Has n j) → IsFlooded (Has x) (Has n) i → carry x n 0 (suc i) ≡ 1
@@ -63,6 +68,7 @@ to_carry x n (suc i) h (inr f) =
     let k : carry x n 0 (suc i) ≡ 1 = to_carry x n i h f.1 in
     omega (arith, bit_at-lt x (suc i))
 
+-- a remainder by a power of two keeps the places below the width
 pub bit_at_mod : (w n i : ℕ) → i < w → bit_at (n % 2 ^ w) i ≡ bit_at n i
 bit_at_mod w n i h = sym (bit_at_cat_low (n / 2 ^ w) w (n % 2 ^ w) i h) ∙ ap (λ (z : ℕ). bit_at z i) (div-add-mod' n (2 ^ w))
 
@@ -88,7 +94,8 @@ trick w x n i l h =
     bit_at_or (bit_and (bit_xor sum n) n) x i ∙ ap (λ (z : ℕ). max z (bit_at x i)) (bit_at_and (bit_xor sum n) n i)
     ∙ ap (λ (z : ℕ). max (min z (bit_at n i)) (bit_at x i)) (bit_at_xor sum n i)
     ∙ ap (λ (z : ℕ). max (min ((z + bit_at n i) % 2) (bit_at n i)) (bit_at x i)) sum_is
-    ∙ trick_bit (bit_at n i) (bit_at x i) (carry x n 0 i) (bit_at-lt n i) (bit_at-lt x i) (carry_below i x n 0 (omega arith)) (bit_below x n i h)
+    ∙ trick_bit (bit_at n i) (bit_at x i) (carry x n 0 i) (bit_at-lt n i) (bit_at-lt x i) (carry_below i x n 0 (omega arith))
+    (bit_below x n i h)
     ∙ sym (carry_step i x n 0)
 
 flooded_free : (x n i : ℕ) → ((j : ℕ) → Has x j → Has n j) → IsFlooded (Has x) (Has n) i → Has n i

@@ -13,9 +13,11 @@ use Rattle.place_sets.proofs.Flooding.{has_below}
 abbrev Fits : ℕ → Type 0
 Fits n = n < 2 ^ 128
 
+-- the low places of a mask of two halves
 pub bit_low : (low high i : ℕ) → i < 128 → bit_at (joined low high) i ≡ bit_at low i
 bit_low low high i l = bit_at_cat_low high 128 low i l
 
+-- the high places of a mask of two halves
 pub bit_high : (low high i : ℕ) → Fits low → bit_at (joined low high) (i + 128) ≡ bit_at high i
 bit_high low high i f =
     let e : i + 128 - 128 ≡ i = omega arith in
@@ -61,6 +63,7 @@ halves_meet Op al ah bl bh low high fa fb fl p q =
     here : (i : ℕ) {x y u v : ℕ} → x ≡ u → y ≡ v → Op x y → Op u v
     here i {x} {y} {u} {v} e f h = subst (λ (z : ℕ). Op z v) e (subst (λ (z : ℕ). Op x z) f h)
 
+-- the places of a mask of two halves are below 256
 pub wide_below : (low high i : ℕ) → Fits low → Fits high → Has (joined low high) i → i < 256
 wide_below low high i fl fh h = elim (cases_lt i 256) [
   | inl l ↦ l
@@ -160,7 +163,8 @@ down_less low high by dl over down dh fl fh fd nz lt p q r s =
           let m : Has (joined low high) ((i - (128 - by)) + 128) = subst (Has (joined low high)) e h in
           r.from i (inr (q.from i (l, omega arith, sym (bit_high low high (i - (128 - by)) fl) ∙ m))))
     ])
-    (λ i h. let e : (i + by) + 128 ≡ i + 128 + by = omega arith in subst (Has (joined low high)) e (bit_high low high (i + by) fl ∙ s.to i h))
+    (λ i h. let e : (i + by) + 128 ≡ i + 128 + by = omega arith in
+    subst (Has (joined low high)) e (bit_high low high (i + by) fl ∙ s.to i h))
     (λ i h.
     let e : i + 128 + by ≡ (i + by) + 128 = omega arith in
     let m : Has (joined low high) ((i + by) + 128) = subst (Has (joined low high)) e h in
@@ -172,7 +176,8 @@ pub down_more : (low high by down : ℕ) → Fits low → Fits high → Fits dow
     → IsMaskOf (λ i. Has (joined low high) (i + by)) (joined down 0)
 down_more low high by down fl fh fd big p =
     halves (λ i. Has (joined low high) (i + by)) down 0 fd
-    (λ i l h. let e : (i + (by - 128)) + 128 ≡ i + by = omega arith in subst (Has (joined low high)) e (bit_high low high (i + (by - 128)) fl ∙ p.to i h))
+    (λ i l h. let e : (i + (by - 128)) + 128 ≡ i + by = omega arith in
+    subst (Has (joined low high)) e (bit_high low high (i + (by - 128)) fl ∙ p.to i h))
     (λ i l h.
     let e : i + by ≡ (i + (by - 128)) + 128 = omega arith in
     let m : Has (joined low high) ((i + (by - 128)) + 128) = subst (Has (joined low high)) e h in
@@ -187,7 +192,8 @@ pub turned_halves : (low high tl th : ℕ) → Fits low → Fits th
     → IsMaskOf (IsTurned 256 (Has (joined low high))) (joined th tl)
 turned_halves low high tl th fl ft p q =
     halves (IsTurned 256 (Has (joined low high))) th tl ft
-    (λ i l h. let e : (127 - i) + 128 ≡ 255 - i = omega arith in (omega arith, subst (Has (joined low high)) e (bit_high low high (127 - i) fl ∙ (q.to i h).1)))
+    (λ i l h. let e : (127 - i) + 128 ≡ 255 - i = omega arith in
+    (omega arith, subst (Has (joined low high)) e (bit_high low high (127 - i) fl ∙ (q.to i h).1)))
     (λ i l h.
     let e : 255 - i ≡ (127 - i) + 128 = omega arith in
     let m : Has (joined low high) ((127 - i) + 128) = subst (Has (joined low high)) e h.1 in
@@ -237,26 +243,32 @@ flood_high sl sh fl fh fs ff zero h = elim (next_flood (Has (joined sl sh)) (Has
   | inl a ↦ inl (sym (bit_high sl sh 0 fs) ∙ a)
   | inr b ↦ inr (refl, flood_low sl sh fl fh 127 (omega arith) b.1, sym (bit_high fl fh 0 ff) ∙ b.0)
 ]
-flood_high sl sh fl fh fs ff (suc i) h = elim (next_flood (Has (joined sl sh)) (Has (joined fl fh)) (i + 128) (suc i + 128) (omega arith) h) [
-  | inl a ↦ inl (inl (sym (bit_high sl sh (suc i) fs) ∙ a))
-  | inr b ↦ inr (sym (bit_high fl fh (suc i) ff) ∙ b.0, flood_high sl sh fl fh fs ff i b.1)
-]
+flood_high sl sh fl fh fs ff (suc i) h =
+    elim (next_flood (Has (joined sl sh)) (Has (joined fl fh)) (i + 128) (suc i + 128) (omega arith) h) [
+      | inl a ↦ inl (inl (sym (bit_high sl sh (suc i) fs) ∙ a))
+      | inr b ↦ inr (sym (bit_high fl fh (suc i) ff) ∙ b.0, flood_high sl sh fl fh fs ff i b.1)
+    ]
 
 high_flood : (sl sh fl fh : ℕ) → Fits sl → Fits fl → (i : ℕ) → IsFlooded (λ k. Has sh k ⊎ IsOver sl fl fh k) (Has fh) i
     → IsFlooded (Has (joined sl sh)) (Has (joined fl fh)) (i + 128)
-high_flood sl sh fl fh fs ff zero (inl h) = flood_next (Has (joined sl sh)) (Has (joined fl fh)) 127 (0 + 128) (omega arith) (inl (bit_high sl sh 0 fs ∙ h))
+high_flood sl sh fl fh fs ff zero (inl h) =
+    flood_next (Has (joined sl sh)) (Has (joined fl fh)) 127 (0 + 128) (omega arith) (inl (bit_high sl sh 0 fs ∙ h))
 high_flood sl sh fl fh fs ff zero (inr h) =
-    flood_next (Has (joined sl sh)) (Has (joined fl fh)) 127 (0 + 128) (omega arith) (inr (bit_high fl fh 0 ff ∙ h.2, low_flood sl sh fl fh 127 (omega arith) h.1))
-high_flood sl sh fl fh fs ff (suc i) (inl (inl h)) = flood_next (Has (joined sl sh)) (Has (joined fl fh)) (i + 128) (suc i + 128) (omega arith) (inl (bit_high sl sh (suc i) fs ∙ h))
+    flood_next (Has (joined sl sh)) (Has (joined fl fh)) 127 (0 + 128) (omega arith)
+    (inr (bit_high fl fh 0 ff ∙ h.2, low_flood sl sh fl fh 127 (omega arith) h.1))
+high_flood sl sh fl fh fs ff (suc i) (inl (inl h)) =
+    flood_next (Has (joined sl sh)) (Has (joined fl fh)) (i + 128) (suc i + 128) (omega arith) (inl (bit_high sl sh (suc i) fs ∙ h))
 high_flood sl sh fl fh fs ff (suc i) (inl (inr h)) = absurd (omega (arith, h.0))
 high_flood sl sh fl fh fs ff (suc i) (inr h) =
-    flood_next (Has (joined sl sh)) (Has (joined fl fh)) (i + 128) (suc i + 128) (omega arith) (inr (bit_high fl fh (suc i) ff ∙ h.0, high_flood sl sh fl fh fs ff i h.1))
+    flood_next (Has (joined sl sh)) (Has (joined fl fh)) (i + 128) (suc i + 128) (omega arith)
+    (inr (bit_high fl fh (suc i) ff ∙ h.0, high_flood sl sh fl fh fs ff i h.1))
 
 flood_more : (P Q S : ℕ → Type 0) → ((i : ℕ) → P i → Q i) → (i : ℕ) → IsFlooded P S i → IsFlooded Q S i
 flood_more P Q S f zero h = f 0 h
 flood_more P Q S f (suc i) (inl h) = inl (f (suc i) h)
 flood_more P Q S f (suc i) (inr h) = inr (h.0, flood_more P Q S f i h.1)
 
+-- what is over from the low half, as the code finds it: its last place, if the first of the high half is free
 pub over_is : (sl fl fh low last over : ℕ) → Fits low → IsMaskOf (IsFlooded (Has sl) (Has fl)) low
     → IsMaskOf (λ i. Has low (i + 127)) last → IsMaskOf (λ i. Has last i × Has fh i) over → IsMaskOf (IsOver sl fl fh) over
 over_is sl fl fh low last over f p q r = record {
@@ -273,6 +285,7 @@ over_is sl fl fh low last over f p q r = record {
       r.from i (q.from i (subst (Has low) e (p.from 127 h.1)), subst (Has fh) z h.2);
 }
 
+-- the floods of both halves, with what is over from the low one, are the flood of the whole
 pub flooded_halves : (sl sh fl fh low over sources high : ℕ) → Fits sl → Fits fl → Fits low
     → IsMaskOf (IsFlooded (Has sl) (Has fl)) low
     → IsMaskOf (IsOver sl fl fh) over
@@ -299,6 +312,7 @@ sources_low sl sh fl fh fs f i h =
     let l = has_below 128 sl i fs h in
     sym (bit_low fl fh i l) ∙ f i (bit_low sl sh i l ∙ h)
 
+-- the sources of the high half, with what is over from the low one, are free there
 pub sources_high : (sl sh fl fh last over sources : ℕ) → Fits sl → Fits fl → ((i : ℕ) → Has (joined sl sh) i → Has (joined fl fh) i)
     → IsMaskOf (λ i. Has last i × Has fh i) over
     → IsMaskOf (λ i. Has sh i ⊎ Has over i) sources → (i : ℕ) → Has sources i → Has fh i
@@ -314,13 +328,15 @@ not_zero n h = by (nat_eq n 0) refl
     by true e = absurd (omega (arith, eqb-true n 0 e))
     by false e = refl
 
--- both halves are empty where the whole is
+-- both halves are empty exactly if the whole is
 pub empty_halves : (low high : ℕ) → nat_eq (bit_or low high) 0 ≡ nat_eq (joined low high) 0
 empty_halves zero zero = refl
-empty_halves (suc low) high = sym (not_zero (bit_or (suc low) high) (omega (arith, le_or_l (suc low) high))) ∙ not_zero (joined (suc low) high) (omega arith)
-empty_halves zero (suc high) = sym (not_zero (bit_or zero (suc high)) (omega (arith, le_or_r zero (suc high)))) ∙ not_zero (joined zero (suc high)) (omega arith)
+empty_halves (suc low) high =
+    sym (not_zero (bit_or (suc low) high) (omega (arith, le_or_l (suc low) high))) ∙ not_zero (joined (suc low) high) (omega arith)
+empty_halves zero (suc high) =
+    sym (not_zero (bit_or zero (suc high)) (omega (arith, le_or_r zero (suc high)))) ∙ not_zero (joined zero (suc high)) (omega arith)
 
--- the least and the greatest place of the halves
+-- the least place of the high half is that of the whole, if the low half is empty
 pub least_high : (low high p i : ℕ) → Fits low → low ≡ 0 → ((k : ℕ) → Has high k → p ≤ k) → Has (joined low high) i → p + 128 ≤ i
 least_high low high p i f z h x = elim (cases_lt i 128) [
   | inl l ↦ (let e : bit_at low i ≡ 0 = ap (λ (n : ℕ). bit_at n i) z ∙ bit_at-zero i in absurd (omega (arith, x, bit_low low high i l)))
@@ -331,12 +347,14 @@ least_high low high p i f z h x = elim (cases_lt i 128) [
       omega arith)
 ]
 
+-- the least place of the low half is that of the whole
 pub least_low : (low high p i : ℕ) → p < 128 → ((k : ℕ) → Has low k → p ≤ k) → Has (joined low high) i → p ≤ i
 least_low low high p i b h x = elim (cases_lt i 128) [
   | inl l ↦ h i (sym (bit_low low high i l) ∙ x)
   | inr l ↦ omega arith
 ]
 
+-- the greatest place of the high half is that of the whole
 pub greatest_high : (low high p i : ℕ) → Fits low → ((k : ℕ) → Has high k → k ≤ p) → Has (joined low high) i → i ≤ p + 128
 greatest_high low high p i f h x = elim (cases_lt i 128) [
   | inl l ↦ omega arith
@@ -360,12 +378,14 @@ narrow_64 low high = record {
 pub low_fits : (n : ℕ) → bit_and n 18446744073709551615 < 18446744073709551616
 low_fits n = omega (arith, and_le_r n 18446744073709551615)
 
+-- the low half has the places below 128
 pub narrow_128 : (low high : ℕ) → Fits low → IsMaskOf (λ i. (i < 128) × Has (joined low high) i) low
 narrow_128 low high f = record {
   to = λ i h. let l = has_below 128 low i f h in (l, bit_low low high i l ∙ h);
   from = λ i h. sym (bit_low low high i h.0) ∙ h.1;
 }
 
+-- the whole has all of its places
 pub narrow_256 : (low high : ℕ) → Fits low → Fits high → IsMaskOf (λ i. (i < 256) × Has (joined low high) i) (joined low high)
 narrow_256 low high fl fh = record { to = λ i h. (wide_below low high i fl fh h, h); from = λ i h. h.1 }
 
@@ -377,9 +397,12 @@ half_low n m i p h =
     (l, ((and_is (Has n) (λ k. k < 64) n 18446744073709551615 (has-itself n) (low_ones 64)).to (63 - i) two.1).0)
 
 low_half : (n m i : ℕ) → IsMaskOf (IsTurned 64 (Has (bit_and n 18446744073709551615))) m → i < 64 → Has n (63 - i) → Has m i
-low_half n m i p l h = p.from i (l, (and_is (Has n) (λ k. k < 64) n 18446744073709551615 (has-itself n) (low_ones 64)).from (63 - i) (h, omega arith))
+low_half n m i p l h =
+    p.from i (l, (and_is (Has n) (λ k. k < 64) n 18446744073709551615 (has-itself n) (low_ones 64)).from (63 - i) (h, omega arith))
 
-pub turned_128 : (n low high : ℕ) → IsMaskOf (IsTurned 64 (Has (bit_and n 18446744073709551615))) low → IsMaskOf (IsTurned 64 (Has (n / 2 ^ 64))) high
+-- a word of 128 places is turned by turning its halves and exchanging them
+pub turned_128 : (n low high : ℕ) → IsMaskOf (IsTurned 64 (Has (bit_and n 18446744073709551615))) low
+    → IsMaskOf (IsTurned 64 (Has (n / 2 ^ 64))) high
     → IsMaskOf (IsTurned 128 (Has n)) (bit_or (low * 2 ^ 64 % 2 ^ 128) high)
 turned_128 n low high p q = record {
   to = λ i h. elim (all.to i h) [

@@ -4,17 +4,21 @@ use Rattle.std.specs.Int.{bit_at}
 use Rattle.std.proofs.lemmas.Nat.Bits.{bit_at-lt}
 use Rattle.place_sets.specs.Masks.{Has, has}
 
+-- the first of two tests that both pass
 pub and_left : (a b : Bool) → (a && b) ≡ true → a ≡ true
 and_left true b h = refl
 and_left false b h = h
 
+-- the second of two tests that both pass
 pub and_right : (a b : Bool) → (a && b) ≡ true → b ≡ true
 and_right true b h = h
 and_right false b h = absurd (true≢false (sym h))
 
+-- the test passes at a place of the mask
 pub has_true : (m i : ℕ) → Has m i → has m i ≡ true
 has_true m i h = rw h refl
 
+-- a place at which the test passes is one of the mask
 pub true_has : (m i : ℕ) → has m i ≡ true → Has m i
 true_has m i h = by (bit_at m i) refl h (bit_at-lt m i)
   where
@@ -23,9 +27,11 @@ true_has m i h = by (bit_at m i) refl h (bit_at-lt m i)
     by (suc zero) e t l = e
     by (suc (suc n)) e t l = absurd (omega arith)
 
+-- the test fails at a place whose bit is 0
 pub has_false : (m i : ℕ) → bit_at m i ≡ 0 → has m i ≡ false
 has_false m i h = rw h refl
 
+-- the bit is 0 at a place at which the test fails
 pub false_has : (m i : ℕ) → has m i ≡ false → bit_at m i ≡ 0
 false_has m i h = by (bit_at m i) refl h (bit_at-lt m i)
   where

@@ -1,3 +1,4 @@
+-- Lemmas on words as sets of places.
 pub mod Flooding
 pub mod Steps
 pub mod HasLemmas

@@ -1,3 +1,4 @@
+-- Masks of what holds of places: both, either, moved up or down, and windows that make longer ones.
 use Rattle.std.proofs.Common.{◌≡◌, ℕ, zero, suc, ◌+◌, ◌-◌, ◌*◌, ◌/◌, ◌%◌, ◌^◌, ◌<◌, ◌≤◌, ◌⊎◌, inl, inr, refl, sym, ap, ◌∙◌, arith, subst, min, max}
 use Rattle.std.specs.Int.{bit_at}
 use Rattle.std.specs.Int.RustNames.{bit_and, bit_or}
@@ -8,9 +9,11 @@ use Rattle.std.proofs.Math.Nat.{mod-lt}
 use Rattle.place_sets.specs.Masks.{Has, IsMaskOf, IsMoved, AllFrom}
 use Rattle.place_sets.proofs.Flooding.{bit_at_mod, has_below}
 
+-- a mask has the places that it has
 pub has-itself : (a : ℕ) → IsMaskOf (Has a) a
 has-itself a = record { to = λ i h. h; from = λ i h. h }
 
+-- the places of which both things hold
 pub and_is : (P Q : ℕ → Type 0) (a b : ℕ) → IsMaskOf P a → IsMaskOf Q b → IsMaskOf (λ i. P i × Q i) (bit_and a b)
 and_is P Q a b p q = record {
   to = λ i h.
@@ -22,6 +25,7 @@ and_is P Q a b p q = record {
       bit_at_and a b i ∙ (rw (x, y) refl);
 }
 
+-- the places of which either thing holds
 pub or_is : (P Q : ℕ → Type 0) (a b : ℕ) → IsMaskOf P a → IsMaskOf Q b → IsMaskOf (λ i. P i ⊎ Q i) (bit_or a b)
 or_is P Q a b p q = record {
   to = λ i h. by i (bit_at a i) refl (sym (bit_at_or a b i) ∙ h);
@@ -40,6 +44,7 @@ bit_at_shr a s i =
     let e : s + i ≡ i + s = omega arith in
     ap (λ (z : ℕ). z % 2) (shr-shr a s i ∙ ap (λ (z : ℕ). a / 2 ^ z) e)
 
+-- the places moved down
 pub shr_is : (P : ℕ → Type 0) (a s : ℕ) → IsMaskOf P a → IsMaskOf (λ i. P (i + s)) (a / 2 ^ s)
 shr_is P a s p = record {
   to = λ i h. p.to (i + s) (sym (bit_at_shr a s i) ∙ h);
@@ -56,6 +61,7 @@ bit_at_shl_high a s i h =
     let e : a * 2 ^ s + 0 ≡ a * 2 ^ s = omega arith in
     ap (λ (z : ℕ). bit_at z i) (sym e) ∙ bit_at_cat_high a s 0 i (pow_pos s) h
 
+-- the places moved up, as far as the width goes
 pub shl_is : (w : ℕ) (P : ℕ → Type 0) (a s : ℕ) → IsMaskOf P a → IsMaskOf (IsMoved w P s) (a * 2 ^ s % 2 ^ w)
 shl_is w P a s p = record {
   to = λ i h.
@@ -82,7 +88,8 @@ pub either_is : (a s : ℕ) → IsMaskOf (λ i. Has a i ⊎ Has a (i + s)) (bit_
 either_is a s = or_is (Has a) (λ i. Has a (i + s)) a (a / 2 ^ s) (has-itself a) (shr_is (Has a) a s (has-itself a))
 
 -- windows that overlap or touch make a longer one
-pub widen : (P : ℕ → Type 0) (w m s : ℕ) (next : ℕ) → s ≤ m → IsMaskOf (AllFrom P m) w → IsMaskOf (λ i. Has w i × Has w (i + s)) next → IsMaskOf (AllFrom P (m + s)) next
+pub widen : (P : ℕ → Type 0) (w m s : ℕ) (next : ℕ) → s ≤ m → IsMaskOf (AllFrom P m) w → IsMaskOf (λ i. Has w i × Has w (i + s)) next
+    → IsMaskOf (AllFrom P (m + s)) next
 widen P w m s next l p q = record {
   to = λ i h z b.
       let two = q.to i h in
@@ -101,6 +108,7 @@ widen P w m s next l p q = record {
   );
 }
 
+-- a window of one place
 pub window-one : (a : ℕ) → IsMaskOf (AllFrom (Has a) 1) a
 window-one a = record {
   to = λ i h z b. (let e : i ≡ i + z = omega arith in subst (Has a) e h);

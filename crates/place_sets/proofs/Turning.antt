@@ -17,25 +17,36 @@ below_all (suc n) p h i l =
 
 -- one step of a turn
 pub pairs_swapped : (x low by : ℕ) → low < 18446744073709551616 → IsPairing 64 low by
-    → IsMaskOf (λ i. (i < 64) × Has x (swapped_place low by i)) (bit_or (bit_and (x / 2 ^ by) low) (bit_and x low * 2 ^ by % 18446744073709551616))
+    → IsMaskOf (λ i. (i < 64) × Has x (swapped_place low by i))
+    (bit_or (bit_and (x / 2 ^ by) low) (bit_and x low * 2 ^ by % 18446744073709551616))
 pairs_swapped x low by b pairing =
-    let halves : IsMaskOf (λ i. Has x (i + by) × Has low i) (bit_and (x / 2 ^ by) low) = and_is (λ i. Has x (i + by)) (Has low) (x / 2 ^ by) low (shr_is (Has x) x by (has-itself x)) (has-itself low) in
+    let halves : IsMaskOf (λ i. Has x (i + by) × Has low i) (bit_and (x / 2 ^ by) low) =
+    and_is (λ i. Has x (i + by)) (Has low) (x / 2 ^ by) low (shr_is (Has x) x by (has-itself x)) (has-itself low) in
     let others : IsMaskOf (IsMoved 64 (λ i. Has x i × Has low i) by) (bit_and x low * 2 ^ by % 18446744073709551616) =
     shl_is 64 (λ i. Has x i × Has low i) (bit_and x low) by (and_is (Has x) (Has low) x low (has-itself x) (has-itself low)) in
-    let both = or_is (λ i. Has x (i + by) × Has low i) (IsMoved 64 (λ i. Has x i × Has low i) by) (bit_and (x / 2 ^ by) low) (bit_and x low * 2 ^ by % 18446744073709551616) halves others in
+    let both =
+    or_is (λ i. Has x (i + by) × Has low i) (IsMoved 64 (λ i. Has x i × Has low i) by) (bit_and (x / 2 ^ by) low)
+    (bit_and x low * 2 ^ by % 18446744073709551616) halves others in
     record {
       to = λ i h. elim (both.to i h) [
         | inl a ↦ (has_below 64 low i b a.1, low_place i (has low i) (has_true low i a.1) a.0)
-        | inr a ↦ (a.0, high_place i (i - by) (has low i) (not_low i a.1 (is_low (i - by) (has_below 64 low (i - by) b a.2.1) (has_true low (i - by) a.2.1))) a.2.0)
+        | inr a ↦ (
+          a.0,
+          high_place i (i - by) (has low i)
+              (not_low i a.1 (is_low (i - by) (has_below 64 low (i - by) b a.2.1) (has_true low (i - by) a.2.1))) a.2.0,
+        )
       ];
       from = λ i h. both.from i (back i (has low i) refl h.0 (pair i h.0) h.1);
     }
   where
     pair : (i : ℕ) → i < 64 → cond (has low i) (not (has low (i + by))) (nat_le by i && has low (i - by)) ≡ true
-    pair i l = and_right (nat_lt (swapped_place low by i) 64) (cond (has low i) (not (has low (i + by))) (nat_le by i && has low (i - by))) (below_all 64 (is_pairing_at 64 low by) pairing i l)
+    pair i l =
+        and_right (nat_lt (swapped_place low by i) 64) (cond (has low i) (not (has low (i + by))) (nat_le by i && has low (i - by)))
+        (below_all 64 (is_pairing_at 64 low by) pairing i l)
 
     is_low : (i : ℕ) → i < 64 → has low i ≡ true → has low (i + by) ≡ false
-    is_low i l h = un (has low (i + by)) (subst (λ (c : Bool). cond c (not (has low (i + by))) (nat_le by i && has low (i - by)) ≡ true) h (pair i l))
+    is_low i l h =
+        un (has low (i + by)) (subst (λ (c : Bool). cond c (not (has low (i + by))) (nat_le by i && has low (i - by)) ≡ true) h (pair i l))
       where
         un : (c : Bool) → not c ≡ true → c ≡ false
         un true e = absurd (true≢false (sym e))
@@ -52,22 +63,32 @@ pairs_swapped x low by b pairing =
     high_place i p true e h = absurd (true≢false e)
     high_place i p false e h = h
 
-    back : (i : ℕ) (c : Bool) → has low i ≡ c → i < 64 → cond c (not (has low (i + by))) (nat_le by i && has low (i - by)) ≡ true → Has x (cond c (i + by) (i - by))
+    back : (i : ℕ) (c : Bool) → has low i ≡ c → i < 64 → cond c (not (has low (i + by))) (nat_le by i && has low (i - by)) ≡ true
+        → Has x (cond c (i + by) (i - by))
         → (Has x (i + by) × Has low i) ⊎ IsMoved 64 (λ k. Has x k × Has low k) by i
     back i true e l p h = inl (h, true_has low i e)
-    back i false e l p h = inr (l, leb-true by i (and_left (nat_le by i) (has low (i - by)) p), (h, true_has low (i - by) (and_right (nat_le by i) (has low (i - by)) p)))
+    back i false e l p h =
+        inr (
+          l,
+          leb-true by i (and_left (nat_le by i) (has low (i - by)) p),
+          (h, true_has low (i - by) (and_right (nat_le by i) (has low (i - by)) p)),
+        )
 
 -- one step after another
-pub steps : (x r s : ℕ) (f g : ℕ → ℕ) → ((i : ℕ) → i < 64 → g i < 64) → IsMaskOf (λ i. (i < 64) × Has x (f i)) r → IsMaskOf (λ i. (i < 64) × Has r (g i)) s → IsMaskOf (λ i. (i < 64) × Has x (f (g i))) s
+pub steps : (x r s : ℕ) (f g : ℕ → ℕ) → ((i : ℕ) → i < 64 → g i < 64) → IsMaskOf (λ i. (i < 64) × Has x (f i)) r
+    → IsMaskOf (λ i. (i < 64) × Has r (g i)) s → IsMaskOf (λ i. (i < 64) × Has x (f (g i))) s
 steps x r s f g within p q = record {
   to = λ i h. let a = q.to i h in (a.0, (p.to (g i) a.1).1);
   from = λ i h. q.from i (h.0, p.from (g i) (within i h.0, h.1));
 }
 
 pub place_below : (low by : ℕ) → IsPairing 64 low by → (i : ℕ) → i < 64 → swapped_place low by i < 64
-place_below low by pairing i l = ltb-true (swapped_place low by i) 64 (and_left (nat_lt (swapped_place low by i) 64) (cond (has low i) (not (has low (i + by))) (nat_le by i && has low (i - by))) (below_all 64 (is_pairing_at 64 low by) pairing i l))
+place_below low by pairing i l =
+    ltb-true (swapped_place low by i) 64
+    (and_left (nat_lt (swapped_place low by i) 64) (cond (has low i) (not (has low (i + by))) (nat_le by i && has low (i - by)))
+    (below_all 64 (is_pairing_at 64 low by) pairing i l))
 
--- where each step of a turn takes its places from
+-- from which place each step of a turn takes a place
 abbrev by_ones : ℕ → ℕ
 by_ones i = swapped_place 0x5555555555555555 1 i
 
@@ -86,7 +107,7 @@ by_sixteens i = swapped_place 0x0000ffff0000ffff 16 i
 abbrev by_halves : ℕ → ℕ
 by_halves i = swapped_place 0x00000000ffffffff 32 i
 
--- and where several do, the first of them last
+-- from which place several steps take it, the last step first
 abbrev two_steps : ℕ → ℕ
 two_steps i = by_ones (by_twos i)
 
@@ -115,12 +136,18 @@ pub turned : (x r1 r2 r3 r4 r5 r6 : ℕ)
     → IsMaskOf (λ i. (i < 64) × Has r5 (by_halves i)) r6
     → IsMaskOf (IsTurned 64 (Has x)) r6
 turned x r1 r2 r3 r4 r5 r6 p1 p2 p3 p4 p5 p6 =
-    let q2 : IsMaskOf (λ i. (i < 64) × Has x (two_steps i)) r2 = steps x r1 r2 by_ones by_twos (place_below 0x3333333333333333 2 refl) p1 p2 in
-    let q3 : IsMaskOf (λ i. (i < 64) × Has x (three_steps i)) r3 = steps x r2 r3 two_steps by_fours (place_below 0x0f0f0f0f0f0f0f0f 4 refl) q2 p3 in
-    let q4 : IsMaskOf (λ i. (i < 64) × Has x (four_steps i)) r4 = steps x r3 r4 three_steps by_eights (place_below 0x00ff00ff00ff00ff 8 refl) q3 p4 in
-    let q5 : IsMaskOf (λ i. (i < 64) × Has x (five_steps i)) r5 = steps x r4 r5 four_steps by_sixteens (place_below 0x0000ffff0000ffff 16 refl) q4 p5 in
-    let q6 : IsMaskOf (λ i. (i < 64) × Has x (turned_place i)) r6 = steps x r5 r6 five_steps by_halves (place_below 0x00000000ffffffff 32 refl) q5 p6 in
-    let same : (i : ℕ) → i < 64 → turned_place i ≡ 63 - i = λ i l. eqb-true (turned_place i) (63 - i) (below_all 64 (λ i. nat_eq (turned_place i) (63 - i)) turned_place_is i l) in
+    let q2 : IsMaskOf (λ i. (i < 64) × Has x (two_steps i)) r2 =
+    steps x r1 r2 by_ones by_twos (place_below 0x3333333333333333 2 refl) p1 p2 in
+    let q3 : IsMaskOf (λ i. (i < 64) × Has x (three_steps i)) r3 =
+    steps x r2 r3 two_steps by_fours (place_below 0x0f0f0f0f0f0f0f0f 4 refl) q2 p3 in
+    let q4 : IsMaskOf (λ i. (i < 64) × Has x (four_steps i)) r4 =
+    steps x r3 r4 three_steps by_eights (place_below 0x00ff00ff00ff00ff 8 refl) q3 p4 in
+    let q5 : IsMaskOf (λ i. (i < 64) × Has x (five_steps i)) r5 =
+    steps x r4 r5 four_steps by_sixteens (place_below 0x0000ffff0000ffff 16 refl) q4 p5 in
+    let q6 : IsMaskOf (λ i. (i < 64) × Has x (turned_place i)) r6 =
+    steps x r5 r6 five_steps by_halves (place_below 0x00000000ffffffff 32 refl) q5 p6 in
+    let same : (i : ℕ) → i < 64 → turned_place i ≡ 63 - i =
+    λ i l. eqb-true (turned_place i) (63 - i) (below_all 64 (λ i. nat_eq (turned_place i) (63 - i)) turned_place_is i l) in
     record {
       to = λ i h. let a = q6.to i h in (a.0, subst (Has x) (same i a.0) a.1);
       from = λ i h. q6.from i (h.0, subst (Has x) (sym (same i h.0)) h.1);

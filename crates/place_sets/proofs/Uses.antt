@@ -1,4 +1,4 @@
--- What a few steps on words come to, as src/masks.rt takes them: a turned line, gaps, the ends of runs.
+-- What a few steps on words come to: a turned line, gaps, the ends of runs.
 use Rattle.std.proofs.Common.{◌≡◌, ℕ, zero, suc, ◌+◌, ◌-◌, ◌<◌, ◌≤◌, ◌⊎◌, inl, inr, arith, subst}
 use Rattle.place_sets.specs.Masks.{Has, IsMaskOf, IsMoved, IsTurned, IsFlooded}
 use Rattle.place_sets.proofs.Steps.{mask_same}
@@ -9,19 +9,27 @@ flooded_more P Q R S f g (suc i) (inl h) = inl (f (suc i) h)
 flooded_more P Q R S f g (suc i) (inr h) = inr (g (suc i) h.0, flooded_more P Q R S f g i h.1)
 
 -- a flood of what amounts to the same
-pub flood_same : (P Q R S : ℕ → Type 0) (m : ℕ) → ((i : ℕ) → P i → R i) → ((i : ℕ) → R i → P i) → ((i : ℕ) → Q i → S i) → ((i : ℕ) → S i → Q i)
+pub flood_same : (P Q R S : ℕ → Type 0) (m : ℕ) → ((i : ℕ) → P i → R i) → ((i : ℕ) → R i → P i) → ((i : ℕ) → Q i → S i)
+    → ((i : ℕ) → S i → Q i)
     → IsMaskOf (IsFlooded P Q) m → IsMaskOf (IsFlooded R S) m
 flood_same P Q R S m a b c d p = mask_same (IsFlooded P Q) (IsFlooded R S) m p (flooded_more P Q R S a c) (flooded_more R S P Q b d)
 
-pub flood_from : (P Free : ℕ → Type 0) (sources m : ℕ) → IsMaskOf P sources → IsMaskOf (IsFlooded (Has sources) Free) m → IsMaskOf (IsFlooded P Free) m
+-- a flood from the sources that a mask has
+pub flood_from : (P Free : ℕ → Type 0) (sources m : ℕ) → IsMaskOf P sources → IsMaskOf (IsFlooded (Has sources) Free) m
+    → IsMaskOf (IsFlooded P Free) m
 flood_from P Free sources m p q =
-    mask_same (IsFlooded (Has sources) Free) (IsFlooded P Free) m q (flooded_more (Has sources) Free P Free p.to (λ i h. h)) (flooded_more P Free (Has sources) Free p.from (λ i h. h))
+    mask_same (IsFlooded (Has sources) Free) (IsFlooded P Free) m q (flooded_more (Has sources) Free P Free p.to (λ i h. h))
+    (flooded_more P Free (Has sources) Free p.from (λ i h. h))
 
--- where both masks have what they should, so has the part that they share
-pub meet_of : (P Q : ℕ → Type 0) (a b m : ℕ) → IsMaskOf P a → IsMaskOf Q b → IsMaskOf (λ i. Has a i × Has b i) m → IsMaskOf (λ i. P i × Q i) m
-meet_of P Q a b m p q r = mask_same (λ i. Has a i × Has b i) (λ i. P i × Q i) m r (λ i h. (p.to i h.0, q.to i h.1)) (λ i h. (p.from i h.0, q.from i h.1))
+-- if both masks have what they should, so has the part that they share
+pub meet_of : (P Q : ℕ → Type 0) (a b m : ℕ) → IsMaskOf P a → IsMaskOf Q b → IsMaskOf (λ i. Has a i × Has b i) m
+    → IsMaskOf (λ i. P i × Q i) m
+meet_of P Q a b m p q r =
+    mask_same (λ i. Has a i × Has b i) (λ i. P i × Q i) m r (λ i h. (p.to i h.0, q.to i h.1)) (λ i h. (p.from i h.0, q.from i h.1))
 
-pub join_of : (P Q : ℕ → Type 0) (a b m : ℕ) → IsMaskOf P a → IsMaskOf Q b → IsMaskOf (λ i. Has a i ⊎ Has b i) m → IsMaskOf (λ i. P i ⊎ Q i) m
+-- and so has what they have together
+pub join_of : (P Q : ℕ → Type 0) (a b m : ℕ) → IsMaskOf P a → IsMaskOf Q b → IsMaskOf (λ i. Has a i ⊎ Has b i) m
+    → IsMaskOf (λ i. P i ⊎ Q i) m
 join_of P Q a b m p q r =
     mask_same (λ i. Has a i ⊎ Has b i) (λ i. P i ⊎ Q i) m r (λ i h. elim h [ inl x ↦ inl (p.to i x) | inr y ↦ inr (q.to i y) ])
     (λ i h. elim h [ inl x ↦ inl (p.from i x) | inr y ↦ inr (q.from i y) ])
@@ -30,9 +38,11 @@ pub moved_of : (w : ℕ) (P : ℕ → Type 0) (a by m : ℕ) → IsMaskOf P a �
 moved_of w P a by m p q =
     mask_same (IsMoved w (Has a) by) (IsMoved w P by) m q (λ i h. (h.0, h.1, p.to (i - by) h.2)) (λ i h. (h.0, h.1, p.from (i - by) h.2))
 
+-- a mask has the places that it has
 pub has_of : (a : ℕ) → IsMaskOf (Has a) a
 has_of a = record { to = λ i h. h; from = λ i h. h }
 
+-- the ends of runs that begin behind a gap or at the opening, and that a window has room for
 pub run_ends_are : (w gap opening window by after starts some ends : ℕ)
     → IsMaskOf (IsMoved w (Has gap) 1) after
     → IsMaskOf (λ i. Has after i ⊎ Has opening i) some
@@ -44,9 +54,16 @@ run_ends_are w gap opening window by after starts some ends p q r s =
     let within = meet_of (λ i. IsMoved w (Has gap) 1 i ⊎ Has opening i) (Has window) some window starts either (has_of window) r in
     moved_of w (λ i. (IsMoved w (Has gap) 1 i ⊎ Has opening i) × Has window i) starts by ends within s
 
-pub turned_line : (w mask turned len m : ℕ) → len ≤ w → IsMaskOf (IsTurned w (Has mask)) turned → IsMaskOf (λ i. Has turned (i + (w - len))) m
+-- a line turned in its word and moved down to the first place is the line seen from its other end
+pub turned_line : (w mask turned len m : ℕ) → len ≤ w → IsMaskOf (IsTurned w (Has mask)) turned
+    → IsMaskOf (λ i. Has turned (i + (w - len))) m
     → IsMaskOf (λ i. (i < len) × Has mask (len - 1 - i)) m
 turned_line w mask turned len m h p q =
     mask_same (λ i. Has turned (i + (w - len))) (λ i. (i < len) × Has mask (len - 1 - i)) m q
-    (λ i x. let a = p.to (i + (w - len)) x in let l : i + (w - len) < w = a.0 in let e : w - 1 - (i + (w - len)) ≡ len - 1 - i = omega arith in (omega arith, subst (Has mask) e a.1))
-    (λ i a. let l : i < len = a.0 in let e : len - 1 - i ≡ w - 1 - (i + (w - len)) = omega arith in p.from (i + (w - len)) (omega arith, subst (Has mask) e a.1))
+    (λ i x. let a = p.to (i + (w - len)) x in
+    let l : i + (w - len) < w = a.0 in
+    let e : w - 1 - (i + (w - len)) ≡ len - 1 - i = omega arith in
+    (omega arith, subst (Has mask) e a.1))
+    (λ i a. let l : i < len = a.0 in
+    let e : len - 1 - i ≡ w - 1 - (i + (w - len)) = omega arith in
+    p.from (i + (w - len)) (omega arith, subst (Has mask) e a.1))

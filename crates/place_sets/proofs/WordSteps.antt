@@ -12,6 +12,7 @@ use Rattle.place_sets.proofs.Flooding.{has_below, bit_at_mod}
 use Rattle.place_sets.proofs.HasLemmas.{true_has, has_false, false_has}
 use Rattle.place_sets.proofs.Steps.{and_is, or_is, shr_is, shl_is, has-itself, mask_same}
 
+-- a word of `n` ones has the first `n` places
 pub low_ones : (n : ℕ) → IsMaskOf (λ i. i < n) (2 ^ n - 1)
 low_ones n = record {
   to = λ i h. elim (cases_lt i n) [
@@ -21,24 +22,30 @@ low_ones n = record {
   from = λ i h. bit_at_ones n i h;
 }
 
+-- the word 1 has the first place alone
 pub one_is : IsMaskOf (λ i. i ≡ 0) 1
 one_is = mask_same (λ i. i < 1) (λ i. i ≡ 0) 1 (low_ones 1) (λ i h. omega arith) (λ i h. omega arith)
 
 pub none_is : (P : ℕ → Type 0) → ((i : ℕ) → P i → ⊥) → IsMaskOf P 0
 none_is P f = record { to = λ i h. absurd (omega (arith, bit_at-zero i)); from = λ i h. absurd (f i h) }
 
+-- the places in both
 pub meet_is : (a b : ℕ) → IsMaskOf (λ i. Has a i × Has b i) (bit_and a b)
 meet_is a b = and_is (Has a) (Has b) a b (has-itself a) (has-itself b)
 
+-- the places in either
 pub join_is : (a b : ℕ) → IsMaskOf (λ i. Has a i ⊎ Has b i) (bit_or a b)
 join_is a b = or_is (Has a) (Has b) a b (has-itself a) (has-itself b)
 
+-- the places moved down
 pub down_is : (a s : ℕ) → IsMaskOf (λ i. Has a (i + s)) (a / 2 ^ s)
 down_is a s = shr_is (Has a) a s (has-itself a)
 
+-- the places moved up
 pub up_is : (w a s : ℕ) → IsMaskOf (IsMoved w (Has a) s) (a * 2 ^ s % 2 ^ w)
 up_is w a s = shl_is w (Has a) a s (has-itself a)
 
+-- the places in one of them only
 pub xor_is : (a b : ℕ) → IsMaskOf (λ i. has a i ≢ has b i) (bit_xor a b)
 xor_is a b = record { to = to; from = λ i n. from i n (has a i) (has b i) refl refl }
   where
@@ -60,12 +67,17 @@ lacks : (a b others w : ℕ) → a < 2 ^ w → ((i : ℕ) → i < w → bit_at o
     → IsMaskOf (λ i. Has a i × (has b i ≡ false)) (bit_and a others)
 lacks a b others w fits flips =
     mask_same (λ i. Has a i × Has others i) (λ i. Has a i × (has b i ≡ false)) (bit_and a others) (meet_is a others)
-    (λ i h. let n = flips i (has_below w a i fits h.0) in let e : bit_at others i ≡ 1 = h.1 in (h.0, has_false b i (omega (arith, bit_at-lt b i))))
+    (λ i h. let n = flips i (has_below w a i fits h.0) in
+    let e : bit_at others i ≡ 1 = h.1 in
+    (h.0, has_false b i (omega (arith, bit_at-lt b i))))
     (λ i h. let n = flips i (has_below w a i fits h.0) in let z : bit_at b i ≡ 0 = false_has b i h.1 in (h.0, omega arith))
 
-pub lacks_64 : (a b : ℕ) → a < 18446744073709551616 → b < 18446744073709551616 → IsMaskOf (λ i. Has a i × (has b i ≡ false)) (bit_and a (18446744073709551615 - b))
+-- the places of a word of 64 that another lacks
+pub lacks_64 : (a b : ℕ) → a < 18446744073709551616 → b < 18446744073709551616
+    → IsMaskOf (λ i. Has a i × (has b i ≡ false)) (bit_and a (18446744073709551615 - b))
 lacks_64 a b fa fb = lacks a b (18446744073709551615 - b) 64 fa (λ i l. bit_at_not w64 b i fb l)
 
+-- the places of a word of 128 that another lacks
 pub lacks_128 : (a b : ℕ) → a < 340282366920938463463374607431768211456 → b < 340282366920938463463374607431768211456
     → IsMaskOf (λ i. Has a i × (has b i ≡ false)) (bit_and a (340282366920938463463374607431768211455 - b))
 lacks_128 a b fa fb = lacks a b (340282366920938463463374607431768211455 - b) 128 fa (λ i l. bit_at_not w128 b i fb l)
@@ -76,11 +88,13 @@ at_top m r i a b h =
     let e : m ≡ 1 * 2 ^ r + (m - 2 ^ r) = omega arith in
     ap (λ (z : ℕ). bit_at z i) e ∙ bit_at_cat_high 1 r (m - 2 ^ r) i (omega arith) h
 
+-- the place of the greatest power of two in a number is one of its places
 pub top_place : (m r : ℕ) → 2 ^ r ≤ m → m < 2 * 2 ^ r → Has m r
 top_place m r a b =
     let e : r - r ≡ 0 = omega arith in
     at_top m r r a b (omega arith) ∙ ap (bit_at 1) e
 
+-- and no place is above it
 pub none_above : (m r : ℕ) → 2 ^ r ≤ m → m < 2 * 2 ^ r → (i : ℕ) → Has m i → i ≤ r
 none_above m r a b i h =
     elim (cases_lt r i) [

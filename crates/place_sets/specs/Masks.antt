@@ -11,24 +11,24 @@ pub record IsMaskOf (P : ℕ → Type 0) (mask : ℕ) : Type 0 where
   pub to : (i : ℕ) → Has mask i → P i
   pub from : (i : ℕ) → P i → Has mask i
 
--- a place is flooded where one at or before it is a source, and all from there to it are free
+-- a place is flooded if one at or before it is a source, and all after that one up to it are free
 abbrev pub IsFlooded : (ℕ → Type 0) → (ℕ → Type 0) → ℕ → Type 0
 IsFlooded Source Free zero = Source zero
 IsFlooded Source Free (suc i) = Source (suc i) ⊎ (Free (suc i) × IsFlooded Source Free i)
 
--- all of so many places from a given place on
+-- all of `count` places from `i` on
 abbrev pub AllFrom : (ℕ → Type 0) → ℕ → ℕ → Type 0
 AllFrom P count i = (z : ℕ) → z < count → P (i + z)
 
--- some one of so many places from a given place on
+-- some one of `count` places from `i` on
 abbrev pub SomeFrom : (ℕ → Type 0) → ℕ → ℕ → Type 0
 SomeFrom P count i = (z : ℕ) × (z < count) × P (i + z)
 
--- a place moved up, within a mask of so many places
+-- a place moved up by `by`, within a mask of `width` places
 abbrev pub IsMoved : ℕ → (ℕ → Type 0) → ℕ → ℕ → Type 0
 IsMoved width P by i = (i < width) × (by ≤ i) × P (i - by)
 
--- a place seen from the other end of a mask of so many places
+-- a place seen from the other end of a mask of `width` places
 abbrev pub IsTurned : ℕ → (ℕ → Type 0) → ℕ → Type 0
 IsTurned width P i = (i < width) × P (width - 1 - i)
 
@@ -51,7 +51,8 @@ swapped_place low by i = if has low i then i + by else (i - by)
 
 -- whether a mask has the low half of each pair, at a place
 abbrev pub is_pairing_at : ℕ → ℕ → ℕ → ℕ → Bool
-is_pairing_at width low by i = nat_lt (swapped_place low by i) width && (if has low i then not (has low (i + by)) else (nat_le by i && has low (i - by)))
+is_pairing_at width low by i =
+    nat_lt (swapped_place low by i) width && (if has low i then not (has low (i + by)) else (nat_le by i && has low (i - by)))
 
 -- the low half of each pair is in the mask, and nothing else
 abbrev pub IsPairing : ℕ → ℕ → ℕ → Type 0
@@ -61,7 +62,7 @@ IsPairing width low by = all_below width (is_pairing_at width low by) ≡ true
 pub record AreWindows (cells top : ℕ) (table : List ℕ) : Type 0 where
   pub each : (level : ℕ) → level ≤ top → IsMaskOf (AllFrom (Has cells) (2 ^ level)) (slice_index_or table level 0)
 
--- some one of so many places from one on is in the mask of a level, for some level up to the top one: so many are 2 to the level
+-- for some level up to the top one, one of the 2 to the level places from `i` on is in that level's mask
 abbrev pub SomeLevel : ℕ → List ℕ → ℕ → Type 0
 SomeLevel top levels i = (level : ℕ) × (level ≤ top) × SomeFrom (Has (slice_index_or levels level 0)) (2 ^ level) i
 
@@ -77,4 +78,5 @@ joined low high = high * 2 ^ 128 + low
 -- the first place of a mask from a given place on, if there is one
 abbrev pub IsFirstFrom : ℕ → ℕ → ℕ → Option ℕ → Type 0
 IsFirstFrom width mask from None = (i : ℕ) → from ≤ i → i < width → Has mask i → ⊥
-IsFirstFrom width mask from (Some first) = (from ≤ first) × (first < width) × Has mask first × ((i : ℕ) → from ≤ i → i < first → Has mask i → ⊥)
+IsFirstFrom width mask from (Some first) =
+    (from ≤ first) × (first < width) × Has mask first × ((i : ℕ) → from ≤ i → i < first → Has mask i → ⊥)

@@ -6,7 +6,7 @@ ghost use Rattle.place_sets.specs.Masks.{Has, IsMaskOf, SomeFrom, SomeLevel, Are
 use crate::PlaceSet;
 use crate::windows::{LEVELS, level_of};
 
-/// The places in a mask, and those that have one in it so much further on.
+/// The places in a mask, and those that have one in it `by` places further on.
 pub fn either<W: PlaceSet>(mask: W, by: u16) -> W
     requires { by < W.WIDTH }
     ensures { IsMaskOf (λ i. Has (W.number mask) i ⊎ Has (W.number mask) (i + by)) (W.number result) }
@@ -14,10 +14,12 @@ pub fn either<W: PlaceSet>(mask: W, by: u16) -> W
     mask.or(mask.down(by))
 }
 
-/// Adds the ends of a run to the level of its length, to be spread with all others of that level: over 2 to the level places, after a spread over the rest.
+/// Adds the ends of a run to the level of its length, to be spread with all others of that level. The level
+/// spreads over 2 to the level places; the rest of the length is spread here.
 pub fn add_ends<W: PlaceSet>(levels: &mut [W; LEVELS], ends: W, length: u16)
     requires { (0 < length) × (length ≤ W.WIDTH) }
-    ensures { AreLevelsOf (λ i. SomeLevel W.TOP (map W.number levels.old) i ⊎ SomeFrom (Has (W.number ends)) length i) W.TOP (map W.number levels.new) }
+    ensures { AreLevelsOf (λ i. SomeLevel W.TOP (map W.number levels.old) i ⊎ SomeFrom (Has (W.number ends)) length i) W.TOP
+        (map W.number levels.new) }
 {
     let (level, rest) = level_of(length);
     levels[level] = levels[level].or(either(ends, rest));
@@ -31,7 +33,7 @@ fn spread_into<W: PlaceSet>(levels: &mut [W; LEVELS], level: usize)
     levels[level] = levels[level].or(either(levels[level + 1], 1 << level));
 }
 
-/// The places that have one in the mask of a level among so many from there on, 2 to the level, for some level.
+/// The places that have, for some level, one in its mask among the 2 to the level places from there on.
 pub fn spread_levels<W: PlaceSet>(levels: &mut [W; LEVELS]) -> W
     ensures { IsMaskOf (SomeLevel W.TOP (map W.number levels.old)) (W.number result) }
 {
@@ -41,7 +43,7 @@ pub fn spread_levels<W: PlaceSet>(levels: &mut [W; LEVELS]) -> W
     levels[0]
 }
 
-/// The places that have one in the mask among so many from there on.
+/// The places that have one in the mask among the `length` places from there on.
 pub fn spread<W: PlaceSet>(mask: W, length: u16) -> W
     requires { (0 < length) × (length ≤ W.WIDTH) }
     ensures { IsMaskOf (SomeFrom (Has (W.number mask)) length) (W.number result) }

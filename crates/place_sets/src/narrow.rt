@@ -6,7 +6,7 @@ ghost use Rattle.place_sets.specs.Masks.{Has, has, IsMaskOf, IsPairing, swapped_
 
 use crate::{PlaceSet, Wide};
 
-/// Swaps the halves of each pair of groups of so many places.
+/// Swaps the two groups of each pair: groups of `by` places, of which `low` has the lower ones.
 fn swap_pairs(mask: u64, low: u64, by: u16) -> u64
     requires by { by < 64 }
     requires low { IsPairing 64 low by }

@@ -65,12 +65,12 @@ pub trait PlaceSet: Copy {
     fn without(self, other: Self) -> Self
         ensures { IsMaskOf (λ i. Has (number self) i × (has (number other) i ≡ false)) (number result) };
 
-    /// The places moved up.
+    /// The places moved up; those that leave the width are dropped.
     fn up(self, by: u16) -> Self
         requires { by < WIDTH }
         ensures { IsMaskOf (IsMoved WIDTH (Has (number self)) by) (number result) };
 
-    /// The places moved down.
+    /// The places moved down; those that leave the width are dropped.
     fn down(self, by: u16) -> Self
         requires { by < WIDTH }
         ensures { IsMaskOf (λ i. Has (number self) (i + by)) (number result) };
@@ -84,14 +84,14 @@ pub trait PlaceSet: Copy {
     fn turn(self) -> Self
         ensures { IsMaskOf (IsTurned WIDTH (Has (number self))) (number result) };
 
-    /// The least place.
+    /// The least place of a set that has one.
     fn first_place(self) -> u16
         requires { 0 < number self }
         ensures within { result < WIDTH }
         ensures in_mask { Has (number self) result }
         ensures least { (i : ℕ) → Has (number self) i → result ≤ i };
 
-    /// The greatest place.
+    /// The greatest place of a set that has one.
     fn last_place(self) -> u16
         requires { 0 < number self }
         ensures within { result < WIDTH }

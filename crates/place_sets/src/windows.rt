@@ -5,10 +5,11 @@ ghost use Rattle.place_sets.specs.Masks.{Has, IsMaskOf, AllFrom, AreWindows};
 
 use crate::PlaceSet;
 
-/// How many powers of two there are up to 256: 1, 2, 4 and so on. So many windows fit in a table, and so many levels are spread at most.
+/// How many powers of two there are up to 256: 1, 2, 4 and so on. A table of windows has one for each, and no
+/// more levels than these are spread.
 pub const LEVELS: usize = 9;
 
-/// The places in a mask that have another one in it so much further on.
+/// The places in a mask that have another one in it `by` places further on.
 pub fn both<W: PlaceSet>(mask: W, by: u16) -> W
     requires { by < W.WIDTH }
     ensures { IsMaskOf (λ i. Has (W.number mask) i × Has (W.number mask) (i + by)) (W.number result) }
@@ -16,7 +17,7 @@ pub fn both<W: PlaceSet>(mask: W, by: u16) -> W
     mask.and(mask.down(by))
 }
 
-/// The level of a length, the exponent of the greatest power of two that it has room for, and how many places are left over.
+/// The level of a length, the exponent of the greatest power of two in it, and how many places are left.
 pub fn level_of(length: u16) -> (usize, u16)
     requires { (0 < length) × (length ≤ 256) }
     ensures level { result.0 < 9 }
@@ -39,7 +40,7 @@ pub fn windows_within<W: PlaceSet>(mask: W) -> [W; LEVELS]
     table
 }
 
-/// The starts of windows of so many places.
+/// The starts of windows of `length` places.
 pub fn window_starts<W: PlaceSet>(windows: &[W; LEVELS], length: u16) -> W
     requires { (0 < length) × (length ≤ W.WIDTH) }
     ensures { (mask : ℕ) → AreWindows mask W.TOP (map W.number windows.now) → IsMaskOf (AllFrom (Has mask) length) (W.number result) }
@@ -48,7 +49,7 @@ pub fn window_starts<W: PlaceSet>(windows: &[W; LEVELS], length: u16) -> W
     both(windows[level], rest)
 }
 
-/// The starts of windows of so many places within a mask.
+/// The starts of windows of `length` places within a mask.
 pub fn starts_within<W: PlaceSet>(mask: W, length: u16) -> W
     requires { (0 < length) × (length ≤ W.WIDTH) }
     ensures { IsMaskOf (AllFrom (Has (W.number mask)) length) (W.number result) }

@@ -10,7 +10,8 @@ with_front front rest = rest >>= λ ys. Ok (front ++ ys)
 abbrev pub some_with_front : {Y : Type 0} → List Y → Option (List Y) → Option (List Y)
 some_with_front front rest = option_map (λ ys. front ++ ys) rest
 
-pub each-map : {A X Y : Type 0} (step : X → Result Y TextFault) (view : A → X) (xs : List A) → each step (map view xs) ≡ each (λ a. step (view a)) xs
+pub each-map : {A X Y : Type 0} (step : X → Result Y TextFault) (view : A → X) (xs : List A)
+    → each step (map view xs) ≡ each (λ a. step (view a)) xs
 each-map step view [] = refl
 each-map step view (x ∷ xs) = ap (λ others. step (view x) >>= λ y. others >>= λ ys. Ok (y ∷ ys)) (each-map step view xs)
 
@@ -18,5 +19,6 @@ with_front-none : {Y : Type 0} (rest : Result (List Y) TextFault) → with_front
 with_front-none (Ok ys) = refl
 with_front-none (Err fault) = refl
 
-pub each_begins : {A X Y : Type 0} (step : X → Result Y TextFault) (view : A → X) (xs : List A) → with_front [] (each (λ a. step (view a)) (drop 0 xs)) ≡ each step (map view xs)
+pub each_begins : {A X Y : Type 0} (step : X → Result Y TextFault) (view : A → X) (xs : List A)
+    → with_front [] (each (λ a. step (view a)) (drop 0 xs)) ≡ each step (map view xs)
 each_begins step view xs = with_front-none (each (λ a. step (view a)) xs) ∙ sym (each-map step view xs)

@@ -37,7 +37,8 @@ clean_cond false xs ys p q = q
 
 clean_start : (bytes : List ℕ) → IsClean bytes → IsClean (trim_start bytes)
 clean_start [] h = h
-clean_start (byte ∷ bytes) h = clean_cond (is_blank byte) (trim_start bytes) (byte ∷ bytes) (clean_start bytes (All-drop IsOther 1 (byte ∷ bytes) h)) h
+clean_start (byte ∷ bytes) h =
+    clean_cond (is_blank byte) (trim_start bytes) (byte ∷ bytes) (clean_start bytes (All-drop IsOther 1 (byte ∷ bytes) h)) h
 
 clean_trim : (bytes : List ℕ) → IsClean bytes → IsClean (trim bytes)
 clean_trim bytes h =
@@ -45,7 +46,9 @@ clean_trim bytes h =
     clean_reverse (trim_start (reverse front)) (clean_start (reverse front) (clean_reverse front (clean_start bytes h)))
 
 clean_strip : (byte : ℕ) (bytes : List ℕ) → IsClean bytes → IsClean (strip_last byte bytes)
-clean_strip byte bytes h = clean_cond (eqb (get_or bytes (length bytes - 1) 0) byte) (take (length bytes - 1) bytes) bytes (All-take IsOther (length bytes - 1) bytes h) h
+clean_strip byte bytes h =
+    clean_cond (eqb (get_or bytes (length bytes - 1) 0) byte) (take (length bytes - 1) bytes) bytes
+    (All-take IsOther (length bytes - 1) bytes h) h
 
 -- what there is has no line feed
 abbrev IsCleanOption : Option (List ℕ) → Type 0
@@ -76,8 +79,12 @@ clean_or (Some found) bytes h other = h
 
 clean_text : (line : Line) → has_no_feed line.text ≡ true → has_no_feed (quoted_text line) ≡ true
 clean_text line h =
-    let after = clean_trim (drop (prefix_len is_ascii_alphabetic line.text) line.text) (All-drop IsOther (prefix_len is_ascii_alphabetic line.text) line.text (AllPass-from_list_all _ line.text h)) in
-    list_all-from_AllPass _ (quoted_text line) (clean_or (option_and_then before_quote (after_quote (rest line))) (rest line) (clean_between (after_quote (rest line)) (clean_after (rest line) after)) after)
+    let after =
+    clean_trim (drop (prefix_len is_ascii_alphabetic line.text) line.text)
+    (All-drop IsOther (prefix_len is_ascii_alphabetic line.text) line.text (AllPass-from_list_all _ line.text h)) in
+    list_all-from_AllPass _ (quoted_text line)
+    (clean_or (option_and_then before_quote (after_quote (rest line))) (rest line)
+    (clean_between (after_quote (rest line)) (clean_after (rest line) after)) after)
 
 -- ---- lines
 
@@ -89,11 +96,13 @@ longer : (byte : ℕ) (part : List ℕ) → not (eqb byte 10) ≡ true → IsRaw
 longer byte part other h zero lt = other
 longer byte part other h (suc k) lt = h k (omega arith)
 
-raw_onto : (byte : ℕ) (parts : List (List ℕ)) → not (eqb byte 10) ≡ true → AllByRecursion IsRaw parts → AllByRecursion IsRaw (onto_first byte parts)
+raw_onto : (byte : ℕ) (parts : List (List ℕ)) → not (eqb byte 10) ≡ true → AllByRecursion IsRaw parts
+    → AllByRecursion IsRaw (onto_first byte parts)
 raw_onto byte [] other h = (λ k lt. absurd (omega arith), tt)
 raw_onto byte (part ∷ parts) other h = (longer byte part other h.0, h.1)
 
-raw_cond : (b : Bool) (xs ys : List (List ℕ)) → (b ≡ true → AllByRecursion IsRaw xs) → (b ≡ false → AllByRecursion IsRaw ys) → AllByRecursion IsRaw (cond b xs ys)
+raw_cond : (b : Bool) (xs ys : List (List ℕ)) → (b ≡ true → AllByRecursion IsRaw xs) → (b ≡ false → AllByRecursion IsRaw ys)
+    → AllByRecursion IsRaw (cond b xs ys)
 raw_cond true xs ys p q = p refl
 raw_cond false xs ys p q = q refl
 
@@ -101,29 +110,39 @@ all_raw : (bytes : List ℕ) → AllByRecursion IsRaw (raw_lines bytes)
 all_raw [] = tt
 all_raw (byte ∷ bytes) =
     let others = raw_lines bytes in
-    raw_cond (eqb byte 10) ((byte ∷ []) ∷ others) (onto_first byte others) (λ feed. (λ k lt. absurd (omega arith), all_raw bytes)) (λ other. raw_onto byte others (ap not other) (all_raw bytes))
+    raw_cond (eqb byte 10) ((byte ∷ []) ∷ others) (onto_first byte others) (λ feed. (λ k lt. absurd (omega arith), all_raw bytes))
+    (λ other. raw_onto byte others (ap not other) (all_raw bytes))
 
 clean_front : (raw : List ℕ) → IsRaw raw → IsClean (take (length raw - 1) raw)
 clean_front raw h k d lt =
     let low : k < length raw - 1 = omega (arith, length-take-le (length raw - 1) raw) in
-    ap (λ (byte : ℕ). not (eqb byte 10)) (get_or_default (take (length raw - 1) raw) k d 0 lt ∙ get_or-take (length raw - 1) raw k 0 low) ∙ h k (omega arith)
+    ap (λ (byte : ℕ). not (eqb byte 10)) (get_or_default (take (length raw - 1) raw) k d 0 lt ∙ get_or-take (length raw - 1) raw k 0 low)
+    ∙ h k (omega arith)
 
 clean_whole : (raw : List ℕ) → IsRaw raw → eqb (get_or raw (length raw - 1) 0) 10 ≡ false → IsClean raw
 clean_whole raw h last k d lt =
     let place = λ (byte : ℕ). not (eqb byte 10) in
     elim (cases_Bool (ltb (k + 1) (length raw))) [
       | inl before ↦ ap place (get_or_default raw k d 0 lt) ∙ h k (ltb-true _ _ before)
-      | inr at ↦ let end : k ≡ length raw - 1 = omega (arith, ltb-false _ _ at) in ap place (get_or_default raw k d 0 lt) ∙ ap (λ (j : ℕ). place (get_or raw j 0)) end ∙ ap not last
+      | inr at ↦ let end : k ≡ length raw - 1 = omega (arith, ltb-false _ _ at) in
+          ap place (get_or_default raw k d 0 lt) ∙ ap (λ (j : ℕ). place (get_or raw j 0)) end ∙ ap not last
     ]
 
 clean_line : (raw : List ℕ) → IsRaw raw → IsClean (strip_last 10 raw)
 clean_line raw h =
     let front = take (length raw - 1) raw in
-    elim (cases_Bool (eqb (get_or raw (length raw - 1) 0) 10)) [ inl last ↦ rw last (clean_front raw h) | inr other ↦ rw other (clean_whole raw h other) ]
+    elim (cases_Bool (eqb (get_or raw (length raw - 1) 0) 10)) [
+      | inl last ↦ rw last (clean_front raw h)
+      | inr other ↦ rw other (clean_whole raw h other)
+    ]
 
 clean_lines : (number : ℕ) (raws : List (List ℕ)) → AllByRecursion IsRaw raws → HaveNoFeed (numbered_from number raws)
 clean_lines number [] h = tt
-clean_lines number (raw ∷ raws) h = (list_all-from_AllPass _ (trim (without_ending raw)) (clean_trim (without_ending raw) (clean_strip 13 (strip_last 10 raw) (clean_line raw h.0))), clean_lines (number + 1) raws h.1)
+clean_lines number (raw ∷ raws) h = (
+  list_all-from_AllPass _ (trim (without_ending raw))
+      (clean_trim (without_ending raw) (clean_strip 13 (strip_last 10 raw) (clean_line raw h.0))),
+  clean_lines (number + 1) raws h.1,
+)
 
 lines_clean : (bytes : List ℕ) → HaveNoFeed (lines bytes)
 lines_clean bytes = clean_lines 1 (raw_lines bytes) (all_raw bytes)
@@ -138,7 +157,8 @@ lines_have_no_feed bytes text e = unless_long (ltb LONGEST_PUZZLE (length bytes)
 
 -- ---- fields
 
-clean_kept : (b : Bool) (line : Line) (others : List Line) → has_no_feed line.text ≡ true → HaveNoFeed others → HaveNoFeed (cond b (line ∷ others) others)
+clean_kept : (b : Bool) (line : Line) (others : List Line) → has_no_feed line.text ≡ true → HaveNoFeed others
+    → HaveNoFeed (cond b (line ∷ others) others)
 clean_kept true line others here h = (here, h)
 clean_kept false line others here h = h
 
@@ -154,18 +174,22 @@ short : (line : Line) (b : Bool) → number_of_line (cond b (Some line) None) �
 short line true e = absurd cc
 short line false e = refl
 
-lawful_field : (o : Option Line) → ((line : Line) → o ≡ Some line → has_no_feed line.text ≡ true) → long_of o ≡ None → is_field (option_map quoted_text o) ≡ true
+lawful_field : (o : Option Line) → ((line : Line) → o ≡ Some line → has_no_feed line.text ≡ true) → long_of o ≡ None
+    → is_field (option_map quoted_text o) ≡ true
 lawful_field None clean fits = refl
 lawful_field (Some line) clean fits =
     let within = ltb-false _ _ (short line (ltb LONGEST_TEXT (length (quoted_text line))) fits) in
-    and_from (leb (length (quoted_text line)) LONGEST_TEXT) (has_no_feed (quoted_text line)) (le-leb _ _ within) (clean_text line (clean line refl))
+    and_from (leb (length (quoted_text line)) LONGEST_TEXT) (has_no_feed (quoted_text line)) (le-leb _ _ within)
+    (clean_text line (clean line refl))
 
 first_clean : (text : List Line) → HaveNoFeed text → (line : Line) → slice_get text 0 ≡ Some line → has_no_feed line.text ≡ true
 first_clean [] h line e = absurd cc
 first_clean (found ∷ text) h line e = let same : found ≡ line = cc in ap (λ (l : Line). has_no_feed l.text) (sym same) ∙ h.0
 
-lawful_text : (word : List ℕ) (text : List Line) → HaveNoFeed text → number_of_line (long_text text word) ≡ None → is_field (field_text word text) ≡ true
-lawful_text word text h fits = lawful_field (first_with word text) (first_clean (filter (has_keyword word) text) (clean_filter (has_keyword word) text h)) fits
+lawful_text : (word : List ℕ) (text : List Line) → HaveNoFeed text → number_of_line (long_text text word) ≡ None
+    → is_field (field_text word text) ≡ true
+lawful_text word text h fits =
+    lawful_field (first_with word text) (first_clean (filter (has_keyword word) text) (clean_filter (has_keyword word) text h)) fits
 
 least_none : (m n : Option ℕ) → least m n ≡ None → (m ≡ None) × (n ≡ None)
 least_none None n e = (refl, e)

@@ -8,7 +8,8 @@ use Rattle.puzzle_text.specs.Keywords.{all_fields, field_word}
 use Rattle.puzzle_text.specs.Non.{field_text, texts_of, with_all_found, with_found}
 
 -- what is set into a field may stand there
-pub field_is_lawful : (field : Field) (lines : List Line) → IsDescription (texts_of lines) → is_field (field_text (field_word field) lines) ≡ true
+pub field_is_lawful : (field : Field) (lines : List Line) → IsDescription (texts_of lines)
+    → is_field (field_text (field_word field) lines) ≡ true
 field_is_lawful Catalogue lines lawful = lawful.catalogue
 field_is_lawful Title lines lawful = lawful.title
 field_is_lawful By lines lawful = lawful.by
@@ -41,7 +42,9 @@ fifth_set : (a b c d e : Text) → with_found (five a b c d None) License e ≡ 
 fifth_set a b c d None = refl
 fifth_set a b c d (Some text) = refl
 
-all_set : (a b c d e : Text) → with_found (with_found (with_found (with_found (with_found no_texts Catalogue a) Title b) By c) Copyright d) License e ≡ five a b c d e
+all_set : (a b c d e : Text)
+    → with_found (with_found (with_found (with_found (with_found no_texts Catalogue a) Title b) By c) Copyright d) License e
+    ≡ five a b c d e
 all_set a b c d e =
     ap (λ (set : Description). with_found (with_found (with_found (with_found set Title b) By c) Copyright d) License e) (first_set a)
     ∙ ap (λ (set : Description). with_found (with_found (with_found set By c) Copyright d) License e) (second_set a b)

@@ -20,12 +20,17 @@ option_map-map f g None = refl
 option_map-map f g (Some x) = refl
 
 -- the element that a filter keeps at a place, seen by a view
-pub kept_at : {X Y Z : Type 0} (now : X → Y) (view : Y → Z) (p : Z → Bool) (found : Option X) (ys : List Y) (i : ℕ) → option_map now found ≡ slice_get (filter (λ y. p (view y)) ys) i → option_map (λ x. view (now x)) found ≡ slice_get (filter p (map view ys)) i
-kept_at now view p found ys i e = option_map-map now view found ∙ ap (option_map view) e ∙ sym (slice_get-map view (filter (λ y. p (view y)) ys) i) ∙ sym (ap (λ zs. slice_get zs i) (filter-map p view ys))
+pub kept_at : {X Y Z : Type 0} (now : X → Y) (view : Y → Z) (p : Z → Bool) (found : Option X) (ys : List Y) (i : ℕ)
+    → option_map now found ≡ slice_get (filter (λ y. p (view y)) ys) i
+    → option_map (λ x. view (now x)) found ≡ slice_get (filter p (map view ys)) i
+kept_at now view p found ys i e =
+    option_map-map now view found ∙ ap (option_map view) e ∙ sym (slice_get-map view (filter (λ y. p (view y)) ys) i)
+    ∙ sym (ap (λ zs. slice_get zs i) (filter-map p view ys))
 
 -- ---- the keyword lines alone
 
-kept_twice : {X : Type 0} (p : X → Bool) (b : Bool) (x : X) (ys xs : List X) → (p x ≡ true → b ≡ true) → filter p ys ≡ filter p xs → filter p (cond b (x ∷ ys) ys) ≡ cond (p x) (x ∷ filter p xs) (filter p xs)
+kept_twice : {X : Type 0} (p : X → Bool) (b : Bool) (x : X) (ys xs : List X) → (p x ≡ true → b ≡ true) → filter p ys ≡ filter p xs
+    → filter p (cond b (x ∷ ys) ys) ≡ cond (p x) (x ∷ filter p xs) (filter p xs)
 kept_twice {X} p true x ys xs le e = ap (λ (zs : List X). cond (p x) (x ∷ zs) zs) e
 kept_twice {X} p false x ys xs le e = elim (cases_Bool (p x)) [
   | inl passes ↦ absurd (let wrong = le passes in cc)
@@ -42,20 +47,27 @@ some_word letter letters [] e = absurd cc
 some_word letter letters (byte ∷ word) e = ap not (ne_eqb (length (byte ∷ word)) 0 (λ none. omega arith))
 
 -- the lines with a keyword are all among the keyword lines
-with_kept : (letter : ℕ) (letters : List ℕ) (lines : List Line) → with_keyword (letter ∷ letters) (filter is_keyword_line lines) ≡ with_keyword (letter ∷ letters) lines
-with_kept letter letters lines = filter_twice (has_keyword (letter ∷ letters)) is_keyword_line (λ line. some_word letter letters (keyword line)) lines
+with_kept : (letter : ℕ) (letters : List ℕ) (lines : List Line)
+    → with_keyword (letter ∷ letters) (filter is_keyword_line lines) ≡ with_keyword (letter ∷ letters) lines
+with_kept letter letters lines =
+    filter_twice (has_keyword (letter ∷ letters)) is_keyword_line (λ line. some_word letter letters (keyword line)) lines
 
 -- the keyword lines alone say what all lines say
-pub said_of_kept : (limit : ℕ) (sections : Sections) (lines : List Line) → puzzle_said limit sections (filter is_keyword_line lines) ≡ puzzle_said limit sections lines
+pub said_of_kept : (limit : ℕ) (sections : Sections) (lines : List Line)
+    → puzzle_said limit sections (filter is_keyword_line lines) ≡ puzzle_said limit sections lines
 said_of_kept limit sections lines =
-    let catalogue : with_keyword (codes "catalogue") (filter is_keyword_line lines) ≡ with_keyword (codes "catalogue") lines = with_kept _ _ lines in
+    let catalogue : with_keyword (codes "catalogue") (filter is_keyword_line lines) ≡ with_keyword (codes "catalogue") lines =
+    with_kept _ _ lines in
     let title : with_keyword (codes "title") (filter is_keyword_line lines) ≡ with_keyword (codes "title") lines = with_kept _ _ lines in
     let by : with_keyword (codes "by") (filter is_keyword_line lines) ≡ with_keyword (codes "by") lines = with_kept _ _ lines in
-    let copyright : with_keyword (codes "copyright") (filter is_keyword_line lines) ≡ with_keyword (codes "copyright") lines = with_kept _ _ lines in
-    let license : with_keyword (codes "license") (filter is_keyword_line lines) ≡ with_keyword (codes "license") lines = with_kept _ _ lines in
+    let copyright : with_keyword (codes "copyright") (filter is_keyword_line lines) ≡ with_keyword (codes "copyright") lines =
+    with_kept _ _ lines in
+    let license : with_keyword (codes "license") (filter is_keyword_line lines) ≡ with_keyword (codes "license") lines =
+    with_kept _ _ lines in
     let width : with_keyword (codes "width") (filter is_keyword_line lines) ≡ with_keyword (codes "width") lines = with_kept _ _ lines in
     let height : with_keyword (codes "height") (filter is_keyword_line lines) ≡ with_keyword (codes "height") lines = with_kept _ _ lines in
     let rows : with_keyword (codes "rows") (filter is_keyword_line lines) ≡ with_keyword (codes "rows") lines = with_kept _ _ lines in
-    let columns : with_keyword (codes "columns") (filter is_keyword_line lines) ≡ with_keyword (codes "columns") lines = with_kept _ _ lines in
+    let columns : with_keyword (codes "columns") (filter is_keyword_line lines) ≡ with_keyword (codes "columns") lines =
+    with_kept _ _ lines in
     let goal : with_keyword (codes "goal") (filter is_keyword_line lines) ≡ with_keyword (codes "goal") lines = with_kept _ _ lines in
     rw (catalogue, title, by, copyright, license, width, height, rows, columns, goal) refl

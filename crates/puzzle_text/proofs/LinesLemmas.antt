@@ -17,10 +17,12 @@ CutsAt bytes n = raw_lines bytes ≡ take n bytes ∷ raw_lines (drop n bytes)
 at_feed : (byte : ℕ) (bytes : List ℕ) → eqb byte 10 ≡ true → CutsAt (byte ∷ bytes) (first_end (byte ∷ bytes) + 1)
 at_feed byte bytes feed = rw feed refl
 
-at_other : (byte next : ℕ) (bytes : List ℕ) → eqb byte 10 ≡ false → CutsAt (next ∷ bytes) (first_end (next ∷ bytes) + 1) → CutsAt (byte ∷ next ∷ bytes) (first_end (byte ∷ next ∷ bytes) + 1)
+at_other : (byte next : ℕ) (bytes : List ℕ) → eqb byte 10 ≡ false → CutsAt (next ∷ bytes) (first_end (next ∷ bytes) + 1)
+    → CutsAt (byte ∷ next ∷ bytes) (first_end (byte ∷ next ∷ bytes) + 1)
 at_other byte next bytes other later =
     let end : first_end (byte ∷ next ∷ bytes) + 1 ≡ suc (first_end (next ∷ bytes) + 1) = rw other (omega arith) in
-    let one : raw_lines (byte ∷ next ∷ bytes) ≡ onto_first byte (raw_lines (next ∷ bytes)) = cond-false (eqb byte 10) ((byte ∷ []) ∷ raw_lines (next ∷ bytes)) (onto_first byte (raw_lines (next ∷ bytes))) other in
+    let one : raw_lines (byte ∷ next ∷ bytes) ≡ onto_first byte (raw_lines (next ∷ bytes)) =
+    cond-false (eqb byte 10) ((byte ∷ []) ∷ raw_lines (next ∷ bytes)) (onto_first byte (raw_lines (next ∷ bytes))) other in
     one ∙ ap (onto_first byte) later ∙ sym (ap (λ (k : ℕ). take k (byte ∷ next ∷ bytes) ∷ raw_lines (drop k (byte ∷ next ∷ bytes))) end)
 
 at_last : (byte : ℕ) → eqb byte 10 ≡ false → CutsAt (byte ∷ []) (first_end (byte ∷ []) + 1)
@@ -29,7 +31,11 @@ at_last byte other = rw other refl
 cut_at : (bytes : List ℕ) → 0 < length bytes → CutsAt bytes (first_end bytes + 1)
 cut_at [] h = absurd (omega arith)
 cut_at (byte ∷ []) h = elim (cases_Bool (eqb byte 10)) [ inl feed ↦ at_feed byte [] feed | inr other ↦ at_last byte other ]
-cut_at (byte ∷ next ∷ bytes) h = elim (cases_Bool (eqb byte 10)) [ inl feed ↦ at_feed byte (next ∷ bytes) feed | inr other ↦ at_other byte next bytes other (cut_at (next ∷ bytes) (omega arith)) ]
+cut_at (byte ∷ next ∷ bytes) h =
+    elim (cases_Bool (eqb byte 10)) [
+      | inl feed ↦ at_feed byte (next ∷ bytes) feed
+      | inr other ↦ at_other byte next bytes other (cut_at (next ∷ bytes) (omega arith))
+    ]
 
 pub chosen : (b : Bool) (m n : ℕ) → cond b (Some m) None ≡ Some n → (b ≡ true) × (m ≡ n)
 chosen true m n e = (refl, cc)
@@ -40,7 +46,8 @@ not_chosen true m e = absurd cc
 not_chosen false m e = refl
 
 -- the first line ends at the first line feed
-pub cut_at_feed : (bytes : List ℕ) (i : ℕ) → position (λ byte. eqb byte 10) bytes ≡ Some i → raw_lines bytes ≡ take (i + 1) bytes ∷ raw_lines (drop (i + 1) bytes)
+pub cut_at_feed : (bytes : List ℕ) (i : ℕ) → position (λ byte. eqb byte 10) bytes ≡ Some i
+    → raw_lines bytes ≡ take (i + 1) bytes ∷ raw_lines (drop (i + 1) bytes)
 cut_at_feed bytes i e =
     let found = chosen (ltb (first_end bytes) (length bytes)) (first_end bytes) i e in
     let inside : 0 < length bytes = omega (arith, ltb-true _ _ found.0) in
@@ -49,7 +56,8 @@ cut_at_feed bytes i e =
 -- and else with the text
 pub cut_at_end : (bytes : List ℕ) → 0 < length bytes → position (λ byte. eqb byte 10) bytes ≡ None → raw_lines bytes ≡ bytes ∷ []
 cut_at_end bytes h e =
-    let past : length bytes ≤ first_end bytes + 1 = omega (arith, ltb-false _ _ (not_chosen (ltb (first_end bytes) (length bytes)) (first_end bytes) e)) in
+    let past : length bytes ≤ first_end bytes + 1 =
+    omega (arith, ltb-false _ _ (not_chosen (ltb (first_end bytes) (length bytes)) (first_end bytes) e)) in
     rw (cut_at bytes h, take_all (first_end bytes + 1) bytes past, drop_all (first_end bytes + 1) bytes past) refl
 
 -- ---- the first line feed
@@ -57,14 +65,16 @@ cut_at_end bytes h e =
 abbrev NoFeedBefore : List ℕ → ℕ → Type 0
 NoFeedBefore bytes i = (k : ℕ) → k < i → eqb (get_or bytes k 0) 10 ≡ false
 
-pub feed_at : (bytes : List ℕ) (i : ℕ) → i < length bytes → NoFeedBefore bytes i → eqb (get_or bytes i 0) 10 ≡ true → position (λ byte. eqb byte 10) bytes ≡ Some i
+pub feed_at : (bytes : List ℕ) (i : ℕ) → i < length bytes → NoFeedBefore bytes i → eqb (get_or bytes i 0) 10 ≡ true
+    → position (λ byte. eqb byte 10) bytes ≡ Some i
 feed_at bytes i h before at =
     let end : first_end bytes ≡ i = position_or_len_is (λ byte. eqb byte 10) bytes i 0 (omega arith) before (λ _. at) in
     rw (end, lt-ltb i (length bytes) h) refl
 
 pub no_feed : (bytes : List ℕ) → NoFeedBefore bytes (length bytes) → position (λ byte. eqb byte 10) bytes ≡ None
 no_feed bytes before =
-    let end : first_end bytes ≡ length bytes = position_or_len_is (λ byte. eqb byte 10) bytes (length bytes) 0 (omega arith) before (λ h. absurd (omega arith)) in
+    let end : first_end bytes ≡ length bytes =
+    position_or_len_is (λ byte. eqb byte 10) bytes (length bytes) 0 (omega arith) before (λ h. absurd (omega arith)) in
     rw (end, le-ltb (length bytes) (length bytes) (omega arith)) refl
 
 -- ---- the first line without its ending
@@ -72,22 +82,28 @@ no_feed bytes before =
 abbrev pub line_of : ℕ → List ℕ → Line
 line_of number text = record { number = number; text = trim text }
 
-strip_feed : (bytes : List ℕ) (end : ℕ) → end < length bytes → eqb (get_or bytes end 0) 10 ≡ true → strip_last 10 (take (end + 1) bytes) ≡ take end bytes
+strip_feed : (bytes : List ℕ) (end : ℕ) → end < length bytes → eqb (get_or bytes end 0) 10 ≡ true
+    → strip_last 10 (take (end + 1) bytes) ≡ take end bytes
 strip_feed bytes end h at =
     let last : length (take (end + 1) bytes) - 1 ≡ end = omega (arith, length-take-le (end + 1) bytes (omega arith)) in
     rw (last, get_or-take (end + 1) bytes end 0 (omega arith), at, take-take end (end + 1) bytes (omega arith)) refl
 
 pub line_at_feed : (bytes : List ℕ) (end : ℕ) → position (λ byte. eqb byte 10) bytes ≡ Some end → (number : ℕ)
-    → numbered_from number (raw_lines bytes) ≡ record { number = number; text = trim (strip_last 13 (take end bytes)) } ∷ numbered_from (number + 1) (raw_lines (drop (end + 1) bytes))
+    → numbered_from number (raw_lines bytes)
+    ≡ record { number = number; text = trim (strip_last 13 (take end bytes)) } ∷ numbered_from (number + 1)
+    (raw_lines (drop (end + 1) bytes))
 line_at_feed bytes end e number =
     let found = position-Some (λ byte. eqb byte 10) bytes end 0 e in
     ap (numbered_from number) (cut_at_feed bytes end e)
-    ∙ ap (λ (line : List ℕ). record { number = number; text = trim (strip_last 13 line) } ∷ numbered_from (number + 1) (raw_lines (drop (end + 1) bytes))) (strip_feed bytes end found.0 found.1)
+    ∙ ap (λ (line : List ℕ).
+    record { number = number; text = trim (strip_last 13 line) } ∷ numbered_from (number + 1) (raw_lines (drop (end + 1) bytes)))
+    (strip_feed bytes end found.0 found.1)
 
 keeps_end : (bytes : List ℕ) → 0 < length bytes → position (λ byte. eqb byte 10) bytes ≡ None → strip_last 10 bytes ≡ bytes
 keeps_end bytes some e =
     let past = ltb-false _ _ (not_chosen (ltb (first_end bytes) (length bytes)) (first_end bytes) e) in
-    let last : eqb (get_or bytes (length bytes - 1) 0) 10 ≡ false = fails_before_first (λ byte. eqb byte 10) bytes (length bytes - 1) 0 (omega (arith, past)) in
+    let last : eqb (get_or bytes (length bytes - 1) 0) 10 ≡ false =
+    fails_before_first (λ byte. eqb byte 10) bytes (length bytes - 1) 0 (omega (arith, past)) in
     rw last refl
 
 pub line_at_end : (bytes : List ℕ) → 0 < length bytes → position (λ byte. eqb byte 10) bytes ≡ None → (number : ℕ)

@@ -15,7 +15,8 @@ use Rattle.puzzle_text.specs.Non.{both_clues}
 use Rattle.puzzle_text.specs.Readings.{reading}
 use Rattle.puzzle_text.proofs.LinesLemmas.{chosen, not_chosen}
 
-pub prefix_len-map : {X Y : Type 0} (p : Y → Bool) (view : X → Y) (xs : List X) → prefix_len p (map view xs) ≡ prefix_len (λ x. p (view x)) xs
+pub prefix_len-map : {X Y : Type 0} (p : Y → Bool) (view : X → Y) (xs : List X)
+    → prefix_len p (map view xs) ≡ prefix_len (λ x. p (view x)) xs
 prefix_len-map p view [] = refl
 prefix_len-map p view (x ∷ xs) = ap (λ n. cond (p (view x)) (1 + n) 0) (prefix_len-map p view xs)
 
@@ -26,7 +27,8 @@ module _ {X : Type 0} (view : X → Line) where
   abbrev hash_at : List X → Option ℕ
   hash_at xs = position (λ x. is_hash (view x)) xs
 
-  pub at_hash_found : (xs : List X) (i : ℕ) → hash_at xs ≡ Some i → at_hash (map view xs) ≡ Some (map view (take i xs), map view (take (length xs - (i + 1)) (drop (i + 1) xs)))
+  pub at_hash_found : (xs : List X) (i : ℕ) → hash_at xs ≡ Some i
+      → at_hash (map view xs) ≡ Some (map view (take i xs), map view (take (length xs - (i + 1)) (drop (i + 1) xs)))
   at_hash_found xs i e = rw (position-map is_hash view xs, e, take-map view i xs, drop-map view (i + 1) xs, take_rest xs (i + 1)) refl
 
   pub at_hash_none : (xs : List X) → hash_at xs ≡ None → at_hash (map view xs) ≡ None
@@ -39,8 +41,11 @@ module _ {X : Type 0} (view : X → Line) where
 
   pub before_hash_none : (xs : List X) → hash_at xs ≡ None → before_hash (map view xs) ≡ map view xs
   before_hash_none xs e =
-      let past = ltb-false _ _ (not_chosen (ltb (position_or_len (λ x. is_hash (view x)) xs) (length xs)) (position_or_len (λ x. is_hash (view x)) xs) e) in
-      rw (prefix_len-map (λ y. not (is_hash y)) view xs, take-map view (position_or_len (λ x. is_hash (view x)) xs) xs, take_all _ xs past) refl
+      let past =
+      ltb-false _ _
+      (not_chosen (ltb (position_or_len (λ x. is_hash (view x)) xs) (length xs)) (position_or_len (λ x. is_hash (view x)) xs) e) in
+      rw (prefix_len-map (λ y. not (is_hash y)) view xs, take-map view (position_or_len (λ x. is_hash (view x)) xs) xs, take_all _ xs past)
+      refl
 
 -- ---- the clues of both sections
 
@@ -57,7 +62,8 @@ joined_none : {Y : Type 0} (r : Result (List Y) TextFault) → joined (Ok []) r 
 joined_none (Ok ys) = refl
 joined_none (Err fault) = refl
 
-joined_more : {Y : Type 0} (r : Result Y TextFault) (a b : Result (List Y) TextFault) → r >>= (λ y. joined a b >>= λ all. Ok (y ∷ all)) ≡ joined (r >>= (λ y. a >>= λ ys. Ok (y ∷ ys))) b
+joined_more : {Y : Type 0} (r : Result Y TextFault) (a b : Result (List Y) TextFault)
+    → r >>= (λ y. joined a b >>= λ all. Ok (y ∷ all)) ≡ joined (r >>= (λ y. a >>= λ ys. Ok (y ∷ ys))) b
 joined_more (Err fault) a b = refl
 joined_more (Ok y) (Err fault) b = refl
 joined_more (Ok y) (Ok xs) (Err fault) = refl
@@ -66,18 +72,24 @@ joined_more (Ok y) (Ok xs) (Ok ys) = refl
 each-append : {X Y : Type 0} (step : X → Result Y TextFault) (xs ys : List X) → each step (xs ++ ys) ≡ joined (each step xs) (each step ys)
 each-append step [] ys = sym (joined_none (each step ys))
 each-append {X} {Y} step (x ∷ xs) ys =
-    ap (λ (all : Result (List Y) TextFault). step x >>= λ y. all >>= λ zs. Ok (y ∷ zs)) (each-append step xs ys) ∙ joined_more (step x) (each step xs) (each step ys)
+    ap (λ (all : Result (List Y) TextFault). step x >>= λ y. all >>= λ zs. Ok (y ∷ zs)) (each-append step xs ys)
+    ∙ joined_more (step x) (each step xs) (each step ys)
 
-joined_clues : (width height : ℕ) (a b : Result (List (List ℕ)) TextFault) → joined a b >>= (λ clues. Ok (reading width height clues)) ≡ (a >>= λ rows. b >>= λ columns. Ok (rows, columns)) >>= with_clues width height
+joined_clues : (width height : ℕ) (a b : Result (List (List ℕ)) TextFault)
+    → joined a b >>= (λ clues. Ok (reading width height clues)) ≡ (a >>= λ rows. b >>= λ columns. Ok (rows, columns))
+    >>= with_clues width height
 joined_clues width height (Err fault) b = refl
 joined_clues width height (Ok rows) (Err fault) = refl
 joined_clues width height (Ok rows) (Ok columns) = refl
 
 -- the puzzle of the clue lines of both sections
-pub puzzle_of_parts : (limit width height : ℕ) (xs ys : List Line) → puzzle_of limit width height (xs ++ ys) ≡ both_clues limit true xs ys >>= with_clues width height
+pub puzzle_of_parts : (limit width height : ℕ) (xs ys : List Line)
+    → puzzle_of limit width height (xs ++ ys) ≡ both_clues limit true xs ys >>= with_clues width height
 puzzle_of_parts limit width height xs ys =
-    ap (λ all. all >>= λ clues. Ok (reading width height clues)) (each-append (λ line. or_fault (BadNumber line.number) (clue_of limit line.text)) xs ys)
+    ap (λ all. all >>= λ clues. Ok (reading width height clues))
+    (each-append (λ line. or_fault (BadNumber line.number) (clue_of limit line.text)) xs ys)
     ∙ joined_clues width height (clues_of limit xs) (clues_of limit ys)
 
-pub reading_parts : (width height : ℕ) (rows columns : List (List ℕ)) → length rows ≡ height → reading width height (rows ++ columns) ≡ plain width height rows columns
+pub reading_parts : (width height : ℕ) (rows columns : List (List ℕ)) → length rows ≡ height
+    → reading width height (rows ++ columns) ≡ plain width height rows columns
 reading_parts width height rows columns e = rw (← e, take-append_seam rows columns, drop-append_seam rows columns) refl

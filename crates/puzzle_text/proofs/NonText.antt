@@ -68,21 +68,25 @@ texts_non p = fields p.texts ++ after_fields p
 
 fed_field : (word text : List ℕ) → with_feed (field_line word text) ≡ quoted_line word (Some text)
 fed_field word text =
-    append_assoc word (32 ∷ 34 ∷ (text ++ 34 ∷ [])) (10 ∷ []) ∙ ap (λ (x : List ℕ). word ++ 32 ∷ 34 ∷ x) (append_assoc text (34 ∷ []) (10 ∷ []))
+    append_assoc word (32 ∷ 34 ∷ (text ++ 34 ∷ [])) (10 ∷ [])
+    ∙ ap (λ (x : List ℕ). word ++ 32 ∷ 34 ∷ x) (append_assoc text (34 ∷ []) (10 ∷ []))
     ∙ sym (append_assoc (word ++ 32 ∷ 34 ∷ []) text (34 ∷ 10 ∷ []) ∙ append_assoc word (32 ∷ 34 ∷ []) (text ++ 34 ∷ 10 ∷ []))
 
 fed_one : (word : List ℕ) (o : Option (List ℕ)) → flat_map with_feed (one word o) ≡ quoted_line word o
 fed_one word None = refl
 fed_one word (Some text) = append-nil (with_feed (field_line word text)) ∙ fed_field word text
 
-two : (xs ys : List (List ℕ)) (a b : List ℕ) → flat_map with_feed xs ≡ a → flat_map with_feed ys ≡ b → flat_map with_feed (xs ++ ys) ≡ a ++ b
+two : (xs ys : List (List ℕ)) (a b : List ℕ) → flat_map with_feed xs ≡ a → flat_map with_feed ys ≡ b
+    → flat_map with_feed (xs ++ ys) ≡ a ++ b
 two xs ys a b e f = flat_map-append with_feed xs ys ∙ rw (e, f) refl
 
-fed_fields : (ts : Description) (fs : List Field) → flat_map with_feed (flat_map (part ts) fs) ≡ flat_map (λ f. quoted_line (field_word f) (text_of ts f)) fs
+fed_fields : (ts : Description) (fs : List Field)
+    → flat_map with_feed (flat_map (part ts) fs) ≡ flat_map (λ f. quoted_line (field_word f) (text_of ts f)) fs
 fed_fields ts [] = refl
 fed_fields ts (f ∷ fs) =
     let others = flat_map (λ (g : Field). quoted_line (field_word g) (text_of ts g)) fs in
-    two (part ts f) (flat_map (part ts) fs) (quoted_line (field_word f) (text_of ts f)) others (fed_one (field_word f) (text_of ts f)) (fed_fields ts fs)
+    two (part ts f) (flat_map (part ts) fs) (quoted_line (field_word f) (text_of ts f)) others (fed_one (field_word f) (text_of ts f))
+    (fed_fields ts fs)
 
 goal_feeds : (o : Option (List Bool)) → flat_map with_feed (goal_gap o ++ one (codes "goal") (goal_text o)) ≡ goal_lines o
 goal_feeds None = refl
@@ -91,20 +95,30 @@ goal_feeds (Some cells) = ap (λ (x : List ℕ). 10 ∷ x) (fed_one (codes "goal
 fed_columns : (p : Nonogram) → flat_map with_feed (column_part p ++ goal_part p) ≡ clue_lines 44 p.columns ++ goal_lines p.goal
 fed_columns p =
     ap (flat_map with_feed) (append_assoc (map (clue_text 44) p.columns) (goal_gap p.goal) (goal_part p))
-    ∙ two (map (clue_text 44) p.columns) (goal_gap p.goal ++ goal_part p) (clue_lines 44 p.columns) (goal_lines p.goal) (fed_clues 44 p.columns) (goal_feeds p.goal)
+    ∙ two (map (clue_text 44) p.columns) (goal_gap p.goal ++ goal_part p) (clue_lines 44 p.columns) (goal_lines p.goal)
+    (fed_clues 44 p.columns) (goal_feeds p.goal)
 
-fed_rows : (p : Nonogram) → flat_map with_feed (row_part p ++ after_rows p) ≡ clue_lines 44 p.rows ++ (codes "\ncolumns\n" ++ (clue_lines 44 p.columns ++ goal_lines p.goal))
+fed_rows : (p : Nonogram)
+    → flat_map with_feed (row_part p ++ after_rows p)
+    ≡ clue_lines 44 p.rows ++ (codes "\ncolumns\n" ++ (clue_lines 44 p.columns ++ goal_lines p.goal))
 fed_rows p =
     let rows = clue_lines 44 p.rows in
     let behind = clue_lines 44 p.columns ++ goal_lines p.goal in
-    two (row_part p) (after_rows p) (rows ++ 10 ∷ []) (codes "columns\n" ++ behind) (two (map (clue_text 44) p.rows) ([] ∷ []) rows (10 ∷ []) (fed_clues 44 p.rows) refl) (ap (λ (x : List ℕ). codes "columns\n" ++ x) (fed_columns p))
+    two (row_part p) (after_rows p) (rows ++ 10 ∷ []) (codes "columns\n" ++ behind)
+    (two (map (clue_text 44) p.rows) ([] ∷ []) rows (10 ∷ []) (fed_clues 44 p.rows) refl)
+    (ap (λ (x : List ℕ). codes "columns\n" ++ x) (fed_columns p))
     ∙ append_assoc rows (10 ∷ []) (codes "columns\n" ++ behind)
 
-join10 : (a b c d e f g h i j : List ℕ) → ((((((((a ++ b) ++ c) ++ d) ++ e) ++ f) ++ g) ++ h) ++ i) ++ j ≡ a ++ (b ++ (c ++ (d ++ (e ++ (f ++ (g ++ (h ++ (i ++ j))))))))
+join10 : (a b c d e f g h i j : List ℕ)
+    → ((((((((a ++ b) ++ c) ++ d) ++ e) ++ f) ++ g) ++ h) ++ i) ++ j ≡ a ++ (b ++ (c ++ (d ++ (e ++ (f ++ (g ++ (h ++ (i ++ j))))))))
 join10 a b c d e f g h i j = simp append_assoc
 
 fed_sizes : (p : Nonogram) → flat_map with_feed (after_fields p)
-    ≡ codes "width " ++ (decimal p.width ++ (codes "\nheight " ++ (decimal p.height ++ (codes "\n\nrows\n" ++ (clue_lines 44 p.rows ++ (codes "\ncolumns\n" ++ (clue_lines 44 p.columns ++ goal_lines p.goal)))))))
+    ≡ codes "width "
+    ++ (decimal
+    p.width ++ (codes "\nheight "
+    ++ (decimal
+    p.height ++ (codes "\n\nrows\n" ++ (clue_lines 44 p.rows ++ (codes "\ncolumns\n" ++ (clue_lines 44 p.columns ++ goal_lines p.goal)))))))
 fed_sizes p =
     let w = decimal p.width in
     let h = decimal p.height in
@@ -117,8 +131,16 @@ fed_sizes p =
 
 pub non_is : (p : Nonogram) → flat_map with_feed (texts_non p) ≡ text_non p
 non_is p =
-    two (fields p.texts) (after_fields p) (text_fields p.texts) (codes "width " ++ (decimal p.width ++ (codes "\nheight " ++ (decimal p.height ++ (codes "\n\nrows\n" ++ (clue_lines 44 p.rows ++ (codes "\ncolumns\n" ++ (clue_lines 44 p.columns ++ goal_lines p.goal)))))))) (fed_fields p.texts all_fields) (fed_sizes p)
-    ∙ sym (join10 (text_fields p.texts) (codes "width ") (decimal p.width) (codes "\nheight ") (decimal p.height) (codes "\n\nrows\n") (clue_lines 44 p.rows) (codes "\ncolumns\n") (clue_lines 44 p.columns) (goal_lines p.goal))
+    two (fields p.texts) (after_fields p) (text_fields p.texts)
+    (codes "width "
+    ++ (decimal
+    p.width ++ (codes "\nheight "
+    ++ (decimal
+    p.height
+    ++ (codes "\n\nrows\n" ++ (clue_lines 44 p.rows ++ (codes "\ncolumns\n" ++ (clue_lines 44 p.columns ++ goal_lines p.goal))))))))
+    (fed_fields p.texts all_fields) (fed_sizes p)
+    ∙ sym (join10 (text_fields p.texts) (codes "width ") (decimal p.width) (codes "\nheight ") (decimal p.height) (codes "\n\nrows\n")
+    (clue_lines 44 p.rows) (codes "\ncolumns\n") (clue_lines 44 p.columns) (goal_lines p.goal))
 
 -- ---- no line is cut or trimmed
 
@@ -128,21 +150,29 @@ negated false h = refl
 
 no_feeds : (text : List ℕ) → list_all (λ byte. not (eqb byte 10)) text ≡ true → AllByRecursion (λ byte. eqb byte 10 ≡ false) text
 no_feeds [] h = tt
-no_feeds (byte ∷ bytes) h = let parts = and_parts (not (eqb byte 10)) (list_all (λ byte. not (eqb byte 10)) bytes) h in (negated (eqb byte 10) parts.0, no_feeds bytes parts.1)
+no_feeds (byte ∷ bytes) h =
+    let parts = and_parts (not (eqb byte 10)) (list_all (λ byte. not (eqb byte 10)) bytes) h in
+    (negated (eqb byte 10) parts.0, no_feeds bytes parts.1)
 
-kept_field : (word text : List ℕ) → list_all (λ byte. not (eqb byte 10)) word ≡ true → list_all (λ byte. not (eqb byte 10)) text ≡ true → 33 ≤ get_or (field_line word text) 0 0 → IsKept (field_line word text)
+kept_field : (word text : List ℕ) → list_all (λ byte. not (eqb byte 10)) word ≡ true → list_all (λ byte. not (eqb byte 10)) text ≡ true
+    → 33 ≤ get_or (field_line word text) 0 0 → IsKept (field_line word text)
 kept_field word text name clean first =
     let front = word ++ 32 ∷ 34 ∷ text in
     let whole : field_line word text ≡ front ++ 34 ∷ [] = sym (append_assoc word (32 ∷ 34 ∷ text) (34 ∷ [])) in
     let place : length front ≡ length (field_line word text) - 1 = omega (arith, ap length whole, length-append front (34 ∷ [])) in
-    let last : get_or (field_line word text) (length (field_line word text) - 1) 0 ≡ 34 = ap (λ (x : List ℕ). get_or x (length (field_line word text) - 1) 0) whole ∙ get_or_at front 34 [] 0 (length (field_line word text) - 1) place in
+    let last : get_or (field_line word text) (length (field_line word text) - 1) 0 ≡ 34 =
+    ap (λ (x : List ℕ). get_or x (length (field_line word text) - 1) 0) whole
+    ∙ get_or_at front 34 [] 0 (length (field_line word text) - 1) place in
     kept_edged (field_line word text)
-    (all-append (λ byte. eqb byte 10 ≡ false) word (32 ∷ 34 ∷ (text ++ 34 ∷ [])) (no_feeds word name) (refl, (refl, all-append (λ byte. eqb byte 10 ≡ false) text (34 ∷ []) (no_feeds text clean) (refl, tt))))
+    (all-append (λ byte. eqb byte 10 ≡ false) word (32 ∷ 34 ∷ (text ++ 34 ∷ [])) (no_feeds word name)
+    (refl, (refl, all-append (λ byte. eqb byte 10 ≡ false) text (34 ∷ []) (no_feeds text clean) (refl, tt))))
     first (omega (arith, last))
 
-kept_one : (word : List ℕ) (o : Option (List ℕ)) → list_all (λ byte. not (eqb byte 10)) word ≡ true → is_field o ≡ true → ((text : List ℕ) → 33 ≤ get_or (field_line word text) 0 0) → AllByRecursion IsKept (one word o)
+kept_one : (word : List ℕ) (o : Option (List ℕ)) → list_all (λ byte. not (eqb byte 10)) word ≡ true → is_field o ≡ true
+    → ((text : List ℕ) → 33 ≤ get_or (field_line word text) 0 0) → AllByRecursion IsKept (one word o)
 kept_one word None name lawful first = tt
-kept_one word (Some text) name lawful first = (kept_field word text name (and_parts (leb (length text) 65536) (list_all (λ byte. not (eqb byte 10)) text) lawful).1 (first text), tt)
+kept_one word (Some text) name lawful first =
+    (kept_field word text name (and_parts (leb (length text) 65536) (list_all (λ byte. not (eqb byte 10)) text) lawful).1 (first text), tt)
 
 kept_texts : (texts : List (List ℕ)) → AllByRecursion IsTidy texts → AllByRecursion IsKept texts
 kept_texts [] h = tt
@@ -197,29 +227,55 @@ short_word License = omega arith
 
 kept_fields : (ts : Description) → IsDescription ts → (fs : List Field) → AllByRecursion IsKept (flat_map (part ts) fs)
 kept_fields ts lawful [] = tt
-kept_fields ts lawful (f ∷ fs) = join (part ts f) (flat_map (part ts) fs) (kept_one (field_word f) (text_of ts f) (clean_word f) (lawful_field ts lawful f) (inked_word f)) (kept_fields ts lawful fs)
+kept_fields ts lawful (f ∷ fs) =
+    join (part ts f) (flat_map (part ts) fs)
+    (kept_one (field_word f) (text_of ts f) (clean_word f) (lawful_field ts lawful f) (inked_word f)) (kept_fields ts lawful fs)
 
 tidy_width : IsTidy (codes "width")
-tidy_width = record { inked = (omega arith, (omega arith, (omega arith, (omega arith, (omega arith, tt))))); first = omega arith; last = omega arith }
+tidy_width =
+    record {
+      inked = (omega arith, (omega arith, (omega arith, (omega arith, (omega arith, tt)))));
+      first = omega arith;
+      last = omega arith;
+    }
 
 tidy_height : IsTidy (codes "height")
-tidy_height = record { inked = (omega arith, (omega arith, (omega arith, (omega arith, (omega arith, (omega arith, tt)))))); first = omega arith; last = omega arith }
+tidy_height =
+    record {
+      inked = (omega arith, (omega arith, (omega arith, (omega arith, (omega arith, (omega arith, tt))))));
+      first = omega arith;
+      last = omega arith;
+    }
 
 tidy_rows : IsTidy (codes "rows")
 tidy_rows = record { inked = (omega arith, (omega arith, (omega arith, (omega arith, tt)))); first = omega arith; last = omega arith }
 
 tidy_columns : IsTidy (codes "columns")
-tidy_columns = record { inked = (omega arith, (omega arith, (omega arith, (omega arith, (omega arith, (omega arith, (omega arith, tt))))))); first = omega arith; last = omega arith }
+tidy_columns =
+    record {
+      inked = (omega arith, (omega arith, (omega arith, (omega arith, (omega arith, (omega arith, (omega arith, tt)))))));
+      first = omega arith;
+      last = omega arith;
+    }
 
 kept_non : (limit : ℕ) (p : Nonogram) → limit < 2 ^ 64 → IsNonogramWithin limit p → AllByRecursion IsKept (texts_non p)
 kept_non limit p wide lawful =
-    let width = kept_tidy (size_text (codes "width") p.width) (tidy-join 32 (codes "width") (decimal p.width) space tidy_width (tidy_decimal p.width (omega (arith, lawful.size.width_to)))) in
-    let height = kept_tidy (size_text (codes "height") p.height) (tidy-join 32 (codes "height") (decimal p.height) space tidy_height (tidy_decimal p.height (omega (arith, lawful.size.height_to)))) in
+    let width =
+    kept_tidy (size_text (codes "width") p.width)
+    (tidy-join 32 (codes "width") (decimal p.width) space tidy_width (tidy_decimal p.width (omega (arith, lawful.size.width_to)))) in
+    let height =
+    kept_tidy (size_text (codes "height") p.height)
+    (tidy-join 32 (codes "height") (decimal p.height) space tidy_height (tidy_decimal p.height (omega (arith, lawful.size.height_to)))) in
     let rows = kept_texts (map (clue_text 44) p.rows) (tidy_clues 44 limit p.rows comma wide lawful.rows) in
     let columns = kept_texts (map (clue_text 44) p.columns) (tidy_clues 44 limit p.columns comma wide lawful.columns) in
-    let after = join (column_part p) (goal_part p) (join (map (clue_text 44) p.columns) (goal_gap p.goal) columns (kept_gap p.goal)) (kept_goal p.goal) in
-    let behind = join (row_part p) (after_rows p) (join (map (clue_text 44) p.rows) ([] ∷ []) rows (kept_blank, tt)) (kept_tidy (codes "columns") tidy_columns, after) in
-    join (fields p.texts) (after_fields p) (kept_fields p.texts lawful.texts all_fields) (width, (height, (kept_blank, (kept_tidy (codes "rows") tidy_rows, behind))))
+    let after =
+    join (column_part p) (goal_part p) (join (map (clue_text 44) p.columns) (goal_gap p.goal) columns (kept_gap p.goal))
+    (kept_goal p.goal) in
+    let behind =
+    join (row_part p) (after_rows p) (join (map (clue_text 44) p.rows) ([] ∷ []) rows (kept_blank, tt))
+    (kept_tidy (codes "columns") tidy_columns, after) in
+    join (fields p.texts) (after_fields p) (kept_fields p.texts lawful.texts all_fields)
+    (width, (height, (kept_blank, (kept_tidy (codes "rows") tidy_rows, behind))))
 
 -- the lines of the text
 pub lines_non : (limit : ℕ) (p : Nonogram) → limit < 2 ^ 64 → IsNonogramWithin limit p → lines (text_non p) ≡ numbered 1 (texts_non p)
@@ -231,13 +287,24 @@ length_field : (word : List ℕ) (o : Option (List ℕ)) → length word ≤ 9 �
 length_field word None short lawful = omega arith
 length_field word (Some text) short lawful =
     let within = leb-true (length text) 65536 (and_parts (leb (length text) 65536) (list_all (λ byte. not (eqb byte 10)) text) lawful).0 in
-    omega (arith, length-append ((word ++ 32 ∷ 34 ∷ []) ++ text) (34 ∷ 10 ∷ []), length-append (word ++ 32 ∷ 34 ∷ []) text, length-append word (32 ∷ 34 ∷ []))
+    omega (
+      arith,
+      length-append ((word ++ 32 ∷ 34 ∷ []) ++ text) (34 ∷ 10 ∷ []),
+      length-append (word ++ 32 ∷ 34 ∷ []) text,
+      length-append word (32 ∷ 34 ∷ []),
+    )
 
-length_fields : (ts : Description) → IsDescription ts → (fs : List Field) → length (flat_map (λ f. quoted_line (field_word f) (text_of ts f)) fs) ≤ 65549 * length fs
+length_fields : (ts : Description) → IsDescription ts → (fs : List Field)
+    → length (flat_map (λ f. quoted_line (field_word f) (text_of ts f)) fs) ≤ 65549 * length fs
 length_fields ts lawful [] = omega arith
 length_fields ts lawful (f ∷ fs) =
     let others = flat_map (λ (g : Field). quoted_line (field_word g) (text_of ts g)) fs in
-    omega (arith, length-append (quoted_line (field_word f) (text_of ts f)) others, length_field (field_word f) (text_of ts f) (short_word f) (lawful_field ts lawful f), length_fields ts lawful fs)
+    omega (
+      arith,
+      length-append (quoted_line (field_word f) (text_of ts f)) others,
+      length_field (field_word f) (text_of ts f) (short_word f) (lawful_field ts lawful f),
+      length_fields ts lawful fs,
+    )
 
 area : (w h : ℕ) → w ≤ 256 → h ≤ 256 → w * h ≤ 65536
 area w h a b = mul-le w h 256 256 a b
@@ -247,7 +314,13 @@ length_goal w h None wide high lawful = omega arith
 length_goal w h (Some cells) wide high lawful =
     let count = eqb-true (length cells) (w * h) lawful in
     let text = map goal_byte cells in
-    omega (arith, area w h wide high, length-map cells goal_byte, length-append ((codes "goal" ++ 32 ∷ 34 ∷ []) ++ text) (34 ∷ 10 ∷ []), length-append (codes "goal" ++ 32 ∷ 34 ∷ []) text)
+    omega (
+      arith,
+      area w h wide high,
+      length-map cells goal_byte,
+      length-append ((codes "goal" ++ 32 ∷ 34 ∷ []) ++ text) (34 ∷ 10 ∷ []),
+      length-append (codes "goal" ++ 32 ∷ 34 ∷ []) text,
+    )
 
 pub length_non : (limit : ℕ) (p : Nonogram) → limit ≤ 256 → IsNonogramWithin limit p → length (text_non p) ≤ 1048576
 length_non limit p wide lawful =

@@ -22,52 +22,67 @@ use Rattle.puzzle_text.specs.Numbers.{is_separator, number_within, pieces}
 use Rattle.puzzle_text.proofs.LinesLemmas.{not_chosen}
 
 -- one more element that passes
-pub all_more : {X : Type 0} (p : X → Bool) (xs : List X) (i : ℕ) (d : X) → i < length xs → list_all p (take i xs) ≡ true → p (get_or xs i d) ≡ true → list_all p (take (i + 1) xs) ≡ true
-all_more p xs i d h before here = rw (take_more xs i d h, and_push (list_all p) p refl (λ _ _. refl) (take i xs) (get_or xs i d), before, here) refl
+pub all_more : {X : Type 0} (p : X → Bool) (xs : List X) (i : ℕ) (d : X) → i < length xs → list_all p (take i xs) ≡ true
+    → p (get_or xs i d) ≡ true → list_all p (take (i + 1) xs) ≡ true
+all_more p xs i d h before here =
+    rw (take_more xs i d h, and_push (list_all p) p refl (λ _ _. refl) (take i xs) (get_or xs i d), before, here) refl
 
 digit_value_is : (c : ℕ) → 48 ≤ c → c ≤ 57 → digit_value c ≡ c - 48
 digit_value_is c low high = grind (arith, nat_tests)
 
 -- one more digit
-pub value_more : (bytes : List ℕ) (i : ℕ) → i < length bytes → 48 ≤ get_or bytes i 0 → get_or bytes i 0 ≤ 57 → digits_value 10 (take (i + 1) bytes) ≡ digits_value 10 (take i bytes) * 10 + (get_or bytes i 0 - 48)
-value_more bytes i h low high = digits_value_more 10 bytes i h ∙ ap (λ (d : ℕ). digits_value 10 (take i bytes) * 10 + d) (digit_value_is _ low high)
+pub value_more : (bytes : List ℕ) (i : ℕ) → i < length bytes → 48 ≤ get_or bytes i 0 → get_or bytes i 0 ≤ 57
+    → digits_value 10 (take (i + 1) bytes) ≡ digits_value 10 (take i bytes) * 10 + (get_or bytes i 0 - 48)
+value_more bytes i h low high =
+    digits_value_more 10 bytes i h ∙ ap (λ (d : ℕ). digits_value 10 (take i bytes) * 10 + d) (digit_value_is _ low high)
 
 -- a front that is past the limit already
 pub past_limit : (limit : ℕ) (piece : List ℕ) (i : ℕ) → limit < digits_value 10 (take i piece) → number_within limit piece ≡ None
 past_limit limit piece i h =
     let big : leb (digits_value 10 piece) limit ≡ false = lt-leb _ _ (omega (arith, digits_value-take-le 10 piece i (lit≤ tt))) in
-    elim (cases_Bool (not (is_empty piece) && list_all is_ascii_digit piece)) [ inl digits ↦ rw (digits, big) refl | inr other ↦ rw other refl ]
+    elim (cases_Bool (not (is_empty piece) && list_all is_ascii_digit piece)) [
+      | inl digits ↦ rw (digits, big) refl
+      | inr other ↦ rw other refl
+    ]
 
 -- ---- the first piece
 
 split_here : (text : List ℕ) (i : ℕ) → i < length text → text ≡ take i text ++ get_or text i 0 ∷ drop (i + 1) text
 split_here text i h = sym (ap (λ (rest : List ℕ). take i text ++ rest) (sym (drop_more text i 0 h)) ∙ take-append-drop i text)
 
-none_before : (text : List ℕ) (i : ℕ) → i < length text → ((k : ℕ) → k < i → is_separator (get_or text k 0) ≡ false) → All (λ byte. is_separator byte ≡ false) (take i text)
+none_before : (text : List ℕ) (i : ℕ) → i < length text → ((k : ℕ) → k < i → is_separator (get_or text k 0) ≡ false)
+    → All (λ byte. is_separator byte ≡ false) (take i text)
 none_before text i h before k d lt =
     let low : k < i = omega (arith, length-take-le i text) in
     ap is_separator (get_or_default (take i text) k d 0 lt ∙ get_or-take i text k 0 low) ∙ before k low
 
-keeps_piece : (piece : List ℕ) (parts : List (List ℕ)) → 0 < length piece → filter (λ part. not (is_empty part)) (piece ∷ parts) ≡ piece ∷ filter (λ part. not (is_empty part)) parts
+keeps_piece : (piece : List ℕ) (parts : List (List ℕ)) → 0 < length piece
+    → filter (λ part. not (is_empty part)) (piece ∷ parts) ≡ piece ∷ filter (λ part. not (is_empty part)) parts
 keeps_piece piece parts h =
     let others = filter (λ part. not (is_empty part)) parts in
     cond-true (not (is_empty piece)) (piece ∷ others) others (ap not (ne_eqb (length piece) 0 (λ e. omega arith)))
 
 -- the bytes up to the first separator are the first piece, if there are any
-pub first_piece : (text : List ℕ) (end : ℕ) → position is_separator text ≡ Some end → is_separator (get_or text 0 0) ≡ false → pieces text ≡ take end text ∷ pieces (drop (end + 1) text)
-first_piece text zero found first = absurd (let at : is_separator (get_or text 0 0) ≡ true = (position-Some is_separator text 0 0 found).1 in cc)
+pub first_piece : (text : List ℕ) (end : ℕ) → position is_separator text ≡ Some end → is_separator (get_or text 0 0) ≡ false
+    → pieces text ≡ take end text ∷ pieces (drop (end + 1) text)
+first_piece text zero found first =
+    absurd (let at : is_separator (get_or text 0 0) ≡ true = (position-Some is_separator text 0 0 found).1 in cc)
 first_piece text (suc k) found first =
     let end = suc k in
     let at = position-Some is_separator text end 0 found in
     let cut : slice_split is_separator text ≡ take end text ∷ slice_split is_separator (drop (end + 1) text) =
-    ap (slice_split is_separator) (split_here text end at.0) ∙ slice_split_at is_separator (take end text) (get_or text end 0) (drop (end + 1) text) (none_before text end at.0 at.2) at.1 in
-    ap (filter (λ part. not (is_empty part))) cut ∙ keeps_piece (take end text) (slice_split is_separator (drop (end + 1) text)) (omega (arith, length-take-le end text, at.0))
+    ap (slice_split is_separator) (split_here text end at.0)
+    ∙ slice_split_at is_separator (take end text) (get_or text end 0) (drop (end + 1) text) (none_before text end at.0 at.2) at.1 in
+    ap (filter (λ part. not (is_empty part))) cut
+    ∙ keeps_piece (take end text) (slice_split is_separator (drop (end + 1) text)) (omega (arith, length-take-le end text, at.0))
 
 -- without a separator it is the whole
 pub only_piece : (text : List ℕ) → 0 < length text → position is_separator text ≡ None → pieces text ≡ text ∷ []
 only_piece text h none =
-    let past = ltb-false _ _ (not_chosen (ltb (position_or_len is_separator text) (length text)) (position_or_len is_separator text) none) in
-    let clear : All (λ byte. is_separator byte ≡ false) text = λ k d lt. ap is_separator (get_or_default text k d 0 lt) ∙ fails_before_first is_separator text k 0 (omega (arith, past)) in
+    let past =
+    ltb-false _ _ (not_chosen (ltb (position_or_len is_separator text) (length text)) (position_or_len is_separator text) none) in
+    let clear : All (λ byte. is_separator byte ≡ false) text =
+    λ k d lt. ap is_separator (get_or_default text k d 0 lt) ∙ fails_before_first is_separator text k 0 (omega (arith, past)) in
     ap (filter (λ part. not (is_empty part))) (slice_split_none is_separator text clear) ∙ keeps_piece text [] h
 
 -- ---- the number of the first piece
@@ -76,7 +91,8 @@ only_piece text h none =
 abbrev end_of : List ℕ → ℕ
 end_of text = position_or_len is_separator text
 
-cut : (text : List ℕ) → 0 < length text → is_separator (get_or text 0 0) ≡ false → pieces text ≡ take (end_of text) text ∷ pieces (drop (end_of text + 1) text)
+cut : (text : List ℕ) → 0 < length text → is_separator (get_or text 0 0) ≡ false
+    → pieces text ≡ take (end_of text) text ∷ pieces (drop (end_of text + 1) text)
 cut text some first = elim (cases_Bool (ltb (end_of text) (length text))) [
   | inl inside ↦ first_piece text (end_of text) (rw inside refl) first
   | inr past ↦
@@ -106,9 +122,11 @@ digit_clear byte digit = grind (arith, nat_tests)
 digits_clear : (text : List ℕ) (i : ℕ) → i ≤ length text → list_all is_ascii_digit (take i text) ≡ true → Clear text i
 digits_clear text i within digits k low =
     let at : k < length (take i text) = omega (arith, length-take-le i text within) in
-    digit_clear (get_or text k 0) (ap is_ascii_digit (sym (get_or-take i text k 0 low)) ∙ AllPass-from_list_all is_ascii_digit (take i text) digits k 0 at)
+    digit_clear (get_or text k 0)
+    (ap is_ascii_digit (sym (get_or-take i text k 0 low)) ∙ AllPass-from_list_all is_ascii_digit (take i text) digits k 0 at)
 
-number_is : (limit : ℕ) (piece : List ℕ) → 0 < length piece → list_all is_ascii_digit piece ≡ true → digits_value 10 piece ≤ limit → number_within limit piece ≡ Some (digits_value 10 piece)
+number_is : (limit : ℕ) (piece : List ℕ) → 0 < length piece → list_all is_ascii_digit piece ≡ true → digits_value 10 piece ≤ limit
+    → number_within limit piece ≡ Some (digits_value 10 piece)
 number_is limit piece some digits low =
     let full : is_empty piece ≡ false = ne_eqb (length piece) 0 (λ e. omega arith) in
     rw (full, digits, le-leb (digits_value 10 piece) limit low) refl
@@ -117,42 +135,53 @@ none_of : (b : Bool) (n : ℕ) → cond (b && false) (Some n) None ≡ None
 none_of true n = refl
 none_of false n = refl
 
-no_number : (limit : ℕ) (piece : List ℕ) (i : ℕ) → i < length piece → is_ascii_digit (get_or piece i 0) ≡ false → number_within limit piece ≡ None
+no_number : (limit : ℕ) (piece : List ℕ) (i : ℕ) → i < length piece → is_ascii_digit (get_or piece i 0) ≡ false
+    → number_within limit piece ≡ None
 no_number limit piece i h other =
     let within = λ (n : ℕ). cond (leb n limit) (Some n) None in
-    ap (λ (b : Bool). option_and_then within (cond (not (is_empty piece) && b) (Some (digits_value 10 piece)) None)) (list_all_at is_ascii_digit piece i 0 h other)
+    ap (λ (b : Bool). option_and_then within (cond (not (is_empty piece) && b) (Some (digits_value 10 piece)) None))
+    (list_all_at is_ascii_digit piece i 0 h other)
     ∙ ap (option_and_then within) (none_of (not (is_empty piece)) (digits_value 10 piece))
 
 module _ (limit : ℕ) (text : List ℕ) (some : 0 < length text) (first : is_separator (get_or text 0 0) ≡ false) where
   -- the numbers of all pieces, by that of the first
   by_first : (number : Option ℕ) → number_within limit (take (end_of text) text) ≡ number
-      → numbers_within limit (pieces text) ≡ option_and_then (λ n. option_map (λ others. n ∷ others) (numbers_within limit (pieces (drop (end_of text + 1) text)))) number
+      → numbers_within limit (pieces text)
+      ≡ option_and_then (λ n. option_map (λ others. n ∷ others) (numbers_within limit (pieces (drop (end_of text + 1) text)))) number
   by_first number e =
       ap (numbers_within limit) (cut text some first)
       ∙ ap (option_and_then (λ (n : ℕ). option_map (λ others. n ∷ others) (numbers_within limit (pieces (drop (end_of text + 1) text))))) e
 
   -- a piece of digits ends at a separator or with the line
-  pub number_ends : (i : ℕ) → i ≤ length text → list_all is_ascii_digit (take i text) ≡ true → digits_value 10 (take i text) ≤ limit → (i < length text → is_separator (get_or text i 0) ≡ true)
-      → numbers_within limit (pieces text) ≡ option_map (λ others. digits_value 10 (take i text) ∷ others) (numbers_within limit (pieces (drop (i + 1) text)))
+  pub number_ends : (i : ℕ) → i ≤ length text → list_all is_ascii_digit (take i text) ≡ true → digits_value 10 (take i text) ≤ limit
+      → (i < length text → is_separator (get_or text i 0) ≡ true)
+      → numbers_within limit (pieces text)
+      ≡ option_map (λ others. digits_value 10 (take i text) ∷ others) (numbers_within limit (pieces (drop (i + 1) text)))
   number_ends zero within digits low stop = absurd (let at = stop some in cc)
   number_ends (suc k) within digits low stop =
       let i = suc k in
       let end : end_of text ≡ i = position_or_len_is is_separator text i 0 within (digits_clear text i within digits) stop in
       let number : number_within limit (take (end_of text) text) ≡ Some (digits_value 10 (take i text)) =
-      ap (λ (j : ℕ). number_within limit (take j text)) end ∙ number_is limit (take i text) (omega (arith, length-take-le i text within)) digits low in
+      ap (λ (j : ℕ). number_within limit (take j text)) end
+      ∙ number_is limit (take i text) (omega (arith, length-take-le i text within)) digits low in
       by_first (Some (digits_value 10 (take i text))) number
-      ∙ ap (λ (j : ℕ). option_map (λ others. digits_value 10 (take i text) ∷ others) (numbers_within limit (pieces (drop (j + 1) text)))) end
+      ∙ ap (λ (j : ℕ). option_map (λ others. digits_value 10 (take i text) ∷ others) (numbers_within limit (pieces (drop (j + 1) text))))
+      end
 
   -- a byte that is neither a digit nor a separator
-  pub number_refused : (i : ℕ) → i < length text → list_all is_ascii_digit (take i text) ≡ true → is_separator (get_or text i 0) ≡ false → is_ascii_digit (get_or text i 0) ≡ false → numbers_within limit (pieces text) ≡ None
+  pub number_refused : (i : ℕ) → i < length text → list_all is_ascii_digit (take i text) ≡ true → is_separator (get_or text i 0) ≡ false
+      → is_ascii_digit (get_or text i 0) ≡ false → numbers_within limit (pieces text) ≡ None
   number_refused i h digits inside other =
-      let clear : Clear text (i + 1) = below_more (λ k. is_separator (get_or text k 0) ≡ false) i (digits_clear text i (omega arith) digits) inside in
+      let clear : Clear text (i + 1) =
+      below_more (λ k. is_separator (get_or text k 0) ≡ false) i (digits_clear text i (omega arith) digits) inside in
       let within = clear_within text (i + 1) (omega arith) clear in
       let at : i < length (take (end_of text) text) = omega (arith, length-take-le (end_of text) text (end_within text)) in
-      by_first None (no_number limit (take (end_of text) text) i at (ap is_ascii_digit (get_or-take (end_of text) text i 0 (omega arith)) ∙ other))
+      by_first None
+      (no_number limit (take (end_of text) text) i at (ap is_ascii_digit (get_or-take (end_of text) text i 0 (omega arith)) ∙ other))
 
   -- digits that are past the limit already
-  pub number_past : (i : ℕ) → i ≤ length text → list_all is_ascii_digit (take i text) ≡ true → limit < digits_value 10 (take i text) → numbers_within limit (pieces text) ≡ None
+  pub number_past : (i : ℕ) → i ≤ length text → list_all is_ascii_digit (take i text) ≡ true → limit < digits_value 10 (take i text)
+      → numbers_within limit (pieces text) ≡ None
   number_past i h digits past =
       let within = clear_within text i h (digits_clear text i h digits) in
       by_first None (past_limit limit (take (end_of text) text) i (rw (take-take i (end_of text) text within) past))

@@ -28,34 +28,43 @@ last_of_more start [] x = refl
 last_of_more start (y ∷ xs) x = last_of_more (Some y) xs x
 
 -- the last keyword after one more line
-word_of_last : (empty : Bool) (line : Line) (kept : List Line) → unwrap_or (option_map keyword (last_or None (kept ++ cond (not empty) (line ∷ []) []))) [] ≡ cond empty (unwrap_or (option_map keyword (last_or None kept)) []) (keyword line)
+word_of_last : (empty : Bool) (line : Line) (kept : List Line)
+    → unwrap_or (option_map keyword (last_or None (kept ++ cond (not empty) (line ∷ []) []))) []
+    ≡ cond empty (unwrap_or (option_map keyword (last_or None kept)) []) (keyword line)
 word_of_last true line kept = ap (λ (lines : List Line). unwrap_or (option_map keyword (last_or None lines)) []) (append-nil kept)
 word_of_last false line kept = ap (λ (found : Option Line). unwrap_or (option_map keyword found) []) (last_of_more None kept line)
 
-last_keyword-more : (front : List Line) (line : Line) → last_keyword (front ++ line ∷ []) ≡ cond (is_empty (keyword line)) (last_keyword front) (keyword line)
+last_keyword-more : (front : List Line) (line : Line)
+    → last_keyword (front ++ line ∷ []) ≡ cond (is_empty (keyword line)) (last_keyword front) (keyword line)
 last_keyword-more front line =
     ap (λ (lines : List Line). unwrap_or (option_map keyword (last_or None lines)) []) (filter-append is_keyword_line front (line ∷ []))
     ∙ word_of_last (is_empty (keyword line)) line (filter is_keyword_line front)
 
-one_more : (content : Bool) (named : ℕ → List ℕ) (place : ℕ) (line : Line) (under : List ℕ) (numbered : List (ℕ × Line)) (others : List (List ℕ × Line))
+one_more : (content : Bool) (named : ℕ → List ℕ) (place : ℕ) (line : Line) (under : List ℕ) (numbered : List (ℕ × Line))
+    (others : List (List ℕ × Line))
     → named place ≡ under → others ≡ placed_by named numbered
-    → cond content ((under, line) ∷ others) others ≡ map (λ one. (named one.0, one.1)) (cond content ((place, line) ∷ filter (λ one. is_content one.1) numbered) (filter (λ one. is_content one.1) numbered))
+    → cond content ((under, line) ∷ others) others
+    ≡ map (λ one. (named one.0, one.1))
+    (cond content ((place, line) ∷ filter (λ one. is_content one.1) numbered) (filter (λ one. is_content one.1) numbered))
 one_more true named place line under numbered others above later =
     ap (λ (word : List ℕ). (word, line) ∷ others) (sym above) ∙ ap (λ (all : List (List ℕ × Line)). (named place, line) ∷ all) later
 one_more false named place line under numbered others above later = later
 
 -- the walk below some lines, from their last keyword on
-walk_below : (front lines : List Line) → walked (last_keyword front) lines ≡ placed_by (keyword_above (front ++ lines)) (enumerate_from (length front) lines)
+walk_below : (front lines : List Line)
+    → walked (last_keyword front) lines ≡ placed_by (keyword_above (front ++ lines)) (enumerate_from (length front) lines)
 walk_below front [] = refl
 walk_below front (line ∷ lines) =
     let whole = front ++ line ∷ lines in
     let regrouped : (front ++ line ∷ []) ++ lines ≡ whole = append_assoc front (line ∷ []) lines in
-    let next : walked (cond (is_empty (keyword line)) (last_keyword front) (keyword line)) lines ≡ placed_by (keyword_above whole) (enumerate_from (length front + 1) lines) =
+    let next : walked (cond (is_empty (keyword line)) (last_keyword front) (keyword line)) lines
+    ≡ placed_by (keyword_above whole) (enumerate_from (length front + 1) lines) =
     ap (λ (under : List ℕ). walked under lines) (sym (last_keyword-more front line))
     ∙ walk_below (front ++ line ∷ []) lines
     ∙ ap (λ (all : List Line). placed_by (keyword_above all) (enumerate_from (length (front ++ line ∷ [])) lines)) regrouped
     ∙ ap (λ (place : ℕ). placed_by (keyword_above whole) (enumerate_from place lines)) (length-append front (line ∷ [])) in
-    one_more (is_content line) (keyword_above whole) (length front) line (last_keyword front) (enumerate_from (length front + 1) lines) _ (ap last_keyword (take-append_seam front (line ∷ lines))) next
+    one_more (is_content line) (keyword_above whole) (length front) line (last_keyword front) (enumerate_from (length front + 1) lines) _
+    (ap last_keyword (take-append_seam front (line ∷ lines))) next
 
 -- the walk from the top finds the last keyword line above each line
 pub walked-placed : (lines : List Line) → walked [] lines ≡ placed lines

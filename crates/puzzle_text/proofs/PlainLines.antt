@@ -20,7 +20,8 @@ is_other true h = absurd (h refl)
 is_other false h = refl
 
 -- a place with no @ before it
-pub no_at_before : (bytes : List ℕ) (i : ℕ) → i ≤ length bytes → ((k : ℕ) → 0 ≤ k → k < i → eqb (get_or bytes k 0) 64 ≡ true → ⊥) → HasNoAt (take i bytes)
+pub no_at_before : (bytes : List ℕ) (i : ℕ) → i ≤ length bytes → ((k : ℕ) → 0 ≤ k → k < i → eqb (get_or bytes k 0) 64 ≡ true → ⊥)
+    → HasNoAt (take i bytes)
 no_at_before bytes i within none = list_all-from_AllPass _ (take i bytes) (λ k d lt.
     let low : k < i = omega (arith, length-take-le i bytes) in
     ap (λ (byte : ℕ). not (eqb byte 64)) (get_or_default (take i bytes) k d 0 lt ∙ get_or-take i bytes k 0 low)
@@ -33,7 +34,8 @@ take_first zero bytes other = refl
 take_first (suc k) [] other = refl
 take_first (suc k) (byte ∷ bytes) other = other
 
-strip_first : (b : Bool) (k : ℕ) (bytes : List ℕ) → eqb (get_or bytes 0 0) 64 ≡ false → eqb (get_or (cond b (take k bytes) bytes) 0 0) 64 ≡ false
+strip_first : (b : Bool) (k : ℕ) (bytes : List ℕ) → eqb (get_or bytes 0 0) 64 ≡ false
+    → eqb (get_or (cond b (take k bytes) bytes) 0 0) 64 ≡ false
 strip_first true k bytes other = take_first k bytes other
 strip_first false k bytes other = other
 
@@ -70,7 +72,8 @@ plain raw raws other = (
   cond-false (is_marker raw) (record { name = name_of raw; body = body_of raws } ∷ entries_of raws) (entries_of raws) (no_marker raw other),
 )
 
-plain_line : (feed : Bool) (byte : ℕ) (raws : List (List ℕ)) → eqb byte 64 ≡ false → IsPlain (cond feed ((byte ∷ []) ∷ raws) (onto_first byte raws))
+plain_line : (feed : Bool) (byte : ℕ) (raws : List (List ℕ)) → eqb byte 64 ≡ false
+    → IsPlain (cond feed ((byte ∷ []) ∷ raws) (onto_first byte raws))
 plain_line true byte raws other = plain (byte ∷ []) raws other
 plain_line false byte [] other = plain (byte ∷ []) [] other
 plain_line false byte (raw ∷ raws) other = plain (byte ∷ raw) raws other
@@ -85,21 +88,25 @@ abbrev entries_in : Bool → List (List ℕ) → List Entry
 entries_in true raws = entries_of raws
 entries_in false raws = entries_of (below_first raws)
 
-amid_body : (feed : Bool) (byte : ℕ) (raws : List (List ℕ)) → with_first (cond feed ((byte ∷ []) ∷ raws) (onto_first byte raws)) ≡ byte ∷ body_in feed raws
+amid_body : (feed : Bool) (byte : ℕ) (raws : List (List ℕ))
+    → with_first (cond feed ((byte ∷ []) ∷ raws) (onto_first byte raws)) ≡ byte ∷ body_in feed raws
 amid_body true byte raws = refl
 amid_body false byte [] = refl
 amid_body false byte (raw ∷ raws) = refl
 
-amid_entries : (feed : Bool) (byte : ℕ) (raws : List (List ℕ)) → entries_of (below_first (cond feed ((byte ∷ []) ∷ raws) (onto_first byte raws))) ≡ entries_in feed raws
+amid_entries : (feed : Bool) (byte : ℕ) (raws : List (List ℕ))
+    → entries_of (below_first (cond feed ((byte ∷ []) ∷ raws) (onto_first byte raws))) ≡ entries_in feed raws
 amid_entries true byte raws = refl
 amid_entries false byte [] = refl
 amid_entries false byte (raw ∷ raws) = refl
 
 -- after a front without @, from where some lines are read
 abbrev GoesOn : Bool → Bool → List ℕ → List (List ℕ) → List (List ℕ) → Type 0
-GoesOn start later front raws others = (body_in start raws ≡ front ++ body_in later others) × (entries_in start raws ≡ entries_in later others)
+GoesOn start later front raws others =
+    (body_in start raws ≡ front ++ body_in later others) × (entries_in start raws ≡ entries_in later others)
 
-one_byte : (start : Bool) (byte : ℕ) (bytes : List ℕ) → eqb byte 64 ≡ false → GoesOn start (eqb byte 10) (byte ∷ []) (raw_lines (byte ∷ bytes)) (raw_lines bytes)
+one_byte : (start : Bool) (byte : ℕ) (bytes : List ℕ) → eqb byte 64 ≡ false
+    → GoesOn start (eqb byte 10) (byte ∷ []) (raw_lines (byte ∷ bytes)) (raw_lines bytes)
 one_byte false byte bytes other = (amid_body (eqb byte 10) byte (raw_lines bytes), amid_entries (eqb byte 10) byte (raw_lines bytes))
 one_byte true byte bytes other =
     let first = plain_line (eqb byte 10) byte (raw_lines bytes) other in
@@ -110,7 +117,8 @@ abbrev starts_after : Bool → List ℕ → Bool
 starts_after start [] = start
 starts_after start (byte ∷ bytes) = starts_after (eqb byte 10) bytes
 
-over_front : (start : Bool) (front tail : List ℕ) → HasNoAt front → GoesOn start (starts_after start front) front (raw_lines (front ++ tail)) (raw_lines tail)
+over_front : (start : Bool) (front tail : List ℕ) → HasNoAt front
+    → GoesOn start (starts_after start front) front (raw_lines (front ++ tail)) (raw_lines tail)
 over_front start [] tail h = (refl, refl)
 over_front start (byte ∷ front) tail h =
     let parts = and_parts (not (eqb byte 64)) (list_all (λ b. not (eqb b 64)) front) h in
@@ -145,20 +153,27 @@ follows_none bytes front (byte ∷ tail) whole h none = absurd (omega arith)
 follows_none bytes front [] whole h none =
     let over = over_front true front [] h in
     let start = starts_after true front in
-    let body : body_of (raw_lines (front ++ [])) ≡ front ++ [] = over.0 ∙ ap (λ (more : List ℕ). front ++ more) (body_none start) in
-    (front, whole, sym (ap (λ all. body_of (raw_lines all)) whole ∙ body), sym (ap (λ all. entries_of (raw_lines all)) whole ∙ over.1 ∙ entries_none start))
+    let body : body_of (raw_lines (front ++ [])) ≡ front ++ [] = over.0 ∙ ap (λ (more : List ℕ). front ++ more) (body_none start) in (
+      front,
+      whole,
+      sym (ap (λ all. body_of (raw_lines all)) whole ∙ body),
+      sym (ap (λ all. entries_of (raw_lines all)) whole ∙ over.1 ∙ entries_none start),
+    )
 
 -- a line follows
 pub follows_line : (bytes front tail : List ℕ) → bytes ≡ front ++ tail → HasNoAt front → ends_line front ≡ true → FollowsPlain bytes tail
 follows_line bytes front tail whole h ends =
     let over = over_front true front tail h in
     let start : starts_after true front ≡ true = starts_where front ∙ ends in
-    let body : body_of (raw_lines (front ++ tail)) ≡ front ++ body_of (raw_lines tail) = over.0 ∙ ap (λ b. front ++ body_in b (raw_lines tail)) start in
-    let entries : entries_of (raw_lines (front ++ tail)) ≡ entries_of (raw_lines tail) = over.1 ∙ ap (λ b. entries_in b (raw_lines tail)) start in
+    let body : body_of (raw_lines (front ++ tail)) ≡ front ++ body_of (raw_lines tail) =
+    over.0 ∙ ap (λ b. front ++ body_in b (raw_lines tail)) start in
+    let entries : entries_of (raw_lines (front ++ tail)) ≡ entries_of (raw_lines tail) =
+    over.1 ∙ ap (λ b. entries_in b (raw_lines tail)) start in
     (front, whole, sym (ap (λ all. body_of (raw_lines all)) whole ∙ body), sym (ap (λ all. entries_of (raw_lines all)) whole ∙ entries))
 
 -- the end of a line follows, and then others
-pub follows_amid : (bytes front tail raw after : List ℕ) → bytes ≡ front ++ tail → HasNoAt front → ends_line front ≡ false → tail ≡ raw ++ after → raw_lines tail ≡ raw ∷ raw_lines after → FollowsPlain bytes after
+pub follows_amid : (bytes front tail raw after : List ℕ) → bytes ≡ front ++ tail → HasNoAt front → ends_line front ≡ false
+    → tail ≡ raw ++ after → raw_lines tail ≡ raw ∷ raw_lines after → FollowsPlain bytes after
 follows_amid bytes front tail raw after whole h ends parts first =
     let over = over_front true front tail h in
     let amid : starts_after true front ≡ false = starts_where front ∙ ends in

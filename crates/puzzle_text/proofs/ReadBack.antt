@@ -20,17 +20,23 @@ pub record IsKept (text : List ℕ) : Type 0 where
   pub no_return : strip_last 13 text ≡ text
   pub trimmed : trim text ≡ text
 
-pub raw_lines-feed : (text rest : List ℕ) → AllByRecursion (λ byte. eqb byte 10 ≡ false) text → raw_lines (text ++ 10 ∷ rest) ≡ with_feed text ∷ raw_lines rest
+pub raw_lines-feed : (text rest : List ℕ) → AllByRecursion (λ byte. eqb byte 10 ≡ false) text
+    → raw_lines (text ++ 10 ∷ rest) ≡ with_feed text ∷ raw_lines rest
 raw_lines-feed [] rest inked = refl
 raw_lines-feed (byte ∷ bytes) rest inked =
     let later = raw_lines (bytes ++ 10 ∷ rest) in
-    let one : raw_lines (byte ∷ (bytes ++ 10 ∷ rest)) ≡ onto_first byte later = cond-false (eqb byte 10) ((byte ∷ []) ∷ later) (onto_first byte later) inked.0 in
+    let one : raw_lines (byte ∷ (bytes ++ 10 ∷ rest)) ≡ onto_first byte later =
+    cond-false (eqb byte 10) ((byte ∷ []) ∷ later) (onto_first byte later) inked.0 in
     one ∙ ap (onto_first byte) (raw_lines-feed bytes rest inked.1)
 
 strip_last_is : (byte : ℕ) (text : List ℕ) → strip_last byte (text ++ byte ∷ []) ≡ text
 strip_last_is byte text =
     let n : length text ≡ length (text ++ byte ∷ []) - 1 = omega (arith, length-append text (byte ∷ [])) in
-    rw (get_or_at text byte [] 0 (length (text ++ byte ∷ []) - 1) n, eq-eqb byte byte refl, take_at text (byte ∷ []) (length (text ++ byte ∷ []) - 1) n) refl
+    rw (
+      get_or_at text byte [] 0 (length (text ++ byte ∷ []) - 1) n,
+      eq-eqb byte byte refl,
+      take_at text (byte ∷ []) (length (text ++ byte ∷ []) - 1) n,
+    ) refl
 
 strip_last_other : (byte : ℕ) (text : List ℕ) → byte < 33 → 33 ≤ get_or text (length text - 1) 0 → strip_last byte text ≡ text
 strip_last_other byte text low last = rw (ne_eqb (get_or text (length text - 1) 0) byte (λ e. omega arith)) refl
@@ -45,7 +51,8 @@ trim_start_is (byte ∷ bytes) h = cond-false (is_blank byte) (trim_start bytes)
 trim_end_is : (text : List ℕ) → 0 < length text → 33 ≤ get_or text (length text - 1) 0 → trim_end text ≡ text
 trim_end_is text some h =
     let same : length text - 1 - 0 ≡ length text - 1 = omega arith in
-    let last : get_or (reverse text) 0 0 ≡ get_or text (length text - 1) 0 = get_or-reverse text 0 0 some ∙ ap (λ (k : ℕ). get_or text k 0) same in
+    let last : get_or (reverse text) 0 0 ≡ get_or text (length text - 1) 0 =
+    get_or-reverse text 0 0 some ∙ ap (λ (k : ℕ). get_or text k 0) same in
     let high : 33 ≤ get_or (reverse text) 0 0 = rw last h in
     ap reverse (trim_start_is (reverse text) high) ∙ reverse-reverse text
 
@@ -53,7 +60,8 @@ some_byte : (text : List ℕ) → 33 ≤ get_or text 0 0 → 0 < length text
 some_byte [] h = absurd (omega arith)
 some_byte (byte ∷ bytes) h = omega arith
 
-pub kept_edged : (text : List ℕ) → AllByRecursion (λ byte. eqb byte 10 ≡ false) text → 33 ≤ get_or text 0 0 → 33 ≤ get_or text (length text - 1) 0 → IsKept text
+pub kept_edged : (text : List ℕ) → AllByRecursion (λ byte. eqb byte 10 ≡ false) text → 33 ≤ get_or text 0 0
+    → 33 ≤ get_or text (length text - 1) 0 → IsKept text
 kept_edged text no_feed first last = record {
   no_feed = no_feed;
   no_return = strip_last_other 13 text (omega arith) last;
@@ -80,14 +88,19 @@ numbered number [] = []
 numbered number (text ∷ texts) = record { number = number; text = text } ∷ numbered (number + 1) texts
 
 -- what is written as lines is those lines
-pub lines_kept : (number : ℕ) (texts : List (List ℕ)) → AllByRecursion IsKept texts → numbered_from number (raw_lines (flat_map with_feed texts)) ≡ numbered number texts
+pub lines_kept : (number : ℕ) (texts : List (List ℕ)) → AllByRecursion IsKept texts
+    → numbered_from number (raw_lines (flat_map with_feed texts)) ≡ numbered number texts
 lines_kept number [] kept = refl
 lines_kept number (text ∷ texts) kept =
     let rest = flat_map with_feed texts in
     let whole : flat_map with_feed (text ∷ texts) ≡ text ++ 10 ∷ rest = append_assoc text (10 ∷ []) rest in
-    let cut : raw_lines (flat_map with_feed (text ∷ texts)) ≡ with_feed text ∷ raw_lines rest = ap raw_lines whole ∙ raw_lines-feed text rest kept.0.no_feed in
+    let cut : raw_lines (flat_map with_feed (text ∷ texts)) ≡ with_feed text ∷ raw_lines rest =
+    ap raw_lines whole ∙ raw_lines-feed text rest kept.0.no_feed in
     let here = line_kept text kept.0 in
-    ap (numbered_from number) cut ∙ ap (λ (t : List ℕ). record { number = number; text = t } ∷ numbered_from (number + 1) (raw_lines rest)) here ∙ ap (λ (ls : List Line). record { number = number; text = text } ∷ ls) (lines_kept (number + 1) texts kept.1)
+    ap (numbered_from number) cut
+    ∙ ap (λ (t : List ℕ). record { number = number; text = t } ∷ numbered_from (number + 1) (raw_lines rest)) here
+    ∙ ap (λ (ls : List Line). record { number = number; text = text } ∷ ls) (lines_kept (number + 1) texts kept.1)
 
-pub lines_are : (number : ℕ) (texts : List (List ℕ)) → AllByRecursion IsTidy texts → numbered_from number (raw_lines (flat_map with_feed texts)) ≡ numbered number texts
+pub lines_are : (number : ℕ) (texts : List (List ℕ)) → AllByRecursion IsTidy texts
+    → numbered_from number (raw_lines (flat_map with_feed texts)) ≡ numbered number texts
 lines_are number texts tidy = lines_kept number texts (kept_all texts tidy)

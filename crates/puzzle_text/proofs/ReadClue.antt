@@ -22,7 +22,9 @@ abbrev pub IsWord : ℕ → Type 0
 IsWord n = n < 2 ^ 64
 
 separator_false : (byte : ℕ) → 48 ≤ byte → is_separator byte ≡ false
-separator_false byte h = or_from (eqb byte 44) _ (ne_eqb _ _ (λ e. omega arith)) (or_from (eqb byte 32) (eqb byte 9) (ne_eqb _ _ (λ e. omega arith)) (ne_eqb _ _ (λ e. omega arith)))
+separator_false byte h =
+    or_from (eqb byte 44) _ (ne_eqb _ _ (λ e. omega arith))
+    (or_from (eqb byte 32) (eqb byte 9) (ne_eqb _ _ (λ e. omega arith)) (ne_eqb _ _ (λ e. omega arith)))
 
 no_separator : (n : ℕ) → IsWord n → All (λ byte. is_separator byte ≡ false) (decimal n)
 no_separator n h k d lt =
@@ -41,9 +43,13 @@ space = record { cuts = refl; high = omega arith }
 pub comma : IsSpacing 44
 comma = record { cuts = refl; high = omega arith }
 
-split_clue : (s n : ℕ) (ns : List ℕ) → IsSpacing s → AllByRecursion IsWord (n ∷ ns) → slice_split is_separator (clue_text s (n ∷ ns)) ≡ map decimal (n ∷ ns)
-split_clue s n [] spacing h = ap (slice_split is_separator) (append-nil (decimal n)) ∙ slice_split_none is_separator (decimal n) (no_separator n h.0)
-split_clue s n (m ∷ ns) spacing h = slice_split_at is_separator (decimal n) s (clue_text s (m ∷ ns)) (no_separator n h.0) spacing.cuts ∙ ap (λ (parts : List (List ℕ)). decimal n ∷ parts) (split_clue s m ns spacing h.1)
+split_clue : (s n : ℕ) (ns : List ℕ) → IsSpacing s → AllByRecursion IsWord (n ∷ ns)
+    → slice_split is_separator (clue_text s (n ∷ ns)) ≡ map decimal (n ∷ ns)
+split_clue s n [] spacing h =
+    ap (slice_split is_separator) (append-nil (decimal n)) ∙ slice_split_none is_separator (decimal n) (no_separator n h.0)
+split_clue s n (m ∷ ns) spacing h =
+    slice_split_at is_separator (decimal n) s (clue_text s (m ∷ ns)) (no_separator n h.0) spacing.cuts
+    ∙ ap (λ (parts : List (List ℕ)). decimal n ∷ parts) (split_clue s m ns spacing h.1)
 
 filled : (n : ℕ) → IsWord n → not (is_empty (decimal n)) ≡ true
 filled n h = ap not (ne_eqb (length (decimal n)) 0 (λ e. omega (arith, decimal_nonempty n h)))
@@ -52,9 +58,11 @@ filter_words : (ns : List ℕ) → AllByRecursion IsWord ns → filter (λ piece
 filter_words [] h = refl
 filter_words (n ∷ ns) h =
     let others = filter (λ piece. not (is_empty piece)) (map decimal ns) in
-    cond-true (not (is_empty (decimal n))) (decimal n ∷ others) others (filled n h.0) ∙ ap (λ (parts : List (List ℕ)). decimal n ∷ parts) (filter_words ns h.1)
+    cond-true (not (is_empty (decimal n))) (decimal n ∷ others) others (filled n h.0)
+    ∙ ap (λ (parts : List (List ℕ)). decimal n ∷ parts) (filter_words ns h.1)
 
-pub pieces_of_clue : (s n : ℕ) (ns : List ℕ) → IsSpacing s → AllByRecursion IsWord (n ∷ ns) → pieces (clue_text s (n ∷ ns)) ≡ map decimal (n ∷ ns)
+pub pieces_of_clue : (s n : ℕ) (ns : List ℕ) → IsSpacing s → AllByRecursion IsWord (n ∷ ns)
+    → pieces (clue_text s (n ∷ ns)) ≡ map decimal (n ∷ ns)
 pieces_of_clue s n ns spacing h = ap (filter (λ piece. not (is_empty piece))) (split_clue s n ns spacing h) ∙ filter_words (n ∷ ns) h
 
 digit_true : (c : ℕ) → 48 ≤ c → c ≤ 57 → is_ascii_digit c ≡ true
@@ -62,27 +70,35 @@ digit_true c low high = grind (arith, nat_tests)
 
 all_digits : (ds : List ℕ) → AllDigits 10 ds → list_all is_ascii_digit ds ≡ true
 all_digits [] h = refl
-all_digits (c ∷ cs) h = let r = digit_from_value c h.0 in and_from (is_ascii_digit c) (list_all is_ascii_digit cs) (digit_true c r.0 r.1) (all_digits cs h.1)
+all_digits (c ∷ cs) h =
+    let r = digit_from_value c h.0 in and_from (is_ascii_digit c) (list_all is_ascii_digit cs) (digit_true c r.0 r.1) (all_digits cs h.1)
 
 pub number_again : (n : ℕ) → IsWord n → number_of (decimal n) ≡ Some n
 number_again n h =
     let numeral = decimal_is_IsNumeral n h in
-    let is : (not (is_empty (decimal n)) && list_all is_ascii_digit (decimal n)) ≡ true = and_from _ _ (filled n h) (all_digits (decimal n) numeral.0.1) in
-    cond-true (not (is_empty (decimal n)) && list_all is_ascii_digit (decimal n)) (Some (digits_value 10 (decimal n))) None is ∙ ap (λ (x : ℕ). Some x) numeral.1
+    let is : (not (is_empty (decimal n)) && list_all is_ascii_digit (decimal n)) ≡ true =
+    and_from _ _ (filled n h) (all_digits (decimal n) numeral.0.1) in
+    cond-true (not (is_empty (decimal n)) && list_all is_ascii_digit (decimal n)) (Some (digits_value 10 (decimal n))) None is
+    ∙ ap (λ (x : ℕ). Some x) numeral.1
 
 pub number_within_again : (limit n : ℕ) → limit < 2 ^ 64 → n ≤ limit → number_within limit (decimal n) ≡ Some n
 number_within_again limit n wide le =
-    ap (option_and_then (λ number. cond (leb number limit) (Some number) None)) (number_again n (omega arith)) ∙ cond-true (leb n limit) (Some n) None (le-leb n limit le)
+    ap (option_and_then (λ number. cond (leb number limit) (Some number) None)) (number_again n (omega arith))
+    ∙ cond-true (leb n limit) (Some n) None (le-leb n limit le)
 
-pub numbers_again : (limit : ℕ) (ns : List ℕ) → limit < 2 ^ 64 → AllByRecursion (λ n. n ≤ limit) ns → numbers_within limit (map decimal ns) ≡ Some ns
+pub numbers_again : (limit : ℕ) (ns : List ℕ) → limit < 2 ^ 64 → AllByRecursion (λ n. n ≤ limit) ns
+    → numbers_within limit (map decimal ns) ≡ Some ns
 numbers_again limit [] wide h = refl
 numbers_again limit (n ∷ ns) wide h =
     let others = numbers_within limit (map decimal ns) in
-    ap (option_and_then (λ y. option_map (λ ys. y ∷ ys) others)) (number_within_again limit n wide h.0) ∙ ap (option_map (λ ys. n ∷ ys)) (numbers_again limit ns wide h.1)
+    ap (option_and_then (λ y. option_map (λ ys. y ∷ ys) others)) (number_within_again limit n wide h.0)
+    ∙ ap (option_map (λ ys. n ∷ ys)) (numbers_again limit ns wide h.1)
 
 pub runs : (limit : ℕ) (ns : List ℕ) → list_all (is_run limit) ns ≡ true → AllByRecursion (λ n. n ≤ limit) ns
 runs limit [] h = tt
-runs limit (n ∷ ns) h = let parts = and_parts (is_run limit n) (list_all (is_run limit) ns) h in (leb-true n limit (and_parts (leb 1 n) (leb n limit) parts.0).1, runs limit ns parts.1)
+runs limit (n ∷ ns) h =
+    let parts = and_parts (is_run limit n) (list_all (is_run limit) ns) h in
+    (leb-true n limit (and_parts (leb 1 n) (leb n limit) parts.0).1, runs limit ns parts.1)
 
 pub words : (limit : ℕ) (ns : List ℕ) → limit < 2 ^ 64 → AllByRecursion (λ n. n ≤ limit) ns → AllByRecursion IsWord ns
 words limit [] wide h = tt
@@ -95,9 +111,11 @@ clue_is limit (zero ∷ m ∷ ns) h = cond-true (is_clue limit (zero ∷ m ∷ n
 clue_is limit (suc n ∷ ns) h = cond-true (is_clue limit (suc n ∷ ns)) (Some (suc n ∷ ns)) None h
 
 -- a clue that is written is read again
-pub clue_again : (s limit : ℕ) (clue : List ℕ) → IsSpacing s → limit < 2 ^ 64 → is_clue limit clue ≡ true → clue_of limit (clue_text s clue) ≡ Some clue
+pub clue_again : (s limit : ℕ) (clue : List ℕ) → IsSpacing s → limit < 2 ^ 64 → is_clue limit clue ≡ true
+    → clue_of limit (clue_text s clue) ≡ Some clue
 clue_again s limit [] spacing wide h = rw (le-leb 0 limit (omega arith)) refl
 clue_again s limit (n ∷ ns) spacing wide h =
     let within = runs limit (n ∷ ns) (and_parts _ _ h).1 in
-    ap (λ parts. option_and_then (clue_of_numbers limit) (numbers_within limit parts)) (pieces_of_clue s n ns spacing (words limit (n ∷ ns) wide within))
+    ap (λ parts. option_and_then (clue_of_numbers limit) (numbers_within limit parts))
+    (pieces_of_clue s n ns spacing (words limit (n ∷ ns) wide within))
     ∙ ap (option_and_then (clue_of_numbers limit)) (numbers_again limit (n ∷ ns) wide within) ∙ clue_is limit (n ∷ ns) h

@@ -40,9 +40,11 @@ tidy-join s a b spacing p q =
     let some_a = some_bytes a p.first in
     let some_b = some_bytes b q.first in
     let whole = length-append a (s ∷ b) in
-    let right : get_or (a ++ s ∷ b) (length (a ++ s ∷ b) - 1) 0 ≡ get_or (s ∷ b) (length (a ++ s ∷ b) - 1 - length a) 0 = get_or-append_right a (s ∷ b) (length a) (length (a ++ s ∷ b) - 1) 0 refl (omega arith) in
+    let right : get_or (a ++ s ∷ b) (length (a ++ s ∷ b) - 1) 0 ≡ get_or (s ∷ b) (length (a ++ s ∷ b) - 1 - length a) 0 =
+    get_or-append_right a (s ∷ b) (length a) (length (a ++ s ∷ b) - 1) 0 refl (omega arith) in
     let place : length (a ++ s ∷ b) - 1 - length a ≡ suc (length b - 1) = omega arith in
-    let last : get_or (a ++ s ∷ b) (length (a ++ s ∷ b) - 1) 0 ≡ get_or b (length b - 1) 0 = right ∙ ap (λ (k : ℕ). get_or (s ∷ b) k 0) place in
+    let last : get_or (a ++ s ∷ b) (length (a ++ s ∷ b) - 1) 0 ≡ get_or b (length b - 1) 0 =
+    right ∙ ap (λ (k : ℕ). get_or (s ∷ b) k 0) place in
     record {
       inked = all-append (λ byte. 32 ≤ byte) a (s ∷ b) p.inked (spacing.high, q.inked);
       first = rw (get_or_append_left a (s ∷ b) 0 0 some_a) p.first;
@@ -63,7 +65,8 @@ tidy_decimal n h =
 pub tidy_clue : (s : ℕ) (numbers : List ℕ) → IsSpacing s → AllByRecursion IsWord numbers → IsTidy (clue_text s numbers)
 tidy_clue s [] spacing h = record { inked = (omega arith, tt); first = omega arith; last = omega arith }
 tidy_clue s (n ∷ []) spacing h = subst IsTidy (sym (append-nil (decimal n))) (tidy_decimal n h.0)
-tidy_clue s (n ∷ m ∷ ns) spacing h = tidy-join s (decimal n) (clue_text s (m ∷ ns)) spacing (tidy_decimal n h.0) (tidy_clue s (m ∷ ns) spacing h.1)
+tidy_clue s (n ∷ m ∷ ns) spacing h =
+    tidy-join s (decimal n) (clue_text s (m ∷ ns)) spacing (tidy_decimal n h.0) (tidy_clue s (m ∷ ns) spacing h.1)
 
 -- ---- sections
 
@@ -71,14 +74,16 @@ pub numbered-append : (k : ℕ) (xs ys : List (List ℕ)) → numbered k (xs ++ 
 numbered-append k [] ys = ap (λ (n : ℕ). numbered n ys) (omega arith)
 numbered-append k (x ∷ xs) ys =
     let same : k + 1 + length xs ≡ k + suc (length xs) = omega arith in
-    ap (λ (ls : List Line). record { number = k; text = x } ∷ ls) (numbered-append (k + 1) xs ys ∙ ap (λ (n : ℕ). numbered (k + 1) xs ++ numbered n ys) same)
+    ap (λ (ls : List Line). record { number = k; text = x } ∷ ls)
+    (numbered-append (k + 1) xs ys ∙ ap (λ (n : ℕ). numbered (k + 1) xs ++ numbered n ys) same)
 
 pub length-numbered : (k : ℕ) (xs : List (List ℕ)) → length (numbered k xs) ≡ length xs
 length-numbered k [] = refl
 length-numbered k (x ∷ xs) = ap suc (length-numbered (k + 1) xs)
 
 -- the first element that passes stands behind those that don't
-pub first_place : {X : Type 0} (p : X → Bool) (xs : List X) (y : X) (ys : List X) → AllByRecursion (λ x. p x ≡ false) xs → p y ≡ true → position_or_len p (xs ++ y ∷ ys) ≡ length xs
+pub first_place : {X : Type 0} (p : X → Bool) (xs : List X) (y : X) (ys : List X) → AllByRecursion (λ x. p x ≡ false) xs → p y ≡ true
+    → position_or_len p (xs ++ y ∷ ys) ≡ length xs
 first_place p [] y ys none here = rw here refl
 first_place p (x ∷ xs) y ys none here = rw none.0 (omega (arith, first_place p xs y ys none.1 here))
 
@@ -86,12 +91,14 @@ no_place : {X : Type 0} (p : X → Bool) (xs : List X) → AllByRecursion (λ x.
 no_place p [] none = refl
 no_place p (x ∷ xs) none = rw none.0 (omega (arith, no_place p xs none.1))
 
-pub at_hash_is : (rows : List Line) (hash : Line) (after : List Line) → AllByRecursion (λ line. is_hash line ≡ false) rows → is_hash hash ≡ true → at_hash (rows ++ hash ∷ after) ≡ Some (rows, after)
+pub at_hash_is : (rows : List Line) (hash : Line) (after : List Line) → AllByRecursion (λ line. is_hash line ≡ false) rows
+    → is_hash hash ≡ true → at_hash (rows ++ hash ∷ after) ≡ Some (rows, after)
 at_hash_is rows hash after none here =
     let place = first_place is_hash rows hash after none here in
     let inside : ltb (length rows) (length (rows ++ hash ∷ after)) ≡ true = lt-ltb _ _ (omega (arith, length-append rows (hash ∷ after))) in
     let parts : rows ++ hash ∷ after ≡ (rows ++ hash ∷ []) ++ after = sym (append_assoc rows (hash ∷ []) after) in
-    let behind : drop (length rows + 1) (rows ++ hash ∷ after) ≡ after = ap (drop (length rows + 1)) parts ∙ drop_at (rows ++ hash ∷ []) after (length rows + 1) (length-append rows (hash ∷ [])) in
+    let behind : drop (length rows + 1) (rows ++ hash ∷ after) ≡ after =
+    ap (drop (length rows + 1)) parts ∙ drop_at (rows ++ hash ∷ []) after (length rows + 1) (length-append rows (hash ∷ [])) in
     rw (place, inside, take_at rows (hash ∷ after) (length rows) refl, behind) refl
 
 pub before_hash_is : (rows : List Line) → AllByRecursion (λ line. is_hash line ≡ false) rows → before_hash rows ≡ rows
@@ -99,25 +106,32 @@ before_hash_is rows none = rw (no_place is_hash rows none) (take_all (length row
 
 pub filter_is : (xs : List Line) → AllByRecursion (λ line. is_full line ≡ true) xs → filter is_full xs ≡ xs
 filter_is [] h = refl
-filter_is (x ∷ xs) h = cond-true (is_full x) (x ∷ filter is_full xs) (filter is_full xs) h.0 ∙ ap (λ (ys : List Line). x ∷ ys) (filter_is xs h.1)
+filter_is (x ∷ xs) h =
+    cond-true (is_full x) (x ∷ filter is_full xs) (filter is_full xs) h.0 ∙ ap (λ (ys : List Line). x ∷ ys) (filter_is xs h.1)
 
-pub choice_is : (count : ℕ) (xs : List Line) → AllByRecursion (λ line. is_full line ≡ true) xs → length xs ≡ count → choice count xs ≡ Some xs
+pub choice_is : (count : ℕ) (xs : List Line) → AllByRecursion (λ line. is_full line ≡ true) xs → length xs ≡ count
+    → choice count xs ≡ Some xs
 choice_is count xs h n = rw (filter_is xs h, eq-eqb (length xs) count n) refl
 
-pub clues_again : (s limit k : ℕ) (clues : List (List ℕ)) → IsSpacing s → limit < 2 ^ 64 → AllByRecursion (λ clue. is_clue limit clue ≡ true) clues → clues_of limit (numbered k (map (clue_text s) clues)) ≡ Ok clues
+pub clues_again : (s limit k : ℕ) (clues : List (List ℕ)) → IsSpacing s → limit < 2 ^ 64
+    → AllByRecursion (λ clue. is_clue limit clue ≡ true) clues → clues_of limit (numbered k (map (clue_text s) clues)) ≡ Ok clues
 clues_again s limit k [] spacing wide h = refl
 clues_again s limit k (clue ∷ clues) spacing wide h =
     let others = clues_of limit (numbered (k + 1) (map (clue_text s) clues)) in
-    ap (λ (found : Option (List ℕ)). or_fault (BadNumber k) found >>= λ c. others >>= λ cs. Ok (c ∷ cs)) (clue_again s limit clue spacing wide h.0)
+    ap (λ (found : Option (List ℕ)). or_fault (BadNumber k) found >>= λ c. others >>= λ cs. Ok (c ∷ cs))
+    (clue_again s limit clue spacing wide h.0)
     ∙ ap (λ (found : Result (List (List ℕ)) TextFault). found >>= λ cs. Ok (clue ∷ cs)) (clues_again s limit (k + 1) clues spacing wide h.1)
 
-pub both_again : (s limit k m : ℕ) (rows columns : List (List ℕ)) → IsSpacing s → limit < 2 ^ 64 → AllByRecursion (λ clue. is_clue limit clue ≡ true) rows → AllByRecursion (λ clue. is_clue limit clue ≡ true) columns
+pub both_again : (s limit k m : ℕ) (rows columns : List (List ℕ)) → IsSpacing s → limit < 2 ^ 64
+    → AllByRecursion (λ clue. is_clue limit clue ≡ true) rows → AllByRecursion (λ clue. is_clue limit clue ≡ true) columns
     → clues_of limit (numbered k (map (clue_text s) rows) ++ numbered m (map (clue_text s) columns)) ≡ Ok (rows ++ columns)
 both_again s limit k m [] columns spacing wide h g = clues_again s limit m columns spacing wide g
 both_again s limit k m (clue ∷ clues) columns spacing wide h g =
     let others = clues_of limit (numbered (k + 1) (map (clue_text s) clues) ++ numbered m (map (clue_text s) columns)) in
-    ap (λ (found : Option (List ℕ)). or_fault (BadNumber k) found >>= λ c. others >>= λ cs. Ok (c ∷ cs)) (clue_again s limit clue spacing wide h.0)
-    ∙ ap (λ (found : Result (List (List ℕ)) TextFault). found >>= λ cs. Ok (clue ∷ cs)) (both_again s limit (k + 1) m clues columns spacing wide h.1 g)
+    ap (λ (found : Option (List ℕ)). or_fault (BadNumber k) found >>= λ c. others >>= λ cs. Ok (c ∷ cs))
+    (clue_again s limit clue spacing wide h.0)
+    ∙ ap (λ (found : Result (List (List ℕ)) TextFault). found >>= λ cs. Ok (clue ∷ cs))
+    (both_again s limit (k + 1) m clues columns spacing wide h.1 g)
 
 -- ---- the whole text
 
@@ -137,16 +151,19 @@ some_text [] h = absurd (omega arith)
 some_text (byte ∷ bytes) h = ap not (ne_eqb (suc (length bytes)) 0 (λ e. omega arith))
 
 pub are_clues : (s limit k : ℕ) (clues : List (List ℕ)) → limit < 2 ^ 64 → AllByRecursion (λ clue. is_clue limit clue ≡ true) clues
-    → AllByRecursion (λ line. is_hash line ≡ false) (numbered k (map (clue_text s) clues)) × AllByRecursion (λ line. is_full line ≡ true) (numbered k (map (clue_text s) clues))
+    → AllByRecursion (λ line. is_hash line ≡ false) (numbered k (map (clue_text s) clues))
+    × AllByRecursion (λ line. is_full line ≡ true) (numbered k (map (clue_text s) clues))
 are_clues s limit k [] wide h = (tt, tt)
 are_clues s limit k (clue ∷ clues) wide h =
     let digit = first_digit s clue (word_clue limit clue wide h.0) in
     let others = are_clues s limit (k + 1) clues wide h.1 in
     ((ne_eqb (get_or (clue_text s clue) 0 0) 35 (λ e. omega arith), others.0), (some_text (clue_text s clue) digit, others.1))
 
-pub tidy_clues : (s limit : ℕ) (clues : List (List ℕ)) → IsSpacing s → limit < 2 ^ 64 → AllByRecursion (λ clue. is_clue limit clue ≡ true) clues → AllByRecursion IsTidy (map (clue_text s) clues)
+pub tidy_clues : (s limit : ℕ) (clues : List (List ℕ)) → IsSpacing s → limit < 2 ^ 64
+    → AllByRecursion (λ clue. is_clue limit clue ≡ true) clues → AllByRecursion IsTidy (map (clue_text s) clues)
 tidy_clues s limit [] spacing wide h = tt
-tidy_clues s limit (clue ∷ clues) spacing wide h = (tidy_clue s clue spacing (word_clue limit clue wide h.0), tidy_clues s limit clues spacing wide h.1)
+tidy_clues s limit (clue ∷ clues) spacing wide h =
+    (tidy_clue s clue spacing (word_clue limit clue wide h.0), tidy_clues s limit clues spacing wide h.1)
 
 pub tidy_append : (xs ys : List (List ℕ)) → AllByRecursion IsTidy xs → AllByRecursion IsTidy ys → AllByRecursion IsTidy (xs ++ ys)
 tidy_append [] ys p q = q
@@ -154,37 +171,57 @@ tidy_append (x ∷ xs) ys p q = (p.0, tidy_append xs ys p.1 q)
 
 pub size_again : (limit n : ℕ) → limit < 2 ^ 64 → 1 ≤ n → n ≤ limit → size_of limit (decimal n) ≡ Ok n
 size_again limit n wide low high =
-    ap (λ (o : Option ℕ). or_fault BadSize (option_and_then (λ number. cond (leb 1 number) (Some number) None) o)) (number_within_again limit n wide high)
+    ap (λ (o : Option ℕ). or_fault BadSize (option_and_then (λ number. cond (leb 1 number) (Some number) None) o))
+    (number_within_again limit n wide high)
     ∙ ap (or_fault BadSize) (cond-true (leb 1 n) (Some n) None (le-leb 1 n low))
 
 -- ---- how long the text is
 
-length_numbers : (s : ℕ) (ns : List ℕ) → AllByRecursion (λ n. n < 1000) ns → length (flat_map (λ other. s ∷ decimal other) ns) ≤ 4 * length ns
+length_numbers : (s : ℕ) (ns : List ℕ) → AllByRecursion (λ n. n < 1000) ns
+    → length (flat_map (λ other. s ∷ decimal other) ns) ≤ 4 * length ns
 length_numbers s [] h = omega arith
-length_numbers s (n ∷ ns) h = omega (arith, length-append (decimal n) (flat_map (λ other. s ∷ decimal other) ns), length-decimal-le 3 n (omega arith) (omega (arith, h.0)) (omega (arith, h.0)), length_numbers s ns h.1)
+length_numbers s (n ∷ ns) h =
+    omega (
+      arith,
+      length-append (decimal n) (flat_map (λ other. s ∷ decimal other) ns),
+      length-decimal-le 3 n (omega arith) (omega (arith, h.0)) (omega (arith, h.0)),
+      length_numbers s ns h.1,
+    )
 
 length_clue : (s : ℕ) (clue : List ℕ) → AllByRecursion (λ n. n < 1000) clue → length clue ≤ 128 → length (clue_line s clue) ≤ 514
 length_clue s [] h few = omega arith
 length_clue s (n ∷ ns) h few =
-    omega (arith, length-append (clue_text s (n ∷ ns)) (10 ∷ []), length-append (decimal n) (flat_map (λ other. s ∷ decimal other) ns), length-decimal-le 3 n (omega arith) (omega (arith, h.0)) (omega (arith, h.0)), length_numbers s ns h.1)
+    omega (
+      arith,
+      length-append (clue_text s (n ∷ ns)) (10 ∷ []),
+      length-append (decimal n) (flat_map (λ other. s ∷ decimal other) ns),
+      length-decimal-le 3 n (omega arith) (omega (arith, h.0)) (omega (arith, h.0)),
+      length_numbers s ns h.1,
+    )
 
 small : (limit : ℕ) (ns : List ℕ) → limit < 1000 → AllByRecursion (λ n. n ≤ limit) ns → AllByRecursion (λ n. n < 1000) ns
 small limit [] wide h = tt
 small limit (n ∷ ns) wide h = (omega (arith, h.0), small limit ns wide h.1)
 
-pub length_lines : (s limit : ℕ) (clues : List (List ℕ)) → limit < 1000 → AllByRecursion (λ clue. is_clue limit clue ≡ true) clues → length (clue_lines s clues) ≤ 514 * length clues
+pub length_lines : (s limit : ℕ) (clues : List (List ℕ)) → limit < 1000 → AllByRecursion (λ clue. is_clue limit clue ≡ true) clues
+    → length (clue_lines s clues) ≤ 514 * length clues
 length_lines s limit [] wide h = omega arith
 length_lines s limit (clue ∷ clues) wide h =
     let parts = and_parts (leb (length clue) 128) (list_all (is_run limit) clue) h.0 in
     let here = length_clue s clue (small limit clue wide (runs limit clue parts.1)) (leb-true (length clue) 128 parts.0) in
     omega (arith, length-append (clue_line s clue) (clue_lines s clues), here, length_lines s limit clues wide h.1)
 
-pub sizes_are : (limit a b : ℕ) (others : List Line) → limit < 2 ^ 64 → (1 ≤ a) × (a ≤ limit) → (1 ≤ b) × (b ≤ limit) → size_line limit (record { number = 1; text = clue_text 32 (a ∷ b ∷ []) } ∷ others) ≡ Ok ((a, b), others)
+pub sizes_are : (limit a b : ℕ) (others : List Line) → limit < 2 ^ 64 → (1 ≤ a) × (a ≤ limit) → (1 ≤ b) × (b ≤ limit)
+    → size_line limit (record { number = 1; text = clue_text 32 (a ∷ b ∷ []) } ∷ others) ≡ Ok ((a, b), others)
 sizes_are limit a b others wide first second =
     let words : AllByRecursion IsWord (a ∷ b ∷ []) = (omega (arith, first.1), (omega (arith, second.1), tt)) in
     let text = clue_text 32 (a ∷ b ∷ []) in
     let full = some_text text (first_digit 32 (a ∷ b ∷ []) words) in
-    ap (λ (o : Option (Line × List Line)). or_fault NoSize o >>= λ found. two_sizes limit (pieces found.0.text) >>= λ sizes. Ok (sizes, found.1)) (cond-true (not (is_empty text)) (Some (record { number = 1; text = text }, others)) (first_full others) full)
+    ap (λ (o : Option (Line × List Line)). or_fault NoSize o >>= λ found. two_sizes limit (pieces found.0.text)
+    >>= λ sizes.
+    Ok (sizes, found.1)) (cond-true (not (is_empty text)) (Some (record { number = 1; text = text }, others)) (first_full others) full)
     ∙ ap (λ (parts : List (List ℕ)). two_sizes limit parts >>= λ sizes. Ok (sizes, others)) (pieces_of_clue 32 a (b ∷ []) space words)
-    ∙ ap (λ (r : Result ℕ TextFault). (r >>= λ first. size_of limit (decimal b) >>= λ second. Ok (first, second)) >>= λ sizes. Ok (sizes, others)) (size_again limit a wide first.0 first.1)
-    ∙ ap (λ (r : Result ℕ TextFault). (r >>= λ second. Ok (a, second)) >>= λ sizes. Ok (sizes, others)) (size_again limit b wide second.0 second.1)
+    ∙ ap (λ (r : Result ℕ TextFault). (r >>= λ first. size_of limit (decimal b) >>= λ second. Ok (first, second))
+    >>= λ sizes. Ok (sizes, others)) (size_again limit a wide first.0 first.1)
+    ∙ ap (λ (r : Result ℕ TextFault). (r >>= λ second. Ok (a, second)) >>= λ sizes. Ok (sizes, others))
+    (size_again limit b wide second.0 second.1)

@@ -60,7 +60,8 @@ not_letter c low high = grind (arith, nat_tests)
 content_digit : (text : List ℕ) → 48 ≤ get_or text 0 0 → get_or text 0 0 ≤ 57 → IsContent text
 content_digit [] low high = content_blank
 content_digit (c ∷ cs) low high = record {
-  word = ap (λ (n : ℕ). str_to_ascii_lowercase (take n (c ∷ cs))) (cond-false (is_ascii_alphabetic c) (1 + prefix_len is_ascii_alphabetic cs) 0 (not_letter c low high));
+  word = ap (λ (n : ℕ). str_to_ascii_lowercase (take n (c ∷ cs)))
+      (cond-false (is_ascii_alphabetic c) (1 + prefix_len is_ascii_alphabetic cs) 0 (not_letter c low high));
   hash = ne_eqb c 35 (λ e. omega arith);
 }
 
@@ -72,7 +73,8 @@ content_clue (n ∷ ns) h =
     let same = get_or_append_left (decimal n) (flat_map (λ other. 44 ∷ decimal other) ns) 0 0 numeral.0 in
     content_digit (clue_text 44 (n ∷ ns)) (omega (arith, same, digit.0)) (omega (arith, same, digit.1))
 
-content_clues : (limit : ℕ) (clues : List (List ℕ)) → limit < 2 ^ 64 → AllByRecursion (λ clue. is_clue limit clue ≡ true) clues → AllByRecursion IsContent (map (clue_text 44) clues)
+content_clues : (limit : ℕ) (clues : List (List ℕ)) → limit < 2 ^ 64 → AllByRecursion (λ clue. is_clue limit clue ≡ true) clues
+    → AllByRecursion IsContent (map (clue_text 44) clues)
 content_clues limit [] wide h = tt
 content_clues limit (clue ∷ clues) wide h = (content_clue clue (word_clue limit clue wide h.0), content_clues limit clues wide h.1)
 
@@ -82,22 +84,29 @@ content_gap (Some cells) = (content_blank, tt)
 
 -- ---- the lines with a keyword
 
-with-content : (word : List ℕ) (texts : List (List ℕ)) → bytes_eq [] word ≡ false → AllByRecursion IsContent texts → texts_with word texts ≡ []
+with-content : (word : List ℕ) (texts : List (List ℕ)) → bytes_eq [] word ≡ false → AllByRecursion IsContent texts
+    → texts_with word texts ≡ []
 with-content word [] other h = refl
 with-content word (text ∷ texts) other h =
     let others = texts_with word texts in
-    cond-false (bytes_eq (word_at text) word) (text ∷ others) others (ap (λ (w : List ℕ). bytes_eq w word) h.0.word ∙ other) ∙ with-content word texts other h.1
+    cond-false (bytes_eq (word_at text) word) (text ∷ others) others (ap (λ (w : List ℕ). bytes_eq w word) h.0.word ∙ other)
+    ∙ with-content word texts other h.1
 
-with-other : (word name : List ℕ) (o : Option (List ℕ)) → ((text : List ℕ) → bytes_eq (word_at (field_line name text)) word ≡ false) → texts_with word (one name o) ≡ []
+with-other : (word name : List ℕ) (o : Option (List ℕ)) → ((text : List ℕ) → bytes_eq (word_at (field_line name text)) word ≡ false)
+    → texts_with word (one name o) ≡ []
 with-other word name None h = refl
 with-other word name (Some text) h = cond-false (bytes_eq (word_at (field_line name text)) word) (field_line name text ∷ []) [] (h text)
 
-with-own : (word : List ℕ) (o : Option (List ℕ)) → ((text : List ℕ) → bytes_eq (word_at (field_line word text)) word ≡ true) → texts_with word (one word o) ≡ one word o
+with-own : (word : List ℕ) (o : Option (List ℕ)) → ((text : List ℕ) → bytes_eq (word_at (field_line word text)) word ≡ true)
+    → texts_with word (one word o) ≡ one word o
 with-own word None h = refl
 with-own word (Some text) h = cond-true (bytes_eq (word_at (field_line word text)) word) (field_line word text ∷ []) [] (h text)
 
-with-append : (word : List ℕ) (xs ys a b : List (List ℕ)) → texts_with word xs ≡ a → texts_with word ys ≡ b → texts_with word (xs ++ ys) ≡ a ++ b
-with-append word xs ys a b e f = filter-append (λ text. bytes_eq (word_at text) word) xs ys ∙ ap (λ (z : List (List ℕ)). z ++ texts_with word ys) e ∙ ap (λ (z : List (List ℕ)). a ++ z) f
+with-append : (word : List ℕ) (xs ys a b : List (List ℕ)) → texts_with word xs ≡ a → texts_with word ys ≡ b
+    → texts_with word (xs ++ ys) ≡ a ++ b
+with-append word xs ys a b e f =
+    filter-append (λ text. bytes_eq (word_at text) word) xs ys ∙ ap (λ (z : List (List ℕ)). z ++ texts_with word ys) e
+    ∙ ap (λ (z : List (List ℕ)). a ++ z) f
 
 word_of_field : (f : Field) (text : List ℕ) → word_at (field_line (field_word f) text) ≡ field_word f
 word_of_field Catalogue text = refl
@@ -111,24 +120,31 @@ abbrev are_others : List ℕ → List Field → Bool
 are_others word fs = list_all (λ f. not (bytes_eq (field_word f) word)) fs
 
 part_other : (word : List ℕ) (ts : Description) (f : Field) → not (bytes_eq (field_word f) word) ≡ true → texts_with word (part ts f) ≡ []
-part_other word ts f h = with-other word (field_word f) (text_of ts f) (λ text. ap (λ (w : List ℕ). bytes_eq w word) (word_of_field f text) ∙ negated (bytes_eq (field_word f) word) h)
+part_other word ts f h =
+    with-other word (field_word f) (text_of ts f)
+    (λ text. ap (λ (w : List ℕ). bytes_eq w word) (word_of_field f text) ∙ negated (bytes_eq (field_word f) word) h)
 
-parts_other : (word : List ℕ) (ts : Description) (fs : List Field) → are_others word fs ≡ true → texts_with word (flat_map (part ts) fs) ≡ []
+parts_other : (word : List ℕ) (ts : Description) (fs : List Field) → are_others word fs ≡ true
+    → texts_with word (flat_map (part ts) fs) ≡ []
 parts_other word ts [] h = refl
 parts_other word ts (f ∷ fs) h =
     let tests = and_parts (not (bytes_eq (field_word f) word)) (are_others word fs) h in
     with-append word (part ts f) (flat_map (part ts) fs) [] [] (part_other word ts f tests.0) (parts_other word ts fs tests.1)
 
-part_own : (ts : Description) (f : Field) → bytes_eq (field_word f) (field_word f) ≡ true → texts_with (field_word f) (part ts f) ≡ part ts f
+part_own : (ts : Description) (f : Field) → bytes_eq (field_word f) (field_word f) ≡ true
+    → texts_with (field_word f) (part ts f) ≡ part ts f
 part_own ts f h = with-own (field_word f) (text_of ts f) (λ text. ap (λ (w : List ℕ). bytes_eq w (field_word f)) (word_of_field f text) ∙ h)
 
-parts_own : (ts : Description) (front : List Field) (f : Field) (back : List Field) → bytes_eq (field_word f) (field_word f) ≡ true → are_others (field_word f) front ≡ true → are_others (field_word f) back ≡ true
+parts_own : (ts : Description) (front : List Field) (f : Field) (back : List Field) → bytes_eq (field_word f) (field_word f) ≡ true
+    → are_others (field_word f) front ≡ true → are_others (field_word f) back ≡ true
     → texts_with (field_word f) (flat_map (part ts) (front ++ f ∷ back)) ≡ part ts f
 parts_own ts [] f back own h later =
-    with-append (field_word f) (part ts f) (flat_map (part ts) back) (part ts f) [] (part_own ts f own) (parts_other (field_word f) ts back later) ∙ append-nil (part ts f)
+    with-append (field_word f) (part ts f) (flat_map (part ts) back) (part ts f) [] (part_own ts f own)
+    (parts_other (field_word f) ts back later) ∙ append-nil (part ts f)
 parts_own ts (g ∷ front) f back own h later =
     let tests = and_parts (not (bytes_eq (field_word g) (field_word f))) (are_others (field_word f) front) h in
-    with-append (field_word f) (part ts g) (flat_map (part ts) (front ++ f ∷ back)) [] (part ts f) (part_other (field_word f) ts g tests.0) (parts_own ts front f back own tests.1 later)
+    with-append (field_word f) (part ts g) (flat_map (part ts) (front ++ f ∷ back)) [] (part ts f) (part_other (field_word f) ts g tests.0)
+    (parts_own ts front f back own tests.1 later)
 
 -- each field's keyword has its own line only
 fields_own : (ts : Description) (f : Field) → texts_with (field_word f) (fields ts) ≡ part ts f
@@ -140,41 +156,66 @@ fields_own ts License = parts_own ts (Catalogue ∷ Title ∷ By ∷ Copyright �
 
 module _ (limit : ℕ) (p : Nonogram) (wide : limit < 2 ^ 64) (lawful : IsNonogramWithin limit p) where
   content_rows : AllByRecursion IsContent (row_part p)
-  content_rows = all-append IsContent (map (clue_text 44) p.rows) ([] ∷ []) (content_clues limit p.rows wide lawful.rows) (content_blank, tt)
+  content_rows =
+      all-append IsContent (map (clue_text 44) p.rows) ([] ∷ []) (content_clues limit p.rows wide lawful.rows) (content_blank, tt)
 
   content_columns : AllByRecursion IsContent (column_part p)
-  content_columns = all-append IsContent (map (clue_text 44) p.columns) (goal_gap p.goal) (content_clues limit p.columns wide lawful.columns) (content_gap p.goal)
+  content_columns =
+      all-append IsContent (map (clue_text 44) p.columns) (goal_gap p.goal) (content_clues limit p.columns wide lawful.columns)
+      (content_gap p.goal)
 
   whole_with : (word : List ℕ) (f m n g : List (List ℕ)) → bytes_eq [] word ≡ false → texts_with word (fields p.texts) ≡ f
-      → ((others : List (List ℕ)) → texts_with word (size_text (codes "width") p.width ∷ size_text (codes "height") p.height ∷ [] ∷ codes "rows" ∷ others) ≡ m ++ texts_with word others)
-      → ((others : List (List ℕ)) → texts_with word (codes "columns" ∷ others) ≡ n ++ texts_with word others) → texts_with word (goal_part p) ≡ g → texts_with word (texts_non p) ≡ f ++ (m ++ (n ++ g))
+      → ((others : List (List ℕ))
+      → texts_with word (size_text (codes "width") p.width ∷ size_text (codes "height") p.height ∷ [] ∷ codes "rows" ∷ others)
+      ≡ m ++ texts_with word others)
+      → ((others : List (List ℕ)) → texts_with word (codes "columns" ∷ others) ≡ n ++ texts_with word others)
+      → texts_with word (goal_part p) ≡ g → texts_with word (texts_non p) ≡ f ++ (m ++ (n ++ g))
   whole_with word f m n g other in_fields above below in_goal =
       let lower = with-append word (column_part p) (goal_part p) [] g (with-content word (column_part p) other content_columns) in_goal in
-      let after : texts_with word (after_rows p) ≡ n ++ g = below (column_part p ++ goal_part p) ∙ ap (λ (z : List (List ℕ)). n ++ z) lower in
+      let after : texts_with word (after_rows p) ≡ n ++ g =
+      below (column_part p ++ goal_part p) ∙ ap (λ (z : List (List ℕ)). n ++ z) lower in
       let behind = with-append word (row_part p) (after_rows p) [] (n ++ g) (with-content word (row_part p) other content_rows) after in
-      let all : texts_with word (after_fields p) ≡ m ++ (n ++ g) = above (row_part p ++ after_rows p) ∙ ap (λ (z : List (List ℕ)). m ++ z) behind in
+      let all : texts_with word (after_fields p) ≡ m ++ (n ++ g) =
+      above (row_part p ++ after_rows p) ∙ ap (λ (z : List (List ℕ)). m ++ z) behind in
       with-append word (fields p.texts) (after_fields p) f (m ++ (n ++ g)) in_fields all
 
   width_only : texts_with (codes "width") (texts_non p) ≡ size_text (codes "width") p.width ∷ []
-  width_only = whole_with (codes "width") [] (size_text (codes "width") p.width ∷ []) [] [] refl (parts_other (codes "width") p.texts all_fields refl) (λ others. refl) (λ others. refl) (with-other (codes "width") (codes "goal") (goal_text p.goal) (λ text. refl))
+  width_only =
+      whole_with (codes "width") [] (size_text (codes "width") p.width ∷ []) [] [] refl
+      (parts_other (codes "width") p.texts all_fields refl) (λ others. refl) (λ others. refl)
+      (with-other (codes "width") (codes "goal") (goal_text p.goal) (λ text. refl))
 
   height_only : texts_with (codes "height") (texts_non p) ≡ size_text (codes "height") p.height ∷ []
-  height_only = whole_with (codes "height") [] (size_text (codes "height") p.height ∷ []) [] [] refl (parts_other (codes "height") p.texts all_fields refl) (λ others. refl) (λ others. refl) (with-other (codes "height") (codes "goal") (goal_text p.goal) (λ text. refl))
+  height_only =
+      whole_with (codes "height") [] (size_text (codes "height") p.height ∷ []) [] [] refl
+      (parts_other (codes "height") p.texts all_fields refl) (λ others. refl) (λ others. refl)
+      (with-other (codes "height") (codes "goal") (goal_text p.goal) (λ text. refl))
 
   rows_only : texts_with (codes "rows") (texts_non p) ≡ codes "rows" ∷ []
-  rows_only = whole_with (codes "rows") [] (codes "rows" ∷ []) [] [] refl (parts_other (codes "rows") p.texts all_fields refl) (λ others. refl) (λ others. refl) (with-other (codes "rows") (codes "goal") (goal_text p.goal) (λ text. refl))
+  rows_only =
+      whole_with (codes "rows") [] (codes "rows" ∷ []) [] [] refl (parts_other (codes "rows") p.texts all_fields refl) (λ others. refl)
+      (λ others. refl) (with-other (codes "rows") (codes "goal") (goal_text p.goal) (λ text. refl))
 
   columns_only : texts_with (codes "columns") (texts_non p) ≡ codes "columns" ∷ []
-  columns_only = whole_with (codes "columns") [] [] (codes "columns" ∷ []) [] refl (parts_other (codes "columns") p.texts all_fields refl) (λ others. refl) (λ others. refl) (with-other (codes "columns") (codes "goal") (goal_text p.goal) (λ text. refl))
+  columns_only =
+      whole_with (codes "columns") [] [] (codes "columns" ∷ []) [] refl (parts_other (codes "columns") p.texts all_fields refl)
+      (λ others. refl) (λ others. refl) (with-other (codes "columns") (codes "goal") (goal_text p.goal) (λ text. refl))
 
   goal_only : texts_with (codes "goal") (texts_non p) ≡ goal_part p
-  goal_only = whole_with (codes "goal") [] [] [] (goal_part p) refl (parts_other (codes "goal") p.texts all_fields refl) (λ others. refl) (λ others. refl) (with-own (codes "goal") (goal_text p.goal) (λ text. refl))
+  goal_only =
+      whole_with (codes "goal") [] [] [] (goal_part p) refl (parts_other (codes "goal") p.texts all_fields refl) (λ others. refl)
+      (λ others. refl) (with-own (codes "goal") (goal_text p.goal) (λ text. refl))
 
   own_only : (f : Field) → bytes_eq [] (field_word f) ≡ false
-      → ((others : List (List ℕ)) → texts_with (field_word f) (size_text (codes "width") p.width ∷ size_text (codes "height") p.height ∷ [] ∷ codes "rows" ∷ others) ≡ texts_with (field_word f) others)
+      → ((others : List (List ℕ))
+      → texts_with (field_word f) (size_text (codes "width") p.width ∷ size_text (codes "height") p.height ∷ [] ∷ codes "rows" ∷ others)
+      ≡ texts_with (field_word f) others)
       → ((others : List (List ℕ)) → texts_with (field_word f) (codes "columns" ∷ others) ≡ texts_with (field_word f) others)
-      → ((text : List ℕ) → bytes_eq (word_at (field_line (codes "goal") text)) (field_word f) ≡ false) → texts_with (field_word f) (texts_non p) ≡ part p.texts f
-  own_only f some above below goal = whole_with (field_word f) (part p.texts f) [] [] [] some (fields_own p.texts f) above below (with-other (field_word f) (codes "goal") (goal_text p.goal) goal) ∙ append-nil (part p.texts f)
+      → ((text : List ℕ) → bytes_eq (word_at (field_line (codes "goal") text)) (field_word f) ≡ false)
+      → texts_with (field_word f) (texts_non p) ≡ part p.texts f
+  own_only f some above below goal =
+      whole_with (field_word f) (part p.texts f) [] [] [] some (fields_own p.texts f) above below
+      (with-other (field_word f) (codes "goal") (goal_text p.goal) goal) ∙ append-nil (part p.texts f)
 
   field_only : (f : Field) → texts_with (field_word f) (texts_non p) ≡ part p.texts f
   field_only Catalogue = own_only Catalogue refl (λ others. refl) (λ others. refl) (λ text. refl)
@@ -189,8 +230,11 @@ texts_numbered : (k : ℕ) (texts : List (List ℕ)) → map (λ (line : Line). 
 texts_numbered k [] = refl
 texts_numbered k (text ∷ texts) = ap (λ (ts : List (List ℕ)). text ∷ ts) (texts_numbered (k + 1) texts)
 
-lines_with : (word : List ℕ) (k : ℕ) (texts : List (List ℕ)) → map (λ (line : Line). line.text) (with_keyword word (numbered k texts)) ≡ texts_with word texts
-lines_with word k texts = sym (filter-map (λ text. bytes_eq (word_at text) word) (λ (line : Line). line.text) (numbered k texts)) ∙ ap (texts_with word) (texts_numbered k texts)
+lines_with : (word : List ℕ) (k : ℕ) (texts : List (List ℕ))
+    → map (λ (line : Line). line.text) (with_keyword word (numbered k texts)) ≡ texts_with word texts
+lines_with word k texts =
+    sym (filter-map (λ text. bytes_eq (word_at text) word) (λ (line : Line). line.text) (numbered k texts))
+    ∙ ap (texts_with word) (texts_numbered k texts)
 
 none_seen : (xs : List Line) → map (λ (line : Line). line.text) xs ≡ [] → xs ≡ []
 none_seen [] e = refl
@@ -205,7 +249,8 @@ one_seen [] text e = absurd cc
 one_seen (x ∷ []) text e = (x, refl, cc)
 one_seen (x ∷ y ∷ xs) text e = absurd cc
 
-one_line : (word text : List ℕ) (k : ℕ) (texts : List (List ℕ)) → texts_with word texts ≡ text ∷ [] → IsOne (with_keyword word (numbered k texts)) text
+one_line : (word text : List ℕ) (k : ℕ) (texts : List (List ℕ)) → texts_with word texts ≡ text ∷ []
+    → IsOne (with_keyword word (numbered k texts)) text
 one_line word text k texts e = one_seen (with_keyword word (numbered k texts)) text (lines_with word k texts ∙ e)
 
 -- ---- what stands between quotes
@@ -216,7 +261,9 @@ quote_trimmed text =
     ap (λ (x : List ℕ). reverse (trim_start x)) e ∙ ap reverse (sym e) ∙ reverse-reverse (34 ∷ (text ++ 34 ∷ []))
 
 quoted_is : (text : List ℕ) → quoted (34 ∷ (text ++ 34 ∷ [])) ≡ text
-quoted_is text = ap (λ (x : List ℕ). unwrap_or (option_map reverse (after_quote x)) (34 ∷ (text ++ 34 ∷ []))) (reverse-append text (34 ∷ [])) ∙ reverse-reverse text
+quoted_is text =
+    ap (λ (x : List ℕ). unwrap_or (option_map reverse (after_quote x)) (34 ∷ (text ++ 34 ∷ []))) (reverse-append text (34 ∷ []))
+    ∙ reverse-reverse text
 
 -- ---- fields
 
@@ -225,7 +272,9 @@ abbrev FieldIs : List ℕ → List Line → Option (List ℕ) → Type 0
 FieldIs word lines None = with_keyword word lines ≡ []
 FieldIs word lines (Some text) = (line : Line) × (with_keyword word lines ≡ line ∷ []) × (quoted_text line ≡ text)
 
-field_is : (word : List ℕ) (o : Option (List ℕ)) (k : ℕ) (texts : List (List ℕ)) → ((text : List ℕ) → rest_of (field_line word text) ≡ 34 ∷ (text ++ 34 ∷ [])) → texts_with word texts ≡ one word o → FieldIs word (numbered k texts) o
+field_is : (word : List ℕ) (o : Option (List ℕ)) (k : ℕ) (texts : List (List ℕ))
+    → ((text : List ℕ) → rest_of (field_line word text) ≡ 34 ∷ (text ++ 34 ∷ [])) → texts_with word texts ≡ one word o
+    → FieldIs word (numbered k texts) o
 field_is word None k texts after e = none_seen (with_keyword word (numbered k texts)) (lines_with word k texts ∙ e)
 field_is word (Some text) k texts after e =
     let found = one_line word (field_line word text) k texts e in
@@ -240,51 +289,67 @@ quoted_field License text = quote_trimmed text
 
 field_again : (word : List ℕ) (lines : List Line) (o : Option (List ℕ)) → FieldIs word lines o → field_text word lines ≡ o
 field_again word lines None is = ap (λ (ls : List Line). option_map quoted_text (slice_get ls 0)) is
-field_again word lines (Some text) is = ap (λ (ls : List Line). option_map quoted_text (slice_get ls 0)) is.1 ∙ ap (λ (x : List ℕ). Some x) is.2
+field_again word lines (Some text) is =
+    ap (λ (ls : List Line). option_map quoted_text (slice_get ls 0)) is.1 ∙ ap (λ (x : List ℕ). Some x) is.2
 
 abbrev long_one : List Line → Option ℕ
 long_one ls = number_of_line (option_and_then (λ line. cond (ltb 65536 (length (quoted_text line))) (Some line) None) (slice_get ls 0))
 
-long_none : (word : List ℕ) (lines : List Line) (o : Option (List ℕ)) → FieldIs word lines o → is_field o ≡ true → number_of_line (long_text lines word) ≡ None
+long_none : (word : List ℕ) (lines : List Line) (o : Option (List ℕ)) → FieldIs word lines o → is_field o ≡ true
+    → number_of_line (long_text lines word) ≡ None
 long_none word lines None is lawful = ap long_one is
 long_none word lines (Some text) is lawful =
     let within = leb-true (length text) 65536 (and_parts (leb (length text) 65536) (list_all (λ byte. not (eqb byte 10)) text) lawful).0 in
     let short : length (quoted_text is.0) ≤ 65536 = omega (arith, ap length is.2) in
-    ap long_one is.1 ∙ ap number_of_line (cond-false (ltb 65536 (length (quoted_text is.0))) (Some is.0) None (le-ltb 65536 (length (quoted_text is.0)) short))
+    ap long_one is.1
+    ∙ ap number_of_line
+    (cond-false (ltb 65536 (length (quoted_text is.0))) (Some is.0) None (le-ltb 65536 (length (quoted_text is.0)) short))
 
 -- ---- sections
 
 abbrev StepAt : Bool → Bool → List ℕ → List ℕ → Line → List Line → List (List ℕ × Line)
-StepAt empty hash under word line ls = cond (empty && not hash) ((under, line) ∷ walked (cond empty under word) ls) (walked (cond empty under word) ls)
+StepAt empty hash under word line ls =
+    cond (empty && not hash) ((under, line) ∷ walked (cond empty under word) ls) (walked (cond empty under word) ls)
 
-step_keyword : (empty hash : Bool) (under word : List ℕ) (line : Line) (ls : List Line) → empty ≡ false → StepAt empty hash under word line ls ≡ walked word ls
+step_keyword : (empty hash : Bool) (under word : List ℕ) (line : Line) (ls : List Line) → empty ≡ false
+    → StepAt empty hash under word line ls ≡ walked word ls
 step_keyword true hash under word line ls e = absurd cc
 step_keyword false hash under word line ls e = refl
 
-step_content : (empty hash : Bool) (under word : List ℕ) (line : Line) (ls : List Line) → empty ≡ true → hash ≡ false → StepAt empty hash under word line ls ≡ (under, line) ∷ walked under ls
+step_content : (empty hash : Bool) (under word : List ℕ) (line : Line) (ls : List Line) → empty ≡ true → hash ≡ false
+    → StepAt empty hash under word line ls ≡ (under, line) ∷ walked under ls
 step_content false hash under word line ls e f = absurd cc
 step_content true true under word line ls e f = absurd cc
 step_content true false under word line ls e f = refl
 
 -- keyword lines only set the keyword
-placed_past : (under : List ℕ) (k : ℕ) (xs ys : List (List ℕ)) → AllByRecursion (λ text. is_empty (word_at text) ≡ false) xs → (last : List ℕ) × (m : ℕ) × (walked under (numbered k (xs ++ ys)) ≡ walked last (numbered m ys))
+placed_past : (under : List ℕ) (k : ℕ) (xs ys : List (List ℕ)) → AllByRecursion (λ text. is_empty (word_at text) ≡ false) xs
+    → (last : List ℕ) × (m : ℕ) × (walked under (numbered k (xs ++ ys)) ≡ walked last (numbered m ys))
 placed_past under k [] ys h = (under, k, refl)
 placed_past under k (x ∷ xs) ys h =
     let line : Line = record { number = k; text = x } in
-    let later = placed_past (word_at x) (k + 1) xs ys h.1 in
-    (later.0, later.1, step_keyword (is_empty (word_at x)) (is_hash line) under (word_at x) line (numbered (k + 1) (xs ++ ys)) h.0 ∙ later.2)
+    let later = placed_past (word_at x) (k + 1) xs ys h.1 in (
+      later.0,
+      later.1,
+      step_keyword (is_empty (word_at x)) (is_hash line) under (word_at x) line (numbered (k + 1) (xs ++ ys)) h.0 ∙ later.2,
+    )
 
 abbrev under_all : List ℕ → List Line → List (List ℕ × Line)
 under_all word ls = map (λ line. (word, line)) ls
 
-placed_part : (under : List ℕ) (k : ℕ) (xs ys : List (List ℕ)) → AllByRecursion IsContent xs → (m : ℕ) × (walked under (numbered k (xs ++ ys)) ≡ under_all under (numbered k xs) ++ walked under (numbered m ys))
+placed_part : (under : List ℕ) (k : ℕ) (xs ys : List (List ℕ)) → AllByRecursion IsContent xs
+    → (m : ℕ) × (walked under (numbered k (xs ++ ys)) ≡ under_all under (numbered k xs) ++ walked under (numbered m ys))
 placed_part under k [] ys h = (k, refl)
 placed_part under k (x ∷ xs) ys h =
     let line : Line = record { number = k; text = x } in
-    let later = placed_part under (k + 1) xs ys h.1 in
-    (later.0, step_content (is_empty (word_at x)) (is_hash line) under (word_at x) line (numbered (k + 1) (xs ++ ys)) (ap is_empty h.0.word) h.0.hash ∙ ap (λ (places : List (List ℕ × Line)). (under, line) ∷ places) later.1)
+    let later = placed_part under (k + 1) xs ys h.1 in (
+      later.0,
+      step_content (is_empty (word_at x)) (is_hash line) under (word_at x) line (numbered (k + 1) (xs ++ ys))
+          (ap is_empty h.0.word) h.0.hash ∙ ap (λ (places : List (List ℕ × Line)). (under, line) ∷ places) later.1,
+    )
 
-has_word : (word : List ℕ) (o : Option (List ℕ)) → ((text : List ℕ) → is_empty (word_at (field_line word text)) ≡ false) → AllByRecursion (λ text. is_empty (word_at text) ≡ false) (one word o)
+has_word : (word : List ℕ) (o : Option (List ℕ)) → ((text : List ℕ) → is_empty (word_at (field_line word text)) ≡ false)
+    → AllByRecursion (λ text. is_empty (word_at text) ≡ false) (one word o)
 has_word word None h = tt
 has_word word (Some text) h = (h text, tt)
 
@@ -297,7 +362,9 @@ word_is_there License text = refl
 
 fields_words : (ts : Description) (fs : List Field) → AllByRecursion (λ text. is_empty (word_at text) ≡ false) (flat_map (part ts) fs)
 fields_words ts [] = tt
-fields_words ts (f ∷ fs) = all-append (λ text. is_empty (word_at text) ≡ false) (part ts f) (flat_map (part ts) fs) (has_word (field_word f) (text_of ts f) (word_is_there f)) (fields_words ts fs)
+fields_words ts (f ∷ fs) =
+    all-append (λ text. is_empty (word_at text) ≡ false) (part ts f) (flat_map (part ts) fs)
+    (has_word (field_word f) (text_of ts f) (word_is_there f)) (fields_words ts fs)
 
 no_places : (o : Option (List Bool)) (k : ℕ) → walked (codes "columns") (numbered k (one (codes "goal") (goal_text o))) ≡ []
 no_places None k = refl
@@ -308,7 +375,9 @@ record IsLaidOut (p : Nonogram) (places : List (List ℕ × Line)) : Type 0 wher
   above : ℕ
   rows_at : ℕ
   columns_at : ℕ
-  are : places ≡ (codes "height", record { number = above; text = [] }) ∷ (under_all (codes "rows") (numbered rows_at (row_part p)) ++ under_all (codes "columns") (numbered columns_at (column_part p)))
+  are : places
+      ≡ (codes "height", record { number = above; text = [] })
+      ∷ (under_all (codes "rows") (numbered rows_at (row_part p)) ++ under_all (codes "columns") (numbered columns_at (column_part p)))
 
 laid_out : (limit : ℕ) (p : Nonogram) → limit < 2 ^ 64 → IsNonogramWithin limit p → IsLaidOut p (placed (numbered 1 (texts_non p)))
 laid_out limit p wide lawful =
@@ -323,43 +392,56 @@ laid_out limit p wide lawful =
       above = start.1 + 1 + 1;
       rows_at = m;
       columns_at = rows.0 + 1;
-      are = sym (walked-placed (numbered 1 (texts_non p))) ∙ start.2 ∙ ap (λ (places : List (List ℕ × Line)). (codes "height", gap) ∷ places) (rows.1 ∙ ap (λ (places : List (List ℕ × Line)). row_places ++ places) (columns.1 ∙ ap (λ (places : List (List ℕ × Line)). column_places ++ places) (no_places p.goal columns.0) ∙ append-nil column_places));
+      are = sym (walked-placed (numbered 1 (texts_non p))) ∙ start.2
+          ∙ ap (λ (places : List (List ℕ × Line)). (codes "height", gap) ∷ places)
+          (rows.1 ∙ ap (λ (places : List (List ℕ × Line)). row_places ++ places)
+          (columns.1 ∙ ap (λ (places : List (List ℕ × Line)). column_places ++ places) (no_places p.goal columns.0)
+          ∙ append-nil column_places));
     }
 
 section_own : (word : List ℕ) (xs : List Line) → bytes_eq word word ≡ true → section word (under_all word xs) ≡ xs
 section_own word [] h = refl
 section_own word (x ∷ xs) h =
     let others = filter (λ (place : List ℕ × Line). bytes_eq place.0 word) (under_all word xs) in
-    ap (map (λ (place : List ℕ × Line). place.1)) (cond-true (bytes_eq word word) ((word, x) ∷ others) others h) ∙ ap (λ (ls : List Line). x ∷ ls) (section_own word xs h)
+    ap (map (λ (place : List ℕ × Line). place.1)) (cond-true (bytes_eq word word) ((word, x) ∷ others) others h)
+    ∙ ap (λ (ls : List Line). x ∷ ls) (section_own word xs h)
 
 section_other : (word under : List ℕ) (xs : List Line) → bytes_eq under word ≡ false → section word (under_all under xs) ≡ []
 section_other word under [] h = refl
 section_other word under (x ∷ xs) h =
     let others = filter (λ (place : List ℕ × Line). bytes_eq place.0 word) (under_all under xs) in
-    ap (map (λ (place : List ℕ × Line). place.1)) (cond-false (bytes_eq under word) ((under, x) ∷ others) others h) ∙ section_other word under xs h
+    ap (map (λ (place : List ℕ × Line). place.1)) (cond-false (bytes_eq under word) ((under, x) ∷ others) others h)
+    ∙ section_other word under xs h
 
 section-append : (word : List ℕ) (xs ys : List (List ℕ × Line)) → section word (xs ++ ys) ≡ section word xs ++ section word ys
 section-append word xs ys =
     let test = λ (place : List ℕ × Line). bytes_eq place.0 word in
-    ap (map (λ (place : List ℕ × Line). place.1)) (filter-append test xs ys) ∙ map-append (λ (place : List ℕ × Line). place.1) (filter test xs) (filter test ys)
+    ap (map (λ (place : List ℕ × Line). place.1)) (filter-append test xs ys)
+    ∙ map-append (λ (place : List ℕ × Line). place.1) (filter test xs) (filter test ys)
 
 section_rows : (xs ys : List Line) → section (codes "rows") (under_all (codes "rows") xs ++ under_all (codes "columns") ys) ≡ xs
 section_rows xs ys =
-    section-append (codes "rows") (under_all (codes "rows") xs) (under_all (codes "columns") ys) ∙ ap (λ (ls : List Line). ls ++ section (codes "rows") (under_all (codes "columns") ys)) (section_own (codes "rows") xs refl)
+    section-append (codes "rows") (under_all (codes "rows") xs) (under_all (codes "columns") ys)
+    ∙ ap (λ (ls : List Line). ls ++ section (codes "rows") (under_all (codes "columns") ys)) (section_own (codes "rows") xs refl)
     ∙ ap (λ (ls : List Line). xs ++ ls) (section_other (codes "rows") (codes "columns") ys refl) ∙ append-nil xs
 
 section_columns : (xs ys : List Line) → section (codes "columns") (under_all (codes "rows") xs ++ under_all (codes "columns") ys) ≡ ys
 section_columns xs ys =
-    section-append (codes "columns") (under_all (codes "rows") xs) (under_all (codes "columns") ys) ∙ ap (λ (ls : List Line). ls ++ section (codes "columns") (under_all (codes "columns") ys)) (section_other (codes "columns") (codes "rows") xs refl)
+    section-append (codes "columns") (under_all (codes "rows") xs) (under_all (codes "columns") ys)
+    ∙ ap (λ (ls : List Line). ls ++ section (codes "columns") (under_all (codes "columns") ys))
+    (section_other (codes "columns") (codes "rows") xs refl)
     ∙ section_own (codes "columns") ys refl
 
 filter_none : (ys : List Line) → AllByRecursion (λ line. is_full line ≡ false) ys → filter is_full ys ≡ []
 filter_none [] h = refl
 filter_none (y ∷ ys) h = cond-false (is_full y) (y ∷ filter is_full ys) (filter is_full ys) h.0 ∙ filter_none ys h.1
 
-choice_blank : (count : ℕ) (xs ys : List Line) → AllByRecursion (λ line. is_full line ≡ true) xs → AllByRecursion (λ line. is_full line ≡ false) ys → length xs ≡ count → choice count (xs ++ ys) ≡ Some xs
+choice_blank : (count : ℕ) (xs ys : List Line) → AllByRecursion (λ line. is_full line ≡ true) xs
+    → AllByRecursion (λ line. is_full line ≡ false) ys → length xs ≡ count → choice count (xs ++ ys) ≡ Some xs
 choice_blank count xs ys h g n =
-    let kept : filter is_full (xs ++ ys) ≡ xs = filter-append is_full xs ys ∙ ap (λ (ls : List Line). ls ++ filter is_full ys) (filter_is xs h) ∙ ap (λ (ls : List Line). xs ++ ls) (filter_none ys g) ∙ append-nil xs in
+    let kept : filter is_full (xs ++ ys) ≡ xs =
+    filter-append is_full xs ys ∙ ap (λ (ls : List Line). ls ++ filter is_full ys) (filter_is xs h)
+    ∙ ap (λ (ls : List Line). xs ++ ls) (filter_none ys g) ∙ append-nil xs in
     rw (kept, eq-eqb (length xs) count n) refl
 
 gap_blank : (k : ℕ) (o : Option (List Bool)) → AllByRecursion (λ line. is_full line ≡ false) (numbered k (goal_gap o))
@@ -367,11 +449,14 @@ gap_blank k None = tt
 gap_blank k (Some cells) = (refl, tt)
 
 -- the clue lines of a section: clue lines, and blank ones after them
-part_again : (limit k count : ℕ) (clues gap : List (List ℕ)) → limit < 2 ^ 64 → AllByRecursion (λ clue. is_clue limit clue ≡ true) clues → ((m : ℕ) → AllByRecursion (λ line. is_full line ≡ false) (numbered m gap)) → length clues ≡ count
+part_again : (limit k count : ℕ) (clues gap : List (List ℕ)) → limit < 2 ^ 64 → AllByRecursion (λ clue. is_clue limit clue ≡ true) clues
+    → ((m : ℕ) → AllByRecursion (λ line. is_full line ≡ false) (numbered m gap)) → length clues ≡ count
     → choice count (numbered k (map (clue_text 44) clues ++ gap)) ≡ Some (numbered k (map (clue_text 44) clues))
 part_again limit k count clues gap wide lawful blank n =
     let texts = map (clue_text 44) clues in
-    ap (choice count) (numbered-append k texts gap) ∙ choice_blank count (numbered k texts) (numbered (k + length texts) gap) (are_clues 44 limit k clues wide lawful).1 (blank (k + length texts)) (length-numbered k texts ∙ length-map clues (clue_text 44) ∙ n)
+    ap (choice count) (numbered-append k texts gap)
+    ∙ choice_blank count (numbered k texts) (numbered (k + length texts) gap) (are_clues 44 limit k clues wide lawful).1
+    (blank (k + length texts)) (length-numbered k texts ∙ length-map clues (clue_text 44) ∙ n)
 
 find_none : {X : Type 0} (p : X → Bool) (xs : List X) → AllByRecursion (λ x. p x ≡ false) xs → find p xs ≡ None
 find_none p [] h = refl
@@ -381,7 +466,8 @@ and_no : (b : Bool) → (b && false) ≡ false
 and_no true = refl
 and_no false = refl
 
-calm_under : (under : List ℕ) (xs : List Line) → ((line : Line) → is_stray (under, line) ≡ false) → AllByRecursion (λ place. is_stray place ≡ false) (under_all under xs)
+calm_under : (under : List ℕ) (xs : List Line) → ((line : Line) → is_stray (under, line) ≡ false)
+    → AllByRecursion (λ place. is_stray place ≡ false) (under_all under xs)
 calm_under under [] h = tt
 calm_under under (x ∷ xs) h = (h x, calm_under under xs h)
 
@@ -389,11 +475,18 @@ no_stray : (p : Nonogram) (places : List (List ℕ × Line)) → IsLaidOut p pla
 no_stray p places laid =
     let rows = under_all (codes "rows") (numbered laid.rows_at (row_part p)) in
     let columns = under_all (codes "columns") (numbered laid.columns_at (column_part p)) in
-    ap (find is_stray) laid.are ∙ find_none is_stray ((codes "height", record { number = laid.above; text = [] }) ∷ (rows ++ columns)) (refl, all-append (λ place. is_stray place ≡ false) rows columns (calm_under (codes "rows") (numbered laid.rows_at (row_part p)) (λ line. and_no (is_full line))) (calm_under (codes "columns") (numbered laid.columns_at (column_part p)) (λ line. and_no (is_full line))))
+    ap (find is_stray) laid.are
+    ∙ find_none is_stray ((codes "height", record { number = laid.above; text = [] }) ∷ (rows ++ columns)) (
+      refl,
+      all-append (λ place. is_stray place ≡ false) rows columns
+          (calm_under (codes "rows") (numbered laid.rows_at (row_part p)) (λ line. and_no (is_full line)))
+          (calm_under (codes "columns") (numbered laid.columns_at (column_part p)) (λ line. and_no (is_full line))),
+    )
 
 -- ---- checks
 
-six_none : (a b c d e f : Option ℕ) → a ≡ None → b ≡ None → c ≡ None → d ≡ None → e ≡ None → f ≡ None → least a (least b (least c (least d (least e (least f None))))) ≡ None
+six_none : (a b c d e f : Option ℕ) → a ≡ None → b ≡ None → c ≡ None → d ≡ None → e ≡ None → f ≡ None
+    → least a (least b (least c (least d (least e (least f None))))) ≡ None
 six_none a b c d e f p q r s t u = rw (p, q, r, s, t, u) refl
 
 four_none : (a b c d : Option ℕ) → a ≡ None → b ≡ None → c ≡ None → d ≡ None → least a (least b (least c (least d None))) ≡ None
@@ -409,15 +502,18 @@ each_cells (false ∷ cells) = ap (option_map (λ (ys : List Bool). false ∷ ys
 cells_again : (count : ℕ) (cells : List Bool) → is_goal count (Some cells) ≡ true → goal_cells count (map goal_byte cells) ≡ Some cells
 cells_again count cells lawful =
     let text = map goal_byte cells in
-    cond-true (eqb (length text) count) (each_some cell_of text) None (eq-eqb (length text) count (length-map cells goal_byte ∙ eqb-true (length cells) count lawful)) ∙ each_cells cells
+    cond-true (eqb (length text) count) (each_some cell_of text) None
+    (eq-eqb (length text) count (length-map cells goal_byte ∙ eqb-true (length cells) count lawful)) ∙ each_cells cells
 
 abbrev some_goal : List Bool → Result (Option (List Bool)) TextFault
 some_goal cells = Ok (Some cells)
 
-goal_again : (count : ℕ) (o : Option (List Bool)) (lines : List Line) → FieldIs (codes "goal") lines (goal_text o) → is_goal count o ≡ true → goal_of count (first_with (codes "goal") lines) ≡ Ok o
+goal_again : (count : ℕ) (o : Option (List Bool)) (lines : List Line) → FieldIs (codes "goal") lines (goal_text o) → is_goal count o ≡ true
+    → goal_of count (first_with (codes "goal") lines) ≡ Ok o
 goal_again count None lines is lawful = ap (λ (ls : List Line). goal_of count (slice_get ls 0)) is
 goal_again count (Some cells) lines is lawful =
-    ap (λ (ls : List Line). goal_of count (slice_get ls 0)) is.1 ∙ ap (λ (text : List ℕ). or_fault (BadGoal is.0.number) (goal_cells count text) >>= some_goal) is.2
+    ap (λ (ls : List Line). goal_of count (slice_get ls 0)) is.1
+    ∙ ap (λ (text : List ℕ). or_fault (BadGoal is.0.number) (goal_cells count text) >>= some_goal) is.2
     ∙ ap (λ (o : Option (List Bool)). or_fault (BadGoal is.0.number) o >>= some_goal) (cells_again count cells lawful)
 
 -- ---- the whole text
@@ -431,9 +527,14 @@ clued rows columns = Ok (rows, columns)
 abbrev after_columns : List (List ℕ) → List (List ℕ) → Result (List (List ℕ) × List (List ℕ)) TextFault
 after_columns columns rows = Ok (rows, columns)
 
-both_said : (limit : ℕ) (order : Bool) (a b : List Line) (x y : List (List ℕ)) → clues_of limit a ≡ Ok x → clues_of limit b ≡ Ok y → both_clues limit order a b ≡ clued x y
-both_said limit true a b x y e f = ap (λ (r : Result (List (List ℕ)) TextFault). r >>= λ rows. clues_of limit b >>= clued rows) e ∙ ap (λ (r : Result (List (List ℕ)) TextFault). r >>= clued x) f
-both_said limit false a b x y e f = ap (λ (r : Result (List (List ℕ)) TextFault). r >>= λ columns. clues_of limit a >>= after_columns columns) f ∙ ap (λ (r : Result (List (List ℕ)) TextFault). r >>= after_columns y) e
+both_said : (limit : ℕ) (order : Bool) (a b : List Line) (x y : List (List ℕ)) → clues_of limit a ≡ Ok x → clues_of limit b ≡ Ok y
+    → both_clues limit order a b ≡ clued x y
+both_said limit true a b x y e f =
+    ap (λ (r : Result (List (List ℕ)) TextFault). r >>= λ rows. clues_of limit b >>= clued rows) e
+    ∙ ap (λ (r : Result (List (List ℕ)) TextFault). r >>= clued x) f
+both_said limit false a b x y e f =
+    ap (λ (r : Result (List (List ℕ)) TextFault). r >>= λ columns. clues_of limit a >>= after_columns columns) f
+    ∙ ap (λ (r : Result (List (List ℕ)) TextFault). r >>= after_columns y) e
 
 abbrev all_texts : Option (List ℕ) → Option (List ℕ) → Option (List ℕ) → Option (List ℕ) → Option (List ℕ) → Description
 all_texts a b c d e = record { catalogue = a; title = b; by = c; copyright = d; license = e }
@@ -472,10 +573,13 @@ module _ (limit : ℕ) (p : Nonogram) (wide : limit < 2 ^ 64) (lawful : IsNonogr
       let h = height_line.0 in
       let wide_text : rest w ≡ decimal p.width = ap rest_of width_line.2 ∙ trimmed p.width lawful.size.width_to in
       let high_text : rest h ≡ decimal p.height = ap rest_of height_line.2 ∙ trimmed p.height lawful.size.height_to in
-      ap (λ (ls : List Line). or_fault NoSize (slice_get ls 0) >>= λ a. or_fault NoSize (first_with (codes "height") all_lines) >>= λ b. size_of limit (rest a) >>= λ width. size_of limit (rest b) >>= sized width) width_line.1
-      ∙ ap (λ (ls : List Line). or_fault NoSize (slice_get ls 0) >>= λ b. size_of limit (rest w) >>= λ width. size_of limit (rest b) >>= sized width) height_line.1
+      ap (λ (ls : List Line). or_fault NoSize (slice_get ls 0) >>= λ a. or_fault NoSize (first_with (codes "height") all_lines)
+      >>= λ b. size_of limit (rest a) >>= λ width. size_of limit (rest b) >>= sized width) width_line.1
+      ∙ ap (λ (ls : List Line). or_fault NoSize (slice_get ls 0) >>= λ b. size_of limit (rest w) >>= λ width. size_of limit (rest b)
+      >>= sized width) height_line.1
       ∙ ap (λ (text : List ℕ). size_of limit text >>= λ width. size_of limit (rest h) >>= sized width) wide_text
-      ∙ ap (λ (r : Result ℕ TextFault). r >>= λ width. size_of limit (rest h) >>= sized width) (size_again limit p.width wide lawful.size.width_from lawful.size.width_to)
+      ∙ ap (λ (r : Result ℕ TextFault). r >>= λ width. size_of limit (rest h) >>= sized width)
+      (size_again limit p.width wide lawful.size.width_from lawful.size.width_to)
       ∙ ap (λ (text : List ℕ). size_of limit text >>= sized p.width) high_text
       ∙ ap (λ (r : Result ℕ TextFault). r >>= sized p.width) (size_again limit p.height wide lawful.size.height_from lawful.size.height_to)
 
@@ -484,7 +588,8 @@ module _ (limit : ℕ) (p : Nonogram) (wide : limit < 2 ^ 64) (lawful : IsNonogr
 
   order_read : rows_first all_lines ≡ Ok order
   order_read =
-      ap (λ (ls : List Line). or_fault NoSection (slice_get ls 0) >>= λ a. or_fault NoSection (first_with (codes "columns") all_lines) >>= λ b. Ok (ltb a.number b.number)) rows_line.1
+      ap (λ (ls : List Line). or_fault NoSection (slice_get ls 0) >>= λ a. or_fault NoSection (first_with (codes "columns") all_lines)
+      >>= λ b. Ok (ltb a.number b.number)) rows_line.1
       ∙ ap (λ (ls : List Line). or_fault NoSection (slice_get ls 0) >>= λ (b : Line). Ok (ltb rows_line.0.number b.number)) columns_line.1
 
   laid : IsLaidOut p (placed all_lines)
@@ -505,16 +610,21 @@ module _ (limit : ℕ) (p : Nonogram) (wide : limit < 2 ^ 64) (lawful : IsNonogr
       (long_none (codes "copyright") all_lines p.texts.copyright (field_at Copyright) lawful.texts.copyright)
       (long_none (codes "license") all_lines p.texts.license (field_at License) lawful.texts.license)
 
-  second_none : (word : List ℕ) (text : List ℕ) → IsOne (with_keyword word all_lines) text → number_of_line (second_with word all_lines) ≡ None
+  second_none : (word : List ℕ) (text : List ℕ) → IsOne (with_keyword word all_lines) text
+      → number_of_line (second_with word all_lines) ≡ None
   second_none word text one = ap (λ (ls : List Line). number_of_line (slice_get ls 1)) one.1
 
   none_repeated : repeated all_lines ≡ None
   none_repeated =
-      four_none (number_of_line (second_with (codes "width") all_lines)) (number_of_line (second_with (codes "height") all_lines)) (number_of_line (second_with (codes "rows") all_lines)) (number_of_line (second_with (codes "columns") all_lines))
-      (second_none (codes "width") (size_text (codes "width") p.width) width_line) (second_none (codes "height") (size_text (codes "height") p.height) height_line) (second_none (codes "rows") (codes "rows") rows_line) (second_none (codes "columns") (codes "columns") columns_line)
+      four_none (number_of_line (second_with (codes "width") all_lines)) (number_of_line (second_with (codes "height") all_lines))
+      (number_of_line (second_with (codes "rows") all_lines)) (number_of_line (second_with (codes "columns") all_lines))
+      (second_none (codes "width") (size_text (codes "width") p.width) width_line)
+      (second_none (codes "height") (size_text (codes "height") p.height) height_line) (second_none (codes "rows") (codes "rows") rows_line)
+      (second_none (codes "columns") (codes "columns") columns_line)
 
   lines_checked : check_lines (sections_of (placed all_lines)).stray all_lines ≡ Ok tt
-  lines_checked = ap (λ (o : Option ℕ). refuse_at BadLine o >>= λ _. refuse_at Twice (repeated all_lines)) none_bad ∙ ap (refuse_at Twice) none_repeated
+  lines_checked =
+      ap (λ (o : Option ℕ). refuse_at BadLine o >>= λ _. refuse_at Twice (repeated all_lines)) none_bad ∙ ap (refuse_at Twice) none_repeated
 
   abbrev row_lines : List Line
   row_lines = numbered laid.rows_at (map (clue_text 44) p.rows)
@@ -525,26 +635,35 @@ module _ (limit : ℕ) (p : Nonogram) (wide : limit < 2 ^ 64) (lawful : IsNonogr
   rows_read : clue_lines_of p.height (sections_of (placed all_lines)).rows ≡ Ok row_lines
   rows_read =
       ap (λ (places : List (List ℕ × Line)). or_fault BadCount (choice p.height (section (codes "rows") places))) laid.are
-      ∙ ap (λ (ls : List Line). or_fault BadCount (choice p.height ls)) (section_rows (numbered laid.rows_at (row_part p)) (numbered laid.columns_at (column_part p)))
+      ∙ ap (λ (ls : List Line). or_fault BadCount (choice p.height ls))
+      (section_rows (numbered laid.rows_at (row_part p)) (numbered laid.columns_at (column_part p)))
       ∙ ap (or_fault BadCount) (part_again limit laid.rows_at p.height p.rows ([] ∷ []) wide lawful.rows (λ m. (refl, tt)) lawful.clues.0)
 
   columns_read : clue_lines_of p.width (sections_of (placed all_lines)).columns ≡ Ok column_lines
   columns_read =
       ap (λ (places : List (List ℕ × Line)). or_fault BadCount (choice p.width (section (codes "columns") places))) laid.are
-      ∙ ap (λ (ls : List Line). or_fault BadCount (choice p.width ls)) (section_columns (numbered laid.rows_at (row_part p)) (numbered laid.columns_at (column_part p)))
-      ∙ ap (or_fault BadCount) (part_again limit laid.columns_at p.width p.columns (goal_gap p.goal) wide lawful.columns (λ m. gap_blank m p.goal) lawful.clues.1)
+      ∙ ap (λ (ls : List Line). or_fault BadCount (choice p.width ls))
+      (section_columns (numbered laid.rows_at (row_part p)) (numbered laid.columns_at (column_part p)))
+      ∙ ap (or_fault BadCount)
+      (part_again limit laid.columns_at p.width p.columns (goal_gap p.goal) wide lawful.columns (λ m. gap_blank m p.goal) lawful.clues.1)
 
   clues_read : both_clues limit order row_lines column_lines ≡ clued p.rows p.columns
-  clues_read = both_said limit order row_lines column_lines p.rows p.columns (clues_again 44 limit laid.rows_at p.rows comma wide lawful.rows) (clues_again 44 limit laid.columns_at p.columns comma wide lawful.columns)
+  clues_read =
+      both_said limit order row_lines column_lines p.rows p.columns (clues_again 44 limit laid.rows_at p.rows comma wide lawful.rows)
+      (clues_again 44 limit laid.columns_at p.columns comma wide lawful.columns)
 
   goal_read : goal_of (p.width * p.height) (first_with (codes "goal") all_lines) ≡ Ok p.goal
   goal_read = goal_again (p.width * p.height) p.goal all_lines goal_field lawful.goal
 
   texts_read : texts_of all_lines ≡ p.texts
   texts_read =
-      same_texts (field_text (codes "catalogue") all_lines) (field_text (codes "title") all_lines) (field_text (codes "by") all_lines) (field_text (codes "copyright") all_lines) (field_text (codes "license") all_lines)
+      same_texts (field_text (codes "catalogue") all_lines) (field_text (codes "title") all_lines) (field_text (codes "by") all_lines)
+      (field_text (codes "copyright") all_lines) (field_text (codes "license") all_lines)
       p.texts.catalogue p.texts.title p.texts.by p.texts.copyright p.texts.license
-      (field_again (codes "catalogue") all_lines p.texts.catalogue (field_at Catalogue)) (field_again (codes "title") all_lines p.texts.title (field_at Title)) (field_again (codes "by") all_lines p.texts.by (field_at By)) (field_again (codes "copyright") all_lines p.texts.copyright (field_at Copyright)) (field_again (codes "license") all_lines p.texts.license (field_at License))
+      (field_again (codes "catalogue") all_lines p.texts.catalogue (field_at Catalogue))
+      (field_again (codes "title") all_lines p.texts.title (field_at Title)) (field_again (codes "by") all_lines p.texts.by (field_at By))
+      (field_again (codes "copyright") all_lines p.texts.copyright (field_at Copyright))
+      (field_again (codes "license") all_lines p.texts.license (field_at License))
 
   -- the lines of a written puzzle say that puzzle
   non_again : non_of limit all_lines ≡ Ok p
@@ -557,11 +676,17 @@ module _ (limit : ℕ) (p : Nonogram) (wide : limit < 2 ^ 64) (lawful : IsNonogr
       ∙ ap (λ (r : Result (List Line) TextFault). r >>= with_columns limit all_lines size order) rows_read
       ∙ ap (λ (r : Result (List Line) TextFault). r >>= with_clues limit all_lines size order row_lines) columns_read
       ∙ ap (λ (r : Result (List (List ℕ) × List (List ℕ)) TextFault). r >>= with_goal all_lines size) clues_read
-      ∙ ap (λ (r : Result (Option (List Bool)) TextFault). r >>= λ goal. Ok (record { width = p.width; height = p.height; rows = p.rows; columns = p.columns; texts = texts_of all_lines; goal = goal })) goal_read
-      ∙ ap (λ (ts : Description). Ok (record { width = p.width; height = p.height; rows = p.rows; columns = p.columns; texts = ts; goal = p.goal })) texts_read
+      ∙ ap (λ (r : Result (Option (List Bool)) TextFault). r
+      >>= λ goal.
+      Ok (record { width = p.width; height = p.height; rows = p.rows; columns = p.columns; texts = texts_of all_lines; goal = goal }))
+      goal_read
+      ∙ ap (λ (ts : Description).
+      Ok (record { width = p.width; height = p.height; rows = p.rows; columns = p.columns; texts = ts; goal = p.goal })) texts_read
 
 -- a written puzzle is read again, texts and goal included
 pub non_read_again : (limit : ℕ) (p : Nonogram) → limit ≤ 256 → IsNonogramWithin limit p → read_non limit (text_non p) ≡ Ok p
 non_read_again limit p wide lawful =
-    ap (λ (r : Result (List Line) TextFault). r >>= non_of limit) (cond-false (ltb 1048576 (length (text_non p))) (Err TooLong) (Ok (lines (text_non p))) (le-ltb 1048576 (length (text_non p)) (length_non limit p wide lawful)))
+    ap (λ (r : Result (List Line) TextFault). r >>= non_of limit)
+    (cond-false (ltb 1048576 (length (text_non p))) (Err TooLong) (Ok (lines (text_non p)))
+    (le-ltb 1048576 (length (text_non p)) (length_non limit p wide lawful)))
     ∙ ap (non_of limit) (lines_non limit p (omega arith) lawful) ∙ non_again limit p (omega arith) lawful

@@ -69,7 +69,8 @@ two_wide_nin = refl
 -- ---- each front of a .mk text
 
 fronts : map (λ n. read_mk 256 (take n (codes "1 2\n1\n#\n1\n2\n"))) (0 ∷ 1 ∷ 2 ∷ 3 ∷ 4 ∷ 5 ∷ 6 ∷ 7 ∷ 8 ∷ 9 ∷ 10 ∷ 11 ∷ 12 ∷ [])
-    ≡ Err NoSize ∷ Err NoSize ∷ Err NoSize ∷ Err NoSection ∷ Err NoSection ∷ Err NoSection ∷ Err NoSection ∷ Err BadCount ∷ Err BadCount ∷ Err BadCount ∷ Err BadCount ∷ Ok two_wide ∷ Ok two_wide ∷ []
+    ≡ Err NoSize ∷ Err NoSize ∷ Err NoSize ∷ Err NoSection ∷ Err NoSection ∷ Err NoSection ∷ Err NoSection ∷ Err BadCount ∷ Err
+    BadCount ∷ Err BadCount ∷ Err BadCount ∷ Ok two_wide ∷ Ok two_wide ∷ []
 fronts = refl
 
 -- ---- refused texts
@@ -114,7 +115,8 @@ non_bad_goal : read_non 256 (codes "width 1\nheight 1\nrows\n1\ncolumns\n1\ngoal
 non_bad_goal = refl
 
 -- carriage returns, and a blank line for the empty clue
-non_crlf : read_non 256 (codes "width 2\r\nheight 3\r\nrows\r\n1\r\n\r\n2\r\ncolumns\r\n1,1\r\n1\r\n") ≡ Ok (plain 2 3 ((1 ∷ []) ∷ [] ∷ (2 ∷ []) ∷ []) ((1 ∷ 1 ∷ []) ∷ (1 ∷ []) ∷ []))
+non_crlf : read_non 256 (codes "width 2\r\nheight 3\r\nrows\r\n1\r\n\r\n2\r\ncolumns\r\n1,1\r\n1\r\n")
+    ≡ Ok (plain 2 3 ((1 ∷ []) ∷ [] ∷ (2 ∷ []) ∷ []) ((1 ∷ 1 ∷ []) ∷ (1 ∷ []) ∷ []))
 non_crlf = refl
 
 -- ---- sizes and limits
@@ -139,7 +141,8 @@ stray_before = refl
 nameless : cut (codes "@ a.mk\n@\n") ≡ Err (Stray 2)
 nameless = refl
 
-two_entries : cut (codes "\n@ a.mk\n1 1\n@b\n@\tb.nin \r\n") ≡ Ok (record { name = codes "a.mk"; body = codes "1 1\n@b\n" } ∷ record { name = codes "b.nin"; body = [] } ∷ [])
+two_entries : cut (codes "\n@ a.mk\n1 1\n@b\n@\tb.nin \r\n")
+    ≡ Ok (record { name = codes "a.mk"; body = codes "1 1\n@b\n" } ∷ record { name = codes "b.nin"; body = [] } ∷ [])
 two_entries = refl
 
 word : word_of_text (BadNumber 2) ≡ codes "BadNumber:2"

@@ -8,11 +8,13 @@ use Rattle.std.proofs.lemmas.List.Sums.{length-filter}
 use Rattle.puzzle_text.specs.Lines.{Line, is_full, is_blank_line}
 use Rattle.puzzle_text.specs.Sections.{choice, front}
 
-kept : {X Y : Type 0} (view : X → Y) (b : Bool) (x : X) (xs : List X) (ys : List Y) → ys ≡ map view xs → cond b (view x ∷ ys) ys ≡ map view (cond b (x ∷ xs) xs)
+kept : {X Y : Type 0} (view : X → Y) (b : Bool) (x : X) (xs : List X) (ys : List Y) → ys ≡ map view xs
+    → cond b (view x ∷ ys) ys ≡ map view (cond b (x ∷ xs) xs)
 kept {X} {Y} view true x xs ys e = ap (λ (zs : List Y). view x ∷ zs) e
 kept view false x xs ys e = e
 
-pub filter-map : {X Y : Type 0} (p : Y → Bool) (view : X → Y) (xs : List X) → filter p (map view xs) ≡ map view (filter (λ x. p (view x)) xs)
+pub filter-map : {X Y : Type 0} (p : Y → Bool) (view : X → Y) (xs : List X)
+    → filter p (map view xs) ≡ map view (filter (λ x. p (view x)) xs)
 filter-map p view [] = refl
 filter-map p view (x ∷ xs) = kept view (p (view x)) x (filter (λ y. p (view y)) xs) (filter p (map view xs)) (filter-map p view xs)
 
@@ -26,22 +28,27 @@ module _ {X : Type 0} (view : X → Line) where
   full_of section = filter (λ x. is_full (view x)) section
 
   same_count : (section : List X) → length (filter is_full (map view section)) ≡ count_by (λ x. is_full (view x)) section
-  same_count section = rw (filter-map is_full view section, length-map (full_of section) view) (length-filter (λ x. is_full (view x)) section)
+  same_count section =
+      rw (filter-map is_full view section, length-map (full_of section) view) (length-filter (λ x. is_full (view x)) section)
 
   pub length_full : (section full : List X) → full ≡ full_of section → length full ≡ count_by (λ x. is_full (view x)) section
   length_full section full e = ap length e ∙ length-filter (λ x. is_full (view x)) section
 
-  pub choice_full : (count : ℕ) (section full : List X) → full ≡ full_of section → count_by (λ x. is_full (view x)) section ≡ count → choice count (map view section) ≡ Some (map view full)
+  pub choice_full : (count : ℕ) (section full : List X) → full ≡ full_of section → count_by (λ x. is_full (view x)) section ≡ count
+      → choice count (map view section) ≡ Some (map view full)
   choice_full count section full e n =
       let enough : eqb (length (filter is_full (map view section))) count ≡ true = eq-eqb _ _ (same_count section ∙ n) in
       rw (enough, filter-map is_full view section, ← e) refl
 
   -- ---- the first lines
 
-  pub front_first : (count : ℕ) (section : List X) → count ≤ length section → list_all (λ x. is_blank_line (view x)) (drop count section) ≡ true → front count (map view section) ≡ Some (map view (take count section))
+  pub front_first : (count : ℕ) (section : List X) → count ≤ length section
+      → list_all (λ x. is_blank_line (view x)) (drop count section) ≡ true
+      → front count (map view section) ≡ Some (map view (take count section))
   front_first count section long blank =
       let within : leb count (length (map view section)) ≡ true = le-leb _ _ (omega (arith, length-map section view)) in
-      let empty : list_all is_blank_line (drop count (map view section)) ≡ true = rw (drop-map view count section, list_all-map is_blank_line view (drop count section)) blank in
+      let empty : list_all is_blank_line (drop count (map view section)) ≡ true =
+      rw (drop-map view count section, list_all-map is_blank_line view (drop count section)) blank in
       rw (within, empty, take-map view count section) refl
 
   pub front_short : (count : ℕ) (section : List X) → length section < count → front count (map view section) ≡ None
@@ -49,20 +56,24 @@ module _ {X : Type 0} (view : X → Line) where
       let past : leb count (length (map view section)) ≡ false = lt-leb _ _ (omega (arith, length-map section view)) in
       rw past refl
 
-  pub front_mixed : (count : ℕ) (section : List X) → count ≤ length section → list_all (λ x. is_blank_line (view x)) (drop count section) ≡ false → front count (map view section) ≡ None
+  pub front_mixed : (count : ℕ) (section : List X) → count ≤ length section
+      → list_all (λ x. is_blank_line (view x)) (drop count section) ≡ false → front count (map view section) ≡ None
   front_mixed count section long blank =
       let within : leb count (length (map view section)) ≡ true = le-leb _ _ (omega (arith, length-map section view)) in
-      let empty : list_all is_blank_line (drop count (map view section)) ≡ false = rw (drop-map view count section, list_all-map is_blank_line view (drop count section)) blank in
+      let empty : list_all is_blank_line (drop count (map view section)) ≡ false =
+      rw (drop-map view count section, list_all-map is_blank_line view (drop count section)) blank in
       rw (within, empty) refl
 
-  pub choice_none : (count : ℕ) (section : List X) → front count (map view section) ≡ None → (count_by (λ x. is_full (view x)) section ≡ count → ⊥) → choice count (map view section) ≡ None
+  pub choice_none : (count : ℕ) (section : List X) → front count (map view section) ≡ None
+      → (count_by (λ x. is_full (view x)) section ≡ count → ⊥) → choice count (map view section) ≡ None
   choice_none count section none n =
       let other : eqb (length (filter is_full (map view section))) count ≡ false = ne_eqb _ _ (λ m. n (sym (same_count section) ∙ m)) in
       rw other none
 
 -- ---- the first lines are the choice, if they are there at all
 
-kept_some : (b : Bool) (line : Line) (full : List Line) (n : ℕ) → length (cond b (line ∷ full) full) ≡ suc n → length full ≤ n → (b ≡ true) × (length full ≡ n)
+kept_some : (b : Bool) (line : Line) (full : List Line) (n : ℕ) → length (cond b (line ∷ full) full) ≡ suc n → length full ≤ n
+    → (b ≡ true) × (length full ≡ n)
 kept_some true line full n e le = (refl, omega arith)
 kept_some false line full n e le = absurd (omega arith)
 
@@ -87,7 +98,8 @@ none_kept (line ∷ lines) blank =
     let parts = and_parts (is_blank_line line) (list_all is_blank_line lines) blank in
     rw parts.0 (none_kept lines parts.1)
 
-front_kept : (count : ℕ) (lines : List Line) → count ≤ length lines → list_all is_blank_line (drop count lines) ≡ true → length (filter is_full lines) ≡ count → filter is_full lines ≡ take count lines
+front_kept : (count : ℕ) (lines : List Line) → count ≤ length lines → list_all is_blank_line (drop count lines) ≡ true
+    → length (filter is_full lines) ≡ count → filter is_full lines ≡ take count lines
 front_kept count lines within blank enough =
     let first = take count lines in
     let whole : filter is_full lines ≡ filter is_full first =
@@ -96,7 +108,8 @@ front_kept count lines within blank enough =
     whole ∙ all_kept first (ap length (sym whole) ∙ enough ∙ sym (length-take-le count lines within))
 
 front_choice : (enough within blank : Bool) (full first found : List Line) → (enough ≡ true → within ≡ true → blank ≡ true → full ≡ first)
-    → cond (within && blank) (Some first) None ≡ Some found → cond enough (Some full) (cond (within && blank) (Some first) None) ≡ Some found
+    → cond (within && blank) (Some first) None ≡ Some found
+    → cond enough (Some full) (cond (within && blank) (Some first) None) ≡ Some found
 front_choice true true true full first found same e = ap Some (same refl refl refl) ∙ e
 front_choice true true false full first found same e = absurd cc
 front_choice true false blank full first found same e = absurd cc
@@ -105,13 +118,17 @@ front_choice false within blank full first found same e = e
 pub front_chosen : (count : ℕ) (lines found : List Line) → front count lines ≡ Some found → choice count lines ≡ Some found
 front_chosen count lines found e =
     let full = filter is_full lines in
-    front_choice (eqb (length full) count) (leb count (length lines)) (list_all is_blank_line (drop count lines)) full (take count lines) found
+    front_choice (eqb (length full) count) (leb count (length lines)) (list_all is_blank_line (drop count lines)) full
+    (take count lines) found
     (λ enough within blank. front_kept count lines (leb-true _ _ within) blank (eqb-true _ _ enough)) e
 
-front_length_of : (within blank : Bool) (first found : List Line) (count : ℕ) → (within ≡ true → length first ≡ count) → cond (within && blank) (Some first) None ≡ Some found → length found ≡ count
+front_length_of : (within blank : Bool) (first found : List Line) (count : ℕ) → (within ≡ true → length first ≡ count)
+    → cond (within && blank) (Some first) None ≡ Some found → length found ≡ count
 front_length_of true true first found count same e = let is : first ≡ found = cc in ap length (sym is) ∙ same refl
 front_length_of true false first found count same e = absurd cc
 front_length_of false blank first found count same e = absurd cc
 
 pub front_length : (count : ℕ) (lines found : List Line) → front count lines ≡ Some found → length found ≡ count
-front_length count lines found e = front_length_of (leb count (length lines)) (list_all is_blank_line (drop count lines)) (take count lines) found count (λ within. length-take-le count lines (leb-true _ _ within)) e
+front_length count lines found e =
+    front_length_of (leb count (length lines)) (list_all is_blank_line (drop count lines)) (take count lines) found count
+    (λ within. length-take-le count lines (leb-true _ _ within)) e

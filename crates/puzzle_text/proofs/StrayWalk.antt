@@ -28,7 +28,8 @@ abbrev stray_number : List (List ℕ) → List (ℕ × List ℕ) → Option ℕ
 stray_number whole numbered = option_map (λ one. one.0 + 1) (find (stray_in whole) numbered)
 
 -- the same at one line, by what is told of it
-at_line : (marker nameless blank inside : Bool) (place : ℕ) (raw : List ℕ) (found : Option (ℕ × List ℕ)) (later : Option ℕ) → later ≡ option_map (λ one. one.0 + 1) found
+at_line : (marker nameless blank inside : Bool) (place : ℕ) (raw : List ℕ) (found : Option (ℕ × List ℕ)) (later : Option ℕ)
+    → later ≡ option_map (λ one. one.0 + 1) found
     → cond marker (cond nameless (Some (place + 1)) later) (cond (inside || blank) later (Some (place + 1)))
     ≡ option_map (λ one. one.0 + 1) (cond (cond marker nameless (not inside && not blank)) (Some (place, raw)) found)
 at_line true true blank inside place raw found later e = refl
@@ -42,21 +43,27 @@ either-false true = refl
 either-false false = refl
 
 -- the walk below some lines
-walk_below : (front raws : List (List ℕ)) → stray_from (length front + 1) (list_any is_marker front) raws ≡ stray_number (front ++ raws) (enumerate_from (length front) raws)
+walk_below : (front raws : List (List ℕ))
+    → stray_from (length front + 1) (list_any is_marker front) raws ≡ stray_number (front ++ raws) (enumerate_from (length front) raws)
 walk_below front [] = refl
 walk_below front (raw ∷ raws) =
     let whole = front ++ raw ∷ raws in
     let regrouped : (front ++ raw ∷ []) ++ raws ≡ whole = append_assoc front (raw ∷ []) raws in
     let inside : list_any is_marker (front ++ raw ∷ []) ≡ (list_any is_marker front || is_marker raw) =
     list_any-append is_marker front (raw ∷ []) ∙ ap (λ (b : Bool). list_any is_marker front || b) (either-false (is_marker raw)) in
-    let next : stray_from (length front + 1 + 1) (list_any is_marker front || is_marker raw) raws ≡ stray_number whole (enumerate_from (length front + 1) raws) =
+    let next : stray_from (length front + 1 + 1) (list_any is_marker front || is_marker raw) raws
+    ≡ stray_number whole (enumerate_from (length front + 1) raws) =
     ap (λ (b : Bool). stray_from (length front + 1 + 1) b raws) (sym inside)
     ∙ ap (λ (place : ℕ). stray_from (place + 1) (list_any is_marker (front ++ raw ∷ [])) raws) (sym (length-append front (raw ∷ [])))
     ∙ walk_below (front ++ raw ∷ []) raws
     ∙ ap (λ (all : List (List ℕ)). stray_number all (enumerate_from (length (front ++ raw ∷ [])) raws)) regrouped
     ∙ ap (λ (place : ℕ). stray_number whole (enumerate_from place raws)) (length-append front (raw ∷ [])) in
-    at_line (is_marker raw) (is_empty (name_of raw)) (is_empty (trim (without_ending raw))) (list_any is_marker front) (length front) raw (find (stray_in whole) (enumerate_from (length front + 1) raws)) _ next
-    ∙ ap (λ (above : List (List ℕ)). option_map (λ (one : ℕ × List ℕ). one.0 + 1) (cond (is_stray above raw) (Some (length front, raw)) (find (stray_in whole) (enumerate_from (length front + 1) raws)))) (sym (take-append_seam front (raw ∷ raws)))
+    at_line (is_marker raw) (is_empty (name_of raw)) (is_empty (trim (without_ending raw))) (list_any is_marker front) (length front) raw
+    (find (stray_in whole) (enumerate_from (length front + 1) raws)) _ next
+    ∙ ap (λ (above : List (List ℕ)).
+    option_map (λ (one : ℕ × List ℕ). one.0 + 1)
+    (cond (is_stray above raw) (Some (length front, raw)) (find (stray_in whole) (enumerate_from (length front + 1) raws))))
+    (sym (take-append_seam front (raw ∷ raws)))
 
 -- the walk from the top finds the first stray line
 pub stray_from-first : (raws : List (List ℕ)) → stray_from 1 false raws ≡ first_stray raws
@@ -64,8 +71,10 @@ stray_from-first raws = walk_below [] raws
 
 -- ---- where each entry has a name
 
-named_line : (marker blank : Bool) (number : ℕ) (later : Option ℕ) (entry : Entry) (others : List Entry) → (are_named others ≡ true → later ≡ None)
-    → are_named (cond marker (entry ∷ others) others) ≡ true → cond marker (cond (is_empty entry.name) (Some number) later) (cond (true || blank) later (Some number)) ≡ None
+named_line : (marker blank : Bool) (number : ℕ) (later : Option ℕ) (entry : Entry) (others : List Entry)
+    → (are_named others ≡ true → later ≡ None)
+    → are_named (cond marker (entry ∷ others) others) ≡ true
+    → cond marker (cond (is_empty entry.name) (Some number) later) (cond (true || blank) later (Some number)) ≡ None
 named_line true blank number later entry others none named =
     let parts = and_parts (not (is_empty entry.name)) (are_named others) named in
     rw (not_true (is_empty entry.name) parts.0) (none parts.1)
@@ -75,9 +84,11 @@ named_line false blank number later entry others none named = none named
 none_below : (number : ℕ) (raws : List (List ℕ)) → are_named (entries_of raws) ≡ true → stray_from number true raws ≡ None
 none_below number [] named = refl
 none_below number (raw ∷ raws) named =
-    named_line (is_marker raw) (is_empty (trim (without_ending raw))) number (stray_from (number + 1) true raws) (record { name = name_of raw; body = body_of raws }) (entries_of raws) (none_below (number + 1) raws) named
+    named_line (is_marker raw) (is_empty (trim (without_ending raw))) number (stray_from (number + 1) true raws)
+    (record { name = name_of raw; body = body_of raws }) (entries_of raws) (none_below (number + 1) raws) named
 
-from_first : (number : ℕ) (raws : List (List ℕ)) → begins_with_marker raws ≡ true → are_named (entries_of raws) ≡ true → stray_from number false raws ≡ None
+from_first : (number : ℕ) (raws : List (List ℕ)) → begins_with_marker raws ≡ true → are_named (entries_of raws) ≡ true
+    → stray_from number false raws ≡ None
 from_first number [] marker named = refl
 from_first number (raw ∷ raws) marker named = rw marker (rw marker at (none_below number (raw ∷ raws) named))
 
@@ -86,6 +97,7 @@ pub none_stray : (raws : List (List ℕ)) → begins_with_marker raws ≡ true �
 none_stray raws marker named = sym (stray_from-first raws) ∙ from_first 1 raws marker named
 
 -- how many entries there are, if each has a name: then no line is stray
-pub sound : (named : Bool) (total : ℕ) (found : Option ℕ) → (named ≡ true → found ≡ None) → IfSome (cond named (Some total) None) (λ count. (found ≡ None) × (count ≡ total))
+pub sound : (named : Bool) (total : ℕ) (found : Option ℕ) → (named ≡ true → found ≡ None)
+    → IfSome (cond named (Some total) None) (λ count. (found ≡ None) × (count ≡ total))
 sound true total found none = (none refl, refl)
 sound false total found none = tt

@@ -64,7 +64,8 @@ is_stray above raw =
 
 -- the number of the first such line, from 1
 abbrev pub first_stray : List (List ℕ) → Option ℕ
-first_stray raws = option_map (λ numbered. numbered.0 + 1) (find (λ numbered. is_stray (take numbered.0 raws) numbered.1) (enumerate_from 0 raws))
+first_stray raws =
+    option_map (λ numbered. numbered.0 + 1) (find (λ numbered. is_stray (take numbered.0 raws) numbered.1) (enumerate_from 0 raws))
 
 -- the first check that fails, or the entries
 abbrev pub checked : Option ℕ → List Entry → Result (List Entry) CollectionFault

@@ -48,14 +48,16 @@ puzzle_of limit width height chosen = clues_of limit chosen >>= λ clues. Ok (re
 
 -- the puzzle that the clue lines of both sections say
 abbrev pub puzzle_of_both : ℕ → ℕ → ℕ → List Line → List Line → Result Nonogram TextFault
-puzzle_of_both limit width height rows columns = both_clues limit true rows columns >>= λ clues. Ok (reading width height (clues.0 ++ clues.1))
+puzzle_of_both limit width height rows columns =
+    both_clues limit true rows columns >>= λ clues. Ok (reading width height (clues.0 ++ clues.1))
 
 -- the puzzle that these lines say: the height stands first in the size line, unless only the other order has clue lines in both sections
 abbrev pub mk_of : ℕ → List Line → Result Nonogram TextFault
 mk_of limit lines = do
   size ← size_line limit lines
   parts ← or_fault NoSection (at_hash size.1)
-  fitting ← or_fault BadCount (or_else (layout size.0.1 size.0.0 parts.0 (before_hash parts.1)) (layout size.0.0 size.0.1 parts.0 (before_hash parts.1)))
+  fitting ← or_fault BadCount
+      (or_else (layout size.0.1 size.0.0 parts.0 (before_hash parts.1)) (layout size.0.0 size.0.1 parts.0 (before_hash parts.1)))
   puzzle_of limit fitting.width fitting.height fitting.chosen
 
 -- the puzzle that a text says

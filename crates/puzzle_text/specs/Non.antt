@@ -30,7 +30,8 @@ last_keyword lines = unwrap_or (option_map keyword (last_or None (filter is_keyw
 -- each such line, beside the keyword of the last keyword line above it
 abbrev pub placed : List Line → List (List ℕ × Line)
 placed lines =
-    map (λ numbered. (last_keyword (take numbered.0 lines), numbered.1)) (filter (λ numbered. is_content numbered.1) (enumerate_from 0 lines))
+    map (λ numbered. (last_keyword (take numbered.0 lines), numbered.1))
+    (filter (λ numbered. is_content numbered.1) (enumerate_from 0 lines))
 
 -- the lines of the section that a keyword opens
 abbrev pub section : List ℕ → List (List ℕ × Line) → List Line
@@ -74,7 +75,8 @@ refuse_at fault (Some number) = Err (fault number)
 
 -- the first line of a text field, if its text is too long
 abbrev pub long_text : List Line → List ℕ → Option Line
-long_text lines word = option_and_then (λ line. if nat_lt LONGEST_TEXT (length (quoted_text line)) then Some line else None) (first_with word lines)
+long_text lines word =
+    option_and_then (λ line. if nat_lt LONGEST_TEXT (length (quoted_text line)) then Some line else None) (first_with word lines)
 
 -- the keywords of the text fields
 abbrev pub text_words : List (List ℕ)
@@ -125,8 +127,10 @@ clue_lines_of count section = or_fault BadCount (choice count section)
 
 -- the row clues and the column clues; of the two sections the one that stands first in the text is checked first
 abbrev pub both_clues : ℕ → Bool → List Line → List Line → Result (List (List ℕ) × List (List ℕ)) TextFault
-both_clues limit true rows columns = clues_of limit rows >>= λ row_clues. clues_of limit columns >>= λ column_clues. Ok (row_clues, column_clues)
-both_clues limit false rows columns = clues_of limit columns >>= λ column_clues. clues_of limit rows >>= λ row_clues. Ok (row_clues, column_clues)
+both_clues limit true rows columns =
+    clues_of limit rows >>= λ row_clues. clues_of limit columns >>= λ column_clues. Ok (row_clues, column_clues)
+both_clues limit false rows columns =
+    clues_of limit columns >>= λ column_clues. clues_of limit rows >>= λ row_clues. Ok (row_clues, column_clues)
 
 -- the colour that a goal's byte says, true for filled
 abbrev pub cell_of : ℕ → Option Bool

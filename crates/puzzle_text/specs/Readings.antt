@@ -21,4 +21,5 @@ is_admissible p = list_all (fits p.width) p.rows && list_all (fits p.height) p.c
 
 -- the reading with the first size as the width, unless only the other one is admissible
 abbrev pub likelier : ℕ → ℕ → List (List ℕ) → Nonogram
-likelier a b clues = if not (is_admissible (reading a b clues)) && is_admissible (reading b a clues) then reading b a clues else reading a b clues
+likelier a b clues =
+    if not (is_admissible (reading a b clues)) && is_admissible (reading b a clues) then reading b a clues else reading a b clues

@@ -20,7 +20,8 @@ shown_keyword found = shown_line found.line
 
 -- the lines of both sections, and the number of the first stray line
 abbrev pub shown_sections : KeptSections → Sections
-shown_sections sections = record { rows = map shown_line sections.rows.items; columns = map shown_line sections.columns.items; stray = sections.stray }
+shown_sections sections =
+    record { rows = map shown_line sections.rows.items; columns = map shown_line sections.columns.items; stray = sections.stray }
 
 -- clue lines
 abbrev pub shown_chosen : Chosen → List Line

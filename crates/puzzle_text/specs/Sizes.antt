@@ -18,7 +18,8 @@ first_full (line ∷ lines) = if is_full line then Some (line, lines) else first
 
 -- the size that a piece says, from 1 to the limit
 abbrev pub size_of : ℕ → List ℕ → Result ℕ TextFault
-size_of limit piece = or_fault BadSize (option_and_then (λ number. if nat_le 1 number then Some number else None) (number_within limit piece))
+size_of limit piece =
+    or_fault BadSize (option_and_then (λ number. if nat_le 1 number then Some number else None) (number_within limit piece))
 
 -- the sizes that two pieces say; other pieces than two say none
 abbrev pub two_sizes : ℕ → List (List ℕ) → Result (ℕ × ℕ) TextFault

@@ -15,11 +15,15 @@ loop-j-init g c =
     let line = g.line in
     let clue = c.args.clue.now in
     let pass = c.new-pass.ensures line (map number c.windows_within-windows.result) c.requires.1.1.0 c.windows_within-windows.ensures in
-    let gap : IsMaskOf (IsGap line clue 0) (number c.gap.result) = subst (λ m. IsMaskOf (IsGap line clue 0) (number m)) (sym c.gap.ensures) pass.gap_is in
+    let gap : IsMaskOf (IsGap line clue 0) (number c.gap.result) =
+    subst (λ m. IsMaskOf (IsGap line clue 0) (number m)) (sym c.gap.ensures) pass.gap_is in
     record {
       pass = pass;
-      blank = blank_first line clue (number c.gap.result) (number c.gap_ahead.result) (number c.and-blankable.result) gap c.gap_ahead.ensures c.and-blankable.ensures;
-      filled = levels_none (λ i. (q : ℕ) × (q < 0) × SomeFrom (IsWholeEnd line clue q) (get_or clue q 0) i) g.W.PlaceSet.TOP _ (none_at number c.none-spread.result c.none-spread.ensures 9) (λ i h. let b : h.0 < 0 = h.1 in absurd (omega arith));
+      blank = blank_first line clue (number c.gap.result) (number c.gap_ahead.result)
+          (number c.and-blankable.result) gap c.gap_ahead.ensures c.and-blankable.ensures;
+      filled =
+          levels_none (λ i. (q : ℕ) × (q < 0) × SomeFrom (IsWholeEnd line clue q) (get_or clue q 0) i) g.W.PlaceSet.TOP _
+          (none_at number c.none-spread.result c.none-spread.ensures 9) (λ i h. let b : h.0 < 0 = h.1 in absurd (omega arith));
     }
 
 pub step-ends-requires : goal.step-ends-requires
@@ -31,8 +35,16 @@ step-ends-requires g c =
 
 pub inner_ends-whole-requires : goal.inner_ends-whole-requires
 inner_ends-whole-requires g c = λ κs within.
-    let test = c.loop-j-test.true in
-    (within, (c.requires.1.1.1.0, (omega arith, (c.step-ends.ensures.ends g.line (behind 0 c.args.clue.now c.loop-j.j) c.loop-j.invariant.pass, c.gap_ahead-ahead.ensures))))
+    let test = c.loop-j-test.true in (
+      within,
+      (
+        c.requires.1.1.1.0,
+        (
+          omega arith,
+          (c.step-ends.ensures.ends g.line (behind 0 c.args.clue.now c.loop-j.j) c.loop-j.invariant.pass, c.gap_ahead-ahead.ensures),
+        ),
+      ),
+    )
 
 pub loop-j-preserved : goal.loop-j-preserved
 loop-j-preserved g c =
@@ -42,13 +54,22 @@ loop-j-preserved g c =
     let j = c.loop-j.j in
     let invariant = c.loop-j.invariant in
     let new = c.step-ends.new.self in
-    let pass = runs_more (λ (runs : List ℕ). IsPassOver g.W.PlaceSet.WIDTH g.W.PlaceSet.TOP line runs (number new.free) (map number c.windows_within-windows.result) (number new.opening) (number new.gap)) clue j (get_or clue j 0) refl
+    let pass =
+    runs_more
+    (λ (runs : List ℕ).
+    IsPassOver g.W.PlaceSet.WIDTH g.W.PlaceSet.TOP line runs (number new.free) (map number c.windows_within-windows.result)
+    (number new.opening) (number new.gap)) clue j (get_or clue j 0) refl
     (c.step-ends.ensures.passed line (behind 0 clue j) invariant.pass) in
-    let gap : IsMaskOf (IsGap line clue (j + 1)) (number c.gap-in-loop-j.result) = subst (λ m. IsMaskOf (IsGap line clue (j + 1)) (number m)) (sym c.gap-in-loop-j.ensures) pass.gap_is in
+    let gap : IsMaskOf (IsGap line clue (j + 1)) (number c.gap-in-loop-j.result) =
+    subst (λ m. IsMaskOf (IsGap line clue (j + 1)) (number m)) (sym c.gap-in-loop-j.ensures) pass.gap_is in
     record {
       pass = pass;
-      blank = blank_more line clue j (number c.gap-in-loop-j.result) (number c.gap_ahead-ahead.result) (number c.loop-j.blankable) (number c.and.result) (number c.or-blankable.result) gap c.gap_ahead-ahead.ensures invariant.blank c.and.ensures c.or-blankable.ensures;
-      filled = fill_more line clue g.W.PlaceSet.TOP j (number c.inner_ends-whole.result) (map number c.loop-j.spread) (map number c.add_ends.new.levels) c.inner_ends-whole.ensures c.add_ends.ensures invariant.filled;
+      blank = blank_more line clue j (number c.gap-in-loop-j.result) (number c.gap_ahead-ahead.result) (number c.loop-j.blankable)
+          (number c.and.result)
+          (number c.or-blankable.result) gap c.gap_ahead-ahead.ensures invariant.blank c.and.ensures c.or-blankable.ensures;
+      filled =
+          fill_more line clue g.W.PlaceSet.TOP j (number c.inner_ends-whole.result) (map number c.loop-j.spread)
+          (map number c.add_ends.new.levels) c.inner_ends-whole.ensures c.add_ends.ensures invariant.filled;
     }
 
 -- the pass has come to the last run
@@ -64,7 +85,10 @@ whole_ends-last_whole-requires g c = λ κs within.
     let some : 0 < length clue = (let ne = eqb-false (length clue) 0 (sym c.is_empty.ensures ∙ c.if-is_empty.false) in omega arith) in
     let pass = c.loop-j.pass in
     let e : c.loop-j.j ≡ last = (let test = c.loop-j-test.false in omega arith) in
-    let at = pass_at_last (λ n. IsPassOver g.W.PlaceSet.WIDTH g.W.PlaceSet.TOP line (behind 0 clue n) (number pass.free) (map number c.windows_within-windows.result) (number pass.opening) (number pass.gap)) c.loop-j.j last e c.loop-j.invariant.pass in
+    let at =
+    pass_at_last
+    (λ n. IsPassOver g.W.PlaceSet.WIDTH g.W.PlaceSet.TOP line (behind 0 clue n) (number pass.free)
+    (map number c.windows_within-windows.result) (number pass.opening) (number pass.gap)) c.loop-j.j last e c.loop-j.invariant.pass in
     let all : length clue ≡ last + 1 = omega arith in (
       within,
       (
@@ -89,9 +113,13 @@ returns-then-is_empty-clause-blank g c =
     let clue = c.args.clue.now in
     let none : length clue ≡ 0 = eqb-true (length clue) 0 (sym c.is_empty.ensures ∙ c.if-is_empty.true) in
     let pass = c.new-pass.ensures line (map number c.windows_within-windows.result) c.requires.1.1.0 c.windows_within-windows.ensures in
-    let gap : IsMaskOf (IsGap line clue 0) (number c.gap.result) = subst (λ m. IsMaskOf (IsGap line clue 0) (number m)) (sym c.gap.ensures) pass.gap_is in
-    let first = blank_first line clue (number c.gap.result) (number c.gap_ahead.result) (number c.and-blankable.result) gap c.gap_ahead.ensures c.and-blankable.ensures in
-    mask_same (λ i. (q : ℕ) × (q ≤ 0) × IsGap line clue q i × IsGapAhead line clue q i) (IsBlankable line clue) (number c.and-blankable.result) first
+    let gap : IsMaskOf (IsGap line clue 0) (number c.gap.result) =
+    subst (λ m. IsMaskOf (IsGap line clue 0) (number m)) (sym c.gap.ensures) pass.gap_is in
+    let first =
+    blank_first line clue (number c.gap.result) (number c.gap_ahead.result)
+    (number c.and-blankable.result) gap c.gap_ahead.ensures c.and-blankable.ensures in
+    mask_same (λ i. (q : ℕ) × (q ≤ 0) × IsGap line clue q i × IsGapAhead line clue q i) (IsBlankable line clue)
+    (number c.and-blankable.result) first
     (λ i h. let b : h.0 ≤ 0 = h.1 in (h.0, omega arith, h.2, h.3)) (λ i h. let b : h.0 ≤ length clue = h.1 in (h.0, omega arith, h.2, h.3))
 
 pub returns-clause-filled : goal.returns-clause-filled
@@ -102,9 +130,15 @@ returns-clause-filled g c =
     let last = length clue - 1 in
     let some : 0 < length clue = (let ne = eqb-false (length clue) 0 (sym c.is_empty.ensures ∙ c.if-is_empty.false) in omega arith) in
     let e : c.loop-j.j ≡ last = (let test = c.loop-j-test.false in omega arith) in
-    let before = pass_at_last (λ n. AreLevelsOf (λ i. (q : ℕ) × (q < n) × SomeFrom (IsWholeEnd line clue q) (get_or clue q 0) i) g.W.PlaceSet.TOP (map number c.loop-j.spread)) c.loop-j.j last e c.loop-j.invariant.filled in
-    let filled = fill_more line clue g.W.PlaceSet.TOP last (number c.whole_ends-last_whole.result) (map number c.loop-j.spread) (map number c.add_ends-2.new.levels) c.whole_ends-last_whole.ensures c.add_ends-2.ensures before in
-    mask_same (SomeLevel g.W.PlaceSet.TOP (map number c.add_ends-2.new.levels)) (IsFillable line clue) (number c.spread_levels.result) c.spread_levels.ensures
+    let before =
+    pass_at_last
+    (λ n. AreLevelsOf (λ i. (q : ℕ) × (q < n) × SomeFrom (IsWholeEnd line clue q) (get_or clue q 0) i) g.W.PlaceSet.TOP
+    (map number c.loop-j.spread)) c.loop-j.j last e c.loop-j.invariant.filled in
+    let filled =
+    fill_more line clue g.W.PlaceSet.TOP last (number c.whole_ends-last_whole.result) (map number c.loop-j.spread)
+    (map number c.add_ends-2.new.levels) c.whole_ends-last_whole.ensures c.add_ends-2.ensures before in
+    mask_same (SomeLevel g.W.PlaceSet.TOP (map number c.add_ends-2.new.levels)) (IsFillable line clue)
+    (number c.spread_levels.result) c.spread_levels.ensures
     (λ i x. let h = filled.to i x in let b : h.0 < last + 1 = h.1 in (h.0, omega arith, h.2))
     (λ i h. let b : h.0 < length clue = h.1 in filled.from i (h.0, omega arith, h.2))
 
@@ -118,13 +152,27 @@ returns-clause-blank g c =
     let e : c.loop-j.j ≡ last = (let test = c.loop-j-test.false in omega arith) in
     let old = c.loop-j.pass in
     let new = c.step-last_ends.new.self in
-    let at = pass_at_last (λ n. IsPassOver g.W.PlaceSet.WIDTH g.W.PlaceSet.TOP line (behind 0 clue n) (number old.free) (map number c.windows_within-windows.result) (number old.opening) (number old.gap)) c.loop-j.j last e c.loop-j.invariant.pass in
-    let pass = runs_more (λ (runs : List ℕ). IsPassOver g.W.PlaceSet.WIDTH g.W.PlaceSet.TOP line runs (number new.free) (map number c.windows_within-windows.result) (number new.opening) (number new.gap)) clue last (get_or clue last 0) refl
+    let at =
+    pass_at_last
+    (λ n. IsPassOver g.W.PlaceSet.WIDTH g.W.PlaceSet.TOP line (behind 0 clue n) (number old.free)
+    (map number c.windows_within-windows.result) (number old.opening) (number old.gap)) c.loop-j.j last e c.loop-j.invariant.pass in
+    let pass =
+    runs_more
+    (λ (runs : List ℕ).
+    IsPassOver g.W.PlaceSet.WIDTH g.W.PlaceSet.TOP line runs (number new.free) (map number c.windows_within-windows.result)
+    (number new.opening) (number new.gap)) clue last (get_or clue last 0) refl
     (c.step-last_ends.ensures.passed line (behind 0 clue last) at) in
-    let gap : IsMaskOf (IsGap line clue (last + 1)) (number c.gap-2.result) = subst (λ m. IsMaskOf (IsGap line clue (last + 1)) (number m)) (sym c.gap-2.ensures) pass.gap_is in
+    let gap : IsMaskOf (IsGap line clue (last + 1)) (number c.gap-2.result) =
+    subst (λ m. IsMaskOf (IsGap line clue (last + 1)) (number m)) (sym c.gap-2.ensures) pass.gap_is in
     let all : length clue ≡ last + 1 = omega arith in
     let ahead = subst (λ n. IsMaskOf (IsGapAhead line clue n) (number c.gap_ahead-after.result)) all c.gap_ahead-after.ensures in
-    let before = pass_at_last (λ n. IsMaskOf (λ i. (q : ℕ) × (q ≤ n) × IsGap line clue q i × IsGapAhead line clue q i) (number c.loop-j.blankable)) c.loop-j.j last e c.loop-j.invariant.blank in
-    mask_same (λ i. (q : ℕ) × (q ≤ last + 1) × IsGap line clue q i × IsGapAhead line clue q i) (IsBlankable line clue) (number c.or-blankable-2.result)
-    (blank_more line clue last (number c.gap-2.result) (number c.gap_ahead-after.result) (number c.loop-j.blankable) (number c.and-2.result) (number c.or-blankable-2.result) gap ahead before c.and-2.ensures c.or-blankable-2.ensures)
-    (λ i h. let b : h.0 ≤ last + 1 = h.1 in (h.0, omega arith, h.2, h.3)) (λ i h. let b : h.0 ≤ length clue = h.1 in (h.0, omega arith, h.2, h.3))
+    let before =
+    pass_at_last
+    (λ n. IsMaskOf (λ i. (q : ℕ) × (q ≤ n) × IsGap line clue q i × IsGapAhead line clue q i) (number c.loop-j.blankable)) c.loop-j.j last e
+    c.loop-j.invariant.blank in
+    mask_same (λ i. (q : ℕ) × (q ≤ last + 1) × IsGap line clue q i × IsGapAhead line clue q i) (IsBlankable line clue)
+    (number c.or-blankable-2.result)
+    (blank_more line clue last (number c.gap-2.result) (number c.gap_ahead-after.result) (number c.loop-j.blankable) (number c.and-2.result)
+    (number c.or-blankable-2.result) gap ahead before c.and-2.ensures c.or-blankable-2.ensures)
+    (λ i h. let b : h.0 ≤ last + 1 = h.1 in (h.0, omega arith, h.2, h.3))
+    (λ i h. let b : h.0 ≤ length clue = h.1 in (h.0, omega arith, h.2, h.3))

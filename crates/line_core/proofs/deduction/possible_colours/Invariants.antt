@@ -12,9 +12,11 @@ ghost-whole_ends g a = g.line
 
 abbrev pub invariant-loop-j : goal.invariant-loop-j
 invariant-loop-j g l = record {
-  pass : IsPassOver g.W.PlaceSet.WIDTH g.W.PlaceSet.TOP g.line (behind 0 l.clue l.j) (g.W.PlaceSet.number l.pass.free) (map g.W.PlaceSet.number l.windows) (g.W.PlaceSet.number l.pass.opening) (g.W.PlaceSet.number l.pass.gap);
+  pass : IsPassOver g.W.PlaceSet.WIDTH g.W.PlaceSet.TOP g.line (behind 0 l.clue l.j) (g.W.PlaceSet.number l.pass.free)
+      (map g.W.PlaceSet.number l.windows) (g.W.PlaceSet.number l.pass.opening) (g.W.PlaceSet.number l.pass.gap);
   blank : IsMaskOf (λ i. (q : ℕ) × (q ≤ l.j) × IsGap g.line l.clue q i × IsGapAhead g.line l.clue q i) (g.W.PlaceSet.number l.blankable);
-  filled : AreLevelsOf (λ i. (q : ℕ) × (q < l.j) × SomeFrom (IsWholeEnd g.line l.clue q) (get_or l.clue q 0) i) g.W.PlaceSet.TOP (map g.W.PlaceSet.number l.spread);
+  filled : AreLevelsOf (λ i. (q : ℕ) × (q < l.j) × SomeFrom (IsWholeEnd g.line l.clue q) (get_or l.clue q 0) i) g.W.PlaceSet.TOP
+      (map g.W.PlaceSet.number l.spread);
 }
 
 abbrev pub ghost-inner_ends : goal.ghost-inner_ends

@@ -11,4 +11,5 @@ returns g c =
     let number = g.W.PlaceSet.number in
     let free = number c.args.free in
     flood_from (λ k. Has free k × (k ≡ 0)) (Has free) (number c.and.result) (number c.flood.result)
-    (meet_of (Has free) (λ k. k ≡ 0) free (number c.first.result) (number c.and.result) (has_of free) c.first.ensures c.and.ensures) c.flood.ensures
+    (meet_of (Has free) (λ k. k ≡ 0) free (number c.first.result) (number c.and.result) (has_of free) c.first.ensures c.and.ensures)
+    c.flood.ensures

@@ -9,5 +9,6 @@ up-requires g c = one_within g.W.PlaceSet.WIDTH g.W.PlaceSet.TOP g.met.W.PlaceSe
 pub returns : goal.returns
 returns g c =
     let number = g.W.PlaceSet.number in
-    run_ends_are g.W.PlaceSet.WIDTH (number c.args.gap) (number c.args.opening) (number c.args.window) (c.args.length - 1) (number c.up.result) (number c.and-starts.result) (number c.or.result) (number c.up-2.result)
+    run_ends_are g.W.PlaceSet.WIDTH (number c.args.gap) (number c.args.opening) (number c.args.window) (c.args.length - 1)
+    (number c.up.result) (number c.and-starts.result) (number c.or.result) (number c.up-2.result)
     c.up.ensures c.or.ensures c.and-starts.ensures c.up-2.ensures

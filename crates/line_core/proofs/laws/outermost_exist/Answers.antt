@@ -3,4 +3,5 @@ use Rattle.line_core.proofs.DeductionLaws.{test_IsPlacing}
 use Rattle.line_core.proofs.laws.outermost_exist.Goals as goal
 
 pub returns : goal.returns
-returns c = λ line clue starts s. let p = test_IsPlacing line clue s.0 s.1 in (leftmost-exists line clue s.0 p, rightmost-exists line clue s.0 p)
+returns c =
+    λ line clue starts s. let p = test_IsPlacing line clue s.0 s.1 in (leftmost-exists line clue s.0 p, rightmost-exists line clue s.0 p)

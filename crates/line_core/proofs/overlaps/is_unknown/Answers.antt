@@ -9,6 +9,9 @@ returns g c =
     let span = c.args.span.now in
     let are = c.requires.1 in
     let known = number c.xor.result in (
-      (λ t. unknown_to g.line span.len (number span.free) (number span.room) known are.len_is are.free_is are.room_is c.xor.ensures (eqb-true known 0 (sym c.is_empty.ensures ∙ t))),
-      (λ e. c.is_empty.ensures ∙ eq-eqb known 0 (unknown_from g.line span.len (number span.free) (number span.room) known are.free_is are.room_is c.xor.ensures e)),
+      (λ t. unknown_to g.line span.len (number span.free) (number span.room) known are.len_is are.free_is are.room_is c.xor.ensures
+          (eqb-true known 0 (sym c.is_empty.ensures ∙ t))),
+      (λ e. c.is_empty.ensures
+          ∙ eq-eqb known 0
+          (unknown_from g.line span.len (number span.free) (number span.room) known are.free_is are.room_is c.xor.ensures e)),
     )

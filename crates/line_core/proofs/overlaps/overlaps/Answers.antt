@@ -30,14 +30,19 @@ loop-number-preserved g c =
     let j = c.loop-number.number-index in
     let slack = c.args.slack in
     let invariant = c.loop-number.invariant in
-    let next : least_start clue (j + 1) ≡ least_start clue j + get_or clue j 0 + 1 = ap (least_start clue) (add-one j) ∙ start_next clue j c.loop-number-test.true in
+    let next : least_start clue (j + 1) ≡ least_start clue j + get_or clue j 0 + 1 =
+    ap (least_start clue) (add-one j) ∙ start_next clue j c.loop-number-test.true in
     record {
       start = omega (arith, invariant.start);
       found = elim c.if-number-slack.branch [
         | then-number-slack w ↦
             subst (λ m. IsMaskOf (IsOverlapBefore (j + 1) clue slack) (number m)) (sym w.certain-is)
-            (overlap_more clue g.W.PlaceSet.WIDTH slack j c.loop-number.greatest_start (number c.loop-number.certain) (number w.places.result) (number w.up.result) (number w.or-certain.result)
-            c.requires.fits c.loop-number-test.true w.if-number-slack.true invariant.start invariant.found w.places.ensures w.up.ensures w.or-certain.ensures)
-        | else-number-slack w ↦ subst (λ m. IsMaskOf (IsOverlapBefore (j + 1) clue slack) (number m)) (sym w.certain-is) (overlap_same clue slack j (number c.loop-number.certain) w.if-number-slack.false invariant.found)
+            (overlap_more clue g.W.PlaceSet.WIDTH slack j c.loop-number.greatest_start (number c.loop-number.certain)
+            (number w.places.result) (number w.up.result) (number w.or-certain.result)
+            c.requires.fits c.loop-number-test.true w.if-number-slack.true invariant.start invariant.found w.places.ensures w.up.ensures
+            w.or-certain.ensures)
+        | else-number-slack w ↦
+            subst (λ m. IsMaskOf (IsOverlapBefore (j + 1) clue slack) (number m)) (sym w.certain-is)
+            (overlap_same clue slack j (number c.loop-number.certain) w.if-number-slack.false invariant.found)
       ];
     }

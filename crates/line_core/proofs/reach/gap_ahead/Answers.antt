@@ -12,4 +12,5 @@ returns g c =
     let size = c.told-gaps in
     let count = c.requires.1.1.0 in
     let there : length clue - j < length gaps = omega arith in
-    subst (IsMaskOf (IsGapAhead g.line clue j)) (sym (number_at g.W.PlaceSet.number gaps (length clue - j) _ there)) (c.requires.1.1.1.1 j c.requires.1.1.1.0)
+    subst (IsMaskOf (IsGapAhead g.line clue j)) (sym (number_at g.W.PlaceSet.number gaps (length clue - j) _ there))
+    (c.requires.1.1.1.1 j c.requires.1.1.1.0)

@@ -18,12 +18,15 @@ loop-i-preserved g c =
     let there : i < length masks = omega (arith, before.size, c.loop-i-test.true) in
     let some : i < length (map number masks) = omega (arith, length-map masks number) in
     let here : IsMaskOf (λ k. (k < len) × Has (get_or old i 0) (len - 1 - k)) new =
-    subst (λ (m : ℕ). IsMaskOf (λ k. (k < len) × Has m (len - 1 - k)) new) (ap number c.index-masks-i.is ∙ number_at number masks i _ there ∙ before.left i (omega arith)) c.turn_line.ensures in
+    subst (λ (m : ℕ). IsMaskOf (λ k. (k < len) × Has m (len - 1 - k)) new)
+    (ap number c.index-masks-i.is ∙ number_at number masks i _ there ∙ before.left i (omega arith)) c.turn_line.ensures in
     record {
       size = length-set masks i _ ∙ before.size;
       turned = λ k h.
-          subst (λ (t : List ℕ). IsMaskOf (λ z. (z < len) × Has (get_or old k 0) (len - 1 - z)) (get_or t k 0)) (sym (map-set number masks i c.turn_line.result))
-          (written_more (λ k m. IsMaskOf (λ z. (z < len) × Has (get_or old k 0) (len - 1 - z)) m) (map number masks) i new some here before.turned k h);
+          subst (λ (t : List ℕ). IsMaskOf (λ z. (z < len) × Has (get_or old k 0) (len - 1 - z)) (get_or t k 0))
+          (sym (map-set number masks i c.turn_line.result))
+          (written_more (λ k m. IsMaskOf (λ z. (z < len) × Has (get_or old k 0) (len - 1 - z)) m)
+          (map number masks) i new some here before.turned k h);
       left = λ k h.
           subst (λ (t : List ℕ). get_or t k 0 ≡ get_or old k 0) (sym (map-set number masks i c.turn_line.result))
           (get_or-set_other (map number masks) i k new 0 (omega arith) ∙ before.left k (omega arith));

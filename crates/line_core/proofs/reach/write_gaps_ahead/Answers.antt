@@ -24,11 +24,14 @@ returns g c = λ j h.
     let there : p < length gaps = omega arith in
     let within : p < length first = omega (arith, short) in
     let old : get_or (map number first) p 0 ≡ get_or (map number gaps) p 0 =
-    sym (number_at number first p free within) ∙ ap number (get_or-take (count + 1) gaps p free (omega arith)) ∙ number_at number gaps p free there in
+    sym (number_at number first p free within) ∙ ap number (get_or-take (count + 1) gaps p free (omega arith))
+    ∙ number_at number gaps p free there in
     let new : get_or (map number turned) p 0 ≡ get_or (map number (turned ++ rest)) p 0 =
     sym (get_or_append_left (map number turned) (map number rest) 0 p (omega (arith, length-map turned number, same, within)))
     ∙ ap (λ (l : List ℕ). get_or l p 0) (sym (map-append number turned rest)) in
     let at : IsMaskOf (λ i. (i < len) × Has (get_or (map number gaps) p 0) (len - 1 - i)) (get_or (map number turned) p 0) =
-    subst (λ (m : ℕ). IsMaskOf (λ i. (i < len) × Has m (len - 1 - i)) (get_or (map number turned) p 0)) old (c.turn_all.ensures.1 p (omega (arith, length-map first number, within))) in
-    ahead_of g.line clue j p (map number gaps) len (get_or (map number (turned ++ rest)) p 0) (sym c.requires.1.1.0.len_is) (omega arith) h c.write_turned_gaps.ensures.gaps
+    subst (λ (m : ℕ). IsMaskOf (λ i. (i < len) × Has m (len - 1 - i)) (get_or (map number turned) p 0)) old
+    (c.turn_all.ensures.1 p (omega (arith, length-map first number, within))) in
+    ahead_of g.line clue j p (map number gaps) len (get_or (map number (turned ++ rest)) p 0) (sym c.requires.1.1.0.len_is)
+    (omega arith) h c.write_turned_gaps.ensures.gaps
     (subst (IsMaskOf (λ i. (i < len) × Has (get_or (map number gaps) p 0) (len - 1 - i))) new at)

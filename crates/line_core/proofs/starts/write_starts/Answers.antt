@@ -13,7 +13,8 @@ use Rattle.line_core.proofs.starts.write_starts.Goals as goal
 
 pub loop-j-init : goal.loop-j-init
 loop-j-init g c = record {
-  pass = c.new-pass.ensures g.line (map g.W.PlaceSet.number c.windows_within-windows.result) c.requires.1.1.0 c.windows_within-windows.ensures;
+  pass = c.new-pass.ensures g.line
+      (map g.W.PlaceSet.number c.windows_within-windows.result) c.requires.1.1.0 c.windows_within-windows.ensures;
   starts = λ k h. absurd (omega arith);
 }
 
@@ -26,7 +27,20 @@ step-ends-requires g c =
     (omega arith, length_at g.W.PlaceSet.WIDTH c.args.clue.now c.loop-j.j clue test)
 
 pub whole_ends-whole-requires : goal.whole_ends-whole-requires
-whole_ends-whole-requires g c = λ κs within. (within, (c.requires.1.1.0, (c.requires.1.1.1.0, (c.loop-j-test.true, (c.step-ends.ensures.ends g.line (behind 0 c.args.clue.now c.loop-j.j) c.loop-j.invariant.pass, c.gap_ahead-ahead.ensures)))))
+whole_ends-whole-requires g c =
+    λ κs within. (
+      within,
+      (
+        c.requires.1.1.0,
+        (
+          c.requires.1.1.1.0,
+          (
+            c.loop-j-test.true,
+            (c.step-ends.ensures.ends g.line (behind 0 c.args.clue.now c.loop-j.j) c.loop-j.invariant.pass, c.gap_ahead-ahead.ensures),
+          ),
+        ),
+      ),
+    )
 
 pub loop-j-preserved : goal.loop-j-preserved
 loop-j-preserved g c =
@@ -39,9 +53,15 @@ loop-j-preserved g c =
     let new = c.step-ends.new.self in
     let count = c.requires.1.1.1.1.0.1 in
     record {
-      pass = runs_more (λ (runs : List ℕ). IsPassOver g.W.PlaceSet.WIDTH g.W.PlaceSet.TOP line runs (number new.free) (map number c.windows_within-windows.result) (number new.opening) (number new.gap)) clue j (get_or clue j 0) refl
+      pass = runs_more
+          (λ (runs : List ℕ).
+          IsPassOver g.W.PlaceSet.WIDTH g.W.PlaceSet.TOP line runs (number new.free) (map number c.windows_within-windows.result)
+          (number new.opening) (number new.gap)) clue j (get_or clue j 0) refl
           (c.step-ends.ensures.passed line (behind 0 clue j) invariant.pass);
-      starts = outer_more c.args.side line clue c.loop-j.list j (number c.whole_ends-whole.result) place.result (place.result + 1 - get_or clue j 0) (omega arith) c.whole_ends-whole.ensures place.ensures.in_mask place.ensures.outermost refl invariant.starts;
+      starts =
+          outer_more c.args.side line clue c.loop-j.list j (number c.whole_ends-whole.result) place.result
+          (place.result + 1 - get_or clue j 0)
+          (omega arith) c.whole_ends-whole.ensures place.ensures.in_mask place.ensures.outermost refl invariant.starts;
     }
 
 pub returns-then-is_empty : goal.returns-then-is_empty
@@ -50,6 +70,7 @@ returns-then-is_empty g c = λ p.
     let clue = c.args.clue.now in
     let pos : ArePositive clue = recursion_from_All (λ (n : ℕ). 0 < n) clue c.requires.1.1.1.0.positive in
     let e = some_end g.line clue c.loop-j.j pos p c.loop-j-test.true in
-    let none : number c.whole_ends-whole.result ≡ 0 = eqb-true (number c.whole_ends-whole.result) 0 (sym c.is_empty.ensures ∙ c.if-is_empty.true) in
+    let none : number c.whole_ends-whole.result ≡ 0 =
+    eqb-true (number c.whole_ends-whole.result) 0 (sym c.is_empty.ensures ∙ c.if-is_empty.true) in
     let there : Has 0 e.0 = subst (λ (m : ℕ). Has m e.0) none (c.whole_ends-whole.ensures.from e.0 e.1) in
     absurd (omega (arith, bit_at-zero e.0))

@@ -12,6 +12,7 @@ ghost-whole_ends g a = g.line
 
 abbrev pub invariant-loop-j : goal.invariant-loop-j
 invariant-loop-j g l = record {
-  pass : IsPassOver g.W.PlaceSet.WIDTH g.W.PlaceSet.TOP g.line (behind 0 l.clue l.j) (g.W.PlaceSet.number l.pass.free) (map g.W.PlaceSet.number l.windows) (g.W.PlaceSet.number l.pass.opening) (g.W.PlaceSet.number l.pass.gap);
+  pass : IsPassOver g.W.PlaceSet.WIDTH g.W.PlaceSet.TOP g.line (behind 0 l.clue l.j) (g.W.PlaceSet.number l.pass.free)
+      (map g.W.PlaceSet.number l.windows) (g.W.PlaceSet.number l.pass.opening) (g.W.PlaceSet.number l.pass.gap);
   starts : (k : ℕ) → k < l.j → IsOuterStart l.side g.line l.clue k (get_or l.list k 0);
 }

@@ -1,3 +1,4 @@
+-- `spread`: each turn spreads over twice as many places, and the last step over what is left.
 use Rattle.std.proofs.Common.{ℕ, ◌≡◌, ◌+◌, ◌-◌, ◌*◌, arith, subst}
 use Rattle.place_sets.specs.Masks.{Has, IsMaskOf, SomeFrom}
 use Rattle.place_sets.proofs.LevelSteps.{spread_more, spread_one}
@@ -17,7 +18,8 @@ loop-have-preserved g c =
       some = omega arith;
       most = omega (arith, c.loop-have-test.true);
       spread = subst (λ (n : ℕ). IsMaskOf (SomeFrom (Has (number c.args.mask)) n) (number c.either-spread.result)) twice
-          (spread_more (Has (number c.args.mask)) (number c.loop-have.spread) have have (number c.either-spread.result) (omega arith) before.spread c.either-spread.ensures);
+          (spread_more (Has (number c.args.mask)) (number c.loop-have.spread) have have (number c.either-spread.result)
+          (omega arith) before.spread c.either-spread.ensures);
     }
 
 pub returns : goal.returns
@@ -28,4 +30,5 @@ returns g c =
     let most = before.most in
     let all : have + (c.args.length - have) ≡ c.args.length = omega arith in
     subst (λ (n : ℕ). IsMaskOf (SomeFrom (Has (number c.args.mask)) n) (number c.either.result)) all
-    (spread_more (Has (number c.args.mask)) (number c.loop-have.spread) have (c.args.length - have) (number c.either.result) (omega (arith, c.loop-have-test.false)) before.spread c.either.ensures)
+    (spread_more (Has (number c.args.mask)) (number c.loop-have.spread) have (c.args.length - have) (number c.either.result)
+    (omega (arith, c.loop-have-test.false)) before.spread c.either.ensures)

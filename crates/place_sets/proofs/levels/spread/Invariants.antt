@@ -1,3 +1,4 @@
+-- What the loop of `spread` keeps: the mask is spread over `have` places.
 use Rattle.std.proofs.Common.{◌-◌, ◌≤◌}
 use Rattle.place_sets.specs.Masks.{Has, IsMaskOf, SomeFrom}
 use Rattle.place_sets.proofs.levels.spread.Given as goal

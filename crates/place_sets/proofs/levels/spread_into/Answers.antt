@@ -1,3 +1,4 @@
+-- `spread_into`: a level spread by half of its places is what the level below holds of it.
 use Rattle.std.proofs.Common.{ℕ, ◌+◌, ◌*◌, ◌%◌, ◌^◌, ◌<◌, ◌⊎◌, List, length, map, sym, subst, arith}
 use Rattle.std.proofs.lemmas.List.{map-set, length-map}
 use Rattle.std.proofs.lemmas.Nat.{one_shl}
@@ -7,7 +8,8 @@ use Rattle.place_sets.proofs.LevelSteps.{level_lowered, number_at, joined_at}
 use Rattle.place_sets.proofs.levels.spread_into.Goals as goal
 
 pub either-requires : goal.either-requires
-either-requires g c = step_within c.args.level g.W.PlaceSet.WIDTH g.W.PlaceSet.TOP c.requires g.met.W.PlaceSet.top_is.1 g.met.W.PlaceSet.width_is
+either-requires g c =
+    step_within c.args.level g.W.PlaceSet.WIDTH g.W.PlaceSet.TOP c.requires g.met.W.PlaceSet.top_is.1 g.met.W.PlaceSet.width_is
 
 pub returns : goal.returns
 returns g c =
@@ -20,7 +22,8 @@ returns g c =
     let above : level + 1 < length levels = omega (arith, c.told-levels, c.requires, top) in
     let of = number_at number levels (level + 1) c.index-levels-level-2.result above in
     let one = one_shl level 16 (omega (arith, c.requires, top)) in
-    subst (λ (table : List ℕ). AreLevelsOf (SomeLevel (level + 1) (map number levels)) level table) (sym (map-set number levels level c.or.result))
+    subst (λ (table : List ℕ). AreLevelsOf (SomeLevel (level + 1) (map number levels)) level table)
+    (sym (map-set number levels level c.or.result))
     (level_lowered (map number levels) level _ (number c.either.result) (number c.or.result) there_too one
     (subst (λ (m : ℕ). IsMaskOf (λ i. Has m i ⊎ Has m (i + (1 * 2 ^ level % 65536))) (number c.either.result)) of c.either.ensures)
     (joined_at number levels level c.index-levels-level.result c.or.result (number c.either.result) there c.or.ensures))

@@ -1,3 +1,4 @@
+-- `swap_pairs`: the low half of each pair comes from the high one, and the high half from the low one.
 use Rattle.place_sets.proofs.Turning.{pairs_swapped}
 use Rattle.place_sets.proofs.narrow.swap_pairs.Goals as goal
 

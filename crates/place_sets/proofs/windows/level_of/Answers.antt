@@ -1,3 +1,4 @@
+-- `level_of`: the logarithm of a length, made odd so that it isn't 0, is the length's own level.
 use Rattle.std.proofs.Common.{◌≡◌, ℕ, zero, suc, ◌+◌, ◌-◌, ◌*◌, ◌/◌, ◌^◌, ◌%◌, ◌<◌, ◌≤◌, ◌∙◌, refl, ap, arith, bit_or, bit_xor}
 use Rattle.std.proofs.lemmas.Nat.{one_shl, pow_pos, xor_block, or_block}
 use Rattle.std.specs.Int.Bits.{xor_zero_r, or_zero_r}
@@ -40,33 +41,47 @@ record IsLevel (level length : ℕ) : Type 0 where
   within : level ≤ 8
   rest : bit_xor length (1 * 2 ^ level % 65536) ≡ length - 2 ^ level
 
-is_level : (level length : ℕ) → 0 < length → length ≤ 256 → 2 ^ level ≤ bit_or length 1 → bit_or length 1 < 2 * 2 ^ level → IsLevel level length
+is_level : (level length : ℕ) → 0 < length → length ≤ 256 → 2 ^ level ≤ bit_or length 1 → bit_or length 1 < 2 * 2 ^ level
+    → IsLevel level length
 is_level level length some short low high =
     let least = level_at_least level length some low in
     let odd = with_lowest length in
     let most : length < 2 ^ level + 2 ^ level = omega arith in
     let within = level_within level length 256 8 least short refl in
-    record { low = least; high = most; within = within; rest = rest_of level length (1 * 2 ^ level % 65536) least most (one_shl level 16 (omega arith)) }
+    record {
+      low = least;
+      high = most;
+      within = within;
+      rest = rest_of level length (1 * 2 ^ level % 65536) least most (one_shl level 16 (omega arith));
+    }
 
 pub ilog2-level-requires : goal.ilog2-level-requires
 ilog2-level-requires c = omega (arith, with_lowest c.args.length, c.from.ensures)
 
 pub overflow_shl-result : goal.overflow_shl-result
 overflow_shl-result c =
-    let is = is_level c.ilog2-level.result c.args.length c.requires.0 c.requires.1 (omega (arith, c.ilog2-level.ensures.power_le, c.from.ensures)) (omega (arith, c.ilog2-level.ensures.next_power_gt, c.from.ensures)) in
+    let is =
+    is_level c.ilog2-level.result c.args.length c.requires.0 c.requires.1 (omega (arith, c.ilog2-level.ensures.power_le, c.from.ensures))
+    (omega (arith, c.ilog2-level.ensures.next_power_gt, c.from.ensures)) in
     omega arith
 
 pub returns-clause-level : goal.returns-clause-level
 returns-clause-level c =
-    let is = is_level c.ilog2-level.result c.args.length c.requires.0 c.requires.1 (omega (arith, c.ilog2-level.ensures.power_le, c.from.ensures)) (omega (arith, c.ilog2-level.ensures.next_power_gt, c.from.ensures)) in
+    let is =
+    is_level c.ilog2-level.result c.args.length c.requires.0 c.requires.1 (omega (arith, c.ilog2-level.ensures.power_le, c.from.ensures))
+    (omega (arith, c.ilog2-level.ensures.next_power_gt, c.from.ensures)) in
     omega arith
 
 pub returns-clause-length : goal.returns-clause-length
 returns-clause-length c =
-    let is = is_level c.ilog2-level.result c.args.length c.requires.0 c.requires.1 (omega (arith, c.ilog2-level.ensures.power_le, c.from.ensures)) (omega (arith, c.ilog2-level.ensures.next_power_gt, c.from.ensures)) in
+    let is =
+    is_level c.ilog2-level.result c.args.length c.requires.0 c.requires.1 (omega (arith, c.ilog2-level.ensures.power_le, c.from.ensures))
+    (omega (arith, c.ilog2-level.ensures.next_power_gt, c.from.ensures)) in
     omega arith
 
 pub returns-clause-rest : goal.returns-clause-rest
 returns-clause-rest c =
-    let is = is_level c.ilog2-level.result c.args.length c.requires.0 c.requires.1 (omega (arith, c.ilog2-level.ensures.power_le, c.from.ensures)) (omega (arith, c.ilog2-level.ensures.next_power_gt, c.from.ensures)) in
+    let is =
+    is_level c.ilog2-level.result c.args.length c.requires.0 c.requires.1 (omega (arith, c.ilog2-level.ensures.power_le, c.from.ensures))
+    (omega (arith, c.ilog2-level.ensures.next_power_gt, c.from.ensures)) in
     omega arith

@@ -1,3 +1,4 @@
+-- `starts_within`: each turn doubles the windows, and the last step adds what is left of the length.
 use Rattle.std.proofs.Common.{ℕ, ◌≡◌, ◌+◌, ◌-◌, ◌*◌, arith, subst}
 use Rattle.place_sets.specs.Masks.{Has, IsMaskOf, AllFrom}
 use Rattle.place_sets.proofs.Steps.{widen, window-one}
@@ -17,7 +18,8 @@ loop-have-preserved g c =
       some = omega arith;
       most = omega (arith, c.loop-have-test.true);
       starts = subst (λ (n : ℕ). IsMaskOf (AllFrom (Has (number c.args.mask)) n) (number c.both-starts.result)) twice
-          (widen (Has (number c.args.mask)) (number c.loop-have.starts) have have (number c.both-starts.result) (omega arith) before.starts c.both-starts.ensures);
+          (widen (Has (number c.args.mask)) (number c.loop-have.starts) have have (number c.both-starts.result)
+          (omega arith) before.starts c.both-starts.ensures);
     }
 
 pub returns : goal.returns
@@ -28,4 +30,5 @@ returns g c =
     let most = before.most in
     let all : have + (c.args.length - have) ≡ c.args.length = omega arith in
     subst (λ (n : ℕ). IsMaskOf (AllFrom (Has (number c.args.mask)) n) (number c.both.result)) all
-    (widen (Has (number c.args.mask)) (number c.loop-have.starts) have (c.args.length - have) (number c.both.result) (omega (arith, c.loop-have-test.false)) before.starts c.both.ensures)
+    (widen (Has (number c.args.mask)) (number c.loop-have.starts) have (c.args.length - have) (number c.both.result)
+    (omega (arith, c.loop-have-test.false)) before.starts c.both.ensures)

@@ -1,3 +1,4 @@
+-- What the loop of `starts_within` keeps: the starts of windows of `have` places.
 use Rattle.std.proofs.Common.{◌-◌, ◌≤◌}
 use Rattle.place_sets.specs.Masks.{Has, IsMaskOf, AllFrom}
 use Rattle.place_sets.proofs.windows.starts_within.Given as goal

@@ -1,3 +1,4 @@
+-- `windows_within`: the windows of each level are two of the level below, side by side.
 use Rattle.std.proofs.Common.{ℕ, ◌+◌, ◌*◌, ◌%◌, ◌^◌, ◌<◌, ◌∙◌, List, length, map, replicate, get_or, refl, sym, subst, arith}
 use Rattle.std.proofs.Math.ListN.{length-set}
 use Rattle.std.proofs.lemmas.List.{map-set, length-map}
@@ -37,9 +38,11 @@ loop-level-preserved g c =
     record {
       size = length-set table _ _ ∙ invariant.size;
       each = λ k b.
-          subst (λ (t : List ℕ). IsMaskOf (AllFrom (Has (number c.args.mask)) (2 ^ k)) (get_or t k 0)) (sym (map-set number table (level + 1) c.both.result))
+          subst (λ (t : List ℕ). IsMaskOf (AllFrom (Has (number c.args.mask)) (2 ^ k)) (get_or t k 0))
+          (sym (map-set number table (level + 1) c.both.result))
           (windows_more (number c.args.mask) (map number table) level _ (number c.both.result) next by
-          (subst (λ (m : ℕ). IsMaskOf (λ i. Has m i × Has m (i + (1 * 2 ^ level % 65536))) (number c.both.result)) (number_at number table level _ there) c.both.ensures) invariant.each k b);
+          (subst (λ (m : ℕ). IsMaskOf (λ i. Has m i × Has m (i + (1 * 2 ^ level % 65536))) (number c.both.result))
+          (number_at number table level _ there) c.both.ensures) invariant.each k b);
     }
 
 pub returns : goal.returns

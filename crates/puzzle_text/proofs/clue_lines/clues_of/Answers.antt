@@ -10,5 +10,7 @@ pub loop-line-init : goal.loop-line-init
 loop-line-init c = record {
   count = c.in_ok-clues.ensures.len;
   room = c.in_ok-clues.ensures.capacity;
-  so_far = rw c.in_ok-clues.ensures.items (each_begins (λ line. or_fault (BadNumber line.number) (clue_of LONGEST_SIDE line.text)) shown_line c.args.lines.now);
+  so_far =
+      rw c.in_ok-clues.ensures.items
+      (each_begins (λ line. or_fault (BadNumber line.number) (clue_of LONGEST_SIDE line.text)) shown_line c.args.lines.now);
 }

@@ -11,5 +11,7 @@ abbrev pub invariant-loop-line : goal.invariant-loop-line
 invariant-loop-line l = record {
   count : vec_len l.clues ≡ l.line-index;
   room : vec_capacity l.clues ≡ length l.lines;
-  so_far : with_front l.clues.items (each (λ line. or_fault (BadNumber line.number) (clue_of LONGEST_SIDE line.text.now)) (drop l.line-index l.lines)) ≡ clues_of LONGEST_SIDE (map shown_line l.lines);
+  so_far : with_front l.clues.items
+      (each (λ line. or_fault (BadNumber line.number) (clue_of LONGEST_SIDE line.text.now)) (drop l.line-index l.lines))
+      ≡ clues_of LONGEST_SIDE (map shown_line l.lines);
 }

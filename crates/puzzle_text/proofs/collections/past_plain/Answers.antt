@@ -14,5 +14,7 @@ returns-then-ends_line c =
 
 pub returns : goal.returns
 returns c =
-    follows_amid c.args.bytes.now c.split_at.result.0.now c.split_at.result.1.now c.split_line.result.0.now c.split_line.result.1.now c.split_at.ensures.by_index.0
-    (subst HasNoAt (sym c.split_at.ensures.front) c.before_at.ensures.other) (sym c.if-ends_line.ensures) c.split_line.ensures.whole c.split_line.ensures.first
+    follows_amid c.args.bytes.now c.split_at.result.0.now c.split_at.result.1.now c.split_line.result.0.now c.split_line.result.1.now
+    c.split_at.ensures.by_index.0
+    (subst HasNoAt (sym c.split_at.ensures.front) c.before_at.ensures.other)
+    (sym c.if-ends_line.ensures) c.split_line.ensures.whole c.split_line.ensures.first

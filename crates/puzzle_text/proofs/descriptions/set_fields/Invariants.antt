@@ -5,4 +5,5 @@ use Rattle.puzzle_text.proofs.descriptions.set_fields.Given as goal
 
 abbrev pub invariant-loop-field : goal.invariant-loop-field
 invariant-loop-field l =
-    with_all_found (map shown_keyword l.lines) l.texts (drop l.field-index l.fields) ≡ with_all_found (map shown_keyword l.lines) l.fn.texts l.fields
+    with_all_found (map shown_keyword l.lines) l.texts (drop l.field-index l.fields)
+    ≡ with_all_found (map shown_keyword l.lines) l.fn.texts l.fields

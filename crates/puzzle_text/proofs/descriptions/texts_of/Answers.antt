@@ -9,4 +9,5 @@ use Rattle.puzzle_text.proofs.descriptions.texts_of.Goals as goal
 pub returns : goal.returns
 returns c =
     let lines = map shown_keyword c.args.lines.now in
-    c.in_ok-set_fields.ensures ∙ ap (λ (texts : Description). with_all_found lines texts all_fields) c.none-texts.ensures ∙ all_fields_set lines
+    c.in_ok-set_fields.ensures ∙ ap (λ (texts : Description). with_all_found lines texts all_fields) c.none-texts.ensures
+    ∙ all_fields_set lines

@@ -4,4 +4,6 @@ use Rattle.puzzle_text.specs.Shown.{shown_keyword, shown_line}
 use Rattle.puzzle_text.proofs.keywords.keyword_lines.Given as goal
 
 abbrev pub invariant-loop-line : goal.invariant-loop-line
-invariant-loop-line l = map shown_keyword l.found.items ++ filter is_keyword_line (map shown_line (drop l.line-index l.lines)) ≡ filter is_keyword_line (map shown_line l.lines)
+invariant-loop-line l =
+    map shown_keyword l.found.items ++ filter is_keyword_line (map shown_line (drop l.line-index l.lines))
+    ≡ filter is_keyword_line (map shown_line l.lines)

@@ -11,4 +11,8 @@ use Rattle.puzzle_text.proofs.keywords.nth_with.Goals as goal
 pub returns : goal.returns
 returns c =
     let has = has_keyword (str_to_ascii_lowercase c.args.word.now) in
-    kept_at (λ line. line.now) shown_keyword has c.nth.result c.args.lines.now c.args.place (nth_from_yields_List _ _ _ c.nth.ensures.ran (YieldsList-from_filter _ (λ line. has (shown_keyword line)) (YieldsList-at c.filter.ensures.source (YieldsList-from_slice c.args.lines.now cc)) c.filter.ensures.closure (λ x r q k. search (rules, tests))))
+    kept_at (λ line. line.now) shown_keyword has c.nth.result c.args.lines.now c.args.place
+    (nth_from_yields_List _ _ _ c.nth.ensures.ran
+    (YieldsList-from_filter _ (λ line. has (shown_keyword line))
+    (YieldsList-at c.filter.ensures.source (YieldsList-from_slice c.args.lines.now cc)) c.filter.ensures.closure
+    (λ x r q k. search (rules, tests))))

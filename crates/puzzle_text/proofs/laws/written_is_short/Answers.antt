@@ -6,4 +6,9 @@ use Rattle.puzzle_text.proofs.NonText.{length_non}
 use Rattle.puzzle_text.proofs.laws.written_is_short.Goals as goal
 
 pub returns : goal.returns
-returns c = λ p lawful. (length_non LONGEST_SIDE p (omega arith) lawful, length_text LONGEST_SIDE p (omega arith) lawful, length_nin LONGEST_SIDE p (omega arith) lawful)
+returns c =
+    λ p lawful. (
+      length_non LONGEST_SIDE p (omega arith) lawful,
+      length_text LONGEST_SIDE p (omega arith) lawful,
+      length_nin LONGEST_SIDE p (omega arith) lawful,
+    )

@@ -10,8 +10,10 @@ returns-in-Some-clause-first c = λ number.
     let end = c.in-Some.end in
     line_at_feed bytes end (sym c.in-Some.ensures) number
     ∙ ap (λ (text : List ℕ). line_of number text ∷ numbered_from (number + 1) (raw_lines (drop (end + 1) bytes))) (sym c.strip_last.ensures)
-    ∙ ap (λ (after : List ℕ). line_of number c.strip_last.result.now ∷ numbered_from (number + 1) (raw_lines after)) (sym (take_rest bytes (end + 1)))
+    ∙ ap (λ (after : List ℕ). line_of number c.strip_last.result.now ∷ numbered_from (number + 1) (raw_lines after))
+    (sym (take_rest bytes (end + 1)))
 
 pub returns-in-None-clause-first : goal.returns-in-None-clause-first
 returns-in-None-clause-first c = λ number.
-    line_at_end c.args.bytes.now c.requires (sym c.in-None.ensures) number ∙ ap (λ (text : List ℕ). line_of number text ∷ []) (sym c.strip_last-in-None.ensures)
+    line_at_end c.args.bytes.now c.requires (sym c.in-None.ensures) number
+    ∙ ap (λ (text : List ℕ). line_of number text ∷ []) (sym c.strip_last-in-None.ensures)

@@ -6,4 +6,7 @@ use Rattle.puzzle_text.proofs.MkLemmas.{puzzle_of_parts}
 use Rattle.puzzle_text.proofs.mk.puzzle_of.Goals as goal
 
 pub returns : goal.returns
-returns c = subst (Gives (λ p. p) c.puzzle_with.result) (sym (puzzle_of_parts LONGEST_SIDE c.args.width c.args.height (shown_chosen c.args.rows.now) (shown_chosen c.args.columns.now))) c.puzzle_with.ensures
+returns c =
+    subst (Gives (λ p. p) c.puzzle_with.result)
+    (sym (puzzle_of_parts LONGEST_SIDE c.args.width c.args.height (shown_chosen c.args.rows.now) (shown_chosen c.args.columns.now)))
+    c.puzzle_with.ensures

@@ -4,4 +4,5 @@ use Rattle.puzzle_text.proofs.FeedsLemmas.{lawful_texts}
 use Rattle.puzzle_text.proofs.non.check_lines.Goals as goal
 
 pub returns-clause-texts : goal.returns-clause-texts
-returns-clause-texts c = lawful_texts c.args.stray (map shown_keyword c.args.keyword_lines.now) c.requires (sym c.bad_line.ensures ∙ c.in_default.is)
+returns-clause-texts c =
+    lawful_texts c.args.stray (map shown_keyword c.args.keyword_lines.now) c.requires (sym c.bad_line.ensures ∙ c.in_default.is)

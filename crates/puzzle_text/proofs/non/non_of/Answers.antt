@@ -18,5 +18,7 @@ pub returns : goal.returns
 returns c =
     let lines = map shown_line c.args.lines.now in
     let kept = ap (map shown_keyword) c.deref.ensures.value ∙ c.in_ok-keyword_lines.ensures in
-    let said = ap (λ (all : Sections). puzzle_said LONGEST_SIDE all (map shown_keyword c.deref.result.now)) c.in_ok-sections.ensures ∙ ap (puzzle_said LONGEST_SIDE (sections_of (placed lines))) kept ∙ said_of_kept LONGEST_SIDE (sections_of (placed lines)) lines in
+    let said =
+    ap (λ (all : Sections). puzzle_said LONGEST_SIDE all (map shown_keyword c.deref.result.now)) c.in_ok-sections.ensures
+    ∙ ap (puzzle_said LONGEST_SIDE (sections_of (placed lines))) kept ∙ said_of_kept LONGEST_SIDE (sections_of (placed lines)) lines in
     subst (λ answer. Gives (λ p. p) c.puzzle_said.result answer) said c.puzzle_said.ensures

@@ -15,13 +15,16 @@ returns-then-is_separator-clause-some c =
     let i = c.loop-place.place in
     let value = c.loop-place.value in
     let low : digits_value 10 (take i text) ≤ limit = omega arith in
-    number_ends limit text c.requires.some c.requires.first i (omega arith) c.loop-place.invariant.digits low (λ _. sym c.if-is_separator.ensures)
-    ∙ ap (λ (n : ℕ). option_map (λ others. n ∷ others) (numbers_within limit (pieces (drop (i + 1) text)))) (sym c.loop-place.invariant.value)
+    number_ends limit text c.requires.some c.requires.first i (omega arith) c.loop-place.invariant.digits low
+    (λ _. sym c.if-is_separator.ensures)
+    ∙ ap (λ (n : ℕ). option_map (λ others. n ∷ others) (numbers_within limit (pieces (drop (i + 1) text))))
+    (sym c.loop-place.invariant.value)
     ∙ ap (λ (rest : List ℕ). option_map (λ others. value ∷ others) (numbers_within limit (pieces rest))) (sym (take_rest text (i + 1)))
 
 pub returns-then-not-is_ascii_digit-clause-none : goal.returns-then-not-is_ascii_digit-clause-none
 returns-then-not-is_ascii_digit-clause-none c =
-    number_refused c.args.limit c.args.text.now c.requires.some c.requires.first c.loop-place.place c.loop-place-test.true c.loop-place.invariant.digits
+    number_refused c.args.limit c.args.text.now c.requires.some c.requires.first c.loop-place.place c.loop-place-test.true
+    c.loop-place.invariant.digits
     (sym c.if-is_separator.ensures) (sym c.if-not-is_ascii_digit.ensures.value)
 
 pub returns-then-value-from-clause-none : goal.returns-then-value-from-clause-none
@@ -30,7 +33,8 @@ returns-then-value-from-clause-none c =
     let i = c.loop-place.place in
     let digit = c.if-not-is_ascii_digit.ensures.cases in
     let more = value_more text i c.loop-place-test.true digit.0 digit.1 in
-    let digits = all_more is_ascii_digit text i 0 c.loop-place-test.true c.loop-place.invariant.digits (sym c.if-not-is_ascii_digit.ensures.value) in
+    let digits =
+    all_more is_ascii_digit text i 0 c.loop-place-test.true c.loop-place.invariant.digits (sym c.if-not-is_ascii_digit.ensures.value) in
     number_past c.args.limit text c.requires.some c.requires.first (i + 1) (omega arith) digits (omega (arith, more))
 
 pub loop-place-preserved : goal.loop-place-preserved
@@ -40,7 +44,8 @@ loop-place-preserved c =
     let digit = c.if-not-is_ascii_digit.ensures.cases in
     let more = value_more text i c.loop-place-test.true digit.0 digit.1 in
     record {
-      digits = all_more is_ascii_digit text i 0 c.loop-place-test.true c.loop-place.invariant.digits (sym c.if-not-is_ascii_digit.ensures.value);
+      digits =
+          all_more is_ascii_digit text i 0 c.loop-place-test.true c.loop-place.invariant.digits (sym c.if-not-is_ascii_digit.ensures.value);
       value = omega (arith, more);
       low = omega arith;
     }
@@ -53,5 +58,7 @@ returns-clause-some c =
     let value = c.loop-place.value in
     let low : digits_value 10 (take i text) ≤ limit = omega arith in
     number_ends limit text c.requires.some c.requires.first i (omega arith) c.loop-place.invariant.digits low (λ h. absurd (omega arith))
-    ∙ ap (λ (n : ℕ). option_map (λ others. n ∷ others) (numbers_within limit (pieces (drop (i + 1) text)))) (sym c.loop-place.invariant.value)
-    ∙ ap (λ (rest : List ℕ). option_map (λ others. value ∷ others) (numbers_within limit (pieces rest))) (drop_all (i + 1) text (omega arith))
+    ∙ ap (λ (n : ℕ). option_map (λ others. n ∷ others) (numbers_within limit (pieces (drop (i + 1) text))))
+    (sym c.loop-place.invariant.value)
+    ∙ ap (λ (rest : List ℕ). option_map (λ others. value ∷ others) (numbers_within limit (pieces rest)))
+    (drop_all (i + 1) text (omega arith))

@@ -12,4 +12,5 @@ returns-in-Some-clause-some c =
     ∙ ap (λ (rest : List ℕ). take end text ∷ pieces rest) (sym (take_rest text (end + 1)))
 
 pub returns-in-None-clause-some : goal.returns-in-None-clause-some
-returns-in-None-clause-some c = sym c.from_piece-text.ensures.pieces ∙ only_piece c.from_piece-text.result.now (search rules) (sym c.in-None.ensures)
+returns-in-None-clause-some c =
+    sym c.from_piece-text.ensures.pieces ∙ only_piece c.from_piece-text.result.now (search rules) (sym c.in-None.ensures)

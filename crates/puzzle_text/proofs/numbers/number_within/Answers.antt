@@ -14,7 +14,9 @@ loop-digit-preserved c =
     let digit = c.if-not-is_ascii_digit.ensures.cases in
     let more = value_more c.args.piece.now c.loop-digit.digit-index c.loop-digit-test.true digit.0 digit.1 in
     record {
-      digits = all_more is_ascii_digit c.args.piece.now c.loop-digit.digit-index 0 c.loop-digit-test.true c.loop-digit.invariant.digits (sym c.if-not-is_ascii_digit.ensures.value);
+      digits =
+          all_more is_ascii_digit c.args.piece.now c.loop-digit.digit-index 0 c.loop-digit-test.true c.loop-digit.invariant.digits
+          (sym c.if-not-is_ascii_digit.ensures.value);
       value = omega (arith, more);
       low = omega arith;
     }

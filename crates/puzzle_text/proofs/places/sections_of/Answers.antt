@@ -8,7 +8,12 @@ use Rattle.puzzle_text.proofs.places.sections_of.Goals as goal
 use Rattle.puzzle_text.proofs.places.sections_of.Goals.{then-not-is_empty, else-not-is_empty+then-not-is_hash+in_ok-put, else-not-is_empty+else-not-is_hash}
 
 pub loop-line-init : goal.loop-line-init
-loop-line-init c = ([], (refl, refl), nothing_above _ _ (map shown_line c.args.lines.now) (ap (map shown_line) c.in_ok-with_capacity.ensures.items) (ap (map shown_line) c.in_ok-with_capacity-2.ensures.items))
+loop-line-init c = (
+  [],
+  (refl, refl),
+  nothing_above _ _ (map shown_line c.args.lines.now) (ap (map shown_line) c.in_ok-with_capacity.ensures.items)
+      (ap (map shown_line) c.in_ok-with_capacity-2.ensures.items),
+)
 
 pub loop-line-preserved : goal.loop-line-preserved
 loop-line-preserved c =
@@ -22,17 +27,24 @@ loop-line-preserved c =
       | then-not-is_empty w ↦ (
         str_to_ascii_lowercase own,
         subst (IsUnder (str_to_ascii_lowercase own)) (sym w.place-is) w.opened_by-place.ensures,
-        rw w.sections-is (next_keyword lines i _ word own above whole c.loop-line-test.true c.loop-line.invariant.2 c.keyword-word.ensures (sym c.is_empty.ensures ∙ w.if-not-is_empty.true)),
+        rw w.sections-is
+            (next_keyword lines i _ word own above whole c.loop-line-test.true c.loop-line.invariant.2 c.keyword-word.ensures
+            (sym c.is_empty.ensures ∙ w.if-not-is_empty.true)),
       )
       | else-not-is_empty+then-not-is_hash+in_ok-put w ↦ (
         word,
         subst (IsUnder word) (sym w.place-is) c.loop-line.invariant.1,
-        ap (λ (sections : Sections). join sections (below word (map shown_line (drop (i + 1) lines)))) (ap shown_sections w.sections-is ∙ w.in_ok-put.ensures)
-            ∙ next_content lines i _ word own above whole c.loop-line-test.true c.loop-line.invariant.2 c.keyword-word.ensures c.loop-line.place c.loop-line.invariant.1 (sym c.is_empty.ensures ∙ w.if-not-is_empty.false) (sym w.is_hash.ensures ∙ w.if-not-is_hash.true),
+        ap (λ (sections : Sections). join sections (below word (map shown_line (drop (i + 1) lines))))
+            (ap shown_sections w.sections-is ∙ w.in_ok-put.ensures)
+            ∙ next_content lines i _ word own above whole c.loop-line-test.true c.loop-line.invariant.2 c.keyword-word.ensures
+            c.loop-line.place c.loop-line.invariant.1 (sym c.is_empty.ensures ∙ w.if-not-is_empty.false)
+            (sym w.is_hash.ensures ∙ w.if-not-is_hash.true),
       )
       | else-not-is_empty+else-not-is_hash w ↦ (
         word,
         subst (IsUnder word) (sym w.place-is) c.loop-line.invariant.1,
-        rw w.sections-is (next_comment lines i _ word own above whole c.loop-line-test.true c.loop-line.invariant.2 c.keyword-word.ensures (sym c.is_empty.ensures ∙ w.if-not-is_empty.false) (sym w.is_hash.ensures ∙ w.if-not-is_hash.false)),
+        rw w.sections-is
+            (next_comment lines i _ word own above whole c.loop-line-test.true c.loop-line.invariant.2 c.keyword-word.ensures
+            (sym c.is_empty.ensures ∙ w.if-not-is_empty.false) (sym w.is_hash.ensures ∙ w.if-not-is_hash.false)),
       )
     ]

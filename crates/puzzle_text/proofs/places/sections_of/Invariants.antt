@@ -7,4 +7,7 @@ use Rattle.puzzle_text.proofs.places.sections_of.Given as goal
 
 -- the sections so far and what is still to come below the last keyword, of which the code keeps which section it opens
 abbrev pub invariant-loop-line : goal.invariant-loop-line
-invariant-loop-line l = (word : List ℕ) × IsUnder word l.place × (join (shown_sections l.sections) (below word (map shown_line (drop l.line-index l.lines))) ≡ sections_of (placed (map shown_line l.lines)))
+invariant-loop-line l =
+    (word : List ℕ) × IsUnder word l.place
+    × (join (shown_sections l.sections) (below word (map shown_line (drop l.line-index l.lines)))
+    ≡ sections_of (placed (map shown_line l.lines)))

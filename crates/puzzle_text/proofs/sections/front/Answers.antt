@@ -4,7 +4,12 @@ use Rattle.puzzle_text.proofs.SectionsLemmas.{front_first, front_mixed}
 use Rattle.puzzle_text.proofs.sections.front.Goals as goal
 
 pub returns-then-not-are_blank : goal.returns-then-not-are_blank
-returns-then-not-are_blank c = sym (front_mixed shown_line c.args.count c.args.section.now (omega arith) (rw (← c.split_at.ensures.back) (sym c.if-not-are_blank.ensures)))
+returns-then-not-are_blank c =
+    sym (front_mixed shown_line c.args.count c.args.section.now (omega arith)
+    (rw (← c.split_at.ensures.back) (sym c.if-not-are_blank.ensures)))
 
 pub returns : goal.returns
-returns c = rw c.split_at.ensures.front (sym (front_first shown_line c.args.count c.args.section.now (omega arith) (rw (← c.split_at.ensures.back) (sym c.if-not-are_blank.ensures))))
+returns c =
+    rw c.split_at.ensures.front
+    (sym (front_first shown_line c.args.count c.args.section.now (omega arith)
+    (rw (← c.split_at.ensures.back) (sym c.if-not-are_blank.ensures))))

@@ -4,4 +4,5 @@ use Rattle.std.specs.List.{flat_map}
 use Rattle.puzzle_text.proofs.writing.push_clue.Given as goal
 
 abbrev pub invariant-loop-number : goal.invariant-loop-number
-invariant-loop-number l = l.out.items ≡ l.initial.out.items ++ flat_map (λ other. l.separator ∷ decimal other) (take l.number-index l.others)
+invariant-loop-number l =
+    l.out.items ≡ l.initial.out.items ++ flat_map (λ other. l.separator ∷ decimal other) (take l.number-index l.others)

@@ -10,7 +10,8 @@ use Rattle.lane_core.proofs.backs.LaneBack.step.Goals as goal
 pub returns-in-Some-clause-lists : goal.returns-in-Some-clause-lists
 returns-in-Some-clause-lists g c = inr (
   sym c.args.self.now.noted ∙ c.if-self.false,
-  StepsBeforeFinish-offer_held _ c.in-Some.answer c.offer.result (back_lists c.args.self.now) _ (sym c.in-Some.ensures.value) refl c.offer.ensures.offered,
+  StepsBeforeFinish-offer_held _ c.in-Some.answer c.offer.result (back_lists c.args.self.now) _
+      (sym c.in-Some.ensures.value) refl c.offer.ensures.offered,
 )
 
 pub invariant_of-self-in-Ok-Finish : goal.invariant_of-self-in-Ok-Finish
@@ -19,7 +20,10 @@ invariant_of-self-in-Ok-Finish g c =
     record {
       noted = sym (has_finish-took_finish _ _ taken);
       free = λ _. ap is_none c.take.ensures.after;
-      answered = ∥∥₁_map c.args.self.now.answered (TakesMessage-answered Finish (back_lists c.args.self.now) _ (record { free = sym c.in-None.ensures.value; taken = taken; held = nothing_is_held _ c.take.ensures.after; put = refl }));
+      answered =
+          ∥∥₁_map c.args.self.now.answered
+          (TakesMessage-answered Finish (back_lists c.args.self.now) _
+          (record { free = sym c.in-None.ensures.value; taken = taken; held = nothing_is_held _ c.take.ensures.after; put = refl }));
       room = c.args.self.now.room;
     }
 
@@ -30,12 +34,17 @@ invariant_of-self-in-Ok-Work g c =
     record {
       noted = c.args.self.now.noted ∙ sym (has_finish-took_work _ _ _ taken);
       free = λ finished. cc;
-      answered = ∥∥₁_map c.args.self.now.answered (offered_is_answered _ c.in-Ok-Work.job c.grade-answer.result _ (back_lists c.args.self.now) _ _ _ (sym c.in-None.ensures.value) taken c.grade-answer.ensures c.offer-in-Ok-Work.ensures.offered);
+      answered =
+          ∥∥₁_map c.args.self.now.answered
+          (offered_is_answered _ c.in-Ok-Work.job c.grade-answer.result _ (back_lists c.args.self.now) _ _ _
+          (sym c.in-None.ensures.value) taken c.grade-answer.ensures c.offer-in-Ok-Work.ensures.offered);
       room = c.offer-in-Ok-Work.ensures.room;
     }
 
 pub returns-in-Ok-Work-clause-lists : goal.returns-in-Ok-Work-clause-lists
 returns-in-Ok-Work-clause-lists g c = inr (
   sym c.args.self.now.noted ∙ c.if-self.false,
-  StepsBeforeFinish-offer_taken _ c.in-Ok-Work.job c.grade-answer.result c.offer-in-Ok-Work.result (back_lists c.args.self.now) _ (sym c.in-None.ensures.value) (taken_as _ _ _ _ c.in-Ok-Work.ensures.ok.0 c.in-Ok-Work.field-0-is) c.grade-answer.ensures c.offer-in-Ok-Work.ensures.offered,
+  StepsBeforeFinish-offer_taken _ c.in-Ok-Work.job c.grade-answer.result c.offer-in-Ok-Work.result (back_lists c.args.self.now) _
+      (sym c.in-None.ensures.value)
+      (taken_as _ _ _ _ c.in-Ok-Work.ensures.ok.0 c.in-Ok-Work.field-0-is) c.grade-answer.ensures c.offer-in-Ok-Work.ensures.offered,
 )

@@ -11,9 +11,12 @@ grading-preserved g c = record {
     back = SameBack-trans _ _ _ c.grading.invariant.lane.back c.grade_next.ensures.back;
   };
   front = c.grade_next.ensures.front.1 ∙ c.grading.invariant.front;
-  worked = Works-more _ _ _ _ _ (c.grading.self.one_lane.capacity ∙ c.grading.invariant.lane.front.messages.1) c.grading.invariant.worked (Works-one _ Graded _ _ (c.grading-test.ensures.more refl).0);
+  worked =
+      Works-more _ _ _ _ _ (c.grading.self.one_lane.capacity ∙ c.grading.invariant.lane.front.messages.1) c.grading.invariant.worked
+      (Works-one _ Graded _ _ (c.grading-test.ensures.more refl).0);
 }
 
 pub returns-clause-worked : goal.returns-clause-worked
 returns-clause-worked g c =
-    Works-more _ _ _ _ _ (c.grading.self.one_lane.capacity ∙ c.grading.invariant.lane.front.messages.1) c.grading.invariant.worked (c.grading-test.ensures.last refl).0
+    Works-more _ _ _ _ _ (c.grading.self.one_lane.capacity ∙ c.grading.invariant.lane.front.messages.1) c.grading.invariant.worked
+    (c.grading-test.ensures.last refl).0

@@ -15,7 +15,13 @@ pub invariant_of-result : goal.invariant_of-result
 invariant_of-result g c = record {
   some = omega (arith, c.requires.0, c.from.ensures);
   short = omega (arith, c.requires.1, c.from.ensures);
-  within = omega (arith, c.requires.1, c.from.ensures, width_within g.W.PlaceSet.WIDTH g.W.PlaceSet.TOP g.met.W.PlaceSet.width_is g.met.W.PlaceSet.top_is.1);
+  within =
+      omega (
+        arith,
+        c.requires.1,
+        c.from.ensures,
+        width_within g.W.PlaceSet.WIDTH g.W.PlaceSet.TOP g.met.W.PlaceSet.width_is g.met.W.PlaceSet.top_is.1,
+      );
   apart = λ i x y. told_apart ((g.W.PlaceSet.number c.args.fillable)) ((g.W.PlaceSet.number c.args.blankable))
       ((g.W.PlaceSet.number c.without.result)) ((g.W.PlaceSet.number c.without-2.result)) i c.without.ensures c.without-2.ensures x y;
 }

@@ -7,4 +7,6 @@ first_from-requires g c = omega (arith, c.requires, c.unknown_cells.ensures.fits
 
 pub returns : goal.returns
 returns g c =
-    unknown_from g.W.PlaceSet.WIDTH c.args.from (g.W.PlaceSet.number c.unknown_cells.result) c.args.self.now c.first_from.result c.unknown_cells.ensures.fits c.unknown_cells.ensures.cells c.first_from.ensures
+    unknown_from g.W.PlaceSet.WIDTH c.args.from
+    (g.W.PlaceSet.number c.unknown_cells.result) c.args.self.now c.first_from.result c.unknown_cells.ensures.fits
+    c.unknown_cells.ensures.cells c.first_from.ensures

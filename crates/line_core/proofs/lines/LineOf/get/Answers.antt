@@ -36,7 +36,8 @@ returns-then-has-2 g c =
     let long = length_seen line.len f b c.args.self.now c.self.view_is in
     let within : c.args.i < line.len = omega (arith, c.requires) in
     sym (ap (λ (l : List Cell). get_or l c.args.i Unknown) (sym c.self.view_is) ∙ cell_at line.len f b c.args.i within
-    ∙ ap (λ (v : Bool). cell_of v (has b c.args.i)) (sym c.has.ensures ∙ c.if-has.false) ∙ ap (cell_of false) (sym c.has-else-has.ensures ∙ c.if-has-2.true))
+    ∙ ap (λ (v : Bool). cell_of v (has b c.args.i)) (sym c.has.ensures ∙ c.if-has.false)
+    ∙ ap (cell_of false) (sym c.has-else-has.ensures ∙ c.if-has-2.true))
 
 pub returns-else-has-2 : goal.returns-else-has-2
 returns-else-has-2 g c =
@@ -46,4 +47,5 @@ returns-else-has-2 g c =
     let long = length_seen line.len f b c.args.self.now c.self.view_is in
     let within : c.args.i < line.len = omega (arith, c.requires) in
     sym (ap (λ (l : List Cell). get_or l c.args.i Unknown) (sym c.self.view_is) ∙ cell_at line.len f b c.args.i within
-    ∙ ap (λ (v : Bool). cell_of v (has b c.args.i)) (sym c.has.ensures ∙ c.if-has.false) ∙ ap (cell_of false) (sym c.has-else-has.ensures ∙ c.if-has-2.false))
+    ∙ ap (λ (v : Bool). cell_of v (has b c.args.i)) (sym c.has.ensures ∙ c.if-has.false)
+    ∙ ap (cell_of false) (sym c.has-else-has.ensures ∙ c.if-has-2.false))

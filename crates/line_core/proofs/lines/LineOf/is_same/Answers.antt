@@ -16,7 +16,8 @@ returns-then-other-self g c =
     let number = g.W.PlaceSet.number in
     let line = c.self.inside in
     let other = c.other.inside in
-    subst (λ (b : Bool). (IsTrue b → c.args.self.now ≡ c.args.other.now) × (c.args.self.now ≡ c.args.other.now → IsTrue b)) (sym c.is_empty.ensures)
+    subst (λ (b : Bool). (IsTrue b → c.args.self.now ≡ c.args.other.now) × (c.args.self.now ≡ c.args.other.now → IsTrue b))
+    (sym c.is_empty.ensures)
     (same_without_change c.args.self.now c.args.other.now (number c.changes.result)
     (length_seen other.len (number other.filled) (number other.blank) c.args.other.now c.other.view_is ∙ c.if-other-self.true
     ∙ sym (length_seen line.len (number line.filled) (number line.blank) c.args.self.now c.self.view_is))

@@ -10,14 +10,26 @@ returns-clause-len g c =
 pub returns-clause-some : goal.returns-clause-some
 returns-clause-some g c =
     let line = c.self.inside in
-    omega (arith, length_seen line.len (g.W.PlaceSet.number line.filled) (g.W.PlaceSet.number line.blank) c.args.self.now c.self.view_is, c.self.invariant.some)
+    omega (
+      arith,
+      length_seen line.len (g.W.PlaceSet.number line.filled) (g.W.PlaceSet.number line.blank) c.args.self.now c.self.view_is,
+      c.self.invariant.some,
+    )
 
 pub returns-clause-fits : goal.returns-clause-fits
 returns-clause-fits g c =
     let line = c.self.inside in
-    omega (arith, length_seen line.len (g.W.PlaceSet.number line.filled) (g.W.PlaceSet.number line.blank) c.args.self.now c.self.view_is, c.self.invariant.short)
+    omega (
+      arith,
+      length_seen line.len (g.W.PlaceSet.number line.filled) (g.W.PlaceSet.number line.blank) c.args.self.now c.self.view_is,
+      c.self.invariant.short,
+    )
 
 pub returns-clause-within : goal.returns-clause-within
 returns-clause-within g c =
     let line = c.self.inside in
-    omega (arith, length_seen line.len (g.W.PlaceSet.number line.filled) (g.W.PlaceSet.number line.blank) c.args.self.now c.self.view_is, c.self.invariant.within)
+    omega (
+      arith,
+      length_seen line.len (g.W.PlaceSet.number line.filled) (g.W.PlaceSet.number line.blank) c.args.self.now c.self.view_is,
+      c.self.invariant.within,
+    )

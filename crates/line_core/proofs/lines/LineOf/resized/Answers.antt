@@ -12,7 +12,9 @@ invariant_of-result g c =
       some = c.self.invariant.some;
       short = omega (arith, c.requires);
       within = c.self.invariant.within;
-      apart = apart-resized g.V.PlaceSet.WIDTH f b _ _ (g.V.PlaceSet.number c.narrowed.result) (g.V.PlaceSet.number c.narrowed-2.result) c.widened.ensures c.widened-2.ensures c.narrowed.ensures c.narrowed-2.ensures c.self.invariant.apart;
+      apart = apart-resized g.V.PlaceSet.WIDTH f b _ _ (g.V.PlaceSet.number c.narrowed.result)
+          (g.V.PlaceSet.number c.narrowed-2.result) c.widened.ensures c.widened-2.ensures c.narrowed.ensures c.narrowed-2.ensures
+          c.self.invariant.apart;
     }
 
 pub returns : goal.returns
@@ -21,5 +23,6 @@ returns g c =
     let f = g.W.PlaceSet.number line.filled in
     let b = g.W.PlaceSet.number line.blank in
     let long = length_seen line.len f b c.args.self.now c.self.view_is in
-    cells-resized g.V.PlaceSet.WIDTH line.len f b _ _ (g.V.PlaceSet.number c.narrowed.result) (g.V.PlaceSet.number c.narrowed-2.result) (omega (arith, c.requires)) c.widened.ensures c.widened-2.ensures c.narrowed.ensures c.narrowed-2.ensures
+    cells-resized g.V.PlaceSet.WIDTH line.len f b _ _ (g.V.PlaceSet.number c.narrowed.result) (g.V.PlaceSet.number c.narrowed-2.result)
+    (omega (arith, c.requires)) c.widened.ensures c.widened-2.ensures c.narrowed.ensures c.narrowed-2.ensures
     ∙ c.self.view_is

@@ -7,12 +7,22 @@ use Rattle.line_core.proofs.lines.LineOf.set.Goals as goal
 pub marked-self-inside-requires : goal.marked-self-inside-requires
 marked-self-inside-requires g c =
     let line = c.self.inside in
-    omega (arith, c.requires, c.self.invariant.short, length_seen line.len (g.W.PlaceSet.number line.filled) (g.W.PlaceSet.number line.blank) c.args.self.now c.self.view_is)
+    omega (
+      arith,
+      c.requires,
+      c.self.invariant.short,
+      length_seen line.len (g.W.PlaceSet.number line.filled) (g.W.PlaceSet.number line.blank) c.args.self.now c.self.view_is,
+    )
 
 pub marked-self-inside-requires-2 : goal.marked-self-inside-requires-2
 marked-self-inside-requires-2 g c =
     let line = c.self.inside in
-    omega (arith, c.requires, c.self.invariant.short, length_seen line.len (g.W.PlaceSet.number line.filled) (g.W.PlaceSet.number line.blank) c.args.self.now c.self.view_is)
+    omega (
+      arith,
+      c.requires,
+      c.self.invariant.short,
+      length_seen line.len (g.W.PlaceSet.number line.filled) (g.W.PlaceSet.number line.blank) c.args.self.now c.self.view_is,
+    )
 
 pub returns : goal.returns
 returns g c =

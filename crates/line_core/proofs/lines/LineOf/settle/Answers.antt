@@ -8,12 +8,22 @@ use Rattle.line_core.proofs.lines.LineOf.settle.Goals as goal
 pub marked-self-inside-requires : goal.marked-self-inside-requires
 marked-self-inside-requires g c =
     let line = c.self.inside in
-    omega (arith, c.requires.i, c.self.invariant.short, length_seen line.len (g.W.PlaceSet.number line.filled) (g.W.PlaceSet.number line.blank) c.args.self.now c.self.view_is)
+    omega (
+      arith,
+      c.requires.i,
+      c.self.invariant.short,
+      length_seen line.len (g.W.PlaceSet.number line.filled) (g.W.PlaceSet.number line.blank) c.args.self.now c.self.view_is,
+    )
 
 pub marked-self-inside-requires-else-is_filled : goal.marked-self-inside-requires-else-is_filled
 marked-self-inside-requires-else-is_filled g c =
     let line = c.self.inside in
-    omega (arith, c.requires.i, c.self.invariant.short, length_seen line.len (g.W.PlaceSet.number line.filled) (g.W.PlaceSet.number line.blank) c.args.self.now c.self.view_is)
+    omega (
+      arith,
+      c.requires.i,
+      c.self.invariant.short,
+      length_seen line.len (g.W.PlaceSet.number line.filled) (g.W.PlaceSet.number line.blank) c.args.self.now c.self.view_is,
+    )
 
 pub invariant_of-self : goal.invariant_of-self
 invariant_of-self g c =
@@ -48,7 +58,8 @@ invariant_of-self-else-is_filled g c =
       within = c.self.invariant.within;
       apart = apart-set f b f nb c.args.i c.args.cell c.self.invariant.apart
           (unmarked f c.args.i _ lacks.0 unfilled)
-          (subst (λ (v : Bool). IsMaskOf (IsMarked (Has b) c.args.i v) nb) (sym (blank_if_not_filled c.args.cell c.requires.known unfilled)) c.marked-self-inside-else-is_filled.ensures);
+          (subst (λ (v : Bool). IsMaskOf (IsMarked (Has b) c.args.i v) nb)
+          (sym (blank_if_not_filled c.args.cell c.requires.known unfilled)) c.marked-self-inside-else-is_filled.ensures);
     }
 
 pub returns-then-is_filled : goal.returns-then-is_filled
@@ -78,5 +89,6 @@ returns-else-is_filled g c =
     let lacks = unknown_at line.len f b c.args.i c.args.self.now c.self.view_is c.requires.i c.requires.unknown in
     cells-set line.len f b f nb c.args.i c.args.cell (omega (arith, c.requires.i))
     (unmarked f c.args.i _ lacks.0 unfilled)
-    (subst (λ (v : Bool). IsMaskOf (IsMarked (Has b) c.args.i v) nb) (sym (blank_if_not_filled c.args.cell c.requires.known unfilled)) c.marked-self-inside-else-is_filled.ensures)
+    (subst (λ (v : Bool). IsMaskOf (IsMarked (Has b) c.args.i v) nb)
+    (sym (blank_if_not_filled c.args.cell c.requires.known unfilled)) c.marked-self-inside-else-is_filled.ensures)
     ∙ ap (λ (l : List Cell). set l c.args.i c.args.cell) c.self.view_is

@@ -16,6 +16,10 @@ returns g c =
       some = omega (arith, c.self.invariant.some);
       short = omega (arith, c.self.invariant.short);
       len_is = sym long;
-      free_is = subst (λ (l : List Cell). IsMaskOf (MayBe l false) (number c.lacking.result)) c.self.view_is (free_is line.len f b (number c.lacking.result) c.lacking.ensures);
-      room_is = subst (λ (l : List Cell). IsMaskOf (MayBe l true) (number c.lacking-2.result)) c.self.view_is (open_is line.len f b (number c.lacking-2.result) c.self.invariant.apart c.lacking-2.ensures);
+      free_is =
+          subst (λ (l : List Cell). IsMaskOf (MayBe l false) (number c.lacking.result)) c.self.view_is
+          (free_is line.len f b (number c.lacking.result) c.lacking.ensures);
+      room_is =
+          subst (λ (l : List Cell). IsMaskOf (MayBe l true) (number c.lacking-2.result)) c.self.view_is
+          (open_is line.len f b (number c.lacking-2.result) c.self.invariant.apart c.lacking-2.ensures);
     }

@@ -11,9 +11,14 @@ returns-clause-cells g c =
     let number = g.W.PlaceSet.number in
     let line = c.self.inside in
     subst (λ (l : List Cell). IsMaskOf (IsUnknownCell l) (number c.lacking.result)) c.self.view_is
-    (unknown_cells line.len (number line.filled) (number line.blank) (number c.or.result) (number c.lacking.result) c.or.ensures c.lacking.ensures)
+    (unknown_cells line.len (number line.filled) (number line.blank) (number c.or.result)
+    (number c.lacking.result) c.or.ensures c.lacking.ensures)
 
 pub returns-clause-fits : goal.returns-clause-fits
 returns-clause-fits g c =
     let line = c.self.inside in
-    omega (arith, c.self.invariant.short, length_seen line.len (g.W.PlaceSet.number line.filled) (g.W.PlaceSet.number line.blank) c.args.self.now c.self.view_is)
+    omega (
+      arith,
+      c.self.invariant.short,
+      length_seen line.len (g.W.PlaceSet.number line.filled) (g.W.PlaceSet.number line.blank) c.args.self.now c.self.view_is,
+    )

@@ -8,7 +8,8 @@ invariant_of-result g c = record {
   some = c.self.invariant.some;
   short = c.self.invariant.within;
   within = c.self.invariant.within;
-  apart = λ i x y. c.self.invariant.apart i (subst (λ (z : ℕ). Has z i) c.widened.ensures x) (subst (λ (z : ℕ). Has z i) c.widened-2.ensures y);
+  apart = λ i x y.
+      c.self.invariant.apart i (subst (λ (z : ℕ). Has z i) c.widened.ensures x) (subst (λ (z : ℕ). Has z i) c.widened-2.ensures y);
 }
 
 pub returns : goal.returns

@@ -14,5 +14,7 @@ returns-clause-row g c =
     let number = g.W.PlaceSet.number in
     let line = c.self.inside in
     let grid : PartialGrid = c.args.grid.now in
-    let long : grid.width ≡ line.len = c.requires.width ∙ length_seen line.len (number line.filled) (number line.blank) c.args.self.now c.self.view_is in
-    c.write_row.ensures.row ∙ (λ i. with_row grid c.args.y (cells_told (c.widened.ensures i) (c.widened-2.ensures i) (long i))) ∙ ap (with_row grid c.args.y) c.self.view_is
+    let long : grid.width ≡ line.len =
+    c.requires.width ∙ length_seen line.len (number line.filled) (number line.blank) c.args.self.now c.self.view_is in
+    c.write_row.ensures.row ∙ (λ i. with_row grid c.args.y (cells_told (c.widened.ensures i) (c.widened-2.ensures i) (long i)))
+    ∙ ap (with_row grid c.args.y) c.self.view_is

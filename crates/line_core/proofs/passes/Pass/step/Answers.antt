@@ -8,7 +8,8 @@ pub returns-clause-ends : goal.returns-clause-ends
 returns-clause-ends g c = λ line runs h.
     let number = g.W.PlaceSet.number in
     let self = c.args.self.now in
-    ends_are line runs g.W.PlaceSet.WIDTH c.args.number (number self.gap) h.room (number self.opening) (number c.window_starts-window.result) (number c.run_ends-ends.result)
+    ends_are line runs g.W.PlaceSet.WIDTH c.args.number (number self.gap) h.room (number self.opening)
+    (number c.window_starts-window.result) (number c.run_ends-ends.result)
     h.short c.requires.0 h.gap_is h.opening_is h.room_is
     (c.window_starts-window.ensures h.room h.windows_are) c.run_ends-ends.ensures
 
@@ -27,5 +28,7 @@ returns-clause-passed g c = λ line runs h.
         to = λ i x. absurd (omega (arith, x, bit_at-zero i, ap (λ (m : ℕ). bit_at m i) c.none-self.ensures));
         from = λ i x. absurd (omega (arith, x.1));
       };
-      gap_is = gap_next_is line runs g.W.PlaceSet.WIDTH c.args.number (number self.free) (number c.run_ends-ends.result) (number c.gap_after-self.result) h.short c.requires.0 h.free_is ends c.gap_after-self.ensures;
+      gap_is =
+          gap_next_is line runs g.W.PlaceSet.WIDTH c.args.number (number self.free) (number c.run_ends-ends.result)
+          (number c.gap_after-self.result) h.short c.requires.0 h.free_is ends c.gap_after-self.ensures;
     }

@@ -1,3 +1,4 @@
+-- `u128::and` gives what its contract says.
 use Rattle.place_sets.proofs.WordSteps.{meet_is}
 use Rattle.place_sets.proofs.narrow.U128PlaceSet.and.Goals as goal
 

@@ -1,3 +1,4 @@
+-- `u128::down` gives what its contract says.
 use Rattle.place_sets.proofs.WordSteps.{down_is}
 use Rattle.place_sets.proofs.narrow.U128PlaceSet.down.Goals as goal
 

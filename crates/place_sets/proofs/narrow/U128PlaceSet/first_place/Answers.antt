@@ -1,3 +1,4 @@
+-- `u128::first_place` gives what its contract says.
 use Rattle.std.proofs.Common.{arith, inl, inr}
 use Rattle.std.specs.Int.{w128}
 use Rattle.std.proofs.lemmas.Bool.{cases_lt}

@@ -1,3 +1,4 @@
+-- `u128::flood`: the carries of a sum go as far as the flood.
 use Rattle.place_sets.proofs.Flooding.{flooded}
 use Rattle.place_sets.proofs.narrow.U128PlaceSet.flood.Goals as goal
 

@@ -1,3 +1,4 @@
+-- `u128::marked` gives what its contract says.
 use Rattle.place_sets.proofs.Marking.{marked_with, marked_without_128}
 use Rattle.place_sets.proofs.narrow.U128PlaceSet.marked.Goals as goal
 

@@ -1,3 +1,4 @@
+-- `u128::narrowed` gives what its contract says.
 use Rattle.std.proofs.Common.{◌<◌, rules}
 use Rattle.place_sets.proofs.Halves.{narrow_128}
 use Rattle.place_sets.proofs.narrow.U128PlaceSet.narrowed.Goals as goal

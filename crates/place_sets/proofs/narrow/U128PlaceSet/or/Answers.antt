@@ -1,3 +1,4 @@
+-- `u128::or` gives what its contract says.
 use Rattle.place_sets.proofs.WordSteps.{join_is}
 use Rattle.place_sets.proofs.narrow.U128PlaceSet.or.Goals as goal
 

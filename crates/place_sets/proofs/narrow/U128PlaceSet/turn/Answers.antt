@@ -1,3 +1,4 @@
+-- `u128::turn`: both halves turned, and exchanged.
 use Rattle.place_sets.proofs.Halves.{turned_128}
 use Rattle.place_sets.proofs.narrow.U128PlaceSet.turn.Goals as goal
 

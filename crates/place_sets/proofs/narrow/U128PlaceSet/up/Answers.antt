@@ -1,3 +1,4 @@
+-- `u128::up` gives what its contract says.
 use Rattle.place_sets.proofs.WordSteps.{up_is}
 use Rattle.place_sets.proofs.narrow.U128PlaceSet.up.Goals as goal
 

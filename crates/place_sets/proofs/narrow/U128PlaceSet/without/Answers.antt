@@ -1,3 +1,4 @@
+-- `u128::without` gives what its contract says.
 use Rattle.place_sets.proofs.WordSteps.{lacks_128}
 use Rattle.place_sets.proofs.narrow.U128PlaceSet.without.Goals as goal
 

@@ -1,3 +1,4 @@
+-- `u128::xor` gives what its contract says.
 use Rattle.place_sets.proofs.WordSteps.{xor_is}
 use Rattle.place_sets.proofs.narrow.U128PlaceSet.xor.Goals as goal
 

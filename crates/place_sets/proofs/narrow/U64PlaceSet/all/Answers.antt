@@ -1,3 +1,4 @@
+-- `u64::all` gives what its contract says.
 use Rattle.place_sets.proofs.WordSteps.{low_ones}
 use Rattle.place_sets.proofs.narrow.U64PlaceSet.all.Goals as goal
 

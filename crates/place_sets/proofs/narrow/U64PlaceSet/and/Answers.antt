@@ -1,3 +1,4 @@
+-- `u64::and` gives what its contract says.
 use Rattle.place_sets.proofs.WordSteps.{meet_is}
 use Rattle.place_sets.proofs.narrow.U64PlaceSet.and.Goals as goal
 

@@ -1,3 +1,4 @@
+-- `u64::down` gives what its contract says.
 use Rattle.place_sets.proofs.WordSteps.{down_is}
 use Rattle.place_sets.proofs.narrow.U64PlaceSet.down.Goals as goal
 

@@ -1,3 +1,4 @@
+-- `u64::first` gives what its contract says.
 use Rattle.place_sets.proofs.WordSteps.{one_is}
 use Rattle.place_sets.proofs.narrow.U64PlaceSet.first.Goals as goal
 

@@ -1,3 +1,4 @@
+-- `u64::first_place` gives what its contract says.
 use Rattle.std.proofs.Common.{arith, inl, inr}
 use Rattle.std.specs.Int.{w64}
 use Rattle.std.proofs.lemmas.Bool.{cases_lt}

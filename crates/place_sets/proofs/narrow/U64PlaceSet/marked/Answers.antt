@@ -1,3 +1,4 @@
+-- `u64::marked` gives what its contract says.
 use Rattle.place_sets.proofs.Marking.{marked_with, marked_without_64}
 use Rattle.place_sets.proofs.narrow.U64PlaceSet.marked.Goals as goal
 

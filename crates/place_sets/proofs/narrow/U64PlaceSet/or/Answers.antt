@@ -1,3 +1,4 @@
+-- `u64::or` gives what its contract says.
 use Rattle.place_sets.proofs.WordSteps.{join_is}
 use Rattle.place_sets.proofs.narrow.U64PlaceSet.or.Goals as goal
 

@@ -1,3 +1,4 @@
+-- `u64::turn`: six swaps of ever greater groups are a turn, and each mask pairs the places that it should.
 use Rattle.std.proofs.Common.{refl}
 use Rattle.place_sets.proofs.Turning.{turned}
 use Rattle.place_sets.proofs.narrow.U64PlaceSet.turn.Goals as goal
@@ -21,4 +22,6 @@ pub swap_pairs-requires-clause-low : goal.swap_pairs-requires-clause-low
 swap_pairs-requires-clause-low c = refl
 
 pub returns : goal.returns
-returns c = turned c.args.self _ _ _ _ _ _ c.swap_pairs-ones.ensures c.swap_pairs-twos.ensures c.swap_pairs-fours.ensures c.swap_pairs-eights.ensures c.swap_pairs-sixteens.ensures c.swap_pairs.ensures
+returns c =
+    turned c.args.self _ _ _ _ _ _ c.swap_pairs-ones.ensures c.swap_pairs-twos.ensures c.swap_pairs-fours.ensures
+    c.swap_pairs-eights.ensures c.swap_pairs-sixteens.ensures c.swap_pairs.ensures

@@ -1,3 +1,4 @@
+-- `u64::up` gives what its contract says.
 use Rattle.place_sets.proofs.WordSteps.{up_is}
 use Rattle.place_sets.proofs.narrow.U64PlaceSet.up.Goals as goal
 

@@ -1,3 +1,4 @@
+-- `u64::without` gives what its contract says.
 use Rattle.place_sets.proofs.WordSteps.{lacks_64}
 use Rattle.place_sets.proofs.narrow.U64PlaceSet.without.Goals as goal
 

@@ -1,3 +1,4 @@
+-- `u64::xor` gives what its contract says.
 use Rattle.place_sets.proofs.WordSteps.{xor_is}
 use Rattle.place_sets.proofs.narrow.U64PlaceSet.xor.Goals as goal
 

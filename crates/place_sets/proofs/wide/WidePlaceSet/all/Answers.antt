@@ -1,3 +1,4 @@
+-- `Wide::all` gives what its contract says.
 use Rattle.place_sets.proofs.WordSteps.{low_ones}
 use Rattle.place_sets.proofs.wide.WidePlaceSet.all.Goals as goal
 

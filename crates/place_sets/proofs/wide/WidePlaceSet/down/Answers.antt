@@ -1,3 +1,4 @@
+-- `Wide::down`: by less than a half, so that places of the high half go over; by a half or more.
 use Rattle.std.proofs.Common.{◌<◌, rules, arith}
 use Rattle.place_sets.proofs.Halves.{down_less, down_more}
 use Rattle.place_sets.proofs.wide.WidePlaceSet.down.Goals as goal
@@ -8,7 +9,8 @@ returns-then-by-lt128 c =
     let by = c.args.by in
     let fl : a.low < 340282366920938463463374607431768211456 = search rules in
     let fh : a.high < 340282366920938463463374607431768211456 = search rules in
-    down_less a.low a.high by c.down.result c.up.result c.or.result c.down-then-by-lt128.result fl fh c.or.type_inv c.if-by-eq0.false c.if-by-lt128.true c.down.ensures c.up.ensures c.or.ensures c.down-then-by-lt128.ensures
+    down_less a.low a.high by c.down.result c.up.result c.or.result c.down-then-by-lt128.result fl fh c.or.type_inv c.if-by-eq0.false
+    c.if-by-lt128.true c.down.ensures c.up.ensures c.or.ensures c.down-then-by-lt128.ensures
 
 pub returns-else-by-lt128 : goal.returns-else-by-lt128
 returns-else-by-lt128 c =

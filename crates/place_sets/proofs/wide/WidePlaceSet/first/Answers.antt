@@ -1,3 +1,4 @@
+-- `Wide::first` gives what its contract says.
 use Rattle.place_sets.proofs.WordSteps.{one_is}
 use Rattle.place_sets.proofs.wide.WidePlaceSet.first.Goals as goal
 

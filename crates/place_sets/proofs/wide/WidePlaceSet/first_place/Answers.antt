@@ -1,3 +1,4 @@
+-- `Wide::first_place`: that of the low half, or of the high one if the low one is empty.
 use Rattle.std.proofs.Common.{◌∙◌, ◌<◌, rules}
 use Rattle.place_sets.proofs.Halves.{bit_low, bit_high, least_low, least_high}
 use Rattle.place_sets.proofs.wide.WidePlaceSet.first_place.Goals as goal

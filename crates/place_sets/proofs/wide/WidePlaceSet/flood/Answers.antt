@@ -1,3 +1,4 @@
+-- `Wide::flood`: if the flood of the low half reaches its end, the high half's first place is a source too.
 use Rattle.std.proofs.Common.{◌<◌, rules}
 use Rattle.place_sets.proofs.Halves.{sources_low, sources_high, over_is, flooded_halves}
 use Rattle.place_sets.proofs.wide.WidePlaceSet.flood.Goals as goal
@@ -24,5 +25,8 @@ returns c =
     let f = c.args.free in
     let fs : s.low < 340282366920938463463374607431768211456 = search rules in
     let ff : f.low < 340282366920938463463374607431768211456 = search rules in
-    let over = over_is s.low f.low f.high c.flood-low.result c.down.result c.and-over.result c.flood-low.type_inv c.flood-low.ensures c.down.ensures c.and-over.ensures in
-    flooded_halves s.low s.high f.low f.high c.flood-low.result c.and-over.result c.or.result c.flood.result fs ff c.flood-low.type_inv c.flood-low.ensures over c.or.ensures c.flood.ensures
+    let over =
+    over_is s.low f.low f.high c.flood-low.result c.down.result c.and-over.result c.flood-low.type_inv c.flood-low.ensures c.down.ensures
+    c.and-over.ensures in
+    flooded_halves s.low s.high f.low f.high c.flood-low.result c.and-over.result c.or.result c.flood.result fs ff c.flood-low.type_inv
+    c.flood-low.ensures over c.or.ensures c.flood.ensures

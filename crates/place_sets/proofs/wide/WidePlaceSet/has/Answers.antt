@@ -1,3 +1,4 @@
+-- `Wide::has` gives what its contract says.
 use Rattle.std.proofs.Common.{◌<◌, ◌∙◌, rules, arith}
 use Rattle.place_sets.proofs.Marking.{has_low, has_high}
 use Rattle.place_sets.proofs.wide.WidePlaceSet.has.Goals as goal

@@ -1,3 +1,4 @@
+-- `Wide::last_place`: that of the high half, or of the low one if the high one is empty.
 use Rattle.std.proofs.Common.{◌∙◌, ◌<◌, rules}
 use Rattle.place_sets.proofs.Halves.{bit_high, greatest_high}
 use Rattle.place_sets.proofs.wide.WidePlaceSet.last_place.Goals as goal

@@ -1,3 +1,4 @@
+-- `Wide::marked` gives what its contract says.
 use Rattle.std.proofs.Common.{◌<◌, rules, arith}
 use Rattle.place_sets.proofs.Marking.{marked_low, marked_high}
 use Rattle.place_sets.proofs.wide.WidePlaceSet.marked.Goals as goal

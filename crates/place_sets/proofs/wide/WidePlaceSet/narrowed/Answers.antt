@@ -1,3 +1,4 @@
+-- `Wide::narrowed` gives what its contract says.
 use Rattle.std.proofs.Common.{◌<◌, rules}
 use Rattle.place_sets.proofs.Halves.{narrow_256}
 use Rattle.place_sets.proofs.wide.WidePlaceSet.narrowed.Goals as goal

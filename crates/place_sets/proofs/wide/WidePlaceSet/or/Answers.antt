@@ -1,3 +1,4 @@
+-- `Wide::or` gives what its contract says.
 use Rattle.std.proofs.Common.{◌≡◌, ◌⊎◌, ◌<◌, rules}
 use Rattle.place_sets.proofs.Halves.{halves_meet}
 use Rattle.place_sets.proofs.wide.WidePlaceSet.or.Goals as goal
@@ -8,4 +9,5 @@ returns c =
     let b = c.args.other in
     let fa : a.low < 340282366920938463463374607431768211456 = search rules in
     let fb : b.low < 340282366920938463463374607431768211456 = search rules in
-    halves_meet (λ x y. (x ≡ 1) ⊎ (y ≡ 1)) a.low a.high b.low b.high c.or.result c.or-2.result fa fb c.or.type_inv c.or.ensures c.or-2.ensures
+    halves_meet
+    (λ x y. (x ≡ 1) ⊎ (y ≡ 1)) a.low a.high b.low b.high c.or.result c.or-2.result fa fb c.or.type_inv c.or.ensures c.or-2.ensures

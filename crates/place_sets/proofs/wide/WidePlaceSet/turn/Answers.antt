@@ -1,3 +1,4 @@
+-- `Wide::turn`: both halves turned, and exchanged.
 use Rattle.std.proofs.Common.{◌<◌, rules}
 use Rattle.place_sets.proofs.Halves.{turned_halves}
 use Rattle.place_sets.proofs.wide.WidePlaceSet.turn.Goals as goal

@@ -1,3 +1,4 @@
+-- `Wide::up`: by nothing; by less than a half, so that places of the low half go over; by a half or more.
 use Rattle.std.proofs.Common.{◌<◌, rules, arith}
 use Rattle.place_sets.specs.Masks.{joined}
 use Rattle.place_sets.proofs.Halves.{still, wide_below, up_less, up_more}
@@ -17,7 +18,8 @@ returns-then-by-lt128 c =
     let by = c.args.by in
     let fl : a.low < 340282366920938463463374607431768211456 = search rules in
     let fh : a.high < 340282366920938463463374607431768211456 = search rules in
-    up_less a.low a.high by c.up.result c.up-then-by-lt128.result c.down.result c.or.result fl c.up.type_inv fh c.if-by-eq0.false c.if-by-lt128.true c.up.ensures c.up-then-by-lt128.ensures c.down.ensures c.or.ensures
+    up_less a.low a.high by c.up.result c.up-then-by-lt128.result c.down.result c.or.result fl c.up.type_inv fh c.if-by-eq0.false
+    c.if-by-lt128.true c.up.ensures c.up-then-by-lt128.ensures c.down.ensures c.or.ensures
 
 pub returns-else-by-lt128 : goal.returns-else-by-lt128
 returns-else-by-lt128 c =

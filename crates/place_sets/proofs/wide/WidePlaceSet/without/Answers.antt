@@ -1,3 +1,4 @@
+-- `Wide::without` gives what its contract says.
 use Rattle.std.proofs.Common.{◌≡◌, ◌<◌, rules, nat_eq, false}
 use Rattle.place_sets.proofs.Halves.{halves_meet}
 use Rattle.place_sets.proofs.wide.WidePlaceSet.without.Goals as goal
@@ -8,4 +9,6 @@ returns c =
     let b = c.args.other in
     let fa : a.low < 340282366920938463463374607431768211456 = search rules in
     let fb : b.low < 340282366920938463463374607431768211456 = search rules in
-    halves_meet (λ x y. (x ≡ 1) × (nat_eq y 1 ≡ false)) a.low a.high b.low b.high c.without.result c.without-2.result fa fb c.without.type_inv c.without.ensures c.without-2.ensures
+    halves_meet
+    (λ x y. (x ≡ 1) × (nat_eq y 1 ≡ false)) a.low a.high b.low b.high c.without.result c.without-2.result fa fb c.without.type_inv
+    c.without.ensures c.without-2.ensures

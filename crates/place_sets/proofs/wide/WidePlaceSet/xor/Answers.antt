@@ -1,3 +1,4 @@
+-- `Wide::xor` gives what its contract says.
 use Rattle.std.proofs.Common.{◌≢◌, ◌<◌, rules, nat_eq}
 use Rattle.place_sets.proofs.Halves.{halves_meet}
 use Rattle.place_sets.proofs.wide.WidePlaceSet.xor.Goals as goal
@@ -8,4 +9,6 @@ returns c =
     let b = c.args.other in
     let fa : a.low < 340282366920938463463374607431768211456 = search rules in
     let fb : b.low < 340282366920938463463374607431768211456 = search rules in
-    halves_meet (λ x y. nat_eq x 1 ≢ nat_eq y 1) a.low a.high b.low b.high c.xor.result c.xor-2.result fa fb c.xor.type_inv c.xor.ensures c.xor-2.ensures
+    halves_meet
+    (λ x y. nat_eq x 1 ≢ nat_eq y 1) a.low a.high b.low b.high c.xor.result c.xor-2.result fa fb c.xor.type_inv c.xor.ensures
+    c.xor-2.ensures
