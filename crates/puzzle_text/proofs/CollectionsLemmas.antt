@@ -14,6 +14,7 @@ BodySoFar bytes rest whole =
     (front : List ℕ) × (bytes ≡ front ++ rest) × (front ++ body_of (raw_lines rest) ≡ whole)
     × (entries_of (raw_lines rest) ≡ entries_of (raw_lines bytes))
 
+-- one more line, if it begins no entry, goes into the body
 pub body_goes_on : (bytes rest raw after whole : List ℕ) → BodySoFar bytes rest whole → rest ≡ raw ++ after
     → raw_lines rest ≡ raw ∷ raw_lines after → is_marker raw ≡ false → BodySoFar bytes after whole
 body_goes_on bytes rest raw after whole so_far parts first other =

@@ -4,9 +4,11 @@ use Rattle.std.specs.Option.{option_map}
 use Rattle.puzzle_text.specs.declared.faults.TextFault.{TextFault}
 use Rattle.puzzle_text.specs.Answers.{◌>>=◌, each}
 
+-- what comes of all elements, if `front` came of the first ones
 abbrev pub with_front : {Y : Type 0} → List Y → Result (List Y) TextFault → Result (List Y) TextFault
 with_front front rest = rest >>= λ ys. Ok (front ++ ys)
 
+-- the same of options
 abbrev pub some_with_front : {Y : Type 0} → List Y → Option (List Y) → Option (List Y)
 some_with_front front rest = option_map (λ ys. front ++ ys) rest
 
@@ -19,6 +21,7 @@ with_front-none : {Y : Type 0} (rest : Result (List Y) TextFault) → with_front
 with_front-none (Ok ys) = refl
 with_front-none (Err fault) = refl
 
+-- with no element passed, what is to come is what comes of all
 pub each_begins : {A X Y : Type 0} (step : X → Result Y TextFault) (view : A → X) (xs : List A)
     → with_front [] (each (λ a. step (view a)) (drop 0 xs)) ≡ each step (map view xs)
 each_begins step view xs = with_front-none (each (λ a. step (view a)) xs) ∙ sym (each-map step view xs)

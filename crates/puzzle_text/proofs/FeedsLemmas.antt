@@ -162,6 +162,7 @@ clean_kept : (b : Bool) (line : Line) (others : List Line) → has_no_feed line.
 clean_kept true line others here h = (here, h)
 clean_kept false line others here h = h
 
+-- the lines that a filter keeps have no line feed in them either
 pub clean_filter : (p : Line → Bool) (text : List Line) → HaveNoFeed text → HaveNoFeed (filter p text)
 clean_filter p [] h = tt
 clean_filter p (line ∷ text) h = clean_kept (p line) line (filter p text) h.0 (clean_filter p text h.1)
@@ -196,7 +197,7 @@ least_none None n e = (refl, e)
 least_none (Some m) None e = absurd cc
 least_none (Some m) (Some n) e = absurd cc
 
--- where no line is bad, the texts may stand in their fields
+-- if no line is bad, the texts may stand in their fields
 pub lawful_texts : (stray : Option ℕ) (text : List Line) → HaveNoFeed text → bad_line stray text ≡ None → IsDescription (texts_of text)
 lawful_texts stray text h none =
     let long = λ (word : List ℕ). number_of_line (long_text text word) in

@@ -94,24 +94,30 @@ said p = Ok p
 
 -- ---- the steps of .non
 
+-- what a text says, if its sizes and its clues are known
 abbrev pub with_goal : List Line → ℕ × ℕ → List (List ℕ) × List (List ℕ) → Result Nonogram TextFault
 with_goal text sizes clues =
     goal_of (sizes.0 * sizes.1) (first_with (codes "goal") text)
     >>= λ goal. Ok (record { width = sizes.0; height = sizes.1; rows = clues.0; columns = clues.1; texts = texts_of text; goal = goal })
 
+-- what a text says, if its sizes, its sections' order and its clue lines are known
 abbrev pub with_clues : ℕ → List Line → ℕ × ℕ → Bool → List Line → List Line → Result Nonogram TextFault
 with_clues limit text sizes order rows columns = both_clues limit order rows columns >>= with_goal text sizes
 
+-- what a text says, if the clue lines of its rows are known
 abbrev pub with_columns : ℕ → List Line → ℕ × ℕ → Bool → List Line → Result Nonogram TextFault
 with_columns limit text sizes order rows =
     clue_lines_of sizes.0 (sections_of (placed text)).columns >>= with_clues limit text sizes order rows
 
+-- what a text says, if its lines are checked
 abbrev pub with_rows : ℕ → List Line → ℕ × ℕ → Bool → Result Nonogram TextFault
 with_rows limit text sizes order = clue_lines_of sizes.1 (sections_of (placed text)).rows >>= with_columns limit text sizes order
 
+-- what a text says, if its sizes and its sections' order are known
 abbrev pub with_order : ℕ → List Line → ℕ × ℕ → Bool → Result Nonogram TextFault
 with_order limit text sizes order = check_lines (sections_of (placed text)).stray text >>= λ checked. with_rows limit text sizes order
 
+-- what a text says, if its sizes are known
 abbrev pub with_sizes : ℕ → List Line → ℕ × ℕ → Result Nonogram TextFault
 with_sizes limit text sizes = rows_first text >>= with_order limit text sizes
 
@@ -267,11 +273,14 @@ module _ (a b : ℕ) (le : a ≤ b) where
 
   -- ---- the readers
 
+  -- the reader of .nin keeps its answer
   pub nin_keeps : (bytes : List ℕ) → KeepsAnswer (read_nin a bytes) (read_nin b bytes)
   nin_keeps bytes = keeps-bind (lines_of bytes) (lines_of bytes) (nin_of a) (nin_of b) (keeps-same (lines_of bytes)) nin_of_keeps
 
+  -- the reader of .mk keeps its answer
   pub mk_keeps : (bytes : List ℕ) → KeepsAnswer (read_mk a bytes) (read_mk b bytes)
   mk_keeps bytes = keeps-bind (lines_of bytes) (lines_of bytes) (mk_of a) (mk_of b) (keeps-same (lines_of bytes)) mk_of_keeps
 
+  -- the reader of .non keeps its answer
   pub non_keeps : (bytes : List ℕ) → KeepsAnswer (read_non a bytes) (read_non b bytes)
   non_keeps bytes = keeps-bind (lines_of bytes) (lines_of bytes) (non_of a) (non_of b) (keeps-same (lines_of bytes)) non_of_keeps

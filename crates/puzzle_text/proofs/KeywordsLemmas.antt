@@ -37,7 +37,7 @@ kept_twice {X} p false x ys xs le e = elim (cases_Bool (p x)) [
   | inr fails ↦ e ∙ sym (cond-false (p x) (x ∷ filter p xs) (filter p xs) fails)
 ]
 
--- what passes a second test, where all of it passes the first
+-- what passes a second test, if all that passes it passes the first
 filter_twice : {X : Type 0} (p q : X → Bool) → ((x : X) → p x ≡ true → q x ≡ true) → (xs : List X) → filter p (filter q xs) ≡ filter p xs
 filter_twice p q le [] = refl
 filter_twice p q le (x ∷ xs) = kept_twice p (q x) x (filter q xs) xs (le x) (filter_twice p q le xs)

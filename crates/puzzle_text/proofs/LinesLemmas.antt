@@ -37,10 +37,12 @@ cut_at (byte ∷ next ∷ bytes) h =
       | inr other ↦ at_other byte next bytes other (cut_at (next ∷ bytes) (omega arith))
     ]
 
+-- what a condition let through, and that it holds
 pub chosen : (b : Bool) (m n : ℕ) → cond b (Some m) None ≡ Some n → (b ≡ true) × (m ≡ n)
 chosen true m n e = (refl, cc)
 chosen false m n e = absurd cc
 
+-- the condition fails if nothing came through
 pub not_chosen : (b : Bool) (m : ℕ) → cond b (Some m) None ≡ None → b ≡ false
 not_chosen true m e = absurd cc
 not_chosen false m e = refl
@@ -53,7 +55,7 @@ cut_at_feed bytes i e =
     let inside : 0 < length bytes = omega (arith, ltb-true _ _ found.0) in
     rw (← found.1) (cut_at bytes inside)
 
--- and else with the text
+-- and if there is none, with the text
 pub cut_at_end : (bytes : List ℕ) → 0 < length bytes → position (λ byte. eqb byte 10) bytes ≡ None → raw_lines bytes ≡ bytes ∷ []
 cut_at_end bytes h e =
     let past : length bytes ≤ first_end bytes + 1 =
@@ -65,12 +67,14 @@ cut_at_end bytes h e =
 abbrev NoFeedBefore : List ℕ → ℕ → Type 0
 NoFeedBefore bytes i = (k : ℕ) → k < i → eqb (get_or bytes k 0) 10 ≡ false
 
+-- a line feed with none before it is the first
 pub feed_at : (bytes : List ℕ) (i : ℕ) → i < length bytes → NoFeedBefore bytes i → eqb (get_or bytes i 0) 10 ≡ true
     → position (λ byte. eqb byte 10) bytes ≡ Some i
 feed_at bytes i h before at =
     let end : first_end bytes ≡ i = position_or_len_is (λ byte. eqb byte 10) bytes i 0 (omega arith) before (λ _. at) in
     rw (end, lt-ltb i (length bytes) h) refl
 
+-- without a line feed there is no first one
 pub no_feed : (bytes : List ℕ) → NoFeedBefore bytes (length bytes) → position (λ byte. eqb byte 10) bytes ≡ None
 no_feed bytes before =
     let end : first_end bytes ≡ length bytes =
@@ -79,6 +83,7 @@ no_feed bytes before =
 
 -- ---- the first line without its ending
 
+-- a line of this number, from its bytes without their ending
 abbrev pub line_of : ℕ → List ℕ → Line
 line_of number text = record { number = number; text = trim text }
 
@@ -88,6 +93,7 @@ strip_feed bytes end h at =
     let last : length (take (end + 1) bytes) - 1 ≡ end = omega (arith, length-take-le (end + 1) bytes (omega arith)) in
     rw (last, get_or-take (end + 1) bytes end 0 (omega arith), at, take-take end (end + 1) bytes (omega arith)) refl
 
+-- the lines of a text are the first one, up to the first line feed, and those of the rest
 pub line_at_feed : (bytes : List ℕ) (end : ℕ) → position (λ byte. eqb byte 10) bytes ≡ Some end → (number : ℕ)
     → numbered_from number (raw_lines bytes)
     ≡ record { number = number; text = trim (strip_last 13 (take end bytes)) } ∷ numbered_from (number + 1)
@@ -106,6 +112,7 @@ keeps_end bytes some e =
     fails_before_first (λ byte. eqb byte 10) bytes (length bytes - 1) 0 (omega (arith, past)) in
     rw last refl
 
+-- a text without a line feed is one line
 pub line_at_end : (bytes : List ℕ) → 0 < length bytes → position (λ byte. eqb byte 10) bytes ≡ None → (number : ℕ)
     → numbered_from number (raw_lines bytes) ≡ record { number = number; text = trim (strip_last 13 bytes) } ∷ []
 line_at_end bytes some e number =

@@ -27,18 +27,22 @@ module _ {X : Type 0} (view : X → Line) where
   abbrev hash_at : List X → Option ℕ
   hash_at xs = position (λ x. is_hash (view x)) xs
 
+  -- the lines are cut at the first that begins with #
   pub at_hash_found : (xs : List X) (i : ℕ) → hash_at xs ≡ Some i
       → at_hash (map view xs) ≡ Some (map view (take i xs), map view (take (length xs - (i + 1)) (drop (i + 1) xs)))
   at_hash_found xs i e = rw (position-map is_hash view xs, e, take-map view i xs, drop-map view (i + 1) xs, take_rest xs (i + 1)) refl
 
+  -- the lines are not cut if none begins with #
   pub at_hash_none : (xs : List X) → hash_at xs ≡ None → at_hash (map view xs) ≡ None
   at_hash_none xs e = rw (position-map is_hash view xs, e) refl
 
+  -- the lines before the first that begins with #
   pub before_hash_found : (xs : List X) (i : ℕ) → hash_at xs ≡ Some i → before_hash (map view xs) ≡ map view (take i xs)
   before_hash_found xs i e =
       let found = chosen (ltb (position_or_len (λ x. is_hash (view x)) xs) (length xs)) (position_or_len (λ x. is_hash (view x)) xs) i e in
       rw (prefix_len-map (λ y. not (is_hash y)) view xs, found.1, take-map view i xs) refl
 
+  -- all lines, if none begins with #
   pub before_hash_none : (xs : List X) → hash_at xs ≡ None → before_hash (map view xs) ≡ map view xs
   before_hash_none xs e =
       let past =
@@ -49,6 +53,7 @@ module _ {X : Type 0} (view : X → Line) where
 
 -- ---- the clues of both sections
 
+-- the puzzle of sizes and clues
 abbrev pub with_clues : ℕ → ℕ → List (List ℕ) × List (List ℕ) → Result Nonogram TextFault
 with_clues width height clues = Ok (reading width height (clues.0 ++ clues.1))
 
@@ -90,6 +95,7 @@ puzzle_of_parts limit width height xs ys =
     (each-append (λ line. or_fault (BadNumber line.number) (clue_of limit line.text)) xs ys)
     ∙ joined_clues width height (clues_of limit xs) (clues_of limit ys)
 
+-- the first of the clues are the rows', as many as the height
 pub reading_parts : (width height : ℕ) (rows columns : List (List ℕ)) → length rows ≡ height
     → reading width height (rows ++ columns) ≡ plain width height rows columns
 reading_parts width height rows columns e = rw (← e, take-append_seam rows columns, drop-append_seam rows columns) refl

@@ -20,16 +20,20 @@ use Rattle.puzzle_text.proofs.ReadClues.{all-append, tidy-join, tidy_decimal, ti
 
 -- ---- the lines
 
+-- a keyword and a text in double quotes, as a line
 abbrev pub field_line : List ℕ → List ℕ → List ℕ
 field_line word text = word ++ 32 ∷ 34 ∷ (text ++ 34 ∷ [])
 
+-- that line, if there is a text
 abbrev pub one : List ℕ → Option (List ℕ) → List (List ℕ)
 one word None = []
 one word (Some text) = field_line word text ∷ []
 
+-- a keyword and a number, as a line
 abbrev pub size_text : List ℕ → ℕ → List ℕ
 size_text word n = word ++ 32 ∷ decimal n
 
+-- the text of a goal, if there is one
 abbrev pub goal_text : Option (List Bool) → Option (List ℕ)
 goal_text None = None
 goal_text (Some cells) = Some (map goal_byte cells)
@@ -43,24 +47,31 @@ goal_gap (Some cells) = [] ∷ []
 abbrev pub part : Description → Field → List (List ℕ)
 part ts f = one (field_word f) (text_of ts f)
 
+-- the lines of all fields that have a text
 abbrev pub fields : Description → List (List ℕ)
 fields ts = flat_map (part ts) all_fields
 
+-- the clue lines of the rows, and the empty line after them
 abbrev pub row_part : Nonogram → List (List ℕ)
 row_part p = map (clue_text 44) p.rows ++ [] ∷ []
 
+-- the clue lines of the columns, and the empty line before a goal
 abbrev pub column_part : Nonogram → List (List ℕ)
 column_part p = map (clue_text 44) p.columns ++ goal_gap p.goal
 
+-- the line of the goal, if there is one
 abbrev pub goal_part : Nonogram → List (List ℕ)
 goal_part p = one (codes "goal") (goal_text p.goal)
 
+-- the lines from the keyword `columns` on
 abbrev pub after_rows : Nonogram → List (List ℕ)
 after_rows p = codes "columns" ∷ (column_part p ++ goal_part p)
 
+-- the lines from the width on
 abbrev pub after_fields : Nonogram → List (List ℕ)
 after_fields p = size_text (codes "width") p.width ∷ size_text (codes "height") p.height ∷ [] ∷ codes "rows" ∷ (row_part p ++ after_rows p)
 
+-- all lines of the text
 abbrev pub texts_non : Nonogram → List (List ℕ)
 texts_non p = fields p.texts ++ after_fields p
 
@@ -144,6 +155,7 @@ non_is p =
 
 -- ---- no line is cut or trimmed
 
+-- a test fails if its opposite passes
 pub negated : (b : Bool) → not b ≡ true → b ≡ false
 negated true h = absurd cc
 negated false h = refl
@@ -322,6 +334,7 @@ length_goal w h (Some cells) wide high lawful =
       length-append (codes "goal" ++ 32 ∷ 34 ∷ []) text,
     )
 
+-- the text is short enough to be read
 pub length_non : (limit : ℕ) (p : Nonogram) → limit ≤ 256 → IsNonogramWithin limit p → length (text_non p) ≤ 1048576
 length_non limit p wide lawful =
     let w = decimal p.width in

@@ -16,7 +16,7 @@ walked under (line ∷ lines) =
     let others = walked (cond (is_empty (keyword line)) under (keyword line)) lines in
     cond (is_content line) ((under, line) ∷ others) others
 
--- the content lines among these from a place on, beside the keyword that named tells by the place
+-- the content lines from a place on, each beside the keyword that `named` tells by its place
 abbrev placed_by : (ℕ → List ℕ) → List (ℕ × Line) → List (List ℕ × Line)
 placed_by named numbered = map (λ one. (named one.0, one.1)) (filter (λ one. is_content one.1) numbered)
 

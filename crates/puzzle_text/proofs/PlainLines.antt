@@ -11,6 +11,7 @@ use Rattle.puzzle_text.specs.Collections.{Entry, FollowsPlain, body_of, ends_lin
 abbrev pub HasNoAt : List ℕ → Type 0
 HasNoAt bytes = list_all (λ byte. not (eqb byte 64)) bytes ≡ true
 
+-- a test fails if its opposite passes
 pub not_true : (b : Bool) → not b ≡ true → b ≡ false
 not_true true e = absurd cc
 not_true false e = refl
@@ -50,7 +51,7 @@ no_marker raw other =
     let once : eqb (get_or text 0 0) 64 ≡ false = strip_first (eqb (get_or raw (length raw - 1) 0) 10) (length raw - 1) raw other in
     no_marker_text (without_ending raw) (strip_first (eqb (get_or text (length text - 1) 0) 13) (length text - 1) text once)
 
--- ---- where the first line begins no entry
+-- ---- if the first line begins no entry
 
 -- what goes into the body of lines the first of which begins no entry
 abbrev with_first : List (List ℕ) → List ℕ
@@ -100,7 +101,8 @@ amid_entries true byte raws = refl
 amid_entries false byte [] = refl
 amid_entries false byte (raw ∷ raws) = refl
 
--- after a front without @, from where some lines are read
+-- past `front`, which has no @, the lines `raws` go on as `others`;
+-- `start` and `later` tell whether a line begins there
 abbrev GoesOn : Bool → Bool → List ℕ → List (List ℕ) → List (List ℕ) → Type 0
 GoesOn start later front raws others =
     (body_in start raws ≡ front ++ body_in later others) × (entries_in start raws ≡ entries_in later others)

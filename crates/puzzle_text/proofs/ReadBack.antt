@@ -11,6 +11,7 @@ pub record IsTidy (text : List ℕ) : Type 0 where
   pub first : 33 ≤ get_or text 0 0
   pub last : 33 ≤ get_or text (length text - 1) 0
 
+-- a line's text, and the line feed that ends it
 abbrev pub with_feed : List ℕ → List ℕ
 with_feed text = text ++ 10 ∷ []
 
@@ -60,6 +61,7 @@ some_byte : (text : List ℕ) → 33 ≤ get_or text 0 0 → 0 < length text
 some_byte [] h = absurd (omega arith)
 some_byte (byte ∷ bytes) h = omega arith
 
+-- a text without line feeds, and with no blank at either end, is the whole line
 pub kept_edged : (text : List ℕ) → AllByRecursion (λ byte. eqb byte 10 ≡ false) text → 33 ≤ get_or text 0 0
     → 33 ≤ get_or text (length text - 1) 0 → IsKept text
 kept_edged text no_feed first last = record {
@@ -72,6 +74,7 @@ no_feeds : (text : List ℕ) → AllByRecursion (λ byte. 32 ≤ byte) text → 
 no_feeds [] h = tt
 no_feeds (byte ∷ bytes) h = (ne_eqb _ _ (λ e. omega arith), no_feeds bytes h.1)
 
+-- a text as it is written is the whole line
 pub kept_tidy : (text : List ℕ) → IsTidy text → IsKept text
 kept_tidy text tidy = kept_edged text (no_feeds text tidy.inked) tidy.first tidy.last
 
@@ -101,6 +104,7 @@ lines_kept number (text ∷ texts) kept =
     ∙ ap (λ (t : List ℕ). record { number = number; text = t } ∷ numbered_from (number + 1) (raw_lines rest)) here
     ∙ ap (λ (ls : List Line). record { number = number; text = text } ∷ ls) (lines_kept (number + 1) texts kept.1)
 
+-- what is written as tidy lines is those lines
 pub lines_are : (number : ℕ) (texts : List (List ℕ)) → AllByRecursion IsTidy texts
     → numbered_from number (raw_lines (flat_map with_feed texts)) ≡ numbered number texts
 lines_are number texts tidy = lines_kept number texts (kept_all texts tidy)

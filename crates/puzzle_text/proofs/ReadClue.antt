@@ -37,9 +37,11 @@ pub record IsSpacing (separator : ℕ) : Type 0 where
   pub cuts : is_separator separator ≡ true
   pub high : 32 ≤ separator
 
+-- a space may stand between numbers
 pub space : IsSpacing 32
 space = record { cuts = refl; high = omega arith }
 
+-- a comma may stand between numbers
 pub comma : IsSpacing 44
 comma = record { cuts = refl; high = omega arith }
 
@@ -61,6 +63,7 @@ filter_words (n ∷ ns) h =
     cond-true (not (is_empty (decimal n))) (decimal n ∷ others) others (filled n h.0)
     ∙ ap (λ (parts : List (List ℕ)). decimal n ∷ parts) (filter_words ns h.1)
 
+-- the pieces of a written clue are its numbers
 pub pieces_of_clue : (s n : ℕ) (ns : List ℕ) → IsSpacing s → AllByRecursion IsWord (n ∷ ns)
     → pieces (clue_text s (n ∷ ns)) ≡ map decimal (n ∷ ns)
 pieces_of_clue s n ns spacing h = ap (filter (λ piece. not (is_empty piece))) (split_clue s n ns spacing h) ∙ filter_words (n ∷ ns) h
@@ -81,6 +84,7 @@ number_again n h =
     cond-true (not (is_empty (decimal n)) && list_all is_ascii_digit (decimal n)) (Some (digits_value 10 (decimal n))) None is
     ∙ ap (λ (x : ℕ). Some x) numeral.1
 
+-- a number that is written is read again, if it is no more than the limit
 pub number_within_again : (limit n : ℕ) → limit < 2 ^ 64 → n ≤ limit → number_within limit (decimal n) ≡ Some n
 number_within_again limit n wide le =
     ap (option_and_then (λ number. cond (leb number limit) (Some number) None)) (number_again n (omega arith))
@@ -94,12 +98,14 @@ numbers_again limit (n ∷ ns) wide h =
     ap (option_and_then (λ y. option_map (λ ys. y ∷ ys) others)) (number_within_again limit n wide h.0)
     ∙ ap (option_map (λ ys. n ∷ ys)) (numbers_again limit ns wide h.1)
 
+-- the numbers of a clue are no more than the limit
 pub runs : (limit : ℕ) (ns : List ℕ) → list_all (is_run limit) ns ≡ true → AllByRecursion (λ n. n ≤ limit) ns
 runs limit [] h = tt
 runs limit (n ∷ ns) h =
     let parts = and_parts (is_run limit n) (list_all (is_run limit) ns) h in
     (leb-true n limit (and_parts (leb 1 n) (leb n limit) parts.0).1, runs limit ns parts.1)
 
+-- numbers within a limit can be written
 pub words : (limit : ℕ) (ns : List ℕ) → limit < 2 ^ 64 → AllByRecursion (λ n. n ≤ limit) ns → AllByRecursion IsWord ns
 words limit [] wide h = tt
 words limit (n ∷ ns) wide h = (omega (arith, h.0), words limit ns wide h.1)

@@ -97,6 +97,7 @@ layout_again limit p wide lawful =
     option_and_then (λ chosen. Some (record { width = p.width; height = p.height; chosen = chosen }))
     (option_and_then (λ more. Some (rows_of p ++ more)) r)) columns
 
+-- the first of a puzzle's clues are its rows', and the others its columns'
 pub reading_again : (p : Nonogram) (limit : ℕ) → IsNonogramWithin limit p
     → reading p.width p.height (p.rows ++ p.columns) ≡ plain p.width p.height p.rows p.columns
 reading_again p limit lawful = rw (take_at p.rows p.columns p.height lawful.clues.0, drop_at p.rows p.columns p.height lawful.clues.0) refl
@@ -132,6 +133,7 @@ read_again limit p wide lawful short =
     (cond-false (ltb 1048576 (length (text_mk p))) (Err TooLong) (Ok (lines (text_mk p))) (le-ltb 1048576 (length (text_mk p)) short))
     ∙ ap (mk_of limit) (lines_mk limit p wide lawful) ∙ mk_again limit p wide lawful
 
+-- the text is short enough to be read
 pub length_text : (limit : ℕ) (p : Nonogram) → limit ≤ 256 → IsNonogramWithin limit p → length (text_mk p) ≤ 1048576
 length_text limit p wide lawful =
     let a = decimal p.height in

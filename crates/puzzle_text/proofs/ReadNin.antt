@@ -135,6 +135,7 @@ nin_again limit p q wide lawful order =
     (clues_again 32 limit 2 (p.rows ++ p.columns) space wide (all_lawful limit p lawful))
     ∙ ap (λ (x : Nonogram). Ok x) order
 
+-- the text is short enough to be read
 pub length_nin : (limit : ℕ) (p : Nonogram) → limit ≤ 256 → IsNonogramWithin limit p → length (text_nin p) ≤ 1048576
 length_nin limit p wide lawful =
     let a = decimal p.width in

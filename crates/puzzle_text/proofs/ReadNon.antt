@@ -370,7 +370,7 @@ no_places : (o : Option (List Bool)) (k : ℕ) → walked (codes "columns") (num
 no_places None k = refl
 no_places (Some cells) k = refl
 
--- where the lines of the sections stand
+-- beside which keywords the lines stand: an empty one, those of the rows and those of the columns
 record IsLaidOut (p : Nonogram) (places : List (List ℕ × Line)) : Type 0 where
   above : ℕ
   rows_at : ℕ

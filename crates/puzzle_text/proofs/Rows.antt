@@ -47,7 +47,7 @@ written_non = refl
 mk_second_trial : read_mk 256 (codes "4 2\n2\n1 1\n#\n1\n1\n1\n1\n") ≡ Ok four_wide
 mk_second_trial = refl
 
--- ---- a puzzle whose .nin text would be read the other way round
+-- ---- a puzzle whose .nin text would be read with its sizes exchanged
 
 abbrev two_wide : Nonogram
 two_wide = plain 2 1 ((1 ∷ []) ∷ []) ((1 ∷ []) ∷ (2 ∷ []) ∷ [])

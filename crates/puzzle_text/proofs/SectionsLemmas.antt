@@ -13,6 +13,7 @@ kept : {X Y : Type 0} (view : X → Y) (b : Bool) (x : X) (xs : List X) (ys : Li
 kept {X} {Y} view true x xs ys e = ap (λ (zs : List Y). view x ∷ zs) e
 kept view false x xs ys e = e
 
+-- what a filter keeps of a list seen by a view
 pub filter-map : {X Y : Type 0} (p : Y → Bool) (view : X → Y) (xs : List X)
     → filter p (map view xs) ≡ map view (filter (λ x. p (view x)) xs)
 filter-map p view [] = refl
@@ -23,7 +24,7 @@ list_all-map p view [] = refl
 list_all-map p view (x ∷ xs) = ap (λ b. p (view x) && b) (list_all-map p view xs)
 
 module _ {X : Type 0} (view : X → Line) where
-  -- the lines of section that aren't blank
+  -- the lines of a section that aren't blank
   abbrev full_of : List X → List X
   full_of section = filter (λ x. is_full (view x)) section
 
@@ -31,9 +32,11 @@ module _ {X : Type 0} (view : X → Line) where
   same_count section =
       rw (filter-map is_full view section, length-map (full_of section) view) (length-filter (λ x. is_full (view x)) section)
 
+  -- there are as many lines that aren't blank as are counted
   pub length_full : (section full : List X) → full ≡ full_of section → length full ≡ count_by (λ x. is_full (view x)) section
   length_full section full e = ap length e ∙ length-filter (λ x. is_full (view x)) section
 
+  -- the lines that aren't blank are the clue lines if they are `count`
   pub choice_full : (count : ℕ) (section full : List X) → full ≡ full_of section → count_by (λ x. is_full (view x)) section ≡ count
       → choice count (map view section) ≡ Some (map view full)
   choice_full count section full e n =
@@ -42,6 +45,7 @@ module _ {X : Type 0} (view : X → Line) where
 
   -- ---- the first lines
 
+  -- the first lines are the clue lines if all after them are blank
   pub front_first : (count : ℕ) (section : List X) → count ≤ length section
       → list_all (λ x. is_blank_line (view x)) (drop count section) ≡ true
       → front count (map view section) ≡ Some (map view (take count section))
@@ -56,6 +60,7 @@ module _ {X : Type 0} (view : X → Line) where
       let past : leb count (length (map view section)) ≡ false = lt-leb _ _ (omega (arith, length-map section view)) in
       rw past refl
 
+  -- the first lines are no clue lines if one after them isn't blank
   pub front_mixed : (count : ℕ) (section : List X) → count ≤ length section
       → list_all (λ x. is_blank_line (view x)) (drop count section) ≡ false → front count (map view section) ≡ None
   front_mixed count section long blank =
@@ -64,6 +69,7 @@ module _ {X : Type 0} (view : X → Line) where
       rw (drop-map view count section, list_all-map is_blank_line view (drop count section)) blank in
       rw (within, empty) refl
 
+  -- there are no clue lines if neither the first lines nor those that aren't blank will do
   pub choice_none : (count : ℕ) (section : List X) → front count (map view section) ≡ None
       → (count_by (λ x. is_full (view x)) section ≡ count → ⊥) → choice count (map view section) ≡ None
   choice_none count section none n =
@@ -85,7 +91,7 @@ no_more : (lines : List Line) → length (filter is_full lines) ≤ length lines
 no_more [] = omega arith
 no_more (line ∷ lines) = no_more_of (is_full line) line (filter is_full lines) (length lines) (no_more lines)
 
--- where as many are kept as there are, all are
+-- if as many are kept as there are, all are
 all_kept : (lines : List Line) → length (filter is_full lines) ≡ length lines → filter is_full lines ≡ lines
 all_kept [] e = refl
 all_kept (line ∷ lines) e =
@@ -115,6 +121,7 @@ front_choice true true false full first found same e = absurd cc
 front_choice true false blank full first found same e = absurd cc
 front_choice false within blank full first found same e = e
 
+-- the first lines are the choice, if all after them are blank
 pub front_chosen : (count : ℕ) (lines found : List Line) → front count lines ≡ Some found → choice count lines ≡ Some found
 front_chosen count lines found e =
     let full = filter is_full lines in
@@ -128,6 +135,7 @@ front_length_of true true first found count same e = let is : first ≡ found = 
 front_length_of true false first found count same e = absurd cc
 front_length_of false blank first found count same e = absurd cc
 
+-- they are `count` lines
 pub front_length : (count : ℕ) (lines found : List Line) → front count lines ≡ Some found → length found ≡ count
 front_length count lines found e =
     front_length_of (leb count (length lines)) (list_all is_blank_line (drop count lines)) (take count lines) found count

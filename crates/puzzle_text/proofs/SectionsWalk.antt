@@ -117,6 +117,7 @@ below_content under word above line lines is e h =
 
 -- ---- the walk over lines as the code keeps them
 
+-- at the top there is nothing yet in the sections
 pub nothing_above : (rows columns lines : List Line) → rows ≡ [] → columns ≡ []
     → join (of_parts rows columns None) (below [] lines) ≡ sections_of (placed lines)
 nothing_above rows columns lines p q = rw (p, q) (ap sections_of (walked-placed lines))
@@ -131,6 +132,7 @@ none_is own word b e none = ap is_empty (sym e) ∙ ap (λ (n : ℕ). eqb n 0) (
 module _ (lines : List KeptLine) (i : ℕ) (d : KeptLine) (word own : List ℕ) (above whole : Sections) (h : i < length lines)
     (so_far : join above (below word (map shown_line (drop i lines))) ≡ whole)
     (e : str_to_ascii_lowercase own ≡ keyword (shown_line (get_or lines i d))) where
+  -- past a keyword line, which stands in no section
   pub next_keyword : eqb (length own) 0 ≡ false
       → join above (below (str_to_ascii_lowercase own) (map shown_line (drop (i + 1) lines))) ≡ whole
   next_keyword some =
@@ -139,6 +141,7 @@ module _ (lines : List KeptLine) (i : ℕ) (d : KeptLine) (word own : List ℕ) 
       ∙ sym (ap (λ (all : List Line). join above (below word all)) (shown_from lines i d h)
       ∙ ap (join above) (below_keyword word (shown_line (get_or lines i d)) others (none_is own _ false e some))) ∙ so_far
 
+  -- past a comment, which stands in no section
   pub next_comment : eqb (length own) 0 ≡ true → is_hash (shown_line (get_or lines i d)) ≡ true
       → join above (below word (map shown_line (drop (i + 1) lines))) ≡ whole
   next_comment none hash =
@@ -146,6 +149,7 @@ module _ (lines : List KeptLine) (i : ℕ) (d : KeptLine) (word own : List ℕ) 
       sym (ap (λ (all : List Line). join above (below word all)) (shown_from lines i d h)
       ∙ ap (join above) (below_comment word (shown_line (get_or lines i d)) others (none_is own _ true e none) hash)) ∙ so_far
 
+  -- past a line that goes into the section of the keyword above it
   pub next_content : (under : Under) → IsUnder word under → eqb (length own) 0 ≡ true → is_hash (shown_line (get_or lines i d)) ≡ false
       → join (with_line above under (shown_line (get_or lines i d))) (below word (map shown_line (drop (i + 1) lines))) ≡ whole
   next_content under is none other =

@@ -11,7 +11,8 @@ use Rattle.puzzle_text.specs.Lines.{is_empty, trim, without_ending}
 use Rattle.puzzle_text.specs.Collections.{Entry, are_named, begins_with_marker, body_of, entries_of, first_stray, is_marker, is_stray, name_of}
 use Rattle.puzzle_text.proofs.PlainLines.{not_true}
 
--- the number of the first stray line: raws are the lines from number on, and inside tells whether a marker line stands above
+-- the number of the first stray line: `raws` are the lines from `number` on,
+-- and `inside` tells whether a marker line stands above
 abbrev pub stray_from : ℕ → Bool → List (List ℕ) → Option ℕ
 stray_from number inside [] = None
 stray_from number inside (raw ∷ raws) =
@@ -69,7 +70,7 @@ walk_below front (raw ∷ raws) =
 pub stray_from-first : (raws : List (List ℕ)) → stray_from 1 false raws ≡ first_stray raws
 stray_from-first raws = walk_below [] raws
 
--- ---- where each entry has a name
+-- ---- if each entry has a name
 
 named_line : (marker blank : Bool) (number : ℕ) (later : Option ℕ) (entry : Entry) (others : List Entry)
     → (are_named others ≡ true → later ≡ None)
@@ -92,7 +93,7 @@ from_first : (number : ℕ) (raws : List (List ℕ)) → begins_with_marker raws
 from_first number [] marker named = refl
 from_first number (raw ∷ raws) marker named = rw marker (rw marker at (none_below number (raw ∷ raws) named))
 
--- and none at all, where the first line is one
+-- and none at all, if the first line is one
 pub none_stray : (raws : List (List ℕ)) → begins_with_marker raws ≡ true → are_named (entries_of raws) ≡ true → first_stray raws ≡ None
 none_stray raws marker named = sym (stray_from-first raws) ∙ from_first 1 raws marker named
 

@@ -10,17 +10,17 @@ abbrev pub ◌>>=◌ : {A B : Type 0} → Result A TextFault → (A → Result B
 (Ok x) >>= f = f x
 (Err fault) >>= f = Err fault
 
--- the value, or this fault where there is none
+-- the value, or this fault if there is none
 abbrev pub or_fault : {A : Type 0} → TextFault → Option A → Result A TextFault
 or_fault fault None = Err fault
 or_fault fault (Some x) = Ok x
 
--- what step gives of each element, in order, or the first fault
+-- what `step` gives of each element, in order, or the first fault
 abbrev pub each : {X Y : Type 0} → (X → Result Y TextFault) → List X → Result (List Y) TextFault
 each step [] = Ok []
 each step (x ∷ xs) = step x >>= λ y. each step xs >>= λ ys. Ok (y ∷ ys)
 
--- what step gives of each element, in order, where it gives something of each
+-- what `step` gives of each element, in order, if it gives something of each
 abbrev pub each_some : {X Y : Type 0} → (X → Option Y) → List X → Option (List Y)
 each_some step [] = Some []
 each_some step (x ∷ xs) = option_and_then (λ y. option_map (λ ys. y ∷ ys) (each_some step xs)) (step x)

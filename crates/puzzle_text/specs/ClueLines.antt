@@ -7,7 +7,7 @@ use Rattle.puzzle_text.specs.Lines.{Line}
 use Rattle.puzzle_text.specs.Numbers.{pieces, number_within}
 use Rattle.puzzle_text.specs.Answers.{or_fault, each, each_some}
 
--- the numbers of all pieces, where each is a number no more than the limit
+-- the numbers of all pieces, if each is a number no more than the limit
 abbrev pub numbers_within : ℕ → List (List ℕ) → Option (List ℕ)
 numbers_within limit pieces = each_some (number_within limit) pieces
 

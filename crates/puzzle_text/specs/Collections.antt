@@ -42,7 +42,7 @@ entries_of (raw ∷ raws) =
 abbrev pub ends_line : List ℕ → Bool
 ends_line bytes = is_empty bytes || slice_index bytes (length bytes - 1) == 10
 
--- rest follows a front of the text that is of the body alone: no entry begins in it
+-- `rest` follows a front of the text that is of the body alone: no entry begins in it
 abbrev pub FollowsPlain : List ℕ → List ℕ → Type 0
 FollowsPlain bytes rest = (front : List ℕ) × (bytes ≡ front ++ rest)
     × (front ++ body_of (raw_lines rest) ≡ body_of (raw_lines bytes)) × (entries_of (raw_lines rest) ≡ entries_of (raw_lines bytes))
@@ -56,7 +56,8 @@ begins_with_marker (raw ∷ raws) = is_marker raw
 abbrev pub are_named : List Entry → Bool
 are_named entries = list_all (λ entry. not (is_empty entry.name)) entries
 
--- whether a line below these belongs to no entry or names none: a marker line without a name, or a line that isn't blank with no marker line above
+-- whether a line below these belongs to no entry or names none:
+-- it is a marker line without a name, or isn't blank and has no marker line above it
 abbrev pub is_stray : List (List ℕ) → List ℕ → Bool
 is_stray above raw =
     if is_marker raw then is_empty (name_of raw)
@@ -77,7 +78,8 @@ abbrev pub cut : List ℕ → Result (List Entry) CollectionFault
 cut bytes = if nat_lt LONGEST_COLLECTION (length bytes) then Err TooLong
     else checked (first_stray (raw_lines bytes)) (entries_of (raw_lines bytes))
 
--- What a call answered, seen by view, is this answer. Want of memory may stand in place of entries, and of no fault.
+-- What a call answered, seen by `view`, is this answer.
+-- Want of memory may stand in place of entries, and of no fault.
 abbrev pub GivesEntries : {X Y : Type 0} → (X → Y) → Result X CollectionFault → Result Y CollectionFault → Type 0
 GivesEntries view (Ok x) answer = answer ≡ Ok (view x)
 GivesEntries view (Err NoMemory) answer = IsOk answer

@@ -37,13 +37,13 @@ read_as Non limit bytes = read_non limit bytes
 read_as Mk limit bytes = read_mk limit bytes
 read_as Nin limit bytes = read_nin limit bytes
 
--- the puzzle's text in a format. In .nin there is none where it would be read with the sizes the other way round
+-- the puzzle's text in a format. In .nin there is none if it would be read with the sizes exchanged
 abbrev pub text_as : Format → Nonogram → Result (List ℕ) WriteFault
 text_as Non p = Ok (text_non p)
 text_as Mk p = Ok (text_mk p)
 text_as Nin p = if is_ambiguous p then Err Ambiguous else Ok (text_nin p)
 
--- whether a name, in lower case, ends so
+-- whether a name, in lower case, has this ending
 abbrev pub has_ending : List ℕ → List ℕ → Bool
 has_ending ending name = bytes_eq (drop (length name - length ending) (str_to_ascii_lowercase name)) ending
 

@@ -57,7 +57,7 @@ after_quote (byte ∷ bytes) = if byte == 34 then Some bytes else after_quote by
 abbrev pub before_quote : List ℕ → Option (List ℕ)
 before_quote bytes = option_map reverse (after_quote (reverse bytes))
 
--- what stands between the first and the last double quote, or all of it where there are not two
+-- what stands between the first and the last double quote, or all of it if there are not two
 abbrev pub quoted : List ℕ → List ℕ
 quoted bytes = unwrap_or (option_and_then before_quote (after_quote bytes)) bytes
 

@@ -19,8 +19,9 @@ abbrev pub NinIsReadBack : ℕ → Type 0
 NinIsReadBack limit = (p : Nonogram) → IsNonogramWithin limit p → is_ambiguous p ≡ false
     → read_nin limit (text_nin p) ≡ Ok (plain p.width p.height p.rows p.columns)
 
--- The text in .nin of an ambiguous puzzle is read as another size: its width and height exchanged, of the same clues in the same order, so
--- that the first of its rows and columns, as many as it is wide, are the rows.
+-- The text in .nin of an ambiguous puzzle is read as another size:
+-- its width and height exchanged, of the same clues in the same order, so that the first of its rows
+-- and columns, as many as it is wide, are the rows.
 abbrev pub AmbiguousIsReadOtherwise : ℕ → Type 0
 AmbiguousIsReadOtherwise limit = (p : Nonogram) → IsNonogramWithin limit p → is_ambiguous p ≡ true
     → read_nin limit (text_nin p) ≡ Ok (reading p.height p.width (p.rows ++ p.columns))
@@ -34,11 +35,12 @@ abbrev pub WrittenIsShort : ℕ → Type 0
 WrittenIsShort limit = (p : Nonogram) → IsNonogramWithin limit p
     → (length (text_non p) ≤ LONGEST_PUZZLE) × (length (text_mk p) ≤ LONGEST_PUZZLE) × (length (text_nin p) ≤ LONGEST_PUZZLE)
 
--- new is old, unless old is BadSize or BadNumber
+-- `new` is `old`, unless `old` is BadSize or BadNumber
 abbrev pub KeepsAnswer : {A : Type 0} → Result A TextFault → Result A TextFault → Type 0
 KeepsAnswer old new = (old ≡ Err BadSize → ⊥) → ((number : ℕ) → old ≡ Err (BadNumber number) → ⊥) → new ≡ old
 
--- a greater limit keeps what a text says: the same puzzle, or the same fault, unless a size or a number was out of range
+-- a greater limit keeps what a text says: the same puzzle, or the same fault,
+-- unless a size or a number was out of range
 abbrev pub GreaterLimitKeeps : ℕ → ℕ → Type 0
 GreaterLimitKeeps limit greater = (bytes : List ℕ)
     → KeepsAnswer (read_non limit bytes) (read_non greater bytes)

@@ -32,7 +32,8 @@ strip_last byte bytes = if slice_index bytes (length bytes - 1) == byte then tak
 abbrev pub without_ending : List ℕ → List ℕ
 without_ending raw = strip_last 13 (strip_last 10 raw)
 
--- a line: its number in the text, from 1, and its bytes without its ending and without spaces and tabs at both ends
+-- a line: its number in the text, from 1, and its bytes without its ending and without spaces and tabs
+-- at both ends
 pub record Line : Type 0 where
   pub number : ℕ
   pub text : List ℕ

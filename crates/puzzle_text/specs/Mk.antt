@@ -32,7 +32,7 @@ pub record Layout : Type 0 where
   pub height : ℕ
   pub chosen : List Line
 
--- these sizes with their clue lines, if both sections have as many
+-- these sizes with their clue lines, if each section has as many as its size
 abbrev pub layout : ℕ → ℕ → List Line → List Line → Option Layout
 layout width height rows columns =
     option_and_then (λ chosen. Some (record { width = width; height = height; chosen = chosen })) (both_choices width height rows columns)
@@ -51,7 +51,8 @@ abbrev pub puzzle_of_both : ℕ → ℕ → ℕ → List Line → List Line → 
 puzzle_of_both limit width height rows columns =
     both_clues limit true rows columns >>= λ clues. Ok (reading width height (clues.0 ++ clues.1))
 
--- the puzzle that these lines say: the height stands first in the size line, unless only the other order has clue lines in both sections
+-- the puzzle that these lines say: the height stands first in the size line,
+-- unless only the other order has clue lines in both sections
 abbrev pub mk_of : ℕ → List Line → Result Nonogram TextFault
 mk_of limit lines = do
   size ← size_line limit lines

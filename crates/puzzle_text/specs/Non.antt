@@ -99,7 +99,7 @@ bad_line stray lines =
 abbrev pub repeated : List Line → Option ℕ
 repeated lines = least_of (map (λ word. number_of_line (second_with word lines)) single_words)
 
--- that no line is out of place, no text is too long, and no keyword that may stand once only is repeated
+-- passes if no line is out of place, no text is too long, and no keyword that may stand once is repeated
 abbrev pub check_lines : Option ℕ → List Line → Result (Unit {0}) TextFault
 check_lines stray lines = refuse_at BadLine (bad_line stray lines) >>= λ _. refuse_at Twice (repeated lines)
 
@@ -125,7 +125,8 @@ rows_first lines = do
 abbrev pub clue_lines_of : ℕ → List Line → Result (List Line) TextFault
 clue_lines_of count section = or_fault BadCount (choice count section)
 
--- the row clues and the column clues; of the two sections the one that stands first in the text is checked first
+-- the row clues and the column clues;
+-- of the two sections the one that stands first in the text is checked first
 abbrev pub both_clues : ℕ → Bool → List Line → List Line → Result (List (List ℕ) × List (List ℕ)) TextFault
 both_clues limit true rows columns =
     clues_of limit rows >>= λ row_clues. clues_of limit columns >>= λ column_clues. Ok (row_clues, column_clues)
@@ -136,7 +137,7 @@ both_clues limit false rows columns =
 abbrev pub cell_of : ℕ → Option Bool
 cell_of byte = if byte == 48 then Some false else (if byte == 49 then Some true else None)
 
--- the cells of a goal of this many
+-- the cells of a goal of `count` cells
 abbrev pub goal_cells : ℕ → List ℕ → Option (List Bool)
 goal_cells count text = if length text == count then each_some cell_of text else None
 

@@ -17,6 +17,6 @@ pieces text = filter (λ piece. not (is_empty piece)) (slice_split is_separator 
 abbrev pub number_of : List ℕ → Option ℕ
 number_of piece = if not (is_empty piece) && list_all is_ascii_digit piece then Some (digits_value 10 piece) else None
 
--- the number that a piece writes, where it is no more than the limit
+-- the number that a piece writes, if it is no more than the limit
 abbrev pub number_within : ℕ → List ℕ → Option ℕ
 number_within limit piece = option_and_then (λ number. if nat_le number limit then Some number else None) (number_of piece)

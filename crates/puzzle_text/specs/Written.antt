@@ -31,7 +31,7 @@ text_mk p = two_numbers p.height p.width ++ clue_lines 32 p.rows ++ codes "#\n" 
 abbrev pub text_nin : Nonogram → List ℕ
 text_nin p = two_numbers p.width p.height ++ clue_lines 32 p.rows ++ clue_lines 32 p.columns
 
--- whether the text in .nin would be read with the sizes the other way round
+-- whether the text in .nin would be read with the sizes exchanged
 abbrev pub is_ambiguous : Nonogram → Bool
 is_ambiguous p = not (p.width == p.height) && not (is_admissible p) && is_admissible (reading p.height p.width (p.rows ++ p.columns))
 

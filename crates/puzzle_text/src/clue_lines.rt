@@ -14,7 +14,8 @@ use crate::sections::Chosen;
 use grid_core::{Clue, ClueFault, LONGEST_SIDE, NoMemory};
 use std::alloc::Global;
 
-/// Reads the numbers of a line into a list, in place of what is there. Whether each of its pieces is a number.
+/// Reads the numbers of a line into a list, in place of what is there.
+/// Returns whether each of its pieces is a number.
 fn read_numbers(text: &[u8], numbers: &mut Vec<u16>) -> Result<bool, NoMemory>
     ensures { IfOk result (λ all. (if all then Some numbers.new.items else None) ≡ numbers_within LONGEST_SIDE (pieces text.now)) }
 {
@@ -56,7 +57,7 @@ fn clue_of(alloc: Global, text: &[u8], numbers: &mut Vec<u16>) -> Result<Option<
     }
 }
 
-/// An empty list with room for so many clues.
+/// An empty list with room for `count` clues.
 fn room_for(alloc: Global, count: usize) -> Result<Vec<Clue>, NoMemory>
     ensures items { IfOk result (λ clues. clues.items ≡ []) }
     ensures len { IfOk result (λ clues. vec_len clues ≡ 0) }
@@ -99,7 +100,8 @@ pub(crate) fn chosen_clues(alloc: Global, chosen: &Chosen<'_, '_>) -> Result<Vec
     }
 }
 
-/// The clues of the rows and of the columns. Of the two sections the one that stands first in the text is checked first.
+/// The clues of the rows and of the columns. Of the two sections the one that stands first in the text is
+/// checked first.
 pub(crate) fn both_clues(
     alloc: Global,
     rows_first: bool,

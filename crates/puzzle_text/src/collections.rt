@@ -64,7 +64,8 @@ fn ends_line(bytes: &[u8]) -> bool
     }
 }
 
-/// What follows some lines that begin no entry: the text from the first `@` on, where that begins a line, or else the lines below it.
+/// What follows some lines that begin no entry: the text from the first `@` on, if that begins a line,
+/// or else the lines below it.
 fn past_plain(bytes: &[u8]) -> &[u8]
     ensures { FollowsPlain bytes.now result.now }
 {
@@ -207,11 +208,12 @@ fn first_stray(bytes: &[u8]) -> Option<u32>
     None
 }
 
-/// How many entries a collection has, or the number of its first stray line, looked for line by line only where the marker lines don't show that
-/// there is none.
+/// How many entries a collection has, or the number of its first stray line, which is looked for line by line
+/// only if the marker lines don't show that there is none.
 fn checked_count(bytes: &[u8]) -> Result<usize, u32>
     requires { length bytes.now < 2 ^ 32 }
-    ensures count { IfOk result (λ count. (first_stray (raw_lines bytes.now) ≡ None) × (count ≡ length (entries_of (raw_lines bytes.now)))) }
+    ensures count { IfOk result (λ count. (first_stray (raw_lines bytes.now) ≡ None)
+        × (count ≡ length (entries_of (raw_lines bytes.now)))) }
     ensures stray { IfErr result (λ number. first_stray (raw_lines bytes.now) ≡ Some number) }
 {
     if let Some(count) = sound_count(bytes) {
@@ -223,7 +225,8 @@ fn checked_count(bytes: &[u8]) -> Result<usize, u32>
     }
 }
 
-/// The entries of a collection. A line `@ NAME` begins an entry; its text is the lines after that one up to the next such line or the end.
+/// The entries of a collection. A line `@ NAME` begins an entry;
+/// its text is the lines after that one up to the next such line or the end.
 pub fn entries<'a>(alloc: Global, bytes: &'a [u8]) -> Result<Vec<Entry<'a>>, CollectionFault>
     ensures answer { GivesEntries (λ found. map shown_entry found.items) result (cut bytes.now) }
     // Want of memory never stands in place of this fault, nor of another.

@@ -32,7 +32,7 @@ pub enum Format {
 /// All formats.
 const FORMATS: [Format; 3] = [Format::Non, Format::Mk, Format::Nin];
 
-/// Whether a name ends so, letters in either case.
+/// Whether a name has this ending, letters in either case.
 fn has_ending(name: &[u8], ending: &[u8]) -> bool
     ensures { result ≡ has_ending (str_to_ascii_lowercase ending.now) name.now }
 {
@@ -100,7 +100,8 @@ impl Format {
         }
     }
 
-    /// The text of a puzzle in this format. `Ambiguous` where that text would be read with the sizes the other way round; else perhaps `NoMemory`.
+    /// The text of a puzzle in this format. `Ambiguous` if that text would be read with the sizes exchanged;
+    /// else perhaps `NoMemory`.
     pub fn write(self, alloc: Global, puzzle: &Puzzle) -> Result<Vec<u8>, WriteFault>
         ensures text { IfOk result (λ text. text_as self puzzle.now ≡ Ok text.items) }
         // Want of memory never stands in place of this fault.
@@ -114,7 +115,8 @@ impl Format {
     }
 }
 
-/// Reads the puzzle of an entry, in the format that its name's ending tells: `.non`, `.mk` or `.nin`, letters in either case.
+/// Reads the puzzle of an entry, in the format that its name's ending tells:
+/// `.non`, `.mk` or `.nin`, letters in either case.
 pub fn read_entry(alloc: Global, entry: &Entry<'_>) -> Result<Puzzle, EntryFault>
     ensures answer { GivesPuzzle result (read_entry LONGEST_SIDE (shown_entry entry.now)) }
     // Want of memory never stands in place of these faults.

@@ -23,7 +23,7 @@ fn cell_of(byte: u8) -> Option<bool>
     }
 }
 
-/// An empty list with room for so many cells.
+/// An empty list with room for `count` cells.
 fn room_for(alloc: Global, count: usize) -> Result<Vec<bool>, NoMemory>
     ensures items { IfOk result (λ cells. cells.items ≡ []) }
     ensures len { IfOk result (λ cells. vec_len cells ≡ 0) }
@@ -32,7 +32,7 @@ fn room_for(alloc: Global, count: usize) -> Result<Vec<bool>, NoMemory>
     Ok(Vec::with_capacity(alloc, count)?)
 }
 
-/// The cells of a goal of this many.
+/// The cells of a goal of `count` cells.
 fn goal_cells(alloc: Global, count: usize, text: &[u8]) -> Result<Option<Vec<bool>>, NoMemory>
     ensures cells { IfOk result (λ found. option_map (λ cells. cells.items) found ≡ goal_cells count text.now) }
     ensures count { IfOk result (λ found. IfSome found (λ cells. length cells.items ≡ count)) }

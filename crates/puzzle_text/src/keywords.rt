@@ -138,7 +138,7 @@ fn before_quote(bytes: &[u8]) -> Option<&[u8]>
     None
 }
 
-/// What stands between the first and the last double quote, or all of it where there are not two.
+/// What stands between the first and the last double quote, or all of it if there are not two.
 fn quoted(bytes: &[u8]) -> &[u8]
     ensures { result.now ≡ quoted bytes.now }
 {

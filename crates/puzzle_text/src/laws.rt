@@ -21,8 +21,8 @@ pub fn nin_is_read_back()
     ensures { NinIsReadBack LONGEST_SIDE }
 {}
 
-/// The text in .nin of a puzzle that `write_nin` refuses would be read as another size: width and height exchanged, of the same clues in the
-/// same order.
+/// The text in .nin of a puzzle that `write_nin` refuses would be read as another size:
+/// width and height exchanged, of the same clues in the same order.
 pub fn ambiguous_is_read_otherwise()
     ensures { AmbiguousIsReadOtherwise LONGEST_SIDE }
 {}
@@ -37,8 +37,8 @@ pub fn greater_limit_keeps()
     ensures { (limit greater : ℕ) → limit ≤ greater → GreaterLimitKeeps limit greater }
 {}
 
-/// The limit on sides and clue numbers keeps what a limit of 128 says of each text: the same puzzle, or the same fault, unless that is `BadSize`
-/// or `BadNumber`.
+/// The limit on sides and clue numbers keeps what a limit of 128 says of each text:
+/// the same puzzle, or the same fault, unless that is `BadSize` or `BadNumber`.
 pub fn longest_side_keeps_128()
     ensures { GreaterLimitKeeps 128 LONGEST_SIDE }
 {}

@@ -1,7 +1,7 @@
 //! The limits on puzzles' texts and on collections. Those on puzzles are `grid_core`'s.
 
-/// How many bytes the whole text of a puzzle has at most, in any format. (A single text in it, as its title, has at most `grid_core`'s
-/// `LONGEST_TEXT`.)
+/// How many bytes the whole text of a puzzle has at most, in any format.
+/// (A single text in it, as its title, has at most `grid_core`'s `LONGEST_TEXT`.)
 pub const LONGEST_PUZZLE: usize = 1_048_576;
 
 /// How many bytes a collection has at most, all its entries with their marker lines.

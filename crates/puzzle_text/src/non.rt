@@ -55,7 +55,8 @@ fn second_number(lines: &[KeywordLine<'_>], word: &[u8]) -> Option<u32>
     }
 }
 
-/// The least number of a line that stands in no section, or of a text field's first line whose text is too long.
+/// The least number of a line that stands in no section, or of a text field's first line whose text is too
+/// long.
 fn bad_line(keyword_lines: &[KeywordLine<'_>], stray: Option<u32>) -> Option<u32>
     ensures { result ≡ bad_line stray (map shown_keyword keyword_lines.now) }
 {
@@ -75,7 +76,8 @@ fn repeated(lines: &[KeywordLine<'_>]) -> Option<u32>
     ])
 }
 
-/// Checks that no line is out of place, no text is too long, and no keyword that may stand once only is repeated.
+/// Checks that no line is out of place, no text is too long, and no keyword that may stand once only is
+/// repeated.
 fn check_lines(keyword_lines: &[KeywordLine<'_>], stray: Option<u32>) -> Result<(), TextFault>
     requires { HaveNoFeed (map shown_keyword keyword_lines.now) }
     ensures answer { Gives (λ done. done) result (check_lines stray (map shown_keyword keyword_lines.now)) }
@@ -147,8 +149,8 @@ fn non_of(alloc: Global, lines: &[Line<'_>]) -> Result<Puzzle, TextFault>
     puzzle_said(alloc, &keyword_lines, &sections)
 }
 
-/// Reads a puzzle in the format .non: keyword lines for the texts, the sizes and the goal, and a section of clue lines each under `rows` and
-/// `columns`.
+/// Reads a puzzle in the format .non: keyword lines for the texts, the sizes and the goal,
+/// and a section of clue lines each under `rows` and `columns`.
 pub fn read_non(alloc: Global, bytes: &[u8]) -> Result<Puzzle, TextFault>
     ensures answer { Gives (λ p. p) result (read_non LONGEST_SIDE bytes.now) }
     // Want of memory never stands in place of this fault.

@@ -6,7 +6,7 @@ ghost use Rattle.std.specs.Option.{option_map};
 ghost use Rattle.puzzle_text.specs.ClueLines.{numbers_within};
 ghost use Rattle.puzzle_text.specs.Numbers.{is_separator, number_within, pieces};
 
-/// The number that a piece writes in decimal, where it is no more than the limit.
+/// The number that a piece writes in decimal, if it is no more than the limit.
 pub(crate) fn number_within(limit: u16, piece: &[u8]) -> Option<u16>
     ensures number { result ≡ number_within limit piece.now }
     ensures within { IfSome result (λ number. number ≤ limit) }
@@ -70,12 +70,14 @@ pub(crate) fn next_piece(text: &[u8]) -> Option<(&[u8], &[u8])>
     }
 }
 
-/// The number that the first piece writes in decimal, where it is no more than the limit, and what follows the piece.
+/// The number that the first piece writes in decimal, if it is no more than the limit, and what follows the
+/// piece.
 pub(crate) fn first_number(limit: u16, text: &[u8]) -> Option<(u16, &[u8])>
     requires some { 0 < length text.now }
     requires first { is_separator (slice_index text.now 0) ≡ false }
     ensures none { IfNone result (numbers_within limit (pieces text.now) ≡ None) }
-    ensures some { IfSome result (λ found. numbers_within limit (pieces text.now) ≡ option_map (λ others. found.0 ∷ others) (numbers_within limit (pieces found.1.now))) }
+    ensures some { IfSome result (λ found. numbers_within limit (pieces text.now)
+        ≡ option_map (λ others. found.0 ∷ others) (numbers_within limit (pieces found.1.now))) }
     ensures shorter { IfSome result (λ found. length found.1.now < length text.now) }
 {
     let mut value = 0u32;

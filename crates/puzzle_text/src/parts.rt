@@ -18,7 +18,8 @@ pub(crate) fn puzzle_of(
     requires size { IsSize width height }
     requires clues { HasClueForEachLine width height rows.items columns.items }
     requires goal { is_goal (width * height) (bools_of goal) ≡ true }
-    ensures { result ≡ record { width = width; height = height; rows = rows.items; columns = columns.items; texts = texts; goal = bools_of goal } }
+    ensures { result
+        ≡ record { width = width; height = height; rows = rows.items; columns = columns.items; texts = texts; goal = bools_of goal } }
 {
     match Puzzle::new(width, height, rows, columns, texts, goal) {
         Ok(puzzle) => puzzle,

@@ -23,8 +23,8 @@ pub(crate) enum Under {
     Other,
 }
 
-/// The lines of both sections, and the number of the first line that says something and stands in neither. Keyword lines and comments stand in
-/// none.
+/// The lines of both sections, and the number of the first line that says something and stands in neither.
+/// Keyword lines and comments stand in none.
 #[derive(Debug, Drop)]
 pub(crate) struct Sections<'a> {
     pub rows: Vec<Line<'a>>,
@@ -46,7 +46,7 @@ fn opened_by(word: &[u8]) -> Under
 }
 
 impl<'a> Sections<'a> {
-    /// Adds a line at the end of its section, or notes it where it stands in none.
+    /// Adds a line at the end of its section, or notes its number if it stands in none.
     fn put(&mut self, under: Under, line: Line<'a>) -> Result<(), NoMemory>
         ensures { OnOk result (shown_sections self.new ≡ with_line (shown_sections self.old) under (shown_line line.entry)) }
     {

@@ -58,7 +58,7 @@ pub(crate) fn likelier(a: u16, b: u16, clues: Vec<Clue>) -> Result<Puzzle, NoMem
     }
 }
 
-/// Whether the puzzle would be admissible with its sizes the other way round.
+/// Whether the puzzle would be admissible with its sizes exchanged.
 fn is_other_admissible(width: u16, height: u16, rows: &[Clue], columns: &[Clue]) -> bool
     requires rows { length rows.now ≡ height }
     requires columns { length columns.now ≡ width }
@@ -83,7 +83,7 @@ fn is_own_admissible(puzzle: &Puzzle) -> bool
     )
 }
 
-/// Whether the text in .nin would be read with the sizes the other way round.
+/// Whether the text in .nin would be read with the sizes exchanged.
 pub(crate) fn is_ambiguous(puzzle: &Puzzle) -> bool
     ensures { result ≡ is_ambiguous puzzle.now }
 {

@@ -45,7 +45,7 @@ fn are_blank(lines: &[Line<'_>]) -> bool
     lines.iter().all(|line| line.text.is_empty())
 }
 
-/// The first lines of a section, this many, if all after them are blank.
+/// The first `count` lines of a section, if all after them are blank.
 fn front<'a, 'b>(count: usize, section: &'b [Line<'a>]) -> Option<&'b [Line<'a>]>
     ensures { option_map (λ first. map shown_line first.now) result ≡ front count (map shown_line section.now) }
 {
@@ -59,8 +59,8 @@ fn front<'a, 'b>(count: usize, section: &'b [Line<'a>]) -> Option<&'b [Line<'a>]
     Some(first)
 }
 
-/// This many lines of a section, to be read as clues: its lines that aren't blank, or else its first ones. Its first ones are tried first, since
-/// they are the ones that aren't blank, if these are as many and the others are blank.
+/// The `count` clue lines of a section: its lines that aren't blank, or else its first ones.
+/// The first ones are tried first: if all after them are blank, and `count` lines aren't, these are the same.
 pub(crate) fn choice<'a, 'b>(
     alloc: Global,
     count: usize,

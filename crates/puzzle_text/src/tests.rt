@@ -1,5 +1,5 @@
-//! Tests of what no contract says: that each call succeeds with ample memory, and that the definitions say what the formats mean, by texts
-//! whose answers were worked out by hand.
+//! Tests of what no contract says: that each call succeeds with ample memory,
+//! and that the definitions say what the formats mean, by texts whose answers were worked out by hand.
 
 use super::*;
 use grid_core::NoMemory;
@@ -25,7 +25,7 @@ fn all_said(alloc: Global, rows: &[(&[u8], &[u8], &[u8])]) -> bool {
     true
 }
 
-/// A text, and so many times another one.
+/// A text, and another one `count` times.
 pub(crate) fn repeated(
     alloc: Global,
     front: &[u8],

@@ -1,5 +1,6 @@
-//! What `docs/formats.md` says of texts in all formats ("Puzzles", "Lines and numbers"), written a second time, for tests, in the order of that
-//! page. Nothing here is shared with the readers but the names of the faults.
+//! What `docs/formats.md` says of texts in all formats ("Puzzles", "Lines and numbers"),
+//! written a second time, for tests, in the order of that page.
+//! Nothing here is shared with the readers but the names of the faults.
 
 use super::TextFault;
 use grid_core::{Clue, Field, NoMemory, Puzzle};
@@ -160,7 +161,8 @@ fn are_blank(lines: &[SlowLine<'_>]) -> bool {
     lines.iter().all(|line| line.text.is_empty())
 }
 
-/// The clue lines of a section, if it has so many: its lines that aren't blank, or else its first ones, if all others are blank.
+/// The `count` clue lines of a section, if it has them: its lines that aren't blank, or else its first ones,
+/// if all others are blank.
 pub(crate) fn clue_lines<'a>(
     alloc: Global,
     count: u16,

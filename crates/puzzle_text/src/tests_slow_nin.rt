@@ -1,4 +1,5 @@
-//! What `docs/formats.md` says of `.nin`, written a second time, for tests: the faults are looked for in the order of that page.
+//! What `docs/formats.md` says of `.nin`, written a second time, for tests:
+//! the faults are looked for in the order of that page.
 
 use super::TextFault;
 use super::tests_slow::{Said, clue_lines, slow_clues, slow_lines, slow_size_line};

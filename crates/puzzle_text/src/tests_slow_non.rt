@@ -1,5 +1,5 @@
-//! What `docs/formats.md` says of `.non`, written a second time, for tests: the faults are looked for in the order of that page, each in the
-//! whole text before the next one.
+//! What `docs/formats.md` says of `.non`, written a second time, for tests:
+//! the faults are looked for in the order of that page, each in the whole text before the next one.
 
 use super::TextFault;
 use super::tests_slow::{
@@ -56,7 +56,8 @@ fn rest<'a>(line: &SlowLine<'a>) -> &'a [u8] {
     }
 }
 
-/// The text of a keyword line: what stands between the first and the last double quote of its rest, or else the whole rest.
+/// The text of a keyword line: what stands between the first and the last double quote of its rest,
+/// or else the whole rest.
 fn text_of<'a>(line: &SlowLine<'a>) -> &'a [u8] {
     let rest = rest(line);
     let first = rest.iter().position(|byte| *byte == b'"');
@@ -105,7 +106,7 @@ fn section<'a>(
     Ok(section)
 }
 
-/// Whether the line at a place says something where nothing may stand.
+/// Whether the line at a place says something, and stands in no section.
 fn is_out_of_place(lines: &[SlowLine<'_>], place: usize, line: &SlowLine<'_>) -> bool {
     !line.text.is_empty()
         && !is_comment(line)
@@ -140,7 +141,8 @@ fn is_repeated(lines: &[SlowLine<'_>], line: &SlowLine<'_>) -> bool {
     })
 }
 
-/// The clues of the rows and then those of the columns. `BadNumber` with the least number of a clue line that says none.
+/// The clues of the rows and then those of the columns. `BadNumber` with the least number of a clue line
+/// that says none.
 fn both_clues(
     alloc: Global,
     rows: &[SlowLine<'_>],
@@ -186,7 +188,8 @@ fn sizes_of(lines: &[SlowLine<'_>]) -> Result<(u16, u16), TextFault> {
     }
 }
 
-/// Checks that both sections are there, that no line is out of place or too long, and that no keyword is repeated that must be there just once.
+/// Checks that both sections are there, that no line is out of place or too long,
+/// and that no keyword is repeated that must be there just once.
 fn check_lines(lines: &[SlowLine<'_>]) -> Result<(), TextFault> {
     if first_with(lines, b"rows").is_none() || first_with(lines, b"columns").is_none() {
         return Err(TextFault::NoSection);

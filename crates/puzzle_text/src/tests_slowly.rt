@@ -1,5 +1,5 @@
-//! Each reader's answer is that of its slow reader: on the fronts of five texts, on these with one byte replaced or put in, on a front of one with
-//! an end of another, and on random texts.
+//! Each reader's answer is that of its slow reader: on the fronts of five texts,
+//! on these with one byte replaced or put in, on a front of one with an end of another, and on random texts.
 
 use super::tests_slow::agree;
 use super::tests_slow_mk::slow_mk;
@@ -10,7 +10,8 @@ use std::alloc::{AllocError, Global};
 use std::process::Abort;
 use std::test::Fail;
 
-/// The demonstration puzzle with its goal, one that trials solve, a small one, and one whose text in .nin is ambiguous, in both formats.
+/// The demonstration puzzle with its goal, one that trials solve, a small one,
+/// and one whose text in .nin is ambiguous, in both formats.
 const TEXTS: [&[u8]; 5] = [
     b"# a comment\ntitle \"Demo\"\nwidth 5\nheight 10\n\nrows\n2\n2,1\n1,1\n3\n1,1\n1,1\n2\n1,1\n1,2\n2\n\ncolumns\n2,1\n2,1,3\n7\n1,3\n2,1\n\ngoal \"01100011010010101110101001010000110010100101111000\"\n",
     b"2 4\n2\n1 1\n#\n1\n1\n1\n1\n",
@@ -26,7 +27,7 @@ fn all_agree(alloc: Global, text: &[u8]) -> bool {
         && agree(&read_nin(alloc, text), &slow_nin(alloc, text))
 }
 
-/// Asserts that they do.
+/// Asserts that the three readers answer what the slow ones answer.
 fn assert_agree(rt: &impl Abort, alloc: Global, text: &[u8]) {
     assert!(rt; all_agree(alloc, text), "on {text:?}");
 }
@@ -40,7 +41,7 @@ fn fronts_agree(rt: HostRuntime) {
     }
 }
 
-/// Asserts it of a text with each of its bytes replaced by this one.
+/// Asserts the same of a text with each of its bytes replaced by this one.
 fn assert_replaced(
     rt: &impl Abort,
     alloc: Global,
@@ -65,7 +66,7 @@ fn replaced_bytes_agree(rt: HostRuntime) -> Result<(), Fail> {
     Ok(())
 }
 
-/// Asserts it of a text with this byte put in at each place.
+/// Asserts the same of a text with this byte put in at each place.
 fn assert_put_in(rt: &impl Abort, alloc: Global, text: &[u8], byte: u8) -> Result<(), AllocError> {
     for place in 0..=text.len() {
         let mut changed = text.to_vec(alloc)?;
@@ -93,7 +94,7 @@ fn is_after_feed(text: &[u8], place: usize) -> bool {
     }
 }
 
-/// Asserts it of a text with each end of another that begins after a line feed.
+/// Asserts the same of a text with each end of another that begins after a line feed.
 fn assert_with_ends(
     rt: &impl Abort,
     alloc: Global,
@@ -110,7 +111,7 @@ fn assert_with_ends(
     Ok(())
 }
 
-/// Asserts it of each front of a text that ends after a line feed, with each such end of another.
+/// Asserts the same of each front of a text that ends after a line feed, with each such end of another.
 fn assert_joined(
     rt: &impl Abort,
     alloc: Global,

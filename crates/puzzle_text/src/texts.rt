@@ -5,7 +5,7 @@ ghost use Rattle.std.specs.Prelude.{◌≡◌, ◌++◌, OnOk, decimal};
 use grid_core::NoMemory;
 use itoa::Buffer;
 
-/// Adds the bytes to the end of the text. `NoMemory` where it can't grow.
+/// Adds the bytes to the end of the text. `NoMemory` if it can't grow.
 pub fn push_bytes(text: &mut Vec<u8>, bytes: &[u8]) -> Result<(), NoMemory>
     ensures { OnOk result (text.new.items ≡ text.old.items ++ bytes.now) }
 {
@@ -13,7 +13,8 @@ pub fn push_bytes(text: &mut Vec<u8>, bytes: &[u8]) -> Result<(), NoMemory>
     Ok(())
 }
 
-/// Adds the number to the end of the text, in decimal digits with no leading zeros. `NoMemory` where it can't grow.
+/// Adds the number to the end of the text, in decimal digits with no leading zeros.
+/// `NoMemory` if it can't grow.
 pub fn push_number(text: &mut Vec<u8>, number: u64) -> Result<(), NoMemory>
     ensures { OnOk result (text.new.items ≡ text.old.items ++ decimal number) }
 {

@@ -33,8 +33,8 @@ impl FaultWord {
         }
     }
 
-    /// Adds the word to the end of the text, and after a colon the number of its line, if it has one: `BadCount`, `BadNumber:2`. `NoMemory` if the text
-    /// can't grow.
+    /// Adds the word to the end of the text, and after a colon the number of its line, if it has one:
+    /// `BadCount`, `BadNumber:2`. `NoMemory` if the text can't grow.
     pub fn push(self, text: &mut Vec<u8>) -> Result<(), NoMemory>
         ensures { OnOk result (text.new.items ≡ text.old.items ++ word_text self) }
     {

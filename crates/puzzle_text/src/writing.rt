@@ -62,8 +62,8 @@ pub fn write_mk(alloc: Global, puzzle: &Puzzle) -> Result<Vec<u8>, NoMemory>
     Ok(out)
 }
 
-/// The text of a puzzle in the format .nin, which has no place for texts and goal. `Ambiguous` where that text would be read with the sizes
-/// the other way round; else perhaps `NoMemory`.
+/// The text of a puzzle in the format .nin, which has no place for texts and goal.
+/// `Ambiguous` if that text would be read with the sizes exchanged; else perhaps `NoMemory`.
 pub fn write_nin(alloc: Global, puzzle: &Puzzle) -> Result<Vec<u8>, WriteFault>
     ensures text { IfOk result (λ text. text.items ≡ text_nin puzzle.now) }
     // Want of memory never stands in place of this fault.
@@ -92,7 +92,8 @@ fn push_field(out: &mut Vec<u8>, texts: &Texts, field: Field) -> Result<(), NoMe
 }
 
 fn push_fields(out: &mut Vec<u8>, texts: &Texts, fields: &[Field]) -> Result<(), NoMemory>
-    ensures { OnOk result (out.new.items ≡ out.old.items ++ flat_map (λ field. quoted_line (field_word field) (text_of texts.now field)) fields.now) }
+    ensures { OnOk result (out.new.items
+        ≡ out.old.items ++ flat_map (λ field. quoted_line (field_word field) (text_of texts.now field)) fields.now) }
 {
     for field in fields {
         push_field(out, texts, *field)?;

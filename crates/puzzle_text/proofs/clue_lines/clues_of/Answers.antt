@@ -1,3 +1,4 @@
+-- `clues_of`: with no line passed, what is to come is what comes of all.
 use Rattle.grid_core.specs.declared.limits.TheConstants.{LONGEST_SIDE}
 use Rattle.puzzle_text.specs.declared.faults.TextFault.TheVariants.{BadNumber}
 use Rattle.puzzle_text.specs.Answers.{or_fault}

@@ -1,3 +1,5 @@
+-- What the loop of `clues_of` keeps: the clues so far, and then those of the lines to come,
+-- are those of all lines.
 use Rattle.std.proofs.Common.{◌≡◌, drop, length, map, vec_capacity, vec_len}
 use Rattle.grid_core.specs.declared.limits.TheConstants.{LONGEST_SIDE}
 use Rattle.puzzle_text.specs.declared.faults.TextFault.TheVariants.{BadNumber}

@@ -1,3 +1,5 @@
+-- What the loop of `read_numbers` keeps: the numbers so far, and then those of the rest,
+-- are those of the line.
 use Rattle.std.proofs.Common.{◌≡◌, ◌<◌, false, get_or, length}
 use Rattle.grid_core.specs.declared.limits.TheConstants.{LONGEST_SIDE}
 use Rattle.puzzle_text.specs.Numbers.{is_separator, pieces}

@@ -1,3 +1,5 @@
+-- What the loop of `entries_of` keeps: the entries so far, and then those of the rest,
+-- are those of the collection.
 use Rattle.std.proofs.Common.{◌≡◌, ◌++◌, map, length}
 use Rattle.puzzle_text.specs.Lines.{raw_lines}
 use Rattle.puzzle_text.specs.Collections.{entries_of}

@@ -1,3 +1,4 @@
+-- What the loop of `entry_count` keeps: the count so far, and the entries of the rest, are all entries.
 use Rattle.std.proofs.Common.{◌≡◌, ◌+◌, ◌≤◌, length}
 use Rattle.puzzle_text.specs.Lines.{raw_lines}
 use Rattle.puzzle_text.specs.Collections.{entries_of}

@@ -1,3 +1,4 @@
+-- `first_stray`: before the first line no marker line stands above.
 use Rattle.std.proofs.Common.{arith}
 use Rattle.puzzle_text.specs.Lines.{raw_lines}
 use Rattle.puzzle_text.proofs.StrayWalk.{stray_from-first}

@@ -1,3 +1,4 @@
+-- What the loop of `first_stray` keeps: the first stray line stands in the rest, if there is one.
 use Rattle.std.proofs.Common.{◌≡◌, ◌+◌, ◌≤◌, length}
 use Rattle.puzzle_text.specs.Lines.{raw_lines}
 use Rattle.puzzle_text.specs.Collections.{first_stray}

@@ -1,3 +1,4 @@
+-- What the loop of `named_count` keeps: each entry passed has a name, and is counted.
 use Rattle.std.proofs.Common.{◌≡◌, ◌+◌, ◌≤◌, length}
 use Rattle.puzzle_text.specs.Lines.{raw_lines}
 use Rattle.puzzle_text.specs.Collections.{are_named, entries_of}

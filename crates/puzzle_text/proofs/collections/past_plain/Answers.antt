@@ -1,3 +1,4 @@
+-- `past_plain`: nothing follows the front without `@`, or a line does, or the end of one and then others.
 use Rattle.std.proofs.Common.{rules, subst, sym}
 use Rattle.puzzle_text.proofs.PlainLines.{HasNoAt, follows_amid, follows_line, follows_none}
 use Rattle.puzzle_text.proofs.collections.past_plain.Goals as goal

@@ -1,3 +1,4 @@
+-- `sound_count`: if the first line is a marker line, and each entry has a name, no line is stray.
 use Rattle.std.proofs.Common.{◌≡◌, None, length, subst, sym}
 use Rattle.std.specs.Prelude.{IfSome}
 use Rattle.puzzle_text.specs.Collections.{are_named, entries_of, first_stray}

@@ -1,3 +1,4 @@
+-- `split_body`: one more line that begins no entry goes into the body.
 use Rattle.std.proofs.Common.{sym}
 use Rattle.puzzle_text.specs.Lines.{raw_lines}
 use Rattle.puzzle_text.specs.Collections.{body_of}

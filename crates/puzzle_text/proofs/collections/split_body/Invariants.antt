@@ -1,3 +1,4 @@
+-- What the loop of `split_body` keeps: what it passed goes into the body.
 use Rattle.std.proofs.Common.{length}
 use Rattle.puzzle_text.specs.Collections.{FollowsPlain}
 use Rattle.puzzle_text.proofs.collections.split_body.Given as goal

@@ -1,3 +1,4 @@
+-- `set_fields`: the text that is set may stand in its field.
 use Rattle.std.proofs.Common.{map}
 use Rattle.puzzle_text.specs.Shown.{shown_keyword}
 use Rattle.puzzle_text.proofs.FieldsLemmas.{field_is_lawful}

@@ -1,3 +1,4 @@
+-- `texts_of`: all fields set, one after the other, are the texts.
 use Rattle.std.proofs.Common.{◌∙◌, ap, map}
 use Rattle.grid_core.specs.Description.{Description}
 use Rattle.puzzle_text.specs.Keywords.{all_fields}

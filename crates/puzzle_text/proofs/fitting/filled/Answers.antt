@@ -1,3 +1,4 @@
+-- `filled`: a clue has 128 numbers up to 256, so that their sum has a bound.
 use Rattle.std.proofs.Common.{ap, arith}
 use Rattle.std.specs.Prelude.{sum}
 use Rattle.puzzle_text.proofs.FittingLemmas.{clue_sum}

@@ -1,3 +1,4 @@
+-- What the loop of `sum_all` keeps: the sum of the clues passed, and its bound.
 use Rattle.std.proofs.Common.{◌≡◌, ◌*◌, ◌≤◌, take}
 use Rattle.puzzle_text.specs.Readings.{sum_all}
 use Rattle.puzzle_text.proofs.fitting.sum_all.Given as goal

@@ -1,3 +1,4 @@
+-- What the loop of `sum_within` keeps: each clue passed fits; their sum, and its bound.
 use Rattle.std.proofs.Common.{◌≡◌, ◌*◌, ◌≤◌, take, true}
 use Rattle.std.specs.List.{list_all}
 use Rattle.puzzle_text.specs.Readings.{fits, sum_all}

@@ -1,3 +1,4 @@
+-- `has_ending`: the end of the name in lower case is the lower case of its end.
 use Rattle.std.proofs.Common.{◌∙◌}
 use Rattle.puzzle_text.proofs.CollectionsLemmas.{ends_so}
 use Rattle.puzzle_text.proofs.formats.has_ending.Goals as goal

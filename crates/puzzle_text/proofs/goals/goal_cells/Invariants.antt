@@ -1,3 +1,5 @@
+-- What the loop of `goal_cells` keeps: the cells so far, and then those of the bytes to come,
+-- are those of the text.
 use Rattle.std.proofs.Common.{◌≡◌, drop, length, vec_capacity, vec_len}
 use Rattle.puzzle_text.specs.Answers.{each_some}
 use Rattle.puzzle_text.specs.Non.{cell_of}

@@ -1,3 +1,4 @@
+-- What the loop of `after_quote` keeps: no quote was passed, so the rest says what all bytes say.
 use Rattle.std.proofs.Common.{◌≡◌, length}
 use Rattle.puzzle_text.specs.Keywords.{after_quote}
 use Rattle.puzzle_text.proofs.keywords.after_quote.Given as goal

@@ -1,3 +1,4 @@
+-- What the loop of `keyword_lines` keeps: the keyword lines so far, and then those to come, are all of them.
 use Rattle.std.proofs.Common.{◌≡◌, ◌++◌, drop, filter, map}
 use Rattle.puzzle_text.specs.Keywords.{is_keyword_line}
 use Rattle.puzzle_text.specs.Shown.{shown_keyword, shown_line}

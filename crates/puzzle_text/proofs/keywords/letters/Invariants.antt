@@ -1,3 +1,5 @@
+-- What the loop of `letters` keeps: the letters passed and those at the start of the rest are those
+-- of the text.
 use Rattle.std.proofs.Common.{◌≡◌, ◌+◌, drop}
 use Rattle.std.specs.List.{prefix_len}
 use Rattle.std.specs.Char.{is_ascii_alphabetic}

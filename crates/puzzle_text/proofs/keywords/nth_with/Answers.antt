@@ -1,3 +1,4 @@
+-- `nth_with`: what a filter keeps at a place.
 use Rattle.std.proofs.Common.{rules}
 use borrow.Author.Tests.{tests}
 use Rattle.std.specs.Str.{str_to_ascii_lowercase}

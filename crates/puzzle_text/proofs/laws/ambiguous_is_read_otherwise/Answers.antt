@@ -1,3 +1,4 @@
+-- The law `ambiguous_is_read_otherwise` holds.
 use Rattle.std.proofs.Common.{arith}
 use Rattle.grid_core.specs.declared.limits.TheConstants.{LONGEST_SIDE}
 use Rattle.puzzle_text.proofs.ReadNin.{nin_read_otherwise}

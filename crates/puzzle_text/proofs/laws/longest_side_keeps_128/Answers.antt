@@ -1,3 +1,4 @@
+-- The law `longest_side_keeps_128` holds.
 use Rattle.std.proofs.Common.{arith}
 use Rattle.grid_core.specs.declared.limits.TheConstants.{LONGEST_SIDE}
 use Rattle.puzzle_text.proofs.GreaterLimit.{non_keeps, mk_keeps, nin_keeps}

@@ -1,3 +1,4 @@
+-- The law `mk_is_read_back` holds.
 use Rattle.std.proofs.Common.{arith}
 use Rattle.grid_core.specs.declared.limits.TheConstants.{LONGEST_SIDE}
 use Rattle.puzzle_text.proofs.ReadMk.{read_again, length_text}

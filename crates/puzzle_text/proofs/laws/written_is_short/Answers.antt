@@ -1,3 +1,4 @@
+-- The law `written_is_short` holds.
 use Rattle.std.proofs.Common.{arith}
 use Rattle.grid_core.specs.declared.limits.TheConstants.{LONGEST_SIDE}
 use Rattle.puzzle_text.proofs.ReadMk.{length_text}

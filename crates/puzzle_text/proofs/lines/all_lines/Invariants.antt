@@ -1,3 +1,4 @@
+-- What the loop of `all_lines` keeps: the lines so far, and then those of the rest, are those of the text.
 use Rattle.std.proofs.Common.{◌≡◌, ◌+◌, ◌++◌, ◌≤◌, length, map}
 use Rattle.puzzle_text.specs.Lines.{raw_lines, numbered_from, lines}
 use Rattle.puzzle_text.specs.Shown.{shown_line}

@@ -1,3 +1,4 @@
+-- `first_line_feed`: a line feed with none before it is the first; if none is passed, there is none.
 use Rattle.std.proofs.Common.{arith, sym}
 use Rattle.std.proofs.lemmas.Bool.{eq-eqb}
 use Rattle.puzzle_text.proofs.LinesLemmas.{feed_at, no_feed}

@@ -1,3 +1,4 @@
+-- What the loop of `first_line_feed` keeps: no byte passed is a line feed.
 use Rattle.std.proofs.Common.{◌≡◌, ℕ, ◌<◌, eqb, false, get_or}
 use Rattle.puzzle_text.proofs.lines.first_line_feed.Given as goal
 

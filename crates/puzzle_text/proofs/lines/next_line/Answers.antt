@@ -1,3 +1,4 @@
+-- `next_line`: up to the first line feed, or all of the text, and without the ending.
 use Rattle.std.proofs.Common.{[], ◌∷◌, ◌+◌, List, ℕ, ap, drop, sym, ◌∙◌}
 use Rattle.std.proofs.lemmas.List.{take_rest}
 use Rattle.puzzle_text.specs.Lines.{numbered_from, raw_lines}

@@ -1,3 +1,4 @@
+-- `split_line`: up to the first line feed, or all of the text.
 use Rattle.std.proofs.Common.{sym}
 use Rattle.puzzle_text.proofs.LinesLemmas.{cut_at_feed, cut_at_end}
 use Rattle.puzzle_text.proofs.lines.split_line.Goals as goal

@@ -1,3 +1,4 @@
+-- `at_hash`: cut at the first line that begins with `#`, if there is one.
 use Rattle.std.proofs.Common.{sym}
 use Rattle.puzzle_text.specs.Shown.{shown_line}
 use Rattle.puzzle_text.proofs.MkLemmas.{at_hash_found, at_hash_none}

@@ -1,3 +1,4 @@
+-- `puzzle_of`: the clues of both sections, one after the other, are those of all their lines.
 use Rattle.std.proofs.Common.{subst, sym}
 use Rattle.grid_core.specs.declared.limits.TheConstants.{LONGEST_SIDE}
 use Rattle.puzzle_text.specs.Answers.{Gives}

@@ -1,3 +1,4 @@
+-- `puzzle_with` gives what its contract says.
 use Rattle.std.proofs.Common.{Ok, ap, ◌∙◌}
 use Rattle.puzzle_text.specs.Answers.{◌>>=◌}
 use Rattle.puzzle_text.proofs.MkLemmas.{reading_parts, with_clues}

@@ -1,3 +1,4 @@
+-- What gets less with each call of `least_of` by itself.
 use Rattle.std.proofs.Common.{length}
 use Rattle.puzzle_text.proofs.non.+least_of.Given as goal
 

@@ -1,3 +1,4 @@
+-- `non_of`: the keyword lines alone say what all lines say.
 use Rattle.std.proofs.Common.{map, sym, ap, subst, ◌∙◌}
 use Rattle.grid_core.specs.declared.limits.TheConstants.{LONGEST_SIDE}
 use Rattle.puzzle_text.specs.Answers.{Gives}

@@ -1,3 +1,5 @@
+-- `first_number`: a piece ends at a separator or with the line;
+-- another byte, or a value past the limit, refuses it.
 use Rattle.std.proofs.Common.{◌+◌, ◌≤◌, ◌∷◌, drop, List, ℕ, ap, arith, sym, take, ◌∙◌}
 use Rattle.std.specs.Char.{is_ascii_digit}
 use Rattle.std.specs.Str.Parse.{digits_value}

@@ -1,3 +1,4 @@
+-- `next_piece`: up to the first separator, or all of the text.
 use Rattle.std.proofs.Common.{◌∙◌, ap, sym, rules, ◌+◌, ◌∷◌, List, ℕ, take}
 use Rattle.std.proofs.lemmas.List.{take_rest}
 use Rattle.puzzle_text.specs.Numbers.{pieces}

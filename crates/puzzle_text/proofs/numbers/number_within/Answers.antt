@@ -1,3 +1,4 @@
+-- `number_within`: a front that is past the limit makes a number past it.
 use Rattle.std.proofs.Common.{sym, ◌+◌, arith}
 use Rattle.std.specs.Char.{is_ascii_digit}
 use Rattle.puzzle_text.proofs.NumbersLemmas.{all_more, value_more, past_limit}

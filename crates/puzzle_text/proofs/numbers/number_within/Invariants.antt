@@ -1,3 +1,4 @@
+-- What the loop of `number_within` keeps: the bytes passed are digits, and their value is within the limit.
 use Rattle.std.proofs.Common.{◌≡◌, ◌≤◌, true, take}
 use Rattle.std.specs.List.{list_all}
 use Rattle.std.specs.Char.{is_ascii_digit}

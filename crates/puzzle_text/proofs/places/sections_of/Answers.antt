@@ -1,3 +1,4 @@
+-- `sections_of`: each of the three kinds of lines leaves the sections of the text as they are to be.
 use Rattle.std.proofs.Common.{◌+◌, [], drop, ap, map, refl, subst, sym, ◌∙◌}
 use Rattle.std.specs.Str.{str_to_ascii_lowercase}
 use Rattle.puzzle_text.specs.Non.{Sections, placed, sections_of}

@@ -1,3 +1,4 @@
+-- What the loop of `sections_of` keeps: the sections so far, and then those of the lines to come.
 use Rattle.std.proofs.Common.{◌≡◌, ℕ, List, drop, map}
 use Rattle.puzzle_text.specs.Non.{placed, sections_of}
 use Rattle.puzzle_text.specs.Places.{IsUnder}
@@ -5,7 +6,8 @@ use Rattle.puzzle_text.specs.Shown.{shown_line, shown_sections}
 use Rattle.puzzle_text.proofs.SectionsWalk.{below, join}
 use Rattle.puzzle_text.proofs.places.sections_of.Given as goal
 
--- the sections so far and what is still to come below the last keyword, of which the code keeps which section it opens
+-- the sections so far and what is still to come below the last keyword are the sections of the text;
+-- of that keyword the code keeps which section it opens
 abbrev pub invariant-loop-line : goal.invariant-loop-line
 invariant-loop-line l =
     (word : List ℕ) × IsUnder word l.place

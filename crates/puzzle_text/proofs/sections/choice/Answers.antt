@@ -1,3 +1,4 @@
+-- `choice`: the first lines, if all after them are blank, are the choice; else the lines that aren't blank.
 use Rattle.std.proofs.Common.{map, sym, ◌∙◌}
 use Rattle.puzzle_text.specs.Shown.{shown_line}
 use Rattle.puzzle_text.proofs.SectionsLemmas.{choice_full, choice_none, front_chosen, front_length, length_full}

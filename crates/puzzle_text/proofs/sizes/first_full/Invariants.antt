@@ -1,3 +1,4 @@
+-- What the loop of `first_full` keeps: the lines passed are blank.
 use Rattle.std.proofs.Common.{◌≡◌, length, map}
 use Rattle.puzzle_text.specs.Sizes.{first_full}
 use Rattle.puzzle_text.specs.Shown.{shown_line}

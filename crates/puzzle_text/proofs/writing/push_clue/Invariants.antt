@@ -1,3 +1,4 @@
+-- What the loop of `push_clue` keeps: the numbers passed are written, each with the separator before it.
 use Rattle.std.proofs.Common.{◌≡◌, ◌++◌, ◌∷◌, take}
 use Rattle.std.specs.Prelude.{decimal}
 use Rattle.std.specs.List.{flat_map}

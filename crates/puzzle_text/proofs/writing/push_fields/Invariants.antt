@@ -1,3 +1,4 @@
+-- What the loop of `push_fields` keeps: the lines of the fields passed are written.
 use Rattle.std.proofs.Common.{◌≡◌, ◌++◌, take}
 use Rattle.std.specs.List.{flat_map}
 use Rattle.grid_core.specs.Description.{text_of}
