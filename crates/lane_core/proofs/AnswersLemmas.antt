@@ -39,9 +39,11 @@ AreAnswersTo-prop (job ∷ jobs) (answer ∷ answers) = ×_prop (IsAnswerTo-prop
 AreAnswersTo-prop [] (answer ∷ answers) = λ a b. absurd a
 AreAnswersTo-prop (job ∷ jobs) [] = λ a b. absurd a
 
+-- the same without the brackets, as it has at most one proof
 pub AreAnswersTo-open : (jobs : List Job) (answers : List Answer) → ∥ AreAnswersTo jobs answers ∥₁ → AreAnswersTo jobs answers
 AreAnswersTo-open jobs answers h = ∥∥₁_elim h (AreAnswersTo-prop jobs answers) (λ x. x)
 
+-- one more answer, to one more job
 pub AreAnswersTo-push : (jobs : List Job) (answers : List Answer) (job : Job) (answer : Answer) →
     AreAnswersTo jobs answers → IsAnswerTo job answer → AreAnswersTo (jobs ++ job ∷ []) (answers ++ answer ∷ [])
 AreAnswersTo-push [] [] job answer h one = (one, tt)
@@ -49,7 +51,7 @@ AreAnswersTo-push (other ∷ jobs) (first ∷ answers) job answer h one = (h.0, 
 AreAnswersTo-push [] (first ∷ answers) job answer h one = absurd h
 AreAnswersTo-push (other ∷ jobs) [] job answer h one = absurd h
 
--- the front of the answers are those to the front of the jobs
+-- the first of the answers are those to the first of the jobs
 pub AreAnswersTo-front : (jobs more : List Job) (answers rest : List Answer) →
     AreAnswersTo jobs (answers ++ rest) → AreAnswersTo (take (length answers) (jobs ++ more)) answers
 AreAnswersTo-front jobs more [] rest h = tt

@@ -17,6 +17,7 @@ pub record SentSoFar (old now : FrontLists) (waiting left : List Job) : Type 0 w
   pub received : now.received ≡ old.received
   pub finish : has_finish now.sent ≡ has_finish old.sent
 
+-- the same, if the jobs that are left have another name
 pub SentSoFar-left : (old now : FrontLists) (waiting left left' : List Job) → SentSoFar old now waiting left → left ≡ left'
     → SentSoFar old now waiting left'
 SentSoFar-left old now waiting left left' s e = subst (λ l. SentSoFar old now waiting l) e s
@@ -47,6 +48,7 @@ Grows-put old now new message le same p =
     let o = ap length same in
     omega arith
 
+-- something was sent
 pub SentSoFar-grows : (old now new : FrontLists) (waiting left : List Job) (job : Job) →
     SentSoFar old now waiting (job ∷ left) → PutsMessage (Work job) now new → Grows old new
 SentSoFar-grows old now new waiting left job s p = Grows-put old now new (Work job) (prefix_is_shorter _ _ s.sent) s.received p

@@ -28,6 +28,7 @@ taken_is_answered Finish taken put (Some answer) h all = absurd h
 taken_is_answered Finish taken put None h all =
     subst (λ js. AreAnswersTo js (put ++ [])) (sym (jobs_of-push_finish taken)) all
 
+-- once a message is taken, what was put and is held answers what was taken
 pub TakesMessage-answered : (message : Message) (old new : BackLists) → TakesMessage message old new → IsAnswered old → IsAnswered new
 TakesMessage-answered message old new t all =
     subst (λ l. AreAnswersTo (jobs_of l) (new.put ++ option_to_list new.held)) (sym t.taken)
@@ -88,9 +89,11 @@ IsLawful-after : (events : List Event) (old new : Lane) → IsLawful old → Run
 IsLawful-after [] old new l r = subst IsLawful (sym r) l
 IsLawful-after (event ∷ events) old new l r = IsLawful-after events r.0 new (IsLawful-happens event old r.0 l r.1) r.2
 
+-- it holds after any events from the opening
 pub IsLawful-run : (capacity : ℕ) (events : List Event) (lane : Lane) → Run (opening capacity) events lane → IsLawful lane
 IsLawful-run capacity events lane r = IsLawful-after events (opening capacity) lane (IsLawful-opening capacity) r
 
+-- what a drained lane received answers the jobs that were sent
 pub drained_is_answered : (lane : Lane) → IsLawful lane → IsDrained lane.front lane.back
     → AreAnswersTo (jobs_of lane.front.sent) lane.front.received
 drained_is_answered lane l d =
@@ -152,9 +155,11 @@ offered_is_answered capacity job answer result old taken put held free t a o all
     subst (λ l. AreAnswersTo (jobs_of taken) l) (sym (IsOffered-all capacity answer result old.put put held o))
     (TakesMessage-answered (Work job) old mid (record { free = free; taken = t; held = a; put = refl }) all)
 
+-- what was taken, if the message taken has another name
 pub taken_as : {A : Type 0} (after before : List A) (popped message : A) → after ≡ before ++ popped ∷ [] → popped ≡ message
     → after ≡ before ++ message ∷ []
 taken_as after before popped message e m = e ∙ ap (λ x. before ++ x ∷ []) m
 
+-- after the finish nothing is held
 pub nothing_is_held : (held : Option Answer) → held ≡ None → IsHeldFor Finish held
 nothing_is_held held h = subst (λ o. IsHeldFor Finish o) (sym h) tt

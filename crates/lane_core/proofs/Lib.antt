@@ -1,3 +1,4 @@
+-- Lemmas on jobs, answers and lanes.
 pub mod MessagesLemmas
 pub mod AnswersLemmas
 pub mod LaneLemmas

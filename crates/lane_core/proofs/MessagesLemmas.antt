@@ -6,11 +6,13 @@ use Rattle.lane_core.specs.declared.jobs.Job.{Job}
 use Rattle.lane_core.specs.declared.messages.Message.{Message}
 use Rattle.lane_core.specs.declared.messages.Message.TheVariants.{Work, Finish}
 
+-- the jobs of two lists of messages, one after the other
 pub jobs_of-append : (xs ys : List Message) → jobs_of (xs ++ ys) ≡ jobs_of xs ++ jobs_of ys
 jobs_of-append [] ys = refl
 jobs_of-append (Work job ∷ xs) ys = ap (λ jobs. job ∷ jobs) (jobs_of-append xs ys)
 jobs_of-append (Finish ∷ xs) ys = jobs_of-append xs ys
 
+-- a finish is no job
 pub jobs_of-push_finish : (xs : List Message) → jobs_of (xs ++ Finish ∷ []) ≡ jobs_of xs
 jobs_of-push_finish xs = jobs_of-append xs (Finish ∷ []) ∙ append-nil (jobs_of xs)
 
@@ -24,6 +26,7 @@ has_finish-push_finish [] = refl
 has_finish-push_finish (Work other ∷ xs) = has_finish-push_finish xs
 has_finish-push_finish (Finish ∷ xs) = refl
 
+-- one more message, while no finish is among them
 pub finish_is_last-push : (xs : List Message) (message : Message) → has_finish xs ≡ false → finish_is_last (xs ++ message ∷ []) ≡ true
 finish_is_last-push [] (Work job) h = refl
 finish_is_last-push [] Finish h = refl
@@ -40,9 +43,11 @@ nothing_follows (Finish ∷ (next ∷ taken)) rest last finished = cc
 
 pub ruleset messages = (jobs_of-append, jobs_of-push_finish, has_finish-push_work, has_finish-push_finish, finish_is_last-push)
 
+-- once the finish is taken, it is among the messages
 pub has_finish-took_finish : (after before : List Message) → after ≡ before ++ Finish ∷ [] → has_finish after ≡ true
 has_finish-took_finish after before e = ap has_finish e ∙ has_finish-push_finish before
 
+-- a job that is taken is no finish
 pub has_finish-took_work : (after before : List Message) (job : Job) → after ≡ before ++ Work job ∷ []
     → has_finish after ≡ has_finish before
 has_finish-took_work after before job e = ap has_finish e ∙ has_finish-push_work before job

@@ -34,6 +34,7 @@ none_of : (held : Option Answer) → is_none held ≡ true → held ≡ None
 none_of None h = refl
 none_of (Some answer) h = cc
 
+-- a list of length 0 is empty
 pub nil_of : {A : Type 0} (xs : List A) → length xs ≡ 0 → xs ≡ []
 nil_of [] h = refl
 nil_of (x ∷ xs) h = absurd (omega arith)
@@ -50,6 +51,7 @@ finished_is_drained front back known waiting messages answers empty last finishe
       received = sym (append-nil front.received) ∙ ap (λ l. front.received ++ l) (sym (nil_of waiting empty)) ∙ answers;
     }
 
+-- what a drained lane received answers the jobs that were sent
 pub drained_answers : (front : FrontLists) (back : BackLists) → IsDrained front back →
     ∥ AreAnswersTo (jobs_of back.taken) (back.put ++ option_to_list back.held) ∥₁ →
     AreAnswersTo (jobs_of front.sent) front.received

@@ -50,6 +50,7 @@ work_ends capacity Graded front old new known (inr s) fifo idle done other = abs
 work_ends capacity Waiting front old new known (inr s) fifo idle done other = inr (inr (s.1.1, s.1.2))
 work_ends capacity Done front old new known (inr s) fifo idle done other = inl (done.0 refl)
 
+-- one step is work
 pub Works-one : (capacity : ℕ) (result : Step) (old new : BackLists) → Steps capacity result old new → Works capacity old new
 Works-one capacity result old new s = (result ∷ [], (new, s, refl))
 

@@ -67,7 +67,8 @@ pub record PutsAnswer (answer : Answer) (old new : BackLists) : Type 0 where
   pub held : new.held ≡ None
   pub put : new.put ≡ old.put ++ answer ∷ []
 
--- what can happen to a lane: the front sends a message or receives an answer, the back takes a message or puts an answer
+-- what can happen to a lane: the front sends a message or receives an answer,
+-- the back takes a message or puts an answer
 pub data Event : Type 0 where
   Put_message : (message : Message) → Event
   Take_message : (message : Message) → Event

@@ -4,7 +4,7 @@ use Rattle.lane_core.specs.declared.answers.Answer.{Answer}
 use Rattle.lane_core.specs.declared.steps.Step.{Step}
 use Rattle.lane_core.specs.declared.steps.Step.TheVariants.{Idle, Graded, Waiting, Done}
 
--- it is put, or it is held since the ring was full
+-- it is put; or it is held, if as many were put as the ring has room for
 abbrev pub IsOffered : ℕ → Answer → Step → List Answer → List Answer → Option Answer → Type 0
 IsOffered capacity answer Idle old new held = ⊥
 IsOffered capacity answer Done old new held = ⊥

@@ -6,7 +6,7 @@ use Rattle.lane_core.specs.declared.jobs.Job.{Job}
 use Rattle.lane_core.specs.declared.faults.SendFault.{SendFault}
 use Rattle.lane_core.specs.declared.faults.SendFault.TheVariants.{Finished, Full}
 
--- a lane of this capacity may refuse the job so, and the job comes back
+-- a lane of this capacity may refuse the job by this fault, and the job comes back
 abbrev pub IsRefusal : ℕ → FrontLists → Job → SendFault → Type 0
 IsRefusal capacity front job (Finished back) = (back ≡ job) × (has_finish front.sent ≡ true)
 IsRefusal capacity front job (Full back) = (back ≡ job) × (has_finish front.sent ≡ false) × (capacity ≤ length front.sent)

@@ -20,14 +20,14 @@ PutsSome old new = (answer : Answer) × PutsAnswer answer old new
 abbrev pub TakesThenPuts : BackLists → BackLists → Type 0
 TakesThenPuts old new = (mid : BackLists) × TakesSome old mid × PutsSome mid new
 
--- the back of a lane of this capacity, whose finish was not taken, may answer so, and change its lists so
+-- the step of a back in a lane of this capacity, whose finish was not taken, and how it changes the lists
 abbrev pub StepsBeforeFinish : ℕ → Step → BackLists → BackLists → Type 0
 StepsBeforeFinish capacity Idle old new = (new ≡ old) × (new.held ≡ None)
 StepsBeforeFinish capacity Graded old new = PutsSome old new ⊎ TakesThenPuts old new
 StepsBeforeFinish capacity Waiting old new = ((new ≡ old) ⊎ TakesSome old new) × IsSome new.held × (capacity ≤ length new.put)
 StepsBeforeFinish capacity Done old new = TakesMessage Finish old new
 
--- any back: where the finish was taken, nothing happens
+-- any back: if the finish was taken, nothing happens
 abbrev pub Steps : ℕ → Step → BackLists → BackLists → Type 0
 Steps capacity step old new =
     (IsFinished old × (step ≡ Done) × (new ≡ old)) ⊎ ((has_finish old.taken ≡ false) × StepsBeforeFinish capacity step old new)
@@ -45,7 +45,8 @@ Works capacity old new = (steps : List Step) × StepRun capacity steps old new
 abbrev pub work_left : FrontLists → BackLists → ℕ
 work_left front back = 2 * (length front.sent - length back.taken) + length (option_to_list back.held)
 
--- the finish was taken; or no message waits and no answer is held; or one is held, and as many were put as the ring has room for
+-- the finish was taken; or no message waits and no answer is held;
+-- or one is held, and as many were put as the ring has room for
 abbrev pub IsWorkDone : ℕ → FrontLists → BackLists → Type 0
 IsWorkDone capacity front back =
     IsFinished back ⊎ (((back.taken ≡ front.sent) × (back.held ≡ None)) ⊎ (IsSome back.held × (capacity ≤ length back.put)))

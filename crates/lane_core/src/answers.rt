@@ -10,8 +10,8 @@ ghost use Rattle.lane_core.specs.Outcome.{IsOutcome};
 use grid_core::{NoMemory, Puzzle};
 use solve_core::{Findings, Pick};
 
-/// A graded job, with its number, its puzzle, its limit on guesses and its rule for them. The outcome is the report of this puzzle under this limit
-/// and by this rule, or want of memory.
+/// A graded job, with its number, its puzzle, its limit on guesses and its rule for them.
+/// The outcome is the report of this puzzle under this limit and by this rule, or want of memory.
 #[derive(Drop)]
 pub struct Answer {
     number: u32,
@@ -23,7 +23,8 @@ pub struct Answer {
 }
 
 impl Answer {
-    /// The answer with these parts, whose outcome is the report of this puzzle under this limit and by this rule, or want of memory.
+    /// The answer with these parts, whose outcome is the report of this puzzle under this limit and
+    /// by this rule, or want of memory.
     pub(crate) fn new(
         number: u32,
         puzzle: Puzzle,
@@ -75,12 +76,14 @@ impl Answer {
         self.pick
     }
 
-    /// The report of the answer's own puzzle under its own limit on guesses and by its own rule: its verdict holds of all grids. `NoMemory` where a growth was refused while the
-    /// job was graded.
+    /// The report of the answer's own puzzle under its own limit on guesses and by its own rule:
+    /// its verdict holds of all grids. `NoMemory` if a growth was refused while the job was graded.
     pub fn outcome(&self) -> Result<&Findings, NoMemory>
         ensures value { MatchResult result (λ found. self.now.outcome ≡ Ok found.now) (λ refused. self.now.outcome ≡ Err refused) }
-        ensures report { IfOk result (λ found. found.now ≡ report_of (picked self.now.pick self.now.puzzle.width) self.now.puzzle self.now.guesses) }
-        ensures holds { IfOk result (λ found. Holds (picked self.now.pick self.now.puzzle.width) self.now.puzzle self.now.guesses found.now.verdict) }
+        ensures report { IfOk result (λ found. found.now
+            ≡ report_of (picked self.now.pick self.now.puzzle.width) self.now.puzzle self.now.guesses) }
+        ensures holds { IfOk result (λ found.
+            Holds (picked self.now.pick self.now.puzzle.width) self.now.puzzle self.now.guesses found.now.verdict) }
     {
         see_puzzle(&self.puzzle);
         match &self.outcome {

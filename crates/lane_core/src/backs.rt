@@ -14,7 +14,7 @@ use crate::steps::Step;
 use rtrb::{Consumer, Producer, PushError};
 use std::alloc::Global;
 
-/// Puts an answer into the ring, or holds it where the ring is full.
+/// Puts an answer into the ring, or holds it if the ring is full.
 fn offer(answers: &mut Producer<Answer>, held: &mut Option<Answer>, answer: Answer) -> Step
     requires free { held.old ≡ None }
     requires room { producer_capacity answers.old ≤ known_free answers.old + length (sent answers.old) }
@@ -31,7 +31,8 @@ fn offer(answers: &mut Producer<Answer>, held: &mut Option<Answer>, answer: Answ
     }
 }
 
-/// The worker's end of a lane: it takes jobs, grades them and puts the answers. What it put and what it holds answers, place by place, the jobs that it took.
+/// The worker's end of a lane: it takes jobs, grades them and puts the answers.
+/// What it put and what it holds answers, place by place, the jobs that it took.
 /// It may be in another thread than the collector's end.
 #[derive(Drop)]
 pub struct LaneBack {
@@ -51,8 +52,9 @@ impl LaneBack {
     ghost use Rattle.lane_core.specs.Steps.{Steps};
     ghost use Rattle.lane_core.specs.Ends.{back_lists, back_capacity, known_messages, SameBack};
 
-    /// One step: after the finish `Done`, and nothing happens. Else the answer that is held is put; or, if none is, a message is taken, and a job enters the gate
-    /// with its number and is graded, and its answer put, or held where the ring of answers is full. It never waits.
+    /// One step: after the finish `Done`, and nothing happens. Else the answer that is held is put;
+    /// or, if none is, a message is taken, and a job enters the gate with its number and is graded,
+    /// and its answer put, or held if the ring of answers is full. It never waits.
     #[tactic(auto, using(crate::proofs::MessagesLemmas::messages))]
     pub fn step<G: Gate>(&mut self, alloc: Global, gate: &G) -> Step
         ensures lane { SameBack self.old self.new }

@@ -58,10 +58,12 @@ impl BatchLane {
         'grading: while grade_next(&mut self.front, &mut self.back, alloc, gate) {}
     }
 
-    /// Settles the lane where it is finished and drained, as `settle` does; else it comes back, as it was.
+    /// Settles the lane if it is finished and drained, as `settle` does; else it comes back, as it was.
     pub fn close(self) -> Result<(), (SettleFault, BatchLane)>
-        ensures cases { MatchResult result (λ _. IsFinished (batch_back self) × IsDrained (batch_front self) (batch_back self)) (λ e. IsSettleFault e.0 (batch_front self) (batch_back self)) }
-        ensures answers { MatchResult result (λ _. AreAnswersTo (jobs_of (batch_front self).sent) (batch_front self).received) (λ _. AreAnswersTo (take (length (batch_front self).received) (jobs_of (batch_front self).sent)) (batch_front self).received) }
+        ensures cases { MatchResult result (λ _. IsFinished (batch_back self) × IsDrained (batch_front self) (batch_back self))
+            (λ e. IsSettleFault e.0 (batch_front self) (batch_back self)) }
+        ensures answers { MatchResult result (λ _. AreAnswersTo (jobs_of (batch_front self).sent) (batch_front self).received)
+            (λ _. AreAnswersTo (take (length (batch_front self).received) (jobs_of (batch_front self).sent)) (batch_front self).received) }
         ensures last { finish_is_last (batch_front self).sent ≡ true }
         ensures back { IfErr result (λ e. SameEnds self e.1 × (batch_front e.1 ≡ batch_front self) × (batch_back e.1 ≡ batch_back self)) }
     {
@@ -73,7 +75,8 @@ impl BatchLane {
     }
 }
 
-/// Whether a message waits or an answer is held. Both ends of the ring are looked at, since the worker's end alone may not see the newest message.
+/// Whether a message waits or an answer is held. Both ends of the ring are looked at,
+/// since the worker's end alone may not see the newest message.
 fn has_work(front: &mut LaneFront, back: &mut LaneBack) -> bool
     requires { AreOneLane front.old back.old }
     ensures front { SameFront front.old front.new × (front_lists front.new ≡ front_lists front.old) }
@@ -86,13 +89,16 @@ fn has_work(front: &mut LaneFront, back: &mut LaneBack) -> bool
     waiting > 0 || back.held.is_some()
 }
 
-/// Puts the answer that is held, or takes a message that waits and puts its answer. Whether an answer was put.
+/// Puts the answer that is held, or takes a message that waits and puts its answer.
+/// Returns whether an answer was put.
 fn grade_next<G: Gate>(front: &mut LaneFront, back: &mut LaneBack, alloc: Global, gate: &G) -> bool
     requires { AreOneLane front.old back.old }
     ensures front { SameFront front.old front.new × (front_lists front.new ≡ front_lists front.old) }
     ensures back { SameBack back.old back.new }
-    ensures more { IsTrue result → Steps (back_capacity back.old) Step.Graded (back_lists back.old) (back_lists back.new) × (work_left (front_lists front.old) (back_lists back.new) < work_left (front_lists front.old) (back_lists back.old)) }
-    ensures last { IsFalse result → Works (back_capacity back.old) (back_lists back.old) (back_lists back.new) × IsWorkDone (back_capacity back.old) (front_lists front.old) (back_lists back.new) }
+    ensures more { IsTrue result → Steps (back_capacity back.old) Step.Graded (back_lists back.old) (back_lists back.new)
+        × (work_left (front_lists front.old) (back_lists back.new) < work_left (front_lists front.old) (back_lists back.old)) }
+    ensures last { IsFalse result → Works (back_capacity back.old) (back_lists back.old) (back_lists back.new)
+        × IsWorkDone (back_capacity back.old) (front_lists front.old) (back_lists back.new) }
 {
     if !has_work(front, back) {
         return false;

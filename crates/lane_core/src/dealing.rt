@@ -16,15 +16,18 @@ use std::collections::VecDeque;
 /// How many answers one turn takes at most.
 pub const MOST_TAKEN: usize = 64;
 
-/// One turn at a lane: sends jobs from the front of `waiting` until none waits or one is refused, which goes back to the front; asks for the finish where none
-/// waits; and takes answers to the end of `got` while it has room, at most 64. True where a message was accepted or an answer was taken. Nothing is allocated.
+/// One turn at a lane: sends jobs from the front of `waiting` until none waits or one is refused,
+/// which goes back to the front; asks for the finish if none waits;
+/// and takes answers to the end of `got` while it has room, at most 64.
+/// Returns whether a message was accepted or an answer was taken. Nothing is allocated.
 pub fn deal<L: Lane>(
     lane: &mut L,
     waiting: &mut VecDeque<Job, Global>,
     got: &mut Vec<Answer>,
 ) -> bool
     ensures lane { L.same_lane lane.old lane.new }
-    ensures dealt { Deals (L.capacity lane.old) (L.lists lane.old) (L.lists lane.new) waiting.old.items waiting.new.items got.old.items got.new.items }
+    ensures dealt { Deals (L.capacity lane.old) (L.lists lane.old) (L.lists lane.new)
+        waiting.old.items waiting.new.items got.old.items got.new.items }
     ensures moved { IsTrue result ↔ Grows (L.lists lane.old) (L.lists lane.new) }
     ensures no_growth { (deque_capacity waiting.new ≡ deque_capacity waiting.old) × (vec_capacity got.new ≡ vec_capacity got.old) }
 {
@@ -34,7 +37,8 @@ pub fn deal<L: Lane>(
     sent || asked || taken
 }
 
-/// Sends jobs from the front until none waits or one is refused. That one goes back to the front.
+/// Sends jobs from the front until none waits or one is refused, which goes back to the front.
+/// Returns whether one was accepted.
 fn send_waiting<L: Lane>(lane: &mut L, waiting: &mut VecDeque<Job, Global>) -> bool
     ensures lane { L.same_lane lane.old lane.new }
     ensures sent { Sends (L.capacity lane.old) (L.lists lane.old) (L.lists lane.new) waiting.old.items waiting.new.items }
@@ -54,7 +58,7 @@ fn send_waiting<L: Lane>(lane: &mut L, waiting: &mut VecDeque<Job, Global>) -> b
     any
 }
 
-/// Asks for the finish where no job waits.
+/// Asks for the finish if no job waits. Returns whether it was accepted.
 fn ask_finish<L: Lane>(lane: &mut L, waiting: &VecDeque<Job, Global>) -> bool
     ensures lane { L.same_lane lane.old lane.new }
     ensures asked { Asks (L.capacity lane.old) (L.lists lane.old) (L.lists lane.new) waiting.now.items }
@@ -66,7 +70,7 @@ fn ask_finish<L: Lane>(lane: &mut L, waiting: &VecDeque<Job, Global>) -> bool
     lane.finish().is_ok()
 }
 
-/// Takes answers while one is seen and there is room for it.
+/// Takes answers while one is seen and there is room for it, at most 64. Returns whether one was taken.
 fn take_answers<L: Lane>(lane: &mut L, got: &mut Vec<Answer>) -> bool
     ensures lane { L.same_lane lane.old lane.new }
     ensures taken { Takes (L.lists lane.old) (L.lists lane.new) got.old.items got.new.items }

@@ -9,7 +9,8 @@ pub enum SendFault {
     /// The finish was sent before.
     #[error("the finish was sent")]
     Finished(Job),
-    /// The ring has no room, as far as this end sees. It comes only where the lane accepted at least as many messages as it has room for.
+    /// The ring has no room, as far as this end sees. It comes only if the lane accepted at least
+    /// as many messages as it has room for.
     #[error("the lane is full")]
     Full(Job),
 }
@@ -20,7 +21,8 @@ pub enum FinishFault {
     /// The finish was sent before.
     #[error("the finish was sent")]
     Finished,
-    /// The ring has no room, as far as this end sees. It comes only where the lane accepted at least as many messages as it has room for.
+    /// The ring has no room, as far as this end sees. It comes only if the lane accepted at least
+    /// as many messages as it has room for.
     #[error("the lane is full")]
     Full,
 }

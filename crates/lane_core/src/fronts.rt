@@ -11,7 +11,8 @@ use crate::lanes::Lane;
 use crate::messages::Message;
 use rtrb::{Consumer, Producer, PushError};
 
-/// The collector's end of a lane: it sends jobs and the finish, and receives answers. It may be in another thread than the worker's end.
+/// The collector's end of a lane: it sends jobs and the finish, and receives answers.
+/// It may be in another thread than the worker's end.
 #[derive(Drop)]
 pub struct LaneFront {
     pub(crate) messages: Producer<Message>,

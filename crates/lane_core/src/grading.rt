@@ -7,7 +7,7 @@ use crate::jobs::Job;
 use solve_core::report;
 use std::alloc::Global;
 
-/// The answer to a job. Where a growth is refused, its outcome is `NoMemory`.
+/// The answer to a job. If a growth is refused, its outcome is `NoMemory`.
 pub fn grade(alloc: Global, job: Job) -> Answer
     ensures { IsAnswerTo job result }
 {

@@ -10,7 +10,8 @@ use crate::faults::{FinishFault, SendFault};
 use crate::jobs::Job;
 use crate::messages::Message;
 
-/// A lane, as its collector sees it: it sends jobs and then the finish, and receives the answers. No call waits, and none allocates.
+/// A lane, as its collector sees it: it sends jobs and then the finish, and receives the answers.
+/// No call waits, and none allocates.
 pub trait Lane {
     /// What was sent and received.
     ghost lists: { Self → FrontLists };
@@ -21,8 +22,8 @@ pub trait Lane {
     /// What no call of a collector changes: which lane it is, and what its worker did.
     ghost same_lane: { Self → Self → Type 0 };
 
-    /// Sends a job, or hands it back: `Finished` exactly where the finish was sent, else `Full`, and only where the lane accepted at least as many messages as it
-    /// has room for.
+    /// Sends a job, or hands it back: `Finished` exactly if the finish was sent;
+    /// else `Full`, and that only if the lane accepted at least as many messages as it has room for.
     fn send(&mut self, job: Job) -> Result<(), SendFault>
         ensures lane { same_lane self.old self.new }
         ensures ok { OnOk result (PutsMessage (Message.Work job) (lists self.old) (lists self.new)) }
@@ -30,8 +31,8 @@ pub trait Lane {
         ensures refused { IfErr result (λ fault. IsRefusal (capacity self.old) (lists self.old) job fault) }
         ensures finished { has_finish (lists self.old).sent ≡ true → result ≡ Err (SendFault.Finished job) };
 
-    /// Sends the finish: no further job is accepted. `Finished` exactly where it was sent before, else `Full`, and only where the lane accepted at least as many
-    /// messages as it has room for.
+    /// Sends the finish: no further job is accepted. `Finished` exactly if it was sent before;
+    /// else `Full`, and that only if the lane accepted at least as many messages as it has room for.
     fn finish(&mut self) -> Result<(), FinishFault>
         ensures lane { same_lane self.old self.new }
         ensures ok { OnOk result (PutsMessage Message.Finish (lists self.old) (lists self.new)) }

@@ -1,4 +1,5 @@
-//! Laws of lanes. The first two are over every list of events from the opening, and the last one tells the limits.
+//! Laws of lanes. The first two are over every list of events from the opening,
+//! and the last one tells the limits.
 
 ghost use Rattle.std.specs.Prelude.{◌≡◌, ℕ, List, length, take, true};
 ghost use mathlib.Core.List.{IsPrefix};
@@ -13,22 +14,28 @@ ghost use Rattle.lane_core.specs.declared.opening.TheConstants.{LARGEST_RING};
 ghost use Rattle.lane_core.specs.declared.batches.TheConstants.{LARGEST_BATCH};
 ghost use Rattle.lane_core.specs.declared.dealing.TheConstants.{MOST_TAKEN};
 
-/// What was put and what is held answers the jobs that were taken, place by place. So what was received answers the first of the jobs that were sent. No message
-/// follows the finish.
+/// What was put and what is held answers the jobs that were taken, place by place.
+/// So what was received answers the first of the jobs that were sent. No message follows the finish.
 pub fn answers_in_order()
     ensures answered { (capacity : ℕ) (events : List Event) (lane : Lane) → Run (opening capacity) events lane → IsAnswered lane.back }
-    ensures taken { (capacity : ℕ) (events : List Event) (lane : Lane) → Run (opening capacity) events lane → IsPrefix lane.back.taken lane.front.sent }
-    ensures received { (capacity : ℕ) (events : List Event) (lane : Lane) → Run (opening capacity) events lane → IsPrefix lane.front.received lane.back.put }
-    ensures last { (capacity : ℕ) (events : List Event) (lane : Lane) → Run (opening capacity) events lane → finish_is_last lane.front.sent ≡ true }
-    ensures so_far { (capacity : ℕ) (events : List Event) (lane : Lane) → Run (opening capacity) events lane → AreAnswersTo (take (length lane.front.received) (jobs_of lane.front.sent)) lane.front.received }
+    ensures taken { (capacity : ℕ) (events : List Event) (lane : Lane) → Run (opening capacity) events lane
+        → IsPrefix lane.back.taken lane.front.sent }
+    ensures received { (capacity : ℕ) (events : List Event) (lane : Lane) → Run (opening capacity) events lane
+        → IsPrefix lane.front.received lane.back.put }
+    ensures last { (capacity : ℕ) (events : List Event) (lane : Lane) → Run (opening capacity) events lane
+        → finish_is_last lane.front.sent ≡ true }
+    ensures so_far { (capacity : ℕ) (events : List Event) (lane : Lane) → Run (opening capacity) events lane
+        → AreAnswersTo (take (length lane.front.received) (jobs_of lane.front.sent)) lane.front.received }
 {}
 
 /// What a finished and drained lane received answers the jobs that were sent, place by place.
 pub fn drained_lanes_are_answered()
-    ensures { (capacity : ℕ) (events : List Event) (lane : Lane) → Run (opening capacity) events lane → IsFinished lane.back → IsDrained lane.front lane.back → AreAnswersTo (jobs_of lane.front.sent) lane.front.received }
+    ensures { (capacity : ℕ) (events : List Event) (lane : Lane) → Run (opening capacity) events lane
+        → IsFinished lane.back → IsDrained lane.front lane.back → AreAnswersTo (jobs_of lane.front.sent) lane.front.received }
 {}
 
-/// Each worker's end that there is keeps this too: what it put and what it holds answers the jobs that it took, place by place.
+/// Each worker's end that there is keeps this too: what it put and what it holds answers the jobs
+/// that it took, place by place.
 pub fn backs_are_answered()
     ensures { (back : LaneBack) → IsAnswered (back_lists back) }
 {}

@@ -13,7 +13,8 @@ use std::alloc::Global;
 /// The greatest capacity of a lane between two threads.
 pub const LARGEST_RING: usize = 64;
 
-/// Opens a lane with room for `capacity` messages and as many answers, from 1 to 64: its collector's end and its worker's end.
+/// Opens a lane with room for `capacity` messages and as many answers, from 1 to 64:
+/// its collector's end and its worker's end.
 pub fn open_lane(alloc: Global, capacity: usize) -> Result<(LaneFront, LaneBack), NoMemory>
     requires least { 1 ≤ capacity }
     requires most { capacity ≤ LARGEST_RING }

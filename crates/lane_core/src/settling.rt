@@ -11,13 +11,16 @@ use crate::backs::LaneBack;
 use crate::faults::SettleFault;
 use crate::fronts::LaneFront;
 
-/// Settles a lane that is finished and drained: the answers received are those to the jobs sent, each once, in the order sent, none after the finish.
-/// `Unfinished` where the finish was not taken; else `NotDrained` where an answer lies in the ring: then both ends come back, as they were. Both must be of one
-/// `open_lane`, and may have been in threads of their own.
+/// Settles a lane that is finished and drained: the answers received are those to the jobs sent, each once,
+/// in the order sent, none after the finish. `Unfinished` if the finish was not taken;
+/// else `NotDrained` if an answer lies in the ring: then both ends come back, as they were.
+/// Both must be of one `open_lane`, and may have been in threads of their own.
 pub fn settle(front: LaneFront, back: LaneBack) -> Result<(), (SettleFault, LaneFront, LaneBack)>
     requires { AreOneLane front back }
-    ensures cases { MatchResult result (λ _. IsFinished (back_lists back) × IsDrained (front_lists front) (back_lists back)) (λ e. IsSettleFault e.0 (front_lists front) (back_lists back)) }
-    ensures answers { MatchResult result (λ _. AreAnswersTo (jobs_of (front_lists front).sent) (front_lists front).received) (λ _. AreAnswersTo (take (length (front_lists front).received) (jobs_of (front_lists front).sent)) (front_lists front).received) }
+    ensures cases { MatchResult result (λ _. IsFinished (back_lists back) × IsDrained (front_lists front) (back_lists back))
+        (λ e. IsSettleFault e.0 (front_lists front) (back_lists back)) }
+    ensures answers { MatchResult result (λ _. AreAnswersTo (jobs_of (front_lists front).sent) (front_lists front).received)
+        (λ _. AreAnswersTo (take (length (front_lists front).received) (jobs_of (front_lists front).sent)) (front_lists front).received) }
     ensures last { finish_is_last (front_lists front).sent ≡ true }
     ensures one_lane { IfErr result (λ e. AreOneLane e.1 e.2) }
     ensures front_back { IfErr result (λ e. SameFront front e.1 × (front_lists e.1 ≡ front_lists front)) }

@@ -7,8 +7,8 @@ pub enum Step {
     Idle,
     /// An answer was put into the ring.
     Graded,
-    /// An answer is held, since the ring of answers had no room, as far as this end sees.
+    /// An answer is held: the ring of answers had no room, as far as this end sees.
     Waiting,
-    /// The finish was taken, now or before.
+    /// The finish was taken, by this step or before.
     Done,
 }

@@ -100,7 +100,7 @@ impl Both {
         })
     }
 
-    /// Sends a job. Whether it was accepted.
+    /// Sends a job. Returns whether it was accepted.
     pub(crate) fn send(&mut self, job: Job) -> bool {
         self.front.send(job).is_ok()
     }

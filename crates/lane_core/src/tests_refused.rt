@@ -1,4 +1,5 @@
-//! Calls whose growths of memory are refused, each in turn, and calls that take no memory with every growth refused.
+//! Calls whose growths of memory are refused, each in turn, and calls that take no memory
+//! with every growth refused.
 
 use super::tests::job;
 use super::tests_refusals::{Told, assert_heeded, assert_swept, refuse, told_if, was_refused};
@@ -30,7 +31,8 @@ fn lanes_are_opened_or_refused(rt: HostRuntime) {
     assert_swept(&rt, alloc, || told_of_ends(open_lane(alloc, 3)));
 }
 
-/// Asserts that a job is graded, or that the growth of this number was refused and its answer says so. Whether it was refused.
+/// Asserts that a job is graded, or that the growth of this number was refused and its answer says so.
+/// Returns whether it was refused.
 fn assert_graded(rt: &impl Abort, alloc: Global, growth: usize) -> Result<bool, Fail> {
     let job = job(alloc, 7)?;
     refuse(alloc, growth);

@@ -1,4 +1,5 @@
-//! Lanes on one thread with each growth of memory refused in turn. Their jobs have different puzzles, so that an answer's puzzle tells whose it is.
+//! Lanes on one thread with each growth of memory refused in turn.
+//! Their jobs have different puzzles, so that an answer's puzzle tells whose it is.
 
 use super::tests::Both;
 use super::tests_refusals::{refuse, was_refused};
@@ -12,7 +13,7 @@ use std::test::Fail;
 /// More growths than any lane here makes.
 const MOST_GROWTHS: usize = 1000;
 
-/// The puzzle of one row of so many cells, 1 to 9, all of them filled.
+/// The puzzle of one row of `width` cells, 1 to 9, all of them filled.
 fn full_row(alloc: Global, width: u16) -> Result<Puzzle, Fail> {
     let width = width.clamp(1, 9);
     let mut rows = Vec::with_capacity(alloc, 1)?;
@@ -89,7 +90,8 @@ fn both(is_well: bool, first: Option<Reported>, second: Option<Reported>) -> Tol
     }
 }
 
-/// Asserts what a script told: that the lane wasn't opened, if a growth was refused, or what both answers report. All of it if none was refused.
+/// Asserts what a script told: that the lane wasn't opened, if a growth was refused,
+/// or what both answers report. All of it if none was refused.
 fn assert_told(rt: &impl Abort, told: Result<Told, NoMemory>, refused: bool, growth: usize) {
     match told {
         Ok(Some((first, second))) => {

@@ -1,4 +1,5 @@
-//! Pseudorandom scripts of calls at a lane on one thread. What each call answers is told by a model that only counts.
+//! Pseudorandom scripts of calls at a lane on one thread. What each call answers is told by a model
+//! that only counts.
 
 ghost use Rattle.std.specs.Prelude.{◌≤◌};
 
@@ -184,7 +185,7 @@ fn call_of(state: u64, number: u32) -> Call {
     }
 }
 
-/// One script of 40 calls from this state of the generator, and what the state is then.
+/// Follows one script of 40 calls, from this state of the generator. Returns the state after it.
 fn follow_script(rt: &impl Abort, alloc: Global, capacity: u32, start: u64) -> Result<u64, Fail>
     requires least { 1 ≤ capacity }
     requires most { capacity ≤ LARGEST_RING }

@@ -1,3 +1,4 @@
+-- `send_waiting`: the job at the front is sent.
 use Rattle.std.proofs.Common.{refl, ◌∙◌}
 use Rattle.lane_core.proofs.DealingLemmas.{SentSoFar-more, SentSoFar-grows, SentSoFar-left}
 use Rattle.lane_core.proofs.dealing.send_waiting.Goals as goal

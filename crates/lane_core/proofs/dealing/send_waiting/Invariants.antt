@@ -1,3 +1,4 @@
+-- What the loop of `send_waiting` keeps: what was sent so far, and what is left, is what waited.
 use Rattle.std.proofs.Common.{◌≡◌, ◌↔◌, IsTrue}
 use Rattle.std.specs.VecDeque.{deque_capacity, deque_len}
 use Rattle.lane_core.specs.Dealing.{Grows}

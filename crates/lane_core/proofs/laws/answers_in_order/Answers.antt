@@ -1,3 +1,4 @@
+-- The law `answers_in_order` holds: each event keeps what the lane is to keep.
 use Rattle.lane_core.proofs.LaneLemmas.{IsLawful-run}
 use Rattle.lane_core.proofs.SettlingLemmas.{first_are_answered}
 use Rattle.lane_core.proofs.laws.answers_in_order.Goals as goal

@@ -1,3 +1,4 @@
+-- `settle`: a look at both ends of a ring shows that nothing lies in it, and so the lane is drained.
 use Rattle.std.proofs.Common.{sym, ◌∙◌, arith}
 use Rattle.lane_core.specs.Lane.{IsDrained}
 use Rattle.lane_core.specs.Ends.{front_lists, back_lists}

@@ -1,3 +1,4 @@
+-- `Answer::outcome`: the outcome that the type keeps is the report of the answer's own puzzle.
 use Rattle.lane_core.proofs.AnswersLemmas.{found_is_report, found_holds}
 use Rattle.lane_core.proofs.answers.Answer.outcome.Goals as goal
 

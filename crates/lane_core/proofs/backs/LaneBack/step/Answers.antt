@@ -1,3 +1,5 @@
+-- `LaneBack::step`: what was put and is held still answers what was taken,
+-- and the lists change as a step may.
 use Rattle.std.proofs.Common.{refl, sym, ap, ◌∙◌, inr}
 use Rattle.std.proofs.Math.Logic.{∥∥₁_map}
 use Rattle.std.specs.Prelude.{is_none}

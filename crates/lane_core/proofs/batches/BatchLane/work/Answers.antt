@@ -1,3 +1,4 @@
+-- `BatchLane::work`: each step that puts an answer leaves less work, and the one that puts none is the last.
 use Rattle.std.proofs.Common.{refl, ◌∙◌}
 use Rattle.lane_core.specs.declared.steps.Step.TheVariants.{Graded}
 use Rattle.lane_core.specs.Ends.{SameFront-trans, SameBack-trans}

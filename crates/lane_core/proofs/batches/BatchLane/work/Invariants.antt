@@ -1,3 +1,5 @@
+-- What the loop of `BatchLane::work` keeps: the lane and its front are the same;
+-- what gets less is the work left.
 use Rattle.std.proofs.Common.{◌≡◌}
 use Rattle.lane_core.specs.Steps.{Works, work_left}
 use Rattle.lane_core.specs.Batch.{batch_front, batch_back, batch_capacity, SameEnds}
