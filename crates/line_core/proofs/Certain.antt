@@ -1,3 +1,4 @@
+-- Two tests at each cell, whether it can be filled and whether it can be blank, tell the deduction.
 use Rattle.std.proofs.Common.{◌≡◌, ℕ, ◌<◌, Bool, true, false, not, List, [], ◌∷◌, length, get_or, map, Some, None, refl, sym, ap, ◌∙◌, arith, true≢false, zero-add, ext_get_or}
 use Rattle.std.specs.List.{list_all, range_with_len}
 use Rattle.std.proofs.lemmas.List.FromFn.{length-map-range_with_len, get_or-map-range_with_len}
@@ -18,7 +19,7 @@ true_unless : (b : Bool) → (b ≡ false → ⊥) → b ≡ true
 true_unless true h = refl
 true_unless false h = absurd (h refl)
 
--- a test that passes exactly where something is so
+-- a test that passes exactly if something is so
 pub record Tells (P : Type 0) (b : Bool) : Type 0 where
   pub to : b ≡ true → P
   pub from : P → b ≡ true

@@ -1,4 +1,4 @@
--- Where two lines differ, told of their masks.
+-- At which places two lines differ, told of their masks.
 use Rattle.std.proofs.Common.{◌≡◌, ◌≢◌, ℕ, ◌<◌, ◌⊎◌, inl, inr, Bool, true, false, nat_eq, List, length, get_or, refl, sym, ap, ◌∙◌, arith, true≢false, IsTrue, ext_get_or}
 use Rattle.std.specs.Int.{bit_at}
 use Rattle.std.proofs.lemmas.Bool.{cases_lt, eqb-true, eq-eqb}

@@ -1,3 +1,4 @@
+-- The masks of gaps and of ends, each made of those before it.
 use Rattle.std.proofs.Common.{◌≡◌, ℕ, ◌+◌, ◌-◌, ◌<◌, ◌≤◌, true, false, List, [], ◌∷◌, length, get_or, reverse, sym, subst, arith, add-one, ◌⊎◌, inl, inr}
 use Rattle.std.proofs.lemmas.Bool.{cases_lt}
 use Rattle.grid_core.specs.declared.cells.Cell.{Cell}
@@ -28,7 +29,7 @@ gap_next_is l runs w n free ends m short pos f e p =
     (λ i h. let within : i < length l = h.0.0 in ((omega arith, h.1, e.from (i - 1) h.2), f.from i h.0)) f.to f.from p)
     (λ i h. gap_after_to l runs n i pos h) (gap_after_from l runs n)
 
--- where a run of so many cells ends that starts after a gap or at an opening, and within a window
+-- the ends of runs of `n` cells that start after a gap or at an opening, and within a window
 abbrev pub EndsAt : ℕ → ℕ → ℕ → ℕ → ℕ → ℕ → Type 0
 EndsAt w gap opening window n = IsMoved w (λ s. (IsMoved w (Has gap) 1 s ⊎ Has opening s) × Has window s) (n - 1)
 
@@ -149,6 +150,7 @@ blank_first l clue gap ahead m g a p =
     let e : x.0 ≡ 0 = omega arith in
     subst (λ (q : ℕ). IsGap l clue q i × IsGapAhead l clue q i) e (x.2, x.3))
 
+-- one more gap, and the cells that are blank in it
 pub blank_more : (l : List Cell) (clue : List ℕ) (j gap ahead blank part m : ℕ) → IsMaskOf (IsGap l clue (j + 1)) gap
     → IsMaskOf (IsGapAhead l clue (j + 1)) ahead
     → IsMaskOf (λ i. (q : ℕ) × (q ≤ j) × IsGap l clue q i × IsGapAhead l clue q i) blank

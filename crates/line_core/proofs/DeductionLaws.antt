@@ -40,10 +40,12 @@ cell_antisym Blank Unknown h k = absurd h
 cell_antisym Blank Filled h k = absurd h
 cell_antisym Blank Blank h k = refl
 
+-- a line extends itself
 pub Extends-refl : (g : List Cell) → Extends g g
 Extends-refl [] = tt
 Extends-refl (c ∷ g) = (cell_refl c, Extends-refl g)
 
+-- a line that extends one that extends another extends that other
 pub Extends-trans : (a b c : List Cell) → Extends a b → Extends b c → Extends a c
 Extends-trans [] [] [] h k = tt
 Extends-trans [] [] (z ∷ c) h k = absurd k
@@ -52,22 +54,26 @@ Extends-trans (x ∷ a) [] c h k = absurd h
 Extends-trans (x ∷ a) (y ∷ b) [] h k = absurd k
 Extends-trans (x ∷ a) (y ∷ b) (z ∷ c) h k = (cell_trans x y z h.0 k.0, Extends-trans a b c h.1 k.1)
 
+-- lines that extend one another are of one length
 pub length-Extends : (a b : List Cell) → Extends a b → length a ≡ length b
 length-Extends [] [] h = refl
 length-Extends [] (y ∷ b) h = absurd h
 length-Extends (x ∷ a) [] h = absurd h
 length-Extends (x ∷ a) (y ∷ b) h = ap suc (length-Extends a b h.1)
 
+-- what is known is at most itself
 pub AtMost-refl : (o : Option (List Cell)) → AtMost o o
 AtMost-refl None = tt
 AtMost-refl (Some g) = Extends-refl g
 
+-- what is at most one thing is at most what that is at most
 pub AtMost-trans : (a b c : Option (List Cell)) → AtMost a b → AtMost b c → AtMost a c
 AtMost-trans a b None h k = tt
 AtMost-trans a None (Some z) h k = absurd k
 AtMost-trans None (Some y) (Some z) h k = absurd h
 AtMost-trans (Some x) (Some y) (Some z) h k = Extends-trans x y z h k
 
+-- two lines that extend each other are the same
 pub Extends-antisym : (a b : List Cell) → Extends a b → Extends b a → a ≡ b
 Extends-antisym [] [] h k = refl
 Extends-antisym [] (y ∷ b) h k = absurd h
@@ -84,6 +90,7 @@ second_true : (a b : Bool) → (a && b) ≡ true → b ≡ true
 second_true true b h = h
 second_true false b h = cc
 
+-- a test that can't pass fails
 pub false_unless : (b : Bool) → (b ≡ true → ⊥) → b ≡ false
 false_unless true h = absurd (h refl)
 false_unless false h = refl
@@ -104,7 +111,7 @@ Extends-allows Filled false h = absurd h
 Extends-allows Blank true h = absurd h
 Extends-allows Blank false h = refl
 
--- a full line agrees with a line exactly where it extends it
+-- a full line agrees with a line exactly if it extends it
 pub agrees-Extends : (l : List Cell) (x : List Bool) → agrees l x ≡ true → Extends l (map colour x)
 agrees-Extends [] [] h = tt
 agrees-Extends [] (b ∷ x) h = cc
@@ -112,6 +119,7 @@ agrees-Extends (c ∷ l) [] h = cc
 agrees-Extends (c ∷ l) (b ∷ x) h =
     (allows-Extends c b (first_true (allows c b) (agrees l x) h), agrees-Extends l x (second_true (allows c b) (agrees l x) h))
 
+-- and a full line that extends a line agrees with it
 pub Extends-agrees : (l : List Cell) (x : List Bool) → Extends l (map colour x) → agrees l x ≡ true
 Extends-agrees [] [] h = refl
 Extends-agrees [] (b ∷ x) h = absurd h
@@ -126,12 +134,14 @@ pub record IsPlacing (l : List Cell) (clue : List ℕ) (x : List Bool) : Type 0 
 pub length-IsPlacing : (l : List Cell) (clue : List ℕ) (x : List Bool) → IsPlacing l clue x → length x ≡ length l
 length-IsPlacing l clue x p = sym (length-map x colour) ∙ sym (length-Extends l (map colour x) p.extends)
 
+-- a full line that passes the test is a placing
 pub test_IsPlacing : (l : List Cell) (clue : List ℕ) (x : List Bool) → is_placing l clue x ≡ true → IsPlacing l clue x
 test_IsPlacing l clue x h = record {
   extends = agrees-Extends l x (first_true (agrees l x) (bytes_eq (runs x) clue) h);
   runs_are = (bytes_eq-Decides (runs x) clue).0 (second_true (agrees l x) (bytes_eq (runs x) clue) h);
 }
 
+-- a placing passes the test
 pub IsPlacing_test : (l : List Cell) (clue : List ℕ) (x : List Bool) → IsPlacing l clue x → is_placing l clue x ≡ true
 IsPlacing_test l clue x p = rw (Extends-agrees l x p.extends, (bytes_eq-Decides (runs x) clue).1 p.runs_are) refl
 
@@ -190,6 +200,7 @@ kept_pass p (x ∷ xs) = kept_pass_one (p x) refl (kept_pass p xs)
     kept_pass_one true e h = (e, h)
     kept_pass_one false e h = h
 
+-- the placings of the definition are all placings
 pub placings_listed : (l : List Cell) (clue : List ℕ) → ListsPlacings l clue (placings l clue)
 placings_listed l clue =
     let p = is_placing l clue in
@@ -207,10 +218,11 @@ placings_listed l clue =
       members = members;
     }
 
+-- if none are listed there is none
 pub no_placing : (l : List Cell) (clue : List ℕ) → ListsPlacings l clue [] → (x : List Bool) → IsPlacing l clue x → ⊥
 no_placing l clue listed x p = true≢false (sym (listed.each (λ _. false) refl x p))
 
--- a line extends another where it does so at each place
+-- a line extends another if it does so at each place
 pub Extends-from_places : (a b : List Cell) → length a ≡ length b
     → ((k : ℕ) → k < length a → CellExtends (get_or a k Unknown) (get_or b k Unknown)) → Extends a b
 Extends-from_places [] [] e h = tt
@@ -218,6 +230,7 @@ Extends-from_places [] (d ∷ b) e h = cc
 Extends-from_places (c ∷ a) [] e h = cc
 Extends-from_places (c ∷ a) (d ∷ b) e h = (h 0 (omega arith), Extends-from_places a b (omega arith) (λ k l. h (suc k) (omega arith)))
 
+-- a line that extends another does so at each place
 pub Extends-at : (a b : List Cell) (k : ℕ) → Extends a b → CellExtends (get_or a k Unknown) (get_or b k Unknown)
 Extends-at [] [] k h = tt
 Extends-at [] (d ∷ b) k h = absurd h
@@ -225,12 +238,15 @@ Extends-at (c ∷ a) [] k h = absurd h
 Extends-at (c ∷ a) (d ∷ b) zero h = h.0
 Extends-at (c ∷ a) (d ∷ b) (suc k) h = Extends-at a b k h.1
 
+-- whether a full line is filled at a place
 abbrev pub filled_at : ℕ → List Bool → Bool
 filled_at k x = get_or x k false
 
+-- whether a full line is blank at a place
 abbrev pub blank_at : ℕ → List Bool → Bool
 blank_at k x = not (get_or x k false)
 
+-- the colour of a full line at a place
 pub get_or-map_colour : (x : List Bool) (k : ℕ) → k < length x → get_or (map colour x) k Unknown ≡ colour (get_or x k false)
 get_or-map_colour [] k h = absurd (omega arith)
 get_or-map_colour (b ∷ x) zero h = refl
@@ -345,7 +361,7 @@ monotone_listed l m clue (y ∷ ys) (z ∷ zs) lp lq h =
     let some : get_or z k false ≡ false = not_true (get_or z k false) (lq.each (blank_at k) all z lq.members.0) in
     rw (not_all_filled m clue qs k lq z lq.members.0 some, all) refl)))
 
--- where more is known no less is deduced
+-- if more is known, no less is deduced
 pub deduced-monotone : (l m : List Cell) (clue : List ℕ) → Extends l m → AtMost (deduced l clue) (deduced m clue)
 deduced-monotone l m clue h =
     monotone_listed l m clue (placings l clue) (placings m clue) (placings_listed l clue) (placings_listed m clue) h
@@ -393,6 +409,7 @@ same_placings l d clue h below =
     (λ t. let p = test_IsPlacing l clue x t in IsPlacing_test d clue x (record { extends = below x p; runs_are = p.runs_are })))
     (full_lines (length l)))
 
+-- deducing what was deduced changes nothing
 pub deduced-settled : (l d : List Cell) (clue : List ℕ) → deduced l clue ≡ Some d → deduced d clue ≡ Some d
 deduced-settled l d clue e =
     let h : Extends l d = rw e at (deduced-above l clue) in
@@ -400,6 +417,7 @@ deduced-settled l d clue e =
     same_placings l d clue h (λ x p. rw e at (deduced-below l clue x p)) in
     rw (sym (length-Extends l d h)) (ap (shared (length l)) same ∙ e)
 
+-- the deduced line is as long as the line
 pub length-deduced : (l d : List Cell) (clue : List ℕ) → Some d ≡ deduced l clue → length d ≡ length l
 length-deduced l d clue e =
     let h : Extends l d = rw (sym e) at (deduced-above l clue) in

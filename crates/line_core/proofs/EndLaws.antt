@@ -31,6 +31,7 @@ found P p m (x ∷ ps) all e = by (p (run_starts x)) refl (found P p m ps all.1)
 starts_of : (l : List Cell) (clue m : List ℕ) → ((x : List Bool) × IsPlacing l clue x × (run_starts x ≡ m)) → AreStarts l clue m
 starts_of l clue m x = (x.0, IsPlacing_test l clue x.0 x.1, x.2)
 
+-- the leftmost starts are those of a placing, and none is greater than the same of any placing
 pub leftmost-least : (l : List Cell) (clue m : List ℕ) → leftmost l clue ≡ Some m
     → AreStarts l clue m × ((other : List ℕ) → AreStarts l clue other → pointwise nat_le m other ≡ true)
 leftmost-least l clue m e =
@@ -40,6 +41,7 @@ leftmost-least l clue m e =
       λ other s. ap (pointwise nat_le m) (sym s.2) ∙ pass_all l clue (pointwise nat_le m) f.0 s.0 (test_IsPlacing l clue s.0 s.1),
     )
 
+-- the rightmost starts are those of a placing, and none is less than the same of any placing
 pub rightmost-greatest : (l : List Cell) (clue m : List ℕ) → rightmost l clue ≡ Some m
     → AreStarts l clue m × ((other : List ℕ) → AreStarts l clue other → pointwise nat_le other m ≡ true)
 rightmost-greatest l clue m e =
@@ -106,6 +108,7 @@ greatest_at l clue x j p =
     let r = greatest_member (IsPlacing l clue) f x (placings l clue) p (placings_listed l clue).members in
     (r.0, r.1, λ y q. leb-true (f y) (f r.0) ((placings_listed l clue).each (λ y. nat_le (f y) (f r.0)) r.3 y q))
 
+-- if there is a placing, there are leftmost starts
 pub leftmost-exists : (l : List Cell) (clue : List ℕ) (x : List Bool) → IsPlacing l clue x → (m : List ℕ) × (leftmost l clue ≡ Some m)
 leftmost-exists l clue x p = (
   all,
@@ -138,6 +141,7 @@ leftmost-exists l clue x p = (
         let here : get_or all j 0 ≡ at j = value j h in
         omega arith
 
+-- if there is a placing, there are rightmost starts
 pub rightmost-exists : (l : List Cell) (clue : List ℕ) (x : List Bool) → IsPlacing l clue x → (m : List ℕ) × (rightmost l clue ≡ Some m)
 rightmost-exists l clue x p = (
   all,

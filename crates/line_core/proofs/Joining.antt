@@ -1,3 +1,4 @@
+-- A line cut at a cell: placings of both parts make one of the whole, and a placing falls into two.
 use Rattle.std.proofs.Common.{◌≡◌, ℕ, zero, suc, ◌+◌, ◌-◌, ◌<◌, ◌≤◌, Bool, true, false, List, [], ◌∷◌, ◌++◌, length, replicate, refl, sym, ap, ◌∙◌, subst, arith, add-zero, zero-add, true≢false, ◌⊎◌, inl, inr, drop, get_or, drop-cons, add-one, drop_of_length-le, length-drop, reverse}
 use Rattle.std.proofs.lemmas.List.{get_or-reverse, length-reverse}
 use Rattle.std.proofs.lemmas.Bool.{cases_lt}
@@ -10,6 +11,7 @@ use Rattle.line_core.specs.Reach.{behind, HasPlacing, IsClosed, MayBe, IsGapAfte
 use Rattle.line_core.proofs.RunLaws.{ArePositive, and_left, and_right, and_both, runs_after, runs_after-zero, runs_after-true, runs_after-false, runs_after-close, runs_after-nil}
 use Rattle.line_core.proofs.Certain.{CanBe}
 
+-- a full line that agrees with a line is as long
 pub length-agrees : (l : List Cell) (x : List Bool) → agrees l x ≡ true → length x ≡ length l
 length-agrees [] [] h = refl
 length-agrees [] (b ∷ x) h = cc
@@ -18,26 +20,31 @@ length-agrees (c ∷ l) (b ∷ x) h = ap suc (length-agrees l x (and_right (allo
 
 -- ---- a list turned round in front of another
 
+-- a list turned round in front of another
 abbrev pub onto : {A : Type 0} → List A → List A → List A
 onto [] after = after
 onto (x ∷ before) after = onto before (x ∷ after)
 
+-- as many elements are behind a place as its number
 pub length_behind : {A : Type 0} (d : A) (xs : List A) (i : ℕ) → length (behind d xs i) ≡ i
 length_behind d xs zero = refl
 length_behind d xs (suc i) = ap suc (length_behind d xs i)
 
+-- what is behind a place, turned round in front of the rest, is the list
 pub onto_behind : {A : Type 0} (d : A) (xs : List A) (i : ℕ) → i ≤ length xs → onto (behind d xs i) (drop i xs) ≡ xs
 onto_behind d xs zero h = refl
 onto_behind d xs (suc i) h =
     let within : i < length xs = omega arith in
     ap (onto (behind d xs i)) (sym (drop-cons xs i d within)) ∙ onto_behind d xs i (omega arith)
 
+-- the elements of the second list stand behind the first
 pub get_or-onto : {A : Type 0} (d : A) (a b : List A) (z : ℕ) → get_or (onto a b) (length a + z) d ≡ get_or b z d
 get_or-onto d [] b z = let e : 0 + z ≡ z = omega arith in ap (λ (k : ℕ). get_or b k d) e
 get_or-onto d (x ∷ a) b z =
     let e : suc (length a) + z ≡ length a + suc z = omega arith in
     ap (λ (k : ℕ). get_or (onto a (x ∷ b)) k d) e ∙ get_or-onto d a (x ∷ b) (suc z)
 
+-- parts that agree make a whole that agrees
 pub agrees_onto : (s t : List Cell) (a b : List Bool) → agrees s a ≡ true → agrees t b ≡ true → agrees (onto s t) (onto a b) ≡ true
 agrees_onto [] t [] b h k = k
 agrees_onto [] t (x ∷ a) b h k = cc
@@ -46,6 +53,7 @@ agrees_onto (c ∷ s) t (x ∷ a) b h k =
     agrees_onto s (c ∷ t) a (x ∷ b) (and_right (allows c x) (agrees s a) h)
     (and_both (allows c x) (agrees t b) (and_left (allows c x) (agrees s a) h) k)
 
+-- and the parts of a whole that agrees do so
 pub onto_agrees : (s t : List Cell) (a b : List Bool) → length s ≡ length a → agrees (onto s t) (onto a b) ≡ true
     → (agrees s a ≡ true) × (agrees t b ≡ true)
 onto_agrees [] t [] b e h = (refl, h)
@@ -55,12 +63,14 @@ onto_agrees (c ∷ s) t (x ∷ a) b e h =
     let r = onto_agrees s (c ∷ t) a (x ∷ b) (omega arith) h in
     (and_both (allows c x) (agrees s a) (and_left (allows c x) (agrees t b) r.1) r.0, and_right (allows c x) (agrees t b) r.1)
 
+-- the first of the elements that are left
 pub drop_head : (xs : List ℕ) (i r : ℕ) (q : List ℕ) → r ∷ q ≡ drop i xs → (get_or xs i 0 ≡ r) × (q ≡ drop (suc i) xs) × (i < length xs)
 drop_head [] zero r q e = cc
 drop_head [] (suc i) r q e = cc
 drop_head (x ∷ xs) zero r q e = (cc, cc, omega arith)
 drop_head (x ∷ xs) (suc i) r q e = let t = drop_head xs i r q e in (t.0, t.1, omega (arith, t.2))
 
+-- a clue that is two parts: the numbers before some place, and those from there on
 pub onto_split : (p q clue : List ℕ) → onto p q ≡ clue
     → (p ≡ behind 0 clue (length p)) × (q ≡ drop (length p) clue) × (length p ≤ length clue)
 onto_split [] q clue e = (refl, e, omega arith)
@@ -85,6 +95,7 @@ runs_after-more m (suc n) y =
     let e : suc m + n ≡ m + suc n = omega arith in
     runs_after-true m (replicate n true ++ y) ∙ runs_after-more (suc m) n y ∙ ap (λ (k : ℕ). runs_after k y) e
 
+-- the runs of a line that begins with a run
 pub runs_run : (n : ℕ) (y : List Bool) → runs (replicate n true ++ y) ≡ runs_after n y
 runs_run n y = sym (runs_after-zero (replicate n true ++ y)) ∙ runs_after-more 0 n y ∙ ap (λ (k : ℕ). runs_after k y) (zero-add n)
 
@@ -102,10 +113,11 @@ runs_onto (false ∷ a) n b =
     by zero = ap (λ (p : List ℕ). onto p (runs b)) (sym (runs_after-false a))
     by (suc n) = ap (λ (p : List ℕ). onto p (runs b)) (sym (runs_after-close n a))
 
+-- the runs of a line that is cut at a blank cell are those of both parts
 pub runs_cut : (a b : List Bool) → runs (onto a (false ∷ b)) ≡ onto (runs a) (runs b)
 runs_cut a b = runs_onto a 0 b ∙ ap (λ (p : List ℕ). onto p (runs b)) (runs_after-zero a)
 
--- a run, where none goes on after it
+-- a run, if it doesn't go on after its cells
 pub runs_closed : (n : ℕ) (b : List Bool) → get_or b 0 false ≡ false → runs_after (suc n) b ≡ suc n ∷ runs b
 runs_closed n [] h = runs_after-nil n
 runs_closed n (true ∷ b) h = cc
@@ -119,6 +131,7 @@ runs_around (false ∷ a) n b h k = runs_cut a (replicate (suc n) true ++ b) ∙
 
 -- ---- parts of a clue
 
+-- each number of a clue is positive
 pub positive_at : (clue : List ℕ) → ArePositive clue → (j : ℕ) → j < length clue → 0 < get_or clue j 0
 positive_at [] p j h = absurd (omega arith)
 positive_at (c ∷ clue) p zero h = p.0
@@ -126,6 +139,7 @@ positive_at (c ∷ clue) p (suc j) h = positive_at clue p.1 j (omega arith)
 
 -- ---- a run on the line
 
+-- cells that may be filled agree with a run
 pub agrees_run : (l : List Cell) (n s : ℕ) (y : List Bool) → AllFrom (MayBe l true) n s → agrees (drop (s + n) l) y ≡ true
     → agrees (drop s l) (replicate n true ++ y) ≡ true
 agrees_run l zero s y o h = let e : s + 0 ≡ s = omega arith in subst (λ (k : ℕ). agrees (drop k l) y ≡ true) e h
@@ -148,6 +162,7 @@ drop_past [] (suc s) b y h = cc
 drop_past (c ∷ l) zero b y h = ((omega arith, and_left (allows c b) (agrees l y) h), and_right (allows c b) (agrees l y) h)
 drop_past (c ∷ l) (suc s) b y h = let r = drop_past l s b y h in ((omega (arith, r.0.0), r.0.1), r.1)
 
+-- and cells that agree with a run may be filled
 pub run_agrees : (l : List Cell) (n s : ℕ) (y : List Bool) → agrees (drop s l) (replicate n true ++ y) ≡ true
     → AllFrom (MayBe l true) n s × (agrees (drop (s + n) l) y ≡ true)
 run_agrees l zero s y h =
@@ -163,18 +178,20 @@ run_agrees l (suc n) s y h =
     by here later zero b = let f : s ≡ s + 0 = omega arith in subst (MayBe l true) f here
     by here later (suc z) b = let f : suc s + z ≡ s + suc z = omega arith in subst (MayBe l true) f (later z (omega arith))
 
+-- the cells of a run are filled
 pub get_or-run : (n : ℕ) (y : List Bool) (z : ℕ) → z < n → get_or (replicate n true ++ y) z false ≡ true
 get_or-run zero y z h = absurd (omega arith)
 get_or-run (suc n) y zero h = refl
 get_or-run (suc n) y (suc z) h = get_or-run n y z (omega arith)
 
--- a line begins with a run of so many cells, or none, that does not go on
+-- a line begins with a run of `count` cells, or none, that does not go on
 pub record Begins (y : List Bool) : Type 0 where
   pub count : ℕ
   pub rest : List Bool
   pub whole : y ≡ replicate count true ++ rest
   pub closed : get_or rest 0 false ≡ false
 
+-- each line begins so
 pub begins : (y : List Bool) → Begins y
 begins [] = record { count = 0; rest = []; whole = refl; closed = refl }
 begins (false ∷ y) = record { count = 0; rest = false ∷ y; whole = refl; closed = refl }
@@ -197,6 +214,7 @@ run_run (suc z) m w =
 
 -- ---- the two final facts, and back
 
+-- a cell that the masks tell blank is blank in a placing
 pub blankable_to : (l : List Cell) (clue : List ℕ) (i : ℕ) → IsBlankable l clue i → CanBe l clue false i
 blankable_to l clue i (j, jl, gap, ahead) =
     let a = gap.1 in
@@ -216,6 +234,7 @@ blankable_to l clue i (j, jl, gap, ahead) =
       ap (λ (k : ℕ). get_or (onto a.0 (false ∷ b.0)) k false) (sym at) ∙ get_or-onto false a.0 (false ∷ b.0) 0,
     )
 
+-- and a cell that is blank in a placing is told so
 pub blankable_from : (l : List Cell) (clue : List ℕ) (i : ℕ) → i < length l → CanBe l clue false i → IsBlankable l clue i
 blankable_from l clue i h (x, agree, is, at) =
     let long : length x ≡ length l = length-agrees l x agree in
@@ -238,6 +257,7 @@ blankable_from l clue i h (x, agree, is, at) =
       (here.0, (b, after, parts.1)),
     )
 
+-- the runs of a line that is cut round a run
 pub runs_about : (a : List Bool) (c : ℕ) (b : List Bool) → 0 < c → get_or a 0 false ≡ false → get_or b 0 false ≡ false
     → runs (onto a (replicate c true ++ b)) ≡ onto (runs a) (c ∷ runs b)
 runs_about a zero b p h k = absurd (omega arith)
@@ -247,6 +267,7 @@ pub length_run : (z : ℕ) (a : List Bool) → length (replicate z true ++ a) �
 length_run zero a = omega arith
 length_run (suc z) a = omega (arith, length_run z a)
 
+-- a cell that the masks tell filled is filled in a placing
 pub fillable_to : (l : List Cell) (clue : List ℕ) (i : ℕ) → ArePositive clue → IsFillable l clue i → CanBe l clue true i
 fillable_to l clue i pos (j, jl, (z, zb, w)) =
     let c = get_or clue j 0 in
@@ -274,6 +295,7 @@ fillable_to l clue i pos (j, jl, (z, zb, w)) =
           ∙ get_or-run c b.0 (i - s) (omega arith),
     )
 
+-- a line whose first cell is filled begins with a run
 pub begins_some : (y : List Bool) (b : Begins y) → get_or y 0 false ≡ true → 0 < b.count
 begins_some y b h = by b.count b.whole
   where
@@ -281,6 +303,7 @@ begins_some y b h = by b.count b.whole
     by zero e = absurd (true≢false (sym h ∙ ap (λ (t : List Bool). get_or t 0 false) e ∙ b.closed))
     by (suc n) e = omega arith
 
+-- and a cell that is filled in a placing is told so
 pub fillable_from : (l : List Cell) (clue : List ℕ) (i : ℕ) → i < length l → CanBe l clue true i → IsFillable l clue i
 fillable_from l clue i h (x, agree, is, at) =
     let long : length x ≡ length l = length-agrees l x agree in
@@ -339,6 +362,7 @@ closed_first c cells cs (true ∷ y, agree, is, closed) = cc
 closed_first c cells cs (false ∷ y, agree, is, closed) =
     (and_left (allows c false) (agrees cells y) agree, (y, and_right (allows c false) (agrees cells y) agree, is))
 
+-- a placing goes on with a blank cell before it
 pub first_closed : (c : Cell) (cells : List Cell) (cs : List ℕ) → allows c false ≡ true → HasPlacing cells cs → IsClosed (c ∷ cells) cs
 first_closed c cells cs a (y, agree, is) = (false ∷ y, and_both (allows c false) (agrees cells y) a agree, is, refl)
 
@@ -346,6 +370,7 @@ pub none_closed : (cs : List ℕ) → length cs ≡ 0 → IsClosed [] cs
 none_closed [] h = ([], refl, refl, refl)
 none_closed (c ∷ cs) h = absurd (omega arith)
 
+-- no run touches a place from behind: it is the first place, or one after a gap
 pub closed_behind_to : (l : List Cell) (runs : List ℕ) (s : ℕ) → s ≤ length l → IsClosed (behind Unknown l s) runs
     → ((s ≡ 0) × (length runs ≡ 0)) ⊎ ((1 ≤ s) × IsGapAfter l runs (s - 1))
 closed_behind_to l runs zero sl h = inl (refl, closed_none runs h)
@@ -355,6 +380,7 @@ closed_behind_to l runs (suc s) sl h =
     let gap : IsGapAfter l runs s = ((omega arith, first.0), first.1) in
     inr (omega arith, subst (IsGapAfter l runs) e gap)
 
+-- and back
 pub closed_behind_from : (l : List Cell) (runs : List ℕ) (s : ℕ) → ((s ≡ 0) × (length runs ≡ 0)) ⊎ ((1 ≤ s) × IsGapAfter l runs (s - 1))
     → IsClosed (behind Unknown l s) runs
 closed_behind_from l runs zero (inl h) = none_closed runs h.1
@@ -391,6 +417,7 @@ turned_gap_to l clue j i jl il g =
           (subst (λ (t : List Cell). HasPlacing t (behind 0 (reverse clue) (length clue - j))) cells g.1),
     )
 
+-- and a gap ahead is a gap of the turned line
 pub turned_gap_from : (l : List Cell) (clue : List ℕ) (j i : ℕ) → j ≤ length clue → i < length l → IsGapAhead l clue j i
     → IsGap (reverse l) (reverse clue) (length clue - j) (length l - 1 - i)
 turned_gap_from l clue j i jl il g =
@@ -422,6 +449,7 @@ closed_ahead_to l clue j p jl pl h = by (cases_lt p (length l))
         closed_first (get_or l p Unknown) (drop (suc p) l) (drop j clue) (subst (λ (t : List Cell). IsClosed t (drop j clue)) split h) in
         inr ((within, first.0), subst (λ (k : ℕ). HasPlacing (drop k l) (drop j clue)) (sym (add-one p)) first.1)
 
+-- and back
 pub closed_ahead_from : (l : List Cell) (clue : List ℕ) (j p : ℕ) → ((p ≡ length l) × (j ≡ length clue)) ⊎ IsGapAhead l clue j p
     → IsClosed (drop p l) (drop j clue)
 closed_ahead_from l clue j p (inl h) =

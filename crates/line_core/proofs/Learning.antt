@@ -1,3 +1,4 @@
+-- Going through all full lines one by one gives what the placings among them share.
 use Rattle.std.proofs.Common.{◌≡◌, ℕ, zero, suc, ◌+◌, ◌-◌, ◌<◌, Bool, true, false, not, cond, List, [], ◌∷◌, ◌++◌, length, get_or, map, filter, fold, Option, Some, None, refl, sym, ap, ◌∙◌, append_assoc, append-nil, arith, length-append, ext_get_or, take, set, add-one, ◌&&◌, map-id, zero-add, bytes_eq}
 use Rattle.std.specs.List.{list_all, range_with_len, AllByRecursion}
 use Rattle.std.proofs.lemmas.List.Elements.{filter-append}
@@ -13,7 +14,7 @@ use Rattle.line_core.specs.Placings.{full_lines, is_placing, placings}
 use Rattle.line_core.specs.Deduction.{shared, shared_at, deduced}
 use Rattle.line_core.specs.Listing.{common, common_all, learn, placings_beginning}
 
--- the placings that begin with some cells, n cells being left
+-- the placings that begin with some cells, if `n` cells are left
 abbrev beginning : ℕ → List Bool → List Cell → List ℕ → List (List Bool)
 beginning n first line clue = filter (is_placing line clue) (map (λ rest. first ++ rest) (full_lines n))
 
@@ -40,7 +41,7 @@ beginning-suc n first line clue =
     ∙ filter-append (is_placing line clue) (map (λ rest. (first ++ true ∷ []) ++ rest) lines)
     (map (λ rest. (first ++ false ∷ []) ++ rest) lines)
 
--- where a cell is left, a placing goes on with it filled or blank
+-- if a cell is left, a placing goes on with it filled or blank
 pub placings_beginning-split : (first : List Bool) (line : List Cell) (clue : List ℕ) → length first < length line
     → placings_beginning first line clue
     ≡ placings_beginning (first ++ true ∷ []) line clue ++ placings_beginning (first ++ false ∷ []) line clue
@@ -51,7 +52,7 @@ placings_beginning-split first line clue h =
     let ef : length line - length (first ++ false ∷ []) ≡ n = omega (arith, length-append first (false ∷ [])) in
     rw (e, et, ef) (beginning-suc n first line clue)
 
--- and where none is left, the cells are the placing, or there is none
+-- and if none is left, the cells are the placing, or there is none
 pub placings_beginning-full : (full : List Bool) (line : List Cell) (clue : List ℕ) → length full ≡ length line
     → placings_beginning full line clue ≡ cond (is_placing line clue full) (full ∷ []) []
 placings_beginning-full full line clue h =
@@ -73,7 +74,7 @@ take-set_same zero ys b = refl
 take-set_same (suc n) [] b = refl
 take-set_same (suc n) (y ∷ ys) b = λ i. y ∷ take-set_same n ys b i
 
--- where the cells below n + 1 are those with one written at n, the cells below n are the same
+-- if the cells below n + 1 are those with one written at n, the cells below n are the same
 pub kept_below : (n : ℕ) (xs ys : List Bool) (b : Bool) → n < length ys → take (n + 1) xs ≡ take (n + 1) (set ys n b)
     → take n xs ≡ take n ys
 kept_below n xs ys b h e =
@@ -91,10 +92,12 @@ both_colours first line clue x y z h filled blank =
     ∙ sym (fold-append learn x (placings_beginning (first ++ true ∷ []) line clue) (placings_beginning (first ++ false ∷ []) line clue))
     ∙ ap (fold learn x) (sym (placings_beginning-split first line clue h))
 
+-- a full line that agrees, and has the clue's runs, passes the test
 pub is_placing-holds : (line : List Cell) (clue : List ℕ) (full : List Bool) → agrees line full ≡ true → runs full ≡ clue
     → is_placing line clue full ≡ true
 is_placing-holds line clue full a r = rw (a, (bytes_eq-Decides (runs full) clue).1 r) refl
 
+-- one that doesn't agree fails it
 pub is_placing-agrees : (line : List Cell) (clue : List ℕ) (full : List Bool) → agrees line full ≡ false → is_placing line clue full ≡ false
 is_placing-agrees line clue full a = rw a refl
 
@@ -106,6 +109,7 @@ false_by_second : (a b : Bool) → b ≡ false → (a && b) ≡ false
 false_by_second true b h = h
 false_by_second false b h = refl
 
+-- and so does one that hasn't the clue's runs
 pub is_placing-runs : (line : List Cell) (clue : List ℕ) (full : List Bool) → (runs full ≡ clue → ⊥) → is_placing line clue full ≡ false
 is_placing-runs line clue full r =
     false_by_second (agrees line full) (bytes_eq (runs full) clue)

@@ -1,3 +1,4 @@
+-- Lemmas on one line: its placings, what is deduced of it, and the masks that tell it.
 pub mod DeductionLaws
 pub mod RunLaws
 pub mod Reaching

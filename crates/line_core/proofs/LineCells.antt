@@ -1,3 +1,4 @@
+-- The cells of a line that is kept as two masks.
 use Rattle.std.proofs.Common.{◌≡◌, ℕ, ◌+◌, ◌^◌, ◌<◌, ◌≤◌, ◌≢◌, Bool, true, false, List, length, get_or, set, refl, sym, ap, ◌∙◌, subst, arith, true≢false, inl, inr, rules, zero-add, get_or-set_same, get_or-set_other, ◌⊎◌, ext_get_or, length-set, replicate}
 use Rattle.std.proofs.lemmas.Bool.{cases_lt}
 use Rattle.std.proofs.lemmas.List.{length-replicate, get_or-replicate}
@@ -14,9 +15,11 @@ use Rattle.grid_core.specs.Blocks.{cell_of}
 use Rattle.line_core.specs.Lines.{line_cells, is_blank}
 use Rattle.line_core.specs.Reach.{MayBe, AreLengths}
 
+-- the cell at a place, by the masks
 pub cell_at : (len filled blank i : ℕ) → i < len → get_or (line_cells len filled blank) i Unknown ≡ cell_of (has filled i) (has blank i)
 cell_at len filled blank i h = get_or-map-range_with_len (λ (k : ℕ). cell_of (has filled k) (has blank k)) 0 len i i Unknown h (zero-add i)
 
+-- a line has as many cells as it says
 pub length_line : (len filled blank : ℕ) → length (line_cells len filled blank) ≡ len
 length_line len filled blank = length-map-range_with_len (λ (k : ℕ). cell_of (has filled k) (has blank k)) 0 len
 
@@ -43,6 +46,7 @@ open_from f false n e = refl
 open_from true true n e = absurd (n refl refl)
 open_from false true n e = absurd (true≢false (sym e))
 
+-- the cells that may be blank are those that the mask of filled ones lacks
 pub free_is : (len filled blank m : ℕ) → IsMaskOf (λ i. (i < len) × (has filled i ≡ false)) m
     → IsMaskOf (MayBe (line_cells len filled blank) false) m
 free_is len filled blank m p =
@@ -56,6 +60,7 @@ free_is len filled blank m p =
     let l : i < len = omega arith in
     (l, free_from (has filled i) (has blank i) (subst (λ (c : Cell). allows c false ≡ true) (cell_at len filled blank i l) a.1)))
 
+-- the cells that may be filled are those that the mask of blank ones lacks
 pub open_is : (len filled blank m : ℕ) → ((i : ℕ) → Has filled i → Has blank i → ⊥) → IsMaskOf (λ i. (i < len) × (has blank i ≡ false)) m
     → IsMaskOf (MayBe (line_cells len filled blank) true) m
 open_is len filled blank m apart p =
@@ -105,6 +110,7 @@ same_or_other i p =
       | inr high ↦ elim (cases_lt p i) [ inl above ↦ inr (λ e. absurd (omega arith)) | inr low ↦ inl (omega arith) ]
     ]
 
+-- what a mask has at a place, told from both sides
 pub has_by : (m i : ℕ) (b : Bool) → (Has m i → b ≡ true) → (b ≡ true → Has m i) → has m i ≡ b
 has_by m i true to from = has_true m i (from refl)
 has_by m i false to from = by (has m i) refl
@@ -113,18 +119,21 @@ has_by m i false to from = by (has m i) refl
     by true e = absurd (true≢false (sym (to (true_has m i e))))
     by false e = refl
 
+-- a mask has the changed place exactly if it is wanted
 pub marked_at : (m n p : ℕ) (wanted : Bool) → IsMaskOf (IsMarked (Has m) p wanted) n → has n p ≡ wanted
 marked_at m n p wanted h = has_by n p wanted to (λ w. h.from p (inr (refl, w)))
   where
     to : Has n p → wanted ≡ true
     to x = elim (h.to p x) [ inl y ↦ absurd (y.1 refl) | inr y ↦ y.1 ]
 
+-- and it has each other place as before
 pub marked_elsewhere : (m n p i : ℕ) (wanted : Bool) → IsMaskOf (IsMarked (Has m) p wanted) n → i ≢ p → has n i ≡ has m i
 marked_elsewhere m n p i wanted h ne = has_by n i (has m i) to (λ w. h.from i (inl (true_has m i w, ne)))
   where
     to : Has n i → has m i ≡ true
     to x = elim (h.to i x) [ inl y ↦ has_true m i y.0 | inr y ↦ absurd (ne y.0) ]
 
+-- a cell is told by whether it is filled and whether it is blank
 pub cell_itself : (c : Cell) → cell_of (is_filled c) (is_blank c) ≡ c
 cell_itself Unknown = refl
 cell_itself Filled = refl
@@ -193,12 +202,13 @@ blank_unless_filled Unknown e = refl
 blank_unless_filled Filled e = refl
 blank_unless_filled Blank e = absurd (true≢false (sym e))
 
+-- a known cell that isn't filled is blank
 pub blank_if_not_filled : (c : Cell) → is_known c ≡ true → is_filled c ≡ false → is_blank c ≡ true
 blank_if_not_filled Unknown k e = absurd (true≢false (sym k))
 blank_if_not_filled Filled k e = absurd (true≢false e)
 blank_if_not_filled Blank k e = refl
 
--- nothing is known where both masks are empty
+-- nothing is known if both masks are empty
 pub cells-none : (len : ℕ) → line_cells len 0 0 ≡ replicate len Unknown
 cells-none len =
     ext_get_or Unknown (line_cells len 0 0) (replicate len Unknown) (length_line len 0 0 ∙ sym (length-replicate len Unknown)) (λ k l.
@@ -220,6 +230,7 @@ cells-resized width len f b wf wb nf nb fits ef eb pf pb =
     same w m n i l e p =
         has_by n i (has w i) (λ h. has_true w i (p.to i h).1) (λ t. p.from i (l, true_has w i t)) ∙ ap (λ (z : ℕ). has z i) e
 
+-- masks of another width stay apart
 pub apart-resized : (width f b wf wb nf nb : ℕ) → wf ≡ f → wb ≡ b → IsMaskOf (λ i. (i < width) × Has wf i) nf
     → IsMaskOf (λ i. (i < width) × Has wb i) nb
     → ((i : ℕ) → Has f i → Has b i → ⊥) → (i : ℕ) → Has nf i → Has nb i → ⊥

@@ -222,6 +222,7 @@ lone_unfillable l clue starts m pos one s none e = record {
       absurd (omega (arith, bit_at-zero f.s));
 }
 
+-- no start, no blank cell in a placing
 pub lone_unblankable : (l : List Cell) (clue : List ℕ) (starts m : ℕ) → length clue ≡ 1 → IsMaskOf (IsLoneStart l (get_or clue 0 0)) starts
     → starts ≡ 0 → m ≡ 0 → IsMaskOf (IsBlankable l clue) m
 lone_unblankable l clue starts m one s none e = record {

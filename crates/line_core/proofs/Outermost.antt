@@ -26,7 +26,7 @@ use Rattle.line_core.proofs.Painting.{IsLaid, Witness, laid, placing_of, least_l
 
 -- ---- the ends of a run in whole placings, and the starts of placings
 
--- a run of a placing ends where the masks say
+-- a run of a placing ends at one of its ends in whole placings
 pub whole_of : (l : List Cell) (clue : List ℕ) (x : List Bool) (k e : ℕ) → ArePositive clue → agrees l x ≡ true → runs x ≡ clue
     → k < length clue
     → e + 1 ≡ get_or (starts_from 0 false x) k 0 + get_or clue k 0 → IsWholeEnd l clue k e
@@ -132,6 +132,7 @@ every : (P Q : List Bool → Type 0) (ps : List (List Bool)) → ((x : List Bool
 every P Q [] f h = tt
 every P Q (x ∷ ps) f h = (f x h.0, every P Q ps f h.1)
 
+-- the starts of a placing lay the clue
 pub laid_placing : (l : List Cell) (clue : List ℕ) (x : List Bool) → IsPlacing l clue x → IsLaid l clue (run_starts x)
 laid_placing l clue x p = subst (IsLaid l clue) (sym (run_starts-from x)) (laid l clue x (Extends-agrees l x p.extends) p.runs_are)
 
@@ -142,6 +143,7 @@ all_pass l clue p h =
     list_all-map p run_starts (placings l clue)
     ∙ (placings_listed l clue).every (λ x. p (run_starts x)) (λ x q. h (run_starts x) (laid_placing l clue x q))
 
+-- and what passes for all passes for each
 pub pass_all : (l : List Cell) (clue : List ℕ) (p : List ℕ → Bool) → list_all p (all_starts l clue) ≡ true → (x : List Bool)
     → IsPlacing l clue x → p (run_starts x) ≡ true
 pass_all l clue p h x q = (placings_listed l clue).each (λ x. p (run_starts x)) (sym (list_all-map p run_starts (placings l clue)) ∙ h) x q
@@ -155,6 +157,7 @@ found_is l clue m p x q at pass only =
     let no : not (p (run_starts x)) ≡ true = (placings_listed l clue).each (λ y. not (p (run_starts y))) e x q in
     true≢false (sym no ∙ ap (λ (z : List ℕ). not (p z)) at ∙ ap not pass)))
 
+-- starts that lay the clue are those of a placing
 pub placed : (l : List Cell) (clue m : List ℕ) → ArePositive clue → IsLaid l clue m
     → (x : List Bool) × IsPlacing l clue x × (run_starts x ≡ m)
 placed l clue m pos d =
@@ -280,6 +283,7 @@ no_run_to l clue gap ahead m g a p h =
     let can = blankable_to l clue 0 (0, omega arith, b.0, b.1) in
     (can.0, can.1, can.2)
 
+-- and a clue with no run that has a placing leaves it blank
 pub no_run_from : (l : List Cell) (clue : List ℕ) (gap ahead m : ℕ) → length clue ≡ 0 → 0 < length l → IsMaskOf (IsGap l clue 0) gap
     → IsMaskOf (IsGapAhead l clue 0) ahead
     → IsMaskOf (λ i. Has gap i × Has ahead i) m → HasPlacing l clue → Has m 0
@@ -296,10 +300,12 @@ no_run_from l clue gap ahead m none some g a q p = by (get_or p.0 0 false) refl
 
 -- ---- what the two searches answer
 
+-- what follows of either answer
 pub match_more : (b : Bool) (P Q R S : Type 0) → (P → R) → (Q → S) → MatchBool b P Q → MatchBool b R S
 match_more true P Q R S f g h = f h
 match_more false P Q R S f g h = g h
 
+-- the starts of a search are the outermost ones, or there are none
 pub answered : (side : Side) (l : List Cell) (clue list : List ℕ) (b : Bool) → ArePositive clue → length clue ≤ length list
     → MatchBool b (HasPlacing l clue × ((j : ℕ) → j < length clue → IsOuterStart side l clue j (get_or list j 0))) (HasPlacing l clue → ⊥)
     → MatchBool b (outermost side l clue ≡ Some (take (length clue) list)) (outermost side l clue ≡ None)
@@ -308,6 +314,7 @@ answered side l clue list true pos long h =
     (λ j k. subst (IsOuterStart side l clue j) (sym (get_or-take (length clue) list j 0 k)) (h.1 j k))
 answered side l clue list false pos long h = outermost_none side l clue h
 
+-- if a run ends somewhere in a whole placing, there is a placing
 pub some_placing : (l : List Cell) (clue : List ℕ) (j e : ℕ) → ArePositive clue → j < length clue → IsWholeEnd l clue j e
     → HasPlacing l clue
 some_placing l clue j e pos h w =

@@ -1,4 +1,4 @@
--- Placings on a line of which nothing is known: the runs packed to the left, and from some run on shifted to the right.
+-- Placings on a line of which nothing is known: the runs packed to the left, and from one on moved right.
 use Rattle.std.proofs.Common.{◌≡◌, ℕ, zero, suc, ◌+◌, ◌-◌, ◌*◌, ◌<◌, ◌≤◌, ◌≢◌, Bool, true, false, cond, List, length, replicate, map, nat_le, nat_lt, refl, sym, ap, ◌∙◌, subst, arith, add-one, true≢false, ◌⊎◌, inl, inr, get_or, ext_get_or}
 use Rattle.std.specs.List.{range_with_len}
 use Rattle.std.proofs.lemmas.Bool.{cases_lt, leb-true, le-leb, ltb-true, lt-ltb}
@@ -25,6 +25,7 @@ use Rattle.line_core.proofs.Certain.{CanBe}
 
 -- ---- the least starts
 
+-- a run starts one blank cell after the run before it
 pub start_next : (clue : List ℕ) (j : ℕ) → j < length clue → least_start clue (suc j) ≡ least_start clue j + get_or clue j 0 + 1
 start_next clue j h =
     let more : least_start clue (j + 1) ≡ least_start clue j + (get_or clue j 0 + 1) = sum_by_more (λ (n : ℕ). n + 1) clue j 0 h in
@@ -33,6 +34,7 @@ start_next clue j h =
 pub start_last : (clue : List ℕ) → least_start clue (length clue) ≡ needed clue
 start_last clue = ap needed (take_all (length clue) clue (omega arith))
 
+-- no run starts after all that the runs need
 pub start_within : (clue : List ℕ) (j : ℕ) → least_start clue j ≤ needed clue
 start_within clue j = sum_by-take-le (λ (n : ℕ). n + 1) clue j
 
@@ -45,7 +47,7 @@ start_few clue (suc j) are h =
     let next = start_next clue j (omega arith) in
     omega arith
 
--- ---- where the runs of any placing start
+-- ---- at which places the runs of any placing start
 
 pub at_least : (l : List Cell) (clue ss : List ℕ) (j : ℕ) → IsLaid l clue ss → j < length clue → least_start clue j ≤ get_or ss j 0
 at_least l clue ss zero d h = omega arith
@@ -124,12 +126,13 @@ fillable_within l clue i pos h = let x = fillable_to l clue i pos h in filled_wi
 abbrev pub AnyColour : List Cell → Type 0
 AnyColour l = (v : Bool) (i : ℕ) → i < length l → MayBe l v i
 
+-- a line of which nothing is known has any colour at each cell
 pub unknown_any : (len : ℕ) → AnyColour (replicate len Unknown)
 unknown_any len v i h =
     let e = length-replicate len Unknown in
     (h, subst (λ (c : Cell). allows c v ≡ true) (sym (get_or-replicate len i Unknown Unknown (omega arith))) refl)
 
--- the placing whose runs start so many cells after their least starts
+-- a placing whose runs start after their least starts by what `shift` tells
 pub record Shifted (l : List Cell) (clue : List ℕ) (shift : ℕ → ℕ) : Type 0 where
   pub full : List Bool
   pub agree : agrees l full ≡ true
@@ -364,7 +367,7 @@ overlaps_fillable l clue slack certain any_cell pos e still c = mask_same (IsOve
 
 -- ---- the overlaps, run by run
 
--- one more run's overlap: so many cells from its greatest start on
+-- one more run's overlap: the cells from its greatest start on that it fills from its least start
 pub overlap_more : (clue : List ℕ) (w slack j start old some moved new : ℕ) → needed clue + slack ≤ w + 1 → j < length clue
     → slack < get_or clue j 0 → start ≡ least_start clue j + slack
     → IsMaskOf (IsOverlapBefore j clue slack) old → IsMaskOf (λ i. i < get_or clue j 0 - slack) some
@@ -424,16 +427,19 @@ none_is P m e none =
       from = λ i h. absurd (none i h);
     }
 
+-- then no cell can be filled
 pub unfit_fillable : (l : List Cell) (clue : List ℕ) (m : ℕ) → ArePositive clue → length l + 1 < needed clue → m ≡ 0
     → IsMaskOf (IsFillable l clue) m
 unfit_fillable l clue m pos long e = none_is (IsFillable l clue) m e (λ i h. unfit l clue true i pos long (fillable_to l clue i pos h))
 
+-- nor blank
 pub unfit_blankable : (l : List Cell) (clue : List ℕ) (m : ℕ) → ArePositive clue → length l + 1 < needed clue → m ≡ 0
     → IsMaskOf (IsBlankable l clue) m
 unfit_blankable l clue m pos long e = none_is (IsBlankable l clue) m e (λ i h. unfit l clue false i pos long (blankable_to l clue i h))
 
 -- ---- a line of which nothing is known
 
+-- if the masks of both colours are the same, nothing is known of the line
 pub unknown_to : (l : List Cell) (len free room known : ℕ) → len ≡ length l → IsMaskOf (MayBe l false) free → IsMaskOf (MayBe l true) room
     → IsMaskOf (λ i. has free i ≢ has room i) known → known ≡ 0 → l ≡ replicate len Unknown
 unknown_to l len free room known long f r p e =
@@ -461,6 +467,7 @@ unknown_to l len free room known long f r p e =
         subst (λ (c : Cell). allows c true ≡ true) at (r.to i (true_has room i (sym same ∙ in_free))).1 in
         true≢false (sym no)))
 
+-- and if nothing is known, they are the same
 pub unknown_from : (l : List Cell) (len free room known : ℕ) → IsMaskOf (MayBe l false) free → IsMaskOf (MayBe l true) room
     → IsMaskOf (λ i. has free i ≢ has room i) known → l ≡ replicate len Unknown → known ≡ 0
 unknown_from l len free room known f r p e =

@@ -11,7 +11,8 @@ use Rattle.line_core.proofs.RunLaws.{ArePositive, and_left, and_right, and_both}
 use Rattle.line_core.proofs.Joining.{length-agrees, runs_run, runs_closed}
 use Rattle.line_core.proofs.RunStarts.{starts_from, length-run_starts, run_of, filled_in_run, runs_apart, covered}
 
--- starts that lay a clue's runs on a line: each on cells that may be filled, all apart, and every other cell may be blank
+-- starts that lay a clue's runs on a line: each on cells that may be filled, all apart,
+-- and every other cell may be blank
 pub record IsLaid (l : List Cell) (clue ss : List ℕ) : Type 0 where
   pub count : length ss ≡ length clue
   pub windows : (j : ℕ) → j < length clue → AllFrom (MayBe l true) (get_or clue j 0) (get_or ss j 0)
@@ -52,13 +53,13 @@ laid l clue x agree is = record {
 
 -- ---- and back: a line painted by starts
 
--- the cells from place p on of the line of so many cells with runs at the starts
+-- the cells from place `p` on, of the line of `n` cells with runs at the starts
 abbrev pub painted : ℕ → ℕ → List ℕ → List ℕ → List Bool
 painted n p [] ss = replicate (n - p) false ++ []
 painted n p (c ∷ clue) [] = []
 painted n p (c ∷ clue) (s ∷ ss) = replicate (s - p) false ++ (replicate c true ++ painted n (s + c) clue ss)
 
--- the same as `IsLaid`, run by run, for the cells from place p on and at least so many blank ones first
+-- the same as `IsLaid`, run by run, for the cells from place `p` on, with at least `g` blank ones first
 abbrev pub Laid : List Cell → ℕ → ℕ → List ℕ → List ℕ → Type 0
 Laid l g p [] [] = AllFrom (MayBe l false) (length l - p) p
 Laid l g p [] (s ∷ ss) = ⊥

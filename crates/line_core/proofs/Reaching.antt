@@ -1,3 +1,4 @@
+-- How far the runs reach: gaps and ends as floods tell them, and as placings of the cells before do.
 use Rattle.std.proofs.Common.{◌≡◌, ℕ, zero, suc, ◌+◌, ◌-◌, ◌<◌, ◌≤◌, Bool, true, false, List, [], ◌∷◌, ◌++◌, length, replicate, refl, sym, ap, ◌∙◌, subst, arith, ◌⊎◌, inl, inr, get_or}
 use Rattle.grid_core.specs.declared.cells.Cell.{Cell}
 use Rattle.grid_core.specs.declared.cells.Cell.TheVariants.{Unknown}
@@ -12,7 +13,7 @@ use Rattle.line_core.proofs.Joining.{begins, begins_some, runs_about, first_clos
 blank_before : (c : Cell) (cells : List Cell) (cs : List ℕ) → allows c false ≡ true → HasPlacing cells cs → HasPlacing (c ∷ cells) cs
 blank_before c cells cs a p = let q = first_closed c cells cs a p in (q.0, q.1, q.2)
 
--- the nearest cell is blank in a placing, or in a run that goes on over so many cells
+-- a placing of the cells begins with a run
 pub record BeginsWithRun (cells : List Cell) (cs : List ℕ) : Type 0 where
   pub count : ℕ
   pub rest : List Bool
@@ -46,6 +47,7 @@ first_gap_to l (suc i) (inr f) =
     let before = first_gap_to l i f.1 in
     (f.0, blank_before (get_or l i Unknown) (behind Unknown l i) [] before.0.1 before.1)
 
+-- and back
 pub first_gap_from : (l : List Cell) (i : ℕ) → IsGapAfter l [] i → IsFlooded (λ k. (k ≡ 0) × MayBe l false k) (MayBe l false) i
 first_gap_from l zero g = (refl, g.0)
 first_gap_from l (suc i) g = elim (first_cell (get_or l i Unknown) (behind Unknown l i) [] g.1) [
@@ -53,7 +55,7 @@ first_gap_from l (suc i) g = elim (first_cell (get_or l i Unknown) (behind Unkno
   | inr r ↦ (let bad = r.runs_are in cc)
 ]
 
--- a run goes back from a place over so many cells that may be filled, and other cells are before it
+-- a run goes back from place `p` over `m` cells that may be filled, and `rest` is before it
 pub record OpenRun (l : List Cell) (m p : ℕ) (rest : List Bool) : Type 0 where
   pub enough : m ≤ p
   pub cells : AllFrom (λ k. allows (get_or l k Unknown) true ≡ true) m (p - m)
@@ -111,7 +113,7 @@ run_open l (suc m) (suc p) rest r =
     and_both (allows (get_or l p Unknown) true) (agrees (behind Unknown l p) (replicate m true ++ rest)) nearest
     (run_open l m p rest others)
 
--- a run of so many cells that ends here is a placing of the cells up to here that begins with it
+-- a run of `n` cells that goes back from the next cell, with a blank one or none before it, ends here
 end_from_run : (l : List Cell) (cs : List ℕ) (n i : ℕ) (rest : List Bool) → i < length l → OpenRun l n (suc i) rest → runs rest ≡ cs
     → get_or rest 0 false ≡ false → IsEndAfter l cs n i
 end_from_run l cs n i rest within o is closed =
@@ -141,6 +143,7 @@ run_from_end l cs n i some x =
 abbrev pub After : List Cell → ℕ → List ℕ → ℕ → Type 0
 After l n cs k = MayBe l false k × (1 ≤ k) × IsEndAfter l cs n (k - 1)
 
+-- a cell that such a flood reaches is a gap after the run
 pub gap_after_to : (l : List Cell) (cs : List ℕ) (n i : ℕ) → 0 < n → IsFlooded (After l n cs) (MayBe l false) i → IsGapAfter l (n ∷ cs) i
 gap_after_to l cs n zero some f = let bad : 1 ≤ 0 = f.1 in absurd (omega arith)
 gap_after_to l cs n (suc i) some (inl f) =
@@ -150,6 +153,7 @@ gap_after_to l cs n (suc i) some (inr f) =
     let before = gap_after_to l cs n i some f.1 in
     (f.0, blank_before (get_or l i Unknown) (behind Unknown l i) (n ∷ cs) before.0.1 before.1)
 
+-- and back
 pub gap_after_from : (l : List Cell) (cs : List ℕ) (n i : ℕ) → IsGapAfter l (n ∷ cs) i → IsFlooded (After l n cs) (MayBe l false) i
 gap_after_from l cs n zero (may, ([], agree, is)) = cc
 gap_after_from l cs n zero (may, (b ∷ y, agree, is)) = cc

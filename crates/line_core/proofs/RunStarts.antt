@@ -1,4 +1,4 @@
--- Where the runs of a full line start.
+-- At which places the runs of a full line start.
 use Rattle.std.proofs.Common.{◌≡◌, ℕ, zero, suc, ◌+◌, ◌-◌, ◌<◌, ◌≤◌, Bool, true, false, not, cond, ◌&&◌, List, [], ◌∷◌, ◌++◌, length, replicate, filter, refl, sym, ap, ◌∙◌, subst, arith, add-zero, zero-add, add-one, true≢false, inl, inr, drop, get_or, drop-cons, append_assoc}
 use Rattle.std.proofs.lemmas.Bool.{cases_lt}
 use Rattle.std.specs.List.{range_with_len}
@@ -8,7 +8,7 @@ use Rattle.line_core.specs.Reach.{behind}
 use Rattle.line_core.proofs.RunLaws.{runs_after, runs_after-zero, runs_after-true, runs_after-false, runs_after-close, runs_after-nil}
 use Rattle.line_core.proofs.Joining.{onto, length_behind, onto_behind, get_or-onto, onto_split, drop_head, runs_cut, runs_about, get_or-run, begins, begins_some}
 
--- the places at which runs start, from place p on; after: the cell before is filled
+-- the places at which runs start, from place `p` on; `after` tells whether the cell before is filled
 abbrev pub starts_from : ℕ → Bool → List Bool → List ℕ
 starts_from p after [] = []
 starts_from p false (true ∷ cells) = p ∷ starts_from (suc p) true cells
@@ -49,6 +49,7 @@ starts-filter whole (b ∷ rest) p after h =
     next zero = let e : suc p + 0 ≡ p + 1 = omega arith in ap (starts_run whole) e ∙ h 1
     next (suc k) = let e : suc p + suc k ≡ p + suc (suc k) = omega arith in ap (starts_run whole) e ∙ h (suc (suc k))
 
+-- the starts of the definition, from the first place on
 pub run_starts-from : (x : List Bool) → run_starts x ≡ starts_from 0 false x
 run_starts-from x = starts-filter x x 0 false (λ k. ap (starts_run x) (zero-add k) ∙ by k)
   where
@@ -91,6 +92,7 @@ mutual
   length-open p n (true ∷ x) = length-open (suc p) (suc n) x ∙ ap length (sym (runs_after-true (suc n) x))
   length-open p n (false ∷ x) = ap suc (length-starts (suc p) x) ∙ ap length (sym (runs_after-close n x))
 
+-- there are as many starts as runs
 pub length-run_starts : (x : List Bool) → length (starts_from 0 false x) ≡ length (runs x)
 length-run_starts x = length-starts 0 x ∙ ap length (runs_after-zero x)
 
@@ -335,6 +337,7 @@ stretch_of x (suc i) h = by (get_or x i false) refl (stretch_of x i)
           free = r.free;
         }
 
+-- each filled cell is in one
 pub covered : (x : List Bool) (clue : List ℕ) (i : ℕ) → runs x ≡ clue → get_or x i false ≡ true → Covered x clue i
 covered x clue i is h =
     let t = stretch_of x i h in

@@ -30,7 +30,7 @@ either_first f b m p = by (has f 0) (has b 0) refl refl
           | inr x ↦ absurd (true≢false (sym (has_true b 0 x) ∙ v))
         ]) (λ e. absurd (true≢false (sym e))))
 
--- the answer where the first cell can have no colour
+-- the answer if the first cell can have no colour
 pub told_dead : (len f b m : ℕ) → IsMaskOf (λ i. Has f i ⊎ Has b i) m → has m 0 ≡ false → None ≡ told_by len f b
 told_dead len f b m p none = rw (either_first f b m p, none) refl
 
@@ -49,6 +49,7 @@ told_cell true false = refl
 told_cell false true = refl
 told_cell false false = refl
 
+-- and the answer if it can have one
 pub told_some : (len f b m nf nb : ℕ) → IsMaskOf (λ i. Has f i ⊎ Has b i) m → has m 0 ≡ true
     → IsMaskOf (λ i. Has f i × (has b i ≡ false)) nf → IsMaskOf (λ i. Has b i × (has f i ≡ false)) nb
     → Some (line_cells len nf nb) ≡ told_by len f b
@@ -71,6 +72,7 @@ told_apart f b nf nb i pf pb x y = true≢false (sym (has_true f i (pf.to i x).0
 
 -- ---- the deduction
 
+-- what the masks of both colours tell is the deduction
 pub told-deduced : (l : List Cell) (clue : List ℕ) (len f b : ℕ) → ArePositive clue → 0 < len → length l ≡ len
     → IsMaskOf (IsFillable l clue) f → IsMaskOf (IsBlankable l clue) b → told_by len f b ≡ deduced l clue
 told-deduced l clue len f b pos some long fill blank = by (has f 0) (has b 0) refl refl

@@ -16,6 +16,6 @@ abbrev pub shared : ℕ → List (List Bool) → Option (List Cell)
 shared n [] = None
 shared n (cells ∷ lines) = Some (map (shared_at (cells ∷ lines)) (range_with_len 0 n))
 
--- what is certain of a line, given its clue: what all placings share. A line with no placing is dead: it has none
+-- what is certain of a line, given its clue: what all placings share. A line with no placing is dead: None
 abbrev pub deduced : List Cell → List ℕ → Option (List Cell)
 deduced line clue = shared (length line) (placings line clue)

@@ -1,3 +1,4 @@
+-- The definitions that the contracts cite.
 pub mod Placings
 pub mod Deduction
 pub mod Order

@@ -23,7 +23,7 @@ pub record IsLine (width len filled blank : ℕ) : Type 0 where
   pub within : len ≤ 256
   pub apart : (i : ℕ) → Has filled i → Has blank i → ⊥
 
--- a place where two lines differ
+-- a place at which two lines differ
 abbrev pub IsChanged : List Cell → List Cell → ℕ → Type 0
 IsChanged line other i = (i < length line) × (slice_index_or other i Unknown ≢ slice_index_or line i Unknown)
 

@@ -6,11 +6,12 @@ use Rattle.std.specs.List.{sum_by}
 abbrev pub needed : List ℕ → ℕ
 needed clue = sum_by (λ n. n + 1) clue
 
--- where run j (the first is run 0) starts at least: after the runs before it, each with a blank cell after it
+-- the least start of run j (the first is run 0): after the runs before it, each with a blank cell after it
 abbrev pub least_start : List ℕ → ℕ → ℕ
 least_start clue j = needed (take j clue)
 
--- one of the first count runs fills the cell at each of its starts, which are its least start and those up to slack cells further
+-- one of the first `count` runs fills the cell at each of its starts,
+-- which are its least start and those up to `slack` cells further
 abbrev pub IsOverlapBefore : ℕ → List ℕ → ℕ → ℕ → Type 0
 IsOverlapBefore count clue slack i =
     (j : ℕ) × (j < count) × (least_start clue j + slack ≤ i) × (i < least_start clue j + slice_index_or clue j 0)

@@ -4,7 +4,8 @@ use Rattle.grid_core.specs.declared.cells.Cell.{Cell}
 use Rattle.place_sets.specs.Masks.{IsMaskOf, AreWindows}
 use Rattle.line_core.specs.Reach.{MayBe, IsGapAfter}
 
--- a line's length, and the masks of its cells that may be blank and of those that may be filled, in words of so many places
+-- a line's length, and the masks of its cells that may be blank and of those that may be filled,
+-- in words of `width` places
 pub record IsSpanOf (width : ℕ) (line : List Cell) (len free room : ℕ) : Type 0 where
   pub some : 1 ≤ length line
   pub short : length line ≤ width
@@ -12,8 +13,9 @@ pub record IsSpanOf (width : ℕ) (line : List Cell) (len free room : ℕ) : Typ
   pub free_is : IsMaskOf (MayBe line false) free
   pub room_is : IsMaskOf (MayBe line true) room
 
--- a pass over a line that has passed some runs, the last of them first: it has the mask of the cells that may be blank, windows of those that may be
--- filled, where a run can start with no gap before it, and the mask of the gap after them
+-- a pass over a line that has passed some runs, the last of them first:
+-- it has the mask of the cells that may be blank, windows of those that may be filled,
+-- the place at which a run can start with no gap before it, and the mask of the gap after the runs
 pub record IsPassOver (width top : ℕ) (line : List Cell) (runs : List ℕ) (free : ℕ) (windows : List ℕ) (opening gap : ℕ) : Type 0 where
   pub room : ℕ
   pub short : length line ≤ width

@@ -6,12 +6,12 @@ use Rattle.grid_core.specs.Cells.{allows, agrees}
 use Rattle.grid_core.specs.Runs.{runs}
 use Rattle.place_sets.specs.Masks.{Has, IsMaskOf, AllFrom, SomeFrom}
 
--- each number is the length of a run, within so many places
+-- each number is the length of a run, within `width` places
 pub record AreLengths (width : ℕ) (clue : List ℕ) : Type 0 where
   pub positive : All (λ n. 0 < n) clue
   pub short : All (λ n. n ≤ width) clue
 
--- so many elements of a list, the last of them first
+-- the first elements of a list, the last of them first
 abbrev pub behind : {A : Type 0} → A → List A → ℕ → List A
 behind default xs zero = []
 behind default xs (suc i) = slice_index_or xs i default ∷ behind default xs i
@@ -28,11 +28,12 @@ IsClosed cells clue = (full : List Bool) × (agrees cells full ≡ true) × (run
 abbrev pub MayBe : List Cell → Bool → ℕ → Type 0
 MayBe line filled i = (i < length line) × (allows (slice_index_or line i Unknown) filled ≡ true)
 
--- a cell may be blank, and the cells before it, seen from it, can hold exactly some runs, the last of them first
+-- a cell may be blank, and the cells before it, seen from it, can hold exactly `runs`, the last of them first
 abbrev pub IsGapAfter : List Cell → List ℕ → ℕ → Type 0
 IsGapAfter line runs i = MayBe line false i × HasPlacing (behind Unknown line i) runs
 
--- a run of so many cells can start here, with exactly some runs, the last of them first, in the cells before, and a blank one next to it
+-- a run of `number` cells can start here, with exactly `runs`, the last of them first, in the cells before,
+-- and a blank one next to it
 abbrev pub IsStartAfter : List Cell → List ℕ → ℕ → ℕ → Type 0
 IsStartAfter line runs number s = IsClosed (behind Unknown line s) runs × AllFrom (MayBe line true) number s
 
@@ -44,11 +45,12 @@ IsEndAfter line runs number e = (number ≤ e + 1) × IsStartAfter line runs num
 abbrev pub IsGap : List Cell → List ℕ → ℕ → ℕ → Type 0
 IsGap line clue j i = IsGapAfter line (behind 0 clue j) i
 
--- masks of the gaps before each run and after the last one, of a line and a clue that are both seen from their other end
+-- masks of the gaps before each run and after the last one,
+-- of a line and a clue that are both seen from their other end
 abbrev pub AreTurnedGaps : List Cell → List ℕ → List ℕ → Type 0
 AreTurnedGaps line clue gaps = (j : ℕ) → j ≤ length clue → IsMaskOf (IsGap (reverse line) (reverse clue) j) (slice_index gaps j)
 
--- masks that are others seen from the other end of a line of so many cells
+-- masks that are others seen from the other end of a line of `len` cells
 abbrev pub AreTurnedMasks : ℕ → List ℕ → List ℕ → Type 0
 AreTurnedMasks len old new =
     (length new ≡ length old)

@@ -12,7 +12,7 @@ certain_by true false = Filled
 certain_by false true = Blank
 certain_by false false = Unknown
 
--- what two masks tell of a line, which is dead where its first cell can have no colour
+-- what two masks tell of a line, which is dead if its first cell can have no colour
 abbrev pub told_by : ℕ → ℕ → ℕ → Option (List Cell)
 told_by len fillable blankable =
     if has fillable 0

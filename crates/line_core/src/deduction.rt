@@ -54,7 +54,8 @@ fn possible_colours<W: PlaceSet>(span: &Span<W>, clue: &[u16], gaps: &[W; GAPS])
     (spread_levels(&mut spread), blankable)
 }
 
-/// The cells that are filled in some placing, and those that are blank in some, with room for the gaps of the runs.
+/// The cells that are filled in some placing, and those that are blank in some,
+/// with room for the gaps of the runs.
 pub fn colours<W: PlaceSet>(span: &Span<W>, clue: &[u16], gaps: &mut [W; GAPS]) -> (W, W)
     ghost line: { List Cell }
     requires span { IsSpanOf W.WIDTH line span.now.len (W.number span.now.free) (W.number span.now.room) }
@@ -73,8 +74,8 @@ pub fn colours<W: PlaceSet>(span: &Span<W>, clue: &[u16], gaps: &mut [W; GAPS]) 
     possible_colours(span, clue, gaps)
 }
 
-/// What is certain of a line, given the numbers of its clue, with room for the gaps of the runs: what all placings share, or none if there is no
-/// placing.
+/// What is certain of a line, given the numbers of its clue, with room for the gaps of the runs:
+/// what all placings share, or none if there is no placing.
 fn deduce_numbers<W: PlaceSet>(
     gaps: &mut [W; GAPS],
     line: &LineOf<W>,
@@ -145,7 +146,7 @@ impl Model for Tables {
 }
 
 impl Tables {
-    /// Tables for lines of at most so many cells, 1 to 256.
+    /// Tables for lines of at most `longest` cells, 1 to 256.
     pub fn new(alloc: Global, longest: u16) -> Result<Tables, NoMemory>
         requires { (1 ≤ longest) × (longest ≤ LONGEST_SIDE) }
         ensures { IfOk result (λ tables. tables ≡ longest) }
@@ -180,8 +181,8 @@ fn deduce_within<W: PlaceSet>(
 
 /// Sets that lines are kept in and deduced by.
 pub trait LineSet: PlaceSet {
-    /// What is certain of a line, given its clue, whose numbers are no greater than the sets have places: what all placings share, or none if
-    /// there is no placing.
+    /// What is certain of a line, given its clue, whose numbers are no greater than the sets have places:
+    /// what all placings share, or none if there is no placing.
     fn deduce(tables: &mut Tables, line: &LineOf<Self>, clue: &Clue) -> Option<LineOf<Self>>
         requires { All (λ number. number ≤ Self.WIDTH) clue.now }
         ensures answer { result ≡ deduced line.now clue.now }

@@ -15,7 +15,8 @@ pub fn first_gap<W: PlaceSet>(free: W) -> W
 /// The ends of a run, which can start after a gap, and at an opening with no gap before it.
 pub fn run_ends<W: PlaceSet>(gap: W, opening: W, window: W, length: u16) -> W
     requires { (0 < length) × (length ≤ W.WIDTH) }
-    ensures { IsMaskOf (IsMoved W.WIDTH (λ s. (IsMoved W.WIDTH (Has (W.number gap)) 1 s ⊎ Has (W.number opening) s) × Has (W.number window) s) (length - 1)) (W.number result) }
+    ensures { IsMaskOf (IsMoved W.WIDTH (λ s. (IsMoved W.WIDTH (Has (W.number gap)) 1 s ⊎ Has (W.number opening) s)
+        × Has (W.number window) s) (length - 1)) (W.number result) }
 {
     let starts = gap.up(1).or(opening).and(window);
     starts.up(length - 1)
@@ -23,7 +24,8 @@ pub fn run_ends<W: PlaceSet>(gap: W, opening: W, window: W, length: u16) -> W
 
 /// The free places after an end, as long as all are free.
 pub fn gap_after<W: PlaceSet>(ends: W, free: W) -> W
-    ensures { IsMaskOf (IsFlooded (λ k. IsMoved W.WIDTH (Has (W.number ends)) 1 k × Has (W.number free) k) (Has (W.number free))) (W.number result) }
+    ensures { IsMaskOf (IsFlooded (λ k. IsMoved W.WIDTH (Has (W.number ends)) 1 k × Has (W.number free) k) (Has (W.number free)))
+        (W.number result) }
 {
     W::flood(ends.up(1).and(free), free)
 }

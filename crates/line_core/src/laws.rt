@@ -16,7 +16,8 @@ pub fn deduced_knows_the_line()
 
 /// Every placing extends the deduced line.
 pub fn placings_extend_the_deduced()
-    ensures { (line : List Cell) (clue : List ℕ) (full : List Bool) → is_placing line clue full ≡ true → AtMost (deduced line clue) (Some (map colour full)) }
+    ensures { (line : List Cell) (clue : List ℕ) (full : List Bool) → is_placing line clue full ≡ true
+        → AtMost (deduced line clue) (Some (map colour full)) }
 {}
 
 /// If more is known of a line, at least as much is deduced.

@@ -18,7 +18,8 @@ use std::marker::Model;
 /// The cells of a line, as many as its sets have places at most, seen as the list of its cells.
 #[derive(Drop)]
 pub struct LineOf<W: PlaceSet> {
-    /// How many cells there are: as wide as the narrowest set, so that there is no gap between the fields of the most frequent lines.
+    /// How many cells there are. The field is as wide as the narrowest set,
+    /// so that there is no gap between the fields of the most frequent lines.
     len: usize,
     filled: W,
     blank: W,
@@ -139,7 +140,7 @@ impl<W: PlaceSet> LineOf<W> {
         }
     }
 
-    /// The places where another line of the same length differs.
+    /// The places at which another line of the same length differs.
     pub fn changes(&self, other: &LineOf<W>) -> W
         requires { length other.now ≡ length self.now }
         ensures changes { IsMaskOf (IsChanged self.now other.now) (W.number result) }
@@ -157,7 +158,7 @@ impl<W: PlaceSet> LineOf<W> {
         other.len == self.len && self.changes(other).is_empty()
     }
 
-    /// Writes its cells into row y of a grid whose rows are as long.
+    /// Writes its cells into row `y` of a grid whose rows are as long.
     pub fn write_row(&self, grid: &mut Grid, y: u16)
         requires row { y < grid.old.height }
         requires width { grid.old.width ≡ length self.now }
@@ -209,7 +210,8 @@ impl<W: PlaceSet> LineOf<W> {
         }
     }
 
-    /// What is certain of a line, from the cells that can be filled and those that can be blank: none if the first can be neither.
+    /// What is certain of a line, from the cells that can be filled and those that can be blank:
+    /// none if the first can be neither.
     pub(crate) fn certain(len: u16, fillable: W, blankable: W) -> Option<LineOf<W>>
         requires { (1 ≤ len) × (len ≤ W.WIDTH) }
         ensures { result ≡ told_by len (W.number fillable) (W.number blankable) }

@@ -69,7 +69,8 @@ fn learn_line(found: bool, certain: &mut [Cell], full: &[bool])
     }
 }
 
-/// Takes each placing that begins like `full` below `at` into what all have in common. Answers whether one was found yet.
+/// Takes each placing that begins like `full` below `at` into what all have in common.
+/// Returns whether one was found yet.
 fn learn_beginning(
     line: &[Cell],
     clue: &[u16],
@@ -98,7 +99,7 @@ fn learn_beginning(
     learn_beginning(line, clue, full, at + 1, found, certain)
 }
 
-/// Takes all placings in. Answers whether there is one.
+/// Takes all placings in. Returns whether there is one.
 fn learn_all(line: &[Cell], clue: &[u16], full: &mut [bool], certain: &mut [Cell]) -> bool
     requires full { length full.old ≡ length line.now }
     requires certain { length certain.old ≡ length line.now }

@@ -10,8 +10,8 @@ ghost use Rattle.line_core.specs.Reach.{AreLengths, IsFillable, IsBlankable};
 use crate::spans::Span;
 use place_sets::{PlaceSet, places, spread, starts_within};
 
-/// The starts of a run of so many cells that is alone on its line: from there on as many cells may be filled, and each cell that is filled is among
-/// them.
+/// The starts of a run of `number` cells that is alone on its line:
+/// from there on as many cells may be filled, and each cell that is filled is among them.
 fn lone_starts<W: PlaceSet>(span: &Span<W>, number: u16) -> W
     ghost line: { List Cell }
     requires span { IsSpanOf W.WIDTH line span.now.len (W.number span.now.free) (W.number span.now.room) }
@@ -28,7 +28,7 @@ fn lone_starts<W: PlaceSet>(span: &Span<W>, number: u16) -> W
     starts.and(places(greatest + 1)).and(W::all().up(least))
 }
 
-/// The cells that a run of so many cells fills from each of its starts, given the least and the greatest.
+/// The cells that a run of `number` cells fills from each of its starts, given the least and the greatest.
 fn lone_overlap<W: PlaceSet>(least: u16, greatest: u16, number: u16) -> W
     requires order { least ≤ greatest }
     requires within { greatest < W.WIDTH }

@@ -1,4 +1,5 @@
-//! Deduction on a line of which nothing is known: a run fills for certain what it fills at each of its starts.
+//! Deduction on a line of which nothing is known: a run fills for certain what it fills at each
+//! of its starts.
 
 ghost use Rattle.std.specs.Prelude.{◌≡◌, ◌+◌, ◌<◌, ◌≤◌, ◌↔◌, IsTrue, List, length, replicate};
 ghost use Rattle.grid_core.specs.declared.cells.Cell.{Cell};
@@ -34,7 +35,8 @@ fn cells_needed(clue: &[u16]) -> u16
     needed
 }
 
-/// The cells that a run fills at each of its starts, which are its least start and those up to `slack` cells further.
+/// The cells that a run fills at each of its starts, which are its least start and those up
+/// to `slack` cells further.
 fn overlaps<W: PlaceSet>(clue: &[u16], slack: u16) -> W
     requires clue { AreLengths W.WIDTH clue.now }
     requires fits { needed clue.now + slack ≤ W.WIDTH + 1 }
@@ -51,7 +53,8 @@ fn overlaps<W: PlaceSet>(clue: &[u16], slack: u16) -> W
     certain
 }
 
-/// The cells that are filled in some placing, and those that are blank in some, on a line of so many cells of which nothing is known.
+/// The cells that are filled in some placing, and those that are blank in some, on a line of `len` cells
+/// of which nothing is known.
 pub fn unknown_colours<W: PlaceSet>(len: u16, clue: &[u16]) -> (W, W)
     requires len { (1 ≤ len) × (len ≤ W.WIDTH) }
     requires clue { AreLengths W.WIDTH clue.now }

@@ -15,7 +15,8 @@ use place_sets::{LEVELS, PlaceSet, window_starts};
 pub struct Pass<W: PlaceSet> {
     /// The cells that may be blank.
     free: W,
-    /// The first cell as long as no run was passed, where one can start with no gap before it, and no cell after that.
+    /// The first cell, at which a run can start with no gap before it, until a run is passed;
+    /// no cell after that.
     opening: W,
     /// The gap after the runs that were passed.
     gap: W,
@@ -24,7 +25,8 @@ pub struct Pass<W: PlaceSet> {
 impl<W: PlaceSet> Pass<W> {
     /// A pass that has come to the first run, for steps with the windows of the line's open cells.
     pub fn new(span: &Span<W>) -> Pass<W>
-        ensures { (line : List Cell) (windows : List ℕ) → IsSpanOf W.WIDTH line span.now.len (W.number span.now.free) (W.number span.now.room)
+        ensures { (line : List Cell) (windows : List ℕ)
+            → IsSpanOf W.WIDTH line span.now.len (W.number span.now.free) (W.number span.now.room)
             → AreWindows (W.number span.now.room) W.TOP windows
             → IsPassOver W.WIDTH W.TOP line [] (W.number result.free) windows (W.number result.opening) (W.number result.gap) }
     {
@@ -42,15 +44,18 @@ impl<W: PlaceSet> Pass<W> {
         self.gap
     }
 
-    /// Passes a run of so many cells. Gives its ends, as the cells before them allow them.
+    /// Passes a run of `number` cells. Returns its ends, as the cells before them allow them.
     pub fn step(&mut self, windows: &[W; LEVELS], number: u16) -> W
         requires { (0 < number) × (number ≤ W.WIDTH) }
         ensures ends { (line : List Cell) (runs : List ℕ)
-            → IsPassOver W.WIDTH W.TOP line runs (W.number self.old.free) (map W.number windows.now) (W.number self.old.opening) (W.number self.old.gap)
+            → IsPassOver W.WIDTH W.TOP line runs (W.number self.old.free) (map W.number windows.now)
+            (W.number self.old.opening) (W.number self.old.gap)
             → IsMaskOf (IsEndAfter line runs number) (W.number result) }
         ensures passed { (line : List Cell) (runs : List ℕ)
-            → IsPassOver W.WIDTH W.TOP line runs (W.number self.old.free) (map W.number windows.now) (W.number self.old.opening) (W.number self.old.gap)
-            → IsPassOver W.WIDTH W.TOP line (number ∷ runs) (W.number self.new.free) (map W.number windows.now) (W.number self.new.opening) (W.number self.new.gap) }
+            → IsPassOver W.WIDTH W.TOP line runs (W.number self.old.free) (map W.number windows.now)
+            (W.number self.old.opening) (W.number self.old.gap)
+            → IsPassOver W.WIDTH W.TOP line (number ∷ runs) (W.number self.new.free) (map W.number windows.now)
+            (W.number self.new.opening) (W.number self.new.gap) }
     {
         let window = window_starts(windows, number);
         let ends = run_ends(self.gap, self.opening, window, number);

@@ -15,8 +15,8 @@ use place_sets::{PlaceSet, turn_line, windows_within};
 /// How many masks of gaps a clue needs at most: one before each run, and one after the last.
 pub const GAPS: usize = MOST_RUNS + 1;
 
-/// Writes the gaps before each run and after the last one, as the cells before allow them, of a line and a clue that are both seen from
-/// their other end.
+/// Writes the gaps before each run and after the last one, as the cells before allow them,
+/// of a line and a clue that are both seen from their other end.
 fn write_turned_gaps<W: PlaceSet>(span: &Span<W>, clue: &[u16], gaps: &mut [W; GAPS])
     ghost line: { List Cell }
     requires span { IsSpanOf W.WIDTH line span.now.len (W.number span.now.free) (W.number span.now.room) }
@@ -69,7 +69,7 @@ pub fn gap_ahead<W: PlaceSet>(clue: &[u16], gaps: &[W; GAPS], j: usize) -> W
     gaps[clue.len() - j]
 }
 
-/// The last cell of a line, where a run that ends there is the last one.
+/// The last cell of a line, if the run that may end there is the last one; else none.
 fn last_end<W: PlaceSet>(len: u16, last: bool) -> W
     requires { (0 < len) × (len ≤ W.WIDTH) }
     ensures { IsMaskOf (λ i. (i ≡ len - 1) × (last ≡ true)) (W.number result) }

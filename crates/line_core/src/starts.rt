@@ -54,7 +54,8 @@ fn may_have_no_run<W: PlaceSet>(span: &Span<W>, clue: &[u16], gaps: &[W; GAPS]) 
     blankable.has(0)
 }
 
-/// Writes the start of each run that is furthest to a side among all placings. Answers whether there is a placing.
+/// Writes the start of each run that is furthest to a side among all placings.
+/// Returns whether there is a placing.
 fn write_starts<W: PlaceSet>(
     side: Side,
     span: &Span<W>,
@@ -85,7 +86,8 @@ fn write_starts<W: PlaceSet>(
     true
 }
 
-/// Writes the starts of the placing that is furthest to a side, found in sets of one width. Answers whether there is a placing.
+/// Writes the starts of the placing that is furthest to a side, found in sets of one width.
+/// Returns whether there is a placing.
 pub fn find_starts<W: PlaceSet>(
     side: Side,
     line: &LineOf<W>,
@@ -110,8 +112,8 @@ pub fn find_starts<W: PlaceSet>(
     }
 }
 
-/// Writes the starts of the placing that is furthest to a side, found in the narrowest sets that have room for the line and the clue's numbers.
-/// Answers whether there is a placing.
+/// Writes the starts of the placing that is furthest to a side, found in the narrowest sets
+/// that have room for the line and the clue's numbers. Returns whether there is a placing.
 fn find_by_width(
     side: Side,
     line: &Line,
@@ -202,7 +204,8 @@ impl Starts {
     }
 }
 
-/// Lists the starts of the placing each of whose starts is least among all placings. False, with no starts, if there is no placing.
+/// Lists the starts of the placing each of whose starts is least among all placings.
+/// Returns false, with no starts, if there is no placing.
 pub fn leftmost(line: &Line, clue: &Clue, starts: &mut Starts) -> bool
     ensures { MatchBool result
         (leftmost line.now clue.now ≡ Some starts.new)
@@ -211,7 +214,8 @@ pub fn leftmost(line: &Line, clue: &Clue, starts: &mut Starts) -> bool
     starts.find(Side::Left, line, clue.numbers())
 }
 
-/// Lists the starts of the placing each of whose starts is greatest among all placings. False, with no starts, if there is no placing.
+/// Lists the starts of the placing each of whose starts is greatest among all placings.
+/// Returns false, with no starts, if there is no placing.
 pub fn rightmost(line: &Line, clue: &Clue, starts: &mut Starts) -> bool
     ensures { MatchBool result
         (rightmost line.now clue.now ≡ Some starts.new)

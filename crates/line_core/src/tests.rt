@@ -1,4 +1,5 @@
-//! Tests of what no contract says: each call on lines worked out by hand, deduction against the listing of all placings, and by sets of each width.
+//! Tests of what no contract says: each call on lines worked out by hand,
+//! deduction against the listing of all placings, and by sets of each width.
 
 ghost use Rattle.std.specs.Prelude.{◌≡◌, ◌+◌, ◌<◌, ◌≤◌, length, IfSome};
 ghost use Rattle.line_core.specs.Reach.{AreLengths};
@@ -212,7 +213,7 @@ fn numbered_clue(alloc: Global, len: u16, code: u64) -> Result<Clue, Fail> {
     Ok(Clue::from_numbers(alloc, &numbers)?)
 }
 
-/// Whether deduction tells what the listing tells of the first so many lines of a length.
+/// Whether deduction tells what the listing tells of the first `lines` lines of a length.
 fn lines_agree(alloc: Global, len: u16, clue: &Clue, lines: u32) -> Result<bool, Fail>
     requires { (1 ≤ len) × (len ≤ 256) }
 {
@@ -263,7 +264,8 @@ fn fills_line(alloc: Global, len: u16, first: u16) -> Result<bool, Fail>
     Ok(true)
 }
 
-/// Whether one run as long as an unknown line fills it, and one a cell longer, if a clue may have it, is dead.
+/// Whether one run as long as an unknown line fills it, and one a cell longer, if a clue may have it,
+/// is dead.
 fn is_filled_whole(alloc: Global, len: u16) -> Result<bool, Fail>
     requires { (1 ≤ len) × (len ≤ 256) }
 {
@@ -304,7 +306,7 @@ fn holds_both_ends(alloc: Global, len: u16) -> Result<bool, Fail>
     Ok(true)
 }
 
-/// A clue of so many runs of one cell.
+/// A clue of `count` runs of one cell.
 fn ones(alloc: Global, count: u16) -> Result<Clue, Fail> {
     let mut numbers = Vec::new(alloc);
     for _ in 0..count {
@@ -313,8 +315,9 @@ fn ones(alloc: Global, count: u16) -> Result<Clue, Fail> {
     Ok(Clue::from_numbers(alloc, &numbers)?)
 }
 
-/// Whether as many runs of one cell as there is room for are deduced on an unknown line: each second cell of an odd length, and nothing of an
-/// even one, where each run may be at either of two cells.
+/// Whether as many runs of one cell as there is room for are deduced on an unknown line:
+/// each second cell of an odd length, and nothing of an even one, on which each run may be at either
+/// of two cells.
 fn holds_ones(alloc: Global, len: u16) -> Result<bool, Fail>
     requires { (1 ≤ len) × (len ≤ 256) }
 {
@@ -401,7 +404,8 @@ fn next_random(state: &mut u64) -> u64 {
     *state >> 33
 }
 
-/// A line of which some cells are known, nearly all of them as a full line, whose filled cells are the bits of a number, has them.
+/// A line of which some cells are known, nearly all of them as in the full line whose filled cells are the
+/// bits of `full`.
 fn partly_known_line(len: u16, full: u64, state: &mut u64) -> Line
     requires { (1 ≤ len) × (len ≤ 64) }
     ensures { length result ≡ len }

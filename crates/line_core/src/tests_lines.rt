@@ -8,7 +8,7 @@ use grid_core::{Cell, Clue, Grid};
 use place_sets::{PlaceSet, Wide, spread, starts_within};
 use std::test::Fail;
 
-/// Whether these are the places where two lines of 256 cells differ.
+/// Whether these are the places at which two lines of 256 cells differ.
 fn are_changes(line: &LineOf<Wide>, other: &LineOf<Wide>, places: &[u16]) -> bool {
     if line.len() != other.len() {
         return false;

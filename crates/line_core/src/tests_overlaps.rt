@@ -1,11 +1,13 @@
-//! Tests of deduction on lines of which nothing is known, at the lengths where one width of sets gives way to the next.
+//! Tests of deduction on lines of which nothing is known, at the lengths at which one width of sets gives way
+//! to the next.
 
 use crate::{Line, Tables, deduce};
 use grid_core::{Cell, Clue};
 use std::alloc::Global;
 use std::test::Fail;
 
-/// Stretches of cells that are filled for certain, each told by its first cell and the cell after its last, and what is certain of the other cells.
+/// Stretches of cells that are filled for certain, each told by its first cell and the cell after its last,
+/// and what is certain of the other cells.
 struct Row {
     len: u16,
     clue: &'static [u16],

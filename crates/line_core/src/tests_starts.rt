@@ -1,4 +1,4 @@
-//! Tests of leftmost and rightmost placings, at the lengths where one width of sets gives way to the next.
+//! Tests of leftmost and rightmost placings, at the lengths at which one width of sets gives way to the next.
 
 ghost use Rattle.std.specs.Prelude.{◌≡◌, ◌≤◌, length};
 ghost use Rattle.line_core.specs.Reach.{AreLengths};
@@ -27,7 +27,8 @@ fn is_dead(line: &Line, clue: &Clue, starts: &mut Starts) -> bool {
     no_left && no_right
 }
 
-/// A line, a clue, whether there is a placing, and the starts that are to come out: none if there is no placing.
+/// A line, a clue, whether there is a placing, and the starts that are to come out:
+/// none if there is no placing.
 struct Row {
     line: &'static str,
     clue: &'static [u16],
@@ -134,7 +135,8 @@ fn one_long_run_comes_out(rt: HostRuntime) -> Result<(), Fail> {
     Ok(())
 }
 
-/// Whether a run of the whole line and runs at both of its ends come out, and runs that don't fit leave nothing.
+/// Whether a run of the whole line and runs at both of its ends come out,
+/// and runs that don't fit leave nothing.
 fn runs_at_ends_come_out(alloc: Global, len: u16, starts: &mut Starts) -> Result<bool, Fail>
     requires { (10 ≤ len) × (len ≤ LONGEST_SIDE) }
 {
@@ -151,7 +153,8 @@ fn runs_at_ends_come_out(alloc: Global, len: u16, starts: &mut Starts) -> Result
     Ok(fills && moves && dead && held)
 }
 
-/// Whether as many runs of one cell as fit on a line come out: on a line of an odd length they can't move, on one of an even length by one cell.
+/// Whether as many runs of one cell as fit on a line come out:
+/// on a line of an odd length they can't move, on one of an even length by one cell.
 fn single_cells_come_out(alloc: Global, len: u16, starts: &mut Starts) -> Result<bool, Fail>
     requires { (10 ≤ len) × (len ≤ LONGEST_SIDE) }
 {

@@ -3,7 +3,8 @@
 ghost use Rattle.std.specs.Prelude.{◌≤◌, ℕ};
 ghost use Rattle.std.specs.List.{All};
 
-/// How many places sets need for a line of so many cells and for a clue: as many as the line has cells, or as the greatest number tells.
+/// How many places sets need for a line of `len` cells and for a clue:
+/// `len`, or the clue's greatest number if that is greater.
 pub fn places_needed(len: u16, clue: &[u16]) -> u16
     ensures line { len ≤ result }
     ensures clue { All (λ n. n ≤ result) clue.now }

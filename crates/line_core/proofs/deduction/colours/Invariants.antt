@@ -1,3 +1,4 @@
+-- The line that `colours` is about, as it is told to the functions that it calls.
 use Rattle.line_core.proofs.deduction.colours.Given as goal
 
 abbrev pub ghost-is_unknown : goal.ghost-is_unknown

@@ -1,3 +1,4 @@
+-- `deduce_numbers`: the masks of both colours tell the deduction.
 use Rattle.std.proofs.Common.{◌∙◌, ℕ, ◌<◌, length, sym, ap, arith}
 use Rattle.std.proofs.lemmas.List.Elements.{recursion_from_All}
 use Rattle.line_core.proofs.Telling.{told-deduced}

@@ -1,3 +1,4 @@
+-- `possible_colours`: run by run the pass goes on, and each run and the gap after it join the masks.
 use Rattle.std.proofs.Common.{◌-◌, ◌∙◌, ◌≡◌, ◌+◌, ◌<◌, ◌≤◌, List, length, map, get_or, ℕ, arith, refl, sym, subst}
 use Rattle.std.proofs.lemmas.Bool.{eqb-true, eqb-false}
 use Rattle.place_sets.specs.Masks.{IsMaskOf, SomeFrom, SomeLevel, AreLevelsOf}

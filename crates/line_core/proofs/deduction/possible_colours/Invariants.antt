@@ -1,3 +1,4 @@
+-- What the loop of `possible_colours` keeps: the pass over the runs so far, and the cells that they colour.
 use Rattle.std.proofs.Common.{ℕ, ◌<◌, ◌≤◌, get_or, map}
 use Rattle.place_sets.specs.Masks.{IsMaskOf, SomeFrom, AreLevelsOf}
 use Rattle.line_core.specs.Reach.{behind, IsGap, IsGapAhead, IsWholeEnd}

@@ -1,3 +1,4 @@
+-- `first_gap`: a flood from the first place over the free ones.
 use Rattle.std.proofs.Common.{◌≡◌}
 use Rattle.place_sets.specs.Masks.{Has}
 use Rattle.place_sets.proofs.Uses.{flood_from, meet_of, has_of}

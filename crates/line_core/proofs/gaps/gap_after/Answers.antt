@@ -1,3 +1,4 @@
+-- `gap_after`: a flood over the free places from those after the ends.
 use Rattle.place_sets.specs.Masks.{Has, IsMoved}
 use Rattle.place_sets.proofs.Uses.{flood_from, meet_of, has_of}
 use Rattle.place_sets.proofs.Doubling.{one_within}

@@ -1,3 +1,4 @@
+-- `run_ends`: the starts after a gap or at the opening, within the window, moved to their ends.
 use Rattle.std.proofs.Common.{◌-◌}
 use Rattle.place_sets.proofs.Uses.{run_ends_are}
 use Rattle.place_sets.proofs.Doubling.{one_within}

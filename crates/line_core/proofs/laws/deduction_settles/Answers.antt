@@ -1,3 +1,4 @@
+-- The law `deduction_settles` holds: deducing what was deduced changes nothing.
 use Rattle.line_core.proofs.DeductionLaws.{deduced-settled}
 use Rattle.line_core.proofs.laws.deduction_settles.Goals as goal
 

@@ -1,3 +1,4 @@
+-- The law `leftmost_is_least` holds: the definition's search finds the least starts.
 use Rattle.line_core.proofs.EndLaws.{leftmost-least}
 use Rattle.line_core.proofs.laws.leftmost_is_least.Goals as goal
 

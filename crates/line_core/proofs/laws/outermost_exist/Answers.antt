@@ -1,3 +1,4 @@
+-- The law `outermost_exist` holds: the least starts of each run lay the clue, and so do the greatest.
 use Rattle.line_core.proofs.EndLaws.{leftmost-exists, rightmost-exists}
 use Rattle.line_core.proofs.DeductionLaws.{test_IsPlacing}
 use Rattle.line_core.proofs.laws.outermost_exist.Goals as goal

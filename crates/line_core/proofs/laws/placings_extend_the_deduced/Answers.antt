@@ -1,3 +1,4 @@
+-- The law `placings_extend_the_deduced` holds: each placing has what is deduced.
 use Rattle.line_core.proofs.DeductionLaws.{deduced-below, test_IsPlacing}
 use Rattle.line_core.proofs.laws.placings_extend_the_deduced.Goals as goal
 

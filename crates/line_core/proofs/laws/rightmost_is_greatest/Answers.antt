@@ -1,3 +1,4 @@
+-- The law `rightmost_is_greatest` holds: the definition's search finds the greatest starts.
 use Rattle.line_core.proofs.EndLaws.{rightmost-greatest}
 use Rattle.line_core.proofs.laws.rightmost_is_greatest.Goals as goal
 

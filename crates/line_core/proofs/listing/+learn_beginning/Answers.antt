@@ -1,3 +1,4 @@
+-- `learn_beginning`: the placings that go on with a filled cell, and then those that go on with a blank one.
 use Rattle.std.proofs.Common.{◌≡◌, ◌+◌, ◌++◌, [], ◌∷◌, true, false, take, set, sym, ap, ◌∙◌, List, Bool, arith, length-take-le, take_all, refl, length-set, true≢false}
 use Rattle.std.proofs.lemmas.Grind.{take-set_at}
 use Rattle.line_core.specs.Placings.{is_placing}

@@ -1,3 +1,4 @@
+-- What the loop of `agrees_with` keeps: the cells passed agree, so the rest tells.
 use Rattle.std.proofs.Common.{◌≡◌, length, drop}
 use Rattle.grid_core.specs.Cells.{agrees}
 use Rattle.line_core.proofs.listing.agrees_with.Given as goal

@@ -1,3 +1,4 @@
+-- What the loop of `keep_common` keeps: the cells passed are common ones, the others as they were.
 use Rattle.std.proofs.Common.{◌≡◌, ◌++◌, drop, take}
 use Rattle.line_core.specs.Listing.{common_all}
 use Rattle.line_core.proofs.listing.keep_common.Given as goal

@@ -1,3 +1,4 @@
+-- `line_of`: lines with the same cell at each place are the same.
 use Rattle.std.proofs.Common.{arith, ap, ◌∙◌, length}
 use Rattle.std.proofs.lemmas.List.{ext_get_or, length-replicate}
 use Rattle.grid_core.specs.declared.cells.Cell.TheVariants.{Unknown}

@@ -1,3 +1,4 @@
+-- What the loop of `line_of` keeps: the cells passed are written.
 use Rattle.std.proofs.Common.{◌≡◌, ℕ, ◌<◌, length, get_or}
 use Rattle.grid_core.specs.declared.cells.Cell.TheVariants.{Unknown}
 use Rattle.line_core.proofs.listing.line_of.Given as goal

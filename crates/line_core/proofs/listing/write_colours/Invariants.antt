@@ -1,3 +1,4 @@
+-- What the loop of `write_colours` keeps: the colours passed are written.
 use Rattle.std.proofs.Common.{◌≡◌, ◌++◌, drop, take, map}
 use Rattle.grid_core.specs.Cells.{colour}
 use Rattle.line_core.proofs.listing.write_colours.Given as goal

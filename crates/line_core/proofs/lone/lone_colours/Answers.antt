@@ -1,3 +1,4 @@
+-- `lone_colours`: the run fills a cell from some start, or leaves it blank from some start.
 use Rattle.std.proofs.Common.{◌<◌, ℕ, arith, sym, ◌∙◌}
 use Rattle.std.proofs.lemmas.Bool.{eqb-true}
 use Rattle.std.proofs.lemmas.List.Elements.{recursion_from_All}

@@ -1,3 +1,5 @@
+-- `lone_starts`: the run has the first and the last cell that must be filled,
+-- or starts anywhere if none must be.
 use Rattle.std.proofs.Common.{ℕ, sym, subst, ◌∙◌}
 use Rattle.std.proofs.lemmas.Bool.{eqb-true}
 use Rattle.place_sets.specs.Masks.{Has, IsMaskOf, IsMoved}

@@ -1,8 +1,9 @@
+-- `cells_needed`: the runs of a clue need no more than a word has room for.
 use Rattle.std.proofs.Common.{arith}
 use Rattle.line_core.proofs.Packing.{start_few}
 use Rattle.line_core.proofs.overlaps.cells_needed.Goals as goal
 
--- src/overlaps.rt:32:9
+-- the sum of one more run
 pub overflow_add-needed-in-loop-number : goal.overflow_add-needed-in-loop-number
 overflow_add-needed-in-loop-number c =
     let i = c.loop-number.number-index in

@@ -1,3 +1,4 @@
+-- What the loop of `cells_needed` keeps: what the runs passed need.
 use Rattle.std.proofs.Common.{◌≡◌}
 use Rattle.line_core.specs.Overlaps.{least_start}
 use Rattle.line_core.proofs.overlaps.cells_needed.Given as goal

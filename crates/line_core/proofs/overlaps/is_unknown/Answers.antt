@@ -1,3 +1,4 @@
+-- `is_unknown`: nothing is known exactly if the masks of both colours are the same.
 use Rattle.std.proofs.Common.{◌∙◌, sym}
 use Rattle.std.proofs.lemmas.Bool.{eqb-true, eq-eqb}
 use Rattle.line_core.proofs.Packing.{unknown_to, unknown_from}

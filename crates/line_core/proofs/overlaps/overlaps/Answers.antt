@@ -1,3 +1,4 @@
+-- `overlaps`: a run that is longer than the slack fills its overlap, and no other run has one.
 use Rattle.std.proofs.Common.{◌≡◌, ◌+◌, ◌∙◌, suc, get_or, sym, ap, add-one, arith, subst}
 use Rattle.place_sets.specs.Masks.{IsMaskOf}
 use Rattle.place_sets.proofs.Doubling.{width_most}

@@ -1,3 +1,4 @@
+-- What the loop of `overlaps` keeps: the greatest start of the next run, and the overlaps of the runs passed.
 use Rattle.std.proofs.Common.{◌≡◌, ◌+◌}
 use Rattle.place_sets.specs.Masks.{IsMaskOf}
 use Rattle.line_core.specs.Overlaps.{least_start, IsOverlapBefore}

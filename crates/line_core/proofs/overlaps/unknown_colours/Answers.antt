@@ -1,3 +1,4 @@
+-- `unknown_colours`: a cell that is no overlap can be blank; each can be filled if a run can move.
 use Rattle.std.proofs.Common.{◌≡◌, ◌+◌, ◌-◌, ◌<◌, ◌∙◌, ◌⊎◌, inl, inr, ℕ, length, replicate, arith, sym, subst, true≢false}
 use Rattle.std.proofs.lemmas.Bool.{eqb-true, eqb-false, eq-eqb}
 use Rattle.std.proofs.lemmas.List.{length-replicate}

@@ -1,3 +1,4 @@
+-- `gap_ahead`: the masks stand with the last one first.
 use Rattle.std.proofs.Common.{◌-◌, ◌<◌, length, sym, subst, arith}
 use Rattle.place_sets.specs.Masks.{IsMaskOf}
 use Rattle.line_core.specs.Reach.{IsGapAhead}

@@ -1,3 +1,4 @@
+-- `inner_ends`: a run that isn't the last ends before a gap ahead.
 use Rattle.std.proofs.Common.{◌≡◌, ◌+◌, ◌-◌, ◌⊎◌, inl, inr, ℕ, ◌<◌, length, arith}
 use Rattle.std.proofs.lemmas.Nat.Bits.{bit_at-zero}
 use Rattle.std.proofs.lemmas.List.Elements.{recursion_from_All}

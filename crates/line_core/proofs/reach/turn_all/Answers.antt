@@ -1,3 +1,4 @@
+-- `turn_all`: one more mask is turned.
 use Rattle.std.proofs.Common.{◌≡◌, ◌-◌, ◌∙◌, ℕ, ◌<◌, List, length, get_or, map, ap, sym, subst, arith, get_or-set_other}
 use Rattle.std.proofs.Math.ListN.{length-set}
 use Rattle.std.proofs.lemmas.List.{map-set, length-map}

@@ -1,3 +1,4 @@
+-- What the loop of `turn_all` keeps: the masks passed are turned, the others as they were.
 use Rattle.std.proofs.Common.{◌≡◌, ◌-◌, ℕ, ◌<◌, ◌≤◌, length, get_or, map}
 use Rattle.place_sets.specs.Masks.{Has, IsMaskOf}
 use Rattle.line_core.proofs.reach.turn_all.Given as goal

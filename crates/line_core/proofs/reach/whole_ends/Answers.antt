@@ -1,3 +1,4 @@
+-- `whole_ends`: a run ends before a gap ahead, or with the line if it is the last.
 use Rattle.std.proofs.Common.{◌≡◌, ◌+◌, ◌-◌, ◌⊎◌, ℕ, ◌<◌, length, arith, nat_eq, true}
 use Rattle.std.proofs.lemmas.Bool.{eqb-true, eq-eqb}
 use Rattle.std.proofs.lemmas.List.Elements.{recursion_from_All}

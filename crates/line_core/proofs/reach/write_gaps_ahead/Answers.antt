@@ -1,3 +1,4 @@
+-- `write_gaps_ahead`: the gaps of the turned line, turned back, are the gaps ahead.
 use Rattle.std.proofs.Common.{◌≡◌, ℕ, ◌+◌, ◌-◌, ◌<◌, ◌∙◌, ◌++◌, List, length, map, take, drop, get_or, ap, sym, subst, arith}
 use Rattle.std.proofs.lemmas.List.{map-append, length-map, get_or_append_left, get_or-take, length-take-le}
 use Rattle.place_sets.specs.Masks.{Has, IsMaskOf}

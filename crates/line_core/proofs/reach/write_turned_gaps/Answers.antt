@@ -1,3 +1,4 @@
+-- `write_turned_gaps`: run by run the pass over the turned line gives the next gap.
 use Rattle.std.proofs.Common.{ℕ, ◌+◌, ◌-◌, ◌<◌, ◌∙◌, List, length, map, reverse, get_or, sym, subst, arith}
 use Rattle.std.proofs.Math.ListN.{length-set}
 use Rattle.std.proofs.lemmas.List.{map-set, length-map, get_or-reverse}

@@ -1,3 +1,4 @@
+-- What the loop of `write_turned_gaps` keeps: the pass over the turned line, and the gaps so far.
 use Rattle.std.proofs.Common.{◌≡◌, ℕ, ◌≤◌, length, get_or, reverse, map}
 use Rattle.place_sets.specs.Masks.{IsMaskOf}
 use Rattle.line_core.specs.Reach.{behind, IsGap}

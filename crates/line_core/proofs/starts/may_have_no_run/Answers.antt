@@ -1,3 +1,4 @@
+-- `may_have_no_run`: the first cell is blank in a placing exactly if there is a placing with no run.
 use Rattle.std.proofs.Common.{◌≡◌, Bool, true, false, ℕ, sym, ◌∙◌, true≢false, MatchBool}
 use Rattle.place_sets.specs.Masks.{Has, has}
 use Rattle.place_sets.proofs.HasLemmas.{has_true, true_has}

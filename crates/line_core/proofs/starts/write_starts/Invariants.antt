@@ -1,3 +1,4 @@
+-- What the loop of `write_starts` keeps: the pass over the runs so far, and their outermost starts.
 use Rattle.std.proofs.Common.{ℕ, ◌<◌, get_or, map}
 use Rattle.line_core.specs.Reach.{behind}
 use Rattle.line_core.specs.Passes.{IsPassOver}

@@ -1,3 +1,4 @@
+-- What the loop of `line_of` keeps: the length of the line.
 use Rattle.std.proofs.Common.{◌≡◌, length}
 use Rattle.line_core.proofs.tests.line_of.Given as goal
 

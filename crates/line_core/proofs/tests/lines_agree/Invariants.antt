@@ -1,3 +1,4 @@
+-- What the loop of `lines_agree` keeps: the tables have room for the lines.
 use Rattle.std.proofs.Common.{◌≡◌}
 use Rattle.line_core.proofs.tests.lines_agree.Given as goal
 

@@ -1,3 +1,4 @@
+-- What the loop of `partly_known_line` keeps: the length of the line.
 use Rattle.std.proofs.Common.{◌≡◌, length}
 use Rattle.line_core.proofs.tests.partly_known_line.Given as goal
 

@@ -1,3 +1,4 @@
+-- What the loop of `shown_line` keeps: the length of the line.
 use Rattle.std.proofs.Common.{◌≡◌, ℕ, length}
 use Rattle.line_core.proofs.tests_starts.shown_line.Given as goal
 

@@ -1,3 +1,4 @@
+-- The line that `widths_agree` is about, as it is told to `find_starts` at each width.
 use Rattle.line_core.proofs.tests_starts.widths_agree.Given as goal
 
 abbrev pub ghost-find_starts : goal.ghost-find_starts

@@ -1,3 +1,4 @@
+-- `places_needed`: the greatest so far, with one more number.
 use Rattle.std.proofs.Common.{◌≤◌, take_all, subst, arith}
 use Rattle.std.specs.List.{All}
 use Rattle.std.proofs.lemmas.List.Elements.{All-more}

@@ -1,3 +1,4 @@
+-- What the loop of `places_needed` keeps: the greatest of the length and of the numbers passed.
 use Rattle.std.proofs.Common.{◌≤◌, ℕ, take}
 use Rattle.std.specs.List.{All}
 use Rattle.line_core.proofs.widths.places_needed.Given as goal

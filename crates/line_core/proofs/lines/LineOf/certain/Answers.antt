@@ -1,3 +1,4 @@
+-- `LineOf::certain`: what one mask has and the other lacks; dead if the first cell can have no colour.
 use Rattle.std.proofs.Common.{◌∙◌, ℕ, Some, ap, arith, sym}
 use Rattle.line_core.specs.Lines.{line_cells}
 use Rattle.line_core.proofs.LineCells.{width_within}

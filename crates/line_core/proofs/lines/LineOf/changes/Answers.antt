@@ -1,3 +1,4 @@
+-- `LineOf::changes`: the places at which either mask differs.
 use Rattle.std.proofs.Common.{arith}
 use Rattle.line_core.proofs.LineCells.{length_seen}
 use Rattle.line_core.proofs.Changing.{changed_is}

@@ -1,3 +1,4 @@
+-- `LineOf::copy_from` gives what its contract says, and its value is a lawful one.
 use Rattle.std.proofs.Common.{◌≡◌, ◌∙◌, sym}
 use Rattle.line_core.specs.Lines.{line_cells}
 use Rattle.line_core.proofs.LineCells.{length_seen}

@@ -1,3 +1,4 @@
+-- `LineOf::first_unknown`: the first place of the unknown cells.
 use Rattle.std.proofs.Common.{arith}
 use Rattle.line_core.proofs.Seeking.{unknown_from}
 use Rattle.line_core.proofs.lines.LineOf.first_unknown.Goals as goal

@@ -1,3 +1,4 @@
+-- `LineOf::get`: a cell is told by the masks that have its place.
 use Rattle.std.proofs.Common.{◌<◌, ◌∙◌, Bool, sym, ap, arith, List, get_or, false}
 use Rattle.grid_core.specs.declared.cells.Cell.{Cell}
 use Rattle.grid_core.specs.declared.cells.Cell.TheVariants.{Unknown}

@@ -1,3 +1,4 @@
+-- `LineOf::is_same`: lines of one length with no change between them are the same, and no others are.
 use Rattle.std.proofs.Common.{◌≡◌, ◌∙◌, Bool, sym, subst, IsTrue}
 use Rattle.line_core.proofs.LineCells.{length_seen}
 use Rattle.line_core.proofs.Changing.{same_without_change, other_by_length}

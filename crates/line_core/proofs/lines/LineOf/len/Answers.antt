@@ -1,3 +1,4 @@
+-- `LineOf::len` gives what its contract says.
 use Rattle.std.proofs.Common.{sym, arith}
 use Rattle.line_core.proofs.LineCells.{length_seen}
 use Rattle.line_core.proofs.lines.LineOf.len.Goals as goal

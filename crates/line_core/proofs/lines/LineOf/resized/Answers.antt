@@ -1,3 +1,4 @@
+-- `LineOf::resized`: the masks of another width have the same places.
 use Rattle.std.proofs.Common.{◌∙◌, arith}
 use Rattle.line_core.proofs.LineCells.{length_seen, cells-resized, apart-resized}
 use Rattle.line_core.proofs.lines.LineOf.resized.Goals as goal

@@ -1,3 +1,4 @@
+-- `LineOf::set`: the cell is written into both masks, which stay apart.
 use Rattle.std.proofs.Common.{◌∙◌, ap, subst, arith, Bool, List, set}
 use Rattle.grid_core.specs.declared.cells.Cell.{Cell}
 use Rattle.place_sets.specs.Masks.{Has, IsMarked, IsMaskOf}

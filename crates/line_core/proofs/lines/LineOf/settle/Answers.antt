@@ -1,3 +1,4 @@
+-- `LineOf::settle`: the place goes into one mask; the other lacks it, since the cell was unknown.
 use Rattle.std.proofs.Common.{◌∙◌, sym, ap, subst, arith, Bool, List, set}
 use Rattle.grid_core.specs.declared.cells.Cell.{Cell}
 use Rattle.place_sets.specs.Masks.{Has, IsMarked, IsMaskOf}

@@ -1,3 +1,4 @@
+-- `LineOf::span`: what may be blank is what isn't filled, and what may be filled is what isn't blank.
 use Rattle.std.proofs.Common.{List, true, false, subst, sym, arith}
 use Rattle.grid_core.specs.declared.cells.Cell.{Cell}
 use Rattle.place_sets.specs.Masks.{IsMaskOf}

@@ -1,3 +1,4 @@
+-- `LineOf::unknown`: nothing is known if both masks are empty.
 use Rattle.std.proofs.Common.{◌∙◌, ℕ, ap}
 use Rattle.line_core.specs.Lines.{line_cells}
 use Rattle.line_core.proofs.LineCells.{cells-none}

@@ -1,3 +1,4 @@
+-- `LineOf::unknown_cells`: the places that neither mask has.
 use Rattle.std.proofs.Common.{List, subst, arith}
 use Rattle.grid_core.specs.declared.cells.Cell.{Cell}
 use Rattle.place_sets.specs.Masks.{IsMaskOf}

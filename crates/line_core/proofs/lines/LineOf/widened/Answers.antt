@@ -1,3 +1,4 @@
+-- `LineOf::widened` gives what its contract says, and its value is a lawful one.
 use Rattle.std.proofs.Common.{◌∙◌, ℕ, ap, subst}
 use Rattle.place_sets.specs.Masks.{Has, joined}
 use Rattle.line_core.specs.Lines.{line_cells}

@@ -1,3 +1,4 @@
+-- `LineOf::write_row` gives what its contract says, and its calls get what they require.
 use Rattle.std.proofs.Common.{◌≡◌, ◌∙◌, ℕ, ap, subst}
 use Rattle.grid_core.specs.PartialGrid.{PartialGrid}
 use Rattle.grid_core.specs.Rows.{cells_told, with_row}

@@ -1,3 +1,4 @@
+-- `Pass::step`: the ends of the run, from the gap before it, and the gap after it, from its ends.
 use Rattle.std.proofs.Common.{ℕ, ap, arith}
 use Rattle.std.specs.Int.{bit_at}
 use Rattle.std.proofs.lemmas.Nat.Bits.{bit_at-zero}
