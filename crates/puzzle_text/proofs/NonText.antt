@@ -125,11 +125,8 @@ join10 : (a b c d e f g h i j : List ℕ)
 join10 a b c d e f g h i j = simp append_assoc
 
 fed_sizes : (p : Nonogram) → flat_map with_feed (after_fields p)
-    ≡ codes "width "
-    ++ (decimal
-    p.width ++ (codes "\nheight "
-    ++ (decimal
-    p.height ++ (codes "\n\nrows\n" ++ (clue_lines 44 p.rows ++ (codes "\ncolumns\n" ++ (clue_lines 44 p.columns ++ goal_lines p.goal)))))))
+    ≡ codes "width " ++ (decimal p.width ++ (codes "\nheight " ++ (decimal p.height
+    ++ (codes "\n\nrows\n" ++ (clue_lines 44 p.rows ++ (codes "\ncolumns\n" ++ (clue_lines 44 p.columns ++ goal_lines p.goal)))))))
 fed_sizes p =
     let w = decimal p.width in
     let h = decimal p.height in
@@ -143,11 +140,7 @@ fed_sizes p =
 pub non_is : (p : Nonogram) → flat_map with_feed (texts_non p) ≡ text_non p
 non_is p =
     two (fields p.texts) (after_fields p) (text_fields p.texts)
-    (codes "width "
-    ++ (decimal
-    p.width ++ (codes "\nheight "
-    ++ (decimal
-    p.height
+    (codes "width " ++ (decimal p.width ++ (codes "\nheight " ++ (decimal p.height
     ++ (codes "\n\nrows\n" ++ (clue_lines 44 p.rows ++ (codes "\ncolumns\n" ++ (clue_lines 44 p.columns ++ goal_lines p.goal))))))))
     (fed_fields p.texts all_fields) (fed_sizes p)
     ∙ sym (join10 (text_fields p.texts) (codes "width ") (decimal p.width) (codes "\nheight ") (decimal p.height) (codes "\n\nrows\n")
