@@ -1,4 +1,4 @@
--- The law `ambiguous_is_read_otherwise` holds.
+-- The law `ambiguous_is_read_otherwise` holds: only the exchanged sizes are admissible, so it says those.
 use Rattle.std.proofs.Common.{arith}
 use Rattle.grid_core.specs.declared.limits.TheConstants.{LONGEST_SIDE}
 use Rattle.puzzle_text.proofs.ReadNin.{nin_read_otherwise}

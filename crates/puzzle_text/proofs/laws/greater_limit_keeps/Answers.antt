@@ -1,4 +1,4 @@
--- The law `greater_limit_keeps` holds.
+-- The law `greater_limit_keeps` holds: each step of a reader keeps its answer, in each format.
 use Rattle.puzzle_text.proofs.GreaterLimit.{non_keeps, mk_keeps, nin_keeps}
 use Rattle.puzzle_text.proofs.laws.greater_limit_keeps.Goals as goal
 

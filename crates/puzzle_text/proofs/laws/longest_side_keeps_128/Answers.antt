@@ -1,4 +1,4 @@
--- The law `longest_side_keeps_128` holds.
+-- The law `longest_side_keeps_128` holds: 128 is no more than the limit.
 use Rattle.std.proofs.Common.{arith}
 use Rattle.grid_core.specs.declared.limits.TheConstants.{LONGEST_SIDE}
 use Rattle.puzzle_text.proofs.GreaterLimit.{non_keeps, mk_keeps, nin_keeps}

@@ -1,4 +1,4 @@
--- The law `mk_is_read_back` holds.
+-- The law `mk_is_read_back` holds: the text's lines are those that were written, and they say the puzzle.
 use Rattle.std.proofs.Common.{arith}
 use Rattle.grid_core.specs.declared.limits.TheConstants.{LONGEST_SIDE}
 use Rattle.puzzle_text.proofs.ReadMk.{read_again, length_text}

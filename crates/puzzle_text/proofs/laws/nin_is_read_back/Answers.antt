@@ -1,4 +1,4 @@
--- The law `nin_is_read_back` holds.
+-- The law `nin_is_read_back` holds: the likelier reading is the puzzle's own, since it isn't ambiguous.
 use Rattle.std.proofs.Common.{arith}
 use Rattle.grid_core.specs.declared.limits.TheConstants.{LONGEST_SIDE}
 use Rattle.puzzle_text.proofs.ReadNin.{nin_read_again}

@@ -1,4 +1,4 @@
--- The law `written_is_short` holds.
+-- The law `written_is_short` holds: each part of a text has a bound.
 use Rattle.std.proofs.Common.{arith}
 use Rattle.grid_core.specs.declared.limits.TheConstants.{LONGEST_SIDE}
 use Rattle.puzzle_text.proofs.ReadMk.{length_text}

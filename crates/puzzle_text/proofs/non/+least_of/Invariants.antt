@@ -1,4 +1,4 @@
--- What gets less with each call of `least_of` by itself.
+-- What gets less with each call of `least_of` by itself: the numbers that are left.
 use Rattle.std.proofs.Common.{length}
 use Rattle.puzzle_text.proofs.non.+least_of.Given as goal
 
