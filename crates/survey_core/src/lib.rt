@@ -52,6 +52,8 @@ mod tests_collect;
 #[cfg(test)]
 mod tests_counted;
 #[cfg(test)]
+mod tests_progress;
+#[cfg(test)]
 mod tests_refusals;
 #[cfg(test)]
 mod tests_refused;
