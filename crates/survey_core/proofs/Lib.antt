@@ -1,6 +1,7 @@
 pub mod Front
 pub mod NumberedLemmas
 pub mod PrintedLemmas
+pub mod ProgressLemmas
 pub mod TotalsLemmas
 pub mod GoalLemmas
 pub mod ReadingLemmas

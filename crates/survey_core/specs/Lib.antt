@@ -14,3 +14,4 @@ pub mod Graded
 pub mod Reading
 pub mod Leaving
 pub mod Faults
+pub mod Progress

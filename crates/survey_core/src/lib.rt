@@ -18,6 +18,8 @@ mod names;
 mod outcomes;
 mod pictures;
 mod printing;
+mod progress;
+mod progress_gate;
 mod readings;
 mod settings;
 mod shared;
@@ -34,6 +36,7 @@ pub use faults::RunFault;
 pub use outcomes::Outcome;
 pub use pictures::push_grid;
 pub use printing::print_survey;
+pub use progress_gate::ProgressGate;
 pub use settings::{
     DEFAULT_GUESSES, DEFAULT_LANES, DEFAULT_RING, LARGEST_RING, MOST_LANES, Settings,
 };
@@ -48,6 +51,8 @@ mod tests_answers;
 mod tests_collect;
 #[cfg(test)]
 mod tests_counted;
+#[cfg(test)]
+mod tests_progress;
 #[cfg(test)]
 mod tests_refusals;
 #[cfg(test)]

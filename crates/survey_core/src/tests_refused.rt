@@ -3,7 +3,7 @@
 use super::tests_answers::{EIGHT, eight_jobs};
 use super::tests_refusals::{refuse, was_refused};
 use super::tests_samples::{TEN, TEN_SURVEY, settings};
-use super::{Counted, MOST_JOBS, RunFault, collect, run_survey};
+use super::{Counted, MOST_JOBS, ProgressGate, RunFault, collect, run_survey};
 use lane_core::{Answer, Gate, OpenGate};
 use std::process::Abort;
 use std::sync::atomic::{AtomicU32, Ordering};
@@ -89,5 +89,25 @@ fn surveys_are_written_or_refused(rt: HostRuntime) -> Result<(), Fail> {
         }
     }
     assert!(rt; false, "growths without end");
+    Ok(())
+}
+
+/// The gate takes all its memory as it is made, in one growth.
+#[test]
+fn progress_gates_are_made_or_refused(rt: HostRuntime) -> Result<(), Fail> {
+    let alloc = rt.alloc();
+    for growth in [1usize, 2] {
+        let mut text = Vec::with_capacity(alloc, 1000)?;
+        refuse(alloc, growth);
+        if let Ok(gate) = ProgressGate::new(&rt, alloc, &mut text, Some(u32::MAX)) {
+            for number in 0..7u32 {
+                gate.enter(number);
+            }
+            gate.finish();
+        }
+        let refused = was_refused(alloc);
+        assert_eq!(rt; text.len(), if refused { 0 } else { 4 * 23 + 1 });
+        assert!(rt; growth == 1 || !refused);
+    }
     Ok(())
 }
