@@ -1,11 +1,12 @@
-//! Refusing growths of memory in tests, each in turn: `tools/sweep.sh` runs these tests under a tool that heeds the signs given here. Without
-//! it nothing is refused, and the tests pass with ample memory. (A copy stands in each crate that needs it: tests can't be shared by crates.)
+//! Refusing growths of memory in tests, each in turn: `tools/sweep.sh` runs these tests under a tool
+//! that heeds the signs given here. Without it nothing is refused, and the tests pass with ample memory.
+//! (A copy stands in each crate that needs it: tests can't be shared by crates.)
 
 use std::alloc::Global;
 use std::process::Abort;
 
-/// A request of this many bytes and so many more, which no machine grants, is a sign: of the growths that follow, the one of that number is
-/// refused, and with 0 each of them.
+/// A request of this many bytes and `number` more, which no machine grants, is a sign: of the growths that
+/// follow, the one of that number is refused, and with 0 each of them.
 const SIGN: usize = 1 << 61;
 
 /// A request of just this many bytes ends the refusals, and is itself refused if there was one.
@@ -35,13 +36,14 @@ pub fn refuse(alloc: Global, number: usize) {
     let _sign = Vec::<u8>::with_capacity(alloc, SIGN.wrapping_add(number));
 }
 
-/// Ends the refusals. Whether there was one.
+/// Ends the refusals. Returns whether there was one.
 pub fn was_refused(alloc: Global) -> bool {
     Vec::<u8>::with_capacity(alloc, QUESTION).is_err()
 }
 
-/// Refuses each growth of a call in turn, and asserts that it tells what is wanted, or `NoMemory` and a growth was refused, and that the next call
-/// tells what is wanted. Gives how many growths were refused.
+/// Refuses each growth of a call in turn, and asserts that it tells what is wanted,
+/// or `NoMemory` and a growth was refused, and that the next call tells what is wanted.
+/// Returns how many growths were refused.
 pub fn assert_swept<C: Fn() -> Told>(rt: &impl Abort, alloc: Global, call: C) -> usize
     requires { C.IsAlwaysCallable call }
 {
@@ -63,7 +65,8 @@ pub fn assert_swept<C: Fn() -> Told>(rt: &impl Abort, alloc: Global, call: C) ->
     MOST_GROWTHS
 }
 
-/// Asserts that growths are refused where the tool heeds the sign to refuse each of them, and that a refused one is told.
+/// Asserts that growths are refused if the tool heeds the sign to refuse each of them, and that a refused one
+/// is told.
 pub fn assert_heeded(rt: &impl Abort, alloc: Global) {
     refuse(alloc, 0);
     let heeded = Vec::<u8>::with_capacity(alloc, 1).is_err();
