@@ -1,4 +1,6 @@
+mod FilesLemmas
 mod FoundLemmas
 mod FullLemmas
 mod LinesLemmas
+mod PrintingLemmas
 mod WordLemmas

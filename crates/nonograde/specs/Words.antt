@@ -11,6 +11,7 @@ use Rattle.survey_core.specs.declared.settings.Settings.{Settings}
 use Rattle.lane_core.specs.declared.jobs.TheConstants.{MOST_GUESSES}
 use Rattle.survey_core.specs.declared.settings.TheConstants.{LARGEST_RING, MOST_LANES}
 use Rattle.nonograde.specs.declared.command.Request.{Request}
+use Rattle.nonograde.specs.declared.command.SurveyRequest.{SurveyRequest}
 use Rattle.nonograde.specs.declared.command.Request.TheVariants.{Survey, Solve, Convert, Lines}
 
 -- n is the number that the text writes, where that lies in the range
@@ -44,9 +45,15 @@ pub record AreSettingsIn (rows : List Row) (settings : Settings) : Type 0 where
   pub pick : settings.pick ≡ pick_of_word (text_in (codes "pick") rows)
   pub show : IsFlagIn (one_of (codes "show") rows) settings.show
 
+-- the entries ask for this survey
+pub record AsksSurvey (rows : List Row) (survey : SurveyRequest) : Type 0 where
+  pub settings : AreSettingsIn rows survey.settings
+  pub progress : IsFlagIn (one_of (codes "progress") rows) survey.progress
+  pub files : map string_bytes survey.files.items ≡ texts_in (codes "file") rows
+
 -- the command of this name, with these entries, asks for this
 abbrev pub Asks : Text → List Row → Request → Type 0
-Asks name rows (Survey settings files) = (name ≡ codes "survey") × AreSettingsIn rows settings × (map string_bytes files.items ≡ texts_in (codes "file") rows)
+Asks name rows (Survey survey) = (name ≡ codes "survey") × AsksSurvey rows survey
 Asks name rows (Solve guesses pick file) =
     (name ≡ codes "solve") × IsNumberIn 0 MOST_GUESSES (one_of (codes "guesses") rows) guesses × (pick ≡ pick_of_word (text_in (codes "pick") rows))
     × (string_bytes file ≡ text_in (codes "file") rows)

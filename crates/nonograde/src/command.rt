@@ -1,11 +1,12 @@
 //! The command line: its words, and what they ask for.
+
 ghost use Rattle.std.specs.Prelude.{◌≡◌, ◌≢◌, ◌≤◌, IfOk, IfSome, map, string_bytes, codes};
 ghost use Rattle.clap.specs.Walk.{one_of, rows_of};
 ghost use Rattle.clap.specs.Words.{found_of, kind_of};
 ghost use Rattle.clap.specs.declared.error.kind.ErrorKind.TheVariants.{OutOfMemory};
 ghost use Rattle.nonograde.specs.declared.command.CommandFault.TheVariants.{NoMemory as command_memory, Words as refused_words};
 ghost use Rattle.nonograde.specs.Command.{HasSettingsInRange};
-ghost use Rattle.nonograde.specs.Words.{AreSettingsIn, Asks, IsNumberIn, pick_of_word, text_in, texts_in};
+ghost use Rattle.nonograde.specs.Words.{AreSettingsIn, Asks, AsksSurvey, IsNumberIn, pick_of_word, text_in, texts_in};
 
 use clap::error::ErrorKind;
 use clap::{Arg, ArgAction, ArgMatches, Command, Error, value_parser};
@@ -18,12 +19,54 @@ use survey_core::{
     DEFAULT_GUESSES, DEFAULT_LANES, DEFAULT_RING, LARGEST_RING, MOST_LANES, Settings,
 };
 
+/// The version: the day of the newest change that users see.
+const VERSION: &str = "2026.11.24";
+
+/// What the help of `survey` ends with.
+const SURVEY_HELP: &str = "It prints a line for each puzzle, and a line of totals.
+
+Example: nonograde survey --lanes 8 --show puzzles/heart.non puzzles/cat.mk
+
+Exit status: 0 if the survey is printed, 1 at a fault, 2 if the words are refused.";
+
+/// What the help of `solve` ends with.
+const SOLVE_HELP: &str = "It prints the puzzle's line, and its solutions: none, one or two of them.
+
+Example: nonograde solve puzzles/heart.non
+
+Exit status: 0 if the line is printed, 1 at a fault, 2 if the words are refused.";
+
+/// What the help of `convert` ends with.
+const CONVERT_HELP: &str = "It prints the puzzle's text in the format.
+
+Example: nonograde convert --to mk puzzles/heart.non
+
+Exit status: 0 if the text is printed, 1 at a fault, 2 if the words are refused.";
+
+/// What the help of `lines` ends with.
+const LINES_HELP: &str = "It prints one, open or none, the number of known cells, and the grid.
+
+Example: nonograde lines puzzles/heart.non
+
+Exit status: 0 if the grid is printed, 1 at a fault, 2 if the words are refused.";
+
+/// A survey of these files, or of the collection on standard input if there is none.
+#[derive(Debug, Drop)]
+pub struct SurveyRequest {
+    /// How the entries are graded, and on how many lanes.
+    pub settings: Settings,
+    /// Whether the number of graded entries is told on the stream for faults.
+    pub progress: bool,
+    /// The names of the files, in order.
+    pub files: Vec<String>,
+}
+
 /// What a command line asks for.
 #[derive(Debug, Drop)]
 pub enum Request {
-    /// A survey of these files, or of the collection on standard input where there is none.
-    Survey(Settings, Vec<String>),
-    /// The solutions of a file's puzzle, with so many guesses at most, each by the rule.
+    /// A survey.
+    Survey(SurveyRequest),
+    /// The solutions of a file's puzzle: the most guesses, and the rule for each.
     Solve(u32, Pick, String),
     /// A file's puzzle in another format.
     Convert(Format, String),
@@ -84,7 +127,7 @@ fn pick_option<'a>(alloc: Global, picks: &'a [&'a str]) -> Arg<'a> {
 fn file_word<'a>(alloc: Global) -> Arg<'a> {
     Arg::new(alloc, "file")
         .value_name("FILE")
-        .help("A puzzle, whose name's ending tells its format")
+        .help("A puzzle: its name ends in .non, .mk or .nin")
         .required(true)
 }
 
@@ -106,19 +149,25 @@ fn survey_command<'a>(alloc: Global, picks: &'a [&'a str]) -> Result<Command<'a>
         .long("show")
         .help("Show the solutions")
         .action(ArgAction::SetTrue);
+    let progress = Arg::new(alloc, "progress")
+        .long("progress")
+        .help("Tell on standard error how many puzzles are graded")
+        .action(ArgAction::SetTrue);
     let files = Arg::new(alloc, "file")
         .value_name("FILE")
-        .help("Puzzles, in place of a collection on standard input")
+        .help("Puzzles in .non, .mk or .nin, in place of a collection on standard input")
         .num_args(0..)
         .action(ArgAction::Append);
     Command::new(alloc, "survey")
         .about("Grade the puzzles of a collection")
+        .after_help(SURVEY_HELP)
         .override_usage("nonograde survey [OPTIONS] [FILE]...")
         .arg(lanes)?
         .arg(ring)?
         .arg(guesses_option(alloc))?
         .arg(pick_option(alloc, picks))?
         .arg(show)?
+        .arg(progress)?
         .arg(files)
 }
 
@@ -126,6 +175,7 @@ fn survey_command<'a>(alloc: Global, picks: &'a [&'a str]) -> Result<Command<'a>
 fn solve_command<'a>(alloc: Global, picks: &'a [&'a str]) -> Result<Command<'a>, AllocError> {
     Command::new(alloc, "solve")
         .about("Solve a puzzle")
+        .after_help(SOLVE_HELP)
         .override_usage("nonograde solve [OPTIONS] <FILE>")
         .arg(guesses_option(alloc))?
         .arg(pick_option(alloc, picks))?
@@ -142,14 +192,17 @@ fn convert_command<'a>(alloc: Global, formats: &'a [&'a str]) -> Result<Command<
         .required(true);
     Command::new(alloc, "convert")
         .about("Write a puzzle in another format")
+        .after_help(CONVERT_HELP)
         .override_usage("nonograde convert --to <FORMAT> <FILE>")
         .arg(to)?
         .arg(file_word(alloc))
 }
 
+/// The command `lines`.
 fn lines_command<'a>(alloc: Global) -> Result<Command<'a>, AllocError> {
     Command::new(alloc, "lines")
         .about("Close a puzzle by line logic")
+        .after_help(LINES_HELP)
         .override_usage("nonograde lines <FILE>")
         .arg(file_word(alloc))
 }
@@ -162,6 +215,7 @@ fn whole_command<'a>(
 ) -> Result<Command<'a>, NoMemory> {
     let command = Command::new(alloc, "nonograde")
         .about("Solves and grades nonograms")
+        .version(VERSION)
         .no_binary_name(true)
         .subcommand_required(true)
         .subcommand(survey_command(alloc, picks)?)?
@@ -232,6 +286,17 @@ fn settings_of(matches: &ArgMatches<'_>) -> Settings
     }
 }
 
+/// The survey that is asked for.
+fn survey_of(alloc: Global, matches: &ArgMatches<'_>) -> Result<SurveyRequest, NoMemory>
+    ensures { IfOk result (AsksSurvey (rows_of (found_of matches.now))) }
+{
+    Ok(SurveyRequest {
+        settings: settings_of(matches),
+        progress: matches.get_flag("progress"),
+        files: files_of(alloc, matches)?,
+    })
+}
+
 /// The conversion that is asked for. `clap` has refused words that name no format.
 fn conversion_of(alloc: Global, matches: &ArgMatches<'_>) -> Result<Option<Request>, CommandFault>
     ensures range { IfOk result (λ asked. IfSome asked HasSettingsInRange) }
@@ -253,7 +318,7 @@ fn request_of(
     ensures asked { IfOk result (λ asked. IfSome asked (Asks name.now (rows_of (found_of matches.now)))) }
 {
     let request = match name {
-        "survey" => Request::Survey(settings_of(matches), files_of(alloc, matches)?),
+        "survey" => Request::Survey(survey_of(alloc, matches)?),
         "solve" => {
             let file = text_of(alloc, matches, "file")?;
             Request::Solve(guesses_of(matches), pick_of(matches), file)

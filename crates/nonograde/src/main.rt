@@ -3,22 +3,29 @@
 
 mod command;
 mod converting;
+mod files;
+mod performing;
 mod program;
 mod reports;
 mod stop;
 
 use std::process::ExitCode;
+use survey_core::Counted;
 
 fn main(rt: HostRuntime) -> ExitCode {
+    let mut input = Counted::new(rt.stdin());
+    let mut output = Counted::new(rt.stdout());
+    let mut errors = Counted::new(rt.stderr());
     let status = match program::words_of(&rt) {
         Ok(words) => program::run(
             &rt,
             words,
-            &mut rt.stdin(),
-            &mut rt.stdout(),
-            &mut rt.stderr(),
+            &mut input,
+            &mut output,
+            &mut errors,
+            rt.stderr(),
         ),
-        Err(error) => program::refuse_words(&mut rt.stderr(), &error),
+        Err(error) => program::refuse_words(&mut errors, &error),
     };
     ExitCode::from(status)
 }
@@ -34,8 +41,12 @@ mod tests_refused;
 #[cfg(test)]
 mod tests_reports;
 #[cfg(test)]
+mod tests_running;
+#[cfg(test)]
 mod tests_samples;
 #[cfg(test)]
 mod tests_surveys;
+#[cfg(test)]
+mod tests_terminal;
 #[cfg(test)]
 mod tests_words;

@@ -1,275 +1,157 @@
-//! What the program does with its words, its files and its standard streams.
+//! What the program does with its words and its standard streams, and how it ends.
 
-ghost use Rattle.std.specs.Prelude.{◌≡◌, ◌≢◌, ◌≤◌, IfErr, OnOk};
-ghost use Rattle.std.specs.Io.KnownBytes.{Appends};
+ghost use Rattle.std.specs.Prelude.{◌≡◌, ◌≢◌, ◌-◌, ◌^◌, ◌<◌, ◌≤◌, IfOk, Result};
 ghost use Rattle.std.specs.IoError.{error_kind};
+ghost use Rattle.std.specs.Io.KnownBytes.{Appends};
+ghost use Rattle.clap.specs.Words.{kind_of};
+ghost use Rattle.survey_core.specs.Counted.{fault_count};
 ghost use Rattle.nonograde.specs.Command.{HasSettingsInRange};
-ghost use Rattle.nonograde.specs.Stop.{IsUnread, stop_of_convert};
-ghost use Rattle.nonograde.specs.declared.stop.Stop.TheVariants.{NoMemory as memory_stop};
+ghost use Rattle.nonograde.specs.Ending.{EndsBy, EndsByWords, Says, Stops, refused_line, stream};
 
 use crate::command::{CommandFault, Request, parse_words};
-use crate::converting::{ConvertFault, convert};
-use crate::reports::{lines_report, solve_report};
+use crate::performing::perform;
 use crate::stop::{Stop, stop_text};
-use grid_core::NoMemory;
-use lane_core::{MOST_GUESSES, OpenGate};
-use puzzle_text::{Entry, Format, LONGEST_PUZZLE};
-use solve_core::Pick;
+use clap::Error;
 use std::alloc::Global;
 use std::io::{ErrorKind, Read, Write};
 use std::rt::{Env, Files};
 use std::sync::Wait;
 use std::thread::Threads;
-use std::{env, fs, io};
-use survey_core::{Counted, Settings, run_survey, survey_entries};
+use std::{env, io};
+use survey_core::{Counted, write_text};
 
-/// How many bytes of a file are read at most: one more than a puzzle's text may have.
-const FILE_LIMIT: u64 = LONGEST_PUZZLE as u64 + 1;
-
-/// What the program prints where a growth was refused, also in making its last words.
+/// What the program prints if a growth was refused, also in making its last words.
 const NO_MEMORY: &[u8] = b"nonograde: NoMemory\n";
 
-impl From<NoMemory> for Stop {
-    ghost from_gives = { λ _ stop. stop ≡ memory_stop };
-
-    fn from(_refused: NoMemory) -> Stop {
-        Stop::NoMemory
-    }
-}
-
-impl From<ConvertFault> for Stop {
-    ghost from_gives = { λ fault stop. stop ≡ stop_of_convert fault };
-
-    fn from(fault: ConvertFault) -> Stop {
-        match fault {
-            ConvertFault::Entry(fault) => Stop::Entry(fault),
-            ConvertFault::Ambiguous => Stop::Ambiguous,
-            ConvertFault::NoMemory => Stop::NoMemory,
-        }
-    }
-}
-
-/// Why the program stops where a file gives this error.
-fn stop_of_error(error: &io::Error) -> Stop
-    ensures memory { error_kind error.now ≡ ErrorKind.OutOfMemory → result ≡ Stop.NoMemory }
-    ensures other { error_kind error.now ≢ ErrorKind.OutOfMemory → result ≡ Stop.Read }
-    ensures unread { IsUnread result }
-{
-    if error.kind() == ErrorKind::OutOfMemory {
-        Stop::NoMemory
-    } else {
-        Stop::Read
-    }
-}
-
-/// The first bytes of an open file: all of them, or as many as show that it is too long.
-fn read_front<F: Read + Drop>(alloc: Global, file: F) -> Result<Vec<u8>, Stop>
-    ensures { IfErr result IsUnread }
-{
-    let mut body = Vec::new(alloc);
-    match file.take(FILE_LIMIT).read_to_end(&mut body) {
-        Ok(_) => Ok(body),
-        Err(error) => Err(stop_of_error(&error)),
-    }
-}
-
-/// Reads a file, or as much of it as shows that it is too long.
-fn read_file<R: Files + AllocGlobal>(rt: &R, path: &str) -> Result<Vec<u8>, Stop>
-    ensures { IfErr result IsUnread }
-{
-    match fs::open(rt, path) {
-        Ok(file) => read_front(rt.alloc(), file),
-        Err(error) => Err(stop_of_error(&error)),
-    }
-}
-
-/// Reads files, in the order of the words that name them.
-fn read_files<R: Files + AllocGlobal>(rt: &R, paths: &[String]) -> Result<Vec<Vec<u8>>, Stop> {
-    let mut bodies = Vec::with_capacity(rt.alloc(), paths.len()).map_err(|_| Stop::NoMemory)?;
-    for path in paths {
-        let body = read_file(rt, path.as_str())?;
-        bodies.push(body).map_err(|_| Stop::NoMemory)?;
-    }
-    Ok(bodies)
-}
-
-/// An entry for each file, named by its word.
-fn entries_of<'a>(
-    alloc: Global,
-    paths: &'a [String],
-    bodies: &'a [Vec<u8>],
-) -> Result<Vec<Entry<'a>>, NoMemory> {
-    let mut entries = Vec::with_capacity(alloc, paths.len())?;
-    for (path, body) in paths.iter().zip(bodies) {
-        entries.push(Entry {
-            name: path.as_bytes(),
-            body: body.as_slice(),
-        })?;
-    }
-    Ok(entries)
-}
-
-/// Prints a text, and flushes.
-fn print_text<W: Write>(writer: &mut W, text: &[u8]) -> Result<(), Stop>
-    ensures ok { OnOk result (Appends (W.contents writer.old) (W.contents writer.new) text.now) }
-    ensures write { IfErr result (λ stop. stop ≡ Stop.Write) }
-{
-    if writer.write_all(text).is_err() {
-        return Err(Stop::Write);
-    }
-    match writer.flush() {
-        Ok(()) => Ok(()),
-        Err(_) => Err(Stop::Write),
-    }
-}
-
-/// Prints the survey of a collection.
-fn survey_input<R: Threads + Wait + Sync + AllocGlobal, I: Read, O: Write>(
-    rt: &R,
-    settings: &Settings,
-    input: &mut I,
-    output: &mut O,
-) -> Result<(), Stop> {
-    let mut reader = Counted::new(input);
-    let mut writer = Counted::new(output);
-    let alloc = rt.alloc();
-    run_survey(rt, alloc, &mut reader, &mut writer, settings, &OpenGate).map_err(Stop::Run)
-}
-
-/// Prints the survey of files.
-fn survey_files<R: Files + Threads + Wait + Sync + AllocGlobal, O: Write>(
-    rt: &R,
-    settings: &Settings,
-    paths: &[String],
-    output: &mut O,
-) -> Result<(), Stop> {
-    let bodies = read_files(rt, paths)?;
-    let alloc = rt.alloc();
-    let entries = entries_of(alloc, paths, &bodies)?;
-    let mut writer = Counted::new(output);
-    survey_entries(rt, alloc, &entries, &mut writer, settings, &OpenGate).map_err(Stop::Run)
-}
-
-/// Prints the entry of a file with its solutions.
-fn solve_file<R: Files + AllocGlobal, O: Write>(
-    rt: &R,
-    guesses: u32,
-    pick: Pick,
-    path: &str,
-    output: &mut O,
-) -> Result<(), Stop>
-    requires { guesses ≤ MOST_GUESSES }
-{
-    let body = read_file(rt, path)?;
-    let name = path.as_bytes();
-    let report = solve_report(rt.alloc(), name, &body, guesses, pick).map_err(Stop::Entry)?;
-    print_text(output, &report)
-}
-
-/// Prints a file's puzzle in another format.
-fn convert_file<R: Files + AllocGlobal, O: Write>(
-    rt: &R,
-    format: Format,
-    path: &str,
-    output: &mut O,
-) -> Result<(), Stop> {
-    let body = read_file(rt, path)?;
-    let text = convert(rt.alloc(), path.as_bytes(), &body, format)?;
-    print_text(output, &text)
-}
-
-/// Prints the grid of a file's puzzle as far as line logic gets.
-fn close_file<R: Files + AllocGlobal, O: Write>(
-    rt: &R,
-    path: &str,
-    output: &mut O,
-) -> Result<(), Stop> {
-    let body = read_file(rt, path)?;
-    let report = lines_report(rt.alloc(), path.as_bytes(), &body).map_err(Stop::Entry)?;
-    print_text(output, &report)
-}
-
-/// Prints what is asked for.
-fn perform<R: Files + Threads + Wait + Sync + AllocGlobal, I: Read, O: Write>(
-    rt: &R,
-    request: &Request,
-    input: &mut I,
-    output: &mut O,
-) -> Result<(), Stop>
-    requires { HasSettingsInRange request.now }
-{
-    match request {
-        Request::Survey(settings, paths) => {
-            if paths.is_empty() {
-                survey_input(rt, settings, input, output)
-            } else {
-                survey_files(rt, settings, paths, output)
-            }
-        }
-        Request::Solve(guesses, pick, path) => {
-            solve_file(rt, *guesses, *pick, path.as_str(), output)
-        }
-        Request::Convert(format, path) => convert_file(rt, *format, path.as_str(), output),
-        Request::Lines(path) => close_file(rt, path.as_str(), output),
-    }
-}
+/// What the program prints if its words can't be read.
+const NO_TEXT: &[u8] = b"error: a word of the command line is no text\n";
 
 /// The words after the program's name.
 pub fn words_of<R: Env + AllocGlobal>(rt: &R) -> io::Result<Vec<String>> {
     Ok(env::args(rt)?.skip(1).collect(rt.alloc())?)
 }
 
-/// Prints why the program stops, and gives its status.
-fn report_stop<E: Write>(alloc: Global, errors: &mut E, stop: &Stop) -> u8
-    ensures { result ≡ 1 }
+/// Prints why the program stops. An `Err` has the number of bytes that went out.
+fn tell_stop<E: Write>(alloc: Global, errors: &mut Counted<E>, stop: &Stop) -> Result<(), u64>
+    requires { fault_count errors.old < 2 ^ 32 - 1 }
+    ensures { fault_count errors.new ≡ fault_count errors.old
+        → Says stop.now (E.contents errors.old.inner) (E.contents errors.new.inner) }
 {
-    let _ = match stop_text(alloc, stop) {
-        Ok(text) => errors.write_all(&text),
-        Err(_) => errors.write_all(NO_MEMORY),
-    };
+    match stop_text(alloc, stop) {
+        Ok(text) => write_text(errors, &text),
+        Err(_) => write_text(errors, NO_MEMORY),
+    }
+}
+
+/// Prints why the program stops, and gives its status, 1.
+fn report_stop<E: Write>(alloc: Global, errors: &mut Counted<E>, stop: &Stop) -> u8
+    requires { fault_count errors.old < 2 ^ 32 - 1 }
+    ensures { Stops stop.now result (stream E.contents errors.old errors.new) }
+{
+    let _ = tell_stop(alloc, errors, stop);
     1
 }
 
-/// Says that the words can't be read, and gives the program's status: 1 where a growth was refused, else 2.
-pub fn refuse_words<E: Write>(errors: &mut E, error: &io::Error) -> u8
+/// Says that the words can't be read, and gives the program's status: 1 if a growth was refused, else 2.
+pub fn refuse_words<E: Write>(errors: &mut Counted<E>, error: &io::Error) -> u8
+    requires { fault_count errors.old < 2 ^ 32 - 1 }
     ensures memory { error_kind error.now ≡ ErrorKind.OutOfMemory → result ≡ 1 }
     ensures other { error_kind error.now ≢ ErrorKind.OutOfMemory → result ≡ 2 }
+    ensures said { fault_count errors.new ≡ fault_count errors.old
+        → Appends (E.contents errors.old.inner) (E.contents errors.new.inner) (refused_line result) }
 {
     if error.kind() == ErrorKind::OutOfMemory {
-        let _ = errors.write_all(NO_MEMORY);
+        let _ = write_text(errors, NO_MEMORY);
         return 1;
     }
-    let _ = errors.write_all(b"error: a word of the command line is no text\n");
+    let _ = write_text(errors, NO_TEXT);
     2
 }
 
-/// Runs the words that follow the program's name, and gives the program's status: 0 where it printed what was asked for, 1 at a fault, 2 where the words are
-/// refused.
-pub fn run<R: Files + Threads + Wait + Sync + AllocGlobal, I: Read, O: Write, E: Write>(
-    rt: &R,
-    words: Vec<String>,
-    input: &mut I,
-    output: &mut O,
-    errors: &mut E,
+/// Prints what `clap` says of the words, help and the version on the output and all else on the stream for
+/// faults, and gives the program's status.
+fn tell_words<O: Write, E: Write>(
+    alloc: Global,
+    error: &Error,
+    output: &mut Counted<O>,
+    errors: &mut Counted<E>,
 ) -> u8
-    ensures { result ≤ 2 }
+    requires { fault_count errors.old < 2 ^ 32 - 1 }
+    ensures status { result ≤ 2 }
+    ensures ends { EndsByWords (kind_of error.now) result (stream O.contents output.old output.new)
+        (stream E.contents errors.old errors.new) }
 {
-    let done = match parse_words(rt.alloc(), words) {
-        Ok(request) => perform(rt, &request, input, output),
-        Err(CommandFault::NoMemory) => Err(Stop::NoMemory),
-        Err(CommandFault::Words(error)) => {
-            if error.use_stderr() {
-                let _ = write!(errors, "{error}");
-                return 2;
-            }
-            match write!(output, "{error}").and_then(|()| output.flush()) {
-                Ok(()) => Ok(()),
-                Err(_) => Err(Stop::Write),
+    if error.use_stderr() {
+        let _ = write!(errors.inner, "{error}");
+        return 2;
+    }
+    match write!(output.inner, "{error}").and_then(|()| output.inner.flush()) {
+        Ok(()) => 0,
+        Err(_) => report_stop(alloc, errors, &Stop::Write),
+    }
+}
+
+/// Performs what is asked for, or tells why the words are refused, and gives the program's status.
+fn finish<R, I, O, E, P>(
+    rt: &R,
+    asked: Result<Request, CommandFault>,
+    input: &mut Counted<I>,
+    output: &mut Counted<O>,
+    errors: &mut Counted<E>,
+    progress: P,
+) -> u8
+where
+    R: Files + Threads + Wait + Sync + AllocGlobal,
+    I: Read,
+    O: Write,
+    E: Write,
+    P: Write + Drop + Send,
+    requires range { IfOk asked HasSettingsInRange }
+    requires reading { fault_count input.old < 2 ^ 32 - 1 }
+    requires writing { fault_count output.old < 2 ^ 32 - 1 }
+    requires telling { fault_count errors.old < 2 ^ 32 - 1 }
+    ensures status { result ≤ 2 }
+    ensures ends { EndsBy asked (I.remaining input.old.inner) result (stream O.contents output.old output.new)
+        (stream E.contents errors.old errors.new) }
+{
+    match asked {
+        Ok(request) => {
+            match perform(rt, &request, input, output, progress) {
+                Ok(()) => 0,
+                Err(stop) => report_stop(rt.alloc(), errors, &stop),
             }
         }
-    };
-    match done {
-        Ok(()) => 0,
-        Err(stop) => report_stop(rt.alloc(), errors, &stop),
+        Err(CommandFault::NoMemory) => report_stop(rt.alloc(), errors, &Stop::NoMemory),
+        Err(CommandFault::Words(error)) => tell_words(rt.alloc(), &error, output, errors),
     }
+}
+
+/// Runs the words that follow the program's name, and gives the program's status: 0 if it printed what was
+/// asked for, 1 at a fault, 2 if the words are refused.
+///
+/// A survey's progress is told on `progress`, if that is asked for: a second handle of the stream for faults.
+pub fn run<R, I, O, E, P>(
+    rt: &R,
+    words: Vec<String>,
+    input: &mut Counted<I>,
+    output: &mut Counted<O>,
+    errors: &mut Counted<E>,
+    progress: P,
+) -> u8
+where
+    R: Files + Threads + Wait + Sync + AllocGlobal,
+    I: Read,
+    O: Write,
+    E: Write,
+    P: Write + Drop + Send,
+    requires reading { fault_count input.old < 2 ^ 32 - 1 }
+    requires writing { fault_count output.old < 2 ^ 32 - 1 }
+    requires telling { fault_count errors.old < 2 ^ 32 - 1 }
+    ensures status { result ≤ 2 }
+    ensures ends { (asked : Result Request CommandFault) × IfOk asked HasSettingsInRange
+        × EndsBy asked (I.remaining input.old.inner) result (stream O.contents output.old output.new)
+        (stream E.contents errors.old errors.new) }
+{
+    let asked = parse_words(rt.alloc(), words);
+    finish(rt, asked, input, output, errors, progress)
 }

@@ -2,8 +2,10 @@
 
 ghost use Rattle.std.specs.Prelude.{◌≡◌, ◌++◌, IfOk, codes};
 ghost use Rattle.puzzle_text.specs.Words.{word_text};
-ghost use Rattle.nonograde.specs.Stop.{run_word, stop_line, stop_word};
+ghost use Rattle.nonograde.specs.Stop.{run_word, stop_line, stop_of_convert, stop_word};
+ghost use Rattle.nonograde.specs.declared.stop.Stop.TheVariants.{Entry as entry_stop, NoMemory as memory_stop};
 
+use crate::converting::ConvertFault;
 use grid_core::NoMemory;
 use puzzle_text::{EntryFault, FaultWord};
 use std::alloc::Global;
@@ -24,6 +26,34 @@ pub enum Stop {
     Write,
     /// A growth of memory was refused.
     NoMemory,
+}
+
+impl From<NoMemory> for Stop {
+    ghost from_gives = { λ _ stop. stop ≡ memory_stop };
+
+    fn from(_refused: NoMemory) -> Stop {
+        Stop::NoMemory
+    }
+}
+
+impl From<EntryFault> for Stop {
+    ghost from_gives = { λ fault stop. stop ≡ entry_stop fault };
+
+    fn from(fault: EntryFault) -> Stop {
+        Stop::Entry(fault)
+    }
+}
+
+impl From<ConvertFault> for Stop {
+    ghost from_gives = { λ fault stop. stop ≡ stop_of_convert fault };
+
+    fn from(fault: ConvertFault) -> Stop {
+        match fault {
+            ConvertFault::Entry(fault) => Stop::Entry(fault),
+            ConvertFault::Ambiguous => Stop::Ambiguous,
+            ConvertFault::NoMemory => Stop::NoMemory,
+        }
+    }
 }
 
 /// The word of a survey's fault: that of the collection's fault, if it is one. A failed writing has no number.

@@ -1,10 +1,10 @@
 //! The program's edge: words that reach the commands, faults of each command, and streams that fail.
 
-use crate::command::{CommandFault, Request, parse_words};
-use crate::program::{refuse_words, run};
+use crate::command::Request;
+use crate::program::refuse_words;
+use crate::tests_running::{asked, ended, ended_into};
 use crate::tests_samples::{FIT, ONE, TWO, joined, repeated};
 use crate::tests_surveys::FailingWriter;
-use std::alloc::{AllocError, Global};
 use std::fs::remove_file;
 use std::io::{ErrorKind, Write};
 use std::process::Abort;
@@ -13,7 +13,7 @@ use std::sync::Wait;
 use std::test::Fail;
 use std::thread::Threads;
 use std::{fs, io};
-use survey_core::{DEFAULT_GUESSES, DEFAULT_LANES, DEFAULT_RING};
+use survey_core::{Counted, DEFAULT_GUESSES, DEFAULT_LANES, DEFAULT_RING};
 
 /// A text that is refused in its second line.
 const BAD: &[u8] = b"2 2\n2 x\n1\n#\n1\n1\n";
@@ -38,14 +38,6 @@ impl Write for FlushedWriter {
     }
 }
 
-fn words_of(alloc: Global, line: &str) -> Result<Vec<String>, AllocError> {
-    let mut words = Vec::new(alloc);
-    for word in line.split_whitespace() {
-        words.push(String::from_str(alloc, word)?)?;
-    }
-    Ok(words)
-}
-
 /// Asserts that the program ends so on a command line: its status, what it prints, and what it says of a fault.
 fn assert_ends<R: Abort + Files + Threads + Wait + Sync + AllocGlobal>(
     rt: &R,
@@ -55,14 +47,11 @@ fn assert_ends<R: Abort + Files + Threads + Wait + Sync + AllocGlobal>(
     wanted: &[u8],
     fault: &[u8],
 ) -> Result<(), Fail> {
-    let mut input = input;
-    let mut printed = Vec::new(rt.alloc());
-    let mut said = Vec::new(rt.alloc());
-    let words = words_of(rt.alloc(), line).ok().ok_or("memory")?;
-    let ended = run(rt, words, &mut input, &mut printed, &mut said);
-    assert_eq!(rt; ended, status, "{line}");
-    assert!(rt; printed.as_slice() == wanted, "{line}");
-    assert!(rt; said.as_slice() == fault, "{line}");
+    let ending = ended(rt, line, input)?;
+    assert_eq!(rt; ending.status, status, "{line}");
+    assert!(rt; ending.printed.as_slice() == wanted, "{line}");
+    assert!(rt; ending.said.as_slice() == fault, "{line}");
+    assert!(rt; ending.told.is_empty(), "{line}");
     Ok(())
 }
 
@@ -185,20 +174,16 @@ fn outputs_fill_and_are_flushed(rt: HostRuntime) -> Result<(), Fail> {
         "lines edge-small.mk",
         "--help",
     ] {
-        let mut input: &[u8] = b"";
-        let mut full = FailingWriter { room: 3 };
-        let mut said = Vec::new(rt.alloc());
-        let words = words_of(rt.alloc(), line).ok().ok_or("memory")?;
-        let ended = run(&rt, words, &mut input, &mut full, &mut said);
-        assert_eq!(rt; ended, 1, "{line}");
+        let mut full = Counted::new(FailingWriter { room: 3 });
+        let (status, said) = ended_into(&rt, line, &mut full)?;
+        assert_eq!(rt; status, 1, "{line}");
         assert!(rt;
             said.as_slice() == b"nonograde: Write\n".as_slice(),
             "{line}"
         );
-        let mut flushed = FlushedWriter { flushes: 0 };
-        let words = words_of(rt.alloc(), line).ok().ok_or("memory")?;
-        let ended = run(&rt, words, &mut input, &mut flushed, &mut said);
-        assert_eq!(rt; (ended, flushed.flushes), (0, 1), "{line}");
+        let mut flushed = Counted::new(FlushedWriter { flushes: 0 });
+        let (status, _said) = ended_into(&rt, line, &mut flushed)?;
+        assert_eq!(rt; (status, flushed.inner.flushes), (0, 1), "{line}");
     }
     remove_file(&rt, "edge-small.mk").ok().ok_or("remove")?;
     Ok(())
@@ -215,9 +200,9 @@ fn unread_words_are_told(rt: HostRuntime) {
         ),
     ];
     for (kind, status, line) in table {
-        let mut said = Vec::new(rt.alloc());
+        let mut said = Counted::new(Vec::new(rt.alloc()));
         assert_eq!(rt; refuse_words(&mut said, &io::Error::from(kind)), status);
-        assert!(rt; said.as_slice() == line);
+        assert!(rt; said.inner.as_slice() == line);
     }
 }
 
@@ -248,14 +233,6 @@ fn largest_puzzles_pass(rt: HostRuntime) -> Result<(), Fail> {
     Ok(())
 }
 
-/// What a command line asks for.
-fn asked(alloc: Global, line: &str) -> Result<Request, CommandFault> {
-    parse_words(
-        alloc,
-        words_of(alloc, line).map_err(|_| CommandFault::NoMemory)?,
-    )
-}
-
 #[test]
 fn defaults_differ_from_constants(rt: HostRuntime) {
     assert_eq!(rt;
@@ -263,7 +240,8 @@ fn defaults_differ_from_constants(rt: HostRuntime) {
         (4, 8, 1000)
     );
     match &asked(rt.alloc(), "survey") {
-        Ok(Request::Survey(settings, _files)) => {
+        Ok(Request::Survey(survey)) => {
+            let settings = survey.settings;
             assert_eq!(rt;
                 (settings.lanes, settings.ring, settings.guesses),
                 (DEFAULT_LANES, DEFAULT_RING, DEFAULT_GUESSES)

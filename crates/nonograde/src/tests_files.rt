@@ -1,43 +1,11 @@
 //! Files: what is read of them, and in which order.
 
-use crate::program::run;
+use crate::tests_running::ended;
 use crate::tests_samples::{CLASH, FIT, ONE, repeated};
 use puzzle_text::LONGEST_PUZZLE;
 use std::fs;
 use std::fs::remove_file;
-use std::rt::Files;
-use std::sync::Wait;
 use std::test::Fail;
-use std::thread::Threads;
-
-/// The status that the program ends with, what it prints, and what it says of a fault.
-#[derive(Drop)]
-struct Ending {
-    status: u8,
-    printed: Vec<u8>,
-    said: Vec<u8>,
-}
-
-/// How the program ends on these words, with nothing on standard input.
-fn ended<R: Files + Threads + Wait + Sync + AllocGlobal>(
-    rt: &R,
-    line: &str,
-) -> Result<Ending, Fail> {
-    let mut words = Vec::new(rt.alloc());
-    for word in line.split_whitespace() {
-        let word = String::from_str(rt.alloc(), word).ok().ok_or("memory")?;
-        words.push(word).ok().ok_or("memory")?;
-    }
-    let mut input: &[u8] = b"";
-    let mut printed = Vec::new(rt.alloc());
-    let mut said = Vec::new(rt.alloc());
-    let status = run(rt, words, &mut input, &mut printed, &mut said);
-    Ok(Ending {
-        status,
-        printed,
-        said,
-    })
-}
 
 #[test]
 fn files_are_entries_named_by_their_words(rt: HostRuntime) -> Result<(), Fail> {
@@ -49,10 +17,11 @@ fn files_are_entries_named_by_their_words(rt: HostRuntime) -> Result<(), Fail> {
     let surveyed = ended(
         &rt,
         "survey files-fit.nin --lanes 2 files-one.mk ./files-clash.mk",
+        b"",
     )?;
-    let closed = ended(&rt, "lines files-one.mk")?;
-    let solved = ended(&rt, "solve files-one.mk")?;
-    let converted = ended(&rt, "convert --to mk files-fit.nin")?;
+    let closed = ended(&rt, "lines files-one.mk", b"")?;
+    let solved = ended(&rt, "solve files-one.mk", b"")?;
+    let converted = ended(&rt, "convert --to mk files-fit.nin", b"")?;
     for name in ["files-one.mk", "files-clash.mk", "files-fit.nin"] {
         remove_file(&rt, name).ok().ok_or("remove")?;
     }
@@ -75,8 +44,8 @@ fn long_files_are_too_long(rt: HostRuntime) -> Result<(), Fail> {
     fs::write(&rt, "files-long.mk", text.as_slice())
         .ok()
         .ok_or("write")?;
-    let closed = ended(&rt, "lines files-long.mk")?;
-    let surveyed = ended(&rt, "survey files-long.mk")?;
+    let closed = ended(&rt, "lines files-long.mk", b"")?;
+    let surveyed = ended(&rt, "survey files-long.mk", b"")?;
     remove_file(&rt, "files-long.mk").ok().ok_or("remove")?;
     assert_eq!(rt; closed.status, 1);
     assert!(rt; closed.printed.is_empty());
@@ -89,8 +58,8 @@ fn long_files_are_too_long(rt: HostRuntime) -> Result<(), Fail> {
 #[test]
 fn unreadable_files_come_first(rt: HostRuntime) -> Result<(), Fail> {
     fs::write(&rt, "files-two.txt", b"").ok().ok_or("write")?;
-    let missing = ended(&rt, "survey files-two.txt files-missing.mk")?;
-    let unknown = ended(&rt, "lines files-two.txt")?;
+    let missing = ended(&rt, "survey files-two.txt files-missing.mk", b"")?;
+    let unknown = ended(&rt, "lines files-two.txt", b"")?;
     remove_file(&rt, "files-two.txt").ok().ok_or("remove")?;
     assert_eq!(rt; missing.status, 1);
     assert!(rt; missing.printed.is_empty());

@@ -5,8 +5,8 @@ use crate::converting::{ConvertFault, convert};
 use crate::reports::{lines_report, solve_report};
 use crate::stop::{Stop, stop_text};
 use crate::tests_refusals::{Told, assert_heeded, assert_swept, refuse, told_if, was_refused};
+use crate::tests_running::asked;
 use crate::tests_samples::{DEMO, DEMO_GRID, DEMO_NIN, MEETS, PAIR, TWO, joined, repeated};
-use crate::tests_words::asked;
 use clap::error::ErrorKind;
 use grid_core::NoMemory;
 use puzzle_text::{EntryFault, Format, LONGEST_PUZZLE, TextFault};
@@ -134,7 +134,9 @@ fn stops_are_told_or_refused(rt: HostRuntime) {
 /// What words told that are to ask for this survey of two files.
 fn told_of_survey(answer: Result<Request, CommandFault>, wanted: Settings) -> Told {
     match answer {
-        Ok(Request::Survey(settings, files)) => told_if(settings == wanted && files.len() == 2),
+        Ok(Request::Survey(survey)) => {
+            told_if(survey.settings == wanted && survey.files.len() == 2)
+        }
         Err(CommandFault::NoMemory) => Told::NoMemory,
         _ => Told::Other,
     }

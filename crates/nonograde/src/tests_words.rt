@@ -1,8 +1,8 @@
 //! Which words ask for what, and what the program says and answers.
 
-use crate::command::{CommandFault, Request, parse_words};
-use crate::program::run;
+use crate::command::{CommandFault, Request};
 use crate::stop::{Stop, stop_text};
+use crate::tests_running::{asked, ended, ended_into};
 use crate::tests_samples::assert_bytes;
 use crate::tests_surveys::FailingWriter;
 use grid_core::NoMemory;
@@ -11,7 +11,7 @@ use solve_core::Pick;
 use std::alloc::{AllocError, Global};
 use std::io::{Read, Write};
 use std::test::Fail;
-use survey_core::{RunFault, Settings};
+use survey_core::{Counted, RunFault, Settings};
 
 #[test]
 fn stop_text_not_always_no_memory(rt: HostRuntime) {
@@ -39,22 +39,6 @@ fn stop_text_not_always_no_memory(rt: HostRuntime) {
     }
 }
 
-fn words_of(alloc: Global, line: &str) -> Result<Vec<String>, AllocError> {
-    let mut words = Vec::new(alloc);
-    for word in line.split_whitespace() {
-        words.push(String::from_str(alloc, word)?)?;
-    }
-    Ok(words)
-}
-
-/// What a command line asks for.
-pub(crate) fn asked(alloc: Global, line: &str) -> Result<Request, CommandFault> {
-    parse_words(
-        alloc,
-        words_of(alloc, line).map_err(|_| CommandFault::NoMemory)?,
-    )
-}
-
 #[test]
 fn words_ignored_by_surveys(rt: HostRuntime) {
     let three = Settings {
@@ -65,9 +49,10 @@ fn words_ignored_by_surveys(rt: HostRuntime) {
         show: false,
     };
     match &asked(rt.alloc(), "survey --lanes 3 --ring 1") {
-        Ok(Request::Survey(settings, files)) => {
-            assert_eq!(rt; *settings, three);
-            assert!(rt; files.is_empty());
+        Ok(Request::Survey(survey)) => {
+            assert_eq!(rt; survey.settings, three);
+            assert!(rt; !survey.progress);
+            assert!(rt; survey.files.is_empty());
         }
         _ => assert!(rt; false),
     }
@@ -78,12 +63,16 @@ fn words_ignored_by_surveys(rt: HostRuntime) {
         pick: Pick::First,
         show: true,
     };
-    match &asked(rt.alloc(), "survey --show a.mk --guesses 7 b.nin") {
-        Ok(Request::Survey(settings, files)) => {
-            assert_eq!(rt; *settings, shown);
-            assert_eq!(rt; files.len(), 2);
-            assert_eq!(rt; files[0].as_str(), "a.mk");
-            assert_eq!(rt; files[1].as_str(), "b.nin");
+    match &asked(
+        rt.alloc(),
+        "survey --show a.mk --guesses 7 --progress b.nin",
+    ) {
+        Ok(Request::Survey(survey)) => {
+            assert_eq!(rt; survey.settings, shown);
+            assert!(rt; survey.progress);
+            assert_eq!(rt; survey.files.len(), 2);
+            assert_eq!(rt; survey.files[0].as_str(), "a.mk");
+            assert_eq!(rt; survey.files[1].as_str(), "b.nin");
         }
         _ => assert!(rt; false),
     }
@@ -99,9 +88,9 @@ fn rule_for_guesses_ignored(rt: HostRuntime) {
         show: false,
     };
     match &asked(rt.alloc(), "survey --pick most") {
-        Ok(Request::Survey(settings, files)) => {
-            assert_eq!(rt; *settings, most);
-            assert!(rt; files.is_empty());
+        Ok(Request::Survey(survey)) => {
+            assert_eq!(rt; survey.settings, most);
+            assert!(rt; survey.files.is_empty());
         }
         _ => assert!(rt; false),
     }
@@ -211,14 +200,10 @@ fn statuses_and_streams(rt: HostRuntime) -> Result<(), Fail> {
         ),
     ];
     for (line, input, status, printed, said) in table {
-        let words = words_of(rt.alloc(), line).ok().ok_or("memory")?;
-        let mut input = input;
-        let mut output = Vec::new(rt.alloc());
-        let mut errors = Vec::new(rt.alloc());
-        let ended = run(&rt, words, &mut input, &mut output, &mut errors);
-        assert_eq!(rt; ended, status, "{line}");
-        assert!(rt; output.as_slice() == printed, "{line}");
-        assert!(rt; errors.as_slice() == said, "{line}");
+        let ending = ended(&rt, line, input)?;
+        assert_eq!(rt; ending.status, status, "{line}");
+        assert!(rt; ending.printed.as_slice() == printed, "{line}");
+        assert!(rt; ending.said.as_slice() == said, "{line}");
     }
     Ok(())
 }
@@ -226,26 +211,19 @@ fn statuses_and_streams(rt: HostRuntime) -> Result<(), Fail> {
 #[test]
 fn help_and_refused_words(rt: HostRuntime) -> Result<(), Fail> {
     for (line, status) in [("--help", 0), ("lines", 2), ("survey --lanes 17", 2)] {
-        let words = words_of(rt.alloc(), line).ok().ok_or("memory")?;
-        let mut input: &[u8] = b"";
-        let mut output = Vec::new(rt.alloc());
-        let mut errors = Vec::new(rt.alloc());
-        let ended = run(&rt, words, &mut input, &mut output, &mut errors);
-        assert_eq!(rt; ended, status, "{line}");
-        assert_eq!(rt; output.is_empty(), status == 2, "{line}");
-        assert_eq!(rt; errors.is_empty(), status == 0, "{line}");
+        let ending = ended(&rt, line, b"")?;
+        assert_eq!(rt; ending.status, status, "{line}");
+        assert_eq!(rt; ending.printed.is_empty(), status == 2, "{line}");
+        assert_eq!(rt; ending.said.is_empty(), status == 0, "{line}");
     }
     Ok(())
 }
 
 #[test]
 fn full_output_is_a_fault(rt: HostRuntime) -> Result<(), Fail> {
-    let words = words_of(rt.alloc(), "survey").ok().ok_or("memory")?;
-    let mut input: &[u8] = b"";
-    let mut output = FailingWriter { room: 3 };
-    let mut errors = Vec::new(rt.alloc());
-    let ended = run(&rt, words, &mut input, &mut output, &mut errors);
-    assert_eq!(rt; ended, 1);
-    assert!(rt; errors.as_slice() == b"nonograde: Write\n".as_slice());
+    let mut output = Counted::new(FailingWriter { room: 3 });
+    let (status, said) = ended_into(&rt, "survey", &mut output)?;
+    assert_eq!(rt; status, 1);
+    assert!(rt; said.as_slice() == b"nonograde: Write\n".as_slice());
     Ok(())
 }

@@ -1,0 +1,71 @@
+//! The program run on a command line, for tests.
+
+use crate::command::{CommandFault, Request, parse_words};
+use crate::program::run;
+use std::alloc::{AllocError, Global};
+use std::io::Write;
+use std::rt::Files;
+use std::sync::Wait;
+use std::test::Fail;
+use std::thread::Threads;
+use survey_core::Counted;
+
+/// How the program ended: its status, what it printed, what it said of a fault, and what it told of progress.
+#[derive(Drop)]
+pub(crate) struct Ending {
+    pub status: u8,
+    pub printed: Vec<u8>,
+    pub said: Vec<u8>,
+    pub told: Vec<u8>,
+}
+
+/// The words of a command line that has no word with a space in it.
+pub(crate) fn words_of(alloc: Global, line: &str) -> Result<Vec<String>, AllocError> {
+    let mut words = Vec::new(alloc);
+    for word in line.split_whitespace() {
+        words.push(String::from_str(alloc, word)?)?;
+    }
+    Ok(words)
+}
+
+/// What a command line asks for.
+pub(crate) fn asked(alloc: Global, line: &str) -> Result<Request, CommandFault> {
+    parse_words(
+        alloc,
+        words_of(alloc, line).map_err(|_| CommandFault::NoMemory)?,
+    )
+}
+
+/// How the program ends on a command line, with this standard input.
+pub(crate) fn ended<R: Files + Threads + Wait + Sync + AllocGlobal>(
+    rt: &R,
+    line: &str,
+    input: &[u8],
+) -> Result<Ending, Fail> {
+    let words = words_of(rt.alloc(), line).ok().ok_or("memory")?;
+    let mut input = Counted::new(input);
+    let mut output = Counted::new(Vec::new(rt.alloc()));
+    let mut errors = Counted::new(Vec::new(rt.alloc()));
+    let mut told = Vec::new(rt.alloc());
+    let status = run(rt, words, &mut input, &mut output, &mut errors, &mut told);
+    Ok(Ending {
+        status,
+        printed: output.inner,
+        said: errors.inner,
+        told,
+    })
+}
+
+/// The status that the program ends with on a command line if this is its output, and what it says of a fault.
+pub(crate) fn ended_into<R: Files + Threads + Wait + Sync + AllocGlobal, O: Write>(
+    rt: &R,
+    line: &str,
+    output: &mut Counted<O>,
+) -> Result<(u8, Vec<u8>), Fail> {
+    let words = words_of(rt.alloc(), line).ok().ok_or("memory")?;
+    let mut input = Counted::new(b"".as_slice());
+    let mut errors = Counted::new(Vec::new(rt.alloc()));
+    let mut told = Vec::new(rt.alloc());
+    let status = run(rt, words, &mut input, output, &mut errors, &mut told);
+    Ok((status, errors.inner))
+}

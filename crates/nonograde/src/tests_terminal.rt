@@ -1,0 +1,138 @@
+//! At the terminal: help, the version, and a survey's progress.
+
+use crate::program::run;
+use crate::tests_running::{Ending, ended, words_of};
+use crate::tests_samples::{ONE, TWO};
+use crate::tests_surveys::FailingWriter;
+use std::fs::remove_file;
+use std::test::Fail;
+use std::{fs, str};
+use survey_core::Counted;
+
+/// A collection of two puzzles.
+const PAIR: &[u8] = b"@ one.mk\n1 1\n1\n#\n1\n@ two.mk\n2 2\n1\n1\n#\n1\n1\n";
+
+/// Its survey.
+const PAIR_SURVEY: &[u8] =
+    b"1 1x1 one line 1 1 0 absent one.mk\n2 2x2 several search 0 0 2 absent two.mk\nentries 2 refused 0 none 0 one 1 several 1 unsettled 0 line 1 trials 0 search 1\n";
+
+/// Whether a line stands in what was printed.
+fn has_line(ending: &Ending, line: &str) -> bool {
+    let Ok(text) = str::from_utf8(&ending.printed) else {
+        return false;
+    };
+    text.lines().any(|printed| printed == line)
+}
+
+#[test]
+fn examples_missing_in_help(rt: HostRuntime) -> Result<(), Fail> {
+    let table = [
+        (
+            "survey --help",
+            "Example: nonograde survey --lanes 8 --show puzzles/heart.non puzzles/cat.mk",
+            "Exit status: 0 if the survey is printed, 1 at a fault, 2 if the words are refused.",
+        ),
+        (
+            "solve --help",
+            "Example: nonograde solve puzzles/heart.non",
+            "Exit status: 0 if the line is printed, 1 at a fault, 2 if the words are refused.",
+        ),
+        (
+            "convert --help",
+            "Example: nonograde convert --to mk puzzles/heart.non",
+            "Exit status: 0 if the text is printed, 1 at a fault, 2 if the words are refused.",
+        ),
+        (
+            "lines --help",
+            "Example: nonograde lines puzzles/heart.non",
+            "Exit status: 0 if the grid is printed, 1 at a fault, 2 if the words are refused.",
+        ),
+    ];
+    for (words, example, statuses) in table {
+        let ending = ended(&rt, words, b"")?;
+        assert_eq!(rt; ending.status, 0, "{words}");
+        assert!(rt; has_line(&ending, example), "{words}");
+        assert!(rt; has_line(&ending, statuses), "{words}");
+        assert!(rt; ending.said.is_empty(), "{words}");
+    }
+    Ok(())
+}
+
+#[test]
+fn version_is_printed(rt: HostRuntime) -> Result<(), Fail> {
+    let ending = ended(&rt, "--version", b"")?;
+    assert_eq!(rt; ending.status, 0);
+    assert!(rt; ending.printed.as_slice() == b"nonograde 2026.11.24\n".as_slice());
+    Ok(())
+}
+
+#[test]
+fn program_without_words_prints_help(rt: HostRuntime) -> Result<(), Fail> {
+    let ending = ended(&rt, "", b"")?;
+    assert_eq!(rt; ending.status, 2);
+    assert!(rt; ending.printed.is_empty());
+    assert!(rt; !ending.said.is_empty());
+    Ok(())
+}
+
+#[test]
+fn progress_is_told_if_asked_for(rt: HostRuntime) -> Result<(), Fail> {
+    fs::write(&rt, "told-one.mk", ONE).ok().ok_or("write")?;
+    fs::write(&rt, "told-two.mk", TWO).ok().ok_or("write")?;
+    let table: [(&str, &[u8], &[u8]); 5] = [
+        ("survey", PAIR, b""),
+        (
+            "survey --lanes 1 --progress",
+            PAIR,
+            b"\rgraded 1\rgraded 2\n",
+        ),
+        ("survey --lanes 1 --progress", b"", b""),
+        (
+            "survey --lanes 1 --progress told-one.mk told-two.mk",
+            b"",
+            b"\rgraded 1 of 2\rgraded 2 of 2\n",
+        ),
+        ("survey told-one.mk told-two.mk", b"", b""),
+    ];
+    for (words, input, told) in table {
+        let ending = ended(&rt, words, input)?;
+        assert_eq!(rt; ending.status, 0, "{words}");
+        assert!(rt; ending.told.as_slice() == told, "{words}");
+        assert!(rt; ending.said.is_empty(), "{words}");
+    }
+    remove_file(&rt, "told-one.mk").ok().ok_or("remove")?;
+    remove_file(&rt, "told-two.mk").ok().ok_or("remove")?;
+    Ok(())
+}
+
+#[test]
+fn progress_changes_surveys(rt: HostRuntime) -> Result<(), Fail> {
+    for words in [
+        "survey",
+        "survey --progress",
+        "survey --progress --lanes 16",
+    ] {
+        let ending = ended(&rt, words, PAIR)?;
+        assert_eq!(rt; ending.status, 0, "{words}");
+        assert!(rt; ending.printed.as_slice() == PAIR_SURVEY, "{words}");
+    }
+    Ok(())
+}
+
+#[test]
+fn failed_progress_changes_surveys(rt: HostRuntime) -> Result<(), Fail> {
+    for room in [0, 5, 12, 18] {
+        let words = words_of(rt.alloc(), "survey --progress")
+            .ok()
+            .ok_or("memory")?;
+        let mut input = Counted::new(PAIR);
+        let mut output = Counted::new(Vec::new(rt.alloc()));
+        let mut errors = Counted::new(Vec::new(rt.alloc()));
+        let told = FailingWriter { room };
+        let status = run(&rt, words, &mut input, &mut output, &mut errors, told);
+        assert_eq!(rt; status, 0);
+        assert!(rt; output.inner.as_slice() == PAIR_SURVEY, "{room} bytes");
+        assert!(rt; errors.inner.is_empty(), "{room} bytes");
+    }
+    Ok(())
+}
