@@ -1,5 +1,5 @@
 -- What the entries of a command line say.
-use Rattle.std.proofs.Common.{◌≡◌, ◌∙◌, ◌≤◌, ◌<◌, ◌^◌, ℕ, Bool, List, [], Option, Some, None, Result, refl, ap, arith, option_map, codes}
+use Rattle.std.proofs.Common.{◌≡◌, ◌∙◌, ◌≤◌, ◌<◌, ◌^◌, ℕ, Bool, List, [], Option, Some, None, Result, refl, ap, arith, option_map, codes, true}
 use Rattle.std.specs.Prelude.{unwrap_or}
 use Rattle.std.specs.Borrow.{Bor}
 use Rattle.std.specs.Str.{bytes_eq}
@@ -11,9 +11,13 @@ use Rattle.std.proofs.Math.Seq.{take-length}
 use Rattle.std.proofs.lemmas.Bool.{cases_Bool}
 use Rattle.clap.specs.Matches.{ReadsOne, first_value, matched_of, one_text, raw_values}
 use Rattle.clap.specs.Walk.{Text, one_of, rows_of}
+use Rattle.clap.specs.Simple.{App, HasMatchesOf, app_of, is_simple, subcommand_of, subcommand_rows_of}
+use Rattle.clap.specs.declared.builder.command.Command.{Command}
+use Rattle.clap.specs.declared.parser.matches.ArgMatches.{ArgMatches}
 use Rattle.clap.specs.declared.parser.matches.Found.{Found}
 use Rattle.clap.proofs.WalkLemmas.{first_value-rows, one_text-rows, raw_values-rows}
-use Rattle.nonograde.specs.Words.{IsNumberIn, pick_of_word, text_in, texts_in}
+use Rattle.nonograde.specs.Words.{AsksIn, Choices, IsNumberIn, pick_of_word, program_app, text_in, texts_in}
+use Rattle.nonograde.specs.declared.command.Request.{Request}
 use Rattle.solve_core.specs.declared.picks.Pick.TheVariants.{First, Most}
 
 -- what an unsigned number's `from_str` gives
@@ -81,3 +85,17 @@ pub take_end : (n : ℕ) (xs : List (Bor Text)) → length xs ≤ n → n ≤ le
 take_end n xs past within =
     let e : n ≡ length xs = omega arith in
     rw e (take-length xs)
+
+-- `clap` reads the program's words by its definition
+program_is_simple : (formats picks : Choices) → is_simple (program_app formats picks) ≡ true
+program_is_simple formats picks = refl
+
+-- if the entered command asks for a request, the words do
+pub asked_of : (formats picks : Choices) (program : Command) (words given : List Text) (m : ArgMatches) (request : Request)
+    → app_of program ≡ program_app formats picks → given ≡ words → HasMatchesOf (app_of program) given m
+    → AsksIn (subcommand_rows_of m) request → AsksIn (subcommand_of (program_app formats picks) words) request
+asked_of formats picks program words given m request shape same has asks =
+    let simple : is_simple (app_of program) ≡ true = ap is_simple shape ∙ program_is_simple formats picks in
+    let entered : subcommand_rows_of m ≡ subcommand_of (program_app formats picks) words =
+    (has simple).1 ∙ ap (λ (a : App). subcommand_of a given) shape ∙ ap (subcommand_of (program_app formats picks)) same in
+    rw entered at asks

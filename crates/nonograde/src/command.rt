@@ -2,11 +2,11 @@
 
 ghost use Rattle.std.specs.Prelude.{◌≡◌, ◌≢◌, ◌≤◌, IfOk, IfSome, map, string_bytes, codes};
 ghost use Rattle.clap.specs.Walk.{one_of, rows_of};
-ghost use Rattle.clap.specs.Words.{found_of, kind_of};
+ghost use Rattle.clap.specs.Words.{found_of, kind_of, subcommand_rows_of};
 ghost use Rattle.clap.specs.declared.error.kind.ErrorKind.TheVariants.{OutOfMemory};
 ghost use Rattle.nonograde.specs.declared.command.CommandFault.TheVariants.{NoMemory as command_memory, Words as refused_words};
 ghost use Rattle.nonograde.specs.Command.{HasSettingsInRange};
-ghost use Rattle.nonograde.specs.Words.{AreSettingsIn, Asks, AsksSurvey, IsNumberIn, pick_of_word, text_in, texts_in};
+ghost use Rattle.nonograde.specs.Words.{AreSettingsIn, Asks, AsksIn, AsksSurvey, IsArgument, IsCommand, IsNumberIn, WordsAsk, command_app, convert_app, file_rule, files_rule, grading_app, grading_rules, guesses_rule, lanes_rule, lines_app, pick_of_word, pick_rule, program_app, progress_rule, ring_rule, show_rule, solve_app, survey_app, text_in, texts_in, to_rule};
 
 use clap::error::ErrorKind;
 use clap::{Arg, ArgAction, ArgMatches, Command, Error, value_parser};
@@ -104,7 +104,9 @@ impl From<NoMemory> for CommandFault {
 }
 
 /// The option `--guesses`.
-fn guesses_option<'a>(alloc: Global) -> Arg<'a> {
+fn guesses_option<'a>(alloc: Global) -> Arg<'a>
+    ensures { IsArgument guesses_rule result }
+{
     Arg::new(alloc, "guesses")
         .long("guesses")
         .value_name("N")
@@ -114,7 +116,9 @@ fn guesses_option<'a>(alloc: Global) -> Arg<'a> {
 }
 
 /// The option `--pick`, with the words of the rules.
-fn pick_option<'a>(alloc: Global, picks: &'a [&'a str]) -> Arg<'a> {
+fn pick_option<'a>(alloc: Global, picks: &'a [&'a str]) -> Arg<'a>
+    ensures { IsArgument (pick_rule picks.entry) result }
+{
     Arg::new(alloc, "pick")
         .long("pick")
         .value_name("RULE")
@@ -124,55 +128,110 @@ fn pick_option<'a>(alloc: Global, picks: &'a [&'a str]) -> Arg<'a> {
 }
 
 /// The word that names a file.
-fn file_word<'a>(alloc: Global) -> Arg<'a> {
+fn file_word<'a>(alloc: Global) -> Arg<'a>
+    ensures { IsArgument file_rule result }
+{
     Arg::new(alloc, "file")
         .value_name("FILE")
         .help("A puzzle: its name ends in .non, .mk or .nin")
         .required(true)
 }
 
-/// The command `survey`, with the words of the rules for guesses.
-fn survey_command<'a>(alloc: Global, picks: &'a [&'a str]) -> Result<Command<'a>, AllocError> {
-    let lanes = Arg::new(alloc, "lanes")
+/// The option `--lanes`.
+fn lanes_option<'a>(alloc: Global) -> Arg<'a>
+    ensures { IsArgument lanes_rule result }
+{
+    Arg::new(alloc, "lanes")
         .long("lanes")
         .value_name("N")
         .help("The number of lanes, 1 to 16")
         .value_parser(value_parser!(u16).range(1..=i64::from(MOST_LANES)))
-        .default_value("4");
-    let ring = Arg::new(alloc, "ring")
+        .default_value("4")
+}
+
+/// The option `--ring`.
+fn ring_option<'a>(alloc: Global) -> Arg<'a>
+    ensures { IsArgument ring_rule result }
+{
+    Arg::new(alloc, "ring")
         .long("ring")
         .value_name("N")
         .help("The capacity of a lane's rings, 1 to 64")
         .value_parser(value_parser!(u16).range(1..=i64::from(LARGEST_RING)))
-        .default_value("8");
-    let show = Arg::new(alloc, "show")
+        .default_value("8")
+}
+
+/// The option `--show`.
+fn show_option<'a>(alloc: Global) -> Arg<'a>
+    ensures { IsArgument show_rule result }
+{
+    Arg::new(alloc, "show")
         .long("show")
         .help("Show the solutions")
-        .action(ArgAction::SetTrue);
-    let progress = Arg::new(alloc, "progress")
+        .action(ArgAction::SetTrue)
+}
+
+/// The option `--progress`.
+fn progress_option<'a>(alloc: Global) -> Arg<'a>
+    ensures { IsArgument progress_rule result }
+{
+    Arg::new(alloc, "progress")
         .long("progress")
         .help("Tell on standard error how many puzzles are graded")
-        .action(ArgAction::SetTrue);
-    let files = Arg::new(alloc, "file")
+        .action(ArgAction::SetTrue)
+}
+
+/// The option `--to`, with the words of the formats.
+fn to_option<'a>(alloc: Global, formats: &'a [&'a str]) -> Arg<'a>
+    ensures { IsArgument (to_rule formats.entry) result }
+{
+    Arg::new(alloc, "to")
+        .long("to")
+        .value_name("FORMAT")
+        .help("The format")
+        .value_parser(formats)
+        .required(true)
+}
+
+/// The words that name files.
+fn file_words<'a>(alloc: Global) -> Arg<'a>
+    ensures { IsArgument files_rule result }
+{
+    Arg::new(alloc, "file")
         .value_name("FILE")
         .help("Puzzles in .non, .mk or .nin, in place of a collection on standard input")
         .num_args(0..)
-        .action(ArgAction::Append);
+        .action(ArgAction::Append)
+}
+
+/// The command `survey` with the options that say how entries are graded, with the words of the rules for guesses.
+fn grading_command<'a>(alloc: Global, picks: &'a [&'a str]) -> Result<Command<'a>, AllocError>
+    ensures { IfOk result (IsCommand (command_app (codes "survey") (grading_rules picks.entry))) }
+{
     Command::new(alloc, "survey")
+        .arg(lanes_option(alloc))?
+        .arg(ring_option(alloc))?
+        .arg(guesses_option(alloc))?
+        .arg(pick_option(alloc, picks))
+}
+
+/// The command `survey`, with the words of the rules for guesses.
+fn survey_command<'a>(alloc: Global, picks: &'a [&'a str]) -> Result<Command<'a>, AllocError>
+    ensures { IfOk result (IsCommand (survey_app picks.entry)) }
+{
+    grading_command(alloc, picks)?
         .about("Grade the puzzles of a collection")
         .after_help(SURVEY_HELP)
         .override_usage("nonograde survey [OPTIONS] [FILE]...")
-        .arg(lanes)?
-        .arg(ring)?
-        .arg(guesses_option(alloc))?
-        .arg(pick_option(alloc, picks))?
-        .arg(show)?
-        .arg(progress)?
-        .arg(files)
+        .arg(show_option(alloc))?
+        .arg(progress_option(alloc))?
+        .arg(file_words(alloc))
 }
 
 /// The command `solve`, with the words of the rules for guesses.
-fn solve_command<'a>(alloc: Global, picks: &'a [&'a str]) -> Result<Command<'a>, AllocError> {
+fn solve_command<'a>(alloc: Global, picks: &'a [&'a str]) -> Result<Command<'a>, AllocError>
+    ensures { IfOk result (IsCommand (solve_app picks.entry)) }
+{
     Command::new(alloc, "solve")
         .about("Solve a puzzle")
         .after_help(SOLVE_HELP)
@@ -183,23 +242,21 @@ fn solve_command<'a>(alloc: Global, picks: &'a [&'a str]) -> Result<Command<'a>,
 }
 
 /// The command `convert`, with the words of the formats.
-fn convert_command<'a>(alloc: Global, formats: &'a [&'a str]) -> Result<Command<'a>, AllocError> {
-    let to = Arg::new(alloc, "to")
-        .long("to")
-        .value_name("FORMAT")
-        .help("The format")
-        .value_parser(formats)
-        .required(true);
+fn convert_command<'a>(alloc: Global, formats: &'a [&'a str]) -> Result<Command<'a>, AllocError>
+    ensures { IfOk result (IsCommand (convert_app formats.entry)) }
+{
     Command::new(alloc, "convert")
         .about("Write a puzzle in another format")
         .after_help(CONVERT_HELP)
         .override_usage("nonograde convert --to <FORMAT> <FILE>")
-        .arg(to)?
+        .arg(to_option(alloc, formats))?
         .arg(file_word(alloc))
 }
 
 /// The command `lines`.
-fn lines_command<'a>(alloc: Global) -> Result<Command<'a>, AllocError> {
+fn lines_command<'a>(alloc: Global) -> Result<Command<'a>, AllocError>
+    ensures { IfOk result (IsCommand lines_app) }
+{
     Command::new(alloc, "lines")
         .about("Close a puzzle by line logic")
         .after_help(LINES_HELP)
@@ -207,22 +264,31 @@ fn lines_command<'a>(alloc: Global) -> Result<Command<'a>, AllocError> {
         .arg(file_word(alloc))
 }
 
-/// All commands, with the words of the formats and those of the rules for guesses.
-fn whole_command<'a>(
-    alloc: Global,
-    formats: &'a [&'a str],
-    picks: &'a [&'a str],
-) -> Result<Command<'a>, NoMemory> {
-    let command = Command::new(alloc, "nonograde")
+/// The program with the commands that grade puzzles, with the words of the rules for guesses.
+fn grading_program<'a>(alloc: Global, picks: &'a [&'a str]) -> Result<Command<'a>, AllocError>
+    ensures { IfOk result (IsCommand (grading_app picks.entry)) }
+{
+    Command::new(alloc, "nonograde")
         .about("Solves and grades nonograms")
         .version(VERSION)
         .no_binary_name(true)
         .subcommand_required(true)
         .subcommand(survey_command(alloc, picks)?)?
-        .subcommand(solve_command(alloc, picks)?)?
+        .subcommand(solve_command(alloc, picks)?)
+}
+
+/// The program with all commands, with the words of the formats and those of the rules for guesses.
+fn whole_program<'a>(
+    alloc: Global,
+    formats: &'a [&'a str],
+    picks: &'a [&'a str],
+) -> Result<Command<'a>, NoMemory>
+    ensures { IfOk result (IsCommand (program_app formats.entry picks.entry)) }
+{
+    let program = grading_program(alloc, picks)?
         .subcommand(convert_command(alloc, formats)?)?
         .subcommand(lines_command(alloc)?)?;
-    Ok(command)
+    Ok(program)
 }
 
 /// The text of an argument, or the empty one if it has none.
@@ -336,20 +402,28 @@ fn missing_command(command: &mut Command<'_>) -> Result<CommandFault, NoMemory> 
     Ok(CommandFault::from(error))
 }
 
+/// What the command that `clap` entered asks for, if it is known.
+fn request_in(alloc: Global, matches: &ArgMatches<'_>) -> Result<Option<Request>, CommandFault>
+    ensures range { IfOk result (λ asked. IfSome asked HasSettingsInRange) }
+    ensures asked { IfOk result (λ asked. IfSome asked (AsksIn (subcommand_rows_of matches.now))) }
+{
+    match matches.subcommand() {
+        Some((name, found)) => request_of(alloc, name, found),
+        None => Ok(None),
+    }
+}
+
 /// What the words after the program's name ask for.
 pub fn parse_words(alloc: Global, words: Vec<String>) -> Result<Request, CommandFault>
-    ensures { IfOk result HasSettingsInRange }
+    ensures range { IfOk result HasSettingsInRange }
+    ensures asked { IfOk result (WordsAsk (map string_bytes words.items)) }
 {
     let formats = Format::words();
     let picks = ["first", "most"];
-    let mut command = whole_command(alloc, &formats, &picks)?;
-    let matches = command.try_get_matches_from_mut(words.as_slice())?;
-    let asked = match matches.subcommand() {
-        Some((name, found)) => request_of(alloc, name, found)?,
-        None => None,
-    };
-    let Some(request) = asked else {
-        return Err(missing_command(&mut command)?);
-    };
-    Ok(request)
+    let mut program = whole_program(alloc, &formats, &picks)?;
+    let matches = program.try_get_matches_from_mut(words.as_slice())?;
+    match request_in(alloc, &matches)? {
+        Some(request) => Ok(request),
+        None => Err(missing_command(&mut program)?),
+    }
 }

@@ -1,11 +1,12 @@
 //! What the program does with its words and its standard streams, and how it ends.
 
-ghost use Rattle.std.specs.Prelude.{◌≡◌, ◌≢◌, ◌-◌, ◌^◌, ◌<◌, ◌≤◌, IfOk, Result};
+ghost use Rattle.std.specs.Prelude.{◌≡◌, ◌≢◌, ◌-◌, ◌^◌, ◌<◌, ◌≤◌, IfOk, Result, map, string_bytes};
 ghost use Rattle.std.specs.IoError.{error_kind};
 ghost use Rattle.std.specs.Io.KnownBytes.{Appends};
 ghost use Rattle.clap.specs.Words.{kind_of};
 ghost use Rattle.survey_core.specs.Counted.{fault_count};
 ghost use Rattle.nonograde.specs.Command.{HasSettingsInRange};
+ghost use Rattle.nonograde.specs.Words.{WordsAsk};
 ghost use Rattle.nonograde.specs.Ending.{EndsBy, EndsByWords, Says, Stops, refused_line, stream};
 
 use crate::command::{CommandFault, Request, parse_words};
@@ -148,7 +149,7 @@ where
     requires writing { fault_count output.old < 2 ^ 32 - 1 }
     requires telling { fault_count errors.old < 2 ^ 32 - 1 }
     ensures status { result ≤ 2 }
-    ensures ends { (asked : Result Request CommandFault) × IfOk asked HasSettingsInRange
+    ensures ends { (asked : Result Request CommandFault) × IfOk asked (WordsAsk (map string_bytes words.items))
         × EndsBy asked (I.remaining input.old.inner) result (stream O.contents output.old output.new)
         (stream E.contents errors.old errors.new) }
 {

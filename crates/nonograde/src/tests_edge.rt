@@ -174,16 +174,14 @@ fn outputs_fill_and_are_flushed(rt: HostRuntime) -> Result<(), Fail> {
         "lines edge-small.mk",
         "--help",
     ] {
-        let mut full = Counted::new(FailingWriter { room: 3 });
-        let (status, said) = ended_into(&rt, line, &mut full)?;
+        let (status, said, _full) = ended_into(&rt, line, FailingWriter { room: 3 })?;
         assert_eq!(rt; status, 1, "{line}");
         assert!(rt;
             said.as_slice() == b"nonograde: Write\n".as_slice(),
             "{line}"
         );
-        let mut flushed = Counted::new(FlushedWriter { flushes: 0 });
-        let (status, _said) = ended_into(&rt, line, &mut flushed)?;
-        assert_eq!(rt; (status, flushed.inner.flushes), (0, 1), "{line}");
+        let (status, _said, flushed) = ended_into(&rt, line, FlushedWriter { flushes: 0 })?;
+        assert_eq!(rt; (status, flushed.flushes), (0, 1), "{line}");
     }
     remove_file(&rt, "edge-small.mk").ok().ok_or("remove")?;
     Ok(())

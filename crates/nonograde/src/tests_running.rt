@@ -56,16 +56,18 @@ pub(crate) fn ended<R: Files + Threads + Wait + Sync + AllocGlobal>(
     })
 }
 
-/// The status that the program ends with on a command line if this is its output, and what it says of a fault.
-pub(crate) fn ended_into<R: Files + Threads + Wait + Sync + AllocGlobal, O: Write>(
+/// How the program ends on a command line if this takes its output: its status, what it says of a fault, and
+/// what became of the output.
+pub(crate) fn ended_into<R: Files + Threads + Wait + Sync + AllocGlobal, O: Write + Drop>(
     rt: &R,
     line: &str,
-    output: &mut Counted<O>,
-) -> Result<(u8, Vec<u8>), Fail> {
+    output: O,
+) -> Result<(u8, Vec<u8>, O), Fail> {
     let words = words_of(rt.alloc(), line).ok().ok_or("memory")?;
     let mut input = Counted::new(b"".as_slice());
+    let mut output = Counted::new(output);
     let mut errors = Counted::new(Vec::new(rt.alloc()));
     let mut told = Vec::new(rt.alloc());
-    let status = run(rt, words, &mut input, output, &mut errors, &mut told);
-    Ok((status, errors.inner))
+    let status = run(rt, words, &mut input, &mut output, &mut errors, &mut told);
+    Ok((status, errors.inner, output.inner))
 }

@@ -11,7 +11,7 @@ use solve_core::Pick;
 use std::alloc::{AllocError, Global};
 use std::io::{Read, Write};
 use std::test::Fail;
-use survey_core::{Counted, RunFault, Settings};
+use survey_core::{RunFault, Settings};
 
 #[test]
 fn stop_text_not_always_no_memory(rt: HostRuntime) {
@@ -221,8 +221,7 @@ fn help_and_refused_words(rt: HostRuntime) -> Result<(), Fail> {
 
 #[test]
 fn full_output_is_a_fault(rt: HostRuntime) -> Result<(), Fail> {
-    let mut output = Counted::new(FailingWriter { room: 3 });
-    let (status, said) = ended_into(&rt, "survey", &mut output)?;
+    let (status, said, _full) = ended_into(&rt, "survey", FailingWriter { room: 3 })?;
     assert_eq!(rt; status, 1);
     assert!(rt; said.as_slice() == b"nonograde: Write\n".as_slice());
     Ok(())
