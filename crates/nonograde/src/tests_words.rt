@@ -79,6 +79,31 @@ fn words_ignored_by_surveys(rt: HostRuntime) {
 }
 
 #[test]
+fn limits_on_settings_are_numbers(rt: HostRuntime) {
+    for (line, lanes, ring, guesses) in [
+        ("survey --lanes 1 --ring 1 --guesses 0", 1, 1, 0),
+        (
+            "survey --lanes 16 --ring 64 --guesses 1000000",
+            16,
+            64,
+            1_000_000,
+        ),
+    ] {
+        match &asked(rt.alloc(), line) {
+            Ok(Request::Survey(survey)) => {
+                let settings = survey.settings;
+                assert_eq!(rt;
+                    (settings.lanes, settings.ring, settings.guesses),
+                    (lanes, ring, guesses),
+                    "{line}"
+                );
+            }
+            _ => assert!(rt; false, "{line}"),
+        }
+    }
+}
+
+#[test]
 fn rule_for_guesses_ignored(rt: HostRuntime) {
     let most = Settings {
         lanes: 4,
@@ -156,6 +181,7 @@ fn refused_words(rt: HostRuntime) {
         ("survey --ring 65", 2),
         ("survey --ring 0", 2),
         ("solve --guesses 1000001 a.mk", 2),
+        ("survey --guesses 1000001", 2),
         ("survey --pick last", 2),
         ("solve --pick last a.mk", 2),
         ("convert --to txt a.mk", 2),

@@ -4,6 +4,7 @@ use super::tests_samples::{NOTHING, TEN, TEN_SURVEY, settings};
 use super::*;
 use lane_core::{Gate, OpenGate};
 use puzzle_text::{CollectionFault, EntryFault, TextFault, entries};
+use solve_core::Pick;
 use std::alloc::Global;
 use std::process::Abort;
 use std::sync::Wait;
@@ -103,6 +104,36 @@ fn refuses_large_collections(rt: HostRuntime) -> Result<(), Fail> {
     let long = vec![in rt.alloc(); b'\n'; 16_777_217]?;
     let too_long = Err(RunFault::Collection(CollectionFault::TooLong));
     assert_survey(&rt, &long, &settings, too_long, "");
+    Ok(())
+}
+
+#[test]
+fn largest_collections_pass(rt: HostRuntime) -> Result<(), Fail> {
+    let settings = Settings {
+        lanes: 16,
+        ring: 64,
+        guesses: 1_000_000,
+        pick: Pick::First,
+        show: false,
+    };
+    assert_survey(&rt, TEN.as_bytes(), &settings, Ok(()), TEN_SURVEY);
+    let long = vec![in rt.alloc(); b'\n'; 16_777_216]?;
+    assert_survey(&rt, &long, &settings, Ok(()), NOTHING);
+    let most = repeated(rt.alloc(), b"@ a.mk\n", 10_000)?;
+    let mut reader = Counted::new(most.as_slice());
+    let mut output = Counted::new(Vec::new(rt.alloc()));
+    let outcome = run_survey(
+        &rt,
+        rt.alloc(),
+        &mut reader,
+        &mut output,
+        &settings,
+        &OpenGate,
+    );
+    assert_eq!(rt; outcome, Ok(()));
+    let last = b"10000 refused NoSize a.mk\n\
+        entries 10000 refused 10000 none 0 one 0 several 0 unsettled 0 line 0 trials 0 search 0\n";
+    assert!(rt; output.inner.ends_with(last));
     Ok(())
 }
 
