@@ -86,7 +86,13 @@ lines_app = command_app (codes "lines") (file_rule ∷ [])
 -- the program with the commands that grade puzzles
 abbrev pub grading_app : Choices → App
 grading_app picks = record {
-  top = record (new_app (codes "nonograde")).top { no_binary_name = true; has_version = true; subcommand_required = true; is_leaf = false };
+  top = record (new_app (codes "nonograde")).top {
+    no_binary_name = true;
+    has_version = true;
+    arg_required_else_help = true;
+    subcommand_required = true;
+    is_leaf = false;
+  };
   subs = (survey_app picks).top ∷ (solve_app picks).top ∷ [];
 }
 

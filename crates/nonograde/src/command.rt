@@ -272,6 +272,7 @@ fn grading_program<'a>(alloc: Global, picks: &'a [&'a str]) -> Result<Command<'a
         .about("Solves and grades nonograms")
         .version(VERSION)
         .no_binary_name(true)
+        .arg_required_else_help(true)
         .subcommand_required(true)
         .subcommand(survey_command(alloc, picks)?)?
         .subcommand(solve_command(alloc, picks)?)

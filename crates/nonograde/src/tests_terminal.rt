@@ -1,7 +1,7 @@
 //! At the terminal: help, the version, and a survey's progress.
 
 use crate::program::run;
-use crate::tests_running::{Ending, ended, words_of};
+use crate::tests_running::{ended, words_of};
 use crate::tests_samples::{ONE, TWO};
 use crate::tests_surveys::FailingWriter;
 use std::fs::remove_file;
@@ -16,9 +16,9 @@ const PAIR: &[u8] = b"@ one.mk\n1 1\n1\n#\n1\n@ two.mk\n2 2\n1\n1\n#\n1\n1\n";
 const PAIR_SURVEY: &[u8] =
     b"1 1x1 one line 1 1 0 absent one.mk\n2 2x2 several search 0 0 2 absent two.mk\nentries 2 refused 0 none 0 one 1 several 1 unsettled 0 line 1 trials 0 search 1\n";
 
-/// Whether a line stands in what was printed.
-fn has_line(ending: &Ending, line: &str) -> bool {
-    let Ok(text) = str::from_utf8(&ending.printed) else {
+/// Whether a line stands in a text.
+fn has_line(text: &[u8], line: &str) -> bool {
+    let Ok(text) = str::from_utf8(text) else {
         return false;
     };
     text.lines().any(|printed| printed == line)
@@ -51,8 +51,8 @@ fn examples_missing_in_help(rt: HostRuntime) -> Result<(), Fail> {
     for (words, example, statuses) in table {
         let ending = ended(&rt, words, b"")?;
         assert_eq!(rt; ending.status, 0, "{words}");
-        assert!(rt; has_line(&ending, example), "{words}");
-        assert!(rt; has_line(&ending, statuses), "{words}");
+        assert!(rt; has_line(&ending.printed, example), "{words}");
+        assert!(rt; has_line(&ending.printed, statuses), "{words}");
         assert!(rt; ending.said.is_empty(), "{words}");
     }
     Ok(())
@@ -71,7 +71,8 @@ fn program_without_words_prints_help(rt: HostRuntime) -> Result<(), Fail> {
     let ending = ended(&rt, "", b"")?;
     assert_eq!(rt; ending.status, 2);
     assert!(rt; ending.printed.is_empty());
-    assert!(rt; !ending.said.is_empty());
+    assert!(rt; has_line(&ending.said, "Usage: nonograde <COMMAND>"));
+    assert!(rt; has_line(&ending.said, "  survey   Grade the puzzles of a collection"));
     Ok(())
 }
 
