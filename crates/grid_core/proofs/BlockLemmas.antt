@@ -28,7 +28,8 @@ unfolding cells_of
 get_or-cells_of blocks n k d h = get_or-map-range_with_len (cell_of_blocks blocks) 0 n k k d h (zero-add k)
 
 -- a list that has the cells of blocks, place by place, is the list of them
-pub cells_of-is : (blocks : List Block) (n : ℕ) (xs : List Cell) → length xs ≡ n → ((k : ℕ) → k < n → get_or xs k Unknown ≡ cell_of_blocks blocks k) → cells_of blocks n ≡ xs
+pub cells_of-is : (blocks : List Block) (n : ℕ) (xs : List Cell) → length xs ≡ n →
+    ((k : ℕ) → k < n → get_or xs k Unknown ≡ cell_of_blocks blocks k) → cells_of blocks n ≡ xs
 unfolding cells_of
 cells_of-is blocks n xs e h = sym (fill_by_all (cell_of_blocks blocks) xs n Unknown e h)
 
@@ -42,10 +43,12 @@ pub room : (n p blocks : ℕ) → blocks ≡ (n + 63) / 64 → p < n → p / 64 
 room n p blocks e h = omega arith
 
 -- the block of a place has its cell
-pub cell-read : (blocks : List Block) (n p : ℕ) (block : Block) → length blocks ≡ (n + 63) / 64 → p < n → block ≡ get_or blocks (p / 64) block
+pub cell-read : (blocks : List Block) (n p : ℕ) (block : Block) → length blocks ≡ (n + 63) / 64 → p < n →
+    block ≡ get_or blocks (p / 64) block
     → cell_in block (p % 64) ≡ get_or (cells_of blocks n) p Unknown
 cell-read blocks n p block e h is =
-    ap (λ (b : Block). cell_in b (p % 64)) (is ∙ get_or-within blocks (p / 64) block empty (room n p (length blocks) e h)) ∙ sym (get_or-cells_of blocks n p Unknown h)
+    ap (λ (b : Block). cell_in b (p % 64)) (is ∙ get_or-within blocks (p / 64) block empty (room n p (length blocks) e h)) ∙
+    sym (get_or-cells_of blocks n p Unknown h)
 
 -- ---- blocks of which nothing is known
 
@@ -91,11 +94,14 @@ pub record Changes (old block : Block) (place : ℕ) (c : Cell) : Type 0 where
   pub here : cell_in block place ≡ c
   pub others : (i : ℕ) → i ≢ place → cell_in block i ≡ cell_in old i
 
-pub cell_of-set_same : (blocks : List Block) (p : ℕ) (block : Block) (c : Cell) → p / 64 < length blocks → Changes (get_or blocks (p / 64) empty) block (p % 64) c
+pub cell_of-set_same : (blocks : List Block) (p : ℕ) (block : Block) (c : Cell) → p / 64 < length blocks →
+    Changes (get_or blocks (p / 64) empty) block (p % 64) c
     → cell_of_blocks (set blocks (p / 64) block) p ≡ c
-cell_of-set_same blocks p block c h change = ap (λ (b : Block). cell_in b (p % 64)) (get_or-set_same blocks (p / 64) block empty h) ∙ change.here
+cell_of-set_same blocks p block c h change = ap (λ (b : Block). cell_in b (p % 64)) (get_or-set_same blocks (p / 64) block empty h) ∙
+    change.here
 
-pub cell_of-set_other : (blocks : List Block) (p : ℕ) (block : Block) (c : Cell) → p / 64 < length blocks → Changes (get_or blocks (p / 64) empty) block (p % 64) c
+pub cell_of-set_other : (blocks : List Block) (p : ℕ) (block : Block) (c : Cell) → p / 64 < length blocks →
+    Changes (get_or blocks (p / 64) empty) block (p % 64) c
     → (k : ℕ) → k ≢ p → cell_of_blocks (set blocks (p / 64) block) k ≡ cell_of_blocks blocks k
 cell_of-set_other blocks p block c h change k n = elim (same_or_other (k / 64) (p / 64)) [ inl e ↦ in_block e | inr other ↦ in_other other ]
   where
@@ -113,7 +119,8 @@ cell_of-set_other blocks p block c h change k n = elim (same_or_other (k / 64) (
 pub cells_of-set : (blocks : List Block) (n p : ℕ) (block : Block) (c : Cell) → p < n → p / 64 < length blocks
     → Changes (get_or blocks (p / 64) empty) block (p % 64) c → cells_of (set blocks (p / 64) block) n ≡ set (cells_of blocks n) p c
 cells_of-set blocks n p block c l h change =
-    cells_of-is (set blocks (p / 64) block) n (set (cells_of blocks n) p c) (length-set (cells_of blocks n) p c ∙ length-cells_of blocks n) each
+    cells_of-is (set blocks (p / 64) block) n (set (cells_of blocks n) p c) (length-set (cells_of blocks n) p c ∙
+    length-cells_of blocks n) each
   where
     within : p < length (cells_of blocks n)
     within = omega (arith, length-cells_of blocks n)
@@ -121,7 +128,8 @@ cells_of-set blocks n p block c l h change =
     each : (k : ℕ) → k < n → get_or (set (cells_of blocks n) p c) k Unknown ≡ cell_of_blocks (set blocks (p / 64) block) k
     each k m =
         elim (same_or_other k p) [
-          | inl e ↦ ap (λ (q : ℕ). get_or (set (cells_of blocks n) p c) q Unknown) e ∙ get_or-set_same (cells_of blocks n) p c Unknown within
+          | inl e ↦ ap (λ (q : ℕ). get_or (set (cells_of blocks n) p c) q Unknown) e ∙
+              get_or-set_same (cells_of blocks n) p c Unknown within
               ∙ sym (cell_of-set_same blocks p block c h change) ∙ ap (λ (q : ℕ). cell_of_blocks (set blocks (p / 64) block) q) (sym e)
           | inr other ↦ get_or-set_other (cells_of blocks n) p k c Unknown other ∙ get_or-cells_of blocks n k Unknown m
               ∙ sym (cell_of-set_other blocks p block c h change k other)
@@ -129,20 +137,23 @@ cells_of-set blocks n p block c l h change =
 
 -- what a block read and written again changes
 pub changes : (blocks : List Block) (p : ℕ) (old block : Block) (c : Cell) → p / 64 < length blocks → old ≡ get_or blocks (p / 64) old
-    → cell_in block (p % 64) ≡ c → ((i : ℕ) → i ≢ p % 64 → cell_in block i ≡ cell_in old i) → Changes (get_or blocks (p / 64) empty) block (p % 64) c
+    → cell_in block (p % 64) ≡ c → ((i : ℕ) → i ≢ p % 64 → cell_in block i ≡ cell_in old i) →
+    Changes (get_or blocks (p / 64) empty) block (p % 64) c
 changes blocks p old block c h is here others = record {
   here = here;
   others = λ i n. others i n ∙ ap (λ (b : Block). cell_in b i) (is ∙ get_or-within blocks (p / 64) old empty h);
 }
 
 -- blocks stay blocks
-pub kept : (n : ℕ) (blocks : List Block) (p : ℕ) (old block : Block) (c : Cell) → p < n → AreBlocks n blocks → old ≡ get_or blocks (p / 64) old
+pub kept : (n : ℕ) (blocks : List Block) (p : ℕ) (old block : Block) (c : Cell) → p < n → AreBlocks n blocks →
+    old ≡ get_or blocks (p / 64) old
     → cell_in block (p % 64) ≡ c → ((i : ℕ) → i ≢ p % 64 → cell_in block i ≡ cell_in old i) → (IsBlock old → IsBlock block)
     → AreBlocks n (set blocks (p / 64) block)
 kept n blocks p old block c l are is here others stays = record {
   count_of = length-set blocks (p / 64) block ∙ are.count_of;
   each = λ k. elim (same_or_other k (p / 64)) [
-    | inl e ↦ subst IsBlock (sym (ap (λ (q : ℕ). get_or (set blocks (p / 64) block) q empty) e ∙ get_or-set_same blocks (p / 64) block empty h)) (stays old_is)
+    | inl e ↦ subst IsBlock (sym (ap (λ (q : ℕ). get_or (set blocks (p / 64) block) q empty) e ∙
+        get_or-set_same blocks (p / 64) block empty h)) (stays old_is)
     | inr other ↦ subst IsBlock (sym (get_or-set_other blocks (p / 64) k block empty other)) (are.each k)
   ];
   behind = λ k b. let apart : k ≢ p = λ e. absurd (omega arith) in
@@ -170,7 +181,8 @@ unfolding ones ones_in
 ones_none = refl
 
 -- so many pass a test as a number has ones, if it has them at the places of those that pass
-count_bits : (g : ℕ → Bool) (m a d : ℕ) → m < 2 ^ d → ((i : ℕ) → i < d → g (a + i) ≡ has m i) → count_by g (range_with_len a d) ≡ count_ones m
+count_bits : (g : ℕ → Bool) (m a d : ℕ) → m < 2 ^ d → ((i : ℕ) → i < d → g (a + i) ≡ has m i) →
+    count_by g (range_with_len a d) ≡ count_ones m
 count_bits g m a zero h e =
     let none : m ≡ 0 = omega arith in
     sym (ap count_ones none ∙ ones_none)
@@ -197,7 +209,8 @@ count_same block m a (suc d) e =
     ∙ sym (sum_by-cons (λ (c : Cell). cond (is_known c) 1 0) (cell_in block a) (map (cell_in block) (range_with_len (a + 1) d)))
 
 -- the set of the known cells has as many places as there are known cells
-pub known_count : (block : Block) (m : ℕ) → ((i : ℕ) → has m i ≡ is_known (cell_in block i)) → count_by (has m) (range_with_len 0 64) ≡ count_by is_known (cells_in block)
+pub known_count : (block : Block) (m : ℕ) → ((i : ℕ) → has m i ≡ is_known (cell_in block i)) →
+    count_by (has m) (range_with_len 0 64) ≡ count_by is_known (cells_in block)
 unfolding cells_in
 known_count block m e = count_same block m 0 64 e
 
@@ -213,10 +226,12 @@ known_bits (suc (suc x)) y h k = absurd (omega arith)
 -- the cells that are filled or blank
 pub known_either : (filled blank i : ℕ) → has (bit_or filled blank) i ≡ is_known (cell_of (has filled i) (has blank i))
 known_either filled blank i =
-    ap (λ (v : ℕ). nat_eq v 1) (bit_at_or filled blank i) ∙ known_bits (bit_at filled i) (bit_at blank i) (bit_at-lt filled i) (bit_at-lt blank i)
+    ap (λ (v : ℕ). nat_eq v 1) (bit_at_or filled blank i) ∙
+    known_bits (bit_at filled i) (bit_at blank i) (bit_at-lt filled i) (bit_at-lt blank i)
 
 -- a set that lacks no place below 64 but those of another set has the others
-pub held : (places all lacking i : ℕ) → IsMaskOf (λ k. k < 64) all → IsMaskOf (λ k. Has all k × (has places k ≡ false)) lacking → i < 64 → (Has lacking i → ⊥)
+pub held : (places all lacking i : ℕ) → IsMaskOf (λ k. k < 64) all → IsMaskOf (λ k. Has all k × (has places k ≡ false)) lacking → i < 64 →
+    (Has lacking i → ⊥)
     → has places i ≡ true
 held places all lacking i whole rest h none = by (has places i) refl
   where
@@ -237,13 +252,16 @@ not_known Unknown h = refl
 not_known Filled h = absurd (true≢false h)
 not_known Blank h = absurd (true≢false h)
 
-range-append : (f : ℕ → Cell) (a n m : ℕ) → map f (range_with_len a (n + m)) ≡ map f (range_with_len a n) ++ map f (range_with_len (a + n) m)
-range-append f a zero m = ap (λ (q : ℕ). map f (range_with_len a q)) (zero-add m) ∙ ap (λ (q : ℕ). map f (range_with_len q m)) (sym (add-zero a))
+range-append : (f : ℕ → Cell) (a n m : ℕ) → map f (range_with_len a (n + m)) ≡ map f (range_with_len a n) ++
+    map f (range_with_len (a + n) m)
+range-append f a zero m = ap (λ (q : ℕ). map f (range_with_len a q)) (zero-add m) ∙
+    ap (λ (q : ℕ). map f (range_with_len q m)) (sym (add-zero a))
 range-append f a (suc n) m =
     let more : suc n + m ≡ suc (n + m) = omega arith in
     let start : a + 1 + n ≡ a + suc n = omega arith in
     ap (λ (q : ℕ). map f (range_with_len a q)) more
-    ∙ ap (λ (cells : List Cell). f a ∷ cells) (range-append f (a + 1) n m ∙ ap (λ (q : ℕ). map f (range_with_len (a + 1) n) ++ map f (range_with_len q m)) start)
+    ∙ ap (λ (cells : List Cell). f a ∷ cells) (range-append f (a + 1) n m ∙
+    ap (λ (q : ℕ). map f (range_with_len (a + 1) n) ++ map f (range_with_len q m)) start)
 
 count-append : (xs ys : List Cell) → count_by is_known (xs ++ ys) ≡ count_by is_known xs + count_by is_known ys
 count-append xs ys = sum_by-append (λ (c : Cell). cond (is_known c) 1 0) xs ys
@@ -260,14 +278,16 @@ block_cells blocks i =
 
 -- one block more
 pub known-more : (blocks : List Block) (i : ℕ)
-    → count_by is_known (cells_of blocks (64 * (i + 1))) ≡ count_by is_known (cells_of blocks (64 * i)) + count_by is_known (cells_in (get_or blocks i empty))
+    → count_by is_known (cells_of blocks (64 * (i + 1))) ≡ count_by is_known (cells_of blocks (64 * i)) + count_by is_known
+    (cells_in (get_or blocks i empty))
 unfolding cells_of
 known-more blocks i =
     let more : 64 * (i + 1) ≡ 64 * i + 64 = omega arith in
     ap (λ (q : ℕ). count_by is_known (cells_of blocks q)) more
     ∙ ap (count_by is_known) (range-append (cell_of_blocks blocks) 0 (64 * i) 64)
     ∙ count-append (map (cell_of_blocks blocks) (range_with_len 0 (64 * i))) (map (cell_of_blocks blocks) (range_with_len (0 + 64 * i) 64))
-    ∙ ap (λ (q : ℕ). count_by is_known (cells_of blocks (64 * i)) + count_by is_known (map (cell_of_blocks blocks) (range_with_len q 64))) (zero-add (64 * i))
+    ∙ ap (λ (q : ℕ). count_by is_known (cells_of blocks (64 * i)) + count_by is_known (map (cell_of_blocks blocks) (range_with_len q 64)))
+    (zero-add (64 * i))
     ∙ ap (λ (cells : List Cell). count_by is_known (cells_of blocks (64 * i)) + count_by is_known cells) (block_cells blocks i)
 
 none_known : (f : ℕ → Cell) (a r : ℕ) → ((k : ℕ) → a ≤ k → f k ≡ Unknown) → count_by is_known (map f (range_with_len a r)) ≡ 0
@@ -287,9 +307,11 @@ known-all blocks n m h behind =
     ap (λ (q : ℕ). count_by is_known (cells_of blocks q)) whole
     ∙ ap (count_by is_known) (range-append (cell_of_blocks blocks) 0 n r)
     ∙ count-append (map (cell_of_blocks blocks) (range_with_len 0 n)) (map (cell_of_blocks blocks) (range_with_len (0 + n) r))
-    ∙ ap (λ (x : ℕ). count_by is_known (cells_of blocks n) + x) (none_known (cell_of_blocks blocks) (0 + n) r (λ k l. behind k (omega arith)))
+    ∙ ap (λ (x : ℕ). count_by is_known (cells_of blocks n) + x)
+    (none_known (cell_of_blocks blocks) (0 + n) r (λ k l. behind k (omega arith)))
     ∙ add-zero (count_by is_known (cells_of blocks n))
 
 -- the blocks of so many cells have as many known ones
-pub known_whole : (n : ℕ) (blocks : List Block) → AreBlocks n blocks → count_by is_known (cells_of blocks (64 * length blocks)) ≡ count_by is_known (cells_of blocks n)
+pub known_whole : (n : ℕ) (blocks : List Block) → AreBlocks n blocks →
+    count_by is_known (cells_of blocks (64 * length blocks)) ≡ count_by is_known (cells_of blocks n)
 known_whole n blocks are = known-all blocks n (64 * length blocks) (omega (arith, are.count_of)) are.behind

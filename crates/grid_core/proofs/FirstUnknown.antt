@@ -20,29 +20,34 @@ found_at : (xs : List Cell) (i : ℕ) → position_or_len is_unknown xs ≡ i �
 found_at xs i e h = rw (e, lt-ltb i (length xs) h) refl
 
 -- the first cell that is not known
-pub position_some : (xs : List Cell) (i : ℕ) → i < length xs → get_or xs i Unknown ≡ Unknown → ((k : ℕ) → k < i → is_known (get_or xs k Unknown) ≡ true)
+pub position_some : (xs : List Cell) (i : ℕ) → i < length xs → get_or xs i Unknown ≡ Unknown →
+    ((k : ℕ) → k < i → is_known (get_or xs k Unknown) ≡ true)
     → position is_unknown xs ≡ Some i
 position_some xs i h here before =
     found_at xs i
-    (position_or_len_is is_unknown xs i Unknown (omega arith) (λ k l. known_not_unknown (get_or xs k Unknown) (before k l)) (λ l. ap is_unknown here)) h
+    (position_or_len_is is_unknown xs i Unknown (omega arith) (λ k l. known_not_unknown (get_or xs k Unknown) (before k l))
+    (λ l. ap is_unknown here)) h
 
 -- all cells are known
 pub position_none : (xs : List Cell) → ((k : ℕ) → k < length xs → is_known (get_or xs k Unknown) ≡ true) → position is_unknown xs ≡ None
 position_none xs known =
     let all : position_or_len is_unknown xs ≡ length xs =
-    position_or_len_is is_unknown xs (length xs) Unknown (omega arith) (λ k l. known_not_unknown (get_or xs k Unknown) (known k l)) (λ l. absurd (omega arith)) in
+    position_or_len_is is_unknown xs (length xs) Unknown (omega arith) (λ k l. known_not_unknown (get_or xs k Unknown) (known k l))
+    (λ l. absurd (omega arith)) in
     rw (all, le-ltb (length xs) (length xs) (omega arith)) refl
 
 -- either all cells are known, or some one is not
 all_or_not : (xs : List Cell)
-    → ((list_all is_known xs ≡ true) × (position_or_len is_unknown xs ≡ length xs)) ⊎ ((list_all is_known xs ≡ false) × (position_or_len is_unknown xs < length xs))
+    → ((list_all is_known xs ≡ true) × (position_or_len is_unknown xs ≡ length xs)) ⊎
+    ((list_all is_known xs ≡ false) × (position_or_len is_unknown xs < length xs))
 all_or_not [] = inl (refl, refl)
 all_or_not (Unknown ∷ xs) = inr (refl, omega arith)
 all_or_not (Filled ∷ xs) = elim (all_or_not xs) [ inl a ↦ inl (a.0, omega (arith, a.1)) | inr n ↦ inr (n.0, omega (arith, n.1)) ]
 all_or_not (Blank ∷ xs) = elim (all_or_not xs) [ inl a ↦ inl (a.0, omega (arith, a.1)) | inr n ↦ inr (n.0, omega (arith, n.1)) ]
 
 -- there is a first unknown cell exactly if not all are known
-pub unknown_or_all : {X : Type 0} (f : ℕ → X) (xs : List Cell) → is_some (option_map f (position is_unknown xs)) ≡ not (list_all is_known xs)
+pub unknown_or_all : {X : Type 0} (f : ℕ → X) (xs : List Cell) → is_some (option_map f (position is_unknown xs)) ≡
+    not (list_all is_known xs)
 unknown_or_all {X} f xs =
     elim (all_or_not xs) [
       | inl a ↦ rw (a.0, a.1, le-ltb (length xs) (length xs) (omega arith)) refl
@@ -55,20 +60,24 @@ is_not false h = absurd (true≢false h)
 
 -- ---- blocks of cells
 
-pub first_in : (blocks : List Block) (n p : ℕ) → p < n → cell_of_blocks blocks p ≡ Unknown → ((i : ℕ) → i < p → is_known (cell_of_blocks blocks i) ≡ true)
+pub first_in : (blocks : List Block) (n p : ℕ) → p < n → cell_of_blocks blocks p ≡ Unknown →
+    ((i : ℕ) → i < p → is_known (cell_of_blocks blocks i) ≡ true)
     → position is_unknown (cells_of blocks n) ≡ Some p
 first_in blocks n p h here before =
     position_some (cells_of blocks n) p (omega (arith, length-cells_of blocks n)) (get_or-cells_of blocks n p Unknown h ∙ here)
     (λ k l. ap is_known (get_or-cells_of blocks n k Unknown (omega arith)) ∙ before k l)
 
-pub none_in : (blocks : List Block) (n : ℕ) → ((i : ℕ) → i < n → is_known (cell_of_blocks blocks i) ≡ true) → position is_unknown (cells_of blocks n) ≡ None
+pub none_in : (blocks : List Block) (n : ℕ) → ((i : ℕ) → i < n → is_known (cell_of_blocks blocks i) ≡ true) →
+    position is_unknown (cells_of blocks n) ≡ None
 none_in blocks n known =
     position_none (cells_of blocks n) (λ k l.
-    let within : k < n = omega (arith, length-cells_of blocks n) in ap is_known (get_or-cells_of blocks n k Unknown within) ∙ known k within)
+    let within : k < n = omega (arith, length-cells_of blocks n) in ap is_known (get_or-cells_of blocks n k Unknown within) ∙
+    known k within)
 
 -- one place of a block more
 pub before-more : (blocks : List Block) (i place : ℕ) → place ≤ 64 → ((k : ℕ) → k < 64 * i → is_known (cell_of_blocks blocks k) ≡ true)
-    → ((k : ℕ) → k < place → is_known (cell_in (get_or blocks i empty) k) ≡ true) → (k : ℕ) → k < 64 * i + place → is_known (cell_of_blocks blocks k) ≡ true
+    → ((k : ℕ) → k < place → is_known (cell_in (get_or blocks i empty) k) ≡ true) → (k : ℕ) → k < 64 * i + place →
+    is_known (cell_of_blocks blocks k) ≡ true
 before-more blocks i place short before here k l = elim (cases_lt k (64 * i)) [ inl low ↦ before k low | inr high ↦ in_block high ]
   where
     in_block : 64 * i ≤ k → is_known (cell_of_blocks blocks k) ≡ true

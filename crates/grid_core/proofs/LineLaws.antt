@@ -25,10 +25,12 @@ all_numbered : (P : GridLine → Type 0) (f : ℕ × List ℕ → GridLine) (n :
 all_numbered P f n [] h = tt
 all_numbered P f n (c ∷ clues) h = (
   subst (λ (q : ℕ). P (f (q, c))) (add-zero n) (h 0 (omega arith)),
-  all_numbered P f (n + 1) clues (λ k l. let e : n + suc k ≡ n + 1 + k = omega arith in subst (λ (q : ℕ). P (f (q, get_or clues k []))) e (h (suc k) (omega arith))),
+  all_numbered P f (n + 1) clues (λ k l. let e : n + suc k ≡ n + 1 + k = omega arith in
+      subst (λ (q : ℕ). P (f (q, get_or clues k []))) e (h (suc k) (omega arith))),
 )
 
-one_numbered : (P : GridLine → Type 0) (f : ℕ × List ℕ → GridLine) (n : ℕ) (clues : List (List ℕ)) → AllByRecursion P (map f (enumerate_from n clues))
+one_numbered : (P : GridLine → Type 0) (f : ℕ × List ℕ → GridLine) (n : ℕ) (clues : List (List ℕ)) →
+    AllByRecursion P (map f (enumerate_from n clues))
     → (k : ℕ) → k < length clues → P (f (n + k, get_or clues k []))
 one_numbered P f n [] h k l = absurd (omega arith)
 one_numbered P f n (c ∷ clues) h zero l = subst (λ (q : ℕ). P (f (q, c))) (sym (add-zero n)) h.0
@@ -37,19 +39,22 @@ one_numbered P f n (c ∷ clues) h (suc k) l =
     subst (λ (q : ℕ). P (f (q, get_or clues k []))) e (one_numbered P f (n + 1) clues h.1 k (omega arith))
 
 -- what holds of each row and of each column holds of each line
-pub all_lines : (P : GridLine → Type 0) (p : Nonogram) → ((y : ℕ) → y < length p.rows → P (row_at p y)) → ((x : ℕ) → x < length p.columns → P (column_at p x)) → All P (lines_of p)
+pub all_lines : (P : GridLine → Type 0) (p : Nonogram) → ((y : ℕ) → y < length p.rows → P (row_at p y)) →
+    ((x : ℕ) → x < length p.columns → P (column_at p x)) → All P (lines_of p)
 all_lines P p r c =
     All-from_recursion P (lines_of p)
     (both_parts P (map (row_line p) (enumerate_from 0 p.rows)) (map (column_line p) (enumerate_from 0 p.columns))
     (all_numbered P (row_line p) 0 p.rows (λ k l. subst (λ (q : ℕ). P (row_line p (q, get_or p.rows k []))) (sym (zero-add k)) (r k l)))
-    (all_numbered P (column_line p) 0 p.columns (λ k l. subst (λ (q : ℕ). P (column_line p (q, get_or p.columns k []))) (sym (zero-add k)) (c k l))))
+    (all_numbered P (column_line p) 0 p.columns (λ k l. subst (λ (q : ℕ). P (column_line p (q, get_or p.columns k []))) (sym (zero-add k))
+    (c k l))))
 
 -- what holds of each line holds of each row
 pub each_row : (P : GridLine → Type 0) (p : Nonogram) → All P (lines_of p) → (y : ℕ) → y < length p.rows → P (row_at p y)
 each_row P p h y l =
     subst (λ (q : ℕ). P (row_line p (q, get_or p.rows y []))) (zero-add y)
     (one_numbered P (row_line p) 0 p.rows
-    (first_part P (map (row_line p) (enumerate_from 0 p.rows)) (map (column_line p) (enumerate_from 0 p.columns)) (recursion_from_All P (lines_of p) h))
+    (first_part P (map (row_line p) (enumerate_from 0 p.rows)) (map (column_line p) (enumerate_from 0 p.columns))
+    (recursion_from_All P (lines_of p) h))
     y l)
 
 -- and of each column
@@ -57,7 +62,8 @@ pub each_column : (P : GridLine → Type 0) (p : Nonogram) → All P (lines_of p
 each_column P p h x l =
     subst (λ (q : ℕ). P (column_line p (q, get_or p.columns x []))) (zero-add x)
     (one_numbered P (column_line p) 0 p.columns
-    (second_part P (map (row_line p) (enumerate_from 0 p.rows)) (map (column_line p) (enumerate_from 0 p.columns)) (recursion_from_All P (lines_of p) h))
+    (second_part P (map (row_line p) (enumerate_from 0 p.rows)) (map (column_line p) (enumerate_from 0 p.columns))
+    (recursion_from_All P (lines_of p) h))
     x l)
 
 -- a list that has the cells of a line, place by place, is the cells along it
@@ -71,7 +77,8 @@ cells-along {X = X} d cells (c ∷ line) first step (suc n) e h =
     let head : c ≡ get_or cells first d = h 0 (omega arith) ∙ ap (λ (q : ℕ). get_or cells q d) start in
     let rest : line ≡ cells_at d cells (places_from (first + step) step n) =
     cells-along d cells line (first + step) step n (omega arith) (λ k l.
-    let next : first + suc k * step ≡ first + step + k * step = omega arith in h (suc k) (omega arith) ∙ ap (λ (q : ℕ). get_or cells q d) next) in
+    let next : first + suc k * step ≡ first + step + k * step = omega arith in
+    h (suc k) (omega arith) ∙ ap (λ (q : ℕ). get_or cells q d) next) in
     λ i. head i ∷ rest i
 
 pub length-places_from : (first step n : ℕ) → length (places_from first step n) ≡ n
@@ -101,7 +108,8 @@ pub cells-range : {X : Type 0} (d : X) (cells : List X) (first count : ℕ) → 
 cells-range d cells first zero h = refl
 cells-range d cells first (suc n) h =
     let within : first < length cells = omega arith in
-    let rest : cells_at d cells (places_from (first + 1) 1 n) ≡ take n (drop (first + 1) cells) = cells-range d cells (first + 1) n (omega arith) in
+    let rest : cells_at d cells (places_from (first + 1) 1 n) ≡ take n (drop (first + 1) cells) =
+    cells-range d cells (first + 1) n (omega arith) in
     let whole : drop first cells ≡ get_or cells first d ∷ drop (suc first) cells = drop-cons cells first d within in
     rw (whole, ← add-one first) (ap (λ xs. get_or cells first d ∷ xs) rest)
 

@@ -24,16 +24,19 @@ module _ (xs part : List Cell) (first count : ℕ) (long : length part ≡ count
   length-through = length-append (take first xs) part ∙ (omega (arith, length-before, long))
 
   pub length-replaced : length (take first xs ++ part ++ drop (first + count) xs) ≡ length xs
-  length-replaced = length-append (take first xs ++ part) (drop (first + count) xs) ∙ (omega (arith, length-through, length-drop (first + count) xs))
+  length-replaced = length-append (take first xs ++ part) (drop (first + count) xs) ∙
+      (omega (arith, length-through, length-drop (first + count) xs))
 
-  pub replaced-here : (i : ℕ) → i < count → get_or (take first xs ++ part ++ drop (first + count) xs) (first + i) Unknown ≡ get_or part i Unknown
+  pub replaced-here : (i : ℕ) → i < count → get_or (take first xs ++ part ++ drop (first + count) xs) (first + i) Unknown ≡
+      get_or part i Unknown
   replaced-here i h =
       let at : first + i - first ≡ i = omega arith in
       get_or-append (take first xs ++ part) (drop (first + count) xs) Unknown (first + i) (omega (arith, length-through))
       ∙ get_or-append_right (take first xs) part first (first + i) Unknown length-before (omega arith)
       ∙ ap (λ (q : ℕ). get_or part q Unknown) at
 
-  pub replaced-others : (k : ℕ) → (k < first) ⊎ (first + count ≤ k) → get_or (take first xs ++ part ++ drop (first + count) xs) k Unknown ≡ get_or xs k Unknown
+  pub replaced-others : (k : ℕ) → (k < first) ⊎ (first + count ≤ k) →
+      get_or (take first xs ++ part ++ drop (first + count) xs) k Unknown ≡ get_or xs k Unknown
   replaced-others k (inl low) =
       get_or-append (take first xs ++ part) (drop (first + count) xs) Unknown k (omega (arith, length-through))
       ∙ get_or-append (take first xs) part Unknown k (omega (arith, length-before))
@@ -52,7 +55,8 @@ length-cells_told filled blank count = length-map-range_with_len (cell_told fill
 get_or-cells_told : (filled blank count i : ℕ) → i < count → get_or (cells_told filled blank count) i Unknown ≡ cell_told filled blank i
 get_or-cells_told filled blank count i h = get_or-map-range_with_len (cell_told filled blank) 0 count i i Unknown h (omega arith)
 
-pub cells_of-written : (old new : List Block) (n first count filled blank : ℕ) → first + count ≤ n → AreWritten old new first count (cell_told filled blank)
+pub cells_of-written : (old new : List Block) (n first count filled blank : ℕ) → first + count ≤ n →
+    AreWritten old new first count (cell_told filled blank)
     → cells_of new n ≡ take first (cells_of old n) ++ cells_told filled blank count ++ drop (first + count) (cells_of old n)
 cells_of-written old new n first count filled blank h written =
     cells_of-is new n whole (length-replaced cells told first count long fits ∙ length-cells_of old n) each
@@ -92,12 +96,14 @@ cells_of-written old new n first count filled blank h written =
         ]
 
 -- the same blocks, written from the same place on
-pub written_same : (old items new : List Block) (first from count : ℕ) (told : ℕ → Cell) → old ≡ items → first ≡ from → AreWritten old new first count told → AreWritten items new from count told
+pub written_same : (old items new : List Block) (first from count : ℕ) (told : ℕ → Cell) → old ≡ items → first ≡ from →
+    AreWritten old new first count told → AreWritten items new from count told
 written_same old items new first from count told e f written =
     subst (λ (b : List Block). AreWritten b new from count told) e (subst (λ (q : ℕ). AreWritten old new q count told) f written)
 
 -- blocks that are written within their cells stay blocks
-pub written_kept : (old new : List Block) (n first count : ℕ) (told : ℕ → Cell) → first + count ≤ n → AreBlocks n old → AreWritten old new first count told → AreBlocks n new
+pub written_kept : (old new : List Block) (n first count : ℕ) (told : ℕ → Cell) → first + count ≤ n → AreBlocks n old →
+    AreWritten old new first count told → AreBlocks n new
 written_kept old new n first count told h are written = record {
   count_of = written.size ∙ are.count_of;
   each = written.each are.each;

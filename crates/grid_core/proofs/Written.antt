@@ -44,9 +44,13 @@ part_written blocks place count b told h fits part = record {
       ∙ ap (λ (b : Block). cell_in b ((place + i) % 64)) (get_or-set_same blocks (place / 64) b empty h)
       ∙ ap (cell_in b) within
       ∙ part.here i l;
-  others = λ k o. elim (same_or_other (k / 64) (place / 64)) [ inl e ↦ in_block k o e | inr other ↦ ap (λ (b : Block). cell_in b (k % 64)) (get_or-set_other blocks (place / 64) (k / 64) b empty other) ];
+  others = λ k o. elim (same_or_other (k / 64) (place / 64)) [
+    | inl e ↦ in_block k o e
+    | inr other ↦ ap (λ (b : Block). cell_in b (k % 64)) (get_or-set_other blocks (place / 64) (k / 64) b empty other)
+  ];
   each = λ are k. elim (same_or_other k (place / 64)) [
-    | inl e ↦ subst IsBlock (sym (ap (λ (q : ℕ). get_or new q empty) e ∙ get_or-set_same blocks (place / 64) b empty h)) (part.block (are (place / 64)))
+    | inl e ↦ subst IsBlock (sym (ap (λ (q : ℕ). get_or new q empty) e ∙ get_or-set_same blocks (place / 64) b empty h))
+        (part.block (are (place / 64)))
     | inr other ↦ subst IsBlock (sym (get_or-set_other blocks (place / 64) k b empty other)) (are k)
   ];
 }
@@ -58,7 +62,8 @@ part_written blocks place count b told h fits part = record {
     beside k (inl o) e = inl (omega arith)
     beside k (inr o) e = inr (omega arith)
 
-    in_block : (k : ℕ) → (k < place) ⊎ (place + count ≤ k) → k / 64 ≡ place / 64 → cell_of_blocks (set blocks (place / 64) b) k ≡ cell_of_blocks blocks k
+    in_block : (k : ℕ) → (k < place) ⊎ (place + count ≤ k) → k / 64 ≡ place / 64 →
+        cell_of_blocks (set blocks (place / 64) b) k ≡ cell_of_blocks blocks k
     in_block k o e =
         ap (λ (q : ℕ). cell_in (get_or (set blocks (place / 64) b) q empty) (k % 64)) e
         ∙ ap (λ (b : Block). cell_in b (k % 64)) (get_or-set_same blocks (place / 64) b empty h)
@@ -66,7 +71,8 @@ part_written blocks place count b told h fits part = record {
         ∙ ap (λ (q : ℕ). cell_in (get_or blocks q empty) (k % 64)) (sym e)
 
 -- cells written behind others
-pub more_written : (a b c : List Block) (first n m : ℕ) (told more : ℕ → Cell) → AreWritten a b first n told → AreWritten b c (first + n) m more
+pub more_written : (a b c : List Block) (first n m : ℕ) (told more : ℕ → Cell) → AreWritten a b first n told →
+    AreWritten b c (first + n) m more
     → ((i : ℕ) → i < m → more i ≡ told (n + i)) → AreWritten a c first (n + m) told
 more_written a b c first n m told more p q same = record {
   size = q.size ∙ p.size;
@@ -90,37 +96,48 @@ more_written a b c first n m told more p q same = record {
     before k (inr o) = inr (omega arith)
 
 -- the same cells, told otherwise
-pub told_as : (old new : List Block) (first n m : ℕ) (more told : ℕ → Cell) → n ≡ m → AreWritten old new first n more → ((i : ℕ) → i < n → more i ≡ told i) → AreWritten old new first m told
+pub told_as : (old new : List Block) (first n m : ℕ) (more told : ℕ → Cell) → n ≡ m → AreWritten old new first n more →
+    ((i : ℕ) → i < n → more i ≡ told i) → AreWritten old new first m told
 told_as old new first n m more told e p same =
-    subst (λ (q : ℕ). AreWritten old new first q told) e (record { size = p.size; here = λ i l. p.here i l ∙ same i l; others = p.others; each = p.each })
+    subst (λ (q : ℕ). AreWritten old new first q told) e (record {
+      size = p.size;
+      here = λ i l. p.here i l ∙ same i l;
+      others = p.others;
+      each = p.each;
+    })
 
 -- the first cells of a word, as many as there is room for in the block of the place
-pub low_written : (blocks : List Block) (place count n row up : ℕ) (word moved b : Block) → place / 64 < length blocks → n ≤ count → place % 64 + n ≤ 64
+pub low_written : (blocks : List Block) (place count n row up : ℕ) (word moved b : Block) → place / 64 < length blocks → n ≤ count →
+    place % 64 + n ≤ 64
     → (n ≡ count) ⊎ (place % 64 + n ≡ 64) → IsMaskOf (λ i. i < count) row → IsMaskOf (IsMoved 64 (Has row) (place % 64)) up
     → ((i : ℕ) → place % 64 ≤ i → i < 64 → cell_in moved i ≡ cell_in word (i - place % 64))
     → ((i : ℕ) → cell_in b i ≡ (if has up i then cell_in moved i else cell_in (get_or blocks (place / 64) empty) i))
     → (IsBlock (get_or blocks (place / 64) empty) → IsBlock b)
     → AreWritten blocks (set blocks (place / 64) b) place n (cell_in word)
-low_written blocks place count n row up word moved b h few fits whole row_is up_is moved_is cells block = part_written blocks place n b (cell_in word) h fits (record {
-  here = λ i l.
-      let p : place % 64 + i - place % 64 ≡ i = omega arith in
-      let there : Has up (place % 64 + i) = up_is.from (place % 64 + i) (omega arith, omega arith, row_is.from (place % 64 + i - place % 64) (omega arith)) in
-      cells (place % 64 + i) ∙ chosen (has up (place % 64 + i)) _ _ (has_true up (place % 64 + i) there)
-      ∙ moved_is (place % 64 + i) (omega arith) (omega arith) ∙ ap (cell_in word) p;
-  others = λ m o l. cells m ∙ left_out (has up m) _ _ (lacks up m (beside m o l));
-  block = block;
-})
+low_written blocks place count n row up word moved b h few fits whole row_is up_is moved_is cells block =
+    part_written blocks place n b (cell_in word) h fits (record {
+      here = λ i l.
+          let p : place % 64 + i - place % 64 ≡ i = omega arith in
+          let there : Has up (place % 64 + i) =
+          up_is.from (place % 64 + i) (omega arith, omega arith, row_is.from (place % 64 + i - place % 64) (omega arith)) in
+          cells (place % 64 + i) ∙ chosen (has up (place % 64 + i)) _ _ (has_true up (place % 64 + i) there)
+          ∙ moved_is (place % 64 + i) (omega arith) (omega arith) ∙ ap (cell_in word) p;
+      others = λ m o l. cells m ∙ left_out (has up m) _ _ (lacks up m (beside m o l));
+      block = block;
+    })
   where
     beside : (m : ℕ) → (m < place % 64) ⊎ (place % 64 + n ≤ m) → m < 64 → Has up m → ⊥
     beside m (inl o) l x = let y = up_is.to m x in omega (arith, y.1)
-    beside m (inr o) l x = let y = up_is.to m x in let z : m - place % 64 < count = row_is.to (m - place % 64) y.2 in behind whole (omega (arith, y.1, z)) l o
+    beside m (inr o) l x = let y = up_is.to m x in let z : m - place % 64 < count = row_is.to (m - place % 64) y.2 in
+        behind whole (omega (arith, y.1, z)) l o
       where
         behind : (n ≡ count) ⊎ (place % 64 + n ≡ 64) → m < place % 64 + count → m < 64 → place % 64 + n ≤ m → ⊥
         behind (inl e) a b c = omega arith
         behind (inr e) a b c = omega arith
 
 -- the rest of a word, in the next block
-pub high_written : (blocks : List Block) (place count n over row down : ℕ) (word moved b : Block) → place / 64 + 1 < length blocks → over ≡ 64 - place % 64 → n ≡ count - over
+pub high_written : (blocks : List Block) (place count n over row down : ℕ) (word moved b : Block) → place / 64 + 1 < length blocks →
+    over ≡ 64 - place % 64 → n ≡ count - over
     → over < count → count ≤ 64 → IsMaskOf (λ i. i < count) row → IsMaskOf (λ i. Has row (i + over)) down
     → ((i : ℕ) → cell_in moved i ≡ cell_in word (i + over))
     → ((i : ℕ) → cell_in b i ≡ (if has down i then cell_in moved i else cell_in (get_or blocks (place / 64 + 1) empty) i))
@@ -129,7 +146,8 @@ pub high_written : (blocks : List Block) (place count n over row down : ℕ) (wo
 high_written blocks place count n over row down word moved b h over_is n_is less few row_is down_is moved_is cells block =
     subst (λ (q : ℕ). AreWritten blocks (set blocks q b) (place + over) n told) index
     (part_written blocks (place + over) n b told (omega arith) (omega arith)
-    (subst (λ (q : ℕ). Has_part (get_or blocks q empty) b ((place + over) % 64) n told) (sym index) (subst (λ (q : ℕ). Has_part (get_or blocks (place / 64 + 1) empty) b q n told) (sym from) part)))
+    (subst (λ (q : ℕ). Has_part (get_or blocks q empty) b ((place + over) % 64) n told) (sym index)
+    (subst (λ (q : ℕ). Has_part (get_or blocks (place / 64 + 1) empty) b q n told) (sym from) part)))
   where
     told : ℕ → Cell
     told i = cell_in word (i + over)
@@ -163,7 +181,8 @@ moved_down a m by i is = both (has m i) refl
     both false e = e ∙ sym (lacks a (i + by) (λ h. true≢false (sym (has_true m i (is.from i h)) ∙ e)))
 
 -- the cells that are told by what is left of two masks
-pub told_on : (filled blank f b by i : ℕ) → ((k : ℕ) → has f k ≡ has filled (k + by)) → ((k : ℕ) → has b k ≡ has blank (k + by)) → cell_told f b i ≡ cell_told filled blank (by + i)
+pub told_on : (filled blank f b by i : ℕ) → ((k : ℕ) → has f k ≡ has filled (k + by)) → ((k : ℕ) → has b k ≡ has blank (k + by)) →
+    cell_told f b i ≡ cell_told filled blank (by + i)
 told_on filled blank f b by i p q =
     let e : i + by ≡ by + i = omega arith in
     let first : has f i ≡ has filled (by + i) = p i ∙ ap (has filled) e in
@@ -181,10 +200,12 @@ told_high fl fh bl bh i f b =
     ap (cell_told fh bh) at ∙ (λ j. cell_of (has_high fl fh (128 + i) f (omega arith) j) (has_high bl bh (128 + i) b (omega arith) j))
 
 -- the halves of two masks that share no place share none
-pub apart_low : (fl fh bl bh : ℕ) → fl < 2 ^ 128 → ((i : ℕ) → Has (joined fl fh) i → Has (joined bl bh) i → ⊥) → (i : ℕ) → Has fl i → Has bl i → ⊥
+pub apart_low : (fl fh bl bh : ℕ) → fl < 2 ^ 128 → ((i : ℕ) → Has (joined fl fh) i → Has (joined bl bh) i → ⊥) → (i : ℕ) → Has fl i →
+    Has bl i → ⊥
 apart_low fl fh bl bh f apart i x y =
     let h : i < 128 = has_below 128 fl i f x in
     apart i (bit_low fl fh i h ∙ x) (bit_low bl bh i h ∙ y)
 
-pub apart_high : (fl fh bl bh : ℕ) → fl < 2 ^ 128 → bl < 2 ^ 128 → ((i : ℕ) → Has (joined fl fh) i → Has (joined bl bh) i → ⊥) → (i : ℕ) → Has fh i → Has bh i → ⊥
+pub apart_high : (fl fh bl bh : ℕ) → fl < 2 ^ 128 → bl < 2 ^ 128 → ((i : ℕ) → Has (joined fl fh) i → Has (joined bl bh) i → ⊥) → (i : ℕ) →
+    Has fh i → Has bh i → ⊥
 apart_high fl fh bl bh f b apart i x y = apart (i + 128) (bit_high fl fh i f ∙ x) (bit_high bl bh i b ∙ y)

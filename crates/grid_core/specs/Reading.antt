@@ -12,4 +12,5 @@ abbrev pub ColumnIsStride : Nonogram → Type 0
 ColumnIsStride p = (full : List Bool) (x : ℕ) → length full ≡ p.width * p.height → x < p.width
     → (length (cells_at false full ((column_at p x).places)) ≡ p.height)
     × ((y : ℕ) → y < p.height
-    → (x + y * p.width < length full) × (slice_index_or (cells_at false full ((column_at p x).places)) y false ≡ slice_index_or full (x + y * p.width) false))
+    → (x + y * p.width < length full) ×
+    (slice_index_or (cells_at false full ((column_at p x).places)) y false ≡ slice_index_or full (x + y * p.width) false))

@@ -101,7 +101,8 @@ impl Grid {
     pub fn write_row(&mut self, y: u16, filled: Wide, blank: Wide)
         requires row { y < self.old.height }
         requires apart { (x : ℕ) → Has (joined filled.low filled.high) x → Has (joined blank.low blank.high) x → ⊥ }
-        ensures row { self.new ≡ with_row self.old y (cells_told (joined filled.low filled.high) (joined blank.low blank.high) self.old.width) }
+        ensures row { self.new ≡ with_row self.old y
+            (cells_told (joined filled.low filled.high) (joined blank.low blank.high) self.old.width) }
         ensures count { length self.old.cells ≡ self.old.width * self.old.height }
     {
         let first = usize::from(y) * usize::from(self.width);

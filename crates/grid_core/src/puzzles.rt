@@ -87,7 +87,14 @@ impl Puzzle {
         texts: Texts,
         goal: Option<Vec<bool>>,
     ) -> Result<Puzzle, PuzzleFault>
-        ensures ok { IfOk result (λ p. p ≡ record { width = width; height = height; rows = rows.items; columns = columns.items; texts = texts; goal = bools_of goal }) }
+        ensures ok { IfOk result (λ p. p ≡ record {
+          width = width;
+          height = height;
+          rows = rows.items;
+          columns = columns.items;
+          texts = texts;
+          goal = bools_of goal;
+        }) }
         ensures puzzle { IfOk result (λ p. IsNonogram p) }
         ensures bad_size { IsErrOf result PuzzleFault.BadSize ↔ ¬ IsSize width height }
         ensures bad_count { IsErrOf result PuzzleFault.BadCount

@@ -16,7 +16,8 @@ use Rattle.survey_core.specs.Entries.{entry_text, found_of}
 use Rattle.nonograde.specs.Reports.{solve_text}
 
 -- the text of an answer that has a report is that of its job's puzzle
-pub answer_printed : (name : List ℕ) (p : Nonogram) (limit : ℕ) (pick : Pick) (job : Job) (answer : Answer) (made : Result (Vec ℕ Global) NoMemory)
+pub answer_printed : (name : List ℕ) (p : Nonogram) (limit : ℕ) (pick : Pick) (job : Job) (answer : Answer)
+    (made : Result (Vec ℕ Global) NoMemory)
     → job.puzzle ≡ p → job.guesses ≡ limit → job.pick ≡ pick → IsAnswerTo job answer
     → IfOk made (λ text. text.items ≡ entry_text true 1 (record { name = name; result = found_of answer.puzzle answer.outcome }))
     → OnOk made (IsOk answer.outcome) → IfOk made (λ text. text.items ≡ solve_text name limit pick p)

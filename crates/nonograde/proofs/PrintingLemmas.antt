@@ -41,13 +41,15 @@ printed_of answer body text (Ok _) old new is whole front write = (body, (text, 
 printed_of answer body text (Err stop) old new is whole front write = rw write (body, (text, is, front))
 
 -- if a report is that of a file's bytes under its name, the file is printed
-pub report_printed : (report : List ℕ → Nonogram → List ℕ) (name given body items text : List ℕ) (r : Result (Unit {0}) Stop) (old new : Option (List ℕ))
+pub report_printed : (report : List ℕ → Nonogram → List ℕ) (name given body items text : List ℕ) (r : Result (Unit {0}) Stop)
+    (old new : Option (List ℕ))
     → given ≡ name → text ≡ items → text_or_fault (report given) (said given body) ≡ Ok items → OnOk r (Appends old new text)
     → OnErr r ((sent : ℕ) × (sent ≤ length text) × Appends old new (take sent text)) → IfErr r (λ stop. stop ≡ Write)
     → PrintsFile (λ bytes. or_stop Entry (text_or_fault (report name) (said name bytes))) r old new
 report_printed report name given body items text r old new named same is whole front write =
     printed_of (λ bytes. or_stop Entry (text_or_fault (report name) (said name bytes))) body text r old new
-    (ap (or_stop Entry) (ap (λ (n : List ℕ). text_or_fault (report n) (said n body)) (sym named) ∙ is ∙ ap (λ (t : List ℕ). Ok t) (sym same))) whole front write
+    (ap (or_stop Entry) (ap (λ (n : List ℕ). text_or_fault (report n) (said n body)) (sym named) ∙ is ∙
+    ap (λ (t : List ℕ). Ok t) (sym same))) whole front write
 
 -- if a text is what a file's puzzle is converted to, the file is printed
 pub conversion_printed : (format : Format) (name given body items text : List ℕ) (r : Result (Unit {0}) Stop) (old new : Option (List ℕ))
@@ -56,10 +58,12 @@ pub conversion_printed : (format : Format) (name given body items text : List �
     → PrintsFile (convert_answer format name) r old new
 conversion_printed format name given body items text r old new named same is whole front write =
     printed_of (convert_answer format name) body text r old new
-    (ap (or_stop stop_of_convert) (ap (λ (n : List ℕ). converted format (said n body)) (sym named) ∙ is ∙ ap (λ (t : List ℕ). Ok t) (sym same))) whole front write
+    (ap (or_stop stop_of_convert) (ap (λ (n : List ℕ). converted format (said n body)) (sym named) ∙ is ∙
+    ap (λ (t : List ℕ). Ok t) (sym same))) whole front write
 
 -- if a file's text is refused, nothing is printed, and the program stops at that fault
-refused_entry : (text : Nonogram → List ℕ) (read : List ℕ → Result Nonogram EntryFault) (body : List ℕ) (fault : EntryFault) (known : Option (List ℕ))
+refused_entry : (text : Nonogram → List ℕ) (read : List ℕ → Result Nonogram EntryFault) (body : List ℕ) (fault : EntryFault)
+    (known : Option (List ℕ))
     → GivesText (Err fault) (text_or_fault text (read body))
     → PrintsFile {U = Unit {0}} (λ bytes. or_stop Entry (text_or_fault text (read bytes))) (Err (Entry fault)) known known
 refused_entry text read body UnknownFormat known gives = (body, (rw gives refl, keeps known))
@@ -76,9 +80,11 @@ refused_entry text read body (Text (BadGoal i)) known gives = (body, (rw gives r
 
 -- the same, of the answer that was given
 pub refused_of : (report : List ℕ → Nonogram → List ℕ) (name given body : List ℕ) (fault : EntryFault) (r : Result (Unit {0}) Stop)
-    (known : Option (List ℕ)) → given ≡ name → GivesText (Err fault) (text_or_fault (report given) (said given body)) → IsErrAnd r (λ stop. stop ≡ Entry fault)
+    (known : Option (List ℕ)) → given ≡ name → GivesText (Err fault) (text_or_fault (report given) (said given body)) →
+    IsErrAnd r (λ stop. stop ≡ Entry fault)
     → PrintsFile (λ bytes. or_stop Entry (text_or_fault (report name) (said name bytes))) r known known
-refused_of report name given body fault r known named gives is = rw (is_stop r _ is) (refused_entry (report name) (said name) body fault known (rw named at gives))
+refused_of report name given body fault r known named gives is =
+    rw (is_stop r _ is) (refused_entry (report name) (said name) body fault known (rw named at gives))
 
 -- if a file's puzzle is not converted, nothing is printed, and the program stops at that fault
 unconverted : (format : Format) (name body : List ℕ) (fault : ConvertFault) (known : Option (List ℕ))
@@ -99,19 +105,23 @@ unconverted format name body (convert.Entry (Text (BadNumber i))) known gives = 
 unconverted format name body (convert.Entry (Text (BadGoal i))) known gives = (body, (rw gives refl, keeps known))
 
 -- the same, of the answer that was given
-pub unconverted_of : (format : Format) (name given body : List ℕ) (fault : ConvertFault) (r : Result (Unit {0}) Stop) (known : Option (List ℕ))
+pub unconverted_of : (format : Format) (name given body : List ℕ) (fault : ConvertFault) (r : Result (Unit {0}) Stop)
+    (known : Option (List ℕ))
     → given ≡ name → GivesConverted (Err fault) (converted format (said given body)) → IsErrAnd r (λ stop. stop ≡ stop_of_convert fault)
     → PrintsFile (convert_answer format name) r known known
-unconverted_of format name given body fault r known named gives is = rw (is_stop r _ is) (unconverted format name body fault known (rw named at gives))
+unconverted_of format name given body fault r known named gives is =
+    rw (is_stop r _ is) (unconverted format name body fault known (rw named at gives))
 
 -- if entries are those of files, their whole survey is that of the files
 pub files_written : (settings : Settings) (names texts : List (List ℕ)) (entries : List NamedText) (old new : Option (List ℕ))
     → length texts ≡ length names → entries ≡ named_texts names texts
-    → WritesSurvey (survey_of_entries (guessing settings) settings.show entries) old new → PrintsFiles {U = Unit {0}} settings names (Ok (tt {0})) old new
+    → WritesSurvey (survey_of_entries (guessing settings) settings.show entries) old new →
+    PrintsFiles {U = Unit {0}} settings names (Ok (tt {0})) old new
 files_written settings names texts entries old new same is written = (texts, same, rw is at written)
 
 -- if entries are those of files, what is left of their survey at a fault is what is left of the files'
-pub files_left : (settings : Settings) (names texts : List (List ℕ)) (entries : List NamedText) (fault : RunFault) (old new : Option (List ℕ))
+pub files_left : (settings : Settings) (names texts : List (List ℕ)) (entries : List NamedText) (fault : RunFault)
+    (old new : Option (List ℕ))
     → length texts ≡ length names → entries ≡ named_texts names texts
     → LeavesAt (survey_of_entries (guessing settings) settings.show entries) fault old new
     → PrintsFiles {U = Unit {0}} settings names (Err (Run fault)) old new

@@ -25,7 +25,8 @@ abbrev Gives : ℕ → Text → Result ℕ ParseIntError → Type 0
 Gives bits text r = ParsesUnsigned bits 10 text r × ExplainsUnsignedError 10 text r × HasUnsignedDigitsIfOk text r
 
 -- what a typed getter read, as a caller takes it
-number_of_text : (bits least most n : ℕ) (text : Option Text) (given : Option ℕ) → ((t : Text) → text ≡ Some t → ReadsOne (Gives bits) t given) → most < 2 ^ bits
+number_of_text : (bits least most n : ℕ) (text : Option Text) (given : Option ℕ) →
+    ((t : Text) → text ≡ Some t → ReadsOne (Gives bits) t given) → most < 2 ^ bits
     → ((v : ℕ) → given ≡ Some v → least ≤ v → v ≤ most → n ≡ v) → IsNumberIn least most text n
 number_of_text bits least most n None given reads small kept = tt
 number_of_text bits least most n (Some t) None reads small kept = λ numeral low high. absurd ((reads t refl).1.0 (numeral, omega arith))
@@ -34,7 +35,8 @@ number_of_text bits least most n (Some t) (Some v) reads small kept = λ numeral
     kept v refl (omega arith) (omega arith) ∙ is
 
 -- the same of a command's entry
-pub number_of_entry : (bits least most n : ℕ) (f : Found) (id : Text) (given : Option ℕ) → ((t : Text) → one_text f id ≡ Some t → ReadsOne (Gives bits) t given)
+pub number_of_entry : (bits least most n : ℕ) (f : Found) (id : Text) (given : Option ℕ) →
+    ((t : Text) → one_text f id ≡ Some t → ReadsOne (Gives bits) t given)
     → most < 2 ^ bits → ((v : ℕ) → given ≡ Some v → least ≤ v → v ≤ most → n ≡ v) → IsNumberIn least most (one_of id (rows_of f)) n
 number_of_entry bits least most n f id given reads small kept =
     number_of_text bits least most n (one_of id (rows_of f)) given (λ t is. reads t (one_text-rows f id ∙ is)) small kept
@@ -47,14 +49,16 @@ kept_below n v most other (Some w) is same below =
     omega arith
 
 -- the same where it is clamped
-pub kept_within : (n v least most other : ℕ) (given : Option ℕ) → n ≡ max least (min (unwrap_or given other) most) → given ≡ Some v → least ≤ v → v ≤ most → n ≡ v
+pub kept_within : (n v least most other : ℕ) (given : Option ℕ) → n ≡ max least (min (unwrap_or given other) most) → given ≡ Some v →
+    least ≤ v → v ≤ most → n ≡ v
 kept_within n v least most other None is same above below = cc
 kept_within n v least most other (Some w) is same above below =
     let e : w ≡ v = cc in
     omega arith
 
 -- the text of an entry
-pub text_of_entry : (f : Found) (id : Text) (given : Option (Bor Text)) (d : Bor Text) → option_map (λ s. s.now) given ≡ first_value f id → d.now ≡ []
+pub text_of_entry : (f : Found) (id : Text) (given : Option (Bor Text)) (d : Bor Text) →
+    option_map (λ s. s.now) given ≡ first_value f id → d.now ≡ []
     → (unwrap_or given d).now ≡ text_in id (rows_of f)
 text_of_entry f id None d reads empty = empty ∙ ap (λ o. unwrap_or o []) (reads ∙ first_value-rows f id)
 text_of_entry f id (Some x) d reads empty = ap (λ o. unwrap_or o []) (reads ∙ first_value-rows f id)
@@ -77,7 +81,8 @@ texts_of_entry f id None d reads empty = ap (map (λ v. v.now)) empty ∙ ap (λ
 texts_of_entry f id (Some x) d reads empty = ap (λ o. unwrap_or o []) (reads ∙ raw_values-rows f id)
 
 -- what a flag says
-pub flag_of_entry : (f : Found) (id word : Text) (flag value : Bool) → (one_text f id ≡ Some word → flag ≡ value) → one_of id (rows_of f) ≡ Some word → flag ≡ value
+pub flag_of_entry : (f : Found) (id word : Text) (flag value : Bool) → (one_text f id ≡ Some word → flag ≡ value) →
+    one_of id (rows_of f) ≡ Some word → flag ≡ value
 flag_of_entry f id word flag value reads is = reads (one_text-rows f id ∙ is)
 
 -- a list up to its end

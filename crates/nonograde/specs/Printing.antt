@@ -80,15 +80,18 @@ files_survey settings names texts = survey_of_entries (guessing settings) settin
 abbrev pub PrintsFiles : {U : Type 0} → Settings → List (List ℕ) → Result U Stop → Option (List ℕ) → Option (List ℕ) → Type 0
 PrintsFiles settings names (Err Read) old new = Keeps old new
 PrintsFiles settings names (Err NoMemory) old new = Keeps old new
-PrintsFiles settings names result old new = (texts : List (List ℕ)) × (length texts ≡ length names) × PrintsSurvey (files_survey settings names texts) result old new
+PrintsFiles settings names result old new = (texts : List (List ℕ)) × (length texts ≡ length names) ×
+    PrintsSurvey (files_survey settings names texts) result old new
 
 -- What a survey of standard input leaves, if its bytes are known. If there is no room to tell its progress, nothing is printed.
 abbrev pub PrintsInput : {U : Type 0} → Settings → Option (List ℕ) → Result U Stop → Option (List ℕ) → Option (List ℕ) → Type 0
 PrintsInput settings input (Err NoMemory) old new = Keeps old new
-PrintsInput settings input result old new = IfSome input (λ bytes. PrintsSurvey (survey_of (guessing settings) settings.show bytes) result old new)
+PrintsInput settings input result old new =
+    IfSome input (λ bytes. PrintsSurvey (survey_of (guessing settings) settings.show bytes) result old new)
 
 -- the survey of the files, or of standard input if there is none
-abbrev pub PrintsSurveyOf : {U : Type 0} → Settings → List (List ℕ) → Option (List ℕ) → Result U Stop → Option (List ℕ) → Option (List ℕ) → Type 0
+abbrev pub PrintsSurveyOf : {U : Type 0} → Settings → List (List ℕ) → Option (List ℕ) → Result U Stop → Option (List ℕ) →
+    Option (List ℕ) → Type 0
 PrintsSurveyOf settings [] input result old new = PrintsInput settings input result old new
 PrintsSurveyOf settings (name ∷ names) input result old new = PrintsFiles settings (name ∷ names) result old new
 

@@ -61,7 +61,11 @@ abbrev pub file_rule : Rule
 file_rule = record (new_rule (codes "file")) { value_names = 1; required = true }
 
 abbrev pub files_rule : Rule
-files_rule = record (new_rule (codes "file")) { value_names = 1; range = Some (record { start_inclusive = 0; end_inclusive = usize_max }); action = Some Append }
+files_rule = record (new_rule (codes "file")) {
+  value_names = 1;
+  range = Some (record { start_inclusive = 0; end_inclusive = usize_max });
+  action = Some Append;
+}
 
 -- a command with these options and words
 abbrev pub command_app : Text → List Rule → App
@@ -152,7 +156,8 @@ pub record AsksSurvey (rows : List Row) (survey : SurveyRequest) : Type 0 where
 abbrev pub Asks : Text → List Row → Request → Type 0
 Asks name rows (Survey survey) = (name ≡ codes "survey") × AsksSurvey rows survey
 Asks name rows (Solve guesses pick file) =
-    (name ≡ codes "solve") × IsNumberIn 0 MOST_GUESSES (one_of (codes "guesses") rows) guesses × (pick ≡ pick_of_word (text_in (codes "pick") rows))
+    (name ≡ codes "solve") × IsNumberIn 0 MOST_GUESSES (one_of (codes "guesses") rows) guesses ×
+    (pick ≡ pick_of_word (text_in (codes "pick") rows))
     × (string_bytes file ≡ text_in (codes "file") rows)
 Asks name rows (Convert format file) =
     (name ≡ codes "convert") × (find (λ format. bytes_eq (word format) (text_in (codes "to") rows)) all_formats ≡ Some format)

@@ -84,7 +84,8 @@ pub enum CommandFault {
 }
 
 impl From<Error> for CommandFault {
-    ghost from_gives = { λ error fault. (kind_of error ≡ OutOfMemory → fault ≡ command_memory) × (kind_of error ≢ OutOfMemory → fault ≡ refused_words error) };
+    ghost from_gives = { λ error fault. (kind_of error ≡ OutOfMemory → fault ≡ command_memory) ×
+        (kind_of error ≢ OutOfMemory → fault ≡ refused_words error) };
 
     fn from(error: Error) -> CommandFault {
         if error.kind() == ErrorKind::OutOfMemory {

@@ -47,7 +47,8 @@ pub fn convert(
     ensures answer { GivesConverted result (converted format (said name.now body.now)) }
     // Want of memory never stands in place of these faults.
     ensures unknown { result ≡ Err (ConvertFault.Entry EntryFault.UnknownFormat) ↔ is_known name.now ≡ false }
-    ensures too_long { is_known name.now ≡ true → LONGEST_PUZZLE < length body.now → result ≡ Err (ConvertFault.Entry (EntryFault.Text TextFault.TooLong)) }
+    ensures too_long { is_known name.now ≡ true → LONGEST_PUZZLE < length body.now →
+        result ≡ Err (ConvertFault.Entry (EntryFault.Text TextFault.TooLong)) }
 {
     match read_entry(alloc, &Entry { name, body }) {
         Ok(puzzle) => text_in(alloc, &puzzle, format),

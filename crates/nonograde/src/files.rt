@@ -75,7 +75,8 @@ pub fn entries_of<'a>(
     bodies: &'a [Vec<u8>],
 ) -> Result<Vec<Entry<'a>>, NoMemory>
     requires { length bodies.now ≡ length paths.now }
-    ensures { IfOk result (λ entries. map shown_entry entries.items ≡ named_texts (map string_bytes paths.now) (map (λ body. body.items) bodies.now)) }
+    ensures { IfOk result (λ entries. map shown_entry entries.items ≡ named_texts (map string_bytes paths.now)
+        (map (λ body. body.items) bodies.now)) }
 {
     let mut entries = Vec::with_capacity(alloc, paths.len())?;
     for (place, path) in paths.iter().enumerate() {

@@ -26,7 +26,8 @@ use survey_core::{Counted, ProgressGate, Settings, run_survey, survey_entries, w
 fn print_text<W: Write>(writer: &mut Counted<W>, text: &[u8]) -> Result<(), Stop>
     requires { fault_count writer.old < 2 ^ 32 - 1 }
     ensures ok { OnOk result (Appends (W.contents writer.old.inner) (W.contents writer.new.inner) text.now) }
-    ensures front { OnErr result ((sent : ℕ) × (sent ≤ length text.now) × Appends (W.contents writer.old.inner) (W.contents writer.new.inner) (take sent text.now)) }
+    ensures front { OnErr result ((sent : ℕ) × (sent ≤ length text.now) ×
+        Appends (W.contents writer.old.inner) (W.contents writer.new.inner) (take sent text.now)) }
     ensures write { IfErr result (λ stop. stop ≡ Stop.Write) }
     ensures failed { IsErr result ↔ (fault_count writer.old < fault_count writer.new) }
 {

@@ -87,7 +87,8 @@ pub fn lines_report(alloc: Global, name: &[u8], body: &[u8]) -> Result<Vec<u8>, 
     ensures answer { GivesText result (text_or_fault lines_text (said name.now body.now)) }
     // Want of memory never stands in place of these faults.
     ensures unknown { result ≡ Err EntryFault.UnknownFormat ↔ is_known_format name.now ≡ false }
-    ensures too_long { is_known_format name.now ≡ true → LONGEST_PUZZLE < length body.now → result ≡ Err (EntryFault.Text TextFault.TooLong) }
+    ensures too_long { is_known_format name.now ≡ true → LONGEST_PUZZLE < length body.now →
+        result ≡ Err (EntryFault.Text TextFault.TooLong) }
 {
     match read_entry(alloc, &Entry { name, body }) {
         Ok(puzzle) => lines_answer(alloc, &puzzle),
@@ -123,7 +124,8 @@ pub fn solve_report(
     ensures answer { GivesText result (text_or_fault (solve_text name.now guesses pick) (said name.now body.now)) }
     // Want of memory never stands in place of these faults.
     ensures unknown { result ≡ Err EntryFault.UnknownFormat ↔ is_known_format name.now ≡ false }
-    ensures too_long { is_known_format name.now ≡ true → LONGEST_PUZZLE < length body.now → result ≡ Err (EntryFault.Text TextFault.TooLong) }
+    ensures too_long { is_known_format name.now ≡ true → LONGEST_PUZZLE < length body.now →
+        result ≡ Err (EntryFault.Text TextFault.TooLong) }
 {
     match read_entry(alloc, &Entry { name, body }) {
         Ok(puzzle) => text_or_fault(solve_text(alloc, name, puzzle, guesses, pick)),

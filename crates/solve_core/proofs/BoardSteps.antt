@@ -16,7 +16,8 @@ abbrev pub trailed : PartialGrid → List ℕ → TrailedGrid
 trailed g trail = record { width = g.width; height = g.height; cells = g.cells; trail = trail }
 
 -- a board with other cells, and nothing to go back to
-pub board-fresh : (g : PartialGrid) (old : TrailedGrid) (trail : List ℕ) (room left : ℕ) → IsBoard old room → g.width ≡ old.width → g.height ≡ old.height → length g.cells ≡ length old.cells
+pub board-fresh : (g : PartialGrid) (old : TrailedGrid) (trail : List ℕ) (room left : ℕ) → IsBoard old room → g.width ≡ old.width →
+    g.height ≡ old.height → length g.cells ≡ length old.cells
     → trail ≡ [] → left ≡ room → IsBoard (trailed g trail) left
 board-fresh g old trail room left b w h long t s = record {
   size = rw (w, h) b.size;
@@ -26,8 +27,10 @@ board-fresh g old trail room left b w h long t s = record {
 }
 
 -- a board in which one more cell is settled
-pub board-settled : (g : PartialGrid) (old : TrailedGrid) (more : List ℕ) (room left k : ℕ) (c : Cell) → IsBoard old room → k < length old.cells → get_or old.cells k Unknown ≡ Unknown → is_known c ≡ true
-    → g ≡ record { width = old.width; height = old.height; cells = set old.cells k c } → more ≡ old.trail ++ k ∷ [] → left ≡ room → IsBoard (trailed g more) left
+pub board-settled : (g : PartialGrid) (old : TrailedGrid) (more : List ℕ) (room left k : ℕ) (c : Cell) → IsBoard old room →
+    k < length old.cells → get_or old.cells k Unknown ≡ Unknown → is_known c ≡ true
+    → g ≡ record { width = old.width; height = old.height; cells = set old.cells k c } → more ≡ old.trail ++ k ∷ [] → left ≡ room →
+    IsBoard (trailed g more) left
 board-settled g old more room left k c b h u n e m s =
     let long : length (set old.cells k c) ≡ length old.cells = length-set old.cells k c in
     rw e
@@ -62,7 +65,8 @@ pub undone_place : (g : TrailedGrid) (less : List ℕ) (room k : ℕ) → IsBoar
 undone_place g less room k b t = (all_split (λ j. j < length g.cells) less k (rw t at b.grid.inside)).0
 
 -- a board of which nothing is known
-pub board-unknown : (w h room : ℕ) (g : PartialGrid) (trail : List ℕ) → IsSize w h → g ≡ record { width = w; height = h; cells = replicate (w * h) Unknown } → trail ≡ [] → length g.cells ≤ room
+pub board-unknown : (w h room : ℕ) (g : PartialGrid) (trail : List ℕ) → IsSize w h →
+    g ≡ record { width = w; height = h; cells = replicate (w * h) Unknown } → trail ≡ [] → length g.cells ≤ room
     → IsBoard (trailed g trail) room
 board-unknown w h room g trail size e t fits = record {
   size = rw e size;

@@ -76,19 +76,24 @@ before-now cells trail = ap (cleared cells) (drop_all trail)
     drop_all (x ∷ xs) = drop_all xs
 
 -- the branches mean the same for other cells and another trail, where the cells before each are the same
-pending-same : (pick : List Cell → Option ℕ) (lines : List GridLine) (cells now : List Cell) (trail after : List ℕ) (limit : ℕ) (branches : List Branch)
+pending-same : (pick : List Cell → Option ℕ) (lines : List GridLine) (cells now : List Cell) (trail after : List ℕ) (limit : ℕ)
+    (branches : List Branch)
     → ((mark : ℕ) → mark < limit → cells_before now after mark ≡ cells_before cells trail mark) → AreBefore limit branches
     → pending pick lines now after branches ≡ pending pick lines cells trail branches
 pending-same pick lines cells now trail after limit [] same h = refl
 pending-same pick lines cells now trail after limit (b ∷ branches) same h =
-    λ i. pending-same pick lines cells now trail after limit branches same h.1 i ++ (Guess ∷ events pick lines (set (same b.mark h.0 i) b.place Blank))
+    λ i. pending-same pick lines cells now trail after limit branches same h.1 i ++
+    (Guess ∷ events pick lines (set (same b.mark h.0 i) b.place Blank))
 
-branches-same : (pick : List Cell → Option ℕ) (lines : List GridLine) (cells now : List Cell) (trail after : List ℕ) (limit : ℕ) (branches : List Branch)
+branches-same : (pick : List Cell → Option ℕ) (lines : List GridLine) (cells now : List Cell) (trail after : List ℕ) (limit : ℕ)
+    (branches : List Branch)
     → ((mark : ℕ) → mark < limit → cells_before now after mark ≡ cells_before cells trail mark) → AreBefore limit branches
     → AllByRecursion (IsBranch pick lines cells trail) branches → AllByRecursion (IsBranch pick lines now after) branches
 branches-same pick lines cells now trail after limit [] same h k = tt
-branches-same pick lines cells now trail after limit (b ∷ branches) same h k =
-    (subst (λ (before : List Cell). IsNext pick lines before b.place) (sym (same b.mark h.0)) k.0, branches-same pick lines cells now trail after limit branches same h.1 k.1)
+branches-same pick lines cells now trail after limit (b ∷ branches) same h k = (
+  subst (λ (before : List Cell). IsNext pick lines before b.place) (sym (same b.mark h.0)) k.0,
+  branches-same pick lines cells now trail after limit branches same h.1 k.1,
+)
 
 before-more : (limit more : ℕ) (branches : List Branch) → limit ≤ more → AreBefore limit branches → AreBefore more branches
 before-more limit more [] l h = tt
@@ -98,7 +103,8 @@ before-more limit more (b ∷ branches) l h = (omega (arith, h.0), before-more l
 trailed-before : (old new : TrailedGrid) (mark : ℕ) → IsTrailed old new → mark < length old.trail + 1
     → cells_before new.cells new.trail mark ≡ cells_before old.cells old.trail mark
 trailed-before old new mark t h =
-    ap (λ (places : List ℕ). cells_before new.cells places mark) t.kept ∙ before-longer old.cells new.cells old.trail t.added mark t.undo (omega arith)
+    ap (λ (places : List ℕ). cells_before new.cells places mark) t.kept ∙
+    before-longer old.cells new.cells old.trail t.added mark t.undo (omega arith)
 
 trailed-length : (old new : TrailedGrid) (t : IsTrailed old new) → length new.trail ≡ length old.trail + length t.added
 trailed-length old new t = ap length t.kept ∙ length-append old.trail t.added
@@ -110,18 +116,21 @@ trailed-work pick lines old new branches t w =
     record {
       before = before-more (length old.trail + 1) (length new.trail + 1) branches (omega (arith, trailed-length old new t)) w.before;
       order = w.order;
-      made = branches-same pick lines old.cells new.cells old.trail new.trail (length old.trail + 1) branches (λ mark h. trailed-before old new mark t h) w.before w.made;
+      made = branches-same pick lines old.cells new.cells old.trail new.trail (length old.trail + 1) branches
+          (λ mark h. trailed-before old new mark t h) w.before w.made;
     }
 
 pub trailed-pending : (pick : List Cell → Option ℕ) (lines : List GridLine) (old new : TrailedGrid) (branches : List Branch)
     → IsTrailed old new → IsWork pick lines old.cells old.trail branches
     → pending pick lines new.cells new.trail branches ≡ pending pick lines old.cells old.trail branches
 trailed-pending pick lines old new branches t w =
-    pending-same pick lines old.cells new.cells old.trail new.trail (length old.trail + 1) branches (λ mark h. trailed-before old new mark t h) w.before
+    pending-same pick lines old.cells new.cells old.trail new.trail (length old.trail + 1) branches
+    (λ mark h. trailed-before old new mark t h) w.before
 
 -- where fewer cells are unknown, the branches are older
 pub trailed-older : (pick : List Cell → Option ℕ) (lines : List GridLine) (old new : TrailedGrid) (branches : List Branch) (next : Option ℕ)
-    → IsTrailed old new → unknown_count new.cells < unknown_count old.cells → IsWork pick lines old.cells old.trail branches → AreOlder new.trail branches next
+    → IsTrailed old new → unknown_count new.cells < unknown_count old.cells → IsWork pick lines old.cells old.trail branches →
+    AreOlder new.trail branches next
 trailed-older pick lines old new branches None t l w = tt
 trailed-older pick lines old new branches (Some k) t l w =
     before-more (length old.trail + 1) (length new.trail) branches (omega (arith, trailed-length old new t, t.count)) w.before
@@ -135,25 +144,30 @@ all_split P [] x k = (k.0, tt)
 all_split P (y ∷ xs) x k = let r = all_split P xs x k.1 in (r.0, (k.0, r.1))
 
 -- the last of branches in order was made later than all others
-order-last : (branches : List Branch) (last : Branch) → AreInOrder (branches ++ (last ∷ [])) → AreBefore last.mark branches × AreInOrder branches
+order-last : (branches : List Branch) (last : Branch) → AreInOrder (branches ++ (last ∷ [])) →
+    AreBefore last.mark branches × AreInOrder branches
 order-last [] last h = (tt, tt)
 order-last (b ∷ branches) last h =
     let rest = order-last branches last h.1 in
     let split = all_split (λ (later : Branch). b.mark < later.mark) branches last h.0 in
     ((split.0, rest.0), (split.1, rest.1))
 
-order-more : (branches : List Branch) (last : Branch) → AreInOrder branches → AreBefore last.mark branches → AreInOrder (branches ++ (last ∷ []))
+order-more : (branches : List Branch) (last : Branch) → AreInOrder branches → AreBefore last.mark branches →
+    AreInOrder (branches ++ (last ∷ []))
 order-more [] last h k = (tt, tt)
 order-more (b ∷ branches) last h k =
     (all_append (λ (later : Branch). b.mark < later.mark) branches (last ∷ []) h.0 (k.0, tt), order-more branches last h.1 k.1)
 
 -- branches in order are no more than the places before which they were made
-order-count : (least limit : ℕ) (branches : List Branch) → AreInOrder branches → AreBefore limit branches → AllByRecursion (λ (b : Branch). least ≤ b.mark) branches → least ≤ limit
+order-count : (least limit : ℕ) (branches : List Branch) → AreInOrder branches → AreBefore limit branches →
+    AllByRecursion (λ (b : Branch). least ≤ b.mark) branches → least ≤ limit
     → least + length branches ≤ limit
 order-count least limit [] h k m l = omega arith
-order-count least limit (b ∷ branches) h k m l = omega (arith, m.0, order-count (b.mark + 1) limit branches h.1 k.1 (later branches h.0) (omega (arith, k.0)))
+order-count least limit (b ∷ branches) h k m l =
+    omega (arith, m.0, order-count (b.mark + 1) limit branches h.1 k.1 (later branches h.0) (omega (arith, k.0)))
   where
-    later : (bs : List Branch) → AllByRecursion (λ (x : Branch). b.mark < x.mark) bs → AllByRecursion (λ (x : Branch). b.mark + 1 ≤ x.mark) bs
+    later : (bs : List Branch) → AllByRecursion (λ (x : Branch). b.mark < x.mark) bs →
+        AllByRecursion (λ (x : Branch). b.mark + 1 ≤ x.mark) bs
     later [] n = tt
     later (x ∷ bs) n = (omega (arith, n.0), later bs n.1)
 
@@ -164,38 +178,54 @@ branch-count limit branches order before = omega (arith, order-count 0 limit bra
     from [] = tt
     from (x ∷ bs) = (omega arith, from bs)
 
-pending-last : (pick : List Cell → Option ℕ) (lines : List GridLine) (cells : List Cell) (trail : List ℕ) (branches : List Branch) (b : Branch)
-    → pending pick lines cells trail (branches ++ (b ∷ [])) ≡ Guess ∷ (events pick lines (set (cells_before cells trail b.mark) b.place Blank) ++ pending pick lines cells trail branches)
-pending-last pick lines cells trail [] b = ap (λ es. Guess ∷ es) (sym (append-nil-right (events pick lines (set (cells_before cells trail b.mark) b.place Blank))))
+pending-last : (pick : List Cell → Option ℕ) (lines : List GridLine) (cells : List Cell) (trail : List ℕ) (branches : List Branch)
+    (b : Branch)
+    → pending pick lines cells trail (branches ++ (b ∷ [])) ≡ Guess ∷
+    (events pick lines (set (cells_before cells trail b.mark) b.place Blank) ++ pending pick lines cells trail branches)
+pending-last pick lines cells trail [] b =
+    ap (λ es. Guess ∷ es) (sym (append-nil-right (events pick lines (set (cells_before cells trail b.mark) b.place Blank))))
 pending-last pick lines cells trail (x ∷ branches) b =
-    ap (λ es. es ++ (Guess ∷ events pick lines (set (cells_before cells trail x.mark) x.place Blank))) (pending-last pick lines cells trail branches b)
+    ap (λ es. es ++ (Guess ∷ events pick lines (set (cells_before cells trail x.mark) x.place Blank)))
+    (pending-last pick lines cells trail branches b)
     ∙ ap (λ es. Guess ∷ es)
-    (append-assoc-right (events pick lines (set (cells_before cells trail b.mark) b.place Blank)) (pending pick lines cells trail branches) (Guess ∷ events pick lines (set (cells_before cells trail x.mark) x.place Blank)))
+    (append-assoc-right (events pick lines (set (cells_before cells trail b.mark) b.place Blank))
+    (pending pick lines cells trail branches) (Guess ∷ events pick lines (set (cells_before cells trail x.mark) x.place Blank)))
 
 -- a filled guess: its branch is kept
-pub fork-work : (pick : List Cell → Option ℕ) (lines : List GridLine) (cells : List Cell) (trail : List ℕ) (branches made : List Branch) (b : Branch)
-    → made ≡ branches ++ (b ∷ []) → b.mark ≡ length trail → IsWork pick lines cells trail branches → AreBefore (length trail) branches → IsNext pick lines cells b.place
+pub fork-work : (pick : List Cell → Option ℕ) (lines : List GridLine) (cells : List Cell) (trail : List ℕ) (branches made : List Branch)
+    (b : Branch)
+    → made ≡ branches ++ (b ∷ []) → b.mark ≡ length trail → IsWork pick lines cells trail branches → AreBefore (length trail) branches →
+    IsNext pick lines cells b.place
     → IsWork pick lines cells trail made
 fork-work pick lines cells trail branches made b e m w older n =
     subst (IsWork pick lines cells trail) (sym e) (record {
       before = all_append (λ (x : Branch). x.mark < length trail + 1) branches (b ∷ []) w.before ((omega (arith, m)), tt);
       order = order-more branches b w.order (subst (λ (limit : ℕ). AreBefore limit branches) (sym m) older);
-      made = all_append (IsBranch pick lines cells trail) branches (b ∷ []) w.made
-          (subst (λ (before : List Cell). IsNext pick lines before b.place) (sym (ap (cells_before cells trail) m ∙ before-now cells trail)) n, tt);
+      made = all_append (IsBranch pick lines cells trail) branches (b ∷ []) w.made (
+        subst (λ (before : List Cell). IsNext pick lines before b.place)
+            (sym (ap (cells_before cells trail) m ∙ before-now cells trail)) n,
+        tt,
+      );
     })
 
-pub fork-events : (pick : List Cell → Option ℕ) (lines : List GridLine) (cells : List Cell) (trail : List ℕ) (branches made : List Branch) (b : Branch)
+pub fork-events : (pick : List Cell → Option ℕ) (lines : List GridLine) (cells : List Cell) (trail : List ℕ) (branches made : List Branch)
+    (b : Branch)
     → made ≡ branches ++ (b ∷ []) → b.mark ≡ length trail
-    → open_events pick lines cells (Some b.place) (pending pick lines cells trail branches) ≡ ready_events pick lines cells (Some (b.place, Filled)) (pending pick lines cells trail made)
+    → open_events pick lines cells (Some b.place) (pending pick lines cells trail branches) ≡
+    ready_events pick lines cells (Some (b.place, Filled)) (pending pick lines cells trail made)
 fork-events pick lines cells trail branches made b e m =
     let now : cells ≡ cells_before cells trail b.mark = sym (ap (cells_before cells trail) m ∙ before-now cells trail) in
-    (λ i. Guess ∷ (events pick lines (set cells b.place Filled) ++ (Guess ∷ (events pick lines (set (now i) b.place Blank) ++ pending pick lines cells trail branches))))
-    ∙ ap (λ es. Guess ∷ (events pick lines (set cells b.place Filled) ++ es)) (sym (pending-last pick lines cells trail branches b) ∙ ap (pending pick lines cells trail) (sym e))
+    (λ i. Guess ∷ (events pick lines (set cells b.place Filled) ++
+    (Guess ∷ (events pick lines (set (now i) b.place Blank) ++ pending pick lines cells trail branches))))
+    ∙ ap (λ es. Guess ∷ (events pick lines (set cells b.place Filled) ++ es)) (sym (pending-last pick lines cells trail branches b) ∙
+    ap (pending pick lines cells trail) (sym e))
 
 -- what the last branch leaves
-last-work : (pick : List Cell → Option ℕ) (lines : List GridLine) (cells : List Cell) (trail : List ℕ) (all rest : List Branch) (b : Branch) → all ≡ rest ++ (b ∷ [])
+last-work : (pick : List Cell → Option ℕ) (lines : List GridLine) (cells : List Cell) (trail : List ℕ) (all rest : List Branch)
+    (b : Branch) → all ≡ rest ++ (b ∷ [])
     → IsWork pick lines cells trail all
-    → AreBefore b.mark rest × AreInOrder rest × AllByRecursion (IsBranch pick lines cells trail) rest × IsBranch pick lines cells trail b × (b.mark ≤ length trail)
+    → AreBefore b.mark rest × AreInOrder rest × AllByRecursion (IsBranch pick lines cells trail) rest ×
+    IsBranch pick lines cells trail b × (b.mark ≤ length trail)
 last-work pick lines cells trail all rest b e w =
     let order = order-last rest b (subst AreInOrder e w.order) in
     let made = all_split (IsBranch pick lines cells trail) rest b (subst (AllByRecursion (IsBranch pick lines cells trail)) e w.made) in
@@ -209,7 +239,8 @@ length_take (suc n) [] h = absurd (omega arith)
 length_take (suc n) (x ∷ xs) h = ap suc (length_take n xs (omega arith))
 
 -- a blank guess: the cells settled since its branch was made are unknown again
-pub back-work : (pick : List Cell → Option ℕ) (lines : List GridLine) (cells now : List Cell) (trail after : List ℕ) (all rest : List Branch) (b : Branch)
+pub back-work : (pick : List Cell → Option ℕ) (lines : List GridLine) (cells now : List Cell) (trail after : List ℕ)
+    (all rest : List Branch) (b : Branch)
     → all ≡ rest ++ (b ∷ []) → now ≡ cells_before cells trail b.mark → after ≡ take b.mark trail → IsWork pick lines cells trail all
     → IsWork pick lines now after rest
 back-work pick lines cells now trail after all rest b e f g w =
@@ -222,7 +253,8 @@ back-work pick lines cells now trail after all rest b e f g w =
           (λ mark h. (λ i. cells_before (f i) (g i) mark) ∙ before-back cells trail mark b.mark (omega arith)) last.0 last.2;
     }
 
-pub back-events : (pick : List Cell → Option ℕ) (lines : List GridLine) (cells now : List Cell) (trail after : List ℕ) (all rest : List Branch) (b : Branch)
+pub back-events : (pick : List Cell → Option ℕ) (lines : List GridLine) (cells now : List Cell) (trail after : List ℕ)
+    (all rest : List Branch) (b : Branch)
     → all ≡ rest ++ (b ∷ []) → now ≡ cells_before cells trail b.mark → after ≡ take b.mark trail → IsWork pick lines cells trail all
     → pending pick lines cells trail all ≡ ready_events pick lines now (Some (b.place, Blank)) (pending pick lines now after rest)
 back-events pick lines cells now trail after all rest b e f g w =
@@ -230,14 +262,17 @@ back-events pick lines cells now trail after all rest b e f g w =
     ap (pending pick lines cells trail) e
     ∙ pending-last pick lines cells trail rest b
     ∙ (λ i. Guess ∷ (events pick lines (set (sym f i) b.place Blank)
-    ++ sym (pending-same pick lines cells now trail after b.mark rest (λ mark h. (λ j. cells_before (f j) (g j) mark) ∙ before-back cells trail mark b.mark (omega arith)) last.0) i))
+    ++ sym (pending-same pick lines cells now trail after b.mark rest (λ mark h. (λ j. cells_before (f j) (g j) mark) ∙
+    before-back cells trail mark b.mark (omega arith)) last.0) i))
 
-pub back-ready : (pick : List Cell → Option ℕ) (lines : List GridLine) (cells now : List Cell) (trail : List ℕ) (all rest : List Branch) (b : Branch)
+pub back-ready : (pick : List Cell → Option ℕ) (lines : List GridLine) (cells now : List Cell) (trail : List ℕ) (all rest : List Branch)
+    (b : Branch)
     → all ≡ rest ++ (b ∷ []) → now ≡ cells_before cells trail b.mark → IsWork pick lines cells trail all
     → IsNext pick lines now b.place
 back-ready pick lines cells now trail all rest b e f w =
     subst (λ (before : List Cell). IsNext pick lines before b.place) (sym f) (last-work pick lines cells trail all rest b e w).3
 
 -- at the start there is no branch
-pub start-work : (pick : List Cell → Option ℕ) (lines : List GridLine) (cells : List Cell) (trail : List ℕ) (branches : List Branch) → branches ≡ [] → IsWork pick lines cells trail branches
+pub start-work : (pick : List Cell → Option ℕ) (lines : List GridLine) (cells : List Cell) (trail : List ℕ) (branches : List Branch) →
+    branches ≡ [] → IsWork pick lines cells trail branches
 start-work pick lines cells trail branches h = subst (IsWork pick lines cells trail) (sym h) (record { before = tt; order = tt; made = tt })

@@ -20,12 +20,14 @@ pub record IsPartly (first step count : ℕ) (before now old new : List Cell) (l
   pub size : length now ≡ length before
 
 -- at first all changes are left
-pub partly-init : (first step count : ℕ) (cells old new : List Cell) (m : ℕ) → old ≡ cells_at Unknown cells (places_from first step count) → length old ≡ count → IsMaskOf (IsChanged old new) m
+pub partly-init : (first step count : ℕ) (cells old new : List Cell) (m : ℕ) →
+    old ≡ cells_at Unknown cells (places_from first step count) → length old ≡ count → IsMaskOf (IsChanged old new) m
     → IsPartly first step count cells cells old new m
 partly-init first step count cells old new m e long p = record {
   changed = p.to;
   as_old = λ k l h. read-old cells old first step count k e l;
-  as_new = λ k l n. read-old cells old first step count k e l ∙ sym (same_cells (get_or old k Unknown) (get_or new k Unknown) (λ d. n (p.from k (omega (arith, long), d))));
+  as_new = λ k l n. read-old cells old first step count k e l ∙
+      sym (same_cells (get_or old k Unknown) (get_or new k Unknown) (λ d. n (p.from k (omega (arith, long), d))));
   others = λ p n. λ i. get_or cells p Unknown;
   size = λ i. length cells;
 }
@@ -38,15 +40,19 @@ apart first step i k h n e =
     ]
 
 -- one more cell is written
-pub partly-step : (first step count : ℕ) (before now old new : List Cell) (left next i : ℕ) → 0 < step → i < count → first + i * step < length now → IsMaskOf (IsMarked (Has left) i false) next
-    → IsPartly first step count before now old new left → IsPartly first step count before (set now (first + i * step) (get_or new i Unknown)) old new next
+pub partly-step : (first step count : ℕ) (before now old new : List Cell) (left next i : ℕ) → 0 < step → i < count →
+    first + i * step < length now → IsMaskOf (IsMarked (Has left) i false) next
+    → IsPartly first step count before now old new left →
+    IsPartly first step count before (set now (first + i * step) (get_or new i Unknown)) old new next
 partly-step first step count before now old new left next i positive here within m p = record {
   changed = λ k h. p.changed k (stays k h).0;
-  as_old = λ k l h. get_or-set_other now (first + i * step) (first + k * step) (get_or new i Unknown) Unknown (apart first step i k positive (stays k h).1) ∙ p.as_old k l (stays k h).0;
+  as_old = λ k l h. get_or-set_other now (first + i * step) (first + k * step) (get_or new i Unknown) Unknown
+      (apart first step i k positive (stays k h).1) ∙ p.as_old k l (stays k h).0;
   as_new = λ k l n.
       elim (same_or_not k i) [
         | inl own ↦ (rw own (get_or-set_same now (first + i * step) (get_or new i Unknown) Unknown within))
-        | inr other ↦ get_or-set_other now (first + i * step) (first + k * step) (get_or new i Unknown) Unknown (apart first step i k positive other) ∙ p.as_new k l (λ h. n (m.from k (inl (h, other))))
+        | inr other ↦ get_or-set_other now (first + i * step) (first + k * step) (get_or new i Unknown) Unknown
+            (apart first step i k positive other) ∙ p.as_new k l (λ h. n (m.from k (inl (h, other))))
       ];
   others = λ q n. get_or-set_other now (first + i * step) q (get_or new i Unknown) Unknown (λ e. n i here (sym e)) ∙ p.others q n;
   size = length-set now (first + i * step) (get_or new i Unknown) ∙ p.size;
@@ -69,19 +75,23 @@ on_line first step (suc n) p =
     ]
 
 -- if none is left the line is written
-pub partly-end : (first step count : ℕ) (before now old new : List Cell) (left : ℕ) → 0 < step → ((k : ℕ) → k < count → first + k * step < length before) → length new ≡ count
-    → ((k : ℕ) → Has left k → ⊥) → IsPartly first step count before now old new left → now ≡ with_cells before (places_from first step count) new
+pub partly-end : (first step count : ℕ) (before now old new : List Cell) (left : ℕ) → 0 < step →
+    ((k : ℕ) → k < count → first + k * step < length before) → length new ≡ count
+    → ((k : ℕ) → Has left k → ⊥) → IsPartly first step count before now old new left →
+    now ≡ with_cells before (places_from first step count) new
 partly-end first step count before now old new left positive within long none p =
     ext_get_or Unknown now after (p.size ∙ sym (length-with_cells before (places_from first step count) new)) (λ q l.
     elim (on_line first step count q) [
       | inl there ↦
-          (let read : new ≡ cells_at Unknown after (places_from first step count) = line-read before after new first step count positive within long (λ i. after) in
+          (let read : new ≡ cells_at Unknown after (places_from first step count) =
+          line-read before after new first step count positive within long (λ i. after) in
           rw (← there.2) (p.as_new there.0 there.1 (none there.0) ∙ sym (read-old after new first step count there.0 read there.1)))
       | inr other ↦
           p.others q other
           ∙ sym
           (get_or-with_cells before (places_from first step count) new q
-          (λ i h e. let h' : i < count = omega (arith, length-places_from first step count) in absurd (other i h' (sym (get_or-places_from first step count i h') ∙ e))))
+          (λ i h e. let h' : i < count = omega (arith, length-places_from first step count) in
+          absurd (other i h' (sym (get_or-places_from first step count i h') ∙ e))))
     ])
   where
     after : List Cell

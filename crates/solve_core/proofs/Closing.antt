@@ -11,25 +11,30 @@ pub record IsDeduction (f : List Cell → Option (List Cell)) : Type 0 where
   pub above : (g : List Cell) → AtMost (Some g) (f g)
   pub monotone : (g z : List Cell) → Extends g z → AtMost (f g) (f z)
 
-pub and_then-above : (h : List Cell → Option (List Cell)) → ((g : List Cell) → AtMost (Some g) (h g)) → (g : List Cell) (o : Option (List Cell)) → AtMost (Some g) o → AtMost (Some g) (option_and_then h o)
+pub and_then-above : (h : List Cell → Option (List Cell)) → ((g : List Cell) → AtMost (Some g) (h g)) →
+    (g : List Cell) (o : Option (List Cell)) → AtMost (Some g) o → AtMost (Some g) (option_and_then h o)
 and_then-above h a g None k = tt
 and_then-above h a g (Some z) k = AtMost-trans (Some g) (Some z) (h z) k (a z)
 
-pub and_then-below : (h : List Cell → Option (List Cell)) (z : List Cell) → ((g : List Cell) → Extends g z → AtMost (h g) (Some z)) → (o : Option (List Cell)) → AtMost o (Some z) → AtMost (option_and_then h o) (Some z)
+pub and_then-below : (h : List Cell → Option (List Cell)) (z : List Cell) → ((g : List Cell) → Extends g z → AtMost (h g) (Some z)) →
+    (o : Option (List Cell)) → AtMost o (Some z) → AtMost (option_and_then h o) (Some z)
 and_then-below h z b None k = absurd k
 and_then-below h z b (Some g) k = b g k
 
-pub repeat-above : (f : List Cell → Option (List Cell)) → ((g : List Cell) → AtMost (Some g) (f g)) → (n : ℕ) (g : List Cell) → AtMost (Some g) (repeat f n g)
+pub repeat-above : (f : List Cell → Option (List Cell)) → ((g : List Cell) → AtMost (Some g) (f g)) → (n : ℕ) (g : List Cell) →
+    AtMost (Some g) (repeat f n g)
 repeat-above f a zero g = Extends-refl g
 repeat-above f a (suc n) g = and_then-above (repeat f n) (repeat-above f a n) g (f g) (a g)
 
 -- what stays below z in each step does so in all
-pub repeat-below : (f : List Cell → Option (List Cell)) (z : List Cell) → ((g : List Cell) → Extends g z → AtMost (f g) (Some z)) → (n : ℕ) (g : List Cell) → Extends g z → AtMost (repeat f n g) (Some z)
+pub repeat-below : (f : List Cell → Option (List Cell)) (z : List Cell) → ((g : List Cell) → Extends g z → AtMost (f g) (Some z)) →
+    (n : ℕ) (g : List Cell) → Extends g z → AtMost (repeat f n g) (Some z)
 repeat-below f z b zero g h = h
 repeat-below f z b (suc n) g h = and_then-below (repeat f n) z (repeat-below f z b n) (f g) (b g h)
 
 -- the result is at most each closed grid that knows what the given one knows
-pub repeat-least : (f : List Cell → Option (List Cell)) → IsDeduction f → (n : ℕ) (g z : List Cell) → f z ≡ Some z → Extends g z → AtMost (repeat f n g) (Some z)
+pub repeat-least : (f : List Cell → Option (List Cell)) → IsDeduction f → (n : ℕ) (g z : List Cell) → f z ≡ Some z → Extends g z →
+    AtMost (repeat f n g) (Some z)
 repeat-least f d n g z closed h =
     repeat-below f z (λ g' k. let m = d.monotone g' z k in rw closed at m) n g h
 
@@ -63,7 +68,8 @@ fewer_unknown (Blank ∷ g) (Filled ∷ z) h = absurd h.0
 fewer_unknown (Blank ∷ g) (Blank ∷ z) h =
     elim (fewer_unknown g z h.1) [ inl e ↦ inl (ap (λ (r : List Cell). Blank ∷ r) e) | inr l ↦ inr l ]
 
-closed_after : (f : List Cell → Option (List Cell)) (n : ℕ) (g c : List Cell) (o : Option (List Cell)) → f g ≡ o → AtMost (Some g) o → option_and_then (repeat f n) o ≡ Some c
+closed_after : (f : List Cell → Option (List Cell)) (n : ℕ) (g c : List Cell) (o : Option (List Cell)) → f g ≡ o → AtMost (Some g) o →
+    option_and_then (repeat f n) o ≡ Some c
     → ((g' : List Cell) → unknown_count g' < unknown_count g → repeat f n g' ≡ Some c → f c ≡ Some c) → f c ≡ Some c
 closed_after f n g c None is k e next = cc
 closed_after f n g c (Some g') is k e next =
@@ -78,7 +84,8 @@ closed_after f n g c (Some g') is k e next =
     ]
 
 -- with more steps than unknown cells, the result is closed
-pub repeat-closed : (f : List Cell → Option (List Cell)) → ((g : List Cell) → AtMost (Some g) (f g)) → (n : ℕ) (g c : List Cell) → unknown_count g < n → repeat f n g ≡ Some c → f c ≡ Some c
+pub repeat-closed : (f : List Cell → Option (List Cell)) → ((g : List Cell) → AtMost (Some g) (f g)) → (n : ℕ) (g c : List Cell) →
+    unknown_count g < n → repeat f n g ≡ Some c → f c ≡ Some c
 repeat-closed f a zero g c h e = absurd (omega arith)
 repeat-closed f a (suc n) g c h e =
     closed_after f n g c (f g) refl (a g) e (λ g' less e'. repeat-closed f a n g' c (omega arith) e')

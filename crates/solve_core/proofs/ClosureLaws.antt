@@ -24,7 +24,8 @@ set-monotone (x ∷ g) [] k c d h e = absurd h
 set-monotone (x ∷ g) (y ∷ z) zero c d h e = (e, h.1)
 set-monotone (x ∷ g) (y ∷ z) (suc k) c d h e = (h.0, set-monotone g z k c d h.1 e)
 
-pub with_cells-monotone : (g z : List Cell) (places : List ℕ) (cs ds : List Cell) → Extends g z → Extends cs ds → Extends (with_cells g places cs) (with_cells z places ds)
+pub with_cells-monotone : (g z : List Cell) (places : List ℕ) (cs ds : List Cell) → Extends g z → Extends cs ds →
+    Extends (with_cells g places cs) (with_cells z places ds)
 with_cells-monotone g z [] cs ds h e = h
 with_cells-monotone g z (k ∷ places) [] [] h e = h
 with_cells-monotone g z (k ∷ places) [] (d ∷ ds) h e = absurd e
@@ -32,7 +33,8 @@ with_cells-monotone g z (k ∷ places) (c ∷ cs) [] h e = absurd e
 with_cells-monotone g z (k ∷ places) (c ∷ cs) (d ∷ ds) h e =
     with_cells-monotone (set g k c) (set z k d) places cs ds (set-monotone g z k c d h e.0) e.1
 
-written-monotone : (g z : List Cell) (places : List ℕ) (o p : Option (List Cell)) → Extends g z → AtMost o p → AtMost (option_map (with_cells g places) o) (option_map (with_cells z places) p)
+written-monotone : (g z : List Cell) (places : List ℕ) (o p : Option (List Cell)) → Extends g z → AtMost o p →
+    AtMost (option_map (with_cells g places) o) (option_map (with_cells z places) p)
 written-monotone g z places o None h e = tt
 written-monotone g z places None (Some ds) h e = absurd e
 written-monotone g z places (Some cs) (Some ds) h e = with_cells-monotone g z places cs ds h e
@@ -40,7 +42,8 @@ written-monotone g z places (Some cs) (Some ds) h e = with_cells-monotone g z pl
 -- where a grid knows more, no less is deduced from a line
 pub deduce_line-monotone : (line : GridLine) (g z : List Cell) → Extends g z → AtMost (deduce_line g line) (deduce_line z line)
 deduce_line-monotone line g z h =
-    written-monotone g z line.places (deduced (cells_at Unknown g line.places) line.clue) (deduced (cells_at Unknown z line.places) line.clue) h
+    written-monotone g z line.places (deduced (cells_at Unknown g line.places) line.clue)
+    (deduced (cells_at Unknown z line.places) line.clue) h
     (deduced-monotone (cells_at Unknown g line.places) (cells_at Unknown z line.places) line.clue (cells_at-monotone g z line.places h))
 
 pub length-with_cells : (g : List Cell) (places : List ℕ) (cs : List Cell) → length (with_cells g places cs) ≡ length g
@@ -61,16 +64,20 @@ pub round-above : (lines : List GridLine) (g : List Cell) → AtMost (Some g) (r
 round-above lines g = join_all-above g (map (deduce_line g) lines) (lengths g lines)
 
 -- the round of the greater grid, if it's not dead, is above each of the smaller grid's deductions
-below_each : (lines : List GridLine) (g z w : List Cell) → Extends g z → AllByRecursion (λ o. AtMost o (Some w)) (map (deduce_line z) lines) → AllByRecursion (λ o. AtMost o (Some w)) (map (deduce_line g) lines)
+below_each : (lines : List GridLine) (g z w : List Cell) → Extends g z →
+    AllByRecursion (λ o. AtMost o (Some w)) (map (deduce_line z) lines) →
+    AllByRecursion (λ o. AtMost o (Some w)) (map (deduce_line g) lines)
 below_each [] g z w h k = tt
 below_each (line ∷ lines) g z w h k =
     (AtMost-trans (deduce_line g line) (deduce_line z line) (Some w) (deduce_line-monotone line g z h) k.0, below_each lines g z w h k.1)
 
-monotone_to : (lines : List GridLine) (g z : List Cell) → Extends g z → (o : Option (List Cell)) → round lines z ≡ o → AtMost (round lines g) o
+monotone_to : (lines : List GridLine) (g z : List Cell) → Extends g z → (o : Option (List Cell)) → round lines z ≡ o →
+    AtMost (round lines g) o
 monotone_to lines g z h None is = tt
 monotone_to lines g z h (Some w) is =
     let above : AtMost (Some z) (Some w) = rw is at (round-above lines z) in
-    let each : AllByRecursion (λ o. AtMost o (Some w)) (map (deduce_line z) lines) = rw is at (join_all-above_each z (map (deduce_line z) lines) (lengths z lines)) in
+    let each : AllByRecursion (λ o. AtMost o (Some w)) (map (deduce_line z) lines) =
+    rw is at (join_all-above_each z (map (deduce_line z) lines) (lengths z lines)) in
     join_all-least g w (map (deduce_line g) lines) (Extends-trans g z w h above) (below_each lines g z w h each)
 
 pub round-deduction : (lines : List GridLine) → IsDeduction (round lines)
@@ -79,7 +86,8 @@ round-deduction lines = record {
   monotone = λ g z h. monotone_to lines g z h (round lines z) refl;
 }
 
-pub repeat-IsLeastClosed : (f : List Cell → Option (List Cell)) → IsDeduction f → (g : List Cell) → IsLeastClosed f g (repeat f (length g + 1) g)
+pub repeat-IsLeastClosed : (f : List Cell → Option (List Cell)) → IsDeduction f → (g : List Cell) →
+    IsLeastClosed f g (repeat f (length g + 1) g)
 repeat-IsLeastClosed f d g = record {
   above = repeat-above f d.above (length g + 1) g;
   closed = λ z e. repeat-closed f d.above (length g + 1) g z (omega (arith, unknown_count-le g)) e;
@@ -91,7 +99,8 @@ pub closure-IsLeastClosed : (lines : List GridLine) (g : List Cell) → IsLeastC
 closure-IsLeastClosed lines g = repeat-IsLeastClosed (round lines) (round-deduction lines) g
 
 -- there is one such grid at most
-pub IsLeastClosed-unique : (f : List Cell → Option (List Cell)) (g : List Cell) (a b : Option (List Cell)) → IsLeastClosed f g a → IsLeastClosed f g b → a ≡ b
+pub IsLeastClosed-unique : (f : List Cell → Option (List Cell)) (g : List Cell) (a b : Option (List Cell)) → IsLeastClosed f g a →
+    IsLeastClosed f g b → a ≡ b
 IsLeastClosed-unique f g None None h k = refl
 IsLeastClosed-unique f g None (Some y) h k = absurd (h.least y (k.closed y refl) k.above)
 IsLeastClosed-unique f g (Some x) None h k = absurd (k.least x (h.closed x refl) h.above)
@@ -102,47 +111,56 @@ IsLeastClosed-unique f g (Some x) (Some y) h k =
 abbrev pub MeetsLines : List GridLine → List Bool → Type 0
 MeetsLines lines full = AllByRecursion (λ line. runs (cells_at false full line.places) ≡ line.clue) lines
 
-colour_at : (full : List Bool) (g : List Cell) (k : ℕ) → Extends g (map colour full) → CellExtends (get_or g k Unknown) (colour (get_or full k false))
+colour_at : (full : List Bool) (g : List Cell) (k : ℕ) → Extends g (map colour full) →
+    CellExtends (get_or g k Unknown) (colour (get_or full k false))
 colour_at [] [] k h = tt
 colour_at [] (c ∷ g) k h = absurd h
 colour_at (b ∷ full) [] k h = absurd h
 colour_at (b ∷ full) (c ∷ g) zero h = h.0
 colour_at (b ∷ full) (c ∷ g) (suc k) h = colour_at full g k h.1
 
-line_below : (full : List Bool) (g : List Cell) (places : List ℕ) → Extends g (map colour full) → Extends (cells_at Unknown g places) (map colour (cells_at false full places))
+line_below : (full : List Bool) (g : List Cell) (places : List ℕ) → Extends g (map colour full) →
+    Extends (cells_at Unknown g places) (map colour (cells_at false full places))
 line_below full g [] h = tt
 line_below full g (k ∷ places) h = (colour_at full g k h, line_below full g places h)
 
-set-below : (full : List Bool) (g : List Cell) (k : ℕ) (c : Cell) → Extends g (map colour full) → CellExtends c (colour (get_or full k false)) → Extends (set g k c) (map colour full)
+set-below : (full : List Bool) (g : List Cell) (k : ℕ) (c : Cell) → Extends g (map colour full) →
+    CellExtends c (colour (get_or full k false)) → Extends (set g k c) (map colour full)
 set-below [] [] k c h e = tt
 set-below [] (x ∷ g) k c h e = absurd h
 set-below (b ∷ full) [] k c h e = absurd h
 set-below (b ∷ full) (x ∷ g) zero c h e = (e, h.1)
 set-below (b ∷ full) (x ∷ g) (suc k) c h e = (h.0, set-below full g k c h.1 e)
 
-with_cells-below : (full : List Bool) (g : List Cell) (places : List ℕ) (cs : List Cell) → Extends g (map colour full) → Extends cs (map colour (cells_at false full places)) → Extends (with_cells g places cs) (map colour full)
+with_cells-below : (full : List Bool) (g : List Cell) (places : List ℕ) (cs : List Cell) → Extends g (map colour full) →
+    Extends cs (map colour (cells_at false full places)) → Extends (with_cells g places cs) (map colour full)
 with_cells-below full g [] cs h e = h
 with_cells-below full g (k ∷ places) [] h e = h
 with_cells-below full g (k ∷ places) (c ∷ cs) h e = with_cells-below full (set g k c) places cs (set-below full g k c h e.0) e.1
 
-written-below : (full : List Bool) (g : List Cell) (places : List ℕ) (o : Option (List Cell)) → Extends g (map colour full) → AtMost o (Some (map colour (cells_at false full places))) → AtMost (option_map (with_cells g places) o) (Some (map colour full))
+written-below : (full : List Bool) (g : List Cell) (places : List ℕ) (o : Option (List Cell)) → Extends g (map colour full) →
+    AtMost o (Some (map colour (cells_at false full places))) → AtMost (option_map (with_cells g places) o) (Some (map colour full))
 written-below full g places None h e = absurd e
 written-below full g places (Some cs) h e = with_cells-below full g places cs h e
 
-lines_below : (lines : List GridLine) (full : List Bool) (g : List Cell) → MeetsLines lines full → Extends g (map colour full) → AllByRecursion (λ o. AtMost o (Some (map colour full))) (map (deduce_line g) lines)
+lines_below : (lines : List GridLine) (full : List Bool) (g : List Cell) → MeetsLines lines full → Extends g (map colour full) →
+    AllByRecursion (λ o. AtMost o (Some (map colour full))) (map (deduce_line g) lines)
 lines_below [] full g m h = tt
 lines_below (line ∷ lines) full g m h = (
   written-below full g line.places (deduced (cells_at Unknown g line.places) line.clue) h
-      (deduced-below (cells_at Unknown g line.places) line.clue (cells_at false full line.places) (record { extends = line_below full g line.places h; runs_are = m.0 })),
+      (deduced-below (cells_at Unknown g line.places) line.clue (cells_at false full line.places)
+      (record { extends = line_below full g line.places h; runs_are = m.0 })),
   lines_below lines full g m.1 h,
 )
 
 -- a round learns nothing that a solution hasn't
-pub round-below : (lines : List GridLine) (full : List Bool) → MeetsLines lines full → (g : List Cell) → Extends g (map colour full) → AtMost (round lines g) (Some (map colour full))
+pub round-below : (lines : List GridLine) (full : List Bool) → MeetsLines lines full → (g : List Cell) → Extends g (map colour full) →
+    AtMost (round lines g) (Some (map colour full))
 round-below lines full m g h = join_all-least g (map colour full) (map (deduce_line g) lines) h (lines_below lines full g m h)
 
 -- every solution that extends a grid extends its closure, which so isn't dead
-pub closure-below : (lines : List GridLine) (full : List Bool) → MeetsLines lines full → (g : List Cell) → Extends g (map colour full) → AtMost (closure lines g) (Some (map colour full))
+pub closure-below : (lines : List GridLine) (full : List Bool) → MeetsLines lines full → (g : List Cell) → Extends g (map colour full) →
+    AtMost (closure lines g) (Some (map colour full))
 closure-below lines full m g h = repeat-below (round lines) (map colour full) (round-below lines full m) (length g + 1) g h
 
 pub same_at_most : (z : List Cell) (o : Option (List Cell)) → AtMost (Some z) o → AtMost o (Some z) → o ≡ Some z
@@ -150,7 +168,8 @@ same_at_most z None h k = absurd k
 same_at_most z (Some w) h k = ap (λ (r : List Cell). Some r) (Extends-antisym w z k h)
 
 -- a solution is line-closed
-pub round-solution : (lines : List GridLine) (full : List Bool) → MeetsLines lines full → round lines (map colour full) ≡ Some (map colour full)
+pub round-solution : (lines : List GridLine) (full : List Bool) → MeetsLines lines full →
+    round lines (map colour full) ≡ Some (map colour full)
 round-solution lines full m =
     let z = map colour full in
     same_at_most z (round lines z) (round-above lines z) (round-below lines full m z (Extends-refl z))
@@ -159,24 +178,30 @@ round-solution lines full m =
 abbrev pub AreInRange : ℕ → List GridLine → Type 0
 AreInRange n lines = AllByRecursion (λ line. AllByRecursion (λ k. k < n) line.places) lines
 
-cells_at-colour : (full : List Bool) (places : List ℕ) → AllByRecursion (λ k. k < length full) places → cells_at Unknown (map colour full) places ≡ map colour (cells_at false full places)
+cells_at-colour : (full : List Bool) (places : List ℕ) → AllByRecursion (λ k. k < length full) places →
+    cells_at Unknown (map colour full) places ≡ map colour (cells_at false full places)
 cells_at-colour full [] h = refl
 cells_at-colour full (k ∷ places) h = λ i. get_or-map_colour full k h.0 i ∷ cells_at-colour full places h.1 i
 
-written_some : (f : List Cell → List Cell) (o : Option (List Cell)) (w : List Cell) → AtMost (option_map f o) (Some w) → (d : List Cell) × (o ≡ Some d)
+written_some : (f : List Cell → List Cell) (o : Option (List Cell)) (w : List Cell) → AtMost (option_map f o) (Some w) →
+    (d : List Cell) × (o ≡ Some d)
 written_some f None w h = absurd h
 written_some f (Some d) w h = (d, refl)
 
-meets_each : (lines : List GridLine) (full : List Bool) (w : List Cell) → AreInRange (length full) lines → AllByRecursion (λ o. AtMost o (Some w)) (map (deduce_line (map colour full)) lines) → MeetsLines lines full
+meets_each : (lines : List GridLine) (full : List Bool) (w : List Cell) → AreInRange (length full) lines →
+    AllByRecursion (λ o. AtMost o (Some w)) (map (deduce_line (map colour full)) lines) → MeetsLines lines full
 meets_each [] full w r h = tt
 meets_each (line ∷ lines) full w r h =
     let z = map colour full in
     let some = written_some (with_cells z line.places) (deduced (cells_at Unknown z line.places) line.clue) w h.0 in
-    let same = cells_at-colour full line.places r.0 in
-    (deduced-full (cells_at false full line.places) line.clue some.0 (ap (λ (l : List Cell). deduced l line.clue) (sym same) ∙ some.1), meets_each lines full w r.1 h.1)
+    let same = cells_at-colour full line.places r.0 in (
+      deduced-full (cells_at false full line.places) line.clue some.0 (ap (λ (l : List Cell). deduced l line.clue) (sym same) ∙ some.1),
+      meets_each lines full w r.1 h.1,
+    )
 
 -- a full grid that isn't dead by a round is a solution
-pub full-meets : (lines : List GridLine) (full : List Bool) (w : List Cell) → AreInRange (length full) lines → round lines (map colour full) ≡ Some w → MeetsLines lines full
+pub full-meets : (lines : List GridLine) (full : List Bool) (w : List Cell) → AreInRange (length full) lines →
+    round lines (map colour full) ≡ Some w → MeetsLines lines full
 full-meets lines full w r e =
     let z = map colour full in
     meets_each lines full w r (rw e at (join_all-above_each z (map (deduce_line z) lines) (lengths z lines)))

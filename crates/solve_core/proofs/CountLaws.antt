@@ -27,7 +27,10 @@ last_or : (n m : ℕ) → (n + 1 ≡ m) ⊎ (n < m → n + 1 < m)
 last_or n zero = inr (λ l. absurd (omega arith))
 last_or zero (suc zero) = inl refl
 last_or zero (suc (suc m)) = inr (λ l. omega arith)
-last_or (suc n) (suc m) = elim (last_or n m) [ inl e ↦ inl (omega (arith, e)) | inr more ↦ inr (λ l. let up = more (omega (arith, l)) in omega (arith, up)) ]
+last_or (suc n) (suc m) = elim (last_or n m) [
+  | inl e ↦ inl (omega (arith, e))
+  | inr more ↦ inr (λ l. let up = more (omega (arith, l)) in omega (arith, up))
+]
 
 lacking : (m i : ℕ) → has m i ≡ false → Has m i → ⊥
 lacking m i e h = true≢false (sym (has_true m i h) ∙ e)
@@ -41,14 +44,24 @@ counts_by f e b c i = by (has e i) (has b i) refl refl
     by true false p q =
         let one : 1 ≤ f i = c.either_is.to i (true_has e i p) in
         elim (at_most_one (f i)) [ inl few ↦ omega (arith, one, few) | inr two ↦ absurd (lacking b i q (c.both_is.from i two)) ]
-    by false true p q = let two : 2 ≤ f i = c.both_is.to i (true_has b i q) in absurd (lacking e i p (c.either_is.from i (omega (arith, two))))
-    by false false p q = elim (none_or_some (f i)) [ inl none ↦ omega (arith, none) | inr some ↦ absurd (lacking e i p (c.either_is.from i some)) ]
+    by false true p q = let two : 2 ≤ f i = c.both_is.to i (true_has b i q) in
+        absurd (lacking e i p (c.either_is.from i (omega (arith, two))))
+    by false false p q = elim (none_or_some (f i)) [
+      | inl none ↦ omega (arith, none)
+      | inr some ↦ absurd (lacking e i p (c.either_is.from i some))
+    ]
 
 pub counts_own : (f : ℕ → ℕ) (e b : ℕ) → AreCounts f e b → AreCounts (λ i. two_of (has e i) (has b i)) e b
 counts_own f e b c = record {
   most = λ i. omega (arith, counts_by f e b c i, c.most i);
-  either_is = record { to = λ i h. (let one = c.either_is.to i h in omega (arith, counts_by f e b c i, one)); from = λ i h. c.either_is.from i (omega (arith, counts_by f e b c i, h)) };
-  both_is = record { to = λ i h. (let two = c.both_is.to i h in omega (arith, counts_by f e b c i, two)); from = λ i h. c.both_is.from i (omega (arith, counts_by f e b c i, h)) };
+  either_is = record {
+    to = λ i h. (let one = c.either_is.to i h in omega (arith, counts_by f e b c i, one));
+    from = λ i h. c.either_is.from i (omega (arith, counts_by f e b c i, h));
+  };
+  both_is = record {
+    to = λ i h. (let two = c.both_is.to i h in omega (arith, counts_by f e b c i, two));
+    from = λ i h. c.both_is.from i (omega (arith, counts_by f e b c i, h));
+  };
 }
 
 sure_by : (outside : Bool) (c : Cell) → (outside ≡ true) ⊎ (is_known c ≡ true) → is_sure outside c ≡ true
@@ -61,8 +74,10 @@ by_sure true c h = inl refl
 by_sure false c h = inr h
 
 -- the cells with a known cell to their left, and the first one
-pub left_is : (row : List Cell) (w known up first left : ℕ) → length row ≤ w → IsMaskOf (IsKnownCell row) known → IsMaskOf (IsMoved w (Has known) 1) up → IsMaskOf (λ i. i ≡ 0) first
-    → IsMaskOf (λ i. Has up i ⊎ Has first i) left → (x : ℕ) → x < length row → has left x ≡ is_sure (nat_eq x 0) (get_or row (x - 1) Unknown)
+pub left_is : (row : List Cell) (w known up first left : ℕ) → length row ≤ w → IsMaskOf (IsKnownCell row) known →
+    IsMaskOf (IsMoved w (Has known) 1) up → IsMaskOf (λ i. i ≡ 0) first
+    → IsMaskOf (λ i. Has up i ⊎ Has first i) left → (x : ℕ) → x < length row →
+    has left x ≡ is_sure (nat_eq x 0) (get_or row (x - 1) Unknown)
 left_is row w known up first left fits k u f l x h = has_by left x (is_sure (nat_eq x 0) (get_or row (x - 1) Unknown)) to from
   where
     to : Has left x → is_sure (nat_eq x 0) (get_or row (x - 1) Unknown) ≡ true
@@ -81,10 +96,12 @@ left_is row w known up first left fits k u f l x h = has_by left x (is_sure (nat
     ]
 
 -- the cells with a known cell to their right, and the last one
-pub right_is : (row : List Cell) (w known down first last right : ℕ) → length row ≤ w → 1 ≤ length row → IsMaskOf (IsKnownCell row) known → IsMaskOf (λ i. Has known (i + 1)) down
+pub right_is : (row : List Cell) (w known down first last right : ℕ) → length row ≤ w → 1 ≤ length row →
+    IsMaskOf (IsKnownCell row) known → IsMaskOf (λ i. Has known (i + 1)) down
     → IsMaskOf (λ i. i ≡ 0) first → IsMaskOf (IsMoved w (Has first) (length row - 1)) last → IsMaskOf (λ i. Has down i ⊎ Has last i) right
     → (x : ℕ) → x < length row → has right x ≡ is_sure (nat_eq (x + 1) (length row)) (get_or row (x + 1) Unknown)
-right_is row w known down first last right fits some k d f m r x h = has_by right x (is_sure (nat_eq (x + 1) (length row)) (get_or row (x + 1) Unknown)) to from
+right_is row w known down first last right fits some k d f m r x h =
+    has_by right x (is_sure (nat_eq (x + 1) (length row)) (get_or row (x + 1) Unknown)) to from
   where
     to : Has right x → is_sure (nat_eq (x + 1) (length row)) (get_or row (x + 1) Unknown) ≡ true
     to y = elim (r.to x y) [
@@ -92,7 +109,8 @@ right_is row w known down first last right fits some k d f m r x h = has_by righ
       | inr end ↦
           (let at = m.to x end in
           let start : x - (length row - 1) ≡ 0 = f.to (x - (length row - 1)) at.2 in
-          sure_by (nat_eq (x + 1) (length row)) (get_or row (x + 1) Unknown) (inl (eq-eqb (x + 1) (length row) (omega (arith, start, at.1, h, some)))))
+          sure_by (nat_eq (x + 1) (length row)) (get_or row (x + 1) Unknown)
+          (inl (eq-eqb (x + 1) (length row) (omega (arith, start, at.1, h, some)))))
     ]
 
     from : is_sure (nat_eq (x + 1) (length row)) (get_or row (x + 1) Unknown) ≡ true → Has right x
@@ -107,14 +125,16 @@ right_is row w known down first last right fits some k d f m r x h = has_by righ
     ]
 
 -- what is found by a count that is the row's score at each unknown cell
-pub most_by : (row : List Cell) (above below : ℕ → Bool) (least cells : ℕ) (f g : ℕ → ℕ) (result : Option (ℕ × ℕ)) → IsMaskOf (IsUnknownCell row) cells
+pub most_by : (row : List Cell) (above below : ℕ → Bool) (least cells : ℕ) (f g : ℕ → ℕ) (result : Option (ℕ × ℕ)) →
+    IsMaskOf (IsUnknownCell row) cells
     → ((x : ℕ) → x < length row → f x + g x ≡ row_score row above below x)
     → IfNone result ((i : ℕ) → Has cells i → f i + g i < least)
     → IfSome result (λ found. Has cells found.1 × (found.0 ≡ f found.1 + g found.1) × (least ≤ found.0))
     → IfSome result (λ found. (i : ℕ) → Has cells i → f i + g i ≤ found.0)
     → IfSome result (λ found. (i : ℕ) → Has cells i → i < found.1 → f i + g i < found.0)
     → IsMostInRow row above below least result
-most_by row above below least cells f g None m score none found most earliest = λ x u. (let few = none x (m.from x u) in omega (arith, few, score x u.0))
+most_by row above below least cells f g None m score none found most earliest =
+    λ x u. (let few = none x (m.from x u) in omega (arith, few, score x u.0))
 most_by row above below least cells f g (Some (n, k)) m score none found most earliest =
     let at = m.to k found.0 in (
       at,

@@ -13,7 +13,11 @@ use Rattle.solve_core.specs.Trials.{IsTried}
 -- each cell is known or unknown
 pub known-and-unknown : (cells : List Cell) → count_by is_known cells + unknown_count cells ≡ length cells
 known-and-unknown [] = refl
-known-and-unknown (Unknown ∷ cells) = omega (arith, sum_by-cons (λ (c : Cell). cond (is_known c) 1 0) Unknown cells, known-and-unknown cells)
+known-and-unknown (Unknown ∷ cells) = omega (
+  arith,
+  sum_by-cons (λ (c : Cell). cond (is_known c) 1 0) Unknown cells,
+  known-and-unknown cells,
+)
 known-and-unknown (Filled ∷ cells) = omega (arith, sum_by-cons (λ (c : Cell). cond (is_known c) 1 0) Filled cells, known-and-unknown cells)
 known-and-unknown (Blank ∷ cells) = omega (arith, sum_by-cons (λ (c : Cell). cond (is_known c) 1 0) Blank cells, known-and-unknown cells)
 
@@ -52,7 +56,8 @@ known-at (Blank ∷ cells) zero h l = refl
 known-at (Blank ∷ cells) (suc k) h l = known-at cells k h (omega arith)
 
 -- if all cells are known, there is none to try
-pub full-tried : (lines : List GridLine) (cells : List Cell) → list_all is_known cells ≡ true → (k : ℕ) → k < length cells → IsTried lines cells k
+pub full-tried : (lines : List GridLine) (cells : List Cell) → list_all is_known cells ≡ true → (k : ℕ) → k < length cells →
+    IsTried lines cells k
 full-tried lines cells h k l e = absurd (true≢false (sym (known-at cells k h l) ∙ ap is_known e))
 
 -- nor is there at a known one

@@ -30,7 +30,8 @@ ending-guess p found spent limit es l h =
     ∙ by found l
     ∙ ap (λ n. ending p found n (limit - (spent + 1)) es) (sym (add-one spent))
   where
-    by : (gs : List PartialGrid) → length gs < 2 → ending p gs spent (suc (limit - (spent + 1))) (Guess ∷ es) ≡ ending p gs (suc spent) (limit - (spent + 1)) es
+    by : (gs : List PartialGrid) → length gs < 2 → ending p gs spent (suc (limit - (spent + 1))) (Guess ∷ es) ≡
+        ending p gs (suc spent) (limit - (spent + 1)) es
     by [] k = refl
     by (a ∷ []) k = refl
     by (a ∷ b ∷ more) k = absurd (omega arith)
@@ -41,4 +42,5 @@ pub ending-next : (p : Nonogram) (found more : List PartialGrid) (spent limit : 
     → ((s l : ℕ) → ending p more s l after ≡ ending p found s l below)
     → ending p more (spent + 1) (limit - (spent + 1)) after ≡ whole
 ending-next p found more spent limit whole before below after e room less told h =
-    h (spent + 1) (limit - (spent + 1)) ∙ sym (ending-guess p found spent limit below room less) ∙ ap (ending p found spent (limit - spent)) (sym e) ∙ told
+    h (spent + 1) (limit - (spent + 1)) ∙ sym (ending-guess p found spent limit below room less) ∙
+    ap (ending p found spent (limit - spent)) (sym e) ∙ told

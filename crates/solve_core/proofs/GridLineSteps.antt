@@ -19,10 +19,12 @@ use Rattle.solve_core.proofs.NumberedLines.{unique_place, row_within, column_wit
 pub length-along : (cells : List Cell) (first step n : ℕ) → length (cells_at Unknown cells (places_from first step n)) ≡ n
 length-along cells first step n = length-cells_at Unknown cells (places_from first step n) ∙ length-places_from first step n
 
-pub get_or-along : (cells : List Cell) (first step n i : ℕ) → i < n → get_or (cells_at Unknown cells (places_from first step n)) i Unknown ≡ get_or cells (first + i * step) Unknown
+pub get_or-along : (cells : List Cell) (first step n i : ℕ) → i < n →
+    get_or (cells_at Unknown cells (places_from first step n)) i Unknown ≡ get_or cells (first + i * step) Unknown
 get_or-along cells first step n i h =
     let within : i < length (places_from first step n) = omega (arith, length-places_from first step n) in
-    get_or-cells_at Unknown cells (places_from first step n) i within ∙ ap (λ (q : ℕ). get_or cells q Unknown) (get_or-places_from first step n i h)
+    get_or-cells_at Unknown cells (places_from first step n) i within ∙
+    ap (λ (q : ℕ). get_or cells q Unknown) (get_or-places_from first step n i h)
 
 -- a written cell is written in a line that has its place
 pub along-set : (cells : List Cell) (first step n i k : ℕ) (c : Cell) → 0 < step → i < n → k ≡ first + i * step → k < length cells
@@ -30,7 +32,8 @@ pub along-set : (cells : List Cell) (first step n i k : ℕ) (c : Cell) → 0 < 
 along-set cells first step n i k c s h e l =
     let old = cells_at Unknown cells (places_from first step n) in
     let new = cells_at Unknown (set cells k c) (places_from first step n) in
-    ext_get_or Unknown new (set old i c) (length-along (set cells k c) first step n ∙ sym (length-set old i c ∙ length-along cells first step n))
+    ext_get_or Unknown new (set old i c) (length-along (set cells k c) first step n ∙
+    sym (length-set old i c ∙ length-along cells first step n))
     (λ j below.
     let lj : j < n = omega (arith, length-along (set cells k c) first step n) in
     let read : get_or new j Unknown ≡ get_or (set cells k c) (first + j * step) Unknown = get_or-along (set cells k c) first step n j lj in
@@ -38,10 +41,12 @@ along-set cells first step n i k c s h e l =
       | inl same ↦
           (let at : first + j * step ≡ k = ap (λ (q : ℕ). first + q * step) same ∙ sym e in
           read ∙ ap (λ (q : ℕ). get_or (set cells k c) q Unknown) at ∙ get_or-set_same cells k c Unknown l
-          ∙ sym (ap (λ (q : ℕ). get_or (set old i c) q Unknown) same ∙ get_or-set_same old i c Unknown (omega (arith, length-along cells first step n))))
+          ∙ sym (ap (λ (q : ℕ). get_or (set old i c) q Unknown) same ∙
+          get_or-set_same old i c Unknown (omega (arith, length-along cells first step n))))
       | inr other ↦
           (let apart : first + j * step ≢ k = λ x. other (unique_step step first j i s (x ∙ e)) in
-          read ∙ get_or-set_other cells k (first + j * step) c Unknown apart ∙ sym (get_or-set_other old i j c Unknown other ∙ get_or-along cells first step n j lj))
+          read ∙ get_or-set_other cells k (first + j * step) c Unknown apart ∙
+          sym (get_or-set_other old i j c Unknown other ∙ get_or-along cells first step n j lj))
     ])
   where
     unique_step : (step first j i : ℕ) → 0 < step → first + j * step ≡ first + i * step → j ≡ i
@@ -59,22 +64,26 @@ along-elsewhere cells first step n k c apart =
     ext_get_or Unknown new old (length-along (set cells k c) first step n ∙ sym (length-along cells first step n))
     (λ j below.
     let lj : j < n = omega (arith, length-along (set cells k c) first step n) in
-    get_or-along (set cells k c) first step n j lj ∙ get_or-set_other cells k (first + j * step) c Unknown (apart j lj) ∙ sym (get_or-along cells first step n j lj))
+    get_or-along (set cells k c) first step n j lj ∙ get_or-set_other cells k (first + j * step) c Unknown (apart j lj) ∙
+    sym (get_or-along cells first step n j lj))
 
 -- the column and the row of a place
 pub place_in : (cells : List Cell) (rows columns : List (List Cell)) (k : ℕ) → AreLinesOf cells rows columns → k < length cells
-    → (0 < length columns) × (k % length columns < length columns) × (k / length columns < length rows) × (k ≡ k / length columns * length columns + k % length columns)
+    → (0 < length columns) × (k % length columns < length columns) × (k / length columns < length rows) ×
+    (k ≡ k / length columns * length columns + k % length columns)
 place_in cells rows columns k a l =
     let positive : 0 < length columns = omega (arith, a.size.width_from) in
     let within : k < length rows * length columns = omega (arith, a.count) in
     (positive, omega arith, div_below k (length columns) (length rows) positive within, omega arith)
 
 -- a cell in a column and a row is one of the board's
-pub cell_in : (cells : List Cell) (rows columns : List (List Cell)) (x y : ℕ) → AreLinesOf cells rows columns → x < length columns → y < length rows → y * length columns + x < length cells
+pub cell_in : (cells : List Cell) (rows columns : List (List Cell)) (x y : ℕ) → AreLinesOf cells rows columns → x < length columns →
+    y < length rows → y * length columns + x < length cells
 cell_in cells rows columns x y a lx ly = omega (arith, row_within (length columns) (length rows) y x ly lx, a.count)
 
 -- the lines after a cell was written in its row and its column
-pub lines-written : (cells : List Cell) (rows columns : List (List Cell)) (row column : List Cell) (x y : ℕ) (c : Cell) → AreLinesOf cells rows columns → x < length columns → y < length rows
+pub lines-written : (cells : List Cell) (rows columns : List (List Cell)) (row column : List Cell) (x y : ℕ) (c : Cell) →
+    AreLinesOf cells rows columns → x < length columns → y < length rows
     → row ≡ set (get_or rows y []) x c → column ≡ set (get_or columns x []) y c
     → AreLinesOf (set cells (y * length columns + x) c) (set rows y row) (set columns x column)
 lines-written cells rows columns row column x y c a lx ly er ec =
@@ -98,7 +107,8 @@ lines-written cells rows columns row column x y c a lx ly er ec =
                 ∙ sym (along-set cells (y * w) 1 w x k c (omega arith) lx (omega arith) l)))
             | inr other ↦
                 (get_or-set_other rows y j row [] other ∙ a.rows_are j lj
-                ∙ sym (along-elsewhere cells (j * w) 1 w k c (λ i li e. let same : j * w + i ≡ y * w + x = omega (arith, e) in other ((unique_place w j y i x li lx same).0))))
+                ∙ sym (along-elsewhere cells (j * w) 1 w k c (λ i li e. let same : j * w + i ≡ y * w + x = omega (arith, e) in
+                other ((unique_place w j y i x li lx same).0))))
           ]);
       columns_are = λ j below.
           let lj : j < w = omega (arith, lw) in
@@ -110,7 +120,8 @@ lines-written cells rows columns row column x y c a lx ly er ec =
                 ∙ sym (along-set cells x w h y k c positive ly (omega arith) l)))
             | inr other ↦
                 (get_or-set_other columns x j column [] other ∙ a.columns_are j lj
-                ∙ sym (along-elsewhere cells j w h k c (λ i li e. let same : i * w + j ≡ y * w + x = omega (arith, e) in other ((unique_place w i y j x lj lx same).1))))
+                ∙ sym (along-elsewhere cells j w h k c (λ i li e. let same : i * w + j ≡ y * w + x = omega (arith, e) in
+                other ((unique_place w i y j x lj lx same).1))))
           ]);
     }
 
@@ -121,17 +132,25 @@ line_read lines i line h = get_or_default lines i line [] h
 -- ---- the cells of rows
 
 -- so many rows of so many cells
-pub length-rows : (w : ℕ) (rows : List (List Cell)) → ((y : ℕ) → y < length rows → length (get_or rows y []) ≡ w) → length (cells_of_rows rows) ≡ length rows * w
+pub length-rows : (w : ℕ) (rows : List (List Cell)) → ((y : ℕ) → y < length rows → length (get_or rows y []) ≡ w) →
+    length (cells_of_rows rows) ≡ length rows * w
 length-rows w [] h = omega arith
-length-rows w (row ∷ rows) h = omega (arith, length-append row (cells_of_rows rows), h 0 (omega arith), length-rows w rows (λ y l. h (suc y) (omega arith)))
+length-rows w (row ∷ rows) h = omega (
+  arith,
+  length-append row (cells_of_rows rows),
+  h 0 (omega arith),
+  length-rows w rows (λ y l. h (suc y) (omega arith)),
+)
 
 -- each cell of a row is among the cells
-pub get_or-rows : (w : ℕ) (rows : List (List Cell)) (y x : ℕ) → ((k : ℕ) → k < length rows → length (get_or rows k []) ≡ w) → y < length rows → x < w
+pub get_or-rows : (w : ℕ) (rows : List (List Cell)) (y x : ℕ) → ((k : ℕ) → k < length rows → length (get_or rows k []) ≡ w) →
+    y < length rows → x < w
     → get_or (cells_of_rows rows) (y * w + x) Unknown ≡ get_or (get_or rows y []) x Unknown
 get_or-rows w [] y x h l m = absurd (omega arith)
 get_or-rows w (row ∷ rows) zero x h l m =
     let at : 0 * w + x ≡ x = omega arith in
-    ap (λ (k : ℕ). get_or (row ++ cells_of_rows rows) k Unknown) at ∙ get_or_append_left row (cells_of_rows rows) Unknown x (omega (arith, h 0 (omega arith)))
+    ap (λ (k : ℕ). get_or (row ++ cells_of_rows rows) k Unknown) at ∙
+    get_or_append_left row (cells_of_rows rows) Unknown x (omega (arith, h 0 (omega arith)))
 get_or-rows w (row ∷ rows) (suc y) x h l m =
     let long : length row ≡ w = h 0 (omega arith) in
     let next : suc y * w + x - w ≡ y * w + x = omega arith in
@@ -158,28 +177,35 @@ lines-cells cells rows columns a =
     wide y l = ap length (a.rows_are y l) ∙ length-along cells (y * length columns) 1 (length columns)
 
 -- the lines of a grid whose cells are those of its rows, after a cell was written in its row and its column
-pub cell-written : (rows columns : List (List Cell)) (row column : List Cell) (x y : ℕ) (c : Cell) → AreLinesOf (cells_of_rows rows) rows columns → x < length columns → y < length rows
+pub cell-written : (rows columns : List (List Cell)) (row column : List Cell) (x y : ℕ) (c : Cell) →
+    AreLinesOf (cells_of_rows rows) rows columns → x < length columns → y < length rows
     → row ≡ set (get_or rows y []) x c → column ≡ set (get_or columns x []) y c
-    → (cells_of_rows (set rows y row) ≡ set (cells_of_rows rows) (y * length columns + x) c) × AreLinesOf (cells_of_rows (set rows y row)) (set rows y row) (set columns x column)
+    → (cells_of_rows (set rows y row) ≡ set (cells_of_rows rows) (y * length columns + x) c) ×
+    AreLinesOf (cells_of_rows (set rows y row)) (set rows y row) (set columns x column)
 cell-written rows columns row column x y c a lx ly er ec =
     let after = lines-written (cells_of_rows rows) rows columns row column x y c a lx ly er ec in
     let same = lines-cells (set (cells_of_rows rows) (y * length columns + x) c) (set rows y row) (set columns x column) after in
     (same, subst (λ (cells : List Cell). AreLinesOf cells (set rows y row) (set columns x column)) (sym same) after)
 
 -- a row and a column read at a cell
-pub cell-read : (rows columns : List (List Cell)) (x y : ℕ) → AreLinesOf (cells_of_rows rows) rows columns → x < length columns → y < length rows
-    → (get_or (get_or rows y []) x Unknown ≡ get_or (cells_of_rows rows) (y * length columns + x) Unknown) × (get_or (get_or columns x []) y Unknown ≡ get_or (cells_of_rows rows) (y * length columns + x) Unknown)
+pub cell-read : (rows columns : List (List Cell)) (x y : ℕ) → AreLinesOf (cells_of_rows rows) rows columns → x < length columns →
+    y < length rows
+    → (get_or (get_or rows y []) x Unknown ≡ get_or (cells_of_rows rows) (y * length columns + x) Unknown) ×
+    (get_or (get_or columns x []) y Unknown ≡ get_or (cells_of_rows rows) (y * length columns + x) Unknown)
 cell-read rows columns x y a lx ly =
     let cells = cells_of_rows rows in
     let w = length columns in
     let along : y * w + x * 1 ≡ y * w + x = omega arith in
     let down : x + y * w ≡ y * w + x = omega arith in (
-      ap (λ (row : List Cell). get_or row x Unknown) (a.rows_are y ly) ∙ get_or-along cells (y * w) 1 w x lx ∙ ap (λ (k : ℕ). get_or cells k Unknown) along,
-      ap (λ (column : List Cell). get_or column y Unknown) (a.columns_are x lx) ∙ get_or-along cells x w (length rows) y ly ∙ ap (λ (k : ℕ). get_or cells k Unknown) down,
+      ap (λ (row : List Cell). get_or row x Unknown) (a.rows_are y ly) ∙ get_or-along cells (y * w) 1 w x lx ∙
+          ap (λ (k : ℕ). get_or cells k Unknown) along,
+      ap (λ (column : List Cell). get_or column y Unknown) (a.columns_are x lx) ∙ get_or-along cells x w (length rows) y ly ∙
+          ap (λ (k : ℕ). get_or cells k Unknown) down,
     )
 
 -- how long a row and a column are
-pub lines-long : (rows columns : List (List Cell)) (x y : ℕ) → AreLinesOf (cells_of_rows rows) rows columns → x < length columns → y < length rows
+pub lines-long : (rows columns : List (List Cell)) (x y : ℕ) → AreLinesOf (cells_of_rows rows) rows columns → x < length columns →
+    y < length rows
     → (length (get_or rows y []) ≡ length columns) × (length (get_or columns x []) ≡ length rows)
 lines-long rows columns x y a lx ly = (
   ap length (a.rows_are y ly) ∙ length-along (cells_of_rows rows) (y * length columns) 1 (length columns),
@@ -187,7 +213,8 @@ lines-long rows columns x y a lx ly = (
 )
 
 -- lines of which nothing is known
-pub lines-unknown : (w h : ℕ) (rows columns : List (List Cell)) → IsSize w h → rows ≡ replicate h (replicate w Unknown) → columns ≡ replicate w (replicate h Unknown)
+pub lines-unknown : (w h : ℕ) (rows columns : List (List Cell)) → IsSize w h → rows ≡ replicate h (replicate w Unknown) →
+    columns ≡ replicate w (replicate h Unknown)
     → (cells_of_rows rows ≡ replicate (w * h) Unknown) × AreLinesOf (cells_of_rows rows) rows columns
 lines-unknown w h rows columns size er el =
     let are = lines in
@@ -203,9 +230,11 @@ lines-unknown w h rows columns size er el =
     high : length rows ≡ h
     high = ap length er ∙ length-replicate h (replicate w Unknown)
 
-    along : (first step n : ℕ) → ((i : ℕ) → i < n → first + i * step < w * h) → replicate n Unknown ≡ cells_at Unknown cells (places_from first step n)
+    along : (first step n : ℕ) → ((i : ℕ) → i < n → first + i * step < w * h) →
+        replicate n Unknown ≡ cells_at Unknown cells (places_from first step n)
     along first step n within =
-        ext_get_or Unknown (replicate n Unknown) (cells_at Unknown cells (places_from first step n)) (length-replicate n Unknown ∙ sym (length-along cells first step n))
+        ext_get_or Unknown (replicate n Unknown) (cells_at Unknown cells (places_from first step n)) (length-replicate n Unknown ∙
+        sym (length-along cells first step n))
         (λ i below.
         let l : i < n = omega (arith, length-replicate n Unknown) in
         get_or-replicate n i Unknown Unknown l
@@ -226,18 +255,22 @@ lines-unknown w h rows columns size er el =
 -- ---- unknown cells
 
 -- the cells of a row that has no unknown one from a cell on
-pub row-known : (rows columns : List (List Cell)) (y column : ℕ) → AreLinesOf (cells_of_rows rows) rows columns → y < length rows → IsUnknownFrom (get_or rows y []) column None
-    → (k : ℕ) → y * length columns + column ≤ k → k < y * length columns + length columns → is_unknown (get_or (cells_of_rows rows) k Unknown) ≡ false
+pub row-known : (rows columns : List (List Cell)) (y column : ℕ) → AreLinesOf (cells_of_rows rows) rows columns → y < length rows →
+    IsUnknownFrom (get_or rows y []) column None
+    → (k : ℕ) → y * length columns + column ≤ k → k < y * length columns + length columns →
+    is_unknown (get_or (cells_of_rows rows) k Unknown) ≡ false
 row-known rows columns y column a ly none k from to =
     let w = length columns in
     let x : ℕ = k - y * w in
     let at : y * w + x ≡ k = omega arith in
     let lx : x < w = omega arith in
     let long = (lines-long rows columns x y a lx ly).0 in
-    ap is_unknown (ap (λ (q : ℕ). get_or (cells_of_rows rows) q Unknown) (sym at) ∙ sym (cell-read rows columns x y a lx ly).0) ∙ none x (omega arith) (omega (arith, long, lx))
+    ap is_unknown (ap (λ (q : ℕ). get_or (cells_of_rows rows) q Unknown) (sym at) ∙ sym (cell-read rows columns x y a lx ly).0) ∙
+    none x (omega arith) (omega (arith, long, lx))
 
 -- the first unknown cell of a row
-pub row-unknown : (rows columns : List (List Cell)) (y column x : ℕ) → AreLinesOf (cells_of_rows rows) rows columns → y < length rows → IsUnknownFrom (get_or rows y []) column (Some x)
+pub row-unknown : (rows columns : List (List Cell)) (y column x : ℕ) → AreLinesOf (cells_of_rows rows) rows columns → y < length rows →
+    IsUnknownFrom (get_or rows y []) column (Some x)
     → (x < length columns) × (get_or (cells_of_rows rows) (y * length columns + x) Unknown ≡ Unknown)
     × ((k : ℕ) → y * length columns + column ≤ k → k < y * length columns + x → is_unknown (get_or (cells_of_rows rows) k Unknown) ≡ false)
 row-unknown rows columns y column x a ly found =
@@ -250,13 +283,15 @@ row-unknown rows columns y column x a ly found =
           (let z : ℕ = k - y * w in
           let at : y * w + z ≡ k = omega arith in
           let lz : z < w = omega (arith, lx) in
-          ap is_unknown (ap (λ (q : ℕ). get_or (cells_of_rows rows) q Unknown) (sym at) ∙ sym (cell-read rows columns z y a lz ly).0) ∙ found.3 z (omega arith) (omega arith)),
+          ap is_unknown (ap (λ (q : ℕ). get_or (cells_of_rows rows) q Unknown) (sym at) ∙ sym (cell-read rows columns z y a lz ly).0) ∙
+          found.3 z (omega arith) (omega arith)),
     )
 
 -- ---- rows written into a grid
 
 -- a grid that has the cells of the rows above, with one more row written
-pub rows-written : (old : PartialGrid) (rows columns : List (List Cell)) (y : ℕ) (row : List Cell) → AreLinesOf (cells_of_rows rows) rows columns → old.width ≡ length columns
+pub rows-written : (old : PartialGrid) (rows columns : List (List Cell)) (y : ℕ) (row : List Cell) →
+    AreLinesOf (cells_of_rows rows) rows columns → old.width ≡ length columns
     → length old.cells ≡ length columns * length rows → y < length rows → row ≡ get_or rows y []
     → ((k : ℕ) → k < y * length columns → get_or old.cells k Unknown ≡ get_or (cells_of_rows rows) k Unknown)
     → (length (with_row old y row).cells ≡ length (cells_of_rows rows))
@@ -279,7 +314,8 @@ rows-written old rows columns y row a wide count ly is above = rw wide (size, ea
     size = length-replaced old.cells row (y * w) w long fits ∙ count ∙ sym a.count
 
     here : (x : ℕ) → x < w → get_or new (y * w + x) Unknown ≡ get_or (cells_of_rows rows) (y * w + x) Unknown
-    here x lx = replaced-here old.cells row (y * w) w long fits x lx ∙ ap (λ (line : List Cell). get_or line x Unknown) is ∙ (cell-read rows columns x y a lx ly).0
+    here x lx = replaced-here old.cells row (y * w) w long fits x lx ∙ ap (λ (line : List Cell). get_or line x Unknown) is ∙
+        (cell-read rows columns x y a lx ly).0
 
     each : (k : ℕ) → k < (y + 1) * w → get_or new k Unknown ≡ get_or (cells_of_rows rows) k Unknown
     each k l =

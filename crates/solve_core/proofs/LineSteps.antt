@@ -17,7 +17,8 @@ use Rattle.line_core.proofs.DeductionLaws.{deduced-above, deduced-settled}
 use Rattle.solve_core.proofs.ClosureLaws.{IsLeastClosed, IsLeastClosed-unique, closure-IsLeastClosed, with_cells-monotone}
 use Rattle.solve_core.proofs.StepLaws.{IsOneOf, closed_line, step_within, dead_within}
 
-set_elsewhere : (g : List Cell) (p : ℕ) (c : Cell) (k : ℕ) → (p ≡ k → c ≡ get_or g k Unknown) → get_or (set g p c) k Unknown ≡ get_or g k Unknown
+set_elsewhere : (g : List Cell) (p : ℕ) (c : Cell) (k : ℕ) → (p ≡ k → c ≡ get_or g k Unknown) →
+    get_or (set g p c) k Unknown ≡ get_or g k Unknown
 set_elsewhere [] p c k h = refl
 set_elsewhere (x ∷ g) zero c zero h = h refl
 set_elsewhere (x ∷ g) zero c (suc k) h = refl
@@ -26,7 +27,8 @@ set_elsewhere (x ∷ g) (suc p) c (suc k) h = set_elsewhere g p c k (λ e. h (ap
 
 -- a place where nothing else is written keeps its cell
 pub get_or-with_cells : (g : List Cell) (places : List ℕ) (d : List Cell) (k : ℕ)
-    → ((i : ℕ) → i < length places → get_or places i 0 ≡ k → get_or d i Unknown ≡ get_or g k Unknown) → get_or (with_cells g places d) k Unknown ≡ get_or g k Unknown
+    → ((i : ℕ) → i < length places → get_or places i 0 ≡ k → get_or d i Unknown ≡ get_or g k Unknown) →
+    get_or (with_cells g places d) k Unknown ≡ get_or g k Unknown
 get_or-with_cells g [] d k h = refl
 get_or-with_cells g (p ∷ ps) [] k h = refl
 get_or-with_cells g (p ∷ ps) (c ∷ d) k h =
@@ -41,7 +43,8 @@ abbrev pub AreBelow : ℕ → List ℕ → Type 0
 AreBelow n places = AllByRecursion (λ k. k < n) places
 
 -- what was written at places is read there
-pub cells_at-with_cells : (g : List Cell) (places : List ℕ) (d : List Cell) → AreDistinct places → AreBelow (length g) places → length d ≡ length places → cells_at Unknown (with_cells g places d) places ≡ d
+pub cells_at-with_cells : (g : List Cell) (places : List ℕ) (d : List Cell) → AreDistinct places → AreBelow (length g) places →
+    length d ≡ length places → cells_at Unknown (with_cells g places d) places ≡ d
 cells_at-with_cells g [] [] a b e = refl
 cells_at-with_cells g [] (c ∷ d) a b e = absurd (omega arith)
 cells_at-with_cells g (p ∷ ps) [] a b e = absurd (omega arith)
@@ -49,13 +52,15 @@ cells_at-with_cells g (p ∷ ps) (c ∷ d) a b e =
     let within : p < length g = b.0 in
     let first : get_or (with_cells (set g p c) ps d) p Unknown ≡ c =
     get_or-with_cells (set g p c) ps d p (λ i l s. absurd (a.0 i l s)) ∙ get_or-set_same g p c Unknown within in
-    let rest : cells_at Unknown (with_cells (set g p c) ps d) ps ≡ d = cells_at-with_cells (set g p c) ps d a.1 (rw length-set b.1) (omega arith) in
+    let rest : cells_at Unknown (with_cells (set g p c) ps d) ps ≡ d =
+    cells_at-with_cells (set g p c) ps d a.1 (rw length-set b.1) (omega arith) in
     λ i. first i ∷ rest i
 
 pub distinct_from : (first step n : ℕ) → 0 < step → AreDistinct (places_from first step n)
 distinct_from first step zero h = tt
 distinct_from first step (suc n) h = (
-  λ i l e. (let within : i < n = omega (arith, length-places_from (first + step) step n) in absurd (omega (arith, get_or-places_from (first + step) step n i within, e))),
+  λ i l e. (let within : i < n = omega (arith, length-places_from (first + step) step n) in
+      absurd (omega (arith, get_or-places_from (first + step) step n i within, e))),
   distinct_from (first + step) step n h,
 )
 
@@ -82,7 +87,9 @@ pub with_cells-same : (g : List Cell) (places : List ℕ) → with_cells g place
 with_cells-same g [] = refl
 with_cells-same g (p ∷ ps) = ap (λ (r : List Cell). with_cells r ps (cells_at Unknown g ps)) (set-get_or g p Unknown) ∙ with_cells-same g ps
 
-pub cells_at-same : (a b : List Cell) (places : List ℕ) → ((i : ℕ) → i < length places → get_or a (get_or places i 0) Unknown ≡ get_or b (get_or places i 0) Unknown) → cells_at Unknown a places ≡ cells_at Unknown b places
+pub cells_at-same : (a b : List Cell) (places : List ℕ) →
+    ((i : ℕ) → i < length places → get_or a (get_or places i 0) Unknown ≡ get_or b (get_or places i 0) Unknown) →
+    cells_at Unknown a places ≡ cells_at Unknown b places
 cells_at-same a b [] h = refl
 cells_at-same a b (p ∷ ps) h =
     let first : get_or a p Unknown ≡ get_or b p Unknown = h 0 (omega arith) in
@@ -93,7 +100,8 @@ cells_at-same a b (p ∷ ps) h =
 pub settled_line : (g : List Cell) (line : GridLine) → IsSettled g line → deduce_line g line ≡ Some g
 settled_line g line h = ap (option_map (with_cells g line.places)) h ∙ ap (λ (r : List Cell). Some r) (with_cells-same g line.places)
 
-above_line : (line : GridLine) (g d : List Cell) → deduced (cells_at Unknown g line.places) line.clue ≡ Some d → Extends (cells_at Unknown g line.places) d
+above_line : (line : GridLine) (g d : List Cell) → deduced (cells_at Unknown g line.places) line.clue ≡ Some d →
+    Extends (cells_at Unknown g line.places) d
 above_line line g d e = rw e at (deduced-above (cells_at Unknown g line.places) line.clue)
 
 pub written_line : (line : GridLine) (g new : List Cell) → IsWritten line g new → deduce_line g line ≡ Some new
@@ -101,23 +109,30 @@ written_line line g new w = ap (option_map (with_cells g line.places)) w.is_cert
 
 pub written-extends : (line : GridLine) (g new : List Cell) → IsWritten line g new → Extends g new
 written-extends line g new w =
-    let old = with_cells-monotone g g line.places (cells_at Unknown g line.places) w.certain (Extends-refl g) (above_line line g w.certain w.is_certain) in
+    let old = with_cells-monotone g g line.places (cells_at Unknown g line.places) w.certain (Extends-refl g)
+    (above_line line g w.certain w.is_certain) in
     rw w.written (rw (with_cells-same g line.places) at old)
 
 -- what was written is read
-pub written-read : (line : GridLine) (g new : List Cell) (w : IsWritten line g new) → AreDistinct line.places → AreBelow (length g) line.places → cells_at Unknown new line.places ≡ w.certain
+pub written-read : (line : GridLine) (g new : List Cell) (w : IsWritten line g new) → AreDistinct line.places →
+    AreBelow (length g) line.places → cells_at Unknown new line.places ≡ w.certain
 written-read line g new w a b =
     let long : length w.certain ≡ length line.places =
-    sym (length-Extends (cells_at Unknown g line.places) w.certain (above_line line g w.certain w.is_certain)) ∙ length-cells_at Unknown g line.places in
+    sym (length-Extends (cells_at Unknown g line.places) w.certain (above_line line g w.certain w.is_certain)) ∙
+    length-cells_at Unknown g line.places in
     ap (λ (r : List Cell). cells_at Unknown r line.places) w.written ∙ cells_at-with_cells g line.places w.certain a b long
 
 -- the line that was written is settled
-pub written-settled : (line : GridLine) (g new : List Cell) → IsWritten line g new → AreDistinct line.places → AreBelow (length g) line.places → IsSettled new line
-written-settled line g new w a b = rw (written-read line g new w a b) (deduced-settled (cells_at Unknown g line.places) w.certain line.clue w.is_certain)
+pub written-settled : (line : GridLine) (g new : List Cell) → IsWritten line g new → AreDistinct line.places →
+    AreBelow (length g) line.places → IsSettled new line
+written-settled line g new w a b =
+    rw (written-read line g new w a b) (deduced-settled (cells_at Unknown g line.places) w.certain line.clue w.is_certain)
 
 -- a cell stays that the line doesn't have, or that it had as it is
-pub written-elsewhere : (line : GridLine) (g new : List Cell) → IsWritten line g new → AreDistinct line.places → AreBelow (length g) line.places → (k : ℕ)
-    → ((i : ℕ) → i < length line.places → get_or line.places i 0 ≡ k → get_or new k Unknown ≡ get_or g k Unknown) → get_or new k Unknown ≡ get_or g k Unknown
+pub written-elsewhere : (line : GridLine) (g new : List Cell) → IsWritten line g new → AreDistinct line.places →
+    AreBelow (length g) line.places → (k : ℕ)
+    → ((i : ℕ) → i < length line.places → get_or line.places i 0 ≡ k → get_or new k Unknown ≡ get_or g k Unknown) →
+    get_or new k Unknown ≡ get_or g k Unknown
 written-elsewhere line g new w a b k h =
     rw w.written
     (get_or-with_cells g line.places w.certain k (λ i l e.
@@ -125,7 +140,8 @@ written-elsewhere line g new w a b k h =
     ∙ ap (λ (q : ℕ). get_or new q Unknown) e ∙ h i l e))
 
 -- fewer cells are unknown where a line learned something
-pub written-fewer : (line : GridLine) (g new : List Cell) (w : IsWritten line g new) → w.certain ≢ cells_at Unknown g line.places → AreDistinct line.places → AreBelow (length g) line.places
+pub written-fewer : (line : GridLine) (g new : List Cell) (w : IsWritten line g new) → w.certain ≢ cells_at Unknown g line.places →
+    AreDistinct line.places → AreBelow (length g) line.places
     → unknown_count new < unknown_count g
 written-fewer line g new w n a b =
     elim (fewer_unknown g new (written-extends line g new w)) [
@@ -134,24 +150,29 @@ written-fewer line g new w n a b =
     ]
 
 -- from a grid between one and its closure the closure is the same
-pub least_between : (f : List Cell → Option (List Cell)) (g z : List Cell) (c d : Option (List Cell)) → IsLeastClosed f g c → IsLeastClosed f z d → Extends g z → AtMost (Some z) c → d ≡ c
+pub least_between : (f : List Cell → Option (List Cell)) (g z : List Cell) (c d : Option (List Cell)) → IsLeastClosed f g c →
+    IsLeastClosed f z d → Extends g z → AtMost (Some z) c → d ≡ c
 least_between f g z c d lc ld h below =
     IsLeastClosed-unique f z d c ld (record { above = below; closed = lc.closed; least = λ w e k. lc.least w e (Extends-trans g z w h k) })
 
 -- one line's deduction leaves the closure as it is
-pub line_keeps : (lines : List GridLine) (g new : List Cell) (line : GridLine) → IsOneOf line lines → Extends g new → deduce_line g line ≡ Some new → closure lines new ≡ closure lines g
+pub line_keeps : (lines : List GridLine) (g new : List Cell) (line : GridLine) → IsOneOf line lines → Extends g new →
+    deduce_line g line ≡ Some new → closure lines new ≡ closure lines g
 line_keeps lines g new line m h e =
-    least_between (round lines) g new (closure lines g) (closure lines new) (closure-IsLeastClosed lines g) (closure-IsLeastClosed lines new) h
+    least_between (round lines) g new (closure lines g) (closure lines new) (closure-IsLeastClosed lines g)
+    (closure-IsLeastClosed lines new) h
     (rw e at (step_within lines g g line m (closure-IsLeastClosed lines g).above))
 
-pub line_dead : (lines : List GridLine) (g : List Cell) (line : GridLine) → IsOneOf line lines → deduced (cells_at Unknown g line.places) line.clue ≡ None → closure lines g ≡ None
+pub line_dead : (lines : List GridLine) (g : List Cell) (line : GridLine) → IsOneOf line lines →
+    deduced (cells_at Unknown g line.places) line.clue ≡ None → closure lines g ≡ None
 line_dead lines g line m e =
     dead_within lines g g line m (closure-IsLeastClosed lines g).above (ap (option_map (with_cells g line.places)) e)
 
 -- what the loops over one line's places do
 
 pub write-step : (cells line : List Cell) (first step count i : ℕ) → i < count → length line ≡ count
-    → with_cells (set cells (first + i * step) (get_or line i Unknown)) (places_from (first + (i + 1) * step) step (count - (i + 1))) (drop (i + 1) line)
+    → with_cells (set cells (first + i * step) (get_or line i Unknown)) (places_from (first + (i + 1) * step) step (count - (i + 1)))
+    (drop (i + 1) line)
     ≡ with_cells cells (places_from (first + i * step) step (count - i)) (drop i line)
 write-step cells line first step count i h e =
     let left : count - i ≡ suc (count - (i + 1)) = omega arith in
@@ -159,20 +180,27 @@ write-step cells line first step count i h e =
     let next : first + i * step + step ≡ first + (i + 1) * step = omega arith in
     rw (left, drop-cons line i Unknown within, next, add-one i) refl
 
-pub same-step : (cells line : List Cell) (first step count i : ℕ) → i < count → length line ≡ count → get_or line i Unknown ≡ get_or cells (first + i * step) Unknown
-    → with_cells cells (places_from (first + (i + 1) * step) step (count - (i + 1))) (drop (i + 1) line) ≡ with_cells cells (places_from (first + i * step) step (count - i)) (drop i line)
+pub same-step : (cells line : List Cell) (first step count i : ℕ) → i < count → length line ≡ count →
+    get_or line i Unknown ≡ get_or cells (first + i * step) Unknown
+    → with_cells cells (places_from (first + (i + 1) * step) step (count - (i + 1))) (drop (i + 1) line) ≡
+    with_cells cells (places_from (first + i * step) step (count - i)) (drop i line)
 same-step cells line first step count i h e same =
-    let kept : set cells (first + i * step) (get_or line i Unknown) ≡ cells = ap (set cells (first + i * step)) same ∙ set-get_or cells (first + i * step) Unknown in
-    ap (λ (r : List Cell). with_cells r (places_from (first + (i + 1) * step) step (count - (i + 1))) (drop (i + 1) line)) (sym kept) ∙ write-step cells line first step count i h e
+    let kept : set cells (first + i * step) (get_or line i Unknown) ≡ cells = ap (set cells (first + i * step)) same ∙
+    set-get_or cells (first + i * step) Unknown in
+    ap (λ (r : List Cell). with_cells r (places_from (first + (i + 1) * step) step (count - (i + 1))) (drop (i + 1) line)) (sym kept) ∙
+    write-step cells line first step count i h e
 
 -- a line that is read at places has as many cells
-pub length-seen : (cells line : List Cell) (first step count : ℕ) → line ≡ cells_at Unknown cells (places_from first step count) → length line ≡ count
-length-seen cells line first step count e = ap length e ∙ length-cells_at Unknown cells (places_from first step count) ∙ length-places_from first step count
+pub length-seen : (cells line : List Cell) (first step count : ℕ) → line ≡ cells_at Unknown cells (places_from first step count) →
+    length line ≡ count
+length-seen cells line first step count e = ap length e ∙ length-cells_at Unknown cells (places_from first step count) ∙
+    length-places_from first step count
 
 -- cells that stand there already
 pub same-steps : (cells line : List Cell) (first step count from d : ℕ) → from + d ≤ count → length line ≡ count
     → ((k : ℕ) → from ≤ k → k < from + d → get_or line k Unknown ≡ get_or cells (first + k * step) Unknown)
-    → with_cells cells (places_from (first + (from + d) * step) step (count - (from + d))) (drop (from + d) line) ≡ with_cells cells (places_from (first + from * step) step (count - from)) (drop from line)
+    → with_cells cells (places_from (first + (from + d) * step) step (count - (from + d))) (drop (from + d) line) ≡
+    with_cells cells (places_from (first + from * step) step (count - from)) (drop from line)
 same-steps cells line first step count from zero h e same = let at : from + zero ≡ from = omega arith in rw at refl
 same-steps cells line first step count from (suc d) h e same =
     let next : from + suc d ≡ from + d + 1 = omega arith in
@@ -183,7 +211,8 @@ same-steps cells line first step count from (suc d) h e same =
 -- up to a place, or the end
 pub same-until : (cells line : List Cell) (first step count from i : ℕ) → from ≤ i → i ≤ count → length line ≡ count
     → ((k : ℕ) → from ≤ k → k < i → get_or line k Unknown ≡ get_or cells (first + k * step) Unknown)
-    → with_cells cells (places_from (first + i * step) step (count - i)) (drop i line) ≡ with_cells cells (places_from (first + from * step) step (count - from)) (drop from line)
+    → with_cells cells (places_from (first + i * step) step (count - i)) (drop i line) ≡
+    with_cells cells (places_from (first + from * step) step (count - from)) (drop from line)
 same-until cells line first step count from i l m e same =
     let at : from + (i - from) ≡ i = omega arith in
     rw at at (same-steps cells line first step count from (i - from) (omega arith) e (λ k h n. same k h (omega arith)))
@@ -197,14 +226,17 @@ same-rest cells line first step count from l e same =
     sym all ∙ same-until cells line first step count from count l (omega arith) e same
 
 -- a line that was written at places is read there
-pub line-read : (cells new line : List Cell) (first step count : ℕ) → 0 < step → ((i : ℕ) → i < count → first + i * step < length cells) → length line ≡ count
+pub line-read : (cells new line : List Cell) (first step count : ℕ) → 0 < step → ((i : ℕ) → i < count → first + i * step < length cells) →
+    length line ≡ count
     → new ≡ with_cells cells (places_from first step count) line → line ≡ cells_at Unknown new (places_from first step count)
 line-read cells new line first step count positive within long e =
     sym
     (ap (λ (r : List Cell). cells_at Unknown r (places_from first step count)) e
-    ∙ cells_at-with_cells cells (places_from first step count) line (distinct_from first step count positive) (below_from first step count (length cells) within) (long ∙ sym (length-places_from first step count)))
+    ∙ cells_at-with_cells cells (places_from first step count) line (distinct_from first step count positive)
+    (below_from first step count (length cells) within) (long ∙ sym (length-places_from first step count)))
 
-pub read-old : (cells old : List Cell) (first step count k : ℕ) → old ≡ cells_at Unknown cells (places_from first step count) → k < count → get_or cells (first + k * step) Unknown ≡ get_or old k Unknown
+pub read-old : (cells old : List Cell) (first step count k : ℕ) → old ≡ cells_at Unknown cells (places_from first step count) →
+    k < count → get_or cells (first + k * step) Unknown ≡ get_or old k Unknown
 read-old cells old first step count k e h =
     let within : k < length (places_from first step count) = omega (arith, length-places_from first step count) in
     sym
@@ -229,7 +261,8 @@ learned_cell Blank Filled h n = absurd h
 learned_cell Blank Blank h n = absurd (n refl)
 
 -- where a mark is missing after one was made, it is elsewhere, and it was missing before
-pub set-unmarked : (marks : List Bool) (i k : ℕ) → i < length marks → get_or (set marks i true) k false ≡ false → (k ≢ i) × (get_or marks k false ≡ false)
+pub set-unmarked : (marks : List Bool) (i k : ℕ) → i < length marks → get_or (set marks i true) k false ≡ false →
+    (k ≢ i) × (get_or marks k false ≡ false)
 set-unmarked [] i k h e = absurd (omega arith)
 set-unmarked (b ∷ marks) zero zero h e = cc
 set-unmarked (b ∷ marks) zero (suc k) h e = ((λ s. omega arith), e)
@@ -239,30 +272,39 @@ set-unmarked (b ∷ marks) (suc i) (suc k) h e =
     ((λ s. rest.0 (omega arith)), rest.1)
 
 -- a line stays settled where a cell that isn't its own is written
-pub settled-elsewhere : (g : List Cell) (k : ℕ) (c : Cell) (line : GridLine) → IsSettled g line → ((b : ℕ) → b < length line.places → k ≢ get_or line.places b 0) → IsSettled (set g k c) line
+pub settled-elsewhere : (g : List Cell) (k : ℕ) (c : Cell) (line : GridLine) → IsSettled g line →
+    ((b : ℕ) → b < length line.places → k ≢ get_or line.places b 0) → IsSettled (set g k c) line
 settled-elsewhere g k c line settled apart =
     let same : cells_at Unknown (set g k c) line.places ≡ cells_at Unknown g line.places =
     cells_at-same (set g k c) g line.places (λ b l. set_elsewhere g k c (get_or line.places b 0) (λ e. absurd (apart b l e))) in
     rw same settled
 
 -- a line of a closed grid knows all that is certain of it
-pub closed_settled : (lines : List GridLine) (g : List Cell) (line : GridLine) → round lines g ≡ Some g → IsOneOf line lines → AreDistinct line.places → AreBelow (length g) line.places → IsSettled g line
-closed_settled lines g line e m distinct within = to (deduced (cells_at Unknown g line.places) line.clue) (deduced-above (cells_at Unknown g line.places) line.clue) (closed_line lines g line e m)
+pub closed_settled : (lines : List GridLine) (g : List Cell) (line : GridLine) → round lines g ≡ Some g → IsOneOf line lines →
+    AreDistinct line.places → AreBelow (length g) line.places → IsSettled g line
+closed_settled lines g line e m distinct within = to (deduced (cells_at Unknown g line.places) line.clue)
+    (deduced-above (cells_at Unknown g line.places) line.clue) (closed_line lines g line e m)
   where
-    to : (o : Option (List Cell)) → AtMost (Some (cells_at Unknown g line.places)) o → AtMost (option_map (with_cells g line.places) o) (Some g) → o ≡ Some (cells_at Unknown g line.places)
+    to : (o : Option (List Cell)) → AtMost (Some (cells_at Unknown g line.places)) o →
+        AtMost (option_map (with_cells g line.places) o) (Some g) → o ≡ Some (cells_at Unknown g line.places)
     to None above below = absurd below
     to (Some d) above below =
         let old = with_cells-monotone g g line.places (cells_at Unknown g line.places) d (Extends-refl g) above in
         let up : Extends g (with_cells g line.places d) = rw (with_cells-same g line.places) at old in
         let same : with_cells g line.places d ≡ g = Extends-antisym (with_cells g line.places d) g below up in
-        let long : length d ≡ length line.places = sym (length-Extends (cells_at Unknown g line.places) d above) ∙ length-cells_at Unknown g line.places in
-        let read : cells_at Unknown (with_cells g line.places d) line.places ≡ d = cells_at-with_cells g line.places d distinct within long in
+        let long : length d ≡ length line.places = sym (length-Extends (cells_at Unknown g line.places) d above) ∙
+        length-cells_at Unknown g line.places in
+        let read : cells_at Unknown (with_cells g line.places d) line.places ≡ d =
+        cells_at-with_cells g line.places d distinct within long in
         ap (λ (r : List Cell). Some r) (sym read ∙ ap (λ (r : List Cell). cells_at Unknown r line.places) same)
 
 -- a deduced line knows more
 pub deduce_line-above : (g : List Cell) (line : GridLine) → AtMost (Some g) (deduce_line g line)
-deduce_line-above g line = to (deduced (cells_at Unknown g line.places) line.clue) (deduced-above (cells_at Unknown g line.places) line.clue)
+deduce_line-above g line = to (deduced (cells_at Unknown g line.places) line.clue)
+    (deduced-above (cells_at Unknown g line.places) line.clue)
   where
-    to : (o : Option (List Cell)) → AtMost (Some (cells_at Unknown g line.places)) o → AtMost (Some g) (option_map (with_cells g line.places) o)
+    to : (o : Option (List Cell)) → AtMost (Some (cells_at Unknown g line.places)) o →
+        AtMost (Some g) (option_map (with_cells g line.places) o)
     to None above = tt
-    to (Some d) above = rw (with_cells-same g line.places) at (with_cells-monotone g g line.places (cells_at Unknown g line.places) d (Extends-refl g) above)
+    to (Some d) above = rw (with_cells-same g line.places) at
+        (with_cells-monotone g g line.places (cells_at Unknown g line.places) d (Extends-refl g) above)

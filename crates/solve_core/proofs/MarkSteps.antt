@@ -16,16 +16,23 @@ use Rattle.solve_core.proofs.LineSteps.{same_or_not}
 use Rattle.solve_core.proofs.NumberedLines.{by_kind}
 
 pub count_marks : (h w r c : ℕ) → length (marks_by h w r c) ≡ h + w
-count_marks h w r c = omega (arith, length-append (map (has r) (range_with_len 0 h)) (map (has c) (range_with_len 0 w)), length-map-range_with_len (has r) 0 h, length-map-range_with_len (has c) 0 w)
+count_marks h w r c = omega (
+  arith,
+  length-append (map (has r) (range_with_len 0 h)) (map (has c) (range_with_len 0 w)),
+  length-map-range_with_len (has r) 0 h,
+  length-map-range_with_len (has c) 0 w,
+)
 
 pub row_at : (h w r c k : ℕ) → k < h → get_or (marks_by h w r c) k false ≡ has r k
 row_at h w r c k l =
-    get_or_append_left (map (has r) (range_with_len 0 h)) (map (has c) (range_with_len 0 w)) false k (omega (arith, length-map-range_with_len (has r) 0 h))
+    get_or_append_left (map (has r) (range_with_len 0 h)) (map (has c) (range_with_len 0 w)) false k
+    (omega (arith, length-map-range_with_len (has r) 0 h))
     ∙ get_or-map-range_with_len (has r) 0 h k k false l (zero-add k)
 
 pub column_at : (h w r c k : ℕ) → h ≤ k → k < h + w → get_or (marks_by h w r c) k false ≡ has c (k - h)
 column_at h w r c k l m =
-    get_or-append_right (map (has r) (range_with_len 0 h)) (map (has c) (range_with_len 0 w)) h k false (length-map-range_with_len (has r) 0 h) l
+    get_or-append_right (map (has r) (range_with_len 0 h)) (map (has c) (range_with_len 0 w)) h k false
+    (length-map-range_with_len (has r) 0 h) l
     ∙ get_or-map-range_with_len (has c) 0 w (k - h) (k - h) false (omega arith) (zero-add (k - h))
 
 beyond : (h w r c k : ℕ) → h + w ≤ k → get_or (marks_by h w r c) k false ≡ false
@@ -38,7 +45,8 @@ lacked : (m k : ℕ) → has m k ≡ false → Has m k → ⊥
 lacked m k e h = true≢false (sym (has_true m k h) ∙ e)
 
 -- a mark of a row, or of a column, that is made or taken back
-pub set_row : (h w r c n m : ℕ) (wanted : Bool) → n < h → IsMaskOf (IsMarked (Has r) n wanted) m → marks_by h w m c ≡ set (marks_by h w r c) n wanted
+pub set_row : (h w r c n m : ℕ) (wanted : Bool) → n < h → IsMaskOf (IsMarked (Has r) n wanted) m →
+    marks_by h w m c ≡ set (marks_by h w r c) n wanted
 set_row h w r c n m wanted l p =
     let old = marks_by h w r c in
     let long = count_marks h w r c in
@@ -47,29 +55,35 @@ set_row h w r c n m wanted l p =
     elim (same_or_not k n) [
       | inl own ↦ rw own (row_at h w m c n l ∙ marked_at r m n wanted p ∙ sym (get_or-set_same old n wanted false (omega (arith, long))))
       | inr other ↦ elim (cases_lt k h) [
-        | inl row ↦ row_at h w m c k row ∙ marked_elsewhere r m n k wanted p other ∙ sym (row_at h w r c k row) ∙ sym (get_or-set_other old n k wanted false other)
-        | inr column ↦ column_at h w m c k column within ∙ sym (column_at h w r c k column within) ∙ sym (get_or-set_other old n k wanted false other)
+        | inl row ↦ row_at h w m c k row ∙ marked_elsewhere r m n k wanted p other ∙ sym (row_at h w r c k row) ∙
+            sym (get_or-set_other old n k wanted false other)
+        | inr column ↦ column_at h w m c k column within ∙ sym (column_at h w r c k column within) ∙
+            sym (get_or-set_other old n k wanted false other)
       ]
     ])
 
-pub set_column : (h w r c n m : ℕ) (wanted : Bool) → h ≤ n → n < h + w → IsMaskOf (IsMarked (Has c) (n - h) wanted) m → marks_by h w r m ≡ set (marks_by h w r c) n wanted
+pub set_column : (h w r c n m : ℕ) (wanted : Bool) → h ≤ n → n < h + w → IsMaskOf (IsMarked (Has c) (n - h) wanted) m →
+    marks_by h w r m ≡ set (marks_by h w r c) n wanted
 set_column h w r c n m wanted l b p =
     let old = marks_by h w r c in
     let long = count_marks h w r c in
     ext_get_or false (marks_by h w r m) (set old n wanted) (count_marks h w r m ∙ sym (length-set old n wanted ∙ long)) (λ k d.
     let within : k < h + w = omega (arith, count_marks h w r m) in
     elim (same_or_not k n) [
-      | inl own ↦ rw own (column_at h w r m n l b ∙ marked_at c m (n - h) wanted p ∙ sym (get_or-set_same old n wanted false (omega (arith, long))))
+      | inl own ↦ rw own (column_at h w r m n l b ∙ marked_at c m (n - h) wanted p ∙
+          sym (get_or-set_same old n wanted false (omega (arith, long))))
       | inr other ↦ elim (cases_lt k h) [
         | inl row ↦ row_at h w r m k row ∙ sym (row_at h w r c k row) ∙ sym (get_or-set_other old n k wanted false other)
         | inr column ↦
             let apart : k - h ≢ n - h = λ e. other (omega arith) in
-            column_at h w r m k column within ∙ marked_elsewhere c m (n - h) (k - h) wanted p apart ∙ sym (column_at h w r c k column within) ∙ sym (get_or-set_other old n k wanted false other)
+            column_at h w r m k column within ∙ marked_elsewhere c m (n - h) (k - h) wanted p apart ∙
+            sym (column_at h w r c k column within) ∙ sym (get_or-set_other old n k wanted false other)
       ]
     ])
 
 -- all marks, and none
-pub all_marked : (h w r c : ℕ) → IsMaskOf (λ i. i < h) r → IsMaskOf (λ i. i < w) c → (k : ℕ) → k < h + w → get_or (marks_by h w r c) k false ≡ true
+pub all_marked : (h w r c : ℕ) → IsMaskOf (λ i. i < h) r → IsMaskOf (λ i. i < w) c → (k : ℕ) → k < h + w →
+    get_or (marks_by h w r c) k false ≡ true
 all_marked h w r c p q k l = elim (cases_lt k h) [
   | inl row ↦ row_at h w r c k row ∙ has_true r k (p.from k row)
   | inr column ↦ column_at h w r c k column l ∙ has_true c (k - h) (q.from (k - h) (omega arith))
@@ -85,16 +99,25 @@ none_marked h w r c p q k = elim (cases_lt k (h + w)) [
 ]
 
 -- the first marked row, and the first marked column
-pub first_row : (h w r c start end : ℕ) (result : Option ℕ) → end ≤ h → IsFirstBetween r start end result → IsFirstMarked (marks_by h w r c) start end result
+pub first_row : (h w r c start end : ℕ) (result : Option ℕ) → end ≤ h → IsFirstBetween r start end result →
+    IsFirstMarked (marks_by h w r c) start end result
 first_row h w r c start end None l p = λ k from to. row_at h w r c k (omega arith) ∙ lacks r k (p k from to)
 first_row h w r c start end (Some n) l p =
-    let to : n < end = p.1 in
-    (p.0, p.1, row_at h w r c n (omega arith) ∙ has_true r n p.2, λ k from before. row_at h w r c k (omega arith) ∙ lacks r k (p.3 k from before))
+    let to : n < end = p.1 in (
+      p.0,
+      p.1,
+      row_at h w r c n (omega arith) ∙ has_true r n p.2,
+      λ k from before. row_at h w r c k (omega arith) ∙
+          lacks r k (p.3 k from before),
+    )
 
-pub no_column : (h w r c start end : ℕ) → h ≤ start → end ≤ h + w → IsFirstBetween c (start - h) (end - h) None → IsFirstMarked (marks_by h w r c) start end None
-no_column h w r c start end l m p = λ k from to. column_at h w r c k (omega arith) (omega arith) ∙ lacks c (k - h) (p (k - h) (omega arith) (omega arith))
+pub no_column : (h w r c start end : ℕ) → h ≤ start → end ≤ h + w → IsFirstBetween c (start - h) (end - h) None →
+    IsFirstMarked (marks_by h w r c) start end None
+no_column h w r c start end l m p = λ k from to. column_at h w r c k (omega arith) (omega arith) ∙
+    lacks c (k - h) (p (k - h) (omega arith) (omega arith))
 
-pub first_column : (h w r c start end x : ℕ) → h ≤ start → end ≤ h + w → IsFirstBetween c (start - h) (end - h) (Some x) → IsFirstMarked (marks_by h w r c) start end (Some (h + x))
+pub first_column : (h w r c start end x : ℕ) → h ≤ start → end ≤ h + w → IsFirstBetween c (start - h) (end - h) (Some x) →
+    IsFirstMarked (marks_by h w r c) start end (Some (h + x))
 first_column h w r c start end x l m p =
     let from : start - h ≤ x = p.0 in
     let to : x < end - h = p.1 in
@@ -106,7 +129,8 @@ first_column h w r c start end x l m p =
     )
 
 -- the columns that cross a row at some cells are marked
-pub mark_columns : (h w r c m cells n : ℕ) → n < h → IsMaskOf (λ i. Has c i ⊎ Has cells i) m → MarksPlaces (places_in w h n) (Has cells) (marks_by h w r c) (marks_by h w r m)
+pub mark_columns : (h w r c m cells n : ℕ) → n < h → IsMaskOf (λ i. Has c i ⊎ Has cells i) m →
+    MarksPlaces (places_in w h n) (Has cells) (marks_by h w r c) (marks_by h w r m)
 mark_columns h w r c m cells n row p =
     by_kind (λ q. MarksPlaces q (Has cells) (marks_by h w r c) (marks_by h w r m)) w h n
     (λ l. record {
@@ -130,7 +154,8 @@ mark_columns h w r c m cells n row p =
     (λ l. absurd (omega arith))
 
 -- and the rows that cross a column
-pub mark_rows : (h w r c m cells n : ℕ) → h ≤ n → IsMaskOf (λ i. Has r i ⊎ Has cells i) m → MarksPlaces (places_in w h n) (Has cells) (marks_by h w r c) (marks_by h w m c)
+pub mark_rows : (h w r c m cells n : ℕ) → h ≤ n → IsMaskOf (λ i. Has r i ⊎ Has cells i) m →
+    MarksPlaces (places_in w h n) (Has cells) (marks_by h w r c) (marks_by h w m c)
 mark_rows h w r c m cells n column p =
     by_kind (λ q. MarksPlaces q (Has cells) (marks_by h w r c) (marks_by h w m c)) w h n
     (λ l. absurd (omega arith))
@@ -148,7 +173,8 @@ mark_rows h w r c m cells n column p =
             | inl within ↦ column_at h w m c k far within ∙ sym (column_at h w r c k far within)
             | inr more ↦ beyond h w m c k more ∙ sym (beyond h w r c k more)
           ];
-      marked = λ i b e x. lacked m i (sym (row_at h w m c i b) ∙ ap (λ (k : ℕ). get_or (marks_by h w m c) k false) (sym (zero-add i)) ∙ e) (p.from i (inr x));
+      marked = λ i b e x. lacked m i (sym (row_at h w m c i b) ∙ ap (λ (k : ℕ). get_or (marks_by h w m c) k false) (sym (zero-add i)) ∙ e)
+          (p.from i (inr x));
     })
 
 -- no place is in a mask that is 0

@@ -36,20 +36,25 @@ pub by_kind : (P : Places → Type 0) (w h n : ℕ) → (n < h → P (record { f
     → (h ≤ n → P (record { first = n - h; step = w; count = h; crossing = 0 })) → P (places_in w h n)
 by_kind P w h n row column = by (nat_lt n h) refl
   where
-    by : (b : Bool) → nat_lt n h ≡ b → P (cond b (record { first = n * w; step = 1; count = w; crossing = h }) (record { first = n - h; step = w; count = h; crossing = 0 }))
+    by : (b : Bool) → nat_lt n h ≡ b →
+        P (cond b (record { first = n * w; step = 1; count = w; crossing = h })
+        (record { first = n - h; step = w; count = h; crossing = 0 }))
     by true e = row (ltb-true n h e)
     by false e = column (ltb-false n h e)
 
 -- where the cells of a row and of a column are
 pub along-row : (w h n i : ℕ) → n < h → ((places_in w h n).count ≡ w) × (place_along w h n i ≡ n * w + i)
-along-row w h n i l = by_kind (λ q. (q.count ≡ w) × (q.first + i * q.step ≡ n * w + i)) w h n (λ r. (refl, omega arith)) (λ c. absurd (omega arith))
+along-row w h n i l = by_kind (λ q. (q.count ≡ w) × (q.first + i * q.step ≡ n * w + i)) w h n (λ r. (refl, omega arith))
+    (λ c. absurd (omega arith))
 
 pub along-column : (w h n i : ℕ) → h ≤ n → ((places_in w h n).count ≡ h) × (place_along w h n i ≡ i * w + (n - h))
-along-column w h n i l = by_kind (λ q. (q.count ≡ h) × (q.first + i * q.step ≡ i * w + (n - h))) w h n (λ r. absurd (omega arith)) (λ c. (refl, omega arith))
+along-column w h n i l = by_kind (λ q. (q.count ≡ h) × (q.first + i * q.step ≡ i * w + (n - h))) w h n (λ r. absurd (omega arith))
+    (λ c. (refl, omega arith))
 
 -- a line has as many cells as a side
 pub line-long : (w h n : ℕ) → IsSize w h → (1 ≤ (places_in w h n).count) × ((places_in w h n).count ≤ 256)
-line-long w h n size = by_kind (λ q. (1 ≤ q.count) × (q.count ≤ 256)) w h n (λ r. (size.width_from, size.width_to)) (λ c. (size.height_from, size.height_to))
+line-long w h n size = by_kind (λ q. (1 ≤ q.count) × (q.count ≤ 256)) w h n (λ r. (size.width_from, size.width_to))
+    (λ c. (size.height_from, size.height_to))
 
 -- the lines that cross a line are lines
 pub line-crossed : (w h n : ℕ) → (places_in w h n).crossing + (places_in w h n).count ≤ h + w
@@ -59,10 +64,12 @@ pub line-step : (w h n : ℕ) → 0 < w → 0 < (places_in w h n).step
 line-step w h n positive = by_kind (λ l. 0 < l.step) w h n (λ r. omega arith) (λ c. positive)
 
 pub line-within : (w h n : ℕ) → n < h + w → AreWithin (places_in w h n) (w * h)
-line-within w h n l = by_kind (λ q. AreWithin q (w * h)) w h n (λ r i k. row_within w h n i r k) (λ c i k. column_within w h (n - h) i (omega arith) k)
+line-within w h n l = by_kind (λ q. AreWithin q (w * h)) w h n (λ r i k. row_within w h n i r k)
+    (λ c i k. column_within w h (n - h) i (omega arith) k)
 
 -- only its row and its column have the cell in column x and row y
-pub line-through : (w h n i y x : ℕ) → n < h + w → i < (places_in w h n).count → x < w → y * w + x ≡ (places_in w h n).first + i * (places_in w h n).step
+pub line-through : (w h n i y x : ℕ) → n < h + w → i < (places_in w h n).count → x < w →
+    y * w + x ≡ (places_in w h n).first + i * (places_in w h n).step
     → ((n ≡ y) × (i ≡ x)) ⊎ ((n ≡ h + x) × (i ≡ y))
 line-through w h n i y x l =
     by_kind (λ q. i < q.count → x < w → y * w + x ≡ q.first + i * q.step → ((n ≡ y) × (i ≡ x)) ⊎ ((n ≡ h + x) × (i ≡ y))) w h n
@@ -71,11 +78,16 @@ line-through w h n i y x l =
 
 -- two lines that share a cell cross there
 pub line-crosses : (w h n m i j : ℕ) → n < h + w → m < h + w → m ≢ n → i < (places_in w h n).count → j < (places_in w h m).count
-    → (places_in w h n).first + i * (places_in w h n).step ≡ (places_in w h m).first + j * (places_in w h m).step → m ≡ (places_in w h n).crossing + i
+    → (places_in w h n).first + i * (places_in w h n).step ≡ (places_in w h m).first + j * (places_in w h m).step →
+    m ≡ (places_in w h n).crossing + i
 line-crosses w h n m i j l k apart =
-    by_kind (λ q. i < q.count → j < (places_in w h m).count → q.first + i * q.step ≡ (places_in w h m).first + j * (places_in w h m).step → m ≡ q.crossing + i) w h n
+    by_kind (λ q. i < q.count → j < (places_in w h m).count →
+    q.first + i * q.step ≡ (places_in w h m).first + j * (places_in w h m).step → m ≡ q.crossing + i) w h n
     (λ r a b e. elim (line-through w h m j n i k b a (sym (omega (arith, e)))) [ inl own ↦ absurd (apart own.0) | inr cross ↦ cross.0 ])
-    (λ c a b e. elim (line-through w h m j i (n - h) k b (omega arith) (omega (arith, e))) [ inl cross ↦ omega (arith, cross.0) | inr own ↦ absurd (apart (omega (arith, own.0))) ])
+    (λ c a b e. elim (line-through w h m j i (n - h) k b (omega arith) (omega (arith, e))) [
+      | inl cross ↦ omega (arith, cross.0)
+      | inr own ↦ absurd (apart (omega (arith, own.0)))
+    ])
 
 -- the lines that cross a line of a range of parallel lines are outside the range
 pub line-parallel : (w h n k start end : ℕ) → (end ≤ h) ⊎ (h ≤ start) → start ≤ n → n < end → start ≤ k → k < end
@@ -95,15 +107,19 @@ count_numbered f clues = length-map (enumerate_from 0 clues) f ∙ length-enumer
 
 pub line_at-row : (p : Nonogram) (n : ℕ) → n < length p.rows → line_at p n ≡ row_at p n
 line_at-row p n l =
-    get_or_append_left (map (row_line p) (enumerate_from 0 p.rows)) (map (column_line p) (enumerate_from 0 p.columns)) _ n (omega (arith, count_numbered (row_line p) p.rows))
+    get_or_append_left (map (row_line p) (enumerate_from 0 p.rows)) (map (column_line p) (enumerate_from 0 p.columns)) _ n
+    (omega (arith, count_numbered (row_line p) p.rows))
     ∙ numbered (row_line p) p.rows n _ l
 
-pub line_at-column : (p : Nonogram) (n : ℕ) → length p.rows ≤ n → n - length p.rows < length p.columns → line_at p n ≡ column_at p (n - length p.rows)
+pub line_at-column : (p : Nonogram) (n : ℕ) → length p.rows ≤ n → n - length p.rows < length p.columns →
+    line_at p n ≡ column_at p (n - length p.rows)
 line_at-column p n l k =
-    get_or-append_right (map (row_line p) (enumerate_from 0 p.rows)) (map (column_line p) (enumerate_from 0 p.columns)) (length p.rows) n _ (count_numbered (row_line p) p.rows) l
+    get_or-append_right (map (row_line p) (enumerate_from 0 p.rows)) (map (column_line p) (enumerate_from 0 p.columns))
+    (length p.rows) n _ (count_numbered (row_line p) p.rows) l
     ∙ numbered (column_line p) p.columns (n - length p.rows) _ k
 
-pub line_at-places : (p : Nonogram) (n : ℕ) → IsNonogram p → n < line_count p → (line_at p n).places ≡ places_of (places_in p.width p.height n)
+pub line_at-places : (p : Nonogram) (n : ℕ) → IsNonogram p → n < line_count p →
+    (line_at p n).places ≡ places_of (places_in p.width p.height n)
 line_at-places p n is l =
     by_kind (λ q. (line_at p n).places ≡ places_of q) p.width p.height n
     (λ r. ap (λ (line : GridLine). line.places) (line_at-row p n (omega (arith, is.clues.0))))
@@ -112,7 +128,8 @@ line_at-places p n is l =
     ∙ ap (λ (h : ℕ). places_from (n - h) p.width p.height) is.clues.0)
 
 -- a line of these places and this clue is the one of its number
-pub line-is : (p : Nonogram) (n : ℕ) (places : Places) (clue : List ℕ) → IsNonogram p → n < line_count p → places ≡ places_in p.width p.height n → clue ≡ (line_at p n).clue
+pub line-is : (p : Nonogram) (n : ℕ) (places : Places) (clue : List ℕ) → IsNonogram p → n < line_count p →
+    places ≡ places_in p.width p.height n → clue ≡ (line_at p n).clue
     → (let line : GridLine = record { places = places_of places; clue = clue } in line ≡ line_at p n)
 line-is p n places clue is l e f =
     let same : places_of places ≡ (line_at p n).places = ap places_of e ∙ sym (line_at-places p n is l) in
@@ -130,7 +147,8 @@ count_lines p is =
     )
 
 -- what holds of the line of each number holds of all lines
-pub all_lines : (P : GridLine → Type 0) (p : Nonogram) → IsNonogram p → ((n : ℕ) → n < line_count p → P (line_at p n)) → AllByRecursion P (lines_of p)
+pub all_lines : (P : GridLine → Type 0) (p : Nonogram) → IsNonogram p → ((n : ℕ) → n < line_count p → P (line_at p n)) →
+    AllByRecursion P (lines_of p)
 all_lines P p is h = recursion_from_All P (lines_of p) (All-from_get_or P (lines_of p) _ (λ n l. h n (omega (arith, count_lines p is))))
 
 one_at : (lines : List GridLine) (n : ℕ) (d : GridLine) → n < length lines → IsOneOf (get_or lines n d) lines

@@ -44,7 +44,8 @@ join_cells-least Blank Filled Filled h k = absurd h
 join_cells-least Blank Filled Blank h k = absurd k
 join_cells-least Blank Blank z h k = (Blank, refl, h)
 
-cons_at_most : (c : Cell) (g : List Cell) (o : Option Cell) (os : Option (List Cell)) → CellAtMost c o → AtMost (Some g) os → AtMost (Some (c ∷ g)) (option_cons o os)
+cons_at_most : (c : Cell) (g : List Cell) (o : Option Cell) (os : Option (List Cell)) → CellAtMost c o → AtMost (Some g) os →
+    AtMost (Some (c ∷ g)) (option_cons o os)
 cons_at_most c g None os h k = tt
 cons_at_most c g (Some d) None h k = tt
 cons_at_most c g (Some d) (Some new) h k = (h, k)
@@ -75,7 +76,8 @@ abbrev pub HasLength : ℕ → Option (List Cell) → Type 0
 HasLength n None = Unit {0}
 HasLength n (Some g) = length g ≡ n
 
-pub join_all-above : (g : List Cell) (os : List (Option (List Cell))) → AllByRecursion (HasLength (length g)) os → AtMost (Some g) (join_all g os)
+pub join_all-above : (g : List Cell) (os : List (Option (List Cell))) → AllByRecursion (HasLength (length g)) os →
+    AtMost (Some g) (join_all g os)
 join_all-above g [] h = Extends-refl g
 join_all-above g (None ∷ os) h = tt
 join_all-above g (Some d ∷ os) h =
@@ -85,7 +87,8 @@ join_all-above g (Some d ∷ os) h =
     ]
     (join-left g d (sym h.0))
 
-pub join_all-least : (g z : List Cell) (os : List (Option (List Cell))) → Extends g z → AllByRecursion (λ o. AtMost o (Some z)) os → AtMost (join_all g os) (Some z)
+pub join_all-least : (g z : List Cell) (os : List (Option (List Cell))) → Extends g z → AllByRecursion (λ o. AtMost o (Some z)) os →
+    AtMost (join_all g os) (Some z)
 join_all-least g z [] h k = h
 join_all-least g z (None ∷ os) h k = absurd k.0
 join_all-least g z (Some d ∷ os) h k =
@@ -97,11 +100,13 @@ dead_above [] = tt
 dead_above (o ∷ os) = (tt, dead_above os)
 
 -- what is joined is above each part
-pub join_all-above_each : (g : List Cell) (os : List (Option (List Cell))) → AllByRecursion (HasLength (length g)) os → AllByRecursion (λ o. AtMost o (join_all g os)) os
+pub join_all-above_each : (g : List Cell) (os : List (Option (List Cell))) → AllByRecursion (HasLength (length g)) os →
+    AllByRecursion (λ o. AtMost o (join_all g os)) os
 join_all-above_each g [] h = tt
 join_all-above_each g (None ∷ os) h = (tt, dead_above os)
 join_all-above_each g (Some d ∷ os) h =
-    elim (join g d) as (λ o. AtMost (Some g) o → AtMost (Some d) o → AllByRecursion (λ p. AtMost p (option_and_then (λ joined. join_all joined os) o)) (Some d ∷ os)) [
+    elim (join g d) as (λ o. AtMost (Some g) o → AtMost (Some d) o →
+    AllByRecursion (λ p. AtMost p (option_and_then (λ joined. join_all joined os) o)) (Some d ∷ os)) [
       | None ↦ (λ k l. (tt, dead_above os))
       | Some j ↦ (λ k l.
           let lengths : AllByRecursion (HasLength (length j)) os = rw (sym (length-Extends g j k)) h.1 in

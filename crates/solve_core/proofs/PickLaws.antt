@@ -19,9 +19,11 @@ IsFirstMost score passes start n (Some k) =
 
 pub first_most-is : (score : ℕ → ℕ) (passes : ℕ → Bool) (start n : ℕ) → IsFirstMost score passes start n (first_most score passes start n)
 first_most-is score passes start zero = λ j l m. absurd (omega arith)
-first_most-is score passes start (suc n) = by (passes start) refl (first_most score passes (start + 1) n) (first_most-is score passes (start + 1) n)
+first_most-is score passes start (suc n) =
+    by (passes start) refl (first_most score passes (start + 1) n) (first_most-is score passes (start + 1) n)
   where
-    passed : (k : ℕ) → passes start ≡ true → IsFirstMost score passes (start + 1) n (Some k) → (b : Bool) → nat_le (score k) (score start) ≡ b
+    passed : (k : ℕ) → passes start ≡ true → IsFirstMost score passes (start + 1) n (Some k) → (b : Bool) →
+        nat_le (score k) (score start) ≡ b
         → IsFirstMost score passes start (suc n) (cond b (Some start) (Some k))
     passed k o later true e = (
       omega arith,
@@ -53,7 +55,10 @@ first_most-is score passes start (suc n) = by (passes start) refl (first_most sc
       omega arith,
       omega arith,
       o,
-      λ j l m p. elim (same_or_not j start) [ inl own ↦ rw own (omega arith) | inr other ↦ absurd (true≢false (sym p ∙ none j (omega arith) (omega arith))) ],
+      λ j l m p. elim (same_or_not j start) [
+        | inl own ↦ rw own (omega arith)
+        | inr other ↦ absurd (true≢false (sym p ∙ none j (omega arith) (omega arith)))
+      ],
       λ j l m p. absurd (omega arith),
     )
     by true o (Some k) later = passed k o later (nat_le (score k) (score start)) refl
@@ -62,12 +67,19 @@ first_most-is score passes start (suc n) = by (passes start) refl (first_most sc
       omega (arith, later.0),
       omega (arith, later.1),
       later.2,
-      λ j l m p. elim (same_or_not j start) [ inl own ↦ absurd (true≢false (sym p ∙ ap passes own ∙ o)) | inr other ↦ later.3 j (omega arith) (omega arith) p ],
-      λ j l m p. elim (same_or_not j start) [ inl own ↦ absurd (true≢false (sym p ∙ ap passes own ∙ o)) | inr other ↦ later.4 j (omega arith) m p ],
+      λ j l m p. elim (same_or_not j start) [
+        | inl own ↦ absurd (true≢false (sym p ∙ ap passes own ∙ o))
+        | inr other ↦ later.3 j (omega arith) (omega arith) p
+      ],
+      λ j l m p. elim (same_or_not j start) [
+        | inl own ↦ absurd (true≢false (sym p ∙ ap passes own ∙ o))
+        | inr other ↦ later.4 j (omega arith) m p
+      ],
     )
 
 -- there is only one such place
-pub first_most-only : (score : ℕ → ℕ) (passes : ℕ → Bool) (start n : ℕ) (a b : Option ℕ) → IsFirstMost score passes start n a → IsFirstMost score passes start n b → a ≡ b
+pub first_most-only : (score : ℕ → ℕ) (passes : ℕ → Bool) (start n : ℕ) (a b : Option ℕ) → IsFirstMost score passes start n a →
+    IsFirstMost score passes start n b → a ≡ b
 first_most-only score passes start n None None x y = refl
 first_most-only score passes start n None (Some k) x y = absurd (true≢false (sym y.2 ∙ x k y.0 y.1))
 first_most-only score passes start n (Some k) None x y = absurd (true≢false (sym x.2 ∙ y k x.0 x.1))
@@ -87,10 +99,13 @@ first_most-only score passes start n (Some k) (Some j) x y = ap (λ (q : ℕ). S
 pub most_known-IsPick : (width : ℕ) → IsPick (most_known width)
 most_known-IsPick width = record {
   within = λ grid k e.
-      let is = subst (IsFirstMost (sure_neighbours width grid) (λ j. is_unknown (get_or grid j Unknown)) 0 (length grid)) e (first_most-is (sure_neighbours width grid) (λ j. is_unknown (get_or grid j Unknown)) 0 (length grid)) in
+      let is = subst (IsFirstMost (sure_neighbours width grid) (λ j. is_unknown (get_or grid j Unknown)) 0 (length grid)) e
+      (first_most-is (sure_neighbours width grid) (λ j. is_unknown (get_or grid j Unknown)) 0 (length grid)) in
       (omega (arith, is.1), is.2);
   only_full = λ grid e k l.
-      subst (IsFirstMost (sure_neighbours width grid) (λ j. is_unknown (get_or grid j Unknown)) 0 (length grid)) e (first_most-is (sure_neighbours width grid) (λ j. is_unknown (get_or grid j Unknown)) 0 (length grid)) k (omega arith) (omega (arith, l));
+      subst (IsFirstMost (sure_neighbours width grid) (λ j. is_unknown (get_or grid j Unknown)) 0 (length grid)) e
+      (first_most-is (sure_neighbours width grid) (λ j. is_unknown (get_or grid j Unknown)) 0 (length grid)) k (omega arith)
+      (omega (arith, l));
 }
 
 -- how much has to count for a later place to be better

@@ -36,7 +36,8 @@ top_is w y x l = by (nat_eq y 0) (nat_lt (y * w + x) w) refl refl
     by : (a b : Bool) → nat_eq y 0 ≡ a → nat_lt (y * w + x) w ≡ b → a ≡ b
     by true true e f = refl
     by false false e f = refl
-    by true false e f = (let top : y ≡ 0 = eqb-true y 0 e in let high : w ≤ y * w + x = ltb-false (y * w + x) w f in let at : y * w + x ≡ x = rw top (omega arith) in absurd (omega (arith, high, at, l)))
+    by true false e f = (let top : y ≡ 0 = eqb-true y 0 e in let high : w ≤ y * w + x = ltb-false (y * w + x) w f in
+        let at : y * w + x ≡ x = rw top (omega arith) in absurd (omega (arith, high, at, l)))
     by false true e f =
         let low : y * w + x < w = ltb-true (y * w + x) w f in
         absurd (not_top w y x low (eqb-false y 0 e))
@@ -63,8 +64,10 @@ row_back w zero x n = absurd (n refl)
 row_back w (suc z) x n = let less : suc z - 1 ≡ z = omega arith in rw less (omega arith)
 
 -- the count of a row's cell is that of the grid's
-pub score-is : (rows columns : List (List Cell)) (y x : ℕ) (above below : ℕ → Bool) → AreLinesOf (cells_of_rows rows) rows columns → y < length rows → x < length columns
-    → above x ≡ is_sure (nat_eq y 0) (get_or (get_or rows (y - 1) []) x Unknown) → below x ≡ is_sure (nat_eq (y + 1) (length rows)) (get_or (get_or rows (y + 1) []) x Unknown)
+pub score-is : (rows columns : List (List Cell)) (y x : ℕ) (above below : ℕ → Bool) → AreLinesOf (cells_of_rows rows) rows columns →
+    y < length rows → x < length columns
+    → above x ≡ is_sure (nat_eq y 0) (get_or (get_or rows (y - 1) []) x Unknown) →
+    below x ≡ is_sure (nat_eq (y + 1) (length rows)) (get_or (get_or rows (y + 1) []) x Unknown)
     → row_score (get_or rows y []) above below x ≡ sure_neighbours (length columns) (cells_of_rows rows) (y * length columns + x)
 score-is rows columns y x above below a ly lx up down =
     (λ i. two_of (left i) (right i) + two_of ((up ∙ over) i) ((down ∙ under) i)) ∙ omega arith
@@ -85,7 +88,8 @@ score-is rows columns y x above below a ly lx up down =
     long = (lines-long rows columns x y a lx ly).0
 
     left : is_sure (nat_eq x 0) (get_or row (x - 1) Unknown) ≡ is_left_sure w cells k
-    left = sure_same (nat_eq x 0) (nat_eq (k % w) 0) (get_or row (x - 1) Unknown) (get_or cells (k - 1) Unknown) (ap (λ (n : ℕ). nat_eq n 0) (sym (column_is w y x lx)))
+    left = sure_same (nat_eq x 0) (nat_eq (k % w) 0) (get_or row (x - 1) Unknown) (get_or cells (k - 1) Unknown)
+        (ap (λ (n : ℕ). nat_eq n 0) (sym (column_is w y x lx)))
         (λ e. (let some : x ≢ 0 = eqb-false x 0 e in
         let at : y * w + (x - 1) ≡ k - 1 = omega (arith, some) in
         (cell-read rows columns (x - 1) y a (omega (arith, lx)) ly).0 ∙ ap (λ (n : ℕ). get_or cells n Unknown) at))
@@ -104,7 +108,8 @@ score-is rows columns y x above below a ly lx up down =
         (cell-read rows columns x (y - 1) a lx (omega (arith, ly))).0 ∙ ap (λ (n : ℕ). get_or cells n Unknown) at))
 
     under : is_sure (nat_eq (y + 1) (length rows)) (get_or (get_or rows (y + 1) []) x Unknown) ≡ is_below_sure w cells k
-    under = sure_same (nat_eq (y + 1) (length rows)) (nat_le (length cells) (k + w)) (get_or (get_or rows (y + 1) []) x Unknown) (get_or cells (k + w) Unknown)
+    under = sure_same (nat_eq (y + 1) (length rows)) (nat_le (length cells) (k + w)) (get_or (get_or rows (y + 1) []) x Unknown)
+        (get_or cells (k + w) Unknown)
         (bottom_is w (length rows) y x ly lx ∙ ap (λ (n : ℕ). nat_le n (k + w)) (sym a.count))
         (λ e. (let some : y + 1 ≢ length rows = eqb-false (y + 1) (length rows) e in
         let at : (y + 1) * w + x ≡ k + w = omega arith in
@@ -120,7 +125,8 @@ pub row-none : (score : ℕ → ℕ) (passes : ℕ → Bool) (s w : ℕ) (best :
 row-none score passes s w None h none = λ j l m.
     elim (before_or_from j s) [
       | inl early ↦ h j l (omega arith)
-      | inr late ↦ false_if (passes j) (λ p. (let at : s + (j - s) ≡ j = omega arith in let few = none (j - s) (omega arith) (rw at p) in omega (arith, few)))
+      | inr late ↦ false_if (passes j) (λ p. (let at : s + (j - s) ≡ j = omega arith in let few = none (j - s) (omega arith) (rw at p) in
+          omega (arith, few)))
     ]
 row-none score passes s w (Some k) h none = (
   omega arith,
@@ -128,14 +134,17 @@ row-none score passes s w (Some k) h none = (
   h.2,
   λ j l m p. elim (before_or_from j s) [
     | inl early ↦ h.3 j l (omega arith) p
-    | inr late ↦ (let at : s + (j - s) ≡ j = omega arith in let few = none (j - s) (omega arith) (rw at p) in let less : score j < score k + 1 = rw at at few in omega (arith, less))
+    | inr late ↦ (let at : s + (j - s) ≡ j = omega arith in let few = none (j - s) (omega arith) (rw at p) in
+        let less : score j < score k + 1 = rw at at few in omega (arith, less))
   ],
   λ j l m p. h.4 j l m p,
 )
 
 -- and if one does, the first of those for which the most counts is the best
-pub row-some : (score : ℕ → ℕ) (passes : ℕ → Bool) (s w x : ℕ) (best : Option ℕ) → IsFirstMost score passes 0 s best → x < w → passes (s + x) ≡ true → least_after score best ≤ score (s + x)
-    → ((z : ℕ) → z < w → passes (s + z) ≡ true → score (s + z) ≤ score (s + x)) → ((z : ℕ) → z < x → passes (s + z) ≡ true → score (s + z) < score (s + x))
+pub row-some : (score : ℕ → ℕ) (passes : ℕ → Bool) (s w x : ℕ) (best : Option ℕ) → IsFirstMost score passes 0 s best → x < w →
+    passes (s + x) ≡ true → least_after score best ≤ score (s + x)
+    → ((z : ℕ) → z < w → passes (s + z) ≡ true → score (s + z) ≤ score (s + x)) →
+    ((z : ℕ) → z < x → passes (s + z) ≡ true → score (s + z) < score (s + x))
     → IsFirstMost score passes 0 (s + w) (Some (s + x))
 row-some score passes s w x best h lx here least most earliest = (
   omega arith,
@@ -143,15 +152,18 @@ row-some score passes s w x best h lx here least most earliest = (
   here,
   λ j l m p. elim (before_or_from j s) [
     | inl early ↦ (let less = before best h least j early p in omega (arith, less))
-    | inr late ↦ (let at : s + (j - s) ≡ j = omega arith in let few = most (j - s) (omega arith) (rw at p) in let less : score j ≤ score (s + x) = rw at at few in less)
+    | inr late ↦ (let at : s + (j - s) ≡ j = omega arith in let few = most (j - s) (omega arith) (rw at p) in
+        let less : score j ≤ score (s + x) = rw at at few in less)
   ],
   λ j l m p. elim (before_or_from j s) [
     | inl early ↦ before best h least j early p
-    | inr late ↦ (let at : s + (j - s) ≡ j = omega arith in let few = earliest (j - s) (omega arith) (rw at p) in let less : score j < score (s + x) = rw at at few in less)
+    | inr late ↦ (let at : s + (j - s) ≡ j = omega arith in let few = earliest (j - s) (omega arith) (rw at p) in
+        let less : score j < score (s + x) = rw at at few in less)
   ],
 )
   where
-    before : (b : Option ℕ) → IsFirstMost score passes 0 s b → least_after score b ≤ score (s + x) → (j : ℕ) → j < s → passes j ≡ true → score j < score (s + x)
+    before : (b : Option ℕ) → IsFirstMost score passes 0 s b → least_after score b ≤ score (s + x) → (j : ℕ) → j < s → passes j ≡ true →
+        score j < score (s + x)
     before None h least j l p = absurd (true≢false (sym p ∙ h j (omega arith) (omega arith)))
     before (Some k) h least j l p = let up = h.3 j (omega arith) (omega arith) p in omega (arith, up, least)
 
@@ -170,15 +182,20 @@ unknown_here Filled e = cc
 unknown_here Blank e = cc
 
 -- one more row looked at
-pub row-step : (rows columns : List (List Cell)) (y width : ℕ) (cells row : List Cell) (above below : ℕ → Bool) (best : Option ℕ) (least : ℕ) (found : Option (ℕ × ℕ))
-    → AreLinesOf (cells_of_rows rows) rows columns → y < length rows → width ≡ length columns → cells_of_rows rows ≡ cells → row ≡ get_or rows y []
+pub row-step : (rows columns : List (List Cell)) (y width : ℕ) (cells row : List Cell) (above below : ℕ → Bool) (best : Option ℕ)
+    (least : ℕ) (found : Option (ℕ × ℕ))
+    → AreLinesOf (cells_of_rows rows) rows columns → y < length rows → width ≡ length columns → cells_of_rows rows ≡ cells →
+    row ≡ get_or rows y []
     → ((x : ℕ) → x < length columns → above x ≡ is_sure (nat_eq y 0) (get_or (get_or rows (y - 1) []) x Unknown))
     → ((x : ℕ) → x < length columns → below x ≡ is_sure (nat_eq (y + 1) (length rows)) (get_or (get_or rows (y + 1) []) x Unknown))
-    → IsFirstMost (sure_neighbours width cells) (λ k. is_unknown (get_or cells k Unknown)) 0 (y * width) best → least ≡ least_after (sure_neighbours width cells) best
+    → IsFirstMost (sure_neighbours width cells) (λ k. is_unknown (get_or cells k Unknown)) 0 (y * width) best →
+    least ≡ least_after (sure_neighbours width cells) best
     → IsMostInRow row above below least found
-    → IsFirstMost (sure_neighbours width cells) (λ k. is_unknown (get_or cells k Unknown)) 0 ((y + 1) * width) (best_after (y * width) best found)
+    → IsFirstMost (sure_neighbours width cells) (λ k. is_unknown (get_or cells k Unknown)) 0 ((y + 1) * width)
+    (best_after (y * width) best found)
     × (least_then least found ≡ least_after (sure_neighbours width cells) (best_after (y * width) best found))
-row-step rows columns y width cells row above below best least found a ly wide seen is up down first l m = rw (wide, ← seen) (by found (rw is at m))
+row-step rows columns y width cells row above below best least found a ly wide seen is up down first l m =
+    rw (wide, ← seen) (by found (rw is at m))
   where
     w : ℕ
     w = length columns
@@ -214,9 +231,11 @@ row-step rows columns y width cells row above below best least found a ly wide s
     next = omega arith
 
     by : (f : Option (ℕ × ℕ)) → IsMostInRow line above below least f
-        → IsFirstMost score passes 0 ((y + 1) * w) (best_after (y * w) best f) × (least_then least f ≡ least_after score (best_after (y * w) best f))
+        → IsFirstMost score passes 0 ((y + 1) * w) (best_after (y * w) best f) ×
+        (least_then least f ≡ least_after score (best_after (y * w) best f))
     by None none = (
-      rw next at (row-none score passes (y * w) w best old (λ x lx p. (let few = none x (here x lx p) in omega (arith, few, same x lx, low)))),
+      rw next at (row-none score passes (y * w) w best old
+          (λ x lx p. (let few = none x (here x lx p) in omega (arith, few, same x lx, low)))),
       low,
     )
     by (Some (n, x)) some =
@@ -227,7 +246,8 @@ row-step rows columns y width cells row above below best least found a ly wide s
               (ap is_unknown (sym (cell-read rows columns x y a lx ly).0 ∙ some.0.1))
               (omega (arith, low, some.2, counted))
               (λ z lz p. (let few = some.3 z (here z lz p) in omega (arith, few, same z lz, counted)))
-              (λ z lz p. (let within : z < w = omega (arith, lz, lx) in let few = some.4 z lz (here z within p) in omega (arith, few, same z within, counted)))),
+              (λ z lz p. (let within : z < w = omega (arith, lz, lx) in let few = some.4 z lz (here z within p) in
+              omega (arith, few, same z within, counted)))),
           omega (arith, counted),
         )
 
@@ -238,11 +258,14 @@ only-one zero l = refl
 only-one (suc x) l = absurd (omega arith)
 
 -- a cell that isn't unknown, or for which not enough counts, changes nothing
-pub cell-none : (score : ℕ → ℕ) (passes : ℕ → Bool) (s : ℕ) (best : Option ℕ) → IsFirstMost score passes 0 s best → (passes s ≡ true → score s < least_after score best) → IsFirstMost score passes 0 (s + 1) best
-cell-none score passes s best h few = row-none score passes s 1 best h (λ x lx p. (let at : s + x ≡ s = omega (arith, only-one x lx) in rw at (few (rw at at p))))
+pub cell-none : (score : ℕ → ℕ) (passes : ℕ → Bool) (s : ℕ) (best : Option ℕ) → IsFirstMost score passes 0 s best →
+    (passes s ≡ true → score s < least_after score best) → IsFirstMost score passes 0 (s + 1) best
+cell-none score passes s best h few =
+    row-none score passes s 1 best h (λ x lx p. (let at : s + x ≡ s = omega (arith, only-one x lx) in rw at (few (rw at at p))))
 
 -- and one for which enough does is the best
-pub cell-some : (score : ℕ → ℕ) (passes : ℕ → Bool) (s : ℕ) (best : Option ℕ) → IsFirstMost score passes 0 s best → passes s ≡ true → least_after score best ≤ score s
+pub cell-some : (score : ℕ → ℕ) (passes : ℕ → Bool) (s : ℕ) (best : Option ℕ) → IsFirstMost score passes 0 s best → passes s ≡ true →
+    least_after score best ≤ score s
     → IsFirstMost score passes 0 (s + 1) (Some s)
 cell-some score passes s best h p enough =
     let at : s + 0 ≡ s = omega arith in
@@ -257,4 +280,10 @@ one_at_most false = omega arith
 
 -- there are four neighbours
 pub score-few : (w : ℕ) (cells : List Cell) (k : ℕ) → sure_neighbours w cells k ≤ 4
-score-few w cells k = omega (arith, one_at_most (is_left_sure w cells k), one_at_most (is_right_sure w cells k), one_at_most (is_above_sure w cells k), one_at_most (is_below_sure w cells k))
+score-few w cells k = omega (
+  arith,
+  one_at_most (is_left_sure w cells k),
+  one_at_most (is_right_sure w cells k),
+  one_at_most (is_above_sure w cells k),
+  one_at_most (is_below_sure w cells k),
+)

@@ -43,9 +43,11 @@ defined p found n spent left es =
       spent = spent + guesses_in (within_guesses left (through_solution n es));
     }
 
-ending-one : (p : Nonogram) (a : PartialGrid) (spent left : ℕ) (es : List Event) → ending p (a ∷ []) spent left es ≡ defined p (a ∷ []) 1 spent left es
+ending-one : (p : Nonogram) (a : PartialGrid) (spent left : ℕ) (es : List Event) →
+    ending p (a ∷ []) spent left es ≡ defined p (a ∷ []) 1 spent left es
 ending-one p a spent left [] = let e : spent ≡ spent + 0 = omega arith in λ i. record { found = a ∷ []; cut = false; spent = e i }
-ending-one p a spent left (Solution c ∷ es) = let e : spent ≡ spent + 0 = omega arith in λ i. record { found = a ∷ grid_of p c ∷ []; cut = false; spent = e i }
+ending-one p a spent left (Solution c ∷ es) = let e : spent ≡ spent + 0 = omega arith in
+    λ i. record { found = a ∷ grid_of p c ∷ []; cut = false; spent = e i }
 ending-one p a spent zero (Guess ∷ es) =
     let e : spent ≡ spent + 0 = omega arith in
     λ i. record { found = a ∷ []; cut = nat_lt-positive (length (through_solution 1 es)) i; spent = e i }
@@ -53,7 +55,11 @@ ending-one p a spent (suc left) (Guess ∷ es) =
     let part = within_guesses left (through_solution 1 es) in
     let e : suc spent + guesses_in part ≡ spent + suc (guesses_in part) = omega arith in
     ending-one p a (suc spent) left es
-    ∙ (λ i. record { found = a ∷ map (grid_of p) (solutions_in part); cut = nat_lt-more (length part) (length (through_solution 1 es)) i; spent = e i })
+    ∙ (λ i. record {
+      found = a ∷ map (grid_of p) (solutions_in part);
+      cut = nat_lt-more (length part) (length (through_solution 1 es)) i;
+      spent = e i;
+    })
 
 ending-none : (p : Nonogram) (spent left : ℕ) (es : List Event) → ending p [] spent left es ≡ defined p [] 2 spent left es
 ending-none p spent left [] = let e : spent ≡ spent + 0 = omega arith in λ i. record { found = []; cut = false; spent = e i }
@@ -71,7 +77,11 @@ ending-none p spent (suc left) (Guess ∷ es) =
     let part = within_guesses left (through_solution 2 es) in
     let e : suc spent + guesses_in part ≡ spent + suc (guesses_in part) = omega arith in
     ending-none p (suc spent) left es
-    ∙ (λ i. record { found = map (grid_of p) (solutions_in part); cut = nat_lt-more (length part) (length (through_solution 2 es)) i; spent = e i })
+    ∙ (λ i. record {
+      found = map (grid_of p) (solutions_in part);
+      cut = nat_lt-more (length part) (length (through_solution 2 es)) i;
+      spent = e i;
+    })
 
 -- how the search of a puzzle ends, from what trials leave
 abbrev pub end_from : (List Cell → Option ℕ) → Nonogram → ℕ → Option (List Cell) → Ending
@@ -88,7 +98,8 @@ report_by pick p limit closed tried =
       spent = (end_from pick p limit tried).spent;
     }
 
-pub report-is : (pick : List Cell → Option ℕ) (p : Nonogram) (limit : ℕ) → report_by pick p limit (line_closure p) (trial_closure p) ≡ report_of pick p limit
+pub report-is : (pick : List Cell → Option ℕ) (p : Nonogram) (limit : ℕ) →
+    report_by pick p limit (line_closure p) (trial_closure p) ≡ report_of pick p limit
 report-is pick p limit =
     let e = ending-none p 0 limit (whole_search pick p) in
     let z = zero-add (guesses_of pick p limit) in
@@ -108,13 +119,15 @@ report-is pick p limit =
     })
 
 -- where the closures are known, so is the report
-pub report-by : (pick : List Cell → Option ℕ) (p : Nonogram) (limit : ℕ) (closed tried : Option (List Cell)) → closed ≡ line_closure p → tried ≡ trial_closure p
+pub report-by : (pick : List Cell → Option ℕ) (p : Nonogram) (limit : ℕ) (closed tried : Option (List Cell)) → closed ≡ line_closure p →
+    tried ≡ trial_closure p
     → report_by pick p limit closed tried ≡ report_of pick p limit
 report-by pick p limit closed tried c t = (λ i. report_by pick p limit (c i) (t i)) ∙ report-is pick p limit
 
 -- a search whose verdict is final was not cut short
 ending-final : (p : Nonogram) (found : List PartialGrid) (spent left : ℕ) (es : List Event)
-    → IsFinal (verdict_by (ending p found spent left es).found (ending p found spent left es).cut) → (ending p found spent left es).cut ≡ false
+    → IsFinal (verdict_by (ending p found spent left es).found (ending p found spent left es).cut) →
+    (ending p found spent left es).cut ≡ false
 ending-final p (a ∷ b ∷ more) spent left es h = refl
 ending-final p [] spent left [] h = refl
 ending-final p [] spent left (Solution c ∷ es) h = ending-final p (grid_of p c ∷ []) spent left es h
@@ -138,12 +151,15 @@ ending-greater p (a ∷ []) spent left greater [] l h = refl
 ending-greater p (a ∷ []) spent left greater (Solution c ∷ es) l h = refl
 ending-greater p (a ∷ []) spent zero greater (Guess ∷ es) l h = absurd (true≢false h)
 ending-greater p (a ∷ []) spent (suc left) zero (Guess ∷ es) l h = absurd (omega arith)
-ending-greater p (a ∷ []) spent (suc left) (suc greater) (Guess ∷ es) l h = ending-greater p (a ∷ []) (suc spent) left greater es (omega arith) h
+ending-greater p (a ∷ []) spent (suc left) (suc greater) (Guess ∷ es) l h =
+    ending-greater p (a ∷ []) (suc spent) left greater es (omega arith) h
 
 -- where the verdict is final, the report is the same for every greater limit
-pub report-greater : (pick : List Cell → Option ℕ) (p : Nonogram) (limit greater : ℕ) → limit ≤ greater → IsFinal (report_of pick p limit).verdict → report_of pick p greater ≡ report_of pick p limit
+pub report-greater : (pick : List Cell → Option ℕ) (p : Nonogram) (limit greater : ℕ) → limit ≤ greater →
+    IsFinal (report_of pick p limit).verdict → report_of pick p greater ≡ report_of pick p limit
 report-greater pick p limit greater l h =
-    let final : IsFinal (report_by pick p limit (line_closure p) (trial_closure p)).verdict = subst (λ (r : Findings). IsFinal r.verdict) (sym (report-is pick p limit)) h in
+    let final : IsFinal (report_by pick p limit (line_closure p) (trial_closure p)).verdict =
+    subst (λ (r : Findings). IsFinal r.verdict) (sym (report-is pick p limit)) h in
     let e = ending-greater p [] 0 limit greater (whole_search pick p) l (ending-final p [] 0 limit (whole_search pick p) final) in
     sym (report-is pick p greater)
     ∙ (λ i. let end : Ending = e i in record {
@@ -160,17 +176,20 @@ pub trials-closed : (lines : List GridLine) (g z : List Cell) → Some z ≡ tri
 trials-closed lines g z e = (after_trials lines z z (tried_cells lines z) ((trials-IsLeastClosed lines g).closed z (sym e))).1
 
 -- the report on a puzzle that neither closure finds dead, by how its search ends
-pub report-alive : (pick : List Cell → Option ℕ) (p q r : Nonogram) (start closed tried : List Cell) (limit : ℕ) (found : List PartialGrid) (cut : Bool) (spent : ℕ) (verdict : Verdict) (grade : Grade) (line_known trial_known : ℕ)
+pub report-alive : (pick : List Cell → Option ℕ) (p q r : Nonogram) (start closed tried : List Cell) (limit : ℕ)
+    (found : List PartialGrid) (cut : Bool) (spent : ℕ) (verdict : Verdict) (grade : Grade) (line_known trial_known : ℕ)
     → q ≡ p → r ≡ p → start ≡ unknown_grid p
     → Some closed ≡ closure (lines_of p) start → Some tried ≡ trials (lines_of q) closed
     → record { found = found; cut = cut; spent = spent } ≡ ending r [] 0 limit (events pick (lines_of r) tried)
     → verdict ≡ verdict_by found cut → grade ≡ grade_by (list_all is_known closed) (list_all is_known tried)
     → line_known ≡ count_by is_known closed → trial_known ≡ count_by is_known tried
-    → record { verdict = verdict; grade = grade; line_known = line_known; trial_known = trial_known; spent = spent } ≡ report_of pick p limit
+    → record { verdict = verdict; grade = grade; line_known = line_known; trial_known = trial_known; spent = spent } ≡
+    report_of pick p limit
 report-alive pick p q r start closed tried limit found cut spent verdict grade line_known trial_known sq sr s c d e v g l k =
     let c' : Some closed ≡ line_closure p = c ∙ ap (closure (lines_of p)) s in
     let d' : Some tried ≡ trial_closure p = d ∙ (λ i. trials (lines_of (sq i)) closed) ∙ ap (option_and_then (trials (lines_of p))) c' in
-    let e' : record { found = found; cut = cut; spent = spent } ≡ end_from pick p limit (Some tried) = e ∙ (λ i. ending (sr i) [] 0 limit (events pick (lines_of (sr i)) tried)) in
+    let e' : record { found = found; cut = cut; spent = spent } ≡ end_from pick p limit (Some tried) =
+    e ∙ (λ i. ending (sr i) [] 0 limit (events pick (lines_of (sr i)) tried)) in
     (λ i. record { verdict = v i; grade = g i; line_known = l i; trial_known = k i; spent = spent })
     ∙ (λ i. let end : Ending = e' i in record {
       verdict = verdict_by end.found end.cut;
@@ -193,7 +212,8 @@ report-refuted pick p q start closed limit grade line_known sq s c d g l =
     ∙ report-by pick p limit (Some closed) None c' d'
 
 -- the report on a puzzle that lines find dead
-pub report-dead : (pick : List Cell → Option ℕ) (p : Nonogram) (start : List Cell) (limit : ℕ) → start ≡ unknown_grid p → None ≡ closure (lines_of p) start
+pub report-dead : (pick : List Cell → Option ℕ) (p : Nonogram) (start : List Cell) (limit : ℕ) → start ≡ unknown_grid p →
+    None ≡ closure (lines_of p) start
     → record { verdict = Nothing; grade = Lines; line_known = 0; trial_known = 0; spent = 0 } ≡ report_of pick p limit
 report-dead pick p start limit s c =
     let c' : None ≡ line_closure p = c ∙ ap (closure (lines_of p)) s in

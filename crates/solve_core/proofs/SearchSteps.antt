@@ -40,7 +40,8 @@ pub closure-closed : (lines : List GridLine) (g now : List Cell) → Some now �
 closure-closed lines g now e = (closure-IsLeastClosed lines g).closed now (sym e)
 
 -- the cell of the next guess is unknown
-pub next-unknown : (pick : List Cell → Option ℕ) (lawful : IsPick pick) (lines : List GridLine) (cells : List Cell) (k : ℕ) → IsNext pick lines cells k
+pub next-unknown : (pick : List Cell → Option ℕ) (lawful : IsPick pick) (lines : List GridLine) (cells : List Cell) (k : ℕ) →
+    IsNext pick lines cells k
     → (k < length cells) × (get_or cells k Unknown ≡ Unknown)
 next-unknown pick lawful lines cells k h = let at = lawful.within cells k h.0 in (at.0, unknown_is (get_or cells k Unknown) at.1)
 
@@ -54,13 +55,15 @@ unknown_count-positive (Blank ∷ cells) zero l e = cc
 unknown_count-positive (Blank ∷ cells) (suc k) l e = unknown_count-positive cells k (omega arith) e
 
 -- a cell to guess is unknown
-pub open-unknown : (pick : List Cell → Option ℕ) (lawful : IsPick pick) (lines : List GridLine) (cells : List Cell) (next : Option ℕ) → IsOpen pick lines cells next
+pub open-unknown : (pick : List Cell → Option ℕ) (lawful : IsPick pick) (lines : List GridLine) (cells : List Cell) (next : Option ℕ) →
+    IsOpen pick lines cells next
     → IfSome next (λ place. (place < length cells) × (get_or cells place Unknown ≡ Unknown))
 open-unknown pick lawful lines cells None h = tt
 open-unknown pick lawful lines cells (Some place) h = next-unknown pick lawful lines cells place h
 
 -- where a cell is to be guessed, there are no more branches than settled cells
-pub open-older : (pick : List Cell → Option ℕ) (lines : List GridLine) (cells : List Cell) (trail : List ℕ) (branches : List Branch) (next : Option ℕ)
+pub open-older : (pick : List Cell → Option ℕ) (lines : List GridLine) (cells : List Cell) (trail : List ℕ) (branches : List Branch)
+    (next : Option ℕ)
     → IsWork pick lines cells trail branches → AreOlder trail branches next → next ≢ None → length branches ≤ length trail
 open-older pick lines cells trail branches None w o n = absurd (n refl)
 open-older pick lines cells trail branches (Some place) w o n = branch-count (length trail) branches w.order o
@@ -70,19 +73,23 @@ older-none trail branches None e = tt
 older-none trail branches (Some k) e = subst (λ (bs : List Branch). AreOlder trail bs (Some k)) (sym e) tt
 
 -- closing with one more cell settled leaves fewer unknown
-pub alive-fewer : (lines : List GridLine) (cells now : List Cell) (k : ℕ) (c : Cell) → k < length cells → get_or cells k Unknown ≡ Unknown → is_known c ≡ true
+pub alive-fewer : (lines : List GridLine) (cells now : List Cell) (k : ℕ) (c : Cell) → k < length cells →
+    get_or cells k Unknown ≡ Unknown → is_known c ≡ true
     → Some now ≡ closure lines (set cells k c) → unknown_count now < unknown_count cells
 alive-fewer lines cells now k c l e known closed =
     let above : Extends (set cells k c) now = rw (sym closed) at ((closure-IsLeastClosed lines (set cells k c)).above) in
     omega (arith, count-settled cells k c l e known, unknown_count-more (set cells k c) now above)
 
 -- the first place that passes
-pub position-at : (p : Cell → Bool) (xs : List Cell) (k : ℕ) → k < length xs → p (get_or xs k Unknown) ≡ true → ((j : ℕ) → j < k → p (get_or xs j Unknown) ≡ false) → position p xs ≡ Some k
+pub position-at : (p : Cell → Bool) (xs : List Cell) (k : ℕ) → k < length xs → p (get_or xs k Unknown) ≡ true →
+    ((j : ℕ) → j < k → p (get_or xs j Unknown) ≡ false) → position p xs ≡ Some k
 position-at p xs k l t f = let e : 0 + k ≡ k = omega arith in position_from-zero p xs ∙ from 0 xs k l t f ∙ ap (λ m. Some m) e
   where
-    from : (i : ℕ) (ys : List Cell) (n : ℕ) → n < length ys → p (get_or ys n Unknown) ≡ true → ((j : ℕ) → j < n → p (get_or ys j Unknown) ≡ false) → position_from p i ys ≡ Some (i + n)
+    from : (i : ℕ) (ys : List Cell) (n : ℕ) → n < length ys → p (get_or ys n Unknown) ≡ true →
+        ((j : ℕ) → j < n → p (get_or ys j Unknown) ≡ false) → position_from p i ys ≡ Some (i + n)
     from i [] n l' t' f' = absurd (omega arith)
-    from i (y ∷ ys) zero l' t' f' = let e : i ≡ i + 0 = omega arith in ap (λ b. cond b (Some i) (position_from p (i + 1) ys)) t' ∙ ap (λ n. Some n) e
+    from i (y ∷ ys) zero l' t' f' = let e : i ≡ i + 0 = omega arith in ap (λ b. cond b (Some i) (position_from p (i + 1) ys)) t' ∙
+        ap (λ n. Some n) e
     from i (y ∷ ys) (suc n) l' t' f' =
         let e : i + 1 + n ≡ i + suc n = omega arith in
         ap (λ b. cond b (Some i) (position_from p (i + 1) ys)) (f' 0 (omega arith))
@@ -94,7 +101,8 @@ position-none p xs f = position_from-zero p xs ∙ from 0 xs f
   where
     from : (i : ℕ) (ys : List Cell) → ((j : ℕ) → j < length ys → p (get_or ys j Unknown) ≡ false) → position_from p i ys ≡ None
     from i [] f' = refl
-    from i (y ∷ ys) f' = ap (λ b. cond b (Some i) (position_from p (i + 1) ys)) (f' 0 (omega arith)) ∙ from (i + 1) ys (λ j h. f' (suc j) (omega arith))
+    from i (y ∷ ys) f' = ap (λ b. cond b (Some i) (position_from p (i + 1) ys)) (f' 0 (omega arith)) ∙
+        from (i + 1) ys (λ j h. f' (suc j) (omega arith))
 
 known_stays : (c d : Cell) → is_unknown c ≡ false → CellExtends c d → is_unknown d ≡ false
 known_stays Unknown d h e = absurd (true≢false h)
@@ -106,20 +114,24 @@ known_stays Blank Filled h e = refl
 known_stays Blank Blank h e = refl
 
 -- what stands before the first unknown cell stays known when that cell is guessed
-pub known-before : (lines : List GridLine) (cells now : List Cell) (place : ℕ) (c : Cell) → first_unknown cells ≡ Some place → Some now ≡ closure lines (set cells place c)
+pub known-before : (lines : List GridLine) (cells now : List Cell) (place : ℕ) (c : Cell) → first_unknown cells ≡ Some place →
+    Some now ≡ closure lines (set cells place c)
     → AreKnownBefore place now
 known-before lines cells now place c first closed k l =
     let above : Extends (set cells place c) now = rw (sym closed) at ((closure-IsLeastClosed lines (set cells place c)).above) in
     let other : k ≢ place = omega arith in
-    let before : is_unknown (get_or (set cells place c) k Unknown) ≡ false = rw get_or-set_other ((position-Some is_unknown cells place Unknown first).2 k l) in
+    let before : is_unknown (get_or (set cells place c) k Unknown) ≡ false =
+    rw get_or-set_other ((position-Some is_unknown cells place Unknown first).2 k l) in
     known_stays (get_or (set cells place c) k Unknown) (get_or now k Unknown) before (Extends-at (set cells place c) now k above)
 
 -- if no cell before a place is unknown, the first unknown one from there on is the first of all
-pub first-from : (cells seen : List Cell) (start : ℕ) (found : Option ℕ) → seen ≡ cells → AreKnownBefore start cells → IsUnknownFrom seen start found → found ≡ first_unknown cells
+pub first-from : (cells seen : List Cell) (start : ℕ) (found : Option ℕ) → seen ≡ cells → AreKnownBefore start cells →
+    IsUnknownFrom seen start found → found ≡ first_unknown cells
 first-from cells seen start found e before h = by found (subst (λ (r : List Cell). IsUnknownFrom r start found) e h)
   where
     by : (found : Option ℕ) → IsUnknownFrom cells start found → found ≡ first_unknown cells
-    by None none = sym (position-none is_unknown cells (λ j l. elim (before_or_from j start) [ inl early ↦ before j early | inr late ↦ none j late l ]))
+    by None none = sym (position-none is_unknown cells
+        (λ j l. elim (before_or_from j start) [ inl early ↦ before j early | inr late ↦ none j late l ]))
     by (Some place) at =
         sym
         (position-at is_unknown cells place at.1 (ap is_unknown at.2)

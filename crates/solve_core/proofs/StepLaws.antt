@@ -12,40 +12,49 @@ abbrev pub IsOneOf : GridLine → List GridLine → Type 0
 IsOneOf line [] = ⊥
 IsOneOf line (x ∷ lines) = (x ≡ line) ⊎ IsOneOf line lines
 
-at_one : (P : Option (List Cell) → Type 0) (g : List Cell) (lines : List GridLine) (line : GridLine) → AllByRecursion P (map (deduce_line g) lines) → IsOneOf line lines → P (deduce_line g line)
+at_one : (P : Option (List Cell) → Type 0) (g : List Cell) (lines : List GridLine) (line : GridLine) →
+    AllByRecursion P (map (deduce_line g) lines) → IsOneOf line lines → P (deduce_line g line)
 at_one P g [] line h m = absurd m
 at_one P g (x ∷ lines) line h (inl e) = subst (λ (l : GridLine). P (deduce_line g l)) e h.0
 at_one P g (x ∷ lines) line h (inr m) = at_one P g lines line h.1 m
 
 -- a closed grid is closed under each of its lines
-pub closed_line : (lines : List GridLine) (c : List Cell) (line : GridLine) → round lines c ≡ Some c → IsOneOf line lines → AtMost (deduce_line c line) (Some c)
+pub closed_line : (lines : List GridLine) (c : List Cell) (line : GridLine) → round lines c ≡ Some c → IsOneOf line lines →
+    AtMost (deduce_line c line) (Some c)
 closed_line lines c line e m =
     at_one (λ o. AtMost o (Some c)) c lines line (rw e at (join_all-above_each c (map (deduce_line c) lines) (lengths c lines))) m
 
-step_to : (lines : List GridLine) (g : List Cell) (line : GridLine) (o : Option (List Cell)) → ((z : List Cell) → o ≡ Some z → round lines z ≡ Some z) → IsOneOf line lines → AtMost (Some g) o → AtMost (deduce_line g line) o
+step_to : (lines : List GridLine) (g : List Cell) (line : GridLine) (o : Option (List Cell)) →
+    ((z : List Cell) → o ≡ Some z → round lines z ≡ Some z) → IsOneOf line lines → AtMost (Some g) o → AtMost (deduce_line g line) o
 step_to lines g line None closed m h = tt
 step_to lines g line (Some c) closed m h =
-    AtMost-trans (deduce_line g line) (deduce_line c line) (Some c) (deduce_line-monotone line g c h) (closed_line lines c line (closed c refl) m)
+    AtMost-trans (deduce_line g line) (deduce_line c line) (Some c) (deduce_line-monotone line g c h)
+    (closed_line lines c line (closed c refl) m)
 
 -- whichever line is deduced next, the grid stays below the closure of the first one
-pub step_within : (lines : List GridLine) (first g : List Cell) (line : GridLine) → IsOneOf line lines → AtMost (Some g) (closure lines first) → AtMost (deduce_line g line) (closure lines first)
+pub step_within : (lines : List GridLine) (first g : List Cell) (line : GridLine) → IsOneOf line lines →
+    AtMost (Some g) (closure lines first) → AtMost (deduce_line g line) (closure lines first)
 step_within lines first g line m h = step_to lines g line (closure lines first) (closure-IsLeastClosed lines first).closed m h
 
 -- a line that dies on the way means that the closure is dead
-pub dead_within : (lines : List GridLine) (first g : List Cell) (line : GridLine) → IsOneOf line lines → AtMost (Some g) (closure lines first) → deduce_line g line ≡ None → closure lines first ≡ None
+pub dead_within : (lines : List GridLine) (first g : List Cell) (line : GridLine) → IsOneOf line lines →
+    AtMost (Some g) (closure lines first) → deduce_line g line ≡ None → closure lines first ≡ None
 dead_within lines first g line m h e = only (closure lines first) (rw e at (step_within lines first g line m h))
   where
     only : (o : Option (List Cell)) → AtMost None o → o ≡ None
     only None k = refl
     only (Some z) k = absurd k
 
-each_same : (g : List Cell) (lines : List GridLine) → AllByRecursion (λ line. deduce_line g line ≡ Some g) lines → AllByRecursion (λ o. AtMost o (Some g)) (map (deduce_line g) lines)
+each_same : (g : List Cell) (lines : List GridLine) → AllByRecursion (λ line. deduce_line g line ≡ Some g) lines →
+    AllByRecursion (λ o. AtMost o (Some g)) (map (deduce_line g) lines)
 each_same g [] h = tt
 each_same g (line ∷ lines) h = (rw (h.0) (Extends-refl g), each_same g lines h.1)
 
 -- where no line has more to give, the grid is the closure
-pub done_within : (lines : List GridLine) (first g : List Cell) → Extends first g → AtMost (Some g) (closure lines first) → AllByRecursion (λ line. deduce_line g line ≡ Some g) lines → closure lines first ≡ Some g
+pub done_within : (lines : List GridLine) (first g : List Cell) → Extends first g → AtMost (Some g) (closure lines first) →
+    AllByRecursion (λ line. deduce_line g line ≡ Some g) lines → closure lines first ≡ Some g
 done_within lines first g h below each =
     let closed : round lines g ≡ Some g =
-    same_at_most g (round lines g) (round-above lines g) (join_all-least g g (map (deduce_line g) lines) (Extends-refl g) (each_same g lines each)) in
+    same_at_most g (round lines g) (round-above lines g)
+    (join_all-least g g (map (deduce_line g) lines) (Extends-refl g) (each_same g lines each)) in
     same_at_most g (closure lines first) below ((closure-IsLeastClosed lines first).least g closed h)

@@ -17,7 +17,8 @@ pub length-cleared : (cells : List Cell) (ks : List ℕ) → length (cleared cel
 length-cleared cells [] = refl
 length-cleared cells (k ∷ ks) = length-set (cleared cells ks) k Unknown ∙ length-cleared cells ks
 
-within-append : (size : ℕ) (ks js : List ℕ) → AllByRecursion (λ k. k < size) ks → AllByRecursion (λ k. k < size) js → AllByRecursion (λ k. k < size) (ks ++ js)
+within-append : (size : ℕ) (ks js : List ℕ) → AllByRecursion (λ k. k < size) ks → AllByRecursion (λ k. k < size) js →
+    AllByRecursion (λ k. k < size) (ks ++ js)
 within-append size [] js h k = k
 within-append size (x ∷ ks) js h k = (h.0, within-append size ks js h.1 k)
 
@@ -43,7 +44,8 @@ trailed-trans a b c x y =
       height = y.height ∙ x.height;
       kept = y.kept ∙ ap (λ (places : List ℕ). places ++ y.added) x.kept ∙ append_assoc a.trail x.added y.added;
       undo = cleared-append c.cells x.added y.added ∙ ap (λ (r : List Cell). cleared r x.added) y.undo ∙ x.undo;
-      within = within-append (length c.cells) x.added y.added (subst (λ (n : ℕ). AllByRecursion (λ k. k < n) x.added) (sym size) x.within) y.within;
+      within = within-append (length c.cells) x.added y.added (subst (λ (n : ℕ). AllByRecursion (λ k. k < n) x.added) (sym size) x.within)
+          y.within;
       count = omega (arith, length-append x.added y.added, x.count, y.count);
     }
 
@@ -52,7 +54,8 @@ set-back [] k c e = refl
 set-back (x ∷ g) zero c e = ap (λ (r : Cell). r ∷ g) (sym e)
 set-back (x ∷ g) (suc k) c e = ap (λ (r : List Cell). x ∷ r) (set-back g k c e)
 
-pub count-settled : (g : List Cell) (k : ℕ) (c : Cell) → k < length g → get_or g k Unknown ≡ Unknown → is_known c ≡ true → 1 + unknown_count (set g k c) ≡ unknown_count g
+pub count-settled : (g : List Cell) (k : ℕ) (c : Cell) → k < length g → get_or g k Unknown ≡ Unknown → is_known c ≡ true →
+    1 + unknown_count (set g k c) ≡ unknown_count g
 count-settled [] k c h e n = absurd (omega arith)
 count-settled (x ∷ g) zero Unknown h e n = absurd (true≢false (sym n))
 count-settled (x ∷ g) zero Filled h e n = rw e (omega arith)

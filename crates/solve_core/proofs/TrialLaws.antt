@@ -28,17 +28,22 @@ OptionAbove c (Some d) = CellExtends c d
 
 tried-above : (lines : List GridLine) (grid : List Cell) (k : ℕ) (c : Cell) → OptionAbove c (tried lines grid k c)
 tried-above lines grid k Unknown =
-    elim (left_over (is_refuted lines grid k Filled) (is_refuted lines grid k Blank)) as (λ o. OptionAbove Unknown o) [ None ↦ tt | Some d ↦ tt ]
+    elim (left_over (is_refuted lines grid k Filled) (is_refuted lines grid k Blank)) as (λ o. OptionAbove Unknown o) [
+      | None ↦ tt
+      | Some d ↦ tt
+    ]
 tried-above lines grid k Filled = tt
 tried-above lines grid k Blank = tt
 
-cons_above : (c : Cell) (g : List Cell) (o : Option Cell) (os : Option (List Cell)) → OptionAbove c o → AtMost (Some g) os → AtMost (Some (c ∷ g)) (option_cons o os)
+cons_above : (c : Cell) (g : List Cell) (o : Option Cell) (os : Option (List Cell)) → OptionAbove c o → AtMost (Some g) os →
+    AtMost (Some (c ∷ g)) (option_cons o os)
 cons_above c g None os h k = tt
 cons_above c g (Some d) None h k = tt
 cons_above c g (Some d) (Some new) h k = (h, k)
 
 -- the cells of a list whose first place is n
-all_above : (f : ℕ → Option Cell) (n : ℕ) (g : List Cell) → ((k : ℕ) → k < length g → OptionAbove (get_or g k Unknown) (f (n + k))) → AtMost (Some g) (all_present (map f (range_with_len n (length g))))
+all_above : (f : ℕ → Option Cell) (n : ℕ) (g : List Cell) → ((k : ℕ) → k < length g → OptionAbove (get_or g k Unknown) (f (n + k))) →
+    AtMost (Some g) (all_present (map f (range_with_len n (length g))))
 all_above f n [] h = tt
 all_above f n (c ∷ g) h =
     cons_above c g (f n) (all_present (map f (range_with_len (n + 1) (length g)))) (rw add-zero at (h 0 (omega arith)))
@@ -52,24 +57,28 @@ pub trial_round-above : (lines : List GridLine) (g : List Cell) → AtMost (Some
 trial_round-above lines g =
     and_then-above (closure lines) (λ z. (closure-IsLeastClosed lines z).above) g (tried_cells lines g) (tried_cells-above lines g)
 
-cons_below : (o : Option Cell) (os : Option (List Cell)) (c : Cell) (w : List Cell) → OptionBelow o c → AtMost os (Some w) → AtMost (option_cons o os) (Some (c ∷ w))
+cons_below : (o : Option Cell) (os : Option (List Cell)) (c : Cell) (w : List Cell) → OptionBelow o c → AtMost os (Some w) →
+    AtMost (option_cons o os) (Some (c ∷ w))
 cons_below None os c w h k = absurd h
 cons_below (Some d) None c w h k = absurd k
 cons_below (Some d) (Some g) c w h k = (h, k)
 
-pub all_below : (f : ℕ → Option Cell) (n : ℕ) (w : List Cell) → ((k : ℕ) → k < length w → OptionBelow (f (n + k)) (get_or w k Unknown)) → AtMost (all_present (map f (range_with_len n (length w)))) (Some w)
+pub all_below : (f : ℕ → Option Cell) (n : ℕ) (w : List Cell) → ((k : ℕ) → k < length w → OptionBelow (f (n + k)) (get_or w k Unknown)) →
+    AtMost (all_present (map f (range_with_len n (length w)))) (Some w)
 all_below f n [] h = tt
 all_below f n (c ∷ w) h =
     cons_below (f n) (all_present (map f (range_with_len (n + 1) (length w)))) c w (rw add-zero at (h 0 (omega arith)))
     (all_below f (n + 1) w (λ k l. let e : n + suc k ≡ n + 1 + k = omega arith in rw e at (h (suc k) (omega arith))))
 
-cons_parts : (o : Option Cell) (os : Option (List Cell)) (c : Cell) (w : List Cell) → AtMost (option_cons o os) (Some (c ∷ w)) → OptionBelow o c × AtMost os (Some w)
+cons_parts : (o : Option Cell) (os : Option (List Cell)) (c : Cell) (w : List Cell) → AtMost (option_cons o os) (Some (c ∷ w)) →
+    OptionBelow o c × AtMost os (Some w)
 cons_parts None os c w h = absurd h
 cons_parts (Some d) None c w h = absurd h
 cons_parts (Some d) (Some g) c w h = h
 
 -- and back: what is below as a whole is below at each place
-pub each_below : (f : ℕ → Option Cell) (n : ℕ) (w : List Cell) → AtMost (all_present (map f (range_with_len n (length w)))) (Some w) → (k : ℕ) → k < length w → OptionBelow (f (n + k)) (get_or w k Unknown)
+pub each_below : (f : ℕ → Option Cell) (n : ℕ) (w : List Cell) → AtMost (all_present (map f (range_with_len n (length w)))) (Some w) →
+    (k : ℕ) → k < length w → OptionBelow (f (n + k)) (get_or w k Unknown)
 each_below f n [] h k l = absurd (omega arith)
 each_below f n (c ∷ w) h zero l = rw add-zero (cons_parts (f n) (all_present (map f (range_with_len (n + 1) (length w)))) c w h).0
 each_below f n (c ∷ w) h (suc k) l =
@@ -77,7 +86,8 @@ each_below f n (c ∷ w) h (suc k) l =
     rw e (each_below f (n + 1) w (cons_parts (f n) (all_present (map f (range_with_len (n + 1) (length w)))) c w h).1 k (omega arith))
 
 -- a colour that is refuted in a grid is not that of a line-closed grid that knows more
-refuted_not_there : (lines : List GridLine) (g w : List Cell) (k : ℕ) (c : Cell) → round lines w ≡ Some w → Extends g w → is_refuted lines g k c ≡ true → CellExtends c (get_or w k Unknown) → k < length w → ⊥
+refuted_not_there : (lines : List GridLine) (g w : List Cell) (k : ℕ) (c : Cell) → round lines w ≡ Some w → Extends g w →
+    is_refuted lines g k c ≡ true → CellExtends c (get_or w k Unknown) → k < length w → ⊥
 refuted_not_there lines g w k c closed h refuted there l =
     let with_it : Extends (set g k c) w = set_within g w k c h there in
     none_above (closure lines (set g k c)) w refuted ((closure-IsLeastClosed lines (set g k c)).least w closed with_it)
@@ -106,9 +116,11 @@ none_if o None h e = refl
 none_if None (Some w) h e = absurd h
 none_if (Some g) (Some w) h e = e
 
-pub is_refuted-monotone : (lines : List GridLine) (g z : List Cell) (k : ℕ) (c : Cell) → CellExtends c c → Extends g z → is_refuted lines g k c ≡ true → is_refuted lines z k c ≡ true
+pub is_refuted-monotone : (lines : List GridLine) (g z : List Cell) (k : ℕ) (c : Cell) → CellExtends c c → Extends g z →
+    is_refuted lines g k c ≡ true → is_refuted lines z k c ≡ true
 is_refuted-monotone lines g z k c s h e =
-    none_if (closure lines (set g k c)) (closure lines (set z k c)) (closure-monotone lines (set g k c) (set z k c) (set-monotone g z k c c h s)) e
+    none_if (closure lines (set g k c)) (closure lines (set z k c))
+    (closure-monotone lines (set g k c) (set z k c) (set-monotone g z k c c h s)) e
 
 blank_if : (w : Cell) → CellExtends Blank w → w ≡ Blank
 blank_if Unknown h = absurd h
@@ -121,7 +133,8 @@ filled_if Filled h = refl
 filled_if Blank h = absurd h
 
 -- where filled is refuted, the settled cell is blank
-left_blank : (lines : List GridLine) (z : List Cell) (k : ℕ) (c w : Cell) → CellExtends c w → OptionBelow (tried lines z k c) w → is_refuted lines z k Filled ≡ true → (CellExtends Filled w → ⊥) → w ≡ Blank
+left_blank : (lines : List GridLine) (z : List Cell) (k : ℕ) (c w : Cell) → CellExtends c w → OptionBelow (tried lines z k c) w →
+    is_refuted lines z k Filled ≡ true → (CellExtends Filled w → ⊥) → w ≡ Blank
 left_blank lines z k Unknown w h b r n = blank_if w (by (is_refuted lines z k Blank) (rw r at b))
   where
     by : (s : Bool) → OptionBelow (left_over true s) w → CellExtends Blank w
@@ -130,7 +143,8 @@ left_blank lines z k Unknown w h b r n = blank_if w (by (is_refuted lines z k Bl
 left_blank lines z k Filled w h b r n = absurd (n h)
 left_blank lines z k Blank w h b r n = blank_if w h
 
-left_filled : (lines : List GridLine) (z : List Cell) (k : ℕ) (c w : Cell) → CellExtends c w → OptionBelow (tried lines z k c) w → is_refuted lines z k Blank ≡ true → (CellExtends Blank w → ⊥) → w ≡ Filled
+left_filled : (lines : List GridLine) (z : List Cell) (k : ℕ) (c w : Cell) → CellExtends c w → OptionBelow (tried lines z k c) w →
+    is_refuted lines z k Blank ≡ true → (CellExtends Blank w → ⊥) → w ≡ Filled
 left_filled lines z k Unknown w h b r n = filled_if w (by (is_refuted lines z k Filled) (rw r at b))
   where
     by : (s : Bool) → OptionBelow (left_over s true) w → CellExtends Filled w
@@ -139,15 +153,18 @@ left_filled lines z k Unknown w h b r n = filled_if w (by (is_refuted lines z k 
 left_filled lines z k Filled w h b r n = filled_if w h
 left_filled lines z k Blank w h b r n = absurd (n h)
 
-left_over-below : (filled blank : Bool) (w : Cell) → (filled ≡ true → w ≡ Blank) → (blank ≡ true → w ≡ Filled) → OptionBelow (left_over filled blank) w
+left_over-below : (filled blank : Bool) (w : Cell) → (filled ≡ true → w ≡ Blank) → (blank ≡ true → w ≡ Filled) →
+    OptionBelow (left_over filled blank) w
 left_over-below true true w f b = let e : Blank ≡ Filled = sym (f refl) ∙ b refl in cc
 left_over-below true false w f b = subst (CellExtends Blank) (sym (f refl)) tt
 left_over-below false true w f b = subst (CellExtends Filled) (sym (b refl)) tt
 left_over-below false false w f b = tt
 
 -- what trials settle in a grid is so in the closed result of trials on a grid that knows more
-pub tried-below : (lines : List GridLine) (g z w : List Cell) (k : ℕ) (c : Cell) → Extends g z → Extends z w → round lines w ≡ Some w → k < length w
-    → CellExtends c (get_or w k Unknown) → OptionBelow (tried lines z k (get_or z k Unknown)) (get_or w k Unknown) → OptionBelow (tried lines g k c) (get_or w k Unknown)
+pub tried-below : (lines : List GridLine) (g z w : List Cell) (k : ℕ) (c : Cell) → Extends g z → Extends z w → round lines w ≡ Some w →
+    k < length w
+    → CellExtends c (get_or w k Unknown) → OptionBelow (tried lines z k (get_or z k Unknown)) (get_or w k Unknown) →
+    OptionBelow (tried lines g k c) (get_or w k Unknown)
 tried-below lines g z w k Unknown gz zw closed l h b =
     let at : CellExtends (get_or z k Unknown) (get_or w k Unknown) = Extends-at z w k zw in
     left_over-below (is_refuted lines g k Filled) (is_refuted lines g k Blank) (get_or w k Unknown)
@@ -159,7 +176,8 @@ tried-below lines g z w k Filled gz zw closed l h b = h
 tried-below lines g z w k Blank gz zw closed l h b = h
 
 -- the cells that trials settle, below a closed grid
-tried_cells-below : (lines : List GridLine) (g z w : List Cell) → Extends g z → Extends z w → round lines w ≡ Some w → AtMost (tried_cells lines z) (Some w) → AtMost (tried_cells lines g) (Some w)
+tried_cells-below : (lines : List GridLine) (g z w : List Cell) → Extends g z → Extends z w → round lines w ≡ Some w →
+    AtMost (tried_cells lines z) (Some w) → AtMost (tried_cells lines g) (Some w)
 tried_cells-below lines g z w gz zw closed below =
     let lz : length z ≡ length w = length-Extends z w zw in
     let lg : length g ≡ length w = length-Extends g z gz ∙ lz in
@@ -172,13 +190,15 @@ tried_cells-below lines g z w gz zw closed below =
     (tried-below lines g z w k (get_or g k Unknown) gz zw closed l (Extends-at g w k (Extends-trans g z w gz zw))
     (rw (zero-add k) at (each_below at_z 0 w each k l)))))
 
-pub after_trials : (lines : List GridLine) (z w : List Cell) (o : Option (List Cell)) → option_and_then (closure lines) o ≡ Some w → AtMost o (Some w) × (round lines w ≡ Some w)
+pub after_trials : (lines : List GridLine) (z w : List Cell) (o : Option (List Cell)) → option_and_then (closure lines) o ≡ Some w →
+    AtMost o (Some w) × (round lines w ≡ Some w)
 after_trials lines z w None e = cc
 after_trials lines z w (Some t) e =
     let law = closure-IsLeastClosed lines t in
     ((rw e at law.above), law.closed w e)
 
-trial_round-to : (lines : List GridLine) (g z : List Cell) → Extends g z → (o : Option (List Cell)) → trial_round lines z ≡ o → AtMost (trial_round lines g) o
+trial_round-to : (lines : List GridLine) (g z : List Cell) → Extends g z → (o : Option (List Cell)) → trial_round lines z ≡ o →
+    AtMost (trial_round lines g) o
 trial_round-to lines g z h None e = tt
 trial_round-to lines g z h (Some w) e =
     let after = after_trials lines z w (tried_cells lines z) e in
@@ -206,15 +226,18 @@ known_below lines z k b Filled e = tt
 known_below lines z k b Blank e = tt
 
 -- a solution is trial-closed
-pub trial_round-solution : (lines : List GridLine) (full : List Bool) → MeetsLines lines full → trial_round lines (map colour full) ≡ Some (map colour full)
+pub trial_round-solution : (lines : List GridLine) (full : List Bool) → MeetsLines lines full →
+    trial_round lines (map colour full) ≡ Some (map colour full)
 trial_round-solution lines full m =
     let z = map colour full in
     let at = λ (k : ℕ). tried lines z k (get_or z k Unknown) in
     let settled : tried_cells lines z ≡ Some z =
     same_at_most z (tried_cells lines z) (tried_cells-above lines z)
-    (all_below at 0 z (λ k l. rw (zero-add k) (known_below lines z k (get_or full k false) (get_or z k Unknown) (get_or-map_colour full k (omega (arith, length-map full colour)))))) in
+    (all_below at 0 z (λ k l. rw (zero-add k) (known_below lines z k (get_or full k false) (get_or z k Unknown)
+    (get_or-map_colour full k (omega (arith, length-map full colour)))))) in
     rw settled (repeat-fixed (round lines) (length z + 1) z (round-solution lines full m))
 
 -- every solution that extends a grid extends it after trials, which so isn't dead
-pub trials-below : (lines : List GridLine) (full : List Bool) → MeetsLines lines full → (g : List Cell) → Extends g (map colour full) → AtMost (trials lines g) (Some (map colour full))
+pub trials-below : (lines : List GridLine) (full : List Bool) → MeetsLines lines full → (g : List Cell) → Extends g (map colour full) →
+    AtMost (trials lines g) (Some (map colour full))
 trials-below lines full m g h = (trials-IsLeastClosed lines g).least (map colour full) (trial_round-solution lines full m) h

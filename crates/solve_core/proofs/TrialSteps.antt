@@ -18,8 +18,10 @@ use Rattle.solve_core.proofs.TrialLaws.{OptionBelow, tried_cells, tried_cells-ab
 use Rattle.solve_core.proofs.LineSteps.{least_between}
 
 -- from a grid between one and its trials the trials end alike
-pub trials_between : (lines : List GridLine) (g z : List Cell) → Extends g z → AtMost (Some z) (trials lines g) → trials lines z ≡ trials lines g
-trials_between lines g z h below = least_between (trial_round lines) g z (trials lines g) (trials lines z) (trials-IsLeastClosed lines g) (trials-IsLeastClosed lines z) h below
+pub trials_between : (lines : List GridLine) (g z : List Cell) → Extends g z → AtMost (Some z) (trials lines g) →
+    trials lines z ≡ trials lines g
+trials_between lines g z h below = least_between (trial_round lines) g z (trials lines g) (trials lines z) (trials-IsLeastClosed lines g)
+    (trials-IsLeastClosed lines z) h below
 
 -- a trial-closed grid is line-closed
 pub trial_closed-round : (lines : List GridLine) (z : List Cell) → trial_round lines z ≡ Some z → round lines z ≡ Some z
@@ -33,7 +35,8 @@ closure_below lines g = to (trials lines g) (trials-IsLeastClosed lines g)
     to (Some w) l = (closure-IsLeastClosed lines g).least w (trial_closed-round lines w (l.closed w refl)) l.above
 
 pub closure_trials : (lines : List GridLine) (g new : List Cell) → closure lines g ≡ Some new → trials lines new ≡ trials lines g
-closure_trials lines g new e = trials_between lines g new (rw e at ((closure-IsLeastClosed lines g).above)) (rw e at (closure_below lines g))
+closure_trials lines g new e = trials_between lines g new (rw e at ((closure-IsLeastClosed lines g).above))
+    (rw e at (closure_below lines g))
 
 none_only : (o : Option (List Cell)) → AtMost None o → o ≡ None
 none_only None h = refl
@@ -64,35 +67,42 @@ left_filled_below true w h = absurd h
 left_filled_below false w h = h
 
 -- what trials say of one cell is below where they all end
-tried_at_end : (lines : List GridLine) (g w : List Cell) (k : ℕ) → trial_round lines w ≡ Some w → Extends g w → k < length w → OptionBelow (tried lines g k Unknown) (get_or w k Unknown)
+tried_at_end : (lines : List GridLine) (g w : List Cell) (k : ℕ) → trial_round lines w ≡ Some w → Extends g w → k < length w →
+    OptionBelow (tried lines g k Unknown) (get_or w k Unknown)
 tried_at_end lines g w k closed gw l =
     let after = after_trials lines w w (tried_cells lines w) closed in
     let at = λ (j : ℕ). tried lines w j (get_or w j Unknown) in
-    let here : OptionBelow (tried lines w k (get_or w k Unknown)) (get_or w k Unknown) = rw (zero-add k) at (each_below at 0 w after.0 k l) in
+    let here : OptionBelow (tried lines w k (get_or w k Unknown)) (get_or w k Unknown) =
+    rw (zero-add k) at (each_below at 0 w after.0 k l) in
     tried-below lines g w w k Unknown gw (Extends-refl w) after.1 l tt here
 
 -- where filled is refuted, the grid with the cell blank is below the trials' end
-pub blank_below : (lines : List GridLine) (g : List Cell) (k : ℕ) → k < length g → is_refuted lines g k Filled ≡ true → AtMost (Some (set g k Blank)) (trials lines g)
+pub blank_below : (lines : List GridLine) (g : List Cell) (k : ℕ) → k < length g → is_refuted lines g k Filled ≡ true →
+    AtMost (Some (set g k Blank)) (trials lines g)
 blank_below lines g k l r = to (trials lines g) (trials-IsLeastClosed lines g)
   where
     to : (o : Option (List Cell)) → IsLeastClosed (trial_round lines) g o → AtMost (Some (set g k Blank)) o
     to None law = tt
     to (Some w) law =
         let within : k < length w = omega (arith, length-Extends g w law.above) in
-        let here : OptionBelow (left_over (is_refuted lines g k Filled) (is_refuted lines g k Blank)) (get_or w k Unknown) = tried_at_end lines g w k (law.closed w refl) law.above within in
+        let here : OptionBelow (left_over (is_refuted lines g k Filled) (is_refuted lines g k Blank)) (get_or w k Unknown) =
+        tried_at_end lines g w k (law.closed w refl) law.above within in
         set_within g w k Blank law.above (left_blank_below (is_refuted lines g k Blank) (get_or w k Unknown) (rw r at here))
 
-pub filled_below : (lines : List GridLine) (g : List Cell) (k : ℕ) → k < length g → is_refuted lines g k Blank ≡ true → AtMost (Some (set g k Filled)) (trials lines g)
+pub filled_below : (lines : List GridLine) (g : List Cell) (k : ℕ) → k < length g → is_refuted lines g k Blank ≡ true →
+    AtMost (Some (set g k Filled)) (trials lines g)
 filled_below lines g k l r = to (trials lines g) (trials-IsLeastClosed lines g)
   where
     to : (o : Option (List Cell)) → IsLeastClosed (trial_round lines) g o → AtMost (Some (set g k Filled)) o
     to None law = tt
     to (Some w) law =
         let within : k < length w = omega (arith, length-Extends g w law.above) in
-        let here : OptionBelow (left_over (is_refuted lines g k Filled) (is_refuted lines g k Blank)) (get_or w k Unknown) = tried_at_end lines g w k (law.closed w refl) law.above within in
+        let here : OptionBelow (left_over (is_refuted lines g k Filled) (is_refuted lines g k Blank)) (get_or w k Unknown) =
+        tried_at_end lines g w k (law.closed w refl) law.above within in
         set_within g w k Filled law.above (left_filled_below (is_refuted lines g k Filled) (get_or w k Unknown) (rw r at here))
 
-tried_stays : (lines : List GridLine) (z : List Cell) (k : ℕ) (c : Cell) → (c ≡ Unknown → (is_refuted lines z k Filled ≡ false) × (is_refuted lines z k Blank ≡ false)) → OptionBelow (tried lines z k c) c
+tried_stays : (lines : List GridLine) (z : List Cell) (k : ℕ) (c : Cell) →
+    (c ≡ Unknown → (is_refuted lines z k Filled ≡ false) × (is_refuted lines z k Blank ≡ false)) → OptionBelow (tried lines z k c) c
 tried_stays lines z k Unknown h =
     let both = h refl in
     rw (both.0, both.1) tt
@@ -100,11 +110,13 @@ tried_stays lines z k Filled h = tt
 tried_stays lines z k Blank h = tt
 
 -- a line-closed grid where no unknown cell has a refuted colour is trial-closed
-pub tried-closed : (lines : List GridLine) (z : List Cell) → round lines z ≡ Some z → ((k : ℕ) → k < length z → IsTried lines z k) → trial_round lines z ≡ Some z
+pub tried-closed : (lines : List GridLine) (z : List Cell) → round lines z ≡ Some z → ((k : ℕ) → k < length z → IsTried lines z k) →
+    trial_round lines z ≡ Some z
 tried-closed lines z e h =
     let at = λ (k : ℕ). tried lines z k (get_or z k Unknown) in
     let settled : tried_cells lines z ≡ Some z =
-    same_at_most z (tried_cells lines z) (tried_cells-above lines z) (all_below at 0 z (λ k l. rw (zero-add k) (tried_stays lines z k (get_or z k Unknown) (h k l)))) in
+    same_at_most z (tried_cells lines z) (tried_cells-above lines z)
+    (all_below at 0 z (λ k l. rw (zero-add k) (tried_stays lines z k (get_or z k Unknown) (h k l)))) in
     rw settled (repeat-fixed (round lines) (length z + 1) z e)
 
 both_open : (a b : Bool) → OptionBelow (left_over a b) Unknown → (a ≡ false) × (b ≡ false)
@@ -120,7 +132,8 @@ closed-tried lines z e k l unknown =
     both_open (is_refuted lines z k Filled) (is_refuted lines z k Blank) (rw unknown at here)
 
 -- where every unknown cell was tried the trials end
-pub tried_ends : (lines : List GridLine) (z : List Cell) → round lines z ≡ Some z → ((k : ℕ) → k < length z → IsTried lines z k) → trials lines z ≡ Some z
+pub tried_ends : (lines : List GridLine) (z : List Cell) → round lines z ≡ Some z → ((k : ℕ) → k < length z → IsTried lines z k) →
+    trials lines z ≡ Some z
 tried_ends lines z e h = repeat-fixed (trial_round lines) (length z + 1) z (tried-closed lines z e h)
 
 not_none : (o : Option (List Cell)) (z : List Cell) → AtMost o (Some z) → is_none o ≡ false
@@ -128,19 +141,22 @@ not_none None z h = absurd h
 not_none (Some g) z h = refl
 
 -- the colour of a cell of a line-closed grid isn't refuted in a grid that knows no more
-pub met_open : (lines : List GridLine) (g z : List Cell) (k : ℕ) (d : Cell) → round lines z ≡ Some z → Extends g z → get_or z k Unknown ≡ d → is_refuted lines g k d ≡ false
+pub met_open : (lines : List GridLine) (g z : List Cell) (k : ℕ) (d : Cell) → round lines z ≡ Some z → Extends g z →
+    get_or z k Unknown ≡ d → is_refuted lines g k d ≡ false
 met_open lines g z k d closed h at =
     let same : CellExtends d d = Extends-at (d ∷ []) (d ∷ []) 0 (Extends-refl (d ∷ [])) in
     let with_it : Extends (set g k d) z = set_within g z k d h (subst (λ (q : Cell). CellExtends d q) (sym at) same) in
     not_none (closure lines (set g k d)) z ((closure-IsLeastClosed lines (set g k d)).least z closed with_it)
 
 -- a grid that a cell was settled in and that was closed knows more
-pub settled-extends : (lines : List GridLine) (g z : List Cell) (k : ℕ) (c : Cell) → get_or g k Unknown ≡ Unknown → closure lines (set g k c) ≡ Some z → Extends g z
+pub settled-extends : (lines : List GridLine) (g z : List Cell) (k : ℕ) (c : Cell) → get_or g k Unknown ≡ Unknown →
+    closure lines (set g k c) ≡ Some z → Extends g z
 settled-extends lines g z k c unknown e =
     let above : Extends (set g k c) z = rw e at ((closure-IsLeastClosed lines (set g k c)).above) in
     Extends-trans g (set g k c) z (set-extends g k c unknown) above
 
-count-set : (g : List Cell) (k : ℕ) (c : Cell) → k < length g → get_or g k Unknown ≡ Unknown → is_known c ≡ true → unknown_count (set g k c) < unknown_count g
+count-set : (g : List Cell) (k : ℕ) (c : Cell) → k < length g → get_or g k Unknown ≡ Unknown → is_known c ≡ true →
+    unknown_count (set g k c) < unknown_count g
 count-set [] k c h e n = absurd (omega arith)
 count-set (x ∷ g) zero Unknown h e n = absurd (true≢false (sym n))
 count-set (x ∷ g) zero Filled h e n = rw e (omega arith)
@@ -150,7 +166,8 @@ count-set (Filled ∷ g) (suc k) c h e n = let rest = count-set g k c (omega ari
 count-set (Blank ∷ g) (suc k) c h e n = let rest = count-set g k c (omega arith) e n in omega (arith, rest)
 
 -- settling a cell as trials do is progress
-pub settle-changed : (lines : List GridLine) (g new : List Cell) (k : ℕ) (c : Cell) → k < length g → get_or g k Unknown ≡ Unknown → is_known c ≡ true → AtMost (Some (set g k c)) (trials lines g) → closure lines (set g k c) ≡ Some new
+pub settle-changed : (lines : List GridLine) (g new : List Cell) (k : ℕ) (c : Cell) → k < length g → get_or g k Unknown ≡ Unknown →
+    is_known c ≡ true → AtMost (Some (set g k c)) (trials lines g) → closure lines (set g k c) ≡ Some new
     → Progresses (trials lines) Changed g new
 settle-changed lines g new k c l unknown n below e =
     let z = set g k c in
@@ -160,15 +177,19 @@ settle-changed lines g new k c l unknown n below e =
       elim (fewer_unknown z new above) [ inl s ↦ omega (arith, ap unknown_count s, fewer) | inr m ↦ omega (arith, m, fewer) ],
     )
 
-pub settle-dead : (lines : List GridLine) (g : List Cell) (k : ℕ) (c : Cell) → get_or g k Unknown ≡ Unknown → AtMost (Some (set g k c)) (trials lines g) → closure lines (set g k c) ≡ None → trials lines g ≡ None
-settle-dead lines g k c unknown below e = sym (trials_between lines g (set g k c) (set-extends g k c unknown) below) ∙ closure_dead lines (set g k c) e
+pub settle-dead : (lines : List GridLine) (g : List Cell) (k : ℕ) (c : Cell) → get_or g k Unknown ≡ Unknown →
+    AtMost (Some (set g k c)) (trials lines g) → closure lines (set g k c) ≡ None → trials lines g ≡ None
+settle-dead lines g k c unknown below e = sym (trials_between lines g (set g k c) (set-extends g k c unknown) below) ∙
+    closure_dead lines (set g k c) e
 
-pub trial-refuted : (r : Trial) (lines : List GridLine) (g trial : List Cell) (k : ℕ) (c : Cell) → r ≡ Refuted → IsTrialOf r lines g k c trial → is_refuted lines g k c ≡ true
+pub trial-refuted : (r : Trial) (lines : List GridLine) (g trial : List Cell) (k : ℕ) (c : Cell) → r ≡ Refuted →
+    IsTrialOf r lines g k c trial → is_refuted lines g k c ≡ true
 trial-refuted Refuted lines g trial k c e h = ap is_none h
 trial-refuted Open lines g trial k c e h = cc
 trial-refuted Closed lines g trial k c e h = cc
 
-pub trial-closed : (r : Trial) (lines : List GridLine) (g trial : List Cell) (k : ℕ) (c : Cell) → r ≡ Closed → IsTrialOf r lines g k c trial → closure lines (set g k c) ≡ Some trial
+pub trial-closed : (r : Trial) (lines : List GridLine) (g trial : List Cell) (k : ℕ) (c : Cell) → r ≡ Closed →
+    IsTrialOf r lines g k c trial → closure lines (set g k c) ≡ Some trial
 trial-closed Refuted lines g trial k c e h = cc
 trial-closed Open lines g trial k c e h = cc
 trial-closed Closed lines g trial k c e h = h

@@ -55,7 +55,8 @@ overlaid-extends [] b = tt
 overlaid-extends (c ∷ a) [] = Extends-refl (c ∷ a)
 overlaid-extends (c ∷ a) (d ∷ b) = (over-extends c d, overlaid-extends a b)
 
-get_or-overlaid : (a b : List Cell) (k : ℕ) → length a ≡ length b → get_or (overlaid a b) k Unknown ≡ over (get_or a k Unknown) (get_or b k Unknown)
+get_or-overlaid : (a b : List Cell) (k : ℕ) → length a ≡ length b →
+    get_or (overlaid a b) k Unknown ≡ over (get_or a k Unknown) (get_or b k Unknown)
 get_or-overlaid [] [] k e = refl
 get_or-overlaid [] (d ∷ b) k e = absurd (omega arith)
 get_or-overlaid (c ∷ a) [] k e = absurd (omega arith)
@@ -63,14 +64,18 @@ get_or-overlaid (c ∷ a) (d ∷ b) zero e = refl
 get_or-overlaid (c ∷ a) (d ∷ b) (suc k) e = get_or-overlaid a b k (omega arith)
 
 -- a cell where the new grid knows no more than the old one
-as_trial : (g new t : List Cell) (k : ℕ) → length new ≡ length t → Extends g t → get_or g k Unknown ≡ get_or new k Unknown → get_or (overlaid new t) k Unknown ≡ get_or t k Unknown
+as_trial : (g new t : List Cell) (k : ℕ) → length new ≡ length t → Extends g t → get_or g k Unknown ≡ get_or new k Unknown →
+    get_or (overlaid new t) k Unknown ≡ get_or t k Unknown
 as_trial g new t k e h same =
-    get_or-overlaid new t k e ∙ over_more (get_or new k Unknown) (get_or t k Unknown) (subst (λ (c : Cell). CellExtends c (get_or t k Unknown)) same (Extends-at g t k h))
+    get_or-overlaid new t k e ∙ over_more (get_or new k Unknown) (get_or t k Unknown)
+    (subst (λ (c : Cell). CellExtends c (get_or t k Unknown)) same (Extends-at g t k h))
 
 -- a cell where the trial knows no more
-as_new : (g new t : List Cell) (k : ℕ) → length new ≡ length t → Extends g new → get_or g k Unknown ≡ get_or t k Unknown → get_or (overlaid new t) k Unknown ≡ get_or new k Unknown
+as_new : (g new t : List Cell) (k : ℕ) → length new ≡ length t → Extends g new → get_or g k Unknown ≡ get_or t k Unknown →
+    get_or (overlaid new t) k Unknown ≡ get_or new k Unknown
 as_new g new t k e h same =
-    get_or-overlaid new t k e ∙ over_less (get_or new k Unknown) (get_or t k Unknown) (subst (λ (c : Cell). CellExtends c (get_or new k Unknown)) same (Extends-at g new k h))
+    get_or-overlaid new t k e ∙ over_less (get_or new k Unknown) (get_or t k Unknown)
+    (subst (λ (c : Cell). CellExtends c (get_or new k Unknown)) same (Extends-at g new k h))
 
 first_of : (c d : Cell) (a b : List Cell) → c ∷ a ≡ d ∷ b → c ≡ d
 first_of c d a b e = cc
@@ -79,36 +84,45 @@ rest_of : (c d : Cell) (a b : List Cell) → c ∷ a ≡ d ∷ b → a ≡ b
 rest_of c d a b e = cc
 
 -- the same along a line
-line_as_trial : (g new t : List Cell) (places : List ℕ) → length new ≡ length t → Extends g t → cells_at Unknown g places ≡ cells_at Unknown new places
+line_as_trial : (g new t : List Cell) (places : List ℕ) → length new ≡ length t → Extends g t →
+    cells_at Unknown g places ≡ cells_at Unknown new places
     → cells_at Unknown (overlaid new t) places ≡ cells_at Unknown t places
 line_as_trial g new t [] e h same = refl
 line_as_trial g new t (k ∷ ks) e h same =
-    let first = as_trial g new t k e h (first_of (get_or g k Unknown) (get_or new k Unknown) (cells_at Unknown g ks) (cells_at Unknown new ks) same) in
-    let rest = line_as_trial g new t ks e h (rest_of (get_or g k Unknown) (get_or new k Unknown) (cells_at Unknown g ks) (cells_at Unknown new ks) same) in
+    let first = as_trial g new t k e h (first_of (get_or g k Unknown) (get_or new k Unknown) (cells_at Unknown g ks)
+    (cells_at Unknown new ks) same) in
+    let rest = line_as_trial g new t ks e h (rest_of (get_or g k Unknown) (get_or new k Unknown) (cells_at Unknown g ks)
+    (cells_at Unknown new ks) same) in
     λ i. first i ∷ rest i
 
-line_as_new : (g new t : List Cell) (places : List ℕ) → length new ≡ length t → Extends g new → cells_at Unknown g places ≡ cells_at Unknown t places
+line_as_new : (g new t : List Cell) (places : List ℕ) → length new ≡ length t → Extends g new →
+    cells_at Unknown g places ≡ cells_at Unknown t places
     → cells_at Unknown (overlaid new t) places ≡ cells_at Unknown new places
 line_as_new g new t [] e h same = refl
 line_as_new g new t (k ∷ ks) e h same =
-    let first = as_new g new t k e h (first_of (get_or g k Unknown) (get_or t k Unknown) (cells_at Unknown g ks) (cells_at Unknown t ks) same) in
-    let rest = line_as_new g new t ks e h (rest_of (get_or g k Unknown) (get_or t k Unknown) (cells_at Unknown g ks) (cells_at Unknown t ks) same) in
+    let first = as_new g new t k e h (first_of (get_or g k Unknown) (get_or t k Unknown) (cells_at Unknown g ks)
+    (cells_at Unknown t ks) same) in
+    let rest = line_as_new g new t ks e h (rest_of (get_or g k Unknown) (get_or t k Unknown) (cells_at Unknown g ks)
+    (cells_at Unknown t ks) same) in
     λ i. first i ∷ rest i
 
 settled_alike : (a b : List Cell) (line : GridLine) → AreAlike a b line → IsSettled b line → IsSettled a line
 settled_alike a b line same h = subst (λ (cells : List Cell). deduced cells line.clue ≡ Some cells) (sym same) h
 
-overlaid_settled : (g new t : List Cell) (line : GridLine) → length new ≡ length t → Extends g new → Extends g t → AreAlike g new line ⊎ AreAlike g t line → IsSettled new line → IsSettled t line
+overlaid_settled : (g new t : List Cell) (line : GridLine) → length new ≡ length t → Extends g new → Extends g t →
+    AreAlike g new line ⊎ AreAlike g t line → IsSettled new line → IsSettled t line
     → IsSettled (overlaid new t) line
 overlaid_settled g new t line e h k (inl same) n s = settled_alike (overlaid new t) t line (line_as_trial g new t line.places e k same) s
 overlaid_settled g new t line e h k (inr same) n s = settled_alike (overlaid new t) new line (line_as_new g new t line.places e h same) n
 
-line_settled : (p : Nonogram) (g : List Cell) (n : ℕ) → IsNonogram p → length g ≡ p.width * p.height → round (lines_of p) g ≡ Some g → n < line_count p → IsSettled g (line_at p n)
+line_settled : (p : Nonogram) (g : List Cell) (n : ℕ) → IsNonogram p → length g ≡ p.width * p.height → round (lines_of p) g ≡ Some g →
+    n < line_count p → IsSettled g (line_at p n)
 line_settled p g n is size closed l =
     closed_settled (lines_of p) g (line_at p n) closed (line_is_one p n is l) (line-distinct p n is l) (line-below p (length g) n is l size)
 
 -- Two line-closed grids that came from the same one and share no line as one are line-closed.
-overlaid_closed : (p : Nonogram) (g new t : List Cell) → IsNonogram p → length g ≡ p.width * p.height → round (lines_of p) new ≡ Some new → round (lines_of p) t ≡ Some t
+overlaid_closed : (p : Nonogram) (g new t : List Cell) → IsNonogram p → length g ≡ p.width * p.height →
+    round (lines_of p) new ≡ Some new → round (lines_of p) t ≡ Some t
     → Extends g new → Extends g t → AreApart p g new t → round (lines_of p) (overlaid new t) ≡ Some (overlaid new t)
 overlaid_closed p g new t is size new_closed t_closed h k apart =
     let both = overlaid new t in
@@ -116,7 +130,8 @@ overlaid_closed p g new t is size new_closed t_closed h k apart =
     let t_size : length t ≡ p.width * p.height = sym (length-Extends g t k) ∙ size in
     let own : closure (lines_of p) both ≡ Some both =
     settled_closed p both is
-    (λ n l. overlaid_settled g new t (line_at p n) (new_size ∙ sym t_size) h k (apart n l) (line_settled p new n is new_size new_closed l) (line_settled p t n is t_size t_closed l)) in
+    (λ n l. overlaid_settled g new t (line_at p n) (new_size ∙ sym t_size) h k (apart n l) (line_settled p new n is new_size new_closed l)
+    (line_settled p t n is t_size t_closed l)) in
     (closure-IsLeastClosed (lines_of p) both).closed both own
 
 -- ---- lines that two grids share
@@ -125,7 +140,8 @@ overlaid_closed p g new t is size new_closed t_closed h k apart =
 split_place : (w y x k : ℕ) → x < w → k ≡ y * w + x → (k / w ≡ y) × (k % w ≡ x)
 split_place w y x k l e = unique_place w (k / w) y (k % w) x (omega arith) l (place_again k w w refl (omega arith) ∙ e)
 
-alike_row : (p : Nonogram) (g other : List Cell) (lines : Crossed) (n : ℕ) → IsNonogram p → DifferWithin p.width g other lines → n < p.height → has_side lines.rows n ≡ false → AreAlike g other (line_at p n)
+alike_row : (p : Nonogram) (g other : List Cell) (lines : Crossed) (n : ℕ) → IsNonogram p → DifferWithin p.width g other lines →
+    n < p.height → has_side lines.rows n ≡ false → AreAlike g other (line_at p n)
 alike_row p g other lines n is d l e = cells_at-same g other ((line_at p n).places) (λ i h.
     let k = get_or ((line_at p n).places) i 0 in
     let there = line_place p n i is (omega arith) h in
@@ -133,7 +149,8 @@ alike_row p g other lines n is d l e = cells_at-same g other ((line_at p n).plac
     let row : k / p.width ≡ n = (split_place p.width n i k (omega (arith, there.0, along.0)) (there.1 ∙ along.1)).0 in
     d.rows k (ap (has_side lines.rows) row ∙ e))
 
-alike_column : (p : Nonogram) (g other : List Cell) (lines : Crossed) (n : ℕ) → IsNonogram p → DifferWithin p.width g other lines → p.height ≤ n → n < line_count p → has_side lines.columns (n - p.height) ≡ false
+alike_column : (p : Nonogram) (g other : List Cell) (lines : Crossed) (n : ℕ) → IsNonogram p → DifferWithin p.width g other lines →
+    p.height ≤ n → n < line_count p → has_side lines.columns (n - p.height) ≡ false
     → AreAlike g other (line_at p n)
 alike_column p g other lines n is d l m e = cells_at-same g other ((line_at p n).places) (λ i h.
     let k = get_or ((line_at p n).places) i 0 in
@@ -142,7 +159,8 @@ alike_column p g other lines n is d l m e = cells_at-same g other ((line_at p n)
     let column : k % p.width ≡ n - p.height = (split_place p.width i (n - p.height) k (omega arith) (there.1 ∙ along.1)).1 in
     d.columns k (ap (has_side lines.columns) column ∙ e))
 
-apart_lines : (p : Nonogram) (g new t : List Cell) (lines learned : Crossed) → IsNonogram p → DifferWithin p.width g t lines → DifferWithin p.width g new learned → ShareNoLine lines learned → AreApart p g new t
+apart_lines : (p : Nonogram) (g new t : List Cell) (lines learned : Crossed) → IsNonogram p → DifferWithin p.width g t lines →
+    DifferWithin p.width g new learned → ShareNoLine lines learned → AreApart p g new t
 apart_lines p g new t lines learned is mine theirs apart n l = elim (before_or_from n p.height) [
   | inl row ↦ by_row row (has_side lines.rows n) refl
   | inr column ↦ by_column column (has_side lines.columns (n - p.height)) refl
@@ -152,7 +170,8 @@ apart_lines p g new t lines learned is mine theirs apart n l = elim (before_or_f
     by_row h true e = inl (alike_row p g new learned n is theirs h (apart.rows n e))
     by_row h false e = inr (alike_row p g t lines n is mine h e)
 
-    by_column : p.height ≤ n → (v : Bool) → has_side lines.columns (n - p.height) ≡ v → AreAlike g new (line_at p n) ⊎ AreAlike g t (line_at p n)
+    by_column : p.height ≤ n → (v : Bool) → has_side lines.columns (n - p.height) ≡ v →
+        AreAlike g new (line_at p n) ⊎ AreAlike g t (line_at p n)
     by_column h true e = inl (alike_column p g new learned n is theirs h l (apart.columns (n - p.height) e))
     by_column h false e = inr (alike_column p g t lines n is mine h l e)
 
@@ -168,7 +187,8 @@ known_stays Blank Filled n h = absurd h
 known_stays Blank Blank n h = refl
 
 -- a cell that the trial knows is the same in both grids as one
-met_stays : (width : ℕ) (g new t : List Cell) (lines learned : Crossed) (k : ℕ) (c : Cell) → length new ≡ length t → Extends g new → Extends g t → DifferWithin width g t lines → DifferWithin width g new learned
+met_stays : (width : ℕ) (g new t : List Cell) (lines learned : Crossed) (k : ℕ) (c : Cell) → length new ≡ length t → Extends g new →
+    Extends g t → DifferWithin width g t lines → DifferWithin width g new learned
     → ShareNoLine lines learned → is_known c ≡ true → get_or t k Unknown ≡ c → get_or (overlaid new t) k Unknown ≡ c
 met_stays width g new t lines learned k c same h l mine theirs apart known at = by (has_side lines.rows (k / width)) refl
   where
@@ -176,7 +196,8 @@ met_stays width g new t lines learned k c same h l mine theirs apart known at = 
     by true e = as_trial g new t k same l (theirs.rows k (apart.rows (k / width) e)) ∙ at
     by false e =
         let old : get_or g k Unknown ≡ get_or t k Unknown = mine.rows k e in
-        let more : CellExtends c (get_or new k Unknown) = subst (λ (q : Cell). CellExtends q (get_or new k Unknown)) (old ∙ at) (Extends-at g new k h) in
+        let more : CellExtends c (get_or new k Unknown) =
+        subst (λ (q : Cell). CellExtends q (get_or new k Unknown)) (old ∙ at) (Extends-at g new k h) in
         as_new g new t k same h old ∙ known_stays c (get_or new k Unknown) known more
 
 -- a cell that a number was noted at is known, unless it is that of no witness
@@ -186,40 +207,48 @@ noted_known w k number Filled n e = refl
 noted_known w k number Blank n e = refl
 
 -- A witness stays one where what was learned shares no line with it.
-apart_stays : (w : WitnessedPuzzle) (g new : List Cell) (number : ℕ) (learned : Crossed) → IsNonogram w.puzzle → length g ≡ w.puzzle.width * w.puzzle.height → round (lines_of w.puzzle) new ≡ Some new
-    → Extends g new → DifferWithin w.puzzle.width g new learned → ShareNoLine ((witness_at w.witnesses number).lines) learned → number ≢ 0 → IsWitness w g number → IsWitness w new number
+apart_stays : (w : WitnessedPuzzle) (g new : List Cell) (number : ℕ) (learned : Crossed) → IsNonogram w.puzzle →
+    length g ≡ w.puzzle.width * w.puzzle.height → round (lines_of w.puzzle) new ≡ Some new
+    → Extends g new → DifferWithin w.puzzle.width g new learned → ShareNoLine ((witness_at w.witnesses number).lines) learned →
+    number ≢ 0 → IsWitness w g number → IsWitness w new number
 apart_stays w g new number learned is size closed h theirs apart some was =
     let t = was.trial in
     let lines = (witness_at w.witnesses number).lines in
     let same : length new ≡ length t = sym (length-Extends g new h) ∙ length-Extends g t was.extends in
     record {
       trial = overlaid new t;
-      closed = overlaid_closed w.puzzle g new t is size closed was.closed h was.extends (apart_lines w.puzzle g new t lines learned is was.within theirs apart);
+      closed = overlaid_closed w.puzzle g new t is size closed was.closed h was.extends
+          (apart_lines w.puzzle g new t lines learned is was.within theirs apart);
       extends = overlaid-extends new t;
       within = record {
         rows = λ k e. sym (as_new g new t k same h (was.within.rows k e));
         columns = λ k e. sym (as_new g new t k same h (was.within.columns k e));
       };
-      met = λ k c e. met_stays w.puzzle.width g new t lines learned k c same h was.extends was.within theirs apart (noted_known w k number c some e) (was.met k c e);
+      met = λ k c e. met_stays w.puzzle.width g new t lines learned k c same h was.extends was.within theirs apart
+          (noted_known w k number c some e) (was.met k c e);
     }
 
 cell-antisym : (a b : Cell) → CellExtends a b → CellExtends b a → a ≡ b
 cell-antisym a b h k = first_of a b [] [] (Extends-antisym (a ∷ []) (b ∷ []) (h, tt) (k, tt))
 
-squeezed : (a b c : List Cell) (k : ℕ) → Extends a b → Extends b c → get_or a k Unknown ≡ get_or c k Unknown → get_or b k Unknown ≡ get_or c k Unknown
+squeezed : (a b c : List Cell) (k : ℕ) → Extends a b → Extends b c → get_or a k Unknown ≡ get_or c k Unknown →
+    get_or b k Unknown ≡ get_or c k Unknown
 squeezed a b c k h l same =
-    cell-antisym (get_or b k Unknown) (get_or c k Unknown) (Extends-at b c k l) (subst (λ (q : Cell). CellExtends q (get_or b k Unknown)) same (Extends-at a b k h))
+    cell-antisym (get_or b k Unknown) (get_or c k Unknown) (Extends-at b c k l)
+    (subst (λ (q : Cell). CellExtends q (get_or b k Unknown)) same (Extends-at a b k h))
 
 cell_itself : (c : Cell) → CellExtends c c
 cell_itself c = Extends-at (c ∷ []) (c ∷ []) 0 (Extends-refl (c ∷ []))
 
 -- A witness stays one where it has the colour of the cell that was settled: so it knows all that was learned from it.
-holding_stays : (w : WitnessedPuzzle) (g new : List Cell) (number place : ℕ) (c : Cell) → closure (lines_of w.puzzle) (set g place c) ≡ Some new → Extends g new
+holding_stays : (w : WitnessedPuzzle) (g new : List Cell) (number place : ℕ) (c : Cell) →
+    closure (lines_of w.puzzle) (set g place c) ≡ Some new → Extends g new
     → get_or (met_by w c) place 0 ≡ number → IsWitness w g number → IsWitness w new number
 holding_stays w g new number place c e h noted was =
     let t = was.trial in
     let lines = lines_of w.puzzle in
-    let with_it : Extends (set g place c) t = set_within g t place c was.extends (subst (λ (q : Cell). CellExtends c q) (sym (was.met place c noted)) (cell_itself c)) in
+    let with_it : Extends (set g place c) t =
+    set_within g t place c was.extends (subst (λ (q : Cell). CellExtends c q) (sym (was.met place c noted)) (cell_itself c)) in
     let more : Extends new t = rw e at ((closure-IsLeastClosed lines (set g place c)).least t was.closed with_it) in
     record {
       trial = t;
@@ -234,23 +263,27 @@ holding_stays w g new number place c e h noted was =
 
 -- ---- what was learned, by the places that lead back
 
-elsewhere : (cells : List Cell) (ks : List ℕ) (k : ℕ) → ((j : ℕ) → j < length ks → get_or ks j 0 ≢ k) → get_or (cleared cells ks) k Unknown ≡ get_or cells k Unknown
+elsewhere : (cells : List Cell) (ks : List ℕ) (k : ℕ) → ((j : ℕ) → j < length ks → get_or ks j 0 ≢ k) →
+    get_or (cleared cells ks) k Unknown ≡ get_or cells k Unknown
 elsewhere cells [] k h = refl
 elsewhere cells (q ∷ ks) k h =
     let ne : k ≢ q = (λ e. h 0 (omega arith) (sym e)) in
     get_or-set_other (cleared cells ks) q k Unknown Unknown ne ∙ elsewhere cells ks k (λ j l. h (suc j) (omega arith))
 
 -- the lines of the places that lead back are those where the grids differ
-pub cleared_within : (width : ℕ) (cells : List Cell) (ks : List ℕ) (lines : Crossed) → ((j : ℕ) → j < length ks → IsCrossed lines width (get_or ks j 0)) → DifferWithin width (cleared cells ks) cells lines
+pub cleared_within : (width : ℕ) (cells : List Cell) (ks : List ℕ) (lines : Crossed) →
+    ((j : ℕ) → j < length ks → IsCrossed lines width (get_or ks j 0)) → DifferWithin width (cleared cells ks) cells lines
 cleared_within width cells ks lines crossed = record {
   rows = λ k e. elsewhere cells ks k (λ j l s. true≢false (sym ((crossed j l).0) ∙ ap (λ (q : ℕ). has_side lines.rows (q / width)) s ∙ e));
-  columns = λ k e. elsewhere cells ks k (λ j l s. true≢false (sym ((crossed j l).1) ∙ ap (λ (q : ℕ). has_side lines.columns (q % width)) s ∙ e));
+  columns = λ k e. elsewhere cells ks k (λ j l s. true≢false (sym ((crossed j l).1) ∙
+      ap (λ (q : ℕ). has_side lines.columns (q % width)) s ∙ e));
 }
 
 -- ---- the steps of the program
 
 -- what a mark says
-mark_is : (w : WitnessedPuzzle) (k : ℕ) (c : Cell) → AreNumbered w → get_or (open_marks w c) k false ≡ (witness_at w.witnesses (get_or (met_by w c) k 0)).counts
+mark_is : (w : WitnessedPuzzle) (k : ℕ) (c : Cell) → AreNumbered w →
+    get_or (open_marks w c) k false ≡ (witness_at w.witnesses (get_or (met_by w c) k 0)).counts
 mark_is w k c n =
     let f : ℕ → Bool = (λ number. (witness_at w.witnesses number).counts) in
     ap (λ (d : Bool). get_or (open_marks w c) k d) (sym n.none) ∙ get_or-map f (met_by w c) k 0
@@ -275,9 +308,12 @@ with_colours w cells n size each = record {
         met_open (lines_of w.puzzle) cells was.trial k c was.closed was.extends (was.met k c refl)
 
 -- one witness, after the grid learned more
-kept_witness : (w : WitnessedPuzzle) (after : List Witness) (g new : List Cell) (learned : Crossed) (holder place : ℕ) (c : Cell) (number : ℕ) → AreNumbered w → length g ≡ w.puzzle.width * w.puzzle.height
-    → closure (lines_of w.puzzle) (set g place c) ≡ Some new → Extends g new → DifferWithin w.puzzle.width g new learned → AreWitnesses w g → holder ≡ get_or (met_by w c) place 0
-    → IsKept learned (number ≡ holder) (witness_at w.witnesses number) (witness_at after number) → (witness_at after number).counts ≡ true → IsWitness (record w { witnesses = after }) new number
+kept_witness : (w : WitnessedPuzzle) (after : List Witness) (g new : List Cell) (learned : Crossed) (holder place : ℕ) (c : Cell)
+    (number : ℕ) → AreNumbered w → length g ≡ w.puzzle.width * w.puzzle.height
+    → closure (lines_of w.puzzle) (set g place c) ≡ Some new → Extends g new → DifferWithin w.puzzle.width g new learned →
+    AreWitnesses w g → holder ≡ get_or (met_by w c) place 0
+    → IsKept learned (number ≡ holder) (witness_at w.witnesses number) (witness_at after number) →
+    (witness_at after number).counts ≡ true → IsWitness (record w { witnesses = after }) new number
 kept_witness w after g new learned holder place c number n size e h differ are held kept counts =
     let p = w.puzzle in
     let before = kept.counts counts in
@@ -301,8 +337,10 @@ past : (witnesses : List Witness) (number : ℕ) → length witnesses ≤ number
 past witnesses number l counts = true≢false (sym counts ∙ ap (λ (q : Witness). q.counts) (get_or_past witnesses number no_witness l))
 
 -- numbers stay those of witnesses
-pub kept_numbered : (w : WitnessedPuzzle) (after : List Witness) (learned : Crossed) (holder : ℕ) → AreNumbered w → length after ≡ length w.witnesses
-    → ((i : ℕ) → i < length w.witnesses → IsKept learned (i ≡ holder) (witness_at w.witnesses i) (witness_at after i)) → AreNumbered (record w { witnesses = after })
+pub kept_numbered : (w : WitnessedPuzzle) (after : List Witness) (learned : Crossed) (holder : ℕ) → AreNumbered w →
+    length after ≡ length w.witnesses
+    → ((i : ℕ) → i < length w.witnesses → IsKept learned (i ≡ holder) (witness_at w.witnesses i) (witness_at after i)) →
+    AreNumbered (record w { witnesses = after })
 kept_numbered w after learned holder n same kept = record {
   puzzle = n.puzzle;
   filled_count = n.filled_count;
@@ -316,18 +354,23 @@ kept_numbered w after learned holder n same kept = record {
     by false e = e
 
 -- the witnesses after the grid learned more
-pub kept_witnesses : (w : WitnessedPuzzle) (after : List Witness) (g new : List Cell) (learned : Crossed) (holder place : ℕ) (c : Cell) → AreNumbered w → length g ≡ w.puzzle.width * w.puzzle.height
-    → closure (lines_of w.puzzle) (set g place c) ≡ Some new → Extends g new → DifferWithin w.puzzle.width g new learned → AreWitnesses w g → holder ≡ get_or (met_by w c) place 0 → length after ≡ length w.witnesses
-    → ((i : ℕ) → i < length w.witnesses → IsKept learned (i ≡ holder) (witness_at w.witnesses i) (witness_at after i)) → AreWitnesses (record w { witnesses = after }) new
+pub kept_witnesses : (w : WitnessedPuzzle) (after : List Witness) (g new : List Cell) (learned : Crossed) (holder place : ℕ) (c : Cell) →
+    AreNumbered w → length g ≡ w.puzzle.width * w.puzzle.height
+    → closure (lines_of w.puzzle) (set g place c) ≡ Some new → Extends g new → DifferWithin w.puzzle.width g new learned →
+    AreWitnesses w g → holder ≡ get_or (met_by w c) place 0 → length after ≡ length w.witnesses
+    → ((i : ℕ) → i < length w.witnesses → IsKept learned (i ≡ holder) (witness_at w.witnesses i) (witness_at after i)) →
+    AreWitnesses (record w { witnesses = after }) new
 kept_witnesses w after g new learned holder place c n size e h differ are held same kept =
-    with_colours (record w { witnesses = after }) new (kept_numbered w after learned holder n same kept) (sym (length-Extends g new h) ∙ size)
+    with_colours (record w { witnesses = after }) new (kept_numbered w after learned holder n same kept) (sym (length-Extends g new h) ∙
+    size)
     (λ number counts. elim (before_or_from number (length w.witnesses)) [
       | inl low ↦ kept_witness w after g new learned holder place c number n size e h differ are held (kept number low) counts
       | inr high ↦ absurd (past after number (omega (arith, same)) counts)
     ])
 
 -- with one witness more the numbers are those of witnesses
-pub added_numbered : (w : WitnessedPuzzle) (last : Witness) → AreNumbered w → AreNumbered (record w { witnesses = w.witnesses ++ last ∷ [] })
+pub added_numbered : (w : WitnessedPuzzle) (last : Witness) → AreNumbered w →
+    AreNumbered (record w { witnesses = w.witnesses ++ last ∷ [] })
 added_numbered w last n = record {
   puzzle = n.puzzle;
   filled_count = n.filled_count;
@@ -337,36 +380,60 @@ added_numbered w last n = record {
 }
 
 -- a number noted at a place where a trial has the colour
-pub meets-filled : (w : WitnessedPuzzle) (place number : ℕ) (trial : List Cell) → place < length w.fillable → get_or trial place Unknown ≡ Filled
+pub meets-filled : (w : WitnessedPuzzle) (place number : ℕ) (trial : List Cell) → place < length w.fillable →
+    get_or trial place Unknown ≡ Filled
     → AddsMet w (record w { fillable = set w.fillable place number }) number trial
-meets-filled w place number trial h e = record { puzzle = refl; witnesses = refl; filled_count = length-set w.fillable place number; blank_count = refl; met = by }
+meets-filled w place number trial h e = record {
+  puzzle = refl;
+  witnesses = refl;
+  filled_count = length-set w.fillable place number;
+  blank_count = refl;
+  met = by;
+}
   where
-    by : (k : ℕ) (colour : Cell) → (get_or (met_by (record w { fillable = set w.fillable place number }) colour) k 0 ≡ get_or (met_by w colour) k 0)
+    by : (k : ℕ) (colour : Cell) → (get_or (met_by (record w { fillable = set w.fillable place number }) colour) k 0 ≡
+        get_or (met_by w colour) k 0)
         ⊎ ((get_or (met_by (record w { fillable = set w.fillable place number }) colour) k 0 ≡ number) × (get_or trial k Unknown ≡ colour))
     by k Unknown = inl refl
     by k Filled =
         elim (same_or_not k place) [
-          | inl same ↦ inr (ap (λ (q : ℕ). get_or (set w.fillable place number) q 0) same ∙ get_or-set_same w.fillable place number 0 h, ap (λ (q : ℕ). get_or trial q Unknown) same ∙ e)
+          | inl same ↦ inr (
+            ap (λ (q : ℕ). get_or (set w.fillable place number) q 0) same ∙ get_or-set_same w.fillable place number 0 h,
+            ap (λ (q : ℕ). get_or trial q Unknown) same ∙ e,
+          )
           | inr other ↦ inl (get_or-set_other w.fillable place k number 0 other)
         ]
     by k Blank = inl refl
 
-pub meets-blank : (w : WitnessedPuzzle) (place number : ℕ) (trial : List Cell) → place < length w.blankable → get_or trial place Unknown ≡ Blank
+pub meets-blank : (w : WitnessedPuzzle) (place number : ℕ) (trial : List Cell) → place < length w.blankable →
+    get_or trial place Unknown ≡ Blank
     → AddsMet w (record w { blankable = set w.blankable place number }) number trial
-meets-blank w place number trial h e = record { puzzle = refl; witnesses = refl; filled_count = refl; blank_count = length-set w.blankable place number; met = by }
+meets-blank w place number trial h e = record {
+  puzzle = refl;
+  witnesses = refl;
+  filled_count = refl;
+  blank_count = length-set w.blankable place number;
+  met = by;
+}
   where
-    by : (k : ℕ) (colour : Cell) → (get_or (met_by (record w { blankable = set w.blankable place number }) colour) k 0 ≡ get_or (met_by w colour) k 0)
-        ⊎ ((get_or (met_by (record w { blankable = set w.blankable place number }) colour) k 0 ≡ number) × (get_or trial k Unknown ≡ colour))
+    by : (k : ℕ) (colour : Cell) → (get_or (met_by (record w { blankable = set w.blankable place number }) colour) k 0 ≡
+        get_or (met_by w colour) k 0)
+        ⊎ ((get_or (met_by (record w { blankable = set w.blankable place number }) colour) k 0 ≡ number) ×
+        (get_or trial k Unknown ≡ colour))
     by k Unknown = inl refl
     by k Filled = inl refl
     by k Blank =
         elim (same_or_not k place) [
-          | inl same ↦ inr (ap (λ (q : ℕ). get_or (set w.blankable place number) q 0) same ∙ get_or-set_same w.blankable place number 0 h, ap (λ (q : ℕ). get_or trial q Unknown) same ∙ e)
+          | inl same ↦ inr (
+            ap (λ (q : ℕ). get_or (set w.blankable place number) q 0) same ∙ get_or-set_same w.blankable place number 0 h,
+            ap (λ (q : ℕ). get_or trial q Unknown) same ∙ e,
+          )
           | inr other ↦ inl (get_or-set_other w.blankable place k number 0 other)
         ]
 
 -- noted numbers of a witness are those of witnesses
-pub more_numbered : (w new : WitnessedPuzzle) (number : ℕ) (trial : List Cell) → AreNumbered w → number < length w.witnesses → AddsMet w new number trial → AreNumbered new
+pub more_numbered : (w new : WitnessedPuzzle) (number : ℕ) (trial : List Cell) → AreNumbered w → number < length w.witnesses →
+    AddsMet w new number trial → AreNumbered new
 more_numbered w new number trial n l adds = record {
   puzzle = subst IsNonogram (sym adds.puzzle) n.puzzle;
   filled_count = adds.filled_count ∙ n.filled_count ∙ ap (λ (p : Nonogram). p.width * p.height) (sym adds.puzzle);
@@ -379,19 +446,25 @@ more_numbered w new number trial n l adds = record {
 }
 
 -- the witnesses with one more, which met colours
-pub added_witnesses : (w new : WitnessedPuzzle) (g trial : List Cell) (last : Witness) → AreNumbered w → length g ≡ w.puzzle.width * w.puzzle.height → round (lines_of w.puzzle) trial ≡ Some trial
-    → Extends g trial → DifferWithin w.puzzle.width g trial last.lines → AreWitnesses w g → AddsMet (record w { witnesses = w.witnesses ++ last ∷ [] }) new (length w.witnesses) trial → AreWitnesses new g
+pub added_witnesses : (w new : WitnessedPuzzle) (g trial : List Cell) (last : Witness) → AreNumbered w →
+    length g ≡ w.puzzle.width * w.puzzle.height → round (lines_of w.puzzle) trial ≡ Some trial
+    → Extends g trial → DifferWithin w.puzzle.width g trial last.lines → AreWitnesses w g →
+    AddsMet (record w { witnesses = w.witnesses ++ last ∷ [] }) new (length w.witnesses) trial → AreWitnesses new g
 added_witnesses w new g trial last n size closed h differ are adds =
-    with_colours new g (more_numbered (record w { witnesses = w.witnesses ++ last ∷ [] }) new (length w.witnesses) trial (added_numbered w last n) (omega (arith, length-append w.witnesses (last ∷ []))) adds) (size ∙ ap (λ (p : Nonogram). p.width * p.height) (sym adds.puzzle))
+    with_colours new g (more_numbered (record w { witnesses = w.witnesses ++ last ∷ [] }) new (length w.witnesses) trial
+    (added_numbered w last n) (omega (arith, length-append w.witnesses (last ∷ []))) adds)
+    (size ∙ ap (λ (p : Nonogram). p.width * p.height) (sym adds.puzzle))
     (λ number counts. elim (before_or_from number (length w.witnesses)) [
       | inl low ↦ before number low counts
       | inr high ↦
-          (let few : number < length new.witnesses = elim (before_or_from number (length new.witnesses)) [ inl l ↦ l | inr l ↦ absurd (past new.witnesses number l counts) ] in
+          (let few : number < length new.witnesses =
+          elim (before_or_from number (length new.witnesses)) [ inl l ↦ l | inr l ↦ absurd (past new.witnesses number l counts) ] in
           let own : number ≡ length w.witnesses = omega (arith, ap length adds.witnesses, length-append w.witnesses (last ∷ [])) in
           subst (IsWitness new g) (sym own) itself)
     ])
   where
-    lines_are : (number : ℕ) (of : Witness) → witness_at (w.witnesses ++ last ∷ []) number ≡ of → (witness_at new.witnesses number).lines ≡ of.lines
+    lines_are : (number : ℕ) (of : Witness) → witness_at (w.witnesses ++ last ∷ []) number ≡ of →
+        (witness_at new.witnesses number).lines ≡ of.lines
     lines_are number of e = ap (λ (ws : List Witness). (witness_at ws number).lines) adds.witnesses ∙ ap (λ (q : Witness). q.lines) e
 
     itself : IsWitness new g (length w.witnesses)
@@ -401,7 +474,8 @@ added_witnesses w new g trial last n size closed h differ are adds =
       extends = h;
       within =
           subst (λ (p : Nonogram). DifferWithin p.width g trial ((witness_at new.witnesses (length w.witnesses)).lines)) (sym adds.puzzle)
-          (subst (λ (lines : Crossed). DifferWithin w.puzzle.width g trial lines) (sym (lines_are (length w.witnesses) last (get_or-append_seam w.witnesses last [] no_witness))) differ);
+          (subst (λ (lines : Crossed). DifferWithin w.puzzle.width g trial lines)
+          (sym (lines_are (length w.witnesses) last (get_or-append_seam w.witnesses last [] no_witness))) differ);
       met = λ k c e. elim (adds.met k c) [
         | inl old ↦ (let low = n.within k c in absurd (omega (arith, old, e)))
         | inr met ↦ met.1
@@ -410,15 +484,18 @@ added_witnesses w new g trial last n size closed h differ are adds =
 
     before : (number : ℕ) → number < length w.witnesses → (witness_at new.witnesses number).counts ≡ true → IsWitness new g number
     before number low counts =
-        let at : witness_at (w.witnesses ++ last ∷ []) number ≡ witness_at w.witnesses number = get_or_append_left w.witnesses (last ∷ []) no_witness number low in
-        let was = are.each number (sym (ap (λ (ws : List Witness). (witness_at ws number).counts) adds.witnesses ∙ ap (λ (q : Witness). q.counts) at) ∙ counts) in
+        let at : witness_at (w.witnesses ++ last ∷ []) number ≡ witness_at w.witnesses number =
+        get_or_append_left w.witnesses (last ∷ []) no_witness number low in
+        let was = are.each number (sym (ap (λ (ws : List Witness). (witness_at ws number).counts) adds.witnesses ∙
+        ap (λ (q : Witness). q.counts) at) ∙ counts) in
         record {
           trial = was.trial;
           closed = subst (λ (p : Nonogram). round (lines_of p) was.trial ≡ Some was.trial) (sym adds.puzzle) was.closed;
           extends = was.extends;
           within =
               subst (λ (p : Nonogram). DifferWithin p.width g was.trial ((witness_at new.witnesses number).lines)) (sym adds.puzzle)
-              (subst (λ (lines : Crossed). DifferWithin w.puzzle.width g was.trial lines) (sym (lines_are number (witness_at w.witnesses number) at)) was.within);
+              (subst (λ (lines : Crossed). DifferWithin w.puzzle.width g was.trial lines)
+              (sym (lines_are number (witness_at w.witnesses number) at)) was.within);
           met = λ k c e. elim (adds.met k c) [
             | inl old ↦ was.met k c (sym old ∙ e)
             | inr met ↦ absurd (omega (arith, met.0, e))
@@ -426,17 +503,23 @@ added_witnesses w new g trial last n size closed h differ are adds =
         }
 
 -- where no witness but the first is left the numbers are those of witnesses, and none counts
-pub no_witnesses : (w : WitnessedPuzzle) (cells : List Cell) → AreNumbered w → length cells ≡ w.puzzle.width * w.puzzle.height → length w.witnesses ≤ 1 → AreWitnesses w cells
+pub no_witnesses : (w : WitnessedPuzzle) (cells : List Cell) → AreNumbered w → length cells ≡ w.puzzle.width * w.puzzle.height →
+    length w.witnesses ≤ 1 → AreWitnesses w cells
 no_witnesses w cells n size few = with_colours w cells n size (λ number counts. elim (before_or_from number 1) [
-  | inl low ↦ (let first : number ≡ 0 = omega arith in absurd (true≢false (sym counts ∙ ap (λ (q : ℕ). (witness_at w.witnesses q).counts) first ∙ n.none)))
+  | inl low ↦ (let first : number ≡ 0 = omega arith in
+      absurd (true≢false (sym counts ∙ ap (λ (q : ℕ). (witness_at w.witnesses q).counts) first ∙ n.none)))
   | inr high ↦ absurd (past w.witnesses number (omega arith) counts)
 ])
 
 zeros : (n k : ℕ) → let none : ℕ = 0 in get_or (replicate n none) k none ≡ none
-zeros n k = let none : ℕ = 0 in elim (before_or_from k n) [ inl l ↦ get_or-replicate n k none none l | inr l ↦ get_or_past (replicate n none) k none (omega (arith, length-replicate n none)) ]
+zeros n k = let none : ℕ = 0 in elim (before_or_from k n) [
+  | inl l ↦ get_or-replicate n k none none l
+  | inr l ↦ get_or_past (replicate n none) k none (omega (arith, length-replicate n none))
+]
 
 -- the numbers where all but the first witness were dropped
-pub forgotten : (w : WitnessedPuzzle) (fillable blankable : List ℕ) → AreNumbered w → fillable ≡ replicate (length w.fillable) 0 → blankable ≡ replicate (length w.blankable) 0
+pub forgotten : (w : WitnessedPuzzle) (fillable blankable : List ℕ) → AreNumbered w → fillable ≡ replicate (length w.fillable) 0 →
+    blankable ≡ replicate (length w.blankable) 0
     → AreNumbered (record w { witnesses = take 1 w.witnesses; fillable = fillable; blankable = blankable })
 forgotten w fillable blankable n filled blank = record {
   puzzle = n.puzzle;
@@ -449,7 +532,10 @@ forgotten w fillable blankable n filled blank = record {
     some : 0 < length (take 1 w.witnesses)
     some = let first = n.within 0 Unknown in omega (arith, length-take-le 1 w.witnesses (omega arith))
 
-    by : (k : ℕ) (c : Cell) → get_or (met_by (record w { witnesses = take 1 w.witnesses; fillable = fillable; blankable = blankable }) c) k 0 < length (take 1 w.witnesses)
+    by : (k : ℕ) (c : Cell) → get_or (met_by (record w { witnesses = take 1 w.witnesses; fillable = fillable; blankable = blankable }) c)
+        k 0 < length (take 1 w.witnesses)
     by k Unknown = some
-    by k Filled = let here : get_or fillable k 0 ≡ 0 = ap (λ (ks : List ℕ). get_or ks k 0) filled ∙ zeros (length w.fillable) k in omega (arith, here, some)
-    by k Blank = let here : get_or blankable k 0 ≡ 0 = ap (λ (ks : List ℕ). get_or ks k 0) blank ∙ zeros (length w.blankable) k in omega (arith, here, some)
+    by k Filled = let here : get_or fillable k 0 ≡ 0 = ap (λ (ks : List ℕ). get_or ks k 0) filled ∙ zeros (length w.fillable) k in
+        omega (arith, here, some)
+    by k Blank = let here : get_or blankable k 0 ≡ 0 = ap (λ (ks : List ℕ). get_or ks k 0) blank ∙ zeros (length w.blankable) k in
+        omega (arith, here, some)

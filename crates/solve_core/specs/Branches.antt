@@ -45,7 +45,8 @@ abbrev pub AreBefore : ℕ → List Branch → Type 0
 AreBefore limit branches = AllByRecursion (λ (branch : Branch). branch.mark < limit) branches
 
 -- The branches are in the order in which they were made, and each one's guess was the next one.
-pub record IsWork (pick : List Cell → Option ℕ) (lines : List GridLine) (cells : List Cell) (trail : List ℕ) (branches : List Branch) : Type 0 where
+pub record IsWork (pick : List Cell → Option ℕ) (lines : List GridLine) (cells : List Cell) (trail : List ℕ)
+    (branches : List Branch) : Type 0 where
   pub before : AreBefore (length trail + 1) branches
   pub order : AreInOrder branches
   pub made : AllByRecursion (IsBranch pick lines cells trail) branches
@@ -59,7 +60,8 @@ AreOlder trail branches (Some k) = AreBefore (length trail) branches
 abbrev pub pending : (List Cell → Option ℕ) → List GridLine → List Cell → List ℕ → List Branch → List Event
 pending pick lines cells trail [] = []
 pending pick lines cells trail (branch ∷ branches) =
-    pending pick lines cells trail branches ++ (Guess ∷ events pick lines (slice_set (cells_before cells trail branch.mark) branch.place Blank))
+    pending pick lines cells trail branches ++
+    (Guess ∷ events pick lines (slice_set (cells_before cells trail branch.mark) branch.place Blank))
 
 -- what is still to happen: the two guesses of the cell to guess, if any, and then the rest
 abbrev pub open_events : (List Cell → Option ℕ) → List GridLine → List Cell → Option ℕ → List Event → List Event

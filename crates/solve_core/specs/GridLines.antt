@@ -14,5 +14,7 @@ cells_of_rows (row ∷ rows) = row ++ cells_of_rows rows
 pub record AreLinesOf (cells : List Cell) (rows columns : List (List Cell)) : Type 0 where
   pub size : IsSize (length columns) (length rows)
   pub count : length cells ≡ length columns * length rows
-  pub rows_are : (y : ℕ) → y < length rows → slice_index_or rows y [] ≡ cells_at Unknown cells (places_from (y * length columns) 1 (length columns))
-  pub columns_are : (x : ℕ) → x < length columns → slice_index_or columns x [] ≡ cells_at Unknown cells (places_from x (length columns) (length rows))
+  pub rows_are : (y : ℕ) → y < length rows → slice_index_or rows y [] ≡
+      cells_at Unknown cells (places_from (y * length columns) 1 (length columns))
+  pub columns_are : (x : ℕ) → x < length columns → slice_index_or columns x [] ≡
+      cells_at Unknown cells (places_from x (length columns) (length rows))

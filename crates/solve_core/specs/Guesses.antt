@@ -18,15 +18,18 @@ abbrev pub owed : (List Cell → Option ℕ) → Nonogram → List Branch → Tr
 owed pick p branches g next = open_events pick (lines_of p) g.cells next (owed_by pick p branches g)
 
 -- the search can go on: each branch's guess was the next one of its cells, and so is that of the cell to guess, if any
-pub record IsUnderWay (pick : List Cell → Option ℕ) (p : Nonogram) (branches : List Branch) (g : TrailedGrid) (next : Option ℕ) : Type 0 where
+pub record IsUnderWay (pick : List Cell → Option ℕ) (p : Nonogram) (branches : List Branch) (g : TrailedGrid)
+    (next : Option ℕ) : Type 0 where
   pub work : IsWork pick (lines_of p) g.cells g.trail branches
   pub older : AreOlder g.trail branches next
   pub next_open : IsOpen pick (lines_of p) g.cells next
 
 -- A guess of which these events come was made. The search is under way, and it ends with what it has found and owes then as with what it had
 -- found, these events, and what the branches owed. No more is owed.
-pub record GoesOn (pick : List Cell → Option ℕ) (p : Nonogram) (es : List Event) (branches : List Branch) (old : TrailedGrid) (before : List PartialGrid)
+pub record GoesOn (pick : List Cell → Option ℕ) (p : Nonogram) (es : List Event) (branches : List Branch) (old : TrailedGrid)
+    (before : List PartialGrid)
     (new : TrailedGrid) (after : List PartialGrid) (next : Option ℕ) : Type 0 where
   pub under_way : IsUnderWay pick p branches new next
-  pub ends : (spent left : ℕ) → ending p after spent left (owed pick p branches new next) ≡ ending p before spent left (es ++ owed_by pick p branches old)
+  pub ends : (spent left : ℕ) → ending p after spent left (owed pick p branches new next) ≡
+      ending p before spent left (es ++ owed_by pick p branches old)
   pub fewer : length (owed pick p branches new next) ≤ length (es ++ owed_by pick p branches old)

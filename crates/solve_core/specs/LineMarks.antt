@@ -26,7 +26,8 @@ pub record AreMarks (most height width rows columns : ℕ) : Type 0 where
 -- the lines that cross these places were marked where something holds of them, and no others; no mark was taken away
 pub record MarksPlaces (places : Places) (P : ℕ → Type 0) (before after : List Bool) : Type 0 where
   pub kept : (n : ℕ) → slice_index_or after n false ≡ false → slice_index_or before n false ≡ false
-  pub others : (n : ℕ) → (places.crossing ≤ n → places.crossing + places.count ≤ n) → slice_index_or after n false ≡ slice_index_or before n false
+  pub others : (n : ℕ) → (places.crossing ≤ n → places.crossing + places.count ≤ n) →
+      slice_index_or after n false ≡ slice_index_or before n false
   pub marked : (i : ℕ) → i < places.count → slice_index_or after (places.crossing + i) false ≡ false → P i → ⊥
 
 -- the first marked line of a range, if there is one

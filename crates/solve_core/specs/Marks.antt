@@ -39,7 +39,8 @@ IsLearned Changed line old new = IsWritten line old new × (unknown_count new < 
 -- no mark was taken away, only lines that cross at these places were marked, and each of them where the cell there changed
 pub record MarksChanges (places : Places) (old new : List Cell) (before after : List Bool) : Type 0 where
   pub kept : (n : ℕ) → slice_index_or after n false ≡ false → slice_index_or before n false ≡ false
-  pub others : (n : ℕ) → (places.crossing ≤ n → places.crossing + places.count ≤ n) → slice_index_or after n false ≡ slice_index_or before n false
+  pub others : (n : ℕ) → (places.crossing ≤ n → places.crossing + places.count ≤ n) →
+      slice_index_or after n false ≡ slice_index_or before n false
   pub same : (i : ℕ) → i < places.count → slice_index_or after (places.crossing + i) false ≡ false
       → slice_index_or new (places.first + i * places.step) Unknown ≡ slice_index_or old (places.first + i * places.step) Unknown
 

@@ -25,7 +25,8 @@ is_below_sure width cells k = is_sure (nat_le (length cells) (k + width)) (slice
 -- how many of a cell's four neighbours are known or outside the grid
 abbrev pub sure_neighbours : ℕ → List Cell → ℕ → ℕ
 sure_neighbours width cells k =
-    cond (is_left_sure width cells k) 1 0 + cond (is_right_sure width cells k) 1 0 + cond (is_above_sure width cells k) 1 0 + cond (is_below_sure width cells k) 1 0
+    cond (is_left_sure width cells k) 1 0 + cond (is_right_sure width cells k) 1 0 + cond (is_above_sure width cells k) 1 0 + cond
+    (is_below_sure width cells k) 1 0
 
 -- the earlier one of two places, unless more counts for the later one
 abbrev pub better : (ℕ → ℕ) → ℕ → Option ℕ → Option ℕ
@@ -35,7 +36,8 @@ better score k (Some j) = cond (nat_le (score j) (score k)) (Some k) (Some j)
 -- of so many places from a given one on, the one that passes a test and for which the most counts, and of several the first
 abbrev pub first_most : (ℕ → ℕ) → (ℕ → Bool) → ℕ → ℕ → Option ℕ
 first_most score passes start zero = None
-first_most score passes start (suc n) = cond (passes start) (better score start (first_most score passes (start + 1) n)) (first_most score passes (start + 1) n)
+first_most score passes start (suc n) = cond (passes start) (better score start (first_most score passes (start + 1) n))
+    (first_most score passes (start + 1) n)
 
 -- the unknown cell of whose neighbours the most are known or outside the grid, and of several the first in row order
 abbrev pub most_known : ℕ → List Cell → Option ℕ

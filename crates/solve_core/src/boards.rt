@@ -31,7 +31,12 @@ impl<W: LineSet> Model for Board<W> {
 
     ghost view = { λ b. record { width = b.lines.width; height = b.lines.height; cells = b.lines.cells; trail = b.trail.items } };
 
-    ghost invariant = { λ b. IsBoard (record { width = b.lines.width; height = b.lines.height; cells = b.lines.cells; trail = b.trail.items }) (vec_capacity b.trail) };
+    ghost invariant = { λ b. IsBoard (record {
+      width = b.lines.width;
+      height = b.lines.height;
+      cells = b.lines.cells;
+      trail = b.trail.items;
+    }) (vec_capacity b.trail) };
 }
 
 impl<W: LineSet> Board<W> {

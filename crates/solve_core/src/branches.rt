@@ -29,13 +29,16 @@ pub(crate) fn next_guess<W: LineSet>(
     requires next { IfSome next (λ place. (place < length board.old.cells) × (slice_index_or board.old.cells place Unknown ≡ Unknown)) }
     requires older { next ≢ None → length branches.old.items ≤ length board.old.trail }
     requires room { length board.old.cells ≤ vec_capacity branches.old }
-    ensures events { (rule : List CellValue → Option ℕ) (lines : List GridLine) → IsWork rule lines board.old.cells board.old.trail branches.old.items →
+    ensures events { (rule : List CellValue → Option ℕ) (lines : List GridLine) →
+        IsWork rule lines board.old.cells board.old.trail branches.old.items →
         open_events rule lines board.old.cells next (pending rule lines board.old.cells board.old.trail branches.old.items)
         ≡ ready_events rule lines board.new.cells result (pending rule lines board.new.cells board.new.trail branches.new.items) }
-    ensures work { (rule : List CellValue → Option ℕ) (lines : List GridLine) → IsWork rule lines board.old.cells board.old.trail branches.old.items →
+    ensures work { (rule : List CellValue → Option ℕ) (lines : List GridLine) →
+        IsWork rule lines board.old.cells board.old.trail branches.old.items →
         AreOlder board.old.trail branches.old.items next → IsOpen rule lines board.old.cells next →
         IsWork rule lines board.new.cells board.new.trail branches.new.items }
-    ensures ready { (rule : List CellValue → Option ℕ) (lines : List GridLine) → IsWork rule lines board.old.cells board.old.trail branches.old.items →
+    ensures ready { (rule : List CellValue → Option ℕ) (lines : List GridLine) →
+        IsWork rule lines board.old.cells board.old.trail branches.old.items →
         IsOpen rule lines board.old.cells next → IsReady rule lines board.new.cells result }
     ensures colour { IfSome result (λ guess. is_known guess.1 ≡ true) }
     ensures width { board.new.width ≡ board.old.width }

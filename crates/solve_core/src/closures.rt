@@ -58,7 +58,8 @@ impl<'p, W: LineSet> Model for Closer<'p, W> {
 
     ghost view = { λ c. record { puzzle = c.puzzle.now; marks = c.marks.list } };
 
-    ghost invariant = { λ c. IsNonogram c.puzzle.now × (c.deductions ≡ c.puzzle.now) × (length c.marks.list ≡ line_count c.puzzle.now) × (c.marks.height ≡ c.puzzle.now.height) };
+    ghost invariant = { λ c. IsNonogram c.puzzle.now × (c.deductions ≡ c.puzzle.now) × (length c.marks.list ≡ line_count c.puzzle.now) ×
+        (c.marks.height ≡ c.puzzle.now.height) };
 }
 
 /// Writes what is certain of line n, and marks the lines that cross it at the cells that it learned.
@@ -74,7 +75,8 @@ fn learn_line<W: LineSet>(
     requires marks { length marks.old.list ≡ line_count deductions.old }
     requires height { marks.old.height ≡ deductions.old.height }
     ensures learned { IsLearned result (line_at deductions.old n) board.old.cells board.new.cells }
-    ensures marks { MarksChanges (places_in deductions.old.width deductions.old.height n) board.old.cells board.new.cells marks.old.list marks.new.list }
+    ensures marks { MarksChanges (places_in deductions.old.width deductions.old.height n) board.old.cells board.new.cells marks.old.list
+        marks.new.list }
     ensures same { result ≡ Same → marks.new ≡ marks.old }
     ensures count { length marks.new.list ≡ length marks.old.list }
     ensures height { marks.new.height ≡ marks.old.height }

@@ -105,7 +105,8 @@ fn copy_lines<W: LineSet>(lines: &mut [LineOf<W>], others: &[LineOf<W>])
 /// The places of which the cell of the row above row y is known, or all if there is no row above.
 fn sure_above<W: LineSet>(rows: &[LineOf<W>], y: usize) -> W
     requires { y < length rows.now }
-    ensures { (x : ℕ) → x < length (slice_index_or rows.now y []) → has (W.number result) x ≡ is_sure (nat_eq y 0) (slice_index_or (slice_index_or rows.now (y - 1) []) x Unknown) }
+    ensures { (x : ℕ) → x < length (slice_index_or rows.now y []) →
+        has (W.number result) x ≡ is_sure (nat_eq y 0) (slice_index_or (slice_index_or rows.now (y - 1) []) x Unknown) }
 {
     if y == 0 {
         places(rows[y].len())
@@ -117,7 +118,8 @@ fn sure_above<W: LineSet>(rows: &[LineOf<W>], y: usize) -> W
 /// The places of which the cell of the row below row y is known, or all if there is no row below.
 fn sure_below<W: LineSet>(rows: &[LineOf<W>], y: usize) -> W
     requires { y < length rows.now }
-    ensures { (x : ℕ) → x < length (slice_index_or rows.now y []) → has (W.number result) x ≡ is_sure (nat_eq (y + 1) (length rows.now)) (slice_index_or (slice_index_or rows.now (y + 1) []) x Unknown) }
+    ensures { (x : ℕ) → x < length (slice_index_or rows.now y []) → has (W.number result) x ≡
+        is_sure (nat_eq (y + 1) (length rows.now)) (slice_index_or (slice_index_or rows.now (y + 1) []) x Unknown) }
 {
     if y + 1 == rows.len() {
         places(rows[y].len())

@@ -96,8 +96,10 @@ impl<W: LineSet> Marks<W> {
     /// Marks the lines that cross line n at these cells.
     pub fn mark_crossing(&mut self, n: usize, cells: W)
         requires n { n < length self.old.list }
-        requires cells { (i : ℕ) → Has (W.number cells) i → i < (places_in (length self.old.list - self.old.height) self.old.height n).count }
-        ensures marks { MarksPlaces (places_in (length self.old.list - self.old.height) self.old.height n) (Has (W.number cells)) self.old.list self.new.list }
+        requires cells { (i : ℕ) → Has (W.number cells) i →
+            i < (places_in (length self.old.list - self.old.height) self.old.height n).count }
+        ensures marks { MarksPlaces (places_in (length self.old.list - self.old.height) self.old.height n)
+            (Has (W.number cells)) self.old.list self.new.list }
         ensures count { length self.new.list ≡ length self.old.list }
         ensures height { self.new.height ≡ self.old.height }
     {

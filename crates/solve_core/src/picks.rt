@@ -73,7 +73,8 @@ pub fn first_in_most<W: PlaceSet>(
     requires first { AreCounts counts.0 (W.number first.now.either) (W.number first.now.both) }
     requires second { AreCounts counts.1 (W.number second.now.either) (W.number second.now.both) }
     ensures none { IfNone result ((i : ℕ) → Has (W.number places) i → counts.0 i + counts.1 i < least) }
-    ensures found { IfSome result (λ found. Has (W.number places) found.1 × (found.0 ≡ counts.0 found.1 + counts.1 found.1) × (least ≤ found.0)) }
+    ensures found { IfSome result (λ found. Has (W.number places) found.1 × (found.0 ≡ counts.0 found.1 + counts.1 found.1) ×
+        (least ≤ found.0)) }
     ensures most { IfSome result (λ found. (i : ℕ) → Has (W.number places) i → counts.0 i + counts.1 i ≤ found.0) }
     ensures earliest { IfSome result (λ found. (i : ℕ) → Has (W.number places) i → i < found.1 → counts.0 i + counts.1 i < found.0) }
 {

@@ -55,10 +55,14 @@ fn look_at<W: LineSet>(
     requires room { length solutions.old.grids < 2 }
     ensures ending { (p : Nonogram) → IsSizeOf p solutions.old.width solutions.old.height → (spent left : ℕ) (rest : List Event) →
         ending p solutions.new.grids spent left (open_events (picked pick board.now.width) (lines_of p) board.now.cells result rest)
-        ≡ ending p solutions.old.grids spent left (guess_at (events (picked pick board.now.width) (lines_of p)) board.now.cells (picked pick board.now.width board.now.cells) ++ rest) }
-    ensures fewer { (p : Nonogram) (rest : List Event) → length (open_events (picked pick board.now.width) (lines_of p) board.now.cells result rest)
-        ≤ length (guess_at (events (picked pick board.now.width) (lines_of p)) board.now.cells (picked pick board.now.width board.now.cells) ++ rest) }
-    ensures next { (p : Nonogram) → IsClosed (lines_of p) board.now.cells → IsOpen (picked pick board.now.width) (lines_of p) board.now.cells result }
+        ≡ ending p solutions.old.grids spent left (guess_at (events (picked pick board.now.width) (lines_of p)) board.now.cells
+        (picked pick board.now.width board.now.cells) ++ rest) }
+    ensures fewer { (p : Nonogram) (rest : List Event) →
+        length (open_events (picked pick board.now.width) (lines_of p) board.now.cells result rest)
+        ≤ length (guess_at (events (picked pick board.now.width) (lines_of p)) board.now.cells
+        (picked pick board.now.width board.now.cells) ++ rest) }
+    ensures next { (p : Nonogram) → IsClosed (lines_of p) board.now.cells →
+        IsOpen (picked pick board.now.width) (lines_of p) board.now.cells result }
     ensures found { length solutions.new.grids ≤ 2 }
     ensures width { solutions.new.width ≡ solutions.old.width }
     ensures height { solutions.new.height ≡ solutions.old.height }
@@ -87,8 +91,10 @@ fn explore<W: LineSet>(
     requires next { IsNext (picked pick closer.old.puzzle.width) (lines_of closer.old.puzzle) board.old.cells place }
     requires colour { is_known colour ≡ true }
     requires found { length solutions.old.grids < 2 }
-    ensures goes_on { (branches : List BranchValue) → IsWork (picked pick closer.old.puzzle.width) (lines_of closer.old.puzzle) board.old.cells board.old.trail branches →
-        GoesOn (picked pick closer.old.puzzle.width) closer.old.puzzle (events (picked pick closer.old.puzzle.width) (lines_of closer.old.puzzle) (slice_set board.old.cells place colour)) branches
+    ensures goes_on { (branches : List BranchValue) →
+        IsWork (picked pick closer.old.puzzle.width) (lines_of closer.old.puzzle) board.old.cells board.old.trail branches →
+        GoesOn (picked pick closer.old.puzzle.width) closer.old.puzzle
+        (events (picked pick closer.old.puzzle.width) (lines_of closer.old.puzzle) (slice_set board.old.cells place colour)) branches
         board.old solutions.old.grids board.new solutions.new.grids result }
     ensures unmarked { IsUnmarked closer.new }
     ensures board { IsBoardOf closer.old.puzzle board.new }
@@ -119,7 +125,8 @@ pub fn search<W: LineSet>(
     requires found { solutions.old.grids ≡ [] }
     requires room { length board.old.cells ≤ vec_capacity branches.old }
     ensures ending { record { found = solutions.new.grids; cut = result.cut; spent = result.spent }
-        ≡ ending closer.old.puzzle [] 0 guesses (events (picked pick closer.old.puzzle.width) (lines_of closer.old.puzzle) board.old.cells) }
+        ≡ ending closer.old.puzzle [] 0 guesses
+        (events (picked pick closer.old.puzzle.width) (lines_of closer.old.puzzle) board.old.cells) }
     ensures puzzle { closer.new.puzzle ≡ closer.old.puzzle }
 {
     let mut spent: u32 = 0;

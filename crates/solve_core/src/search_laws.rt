@@ -10,12 +10,14 @@ ghost use Rattle.solve_core.specs.Verdicts.{Holds, IsFinal};
 
 /// Below each guess the search goes on as a whole search.
 pub fn search_unfolds()
-    ensures { (pick : List Cell → Option ℕ) → IsPick pick → (lines : List GridLine) (grid : List Cell) → events pick lines grid ≡ search_from pick (events pick lines) (closure lines grid) }
+    ensures { (pick : List Cell → Option ℕ) → IsPick pick → (lines : List GridLine) (grid : List Cell) →
+        events pick lines grid ≡ search_from pick (events pick lines) (closure lines grid) }
 {}
 
 /// The verdict on a puzzle holds of all full grids, whatever the rule for guesses.
 pub fn verdict_holds()
-    ensures { (pick : List Cell → Option ℕ) → IsPick pick → (p : Nonogram) → IsNonogram p → (limit : ℕ) → Holds pick p limit (verdict_of pick p limit) }
+    ensures { (pick : List Cell → Option ℕ) → IsPick pick → (p : Nonogram) → IsNonogram p → (limit : ℕ) →
+        Holds pick p limit (verdict_of pick p limit) }
 {}
 
 /// No more guesses are spent than the limit allows.

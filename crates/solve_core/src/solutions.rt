@@ -56,7 +56,10 @@ impl Solutions {
         requires room { length self.old.grids < 2 }
         requires width { lines.now.width ≡ self.old.width }
         requires height { lines.now.height ≡ self.old.height }
-        ensures { self.new ≡ record self.old { grids = self.old.grids ++ (record { width = self.old.width; height = self.old.height; cells = lines.now.cells } ∷ []) } }
+        ensures { self.new ≡ record self.old {
+          grids = self.old.grids ++
+              (record { width = self.old.width; height = self.old.height; cells = lines.now.cells } ∷ []);
+        } }
     {
         if self.count == 0 {
             lines.write(&mut self.first);

@@ -94,7 +94,8 @@ impl Witness {
 
 /// Lets those witnesses count on that share no row and no column with what was learned, and the one of a number, which holds it.
 fn keep_each(witnesses: &mut [Witness], learned: &Crossed, holder: usize)
-    ensures { (i : ℕ) → i < length witnesses.old → IsKept learned.now (i ≡ holder) (witness_at witnesses.old i) (witness_at witnesses.new i) }
+    ensures { (i : ℕ) → i < length witnesses.old →
+        IsKept learned.now (i ≡ holder) (witness_at witnesses.old i) (witness_at witnesses.new i) }
 {
     for i in 0..witnesses.len() {
         witnesses[i].keep(learned, i == holder);
@@ -117,9 +118,19 @@ impl<'p> Model for Witnesses<'p> {
 
     ghost Value = { WitnessedPuzzle };
 
-    ghost view = { λ w. record { puzzle = w.puzzle.now; witnesses = w.witnesses.items; fillable = w.fillable.items; blankable = w.blankable.items } };
+    ghost view = { λ w. record {
+      puzzle = w.puzzle.now;
+      witnesses = w.witnesses.items;
+      fillable = w.fillable.items;
+      blankable = w.blankable.items;
+    } };
 
-    ghost invariant = { λ w. AreNumbered (record { puzzle = w.puzzle.now; witnesses = w.witnesses.items; fillable = w.fillable.items; blankable = w.blankable.items }) };
+    ghost invariant = { λ w. AreNumbered (record {
+      puzzle = w.puzzle.now;
+      witnesses = w.witnesses.items;
+      fillable = w.fillable.items;
+      blankable = w.blankable.items;
+    }) };
 }
 
 impl<'p> Witnesses<'p> {
@@ -141,7 +152,8 @@ impl<'p> Witnesses<'p> {
 
     /// Drops all witnesses, so that there is none for any grid of the puzzle's size.
     pub fn forget(&mut self)
-        ensures witnesses { (cells : List CellValue) → length cells ≡ self.old.puzzle.width * self.old.puzzle.height → AreWitnesses self.new cells }
+        ensures witnesses { (cells : List CellValue) → length cells ≡ self.old.puzzle.width * self.old.puzzle.height →
+            AreWitnesses self.new cells }
         ensures puzzle { self.new.puzzle ≡ self.old.puzzle }
     {
         if self.witnesses.len() == 1 {
@@ -231,7 +243,8 @@ impl<'p> Witnesses<'p> {
         requires place { place < length board.now.cells }
         requires mark { mark ≤ length board.now.trail }
         requires unknown { slice_index_or (cells_before board.now.cells board.now.trail mark) place Unknown ≡ Unknown }
-        requires settled { closure (lines_of self.old.puzzle) (slice_set (cells_before board.now.cells board.now.trail mark) place colour) ≡ Some board.now.cells }
+        requires settled { closure (lines_of self.old.puzzle)
+            (slice_set (cells_before board.now.cells board.now.trail mark) place colour) ≡ Some board.now.cells }
         requires witnesses { AreWitnesses self.old (cells_before board.now.cells board.now.trail mark) }
         ensures witnesses { AreWitnesses self.new board.now.cells }
         ensures puzzle { self.new.puzzle ≡ self.old.puzzle }

@@ -14,7 +14,8 @@ EachAnswered-push (j ∷ jss) (a ∷ ass) js answers h one = (h.0, EachAnswered-
 EachAnswered-push [] (a ∷ ass) js answers h one = absurd h
 EachAnswered-push (j ∷ jss) [] js answers h one = absurd h
 
-pub EachAnswered-at : (jss : List (List Job)) (ass : List (List Answer)) (k : ℕ) → EachAnswered jss ass → k < length jss → AreAnswersTo (get_or jss k []) (get_or ass k [])
+pub EachAnswered-at : (jss : List (List Job)) (ass : List (List Answer)) (k : ℕ) → EachAnswered jss ass → k < length jss →
+    AreAnswersTo (get_or jss k []) (get_or ass k [])
 EachAnswered-at [] ass k h within = absurd (omega arith)
 EachAnswered-at (j ∷ jss) [] k h within = absurd h
 EachAnswered-at (j ∷ jss) (a ∷ ass) zero h within = h.0
@@ -33,7 +34,8 @@ map-push f (x ∷ qs) q = ap (λ l. f x ∷ l) (map-push f qs q)
 pub EachAnswered-more : {Q : Type 0} (f : Q → List Answer) (jss : List (List Job)) (qs qs' : List Q) (js : List Job) (q : Q) →
     qs' ≡ qs ++ q ∷ [] → EachAnswered jss (map f qs) → AreAnswersTo js (f q) → EachAnswered (jss ++ js ∷ []) (map f qs')
 EachAnswered-more f jss qs qs' js q e h one =
-    subst (λ ass. EachAnswered (jss ++ js ∷ []) ass) (sym (ap (λ l. map f l) e ∙ map-push f qs q)) (EachAnswered-push jss (map f qs) js (f q) h one)
+    subst (λ ass. EachAnswered (jss ++ js ∷ []) ass) (sym (ap (λ l. map f l) e ∙ map-push f qs q))
+    (EachAnswered-push jss (map f qs) js (f q) h one)
 
 -- as many lists of answers as lanes
 pub answered_length : {Q J : Type 0} (f : Q → List Answer) (h : J → List Job) (qs : List Q) (js : List J) (jss : List (List Job)) →
@@ -41,7 +43,8 @@ pub answered_length : {Q J : Type 0} (f : Q → List Answer) (h : J → List Job
 answered_length f h qs js jss all e = sym (length-map qs f) ∙ EachAnswered-length jss (map f qs) all ∙ ap length e ∙ length-map js h
 
 -- the answers of each lane are those to what it was dealt
-pub answered_at : {J : Type 0} (h : J → List Job) (js : List J) (jss : List (List Job)) (ass : List (List Answer)) (n k : ℕ) (own : List Job) →
+pub answered_at : {J : Type 0} (h : J → List Job) (js : List J) (jss : List (List Job)) (ass : List (List Answer)) (n k : ℕ)
+    (own : List Job) →
     EachAnswered jss ass → jss ≡ map h js → length js ≡ n → k < n → get_or (map h js) k [] ≡ own → AreAnswersTo own (get_or ass k [])
 answered_at h js jss ass n k own all e len within is =
     subst (λ l. AreAnswersTo l (get_or ass k [])) (ap (λ l. get_or l k []) e ∙ is)

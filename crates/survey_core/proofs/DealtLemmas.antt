@@ -19,7 +19,8 @@ at_same : {T : Type 0} (xss : List (List T)) (i k : ℕ) (ys : List T) → i ≡
 at_same xss i k ys e h = subst (λ j. get_or (set xss i ys) j [] ≡ ys) e (get_or-set_same xss i ys [] h)
 
 -- the place of a queue in the list of what the queues hold
-pub queue_at : {Q T : Type 0} (f : Q → List T) (qs : List Q) (i : ℕ) (q : Q) → i < length qs → q ≡ get_or qs i q → f q ≡ get_or (map f qs) i []
+pub queue_at : {Q T : Type 0} (f : Q → List T) (qs : List Q) (i : ℕ) (q : Q) → i < length qs → q ≡ get_or qs i q →
+    f q ≡ get_or (map f qs) i []
 queue_at f [] i q h e = absurd (omega arith)
 queue_at f (x ∷ qs) zero q h e = ap f e
 queue_at f (x ∷ qs) (suc i) q h e = queue_at f qs i q (omega arith) e
@@ -37,19 +38,23 @@ deal_when xss i k x later all false e h before =
 
 pub deal_step : {T : Type 0} (xss : List (List T)) (n place : ℕ) (x : T) (rest xs : List T) → place % n < length xss →
     ((k : ℕ) → k < n → get_or xss k [] ++ dealt_from place (x ∷ rest) n k ≡ dealt xs n k) →
-    (k : ℕ) → k < n → get_or (set xss (place % n) (get_or xss (place % n) [] ++ x ∷ [])) k [] ++ dealt_from (place + 1) rest n k ≡ dealt xs n k
+    (k : ℕ) → k < n → get_or (set xss (place % n) (get_or xss (place % n) [] ++ x ∷ [])) k [] ++
+    dealt_from (place + 1) rest n k ≡ dealt xs n k
 deal_step xss n place x rest xs within before k h =
     deal_when xss (place % n) k x (dealt_from (place + 1) rest n k) (dealt xs n k) (place % n == k) refl within (before k h)
 
 -- the next answer of the queue whose turn it is
-gather_when : (jobs : List Job) (job : Job) (xss : List (List Answer)) (i k : ℕ) (left : List Answer) (b : Bool) → (i == k) ≡ b → i < length xss →
-    ((i ≡ k) → AreAnswersTo jobs left) → AreAnswersTo (if b then job ∷ jobs else jobs) (get_or xss k []) → AreAnswersTo jobs (get_or (set xss i left) k [])
+gather_when : (jobs : List Job) (job : Job) (xss : List (List Answer)) (i k : ℕ) (left : List Answer) (b : Bool) → (i == k) ≡ b →
+    i < length xss →
+    ((i ≡ k) → AreAnswersTo jobs left) → AreAnswersTo (if b then job ∷ jobs else jobs) (get_or xss k []) →
+    AreAnswersTo jobs (get_or (set xss i left) k [])
 gather_when jobs job xss i k left true e h now before =
     subst (λ l. AreAnswersTo jobs l) (sym (at_same xss i k left (same_of i k e) h)) (now (same_of i k e))
 gather_when jobs job xss i k left false e h now before =
     subst (λ l. AreAnswersTo jobs l) (sym (get_or-set_other xss i k left [] (other_of i k e))) before
 
-own_turn : (jobs : List Job) (job : Job) (i : ℕ) (answers : List Answer) (b : Bool) → b ≡ true → AreAnswersTo (if b then job ∷ jobs else jobs) answers → AreAnswersTo (job ∷ jobs) answers
+own_turn : (jobs : List Job) (job : Job) (i : ℕ) (answers : List Answer) (b : Bool) → b ≡ true →
+    AreAnswersTo (if b then job ∷ jobs else jobs) answers → AreAnswersTo (job ∷ jobs) answers
 own_turn jobs job i answers true e h = h
 own_turn jobs job i answers false e h = cc
 
@@ -60,25 +65,31 @@ is_own i = grind (arith, nat_tests)
 pub gather_front : (n place : ℕ) (job : Job) (rest : List Job) (xss : List (List Answer)) →
     ((k : ℕ) → k < n → AreAnswersTo (dealt_from place (job ∷ rest) n k) (get_or xss k [])) → place % n < n →
     AreAnswersTo (job ∷ dealt_from (place + 1) rest n (place % n)) (get_or xss (place % n) [])
-gather_front n place job rest xss before h = own_turn _ job (place % n) _ (place % n == place % n) (is_own (place % n)) (before (place % n) h)
+gather_front n place job rest xss before h =
+    own_turn _ job (place % n) _ (place % n == place % n) (is_own (place % n)) (before (place % n) h)
 
-pub gather_step : (n place : ℕ) (job : Job) (rest : List Job) (xss : List (List Answer)) (answer : Answer) (left : List Answer) → place % n < length xss → place % n < n →
+pub gather_step : (n place : ℕ) (job : Job) (rest : List Job) (xss : List (List Answer)) (answer : Answer) (left : List Answer) →
+    place % n < length xss → place % n < n →
     get_or xss (place % n) [] ≡ answer ∷ left →
     ((k : ℕ) → k < n → AreAnswersTo (dealt_from place (job ∷ rest) n k) (get_or xss k [])) →
     (k : ℕ) → k < n → AreAnswersTo (dealt_from (place + 1) rest n k) (get_or (set xss (place % n) left) k [])
 gather_step n place job rest xss answer left within h front before k below =
     gather_when (dealt_from (place + 1) rest n k) job xss (place % n) k left (place % n == k) refl within
-    (λ same. subst (λ j. AreAnswersTo (dealt_from (place + 1) rest n j) left) same (subst (λ l. AreAnswersTo (job ∷ dealt_from (place + 1) rest n (place % n)) l) front (gather_front n place job rest xss before h)).1)
+    (λ same. subst (λ j. AreAnswersTo (dealt_from (place + 1) rest n j) left) same
+    (subst (λ l. AreAnswersTo (job ∷ dealt_from (place + 1) rest n (place % n)) l) front
+    (gather_front n place job rest xss before h)).1)
     (before k below)
 
-pub gather_answer : (n place : ℕ) (job : Job) (rest : List Job) (xss : List (List Answer)) (answer : Answer) (left : List Answer) → place % n < n →
+pub gather_answer : (n place : ℕ) (job : Job) (rest : List Job) (xss : List (List Answer)) (answer : Answer) (left : List Answer) →
+    place % n < n →
     get_or xss (place % n) [] ≡ answer ∷ left →
     ((k : ℕ) → k < n → AreAnswersTo (dealt_from place (job ∷ rest) n k) (get_or xss k [])) → IsAnswerTo job answer
 gather_answer n place job rest xss answer left h front before =
     (subst (λ l. AreAnswersTo (job ∷ dealt_from (place + 1) rest n (place % n)) l) front (gather_front n place job rest xss before h)).0
 
 -- the element at a place, between what is before it and what comes after
-pub next_of : {T : Type 0} (xs : List T) (i : ℕ) → i < length xs → (x : T) × (drop i xs ≡ x ∷ drop (suc i) xs) × (take (suc i) xs ≡ take i xs ++ x ∷ [])
+pub next_of : {T : Type 0} (xs : List T) (i : ℕ) → i < length xs → (x : T) × (drop i xs ≡ x ∷ drop (suc i) xs) ×
+    (take (suc i) xs ≡ take i xs ++ x ∷ [])
 next_of [] i h = absurd (omega arith)
 next_of (x ∷ xs) zero h = (x, refl, refl)
 next_of (x ∷ xs) (suc i) h = let r = next_of xs i (omega arith) in (r.0, r.1, ap (λ l. x ∷ l) r.2)
@@ -103,7 +114,8 @@ gather_some f qs n place q jobs some len h e left empty =
     (sym (queue_at f qs (place % n) q (subst (λ m. place % n < m) (sym len) within) e) ∙ empty)
 
 -- the next answer is gathered
-pub gather_next : {Q : Type 0} (f : Q → List Answer) (qs : List Q) (n place : ℕ) (q q' : Q) (jobs : List Job) (answer : Answer) (gathered : List Answer) →
+pub gather_next : {Q : Type 0} (f : Q → List Answer) (qs : List Q) (n place : ℕ) (q q' : Q) (jobs : List Job) (answer : Answer)
+    (gathered : List Answer) →
     0 < n → length qs ≡ n → place < length jobs → q ≡ get_or qs (place % n) q → f q ≡ answer ∷ f q' →
     AreAnswersTo (take place jobs) gathered → AllLeft jobs n place (map f qs) →
     AreAnswersTo (take (place + 1) jobs) (gathered ++ answer ∷ []) × AllLeft jobs n (place + 1) (map f (set qs (place % n) q'))
@@ -117,9 +129,12 @@ gather_next f qs n place q q' jobs answer gathered some len h e front before lef
     let rest : (k : ℕ) → k < n → AreAnswersTo (dealt_from place (r.0 ∷ drop (suc place) jobs) n k) (get_or (map f qs) k []) =
     λ k b. subst (λ l. AreAnswersTo (dealt_from place l n k) (get_or (map f qs) k [])) r.1 (left k b) in (
       subst (λ l. AreAnswersTo l (gathered ++ answer ∷ [])) (sym (ap (λ m. take m jobs) next ∙ r.2))
-          (AreAnswersTo-push (take place jobs) gathered r.0 answer before (gather_answer n place r.0 (drop (suc place) jobs) (map f qs) answer (f q') within at rest)),
-      λ k b. subst (λ xss. AreAnswersTo (dealt_from (place + 1) (drop (place + 1) jobs) n k) (get_or xss k [])) (sym (map-set f qs (place % n) q'))
-          (subst (λ l. AreAnswersTo (dealt_from (place + 1) l n k) (get_or (set (map f qs) (place % n) (f q')) k [])) (ap (λ m. drop m jobs) (sym next))
+          (AreAnswersTo-push (take place jobs) gathered r.0 answer before
+          (gather_answer n place r.0 (drop (suc place) jobs) (map f qs) answer (f q') within at rest)),
+      λ k b. subst (λ xss. AreAnswersTo (dealt_from (place + 1) (drop (place + 1) jobs) n k) (get_or xss k []))
+          (sym (map-set f qs (place % n) q'))
+          (subst (λ l. AreAnswersTo (dealt_from (place + 1) l n k) (get_or (set (map f qs) (place % n) (f q')) k []))
+          (ap (λ m. drop m jobs) (sym next))
           (gather_step n place r.0 (drop (suc place) jobs) (map f qs) answer (f q') inside' within at rest k b)),
     )
 
@@ -132,7 +147,8 @@ deal_next f qs n place q q' job rest xs some len e pushed before k b =
     let within : place % n < n = mod-lt place some in
     let inside : place % n < length qs = subst (λ m. place % n < m) (sym len) within in
     let inside' : place % n < length (map f qs) = subst (λ m. place % n < m) (sym (length-map qs f)) inside in
-    let content : f q' ≡ get_or (map f qs) (place % n) [] ++ job ∷ [] = pushed ∙ ap (λ l. l ++ job ∷ []) (queue_at f qs (place % n) q inside e) in
+    let content : f q' ≡ get_or (map f qs) (place % n) [] ++ job ∷ [] =
+    pushed ∙ ap (λ l. l ++ job ∷ []) (queue_at f qs (place % n) q inside e) in
     ap (λ xss. get_or xss k [] ++ dealt_from (place + 1) rest n k) (map-set f qs (place % n) q')
     ∙ ap (λ l. get_or (set (map f qs) (place % n) l) k [] ++ dealt_from (place + 1) rest n k) content
     ∙ deal_step (map f qs) n place job rest xs inside' before k b

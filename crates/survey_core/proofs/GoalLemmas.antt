@@ -17,7 +17,8 @@ use Rattle.grid_core.specs.declared.puzzles.GoalWord.{GoalWord}
 use Rattle.grid_core.specs.declared.puzzles.GoalWord.TheVariants as word
 use Rattle.survey_core.specs.Goals.{IsOnlySolution, IsRowShown, meets_clues, meets_line, word_of_goal}
 
-lines_decide : (full : List Bool) (lines : List GridLine) → Decides (list_all (meets_line full) lines) (AllByRecursion (MeetsLine full) lines)
+lines_decide : (full : List Bool) (lines : List GridLine) →
+    Decides (list_all (meets_line full) lines) (AllByRecursion (MeetsLine full) lines)
 lines_decide full [] = (λ _. tt, λ _. refl)
 lines_decide full (line ∷ lines) =
     let here = bytes_eq-Decides _ line.clue in
@@ -59,7 +60,8 @@ same_lists [] (y ∷ ys) e h = absurd (omega arith)
 same_lists (x ∷ xs) [] e h = absurd (omega arith)
 same_lists (x ∷ xs) (y ∷ ys) e h =
     let first : x ≡ y = h 0 (omega arith) in
-    ap (λ (v : Bool). v ∷ xs) first ∙ ap (λ (left : List Bool). y ∷ left) (same_lists xs ys (omega arith) (λ i within. h (suc i) (omega arith)))
+    ap (λ (v : Bool). v ∷ xs) first ∙ ap (λ (left : List Bool). y ∷ left)
+    (same_lists xs ys (omega arith) (λ i within. h (suc i) (omega arith)))
 
 filled_at : (cells : List Cell) (i : ℕ) → i < length cells → get_or (map is_filled cells) i false ≡ is_filled (get_or cells i Unknown)
 filled_at cells i h = get_or-map is_filled cells i Unknown false h
@@ -69,7 +71,8 @@ at_place : (i w h : ℕ) → 0 < w → i < w * h → (i % w < w) × (i / w < h) 
 at_place i w h some within = (mod-lt i some, (row-Below i w w h within (omega arith)).1, div-add-mod' i w)
 
 -- values that are the colours of all rows are those of the cells
-shown_values : (grid : PartialGrid) (values : List Bool) → 0 < grid.width → length grid.cells ≡ grid.width * grid.height → length values ≡ grid.width * grid.height
+shown_values : (grid : PartialGrid) (values : List Bool) → 0 < grid.width → length grid.cells ≡ grid.width * grid.height →
+    length values ≡ grid.width * grid.height
     → ((y : ℕ) → y < grid.height → IsRowShown grid values y) → map is_filled grid.cells ≡ values
 shown_values grid values some cells size shown =
     same_lists (map is_filled grid.cells) values (length-map grid.cells is_filled ∙ cells ∙ sym size) (λ i within.
@@ -97,7 +100,8 @@ colours_known (true ∷ values) = colours_known values
 colours_known (false ∷ values) = colours_known values
 
 -- values that meet the clues are the colours of the only solution
-only_met : (p : Nonogram) (solution : PartialGrid) (values : List Bool) → IsOnlySolution p solution → Meets p values → map is_filled solution.cells ≡ values
+only_met : (p : Nonogram) (solution : PartialGrid) (values : List Bool) → IsOnlySolution p solution → Meets p values →
+    map is_filled solution.cells ≡ values
 only_met p solution values only meets =
     let drawn : PartialGrid = record { width = p.width; height = p.height; cells = map colour values } in
     let solves : Solves p drawn = record {

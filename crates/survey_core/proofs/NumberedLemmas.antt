@@ -17,7 +17,8 @@ numbered-more {X = X} f n (x ∷ xs) (suc i) d h =
 
 -- one more item, of items numbered from 1 that each come from another
 pub made-more : {X Y Z : Type 0} (f : ℕ × Y → List Z) (h : X → Y) (xs : List X) (i : ℕ) (d : X) → i < length xs
-    → flat_map f (enumerate_from 1 (map h (take (i + 1) xs))) ≡ flat_map f (enumerate_from 1 (map h (take i xs))) ++ f (i + 1, h (get_or xs i d))
+    → flat_map f (enumerate_from 1 (map h (take (i + 1) xs))) ≡ flat_map f (enumerate_from 1 (map h (take i xs))) ++
+    f (i + 1, h (get_or xs i d))
 made-more {Y = Y} f h xs i d l =
     let made = λ (ys : List Y). flat_map f (enumerate_from 1 ys) in
     let long : i < length (map h xs) = rw length-map l in

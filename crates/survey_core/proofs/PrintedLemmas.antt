@@ -14,13 +14,15 @@ range-more a zero j e = let start : a ≡ j = omega arith in ap (λ (k : ℕ). k
 range-more a (suc n) j e = ap (λ (others : List ℕ). a ∷ others) (range-more (a + 1) n j (omega arith))
 
 -- a row with one more cell
-pub row_front-more : (grid : PartialGrid) (y count : ℕ) → row_front grid y (count + 1) ≡ row_front grid y count ++ cell_byte (cell_at grid count y) ∷ []
+pub row_front-more : (grid : PartialGrid) (y count : ℕ) → row_front grid y (count + 1) ≡ row_front grid y count ++
+    cell_byte (cell_at grid count y) ∷ []
 row_front-more grid y count = map-range_with_len_more (λ x. cell_byte (cell_at grid x y)) 0 count count (omega arith)
 
 -- one more row
 pub rows_text-more : (grid : PartialGrid) (count : ℕ) → rows_text grid (count + 1) ≡ rows_text grid count ++ row_text grid count
 rows_text-more grid count =
-    ap (flat_map (row_text grid)) (ap (range_with_len 0) (add-one count) ∙ range-more 0 count count (omega arith)) ∙ flat_map-append (row_text grid) (range_with_len 0 count) (count ∷ [])
+    ap (flat_map (row_text grid)) (ap (range_with_len 0) (add-one count) ∙ range-more 0 count count (omega arith)) ∙
+    flat_map-append (row_text grid) (range_with_len 0 count) (count ∷ [])
     ∙ ap (λ (last : List ℕ). rows_text grid count ++ last) (append-nil (row_text grid count))
 
 -- what is made of numbered items, with one more item at the end
@@ -43,7 +45,8 @@ entries_text-push show entries entry =
 
 -- the text so far, with that of one more entry
 pub added_text : (show shows : Bool) (entries : List GradedEntry) (entry : GradedEntry) (old new : List ℕ) (count : ℕ) → shows ≡ show
-    → old ≡ entries_text show entries → count ≡ length entries → new ≡ old ++ entry_text shows (count + 1) entry → new ≡ entries_text show (entries ++ entry ∷ [])
+    → old ≡ entries_text show entries → count ≡ length entries → new ≡ old ++ entry_text shows (count + 1) entry →
+    new ≡ entries_text show (entries ++ entry ∷ [])
 added_text show shows entries entry old new count same so_far counted more =
     more
     ∙ ap (λ (s : Bool). old ++ entry_text s (count + 1) entry) same

@@ -25,8 +25,10 @@ use Rattle.survey_core.specs.Survey.{graded, reported}
 
 -- the jobs of one more entry
 pub jobs_of-more : (guesses : Guessing) (entries : List Entry) (i : ℕ) (d : Entry) → i < length entries
-    → jobs_of guesses (readings (take (i + 1) entries)) ≡ jobs_of guesses (readings (take i entries)) ++ job_of guesses (i + 1) (reading (get_or entries i d))
-jobs_of-more guesses entries i d h = made-more (λ (numbered : ℕ × Result Nonogram EntryFault). job_of guesses numbered.0 numbered.1) reading entries i d h
+    → jobs_of guesses (readings (take (i + 1) entries)) ≡ jobs_of guesses (readings (take i entries)) ++
+    job_of guesses (i + 1) (reading (get_or entries i d))
+jobs_of-more guesses entries i d h =
+    made-more (λ (numbered : ℕ × Result Nonogram EntryFault). job_of guesses numbered.0 numbered.1) reading entries i d h
 
 -- answers to the jobs of entries are those to the puzzles that were read
 pub are_graded : (guesses : Guessing) (first : ℕ) (read : List (Result Nonogram EntryFault)) (jobs : List Job) (answers : List Answer)
@@ -43,41 +45,56 @@ are_graded guesses first (Ok p ∷ read) (job ∷ jobs) (answer ∷ answers) mad
     let puzzle : job.puzzle ≡ p = ap (λ (shown : NumberedPuzzle). shown.puzzle) head in
     let limit : job.guesses ≡ guesses.limit = ap (λ (shown : NumberedPuzzle). shown.guesses) head in
     let pick : job.pick ≡ guesses.pick = ap (λ (shown : NumberedPuzzle). shown.pick) head in
-    let outcome = subst (λ (q : Nonogram). IsOutcome q job.guesses job.pick answer.outcome) puzzle answered.0.outcome in
-    (answered.0.puzzle ∙ puzzle, subst (λ (pick' : Pick). IsOutcome p guesses.limit pick' answer.outcome) pick (subst (λ (limit' : ℕ). IsOutcome p limit' job.pick answer.outcome) limit outcome), are_graded guesses (first + 1) read jobs answers others answered.1)
+    let outcome = subst (λ (q : Nonogram). IsOutcome q job.guesses job.pick answer.outcome) puzzle answered.0.outcome in (
+      answered.0.puzzle ∙ puzzle,
+      subst (λ (pick' : Pick). IsOutcome p guesses.limit pick' answer.outcome) pick
+          (subst (λ (limit' : ℕ). IsOutcome p limit' job.pick answer.outcome) limit outcome),
+      are_graded guesses (first + 1) read jobs answers others answered.1,
+    )
 
 -- the first of the entries that are left
-pub next_graded : (guesses : Guessing) (entries : List Entry) (i : ℕ) (d : Entry) (answers : List Answer) → i < length entries → AreGraded guesses (readings (drop i entries)) answers
+pub next_graded : (guesses : Guessing) (entries : List Entry) (i : ℕ) (d : Entry) (answers : List Answer) → i < length entries →
+    AreGraded guesses (readings (drop i entries)) answers
     → AreGraded guesses (reading (get_or entries i d) ∷ readings (drop (i + 1) entries)) answers
 next_graded guesses entries i d answers h graded =
     let parts : drop i entries ≡ get_or entries i d ∷ drop (i + 1) entries = rw (add-one i) (drop-cons entries i d h) in
     subst (λ (left : List Entry). AreGraded guesses (readings left) answers) parts graded
 
 -- where the first entry is a puzzle, there is an answer
-pub has_answer : (guesses : Guessing) (read : Result Nonogram EntryFault) (others : List (Result Nonogram EntryFault)) (answers : List Answer)
+pub has_answer : (guesses : Guessing) (read : Result Nonogram EntryFault) (others : List (Result Nonogram EntryFault))
+    (answers : List Answer)
     → AreGraded guesses (read ∷ others) answers → fault_of read ≡ None → 0 < length answers
 has_answer guesses (Err fault) others answers graded e = cc
 has_answer guesses (Ok p) others [] graded e = absurd graded
 has_answer guesses (Ok p) others (answer ∷ answers) graded e = omega arith
 
 -- what an answer found is the report on the puzzle, where it is one
-pub found_is : (guesses : Guessing) (p q : Nonogram) (outcome : Result Findings NoMemory) → q ≡ p → IsOutcome p guesses.limit guesses.pick outcome → IsOk outcome
+pub found_is : (guesses : Guessing) (p q : Nonogram) (outcome : Result Findings NoMemory) → q ≡ p →
+    IsOutcome p guesses.limit guesses.pick outcome → IsOk outcome
     → found_of q outcome ≡ Ok (p, report_of (picked guesses.pick p.width) p guesses.limit)
 found_is guesses p q (Err refused) e is_outcome ok = let bad : false ≡ true = ok in cc
 found_is guesses p q (Ok findings) e is_outcome ok =
     ap (λ (r : Nonogram). found_of r (Ok findings)) e ∙ ap (λ (found : Findings). found_of p (Ok found)) is_outcome
 
 -- the first of the answers is taken
-pub taken_first : (fault : Option EntryFault) (answers : List Answer) (answer : Answer) (result : Result (Nonogram × Findings) EntryFault) → fault ≡ None
+pub taken_first : (fault : Option EntryFault) (answers : List Answer) (answer : Answer)
+    (result : Result (Nonogram × Findings) EntryFault) → fault ≡ None
     → 1 ≤ length answers → answer ≡ get_or answers 0 answer → result ≡ found_of answer.puzzle answer.outcome → IsOk answer.outcome
     → TakesAnswer fault answers (take (length answers - 1) (drop 1 answers)) result
 taken_first (Some fault) answers answer result none some at found ok = cc
 taken_first None [] answer result none some at found ok = absurd (omega arith)
-taken_first None (first ∷ answers) answer result none some at found ok =
-    (answer, (ap (λ (x : Answer). x ∷ answers) (sym at) ∙ ap (λ (left : List Answer). answer ∷ left) (sym (rest_of (first ∷ answers) 1)), found, ok))
+taken_first None (first ∷ answers) answer result none some at found ok = (
+  answer,
+  (
+    ap (λ (x : Answer). x ∷ answers) (sym at) ∙ ap (λ (left : List Answer). answer ∷ left) (sym (rest_of (first ∷ answers) 1)),
+    found,
+    ok,
+  ),
+)
 
 -- what is listed of the first entry is its report or its fault, and the answers that are left are those to the other entries
-pub takes_next : (guesses : Guessing) (read : Result Nonogram EntryFault) (others : List (Result Nonogram EntryFault)) (old new : List Answer)
+pub takes_next : (guesses : Guessing) (read : Result Nonogram EntryFault) (others : List (Result Nonogram EntryFault))
+    (old new : List Answer)
     (result : Result (Nonogram × Findings) EntryFault) → AreGraded guesses (read ∷ others) old → TakesAnswer (fault_of read) old new result
     → (result ≡ reported guesses read) × AreGraded guesses others new
 takes_next guesses (Err fault) others old new result graded taken = (taken.0, subst (AreGraded guesses others) (sym taken.1) graded)
@@ -86,7 +103,8 @@ takes_next guesses (Ok p) others old new result graded taken =
     (taken.1.1 ∙ found_is guesses p taken.0.puzzle taken.0.outcome both.0 both.1 taken.1.2, both.2)
 
 -- the fault of the entry at a place
-pub fault_at : (faults : List (Option EntryFault)) (entries : List Entry) (i : ℕ) (d : Entry) → faults ≡ map fault_of (readings entries) → i < length entries
+pub fault_at : (faults : List (Option EntryFault)) (entries : List Entry) (i : ℕ) (d : Entry) → faults ≡ map fault_of (readings entries) →
+    i < length entries
     → get_or faults i None ≡ fault_of (reading (get_or entries i d))
 fault_at faults entries i d e h =
     let long : i < length (readings entries) = rw length-map h in
@@ -105,7 +123,8 @@ mapped-more {Y = Y} f h entries i d l =
 
 -- the faults of one more entry
 pub faults-more : (entries : List Entry) (i : ℕ) (d : Entry) → i < length entries
-    → map fault_of (readings (take (i + 1) entries)) ≡ map fault_of (readings (take i entries)) ++ fault_of (reading (get_or entries i d)) ∷ []
+    → map fault_of (readings (take (i + 1) entries)) ≡ map fault_of (readings (take i entries)) ++
+    fault_of (reading (get_or entries i d)) ∷ []
 faults-more entries i d h = mapped-more fault_of reading entries i d h
 
 -- the graded entries with one more

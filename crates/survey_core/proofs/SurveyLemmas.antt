@@ -14,9 +14,12 @@ pub at_most : (n limit : ℕ) → (limit < n → ⊥) → n ≤ limit
 at_most n limit h = omega (arith, h)
 
 -- what the survey of the entries leaves is what the survey of the whole input leaves
-pub survey_of_input : (guesses : Guessing) (show : Bool) (known left : Option (List ℕ)) (bytes : List ℕ) (entries : List Entry) (result : Result (Unit {0}) RunFault)
+pub survey_of_input : (guesses : Guessing) (show : Bool) (known left : Option (List ℕ)) (bytes : List ℕ) (entries : List Entry)
+    (result : Result (Unit {0}) RunFault)
     (before after : Option (List ℕ)) → Consumes known left bytes → IsAtEnd left → cut bytes ≡ Ok entries
-    → Leaves (Ok (survey_of_list guesses show entries)) result before after → IfSome known (λ input. Leaves (survey_of guesses show input) result before after)
+    → Leaves (Ok (survey_of_list guesses show entries)) result before after →
+    IfSome known (λ input. Leaves (survey_of guesses show input) result before after)
 survey_of_input guesses show known left bytes entries result before after consumes ended pieces leaves =
     Consumes-whole known left bytes (λ input. Leaves (survey_of guesses show input) result before after) consumes ended
-    (subst (λ (parts : Result (List Entry) CollectionFault). Leaves (survey_or_fault guesses show parts) result before after) (sym pieces) leaves)
+    (subst (λ (parts : Result (List Entry) CollectionFault). Leaves (survey_or_fault guesses show parts) result before after)
+    (sym pieces) leaves)

@@ -48,5 +48,6 @@ pub few_mapped : {X Y : Type 0} (f : X → Y) (xs : List X) (i : ℕ) → length
 few_mapped f xs i few = omega (arith, length-map (take i xs) f, length-take i xs)
 
 -- the same of elements that are mapped twice
-pub few_mapped_twice : {X Y Z : Type 0} (g : Y → Z) (f : X → Y) (xs : List X) (i : ℕ) → length xs < 2 ^ 31 → length (map g (map f (take i xs))) < 2 ^ 31
+pub few_mapped_twice : {X Y Z : Type 0} (g : Y → Z) (f : X → Y) (xs : List X) (i : ℕ) → length xs < 2 ^ 31 →
+    length (map g (map f (take i xs))) < 2 ^ 31
 few_mapped_twice g f xs i few = omega (arith, length-map (map f (take i xs)) g, few_mapped f xs i few)

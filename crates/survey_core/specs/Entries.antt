@@ -44,12 +44,14 @@ grade_word Search = codes "search"
 
 -- a puzzle's sizes, verdict and grade
 abbrev pub verdict_text : Nonogram → Findings → List ℕ
-verdict_text p findings = decimal p.width ++ codes "x" ++ decimal p.height ++ codes " " ++ verdict_word findings.verdict ++ codes " " ++ grade_word findings.grade
+verdict_text p findings = decimal p.width ++ codes "x" ++ decimal p.height ++ codes " " ++ verdict_word findings.verdict ++ codes " " ++
+    grade_word findings.grade
 
 -- how many cells lines and trials settled, how many guesses were spent, and what is said of the goal
 abbrev pub counts_text : Nonogram → Findings → List ℕ
 counts_text p findings =
-    decimal findings.line_known ++ codes " " ++ decimal findings.trial_known ++ codes " " ++ decimal findings.spent ++ codes " " ++ goal_text (goal_word p)
+    decimal findings.line_known ++ codes " " ++ decimal findings.trial_known ++ codes " " ++ decimal findings.spent ++ codes " " ++
+    goal_text (goal_word p)
 
 -- what is said of an entry
 abbrev pub result_text : Result (Nonogram × Findings) EntryFault → List ℕ

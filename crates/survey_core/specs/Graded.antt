@@ -12,4 +12,5 @@ AreGraded guesses [] [] = Unit {0}
 AreGraded guesses [] (answer ∷ answers) = ⊥
 AreGraded guesses (Err fault ∷ readings) answers = AreGraded guesses readings answers
 AreGraded guesses (Ok p ∷ readings) [] = ⊥
-AreGraded guesses (Ok p ∷ readings) (answer ∷ answers) = (answer.puzzle ≡ p) × (IsOutcome p guesses.limit guesses.pick answer.outcome) × (AreGraded guesses readings answers)
+AreGraded guesses (Ok p ∷ readings) (answer ∷ answers) = (answer.puzzle ≡ p) × (IsOutcome p guesses.limit guesses.pick answer.outcome) ×
+    (AreGraded guesses readings answers)

@@ -54,4 +54,5 @@ jobs_of guesses readings = jobs_from guesses 1 readings
 -- the fault, or else what the first of the answers found, which is a report
 abbrev pub TakesAnswer : Option EntryFault → List Answer → List Answer → Result (Nonogram × Findings) EntryFault → Type 0
 TakesAnswer (Some fault) old new result = (result ≡ Err fault) × (new ≡ old)
-TakesAnswer None old new result = (answer : Answer) × ((old ≡ answer ∷ new) × (result ≡ found_of answer.puzzle answer.outcome) × IsOk answer.outcome)
+TakesAnswer None old new result = (answer : Answer) ×
+    ((old ≡ answer ∷ new) × (result ≡ found_of answer.puzzle answer.outcome) × IsOk answer.outcome)

@@ -48,4 +48,5 @@ survey_of guesses show bytes = survey_or_fault guesses show (cut bytes)
 
 -- the survey of entries in hand, or that they are too many
 abbrev pub survey_of_entries : Guessing → Bool → List Entry → Result (List ℕ) CollectionFault
-survey_of_entries guesses show entries = if nat_lt MOST_ENTRIES (length entries) then Err TooMany else Ok (survey_of_list guesses show entries)
+survey_of_entries guesses show entries = if nat_lt MOST_ENTRIES (length entries) then Err TooMany else Ok
+    (survey_of_list guesses show entries)

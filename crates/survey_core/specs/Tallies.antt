@@ -36,13 +36,15 @@ pub record IsTotals (totals : Totals) (entries : List GradedEntry) : Type 0 wher
 -- how many entries are refused, and how many have each verdict
 abbrev pub statuses_text : Totals → List ℕ
 statuses_text totals =
-    count_text (codes "refused") totals.refused ++ count_text (codes "none") totals.verdicts.none ++ count_text (codes "one") totals.verdicts.one
+    count_text (codes "refused") totals.refused ++ count_text (codes "none") totals.verdicts.none ++
+    count_text (codes "one") totals.verdicts.one
     ++ count_text (codes "several") totals.verdicts.several ++ count_text (codes "unsettled") totals.verdicts.unsettled
 
 -- how many entries have each grade
 abbrev pub grades_text : Totals → List ℕ
 grades_text totals =
-    count_text (codes "line") totals.grades.by_lines ++ count_text (codes "trials") totals.grades.by_trials ++ count_text (codes "search") totals.grades.by_search
+    count_text (codes "line") totals.grades.by_lines ++ count_text (codes "trials") totals.grades.by_trials ++
+    count_text (codes "search") totals.grades.by_search
 
 -- how many entries there are, how many are refused, and how many have each verdict and each grade
 abbrev pub totals_text : Totals → List ℕ

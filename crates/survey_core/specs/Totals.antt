@@ -39,7 +39,8 @@ grade_count entries word = count_text word (count_by (has_grade word) entries)
 -- how many entries are refused, and how many have each verdict
 abbrev pub status_counts : List GradedEntry → List ℕ
 status_counts entries =
-    status_count entries (codes "refused") ++ status_count entries (codes "none") ++ status_count entries (codes "one") ++ status_count entries (codes "several")
+    status_count entries (codes "refused") ++ status_count entries (codes "none") ++ status_count entries (codes "one") ++
+    status_count entries (codes "several")
     ++ status_count entries (codes "unsettled")
 
 -- how many entries have each grade

@@ -221,7 +221,8 @@ fn take_complete(
     complete: &mut VecDeque<CompleteLane, Global>,
 )
     requires { deque_len complete.old + deque_len running.old ≤ deque_capacity complete.old }
-    ensures jobs { complete_jobs complete.new.items ++ dealt_jobs running.new.items ≡ complete_jobs complete.old.items ++ dealt_jobs running.old.items }
+    ensures jobs { complete_jobs complete.new.items ++ dealt_jobs running.new.items ≡ complete_jobs complete.old.items ++
+        dealt_jobs running.old.items }
     ensures len { deque_len complete.new + deque_len running.new ≡ deque_len complete.old + deque_len running.old }
     ensures room { deque_capacity complete.new ≡ deque_capacity complete.old }
 {

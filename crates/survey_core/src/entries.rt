@@ -189,7 +189,8 @@ pub fn print_graded(
     answer: &Answer,
     show: bool,
 ) -> Result<Vec<u8>, NoMemory>
-    ensures text { IfOk result (λ text. text.items ≡ entry_text show number (record { name = name.now; result = found_of answer.now.puzzle answer.now.outcome })) }
+    ensures text { IfOk result (λ text. text.items ≡ entry_text show number
+        (record { name = name.now; result = found_of answer.now.puzzle answer.now.outcome })) }
     ensures report { OnOk result (IsOk answer.now.outcome) }
 {
     let entry = ListedEntry::graded(name, answer)?;

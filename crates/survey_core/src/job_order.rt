@@ -18,7 +18,8 @@ pub fn deal_out(
 ) -> Result<Vec<VecDeque<Job, Global>>, NoMemory>
     requires some { 0 < lanes }
     ensures lanes { IfOk result (λ queues. vec_len queues ≡ lanes) }
-    ensures dealt { IfOk result (λ queues. (k : ℕ) → k < lanes → slice_index_or (map (λ q. q.items) queues.items) k [] ≡ dealt jobs.items lanes k) }
+    ensures dealt { IfOk result (λ queues. (k : ℕ) → k < lanes → slice_index_or (map (λ q. q.items) queues.items) k [] ≡
+        dealt jobs.items lanes k) }
 {
     let count = jobs.len();
     let mut queues = no_jobs(alloc, lanes, count.div_ceil(lanes))?;
@@ -63,7 +64,8 @@ pub fn gather(
 ) -> Vec<Answer>
     requires some { 0 < lanes }
     requires lanes { vec_len queues ≡ lanes }
-    requires answered { (k : ℕ) → k < lanes → AreAnswersTo (dealt jobs.now.value.items lanes k) (slice_index_or (map (λ q. q.items) queues.items) k []) }
+    requires answered { (k : ℕ) → k < lanes →
+        AreAnswersTo (dealt jobs.now.value.items lanes k) (slice_index_or (map (λ q. q.items) queues.items) k []) }
     requires empty { gathered.items ≡ [] }
     requires count { count ≡ length jobs.now.value.items }
     requires room { count ≤ vec_capacity gathered }

@@ -46,7 +46,10 @@ impl<'a> ListedEntry<'a> {
 
     /// An entry whose puzzle was graded. `NoMemory` where the answer says so.
     pub fn graded(name: &'a [u8], answer: &'a Answer) -> Result<ListedEntry<'a>, NoMemory>
-        ensures listed { IfOk result (λ listed. shown_listed listed ≡ record { name = name.now; result = found_of answer.now.puzzle answer.now.outcome }) }
+        ensures listed { IfOk result (λ listed. shown_listed listed ≡ record {
+          name = name.now;
+          result = found_of answer.now.puzzle answer.now.outcome;
+        }) }
         ensures report { OnOk result (IsOk answer.now.outcome) }
         ensures refused { IfErr result (λ refused. answer.now.outcome ≡ Err refused) }
     {

@@ -49,7 +49,8 @@ impl SurveyText {
 
     /// The text of the entries and the line of totals.
     pub fn finish(self) -> Result<Vec<u8>, NoMemory>
-        ensures { (show : Bool) (entries : List GradedEntry) → IsSurveyText show self entries → IfOk result (λ text. text.items ≡ survey_text show entries) }
+        ensures { (show : Bool) (entries : List GradedEntry) → IsSurveyText show self entries →
+            IfOk result (λ text. text.items ≡ survey_text show entries) }
     {
         let mut text = self.text;
         self.totals.push(&mut text)?;

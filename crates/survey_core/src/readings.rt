@@ -28,7 +28,8 @@ impl Readings {
         number: u32,
         settings: &Settings,
     ) -> Result<(), NoMemory>
-        ensures jobs { OnOk result (map shown_job self.new.jobs.items ≡ map shown_job self.old.jobs.items ++ job_of (guessing settings.now) number (reading entry.now)) }
+        ensures jobs { OnOk result (map shown_job self.new.jobs.items ≡ map shown_job self.old.jobs.items ++
+            job_of (guessing settings.now) number (reading entry.now)) }
         ensures few { OnOk result (vec_len self.new.jobs ≤ vec_len self.old.jobs + 1) }
         ensures faults { OnOk result (self.new.faults.items ≡ self.old.faults.items ++ fault_of (reading entry.now) ∷ []) }
     {

@@ -27,7 +27,8 @@ pub(crate) fn read_collection<R: Read>(
     requires { fault_count reader.old < 2 ^ 32 - 1 }
     ensures bytes { IfOk result (λ text. Consumes (R.remaining reader.old.inner) (R.remaining reader.new.inner) text.items) }
     ensures bound { IfOk result (λ text. vec_len text ≤ LONGEST_COLLECTION + 1) }
-    ensures refused { IfErr result (λ _. ReadsWithin (LONGEST_COLLECTION + 1) (R.remaining reader.old.inner) (R.remaining reader.new.inner)) }
+    ensures refused { IfErr result (λ _. ReadsWithin (LONGEST_COLLECTION + 1) (R.remaining reader.old.inner)
+        (R.remaining reader.new.inner)) }
     ensures whole { IfOk result (λ text. vec_len text ≤ LONGEST_COLLECTION → IsAtEnd (R.remaining reader.new.inner)) }
     ensures failed { IsErrOf result ReadFault.Read ↔ (fault_count reader.old < fault_count reader.new) }
 {

@@ -30,7 +30,8 @@ fn write_survey<H: Threads + Wait + Sync, W: Write, G: Gate + Sync>(
 ) -> Result<(), RunFault>
     requires few { length entries.now ≤ MOST_ENTRIES }
     requires writing { fault_count writer.old < 2 ^ 32 - 1 }
-    ensures answer { Leaves (Ok (survey_of_list (guessing settings.now) settings.now.show (map shown_entry entries.now))) result (W.contents writer.old.inner) (W.contents writer.new.inner) }
+    ensures answer { Leaves (Ok (survey_of_list (guessing settings.now) settings.now.show (map shown_entry entries.now))) result
+        (W.contents writer.old.inner) (W.contents writer.new.inner) }
     ensures write { IsErrWrite result ↔ (fault_count writer.old < fault_count writer.new) }
     ensures no_read { IsErrOf result RunFault.Read → ⊥ }
 {
@@ -58,7 +59,8 @@ pub fn run_survey<H: Threads + Wait + Sync, R: Read, W: Write, G: Gate + Sync>(
     ensures bound { ReadsWithin (LONGEST_COLLECTION + 1) (R.remaining reader.old.inner) (R.remaining reader.new.inner) }
     ensures ended { OnOk result (IsAtEnd (R.remaining reader.new.inner)) }
     ensures answer { IfSome (R.remaining reader.old.inner) (λ input.
-        Leaves (survey_of (guessing settings.now) settings.now.show input) result (W.contents writer.old.inner) (W.contents writer.new.inner)) }
+        Leaves (survey_of (guessing settings.now) settings.now.show input) result (W.contents writer.old.inner)
+        (W.contents writer.new.inner)) }
 
     // The faults of the reader and the writer, and of no other.
     ensures read { IsErrOf result RunFault.Read ↔ (fault_count reader.old < fault_count reader.new) }
@@ -88,7 +90,8 @@ pub fn survey_entries<H: Threads + Wait + Sync, W: Write, G: Gate + Sync>(
     gate: &G,
 ) -> Result<(), RunFault>
     requires { fault_count writer.old < 2 ^ 32 - 1 }
-    ensures answer { Leaves (survey_of_entries (guessing settings.now) settings.now.show (map shown_entry entries.now)) result (W.contents writer.old.inner) (W.contents writer.new.inner) }
+    ensures answer { Leaves (survey_of_entries (guessing settings.now) settings.now.show (map shown_entry entries.now)) result
+        (W.contents writer.old.inner) (W.contents writer.new.inner) }
     // Want of memory never stands in place of this fault.
     ensures too_many { MOST_ENTRIES < length entries.now → result ≡ Err (RunFault.Collection CollectionFault.TooMany) }
     ensures write { IsErrWrite result ↔ (fault_count writer.old < fault_count writer.new) }

@@ -30,7 +30,8 @@ impl VerdictTotals {
         ensures none { self.new.none ≡ one_more_where (bytes_eq (verdict_word verdict.now) (codes "none")) self.old.none }
         ensures one { self.new.one ≡ one_more_where (bytes_eq (verdict_word verdict.now) (codes "one")) self.old.one }
         ensures several { self.new.several ≡ one_more_where (bytes_eq (verdict_word verdict.now) (codes "several")) self.old.several }
-        ensures unsettled { self.new.unsettled ≡ one_more_where (bytes_eq (verdict_word verdict.now) (codes "unsettled")) self.old.unsettled }
+        ensures unsettled { self.new.unsettled ≡ one_more_where (bytes_eq (verdict_word verdict.now) (codes "unsettled"))
+            self.old.unsettled }
     {
         match verdict {
             Verdict::Nothing => self.none += 1,
@@ -107,11 +108,16 @@ impl Totals {
         ensures refused { self.new.refused ≡ one_more_where (has_status (codes "refused") (shown_listed entry.now)) self.old.refused }
         ensures none { self.new.verdicts.none ≡ one_more_where (has_status (codes "none") (shown_listed entry.now)) self.old.verdicts.none }
         ensures one { self.new.verdicts.one ≡ one_more_where (has_status (codes "one") (shown_listed entry.now)) self.old.verdicts.one }
-        ensures several { self.new.verdicts.several ≡ one_more_where (has_status (codes "several") (shown_listed entry.now)) self.old.verdicts.several }
-        ensures unsettled { self.new.verdicts.unsettled ≡ one_more_where (has_status (codes "unsettled") (shown_listed entry.now)) self.old.verdicts.unsettled }
-        ensures by_lines { self.new.grades.by_lines ≡ one_more_where (has_grade (codes "line") (shown_listed entry.now)) self.old.grades.by_lines }
-        ensures by_trials { self.new.grades.by_trials ≡ one_more_where (has_grade (codes "trials") (shown_listed entry.now)) self.old.grades.by_trials }
-        ensures by_search { self.new.grades.by_search ≡ one_more_where (has_grade (codes "search") (shown_listed entry.now)) self.old.grades.by_search }
+        ensures several { self.new.verdicts.several ≡ one_more_where (has_status (codes "several") (shown_listed entry.now))
+            self.old.verdicts.several }
+        ensures unsettled { self.new.verdicts.unsettled ≡ one_more_where (has_status (codes "unsettled") (shown_listed entry.now))
+            self.old.verdicts.unsettled }
+        ensures by_lines { self.new.grades.by_lines ≡ one_more_where (has_grade (codes "line") (shown_listed entry.now))
+            self.old.grades.by_lines }
+        ensures by_trials { self.new.grades.by_trials ≡ one_more_where (has_grade (codes "trials") (shown_listed entry.now))
+            self.old.grades.by_trials }
+        ensures by_search { self.new.grades.by_search ≡ one_more_where (has_grade (codes "search") (shown_listed entry.now))
+            self.old.grades.by_search }
     {
         self.entries += 1;
         match &entry.result {

@@ -9,5 +9,6 @@ returns-then-is_empty-clause-none c =
 
 pub returns-else-is_empty-clause-first : goal.returns-else-is_empty-clause-first
 returns-else-is_empty-clause-first c =
-    λ i l. held c.args.places c.all.result c.without-lacking.result i c.all.ensures c.without-lacking.ensures (omega (arith, c.first_place.ensures.within))
+    λ i l. held c.args.places c.all.result c.without-lacking.result i c.all.ensures c.without-lacking.ensures
+    (omega (arith, c.first_place.ensures.within))
     (λ h. absurd (omega (arith, c.first_place.ensures.least i h)))

@@ -33,7 +33,8 @@ returns-then-count-gt128 c =
     let told = cell_told (joined f.low f.high) (joined b.low b.high) in
     let full : c.min.result ≡ 128 = omega (arith, c.min.ensures, c.if-count-gt128.true) in
     let first : AreWritten old mid c.args.place 128 told =
-    told_as old mid c.args.place c.min.result 128 (cell_told f.low b.low) told full c.write_half.ensures (λ i l. told_low f.low f.high b.low b.high i (omega (arith, full, l))) in
+    told_as old mid c.args.place c.min.result 128 (cell_told f.low b.low) told full c.write_half.ensures
+    (λ i l. told_low f.low f.high b.low b.high i (omega (arith, full, l))) in
     let whole : 128 + (count - 128) ≡ count = omega (arith, c.if-count-gt128.true) in
     told_as old new c.args.place (128 + (count - 128)) count told told whole
     (more_written old mid new c.args.place 128 (count - 128) told (cell_told f.high b.high) first c.write_half-then-count-gt128.ensures
@@ -45,5 +46,6 @@ returns-else-count-gt128 c =
     let f = c.args.filled in
     let b = c.args.blank in
     let few : c.min.result ≡ c.args.count = omega (arith, c.min.ensures, c.if-count-gt128.false) in
-    told_as c.args.blocks.now c.write_half.new.blocks c.args.place c.min.result c.args.count (cell_told f.low b.low) (cell_told (joined f.low f.high) (joined b.low b.high)) few c.write_half.ensures
+    told_as c.args.blocks.now c.write_half.new.blocks c.args.place c.min.result c.args.count (cell_told f.low b.low)
+    (cell_told (joined f.low f.high) (joined b.low b.high)) few c.write_half.ensures
     (λ i l. told_low f.low f.high b.low b.high i (omega (arith, few, l, c.if-count-gt128.false)))

@@ -15,7 +15,8 @@ returns-then-count-gt64 c =
     let told = cell_told filled blank in
     let full : c.min.result ≡ 64 = omega (arith, c.min.ensures, c.if-count-gt64.true) in
     let first : AreWritten old mid c.args.place 64 told =
-    told_as old mid c.args.place c.min.result 64 (cell_in c.first_of.result) told full c.write_word.ensures (λ i l. c.first_of.ensures.cells i (omega (arith, full, l))) in
+    told_as old mid c.args.place c.min.result 64 (cell_in c.first_of.result) told full c.write_word.ensures
+    (λ i l. c.first_of.ensures.cells i (omega (arith, full, l))) in
     let whole : 64 + (count - 64) ≡ count = omega (arith, c.if-count-gt64.true) in
     told_as old new c.args.place (64 + (count - 64)) count told told whole
     (more_written old mid new c.args.place 64 (count - 64) told (cell_in c.first_of-rest.result) first c.write_word-then-count-gt64.ensures

@@ -5,4 +5,5 @@ use Rattle.nonograde.proofs.files.entries_of.Given as goal
 
 abbrev pub invariant-loop-place : goal.invariant-loop-place
 invariant-loop-place l =
-    map shown_entry l.entries.items ≡ named_texts (take l.place (map string_bytes l.paths)) (take l.place (map (λ body. body.items) l.bodies))
+    map shown_entry l.entries.items ≡ named_texts (take l.place (map string_bytes l.paths))
+    (take l.place (map (λ body. body.items) l.bodies))

@@ -2,4 +2,5 @@ use Rattle.nonograde.proofs.FoundLemmas.{answer_printed}
 use Rattle.nonograde.proofs.reports.solve_text.Goals as goal
 
 pub returns : goal.returns
-returns c = answer_printed c.args.name.now c.args.puzzle c.args.guesses c.args.pick _ _ c.print_graded.result c.new.ensures.puzzle c.new.ensures.guesses c.new.ensures.pick c.grade-answer.ensures c.print_graded.ensures.text c.print_graded.ensures.report
+returns c = answer_printed c.args.name.now c.args.puzzle c.args.guesses c.args.pick _ _ c.print_graded.result c.new.ensures.puzzle
+    c.new.ensures.guesses c.new.ensures.pick c.grade-answer.ensures c.print_graded.ensures.text c.print_graded.ensures.report

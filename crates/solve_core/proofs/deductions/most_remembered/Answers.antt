@@ -12,6 +12,7 @@ returns g c =
     let most : width ≤ 256 = width_most width g.W.PlaceSet.TOP g.met.W.PlaceSet.top_is.1 g.met.W.PlaceSet.width_is in
     let some : 1 < width = one_within width g.W.PlaceSet.TOP g.met.W.PlaceSet.top_is.0 g.met.W.PlaceSet.width_is in
     let wide : c.from.result ≡ width = c.from.ensures ∙ c.WIDTH.ensures in
-    let quotient : 1 ≤ 1048576 / width = positive (1048576 / width) width (1048576 % width) 1048576 (omega (arith, some)) (omega (arith, some)) most (omega arith) in
+    let quotient : 1 ≤ 1048576 / width = positive (1048576 / width) width (1048576 % width) 1048576 (omega (arith, some))
+    (omega (arith, some)) most (omega arith) in
     let there : 1 ≤ 1048576 / c.from.result = rw wide quotient in
     (omega (arith, c.min.ensures, there), omega (arith, c.min.ensures))

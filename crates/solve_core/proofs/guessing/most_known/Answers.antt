@@ -8,7 +8,11 @@ use Rattle.solve_core.proofs.guessing.most_known.Goals as goal
 use Rattle.solve_core.proofs.guessing.most_known.Goals.{then-is_unknown+then-sure-least, then-is_unknown+else-sure-least, else-is_unknown}
 
 pub overflow_add-least : goal.overflow_add-least
-overflow_add-least c = omega (arith, c.sure_neighbours-sure.ensures, score-few c.args.grid.now.width c.args.grid.now.cells c.loop-place.place)
+overflow_add-least c = omega (
+  arith,
+  c.sure_neighbours-sure.ensures,
+  score-few c.args.grid.now.width c.args.grid.now.cells c.loop-place.place,
+)
 
 pub loop-place-preserved : goal.loop-place-preserved
 loop-place-preserved c =
@@ -23,21 +27,24 @@ loop-place-preserved c =
           record {
             within = omega (arith, c.loop-place-test.true);
             best_is = subst (IsFirstMost score passes 0 (place + 1)) (sym w.best-is)
-                (cell-some score passes place c.loop-place.best before.best_is (sym seen ∙ w.if-is_unknown.true) (omega (arith, before.least_is, w.if-sure-least.true, w.sure_neighbours-sure.ensures)));
+                (cell-some score passes place c.loop-place.best before.best_is (sym seen ∙ w.if-is_unknown.true)
+                (omega (arith, before.least_is, w.if-sure-least.true, w.sure_neighbours-sure.ensures)));
             least_is = w.least-is ∙ ap (λ (n : ℕ). n + 1) w.sure_neighbours-sure.ensures ∙ sym (ap (least_after score) w.best-is);
           }
       | then-is_unknown+else-sure-least w ↦
           record {
             within = omega (arith, c.loop-place-test.true);
             best_is = subst (IsFirstMost score passes 0 (place + 1)) (sym w.best-is)
-                (cell-none score passes place c.loop-place.best before.best_is (λ p. omega (arith, before.least_is, w.if-sure-least.false, w.sure_neighbours-sure.ensures)));
+                (cell-none score passes place c.loop-place.best before.best_is
+                (λ p. omega (arith, before.least_is, w.if-sure-least.false, w.sure_neighbours-sure.ensures)));
             least_is = w.least-is ∙ before.least_is ∙ sym (ap (least_after score) w.best-is);
           }
       | else-is_unknown w ↦
           record {
             within = omega (arith, c.loop-place-test.true);
             best_is = subst (IsFirstMost score passes 0 (place + 1)) (sym w.best-is)
-                (cell-none score passes place c.loop-place.best before.best_is (λ p. absurd (true≢false (sym p ∙ sym seen ∙ w.if-is_unknown.false))));
+                (cell-none score passes place c.loop-place.best before.best_is
+                (λ p. absurd (true≢false (sym p ∙ sym seen ∙ w.if-is_unknown.false))));
             least_is = w.least-is ∙ before.least_is ∙ sym (ap (least_after score) w.best-is);
           }
     ]
@@ -47,7 +54,9 @@ returns c =
     let cells = c.args.grid.now.cells in
     let score = sure_neighbours c.args.grid.now.width cells in
     let passes : ℕ → Bool = λ k. is_unknown (get_or cells k Unknown) in
-    let count : c.from.result * c.from-2.result ≡ length cells = (λ i. (c.from.ensures ∙ c.width.ensures.width) i * (c.from-2.ensures ∙ c.height.ensures) i) ∙ sym c.width.ensures.cells in
+    let count : c.from.result * c.from-2.result ≡ length cells =
+    (λ i. (c.from.ensures ∙ c.width.ensures.width) i * (c.from-2.ensures ∙ c.height.ensures) i) ∙ sym c.width.ensures.cells in
     let last : c.loop-place.place ≡ length cells = omega (arith, c.loop-place-test.false, c.loop-place.invariant.within, count) in
     first_most-only score passes 0 (length cells) c.loop-place.best (most_known c.args.grid.now.width cells)
-    (subst (λ (n : ℕ). IsFirstMost score passes 0 n c.loop-place.best) last c.loop-place.invariant.best_is) (first_most-is score passes 0 (length cells))
+    (subst (λ (n : ℕ). IsFirstMost score passes 0 n c.loop-place.best) last c.loop-place.invariant.best_is)
+    (first_most-is score passes 0 (length cells))

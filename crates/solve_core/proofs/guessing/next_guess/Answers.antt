@@ -10,6 +10,7 @@ overflow_cast-result-in-Most c =
     let place = c.in_ok-place-in-Most.place in
     let found : most_known grid.width grid.cells ≡ Some place = sym c.most_known.ensures ∙ c.in_ok-place-in-Most.was in
     let within = ((most_known-IsPick grid.width).within grid.cells place found).0 in
-    let row : place / grid.width < grid.height = div_below place grid.width grid.height c.width.ensures.size.width_from (omega (arith, within, c.width.ensures.cells)) in
+    let row : place / grid.width < grid.height =
+    div_below place grid.width grid.height c.width.ensures.size.width_from (omega (arith, within, c.width.ensures.cells)) in
     let wide : c.from-width.result ≡ grid.width = c.from-width.ensures ∙ c.width.ensures.width in
     rw wide (omega (arith, row, c.width.ensures.size.height_to))

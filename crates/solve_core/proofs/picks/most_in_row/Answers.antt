@@ -26,11 +26,15 @@ returns g c =
     let number = g.W.PlaceSet.number in
     let row = c.args.row.now in
     let long : c.len.result ≡ length row = c.len.ensures.len in
-    let last = subst (λ (n : ℕ). IsMaskOf (IsMoved g.W.PlaceSet.WIDTH (Has (number c.first-2.result)) (n - 1)) (number c.up-2.result)) long c.up-2.ensures in
-    let left = left_is row g.W.PlaceSet.WIDTH (number c.known_cells-known.result) (number c.up.result) (number c.first.result) (number c.or-left.result) c.len.ensures.fits c.known_cells-known.ensures c.up.ensures c.first.ensures c.or-left.ensures in
-    let right = right_is row g.W.PlaceSet.WIDTH (number c.known_cells-known.result) (number c.down.result) (number c.first-2.result) (number c.up-2.result) (number c.or-right.result) c.len.ensures.fits c.len.ensures.some
+    let last = subst (λ (n : ℕ). IsMaskOf (IsMoved g.W.PlaceSet.WIDTH (Has (number c.first-2.result)) (n - 1)) (number c.up-2.result))
+    long c.up-2.ensures in
+    let left = left_is row g.W.PlaceSet.WIDTH (number c.known_cells-known.result) (number c.up.result) (number c.first.result)
+    (number c.or-left.result) c.len.ensures.fits c.known_cells-known.ensures c.up.ensures c.first.ensures c.or-left.ensures in
+    let right = right_is row g.W.PlaceSet.WIDTH (number c.known_cells-known.result) (number c.down.result) (number c.first-2.result)
+    (number c.up-2.result) (number c.or-right.result) c.len.ensures.fits c.len.ensures.some
     c.known_cells-known.ensures c.down.ensures c.first-2.ensures last c.or-right.ensures in
-    most_by row (has (number c.args.above)) (has (number c.args.below)) c.args.least (number c.unknown_cells-unknown.result) _ _ c.first_in_most.result c.unknown_cells-unknown.ensures.cells
+    most_by row (has (number c.args.above)) (has (number c.args.below)) c.args.least
+    (number c.unknown_cells-unknown.result) _ _ c.first_in_most.result c.unknown_cells-unknown.ensures.cells
     (λ x h. (λ i. counts_by _ _ _ c.of-beside.ensures x i + counts_by _ _ _ c.of-across.ensures x i)
     ∙ (λ i. two_of (left x h i) (right x h i) + two_of (has (number c.args.above) x) (has (number c.args.below) x)))
     c.first_in_most.ensures.none c.first_in_most.ensures.found c.first_in_most.ensures.most c.first_in_most.ensures.earliest

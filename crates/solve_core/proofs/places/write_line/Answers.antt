@@ -21,7 +21,8 @@ loop-left-init g c =
     let board = c.args.board.now in
     let places = places_in board.width board.height c.args.n in
     record {
-      partly = partly-init places.first places.step places.count board.cells (cells_along board c.args.n) c.args.new.now (g.W.PlaceSet.number c.args.changes) refl (seen board c.args.n) c.requires.changes;
+      partly = partly-init places.first places.step places.count board.cells (cells_along board c.args.n) c.args.new.now
+          (g.W.PlaceSet.number c.args.changes) refl (seen board c.args.n) c.requires.changes;
       trail = trailed-refl board;
     }
 
@@ -31,7 +32,8 @@ settle_along-requires-clause-n g c = omega (arith, c.requires.n, c.loop-left.inv
 pub settle_along-requires-clause-i : goal.settle_along-requires-clause-i
 settle_along-requires-clause-i g c =
     let at = (c.loop-left.invariant.partly.changed c.first_place-i.result c.first_place-i.ensures.in_mask).0 in
-    rw (c.loop-left.invariant.trail.width, c.loop-left.invariant.trail.height, c.from.ensures) (omega (arith, at, seen c.args.board.now c.args.n))
+    rw (c.loop-left.invariant.trail.width, c.loop-left.invariant.trail.height, c.from.ensures)
+    (omega (arith, at, seen c.args.board.now c.args.n))
 
 pub settle_along-requires-clause-unknown : goal.settle_along-requires-clause-unknown
 settle_along-requires-clause-unknown g c =
@@ -40,7 +42,8 @@ settle_along-requires-clause-unknown g c =
     let at = c.loop-left.invariant.partly.changed i c.first_place-i.ensures.in_mask in
     let more = Extends-at old c.args.new.now i c.requires.more in
     rw (c.loop-left.invariant.trail.width, c.loop-left.invariant.trail.height, c.from.ensures)
-    (c.loop-left.invariant.partly.as_old i (omega (arith, at.0, seen c.args.board.now c.args.n)) c.first_place-i.ensures.in_mask ∙ (learned_cell (get_or old i Unknown) (get_or c.args.new.now i Unknown) more at.1).0)
+    (c.loop-left.invariant.partly.as_old i (omega (arith, at.0, seen c.args.board.now c.args.n)) c.first_place-i.ensures.in_mask ∙
+    (learned_cell (get_or old i Unknown) (get_or c.args.new.now i Unknown) more at.1).0)
 
 pub get-requires : goal.get-requires
 get-requires g c =
@@ -52,7 +55,8 @@ settle_along-requires-clause-known g c =
     let i = c.first_place-i.result in
     let old = cells_along c.args.board.now c.args.n in
     let at = c.loop-left.invariant.partly.changed i c.first_place-i.ensures.in_mask in
-    rw c.get.ensures ((learned_cell (get_or old i Unknown) (get_or c.args.new.now i Unknown) (Extends-at old c.args.new.now i c.requires.more) at.1).1)
+    rw c.get.ensures ((learned_cell (get_or old i Unknown) (get_or c.args.new.now i Unknown)
+    (Extends-at old c.args.new.now i c.requires.more) at.1).1)
 
 pub loop-left-smaller : goal.loop-left-smaller
 loop-left-smaller g c =
@@ -64,12 +68,20 @@ loop-left-smaller g c =
     let places = places_in c.args.board.now.width c.args.board.now.height n in
     let at = before.partly.changed i c.first_place-i.ensures.in_mask in
     let here : i < places.count = omega (arith, at.0, seen c.args.board.now n) in
-    let inside : places.first + i * places.step < length now.cells = let within = line-within c.args.board.now.width c.args.board.now.height n c.requires.n i here in omega (arith, within, before.partly.size, c.requires.cells) in
-    let learned = learned_cell (get_or old i Unknown) (get_or c.args.new.now i Unknown) (Extends-at old c.args.new.now i c.requires.more) at.1 in
+    let inside : places.first + i * places.step < length now.cells = let within =
+    line-within c.args.board.now.width c.args.board.now.height n c.requires.n i here in
+    omega (arith, within, before.partly.size, c.requires.cells) in
+    let learned = learned_cell (get_or old i Unknown) (get_or c.args.new.now i Unknown)
+    (Extends-at old c.args.new.now i c.requires.more) at.1 in
     let cells : c.settle_along.new.self.cells ≡ set now.cells (places.first + i * places.step) (get_or c.args.new.now i Unknown) =
-    c.settle_along.ensures.cells ∙ (λ j. set now.cells (place_along (before.trail.width j) (before.trail.height j) n (c.from.ensures j)) (c.get.ensures j)) in
+    c.settle_along.ensures.cells ∙ (λ j. set now.cells (place_along (before.trail.width j) (before.trail.height j) n (c.from.ensures j))
+    (c.get.ensures j)) in
     rw cells
-    (omega (arith, count-settled now.cells (places.first + i * places.step) (get_or c.args.new.now i Unknown) inside (before.partly.as_old i here c.first_place-i.ensures.in_mask ∙ learned.0) learned.1))
+    (omega (
+      arith,
+      count-settled now.cells (places.first + i * places.step) (get_or c.args.new.now i Unknown) inside
+          (before.partly.as_old i here c.first_place-i.ensures.in_mask ∙ learned.0) learned.1,
+    ))
 
 pub loop-left-preserved : goal.loop-left-preserved
 loop-left-preserved g c =
@@ -82,13 +94,18 @@ loop-left-preserved g c =
     let places = places_in c.args.board.now.width c.args.board.now.height n in
     let at = before.partly.changed i c.first_place-i.ensures.in_mask in
     let here : i < places.count = omega (arith, at.0, seen c.args.board.now n) in
-    let inside : places.first + i * places.step < length now.cells = let within = line-within c.args.board.now.width c.args.board.now.height n c.requires.n i here in omega (arith, within, before.partly.size, c.requires.cells) in
+    let inside : places.first + i * places.step < length now.cells = let within =
+    line-within c.args.board.now.width c.args.board.now.height n c.requires.n i here in
+    omega (arith, within, before.partly.size, c.requires.cells) in
     let cells : c.settle_along.new.self.cells ≡ set now.cells (places.first + i * places.step) (get_or new i Unknown) =
-    c.settle_along.ensures.cells ∙ (λ j. set now.cells (place_along (before.trail.width j) (before.trail.height j) n (c.from.ensures j)) (c.get.ensures j)) in
+    c.settle_along.ensures.cells ∙ (λ j. set now.cells (place_along (before.trail.width j) (before.trail.height j) n (c.from.ensures j))
+    (c.get.ensures j)) in
     record {
       partly = rw cells
-          (partly-step places.first places.step places.count c.args.board.now.cells now.cells old new (g.W.PlaceSet.number c.loop-left.left) (g.W.PlaceSet.number c.marked-left.result) i
-          (line-step c.args.board.now.width c.args.board.now.height n (omega (arith, c.requires.size.width_from))) here inside c.marked-left.ensures before.partly);
+          (partly-step places.first places.step places.count c.args.board.now.cells now.cells old new
+          (g.W.PlaceSet.number c.loop-left.left) (g.W.PlaceSet.number c.marked-left.result) i
+          (line-step c.args.board.now.width c.args.board.now.height n (omega (arith, c.requires.size.width_from))) here inside
+          c.marked-left.ensures before.partly);
       trail = trailed-trans c.args.board.now now c.settle_along.new.self before.trail c.settle_along.ensures.trail;
     }
 

@@ -8,7 +8,8 @@ abbrev pub invariant-loop-left : goal.invariant-loop-left
 invariant-loop-left g l =
     let places = places_in l.fn.board.width l.fn.board.height l.n in
     record {
-      partly : IsPartly places.first places.step places.count l.fn.board.cells l.board.cells (cells_along l.fn.board l.n) l.new (g.W.PlaceSet.number l.left);
+      partly : IsPartly places.first places.step places.count l.fn.board.cells l.board.cells (cells_along l.fn.board l.n) l.new
+          (g.W.PlaceSet.number l.left);
       trail : IsTrailed l.fn.board l.board;
     }
 

@@ -7,4 +7,5 @@ use Rattle.solve_core.proofs.plain.close_cells.Goals as goal
 pub returns-in-Same : goal.returns-in-Same
 returns-in-Same c =
     let p = c.args.puzzle.now in
-    sym (settled_closed p c.learn_lines.new.cells c.requires.puzzle (c.in-Same.ensures.settled refl)) ∙ ap (closure (lines_of p)) c.in-Same.ensures.progress ∙ c.loop.invariant
+    sym (settled_closed p c.learn_lines.new.cells c.requires.puzzle (c.in-Same.ensures.settled refl)) ∙
+    ap (closure (lines_of p)) c.in-Same.ensures.progress ∙ c.loop.invariant

@@ -15,8 +15,11 @@ pub returns-then-are_same : goal.returns-then-are_same
 returns-then-are_same c =
     let clue = c.args.clue.now in
     let old = c.read_line-old.ensures in
-    let same : c.in-Some.new ≡ c.read_line-old.result = c.are_same.ensures.same c.if-are_same.true in
-    (refl, ap (λ (r : List Cell). deduced r clue) (sym old) ∙ sym c.deduce_by_listing.ensures ∙ c.in-Some.is ∙ ap (λ (r : List Cell). Some r) (same ∙ old))
+    let same : c.in-Some.new ≡ c.read_line-old.result = c.are_same.ensures.same c.if-are_same.true in (
+      refl,
+      ap (λ (r : List Cell). deduced r clue) (sym old) ∙ sym c.deduce_by_listing.ensures ∙ c.in-Some.is ∙
+          ap (λ (r : List Cell). Some r) (same ∙ old),
+    )
 
 pub write_cells-requires-clause-count : goal.write_cells-requires-clause-count
 write_cells-requires-clause-count c =
@@ -35,5 +38,9 @@ returns c =
       certain = c.in-Some.new;
       is_certain = ap (λ (r : List Cell). deduced r c.args.clue.now) (sym old) ∙ sym c.deduce_by_listing.ensures ∙ c.in-Some.is;
       written = c.write_cells.ensures;
-    } in
-    (w, written-fewer line g new w (λ e. c.are_same.ensures.differ c.if-are_same.false (e ∙ sym old)) (distinct_from places.first places.step places.count c.requires.step) (below_from places.first places.step places.count (length g) c.requires.within))
+    } in (
+      w,
+      written-fewer line g new w (λ e. c.are_same.ensures.differ c.if-are_same.false (e ∙ sym old))
+          (distinct_from places.first places.step places.count c.requires.step)
+          (below_from places.first places.step places.count (length g) c.requires.within),
+    )

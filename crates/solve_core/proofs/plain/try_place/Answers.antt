@@ -5,8 +5,10 @@ use Rattle.solve_core.proofs.plain.try_place.Goals as goal
 
 pub keep_colour-requires-clause-below : goal.keep_colour-requires-clause-below
 keep_colour-requires-clause-below c =
-    blank_below (lines_of c.args.puzzle.now) c.args.cells.now c.args.place c.requires.place (sym c.in_ok-is_refuted.ensures ∙ c.if-branch.true)
+    blank_below (lines_of c.args.puzzle.now) c.args.cells.now c.args.place c.requires.place (sym c.in_ok-is_refuted.ensures ∙
+    c.if-branch.true)
 
 pub keep_colour-requires-then-branch-2-clause-below : goal.keep_colour-requires-then-branch-2-clause-below
 keep_colour-requires-then-branch-2-clause-below c =
-    filled_below (lines_of c.args.puzzle.now) c.args.cells.now c.args.place c.requires.place (sym c.in_ok-is_refuted-2.ensures ∙ c.if-branch-2.true)
+    filled_below (lines_of c.args.puzzle.now) c.args.cells.now c.args.place c.requires.place (sym c.in_ok-is_refuted-2.ensures ∙
+    c.if-branch-2.true)

@@ -14,4 +14,5 @@ returns-in-Same c =
     let same : progress ≡ Same = c.in-Same.is in
     let alive : progress ≢ Dead = λ e. cc in
     let still = progress-still (trials lines) progress c.loop.cells new same c.in_ok-try_all.ensures.progress in
-    sym (tried_ends lines new (c.in_ok-try_all.ensures.closed alive) (c.in_ok-try_all.ensures.tried same)) ∙ ap (trials lines) still ∙ c.loop.invariant.same
+    sym (tried_ends lines new (c.in_ok-try_all.ensures.closed alive) (c.in_ok-try_all.ensures.tried same)) ∙ ap (trials lines) still ∙
+    c.loop.invariant.same

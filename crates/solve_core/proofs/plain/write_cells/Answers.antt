@@ -5,4 +5,5 @@ use Rattle.solve_core.proofs.plain.write_cells.Goals as goal
 pub loop-i-preserved : goal.loop-i-preserved
 loop-i-preserved c =
     rw (c.from.ensures, c.get.ensures)
-    (write-step c.loop-i.cells c.args.line.now c.args.places.first c.args.places.step c.args.places.count c.loop-i.i c.loop-i-test.true c.requires.count ∙ c.loop-i.invariant)
+    (write-step c.loop-i.cells c.args.line.now c.args.places.first c.args.places.step c.args.places.count c.loop-i.i c.loop-i-test.true
+    c.requires.count ∙ c.loop-i.invariant)

@@ -6,4 +6,5 @@ use Rattle.solve_core.proofs.plain.write_cells.Given as goal
 
 abbrev pub invariant-loop-i : goal.invariant-loop-i
 invariant-loop-i l =
-    with_cells l.cells (places_from (l.places.first + l.i * l.places.step) l.places.step (l.places.count - l.i)) (drop l.i l.line) ≡ with_cells l.fn.cells (places_of l.places) l.line
+    with_cells l.cells (places_from (l.places.first + l.i * l.places.step) l.places.step (l.places.count - l.i)) (drop l.i l.line) ≡
+    with_cells l.fn.cells (places_of l.places) l.line

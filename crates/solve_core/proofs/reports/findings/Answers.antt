@@ -29,16 +29,20 @@ propagate_all-requires g c =
 pub returns-then-not-propagate_all : goal.returns-then-not-propagate_all
 returns-then-not-propagate_all g c =
     let p = c.args.trials.now.closer.puzzle in
-    report-dead (picked c.args.pick c.args.trials.now.closer.puzzle.width) p c.args.board.now.cells c.args.guesses (ap (λ (g : TrailedGrid). g.cells) c.requires.board)
-    (subst (λ (t : TriedPuzzle). None ≡ closure (lines_of t.closer.puzzle) c.args.board.now.cells) c.trials.view_is c.if-not-propagate_all.ensures.closed)
+    report-dead (picked c.args.pick c.args.trials.now.closer.puzzle.width) p c.args.board.now.cells c.args.guesses
+    (ap (λ (g : TrailedGrid). g.cells) c.requires.board)
+    (subst (λ (t : TriedPuzzle). None ≡ closure (lines_of t.closer.puzzle) c.args.board.now.cells)
+    c.trials.view_is c.if-not-propagate_all.ensures.closed)
 
 pub returns-then-not-try_unless_full : goal.returns-then-not-try_unless_full
 returns-then-not-try_unless_full g c =
     let seen = ap (λ (t : TriedPuzzle). t.closer.puzzle) c.trials.view_is in
     let closed = c.propagate_all.new.board.cells in
-    report-refuted (picked c.args.pick c.args.trials.now.closer.puzzle.width) c.args.trials.now.closer.puzzle c.propagate_all.new.self.puzzle c.args.board.now.cells closed c.args.guesses c.grade.result c.count_settled-line_known.result
+    report-refuted (picked c.args.pick c.args.trials.now.closer.puzzle.width) c.args.trials.now.closer.puzzle
+    c.propagate_all.new.self.puzzle c.args.board.now.cells closed c.args.guesses c.grade.result c.count_settled-line_known.result
     (c.if-not-propagate_all.ensures.puzzle ∙ seen) (ap (λ (g : TrailedGrid). g.cells) c.requires.board)
-    (subst (λ (t : TriedPuzzle). Some closed ≡ closure (lines_of t.closer.puzzle) c.args.board.now.cells) c.trials.view_is c.if-not-propagate_all.ensures.closed) c.if-not-try_unless_full.ensures.tried
+    (subst (λ (t : TriedPuzzle). Some closed ≡ closure (lines_of t.closer.puzzle) c.args.board.now.cells)
+    c.trials.view_is c.if-not-propagate_all.ensures.closed) c.if-not-try_unless_full.ensures.tried
     (c.grade.ensures ∙ ap (λ b. grade_by b true) c.are_known-lines_settle.ensures)
     c.count_settled-line_known.ensures
 
@@ -48,19 +52,26 @@ returns g c =
     let again = ap (λ (t : TriedPuzzle). t.closer.puzzle) c.trials-2.view_is in
     let same = c.if-not-propagate_all.ensures.puzzle ∙ seen in
     let closed = c.propagate_all.new.board.cells in
-    report-alive (picked c.args.pick c.args.trials.now.closer.puzzle.width) c.args.trials.now.closer.puzzle c.propagate_all.new.self.puzzle c.trials-2.inside.closer.puzzle c.args.board.now.cells closed c.try_unless_full.new.board.cells c.args.guesses
-    c.search-end.new.solutions.grids c.search-end.result.cut c.search-end.result.spent c.verdict.result c.grade-grade.result c.count_settled-line_known.result c.count_unless_full-trial_known.result
+    report-alive (picked c.args.pick c.args.trials.now.closer.puzzle.width) c.args.trials.now.closer.puzzle
+    c.propagate_all.new.self.puzzle c.trials-2.inside.closer.puzzle c.args.board.now.cells closed c.try_unless_full.new.board.cells
+    c.args.guesses
+    c.search-end.new.solutions.grids c.search-end.result.cut c.search-end.result.spent c.verdict.result c.grade-grade.result
+    c.count_settled-line_known.result c.count_unless_full-trial_known.result
     same (again ∙ c.if-not-try_unless_full.ensures.puzzle ∙ same) (ap (λ (g : TrailedGrid). g.cells) c.requires.board)
-    (subst (λ (t : TriedPuzzle). Some closed ≡ closure (lines_of t.closer.puzzle) c.args.board.now.cells) c.trials.view_is c.if-not-propagate_all.ensures.closed) c.if-not-try_unless_full.ensures.tried
+    (subst (λ (t : TriedPuzzle). Some closed ≡ closure (lines_of t.closer.puzzle) c.args.board.now.cells)
+    c.trials.view_is c.if-not-propagate_all.ensures.closed) c.if-not-try_unless_full.ensures.tried
     (c.search-end.ensures.ending
-    ∙ (λ i. ending c.trials-2.inside.closer.puzzle [] 0 c.args.guesses (events (picked c.args.pick ((again ∙ c.if-not-try_unless_full.ensures.puzzle ∙ same) i).width) (lines_of c.trials-2.inside.closer.puzzle) c.try_unless_full.new.board.cells)))
+    ∙ (λ i. ending c.trials-2.inside.closer.puzzle [] 0 c.args.guesses
+    (events (picked c.args.pick ((again ∙ c.if-not-try_unless_full.ensures.puzzle ∙ same) i).width)
+    (lines_of c.trials-2.inside.closer.puzzle) c.try_unless_full.new.board.cells)))
     c.verdict.ensures
     (c.grade-grade.ensures ∙ (λ i. grade_by (c.are_known-lines_settle.ensures i) (c.are_known.ensures i)))
     c.count_settled-line_known.ensures c.count_unless_full-trial_known.ensures
 
 pub count_settled-line_known-requires : goal.count_settled-line_known-requires
 count_settled-line_known-requires g c =
-    full-trail c.args.board.now c.propagate_all.new.board _ c.if-not-propagate_all.ensures.trail (ap (λ (g : TrailedGrid). g.trail) c.requires.board)
+    full-trail c.args.board.now c.propagate_all.new.board _ c.if-not-propagate_all.ensures.trail
+    (ap (λ (g : TrailedGrid). g.trail) c.requires.board)
     (ap (λ (g : TrailedGrid). g.cells) c.requires.board)
 
 pub count_unless_full-trial_known-requires : goal.count_unless_full-trial_known-requires

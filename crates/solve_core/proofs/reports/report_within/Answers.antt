@@ -13,10 +13,13 @@ returns-clause-findings g c = c.findings.ensures ∙ ap (λ p. report_of (picked
 pub returns-clause-holds : goal.returns-clause-holds
 returns-clause-holds g c =
     let p = c.args.puzzle.now in
-    subst (λ (f : Findings). Holds (picked c.args.pick c.args.puzzle.now.width) p c.args.guesses f.verdict) (sym (c.findings.ensures ∙ ap (λ q. report_of (picked c.args.pick q.width) q c.args.guesses) c.in_ok-trials.ensures))
-    (verdict-Holds (picked c.args.pick c.args.puzzle.now.width) (picked-IsPick c.args.pick c.args.puzzle.now.width) p c.width-width.ensures.puzzle c.args.guesses)
+    subst (λ (f : Findings). Holds (picked c.args.pick c.args.puzzle.now.width) p c.args.guesses f.verdict)
+    (sym (c.findings.ensures ∙ ap (λ q. report_of (picked c.args.pick q.width) q c.args.guesses) c.in_ok-trials.ensures))
+    (verdict-Holds (picked c.args.pick c.args.puzzle.now.width) (picked-IsPick c.args.pick c.args.puzzle.now.width) p
+    c.width-width.ensures.puzzle c.args.guesses)
 
 pub returns-clause-spent : goal.returns-clause-spent
 returns-clause-spent g c =
-    subst (λ (f : Findings). f.spent ≤ c.args.guesses) (sym (c.findings.ensures ∙ ap (λ q. report_of (picked c.args.pick q.width) q c.args.guesses) c.in_ok-trials.ensures))
+    subst (λ (f : Findings). f.spent ≤ c.args.guesses)
+    (sym (c.findings.ensures ∙ ap (λ q. report_of (picked c.args.pick q.width) q c.args.guesses) c.in_ok-trials.ensures))
     (guesses-within c.args.guesses (search_of (picked c.args.pick c.args.puzzle.now.width) c.args.puzzle.now))

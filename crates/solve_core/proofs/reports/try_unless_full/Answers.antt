@@ -12,4 +12,5 @@ returns-then-full-clause-tried g c =
     let lines = lines_of closer.puzzle in
     let cells = c.args.board.now.cells in
     ap (λ b. if_alive b cells) c.if-full.true
-    ∙ sym (tried_ends lines cells (rest_closed closer cells c.requires.rest) (full-tried lines cells (sym c.requires.full ∙ c.if-full.true)))
+    ∙ sym (tried_ends lines cells (rest_closed closer cells c.requires.rest)
+    (full-tried lines cells (sym c.requires.full ∙ c.if-full.true)))

@@ -6,5 +6,6 @@ use Rattle.solve_core.proofs.search.next_place.Goals as goal
 
 pub returns-in-First : goal.returns-in-First
 returns-in-First g c =
-    first-from c.args.board.now.cells c.lines.result.now.cells c.args.start c.first_unknown.result (ap (λ (g : PartialGrid). g.cells) c.lines.ensures.lines) (c.requires.known c.in-First.is) c.first_unknown.ensures
+    first-from c.args.board.now.cells c.lines.result.now.cells c.args.start c.first_unknown.result
+    (ap (λ (g : PartialGrid). g.cells) c.lines.ensures.lines) (c.requires.known c.in-First.is) c.first_unknown.ensures
     ∙ (λ i. picked (sym c.in-First.is i) c.args.board.now.width c.args.board.now.cells)

@@ -25,17 +25,22 @@ loop-pick-init g c =
     let limit = c.args.guesses in
     let closed = rest_closed c.args.closer.now board.cells c.requires.rest in
     let all : limit - 0 ≡ limit = omega arith in
-    let none : owed_by (picked c.args.pick c.args.closer.now.puzzle.width) p branches board ≡ [] = ap (λ bs. owed_by (picked c.args.pick c.args.closer.now.puzzle.width) p bs board) c.requires.branches in
+    let none : owed_by (picked c.args.pick c.args.closer.now.puzzle.width) p branches board ≡ [] =
+    ap (λ bs. owed_by (picked c.args.pick c.args.closer.now.puzzle.width) p bs board) c.requires.branches in
     record {
       under_way = record {
         work = start-work (picked c.args.pick c.args.closer.now.puzzle.width) lines board.cells board.trail branches c.requires.branches;
         older = older-none board.trail branches c.look_at-next.result c.requires.branches;
         next_open = (rw c.requires.board.0 at c.look_at-next.ensures.next) p closed;
       };
-      ends = ap (λ n. ending p c.look_at-next.new.solutions.grids 0 n (owed (picked c.args.pick c.args.closer.now.puzzle.width) p branches board c.look_at-next.result)) all
-          ∙ (rw c.requires.board.0 at c.look_at-next.ensures.ending) p c.requires.size 0 limit (owed_by (picked c.args.pick c.args.closer.now.puzzle.width) p branches board)
+      ends = ap (λ n. ending p c.look_at-next.new.solutions.grids 0 n
+          (owed (picked c.args.pick c.args.closer.now.puzzle.width) p branches board c.look_at-next.result)) all
+          ∙ (rw c.requires.board.0 at c.look_at-next.ensures.ending) p c.requires.size 0 limit
+          (owed_by (picked c.args.pick c.args.closer.now.puzzle.width) p branches board)
           ∙ ap (ending p found 0 limit)
-          (alive-events (picked c.args.pick c.args.closer.now.puzzle.width) (picked-IsPick c.args.pick c.args.closer.now.puzzle.width) lines board.cells board.cells (owed_by (picked c.args.pick c.args.closer.now.puzzle.width) p branches board) (sym (closed-closure lines board.cells closed))
+          (alive-events (picked c.args.pick c.args.closer.now.puzzle.width) (picked-IsPick c.args.pick c.args.closer.now.puzzle.width)
+          lines board.cells board.cells (owed_by (picked c.args.pick c.args.closer.now.puzzle.width) p branches board)
+          (sym (closed-closure lines board.cells closed))
           ∙ ap (λ es. events (picked c.args.pick c.args.closer.now.puzzle.width) lines board.cells ++ es) none
           ∙ append-nil-right (events (picked c.args.pick c.args.closer.now.puzzle.width) lines board.cells))
           ∙ ap (λ gs. ending p gs 0 limit (events (picked c.args.pick c.args.closer.now.puzzle.width) lines board.cells)) c.requires.found;
@@ -55,23 +60,28 @@ next_guess-requires g c =
     let now = c.loop-pick.board in
     let kept = c.loop-pick.invariant in
     record {
-      next = open-unknown (picked c.args.pick c.args.closer.now.puzzle.width) (picked-IsPick c.args.pick c.args.closer.now.puzzle.width) lines now.cells c.loop-pick.next kept.under_way.next_open;
-      older = open-older (picked c.args.pick c.args.closer.now.puzzle.width) lines now.cells now.trail c.loop-pick.branches.items c.loop-pick.next kept.under_way.work kept.under_way.older;
+      next = open-unknown (picked c.args.pick c.args.closer.now.puzzle.width) (picked-IsPick c.args.pick c.args.closer.now.puzzle.width)
+          lines now.cells c.loop-pick.next kept.under_way.next_open;
+      older = open-older (picked c.args.pick c.args.closer.now.puzzle.width) lines now.cells now.trail c.loop-pick.branches.items
+          c.loop-pick.next kept.under_way.work kept.under_way.older;
       room = omega (arith, kept.room, kept.cells);
     }
 
 pub explore-next-requires-clause-next : goal.explore-next-requires-clause-next
 explore-next-requires-clause-next g c =
     let kept = c.loop-pick.invariant in
-    subst (λ (x : Nonogram). IsReady (picked c.args.pick x.width) (lines_of x) c.next_guess.new.board.cells (Some (c.in-Some.place, c.in-Some.colour))) (sym kept.same)
-    (c.in-Some.ensures.ready (picked c.args.pick c.args.closer.now.puzzle.width) (lines_of c.args.closer.now.puzzle) kept.under_way.work kept.under_way.next_open)
+    subst (λ (x : Nonogram). IsReady (picked c.args.pick x.width) (lines_of x) c.next_guess.new.board.cells
+    (Some (c.in-Some.place, c.in-Some.colour))) (sym kept.same)
+    (c.in-Some.ensures.ready (picked c.args.pick c.args.closer.now.puzzle.width)
+    (lines_of c.args.closer.now.puzzle) kept.under_way.work kept.under_way.next_open)
 
 pub explore-next-requires-clause-rest : goal.explore-next-requires-clause-rest
 explore-next-requires-clause-rest g c =
     let kept = c.loop-pick.invariant in
     let p = c.args.closer.now.puzzle in
     let cells = c.next_guess.new.board.cells in
-    let closed = (c.in-Some.ensures.ready (picked c.args.pick c.args.closer.now.puzzle.width) (lines_of p) kept.under_way.work kept.under_way.next_open).1 in
+    let closed = (c.in-Some.ensures.ready (picked c.args.pick c.args.closer.now.puzzle.width)
+    (lines_of p) kept.under_way.work kept.under_way.next_open).1 in
     closed_rest c.loop-pick.closer cells (subst IsNonogram (sym kept.same) c.requires.rest.marks.puzzle)
     (c.in-Some.ensures.count ∙ kept.board.2 ∙ sym (λ i. (kept.same i).width * (kept.same i).height))
     (subst (λ (x : Nonogram). round (lines_of x) cells ≡ Some cells) (sym kept.same) closed)
@@ -84,10 +94,19 @@ loop-pick-smaller g c =
     let now = c.next_guess.new.board in
     let branches = c.next_guess.new.branches.items in
     let after = c.explore-next.new in
-    let work = c.in-Some.ensures.work (picked c.args.pick c.args.closer.now.puzzle.width) (lines_of p) kept.under_way.work kept.under_way.older kept.under_way.next_open in
-    let on = subst (λ (x : Nonogram). IsWork (picked c.args.pick x.width) (lines_of x) now.cells now.trail branches → GoesOn (picked c.args.pick x.width) x (events (picked c.args.pick x.width) (lines_of x) (slice_set now.cells c.in-Some.place c.in-Some.colour)) branches now c.loop-pick.solutions.grids after.board after.solutions.grids c.explore-next.result) kept.same
+    let work = c.in-Some.ensures.work (picked c.args.pick c.args.closer.now.puzzle.width)
+    (lines_of p) kept.under_way.work kept.under_way.older kept.under_way.next_open in
+    let on = subst (λ (x : Nonogram). IsWork (picked c.args.pick x.width) (lines_of x) now.cells now.trail branches →
+    GoesOn (picked c.args.pick x.width) x (events (picked c.args.pick x.width) (lines_of x)
+    (slice_set now.cells c.in-Some.place c.in-Some.colour)) branches now c.loop-pick.solutions.grids after.board
+    after.solutions.grids c.explore-next.result) kept.same
     (c.explore-next.ensures.goes_on branches) work in
-    omega (arith, on.fewer, ap length (c.in-Some.ensures.events (picked c.args.pick c.args.closer.now.puzzle.width) (lines_of p) kept.under_way.work))
+    omega (
+      arith,
+      on.fewer,
+      ap length (c.in-Some.ensures.events (picked c.args.pick c.args.closer.now.puzzle.width)
+          (lines_of p) kept.under_way.work),
+    )
 
 pub loop-pick-preserved : goal.loop-pick-preserved
 loop-pick-preserved g c =
@@ -96,17 +115,24 @@ loop-pick-preserved g c =
     let now = c.next_guess.new.board in
     let branches = c.next_guess.new.branches.items in
     let after = c.explore-next.new in
-    let work = c.in-Some.ensures.work (picked c.args.pick c.args.closer.now.puzzle.width) (lines_of p) kept.under_way.work kept.under_way.older kept.under_way.next_open in
-    let on = subst (λ (x : Nonogram). IsWork (picked c.args.pick x.width) (lines_of x) now.cells now.trail branches → GoesOn (picked c.args.pick x.width) x (events (picked c.args.pick x.width) (lines_of x) (slice_set now.cells c.in-Some.place c.in-Some.colour)) branches now c.loop-pick.solutions.grids after.board after.solutions.grids c.explore-next.result) kept.same
+    let work = c.in-Some.ensures.work (picked c.args.pick c.args.closer.now.puzzle.width)
+    (lines_of p) kept.under_way.work kept.under_way.older kept.under_way.next_open in
+    let on = subst (λ (x : Nonogram). IsWork (picked c.args.pick x.width) (lines_of x) now.cells now.trail branches →
+    GoesOn (picked c.args.pick x.width) x (events (picked c.args.pick x.width) (lines_of x)
+    (slice_set now.cells c.in-Some.place c.in-Some.colour)) branches now c.loop-pick.solutions.grids after.board
+    after.solutions.grids c.explore-next.result) kept.same
     (c.explore-next.ensures.goes_on branches) work in
     let less : c.loop-pick.spent + 1 ≤ c.args.guesses = omega (arith, c.if-spent-guesses.false, kept.spent) in
     record {
       under_way = on.under_way;
       ends = ending-next p c.loop-pick.solutions.grids after.solutions.grids c.loop-pick.spent c.args.guesses _
           (owed (picked c.args.pick c.args.closer.now.puzzle.width) p c.loop-pick.branches.items c.loop-pick.board c.loop-pick.next)
-          (events (picked c.args.pick c.args.closer.now.puzzle.width) (lines_of p) (slice_set now.cells c.in-Some.place c.in-Some.colour) ++ owed_by (picked c.args.pick c.args.closer.now.puzzle.width) p branches now)
+          (events (picked c.args.pick c.args.closer.now.puzzle.width) (lines_of p)
+          (slice_set now.cells c.in-Some.place c.in-Some.colour) ++
+          owed_by (picked c.args.pick c.args.closer.now.puzzle.width) p branches now)
           (owed (picked c.args.pick c.args.closer.now.puzzle.width) p branches after.board c.explore-next.result)
-          (c.in-Some.ensures.events (picked c.args.pick c.args.closer.now.puzzle.width) (lines_of p) kept.under_way.work) (omega arith) (omega (arith, less)) kept.ends on.ends;
+          (c.in-Some.ensures.events (picked c.args.pick c.args.closer.now.puzzle.width) (lines_of p) kept.under_way.work) (omega arith)
+          (omega (arith, less)) kept.ends on.ends;
       room = omega (arith, c.next_guess.ensures.branches, kept.room);
       cells = c.explore-next.ensures.board.2 ∙ (λ i. (kept.same i).width * (kept.same i).height) ∙ sym c.requires.board.2;
       board = subst (λ (x : Nonogram). IsBoardOf x after.board) kept.same c.explore-next.ensures.board;

@@ -15,7 +15,8 @@ invariant-loop-pick g l =
     let p = l.fn.closer.puzzle in
     record {
       under_way : IsUnderWay (picked l.pick l.fn.closer.puzzle.width) p l.branches.items l.board l.next;
-      ends : ending p l.solutions.grids l.spent (l.guesses - l.spent) (owed (picked l.pick l.fn.closer.puzzle.width) p l.branches.items l.board l.next)
+      ends : ending p l.solutions.grids l.spent (l.guesses - l.spent)
+          (owed (picked l.pick l.fn.closer.puzzle.width) p l.branches.items l.board l.next)
           ≡ ending p [] 0 l.guesses (events (picked l.pick l.fn.closer.puzzle.width) (lines_of p) l.fn.board.cells);
       room : length l.fn.board.cells ≤ vec_capacity l.branches;
       cells : length l.board.cells ≡ length l.fn.board.cells;

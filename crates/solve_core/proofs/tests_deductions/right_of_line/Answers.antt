@@ -4,4 +4,5 @@ use Rattle.solve_core.proofs.tests_deductions.right_of_line.Goals as goal
 
 pub deduce-wanted-requires : goal.deduce-wanted-requires
 deduce-wanted-requires c =
-    subst (λ (clue : List ℕ). All (λ number. number ≤ 64) clue) (sym c.clue_of_line.ensures.clue) (fits_line 64 c.args.puzzle.now c.args.number c.requires.fits c.clue_of_line.ensures.puzzle c.requires.number)
+    subst (λ (clue : List ℕ). All (λ number. number ≤ 64) clue) (sym c.clue_of_line.ensures.clue)
+    (fits_line 64 c.args.puzzle.now c.args.number c.requires.fits c.clue_of_line.ensures.puzzle c.requires.number)

@@ -12,7 +12,8 @@ add-requires-clause-closed g c =
     let lines = lines_of c.args.closer.now.puzzle in
     let given = set c.args.board.now.cells c.args.place c.args.colour in
     let new = c.assign_copy.new.trial.cells in
-    subst (λ (p : Nonogram). round (lines_of p) new ≡ Some new) (sym c.requires.puzzle) ((closure-IsLeastClosed lines given).closed new (sym c.if-not-assign_copy.ensures.closed))
+    subst (λ (p : Nonogram). round (lines_of p) new ≡ Some new) (sym c.requires.puzzle)
+    ((closure-IsLeastClosed lines given).closed new (sym c.if-not-assign_copy.ensures.closed))
 
 pub add-requires-clause-extends : goal.add-requires-clause-extends
 add-requires-clause-extends g c =

@@ -8,7 +8,8 @@ use Rattle.solve_core.proofs.widths.places_for_clues.Goals as goal
 
 pub returns-clause-clues : goal.returns-clause-clues
 returns-clause-clues c =
-    subst (All (All (λ number. number ≤ c.loop-clue.needed))) (take_all c.loop-clue.clue-index c.args.clues.now (omega arith)) c.loop-clue.invariant.passed
+    subst (All (All (λ number. number ≤ c.loop-clue.needed))) (take_all c.loop-clue.clue-index c.args.clues.now (omega arith))
+    c.loop-clue.invariant.passed
 
 pub loop-clue-preserved : goal.loop-clue-preserved
 loop-clue-preserved c =
@@ -16,11 +17,13 @@ loop-clue-preserved c =
     let clues = c.args.clues.now in
     let old = c.loop-clue.needed in
     let new = c.places_needed-needed.result in
-    let item : c.numbers.result.now ≡ get_or clues i [] = c.numbers.ensures.numbers ∙ c.clue-item.is ∙ get_or_default clues i c.clue-item.result [] (omega arith) in
+    let item : c.numbers.result.now ≡ get_or clues i [] = c.numbers.ensures.numbers ∙ c.clue-item.is ∙
+    get_or_default clues i c.clue-item.result [] (omega arith) in
     let grown : old ≤ new = c.places_needed-needed.ensures.line in
     record {
       least = omega (arith, c.loop-clue.invariant.least);
-      passed = All-more (All (λ n. n ≤ new)) clues i [] (omega arith) (λ k d h j e l. omega (arith, c.loop-clue.invariant.passed k d h j e l))
+      passed = All-more (All (λ n. n ≤ new)) clues i [] (omega arith)
+          (λ k d h j e l. omega (arith, c.loop-clue.invariant.passed k d h j e l))
           (subst (All (λ n. n ≤ new)) item c.places_needed-needed.ensures.clue);
       most = c.places_needed-needed.ensures.least LONGEST_SIDE c.loop-clue.invariant.most
           (subst (All (λ n. n ≤ LONGEST_SIDE)) (sym c.numbers.ensures.numbers) (clue_short LONGEST_SIDE _ c.numbers.ensures.clue));

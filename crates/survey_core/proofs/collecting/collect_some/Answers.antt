@@ -6,7 +6,8 @@ use Rattle.survey_core.proofs.collecting.collect_some.Goals as goal
 pub gather-requires-clause-lanes : goal.gather-requires-clause-lanes
 gather-requires-clause-lanes g c =
     c.in_ok-queues.queues.ok.0
-    ∙ answered_length (λ q. q.items) (λ q. q.items) c.in_ok-queues.queues.items c.in_ok-deal_out.field-0.items _ c.in_ok-queues.ensures.1 c.in_ok-lists.ensures
+    ∙ answered_length (λ q. q.items) (λ q. q.items) c.in_ok-queues.queues.items c.in_ok-deal_out.field-0.items _ c.in_ok-queues.ensures.1
+    c.in_ok-lists.ensures
     ∙ sym c.in_ok-deal_out.field-0.ok.0 ∙ c.in_ok-deal_out.ensures.lanes
 
 pub gather-requires-clause-answered : goal.gather-requires-clause-answered

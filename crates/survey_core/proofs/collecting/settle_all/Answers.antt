@@ -15,7 +15,8 @@ settling-preserved g c =
       answered = (
         before.0 ++ own ∷ [],
         append_assoc before.0 (own ∷ []) _ ∙ ap (λ l. before.0 ++ complete_jobs l) (sym c.in-Some.ensures.items) ∙ before.1,
-        EachAnswered-more (λ q. q.items) before.0 c.settling.settled.items c.push_reserved.new.self.items own c.settle.result c.push_reserved.ensures.items before.2 c.settle.ensures,
+        EachAnswered-more (λ q. q.items) before.0 c.settling.settled.items c.push_reserved.new.self.items own c.settle.result
+            c.push_reserved.ensures.items before.2 c.settle.ensures,
       );
       room = omega arith;
     }

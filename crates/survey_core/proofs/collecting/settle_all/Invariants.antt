@@ -6,7 +6,8 @@ use Rattle.survey_core.proofs.collecting.settle_all.Given as goal
 
 abbrev pub invariant-settling : goal.invariant-settling
 invariant-settling g l = record {
-  answered : (before : List (List Job)) × (before ++ complete_jobs l.complete.items ≡ complete_jobs l.fn.complete.items) × EachAnswered before (map (λ q. q.items) l.settled.items);
+  answered : (before : List (List Job)) × (before ++ complete_jobs l.complete.items ≡ complete_jobs l.fn.complete.items) ×
+      EachAnswered before (map (λ q. q.items) l.settled.items);
   room : vec_len l.settled + deque_len l.complete ≤ vec_capacity l.settled;
 }
 

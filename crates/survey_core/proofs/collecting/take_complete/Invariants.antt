@@ -5,7 +5,8 @@ use Rattle.survey_core.proofs.collecting.take_complete.Given as goal
 
 abbrev pub invariant-completing : goal.invariant-completing
 invariant-completing l = record {
-  jobs : complete_jobs l.complete.items ++ dealt_jobs l.running.items ≡ complete_jobs l.initial.complete.items ++ dealt_jobs l.initial.running.items;
+  jobs : complete_jobs l.complete.items ++ dealt_jobs l.running.items ≡ complete_jobs l.initial.complete.items ++
+      dealt_jobs l.initial.running.items;
   len : deque_len l.complete + deque_len l.running ≡ deque_len l.initial.complete + deque_len l.initial.running;
   room : deque_capacity l.complete ≡ deque_capacity l.initial.complete;
 }

@@ -23,7 +23,8 @@ list_entry-requires c = λ none.
     let within = c.loop-place-test.true in
     let fault = fault_at c.args.faults.now entries place no_entry c.requires.faults within in
     let left = next_graded guesses entries place no_entry c.loop-place.left.now within c.loop-place.invariant.answers in
-    has_answer guesses (reading (get_or entries place no_entry)) (readings (drop (place + 1) entries)) c.loop-place.left.now left (sym fault ∙ none)
+    has_answer guesses (reading (get_or entries place no_entry)) (readings (drop (place + 1) entries)) c.loop-place.left.now left
+    (sym fault ∙ none)
 
 pub add-requires : goal.add-requires
 add-requires c =
@@ -43,11 +44,13 @@ loop-place-preserved c =
     let fault = fault_at c.args.faults.now entries place no_entry c.requires.faults within in
     let left = next_graded guesses entries place no_entry old within c.loop-place.invariant.answers in
     let taken = subst (λ (kept : Option EntryFault). TakesAnswer kept old new listed.result) fault c.in_ok-listed.ensures.result in
-    let next = takes_next guesses (reading (get_or entries place no_entry)) (readings (drop (place + 1) entries)) old new listed.result left taken in
+    let next = takes_next guesses (reading (get_or entries place no_entry)) (readings (drop (place + 1) entries)) old new listed.result
+    left taken in
     let more = graded-more guesses entries place no_entry listed within c.in_ok-listed.ensures.name next.0 in
     let so_far = map (graded guesses) (map shown_entry (take place entries)) in
     record {
-      survey = subst (λ (all : List GradedEntry). IsSurveyText show c.add.new.self all) (sym more) (c.in_ok-add.ensures show so_far c.loop-place.invariant.survey);
+      survey = subst (λ (all : List GradedEntry). IsSurveyText show c.add.new.self all) (sym more)
+          (c.in_ok-add.ensures show so_far c.loop-place.invariant.survey);
       answers = next.1;
     }
 

@@ -9,5 +9,6 @@ use Rattle.survey_core.proofs.grading.survey_text.Goals as goal
 pub print_answers-requires-clause-answers : goal.print_answers-requires-clause-answers
 print_answers-requires-clause-answers g c =
     let jobs = c.in_ok-jobs.field-0.jobs.items in
-    let answered = subst (λ (answers : List Answer). AreAnswersTo jobs answers) (sym c.deref-2.ensures.value) c.in_ok-answers.ensures.answers in
+    let answered = subst (λ (answers : List Answer). AreAnswersTo jobs answers)
+    (sym c.deref-2.ensures.value) c.in_ok-answers.ensures.answers in
     are_graded (guessing c.args.settings.now) 1 (readings c.args.entries.now) jobs c.deref-2.result.now c.in_ok-jobs.ensures.jobs answered

@@ -7,5 +7,6 @@ abbrev pub invariant-loop-place : goal.invariant-loop-place
 invariant-loop-place l = record {
   lanes : vec_len l.queues ≡ l.lanes;
   left : into_iter_len l.jobs + l.place ≡ l.count;
-  dealt : (k : ℕ) → k < l.lanes → get_or (map (λ q. q.items) l.queues.items) k [] ++ dealt_from l.place (into_iter_items l.jobs) l.lanes k ≡ dealt l.fn.jobs.items l.lanes k;
+  dealt : (k : ℕ) → k < l.lanes → get_or (map (λ q. q.items) l.queues.items) k [] ++
+      dealt_from l.place (into_iter_items l.jobs) l.lanes k ≡ dealt l.fn.jobs.items l.lanes k;
 }

@@ -5,18 +5,25 @@ use Rattle.survey_core.proofs.job_order.gather.Goals as goal
 
 pub unreachable-requires : goal.unreachable-requires
 unreachable-requires c =
-    gather_some (λ q. q.items) c.loop-place.queues.items c.args.lanes c.loop-place.place c.index_mut-queue.result.now c.args.jobs.now.value.items
-    c.requires.some (sym c.loop-place.queues.ok.0 ∙ c.loop-place.invariant.lanes) (subst (λ m. c.loop-place.place < m) c.requires.count c.loop-place-test.true) c.index_mut-queue.ensures.value c.loop-place.invariant.left
+    gather_some (λ q. q.items) c.loop-place.queues.items c.args.lanes c.loop-place.place c.index_mut-queue.result.now
+    c.args.jobs.now.value.items
+    c.requires.some (sym c.loop-place.queues.ok.0 ∙ c.loop-place.invariant.lanes)
+    (subst (λ m. c.loop-place.place < m) c.requires.count c.loop-place-test.true) c.index_mut-queue.ensures.value
+    c.loop-place.invariant.left
     (nil_of _ (sym c.index_mut-queue.result.now.ok.0 ∙ c.in_default.ensures.cases.0))
 
 pub loop-place-preserved : goal.loop-place-preserved
 loop-place-preserved c =
-    let both = gather_next (λ q. q.items) c.loop-place.queues.items c.args.lanes c.loop-place.place c.index_mut-queue.result.now c.pop_front.new.self c.args.jobs.now.value.items c.in-Some.answer c.loop-place.gathered.items
-    c.requires.some (sym c.loop-place.queues.ok.0 ∙ c.loop-place.invariant.lanes) (subst (λ m. c.loop-place.place < m) c.requires.count c.loop-place-test.true) c.index_mut-queue.ensures.value c.in-Some.ensures.items c.loop-place.invariant.gathered c.loop-place.invariant.left in
+    let both = gather_next (λ q. q.items) c.loop-place.queues.items c.args.lanes c.loop-place.place c.index_mut-queue.result.now
+    c.pop_front.new.self c.args.jobs.now.value.items c.in-Some.answer c.loop-place.gathered.items
+    c.requires.some (sym c.loop-place.queues.ok.0 ∙ c.loop-place.invariant.lanes)
+    (subst (λ m. c.loop-place.place < m) c.requires.count c.loop-place-test.true) c.index_mut-queue.ensures.value
+    c.in-Some.ensures.items c.loop-place.invariant.gathered c.loop-place.invariant.left in
     record {
       lanes = c.loop-place.invariant.lanes;
       room = c.push_reserved.ensures.capacity ∙ c.loop-place.invariant.room;
       count = c.push_reserved.ensures.len ∙ ap (λ n. n + 1) c.loop-place.invariant.count;
-      gathered = subst (λ l. AreAnswersTo (take (c.loop-place.place + 1) c.args.jobs.now.value.items) l) (sym c.push_reserved.ensures.items) both.0;
+      gathered = subst (λ l. AreAnswersTo (take (c.loop-place.place + 1) c.args.jobs.now.value.items) l)
+          (sym c.push_reserved.ensures.items) both.0;
       left = both.1;
     }

@@ -9,5 +9,6 @@ invariant-loop-place l = record {
   room : vec_capacity l.gathered ≡ vec_capacity l.fn.gathered;
   count : vec_len l.gathered ≡ l.place;
   gathered : AreAnswersTo (take l.place l.jobs.value.items) l.gathered.items;
-  left : (k : ℕ) → k < l.lanes → AreAnswersTo (dealt_from l.place (drop l.place l.jobs.value.items) l.lanes k) (get_or (map (λ q. q.items) l.queues.items) k []);
+  left : (k : ℕ) → k < l.lanes → AreAnswersTo (dealt_from l.place (drop l.place l.jobs.value.items) l.lanes k)
+      (get_or (map (λ q. q.items) l.queues.items) k []);
 }

@@ -15,7 +15,9 @@ loop-place-preserved c =
     let added = c.in_ok-add.ensures in
     let so_far = c.loop-place.invariant in
     record {
-      jobs = added.jobs ∙ ap (λ (front : List NumberedPuzzle). front ++ job_of guesses (place + 1) read) so_far.jobs ∙ sym (jobs_of-more guesses entries place no_entry within);
+      jobs = added.jobs ∙ ap (λ (front : List NumberedPuzzle). front ++ job_of guesses (place + 1) read) so_far.jobs ∙
+          sym (jobs_of-more guesses entries place no_entry within);
       few = omega (arith, added.few, so_far.few);
-      faults = added.faults ∙ ap (λ (front : List (Option EntryFault)). front ++ fault_of read ∷ []) so_far.faults ∙ sym (faults-more entries place no_entry within);
+      faults = added.faults ∙ ap (λ (front : List (Option EntryFault)). front ++ fault_of read ∷ []) so_far.faults ∙
+          sym (faults-more entries place no_entry within);
     }

@@ -6,11 +6,13 @@ pub index-requires : goal.index-requires
 index-requires c =
     let cells = c.self.inside.width * c.self.inside.height in
     let long : length c.args.self.now.cells ≡ cells = rw (← c.self.view_is) (length-cells_of c.self.inside.blocks.items cells) in
-    room cells c.args.place (vec_len c.self.inside.blocks) (c.self.inside.blocks.ok.0 ∙ c.self.invariant.1.count_of) (omega (arith, c.requires, long))
+    room cells c.args.place (vec_len c.self.inside.blocks) (c.self.inside.blocks.ok.0 ∙ c.self.invariant.1.count_of)
+    (omega (arith, c.requires, long))
 
 pub returns : goal.returns
 returns c =
     let cells = c.self.inside.width * c.self.inside.height in
     let long : length c.args.self.now.cells ≡ cells = rw (← c.self.view_is) (length-cells_of c.self.inside.blocks.items cells) in
     let within : c.args.place < cells = omega (arith, c.requires, long) in
-    rw (← c.self.view_is) (c.get.ensures ∙ cell-read c.self.inside.blocks.items cells c.args.place c.index.result.now c.self.invariant.1.count_of within c.index.ensures)
+    rw (← c.self.view_is) (c.get.ensures ∙ cell-read c.self.inside.blocks.items cells c.args.place c.index.result.now
+    c.self.invariant.1.count_of within c.index.ensures)

@@ -8,5 +8,6 @@ use Rattle.grid_core.proofs.grids.Grid.known.Goals as goal
 
 pub returns : goal.returns
 returns c =
-    rw (← c.self.view_is) (c.count_known.ensures ∙ ap (λ (b : List Block). count_by is_known (cells_of b (64 * length b))) c.deref.ensures.value
+    rw (← c.self.view_is) (c.count_known.ensures ∙
+    ap (λ (b : List Block). count_by is_known (cells_of b (64 * length b))) c.deref.ensures.value
     ∙ known_whole (c.self.inside.width * c.self.inside.height) c.self.inside.blocks.items c.self.invariant.1)

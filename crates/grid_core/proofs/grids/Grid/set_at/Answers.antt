@@ -8,20 +8,23 @@ pub index-block-requires : goal.index-block-requires
 index-block-requires c =
     let cells = c.self.inside.width * c.self.inside.height in
     let long : length c.args.self.now.cells ≡ cells = rw (← c.self.view_is) (length-cells_of c.self.inside.blocks.items cells) in
-    room cells c.args.place (vec_len c.self.inside.blocks) (c.self.inside.blocks.ok.0 ∙ c.self.invariant.1.count_of) (omega (arith, c.requires, long))
+    room cells c.args.place (vec_len c.self.inside.blocks) (c.self.inside.blocks.ok.0 ∙ c.self.invariant.1.count_of)
+    (omega (arith, c.requires, long))
 
 pub index_mut-requires : goal.index_mut-requires
 index_mut-requires c =
     let cells = c.self.inside.width * c.self.inside.height in
     let long : length c.args.self.now.cells ≡ cells = rw (← c.self.view_is) (length-cells_of c.self.inside.blocks.items cells) in
-    room cells c.args.place (vec_len c.self.inside.blocks) (c.self.inside.blocks.ok.0 ∙ c.self.invariant.1.count_of) (omega (arith, c.requires, long))
+    room cells c.args.place (vec_len c.self.inside.blocks) (c.self.inside.blocks.ok.0 ∙ c.self.invariant.1.count_of)
+    (omega (arith, c.requires, long))
 
 pub invariant_of-self : goal.invariant_of-self
 invariant_of-self c =
     let cells = c.self.inside.width * c.self.inside.height in
     let long : length c.args.self.now.cells ≡ cells = rw (← c.self.view_is) (length-cells_of c.self.inside.blocks.items cells) in (
       c.self.invariant.0,
-      kept cells c.self.inside.blocks.items c.args.place c.index-block.result.now c.with.result c.args.cell (omega (arith, c.requires, long)) c.self.invariant.1 c.index-block.ensures c.with.ensures.same c.with.ensures.others
+      kept cells c.self.inside.blocks.items c.args.place c.index-block.result.now c.with.result c.args.cell
+          (omega (arith, c.requires, long)) c.self.invariant.1 c.index-block.ensures c.with.ensures.same c.with.ensures.others
           c.with.ensures.block,
     )
 
@@ -36,4 +39,5 @@ returns c =
     let fits : place / 64 < length items = room (width * height) place (length items) c.self.invariant.1.count_of within in
     let grid : List Cell → PartialGrid = λ cells. record { width = width; height = height; cells = cells } in
     rw (← c.self.view_is) (ap grid (cells_of-set items (width * height) place c.with.result c.args.cell within fits
-    (changes items place c.index-block.result.now c.with.result c.args.cell fits c.index-block.ensures c.with.ensures.same c.with.ensures.others)))
+    (changes items place c.index-block.result.now c.with.result c.args.cell fits c.index-block.ensures
+    c.with.ensures.same c.with.ensures.others)))

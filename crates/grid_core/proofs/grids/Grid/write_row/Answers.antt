@@ -23,8 +23,12 @@ invariant_of-self c =
     let high : height ≡ c.args.self.now.height = ap (λ (g : PartialGrid). g.height) c.self.view_is in
     let within : c.args.y * width + width ≤ width * height = row-within width height c.args.y (omega (arith, c.requires.row, high)) in
     let written : AreWritten blocks.items new (c.args.y * width) width told =
-    written_same c.deref_mut.result.now blocks.items new (c.from.result * c.from-2.result) (c.args.y * width) width told c.deref_mut.ensures.value first c.write_cells.ensures in
-    (c.self.invariant.0, subst (AreBlocks (width * height)) (sym items) (written_kept blocks.items new (width * height) (c.args.y * width) width told within c.self.invariant.1 written))
+    written_same c.deref_mut.result.now blocks.items new (c.from.result * c.from-2.result)
+    (c.args.y * width) width told c.deref_mut.ensures.value first c.write_cells.ensures in (
+      c.self.invariant.0,
+      subst (AreBlocks (width * height)) (sym items)
+          (written_kept blocks.items new (width * height) (c.args.y * width) width told within c.self.invariant.1 written),
+    )
 
 pub returns-clause-row : goal.returns-clause-row
 returns-clause-row c =
@@ -39,7 +43,8 @@ returns-clause-row c =
     let high : height ≡ c.args.self.now.height = ap (λ (g : PartialGrid). g.height) c.self.view_is in
     let within : c.args.y * width + width ≤ width * height = row-within width height c.args.y (omega (arith, c.requires.row, high)) in
     let written : AreWritten blocks.items new (c.args.y * width) width (cell_told filled blank) =
-    written_same c.deref_mut.result.now blocks.items new (c.from.result * c.from-2.result) (c.args.y * width) width (cell_told filled blank) c.deref_mut.ensures.value first c.write_cells.ensures in
+    written_same c.deref_mut.result.now blocks.items new (c.from.result * c.from-2.result) (c.args.y * width) width
+    (cell_told filled blank) c.deref_mut.ensures.value first c.write_cells.ensures in
     let grid : List Cell → PartialGrid = λ cells. record { width = width; height = height; cells = cells } in
     rw (← c.self.view_is) (ap grid (ap (λ (b : List Block). cells_of b (width * height)) items
     ∙ cells_of-written blocks.items new (width * height) (c.args.y * width) width filled blank within written))

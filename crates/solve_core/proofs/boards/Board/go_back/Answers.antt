@@ -12,6 +12,8 @@ loop-self-preserved g c =
     record {
       width = ap (λ (r : TrailedGrid). r.width) c.undo.ensures ∙ before.width;
       height = ap (λ (r : TrailedGrid). r.height) c.undo.ensures ∙ before.height;
-      cells = ap (λ (r : TrailedGrid). cells_before r.cells r.trail c.args.mark) c.undo.ensures ∙ before-back g.cells g.trail c.args.mark (length g.trail - 1) less ∙ before.cells;
-      trail = ap (λ (r : TrailedGrid). take c.args.mark r.trail) c.undo.ensures ∙ take_least g.trail c.args.mark (length g.trail - 1) less ∙ before.trail;
+      cells = ap (λ (r : TrailedGrid). cells_before r.cells r.trail c.args.mark) c.undo.ensures ∙
+          before-back g.cells g.trail c.args.mark (length g.trail - 1) less ∙ before.cells;
+      trail = ap (λ (r : TrailedGrid). take c.args.mark r.trail) c.undo.ensures ∙
+          take_least g.trail c.args.mark (length g.trail - 1) less ∙ before.trail;
     }

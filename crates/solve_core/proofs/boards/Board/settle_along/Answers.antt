@@ -51,4 +51,5 @@ returns-else-n-height-clause-cells g c =
     let g = c.args.self.now in
     let high : c.height-height.result ≡ g.height = c.height-height.ensures ∙ ap (λ (t : TrailedGrid). t.height) c.self.view_is in
     let along = along-column g.width g.height c.args.n c.args.i (omega (arith, high, c.if-n-height.false)) in
-    c.settle-else-n-height.ensures.cells ∙ (λ i. set g.cells (c.args.i * g.width + (c.args.n - high i)) c.args.cell) ∙ ap (λ (k : ℕ). set g.cells k c.args.cell) (sym along.1)
+    c.settle-else-n-height.ensures.cells ∙ (λ i. set g.cells (c.args.i * g.width + (c.args.n - high i)) c.args.cell) ∙
+    ap (λ (k : ℕ). set g.cells k c.args.cell) (sym along.1)

@@ -11,6 +11,8 @@ invariant_of-self-2 g c =
     let k = c.in-Some.place in
     let width = c.width-width.result in
     let place : c.from-place.result / width * w + c.from-place.result % width ≡ k =
-    (λ i. c.from-place.ensures i / width * w + c.from-place.ensures i % width) ∙ place_again k width w c.width-width.ensures.width c.self.invariant.size.width_from in
+    (λ i. c.from-place.ensures i / width * w + c.from-place.ensures i % width) ∙
+    place_again k width w c.width-width.ensures.width c.self.invariant.size.width_from in
     board-undone c.set.new.self (trailed b.lines b.trail.items) c.pop.new.self.items _ _ k c.self.invariant c.in-Some.ensures.items
-    (c.set.ensures ∙ (λ i. record { width = w; height = b.lines.height; cells = set b.lines.cells (place i) Unknown })) c.pop.ensures.capacity
+    (c.set.ensures ∙ (λ i. record { width = w; height = b.lines.height; cells = set b.lines.cells (place i) Unknown }))
+    c.pop.ensures.capacity

@@ -4,5 +4,6 @@ use Rattle.solve_core.proofs.boards.Board.unknown.Goals as goal
 
 pub invariant_of-result : goal.invariant_of-result
 invariant_of-result g c =
-    board-unknown c.args.width c.args.height _ c.in_ok-lines.lines c.in_ok-trail.trail.items c.requires.size c.in_ok-lines.ensures c.in_ok-trail.ensures.items
+    board-unknown c.args.width c.args.height _ c.in_ok-lines.lines c.in_ok-trail.trail.items c.requires.size c.in_ok-lines.ensures
+    c.in_ok-trail.ensures.items
     (omega (arith, c.in_ok-trail.ensures.capacity, c.count.ensures.count))

@@ -22,7 +22,9 @@ loop-n-preserved g c =
     let from : c.args.start ≤ n = omega (arith, before.ordered, first.0) in
     let unmarked = c.deduce_line.ensures.unmarked c.args.start c.args.end parallel from first.1 skipped in
     let trail = trailed-trans c.args.board.now c.loop-n.board c.deduce_line.new.board before.trail c.deduce_line.ensures.trail in
-    let size : IsBoardOf c.deduce_line.new.self.puzzle c.deduce_line.new.board = rw c.deduce_line.ensures.puzzle (trailed-size c.loop-n.self.puzzle c.loop-n.board c.deduce_line.new.board c.deduce_line.ensures.trail before.size) in
+    let size : IsBoardOf c.deduce_line.new.self.puzzle c.deduce_line.new.board =
+    rw c.deduce_line.ensures.puzzle
+    (trailed-size c.loop-n.self.puzzle c.loop-n.board c.deduce_line.new.board c.deduce_line.ensures.trail before.size) in
     elim c.match-deduce_line.branch [
       | in-Same w ↦
           record {

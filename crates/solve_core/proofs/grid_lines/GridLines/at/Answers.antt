@@ -15,7 +15,8 @@ get-requires g c =
     let seen : cells_of_rows rows ≡ c.args.self.now.cells = ap (λ (g : PartialGrid). g.cells) c.self.view_is in
     let at = place_in (cells_of_rows rows) rows columns k c.self.invariant (omega (arith, c.requires, ap length seen)) in
     let long = (lines-long rows columns (k % w) (k / w) c.self.invariant at.1 at.2).0 in
-    let row : c.index.result.now ≡ get_or rows (k / w) [] = c.index.ensures ∙ (λ i. get_or rows (k / wide i) c.index.result.now) ∙ line_read rows (k / w) c.index.result.now at.2 in
+    let row : c.index.result.now ≡ get_or rows (k / w) [] = c.index.ensures ∙ (λ i. get_or rows (k / wide i) c.index.result.now) ∙
+    line_read rows (k / w) c.index.result.now at.2 in
     rw wide (omega (arith, at.1, ap length row, long))
 
 pub returns : goal.returns
@@ -27,7 +28,8 @@ returns g c =
     let wide : c.len-width.result ≡ w = c.len-width.ensures ∙ c.self.inside.columns.ok.0 in
     let seen : cells_of_rows rows ≡ c.args.self.now.cells = ap (λ (g : PartialGrid). g.cells) c.self.view_is in
     let at = place_in (cells_of_rows rows) rows columns k c.self.invariant (omega (arith, c.requires, ap length seen)) in
-    let row : c.index.result.now ≡ get_or rows (k / w) [] = c.index.ensures ∙ (λ i. get_or rows (k / wide i) c.index.result.now) ∙ line_read rows (k / w) c.index.result.now at.2 in
+    let row : c.index.result.now ≡ get_or rows (k / w) [] = c.index.ensures ∙ (λ i. get_or rows (k / wide i) c.index.result.now) ∙
+    line_read rows (k / w) c.index.result.now at.2 in
     c.get.ensures ∙ (λ i. get_or (row i) (k % wide i) Unknown)
     ∙ (cell-read rows columns (k % w) (k / w) c.self.invariant at.1 at.2).0
     ∙ (λ i. get_or (seen i) (sym at.3 i) Unknown)

@@ -18,29 +18,39 @@ loop-y-preserved g c =
     let columns = c.self.inside.columns.items in
     let y = c.loop-y.y in
     let ly : y < length rows = omega (arith, c.loop-y-test.true, c.len-y-end.ensures, c.self.inside.rows.ok.0) in
-    let step = row-step rows columns y c.len-width.result c.args.self.now.cells c.index.result.now (has (number c.sure_above-above.result)) (has (number c.sure_below-below.result)) c.loop-y.best c.loop-y.least
-    c.most_in_row.result c.self.invariant ly (c.len-width.ensures ∙ c.self.inside.columns.ok.0) (ap (λ (t : PartialGrid). t.cells) c.self.view_is) (c.index.ensures ∙ line_read rows y c.index.result.now ly)
-    (λ x lx. c.sure_above-above.ensures x (rw c.deref.ensures.value (omega (arith, lx, (lines-long rows columns x y c.self.invariant lx ly).0)))
+    let step = row-step rows columns y c.len-width.result c.args.self.now.cells c.index.result.now
+    (has (number c.sure_above-above.result)) (has (number c.sure_below-below.result)) c.loop-y.best c.loop-y.least
+    c.most_in_row.result c.self.invariant ly (c.len-width.ensures ∙ c.self.inside.columns.ok.0)
+    (ap (λ (t : PartialGrid). t.cells) c.self.view_is) (c.index.ensures ∙ line_read rows y c.index.result.now ly)
+    (λ x lx. c.sure_above-above.ensures x
+    (rw c.deref.ensures.value (omega (arith, lx, (lines-long rows columns x y c.self.invariant lx ly).0)))
     ∙ (λ i. is_sure (nat_eq y 0) (get_or (get_or (c.deref.ensures.value i) (y - 1) []) x Unknown)))
-    (λ x lx. c.sure_below-below.ensures x (rw c.deref-in-loop-y.ensures.value (omega (arith, lx, (lines-long rows columns x y c.self.invariant lx ly).0)))
-    ∙ (λ i. is_sure (nat_eq (y + 1) (length (c.deref-in-loop-y.ensures.value i))) (get_or (get_or (c.deref-in-loop-y.ensures.value i) (y + 1) []) x Unknown)))
+    (λ x lx. c.sure_below-below.ensures x
+    (rw c.deref-in-loop-y.ensures.value (omega (arith, lx, (lines-long rows columns x y c.self.invariant lx ly).0)))
+    ∙ (λ i. is_sure (nat_eq (y + 1) (length (c.deref-in-loop-y.ensures.value i)))
+    (get_or (get_or (c.deref-in-loop-y.ensures.value i) (y + 1) []) x Unknown)))
     c.loop-y.invariant.best_is c.loop-y.invariant.least_is c.most_in_row.ensures in
     elim c.match-most_in_row.branch [
       | in-Some w ↦
           (let same : best_after (y * c.len-width.result) c.loop-y.best c.most_in_row.result ≡ c.match-most_in_row.best =
-          ap (best_after (y * c.len-width.result) c.loop-y.best) w.in-Some.is ∙ (λ i. Some (y * c.len-width.result + sym w.from.ensures i)) ∙ sym w.best-is in
+          ap (best_after (y * c.len-width.result) c.loop-y.best) w.in-Some.is ∙
+          (λ i. Some (y * c.len-width.result + sym w.from.ensures i)) ∙ sym w.best-is in
           record {
             within = omega (arith, c.loop-y-test.true);
-            best_is = subst (λ (b : Option ℕ). IsFirstMost (sure_neighbours c.len-width.result c.args.self.now.cells) (λ k. is_unknown (get_or c.args.self.now.cells k Unknown)) 0 ((y + 1) * c.len-width.result) b) same step.0;
-            least_is = w.least-is ∙ sym (ap (least_then c.loop-y.least) w.in-Some.is) ∙ step.1 ∙ ap (least_after (sure_neighbours c.len-width.result c.args.self.now.cells)) same;
+            best_is = subst (λ (b : Option ℕ). IsFirstMost (sure_neighbours c.len-width.result c.args.self.now.cells)
+                (λ k. is_unknown (get_or c.args.self.now.cells k Unknown)) 0 ((y + 1) * c.len-width.result) b) same step.0;
+            least_is = w.least-is ∙ sym (ap (least_then c.loop-y.least) w.in-Some.is) ∙ step.1 ∙
+                ap (least_after (sure_neighbours c.len-width.result c.args.self.now.cells)) same;
           })
       | in_default w ↦
           (let same : best_after (y * c.len-width.result) c.loop-y.best c.most_in_row.result ≡ c.match-most_in_row.best =
           ap (best_after (y * c.len-width.result) c.loop-y.best) w.in_default.is ∙ sym w.best-is in
           record {
             within = omega (arith, c.loop-y-test.true);
-            best_is = subst (λ (b : Option ℕ). IsFirstMost (sure_neighbours c.len-width.result c.args.self.now.cells) (λ k. is_unknown (get_or c.args.self.now.cells k Unknown)) 0 ((y + 1) * c.len-width.result) b) same step.0;
-            least_is = w.least-is ∙ sym (ap (least_then c.loop-y.least) w.in_default.is) ∙ step.1 ∙ ap (least_after (sure_neighbours c.len-width.result c.args.self.now.cells)) same;
+            best_is = subst (λ (b : Option ℕ). IsFirstMost (sure_neighbours c.len-width.result c.args.self.now.cells)
+                (λ k. is_unknown (get_or c.args.self.now.cells k Unknown)) 0 ((y + 1) * c.len-width.result) b) same step.0;
+            least_is = w.least-is ∙ sym (ap (least_then c.loop-y.least) w.in_default.is) ∙ step.1 ∙
+                ap (least_after (sure_neighbours c.len-width.result c.args.self.now.cells)) same;
           })
     ]
 
@@ -49,11 +59,16 @@ returns g c =
     let cells = c.args.self.now.cells in
     let score = sure_neighbours c.args.self.now.width cells in
     let passes : ℕ → Bool = λ k. is_unknown (get_or cells k Unknown) in
-    let wide : c.len-width.result ≡ c.args.self.now.width = c.len-width.ensures ∙ c.self.inside.columns.ok.0 ∙ ap (λ (t : PartialGrid). t.width) c.self.view_is in
-    let last : c.loop-y.y ≡ length c.self.inside.rows.items = omega (arith, c.loop-y-test.false, c.loop-y.invariant.within, c.len-y-end.ensures, c.self.inside.rows.ok.0) in
+    let wide : c.len-width.result ≡ c.args.self.now.width = c.len-width.ensures ∙ c.self.inside.columns.ok.0 ∙
+    ap (λ (t : PartialGrid). t.width) c.self.view_is in
+    let last : c.loop-y.y ≡ length c.self.inside.rows.items =
+    omega (arith, c.loop-y-test.false, c.loop-y.invariant.within, c.len-y-end.ensures, c.self.inside.rows.ok.0) in
     let all : c.loop-y.y * c.len-width.result ≡ length cells =
-    (λ i. last i * (c.len-width.ensures ∙ c.self.inside.columns.ok.0) i) ∙ omega arith ∙ sym c.self.invariant.count ∙ ap (λ (t : PartialGrid). length t.cells) c.self.view_is in
+    (λ i. last i * (c.len-width.ensures ∙ c.self.inside.columns.ok.0) i) ∙ omega arith ∙ sym c.self.invariant.count ∙
+    ap (λ (t : PartialGrid). length t.cells) c.self.view_is in
     let best : IsFirstMost score passes 0 (length cells) c.loop-y.best =
     subst (λ (n : ℕ). IsFirstMost score passes 0 n c.loop-y.best) all
-    (subst (λ (w : ℕ). IsFirstMost (sure_neighbours w cells) passes 0 (c.loop-y.y * c.len-width.result) c.loop-y.best) wide c.loop-y.invariant.best_is) in
-    first_most-only score passes 0 (length cells) c.loop-y.best (most_known c.args.self.now.width cells) best (first_most-is score passes 0 (length cells))
+    (subst (λ (w : ℕ). IsFirstMost (sure_neighbours w cells) passes 0 (c.loop-y.y * c.len-width.result) c.loop-y.best)
+    wide c.loop-y.invariant.best_is) in
+    first_most-only score passes 0 (length cells) c.loop-y.best (most_known c.args.self.now.width cells) best
+    (first_most-is score passes 0 (length cells))

@@ -9,7 +9,12 @@ use Rattle.solve_core.proofs.GridLineSteps.{line_read, lines-long, rows-written}
 use Rattle.solve_core.proofs.grid_lines.GridLines.write.Goals as goal
 
 pub loop-y-init : goal.loop-y-init
-loop-y-init g c = record { width = c.requires.width; height = c.requires.height; count = λ h. absurd (omega (arith, h)); written = λ k h. absurd (omega (arith, h)) }
+loop-y-init g c = record {
+  width = c.requires.width;
+  height = c.requires.height;
+  count = λ h. absurd (omega (arith, h));
+  written = λ k h. absurd (omega (arith, h));
+}
 
 pub write_row-requires-clause-width : goal.write_row-requires-clause-width
 write_row-requires-clause-width g c =
@@ -17,7 +22,8 @@ write_row-requires-clause-width g c =
     let columns = c.self.inside.columns.items in
     let y = c.loop-y.y in
     let ly : y < length rows = omega (arith, c.loop-y-test.true, c.len-y-end.ensures, c.self.inside.rows.ok.0) in
-    c.loop-y.invariant.width ∙ sym (ap (λ (g : PartialGrid). g.width) c.self.view_is) ∙ sym (lines-long rows columns 0 y c.self.invariant c.self.invariant.size.width_from ly).0
+    c.loop-y.invariant.width ∙ sym (ap (λ (g : PartialGrid). g.width) c.self.view_is) ∙
+    sym (lines-long rows columns 0 y c.self.invariant c.self.invariant.size.width_from ly).0
     ∙ sym (ap length (c.index.ensures ∙ line_read rows y c.index.result.now ly))
 
 pub loop-y-preserved : goal.loop-y-preserved
@@ -30,9 +36,11 @@ loop-y-preserved g c =
     let wide : old.width ≡ length columns = c.loop-y.invariant.width ∙ sym (ap (λ (g : PartialGrid). g.width) seen) in
     let ly : y < length rows = omega (arith, c.loop-y-test.true, c.len-y-end.ensures, c.self.inside.rows.ok.0) in
     let row : c.index.result.now ≡ get_or rows y [] = c.index.ensures ∙ line_read rows y c.index.result.now ly in
-    let count : length old.cells ≡ length columns * length rows = c.write_row.ensures.count ∙ (λ i. wide i * (c.loop-y.invariant.height ∙ sym (ap (λ (g : PartialGrid). g.height) seen)) i) in
+    let count : length old.cells ≡ length columns * length rows = c.write_row.ensures.count ∙
+    (λ i. wide i * (c.loop-y.invariant.height ∙ sym (ap (λ (g : PartialGrid). g.height) seen)) i) in
     let after = rows-written old rows columns y c.index.result.now c.self.invariant wide count ly row
-    (λ k h. c.loop-y.invariant.written k (rw (← ap (λ (g : PartialGrid). g.width) seen) h) ∙ sym (ap (λ (g : PartialGrid). get_or g.cells k Unknown) seen)) in
+    (λ k h. c.loop-y.invariant.written k (rw (← ap (λ (g : PartialGrid). g.width) seen) h) ∙
+    sym (ap (λ (g : PartialGrid). get_or g.cells k Unknown) seen)) in
     let written = ap (λ (g : PartialGrid). g.cells) c.write_row.ensures.row in
     record {
       width = ap (λ (g : PartialGrid). g.width) c.write_row.ensures.row ∙ c.loop-y.invariant.width;
@@ -47,11 +55,17 @@ pub returns : goal.returns
 returns g c =
     let before = c.loop-y.invariant in
     let seen = c.self.view_is in
-    let all : length (cells_of_rows c.self.inside.rows.items) ≡ length c.args.self.now.cells = ap (λ (g : PartialGrid). length g.cells) seen in
+    let all : length (cells_of_rows c.self.inside.rows.items) ≡ length c.args.self.now.cells =
+    ap (λ (g : PartialGrid). length g.cells) seen in
     let wide : length c.self.inside.columns.items ≡ c.args.self.now.width = ap (λ (g : PartialGrid). g.width) seen in
-    let last : length c.self.inside.rows.items ≤ c.loop-y.y = omega (arith, c.loop-y-test.false, c.len-y-end.ensures, c.self.inside.rows.ok.0) in
-    let same : length c.loop-y.grid.cells ≡ length c.args.self.now.cells = before.count (omega (arith, last, c.self.invariant.size.height_from)) in
-    let more : length c.self.inside.columns.items * length c.self.inside.rows.items ≤ length c.self.inside.columns.items * c.loop-y.y = mul-le-mul_left (length c.self.inside.columns.items) last in
-    let turned : c.loop-y.y * c.args.self.now.width ≡ length c.self.inside.columns.items * c.loop-y.y = (λ i. c.loop-y.y * sym wide i) ∙ omega arith in
-    let cells = ext_get_or Unknown c.loop-y.grid.cells c.args.self.now.cells same (λ k h. before.written k (omega (arith, h, same, all, c.self.invariant.count, more, turned))) in
+    let last : length c.self.inside.rows.items ≤ c.loop-y.y =
+    omega (arith, c.loop-y-test.false, c.len-y-end.ensures, c.self.inside.rows.ok.0) in
+    let same : length c.loop-y.grid.cells ≡ length c.args.self.now.cells =
+    before.count (omega (arith, last, c.self.invariant.size.height_from)) in
+    let more : length c.self.inside.columns.items * length c.self.inside.rows.items ≤ length c.self.inside.columns.items * c.loop-y.y =
+    mul-le-mul_left (length c.self.inside.columns.items) last in
+    let turned : c.loop-y.y * c.args.self.now.width ≡ length c.self.inside.columns.items * c.loop-y.y =
+    (λ i. c.loop-y.y * sym wide i) ∙ omega arith in
+    let cells = ext_get_or Unknown c.loop-y.grid.cells c.args.self.now.cells same
+    (λ k h. before.written k (omega (arith, h, same, all, c.self.invariant.count, more, turned))) in
     λ i. record { width = before.width i; height = before.height i; cells = cells i }

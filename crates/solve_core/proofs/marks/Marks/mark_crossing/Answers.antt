@@ -11,7 +11,8 @@ invariant_of-self g c =
     let m = c.self.inside in
     let number = g.W.PlaceSet.number in
     let tall = ap (λ (l : LineMarks). l.height) c.self.view_is in
-    let count = ap (λ (l : LineMarks). length l.list) (sym c.self.view_is) ∙ count_marks m.height m.width (number m.rows) (number m.columns) in
+    let count = ap (λ (l : LineMarks). length l.list) (sym c.self.view_is) ∙
+    count_marks m.height m.width (number m.rows) (number m.columns) in
     record {
       rows_some = c.self.invariant.rows_some;
       columns_some = c.self.invariant.columns_some;
@@ -26,7 +27,8 @@ invariant_of-self g c =
               tall,
               count,
               c.requires.cells i new,
-              (along-row (length c.args.self.now.list - c.args.self.now.height) c.args.self.now.height c.args.n 0 (omega (arith, tall, c.if-n-from.true, c.from.ensures))).0,
+              (along-row (length c.args.self.now.list - c.args.self.now.height) c.args.self.now.height c.args.n 0
+                  (omega (arith, tall, c.if-n-from.true, c.from.ensures))).0,
             )
       ];
     }
@@ -48,7 +50,8 @@ invariant_of-self-else-n-from g c =
               arith,
               tall,
               c.requires.cells i new,
-              (along-column (length c.args.self.now.list - c.args.self.now.height) c.args.self.now.height c.args.n 0 (omega (arith, tall, c.if-n-from.false, c.from.ensures))).0,
+              (along-column (length c.args.self.now.list - c.args.self.now.height) c.args.self.now.height c.args.n 0
+                  (omega (arith, tall, c.if-n-from.false, c.from.ensures))).0,
             )
       ];
       columns_within = c.self.invariant.columns_within;
@@ -61,11 +64,13 @@ returns-then-n-from-clause-marks g c =
     let cells = Has (number c.args.cells) in
     let new = marks_by m.height m.width (number m.rows) (number c.or-self-inside.result) in
     let tall = ap (λ (l : LineMarks). l.height) c.self.view_is in
-    let count = ap (λ (l : LineMarks). length l.list) (sym c.self.view_is) ∙ count_marks m.height m.width (number m.rows) (number m.columns) in
+    let count = ap (λ (l : LineMarks). length l.list) (sym c.self.view_is) ∙
+    count_marks m.height m.width (number m.rows) (number m.columns) in
     let wide : m.width ≡ length c.args.self.now.list - c.args.self.now.height = omega (arith, tall, count) in
     subst (λ (w : ℕ). MarksPlaces (places_in w c.args.self.now.height c.args.n) cells c.args.self.now.list new) wide
     (subst (λ (l : LineMarks). MarksPlaces (places_in m.width l.height c.args.n) cells l.list new) c.self.view_is
-    (mark_columns m.height m.width (number m.rows) (number m.columns) (number c.or-self-inside.result) (number c.args.cells) c.args.n (omega (arith, c.if-n-from.true, c.from.ensures)) c.or-self-inside.ensures))
+    (mark_columns m.height m.width (number m.rows) (number m.columns) (number c.or-self-inside.result) (number c.args.cells) c.args.n
+    (omega (arith, c.if-n-from.true, c.from.ensures)) c.or-self-inside.ensures))
 
 pub returns-else-n-from-clause-marks : goal.returns-else-n-from-clause-marks
 returns-else-n-from-clause-marks g c =
@@ -74,8 +79,10 @@ returns-else-n-from-clause-marks g c =
     let cells = Has (number c.args.cells) in
     let new = marks_by m.height m.width (number c.or-self-inside-else-n-from.result) (number m.columns) in
     let tall = ap (λ (l : LineMarks). l.height) c.self.view_is in
-    let count = ap (λ (l : LineMarks). length l.list) (sym c.self.view_is) ∙ count_marks m.height m.width (number m.rows) (number m.columns) in
+    let count = ap (λ (l : LineMarks). length l.list) (sym c.self.view_is) ∙
+    count_marks m.height m.width (number m.rows) (number m.columns) in
     let wide : m.width ≡ length c.args.self.now.list - c.args.self.now.height = omega (arith, tall, count) in
     subst (λ (w : ℕ). MarksPlaces (places_in w c.args.self.now.height c.args.n) cells c.args.self.now.list new) wide
     (subst (λ (l : LineMarks). MarksPlaces (places_in m.width l.height c.args.n) cells l.list new) c.self.view_is
-    (mark_rows m.height m.width (number m.rows) (number m.columns) (number c.or-self-inside-else-n-from.result) (number c.args.cells) c.args.n (omega (arith, c.if-n-from.false, c.from.ensures)) c.or-self-inside-else-n-from.ensures))
+    (mark_rows m.height m.width (number m.rows) (number m.columns) (number c.or-self-inside-else-n-from.result)
+    (number c.args.cells) c.args.n (omega (arith, c.if-n-from.false, c.from.ensures)) c.or-self-inside-else-n-from.ensures))

@@ -9,23 +9,34 @@ pub overflow_cast-n-else-n-height : goal.overflow_cast-n-else-n-height
 overflow_cast-n-else-n-height g c =
     let m = c.self.inside in
     let number = g.W.PlaceSet.number in
-    let count = ap (λ (l : LineMarks). length l.list) (sym c.self.view_is) ∙ count_marks m.height m.width (number m.rows) (number m.columns) in
+    let count = ap (λ (l : LineMarks). length l.list) (sym c.self.view_is) ∙
+    count_marks m.height m.width (number m.rows) (number m.columns) in
     let small : c.args.n - c.from-height.result < 65536 =
-    omega (arith, count, c.requires, c.from-height.ensures, c.if-n-height.false, c.self.invariant.columns_fit, width_within g.W.PlaceSet.WIDTH g.W.PlaceSet.TOP g.met.W.PlaceSet.width_is g.met.W.PlaceSet.top_is.1) in
+    omega (
+      arith,
+      count,
+      c.requires,
+      c.from-height.ensures,
+      c.if-n-height.false,
+      c.self.invariant.columns_fit,
+      width_within g.W.PlaceSet.WIDTH g.W.PlaceSet.TOP g.met.W.PlaceSet.width_is g.met.W.PlaceSet.top_is.1,
+    ) in
     search (rules, small)
 
 pub marked-self-inside-requires-else-n-height : goal.marked-self-inside-requires-else-n-height
 marked-self-inside-requires-else-n-height g c =
     let m = c.self.inside in
     let number = g.W.PlaceSet.number in
-    let count = ap (λ (l : LineMarks). length l.list) (sym c.self.view_is) ∙ count_marks m.height m.width (number m.rows) (number m.columns) in
+    let count = ap (λ (l : LineMarks). length l.list) (sym c.self.view_is) ∙
+    count_marks m.height m.width (number m.rows) (number m.columns) in
     omega (arith, count, c.requires, c.from-height.ensures, c.if-n-height.false, c.self.invariant.columns_fit)
 
 pub invariant_of-self-else-n-height : goal.invariant_of-self-else-n-height
 invariant_of-self-else-n-height g c =
     let m = c.self.inside in
     let number = g.W.PlaceSet.number in
-    let count = ap (λ (l : LineMarks). length l.list) (sym c.self.view_is) ∙ count_marks m.height m.width (number m.rows) (number m.columns) in
+    let count = ap (λ (l : LineMarks). length l.list) (sym c.self.view_is) ∙
+    count_marks m.height m.width (number m.rows) (number m.columns) in
     record {
       rows_some = c.self.invariant.rows_some;
       columns_some = c.self.invariant.columns_some;
@@ -42,7 +53,8 @@ pub returns-then-n-height-clause-list : goal.returns-then-n-height-clause-list
 returns-then-n-height-clause-list g c =
     let m = c.self.inside in
     let number = g.W.PlaceSet.number in
-    set_row m.height m.width (number m.rows) (number m.columns) c.args.n (number c.marked-self-inside.result) c.args.wanted (omega (arith, c.if-n-height.true, c.from-height.ensures)) c.marked-self-inside.ensures
+    set_row m.height m.width (number m.rows) (number m.columns) c.args.n (number c.marked-self-inside.result) c.args.wanted
+    (omega (arith, c.if-n-height.true, c.from-height.ensures)) c.marked-self-inside.ensures
     ∙ ap (λ (l : LineMarks). set l.list c.args.n c.args.wanted) c.self.view_is
 
 pub returns-else-n-height-clause-list : goal.returns-else-n-height-clause-list
@@ -51,7 +63,10 @@ returns-else-n-height-clause-list g c =
     let number = g.W.PlaceSet.number in
     let n = c.args.n in
     let new = number c.marked-self-inside-else-n-height.result in
-    let count = ap (λ (l : LineMarks). length l.list) (sym c.self.view_is) ∙ count_marks m.height m.width (number m.rows) (number m.columns) in
-    set_column m.height m.width (number m.rows) (number m.columns) n new c.args.wanted (omega (arith, c.if-n-height.false, c.from-height.ensures)) (omega (arith, count, c.requires))
-    (subst (λ (h : ℕ). IsMaskOf (IsMarked (Has (number m.columns)) (n - h) c.args.wanted) new) c.from-height.ensures c.marked-self-inside-else-n-height.ensures)
+    let count = ap (λ (l : LineMarks). length l.list) (sym c.self.view_is) ∙
+    count_marks m.height m.width (number m.rows) (number m.columns) in
+    set_column m.height m.width (number m.rows) (number m.columns) n new c.args.wanted
+    (omega (arith, c.if-n-height.false, c.from-height.ensures)) (omega (arith, count, c.requires))
+    (subst (λ (h : ℕ). IsMaskOf (IsMarked (Has (number m.columns)) (n - h) c.args.wanted) new)
+    c.from-height.ensures c.marked-self-inside-else-n-height.ensures)
     ∙ ap (λ (l : LineMarks). set l.list n c.args.wanted) c.self.view_is

@@ -30,7 +30,8 @@ loop-place-preserved g c =
             size = rw c.try_place.ensures.puzzle c.try_place.ensures.size;
             ready = w.in-Same.ensures.ready (λ e. cc);
             alive = rw w.progress-is before.alive;
-            progress = rw (w.progress-is, c.try_place.ensures.puzzle) (progress-same (trials (lines_of p)) c.loop-place.progress first old new before.progress same);
+            progress = rw (w.progress-is, c.try_place.ensures.puzzle)
+                (progress-same (trials (lines_of p)) c.loop-place.progress first old new before.progress same);
             from = next;
             tried = λ e.
                 subst (λ (q : Nonogram). (k : ℕ) → k < place + 1 → IsTried (lines_of q) new k) back
@@ -39,7 +40,8 @@ loop-place-preserved g c =
                 subst (λ (cells : List Cell). IsTried (lines_of p) cells k) (sym same)
                 (elim (before_or_from k c.loop-place.from) [
                   | inl early ↦ before.tried (sym w.progress-is ∙ e) k early
-                  | inr late ↦ known-tried (lines_of p) old k (ap (λ (r : List Cell). is_unknown (get_or r k Unknown)) (sym seen) ∙ c.in-Some.ensures.3 k late l)
+                  | inr late ↦ known-tried (lines_of p) old k (ap (λ (r : List Cell). is_unknown (get_or r k Unknown)) (sym seen) ∙
+                      c.in-Some.ensures.3 k late l)
                 ]))
                 (w.in-Same.ensures.tried refl));
           })
@@ -49,7 +51,9 @@ loop-place-preserved g c =
             size = rw c.try_place.ensures.puzzle c.try_place.ensures.size;
             ready = w.in-Changed.ensures.ready (λ e. cc);
             alive = rw w.progress-is (λ e. cc);
-            progress = rw (w.progress-is, c.try_place.ensures.puzzle) (progress-changed (trials (lines_of p)) c.loop-place.progress first old new before.alive before.progress w.in-Changed.ensures.progress);
+            progress = rw (w.progress-is, c.try_place.ensures.puzzle)
+                (progress-changed (trials (lines_of p)) c.loop-place.progress first old new before.alive
+                before.progress w.in-Changed.ensures.progress);
             from = next;
             tried = rw w.progress-is (λ e. cc);
           }
@@ -66,5 +70,6 @@ returns-clause-tried g c =
     (λ k l.
     elim (before_or_from k c.loop-place.from) [
       | inl early ↦ before.tried e k early
-      | inr late ↦ known-tried (lines_of p) cells k (ap (λ (r : List Cell). is_unknown (get_or r k Unknown)) (sym seen) ∙ c.in_default.ensures k late (omega (arith, l, ap length seen)))
+      | inr late ↦ known-tried (lines_of p) cells k (ap (λ (r : List Cell). is_unknown (get_or r k Unknown)) (sym seen) ∙
+          c.in_default.ensures k late (omega (arith, l, ap length seen)))
     ])

@@ -18,5 +18,7 @@ returns-clause-tried g c =
     let first = c.args.board.now.cells in
     let closed = c.propagate_all.new.board.cells in
     let seen : c.self.inside.closer.puzzle ≡ c.args.self.now.closer.puzzle = ap (λ (t : TriedPuzzle). t.closer.puzzle) c.self.view_is in
-    subst (λ (p : Nonogram). if_alive c.try_at_rest.result c.try_at_rest.new.board.cells ≡ trials (lines_of p) closed) (c.propagate_all.ensures.puzzle ∙ seen) c.try_at_rest.ensures.tried
-    ∙ closure_trials (lines_of c.args.self.now.closer.puzzle) first closed (subst (λ (p : Nonogram). closure (lines_of p) first ≡ Some closed) seen (sym c.if-not-propagate_all.ensures.closed))
+    subst (λ (p : Nonogram). if_alive c.try_at_rest.result c.try_at_rest.new.board.cells ≡ trials (lines_of p) closed)
+    (c.propagate_all.ensures.puzzle ∙ seen) c.try_at_rest.ensures.tried
+    ∙ closure_trials (lines_of c.args.self.now.closer.puzzle) first closed
+    (subst (λ (p : Nonogram). closure (lines_of p) first ≡ Some closed) seen (sym c.if-not-propagate_all.ensures.closed))

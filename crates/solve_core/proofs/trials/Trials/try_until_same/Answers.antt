@@ -15,7 +15,8 @@ returns-in-Same-clause-tried g c =
     subst (λ (p : Nonogram). round (lines_of p) new ≡ Some new) c.try_all.ensures.puzzle
     (rest_closed c.try_all.new.self.closer new (c.in-Same.ensures.ready (λ e. cc)).rest) in
     subst (λ (p : Nonogram). Some new ≡ trials (lines_of p) first) c.loop.invariant.puzzle
-    (sym (tried_ends lines new closed (c.in-Same.ensures.tried refl)) ∙ ap (trials lines) c.in-Same.ensures.progress ∙ c.loop.invariant.same)
+    (sym (tried_ends lines new closed (c.in-Same.ensures.tried refl)) ∙ ap (trials lines) c.in-Same.ensures.progress ∙
+    c.loop.invariant.same)
 
 pub returns-in-Same-clause-rest : goal.returns-in-Same-clause-rest
 returns-in-Same-clause-rest g c = λ alive. (c.in-Same.ensures.ready (λ e. cc)).rest

@@ -8,22 +8,41 @@ use Rattle.solve_core.proofs.witnesses.Witnesses.forget.Goals as goal
 pub invariant_of-self : goal.invariant_of-self
 invariant_of-self c =
     let inside = c.self.inside in
-    let w : WitnessedPuzzle = record { puzzle = inside.puzzle.now; witnesses = inside.witnesses.items; fillable = inside.fillable.items; blankable = inside.blankable.items } in
+    let w : WitnessedPuzzle = record {
+      puzzle = inside.puzzle.now;
+      witnesses = inside.witnesses.items;
+      fillable = inside.fillable.items;
+      blankable = inside.blankable.items;
+    } in
     let none : ℕ = 0 in
-    let filled : c.fill.new.self.items ≡ replicate (length inside.fillable.items) 0 = c.fill.ensures.items (λ y e. e) ∙ ap (λ (n : ℕ). replicate n none) inside.fillable.ok.0 in
-    let blank : c.fill-2.new.self.items ≡ replicate (length inside.blankable.items) 0 = c.fill-2.ensures.items (λ y e. e) ∙ ap (λ (n : ℕ). replicate n none) inside.blankable.ok.0 in
+    let filled : c.fill.new.self.items ≡ replicate (length inside.fillable.items) 0 =
+    c.fill.ensures.items (λ y e. e) ∙ ap (λ (n : ℕ). replicate n none) inside.fillable.ok.0 in
+    let blank : c.fill-2.new.self.items ≡ replicate (length inside.blankable.items) 0 =
+    c.fill-2.ensures.items (λ y e. e) ∙ ap (λ (n : ℕ). replicate n none) inside.blankable.ok.0 in
     rw c.truncate.ensures.items (forgotten w c.fill.new.self.items c.fill-2.new.self.items c.self.invariant filled blank)
 
 pub returns-clause-witnesses : goal.returns-clause-witnesses
 returns-clause-witnesses c = λ cells size.
     let inside = c.self.inside in
-    let new : WitnessedPuzzle = record { puzzle = inside.puzzle.now; witnesses = c.truncate.new.self.items; fillable = c.fill.new.self.items; blankable = c.fill-2.new.self.items } in
-    no_witnesses new cells (invariant_of-self c) (size ∙ ap (λ (q : WitnessedPuzzle). q.puzzle.width * q.puzzle.height) (sym c.self.view_is)) (omega (arith, ap length c.truncate.ensures.items, length-take 1 inside.witnesses.items))
+    let new : WitnessedPuzzle = record {
+      puzzle = inside.puzzle.now;
+      witnesses = c.truncate.new.self.items;
+      fillable = c.fill.new.self.items;
+      blankable = c.fill-2.new.self.items;
+    } in
+    no_witnesses new cells (invariant_of-self c) (size ∙ ap (λ (q : WitnessedPuzzle). q.puzzle.width * q.puzzle.height)
+    (sym c.self.view_is)) (omega (arith, ap length c.truncate.ensures.items, length-take 1 inside.witnesses.items))
 
 pub returns-then-len-eq1-clause-witnesses : goal.returns-then-len-eq1-clause-witnesses
 returns-then-len-eq1-clause-witnesses c = λ cells size.
     let inside = c.self.inside in
-    let w : WitnessedPuzzle = record { puzzle = inside.puzzle.now; witnesses = inside.witnesses.items; fillable = inside.fillable.items; blankable = inside.blankable.items } in
-    let same : w.puzzle.width * w.puzzle.height ≡ c.args.self.now.puzzle.width * c.args.self.now.puzzle.height = ap (λ (q : WitnessedPuzzle). q.puzzle.width * q.puzzle.height) c.self.view_is in
+    let w : WitnessedPuzzle = record {
+      puzzle = inside.puzzle.now;
+      witnesses = inside.witnesses.items;
+      fillable = inside.fillable.items;
+      blankable = inside.blankable.items;
+    } in
+    let same : w.puzzle.width * w.puzzle.height ≡ c.args.self.now.puzzle.width * c.args.self.now.puzzle.height =
+    ap (λ (q : WitnessedPuzzle). q.puzzle.width * q.puzzle.height) c.self.view_is in
     subst (λ (q : WitnessedPuzzle). AreWitnesses q cells) c.self.view_is
     (no_witnesses w cells c.self.invariant (size ∙ sym same) (omega (arith, c.len.ensures, c.if-len-eq1.true, inside.witnesses.ok.0)))

@@ -16,32 +16,52 @@ use Rattle.solve_core.proofs.witnesses.Witnesses.keep.Goals as goal
 pub invariant_of-self : goal.invariant_of-self
 invariant_of-self g c =
     let inside = c.self.inside in
-    let w : WitnessedPuzzle = record { puzzle = inside.puzzle.now; witnesses = inside.witnesses.items; fillable = inside.fillable.items; blankable = inside.blankable.items } in
+    let w : WitnessedPuzzle = record {
+      puzzle = inside.puzzle.now;
+      witnesses = inside.witnesses.items;
+      fillable = inside.fillable.items;
+      blankable = inside.blankable.items;
+    } in
     let after = c.keep_each.new.witnesses in
-    let items : (with_items inside.witnesses after).items ≡ after = with_items_is inside.witnesses after (c.keep_each.auto.witnesses ∙ c.deref_mut.ensures.len) in
+    let items : (with_items inside.witnesses after).items ≡ after =
+    with_items_is inside.witnesses after (c.keep_each.auto.witnesses ∙ c.deref_mut.ensures.len) in
     let same : length after ≡ length w.witnesses = c.keep_each.auto.witnesses ∙ ap length c.deref_mut.ensures.value in
     subst (λ (witnesses : List Witness). AreNumbered (record w { witnesses = witnesses })) (sym items)
-    (kept_numbered w after c.of_places-learned.result c.number_at-holder.result c.self.invariant same (rw c.deref_mut.ensures.value at c.keep_each.ensures))
+    (kept_numbered w after c.of_places-learned.result c.number_at-holder.result c.self.invariant same
+    (rw c.deref_mut.ensures.value at c.keep_each.ensures))
 
 pub returns-clause-witnesses : goal.returns-clause-witnesses
 returns-clause-witnesses g c =
     let inside = c.self.inside in
-    let w : WitnessedPuzzle = record { puzzle = inside.puzzle.now; witnesses = inside.witnesses.items; fillable = inside.fillable.items; blankable = inside.blankable.items } in
+    let w : WitnessedPuzzle = record {
+      puzzle = inside.puzzle.now;
+      witnesses = inside.witnesses.items;
+      fillable = inside.fillable.items;
+      blankable = inside.blankable.items;
+    } in
     let cells = c.args.board.now.cells in
     let learned = drop c.args.mark c.args.board.now.trail in
     let g = cells_before cells c.args.board.now.trail c.args.mark in
     let after = c.keep_each.new.witnesses in
     let lines = c.of_places-learned.result in
-    let items : (with_items inside.witnesses after).items ≡ after = with_items_is inside.witnesses after (c.keep_each.auto.witnesses ∙ c.deref_mut.ensures.len) in
+    let items : (with_items inside.witnesses after).items ≡ after =
+    with_items_is inside.witnesses after (c.keep_each.auto.witnesses ∙ c.deref_mut.ensures.len) in
     let same : length after ≡ length w.witnesses = c.keep_each.auto.witnesses ∙ ap length c.deref_mut.ensures.value in
     let seen : w.puzzle ≡ c.args.self.now.puzzle = ap (λ (q : WitnessedPuzzle). q.puzzle) c.self.view_is in
-    let more : Extends g cells = settled-extends (lines_of c.args.self.now.puzzle) g cells c.args.place c.args.colour c.requires.unknown c.requires.settled in
-    let size : length g ≡ w.puzzle.width * w.puzzle.height = length-Extends g cells more ∙ c.requires.size.2 ∙ ap (λ (p : Nonogram). p.width * p.height) (sym seen) in
+    let more : Extends g cells = settled-extends (lines_of c.args.self.now.puzzle) g cells c.args.place c.args.colour c.requires.unknown
+    c.requires.settled in
+    let size : length g ≡ w.puzzle.width * w.puzzle.height = length-Extends g cells more ∙ c.requires.size.2 ∙
+    ap (λ (p : Nonogram). p.width * p.height) (sym seen) in
     let settled : closure (lines_of w.puzzle) (set g c.args.place c.args.colour) ≡ Some cells =
     subst (λ (p : Nonogram). closure (lines_of p) (set g c.args.place c.args.colour) ≡ Some cells) (sym seen) c.requires.settled in
     let are : AreWitnesses w g = subst (λ (q : WitnessedPuzzle). AreWitnesses q g) (sym c.self.view_is) c.requires.witnesses in
-    let holder : c.number_at-holder.result ≡ get_or (met_by w c.args.colour) c.args.place 0 = subst (λ (q : WitnessedPuzzle). c.number_at-holder.result ≡ get_or (met_by q c.args.colour) c.args.place 0) (sym c.self.view_is) c.number_at-holder.ensures in
-    let differ : DifferWithin w.puzzle.width g cells lines = cleared_within w.puzzle.width cells learned lines (rw (c.trail.ensures.trail, c.width.ensures.width, take_rest c.args.board.now.trail c.args.mark) at c.of_places-learned.ensures) in
+    let holder : c.number_at-holder.result ≡ get_or (met_by w c.args.colour) c.args.place 0 =
+    subst (λ (q : WitnessedPuzzle). c.number_at-holder.result ≡ get_or (met_by q c.args.colour) c.args.place 0)
+    (sym c.self.view_is) c.number_at-holder.ensures in
+    let differ : DifferWithin w.puzzle.width g cells lines =
+    cleared_within w.puzzle.width cells learned lines
+    (rw (c.trail.ensures.trail, c.width.ensures.width, take_rest c.args.board.now.trail c.args.mark) at c.of_places-learned.ensures) in
     subst (λ (witnesses : List Witness). AreWitnesses (record w { witnesses = witnesses }) cells) (sym items)
-    (kept_witnesses w after g cells lines c.number_at-holder.result c.args.place c.args.colour c.self.invariant size settled more differ are holder same
+    (kept_witnesses w after g cells lines c.number_at-holder.result c.args.place c.args.colour c.self.invariant size settled more differ
+    are holder same
     (rw c.deref_mut.ensures.value at c.keep_each.ensures))
