@@ -155,7 +155,8 @@ fn first_lacking(places: u64) -> Option<u16>
     }
 }
 
-/// Writes the first cells of a word, as many as are wanted, from a place on into blocks that follow one another.
+/// Writes the first cells of a word, as many as are wanted, from a place on into blocks that follow one
+/// another.
 fn write_word(blocks: &mut [Block], place: usize, count: u16, word: Block)
     requires count { (0 < count) × (count ≤ 64) }
     requires room { place + count ≤ 64 * length blocks.old }
@@ -174,7 +175,8 @@ fn write_word(blocks: &mut [Block], place: usize, count: u16, word: Block)
     }
 }
 
-/// Writes the first cells that two sets of places tell, 128 at most, from a place on into blocks that follow one another.
+/// Writes the first cells that two sets of places tell, 128 at most, from a place on into blocks that follow
+/// one another.
 fn write_half(blocks: &mut [Block], place: usize, count: u16, filled: u128, blank: u128)
     requires count { (0 < count) × (count ≤ 128) }
     requires few { length blocks.old ≤ 1024 }
@@ -189,7 +191,8 @@ fn write_half(blocks: &mut [Block], place: usize, count: u16, filled: u128, blan
     }
 }
 
-/// Writes the first cells that two sets of places tell, as many as are wanted, from a place on into blocks that follow one another.
+/// Writes the first cells that two sets of places tell, as many as are wanted, from a place on into blocks
+/// that follow one another.
 pub(crate) fn write_cells(blocks: &mut [Block], place: usize, count: u16, filled: Wide, blank: Wide)
     requires count { (0 < count) × (count ≤ 256) }
     requires few { length blocks.old ≤ 1024 }

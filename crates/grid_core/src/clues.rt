@@ -42,7 +42,8 @@ impl Model for Clue {
 }
 
 impl Clue {
-    /// The clue of these numbers. `BadNumber` where there are more than 128, or one is 0 or over 256; else perhaps `NoMemory`.
+    /// The clue of these numbers. `BadNumber` if there are more than 128, or one is 0 or over 256; else
+    /// perhaps `NoMemory`.
     pub fn from_numbers(alloc: Global, numbers: &[u16]) -> Result<Clue, ClueFault>
         ensures ok { IfOk result (λ clue. clue ≡ numbers.now) }
         ensures clue { OnOk result (is_clue LONGEST_SIDE numbers.now ≡ true) }

@@ -120,8 +120,8 @@ impl Texts {
         let _ = &self.title;
     }
 
-    /// Sets the text of a field, any bytes. `BadText` where the text holds a line feed or is longer than 65,536 bytes; else perhaps `NoMemory`. After an
-    /// error the texts are as they were.
+    /// Sets the text of a field, any bytes. `BadText` if the text holds a line feed or is longer than 65,536
+    /// bytes; else perhaps `NoMemory`. After an error the texts are as they were.
     pub fn set(&mut self, alloc: Global, field: Field, text: &[u8]) -> Result<(), TextsFault>
         ensures ok { OnOk result (self.new ≡ with_text self.old field text.now) }
         ensures text { OnOk result (is_text text.now ≡ true) }

@@ -96,8 +96,8 @@ impl Grid {
         self.blocks[place / BLOCK] = block.with((place % BLOCK) as u16, cell);
     }
 
-    /// Changes what is known of the cells of row y, and nothing else: they are filled and blank at the places of these two sets, from 0 at the
-    /// left. No place is in both; those at or beyond the width don't count.
+    /// Changes what is known of the cells of row y, and nothing else: they are filled and blank at the places
+    /// of these two sets, from 0 at the left. No place is in both; those at or beyond the width don't count.
     pub fn write_row(&mut self, y: u16, filled: Wide, blank: Wide)
         requires row { y < self.old.height }
         requires apart { (x : ℕ) → Has (joined filled.low filled.high) x → Has (joined blank.low blank.high) x → ⊥ }
@@ -116,7 +116,8 @@ impl Grid {
         count_known(&self.blocks)
     }
 
-    /// The column and the row of the first unknown cell, rows from the top, cells from the left. `None` exactly where the grid is full.
+    /// The column and the row of the first unknown cell, rows from the top, cells from the left. `None`
+    /// exactly if the grid is full.
     pub fn first_unknown(&self) -> Option<(u16, u16)>
         ensures { result ≡ option_map (λ k. (k % self.now.width, k / self.now.width)) (position is_unknown self.now.cells) }
     {

@@ -28,8 +28,9 @@ pub enum PuzzleFault {
     BadGoal,
 }
 
-/// A nonogram: a width and a height from 1 to 256, the clue of each row and column, texts, and perhaps a goal, which says of each cell, row by
-/// row, whether it is to be filled. Nothing is demanded of the clues: they may not fit their lines, and their sums may differ.
+/// A nonogram: a width and a height from 1 to 256, the clue of each row and column, texts, and perhaps a
+/// goal, which says of each cell, row by row, whether it is to be filled. Nothing is demanded of the clues:
+/// they may not fit their lines, and their sums may differ.
 #[derive(Debug, Drop)]
 pub struct Puzzle {
     width: u16,
@@ -77,8 +78,9 @@ pub enum GoalWord {
 }
 
 impl Puzzle {
-    /// The puzzle of these parts. `BadSize` where a side is 0 or over 256; else `BadCount` where there is not one clue for each row and column;
-    /// else `BadGoal` where there is a goal that has not one value for each cell, row by row. No other puzzle is refused.
+    /// The puzzle of these parts. `BadSize` if a side is 0 or over 256; else `BadCount` if there is not one
+    /// clue for each row and column; else `BadGoal` if there is a goal that has not one value for each cell,
+    /// row by row. No other puzzle is refused.
     pub fn new(
         width: u16,
         height: u16,
@@ -204,7 +206,8 @@ impl Puzzle {
         })
     }
 
-    /// Whether the grid solves the puzzle: it has the puzzle's sizes, is full, and along each line its runs are the clue.
+    /// Whether the grid solves the puzzle: it has the puzzle's sizes, is full, and along each line its runs
+    /// are the clue.
     pub fn solved_by(&self, grid: &Grid) -> bool
         ensures { IsTrue result ↔ Solves self.now grid.now }
     {
@@ -256,7 +259,7 @@ fn copy_goal(goal: &Option<Vec<bool>>) -> Result<Option<Vec<bool>>, NoMemory>
     }
 }
 
-/// Whether there is no goal, or one of so many values.
+/// Whether there is no goal, or one of `count` values.
 fn is_goal(count: usize, goal: &Option<Vec<bool>>) -> bool
     ensures { result ≡ is_goal count (bools_of goal.now) }
 {

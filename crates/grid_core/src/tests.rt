@@ -202,7 +202,8 @@ fn a_cell_by_its_place_in_row_order(rt: HostRuntime) -> Result<(), Fail> {
     Ok(())
 }
 
-// Whether each cell can be set in turn, every third filled and the others blank: before each is set it is the first unknown one.
+// Whether each cell can be set in turn, every third filled and the others blank: before each is set it is the
+// first unknown one.
 fn fills(grid: &mut Grid) -> bool {
     for y in 0..grid.height() {
         for x in 0..grid.width() {

@@ -1,4 +1,5 @@
-//! Calls whose growths of memory are refused, each in turn, and calls that take no memory with every growth refused.
+//! Calls whose growths of memory are refused, each in turn, and calls that take no memory with every growth
+//! refused.
 
 use super::tests::{COLUMNS, GOAL, ROWS, are_same, clues_of, demonstration, drawn, goal_of};
 use super::tests_refusals::{Told, assert_heeded, assert_swept, refuse, told_if, was_refused};

@@ -1,4 +1,5 @@
-//! Tests of rows that are written whole: against values worked out by hand, and against rows that are set cell by cell.
+//! Tests of rows that are written whole: against values worked out by hand, and against rows that are set
+//! cell by cell.
 
 ghost use Rattle.grid_core.specs.PartialGrid.{IsSize};
 
@@ -9,7 +10,8 @@ use std::test::Fail;
 
 const HEIGHT: u16 = 5;
 
-// The cell in column x and row y of a pattern that comes again after seven columns, and begins elsewhere in the next row.
+// The cell in column x and row y of a pattern that comes again after seven columns, and begins elsewhere in
+// the next row.
 fn pattern(x: u16, y: u16) -> Cell {
     match (u32::from(x) + 3 * u32::from(y)) % 7 {
         0 | 4 => Cell::Filled,

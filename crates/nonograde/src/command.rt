@@ -205,7 +205,8 @@ fn file_words<'a>(alloc: Global) -> Arg<'a>
         .action(ArgAction::Append)
 }
 
-/// The command `survey` with the options that say how entries are graded, with the words of the rules for guesses.
+/// The command `survey` with the options that say how entries are graded, with the words of the rules for
+/// guesses.
 fn grading_command<'a>(alloc: Global, picks: &'a [&'a str]) -> Result<Command<'a>, AllocError>
     ensures { IfOk result (IsCommand (command_app (codes "survey") (grading_rules picks.entry))) }
 {

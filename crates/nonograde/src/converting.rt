@@ -36,8 +36,9 @@ fn text_in(alloc: Global, puzzle: &Puzzle, format: Format) -> Result<Vec<u8>, Co
     }
 }
 
-/// The text of a puzzle's text in another format. `Entry` with the text's fault; else `Ambiguous`, in `.nin`, where the new text would be read with the sizes
-/// the other way round; else perhaps `NoMemory`. Want of memory in reading is an `Entry`.
+/// The text of a puzzle's text in another format. `Entry` with the text's fault; else `Ambiguous`, if the new
+/// text, in `.nin`, would be read with the sizes the other way round; else perhaps `NoMemory`. Want of memory
+/// in reading is an `Entry`.
 pub fn convert(
     alloc: Global,
     name: &[u8],

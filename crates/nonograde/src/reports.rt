@@ -81,8 +81,8 @@ fn lines_answer(alloc: Global, puzzle: &Puzzle) -> Result<Vec<u8>, EntryFault>
     text_or_fault(lines_text(alloc, puzzle))
 }
 
-/// The grid of a puzzle's text closed by line logic: `one K`, where it is full, or `open K`, with K the number of known cells, and its rows; `none 0` where it
-/// is dead. Else the text's fault, or `NoMemory`.
+/// The grid of a puzzle's text closed by line logic: `one K` if it is full, or `open K`, with K the number of
+/// known cells, and its rows; `none 0` if it is dead. Else the text's fault, or `NoMemory`.
 pub fn lines_report(alloc: Global, name: &[u8], body: &[u8]) -> Result<Vec<u8>, EntryFault>
     ensures answer { GivesText result (text_or_fault lines_text (said name.now body.now)) }
     // Want of memory never stands in place of these faults.
@@ -111,8 +111,9 @@ fn solve_text(
     print_graded(alloc, 1, name, &answer, true)
 }
 
-/// The line of a puzzle's text in a survey, numbered 1, and its solutions, each followed by an empty line. At most 1,000,000 guesses, each by the rule. Else the text's fault, or
-/// `NoMemory`.
+/// The line of a puzzle's text in a survey, numbered 1, and its solutions, each followed by an empty line.
+/// The search spends at most `guesses` guesses, from 0 to 1,000,000, each by the rule. Else the text's fault,
+/// or `NoMemory`.
 pub fn solve_report(
     alloc: Global,
     name: &[u8],

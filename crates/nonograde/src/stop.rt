@@ -1,4 +1,4 @@
-//! What the program says where it stops at a fault.
+//! What the program says if it stops at a fault.
 
 ghost use Rattle.std.specs.Prelude.{◌≡◌, ◌++◌, IfOk, codes};
 ghost use Rattle.puzzle_text.specs.Words.{word_text};
@@ -56,7 +56,8 @@ impl From<ConvertFault> for Stop {
     }
 }
 
-/// The word of a survey's fault: that of the collection's fault, if it is one. A failed writing has no number.
+/// The word of a survey's fault: that of the collection's fault, if it is one. A failed writing has no
+/// number.
 fn word_of_run(fault: RunFault) -> FaultWord
     ensures { word_text result ≡ run_word fault }
 {
@@ -83,7 +84,7 @@ fn word_of(stop: Stop) -> FaultWord
     }
 }
 
-/// The line that the program prints where it stops: `nonograde: `, the fault's word, and a line feed.
+/// The line that the program prints if it stops: `nonograde: `, the fault's word, and a line feed.
 pub fn stop_text(alloc: Global, stop: &Stop) -> Result<Vec<u8>, NoMemory>
     ensures { IfOk result (λ text. text.items ≡ stop_line stop.now) }
 {

@@ -38,7 +38,8 @@ impl Write for FlushedWriter {
     }
 }
 
-/// Asserts that the program ends so on a command line: its status, what it prints, and what it says of a fault.
+/// Asserts that the program ends so on a command line: its status, what it prints, and what it says of a
+/// fault.
 fn assert_ends<R: Abort + Files + Threads + Wait + Sync + AllocGlobal>(
     rt: &R,
     line: &str,

@@ -1,4 +1,5 @@
-//! Calls whose growths of memory are refused, each in turn, and texts that are too long with every growth refused.
+//! Calls whose growths of memory are refused, each in turn, and texts that are too long with every growth
+//! refused.
 
 use crate::command::{CommandFault, Request};
 use crate::converting::{ConvertFault, convert};

@@ -1,4 +1,5 @@
-//! What `lines`, `solve` and `convert` print. Each call is made with ample memory, so that a body that always answers `NoMemory` fails here.
+//! What `lines`, `solve` and `convert` print. Each call is made with ample memory, so that a body that always
+//! answers `NoMemory` fails here.
 
 use crate::converting::{ConvertFault, convert};
 use crate::reports::{lines_report, solve_report};

@@ -243,7 +243,7 @@ impl Read for FailingReader {
     }
 }
 
-/// Takes so many bytes, and then fails.
+/// Takes `room` bytes, and then fails.
 #[derive(Drop)]
 pub struct FailingWriter {
     pub room: usize,

@@ -163,7 +163,7 @@ fn words_ignored_on_one_file(rt: HostRuntime) {
     }
 }
 
-/// The status of words that are refused or ask for help; 1 where a growth of memory was refused.
+/// The status of words that are refused or ask for help; 1 if a growth of memory was refused.
 fn status_of(fault: &CommandFault) -> i32 {
     match fault {
         CommandFault::Words(error) => error.exit_code(),

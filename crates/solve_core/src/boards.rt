@@ -14,8 +14,8 @@ use line_core::LineSet;
 use std::alloc::Global;
 use std::marker::Model;
 
-/// A grid as its rows and its columns. It keeps the places of the cells in the order in which they were settled, in room that is made once, and so
-/// leads back.
+/// A grid as its rows and its columns. It keeps the places of the cells in the order in which they were
+/// settled, in room that is made once, and so leads back.
 #[derive(Drop)]
 pub struct Board<W: LineSet> {
     lines: GridLines<W>,

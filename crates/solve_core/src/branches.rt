@@ -19,8 +19,8 @@ pub struct Branch {
     pub mark: usize,
 }
 
-/// The next guess, a place and a colour, and the board made ready for it: the cell to guess is filled, or else the last branch's cell is blank
-/// in the board as it was. None where neither is left.
+/// The next guess, a place and a colour, and the board made ready for it: the cell to guess is filled, or
+/// else the last branch's cell is blank in the board as it was. `None` if neither is left.
 pub(crate) fn next_guess<W: LineSet>(
     board: &mut Board<W>,
     branches: &mut Vec<Branch>,

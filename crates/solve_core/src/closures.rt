@@ -40,7 +40,8 @@ impl Progress {
     }
 }
 
-/// What closing works with: a puzzle, its tables, and a mark for each line that may have more to give, the rows first.
+/// What closing works with: a puzzle, its tables, and a mark for each line that may have more to give, the
+/// rows first.
 #[derive(Drop)]
 pub struct Closer<'p, W: LineSet> {
     puzzle: &'p Puzzle,
@@ -152,7 +153,8 @@ impl<'p, W: LineSet> Closer<'p, W> {
         progress
     }
 
-    /// Deduces marked lines until none is marked: all rows in turn, then all columns, and again. Answers whether the grid is alive.
+    /// Deduces marked lines until none is marked: all rows in turn, then all columns, and again. Returns
+    /// whether the grid is alive.
     fn deduce_marked(&mut self, board: &mut Board<W>) -> bool
         requires marks { HasMarks self.old board.old.cells }
         requires size { IsBoardOf self.old.puzzle board.old }
@@ -175,7 +177,7 @@ impl<'p, W: LineSet> Closer<'p, W> {
         }
     }
 
-    /// Closes a board by the marked lines. Answers whether it is alive. No line is marked then.
+    /// Closes a board by the marked lines. Returns whether it is alive. No line is marked then.
     fn propagate(&mut self, board: &mut Board<W>) -> bool
         requires marks { HasMarks self.old board.old.cells }
         requires size { IsBoardOf self.old.puzzle board.old }
@@ -193,7 +195,7 @@ impl<'p, W: LineSet> Closer<'p, W> {
         alive
     }
 
-    /// Closes a board by all lines, whatever was marked. Answers whether it is alive. No line is marked then.
+    /// Closes a board by all lines, whatever was marked. Returns whether it is alive. No line is marked then.
     pub fn propagate_all(&mut self, board: &mut Board<W>) -> bool
         requires size { IsBoardOf self.old.puzzle board.old }
         ensures closed { if_alive result board.new.cells ≡ closure (lines_of self.old.puzzle) board.old.cells }
@@ -206,8 +208,9 @@ impl<'p, W: LineSet> Closer<'p, W> {
         self.propagate(board)
     }
 
-    /// Gives an unknown cell of a board at rest a colour, and closes the board by what that says of the cell's row and its column. Answers
-    /// whether it is alive; dead cells are open. No line is marked then, and the board leads back to where it was.
+    /// Gives an unknown cell of a board at rest a colour, and closes the board by what that says of the
+    /// cell's row and its column. Returns whether it is alive; dead cells are open. No line is marked then,
+    /// and the board leads back to where it was.
     pub fn assign(&mut self, board: &mut Board<W>, place: usize, colour: Cell) -> bool
         requires rest { IsAtRest self.old board.old.cells }
         requires size { IsBoardOf self.old.puzzle board.old }
@@ -230,7 +233,8 @@ impl<'p, W: LineSet> Closer<'p, W> {
         self.propagate(board)
     }
 
-    /// Gives an unknown cell of a board at rest a colour, on a copy. Answers whether the copy is alive, which then is closed.
+    /// Gives an unknown cell of a board at rest a colour, on a copy. Returns whether the copy is alive, which
+    /// then is closed.
     pub fn assign_copy(
         &mut self,
         board: &Board<W>,

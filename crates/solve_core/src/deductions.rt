@@ -53,14 +53,15 @@ impl<W: LineSet> Deduction<W> {
     }
 }
 
-/// How many deductions are remembered at most in sets of a width: the wider they are the fewer, so that they take the same room.
+/// How many deductions are remembered at most in sets of a width: the wider they are the fewer, so that they
+/// take the same room.
 fn most_remembered<W: LineSet>() -> usize
     ensures { (1 ≤ result) × (result ≤ MOST_REMEMBERED) }
 {
     (MOST_REMEMBERED * 64 / usize::from(W::WIDTH)).min(MOST_REMEMBERED)
 }
 
-/// How many deductions are remembered for a puzzle of so many cells: a power of two.
+/// How many deductions are remembered for a puzzle of this number of `cells`: a power of two.
 fn room_for<W: LineSet>(cells: usize) -> usize
     requires { cells ≤ 65536 }
     ensures { (1 ≤ result) × (result ≤ MOST_REMEMBERED) }
@@ -70,8 +71,8 @@ fn room_for<W: LineSet>(cells: usize) -> usize
         .min(most_remembered::<W>())
 }
 
-/// Which of so many slots, a power of two, is that of a line, by its group and its place there. None if there is no slot yet, or if the line's
-/// clue has so few runs that it is deduced as soon as it is looked up.
+/// Which of `slots` slots, a power of two, is that of a line, by its group and its place there. `None` if
+/// there is no slot yet, or if the line's clue has so few runs that it is deduced as soon as it is looked up.
 fn slot_of<W: LineSet>(
     groups: &[[u16; GROUP]],
     slots: usize,
@@ -96,7 +97,8 @@ fn slot_of<W: LineSet>(
     }
 }
 
-/// Keeps a deduction in the place of the one that has the index, or else as one more, and writes its index, if there is room.
+/// Keeps a deduction in the place of the one that has the index, or else as one more, and writes its index,
+/// if there is room.
 fn keep<W: LineSet>(
     kept: &mut Vec<Deduction<W>>,
     index: &mut u16,
@@ -118,8 +120,8 @@ fn keep<W: LineSet>(
     }
 }
 
-/// What deduces the lines of a puzzle. Once it is open it remembers what it deduced: each line has one slot, and a line that takes a slot takes it
-/// from the one before.
+/// What deduces the lines of a puzzle. Once it is open it remembers what it deduced: each line has one slot,
+/// and a line that takes a slot takes it from the one before.
 #[derive(Drop)]
 pub struct Deductions<'p, W: LineSet> {
     puzzle: &'p Puzzle,
@@ -142,7 +144,8 @@ impl<'p, W: LineSet> Model for Deductions<'p, W> {
 }
 
 impl<'p, W: LineSet> Deductions<'p, W> {
-    /// Makes all the room that it takes, in proportion to the puzzle. Nothing is remembered before it is opened.
+    /// Makes all the room that it takes, in proportion to the puzzle. Nothing is remembered before it is
+    /// opened.
     pub fn new(alloc: Global, puzzle: &'p Puzzle) -> Result<Deductions<'p, W>, NoMemory>
         requires { FitsIn W.WIDTH puzzle.now }
         ensures { IfOk result (λ deductions. deductions ≡ puzzle.now) }
@@ -151,7 +154,7 @@ impl<'p, W: LineSet> Deductions<'p, W> {
         Deductions::with_room(alloc, puzzle, room_for::<W>(cells))
     }
 
-    /// Makes the room for so many deductions, 1 to 16,384.
+    /// Makes the room for `room` deductions, 1 to 16,384.
     pub(crate) fn with_room(
         alloc: Global,
         puzzle: &'p Puzzle,
@@ -179,8 +182,8 @@ impl<'p, W: LineSet> Deductions<'p, W> {
         }
     }
 
-    /// What is certain of the line of this number, the rows first, with these cells: what all placings of its clue share, or none if there is no
-    /// placing.
+    /// What is certain of the line of this number, the rows first, with these cells: what all placings of its
+    /// clue share, or none if there is no placing.
     pub fn deduce(&mut self, number: usize, line: &LineOf<W>) -> Option<LineOf<W>>
         requires number { number < line_count self.old }
         ensures answer { result ≡ deduced line.now (line_at self.old number).clue }

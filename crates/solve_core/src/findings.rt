@@ -2,8 +2,8 @@
 
 use grid_core::Grid;
 
-/// How many full grids meet a puzzle's clues, as far as the search came. Each grid that a verdict shows has the puzzle's size, is full and meets
-/// the clues.
+/// How many full grids meet a puzzle's clues, as far as the search came. Each grid that a verdict shows has
+/// the puzzle's size, is full and meets the clues.
 #[derive(Debug, Drop)]
 pub enum Verdict {
     /// No grid meets the clues.
@@ -12,7 +12,8 @@ pub enum Verdict {
     One(Grid),
     /// Both grids meet the clues, and they differ. They stand in the order in which they were found.
     Several(Grid, Grid),
-    /// The limit on guesses cut the search short. The grid, if any, is the one solution that was found before.
+    /// The limit on guesses cut the search short. The grid, if any, is the one solution that was found
+    /// before.
     Unsettled(Option<Grid>),
 }
 
@@ -34,10 +35,13 @@ pub struct Findings {
     pub verdict: Verdict,
     /// What it took.
     pub grade: Grade,
-    /// How many cells are known once the unknown grid is closed under line deduction, from 0 to 65,536; and 0 where that finds a contradiction.
+    /// How many cells are known once the unknown grid is closed under line deduction, from 0 to 65,536; 0 if
+    /// that finds a contradiction.
     pub line_known: u32,
-    /// How many cells are known once that grid is closed under trials, from 0 to 65,536; and 0 where either finds a contradiction.
+    /// How many cells are known once that grid is closed under trials, from 0 to 65,536; 0 if either finds a
+    /// contradiction.
     pub trial_known: u32,
-    /// How many guesses were spent: one for each colour that a guessed cell was given. Never more than the limit.
+    /// How many guesses were spent: one for each colour that a guessed cell was given. Never more than the
+    /// limit.
     pub spent: u32,
 }

@@ -18,7 +18,8 @@ use place_sets::places;
 use std::alloc::Global;
 use std::marker::Model;
 
-/// A grid, each row and each column of it as a line, so that none has to be gathered cell by cell. A cell is read from its row.
+/// A grid, each row and each column of it as a line, so that none has to be gathered cell by cell. A cell is
+/// read from its row.
 #[derive(Drop)]
 pub struct GridLines<W: LineSet> {
     rows: Vec<LineOf<W>>,
@@ -37,7 +38,7 @@ impl<W: LineSet> Model for GridLines<W> {
     ghost invariant = { λ g. AreLinesOf (cells_of_rows g.rows.items) g.rows.items g.columns.items };
 }
 
-/// So many lines of so many cells, of which nothing is known.
+/// `count` lines of `len` cells each, of which nothing is known.
 fn unknown_lines<W: LineSet>(
     alloc: Global,
     len: u16,
@@ -175,7 +176,8 @@ impl<W: LineSet> GridLines<W> {
         self.rows[place / width].get((place % width) as u16)
     }
 
-    /// What is known of the cells of line n: the rows come first, from the top, and then the columns, from the left.
+    /// What is known of the cells of line n: the rows come first, from the top, and then the columns, from
+    /// the left.
     pub fn line(&self, n: usize) -> &LineOf<W>
         requires { n < self.now.height + self.now.width }
         ensures { result.now ≡ cells_at Unknown self.now.cells (places_of (places_in self.now.width self.now.height n)) }
@@ -204,8 +206,8 @@ impl<W: LineSet> GridLines<W> {
         None
     }
 
-    /// The place of the unknown cell of whose neighbours the most are known or outside the grid, and of several the first in row order, if there is
-    /// one.
+    /// The place of the unknown cell of whose neighbours the most are known or outside the grid, and of
+    /// several the first in row order, if there is one.
     pub fn most_known(&self) -> Option<usize>
         ensures { result ≡ most_known self.now.width self.now.cells }
     {

@@ -31,7 +31,8 @@ fn sure_neighbours(grid: &Grid, place: usize) -> usize
     usize::from(left) + usize::from(right) + usize::from(above) + usize::from(below)
 }
 
-/// The place of the unknown cell of whose neighbours the most are known or outside the grid, and of several the first.
+/// The place of the unknown cell of whose neighbours the most are known or outside the grid, and of several
+/// the first.
 fn most_known(grid: &Grid) -> Option<usize>
     ensures { result ≡ most_known grid.now.width grid.now.cells }
 {
@@ -50,7 +51,8 @@ fn most_known(grid: &Grid) -> Option<usize>
     best
 }
 
-/// The column and the row of the cell that is guessed next in a grid, by the rule. It takes no memory; `None` exactly if the grid is full.
+/// The column and the row of the cell that is guessed next in a grid, by the rule. It takes no memory; `None`
+/// exactly if the grid is full.
 pub fn next_guess(grid: &Grid, pick: Pick) -> Option<(u16, u16)>
     ensures { result ≡ option_map (λ k. (k % grid.now.width, k / grid.now.width)) (picked pick grid.now.width grid.now.cells) }
 {

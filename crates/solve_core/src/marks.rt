@@ -9,7 +9,8 @@ use line_core::LineSet;
 use place_sets::{first_from, places};
 use std::marker::Model;
 
-/// A mark for each line of a grid, the rows first: those of the rows in one set, and those of the columns in another.
+/// A mark for each line of a grid, the rows first: those of the rows in one set, and those of the columns in
+/// another.
 #[derive(Drop)]
 pub struct Marks<W: LineSet> {
     height: u16,
@@ -110,7 +111,8 @@ impl<W: LineSet> Marks<W> {
         }
     }
 
-    /// The first marked line from `start` on and before `end`, which are all rows or all columns, if there is one.
+    /// The first marked line from `start` on and before `end`, which are all rows or all columns, if there is
+    /// one.
     pub fn first(&self, start: usize, end: usize) -> Option<usize>
         requires end { end ≤ length self.now.list }
         requires parallel { (end ≤ self.now.height) ⊎ (self.now.height ≤ start) }

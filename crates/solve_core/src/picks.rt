@@ -12,7 +12,8 @@ use place_sets::{PlaceSet, lacking};
 pub enum Pick {
     /// The first one in row order.
     First,
-    /// The one of whose four neighbours the most are known or outside the grid, and of several the first in row order.
+    /// The one of whose four neighbours the most are known or outside the grid, and of several the first in
+    /// row order.
     Most,
 }
 
@@ -35,7 +36,7 @@ impl<W: PlaceSet> Two<W> {
     }
 }
 
-/// Those of some places that are in so many of four sets at least, 0 to 4.
+/// Those of some places that are in at least `count` of four sets; `count` is 0 to 4.
 fn in_so_many<W: PlaceSet>(places: W, first: &Two<W>, second: &Two<W>, count: usize) -> W
     ghost counts: { (ℕ → ℕ) × (ℕ → ℕ) }
     requires first { AreCounts counts.0 (W.number first.now.either) (W.number first.now.both) }
@@ -62,7 +63,8 @@ fn in_so_many<W: PlaceSet>(places: W, first: &Two<W>, second: &Two<W>, count: us
     }
 }
 
-/// The first of those places that are in the most of four sets, and in how many it is, if that is `least` or more.
+/// The first of those places that are in the most of four sets, and in how many it is, if that is `least` or
+/// more.
 pub fn first_in_most<W: PlaceSet>(
     places: W,
     first: &Two<W>,
@@ -96,8 +98,8 @@ pub fn known_cells<W: PlaceSet>(line: &LineOf<W>) -> W
     lacking(line.unknown_cells(), line.len())
 }
 
-/// The first of a row's unknown cells of whose neighbours the most are known or outside the grid, and of how many, if these are `least` or more.
-/// Above and below are the cells of which the neighbour there is.
+/// The first of a row's unknown cells of whose neighbours the most are known or outside the grid, and of how
+/// many, if these are `least` or more. Above and below are the cells of which the neighbour there is.
 pub fn most_in_row<W: PlaceSet>(
     row: &LineOf<W>,
     above: W,

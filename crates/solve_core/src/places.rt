@@ -23,7 +23,8 @@ pub struct Places {
     pub step: usize,
     /// How many cells the line has, from 1 to `LONGEST_SIDE`.
     pub count: u16,
-    /// The number of the line that crosses it at its first cell. The line that crosses it at cell i comes i later.
+    /// The number of the line that crosses it at its first cell. The line that crosses it at cell i comes i
+    /// later.
     pub crossing: usize,
 }
 

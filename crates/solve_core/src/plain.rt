@@ -112,7 +112,8 @@ fn learn_lines(puzzle: &Puzzle, cells: &mut [Cell]) -> Progress
     progress
 }
 
-/// Deduces all lines, again and again, until nothing changes or a line is dead. Answers whether the cells are alive.
+/// Deduces all lines, again and again, until nothing changes or a line is dead. Returns whether the cells are
+/// alive.
 fn close_cells(puzzle: &Puzzle, cells: &mut [Cell]) -> bool
     requires puzzle { IsNonogram puzzle.now }
     requires size { length cells.old ≡ puzzle.now.width * puzzle.now.height }
@@ -127,7 +128,8 @@ fn close_cells(puzzle: &Puzzle, cells: &mut [Cell]) -> bool
     }
 }
 
-/// Closes a grid under line deduction, by rounds over all its lines. Answers whether it is alive; a dead grid's cells are open.
+/// Closes a grid under line deduction, by rounds over all its lines. Returns whether it is alive; a dead
+/// grid's cells are open.
 pub fn close_by_rounds(alloc: Global, puzzle: &Puzzle, grid: &mut Grid) -> Result<bool, NoMemory>
     requires size { HasSizeOf puzzle.now grid.old }
     ensures closed { IfOk result (λ alive. if_alive alive grid.new.cells ≡ closure (lines_of puzzle.now) grid.old.cells) }
@@ -158,7 +160,7 @@ fn is_refuted(
     Ok(!assign(puzzle, &mut trial, place, colour))
 }
 
-/// Gives a cell a colour and closes the cells. Answers whether they are alive.
+/// Gives a cell a colour and closes the cells. Returns whether they are alive.
 fn assign(puzzle: &Puzzle, cells: &mut [Cell], place: usize, colour: Cell) -> bool
     requires puzzle { IsNonogram puzzle.now }
     requires size { length cells.old ≡ puzzle.now.width * puzzle.now.height }
@@ -188,7 +190,7 @@ fn keep_colour(puzzle: &Puzzle, cells: &mut [Cell], place: usize, colour: Cell) 
     }
 }
 
-/// Tries both colours at a place, where it is unknown.
+/// Tries both colours at a place if it is unknown.
 fn try_place(
     alloc: Global,
     puzzle: &Puzzle,
@@ -235,7 +237,7 @@ fn try_all(alloc: Global, puzzle: &Puzzle, cells: &mut [Cell]) -> Result<Progres
     Ok(progress)
 }
 
-/// Tries cells until a whole pass changes nothing. Answers whether the cells are alive.
+/// Tries cells until a whole pass changes nothing. Returns whether the cells are alive.
 fn try_until_same(alloc: Global, puzzle: &Puzzle, cells: &mut [Cell]) -> Result<bool, NoMemory>
     requires puzzle { IsNonogram puzzle.now }
     requires size { length cells.old ≡ puzzle.now.width * puzzle.now.height }
@@ -251,7 +253,7 @@ fn try_until_same(alloc: Global, puzzle: &Puzzle, cells: &mut [Cell]) -> Result<
     }
 }
 
-/// Closes cells and then tries them. Answers whether they are alive.
+/// Closes cells and then tries them. Returns whether they are alive.
 fn try_cells(alloc: Global, puzzle: &Puzzle, cells: &mut [Cell]) -> Result<bool, NoMemory>
     requires puzzle { IsNonogram puzzle.now }
     requires size { length cells.old ≡ puzzle.now.width * puzzle.now.height }
@@ -264,7 +266,8 @@ fn try_cells(alloc: Global, puzzle: &Puzzle, cells: &mut [Cell]) -> Result<bool,
     Ok(alive)
 }
 
-/// Closes a grid under trials, each of them run, by rounds. Answers whether it is alive; a dead grid's cells are open.
+/// Closes a grid under trials, each of them run, by rounds. Returns whether it is alive; a dead grid's cells
+/// are open.
 pub fn try_by_rounds(alloc: Global, puzzle: &Puzzle, grid: &mut Grid) -> Result<bool, NoMemory>
     requires size { HasSizeOf puzzle.now grid.old }
     ensures tried { IfOk result (λ alive. if_alive alive grid.new.cells ≡ trials (lines_of puzzle.now) grid.old.cells) }

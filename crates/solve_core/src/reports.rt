@@ -48,7 +48,7 @@ fn count_known<W: LineSet>(board: &Board<W>) -> u32
     count
 }
 
-/// How many cells are known, if it is known that so many are in a full board.
+/// How many cells are known: `count` if the board is full, and else they are counted.
 fn count_unless_full<W: LineSet>(board: &Board<W>, full: bool, count: u32) -> u32
     requires { full ≡ true → count ≡ count_by is_known board.now.cells }
     ensures { result ≡ count_by is_known board.now.cells }
@@ -56,7 +56,7 @@ fn count_unless_full<W: LineSet>(board: &Board<W>, full: bool, count: u32) -> u3
     if full { count } else { count_known(board) }
 }
 
-/// Whether each cell is known, if so many are.
+/// Whether each cell is known, if `known` cells are.
 fn are_known<W: LineSet>(board: &Board<W>, known: u32) -> bool
     requires { known ≡ count_by is_known board.now.cells }
     ensures { result ≡ list_all is_known board.now.cells }
@@ -64,7 +64,8 @@ fn are_known<W: LineSet>(board: &Board<W>, known: u32) -> bool
     known as usize == board.lines().count()
 }
 
-/// Closes a board at rest under trials, of which nothing is left to do if it is full. Answers whether it is alive.
+/// Closes a board at rest under trials, of which nothing is left to do if it is full. Returns whether it is
+/// alive.
 fn try_unless_full<W: LineSet>(trials: &mut Trials<'_, W>, board: &mut Board<W>, full: bool) -> bool
     requires rest { IsAtRest trials.old.closer board.old.cells }
     requires size { IsBoardOf trials.old.closer.puzzle board.old }
@@ -174,8 +175,8 @@ fn report_within<W: LineSet>(
     ))
 }
 
-/// The report on a puzzle: what lines and trials settle, and then a search with at most so many guesses. All of its room is made before the first
-/// line is deduced; `NoMemory` where that is refused.
+/// The report on a puzzle: what lines and trials settle, and then a search with at most `guesses` guesses.
+/// All of its room is made before the first line is deduced; `NoMemory` if that is refused.
 pub fn report(
     alloc: Global,
     puzzle: &Puzzle,

@@ -40,8 +40,8 @@ fn next_place<W: LineSet>(board: &Board<W>, start: usize, pick: Pick) -> Option<
     }
 }
 
-/// Looks at a closed board: the place of the next guess, or none, and then it is a solution, which is kept. By the first unknown cell no cell
-/// before `start` is unknown.
+/// Looks at a closed board: the place of the next guess, or none, and then it is a solution, which is kept.
+/// By the first unknown cell no cell before `start` is unknown.
 fn look_at<W: LineSet>(
     board: &Board<W>,
     start: usize,
@@ -108,8 +108,8 @@ fn explore<W: LineSet>(
     look_at(board, place, pick, solutions)
 }
 
-/// Searches from a board at rest, in place: it remembers what is settled, and each filled guess stands on the branches until its cell is guessed
-/// blank.
+/// Searches from a board at rest, in place: it remembers what is settled, and each filled guess stands on the
+/// branches until its cell is guessed blank.
 pub fn search<W: LineSet>(
     closer: &mut Closer<'_, W>,
     board: &mut Board<W>,

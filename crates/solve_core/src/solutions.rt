@@ -69,7 +69,7 @@ impl Solutions {
         self.count += 1;
     }
 
-    /// The verdict, where the limit on guesses cut the search short or didn't.
+    /// The verdict of a search that the limit on guesses cut short or didn't.
     pub fn verdict(self, cut: bool) -> Verdict
         ensures { result ≡ verdict_by self.grids cut }
     {

@@ -52,7 +52,7 @@ impl<'p> Solver<'p> {
         Ok(Solver { workspace })
     }
 
-    /// Closes a grid under line deduction. Answers whether it is alive; a dead grid's cells are open.
+    /// Closes a grid under line deduction. Returns whether it is alive; a dead grid's cells are open.
     pub fn close_lines(&mut self, grid: &mut Grid) -> bool
         requires size { HasSizeOf self.old grid.old }
         ensures closed { if_alive result grid.new.cells ≡ closure (lines_of self.old) grid.old.cells }
@@ -66,7 +66,7 @@ impl<'p> Solver<'p> {
         }
     }
 
-    /// Closes a grid under trials. Answers whether it is alive; a dead grid's cells are open.
+    /// Closes a grid under trials. Returns whether it is alive; a dead grid's cells are open.
     pub fn close_trials(&mut self, grid: &mut Grid) -> bool
         requires size { HasSizeOf self.old grid.old }
         ensures tried { if_alive result grid.new.cells ≡ trials (lines_of self.old) grid.old.cells }

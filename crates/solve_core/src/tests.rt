@@ -15,7 +15,8 @@ fn unknown_grid(alloc: Global, puzzle: &Puzzle) -> Option<Grid>
     Grid::unknown(alloc, puzzle.width(), puzzle.height()).ok()
 }
 
-/// The digits of a row after those of the rows above: 0 for an unknown cell, 1 for a filled and 2 for a blank one.
+/// The digits of a row after those of the rows above: 0 for an unknown cell, 1 for a filled and 2 for a blank
+/// one.
 fn row_digits(grid: &Grid, y: u16, above: u32) -> u32
     requires { y < grid.now.height }
 {
@@ -31,7 +32,8 @@ fn row_digits(grid: &Grid, y: u16, above: u32) -> u32
     digits
 }
 
-/// How many cells of a closed grid are known, and its cells as the digits of a number to the base 3. None where it is dead.
+/// How many cells of a closed grid are known, and its cells as the digits of a number to the base 3. `None`
+/// if it is dead.
 fn picture(alive: bool, grid: &Grid) -> Option<(u32, u32)> {
     if !alive {
         return None;
@@ -222,7 +224,7 @@ fn choices(len: u16) -> u32
     }
 }
 
-/// So many clues, chosen by the digits of a number.
+/// `count` clues, chosen by the digits of a number.
 fn numbered_clues(alloc: Global, count: u16, choices: u32, number: &mut u32) -> Option<Vec<Clue>>
     requires { (1 ≤ choices) × (choices ≤ 5) }
 {

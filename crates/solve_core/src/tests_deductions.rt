@@ -85,7 +85,7 @@ fn right_of_all(puzzle: &Puzzle, deductions: &mut Deductions<u64>, tables: &mut 
     right
 }
 
-/// How many deductions are right with a table of so many slots: before it is open, after that, and once more.
+/// How many deductions are right with a table of `room` slots: before it is open, after that, and once more.
 fn right_answers(alloc: Global, room: usize) -> Option<[u32; 3]>
     requires { (1 ≤ room) × (room ≤ 4096) }
 {

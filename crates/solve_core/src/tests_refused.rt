@@ -1,4 +1,5 @@
-//! Calls whose growths of memory are refused, each in turn, and calls that take no memory with every growth refused.
+//! Calls whose growths of memory are refused, each in turn, and calls that take no memory with every growth
+//! refused.
 
 use super::tests_refusals::{Told, assert_heeded, assert_swept, refuse, told_if, was_refused};
 use super::*;
@@ -47,7 +48,8 @@ fn solvers_are_made_or_refused(rt: HostRuntime) -> Result<(), Fail> {
     Ok(())
 }
 
-/// Asserts that lines close a grid, or that the growth of this number was refused and the grid is as before. Whether it was refused.
+/// Asserts that lines close a grid, or that the growth of this number was refused and the grid is as before.
+/// Whether it was refused.
 fn assert_closed(
     rt: &impl Abort,
     alloc: Global,
@@ -109,7 +111,8 @@ fn rounds_try_or_are_refused(rt: HostRuntime) -> Result<(), Fail> {
     Ok(())
 }
 
-/// Whether a report on the puzzle with the clue 1 in each of three rows and columns is the one with this limit on guesses.
+/// Whether a report on the puzzle with the clue 1 in each of three rows and columns is the one with this
+/// limit on guesses.
 fn told_of_report(answer: Result<Findings, NoMemory>, puzzle: &Puzzle, guesses: u32) -> Told {
     let Ok(findings) = answer else {
         return Told::NoMemory;

@@ -7,7 +7,8 @@ use std::alloc::{AllocError, Global};
 use std::process::Abort;
 use std::test::Fail;
 
-// The puzzle with the clue 1 for each of three rows and three columns: its solutions are the six permutations.
+// The puzzle with the clue 1 for each of three rows and three columns: its solutions are the six
+// permutations.
 fn permutations(alloc: Global) -> Option<Puzzle> {
     let one: &[u16] = &[1];
     puzzle_of(alloc, &[one, one, one], &[one, one, one])
@@ -192,9 +193,9 @@ fn trials_settle_the_cells_that_lines_leave(rt: HostRuntime) -> Result<(), Fail>
     Ok(())
 }
 
-// By lines the last column fills its middle cell, and so the cell left of it is blank. If a trial fills one of the first two cells of the first row,
-// both rows below have to fill the other one's column, which has a single 1. The guesses are the third cell of the first row, and then the first cell
-// of the second row.
+// By lines the last column fills its middle cell, and so the cell left of it is blank. If a trial fills one
+// of the first two cells of the first row, both rows below have to fill the other one's column, which has a
+// single 1. The guesses are the third cell of the first row, and then the first cell of the second row.
 #[test]
 fn a_search_goes_on_from_lines_and_trials(rt: HostRuntime) -> Result<(), Fail> {
     let one: &[u16] = &[1];
@@ -214,7 +215,8 @@ fn a_search_goes_on_from_lines_and_trials(rt: HostRuntime) -> Result<(), Fail> {
     Ok(())
 }
 
-// Two switches, one in the corner above and one a cell above and left of the corner below: the rows and columns between them are settled by lines.
+// Two switches, one in the corner above and one a cell above and left of the corner below: the rows and
+// columns between them are settled by lines.
 fn twin(alloc: Global) -> Option<Puzzle> {
     let none: &[u16] = &[];
     let one: &[u16] = &[1];
@@ -224,8 +226,9 @@ fn twin(alloc: Global) -> Option<Puzzle> {
     puzzle_of(alloc, &rows, &columns)
 }
 
-// Each rule guesses three times. The switch that is guessed last is the one that turns: the lower one with the first unknown cell, which lies in the
-// upper one, and the upper one with the cell that has three known cells beside it, the first of the lower one.
+// Each rule guesses three times. The switch that is guessed last is the one that turns: the lower one with
+// the first unknown cell, which lies in the upper one, and the upper one with the cell that has three known
+// cells beside it, the first of the lower one.
 #[test]
 fn rules_guess_different_cells(rt: HostRuntime) -> Result<(), Fail> {
     let Some(puzzle) = twin(rt.alloc()) else {
@@ -261,7 +264,8 @@ fn rules_pick_different_cells(rt: HostRuntime) -> Result<(), Fail> {
     Ok(())
 }
 
-// In a grid of one cell all neighbours are outside. In an unknown grid a corner has two of them, and of four corners the first is guessed.
+// In a grid of one cell all neighbours are outside. In an unknown grid a corner has two of them, and of four
+// corners the first is guessed.
 #[test]
 fn cells_outside_count_as_known(rt: HostRuntime) -> Result<(), Fail> {
     let alloc = rt.alloc();

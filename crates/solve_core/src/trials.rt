@@ -48,7 +48,8 @@ impl Trial {
     }
 }
 
-/// Tries a colour at an unknown cell, on a copy, unless a witness has met it there. If the copy closes alive, it is a witness.
+/// Tries a colour at an unknown cell, on a copy, unless a witness has met it there. If the copy closes alive,
+/// it is a witness.
 fn try_colour<W: LineSet>(
     closer: &mut Closer<'_, W>,
     witnesses: &mut Witnesses<'_>,
@@ -210,7 +211,7 @@ impl<'p, W: LineSet> Trials<'p, W> {
         progress
     }
 
-    /// Tries cells until a whole pass changes nothing. Answers whether the board is alive.
+    /// Tries cells until a whole pass changes nothing. Returns whether the board is alive.
     fn try_until_same(&mut self, board: &mut Board<W>) -> bool
         requires ready { IsReady self.old board.old.cells }
         requires size { IsBoardOf self.old.closer.puzzle board.old }
@@ -228,7 +229,7 @@ impl<'p, W: LineSet> Trials<'p, W> {
         }
     }
 
-    /// Closes a board at rest under trials. Answers whether it is alive.
+    /// Closes a board at rest under trials. Returns whether it is alive.
     pub fn try_at_rest(&mut self, board: &mut Board<W>) -> bool
         requires rest { IsAtRest self.old.closer board.old.cells }
         requires size { IsBoardOf self.old.closer.puzzle board.old }
@@ -241,7 +242,7 @@ impl<'p, W: LineSet> Trials<'p, W> {
         self.try_until_same(board)
     }
 
-    /// Closes a board under trials. Answers whether it is alive.
+    /// Closes a board under trials. Returns whether it is alive.
     pub fn try_board(&mut self, board: &mut Board<W>) -> bool
         requires size { IsBoardOf self.old.closer.puzzle board.old }
         ensures tried { if_alive result board.new.cells ≡ trials (lines_of self.old.closer.puzzle) board.old.cells }

@@ -61,7 +61,8 @@ impl Crossed {
     }
 }
 
-/// A trial that stayed alive, by the rows and the columns in which it settled cells. It counts as long as it is alive for the grid.
+/// A trial that stayed alive, by the rows and the columns in which it settled cells. It counts as long as it
+/// is alive for the grid.
 #[derive(Clone, Copy)]
 pub struct Witness {
     lines: Crossed,
@@ -92,7 +93,8 @@ impl Witness {
     }
 }
 
-/// Lets those witnesses count on that share no row and no column with what was learned, and the one of a number, which holds it.
+/// Lets those witnesses count on that share no row and no column with what was learned, and the one of a
+/// number, which holds it.
 fn keep_each(witnesses: &mut [Witness], learned: &Crossed, holder: usize)
     ensures { (i : ℕ) → i < length witnesses.old →
         IsKept learned.now (i ≡ holder) (witness_at witnesses.old i) (witness_at witnesses.new i) }
@@ -102,8 +104,8 @@ fn keep_each(witnesses: &mut [Witness], learned: &Crossed, holder: usize)
     }
 }
 
-/// The witnesses of a grid, and for each cell and each of the two colours the number of one that met it there, in room that is made once.
-/// Witness 0 stands for none.
+/// The witnesses of a grid, and for each cell and each of the two colours the number of one that met it
+/// there, in room that is made once. Witness 0 stands for none.
 #[derive(Drop)]
 pub struct Witnesses<'p> {
     puzzle: &'p Puzzle,
@@ -214,7 +216,8 @@ impl<'p> Witnesses<'p> {
         }
     }
 
-    /// Keeps an alive trial of the grid that its trail leads back to. If there is no room left, all witnesses are dropped.
+    /// Keeps an alive trial of the grid that its trail leads back to. If there is no room left, all witnesses
+    /// are dropped.
     pub fn add<W: LineSet>(&mut self, trial: &Board<W>)
         requires size { IsBoardOf self.old.puzzle trial.now }
         requires closed { round (lines_of self.old.puzzle) trial.now.cells ≡ Some trial.now.cells }
@@ -236,8 +239,9 @@ impl<'p> Witnesses<'p> {
         self.meet_settled(number as u16, trial);
     }
 
-    /// Keeps those witnesses that hold for a board after an unknown cell was settled, when its trail had `mark` places, and the board was closed:
-    /// those that share no row and no column with the places that it learned, and the one that met the colour at the cell.
+    /// Keeps those witnesses that hold for a board after an unknown cell was settled, when its trail had
+    /// `mark` places, and the board was closed: those that share no row and no column with the places that it
+    /// learned, and the one that met the colour at the cell.
     pub fn keep<W: LineSet>(&mut self, board: &Board<W>, mark: usize, place: usize, colour: Cell)
         requires size { IsBoardOf self.old.puzzle board.now }
         requires place { place < length board.now.cells }

@@ -14,7 +14,8 @@ use line_core::LineSet;
 use std::alloc::Global;
 use std::marker::Model;
 
-/// A puzzle with the room for closing its grids, in sets that have room for its lines and the numbers of its clues.
+/// A puzzle with the room for closing its grids, in sets that have room for its lines and the numbers of its
+/// clues.
 #[derive(Drop)]
 pub struct Workspace<'p, W: LineSet> {
     trials: Trials<'p, W>,
@@ -44,7 +45,7 @@ impl<'p, W: LineSet> Workspace<'p, W> {
         })
     }
 
-    /// Closes a grid under line deduction. Answers whether it is alive; a dead grid's cells are open.
+    /// Closes a grid under line deduction. Returns whether it is alive; a dead grid's cells are open.
     pub fn close_lines(&mut self, grid: &mut Grid) -> bool
         requires size { HasSizeOf self.old grid.old }
         ensures closed { if_alive result grid.new.cells ≡ closure (lines_of self.old) grid.old.cells }
@@ -58,7 +59,7 @@ impl<'p, W: LineSet> Workspace<'p, W> {
         alive
     }
 
-    /// Closes a grid under trials. Answers whether it is alive; a dead grid's cells are open.
+    /// Closes a grid under trials. Returns whether it is alive; a dead grid's cells are open.
     pub fn close_trials(&mut self, grid: &mut Grid) -> bool
         requires size { HasSizeOf self.old grid.old }
         ensures tried { if_alive result grid.new.cells ≡ trials (lines_of self.old) grid.old.cells }

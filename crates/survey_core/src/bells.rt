@@ -1,4 +1,5 @@
-//! Bells, by which the two ends of a lane wake one another: an end with nothing to do sleeps at its own bell, and the other end rings it.
+//! Bells, by which the two ends of a lane wake one another: an end with nothing to do sleeps at its own bell,
+//! and the other end rings it.
 
 ghost use Rattle.std.specs.Prelude.{◌≡◌, IfOk, vec_len};
 
@@ -7,7 +8,7 @@ use std::alloc::Global;
 use std::sync::Wait;
 use std::thread::Parker;
 
-/// The bells of so many workers.
+/// A bell for each of `workers` workers.
 pub fn worker_bells(alloc: Global, workers: usize) -> Result<Vec<Parker>, NoMemory>
     ensures { IfOk result (λ bells. vec_len bells ≡ workers) }
 {
@@ -18,13 +19,14 @@ pub fn worker_bells(alloc: Global, workers: usize) -> Result<Vec<Parker>, NoMemo
     Ok(bells)
 }
 
-/// How many answers a worker puts, at most, before it rings: half of what its ring has room for, and at least one. So the collector refills a lane while its
-/// worker grades the other half.
+/// How many answers a worker puts, at most, before it rings: half of what its ring has room for, and at least
+/// one. So the collector refills a lane while its worker grades the other half.
 pub fn answers_before_ringing(ring: usize) -> usize {
     (ring / 2).max(1)
 }
 
-/// The bells of a worker: its own, at which it sleeps, and the collector's, which it rings once for several answers, and for each before it sleeps or ends.
+/// The bells of a worker: its own, at which it sleeps, and the collector's, which it rings once for several
+/// answers, and for each before it sleeps or ends.
 #[derive(Drop)]
 pub struct WorkerBells<'s> {
     own: &'s Parker,
@@ -34,7 +36,7 @@ pub struct WorkerBells<'s> {
 }
 
 impl<'s> WorkerBells<'s> {
-    /// The worker's own bell, and the collector's, which is rung once for so many answers.
+    /// The worker's own bell, and the collector's, which is rung once for `batch` answers.
     pub fn new(own: &'s Parker, collector: &'s Parker, batch: usize) -> WorkerBells<'s> {
         WorkerBells {
             own,

@@ -54,9 +54,11 @@ impl From<NoThread> for CollectFault {
     }
 }
 
-/// The answers to the jobs, in job order, graded by one worker for each lane, each in a thread of its own. At most 10,000 jobs, 1 to 16 lanes, and rings of a
-/// capacity from 1 to 64. The job at place k, from 0, goes to lane k modulo the number of lanes. With no jobs no thread is started. All memory but that of
-/// starting threads and of grading is taken before any thread is started, and all threads are started before the first job is sent.
+/// The answers to the jobs, in job order, graded by one worker for each lane, each in a thread of its own. At
+/// most 10,000 jobs, 1 to 16 lanes, and rings of a capacity from 1 to 64. The job at place k, from 0, goes to
+/// lane k modulo the number of lanes. With no jobs no thread is started. All memory but that of starting
+/// threads and of grading is taken before any thread is started, and all threads are started before the first
+/// job is sent.
 pub fn collect<R: Threads + Wait + Sync, G: Gate + Sync>(
     rt: &R,
     alloc: Global,
@@ -165,7 +167,8 @@ pub fn stop_all<R: Threads>(rt: &R, running: VecDeque<RunningLane<'_>, Global>) 
     }
 }
 
-/// Takes turns at the lanes until each is complete. After a round in which nothing could be done, the collector sleeps at its bell.
+/// Takes turns at the lanes until each is complete. After a round in which nothing could be done, the
+/// collector sleeps at its bell.
 fn take_turns<'b, R: Wait, G>(
     shared: &Shared<'_, R, G>,
     running: VecDeque<RunningLane<'b>, Global>,

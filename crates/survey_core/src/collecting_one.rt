@@ -8,8 +8,8 @@ use lane_core::{Answer, Job, grade};
 use std::alloc::Global;
 use std::collections::VecDeque;
 
-/// The answers to the jobs, in job order, graded on the caller's thread. `NoMemory` where the list of the answers could not be made; a growth that is refused
-/// while a job is graded stands in its answer.
+/// The answers to the jobs, in job order, graded on the caller's thread. `NoMemory` if the list of the
+/// answers could not be made; a growth that is refused while a job is graded stands in its answer.
 pub fn collect_one(alloc: Global, jobs: Vec<Job>) -> Result<Vec<Answer>, NoMemory>
     ensures { IfOk result (λ answers. AreAnswersTo jobs.items answers.items) }
 {

@@ -140,7 +140,7 @@ fn push_solutions(text: &mut Vec<u8>, verdict: &Verdict) -> Result<(), NoMemory>
     }
 }
 
-/// Adds the solutions of an entry, none where it is refused.
+/// Adds the solutions of an entry, none if it is refused.
 fn push_shown(text: &mut Vec<u8>, entry: &ListedEntry<'_>) -> Result<(), NoMemory>
     ensures { OnOk result (text.new.items ≡ text.old.items ++ solutions_text (shown_listed entry.now).result) }
 {
@@ -166,8 +166,8 @@ pub(crate) fn push_entry(
     Ok(())
 }
 
-/// The line of an entry, and if they are shown, each of its solutions followed by an empty line. An answer that says `NoMemory` is printed as a
-/// refused entry with that word.
+/// The line of an entry, and if they are shown, each of its solutions followed by an empty line. An answer
+/// that says `NoMemory` is printed as a refused entry with that word.
 pub fn print_entry(
     alloc: Global,
     number: u32,
@@ -181,7 +181,7 @@ pub fn print_entry(
     Ok(text)
 }
 
-/// The same of an entry whose puzzle was graded. `NoMemory` also where the answer says so.
+/// The same of an entry whose puzzle was graded. `NoMemory` also if the answer says so.
 pub fn print_graded(
     alloc: Global,
     number: u32,

@@ -22,7 +22,7 @@ pub enum RunFault {
     /// A growth of memory was refused.
     #[error("out of memory")]
     NoMemory,
-    /// The writer failed, or took nothing, after so many bytes of the survey.
+    /// The writer failed, or took nothing, after this number of bytes of the survey.
     #[error("the writer failed after {0} bytes")]
     Write(u64),
 }

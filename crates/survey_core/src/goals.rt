@@ -34,7 +34,8 @@ fn is_shown(grid: &Grid, values: &[bool]) -> bool
     true
 }
 
-/// What is said of a puzzle's goal, where no grid but this one solves the puzzle: it meets the clues exactly where it shows that grid.
+/// What is said of a puzzle's goal if no grid but this one solves the puzzle: it meets the clues exactly if
+/// it shows that grid.
 fn goal_word_beside(puzzle: &Puzzle, solution: &Grid) -> GoalWord
     requires { IsOnlySolution puzzle.now solution.now }
     ensures { result ≡ goal_word puzzle.now }

@@ -1,4 +1,5 @@
-//! Grading entries: reading them, collecting the answers to their puzzles, and printing these beside the entries.
+//! Grading entries: reading them, collecting the answers to their puzzles, and printing these beside the
+//! entries.
 
 ghost use Rattle.std.specs.Prelude.{◌≡◌, ◌≤◌, ◌<◌, None, length, map, IfOk};
 ghost use Rattle.puzzle_text.specs.Shown.{shown_entry};
@@ -20,7 +21,8 @@ use std::alloc::Global;
 use std::sync::Wait;
 use std::thread::Threads;
 
-/// An entry with its fault, or else with the first of the answers, and the answers that are left. `NoMemory` where that answer says so.
+/// An entry with its fault, or else with the first of the answers, and the answers that are left. `NoMemory`
+/// if that answer says so.
 fn list_entry<'a>(
     name: &'a [u8],
     fault: Option<EntryFault>,
@@ -40,7 +42,8 @@ fn list_entry<'a>(
     Ok((listed, others))
 }
 
-/// The survey of entries that were read, with the answers to the puzzles among them. `NoMemory` also where an answer says so.
+/// The survey of entries that were read, with the answers to the puzzles among them. `NoMemory` also if an
+/// answer says so.
 fn print_answers(
     alloc: Global,
     entries: &[Entry<'_>],

@@ -34,7 +34,7 @@ pub fn deal_out(
     Ok(queues)
 }
 
-/// As many empty queues as lanes, each with room for so many jobs.
+/// As many empty queues as lanes, each with room for `room` jobs.
 fn no_jobs(alloc: Global, lanes: usize, room: usize) -> Result<Vec<VecDeque<Job, Global>>, NoMemory>
     ensures lanes { IfOk result (λ queues. vec_len queues ≡ lanes) }
     ensures empty { IfOk result (λ queues. (k : ℕ) → slice_index_or (map (λ q. q.items) queues.items) k [] ≡ []) }
@@ -46,7 +46,7 @@ fn no_jobs(alloc: Global, lanes: usize, room: usize) -> Result<Vec<VecDeque<Job,
     Ok(queues)
 }
 
-/// An empty list with room for so many answers.
+/// An empty list with room for `count` answers.
 pub fn room_for_answers(alloc: Global, count: usize) -> Result<Vec<Answer>, NoMemory>
     ensures empty { IfOk result (λ answers. answers.items ≡ []) }
     ensures room { IfOk result (λ answers. vec_capacity answers ≡ count) }
@@ -54,7 +54,8 @@ pub fn room_for_answers(alloc: Global, count: usize) -> Result<Vec<Answer>, NoMe
     Ok(Vec::with_capacity(alloc, count)?)
 }
 
-/// The answers of all lanes in job order: the next answer of each lane in turn, so that answer j of lane k goes to place k + j times the number of lanes.
+/// The answers of all lanes in job order: the next answer of each lane in turn, so that answer j of lane k
+/// goes to place k + j times the number of lanes.
 pub fn gather(
     jobs: &Snapshot<Vec<Job>>,
     count: usize,

@@ -106,7 +106,8 @@ pub struct RunningLane<'s> {
 impl<'s> RunningLane<'s> {
     ghost use Rattle.std.specs.Prelude.{◌≡◌, MatchResult};
 
-    /// One turn at the lane, after which its worker is woken if a message was sent or an answer taken. Whether one was.
+    /// One turn at the lane, after which its worker is woken if a message was sent or an answer taken.
+    /// Whether one was.
     pub fn turn(&mut self) -> bool
         ensures { self.new.dealt ≡ self.old.dealt }
     {
@@ -151,7 +152,8 @@ impl<'s> RunningLane<'s> {
     }
 }
 
-/// A lane that is complete: each job that it was dealt was sent and answered, and the finish was sent, so that its worker ends.
+/// A lane that is complete: each job that it was dealt was sent and answered, and the finish was sent, so
+/// that its worker ends.
 #[derive(Drop)]
 pub struct CompleteLane {
     front: LaneFront,
@@ -169,7 +171,8 @@ pub struct CompleteLane {
 impl CompleteLane {
     ghost use Rattle.lane_core.specs.Answers.{AreAnswersTo};
 
-    /// Waits for the worker, and settles the lane: after `NotDrained` it takes and settles again. The answers to the jobs, in order.
+    /// Waits for the worker, and settles the lane: after `NotDrained` it takes and settles again. The answers
+    /// to the jobs, in order.
     pub fn settle<R: Threads + Wait>(self, rt: &R) -> VecDeque<Answer, Global>
         ensures { AreAnswersTo self.dealt.value.items result.items }
     {

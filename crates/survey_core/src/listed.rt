@@ -44,7 +44,7 @@ impl<'a> ListedEntry<'a> {
         }
     }
 
-    /// An entry whose puzzle was graded. `NoMemory` where the answer says so.
+    /// An entry whose puzzle was graded. `NoMemory` if the answer says so.
     pub fn graded(name: &'a [u8], answer: &'a Answer) -> Result<ListedEntry<'a>, NoMemory>
         ensures listed { IfOk result (λ listed. shown_listed listed ≡ record {
           name = name.now;

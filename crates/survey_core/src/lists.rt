@@ -33,7 +33,8 @@ impl<'s> Lists<'s> {
     ghost use Rattle.lane_core.specs.declared.opening.TheConstants.{LARGEST_RING};
     ghost use Rattle.survey_core.specs.Collected.{waiting_jobs};
 
-    /// Opens a lane for each queue of jobs, with one of these bells for its worker, and makes the lists. The rings have a capacity from 1 to 64.
+    /// Opens a lane for each queue of jobs, with one of these bells for its worker, and makes the lists. The
+    /// rings have a capacity from 1 to 64.
     pub fn new(
         alloc: Global,
         queues: Vec<VecDeque<Job, Global>>,

@@ -28,8 +28,8 @@ fn push_row(text: &mut Vec<u8>, grid: &Grid, y: u16) -> Result<(), NoMemory>
     Ok(())
 }
 
-/// Adds the rows of a grid as lines, from the top: `#` for a filled cell, `.` for a blank one, `?` for an unknown one. `NoMemory` where the text can't
-/// grow.
+/// Adds the rows of a grid as lines, from the top: `#` for a filled cell, `.` for a blank one, `?` for an
+/// unknown one. `NoMemory` if the text can't grow.
 pub fn push_grid(text: &mut Vec<u8>, grid: &Grid) -> Result<(), NoMemory>
     ensures { OnOk result (text.new.items ≡ text.old.items ++ grid_text grid.now) }
 {

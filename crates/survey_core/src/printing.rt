@@ -58,8 +58,8 @@ impl SurveyText {
     }
 }
 
-/// The texts of at most 10,000 entries, numbered from 1, and the line of totals. An answer that says `NoMemory` is printed as a refused entry with that
-/// word.
+/// The texts of at most 10,000 entries, numbered from 1, and the line of totals. An answer that says
+/// `NoMemory` is printed as a refused entry with that word.
 pub fn print_survey(alloc: Global, outcomes: &[Outcome], show: bool) -> Result<Vec<u8>, NoMemory>
     requires { length outcomes.now ≤ MOST_ENTRIES }
     ensures { IfOk result (λ text. text.items ≡ survey_text show (map shown_outcome outcomes.now)) }

@@ -69,7 +69,7 @@ pub(crate) struct Progress<E> {
 }
 
 impl<E: Write + Drop> Progress<E> {
-    /// The progress of a survey that begins, of so many entries if that is known.
+    /// The progress of a survey that begins, of `total` entries if their number is known.
     pub fn new(alloc: Global, writer: E, total: Option<u32>) -> Result<Progress<E>, NoMemory>
         ensures total { IfOk result (λ progress. progress.total ≡ total) }
         ensures none { IfOk result (λ progress. progress.count ≡ 0) }

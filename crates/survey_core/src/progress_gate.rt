@@ -11,8 +11,8 @@ use std::sync::{Mutex, Wait};
 /// itself.
 ///
 /// The line is printed at 1, 2, 5, 10, 20, 50 and each hundredth: CR, `graded 200`, and ` of 5000` if the
-/// total is known. Workers share the gate, and one at a time counts and prints: each number is printed once at
-/// most, and they rise. A line that can't be printed is left out, and changes nothing else.
+/// total is known. Workers share the gate, and one at a time counts and prints: each number is printed once
+/// at most, and they rise. A line that can't be printed is left out, and changes nothing else.
 #[derive(Drop)]
 pub struct ProgressGate<'a, H: Wait, E> {
     rt: &'a H,

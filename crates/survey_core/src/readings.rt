@@ -10,7 +10,8 @@ use lane_core::Job;
 use puzzle_text::{Entry, EntryFault, MOST_ENTRIES, TextFault, read_entry};
 use std::alloc::Global;
 
-/// What reading entries gives: the jobs of those that are puzzles, and for each entry its fault, if it has one.
+/// What reading entries gives: the jobs of those that are puzzles, and for each entry its fault, if it has
+/// one.
 #[derive(Drop)]
 pub(crate) struct Readings {
     /// The jobs of the entries that are puzzles, in order.

@@ -12,13 +12,13 @@ pub const MOST_LANES: u16 = 16;
 /// The greatest capacity of a lane's rings, in messages and in answers.
 pub const LARGEST_RING: u16 = lane_core::LARGEST_RING as u16;
 
-/// How many lanes there are where nothing else is asked for.
+/// How many lanes there are if nothing else is asked for.
 pub const DEFAULT_LANES: u16 = 4;
 
-/// The capacity of a lane's rings where nothing else is asked for.
+/// The capacity of a lane's rings if nothing else is asked for.
 pub const DEFAULT_RING: u16 = 8;
 
-/// The limit on the guesses for a puzzle where nothing else is asked for.
+/// The limit on the guesses for a puzzle if nothing else is asked for.
 pub const DEFAULT_GUESSES: u32 = 1_000;
 
 /// What a survey is asked for. Each setting lies in its range, which the type keeps.

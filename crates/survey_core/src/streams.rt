@@ -1,4 +1,5 @@
-//! Reading a collection whole, and writing a text whole, with the place where that fails.
+//! Reading a collection whole, and writing a text whole, with the number of bytes that went out before a
+//! fault.
 
 ghost use Rattle.std.specs.Prelude.{◌+◌, ◌-◌, ◌^◌, ◌<◌, ◌≤◌, ◌↔◌, length, take, vec_len, IfOk, IfErr, IsErr, OnOk, IsErrOf};
 ghost use Rattle.std.specs.Io.KnownBytes.{Appends, Consumes, IsAtEnd};

@@ -43,9 +43,11 @@ fn write_survey<H: Threads + Wait + Sync, W: Write, G: Gate + Sync>(
 
 /// Reads a collection to its end, and writes its survey and nothing else.
 ///
-/// The survey has the text of each entry, numbered from 1, and the line of totals. `Read` where the reader failed; `Collection` where the collection is
-/// refused; `Thread` where a thread was not started; `NoMemory` where a growth of memory was refused anywhere; `Write` where the writer failed or took
-/// nothing, with the number of bytes of the survey that went out. All faults but `Write` leave nothing written. At most 16,777,217 bytes are read.
+/// The survey has the text of each entry, numbered from 1, and the line of totals. `Read` if the reader
+/// failed; `Collection` if the collection is refused; `Thread` if a thread was not started; `NoMemory` if a
+/// growth of memory was refused anywhere; `Write` if the writer failed or took nothing, with the number of
+/// bytes of the survey that went out. All faults but `Write` leave nothing written. At most 16,777,217 bytes
+/// are read.
 pub fn run_survey<H: Threads + Wait + Sync, R: Read, W: Write, G: Gate + Sync>(
     rt: &H,
     alloc: Global,
@@ -79,8 +81,8 @@ pub fn run_survey<H: Threads + Wait + Sync, R: Read, W: Write, G: Gate + Sync>(
     }
 }
 
-/// Writes the survey of entries in hand and nothing else, as `run_survey` does. `Collection(TooMany)` where there are over 10,000; else perhaps `Thread`,
-/// `NoMemory` or `Write`.
+/// Writes the survey of entries in hand and nothing else, as `run_survey` does. `Collection(TooMany)` if
+/// there are over 10,000; else perhaps `Thread`, `NoMemory` or `Write`.
 pub fn survey_entries<H: Threads + Wait + Sync, W: Write, G: Gate + Sync>(
     rt: &H,
     alloc: Global,

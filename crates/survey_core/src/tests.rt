@@ -86,7 +86,7 @@ fn surveys_collections(rt: HostRuntime) {
     assert_survey(&rt, b"@ a.mk\n@\n", &settings, stray(2), "");
 }
 
-/// A line, so many times over.
+/// A line, `count` times over.
 fn repeated(alloc: Global, line: &[u8], count: usize) -> Result<Vec<u8>, Fail> {
     let mut text = Vec::new(alloc);
     for _ in 0..count {

@@ -11,7 +11,8 @@ use std::alloc::Global;
 use std::process::Abort;
 use std::test::Fail;
 
-/// Of each puzzle among the ten entries: its number, its verdict, its grade, the guesses spent, and what is said of its goal.
+/// Of each puzzle among the ten entries: its number, its verdict, its grade, the guesses spent, and what is
+/// said of its goal.
 pub(crate) const EIGHT: [(u32, &str, Grade, u32, GoalWord); 8] = [
     (1, "one", Grade::Lines, 0, GoalWord::Absent),
     (2, "none", Grade::Lines, 0, GoalWord::Absent),

@@ -1,4 +1,5 @@
-//! That lanes work at the same time, that jobs are dealt in turn, and that a thread can be started, no contract says.
+//! That lanes work at the same time, that jobs are dealt in turn, and that a thread can be started, no
+//! contract says.
 
 use super::{MOST_JOBS, MOST_LANES, collect, collect_one};
 use grid_core::{Clue, Puzzle, Texts};
@@ -31,7 +32,7 @@ pub fn jobs_numbered(alloc: Global, count: u32) -> Result<Vec<Job>, Fail> {
     Ok(jobs)
 }
 
-/// A gate at which each job waits until so many have entered.
+/// A gate at which each job waits until `wanted` jobs have entered.
 #[derive(Drop)]
 struct Meeting {
     wanted: u32,
@@ -70,7 +71,8 @@ fn each_lane_has_a_thread(rt: HostRuntime) -> Result<(), Fail> {
 
 const NOTHING_SEEN: u32 = 100;
 
-/// A gate at which job 0 waits until three jobs with odd numbers have entered, and then looks how many others with even numbers have.
+/// A gate at which job 0 waits until three jobs with odd numbers have entered, and then looks how many others
+/// with even numbers have.
 #[derive(Drop)]
 struct FirstWaits {
     odd: AtomicU32,

@@ -1,10 +1,10 @@
-//! That calls are passed on with their errors, which the contracts leave open, and counted where they fail.
+//! That calls are passed on with their errors, which the contracts leave open, and counted if they fail.
 
 use super::Counted;
 use std::io;
 use std::io::{ErrorKind, Read, Write};
 
-/// Answers each call with an error of this kind, or else takes or gives so many bytes.
+/// Answers each call with an error of this kind, or else takes or gives `count` bytes.
 #[derive(Drop)]
 struct Scripted {
     error: Option<ErrorKind>,

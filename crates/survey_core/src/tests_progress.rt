@@ -24,7 +24,7 @@ const OF_THOUSAND: &str = "\rgraded 1\rgraded 2\rgraded 5\rgraded 10\rgraded 20\
     \rgraded 100\rgraded 200\rgraded 300\rgraded 400\rgraded 500\
     \rgraded 600\rgraded 700\rgraded 800\rgraded 900\rgraded 1000\n";
 
-/// What a gate prints that so many jobs enter, one after another.
+/// What a gate prints if `count` jobs enter it, one after another.
 fn told<R: Wait + AllocGlobal>(rt: &R, count: u32, total: Option<u32>) -> Result<Vec<u8>, Fail> {
     let mut text = Vec::new(rt.alloc());
     let gate = ProgressGate::new(rt, rt.alloc(), &mut text, total)?;

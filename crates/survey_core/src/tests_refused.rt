@@ -24,7 +24,8 @@ impl Gate for Entries {
     }
 }
 
-/// Asserts that eight answers stand in job order, each with its report, or without it if a growth was refused.
+/// Asserts that eight answers stand in job order, each with its report, or without it if a growth was
+/// refused.
 fn assert_answers(rt: &impl Abort, answers: &[Answer], refused: bool) {
     assert_eq!(rt; answers.len(), 8);
     for (answer, (number, _, grade, spent, goal)) in answers.iter().zip(EIGHT) {

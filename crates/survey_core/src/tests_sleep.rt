@@ -1,4 +1,5 @@
-//! Lanes whose ends sleep and wake one another: that no wake is lost, and that a lane goes on while others sleep or are held, no contract says.
+//! Lanes whose ends sleep and wake one another: that no wake is lost, and that a lane goes on while others
+//! sleep or are held, no contract says.
 
 use super::bells::worker_bells;
 use super::collecting::{start_all, stop_all};
@@ -28,7 +29,7 @@ const TINY: [&[u8]; 3] = [
     b"@ two.mk\n2 2\n1\n1\n#\n1\n1\n",
 ];
 
-/// A collection of so many tiny puzzles, whose answers differ.
+/// A collection of `count` tiny puzzles, whose answers differ.
 fn tiny_collection(alloc: Global, count: u32) -> Result<Vec<u8>, Fail> {
     let mut text = Vec::new(alloc);
     for number in 0..count {
@@ -63,7 +64,7 @@ fn one_thread_survey(alloc: Global, entries: &[Entry<'_>]) -> Result<Vec<u8>, Fa
     Ok(print_survey(alloc, &outcomes, false)?)
 }
 
-/// Surveys the entries over so many lanes, with rings of 1, 2 and 8, twice each.
+/// Surveys the entries over `lanes` lanes, with rings of 1, 2 and 8, twice each.
 fn assert_surveys(
     rt: &(impl Threads + Wait + Sync + Abort + AllocGlobal),
     entries: &[Entry<'_>],
@@ -98,7 +99,8 @@ fn surveys_of_tiny_puzzles_end_alike(rt: HostRuntime) -> Result<(), Fail> {
 
 const MOST_TURNS: u32 = 100_000_000;
 
-/// A gate at which job 0 waits until as many jobs as wanted have entered that are dealt to other lanes, of four.
+/// A gate at which job 0 waits until as many jobs as wanted have entered that are dealt to other lanes, of
+/// four.
 #[derive(Drop)]
 struct HoldsFirstLane {
     wanted: u32,
@@ -141,7 +143,8 @@ fn lanes_go_on_while_one_is_held(rt: HostRuntime) -> Result<(), Fail> {
     Ok(())
 }
 
-/// Starts the workers, gives them time to fall asleep, and stops them before any message was sent. How many were started.
+/// Starts the workers, gives them time to fall asleep, and stops them before any message was sent. How many
+/// were started.
 fn start_and_stop<'s, 'b: 's, E, R: Threads + Wait + Clock + Sync, G: Gate + Sync>(
     shared: &'s Shared<'s, R, G>,
     scope: &Scope<'s, E>,

@@ -45,7 +45,7 @@ fn failing_reader(text: &'static str, piece: usize, calls: usize) -> Counted<Fai
     })
 }
 
-/// Takes so many bytes, in pieces, and then fails, or takes nothing.
+/// Takes `room` bytes, in pieces, and then fails, or takes nothing.
 #[derive(Drop)]
 struct FailingWriter {
     taken: Vec<u8>,
@@ -104,7 +104,7 @@ fn failing_writer(
     })
 }
 
-/// Surveys what the reader gives, over so many lanes.
+/// Surveys what the reader gives, over `lanes` lanes.
 fn survey_streams(
     rt: &(impl Threads + Wait + Sync + AllocGlobal),
     lanes: u16,
@@ -192,7 +192,7 @@ fn interrupted_writes_and_flushes_fail(rt: HostRuntime) {
     }
 }
 
-/// That a survey ends as wanted where the reader fails at this call, and has written this.
+/// That a survey ends as wanted if the reader fails at this call, and has written this.
 fn assert_read(
     rt: &(impl Threads + Wait + Sync + Abort + AllocGlobal),
     lanes: u16,

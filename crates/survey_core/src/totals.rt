@@ -149,7 +149,8 @@ impl Totals {
         push_count(text, "search", self.grades.by_search)
     }
 
-    /// Adds the last line of a survey: how many entries there are, how many are refused, and how many have each verdict and each grade.
+    /// Adds the last line of a survey: how many entries there are, how many are refused, and how many have
+    /// each verdict and each grade.
     pub fn push(&self, text: &mut Vec<u8>) -> Result<(), NoMemory>
         ensures { OnOk result (text.new.items ≡ text.old.items ++ totals_text self.now) }
     {

@@ -20,8 +20,8 @@ impl Promise<LaneBack> for FinishedBackOf {
     ghost kept_by = { λ promise back. SameBack promise.0.value back × IsFinished (back_lists back) };
 }
 
-/// Steps until the finish is taken. After a step that finds nothing to do, the worker sleeps; before it does, and before it ends, the collector is told of
-/// what was put.
+/// Steps until the finish is taken. After a step that finds nothing to do, the worker sleeps; before it does,
+/// and before it ends, the collector is told of what was put.
 pub fn run_worker<R: Wait, G: Gate>(
     rt: &R,
     alloc: Global,
