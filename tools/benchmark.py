@@ -14,7 +14,7 @@ import time
 
 SEED = 20261122
 PUZZLES = 5
-# at most so many are drawn to find them
+# how many are drawn at most to find them
 DRAWN = 100
 # sides of mirrored pictures whose puzzles need trials, and their seeds
 TRIALS = [(9, 71), (11, 31), (13, 2), (15, 3)]
@@ -32,7 +32,7 @@ class Draws:
 
 
 def picture(draws, width, height, filled_percent, rounds):
-    """Noise, smoothed so many rounds: a cell becomes what most of the cells around it are."""
+    """Noise, smoothed in a number of rounds: a cell becomes what most of the cells around it are."""
     cells = [[draws.below(100) < filled_percent for _ in range(width)] for _ in range(height)]
     for _ in range(rounds):
         cells = [

@@ -1,6 +1,7 @@
 #!/usr/bin/env bash
-# Passes all tests: `rt ci` (every proof from nothing, the must-fail edits, the tests and the stored run), and then the scripts over what that
-# leaves. It installs what it needs and doesn't find, and stops at the first step that fails. Its last line is `N passed, M failed` over all steps.
+# Passes all tests: `rt ci` (every proof from nothing, the must-fail edits, the tests and the stored run), and
+# then the scripts over what that leaves. It installs what it needs and doesn't find, and stops at the first
+# step that fails. Its last line is `N passed, M failed` over all steps.
 set -u
 cd "$(dirname "$0")/.."
 log=$(mktemp)

@@ -1,12 +1,15 @@
 #!/usr/bin/env bash
-# Runs the program where the outside fails it: outputs that are closed, full or no longer read, inputs that can't be read or come slowly, files
-# of many kinds, and limits on threads and on memory. It builds and proves nothing: it runs what `rt ci` left in crates/nonograde/out, or the
-# program that its one argument names. Its last line is `N passed, M failed`.
+# Runs the program where the outside fails it: outputs that are closed, full or no longer read, inputs that
+# can't be read or come slowly, files of many kinds, and limits on threads and on memory. It builds and proves
+# nothing: it runs what `rt ci` left in crates/nonograde/out, or the program that its one argument names. Its
+# last line is `N passed, M failed`.
 #
-# A case says what is outside, what the program is to say on standard error, what it is to print on standard output, and its words.
-#   - It says `-`, nothing, and ends with status 0; or a fault's word, as `nonograde: WORD`, and ends with status 1; or `refused`, some text on
-#     the words, and ends with status 2; or `unsaid`, nothing, since standard error takes nothing, and ends with status 1.
-#   - It prints `-`, nothing; or one of the texts that make_texts makes; or `TEXT:K`, the first K bytes of one.
+# A case says what is outside, what the program is to say on standard error, what it is to print on standard
+# output, and its words.
+#   - It says `-`, nothing, and ends with status 0; or a fault's word, as `nonograde: WORD`, and ends with
+#     status 1; or `refused`, some text on the words, and ends with status 2; or `unsaid`, nothing, since
+#     standard error takes nothing, and ends with status 1.
+#   - It prints `-`, nothing; or one of the texts that make_texts makes; or `TEXT:K`, its first K bytes.
 # A case fails too if the program ends by a signal or runs for ten seconds.
 set -u
 program=$(realpath "${1:-$(dirname "$0")/../crates/nonograde/out/nonograde}")
@@ -26,7 +29,7 @@ count() {
     fi
 }
 
-# Prints a line so many times.
+# Prints a line a number of times: COUNT LINE.
 lines() {
     local place
     for ((place = 0; place < $1; place++)); do
@@ -34,12 +37,13 @@ lines() {
     done
 }
 
-# Prints a text so many times, with no line feeds.
+# Prints a text a number of times with no line feeds: COUNT TEXT.
 repeated() {
     lines "$1" "$2" | tr -d '\n'
 }
 
-# A puzzle in the written form of `.non`: its width, its height, the clue of each row, and the clue of each column.
+# A puzzle in the written form of `.non`: its width, its height, the clue of each row, and the clue of each
+# column.
 non_text() {
     printf 'width %s\nheight %s\n\nrows\n' "$1" "$2"
     lines "$2" "$3"
@@ -47,7 +51,7 @@ non_text() {
     lines "$1" "$4"
 }
 
-# The last line of a survey of so many entries, all of them solved by line logic.
+# The last line of a survey of COUNT entries, all of them solved by line logic.
 totals() {
     echo "entries $1 refused 0 none 0 one $1 several 0 unsettled 0 line $1 trials 0 search 0"
 }
@@ -104,7 +108,8 @@ make_texts() {
     totals 3 >>shown_full
 }
 
-# The program, for ten seconds at most. (The signal of a closed pipe is as a shell usually leaves it, whatever called this script.)
+# The program, for ten seconds at most. (The signal of a closed pipe is as a shell usually leaves it, whatever
+# called this script.)
 bounded() {
     timeout --kill-after=1 10 env --default-signal=PIPE "${limits[@]}" "$room/nonograde" "$@"
 }
@@ -134,7 +139,7 @@ output_left() (
     run "$@" <collection
 )
 
-# The output is read for so many bytes, and then no longer.
+# The output is read for COUNT bytes, and then it is left.
 output_left_after() {
     local count=$1
     shift
@@ -186,14 +191,14 @@ by_another() {
     ordinary "$@"
 }
 
-# A user who has no other process may have so many threads, the first one of the program among them.
+# A user who has no other process may have COUNT threads, the first one of the program among them.
 threads() {
     local limits=("${another[@]}" bash -c 'ulimit -u "$0" && exec "$@"' "$1")
     shift
     ordinary "$@"
 }
 
-# The program may have so many KiB of addresses.
+# The program may have SIZE KiB of addresses.
 memory() {
     local limits=(sh -c 'ulimit -v "$0" && exec "$@"' "$1")
     shift
@@ -263,8 +268,9 @@ word_in_little_room() {
     fi
 }
 
-# Runs the program in ever more room up to so many KiB, and counts it as one case: each run prints this text, or says that memory, or of a survey
-# a thread, was refused, and prints nothing. In the least room the loader can't load the program, which then has not run.
+# Runs the program in ever more room up to MOST KiB, and counts it as one case: each run prints this text, or
+# says that memory, or of a survey a thread, was refused, and prints nothing. In the least room the loader
+# can't load the program, which then has not run.
 try_little_room() {
     local most=$1 prints=$2 size status=0 refused=0 wrong=
     shift 2
@@ -286,8 +292,8 @@ try_little_room() {
     count "little room $*" "${wrong:+$size KiB: $wrong}"
 }
 
-# How a command is run by a user who isn't root, and how the program is limited. Root takes a number that no system gives to a user, and that
-# no other run of this script takes at the same time.
+# How a command is run by a user who isn't root, and how the program is limited. Root takes a number that no
+# system gives to a user, and that no other run of this script takes at the same time.
 another=()
 [ "$(id -u)" != 0 ] || another=(setpriv --reuid=$((60600 + $$ % 500)) --regid=61000 --clear-groups)
 limits=()
@@ -364,7 +370,8 @@ try fifo_from:heart.non - solved_fifo solve fifo.non
 try fifo_from:cut.non NoSection - lines fifo.non
 try fifo_from:/dev/null NoSize - convert --to mk fifo.non
 
-# What root is never refused. Other users than root have other processes, so that for them only the first thread is surely refused.
+# What root is never refused. Other users than root have other processes, so that for them only the first
+# thread is surely refused.
 if "${another[@]}" true; then
     for words in survey 'survey heart.non' lines solve 'convert --to mk'; do
         try by_another Read - $words secret.non

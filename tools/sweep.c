@@ -1,12 +1,17 @@
-/* Refuses growths of memory to a program that is run under it, as tools/sweep.sh does. A start of a thread counts as a growth.
+/* Refuses growths of memory to a program that is run under it, as tools/sweep.sh does. A start of a thread
+ * counts as a growth.
  *
- * Tests ask for it by signs (src/tests_refusals.rt of the crates). A request of SIGN + n bytes, which no machine grants, has the n-th growth
- * from there refused, or with n = 0 each of them; a request of QUESTION bytes ends that, and is refused if there was a refusal. At each
- * question the number of refusals since the program began goes to standard error, as `swept N`.
+ * Tests ask for it by signs (src/tests_refusals.rt of the crates). A request of SIGN + n bytes, which no
+ * machine grants, has the n-th growth from there refused, or with n = 0 each of them; a request of QUESTION
+ * bytes ends that, and is refused if there was a refusal. At each question the number of refusals since the
+ * program began goes to standard error, as `swept N`.
  *
- * Another program has the growth refused whose number is in SWEEP_GROWTH, from 1, and the refusal is told on file descriptor 9.
+ * Another program has the growth refused whose number is in SWEEP_GROWTH, from 1, and the refusal is told on
+ * file descriptor 9.
  *
- * cc -O2 -shared -fPIC sweep.c -o sweep.so -ldl;  LD_PRELOAD=./sweep.so TESTS NAME;  SWEEP_GROWTH=3 LD_PRELOAD=./sweep.so PROGRAM 9>told */
+ * cc -O2 -shared -fPIC sweep.c -o sweep.so -ldl
+ * LD_PRELOAD=./sweep.so TESTS NAME
+ * SWEEP_GROWTH=3 LD_PRELOAD=./sweep.so PROGRAM 9>told */
 #define _GNU_SOURCE
 #include <dlfcn.h>
 #include <errno.h>

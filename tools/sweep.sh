@@ -1,10 +1,12 @@
 #!/usr/bin/env bash
-# Refuses growths of memory, each in turn: in the tests `tests_refused` of each crate, and in the program on some command lines. It builds and
-# proves nothing: it runs what `rt ci` left in crates/NAME/out. It needs a C compiler. Its last line is `N passed, M failed`.
+# Refuses growths of memory, each in turn: in the tests `tests_refused` of each crate, and in the program on
+# some command lines. It builds and proves nothing: it runs what `rt ci` left in crates/NAME/out. It needs a C
+# compiler. Its last line is `N passed, M failed`.
 #
-# tools/sweep.txt has a line for each test, its crate, its name and the least number of refusals that is expected of it, and one for each
-# command line, `program`, that number and the words. A test passes if it ends well. A command line passes if each run prints the usual bytes
-# and ends with status 0, or prints nothing, says `nonograde: NoMemory` (of a survey also `nonograde: Thread`) and ends with status 1. Both fail
+# tools/sweep.txt has a line for each test, its crate, its name and the least number of refusals that is
+# expected of it, and one for each command line, `program`, that number and the words. A test passes if it
+# ends well. A command line passes if each run prints the usual bytes and ends with status 0, or prints
+# nothing, says `nonograde: NoMemory` (of a survey also `nonograde: Thread`) and ends with status 1. Both fail
 # if fewer growths were refused than expected: then the tool wasn't loaded, or the call is another one.
 set -u
 cd "$(dirname "$0")/.."
