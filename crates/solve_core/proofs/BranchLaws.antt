@@ -1,3 +1,4 @@
+-- The branches of a search: what settled cells, a filled guess and a blank one make of them.
 use Rattle.std.proofs.Common.{◌≡◌, ℕ, zero, suc, ◌+◌, ◌<◌, ◌≤◌, List, [], ◌∷◌, ◌++◌, length, set, take, drop, refl, sym, ap, ◌∙◌, arith, subst, length-append, Option, Some, None}
 use Rattle.std.specs.List.{AllByRecursion}
 use Rattle.grid_core.specs.declared.cells.Cell.{Cell}
@@ -41,7 +42,7 @@ drop_take (suc m) zero xs h = absurd (omega arith)
 drop_take (suc m) (suc n) [] h = refl
 drop_take (suc m) (suc n) (x ∷ xs) h = drop_take m n xs (omega arith)
 
--- the first few of the first
+-- the first `m` of the first `n` items are the first `m`, if `m` is at most `n`
 pub take_least : {X : Type 0} (xs : List X) (m n : ℕ) → m ≤ n → take m (take n xs) ≡ take m xs
 take_least xs zero n h = first (take n xs) ∙ sym (first xs)
   where
@@ -53,7 +54,7 @@ take_least [] (suc m) (suc n) h = refl
 take_least (x ∷ xs) (suc m) zero h = absurd (omega arith)
 take_least (x ∷ xs) (suc m) (suc n) h = ap (λ ys. x ∷ ys) (take_least xs m n (omega arith))
 
--- what the trail gains since is undone first
+-- the cells before a mark stay the same if undoing what the trail gained gives the old cells
 pub before-longer : (cells now : List Cell) (trail added : List ℕ) (mark : ℕ) → cleared now added ≡ cells → mark ≤ length trail
     → cells_before now (trail ++ added) mark ≡ cells_before cells trail mark
 before-longer cells now trail added mark e h =
@@ -67,7 +68,7 @@ pub before-back : (cells : List Cell) (trail : List ℕ) (earlier mark : ℕ) �
 before-back cells trail earlier mark h =
     sym (cleared-append cells (drop earlier (take mark trail)) (drop mark trail)) ∙ ap (cleared cells) (drop_take earlier mark trail h)
 
--- nothing was settled since now
+-- if the mark is the whole length of the trail, nothing is undone
 before-now : (cells : List Cell) (trail : List ℕ) → cells_before cells trail (length trail) ≡ cells
 before-now cells trail = ap (cleared cells) (drop_all trail)
   where
@@ -75,7 +76,7 @@ before-now cells trail = ap (cleared cells) (drop_all trail)
     drop_all [] = refl
     drop_all (x ∷ xs) = drop_all xs
 
--- the branches mean the same for other cells and another trail, where the cells before each are the same
+-- the branches mean the same for other cells and another trail, if the cells before each are the same
 pending-same : (pick : List Cell → Option ℕ) (lines : List GridLine) (cells now : List Cell) (trail after : List ℕ) (limit : ℕ)
     (branches : List Branch)
     → ((mark : ℕ) → mark < limit → cells_before now after mark ≡ cells_before cells trail mark) → AreBefore limit branches
@@ -120,6 +121,7 @@ trailed-work pick lines old new branches t w =
           (λ mark h. trailed-before old new mark t h) w.before w.made;
     }
 
+-- what is settled and put on the trail changes nothing of what happens from the branches
 pub trailed-pending : (pick : List Cell → Option ℕ) (lines : List GridLine) (old new : TrailedGrid) (branches : List Branch)
     → IsTrailed old new → IsWork pick lines old.cells old.trail branches
     → pending pick lines new.cells new.trail branches ≡ pending pick lines old.cells old.trail branches
@@ -127,7 +129,7 @@ trailed-pending pick lines old new branches t w =
     pending-same pick lines old.cells new.cells old.trail new.trail (length old.trail + 1) branches
     (λ mark h. trailed-before old new mark t h) w.before
 
--- where fewer cells are unknown, the branches are older
+-- if fewer cells are unknown than before, something was settled since each branch was made
 pub trailed-older : (pick : List Cell → Option ℕ) (lines : List GridLine) (old new : TrailedGrid) (branches : List Branch) (next : Option ℕ)
     → IsTrailed old new → unknown_count new.cells < unknown_count old.cells → IsWork pick lines old.cells old.trail branches →
     AreOlder new.trail branches next
@@ -135,10 +137,12 @@ trailed-older pick lines old new branches None t l w = tt
 trailed-older pick lines old new branches (Some k) t l w =
     before-more (length old.trail + 1) (length new.trail) branches (omega (arith, trailed-length old new t, t.count)) w.before
 
+-- what holds of all items of two lists holds of all items of the joined list
 pub all_append : {X : Type 0} (P : X → Type 0) (xs ys : List X) → AllByRecursion P xs → AllByRecursion P ys → AllByRecursion P (xs ++ ys)
 all_append P [] ys h k = k
 all_append P (x ∷ xs) ys h k = (h.0, all_append P xs ys h.1 k)
 
+-- what holds of all items of a list holds of the last one, and of all before it
 pub all_split : {X : Type 0} (P : X → Type 0) (xs : List X) (x : X) → AllByRecursion P (xs ++ (x ∷ [])) → P x × AllByRecursion P xs
 all_split P [] x k = (k.0, tt)
 all_split P (y ∷ xs) x k = let r = all_split P xs x k.1 in (r.0, (k.0, r.1))
@@ -171,6 +175,7 @@ order-count least limit (b ∷ branches) h k m l =
     later [] n = tt
     later (x ∷ bs) n = (omega (arith, n.0), later bs n.1)
 
+-- branches in order are no more than `limit`, if each was made before the trail had `limit` places
 pub branch-count : (limit : ℕ) (branches : List Branch) → AreInOrder branches → AreBefore limit branches → length branches ≤ limit
 branch-count limit branches order before = omega (arith, order-count 0 limit branches order before (from branches) (omega arith))
   where
@@ -208,6 +213,7 @@ fork-work pick lines cells trail branches made b e m w older n =
       );
     })
 
+-- the two guesses of a cell are the filled one, made at once, and the blank one, owed by a new last branch
 pub fork-events : (pick : List Cell → Option ℕ) (lines : List GridLine) (cells : List Cell) (trail : List ℕ) (branches made : List Branch)
     (b : Branch)
     → made ≡ branches ++ (b ∷ []) → b.mark ≡ length trail
@@ -253,6 +259,7 @@ back-work pick lines cells now trail after all rest b e f g w =
           (λ mark h. (λ i. cells_before (f i) (g i) mark) ∙ before-back cells trail mark b.mark (omega arith)) last.0 last.2;
     }
 
+-- what happens from the branches is the last one's blank guess, made at once, and what the others owe
 pub back-events : (pick : List Cell → Option ℕ) (lines : List GridLine) (cells now : List Cell) (trail after : List ℕ)
     (all rest : List Branch) (b : Branch)
     → all ≡ rest ++ (b ∷ []) → now ≡ cells_before cells trail b.mark → after ≡ take b.mark trail → IsWork pick lines cells trail all
@@ -265,6 +272,7 @@ back-events pick lines cells now trail after all rest b e f g w =
     ++ sym (pending-same pick lines cells now trail after b.mark rest (λ mark h. (λ j. cells_before (f j) (g j) mark) ∙
     before-back cells trail mark b.mark (omega arith)) last.0) i))
 
+-- in the cells as they were when the last branch was made, its cell is the one to guess next
 pub back-ready : (pick : List Cell → Option ℕ) (lines : List GridLine) (cells now : List Cell) (trail : List ℕ) (all rest : List Branch)
     (b : Branch)
     → all ≡ rest ++ (b ∷ []) → now ≡ cells_before cells trail b.mark → IsWork pick lines cells trail all

@@ -11,7 +11,8 @@ use Rattle.solve_core.specs.Closure.{with_cells}
 use Rattle.solve_core.proofs.ClosureLaws.{length-with_cells}
 use Rattle.solve_core.proofs.LineSteps.{apart_places, before_or_from, get_or-with_cells, line-read, read-old, same_or_not}
 
--- of a line from the first place on, a step apart, the cells at the places that are left are still the old ones, and all others are new
+-- of the `count` cells from `first` on, `step` apart, those whose places are left are still the old ones, and
+-- the others are new
 pub record IsPartly (first step count : ℕ) (before now old new : List Cell) (left : ℕ) : Type 0 where
   pub changed : (k : ℕ) → Has left k → IsChanged old new k
   pub as_old : (k : ℕ) → k < count → Has left k → get_or now (first + k * step) Unknown ≡ get_or old k Unknown
@@ -74,7 +75,7 @@ on_line first step (suc n) p =
           ]
     ]
 
--- if none is left the line is written
+-- if no change is left, the line is written
 pub partly-end : (first step count : ℕ) (before now old new : List Cell) (left : ℕ) → 0 < step →
     ((k : ℕ) → k < count → first + k * step < length before) → length new ≡ count
     → ((k : ℕ) → Has left k → ⊥) → IsPartly first step count before now old new left →

@@ -1,3 +1,4 @@
+-- Repeating a step that only adds to what is known: what bounds the result, and when it is closed.
 use Rattle.std.proofs.Common.{◌≡◌, ℕ, zero, suc, ◌<◌, ◌≤◌, ◌⊎◌, inl, inr, List, [], ◌∷◌, length, Option, Some, None, refl, sym, ap, ◌∙◌, arith, option_and_then}
 use Rattle.grid_core.specs.declared.cells.Cell.{Cell}
 use Rattle.grid_core.specs.declared.cells.Cell.TheVariants.{Unknown, Filled, Blank}
@@ -6,21 +7,24 @@ use Rattle.solve_core.specs.Closure.{repeat}
 pub use Rattle.solve_core.specs.Trails.{unknown_count}
 use Rattle.solve_core.proofs.Order.{AtMost, AtMost-trans, Extends-refl}
 
--- a step that only adds to what is known, and adds no less where more is known
+-- a step that only adds to what is known, and gives no less if more is known
 pub record IsDeduction (f : List Cell → Option (List Cell)) : Type 0 where
   pub above : (g : List Cell) → AtMost (Some g) (f g)
   pub monotone : (g z : List Cell) → Extends g z → AtMost (f g) (f z)
 
+-- a step that only adds, taken from what is above a grid, stays above the grid
 pub and_then-above : (h : List Cell → Option (List Cell)) → ((g : List Cell) → AtMost (Some g) (h g)) →
     (g : List Cell) (o : Option (List Cell)) → AtMost (Some g) o → AtMost (Some g) (option_and_then h o)
 and_then-above h a g None k = tt
 and_then-above h a g (Some z) k = AtMost-trans (Some g) (Some z) (h z) k (a z)
 
+-- if a step from each grid below `z` stays below `z`, so does one from what is at most `z`
 pub and_then-below : (h : List Cell → Option (List Cell)) (z : List Cell) → ((g : List Cell) → Extends g z → AtMost (h g) (Some z)) →
     (o : Option (List Cell)) → AtMost o (Some z) → AtMost (option_and_then h o) (Some z)
 and_then-below h z b None k = absurd k
 and_then-below h z b (Some g) k = b g k
 
+-- a step that only adds, repeated, stays above the grid that it starts from
 pub repeat-above : (f : List Cell → Option (List Cell)) → ((g : List Cell) → AtMost (Some g) (f g)) → (n : ℕ) (g : List Cell) →
     AtMost (Some g) (repeat f n g)
 repeat-above f a zero g = Extends-refl g
@@ -38,17 +42,19 @@ pub repeat-least : (f : List Cell → Option (List Cell)) → IsDeduction f → 
 repeat-least f d n g z closed h =
     repeat-below f z (λ g' k. let m = d.monotone g' z k in rw closed at m) n g h
 
+-- repeating a step leaves a grid as it is, if one step does
 pub repeat-fixed : (f : List Cell → Option (List Cell)) (n : ℕ) (g : List Cell) → f g ≡ Some g → repeat f n g ≡ Some g
 repeat-fixed f zero g e = refl
 repeat-fixed f (suc n) g e = rw e (repeat-fixed f n g e)
 
+-- no more cells are unknown than there are cells
 pub unknown_count-le : (g : List Cell) → unknown_count g ≤ length g
 unknown_count-le [] = omega arith
 unknown_count-le (Unknown ∷ g) = omega (arith, unknown_count-le g)
 unknown_count-le (Filled ∷ g) = omega (arith, unknown_count-le g)
 unknown_count-le (Blank ∷ g) = omega (arith, unknown_count-le g)
 
--- a grid that knows more has fewer unknown cells
+-- a grid that knows all of another one is the same, or has fewer unknown cells
 pub fewer_unknown : (g z : List Cell) → Extends g z → (z ≡ g) ⊎ (unknown_count z < unknown_count g)
 fewer_unknown [] [] h = inl refl
 fewer_unknown [] (d ∷ z) h = absurd h

@@ -1,3 +1,4 @@
+-- The closure is the least line-closed grid, and loses no solution.
 use Rattle.std.proofs.Common.{◌≡◌, ℕ, zero, suc, ◌+◌, ◌<◌, Bool, false, List, [], ◌∷◌, length, get_or, set, map, Option, Some, None, refl, sym, ap, ◌∙◌, arith, length-set, option_map}
 use Rattle.std.specs.List.{AllByRecursion}
 use Rattle.grid_core.specs.declared.cells.Cell.{Cell}
@@ -12,11 +13,12 @@ pub use Rattle.solve_core.specs.LeastClosed.{IsLeastClosed}
 use Rattle.solve_core.proofs.Closing.{IsDeduction, repeat-above, repeat-below, repeat-least, repeat-closed, unknown_count-le}
 use Rattle.line_core.proofs.DeductionLaws.{Extends-at, deduced-below, deduced-monotone, deduced-full, get_or-map_colour}
 
--- where a line is a grid's line
+-- if a grid knows no less, neither do its cells at some places
 pub cells_at-monotone : (g z : List Cell) (places : List ℕ) → Extends g z → Extends (cells_at Unknown g places) (cells_at Unknown z places)
 cells_at-monotone g z [] h = tt
 cells_at-monotone g z (k ∷ places) h = (Extends-at g z k h, cells_at-monotone g z places h)
 
+-- if a grid knows no less, and a cell neither, then the grid with the cell written knows no less
 pub set-monotone : (g z : List Cell) (k : ℕ) (c d : Cell) → Extends g z → CellExtends c d → Extends (set g k c) (set z k d)
 set-monotone [] [] k c d h e = tt
 set-monotone [] (y ∷ z) k c d h e = absurd h
@@ -24,6 +26,7 @@ set-monotone (x ∷ g) [] k c d h e = absurd h
 set-monotone (x ∷ g) (y ∷ z) zero c d h e = (e, h.1)
 set-monotone (x ∷ g) (y ∷ z) (suc k) c d h e = (h.0, set-monotone g z k c d h.1 e)
 
+-- if a grid knows no less, and the cells written at some places neither, the result knows no less
 pub with_cells-monotone : (g z : List Cell) (places : List ℕ) (cs ds : List Cell) → Extends g z → Extends cs ds →
     Extends (with_cells g places cs) (with_cells z places ds)
 with_cells-monotone g z [] cs ds h e = h
@@ -39,13 +42,14 @@ written-monotone g z places o None h e = tt
 written-monotone g z places None (Some ds) h e = absurd e
 written-monotone g z places (Some cs) (Some ds) h e = with_cells-monotone g z places cs ds h e
 
--- where a grid knows more, no less is deduced from a line
+-- if a grid knows more, no less is deduced from a line
 pub deduce_line-monotone : (line : GridLine) (g z : List Cell) → Extends g z → AtMost (deduce_line g line) (deduce_line z line)
 deduce_line-monotone line g z h =
     written-monotone g z line.places (deduced (cells_at Unknown g line.places) line.clue)
     (deduced (cells_at Unknown z line.places) line.clue) h
     (deduced-monotone (cells_at Unknown g line.places) (cells_at Unknown z line.places) line.clue (cells_at-monotone g z line.places h))
 
+-- a grid with cells written at some places is as long as before
 pub length-with_cells : (g : List Cell) (places : List ℕ) (cs : List Cell) → length (with_cells g places cs) ≡ length g
 length-with_cells g [] cs = refl
 length-with_cells g (k ∷ places) [] = refl
@@ -55,11 +59,13 @@ length-written : (g : List Cell) (places : List ℕ) (o : Option (List Cell)) �
 length-written g places None = tt
 length-written g places (Some cs) = length-with_cells g places cs
 
+-- what each line deduces from a grid is as long as the grid, or dead
 pub lengths : (g : List Cell) (lines : List GridLine) → AllByRecursion (HasLength (length g)) (map (deduce_line g) lines)
 lengths g [] = tt
 lengths g (line ∷ lines) =
     (length-written g line.places (deduced (cells_at Unknown g line.places) line.clue), lengths g lines)
 
+-- a round only adds to what is known
 pub round-above : (lines : List GridLine) (g : List Cell) → AtMost (Some g) (round lines g)
 round-above lines g = join_all-above g (map (deduce_line g) lines) (lengths g lines)
 
@@ -86,6 +92,7 @@ round-deduction lines = record {
   monotone = λ g z h. monotone_to lines g z h (round lines z) refl;
 }
 
+-- a deduction, repeated once more than there are cells, gives the least closed grid above the first one
 pub repeat-IsLeastClosed : (f : List Cell → Option (List Cell)) → IsDeduction f → (g : List Cell) →
     IsLeastClosed f g (repeat f (length g + 1) g)
 repeat-IsLeastClosed f d g = record {
@@ -98,7 +105,7 @@ repeat-IsLeastClosed f d g = record {
 pub closure-IsLeastClosed : (lines : List GridLine) (g : List Cell) → IsLeastClosed (round lines) g (closure lines g)
 closure-IsLeastClosed lines g = repeat-IsLeastClosed (round lines) (round-deduction lines) g
 
--- there is one such grid at most
+-- a step and a grid have at most one least closed grid
 pub IsLeastClosed-unique : (f : List Cell → Option (List Cell)) (g : List Cell) (a b : Option (List Cell)) → IsLeastClosed f g a →
     IsLeastClosed f g b → a ≡ b
 IsLeastClosed-unique f g None None h k = refl
@@ -163,6 +170,7 @@ pub closure-below : (lines : List GridLine) (full : List Bool) → MeetsLines li
     AtMost (closure lines g) (Some (map colour full))
 closure-below lines full m g h = repeat-below (round lines) (map colour full) (round-below lines full m) (length g + 1) g h
 
+-- what is both above and below a grid is the grid
 pub same_at_most : (z : List Cell) (o : Option (List Cell)) → AtMost (Some z) o → AtMost o (Some z) → o ≡ Some z
 same_at_most z None h k = absurd k
 same_at_most z (Some w) h k = ap (λ (r : List Cell). Some r) (Extends-antisym w z k h)
@@ -199,7 +207,7 @@ meets_each (line ∷ lines) full w r h =
       meets_each lines full w r.1 h.1,
     )
 
--- a full grid that isn't dead by a round is a solution
+-- a full grid that a round doesn't find dead is a solution
 pub full-meets : (lines : List GridLine) (full : List Bool) (w : List Cell) → AreInRange (length full) lines →
     round lines (map colour full) ≡ Some w → MeetsLines lines full
 full-meets lines full w r e =

@@ -51,6 +51,7 @@ counts_by f e b c i = by (has e i) (has b i) refl refl
       | inr some ↦ absurd (lacking e i p (c.either_is.from i some))
     ]
 
+-- two sets that tell a count also tell the count that is read off them
 pub counts_own : (f : ℕ → ℕ) (e b : ℕ) → AreCounts f e b → AreCounts (λ i. two_of (has e i) (has b i)) e b
 counts_own f e b c = record {
   most = λ i. omega (arith, counts_by f e b c i, c.most i);
@@ -124,7 +125,7 @@ right_is row w known down first last right fits some k d f m r x h =
       ]
     ]
 
--- what is found by a count that is the row's score at each unknown cell
+-- what is found by two counts whose sum is the row's score at each cell is the most in the row
 pub most_by : (row : List Cell) (above below : ℕ → Bool) (least cells : ℕ) (f g : ℕ → ℕ) (result : Option (ℕ × ℕ)) →
     IsMaskOf (IsUnknownCell row) cells
     → ((x : ℕ) → x < length row → f x + g x ≡ row_score row above below x)

@@ -60,6 +60,6 @@ pub full-tried : (lines : List GridLine) (cells : List Cell) → list_all is_kno
     IsTried lines cells k
 full-tried lines cells h k l e = absurd (true≢false (sym (known-at cells k h l) ∙ ap is_known e))
 
--- nor is there at a known one
+-- at a known cell there is nothing to try
 pub known-tried : (lines : List GridLine) (cells : List Cell) (k : ℕ) → is_unknown (get_or cells k Unknown) ≡ false → IsTried lines cells k
 known-tried lines cells k h e = absurd (true≢false (sym (ap is_unknown e) ∙ h))

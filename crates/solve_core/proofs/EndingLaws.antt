@@ -1,3 +1,4 @@
+-- How a search ends, told by the event that comes next.
 use Rattle.std.proofs.Common.{◌≡◌, ℕ, suc, ◌+◌, ◌-◌, add-one, ◌<◌, List, [], ◌∷◌, ◌++◌, length, refl, sym, ap, ◌∙◌, arith}
 use Rattle.grid_core.specs.declared.cells.Cell.{Cell}
 use Rattle.grid_core.specs.PartialGrid.{PartialGrid}
@@ -6,10 +7,12 @@ use Rattle.solve_core.specs.Search.{Event, Guess, Solution}
 use Rattle.solve_core.specs.Report.{grid_of}
 use Rattle.solve_core.specs.Endings.{Ending, ending}
 
+-- a list followed by nothing is the list
 pub append-nil-right : {X : Type 0} (xs : List X) → xs ++ [] ≡ xs
 append-nil-right [] = refl
 append-nil-right (x ∷ xs) = λ i. x ∷ append-nil-right xs i
 
+-- joining three lists, it makes no difference which two are joined first
 pub append-assoc-right : {X : Type 0} (xs ys zs : List X) → (xs ++ ys) ++ zs ≡ xs ++ (ys ++ zs)
 append-assoc-right [] ys zs = refl
 append-assoc-right (x ∷ xs) ys zs = λ i. x ∷ append-assoc-right xs ys zs i

@@ -55,7 +55,7 @@ along-set cells first step n i k c s h e l =
     unique_step step first (suc j) zero h e = absurd (omega arith)
     unique_step step first (suc j) (suc i) h e = ap suc (unique_step step first j i h (omega arith))
 
--- and nothing changes in another line
+-- a written cell changes nothing in a line that doesn't have its place
 pub along-elsewhere : (cells : List Cell) (first step n k : ℕ) (c : Cell) → ((i : ℕ) → i < n → first + i * step ≢ k)
     → cells_at Unknown (set cells k c) (places_from first step n) ≡ cells_at Unknown cells (places_from first step n)
 along-elsewhere cells first step n k c apart =
@@ -131,7 +131,7 @@ line_read lines i line h = get_or_default lines i line [] h
 
 -- ---- the cells of rows
 
--- so many rows of so many cells
+-- if each row has `w` cells, all rows together have `w` cells times the number of rows
 pub length-rows : (w : ℕ) (rows : List (List Cell)) → ((y : ℕ) → y < length rows → length (get_or rows y []) ≡ w) →
     length (cells_of_rows rows) ≡ length rows * w
 length-rows w [] h = omega arith

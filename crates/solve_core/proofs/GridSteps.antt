@@ -1,3 +1,4 @@
+-- What deducing a line, or settling a cell, does to the marks of the lines and to the grid's closure.
 use Rattle.std.proofs.Common.{◌≡◌, ◌≢◌, ℕ, ◌+◌, ◌*◌, ◌/◌, ◌%◌, ◌<◌, ◌≤◌, inl, inr, Bool, true, false, List, length, get_or, set, Option, Some, refl, sym, ap, ◌∙◌, arith, subst, length-set, get_or-set_same, get_or-set_other}
 use Rattle.std.proofs.lemmas.Nat.{div_below}
 use Rattle.grid_core.specs.declared.cells.Cell.{Cell}
@@ -22,12 +23,13 @@ use Rattle.grid_core.proofs.LineLaws.{length-places_from, get_or-places_from}
 abbrev pub marked : Nonogram → List Bool → MarkedPuzzle
 marked p marks = record { puzzle = p; marks = marks }
 
--- the places of a line are distinct, and in the grid
+-- the places of a line are distinct
 pub line-distinct : (p : Nonogram) (n : ℕ) → IsNonogram p → n < line_count p → AreDistinct ((line_at p n).places)
 line-distinct p n is l =
     let q = places_in p.width p.height n in
     rw line_at-places (distinct_from q.first q.step q.count (line-step p.width p.height n (omega (arith, is.size.width_from))))
 
+-- the places of a line are below the number of the grid's cells
 pub line-below : (p : Nonogram) (size n : ℕ) → IsNonogram p → n < line_count p → size ≡ p.width * p.height →
     AreBelow size ((line_at p n).places)
 line-below p size n is l e =
@@ -43,7 +45,7 @@ line_place p n i is l h =
     let within : i < q.count = omega (arith, long) in
     (within, ap (λ (ps : List ℕ). get_or ps i 0) (line_at-places p n is l) ∙ get_or-places_from q.first q.step q.count i within)
 
--- a line stays settled where none of its cells changed
+-- a line stays settled if none of its cells changed
 settled-same : (g new : List Cell) (line : GridLine) → IsSettled g line →
     ((i : ℕ) → i < length line.places → get_or new (get_or line.places i 0) Unknown ≡ get_or g (get_or line.places i 0) Unknown) →
     IsSettled new line
@@ -78,6 +80,7 @@ written_marks p cells new marks after n m l w changes =
           ];
     }
 
+-- after a line is deduced, the lines that may have more to give are marked, unless the line is dead
 pub marks-after : (p : Nonogram) (cells new : List Cell) (marks after : List Bool) (n : ℕ) (r : Progress) →
     HasMarks (marked p marks) cells → n < line_count p
     → IsLearned r (line_at p n) cells new → MarksChanges (places_in p.width p.height n) cells new (set marks n false) after →
@@ -107,7 +110,7 @@ pub unmarked-more : (start n : ℕ) (marks : List Bool) → AreUnmarkedFrom star
 unmarked-more start n marks before here k from to =
     elim (same_or_not k n) [ inl own ↦ rw own here | inr other ↦ before k from (omega arith) ]
 
--- first the rows had no mark left, and then the columns
+-- if no row had a mark, none was made since, and no column has one, then no line has a mark
 pub unmarked-both : (h count : ℕ) (old new : List Bool) → AreUnmarkedFrom 0 h old → AddsNone old new → AreUnmarkedFrom h count new →
     AreUnmarkedFrom 0 count new
 unmarked-both h count old new rows adds columns k from to =
@@ -125,14 +128,14 @@ unmarked-through p cells new marks after n start end l changes parallel from to 
       | inr other ↦ get_or-set_other marks n k false false other ∙ before k h (omega arith)
     ]
 
--- where no line has more to give the cells are their own closure
+-- if no line has more to give, the cells are their own closure
 pub settled_closed : (p : Nonogram) (cells : List Cell) → IsNonogram p → ((n : ℕ) → n < line_count p → IsSettled cells (line_at p n)) →
     closure (lines_of p) cells ≡ Some cells
 settled_closed p cells is settled =
     done_within (lines_of p) cells cells (Extends-refl cells) ((closure-IsLeastClosed (lines_of p) cells).above)
     (all_lines (λ line. deduce_line cells line ≡ Some cells) p is (λ n l. settled_line cells (line_at p n) (settled n l)))
 
--- where no line is marked the cells are their own closure
+-- if no line is marked, the cells are their own closure
 pub unmarked_closed : (p : MarkedPuzzle) (cells : List Cell) → HasMarks p cells → IsUnmarked p →
     closure (lines_of p.puzzle) cells ≡ Some cells
 unmarked_closed p cells m unmarked = settled_closed p.puzzle cells m.puzzle (λ n l. m.settled n l (unmarked n (omega arith) l))
@@ -155,10 +158,12 @@ pub progress-changed : (f : List Cell → Option (List Cell)) (r : Progress) (ol
     Progresses f r old middle → Progresses f Changed middle new → Progresses f Changed old new
 progress-changed f r old middle new n h k = (k.0 ∙ progress-keeps f r old middle n h, omega (arith, k.1, progress-count f r old middle n h))
 
+-- progress to some cells is progress to cells that are the same
 pub progress-same : (f : List Cell → Option (List Cell)) (r : Progress) (old middle new : List Cell) → Progresses f r old middle →
     new ≡ middle → Progresses f r old new
 progress-same f r old middle new h e = subst (λ (g : List Cell). Progresses f r old g) (sym e) h
 
+-- if no line is marked after steps that keep the closure, the cells are the closure of the first ones
 pub closed_after : (p : MarkedPuzzle) (first cells middle new : List Cell) (r : Progress) → r ≢ Dead →
     Progresses (closure (lines_of p.puzzle)) r cells middle → new ≡ middle → HasMarks p new
     → IsUnmarked p → closure (lines_of p.puzzle) cells ≡ closure (lines_of p.puzzle) first → Some new ≡ closure (lines_of p.puzzle) first
@@ -166,7 +171,7 @@ closed_after p first cells middle new r n h e m unmarked same =
     sym (unmarked_closed p new m unmarked) ∙ ap (closure (lines_of p.puzzle)) e ∙
     progress-keeps (closure (lines_of p.puzzle)) r cells middle n h ∙ same
 
--- the marks of a cell's two lines, where it is given a colour
+-- if the cell in row y and column x is given a colour, marking these two lines keeps the marks right
 place_marks : (p : Nonogram) (cells : List Cell) (marks : List Bool) (k y x : ℕ) (c : Cell) → length marks ≡ line_count p →
     HasMarks (marked p marks) cells → y < p.height → x < p.width → k ≡ y * p.width + x
     → HasMarks (marked p (set (set marks y true) (p.height + x) true)) (set cells k c)
@@ -193,6 +198,7 @@ place_split p cells k is size l =
     let within : k < p.height * p.width = omega (arith, size) in
     (omega arith, div_below k p.width p.height positive within, omega arith)
 
+-- each line that may have more to give is still marked if a cell gets a colour and its two lines get marks
 pub place_given : (p : Nonogram) (cells : List Cell) (marks : List Bool) (k width height : ℕ) (c : Cell) → width ≡ p.width →
     height ≡ p.height → length marks ≡ line_count p → HasMarks (marked p marks) cells → k < length cells
     → HasMarks (marked p (set (set marks (k / width) true) (height + k % width) true)) (set cells k c)
@@ -203,14 +209,15 @@ place_given p cells marks k width height c e f long m l =
     (place_marks p cells marks k (k / p.width) (k % p.width) c long m (div_below k p.width p.height positive within) (omega arith)
     (omega arith))
 
--- cells at rest are their own closure
+-- cells at rest are line-closed
 pub rest_closed : (p : MarkedPuzzle) (cells : List Cell) → IsAtRest p cells → round (lines_of p.puzzle) cells ≡ Some cells
 rest_closed p cells r = (closure-IsLeastClosed (lines_of p.puzzle) cells).closed cells (unmarked_closed p cells r.marks r.unmarked)
 
+-- a place is its row times the width, plus its column, if the width is positive
 pub place_again : (k width other : ℕ) → width ≡ other → 0 < other → k / width * other + k % width ≡ k
 place_again k width other e h = rw e (omega arith)
 
--- a closed grid is at rest where no line is marked
+-- a closed grid is at rest if no line is marked
 pub closed_rest : (m : MarkedPuzzle) (cells : List Cell) → IsNonogram m.puzzle → length cells ≡ m.puzzle.width * m.puzzle.height →
     round (lines_of m.puzzle) cells ≡ Some cells → IsUnmarked m → IsAtRest m cells
 closed_rest m cells is size closed unmarked =
@@ -225,7 +232,7 @@ closed_rest m cells is size closed unmarked =
       unmarked = unmarked;
     }
 
--- what learning a line does for the closure
+-- learning one of the lines is progress towards the closure
 pub learned-progress : (lines : List GridLine) (line : GridLine) (g new : List Cell) (r : Progress) → IsOneOf line lines →
     IsLearned r line g new → Progresses (closure lines) r g new
 learned-progress lines line g new Dead m h = line_dead lines g line m h
@@ -233,11 +240,13 @@ learned-progress lines line g new Same m h = h.0
 learned-progress lines line g new Changed m h =
     (line_keeps lines g new line m (written-extends line g new h.0) (written_line line g new h.0), h.1)
 
+-- a line that gave nothing more is settled
 pub learned-settled : (line : GridLine) (g new : List Cell) (r : Progress) → IsLearned r line g new → r ≡ Same → IsSettled new line
 learned-settled line g new Dead h e = cc
 learned-settled line g new Same h e = rw h.0 h.1
 learned-settled line g new Changed h e = cc
 
+-- a step that came to `Same` left the cells as they were
 pub progress-still : (f : List Cell → Option (List Cell)) (r : Progress) (old new : List Cell) → r ≡ Same → Progresses f r old new →
     new ≡ old
 progress-still f Dead old new e h = cc

@@ -1,3 +1,4 @@
+-- Lemmas on a whole puzzle: its closure, its trials, its search, and the steps of the program that make them.
 pub mod Order
 pub mod TrailSteps
 pub mod Closing

@@ -1,3 +1,4 @@
+-- Writing a line into a grid: which cells change, and what the closure is afterwards.
 use Rattle.std.proofs.Common.{◌≡◌, ◌≢◌, ℕ, zero, suc, ◌+◌, ◌-◌, ◌*◌, ◌<◌, ◌≤◌, inl, inr, Bool, true, false, List, [], ◌∷◌, length, get_or, set, drop, drop-cons, Option, Some, None, option_map, refl, sym, ap, ◌∙◌, arith, ◌⊎◌, length-set, get_or-set_same, add-one}
 use Rattle.std.specs.List.{AllByRecursion}
 use Rattle.std.proofs.lemmas.List.{set-get_or}
@@ -35,10 +36,12 @@ get_or-with_cells g (p ∷ ps) (c ∷ d) k h =
     let here : get_or (set g p c) k Unknown ≡ get_or g k Unknown = set_elsewhere g p c k (λ e. h 0 (omega arith) e) in
     get_or-with_cells (set g p c) ps d k (λ i l e. h (suc i) (omega arith) e ∙ sym here) ∙ here
 
+-- no place is in the list twice
 abbrev pub AreDistinct : List ℕ → Type 0
 AreDistinct [] = Unit {0}
 AreDistinct (p ∷ ps) = ((i : ℕ) → i < length ps → get_or ps i 0 ≢ p) × AreDistinct ps
 
+-- each place is below a bound
 abbrev pub AreBelow : ℕ → List ℕ → Type 0
 AreBelow n places = AllByRecursion (λ k. k < n) places
 
@@ -56,6 +59,7 @@ cells_at-with_cells g (p ∷ ps) (c ∷ d) a b e =
     cells_at-with_cells (set g p c) ps d a.1 (rw length-set b.1) (omega arith) in
     λ i. first i ∷ rest i
 
+-- places that are a step apart are distinct, if the step is positive
 pub distinct_from : (first step n : ℕ) → 0 < step → AreDistinct (places_from first step n)
 distinct_from first step zero h = tt
 distinct_from first step (suc n) h = (
@@ -64,6 +68,7 @@ distinct_from first step (suc n) h = (
   distinct_from (first + step) step n h,
 )
 
+-- places that are a step apart are below a size, if each is by its number among them
 pub below_from : (first step n size : ℕ) → ((i : ℕ) → i < n → first + i * step < size) → AreBelow size (places_from first step n)
 below_from first step zero size h = tt
 below_from first step (suc n) size h = (
@@ -71,12 +76,14 @@ below_from first step (suc n) size h = (
   below_from (first + step) step n size (λ i l. let next = h (suc i) (omega arith) in omega (arith, next)),
 )
 
+-- two numbers are the same, or they aren't
 pub same_or_not : (j y : ℕ) → (j ≡ y) ⊎ (j ≢ y)
 same_or_not zero zero = inl refl
 same_or_not zero (suc y) = inr (λ e. omega arith)
 same_or_not (suc j) zero = inr (λ e. omega arith)
 same_or_not (suc j) (suc y) = elim (same_or_not j y) [ inl e ↦ inl (ap suc e) | inr n ↦ inr (λ e. n (omega arith)) ]
 
+-- a number is below another one, or it is at least that one
 pub before_or_from : (k n : ℕ) → (k < n) ⊎ (n ≤ k)
 before_or_from k zero = inr (omega arith)
 before_or_from zero (suc n) = inl (omega arith)
@@ -87,6 +94,7 @@ pub with_cells-same : (g : List Cell) (places : List ℕ) → with_cells g place
 with_cells-same g [] = refl
 with_cells-same g (p ∷ ps) = ap (λ (r : List Cell). with_cells r ps (cells_at Unknown g ps)) (set-get_or g p Unknown) ∙ with_cells-same g ps
 
+-- two grids that have the same cell at each of some places are read alike there
 pub cells_at-same : (a b : List Cell) (places : List ℕ) →
     ((i : ℕ) → i < length places → get_or a (get_or places i 0) Unknown ≡ get_or b (get_or places i 0) Unknown) →
     cells_at Unknown a places ≡ cells_at Unknown b places
@@ -104,9 +112,11 @@ above_line : (line : GridLine) (g d : List Cell) → deduced (cells_at Unknown g
     Extends (cells_at Unknown g line.places) d
 above_line line g d e = rw e at (deduced-above (cells_at Unknown g line.places) line.clue)
 
+-- deducing a line gives the cells in which what is certain of it is written
 pub written_line : (line : GridLine) (g new : List Cell) → IsWritten line g new → deduce_line g line ≡ Some new
 written_line line g new w = ap (option_map (with_cells g line.places)) w.is_certain ∙ ap (λ (r : List Cell). Some r) (sym w.written)
 
+-- writing what is certain of a line only adds to what is known
 pub written-extends : (line : GridLine) (g new : List Cell) → IsWritten line g new → Extends g new
 written-extends line g new w =
     let old = with_cells-monotone g g line.places (cells_at Unknown g line.places) w.certain (Extends-refl g)
@@ -139,7 +149,7 @@ written-elsewhere line g new w a b k h =
     ap (λ (r : List Cell). get_or r i Unknown) (sym (written-read line g new w a b)) ∙ get_or-cells_at Unknown new line.places i l
     ∙ ap (λ (q : ℕ). get_or new q Unknown) e ∙ h i l e))
 
--- fewer cells are unknown where a line learned something
+-- fewer cells are unknown if a line learned something
 pub written-fewer : (line : GridLine) (g new : List Cell) (w : IsWritten line g new) → w.certain ≢ cells_at Unknown g line.places →
     AreDistinct line.places → AreBelow (length g) line.places
     → unknown_count new < unknown_count g
@@ -163,13 +173,15 @@ line_keeps lines g new line m h e =
     (closure-IsLeastClosed lines new) h
     (rw e at (step_within lines g g line m (closure-IsLeastClosed lines g).above))
 
+-- if one of the lines is dead, so is the closure
 pub line_dead : (lines : List GridLine) (g : List Cell) (line : GridLine) → IsOneOf line lines →
     deduced (cells_at Unknown g line.places) line.clue ≡ None → closure lines g ≡ None
 line_dead lines g line m e =
     dead_within lines g g line m (closure-IsLeastClosed lines g).above (ap (option_map (with_cells g line.places)) e)
 
--- what the loops over one line's places do
+-- ---- what the loops over one line's places do
 
+-- writing a line from cell `i` on is writing cell `i`, and then the line from the next cell on
 pub write-step : (cells line : List Cell) (first step count i : ℕ) → i < count → length line ≡ count
     → with_cells (set cells (first + i * step) (get_or line i Unknown)) (places_from (first + (i + 1) * step) step (count - (i + 1)))
     (drop (i + 1) line)
@@ -196,7 +208,7 @@ pub length-seen : (cells line : List Cell) (first step count : ℕ) → line ≡
 length-seen cells line first step count e = ap length e ∙ length-cells_at Unknown cells (places_from first step count) ∙
     length-places_from first step count
 
--- cells that stand there already
+-- cells of the line that stand in the grid already need not be written
 pub same-steps : (cells line : List Cell) (first step count from d : ℕ) → from + d ≤ count → length line ≡ count
     → ((k : ℕ) → from ≤ k → k < from + d → get_or line k Unknown ≡ get_or cells (first + k * step) Unknown)
     → with_cells cells (places_from (first + (from + d) * step) step (count - (from + d))) (drop (from + d) line) ≡
@@ -208,7 +220,7 @@ same-steps cells line first step count from (suc d) h e same =
     (same-step cells line first step count (from + d) (omega arith) e (same (from + d) (omega arith) (omega arith))
     ∙ same-steps cells line first step count from d (omega arith) e (λ k l m. same k l (omega arith)))
 
--- up to a place, or the end
+-- if the cells from `from` up to `i` stand there already, writing the line can start at `i`
 pub same-until : (cells line : List Cell) (first step count from i : ℕ) → from ≤ i → i ≤ count → length line ≡ count
     → ((k : ℕ) → from ≤ k → k < i → get_or line k Unknown ≡ get_or cells (first + k * step) Unknown)
     → with_cells cells (places_from (first + i * step) step (count - i)) (drop i line) ≡
@@ -235,6 +247,7 @@ line-read cells new line first step count positive within long e =
     ∙ cells_at-with_cells cells (places_from first step count) line (distinct_from first step count positive)
     (below_from first step count (length cells) within) (long ∙ sym (length-places_from first step count)))
 
+-- cell `k` of a line that was read from a grid is the grid's cell at that place
 pub read-old : (cells old : List Cell) (first step count k : ℕ) → old ≡ cells_at Unknown cells (places_from first step count) →
     k < count → get_or cells (first + k * step) Unknown ≡ get_or old k Unknown
 read-old cells old first step count k e h =
@@ -243,6 +256,7 @@ read-old cells old first step count k e h =
     (ap (λ (r : List Cell). get_or r k Unknown) e ∙ get_or-cells_at Unknown cells (places_from first step count) k within
     ∙ ap (λ (q : ℕ). get_or cells q Unknown) (get_or-places_from first step count k h))
 
+-- a later place of a line isn't an earlier one, if the step is positive
 pub apart_places : (first step i k : ℕ) → 0 < step → i < k → first + k * step ≢ first + i * step
 apart_places first step i k h l e =
     let more : step * (i + 1) ≤ step * k = mul-le-mul_left step (omega arith) in
@@ -260,7 +274,7 @@ learned_cell Blank Unknown h n = absurd h
 learned_cell Blank Filled h n = absurd h
 learned_cell Blank Blank h n = absurd (n refl)
 
--- where a mark is missing after one was made, it is elsewhere, and it was missing before
+-- if a mark is missing after one was made, it is another one, and it was missing before
 pub set-unmarked : (marks : List Bool) (i k : ℕ) → i < length marks → get_or (set marks i true) k false ≡ false →
     (k ≢ i) × (get_or marks k false ≡ false)
 set-unmarked [] i k h e = absurd (omega arith)
@@ -271,7 +285,7 @@ set-unmarked (b ∷ marks) (suc i) (suc k) h e =
     let rest = set-unmarked marks i k (omega arith) e in
     ((λ s. rest.0 (omega arith)), rest.1)
 
--- a line stays settled where a cell that isn't its own is written
+-- a line stays settled if a cell that isn't its own is written
 pub settled-elsewhere : (g : List Cell) (k : ℕ) (c : Cell) (line : GridLine) → IsSettled g line →
     ((b : ℕ) → b < length line.places → k ≢ get_or line.places b 0) → IsSettled (set g k c) line
 settled-elsewhere g k c line settled apart =

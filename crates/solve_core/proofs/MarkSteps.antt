@@ -15,6 +15,7 @@ use Rattle.solve_core.specs.Lines.{places_in}
 use Rattle.solve_core.proofs.LineSteps.{same_or_not}
 use Rattle.solve_core.proofs.NumberedLines.{by_kind}
 
+-- there is a mark for each row and for each column
 pub count_marks : (h w r c : ℕ) → length (marks_by h w r c) ≡ h + w
 count_marks h w r c = omega (
   arith,
@@ -44,7 +45,7 @@ lacks m k n = has_by m k false (λ h. absurd (n h)) (λ e. absurd (true≢false 
 lacked : (m k : ℕ) → has m k ≡ false → Has m k → ⊥
 lacked m k e h = true≢false (sym (has_true m k h) ∙ e)
 
--- a mark of a row, or of a column, that is made or taken back
+-- a mark of a row is made or taken back by changing the mask of the rows
 pub set_row : (h w r c n m : ℕ) (wanted : Bool) → n < h → IsMaskOf (IsMarked (Has r) n wanted) m →
     marks_by h w m c ≡ set (marks_by h w r c) n wanted
 set_row h w r c n m wanted l p =
@@ -62,6 +63,7 @@ set_row h w r c n m wanted l p =
       ]
     ])
 
+-- a mark of a column is made or taken back by changing the mask of the columns
 pub set_column : (h w r c n m : ℕ) (wanted : Bool) → h ≤ n → n < h + w → IsMaskOf (IsMarked (Has c) (n - h) wanted) m →
     marks_by h w r m ≡ set (marks_by h w r c) n wanted
 set_column h w r c n m wanted l b p =
@@ -81,7 +83,7 @@ set_column h w r c n m wanted l b p =
       ]
     ])
 
--- all marks, and none
+-- if the masks have all places, each line is marked
 pub all_marked : (h w r c : ℕ) → IsMaskOf (λ i. i < h) r → IsMaskOf (λ i. i < w) c → (k : ℕ) → k < h + w →
     get_or (marks_by h w r c) k false ≡ true
 all_marked h w r c p q k l = elim (cases_lt k h) [
@@ -89,6 +91,7 @@ all_marked h w r c p q k l = elim (cases_lt k h) [
   | inr column ↦ column_at h w r c k column l ∙ has_true c (k - h) (q.from (k - h) (omega arith))
 ]
 
+-- if neither mask has a place, no line is marked
 pub none_marked : (h w r c : ℕ) → ((k : ℕ) → Has r k → ⊥) → ((k : ℕ) → Has c k → ⊥) → (k : ℕ) → get_or (marks_by h w r c) k false ≡ false
 none_marked h w r c p q k = elim (cases_lt k (h + w)) [
   | inr far ↦ beyond h w r c k far
@@ -98,7 +101,7 @@ none_marked h w r c p q k = elim (cases_lt k (h + w)) [
   ]
 ]
 
--- the first marked row, and the first marked column
+-- the first place of the rows' mask in a range of rows is the first marked one, if there is one
 pub first_row : (h w r c start end : ℕ) (result : Option ℕ) → end ≤ h → IsFirstBetween r start end result →
     IsFirstMarked (marks_by h w r c) start end result
 first_row h w r c start end None l p = λ k from to. row_at h w r c k (omega arith) ∙ lacks r k (p k from to)
@@ -111,11 +114,13 @@ first_row h w r c start end (Some n) l p =
           lacks r k (p.3 k from before),
     )
 
+-- if the mask of the columns has no place in a range of columns, none of them is marked
 pub no_column : (h w r c start end : ℕ) → h ≤ start → end ≤ h + w → IsFirstBetween c (start - h) (end - h) None →
     IsFirstMarked (marks_by h w r c) start end None
 no_column h w r c start end l m p = λ k from to. column_at h w r c k (omega arith) (omega arith) ∙
     lacks c (k - h) (p (k - h) (omega arith) (omega arith))
 
+-- the first place of the columns' mask in a range of columns tells the first marked one
 pub first_column : (h w r c start end x : ℕ) → h ≤ start → end ≤ h + w → IsFirstBetween c (start - h) (end - h) (Some x) →
     IsFirstMarked (marks_by h w r c) start end (Some (h + x))
 first_column h w r c start end x l m p =
@@ -153,7 +158,7 @@ mark_columns h w r c m cells n row p =
     })
     (λ l. absurd (omega arith))
 
--- and the rows that cross a column
+-- the rows that cross a column at some cells are marked
 pub mark_rows : (h w r c m cells n : ℕ) → h ≤ n → IsMaskOf (λ i. Has r i ⊎ Has cells i) m →
     MarksPlaces (places_in w h n) (Has cells) (marks_by h w r c) (marks_by h w m c)
 mark_rows h w r c m cells n column p =

@@ -17,6 +17,7 @@ longest_sides_fit w h size =
     let by_height : w * h ≤ w * 256 = mul-le-mul_left w (omega (arith, size.height_to)) in
     omega (arith, by_height, size.width_to)
 
+-- a place has only one row and only one column
 pub unique_place : (w y j a b : ℕ) → a < w → b < w → y * w + a ≡ j * w + b → (y ≡ j) × (a ≡ b)
 unique_place w zero zero a b h k e = (refl, omega arith)
 unique_place w zero (suc j) a b h k e = absurd (omega arith)
@@ -25,9 +26,11 @@ unique_place w (suc y) (suc j) a b h k e =
     let rest = unique_place w y j a b h k (omega arith) in
     (ap suc rest.0, rest.1)
 
+-- a cell of a row is in the grid
 pub row_within : (w h y i : ℕ) → y < h → i < w → y * w + i * 1 < w * h
 row_within w h y i a b = let more : w * (y + 1) ≤ w * h = mul-le-mul_left w (omega arith) in omega (arith, more)
 
+-- a cell of a column is in the grid
 pub column_within : (w h x i : ℕ) → x < w → i < h → x + i * w < w * h
 column_within w h x i a b = let more : w * (i + 1) ≤ w * h = mul-le-mul_left w (omega arith) in omega (arith, more)
 
@@ -42,16 +45,17 @@ by_kind P w h n row column = by (nat_lt n h) refl
     by true e = row (ltb-true n h e)
     by false e = column (ltb-false n h e)
 
--- where the cells of a row and of a column are
+-- a row has as many cells as the grid has columns, one after the other
 pub along-row : (w h n i : ℕ) → n < h → ((places_in w h n).count ≡ w) × (place_along w h n i ≡ n * w + i)
 along-row w h n i l = by_kind (λ q. (q.count ≡ w) × (q.first + i * q.step ≡ n * w + i)) w h n (λ r. (refl, omega arith))
     (λ c. absurd (omega arith))
 
+-- a column has as many cells as the grid has rows, each a row below the one before
 pub along-column : (w h n i : ℕ) → h ≤ n → ((places_in w h n).count ≡ h) × (place_along w h n i ≡ i * w + (n - h))
 along-column w h n i l = by_kind (λ q. (q.count ≡ h) × (q.first + i * q.step ≡ i * w + (n - h))) w h n (λ r. absurd (omega arith))
     (λ c. (refl, omega arith))
 
--- a line has as many cells as a side
+-- a line has at least 1 cell and at most 256
 pub line-long : (w h n : ℕ) → IsSize w h → (1 ≤ (places_in w h n).count) × ((places_in w h n).count ≤ 256)
 line-long w h n size = by_kind (λ q. (1 ≤ q.count) × (q.count ≤ 256)) w h n (λ r. (size.width_from, size.width_to))
     (λ c. (size.height_from, size.height_to))
@@ -60,9 +64,11 @@ line-long w h n size = by_kind (λ q. (1 ≤ q.count) × (q.count ≤ 256)) w h 
 pub line-crossed : (w h n : ℕ) → (places_in w h n).crossing + (places_in w h n).count ≤ h + w
 line-crossed w h n = by_kind (λ q. q.crossing + q.count ≤ h + w) w h n (λ r. omega arith) (λ c. omega arith)
 
+-- the places of a line are a positive step apart, if the grid has a column
 pub line-step : (w h n : ℕ) → 0 < w → 0 < (places_in w h n).step
 line-step w h n positive = by_kind (λ l. 0 < l.step) w h n (λ r. omega arith) (λ c. positive)
 
+-- each place of a line is in the grid
 pub line-within : (w h n : ℕ) → n < h + w → AreWithin (places_in w h n) (w * h)
 line-within w h n l = by_kind (λ q. AreWithin q (w * h)) w h n (λ r i k. row_within w h n i r k)
     (λ c i k. column_within w h (n - h) i (omega arith) k)
@@ -105,12 +111,14 @@ numbered f clues k d l =
 count_numbered : (f : ℕ × List ℕ → GridLine) (clues : List (List ℕ)) → length (map f (enumerate_from 0 clues)) ≡ length clues
 count_numbered f clues = length-map (enumerate_from 0 clues) f ∙ length-enumerate_from 0 clues
 
+-- line `n` of a puzzle is its row `n`, if it has more rows than `n`
 pub line_at-row : (p : Nonogram) (n : ℕ) → n < length p.rows → line_at p n ≡ row_at p n
 line_at-row p n l =
     get_or_append_left (map (row_line p) (enumerate_from 0 p.rows)) (map (column_line p) (enumerate_from 0 p.columns)) _ n
     (omega (arith, count_numbered (row_line p) p.rows))
     ∙ numbered (row_line p) p.rows n _ l
 
+-- line `n` of a puzzle, if it has no more rows than `n`, is the column of the number that is left
 pub line_at-column : (p : Nonogram) (n : ℕ) → length p.rows ≤ n → n - length p.rows < length p.columns →
     line_at p n ≡ column_at p (n - length p.rows)
 line_at-column p n l k =
@@ -118,6 +126,7 @@ line_at-column p n l k =
     (length p.rows) n _ (count_numbered (row_line p) p.rows) l
     ∙ numbered (column_line p) p.columns (n - length p.rows) _ k
 
+-- the places of a puzzle's line are those of its number in a grid of the puzzle's size
 pub line_at-places : (p : Nonogram) (n : ℕ) → IsNonogram p → n < line_count p →
     (line_at p n).places ≡ places_of (places_in p.width p.height n)
 line_at-places p n is l =
@@ -156,5 +165,6 @@ one_at [] n d l = absurd (omega arith)
 one_at (x ∷ lines) zero d l = inl refl
 one_at (x ∷ lines) (suc n) d l = inr (one_at lines n d (omega arith))
 
+-- the line of a number is one of the puzzle's lines
 pub line_is_one : (p : Nonogram) (n : ℕ) → IsNonogram p → n < line_count p → IsOneOf (line_at p n) (lines_of p)
 line_is_one p n is l = one_at (lines_of p) n _ (omega (arith, count_lines p is))

@@ -1,3 +1,4 @@
+-- What grids know together, in the order of what is known.
 use Rattle.std.proofs.Common.{◌≡◌, ℕ, List, [], ◌∷◌, length, Option, Some, None, refl, sym, arith, option_and_then}
 use Rattle.std.specs.List.{AllByRecursion}
 use Rattle.grid_core.specs.declared.cells.Cell.{Cell}
@@ -71,11 +72,12 @@ join-least (c ∷ a) (d ∷ b) (e ∷ z) h k =
     let rest = join-least a b z h.1 k.1 in
     (cell.0 ∷ rest.0, rw (cell.1, rest.1) refl, (cell.2, rest.2))
 
--- each of several is no longer and no shorter than n cells, or dead
+-- a grid has `n` cells, or is dead
 abbrev pub HasLength : ℕ → Option (List Cell) → Type 0
 HasLength n None = Unit {0}
 HasLength n (Some g) = length g ≡ n
 
+-- what a grid knows together with others is above the grid, if each of them is as long, or dead
 pub join_all-above : (g : List Cell) (os : List (Option (List Cell))) → AllByRecursion (HasLength (length g)) os →
     AtMost (Some g) (join_all g os)
 join_all-above g [] h = Extends-refl g
@@ -87,6 +89,7 @@ join_all-above g (Some d ∷ os) h =
     ]
     (join-left g d (sym h.0))
 
+-- a grid that is above each of several is above what they know together
 pub join_all-least : (g z : List Cell) (os : List (Option (List Cell))) → Extends g z → AllByRecursion (λ o. AtMost o (Some z)) os →
     AtMost (join_all g os) (Some z)
 join_all-least g z [] h k = h

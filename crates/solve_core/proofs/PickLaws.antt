@@ -9,7 +9,8 @@ use Rattle.solve_core.specs.Search.{IsPick}
 use Rattle.solve_core.proofs.LineSteps.{before_or_from, same_or_not}
 use Rattle.solve_core.proofs.SearchLaws.{first_unknown-IsPick}
 
--- of so many places from a given one on, a place passes the test, no more counts for any other that does, and less for those before it; or none does
+-- of the `n` places from `start` on, the place passes the test, no other one that passes scores more, and
+-- those before it that pass score less; or none passes
 abbrev pub IsFirstMost : (ℕ → ℕ) → (ℕ → Bool) → ℕ → ℕ → Option ℕ → Type 0
 IsFirstMost score passes start n None = (j : ℕ) → start ≤ j → j < start + n → passes j ≡ false
 IsFirstMost score passes start n (Some k) =
@@ -17,6 +18,7 @@ IsFirstMost score passes start n (Some k) =
     × ((j : ℕ) → start ≤ j → j < start + n → passes j ≡ true → score j ≤ score k)
     × ((j : ℕ) → start ≤ j → j < k → passes j ≡ true → score j < score k)
 
+-- the search for the first place with the highest score finds it, or none if no place passes
 pub first_most-is : (score : ℕ → ℕ) (passes : ℕ → Bool) (start n : ℕ) → IsFirstMost score passes start n (first_most score passes start n)
 first_most-is score passes start zero = λ j l m. absurd (omega arith)
 first_most-is score passes start (suc n) =
@@ -77,7 +79,7 @@ first_most-is score passes start (suc n) =
       ],
     )
 
--- there is only one such place
+-- there is only one first place with the highest score
 pub first_most-only : (score : ℕ → ℕ) (passes : ℕ → Bool) (start n : ℕ) (a b : Option ℕ) → IsFirstMost score passes start n a →
     IsFirstMost score passes start n b → a ≡ b
 first_most-only score passes start n None None x y = refl

@@ -140,7 +140,7 @@ row-none score passes s w (Some k) h none = (
   λ j l m p. h.4 j l m p,
 )
 
--- and if one does, the first of those for which the most counts is the best
+-- if enough counts for a place of a row, the first of those for which the most counts is the best
 pub row-some : (score : ℕ → ℕ) (passes : ℕ → Bool) (s w x : ℕ) (best : Option ℕ) → IsFirstMost score passes 0 s best → x < w →
     passes (s + x) ≡ true → least_after score best ≤ score (s + x)
     → ((z : ℕ) → z < w → passes (s + z) ≡ true → score (s + z) ≤ score (s + x)) →
@@ -167,11 +167,12 @@ row-some score passes s w x best h lx here least most earliest = (
     before None h least j l p = absurd (true≢false (sym p ∙ h j (omega arith) (omega arith)))
     before (Some k) h least j l p = let up = h.3 j (omega arith) (omega arith) p in omega (arith, up, least)
 
--- the best place after one more row, and how much a later one has to count for
+-- the best place after one more row
 abbrev pub best_after : ℕ → Option ℕ → Option (ℕ × ℕ) → Option ℕ
 best_after first best None = best
 best_after first best (Some found) = Some (first + found.1)
 
+-- how much has to count for a place after one more row to be better
 abbrev pub least_then : ℕ → Option (ℕ × ℕ) → ℕ
 least_then least None = least
 least_then least (Some found) = found.0 + 1
@@ -263,7 +264,7 @@ pub cell-none : (score : ℕ → ℕ) (passes : ℕ → Bool) (s : ℕ) (best : 
 cell-none score passes s best h few =
     row-none score passes s 1 best h (λ x lx p. (let at : s + x ≡ s = omega (arith, only-one x lx) in rw at (few (rw at at p))))
 
--- and one for which enough does is the best
+-- an unknown cell for which enough counts is the best
 pub cell-some : (score : ℕ → ℕ) (passes : ℕ → Bool) (s : ℕ) (best : Option ℕ) → IsFirstMost score passes 0 s best → passes s ≡ true →
     least_after score best ≤ score s
     → IsFirstMost score passes 0 (s + 1) (Some s)
@@ -278,7 +279,7 @@ one_at_most : (b : Bool) → cond b 1 0 ≤ 1
 one_at_most true = omega arith
 one_at_most false = omega arith
 
--- there are four neighbours
+-- at most four neighbours of a cell are known or outside the grid
 pub score-few : (w : ℕ) (cells : List Cell) (k : ℕ) → sure_neighbours w cells k ≤ 4
 score-few w cells k = omega (
   arith,

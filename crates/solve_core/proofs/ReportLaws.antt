@@ -1,3 +1,4 @@
+-- The report on a puzzle, by its two closures and by how its search ends.
 use Rattle.std.proofs.Common.{◌≡◌, ℕ, zero, suc, ◌+◌, ◌≤◌, Bool, true, false, List, [], ◌∷◌, ◌++◌, length, map, Option, Some, None, nat_lt, refl, sym, ap, ◌∙◌, arith, subst, ltb-true, ltb-false, true≢false, zero-add, option_and_then, count_by}
 use Rattle.std.specs.List.{list_all}
 use Rattle.grid_core.specs.Cells.{is_known}
@@ -118,7 +119,7 @@ report-is pick p limit =
       spent = z i;
     })
 
--- where the closures are known, so is the report
+-- if the two closures are known, so is the report
 pub report-by : (pick : List Cell → Option ℕ) (p : Nonogram) (limit : ℕ) (closed tried : Option (List Cell)) → closed ≡ line_closure p →
     tried ≡ trial_closure p
     → report_by pick p limit closed tried ≡ report_of pick p limit
@@ -138,7 +139,7 @@ ending-final p (a ∷ []) spent left (Solution c ∷ es) h = refl
 ending-final p (a ∷ []) spent zero (Guess ∷ es) h = absurd h
 ending-final p (a ∷ []) spent (suc left) (Guess ∷ es) h = ending-final p (a ∷ []) (suc spent) left es h
 
--- and a greater limit changes nothing of it
+-- a greater limit changes nothing of the end of a search that wasn't cut short
 ending-greater : (p : Nonogram) (found : List PartialGrid) (spent left greater : ℕ) (es : List Event) → left ≤ greater
     → (ending p found spent left es).cut ≡ false → ending p found spent greater es ≡ ending p found spent left es
 ending-greater p (a ∷ b ∷ more) spent left greater es l h = refl
@@ -154,7 +155,7 @@ ending-greater p (a ∷ []) spent (suc left) zero (Guess ∷ es) l h = absurd (o
 ending-greater p (a ∷ []) spent (suc left) (suc greater) (Guess ∷ es) l h =
     ending-greater p (a ∷ []) (suc spent) left greater es (omega arith) h
 
--- where the verdict is final, the report is the same for every greater limit
+-- if the verdict is final, the report is the same for every greater limit
 pub report-greater : (pick : List Cell → Option ℕ) (p : Nonogram) (limit greater : ℕ) → limit ≤ greater →
     IsFinal (report_of pick p limit).verdict → report_of pick p greater ≡ report_of pick p limit
 report-greater pick p limit greater l h =

@@ -1,3 +1,4 @@
+-- What a search finds: every solution that extends the grid, nothing else, and none twice.
 use Rattle.std.proofs.Common.{◌≡◌, ℕ, zero, suc, ◌+◌, ◌<◌, ◌≤◌, ◌⊎◌, inl, inr, Bool, true, false, cond, List, [], ◌∷◌, ◌++◌, length, get_or, set, map, Option, Some, None, position, refl, sym, ap, ◌∙◌, arith, subst, length-set, true≢false, add-one, take}
 use Rattle.std.specs.List.{position_from}
 use Rattle.std.proofs.lemmas.List.Quantifiers.{position-Some}
@@ -33,6 +34,7 @@ solutions_in-append [] fs = refl
 solutions_in-append (Guess ∷ es) fs = solutions_in-append es fs
 solutions_in-append (Solution s ∷ es) fs = λ i. s ∷ solutions_in-append es fs i
 
+-- a cell of which nothing is known is `Unknown`
 pub unknown_is : (c : Cell) → is_unknown c ≡ true → c ≡ Unknown
 unknown_is Unknown h = refl
 unknown_is Filled h = cc
@@ -68,7 +70,7 @@ none_from p i (x ∷ xs) e k l = cases (p x) refl e k l (λ e' k' l'. none_from 
     cases false is e' zero l' ih = is
     cases false is e' (suc j) l' ih = ih e' j (omega arith)
 
--- where no place passes, none does
+-- if no place is found, none passes
 position-None : (p : Cell → Bool) (xs : List Cell) → position p xs ≡ None → (k : ℕ) → k < length xs → p (get_or xs k Unknown) ≡ false
 position-None p xs e k l = none_from p 0 xs (sym (position_from-zero p xs) ∙ e) k l
 
@@ -87,6 +89,7 @@ set_within (x ∷ g) [] k d h e = absurd h
 set_within (x ∷ g) (y ∷ z) zero d h e = (e, h.1)
 set_within (x ∷ g) (y ∷ z) (suc k) d h e = (h.0, set_within g z k d h.1 e)
 
+-- a grid that knows no less has no more unknown cells
 pub unknown_count-more : (g z : List Cell) → Extends g z → unknown_count z ≤ unknown_count g
 unknown_count-more g z h = elim (fewer_unknown g z h) [ inl e ↦ omega (arith, ap unknown_count e) | inr l ↦ omega arith ]
 
@@ -128,7 +131,7 @@ found_at pick lawful below n c full h u ih (Some k) e =
     (ih (set c k (colour b)) (omega arith) (set_within c (map colour full) k (colour b) h
     (equal_extends (get_or (map colour full) k Unknown) (colour b) (sym same))))
 
--- the search finds every solution that extends the grid
+-- a search deeper than there are unknown cells finds every solution that extends the grid
 pub found_within : (pick : List Cell → Option ℕ) (lawful : IsPick pick) → (lines : List GridLine) (full : List Bool) →
     MeetsLines lines full → (n : ℕ) (g : List Cell) → unknown_count g < n → Extends g (map colour full) →
     IsAmong (map colour full) (solutions_in (events_within pick n lines g))
@@ -146,6 +149,7 @@ found_within pick lawful lines full m (suc n) g u h =
         let fewer : unknown_count c ≤ unknown_count g = unknown_count-more g c above in
         found_at pick lawful (events_within pick n lines) n c full below (omega arith) ih (pick c) refl
 
+-- the whole search from a grid finds every solution that extends it
 pub found : (pick : List Cell → Option ℕ) (lawful : IsPick pick) → (lines : List GridLine) (full : List Bool) → MeetsLines lines full →
     (g : List Cell) → Extends g (map colour full) → IsAmong (map colour full) (solutions_in (events pick lines g))
 found pick lawful lines full m g h = found_within pick lawful lines full m (length g + 1) g (omega (arith, unknown_count-le g)) h
@@ -157,7 +161,7 @@ full_is (Unknown ∷ c) h = absurd (true≢false (h 0 (omega arith)))
 full_is (Filled ∷ c) h = λ i. Filled ∷ full_is c (λ k l. h (suc k) (omega arith)) i
 full_is (Blank ∷ c) h = λ i. Blank ∷ full_is c (λ k l. h (suc k) (omega arith)) i
 
--- what is found is a solution that extends the grid
+-- `s` is a full grid that meets the lines and extends `g`
 pub record IsSolutionAbove (lines : List GridLine) (g s : List Cell) : Type 0 where
   pub full : List Bool
   pub is : s ≡ map colour full
@@ -181,6 +185,7 @@ guess_solutions below c k = solutions_in-append (Guess ∷ below (set c k Filled
 weaker : (lines : List GridLine) (g z s : List Cell) → Extends g z → IsSolutionAbove lines z s → IsSolutionAbove lines g s
 weaker lines g z s h r = record { full = r.full; is = r.is; meets = r.meets; extends = Extends-trans g z s h r.extends }
 
+-- what a search of some depth finds is a solution that extends the grid, if the lines are in the grid
 pub sound_within : (pick : List Cell → Option ℕ) (lawful : IsPick pick) → (lines : List GridLine) (n : ℕ) (g s : List Cell) →
     AreInRange (length g) lines → IsAmong s (solutions_in (events_within pick n lines g)) → IsSolutionAbove lines g s
 sound_within pick lawful lines zero g s r h = absurd h
@@ -253,7 +258,7 @@ events_within-enough pick lawful lines (suc n) (suc m) g h k =
     (closure-IsLeastClosed lines g).above
     (λ z l u. events_within-enough pick lawful lines n m z (omega arith) (omega arith))
 
--- so the whole search goes on below each guess as a whole search
+-- the whole search goes on below each guess as a whole search
 pub events-unfold : (pick : List Cell → Option ℕ) (lawful : IsPick pick) → (lines : List GridLine) (g : List Cell) →
     events pick lines g ≡ search_from pick (events pick lines) (closure lines g)
 events-unfold pick lawful lines g =
@@ -263,6 +268,7 @@ events-unfold pick lawful lines g =
     (λ z l u. events_within-enough pick lawful lines (length g) (length z + 1) z (omega (arith, unknown_count-le g))
     (omega (arith, unknown_count-le z))))
 
+-- no grid is in the list twice
 abbrev pub AreDistinct : List (List Cell) → Type 0
 AreDistinct [] = Unit {0}
 AreDistinct (x ∷ xs) = (IsAmong x xs → ⊥) × AreDistinct xs
@@ -333,7 +339,7 @@ distinct_within pick lawful lines (suc n) g = from (closure lines g) (distinct_w
     from None ih = tt
     from (Some c) ih = at c (pick c) refl ih
 
--- what is among the first events is among all
+-- the solutions among the events up to the `n`-th solution are the first `n`
 pub solutions_through : (n : ℕ) (es : List Event) → solutions_in (through_solution n es) ≡ take n (solutions_in es)
 solutions_through zero es = refl
 solutions_through (suc n) [] = refl

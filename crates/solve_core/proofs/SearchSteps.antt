@@ -1,3 +1,4 @@
+-- What happens below a guess, and at which cell the next one is made.
 use Rattle.std.proofs.Common.{◌≡◌, ◌≢◌, ℕ, zero, suc, ◌+◌, ◌<◌, ◌≤◌, inl, inr, List, [], ◌∷◌, ◌++◌, length, get_or, set, refl, sym, ap, ◌∙◌, arith, subst, Option, Some, None, IfSome, true, false, Bool, cond, position, true≢false, get_or-set_other}
 use Rattle.std.specs.List.{position_from}
 use Rattle.std.proofs.lemmas.List.Quantifiers.{position-Some}
@@ -26,7 +27,7 @@ pub dead-events : (pick : List Cell → Option ℕ) (lawful : IsPick pick) (line
 dead-events pick lawful lines g rest closed =
     ap (λ es. es ++ rest) (ap (search_from pick (events pick lines)) closed ∙ sym (events-unfold pick lawful lines g))
 
--- and below another one the search goes on in the closed cells
+-- below a guess that closing doesn't refute the search goes on in the closed cells
 pub alive-events : (pick : List Cell → Option ℕ) (lawful : IsPick pick) (lines : List GridLine) (g now : List Cell) (rest : List Event)
     → Some now ≡ closure lines g → guess_at (events pick lines) now (pick now) ++ rest ≡ events pick lines g ++ rest
 alive-events pick lawful lines g now rest closed =
@@ -36,6 +37,7 @@ alive-events pick lawful lines g now rest closed =
 pub closed-closure : (lines : List GridLine) (cells : List Cell) → IsClosed lines cells → closure lines cells ≡ Some cells
 closed-closure lines cells h = repeat-fixed (round lines) (length cells + 1) cells h
 
+-- the closure of a grid is closed
 pub closure-closed : (lines : List GridLine) (g now : List Cell) → Some now ≡ closure lines g → IsClosed lines now
 closure-closed lines g now e = (closure-IsLeastClosed lines g).closed now (sym e)
 
@@ -45,7 +47,7 @@ pub next-unknown : (pick : List Cell → Option ℕ) (lawful : IsPick pick) (lin
     → (k < length cells) × (get_or cells k Unknown ≡ Unknown)
 next-unknown pick lawful lines cells k h = let at = lawful.within cells k h.0 in (at.0, unknown_is (get_or cells k Unknown) at.1)
 
--- so there is one
+-- if a cell is unknown, the number of unknown cells isn't 0
 pub unknown_count-positive : (cells : List Cell) (k : ℕ) → k < length cells → get_or cells k Unknown ≡ Unknown → 0 < unknown_count cells
 unknown_count-positive [] k l e = absurd (omega arith)
 unknown_count-positive (Unknown ∷ cells) k l e = omega arith
@@ -61,13 +63,14 @@ pub open-unknown : (pick : List Cell → Option ℕ) (lawful : IsPick pick) (lin
 open-unknown pick lawful lines cells None h = tt
 open-unknown pick lawful lines cells (Some place) h = next-unknown pick lawful lines cells place h
 
--- where a cell is to be guessed, there are no more branches than settled cells
+-- if a cell is to be guessed, there are no more branches than settled cells
 pub open-older : (pick : List Cell → Option ℕ) (lines : List GridLine) (cells : List Cell) (trail : List ℕ) (branches : List Branch)
     (next : Option ℕ)
     → IsWork pick lines cells trail branches → AreOlder trail branches next → next ≢ None → length branches ≤ length trail
 open-older pick lines cells trail branches None w o n = absurd (n refl)
 open-older pick lines cells trail branches (Some place) w o n = branch-count (length trail) branches w.order o
 
+-- if there is no branch, all branches are older than what was settled last
 pub older-none : (trail : List ℕ) (branches : List Branch) (next : Option ℕ) → branches ≡ [] → AreOlder trail branches next
 older-none trail branches None e = tt
 older-none trail branches (Some k) e = subst (λ (bs : List Branch). AreOlder trail bs (Some k)) (sym e) tt

@@ -1,3 +1,4 @@
+-- Deducing one line after the other stays below the closure, and ends in it.
 use Rattle.std.proofs.Common.{◌≡◌, ◌⊎◌, inl, inr, List, [], ◌∷◌, map, Option, Some, None, refl, subst}
 use Rattle.std.specs.List.{AllByRecursion}
 use Rattle.grid_core.specs.declared.cells.Cell.{Cell}
@@ -50,7 +51,7 @@ each_same : (g : List Cell) (lines : List GridLine) → AllByRecursion (λ line.
 each_same g [] h = tt
 each_same g (line ∷ lines) h = (rw (h.0) (Extends-refl g), each_same g lines h.1)
 
--- where no line has more to give, the grid is the closure
+-- if no line has more to give, the grid is the closure
 pub done_within : (lines : List GridLine) (first g : List Cell) → Extends first g → AtMost (Some g) (closure lines first) →
     AllByRecursion (λ line. deduce_line g line ≡ Some g) lines → closure lines first ≡ Some g
 done_within lines first g h below each =

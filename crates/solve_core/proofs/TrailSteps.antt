@@ -9,10 +9,12 @@ use Rattle.grid_core.specs.Nonogram.{Nonogram}
 use Rattle.solve_core.specs.Boards.{IsBoardOf}
 use Rattle.solve_core.specs.Trails.{TrailedGrid, unknown_count, cleared, IsFullTrail, IsTrailed}
 
+-- clearing the places of two lists clears those of the second one first
 pub cleared-append : (cells : List Cell) (ks js : List ℕ) → cleared cells (ks ++ js) ≡ cleared (cleared cells js) ks
 cleared-append cells [] js = refl
 cleared-append cells (k ∷ ks) js = ap (λ (cs : List Cell). set cs k Unknown) (cleared-append cells ks js)
 
+-- clearing places leaves as many cells
 pub length-cleared : (cells : List Cell) (ks : List ℕ) → length (cleared cells ks) ≡ length cells
 length-cleared cells [] = refl
 length-cleared cells (k ∷ ks) = length-set (cleared cells ks) k Unknown ∙ length-cleared cells ks
@@ -54,6 +56,7 @@ set-back [] k c e = refl
 set-back (x ∷ g) zero c e = ap (λ (r : Cell). r ∷ g) (sym e)
 set-back (x ∷ g) (suc k) c e = ap (λ (r : List Cell). x ∷ r) (set-back g k c e)
 
+-- settling an unknown cell leaves one unknown cell fewer
 pub count-settled : (g : List Cell) (k : ℕ) (c : Cell) → k < length g → get_or g k Unknown ≡ Unknown → is_known c ≡ true →
     1 + unknown_count (set g k c) ≡ unknown_count g
 count-settled [] k c h e n = absurd (omega arith)
@@ -81,6 +84,7 @@ trailed-one g after k c h e n w t a b = record {
   count = rw a (count-settled g.cells k c h e n);
 }
 
+-- no more cells are unknown than there are cells
 pub unknown_count-at_most : (g : List Cell) → unknown_count g ≤ length g
 unknown_count-at_most [] = omega arith
 unknown_count-at_most (Unknown ∷ g) = omega (arith, unknown_count-at_most g)

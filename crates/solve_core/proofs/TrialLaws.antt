@@ -1,3 +1,4 @@
+-- Trials end in the least trial-closed grid, and lose no solution.
 use Rattle.std.proofs.Common.{◌≡◌, ℕ, zero, suc, ◌+◌, ◌<◌, Bool, true, false, List, [], ◌∷◌, length, get_or, set, map, Option, Some, None, is_none, option_and_then, refl, sym, ◌∙◌, arith, slice_index_or, true≢false, add-zero, zero-add, subst}
 use Rattle.std.specs.List.{range_with_len}
 use Rattle.std.proofs.Math.ListN.{length-map}
@@ -49,6 +50,7 @@ all_above f n (c ∷ g) h =
     cons_above c g (f n) (all_present (map f (range_with_len (n + 1) (length g)))) (rw add-zero at (h 0 (omega arith)))
     (all_above f (n + 1) g (λ k l. let e : n + suc k ≡ n + 1 + k = omega arith in rw e at (h (suc k) (omega arith))))
 
+-- what trials say of the cells of a grid only adds to what is known
 pub tried_cells-above : (lines : List GridLine) (g : List Cell) → AtMost (Some g) (tried_cells lines g)
 tried_cells-above lines g =
     all_above (λ k. tried lines g k (get_or g k Unknown)) 0 g (λ k l. rw (zero-add k) (tried-above lines g k (get_or g k Unknown)))
@@ -63,6 +65,7 @@ cons_below None os c w h k = absurd h
 cons_below (Some d) None c w h k = absurd k
 cons_below (Some d) (Some g) c w h k = (h, k)
 
+-- cells that are there and below those of a grid, place by place, are below the grid as a whole
 pub all_below : (f : ℕ → Option Cell) (n : ℕ) (w : List Cell) → ((k : ℕ) → k < length w → OptionBelow (f (n + k)) (get_or w k Unknown)) →
     AtMost (all_present (map f (range_with_len n (length w)))) (Some w)
 all_below f n [] h = tt
@@ -76,7 +79,7 @@ cons_parts None os c w h = absurd h
 cons_parts (Some d) None c w h = absurd h
 cons_parts (Some d) (Some g) c w h = h
 
--- and back: what is below as a whole is below at each place
+-- what is below a grid as a whole is below it at each place
 pub each_below : (f : ℕ → Option Cell) (n : ℕ) (w : List Cell) → AtMost (all_present (map f (range_with_len n (length w)))) (Some w) →
     (k : ℕ) → k < length w → OptionBelow (f (n + k)) (get_or w k Unknown)
 each_below f n [] h k l = absurd (omega arith)
@@ -132,7 +135,7 @@ filled_if Unknown h = absurd h
 filled_if Filled h = refl
 filled_if Blank h = absurd h
 
--- where filled is refuted, the settled cell is blank
+-- if filled is refuted, the settled cell is blank
 left_blank : (lines : List GridLine) (z : List Cell) (k : ℕ) (c w : Cell) → CellExtends c w → OptionBelow (tried lines z k c) w →
     is_refuted lines z k Filled ≡ true → (CellExtends Filled w → ⊥) → w ≡ Blank
 left_blank lines z k Unknown w h b r n = blank_if w (by (is_refuted lines z k Blank) (rw r at b))
@@ -190,6 +193,7 @@ tried_cells-below lines g z w gz zw closed below =
     (tried-below lines g z w k (get_or g k Unknown) gz zw closed l (Extends-at g w k (Extends-trans g z w gz zw))
     (rw (zero-add k) at (each_below at_z 0 w each k l)))))
 
+-- what closing gives after trials is line-closed, and above what the trials say
 pub after_trials : (lines : List GridLine) (z w : List Cell) (o : Option (List Cell)) → option_and_then (closure lines) o ≡ Some w →
     AtMost o (Some w) × (round lines w ≡ Some w)
 after_trials lines z w None e = cc

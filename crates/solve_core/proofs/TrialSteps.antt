@@ -1,3 +1,4 @@
+-- What a trial's outcome says of a cell, and what settling the cell leaves of the trials' end.
 use Rattle.std.proofs.Common.{◌≡◌, ℕ, zero, suc, ◌+◌, ◌<◌, inl, inr, Bool, true, false, List, [], ◌∷◌, length, get_or, set, Option, Some, None, is_none, refl, sym, ap, ◌∙◌, arith, subst, zero-add, true≢false}
 use Rattle.grid_core.specs.declared.cells.Cell.{Cell}
 use Rattle.grid_core.specs.declared.cells.Cell.TheVariants.{Unknown, Filled, Blank}
@@ -34,6 +35,7 @@ closure_below lines g = to (trials lines g) (trials-IsLeastClosed lines g)
     to None l = tt
     to (Some w) l = (closure-IsLeastClosed lines g).least w (trial_closed-round lines w (l.closed w refl)) l.above
 
+-- trials from the closure of a grid end as they do from the grid
 pub closure_trials : (lines : List GridLine) (g new : List Cell) → closure lines g ≡ Some new → trials lines new ≡ trials lines g
 closure_trials lines g new e = trials_between lines g new (rw e at ((closure-IsLeastClosed lines g).above))
     (rw e at (closure_below lines g))
@@ -42,6 +44,7 @@ none_only : (o : Option (List Cell)) → AtMost None o → o ≡ None
 none_only None h = refl
 none_only (Some z) h = absurd h
 
+-- if the closure of a grid is dead, its trials end dead
 pub closure_dead : (lines : List GridLine) (g : List Cell) → closure lines g ≡ None → trials lines g ≡ None
 closure_dead lines g e = none_only (trials lines g) (rw e at (closure_below lines g))
 
@@ -76,7 +79,7 @@ tried_at_end lines g w k closed gw l =
     rw (zero-add k) at (each_below at 0 w after.0 k l) in
     tried-below lines g w w k Unknown gw (Extends-refl w) after.1 l tt here
 
--- where filled is refuted, the grid with the cell blank is below the trials' end
+-- if filled is refuted, the grid with the cell blank is below the trials' end
 pub blank_below : (lines : List GridLine) (g : List Cell) (k : ℕ) → k < length g → is_refuted lines g k Filled ≡ true →
     AtMost (Some (set g k Blank)) (trials lines g)
 blank_below lines g k l r = to (trials lines g) (trials-IsLeastClosed lines g)
@@ -89,6 +92,7 @@ blank_below lines g k l r = to (trials lines g) (trials-IsLeastClosed lines g)
         tried_at_end lines g w k (law.closed w refl) law.above within in
         set_within g w k Blank law.above (left_blank_below (is_refuted lines g k Blank) (get_or w k Unknown) (rw r at here))
 
+-- if blank is refuted, the grid with the cell filled is below the trials' end
 pub filled_below : (lines : List GridLine) (g : List Cell) (k : ℕ) → k < length g → is_refuted lines g k Blank ≡ true →
     AtMost (Some (set g k Filled)) (trials lines g)
 filled_below lines g k l r = to (trials lines g) (trials-IsLeastClosed lines g)
@@ -109,7 +113,7 @@ tried_stays lines z k Unknown h =
 tried_stays lines z k Filled h = tt
 tried_stays lines z k Blank h = tt
 
--- a line-closed grid where no unknown cell has a refuted colour is trial-closed
+-- a line-closed grid in which no unknown cell has a refuted colour is trial-closed
 pub tried-closed : (lines : List GridLine) (z : List Cell) → round lines z ≡ Some z → ((k : ℕ) → k < length z → IsTried lines z k) →
     trial_round lines z ≡ Some z
 tried-closed lines z e h =
@@ -125,13 +129,13 @@ both_open true false h = absurd h
 both_open false true h = absurd h
 both_open false false h = (refl, refl)
 
--- and back
+-- in a trial-closed grid no unknown cell has a refuted colour
 pub closed-tried : (lines : List GridLine) (z : List Cell) → trial_round lines z ≡ Some z → (k : ℕ) → k < length z → IsTried lines z k
 closed-tried lines z e k l unknown =
     let here = tried_at_end lines z z k e (Extends-refl z) l in
     both_open (is_refuted lines z k Filled) (is_refuted lines z k Blank) (rw unknown at here)
 
--- where every unknown cell was tried the trials end
+-- if a line-closed grid has no unknown cell with a refuted colour, trials leave it as it is
 pub tried_ends : (lines : List GridLine) (z : List Cell) → round lines z ≡ Some z → ((k : ℕ) → k < length z → IsTried lines z k) →
     trials lines z ≡ Some z
 tried_ends lines z e h = repeat-fixed (trial_round lines) (length z + 1) z (tried-closed lines z e h)
@@ -177,17 +181,20 @@ settle-changed lines g new k c l unknown n below e =
       elim (fewer_unknown z new above) [ inl s ↦ omega (arith, ap unknown_count s, fewer) | inr m ↦ omega (arith, m, fewer) ],
     )
 
+-- if settling a cell as trials do leads to a dead closure, the trials end dead
 pub settle-dead : (lines : List GridLine) (g : List Cell) (k : ℕ) (c : Cell) → get_or g k Unknown ≡ Unknown →
     AtMost (Some (set g k c)) (trials lines g) → closure lines (set g k c) ≡ None → trials lines g ≡ None
 settle-dead lines g k c unknown below e = sym (trials_between lines g (set g k c) (set-extends g k c unknown) below) ∙
     closure_dead lines (set g k c) e
 
+-- a trial that came to `Refuted` refutes its colour
 pub trial-refuted : (r : Trial) (lines : List GridLine) (g trial : List Cell) (k : ℕ) (c : Cell) → r ≡ Refuted →
     IsTrialOf r lines g k c trial → is_refuted lines g k c ≡ true
 trial-refuted Refuted lines g trial k c e h = ap is_none h
 trial-refuted Open lines g trial k c e h = cc
 trial-refuted Closed lines g trial k c e h = cc
 
+-- the grid of a trial that came to `Closed` is the closure of the cells with its colour
 pub trial-closed : (r : Trial) (lines : List GridLine) (g trial : List Cell) (k : ℕ) (c : Cell) → r ≡ Closed →
     IsTrialOf r lines g k c trial → closure lines (set g k c) ≡ Some trial
 trial-closed Refuted lines g trial k c e h = cc
@@ -199,10 +206,12 @@ not_known Unknown e = refl
 not_known Filled e = cc
 not_known Blank e = cc
 
+-- if the cells are alive, the outcome is the cells
 pub alive_cells : (alive : Bool) (cells : List Cell) (o : Option (List Cell)) → alive ≡ true → if_alive alive cells ≡ o → o ≡ Some cells
 alive_cells true cells o e h = sym h
 alive_cells false cells o e h = absurd (true≢false (sym e))
 
+-- if the cells are dead, the outcome is none
 pub dead_cells : (alive : Bool) (cells : List Cell) (o : Option (List Cell)) → alive ≡ false → if_alive alive cells ≡ o → o ≡ None
 dead_cells true cells o e h = absurd (true≢false e)
 dead_cells false cells o e h = sym h

@@ -32,7 +32,7 @@ over-extends Unknown d = tt
 over-extends Filled d = tt
 over-extends Blank d = tt
 
--- where the other cell knows more
+-- if the other cell knows no less, it is the one that stands
 over_more : (c d : Cell) → CellExtends c d → over c d ≡ d
 over_more Unknown d h = refl
 over_more Filled Unknown h = absurd h
@@ -42,7 +42,7 @@ over_more Blank Unknown h = absurd h
 over_more Blank Filled h = absurd h
 over_more Blank Blank h = refl
 
--- where it knows less
+-- if the other cell knows no more, the first one stands
 over_less : (c d : Cell) → CellExtends d c → over c d ≡ c
 over_less Unknown Unknown h = refl
 over_less Unknown Filled h = absurd h
@@ -206,7 +206,7 @@ noted_known w k number Unknown n e = absurd (n (sym e))
 noted_known w k number Filled n e = refl
 noted_known w k number Blank n e = refl
 
--- A witness stays one where what was learned shares no line with it.
+-- A witness stays one if what was learned shares no line with it.
 apart_stays : (w : WitnessedPuzzle) (g new : List Cell) (number : ℕ) (learned : Crossed) → IsNonogram w.puzzle →
     length g ≡ w.puzzle.width * w.puzzle.height → round (lines_of w.puzzle) new ≡ Some new
     → Extends g new → DifferWithin w.puzzle.width g new learned → ShareNoLine ((witness_at w.witnesses number).lines) learned →
@@ -240,7 +240,7 @@ squeezed a b c k h l same =
 cell_itself : (c : Cell) → CellExtends c c
 cell_itself c = Extends-at (c ∷ []) (c ∷ []) 0 (Extends-refl (c ∷ []))
 
--- A witness stays one where it has the colour of the cell that was settled: so it knows all that was learned from it.
+-- A witness stays one if it has the colour of the settled cell: it knows all that was learned from that.
 holding_stays : (w : WitnessedPuzzle) (g new : List Cell) (number place : ℕ) (c : Cell) →
     closure (lines_of w.puzzle) (set g place c) ≡ Some new → Extends g new
     → get_or (met_by w c) place 0 ≡ number → IsWitness w g number → IsWitness w new number
@@ -270,7 +270,7 @@ elsewhere cells (q ∷ ks) k h =
     let ne : k ≢ q = (λ e. h 0 (omega arith) (sym e)) in
     get_or-set_other (cleared cells ks) q k Unknown Unknown ne ∙ elsewhere cells ks k (λ j l. h (suc j) (omega arith))
 
--- the lines of the places that lead back are those where the grids differ
+-- a grid and the one that some places lead back to differ only in the lines of these places
 pub cleared_within : (width : ℕ) (cells : List Cell) (ks : List ℕ) (lines : Crossed) →
     ((j : ℕ) → j < length ks → IsCrossed lines width (get_or ks j 0)) → DifferWithin width (cleared cells ks) cells lines
 cleared_within width cells ks lines crossed = record {
@@ -379,7 +379,7 @@ added_numbered w last n = record {
   within = λ k c. let before = n.within k c in omega (arith, length-append w.witnesses (last ∷ []));
 }
 
--- a number noted at a place where a trial has the colour
+-- a number is noted for filled at a place where the trial is filled
 pub meets-filled : (w : WitnessedPuzzle) (place number : ℕ) (trial : List Cell) → place < length w.fillable →
     get_or trial place Unknown ≡ Filled
     → AddsMet w (record w { fillable = set w.fillable place number }) number trial
@@ -405,6 +405,7 @@ meets-filled w place number trial h e = record {
         ]
     by k Blank = inl refl
 
+-- a number is noted for blank at a place where the trial is blank
 pub meets-blank : (w : WitnessedPuzzle) (place number : ℕ) (trial : List Cell) → place < length w.blankable →
     get_or trial place Unknown ≡ Blank
     → AddsMet w (record w { blankable = set w.blankable place number }) number trial
@@ -502,7 +503,7 @@ added_witnesses w new g trial last n size closed h differ are adds =
           ];
         }
 
--- where no witness but the first is left the numbers are those of witnesses, and none counts
+-- if no witness but the first is left, none counts, and so each that counts is alive
 pub no_witnesses : (w : WitnessedPuzzle) (cells : List Cell) → AreNumbered w → length cells ≡ w.puzzle.width * w.puzzle.height →
     length w.witnesses ≤ 1 → AreWitnesses w cells
 no_witnesses w cells n size few = with_colours w cells n size (λ number counts. elim (before_or_from number 1) [
@@ -517,7 +518,7 @@ zeros n k = let none : ℕ = 0 in elim (before_or_from k n) [
   | inr l ↦ get_or_past (replicate n none) k none (omega (arith, length-replicate n none))
 ]
 
--- the numbers where all but the first witness were dropped
+-- if all witnesses but the first are dropped and all numbers are 0, the numbers are those of witnesses
 pub forgotten : (w : WitnessedPuzzle) (fillable blankable : List ℕ) → AreNumbered w → fillable ≡ replicate (length w.fillable) 0 →
     blankable ≡ replicate (length w.blankable) 0
     → AreNumbered (record w { witnesses = take 1 w.witnesses; fillable = fillable; blankable = blankable })

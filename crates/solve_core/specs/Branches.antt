@@ -10,7 +10,7 @@ use Rattle.solve_core.specs.Closure.{round}
 use Rattle.solve_core.specs.Trails.{cleared}
 use Rattle.solve_core.specs.Search.{Event, Guess, events}
 
--- the cells as they were when the trail had so many places
+-- the cells as they were when the trail had `mark` places
 abbrev pub cells_before : List Cell → List ℕ → ℕ → List Cell
 cells_before cells trail mark = cleared cells (drop mark trail)
 
@@ -40,7 +40,7 @@ abbrev pub AreInOrder : List Branch → Type 0
 AreInOrder [] = Unit {0}
 AreInOrder (branch ∷ branches) = AllByRecursion (λ (later : Branch). branch.mark < later.mark) branches × AreInOrder branches
 
--- each branch was made before the trail had so many places
+-- each branch was made before the trail had `limit` places
 abbrev pub AreBefore : ℕ → List Branch → Type 0
 AreBefore limit branches = AllByRecursion (λ (branch : Branch). branch.mark < limit) branches
 
@@ -51,7 +51,7 @@ pub record IsWork (pick : List Cell → Option ℕ) (lines : List GridLine) (cel
   pub order : AreInOrder branches
   pub made : AllByRecursion (IsBranch pick lines cells trail) branches
 
--- where a cell is to be guessed, something was settled since each branch was made
+-- if a cell is to be guessed, something was settled since each branch was made
 abbrev pub AreOlder : List ℕ → List Branch → Option ℕ → Type 0
 AreOlder trail branches None = Unit {0}
 AreOlder trail branches (Some k) = AreBefore (length trail) branches
@@ -69,7 +69,7 @@ open_events pick lines cells None rest = rest
 open_events pick lines cells (Some k) rest =
     Guess ∷ (events pick lines (slice_set cells k Filled) ++ (Guess ∷ (events pick lines (slice_set cells k Blank) ++ rest)))
 
--- what is still to happen where a guess is to be made at once, or none is left
+-- what is still to happen if a guess is to be made at once, or none is left
 abbrev pub ready_events : (List Cell → Option ℕ) → List GridLine → List Cell → Option (ℕ × Cell) → List Event → List Event
 ready_events pick lines cells None rest = []
 ready_events pick lines cells (Some guess) rest = Guess ∷ (events pick lines (slice_set cells guess.0 guess.1) ++ rest)

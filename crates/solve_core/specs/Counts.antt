@@ -24,13 +24,15 @@ IsKnownCell cells i = (i < length cells) × (is_known (slice_index_or cells i Un
 abbrev pub is_sure : Bool → Cell → Bool
 is_sure outside cell = outside || is_known cell
 
--- how many neighbours of a row's cell are known or outside the grid, given for each cell whether the one above is, and the one below
+-- how many neighbours of a row's cell are known or outside the grid,
+-- given for each cell whether the one above is, and the one below
 abbrev pub row_score : List Cell → (ℕ → Bool) → (ℕ → Bool) → ℕ → ℕ
 row_score row above below x =
     two_of (is_sure (nat_eq x 0) (slice_index_or row (x - 1) Unknown))
     (is_sure (nat_eq (x + 1) (length row)) (slice_index_or row (x + 1) Unknown)) + two_of (above x) (below x)
 
--- of the unknown cells of a row the first of those for which the most counts, and how many, if these are as many as wanted
+-- of the unknown cells of a row, the first of those for which the most counts, and how much that is,
+-- if it is at least `least`
 abbrev pub IsMostInRow : List Cell → (ℕ → Bool) → (ℕ → Bool) → ℕ → Option (ℕ × ℕ) → Type 0
 IsMostInRow row above below least None = (x : ℕ) → IsUnknownCell row x → row_score row above below x < least
 IsMostInRow row above below least (Some found) =

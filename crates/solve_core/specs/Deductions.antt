@@ -16,7 +16,8 @@ IsDeductionOf p d = d.answer ≡ deduced d.line (line_at p d.number).clue
 abbrev pub IsKeptFrom : {W : Type 0} → List (Deduction W) → Deduction W → Deduction W → Type 0
 IsKeptFrom old new d = (d ≡ new) ⊎ Contains old d
 
--- what is kept with the deductions of a puzzle: each is one, there is room for so many, and for so many groups of slots, and sets of the width have room for the puzzle
+-- what is kept with the deductions of a puzzle: sets of `width` places have room for the puzzle, the list and
+-- the groups of slots have room for `room` deductions, 1 to `MOST_REMEMBERED`, and each deduction is right
 pub record AreDeductionsOf {W : Type 0} (p : Nonogram) (width room slots_room kept_room : ℕ) (kept : List (Deduction W)) : Type 0 where
   pub fits : FitsIn width p
   pub some : 1 ≤ room

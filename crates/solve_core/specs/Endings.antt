@@ -5,13 +5,15 @@ use Rattle.grid_core.specs.Nonogram.{Nonogram}
 use Rattle.solve_core.specs.Search.{Event, Guess, Solution}
 use Rattle.solve_core.specs.Report.{grid_of}
 
--- how a search ends: the solutions that it found, whether the limit on guesses cut it short, and how many guesses it spent
+-- how a search ends: the solutions that it found, whether the limit on guesses cut it short,
+-- and how many guesses it spent
 pub record Ending : Type 0 where
   pub found : List PartialGrid
   pub cut : Bool
   pub spent : ℕ
 
--- how a search ends that has found these grids, has spent so many guesses, has so many left, and goes on with these events
+-- how a search ends that has found these grids, has spent `spent` guesses and has `left` more,
+-- and goes on with the events `es`
 abbrev pub ending : Nonogram → List PartialGrid → ℕ → ℕ → List Event → Ending
 ending p (first ∷ second ∷ more) spent left es = record { found = first ∷ second ∷ more; cut = false; spent = spent }
 ending p [] spent left [] = record { found = []; cut = false; spent = spent }

@@ -17,15 +17,16 @@ owed_by pick p branches g = pending pick (lines_of p) g.cells g.trail branches
 abbrev pub owed : (List Cell → Option ℕ) → Nonogram → List Branch → TrailedGrid → Option ℕ → List Event
 owed pick p branches g next = open_events pick (lines_of p) g.cells next (owed_by pick p branches g)
 
--- the search can go on: each branch's guess was the next one of its cells, and so is that of the cell to guess, if any
+-- the search can go on: each branch's guess was the next one of its cells,
+-- and so is that of the cell to guess, if any
 pub record IsUnderWay (pick : List Cell → Option ℕ) (p : Nonogram) (branches : List Branch) (g : TrailedGrid)
     (next : Option ℕ) : Type 0 where
   pub work : IsWork pick (lines_of p) g.cells g.trail branches
   pub older : AreOlder g.trail branches next
   pub next_open : IsOpen pick (lines_of p) g.cells next
 
--- A guess of which these events come was made. The search is under way, and it ends with what it has found and owes then as with what it had
--- found, these events, and what the branches owed. No more is owed.
+-- A guess from which the events `es` come was made. The search is under way, and with what it has found and
+-- owes it ends as with what it had found, with `es`, and with what the branches owed. No more is owed.
 pub record GoesOn (pick : List Cell → Option ℕ) (p : Nonogram) (es : List Event) (branches : List Branch) (old : TrailedGrid)
     (before : List PartialGrid)
     (new : TrailedGrid) (after : List PartialGrid) (next : Option ℕ) : Type 0 where

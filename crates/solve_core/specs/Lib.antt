@@ -1,3 +1,4 @@
+-- The definitions that the contracts cite.
 pub mod Closure
 pub mod LeastClosed
 pub mod Trials

@@ -23,7 +23,8 @@ pub record AreMarks (most height width rows columns : ℕ) : Type 0 where
   pub rows_within : (i : ℕ) → Has rows i → i < height
   pub columns_within : (i : ℕ) → Has columns i → i < width
 
--- the lines that cross these places were marked where something holds of them, and no others; no mark was taken away
+-- no mark was taken away, only lines that cross at these places were marked,
+-- and each of them was marked if `P` holds of its place
 pub record MarksPlaces (places : Places) (P : ℕ → Type 0) (before after : List Bool) : Type 0 where
   pub kept : (n : ℕ) → slice_index_or after n false ≡ false → slice_index_or before n false ≡ false
   pub others : (n : ℕ) → (places.crossing ≤ n → places.crossing + places.count ≤ n) →

@@ -11,8 +11,8 @@ line_count p = p.height + p.width
 abbrev pub line_at : Nonogram → ℕ → GridLine
 line_at p n = slice_index_or (lines_of p) n (record { places = []; clue = [] })
 
--- where the cells of that line are in a grid of this size: one after the other in a row, a row apart in a column.
--- A row is crossed by all columns, and a column by all rows
+-- where the cells of that line are in a grid of this size: one after the other in a row, a row apart in a
+-- column. A row is crossed by all columns, and a column by all rows
 abbrev pub places_in : ℕ → ℕ → ℕ → Places
 places_in width height n =
     cond (nat_lt n height)

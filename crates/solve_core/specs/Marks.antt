@@ -15,7 +15,7 @@ use Rattle.solve_core.specs.declared.trials.Trial.TheVariants.{Refuted, Open, Cl
 use Rattle.solve_core.specs.declared.closures.Progress.{Progress}
 use Rattle.solve_core.specs.declared.closures.Progress.TheVariants.{Dead, Same, Changed}
 
--- the cells, or none where they are dead
+-- the cells, or none if they are dead
 abbrev pub if_alive : Bool → List Cell → Option (List Cell)
 if_alive true cells = Some cells
 if_alive false cells = None
@@ -30,13 +30,15 @@ pub record IsWritten (line : GridLine) (old new : List Cell) : Type 0 where
   pub is_certain : deduced (cells_at Unknown old line.places) line.clue ≡ Some certain
   pub written : new ≡ with_cells old line.places certain
 
--- what became of the cells by deducing a line: it is dead, it had nothing more to give, or what is certain of it was written
+-- what became of the cells by deducing a line: it is dead, it had nothing more to give,
+-- or what is certain of it was written
 abbrev pub IsLearned : Progress → GridLine → List Cell → List Cell → Type 0
 IsLearned Dead line old new = deduced (cells_at Unknown old line.places) line.clue ≡ None
 IsLearned Same line old new = (new ≡ old) × IsSettled old line
 IsLearned Changed line old new = IsWritten line old new × (unknown_count new < unknown_count old)
 
--- no mark was taken away, only lines that cross at these places were marked, and each of them where the cell there changed
+-- no mark was taken away, only lines that cross at these places were marked,
+-- and each of them was marked if the cell there changed
 pub record MarksChanges (places : Places) (old new : List Cell) (before after : List Bool) : Type 0 where
   pub kept : (n : ℕ) → slice_index_or after n false ≡ false → slice_index_or before n false ≡ false
   pub others : (n : ℕ) → (places.crossing ≤ n → places.crossing + places.count ≤ n) →
@@ -91,7 +93,7 @@ pub record IsAtRest (m : MarkedPuzzle) (cells : List Cell) : Type 0 where
 abbrev pub AreOpen : List GridLine → List Cell → Cell → List Bool → Type 0
 AreOpen lines cells colour marks = (k : ℕ) → slice_index_or marks k false ≡ true → is_refuted lines cells k colour ≡ false
 
--- each cell has a mark for each colour, and where it is set the colour isn't refuted
+-- each cell has a mark for each colour, and if it is set, the colour isn't refuted
 pub record AreOpenColours (p : Nonogram) (cells : List Cell) (fillable blankable : List Bool) : Type 0 where
   pub filled_count : length fillable ≡ length cells
   pub blank_count : length blankable ≡ length cells

@@ -5,7 +5,7 @@ use Rattle.grid_core.specs.declared.cells.Cell.TheVariants.{Unknown, Filled, Bla
 use Rattle.grid_core.specs.Nonogram.{Nonogram, GridLine, cells_at}
 use Rattle.solve_core.specs.Lines.{line_at, line_count}
 
--- the cell, or the other one where nothing is known of it
+-- the cell, or the other one if nothing is known of it
 abbrev pub over : Cell → Cell → Cell
 over Unknown other = other
 over Filled other = Filled

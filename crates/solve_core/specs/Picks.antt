@@ -8,17 +8,19 @@ use Rattle.solve_core.specs.declared.picks.Pick.TheVariants.{First, Most}
 use Rattle.solve_core.specs.Counts.{is_sure}
 use Rattle.solve_core.specs.Search.{first_unknown}
 
--- whether the neighbour to the left, to the right, above and below is known or outside the grid, by the place of the cell in a grid of so many
--- columns
+-- whether the neighbour to the left of cell `k`, in a grid of `width` columns, is known or outside the grid
 abbrev pub is_left_sure : ℕ → List Cell → ℕ → Bool
 is_left_sure width cells k = is_sure (nat_eq (k % width) 0) (slice_index_or cells (k - 1) Unknown)
 
+-- whether the neighbour to the right of cell `k` is known or outside the grid
 abbrev pub is_right_sure : ℕ → List Cell → ℕ → Bool
 is_right_sure width cells k = is_sure (nat_eq (k % width + 1) width) (slice_index_or cells (k + 1) Unknown)
 
+-- whether the neighbour above cell `k` is known or outside the grid
 abbrev pub is_above_sure : ℕ → List Cell → ℕ → Bool
 is_above_sure width cells k = is_sure (nat_lt k width) (slice_index_or cells (k - width) Unknown)
 
+-- whether the neighbour below cell `k` is known or outside the grid
 abbrev pub is_below_sure : ℕ → List Cell → ℕ → Bool
 is_below_sure width cells k = is_sure (nat_le (length cells) (k + width)) (slice_index_or cells (k + width) Unknown)
 
@@ -33,17 +35,19 @@ abbrev pub better : (ℕ → ℕ) → ℕ → Option ℕ → Option ℕ
 better score k None = Some k
 better score k (Some j) = cond (nat_le (score j) (score k)) (Some k) (Some j)
 
--- of so many places from a given one on, the one that passes a test and for which the most counts, and of several the first
+-- of a number of places from `start` on, the one that passes a test and for which the most counts,
+-- and of several the first
 abbrev pub first_most : (ℕ → ℕ) → (ℕ → Bool) → ℕ → ℕ → Option ℕ
 first_most score passes start zero = None
 first_most score passes start (suc n) = cond (passes start) (better score start (first_most score passes (start + 1) n))
     (first_most score passes (start + 1) n)
 
--- the unknown cell of whose neighbours the most are known or outside the grid, and of several the first in row order
+-- the unknown cell of whose neighbours the most are known or outside the grid,
+-- and of several the first in row order
 abbrev pub most_known : ℕ → List Cell → Option ℕ
 most_known width cells = first_most (sure_neighbours width cells) (λ k. is_unknown (slice_index_or cells k Unknown)) 0 (length cells)
 
--- the cell of the next guess, by the rule, in a grid of so many columns
+-- the cell of the next guess, by the rule, in a grid of `width` columns
 abbrev pub picked : Pick → ℕ → List Cell → Option ℕ
 picked First width cells = first_unknown cells
 picked Most width cells = most_known width cells

@@ -2,7 +2,7 @@
 use Rattle.std.specs.Prelude.{ℕ, ◌≤◌, All}
 use Rattle.grid_core.specs.Nonogram.{Nonogram}
 
--- the lines of a puzzle and the numbers of its clues have room in sets of so many places
+-- the lines of a puzzle and the numbers of its clues have room in sets of `width` places
 pub record FitsIn (width : ℕ) (p : Nonogram) : Type 0 where
   pub rows_short : p.width ≤ width
   pub columns_short : p.height ≤ width

@@ -5,7 +5,8 @@ use Rattle.grid_core.specs.declared.cells.Cell.TheVariants.{Unknown, Filled, Bla
 use Rattle.grid_core.specs.Nonogram.{Nonogram}
 use Rattle.solve_core.specs.declared.witnesses.Witness.{Witness}
 
--- a puzzle, witnesses, and for each cell and each colour the number of a witness that met it there. Witness 0 stands for none
+-- a puzzle, witnesses, and for each cell and each colour the number of a witness that met it there.
+-- Witness 0 stands for none
 pub record WitnessedPuzzle : Type 0 where
   pub puzzle : Nonogram
   pub witnesses : List Witness

@@ -29,8 +29,8 @@ pub record ShareNoLine (lines other : Crossed) : Type 0 where
   pub rows : (y : ℕ) → has_side lines.rows y ≡ true → has_side other.rows y ≡ false
   pub columns : (x : ℕ) → has_side lines.columns x ≡ true → has_side other.columns x ≡ false
 
--- A grid that a witness stands for: it is line-closed, it knows all that the cells know and more only in rows and columns of the sets, and it has
--- the colour at each place where the witness is the one that met it.
+-- A grid that a witness stands for: it is line-closed, it knows all that the cells know and more only in rows
+-- and columns of the sets, and it has the colour at each place where the witness is the one that met it.
 pub record IsWitness (w : WitnessedPuzzle) (cells : List Cell) (number : ℕ) : Type 0 where
   pub trial : List Cell
   pub closed : round (lines_of w.puzzle) trial ≡ Some trial
@@ -56,7 +56,8 @@ pub record IsKept (learned : Crossed) (holds : Type 0) (old new : Witness) : Typ
   pub lines : new.lines ≡ old.lines
   pub counts : new.counts ≡ true → (old.counts ≡ true) × (holds ⊎ ShareNoLine old.lines learned)
 
--- nothing but numbers changed, and each new one is that of the witness at a place where the trial has the colour
+-- nothing but numbers changed, and each new one is that of the witness, at a place where the trial has
+-- the colour
 pub record AddsMet (old new : WitnessedPuzzle) (number : ℕ) (trial : List Cell) : Type 0 where
   pub puzzle : new.puzzle ≡ old.puzzle
   pub witnesses : new.witnesses ≡ old.witnesses

@@ -1,3 +1,4 @@
+-- `next_guess`: a branch that is made, or gone back to, leaves what is still to happen as it was.
 use Rattle.std.proofs.Common.{◌≡◌, ◌<◌, ℕ, Option, IfSome, subst, ap, ◌∙◌, arith, length, drop, get_or}
 use Rattle.grid_core.specs.declared.cells.Cell.TheVariants.{Unknown}
 use Rattle.solve_core.specs.Trails.{TrailedGrid}

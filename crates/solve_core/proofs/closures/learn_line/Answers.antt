@@ -1,3 +1,4 @@
+-- `learn_line`: what is certain of line `n` is written, and the lines that cross where it changes are marked.
 use Rattle.std.proofs.Common.{true≢false, ◌≡◌, ◌∙◌, ◌+◌, ◌-◌, ◌*◌, ◌<◌, ℕ, sym, arith, ap, subst, length, get_or, refl, List, Bool, Some}
 use Rattle.grid_core.specs.declared.cells.Cell.{Cell}
 use Rattle.grid_core.specs.declared.cells.Cell.TheVariants.{Unknown}

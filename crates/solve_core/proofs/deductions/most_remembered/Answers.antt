@@ -1,3 +1,4 @@
+-- `most_remembered`: the quotient is at least 1, since sets have no more than 256 places.
 use Rattle.std.proofs.Common.{◌≡◌, ◌∙◌, ℕ, zero, suc, ◌+◌, ◌*◌, ◌/◌, ◌%◌, ◌<◌, ◌≤◌, arith}
 use Rattle.place_sets.proofs.Doubling.{one_within, width_most}
 use Rattle.solve_core.proofs.deductions.most_remembered.Goals as goal

@@ -1,3 +1,4 @@
+-- `copy_lines`: each line is copied over one of its length, and with all copied the lines are the others.
 use Rattle.std.proofs.Common.{◌≢◌, ◌<◌, ◌∙◌, [], length, ap, sym, arith, below_more, get_or-set_same, get_or-set_other}
 use Rattle.std.proofs.lemmas.List.{ext_get_or}
 use Rattle.solve_core.proofs.GridLineSteps.{line_read}

@@ -1,3 +1,4 @@
+-- `set_cell`: written into row `y` and into column `x`, the cell is in the lines of one grid.
 use Rattle.std.proofs.Common.{◌∙◌, List, length, set, ap, arith}
 use Rattle.grid_core.specs.declared.cells.Cell.{Cell}
 use Rattle.solve_core.proofs.GridLineSteps.{cell-written, line_read, lines-long}

@@ -1,3 +1,4 @@
+-- `settle_cell`: the cell is unknown in both its lines; written into both, it is in the lines of one grid.
 use Rattle.std.proofs.Common.{◌∙◌, List, length, get_or, set, ap, arith}
 use Rattle.grid_core.specs.declared.cells.Cell.{Cell}
 use Rattle.grid_core.specs.declared.cells.Cell.TheVariants.{Unknown}

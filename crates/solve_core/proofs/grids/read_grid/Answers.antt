@@ -1,3 +1,4 @@
+-- `read_grid`: the grid and `cells` have the same places, and with all cells read the same cells.
 use Rattle.std.proofs.Common.{◌≡◌, ◌≢◌, ◌*◌, ◌<◌, ◌∙◌, sym, arith, length, get_or-set_other, get_or-set_same, below_more}
 use Rattle.std.proofs.lemmas.List.{ext_get_or}
 use Rattle.grid_core.specs.declared.cells.Cell.TheVariants.{Unknown}

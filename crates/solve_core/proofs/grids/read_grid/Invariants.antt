@@ -1,3 +1,4 @@
+-- What the loop of `read_grid` keeps: the cells passed are read.
 use Rattle.std.proofs.Common.{◌≡◌, ◌<◌, ℕ, get_or}
 use Rattle.grid_core.specs.declared.cells.Cell.TheVariants.{Unknown}
 use Rattle.solve_core.proofs.grids.read_grid.Given as goal

@@ -1,3 +1,4 @@
+-- `write_grid`: the grid and `cells` have the same places, and with all cells written the same cells.
 use Rattle.std.proofs.Common.{◌≡◌, ◌≢◌, ◌*◌, ◌<◌, ◌∙◌, sym, arith, ap, refl, length, get_or, length-set, get_or-set_other, get_or-set_same, below_more}
 use Rattle.std.proofs.lemmas.List.{ext_get_or}
 use Rattle.grid_core.specs.declared.cells.Cell.TheVariants.{Unknown}

@@ -1,3 +1,4 @@
+-- What the loop of `write_grid` keeps: the size of `grid`, and that the cells passed are written.
 use Rattle.std.proofs.Common.{◌≡◌, ◌<◌, ℕ, get_or, length}
 use Rattle.grid_core.specs.declared.cells.Cell.TheVariants.{Unknown}
 use Rattle.solve_core.proofs.grids.write_grid.Given as goal

@@ -1,3 +1,4 @@
+-- `most_known`: one more cell is the best so far or changes nothing, and the best of all cells is the rule's.
 use Rattle.std.proofs.Common.{◌≡◌, ◌∙◌, ◌+◌, ◌*◌, ℕ, Bool, length, get_or, ap, sym, subst, arith, true≢false}
 use Rattle.grid_core.specs.declared.cells.Cell.TheVariants.{Unknown}
 use Rattle.grid_core.specs.Cells.{is_unknown}

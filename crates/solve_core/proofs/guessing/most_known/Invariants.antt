@@ -1,3 +1,4 @@
+-- What the loop of `most_known` keeps: the best place so far, and the least count that betters it.
 use Rattle.std.proofs.Common.{◌≡◌, ◌≤◌, get_or}
 use Rattle.grid_core.specs.Cells.{is_unknown}
 use Rattle.grid_core.specs.declared.cells.Cell.TheVariants.{Unknown}

@@ -1,3 +1,4 @@
+-- `next_guess`: the row of the picked place is one of the grid, so its number fits 16 bits.
 use Rattle.std.proofs.Common.{◌≡◌, ◌∙◌, ◌<◌, ◌/◌, Some, sym, arith}
 use Rattle.std.proofs.lemmas.Nat.{div_below}
 use Rattle.solve_core.specs.Picks.{most_known}

@@ -1,3 +1,4 @@
+-- `most_in_row`: the four sets say of each cell of the row which neighbours are known or outside the grid.
 use Rattle.std.proofs.Common.{rules, ◌≡◌, ◌∙◌, ◌+◌, ◌-◌, ℕ, length, subst}
 use Rattle.place_sets.specs.Masks.{Has, has, IsMaskOf, IsMoved}
 use Rattle.place_sets.proofs.Doubling.{one_within}

@@ -1,3 +1,4 @@
+-- `clue_of_line`: line `n` is row `n`, or column `n - height` if there is no such row, and has its clue.
 use Rattle.std.proofs.Common.{◌≡◌, ◌<◌, ◌-◌, ◌∙◌, ℕ, List, [], ap, sym, arith, length, get_or}
 use Rattle.std.proofs.lemmas.List.{get_or_default}
 use Rattle.grid_core.specs.Nonogram.{GridLine}

@@ -1,3 +1,4 @@
+-- `write_line`: a cell that changes was unknown and gets known; with no change left, the line is `new`.
 use Rattle.std.proofs.Common.{◌≡◌, ◌∙◌, ◌+◌, ◌*◌, ◌<◌, ℕ, length, get_or, set, sym, arith, refl}
 use Rattle.std.proofs.lemmas.Bool.{eqb-true}
 use Rattle.grid_core.specs.declared.cells.Cell.TheVariants.{Unknown}

@@ -1,3 +1,4 @@
+-- What the loop of `write_line` keeps: the line's cells at `left` are as they were, its others as in `new`.
 use Rattle.solve_core.specs.Boards.{cells_along}
 use Rattle.solve_core.specs.Lines.{places_in}
 use Rattle.solve_core.specs.Trails.{IsTrailed, unknown_count}

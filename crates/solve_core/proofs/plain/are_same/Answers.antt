@@ -1,3 +1,4 @@
+-- `are_same`: lines with the same cell at each place are the same.
 use Rattle.std.proofs.Common.{arith}
 use Rattle.std.proofs.lemmas.List.{ext_get_or}
 use Rattle.grid_core.specs.declared.cells.Cell.TheVariants.{Unknown}

@@ -1,3 +1,4 @@
+-- `close_cells`: if no line learns anything, the cells are their own closure.
 use Rattle.std.proofs.Common.{◌∙◌, sym, ap, refl}
 use Rattle.grid_core.specs.Nonogram.{lines_of}
 use Rattle.solve_core.specs.Closure.{closure}

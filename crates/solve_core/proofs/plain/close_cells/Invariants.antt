@@ -1,3 +1,4 @@
+-- What the loop of `close_cells` keeps: the closure of the cells; each turn that goes on settles some.
 use Rattle.std.proofs.Common.{◌≡◌}
 use Rattle.grid_core.specs.Nonogram.{lines_of}
 use Rattle.solve_core.specs.Closure.{closure}

@@ -1,3 +1,4 @@
+-- `keep_colour`: `colour` takes the cells no further than trials do, so closing them is progress.
 use Rattle.std.proofs.Common.{set}
 use Rattle.grid_core.specs.Nonogram.{lines_of}
 use Rattle.solve_core.specs.Closure.{closure}

@@ -1,3 +1,4 @@
+-- `learn_line`: learning at the places of line `n` by its clue is a step towards the closure.
 use Rattle.std.proofs.Common.{subst}
 use Rattle.grid_core.specs.Nonogram.{GridLine, lines_of}
 use Rattle.solve_core.specs.Lines.{line_at}

@@ -1,3 +1,4 @@
+-- What the loop of `learn_lines` keeps: what `progress` says; if it is `Same`, the lines passed are settled.
 use Rattle.std.proofs.Common.{◌≡◌, ◌≢◌, ◌<◌, ℕ}
 use Rattle.grid_core.specs.Nonogram.{lines_of}
 use Rattle.solve_core.specs.declared.closures.Progress.TheVariants.{Dead, Same}

@@ -1,3 +1,4 @@
+-- `learn_places`: what the listing deduces is certain of the line; if it is new, fewer cells are unknown.
 use Rattle.std.proofs.Common.{◌≡◌, ◌∙◌, sym, refl, ap, length, Some, List}
 use Rattle.grid_core.specs.declared.cells.Cell.{Cell}
 use Rattle.grid_core.specs.Nonogram.{GridLine}

@@ -1,3 +1,4 @@
+-- `read_line`: with each cell read, the line is the grid's at these places.
 use Rattle.std.proofs.Common.{arith}
 use Rattle.grid_core.specs.declared.cells.Cell.TheVariants.{Unknown}
 use Rattle.grid_core.proofs.LineLaws.{cells-along}

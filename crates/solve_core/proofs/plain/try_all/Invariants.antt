@@ -1,3 +1,4 @@
+-- What the loop of `try_all` keeps: what `progress` says; if it is `Same`, the cells passed are tried.
 use Rattle.std.proofs.Common.{◌≡◌, ◌≢◌, ◌<◌, ℕ, Some}
 use Rattle.grid_core.specs.Nonogram.{lines_of}
 use Rattle.solve_core.specs.declared.closures.Progress.TheVariants.{Dead, Same}

@@ -1,3 +1,4 @@
+-- `try_cells`: the trials of closed cells are those of the first ones; if closing ends dead, so do trials.
 use Rattle.std.proofs.Common.{◌∙◌, sym}
 use Rattle.grid_core.specs.Nonogram.{lines_of}
 use Rattle.solve_core.specs.Closure.{closure}

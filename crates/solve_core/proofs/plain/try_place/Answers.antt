@@ -1,3 +1,4 @@
+-- `try_place`: if a colour is refuted, the cells with the other one know no more than trials leave.
 use Rattle.std.proofs.Common.{◌∙◌, sym}
 use Rattle.grid_core.specs.Nonogram.{lines_of}
 use Rattle.solve_core.proofs.TrialSteps.{blank_below, filled_below}

@@ -1,3 +1,4 @@
+-- `try_until_same`: line-closed cells of which no colour is refuted are what trials leave of them.
 use Rattle.std.proofs.Common.{◌≡◌, ◌≢◌, ◌∙◌, sym, ap}
 use Rattle.grid_core.specs.Nonogram.{lines_of}
 use Rattle.solve_core.specs.Trials.{trials}

@@ -1,3 +1,4 @@
+-- What the loop of `try_until_same` keeps: the cells are line-closed, and trials of them end as at first.
 use Rattle.std.proofs.Common.{◌≡◌, Some}
 use Rattle.grid_core.specs.Nonogram.{lines_of}
 use Rattle.solve_core.specs.Closure.{round}

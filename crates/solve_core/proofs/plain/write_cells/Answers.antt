@@ -1,3 +1,4 @@
+-- `write_cells`: writing what is left of the line is writing its next cell, and then what is left after that.
 use Rattle.std.proofs.Common.{◌∙◌}
 use Rattle.solve_core.proofs.LineSteps.{write-step}
 use Rattle.solve_core.proofs.plain.write_cells.Goals as goal

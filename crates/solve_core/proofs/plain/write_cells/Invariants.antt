@@ -1,3 +1,4 @@
+-- What the loop of `write_cells` keeps: with the cells left written as well, the line is written.
 use Rattle.std.proofs.Common.{◌≡◌, ◌+◌, ◌-◌, ◌*◌, drop}
 use Rattle.grid_core.specs.Nonogram.{places_from}
 use Rattle.solve_core.specs.Closure.{with_cells}

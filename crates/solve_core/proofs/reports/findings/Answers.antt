@@ -1,3 +1,4 @@
+-- `findings`: the report is the defined one, whether lines end dead, trials end dead, or there is a search.
 use Rattle.std.proofs.Common.{[], true, ◌≡◌, Some, None, ap, sym, subst, ◌∙◌, ◌*◌, length, count_by}
 use Rattle.std.proofs.lemmas.List.{length-replicate}
 use Rattle.grid_core.specs.declared.cells.Cell.TheVariants.{Unknown}

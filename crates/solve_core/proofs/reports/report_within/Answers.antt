@@ -1,3 +1,4 @@
+-- `report_within`: the defined report's verdict holds of all grids, and it spends no more than `guesses`.
 use Rattle.std.proofs.Common.{◌≤◌, ap, sym, subst, ◌∙◌}
 use Rattle.solve_core.specs.declared.findings.Findings.{Findings}
 use Rattle.solve_core.specs.Picks.{picked}

@@ -1,3 +1,4 @@
+-- `try_unless_full`: trials leave a full board at rest as it is.
 use Rattle.std.proofs.Common.{◌∙◌, sym, ap}
 use Rattle.grid_core.specs.Nonogram.{lines_of}
 use Rattle.solve_core.specs.Marks.{if_alive}

@@ -1,3 +1,4 @@
+-- `explore`: if the guess ends dead, the branches' events are left; else its closed cells' come before them.
 use Rattle.std.proofs.Common.{◌≡◌, ◌++◌, length, set, ap, sym, ◌∙◌, arith}
 use Rattle.grid_core.specs.Nonogram.{lines_of}
 use Rattle.solve_core.specs.Search.{guess_at, events}

@@ -1,3 +1,4 @@
+-- `next_place`: if no cell before `start` is unknown, the first unknown one from there is the first of all.
 use Rattle.std.proofs.Common.{ap, sym, ◌∙◌}
 use Rattle.grid_core.specs.PartialGrid.{PartialGrid}
 use Rattle.solve_core.specs.Picks.{picked}

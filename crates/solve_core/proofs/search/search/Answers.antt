@@ -1,3 +1,4 @@
+-- `search`: a guess and what is owed after it end as what was owed before, and fewer events are left.
 use Rattle.std.proofs.Common.{◌≡◌, ◌+◌, ◌-◌, ◌*◌, ◌≤◌, ◌++◌, [], Some, refl, ap, sym, subst, ◌∙◌, arith, length, slice_set}
 use Rattle.grid_core.specs.Nonogram.{Nonogram, IsNonogram, lines_of}
 use Rattle.solve_core.specs.Search.{events}

@@ -1,3 +1,4 @@
+-- What the loop of `search` keeps: what was found and spent, with what is owed, ends as the whole search.
 use Rattle.std.proofs.Common.{◌≡◌, ◌-◌, ◌≤◌, [], length, vec_capacity}
 use Rattle.grid_core.specs.Nonogram.{lines_of}
 use Rattle.solve_core.specs.Search.{events}

@@ -1,3 +1,4 @@
+-- What the loop of `line_of` keeps: the line has six cells.
 use Rattle.std.proofs.Common.{◌≡◌, length}
 use Rattle.solve_core.proofs.tests_deductions.line_of.Given as goal
 

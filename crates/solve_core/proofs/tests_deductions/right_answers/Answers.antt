@@ -1,3 +1,4 @@
+-- `right_answers`: a puzzle that needs no more than 64 places fits sets of 64 places.
 use Rattle.std.proofs.Common.{arith}
 use Rattle.solve_core.proofs.Fitting.{fits_more}
 use Rattle.solve_core.proofs.tests_deductions.right_answers.Goals as goal

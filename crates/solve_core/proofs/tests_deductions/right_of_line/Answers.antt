@@ -1,3 +1,4 @@
+-- `right_of_line`: the clue of line `number` fits sets of 64 places, since the puzzle does.
 use Rattle.std.proofs.Common.{ℕ, ◌≤◌, List, All, sym, subst}
 use Rattle.solve_core.proofs.Fitting.{fits_line}
 use Rattle.solve_core.proofs.tests_deductions.right_of_line.Goals as goal

@@ -1,3 +1,4 @@
+-- `try_colour`: a copy that closes alive is line-closed and knows all that the board does: it is a witness.
 use Rattle.std.proofs.Common.{◌≡◌, List, Some, set, sym, subst}
 use Rattle.grid_core.specs.declared.cells.Cell.{Cell}
 use Rattle.grid_core.specs.Cells.{Extends}

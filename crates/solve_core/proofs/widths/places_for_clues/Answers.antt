@@ -1,3 +1,4 @@
+-- `places_for_clues`: with one more clue the places are no fewer, and they have room for its numbers too.
 use Rattle.std.proofs.Common.{◌≡◌, ◌∙◌, ◌≤◌, [], get_or, sym, take_all, subst, arith}
 use Rattle.std.specs.List.{All}
 use Rattle.std.proofs.lemmas.List.{get_or_default}

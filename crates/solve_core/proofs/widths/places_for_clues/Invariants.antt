@@ -1,3 +1,4 @@
+-- What the loop of `places_for_clues` keeps: the places have room for the numbers of the clues passed.
 use Rattle.std.proofs.Common.{◌≤◌, take}
 use Rattle.std.specs.List.{All}
 use Rattle.grid_core.specs.declared.limits.TheConstants.{LONGEST_SIDE}

@@ -1,3 +1,4 @@
+-- `Board::go_back`: with one more cell undone, the cells and the trail as they were at `mark` are the same.
 use Rattle.std.proofs.Common.{◌-◌, ◌≤◌, ◌∙◌, length, take, ap, arith}
 use Rattle.solve_core.specs.Trails.{TrailedGrid}
 use Rattle.solve_core.specs.Branches.{cells_before}

@@ -1,3 +1,4 @@
+-- `Board::read`: with the grid's cells and nothing on the trail, the board is a lawful one.
 use Rattle.std.proofs.Common.{◌≡◌, ◌∙◌, ◌*◌, length, ap, sym}
 use Rattle.grid_core.specs.PartialGrid.{PartialGrid}
 use Rattle.solve_core.specs.Trails.{TrailedGrid}

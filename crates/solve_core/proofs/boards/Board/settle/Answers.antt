@@ -1,3 +1,4 @@
+-- `Board::settle`: since the cell was unknown, the trail has room for its place, and then leads back.
 use Rattle.std.proofs.Common.{◌≡◌, ◌∙◌, ◌+◌, ◌*◌, ◌++◌, ◌∷◌, ◌<◌, [], ℕ, length, get_or, set, ap, arith}
 use Rattle.grid_core.specs.declared.cells.Cell.TheVariants.{Unknown}
 use Rattle.grid_core.specs.PartialGrid.{PartialGrid}

@@ -1,3 +1,4 @@
+-- `Board::settle_along`: cell `i` of a row is in column `i`, and cell `i` of a column in row `i`.
 use Rattle.std.proofs.Common.{◌≡◌, ◌∙◌, ◌-◌, ◌+◌, ◌*◌, ◌<◌, ℕ, arith, ap, sym, get_or, set}
 use Rattle.grid_core.specs.declared.cells.Cell.TheVariants.{Unknown}
 use Rattle.solve_core.specs.Trails.{TrailedGrid}

@@ -1,3 +1,4 @@
+-- `Board::trail`: the trail has no more places than the grid has cells, and so 65,536 at most.
 use Rattle.std.proofs.Common.{◌≤◌, ◌*◌, length, ap, arith}
 use Rattle.solve_core.specs.Trails.{TrailedGrid}
 use Rattle.solve_core.proofs.NumberedLines.{longest_sides_fit}

@@ -1,3 +1,4 @@
+-- `Board::undo`: without the trail's last place, and with the cell there unknown, the board is a lawful one.
 use Rattle.std.proofs.Common.{◌≡◌, ◌∙◌, ◌+◌, ◌*◌, ◌/◌, ◌%◌, set}
 use Rattle.grid_core.specs.declared.cells.Cell.TheVariants.{Unknown}
 use Rattle.solve_core.proofs.BoardSteps.{board-undone, trailed}

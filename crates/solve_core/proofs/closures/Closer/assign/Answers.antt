@@ -1,3 +1,4 @@
+-- `Closer::assign`: only the row and the column of `place` can have more to give, and both get a mark.
 use Rattle.std.proofs.Common.{◌≡◌, ◌∙◌, ◌+◌, ◌*◌, ◌/◌, ◌%◌, ℕ, List, Bool, true, get_or, set, ap, sym, subst}
 use Rattle.grid_core.specs.declared.cells.Cell.TheVariants.{Unknown}
 use Rattle.grid_core.specs.Nonogram.{lines_of}

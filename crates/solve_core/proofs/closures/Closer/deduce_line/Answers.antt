@@ -1,3 +1,4 @@
+-- `Closer::deduce_line`: deducing line `n` is a step towards the closure, and the line needs no mark then.
 use Rattle.std.proofs.Common.{◌+◌, ◌<◌, ◌≤◌, ℕ, List, Bool, arith, false, length, set, ap, sym, subst}
 use Rattle.grid_core.specs.Nonogram.{Nonogram, lines_of}
 use Rattle.solve_core.specs.Closure.{closure}

@@ -1,3 +1,4 @@
+-- `Closer::deduce_marked`: if a pass over the columns learns nothing, no mark is left: the board is closed.
 use Rattle.std.proofs.Common.{◌≡◌, ◌∙◌, ◌+◌, ℕ, Some, sym, refl, subst, ap, arith, true≢false}
 use Rattle.solve_core.specs.Lines.{line_count}
 use Rattle.solve_core.specs.MarkedPuzzles.{MarkedPuzzle}

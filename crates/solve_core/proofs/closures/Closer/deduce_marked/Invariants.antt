@@ -1,3 +1,4 @@
+-- What the loop of `Closer::deduce_marked` keeps: the cells' closure; each turn that goes on settles some.
 use Rattle.std.proofs.Common.{◌≡◌}
 use Rattle.grid_core.specs.Nonogram.{lines_of}
 use Rattle.solve_core.specs.Closure.{closure}

@@ -1,3 +1,4 @@
+-- `Closer::deduce_range`: the lines passed have no mark, and deducing one that is parallel gives them none.
 use Rattle.std.proofs.Common.{rules, ◌≡◌, ◌∙◌, ◌≤◌, refl, false, sym, subst, get_or, inl, inr, arith}
 use Rattle.grid_core.specs.Nonogram.{Nonogram}
 use Rattle.solve_core.specs.Boards.{IsBoardOf}

@@ -1,3 +1,4 @@
+-- What the loop of `Closer::deduce_range` keeps: what `progress` says, and that no line passed has a mark.
 use Rattle.std.proofs.Common.{◌≡◌, ◌≢◌, ◌-◌, ◌≤◌}
 use Rattle.grid_core.specs.Nonogram.{lines_of}
 use Rattle.solve_core.specs.declared.closures.Progress.TheVariants.{Dead, Same}

@@ -1,3 +1,4 @@
+-- `Closer::propagate`: if the board is dead, it has the puzzle's size all the same.
 use Rattle.solve_core.proofs.TrailSteps.{trailed-size}
 use Rattle.solve_core.proofs.closures.Closer.propagate.Goals as goal
 

@@ -1,3 +1,4 @@
+-- `Deductions::deduce`: what is remembered of a line is what is certain of it, and what is kept then is too.
 use Rattle.std.proofs.Common.{◌≡◌, ◌∙◌, ◌<◌, ◌≤◌, ℕ, List, length, get_or, inl, inr, All, ap, sym, subst, arith}
 use Rattle.std.proofs.lemmas.List.{get_or_default}
 use Rattle.std.proofs.lemmas.List.Elements.{All-contains}

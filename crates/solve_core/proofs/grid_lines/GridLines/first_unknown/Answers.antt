@@ -1,3 +1,4 @@
+-- `GridLines::first_unknown`: all cells passed are known, so a row's first unknown cell is the grid's.
 use Rattle.std.proofs.Common.{◌≡◌, ◌∙◌, ◌+◌, ◌*◌, ◌<◌, ◌≤◌, ℕ, [], List, Some, None, false, inl, inr, length, get_or, ap, sym, subst, arith}
 use Rattle.grid_core.specs.Cells.{is_unknown}
 use Rattle.grid_core.specs.declared.cells.Cell.{Cell}

@@ -1,3 +1,4 @@
+-- What the loop of `GridLines::first_unknown` keeps: the cells passed, from `from` on, are known.
 use Rattle.std.proofs.Common.{◌≡◌, ◌+◌, ◌*◌, ◌<◌, ◌≤◌, ℕ, false, get_or}
 use Rattle.grid_core.specs.Cells.{is_unknown}
 use Rattle.grid_core.specs.declared.cells.Cell.TheVariants.{Unknown}

@@ -1,3 +1,4 @@
+-- `GridLines::most_known`: with one more row, the best place is that of the rows above and of this one.
 use Rattle.std.proofs.Common.{◌≡◌, ◌∙◌, ◌+◌, ◌-◌, ◌*◌, ◌<◌, ℕ, Bool, [], Option, Some, length, get_or, nat_eq, ap, sym, subst, arith}
 use Rattle.grid_core.specs.declared.cells.Cell.TheVariants.{Unknown}
 use Rattle.grid_core.specs.Cells.{is_unknown}

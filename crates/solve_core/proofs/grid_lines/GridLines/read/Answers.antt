@@ -1,3 +1,4 @@
+-- `GridLines::read`: each place is in a row of the grid, and with all cells read both grids are the same.
 use Rattle.std.proofs.Common.{◌≡◌, ◌∙◌, ◌*◌, ◌<◌, ◌/◌, length, sym, arith}
 use Rattle.std.proofs.lemmas.List.{ext_get_or}
 use Rattle.std.proofs.lemmas.Nat.{div_below}

@@ -1,3 +1,4 @@
+-- What the loop of `GridLines::read` keeps: the size of the grid, and that the cells passed are read.
 use Rattle.std.proofs.Common.{◌≡◌, ◌<◌, ℕ, length, get_or}
 use Rattle.grid_core.specs.declared.cells.Cell.TheVariants.{Unknown}
 use Rattle.solve_core.proofs.grid_lines.GridLines.read.Given as goal

@@ -1,3 +1,4 @@
+-- `GridLines::unknown`: the rows and the columns of unknown cells are the lines of the unknown grid.
 use Rattle.std.proofs.Common.{◌≡◌, ◌∙◌, length, replicate, ap}
 use Rattle.std.proofs.lemmas.List.{length-replicate}
 use Rattle.grid_core.specs.declared.cells.Cell.TheVariants.{Unknown}

@@ -1,3 +1,4 @@
+-- `GridLines::write`: one more row is written, and with all of them written both grids are the same.
 use Rattle.std.proofs.Common.{◌≡◌, ◌∙◌, ◌*◌, ◌<◌, ◌≤◌, [], List, length, get_or, ap, sym, arith}
 use Rattle.std.proofs.Math.Nat.{mul-le-mul_left}
 use Rattle.std.proofs.lemmas.List.{ext_get_or}

@@ -1,3 +1,4 @@
+-- What the loop of `GridLines::write` keeps: the size of `grid`, and that the rows passed are written.
 use Rattle.std.proofs.Common.{◌≡◌, ◌*◌, ◌<◌, ℕ, length, get_or}
 use Rattle.grid_core.specs.declared.cells.Cell.TheVariants.{Unknown}
 use Rattle.solve_core.proofs.grid_lines.GridLines.write.Given as goal

@@ -1,3 +1,4 @@
+-- `Marks::clear`: if both sets are empty, no line has a mark.
 use Rattle.solve_core.proofs.MarkSteps.{none_marked, none_in}
 use Rattle.solve_core.proofs.marks.Marks.clear.Goals as goal
 

@@ -1,3 +1,4 @@
+-- `Marks::first`: the range lies among the rows or among the columns, so one set tells its first mark.
 use Rattle.std.proofs.Common.{◌≡◌, ◌∙◌, ℕ, ◌+◌, ◌-◌, ◌≤◌, ◌⊎◌, inl, inr, Some, None, length, ap, sym, subst, arith}
 use Rattle.solve_core.specs.LineMarks.{LineMarks, IsFirstBetween, IsFirstMarked}
 use Rattle.solve_core.proofs.MarkSteps.{first_row, no_column, first_column, count_marks}

@@ -1,3 +1,4 @@
+-- `Marks::mark_all`: if both sets have all their places, each line has a mark.
 use Rattle.std.proofs.Common.{◌∙◌, length, ap, sym, arith}
 use Rattle.solve_core.specs.LineMarks.{LineMarks}
 use Rattle.solve_core.proofs.MarkSteps.{all_marked, count_marks}

@@ -1,3 +1,4 @@
+-- `Marks::mark_crossing`: cell `i` of a row is crossed by column `i`, and cell `i` of a column by row `i`.
 use Rattle.std.proofs.Common.{◌≡◌, ◌∙◌, ℕ, ◌-◌, inl, inr, length, ap, sym, subst, arith}
 use Rattle.solve_core.specs.LineMarks.{LineMarks, marks_by, MarksPlaces}
 use Rattle.solve_core.specs.Lines.{places_in}

@@ -1,3 +1,4 @@
+-- `Marks::new`: there are as many marks as rows and columns together.
 use Rattle.solve_core.proofs.MarkSteps.{count_marks}
 use Rattle.solve_core.proofs.marks.Marks.new.Goals as goal
 

@@ -1,3 +1,4 @@
+-- `Marks::set`: what changes is the mark of row `n` or, if there is no such row, of column `n - height`.
 use Rattle.std.proofs.Common.{rules, ◌∙◌, ℕ, ◌-◌, ◌<◌, inl, inr, length, set, ap, sym, subst, arith}
 use Rattle.place_sets.specs.Masks.{Has, IsMarked, IsMaskOf}
 use Rattle.solve_core.specs.LineMarks.{LineMarks}

@@ -1,3 +1,4 @@
+-- `Trials::keep_colour`: `colour` takes the board no further than trials do, so closing it is progress.
 use Rattle.std.proofs.Common.{◌≡◌, Some, None, set, sym, subst}
 use Rattle.grid_core.specs.Nonogram.{lines_of}
 use Rattle.solve_core.specs.Closure.{closure}

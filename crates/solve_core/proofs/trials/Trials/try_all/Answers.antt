@@ -1,3 +1,4 @@
+-- `Trials::try_all`: cells before the next unknown one are tried or known, so if there is none all are tried.
 use Rattle.std.proofs.Common.{◌≡◌, ◌∙◌, ◌+◌, ◌<◌, ◌≤◌, ℕ, List, inl, inr, sym, refl, ap, subst, arith, below_more, length, get_or}
 use Rattle.grid_core.specs.Cells.{is_unknown}
 use Rattle.grid_core.specs.declared.cells.Cell.{Cell}

@@ -1,3 +1,4 @@
+-- What the loop of `Trials::try_all` keeps: what `progress` says; if that is `Same`, those passed are tried.
 use Rattle.std.proofs.Common.{◌≡◌, ◌≢◌, ◌-◌, ◌<◌, ◌≤◌, ℕ, length}
 use Rattle.grid_core.specs.Nonogram.{lines_of}
 use Rattle.solve_core.specs.declared.closures.Progress.TheVariants.{Dead, Same}

@@ -1,3 +1,4 @@
+-- `Trials::try_board`: trials of the board and of its closure end alike, and dead if the closure is dead.
 use Rattle.std.proofs.Common.{◌≡◌, ◌∙◌, Some, None, sym, ap, subst}
 use Rattle.grid_core.specs.Nonogram.{Nonogram, lines_of}
 use Rattle.solve_core.specs.Closure.{closure}

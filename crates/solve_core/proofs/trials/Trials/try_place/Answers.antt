@@ -1,3 +1,4 @@
+-- `Trials::try_place`: a refuted colour leaves the other, whose closed copy, if there is one, is the step.
 use Rattle.std.proofs.Common.{◌≡◌, ◌∙◌, refl, ap, subst}
 use Rattle.grid_core.specs.Nonogram.{Nonogram, lines_of}
 use Rattle.grid_core.specs.declared.cells.Cell.TheVariants.{Filled, Blank}

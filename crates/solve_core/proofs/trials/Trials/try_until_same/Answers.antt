@@ -1,3 +1,4 @@
+-- `Trials::try_until_same`: a board at rest of which no colour is refuted is what trials leave of it.
 use Rattle.std.proofs.Common.{◌≡◌, ◌∙◌, Some, sym, ap, refl, subst}
 use Rattle.grid_core.specs.Nonogram.{Nonogram, lines_of}
 use Rattle.solve_core.specs.Closure.{round}

@@ -1,3 +1,4 @@
+-- What the loop of `Trials::try_until_same` keeps: the board is ready, and trials of it end as at first.
 use Rattle.std.proofs.Common.{◌≡◌}
 use Rattle.grid_core.specs.Nonogram.{lines_of}
 use Rattle.solve_core.specs.Trials.{trials}

@@ -1,3 +1,4 @@
+-- `Witnesses::add`: the trial is a witness for the cells that its trail leads back to, as the others are.
 use Rattle.std.proofs.Common.{◌≡◌, ◌∙◌, ◌++◌, ◌*◌, [], ◌∷◌, length, Some, ap, arith, sym, subst, true}
 use Rattle.grid_core.specs.Nonogram.{Nonogram, lines_of}
 use Rattle.solve_core.specs.Closure.{round}

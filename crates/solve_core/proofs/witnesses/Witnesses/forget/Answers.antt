@@ -1,3 +1,4 @@
+-- `Witnesses::forget`: only witness 0 is left, which doesn't count, and so there is none for any cells.
 use Rattle.std.proofs.Common.{◌≡◌, ◌∙◌, ◌*◌, ℕ, length, replicate, sym, ap, subst, arith}
 use Rattle.std.proofs.lemmas.List.{length-take}
 use Rattle.solve_core.specs.WitnessedPuzzles.{WitnessedPuzzle}

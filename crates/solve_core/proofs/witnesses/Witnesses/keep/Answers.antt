@@ -1,3 +1,4 @@
+-- `Witnesses::keep`: a witness that met `colour`, or is apart from what was learned, is one for the board.
 use Rattle.std.proofs.Common.{◌≡◌, ◌∙◌, ◌*◌, List, length, drop, get_or, set, Some, ap, sym, subst}
 use Rattle.std.specs.Vec.{with_items}
 use Rattle.std.proofs.lemmas.List.{take_rest, with_items_is}

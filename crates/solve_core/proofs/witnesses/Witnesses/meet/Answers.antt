@@ -1,3 +1,4 @@
+-- `Witnesses::meet`: with `number` at the place, in either colour, each cell's number is that of a witness.
 use Rattle.std.proofs.Common.{◌≡◌, ◌∙◌, ◌*◌, length, ap, sym, arith}
 use Rattle.solve_core.specs.WitnessedPuzzles.{WitnessedPuzzle}
 use Rattle.solve_core.proofs.WitnessLaws.{meets-blank, meets-filled, more_numbered}

@@ -1,3 +1,4 @@
+-- What the loop of `Witnesses::meet_settled` keeps: a number changes only to `number`, by the trial's colour.
 use Rattle.solve_core.specs.Witnesses.{AddsMet}
 use Rattle.solve_core.proofs.witnesses.Witnesses.meet_settled.Given as goal
 
