@@ -19,10 +19,12 @@ use Rattle.grid_core.specs.Cells.{is_known}
 
 -- ---- the cells of blocks as a list
 
+-- the first n cells of blocks are n cells
 pub length-cells_of : (blocks : List Block) (n : ℕ) → length (cells_of blocks n) ≡ n
 unfolding cells_of
 length-cells_of blocks n = length-map-range_with_len (cell_of_blocks blocks) 0 n
 
+-- if k is below n, cell k of the first n cells of blocks is the one at place k of the blocks
 pub get_or-cells_of : (blocks : List Block) (n k : ℕ) (d : Cell) → k < n → get_or (cells_of blocks n) k d ≡ cell_of_blocks blocks k
 unfolding cells_of
 get_or-cells_of blocks n k d h = get_or-map-range_with_len (cell_of_blocks blocks) 0 n k k d h (zero-add k)
@@ -67,6 +69,7 @@ length-replicated : {X : Type 0} (n : ℕ) (c : X) → length (replicate n c) �
 length-replicated zero c = refl
 length-replicated (suc n) c = ap suc (length-replicated n c)
 
+-- the first n cells of blocks of which nothing is known are n unknown cells
 pub cells_of-unknown : (m n : ℕ) → cells_of (replicate m empty) n ≡ replicate n Unknown
 cells_of-unknown m n =
     cells_of-is (replicate m empty) n (replicate n Unknown) (length-replicated n Unknown)
@@ -82,6 +85,7 @@ unknown_kept n m blocks is count = subst (AreBlocks n) (sym is) (record {
 
 -- ---- one cell changed
 
+-- two numbers are the same, or they are not
 pub same_or_other : (i p : ℕ) → (i ≡ p) ⊎ (i ≢ p)
 same_or_other i p =
     elim (cases_lt i p) [
@@ -116,6 +120,7 @@ cell_of-set_other blocks p block c h change k n = elim (same_or_other (k / 64) (
     in_other : k / 64 ≢ p / 64 → cell_of_blocks (set blocks (p / 64) block) k ≡ cell_of_blocks blocks k
     in_other other = ap (λ (b : Block). cell_in b (k % 64)) (get_or-set_other blocks (p / 64) (k / 64) block empty other)
 
+-- if a block is replaced by one with another cell at one place, that cell of the list is set
 pub cells_of-set : (blocks : List Block) (n p : ℕ) (block : Block) (c : Cell) → p < n → p / 64 < length blocks
     → Changes (get_or blocks (p / 64) empty) block (p % 64) c → cells_of (set blocks (p / 64) block) n ≡ set (cells_of blocks n) p c
 cells_of-set blocks n p block c l h change =
@@ -135,7 +140,7 @@ cells_of-set blocks n p block c l h change =
               ∙ sym (cell_of-set_other blocks p block c h change k other)
         ]
 
--- what a block read and written again changes
+-- a block that is read, changed at one cell and put back changes that cell only
 pub changes : (blocks : List Block) (p : ℕ) (old block : Block) (c : Cell) → p / 64 < length blocks → old ≡ get_or blocks (p / 64) old
     → cell_in block (p % 64) ≡ c → ((i : ℕ) → i ≢ p % 64 → cell_in block i ≡ cell_in old i) →
     Changes (get_or blocks (p / 64) empty) block (p % 64) c
@@ -144,7 +149,7 @@ changes blocks p old block c h is here others = record {
   others = λ i n. others i n ∙ ap (λ (b : Block). cell_in b i) (is ∙ get_or-within blocks (p / 64) old empty h);
 }
 
--- blocks stay blocks
+-- the blocks of n cells stay such blocks if one of these cells is changed
 pub kept : (n : ℕ) (blocks : List Block) (p : ℕ) (old block : Block) (c : Cell) → p < n → AreBlocks n blocks →
     old ≡ get_or blocks (p / 64) old
     → cell_in block (p % 64) ≡ c → ((i : ℕ) → i ≢ p % 64 → cell_in block i ≡ cell_in old i) → (IsBlock old → IsBlock block)
@@ -180,7 +185,8 @@ ones_none : count_ones 0 ≡ 0
 unfolding ones ones_in
 ones_none = refl
 
--- so many pass a test as a number has ones, if it has them at the places of those that pass
+-- if for each i below d the number a + i passes a test exactly if m has place i, then as many of the d
+-- numbers from a on pass it as m has ones
 count_bits : (g : ℕ → Bool) (m a d : ℕ) → m < 2 ^ d → ((i : ℕ) → i < d → g (a + i) ≡ has m i) →
     count_by g (range_with_len a d) ≡ count_ones m
 count_bits g m a zero h e =
@@ -196,6 +202,7 @@ count_bits g m a (suc d) h e =
     sum_by-cons (λ (k : ℕ). cond (g k) 1 0) a (range_with_len (a + 1) d)
     ∙ ap (λ (x : ℕ). x + count_by g (range_with_len (a + 1) d)) first ∙ ap (λ (x : ℕ). m % 2 + x) rest ∙ sym (ones_step m)
 
+-- a word has as many ones as its set has places below 64
 pub ones_of : (m : ℕ) → m < 2 ^ 64 → count_ones m ≡ count_by (has m) (range_with_len 0 64)
 ones_of m h = sym (count_bits (has m) m 0 64 h (λ i l. ap (has m) (zero-add i)))
 
@@ -223,7 +230,7 @@ known_bits zero (suc (suc y)) h k = absurd (omega arith)
 known_bits (suc zero) (suc (suc y)) h k = absurd (omega arith)
 known_bits (suc (suc x)) y h k = absurd (omega arith)
 
--- the cells that are filled or blank
+-- the union of both sets has a place exactly if the cell there is known
 pub known_either : (filled blank i : ℕ) → has (bit_or filled blank) i ≡ is_known (cell_of (has filled i) (has blank i))
 known_either filled blank i =
     ap (λ (v : ℕ). nat_eq v 1) (bit_at_or filled blank i) ∙
@@ -239,9 +246,11 @@ held places all lacking i whole rest h none = by (has places i) refl
     by true e = refl
     by false e = absurd (none (rest.from i (whole.from i h, e)))
 
+-- a number that is found equal to 0 is 0
 pub is_zero : (n : ℕ) → true ≡ nat_eq n 0 → n ≡ 0
 is_zero n h = eqb-true n 0 (sym h)
 
+-- a mask that is 0 has no place
 pub nothing_in : (mask i : ℕ) → mask ≡ 0 → Has mask i → ⊥
 nothing_in mask i e h =
     let zero_bit : bit_at mask i ≡ 0 = ap (λ (m : ℕ). bit_at m i) e ∙ bit_at-zero i in
@@ -276,7 +285,7 @@ block_cells blocks i =
     get_or-map-range_with_len (cell_of_blocks blocks) (64 * i) 64 k (64 * i + k) Unknown h refl
     ∙ ap (λ (q : ℕ). cell_in (get_or blocks q empty) ((64 * i + k) % 64)) block ∙ ap (λ (q : ℕ). cell_in (get_or blocks i empty) q) place)
 
--- one block more
+-- block i adds its known cells to those of the blocks before it
 pub known-more : (blocks : List Block) (i : ℕ)
     → count_by is_known (cells_of blocks (64 * (i + 1))) ≡ count_by is_known (cells_of blocks (64 * i)) + count_by is_known
     (cells_in (get_or blocks i empty))
@@ -297,7 +306,7 @@ none_known f a (suc r) h =
     ∙ ap (λ (c : Cell). cond (is_known c) 1 0 + count_by is_known (map f (range_with_len (a + 1) r))) (h a (omega arith))
     ∙ zero-add (count_by is_known (map f (range_with_len (a + 1) r))) ∙ none_known f (a + 1) r (λ k l. h k (omega arith))
 
--- nothing is known behind the last cell
+-- if nothing is known from cell n on, the first m cells have as many known ones as the first n
 pub known-all : (blocks : List Block) (n m : ℕ) → n ≤ m → ((k : ℕ) → n ≤ k → cell_of_blocks blocks k ≡ Unknown)
     → count_by is_known (cells_of blocks m) ≡ count_by is_known (cells_of blocks n)
 unfolding cells_of
@@ -311,7 +320,7 @@ known-all blocks n m h behind =
     (none_known (cell_of_blocks blocks) (0 + n) r (λ k l. behind k (omega arith)))
     ∙ add-zero (count_by is_known (cells_of blocks n))
 
--- the blocks of so many cells have as many known ones
+-- the blocks of n cells have as many known cells as these n cells
 pub known_whole : (n : ℕ) (blocks : List Block) → AreBlocks n blocks →
     count_by is_known (cells_of blocks (64 * length blocks)) ≡ count_by is_known (cells_of blocks n)
 known_whole n blocks are = known-all blocks n (64 * length blocks) (omega (arith, are.count_of)) are.behind

@@ -19,7 +19,7 @@ known_not_unknown Blank h = refl
 found_at : (xs : List Cell) (i : ℕ) → position_or_len is_unknown xs ≡ i → i < length xs → position is_unknown xs ≡ Some i
 found_at xs i e h = rw (e, lt-ltb i (length xs) h) refl
 
--- the first cell that is not known
+-- a cell is the first unknown one if it is unknown and each one before it is known
 pub position_some : (xs : List Cell) (i : ℕ) → i < length xs → get_or xs i Unknown ≡ Unknown →
     ((k : ℕ) → k < i → is_known (get_or xs k Unknown) ≡ true)
     → position is_unknown xs ≡ Some i
@@ -28,7 +28,7 @@ position_some xs i h here before =
     (position_or_len_is is_unknown xs i Unknown (omega arith) (λ k l. known_not_unknown (get_or xs k Unknown) (before k l))
     (λ l. ap is_unknown here)) h
 
--- all cells are known
+-- if all cells are known, there is no first unknown one
 pub position_none : (xs : List Cell) → ((k : ℕ) → k < length xs → is_known (get_or xs k Unknown) ≡ true) → position is_unknown xs ≡ None
 position_none xs known =
     let all : position_or_len is_unknown xs ≡ length xs =
@@ -36,7 +36,7 @@ position_none xs known =
     (λ l. absurd (omega arith)) in
     rw (all, le-ltb (length xs) (length xs) (omega arith)) refl
 
--- either all cells are known, or some one is not
+-- either all cells are known, or one is not
 all_or_not : (xs : List Cell)
     → ((list_all is_known xs ≡ true) × (position_or_len is_unknown xs ≡ length xs)) ⊎
     ((list_all is_known xs ≡ false) × (position_or_len is_unknown xs < length xs))
@@ -54,12 +54,14 @@ unknown_or_all {X} f xs =
       | inr n ↦ rw (n.0, lt-ltb (position_or_len is_unknown xs) (length xs) n.1) refl
     ]
 
+-- if the negation of a test is false, the test is true
 pub is_not : (b : Bool) → not b ≡ false → b ≡ true
 is_not true h = refl
 is_not false h = absurd (true≢false h)
 
 -- ---- blocks of cells
 
+-- if cell p of n cells of blocks is unknown and each one before it is known, it is the first unknown one
 pub first_in : (blocks : List Block) (n p : ℕ) → p < n → cell_of_blocks blocks p ≡ Unknown →
     ((i : ℕ) → i < p → is_known (cell_of_blocks blocks i) ≡ true)
     → position is_unknown (cells_of blocks n) ≡ Some p
@@ -67,6 +69,7 @@ first_in blocks n p h here before =
     position_some (cells_of blocks n) p (omega (arith, length-cells_of blocks n)) (get_or-cells_of blocks n p Unknown h ∙ here)
     (λ k l. ap is_known (get_or-cells_of blocks n k Unknown (omega arith)) ∙ before k l)
 
+-- if each of the first n cells of blocks is known, none of them is unknown
 pub none_in : (blocks : List Block) (n : ℕ) → ((i : ℕ) → i < n → is_known (cell_of_blocks blocks i) ≡ true) →
     position is_unknown (cells_of blocks n) ≡ None
 none_in blocks n known =
@@ -74,7 +77,7 @@ none_in blocks n known =
     let within : k < n = omega (arith, length-cells_of blocks n) in ap is_known (get_or-cells_of blocks n k Unknown within) ∙
     known k within)
 
--- one place of a block more
+-- if the cells of the first i blocks are known, and the first ones of block i too, all cells up to there are
 pub before-more : (blocks : List Block) (i place : ℕ) → place ≤ 64 → ((k : ℕ) → k < 64 * i → is_known (cell_of_blocks blocks k) ≡ true)
     → ((k : ℕ) → k < place → is_known (cell_in (get_or blocks i empty) k) ≡ true) → (k : ℕ) → k < 64 * i + place →
     is_known (cell_of_blocks blocks k) ≡ true

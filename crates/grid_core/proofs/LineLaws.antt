@@ -57,7 +57,7 @@ each_row P p h y l =
     (recursion_from_All P (lines_of p) h))
     y l)
 
--- and of each column
+-- what holds of each line holds of each column
 pub each_column : (P : GridLine → Type 0) (p : Nonogram) → All P (lines_of p) → (x : ℕ) → x < length p.columns → P (column_at p x)
 each_column P p h x l =
     subst (λ (q : ℕ). P (column_line p (q, get_or p.columns x []))) (zero-add x)
@@ -113,7 +113,7 @@ cells-range d cells first (suc n) h =
     let whole : drop first cells ≡ get_or cells first d ∷ drop (suc first) cells = drop-cons cells first d within in
     rw (whole, ← add-one first) (ap (λ xs. get_or cells first d ∷ xs) rest)
 
--- a row ends within the grid
+-- row y ends within a grid of w columns and h rows, if y < h
 pub row-within : (w h y : ℕ) → y < h → y * w + w ≤ w * h
 row-within w h y l =
     let more = mul-le-mul_right w l in
@@ -122,12 +122,15 @@ row-within w h y l =
 column-within : (w h x y : ℕ) → x < w → y < h → x + y * w < w * h
 column-within w h x y k l = omega (arith, row-within w h y l)
 
+-- the cell in column x and row y lies within a grid of w columns and h rows, if x < w and y < h
 pub place-within : (w h x y : ℕ) → x < w → y < h → y * w + x < w * h
 place-within w h x y k l = omega (arith, row-within w h y l)
 
+-- the cells of each row are a range of the cells of the grid
 pub row-is_range : (p : Nonogram) → RowIsRange p
 row-is_range p full y long l = cells-range false full (y * p.width) p.width (omega (arith, row-within p.width p.height y l))
 
+-- the cells of each column are as many as there are rows, each p.width cells of the grid further on
 pub column-is_stride : (p : Nonogram) → ColumnIsStride p
 column-is_stride p full x long l = (
   length-cells_at false full ((column_at p x).places) ∙ length-places_from x p.width p.height,

@@ -55,6 +55,7 @@ length-cells_told filled blank count = length-map-range_with_len (cell_told fill
 get_or-cells_told : (filled blank count i : ℕ) → i < count → get_or (cells_told filled blank count) i Unknown ≡ cell_told filled blank i
 get_or-cells_told filled blank count i h = get_or-map-range_with_len (cell_told filled blank) 0 count i i Unknown h (omega arith)
 
+-- if cells that two masks tell are written into blocks, they replace those of the list at their places
 pub cells_of-written : (old new : List Block) (n first count filled blank : ℕ) → first + count ≤ n →
     AreWritten old new first count (cell_told filled blank)
     → cells_of new n ≡ take first (cells_of old n) ++ cells_told filled blank count ++ drop (first + count) (cells_of old n)
@@ -95,13 +96,13 @@ cells_of-written old new n first count filled blank h written =
           | inr from ↦ elim (cases_lt k (first + count)) [ inl to ↦ here k from to | inr high ↦ kept k l (inr high) ]
         ]
 
--- the same blocks, written from the same place on
+-- cells that are written into blocks are written into equal blocks from an equal place on
 pub written_same : (old items new : List Block) (first from count : ℕ) (told : ℕ → Cell) → old ≡ items → first ≡ from →
     AreWritten old new first count told → AreWritten items new from count told
 written_same old items new first from count told e f written =
     subst (λ (b : List Block). AreWritten b new from count told) e (subst (λ (q : ℕ). AreWritten old new q count told) f written)
 
--- blocks that are written within their cells stay blocks
+-- the blocks of n cells stay such blocks if they are written within these cells
 pub written_kept : (old new : List Block) (n first count : ℕ) (told : ℕ → Cell) → first + count ≤ n → AreBlocks n old →
     AreWritten old new first count told → AreBlocks n new
 written_kept old new n first count told h are written = record {

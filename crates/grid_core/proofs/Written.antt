@@ -70,7 +70,7 @@ part_written blocks place count b told h fits part = record {
         ∙ part.others (k % 64) (beside k o e) (omega arith)
         ∙ ap (λ (q : ℕ). cell_in (get_or blocks q empty) (k % 64)) (sym e)
 
--- cells written behind others
+-- if cells are written, and more cells right behind them, all of these are written
 pub more_written : (a b c : List Block) (first n m : ℕ) (told more : ℕ → Cell) → AreWritten a b first n told →
     AreWritten b c (first + n) m more
     → ((i : ℕ) → i < m → more i ≡ told (n + i)) → AreWritten a c first (n + m) told
@@ -95,7 +95,7 @@ more_written a b c first n m told more p q same = record {
     before k (inl o) = inl (omega arith)
     before k (inr o) = inr (omega arith)
 
--- the same cells, told otherwise
+-- what is written as `more` tells is written as `told` tells, if both tell the same of each cell
 pub told_as : (old new : List Block) (first n m : ℕ) (more told : ℕ → Cell) → n ≡ m → AreWritten old new first n more →
     ((i : ℕ) → i < n → more i ≡ told i) → AreWritten old new first m told
 told_as old new first n m more told e p same =
@@ -106,7 +106,7 @@ told_as old new first n m more told e p same =
       each = p.each;
     })
 
--- the first cells of a word, as many as there is room for in the block of the place
+-- the first cells of a word are written, as many as there is room for in the block of the place
 pub low_written : (blocks : List Block) (place count n row up : ℕ) (word moved b : Block) → place / 64 < length blocks → n ≤ count →
     place % 64 + n ≤ 64
     → (n ≡ count) ⊎ (place % 64 + n ≡ 64) → IsMaskOf (λ i. i < count) row → IsMaskOf (IsMoved 64 (Has row) (place % 64)) up
@@ -135,7 +135,7 @@ low_written blocks place count n row up word moved b h few fits whole row_is up_
         behind (inl e) a b c = omega arith
         behind (inr e) a b c = omega arith
 
--- the rest of a word, in the next block
+-- the rest of a word is written into the next block
 pub high_written : (blocks : List Block) (place count n over row down : ℕ) (word moved b : Block) → place / 64 + 1 < length blocks →
     over ≡ 64 - place % 64 → n ≡ count - over
     → over < count → count ≤ 64 → IsMaskOf (λ i. i < count) row → IsMaskOf (λ i. Has row (i + over)) down
@@ -180,7 +180,7 @@ moved_down a m by i is = both (has m i) refl
     both true e = e ∙ sym (has_true a (i + by) (is.to i (true_has m i e)))
     both false e = e ∙ sym (lacks a (i + by) (λ h. true≢false (sym (has_true m i (is.from i h)) ∙ e)))
 
--- the cells that are told by what is left of two masks
+-- two masks that were moved down tell the cells further on
 pub told_on : (filled blank f b by i : ℕ) → ((k : ℕ) → has f k ≡ has filled (k + by)) → ((k : ℕ) → has b k ≡ has blank (k + by)) →
     cell_told f b i ≡ cell_told filled blank (by + i)
 told_on filled blank f b by i p q =
@@ -189,23 +189,24 @@ told_on filled blank f b by i p q =
     let second : has b i ≡ has blank (by + i) = q i ∙ ap (has blank) e in
     λ j. cell_of (first j) (second j)
 
--- the cells that are told by the lower halves of two masks
+-- the lower halves of two masks tell the cells before place 128
 pub told_low : (fl fh bl bh i : ℕ) → i < 128 → cell_told fl bl i ≡ cell_told (joined fl fh) (joined bl bh) i
 told_low fl fh bl bh i h = λ j. cell_of (has_low fl fh i h j) (has_low bl bh i h j)
 
--- and by the upper ones
+-- the upper halves of two masks tell the cells from place 128 on
 pub told_high : (fl fh bl bh i : ℕ) → fl < 2 ^ 128 → bl < 2 ^ 128 → cell_told fh bh i ≡ cell_told (joined fl fh) (joined bl bh) (128 + i)
 told_high fl fh bl bh i f b =
     let at : i ≡ 128 + i - 128 = omega arith in
     ap (cell_told fh bh) at ∙ (λ j. cell_of (has_high fl fh (128 + i) f (omega arith) j) (has_high bl bh (128 + i) b (omega arith) j))
 
--- the halves of two masks that share no place share none
+-- the lower halves of two masks that share no place share none
 pub apart_low : (fl fh bl bh : ℕ) → fl < 2 ^ 128 → ((i : ℕ) → Has (joined fl fh) i → Has (joined bl bh) i → ⊥) → (i : ℕ) → Has fl i →
     Has bl i → ⊥
 apart_low fl fh bl bh f apart i x y =
     let h : i < 128 = has_below 128 fl i f x in
     apart i (bit_low fl fh i h ∙ x) (bit_low bl bh i h ∙ y)
 
+-- the upper halves of two masks that share no place share none
 pub apart_high : (fl fh bl bh : ℕ) → fl < 2 ^ 128 → bl < 2 ^ 128 → ((i : ℕ) → Has (joined fl fh) i → Has (joined bl bh) i → ⊥) → (i : ℕ) →
     Has fh i → Has bh i → ⊥
 apart_high fl fh bl bh f b apart i x y = apart (i + 128) (bit_high fl fh i f ∙ x) (bit_high bl bh i b ∙ y)

@@ -32,17 +32,19 @@ cells_in block = map (cell_in block) (range_with_len 0 64)
 abbrev pub cell_of_blocks : List Block → ℕ → Cell
 cell_of_blocks blocks place = cell_in (slice_index_or blocks (place / 64) empty) (place % 64)
 
--- so many cells of blocks that follow one another, from the first on
+-- the first `count` cells of blocks that follow one another
 unfoldable pub cells_of : List Block → ℕ → List Cell
 cells_of blocks count = map (cell_of_blocks blocks) (range_with_len 0 count)
 
--- what the blocks of so many cells keep: there are as many as are needed, and nothing is known behind the last cell
+-- what the blocks of `count` cells keep: they are as many as are needed, and nothing is known behind the last
+-- cell
 pub record AreBlocks (count : ℕ) (blocks : List Block) : Type 0 where
   pub count_of : length blocks ≡ (count + 63) / 64
   pub each : (k : ℕ) → IsBlock (slice_index_or blocks k empty)
   pub behind : (place : ℕ) → count ≤ place → cell_of_blocks blocks place ≡ Unknown
 
--- of the new blocks so many cells from the first place on are those that are told, and the others those of the old ones
+-- of the new blocks, `count` cells from the first place on are those that are told, and the others are those
+-- of the old ones
 pub record AreWritten (old new : List Block) (first count : ℕ) (told : ℕ → Cell) : Type 0 where
   pub size : length new ≡ length old
   pub here : (i : ℕ) → i < count → cell_of_blocks new (first + i) ≡ told i

@@ -34,7 +34,8 @@ allows Unknown filled = true
 allows Filled filled = filled
 allows Blank filled = not filled
 
--- whether a full line, or a full grid, is as long as a partly known one and has its colour wherever that is known
+-- whether a full line, or a full grid, is as long as a partly known one and has the colour of each cell that
+-- is known there
 abbrev pub agrees : List Cell → List Bool → Bool
 agrees = pointwise allows
 

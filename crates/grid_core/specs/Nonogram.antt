@@ -9,7 +9,8 @@ use Rattle.grid_core.specs.PartialGrid.{PartialGrid, IsSizeWithin}
 use Rattle.grid_core.specs.Cells.{is_known, is_filled}
 use Rattle.grid_core.specs.Runs.{runs}
 
--- a nonogram: a clue for each row, from the top, and for each column, from the left, texts, and perhaps a goal in row order
+-- a nonogram: a clue for each row, from the top, and for each column, from the left, texts, and perhaps a
+-- goal in row order
 pub record Nonogram : Type 0 where
   pub width : ℕ
   pub height : ℕ
@@ -27,7 +28,7 @@ bools_of (Some v) = Some v.items
 abbrev pub HasClueForEachLine : ℕ → ℕ → List (List ℕ) → List (List ℕ) → Type 0
 HasClueForEachLine width height rows columns = (length rows ≡ height) × (length columns ≡ width)
 
--- whether a goal, if there is one, has so many values
+-- whether a goal, if there is one, has `count` values
 abbrev pub is_goal : ℕ → Option (List Bool) → Bool
 is_goal count None = true
 is_goal count (Some values) = length values == count
@@ -36,8 +37,8 @@ is_goal count (Some values) = length values == count
 abbrev pub plain : ℕ → ℕ → List (List ℕ) → List (List ℕ) → Nonogram
 plain width height rows columns = record { width = width; height = height; rows = rows; columns = columns; texts = no_texts; goal = None }
 
--- What a puzzle keeps, where the sides and the numbers of a clue go up to the limit: the sizes are in range, each line has a clue, each clue and
--- each text is one, and a goal has a value for each cell.
+-- What a puzzle keeps if the sides and the numbers of a clue go up to the limit: the sizes are in range, each
+-- line has a clue, each clue and each text is one, and a goal has a value for each cell.
 pub record IsNonogramWithin (limit : ℕ) (p : Nonogram) : Type 0 where
   pub size : IsSizeWithin limit p.width p.height
   pub clues : HasClueForEachLine p.width p.height p.rows p.columns
@@ -55,7 +56,7 @@ pub record GridLine : Type 0 where
   pub places : List ℕ
   pub clue : List ℕ
 
--- the first place, and then others, each a step further
+-- n places: the first, and then others, each a step further
 abbrev pub places_from : ℕ → ℕ → ℕ → List ℕ
 places_from first step zero = []
 places_from first step (suc n) = first ∷ places_from (first + step) step n

@@ -7,7 +7,8 @@ abbrev pub RowIsRange : Nonogram → Type 0
 RowIsRange p = (full : List Bool) (y : ℕ) → length full ≡ p.width * p.height → y < p.height
     → cells_at false full ((row_at p y).places) ≡ take p.width (drop (y * p.width) full)
 
--- the cells of column x are as many as there are rows, and cell y of them is cell x + y * w of the grid, which lies in the grid
+-- the cells of column x are as many as there are rows, and cell y of them is cell x + y * w of the grid,
+-- which lies in the grid
 abbrev pub ColumnIsStride : Nonogram → Type 0
 ColumnIsStride p = (full : List Bool) (x : ℕ) → length full ≡ p.width * p.height → x < p.width
     → (length (cells_at false full ((column_at p x).places)) ≡ p.height)

@@ -10,7 +10,7 @@ use Rattle.grid_core.specs.PartialGrid.{PartialGrid}
 abbrev pub cell_told : ℕ → ℕ → ℕ → Cell
 cell_told filled blank place = cell_of (has filled place) (has blank place)
 
--- so many cells that two sets tell, from the first place on
+-- the first `count` cells that two sets tell
 abbrev pub cells_told : ℕ → ℕ → ℕ → List Cell
 cells_told filled blank count = map (λ place. cell_of (has filled place) (has blank place)) (range_with_len 0 count)
 

@@ -18,7 +18,7 @@ by_outcome p true grid width height e =
     ∙ ap (closed_text p) e
 by_outcome p false grid width height e = ap (closed_text p) e
 
--- the report of what closing the unknown grid leaves
+-- the report of what closing the unknown grid leaves is what is printed of the puzzle
 pub report_of_closed : (p q : Nonogram) (alive : Bool) (old grid : PartialGrid) → q ≡ p → old ≡ grid_of p (unknown_grid p)
     → (grid.width ≡ q.width) × (grid.height ≡ q.height) → if_alive alive grid.cells ≡ closure (lines_of q) old.cells →
     outcome_report alive grid ≡ lines_text p
@@ -26,7 +26,7 @@ report_of_closed p q alive old grid puzzle unknown size closed =
     by_outcome p alive grid (size.0 ∙ ap (λ (r : Nonogram). r.width) puzzle) (size.1 ∙ ap (λ (r : Nonogram). r.height) puzzle)
     (closed ∙ ap (λ (r : Nonogram). closure (lines_of r) old.cells) puzzle ∙ ap (λ (g : PartialGrid). closure (lines_of p) g.cells) unknown)
 
--- the grid of the puzzle's size of which nothing is known
+-- the grid of the puzzle's size of which nothing is known is its unknown grid
 pub unknown_is : (p : Nonogram) (w h : ℕ) (grid : PartialGrid) → w ≡ p.width → h ≡ p.height →
     grid ≡ record { width = w; height = h; cells = replicate (w * h) Unknown }
     → grid ≡ grid_of p (unknown_grid p)

@@ -78,7 +78,7 @@ refused_entry text read body (Text BadCount) known gives = (body, (rw gives refl
 refused_entry text read body (Text (BadNumber i)) known gives = (body, (rw gives refl, keeps known))
 refused_entry text read body (Text (BadGoal i)) known gives = (body, (rw gives refl, keeps known))
 
--- the same, of the answer that was given
+-- if a file's text is refused, and the answer is that fault, nothing is printed
 pub refused_of : (report : List ℕ → Nonogram → List ℕ) (name given body : List ℕ) (fault : EntryFault) (r : Result (Unit {0}) Stop)
     (known : Option (List ℕ)) → given ≡ name → GivesText (Err fault) (text_or_fault (report given) (said given body)) →
     IsErrAnd r (λ stop. stop ≡ Entry fault)
@@ -104,7 +104,7 @@ unconverted format name body (convert.Entry (Text BadCount)) known gives = (body
 unconverted format name body (convert.Entry (Text (BadNumber i))) known gives = (body, (rw gives refl, keeps known))
 unconverted format name body (convert.Entry (Text (BadGoal i))) known gives = (body, (rw gives refl, keeps known))
 
--- the same, of the answer that was given
+-- if a file's puzzle is not converted, and the answer is that fault, nothing is printed
 pub unconverted_of : (format : Format) (name given body : List ℕ) (fault : ConvertFault) (r : Result (Unit {0}) Stop)
     (known : Option (List ℕ))
     → given ≡ name → GivesConverted (Err fault) (converted format (said given body)) → IsErrAnd r (λ stop. stop ≡ stop_of_convert fault)

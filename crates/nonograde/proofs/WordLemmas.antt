@@ -34,21 +34,21 @@ number_of_text bits least most n (Some t) (Some v) reads small kept = λ numeral
     let is : v ≡ digits_value 10 (without_leading_plus t) = (reads t refl).0.1 in
     kept v refl (omega arith) (omega arith) ∙ is
 
--- the same of a command's entry
+-- if a typed getter read a number of the entry, and n is that number in its range, n is what the entry writes
 pub number_of_entry : (bits least most n : ℕ) (f : Found) (id : Text) (given : Option ℕ) →
     ((t : Text) → one_text f id ≡ Some t → ReadsOne (Gives bits) t given)
     → most < 2 ^ bits → ((v : ℕ) → given ≡ Some v → least ≤ v → v ≤ most → n ≡ v) → IsNumberIn least most (one_of id (rows_of f)) n
 number_of_entry bits least most n f id given reads small kept =
     number_of_text bits least most n (one_of id (rows_of f)) given (λ t is. reads t (one_text-rows f id ∙ is)) small kept
 
--- the least of a number and a greater one
+-- bounding the number given changes nothing if it is at most `most`
 pub kept_below : (n v most other : ℕ) (given : Option ℕ) → n ≡ min (unwrap_or given other) most → given ≡ Some v → v ≤ most → n ≡ v
 kept_below n v most other None is same below = cc
 kept_below n v most other (Some w) is same below =
     let e : w ≡ v = cc in
     omega arith
 
--- the same where it is clamped
+-- clamping the number given changes nothing if it is from `least` to `most`
 pub kept_within : (n v least most other : ℕ) (given : Option ℕ) → n ≡ max least (min (unwrap_or given other) most) → given ≡ Some v →
     least ≤ v → v ≤ most → n ≡ v
 kept_within n v least most other None is same above below = cc
@@ -56,7 +56,7 @@ kept_within n v least most other (Some w) is same above below =
     let e : w ≡ v = cc in
     omega arith
 
--- the text of an entry
+-- the text that a getter read, or else the empty one, is that of the entry
 pub text_of_entry : (f : Found) (id : Text) (given : Option (Bor Text)) (d : Bor Text) →
     option_map (λ s. s.now) given ≡ first_value f id → d.now ≡ []
     → (unwrap_or given d).now ≡ text_in id (rows_of f)
@@ -73,19 +73,19 @@ pick_of_other word other = elim (cases_Bool (bytes_eq word (codes "most"))) [
   | inr differs ↦ rw differs refl
 ]
 
--- the texts of an entry
+-- the texts that a getter read, or else none, are those of the entry
 pub texts_of_entry : (f : Found) (id : Text) (given : Option (Bor (List (Bor Text)))) (d : Bor (List (Bor Text)))
     → option_map (λ s. map (λ v. v.now) s.now) given ≡ option_map raw_values (matched_of f id) → d.now ≡ []
     → map (λ v. v.now) (unwrap_or given d).now ≡ texts_in id (rows_of f)
 texts_of_entry f id None d reads empty = ap (map (λ v. v.now)) empty ∙ ap (λ o. unwrap_or o []) (reads ∙ raw_values-rows f id)
 texts_of_entry f id (Some x) d reads empty = ap (λ o. unwrap_or o []) (reads ∙ raw_values-rows f id)
 
--- what a flag says
+-- if a flag has a value for a word, and the entry has this word, the flag has that value
 pub flag_of_entry : (f : Found) (id word : Text) (flag value : Bool) → (one_text f id ≡ Some word → flag ≡ value) →
     one_of id (rows_of f) ≡ Some word → flag ≡ value
 flag_of_entry f id word flag value reads is = reads (one_text-rows f id ∙ is)
 
--- a list up to its end
+-- the first n elements of a list of n elements are all of it
 pub take_end : (n : ℕ) (xs : List (Bor Text)) → length xs ≤ n → n ≤ length xs → take n xs ≡ xs
 take_end n xs past within =
     let e : n ≡ length xs = omega arith in

@@ -34,7 +34,8 @@ IsSound stream = stream.new_faults ≡ stream.old_faults
 abbrev pub Says : Stop → Option (List ℕ) → Option (List ℕ) → Type 0
 Says stop old new = Appends old new (stop_line stop) ⊎ Appends old new (stop_line NoMemory)
 
--- the program ends at this stop: with status 1, and the stop's line on the stream for faults, if that takes it
+-- the program ends at this stop: with status 1, and with the stop's line on the stream for faults, if that
+-- takes it
 pub record Stops (stop : Stop) (status : ℕ) (errors : Stream) : Type 0 where
   pub gives : status ≡ 1
   pub said : IsSound errors → Says stop errors.old errors.new
@@ -55,7 +56,8 @@ pub record EndsByRequest (request : Request) (input : Option (List ℕ)) (status
   pub printed : Performs request input done output.old output.new
   pub ended : EndsAfter done status errors
 
--- The program ends by what `clap` says of the words. A refusal: status 2, and nothing on the output. Help or the version: status 0, or that the output failed.
+-- The program ends by what `clap` says of the words. A refusal: status 2, and nothing on the output. Help or
+-- the version: status 0, or that the output failed.
 pub record EndsByWords (kind : ErrorKind) (status : ℕ) (output errors : Stream) : Type 0 where
   pub refused : (kind ≡ DisplayHelp → ⊥) → (kind ≡ DisplayVersion → ⊥) → (status ≡ 2) × Keeps output.old output.new
   pub shown : (kind ≡ DisplayHelp) ⊎ (kind ≡ DisplayVersion) → EndsWell status errors ⊎ Stops Write status errors

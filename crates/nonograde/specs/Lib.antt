@@ -1,3 +1,4 @@
+-- The definitions that the contracts cite.
 pub mod Command
 pub mod Stop
 pub mod Reports

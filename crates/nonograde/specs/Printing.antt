@@ -44,9 +44,8 @@ PrintsWhole answer old new = (text : List ℕ) × (answer ≡ Ok text) × Append
 abbrev pub PrintsFront : Result (List ℕ) Stop → Option (List ℕ) → Option (List ℕ) → Type 0
 PrintsFront answer old new = (text : List ℕ) × (answer ≡ Ok text) × ((sent : ℕ) × (sent ≤ length text) × Appends old new (take sent text))
 
--- What is left if an answer is printed: the whole text; a front of it if the output failed; nothing if the program stops at
--- the answer's own fault.
--- Want of memory may stand in place of any answer.
+-- What is left if an answer is printed: the whole text; a front of it if the output failed; nothing if the
+-- program stops at the answer's own fault. Want of memory may stand in place of any answer.
 abbrev pub Prints : {U : Type 0} → Result (List ℕ) Stop → Result U Stop → Option (List ℕ) → Option (List ℕ) → Type 0
 Prints answer (Ok _) old new = PrintsWhole answer old new
 Prints answer (Err Write) old new = PrintsFront answer old new
@@ -54,7 +53,8 @@ Prints answer (Err NoMemory) old new = Keeps old new
 Prints answer (Err (Entry (Text text.NoMemory))) old new = Keeps old new
 Prints answer (Err stop) old new = (answer ≡ Err stop) × Keeps old new
 
--- The same of a file: there are bytes of which this is the answer. If the file can't be read, nothing is printed.
+-- The same of a file: there are bytes of which this is the answer. If the file can't be read, nothing is
+-- printed.
 abbrev pub PrintsFile : {U : Type 0} → (List ℕ → Result (List ℕ) Stop) → Result U Stop → Option (List ℕ) → Option (List ℕ) → Type 0
 PrintsFile answer (Err Read) old new = Keeps old new
 PrintsFile answer result old new = (body : List ℕ) × Prints (answer body) result old new
@@ -75,15 +75,16 @@ named_texts (name ∷ names) (text ∷ texts) = record { name = name; body = tex
 abbrev pub files_survey : Settings → List (List ℕ) → List (List ℕ) → Result (List ℕ) CollectionFault
 files_survey settings names texts = survey_of_entries (guessing settings) settings.show (named_texts names texts)
 
--- What a survey of files leaves: there are bytes, as many texts as files, of which it is the survey. If a file can't be
--- read, or there is no room for what is read, nothing is printed.
+-- What a survey of files leaves: there are texts, as many as files, of which it is the survey. If a file
+-- can't be read, or there is no room for what is read, nothing is printed.
 abbrev pub PrintsFiles : {U : Type 0} → Settings → List (List ℕ) → Result U Stop → Option (List ℕ) → Option (List ℕ) → Type 0
 PrintsFiles settings names (Err Read) old new = Keeps old new
 PrintsFiles settings names (Err NoMemory) old new = Keeps old new
 PrintsFiles settings names result old new = (texts : List (List ℕ)) × (length texts ≡ length names) ×
     PrintsSurvey (files_survey settings names texts) result old new
 
--- What a survey of standard input leaves, if its bytes are known. If there is no room to tell its progress, nothing is printed.
+-- What a survey of standard input leaves, if its bytes are known. If there is no room to tell its progress,
+-- nothing is printed.
 abbrev pub PrintsInput : {U : Type 0} → Settings → Option (List ℕ) → Result U Stop → Option (List ℕ) → Option (List ℕ) → Type 0
 PrintsInput settings input (Err NoMemory) old new = Keeps old new
 PrintsInput settings input result old new =
@@ -102,7 +103,7 @@ Performs (Solve guesses pick path) input result old new = PrintsFile (solve_answ
 Performs (Convert format path) input result old new = PrintsFile (convert_answer format (string_bytes path)) result old new
 Performs (Lines path) input result old new = PrintsFile (lines_answer (string_bytes path)) result old new
 
--- the program stops since its output failed
+-- the program stops because its output failed
 abbrev pub IsUnwritten : {U : Type 0} → Result U Stop → Type 0
 IsUnwritten (Ok _) = ⊥
 IsUnwritten (Err Write) = Unit {0}

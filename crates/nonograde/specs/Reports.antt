@@ -17,7 +17,7 @@ use Rattle.survey_core.specs.Entries.{entry_text}
 use Rattle.survey_core.specs.Grids.{grid_text}
 use Rattle.survey_core.specs.Survey.{reported}
 
--- the word for a grid that is closed by lines and not dead: `one` where it is full, else `open`
+-- the word for a grid that is closed by lines and not dead: `one` if it is full, else `open`
 abbrev pub closed_word : PartialGrid → List ℕ
 closed_word grid = if list_all is_known grid.cells then codes "one" else codes "open"
 
@@ -39,7 +39,8 @@ closed_text p (Some cells) = grid_report (grid_of p cells)
 abbrev pub lines_text : Nonogram → List ℕ
 lines_text p = closed_text p (line_closure p)
 
--- the puzzle's line in a survey with this limit on guesses and this rule for them, numbered 1, and its solutions
+-- the puzzle's line in a survey with this limit on guesses and this rule for them, numbered 1, and its
+-- solutions
 abbrev pub solve_text : List ℕ → ℕ → Pick → Nonogram → List ℕ
 solve_text name limit pick p = entry_text true 1 (record { name = name; result = reported (record { limit = limit; pick = pick }) (Ok p) })
 

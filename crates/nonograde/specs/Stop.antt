@@ -1,4 +1,4 @@
--- The line that the program prints where it stops.
+-- The line that the program prints if it stops.
 use Rattle.std.specs.Prelude.{ℕ, List, ◌++◌, codes}
 use Rattle.puzzle_text.specs.Words.{word_of, word_of_collection}
 use Rattle.survey_core.specs.declared.faults.RunFault.{RunFault}
@@ -25,11 +25,11 @@ stop_word stop.Read = codes "Read"
 stop_word stop.Write = codes "Write"
 stop_word stop.NoMemory = codes "NoMemory"
 
--- the line that the program prints where it stops
+-- the line that the program prints if it stops
 abbrev pub stop_line : Stop → List ℕ
 stop_line stop = codes "nonograde: " ++ stop_word stop ++ codes "\n"
 
--- why the program stops where a text is not converted
+-- why the program stops if a text is not converted
 abbrev pub stop_of_convert : ConvertFault → Stop
 stop_of_convert (convert.Entry fault) = stop.Entry fault
 stop_of_convert convert.Ambiguous = stop.Ambiguous

@@ -115,7 +115,7 @@ pub record IsArgument (rule : Rule) (arg : Arg) : Type 0 where
   pub follows : rule_of arg ≡ rule
   pub local : arg.global ≡ false
 
--- n is the number that the text writes, where that lies in the range
+-- n is the number that the text writes, if that lies in the range
 abbrev pub IsNumberIn : ℕ → ℕ → Option Text → ℕ → Type 0
 IsNumberIn least most None n = Unit {0}
 IsNumberIn least most (Some text) n =
@@ -169,7 +169,8 @@ abbrev pub AsksIn : Option (Text × List Row) → Request → Type 0
 AsksIn None request = ⊥
 AsksIn (Some (command, rows)) request = Asks command rows request
 
--- the words after the program's name ask for this: `clap` reads them by the definition of the program's commands
+-- the words after the program's name ask for this: `clap` reads them by the definition of the program's
+-- commands
 pub record WordsAsk (words : List Text) (request : Request) : Type 0 where
   pub formats : Choices
   pub picks : Choices

@@ -31,13 +31,14 @@ map-push : {Q T : Type 0} (f : Q → T) (qs : List Q) (q : Q) → map f (qs ++ q
 map-push f [] q = refl
 map-push f (x ∷ qs) q = ap (λ l. f x ∷ l) (map-push f qs q)
 
+-- if each list of jobs is answered, and one more queue answers one more list, each list is answered
 pub EachAnswered-more : {Q : Type 0} (f : Q → List Answer) (jss : List (List Job)) (qs qs' : List Q) (js : List Job) (q : Q) →
     qs' ≡ qs ++ q ∷ [] → EachAnswered jss (map f qs) → AreAnswersTo js (f q) → EachAnswered (jss ++ js ∷ []) (map f qs')
 EachAnswered-more f jss qs qs' js q e h one =
     subst (λ ass. EachAnswered (jss ++ js ∷ []) ass) (sym (ap (λ l. map f l) e ∙ map-push f qs q))
     (EachAnswered-push jss (map f qs) js (f q) h one)
 
--- as many lists of answers as lanes
+-- if the jobs of each lane are answered, there are as many queues of answers as lanes
 pub answered_length : {Q J : Type 0} (f : Q → List Answer) (h : J → List Job) (qs : List Q) (js : List J) (jss : List (List Job)) →
     EachAnswered jss (map f qs) → jss ≡ map h js → length qs ≡ length js
 answered_length f h qs js jss all e = sym (length-map qs f) ∙ EachAnswered-length jss (map f qs) all ∙ ap length e ∙ length-map js h

@@ -61,7 +61,7 @@ own_turn jobs job i answers false e h = cc
 is_own : (i : ℕ) → (i == i) ≡ true
 is_own i = grind (arith, nat_tests)
 
--- whose turn it is has the answer to the next job at its front
+-- the queue whose turn it is has the answer to the next job at its front
 pub gather_front : (n place : ℕ) (job : Job) (rest : List Job) (xss : List (List Answer)) →
     ((k : ℕ) → k < n → AreAnswersTo (dealt_from place (job ∷ rest) n k) (get_or xss k [])) → place % n < n →
     AreAnswersTo (job ∷ dealt_from (place + 1) rest n (place % n)) (get_or xss (place % n) [])
@@ -102,7 +102,7 @@ not_empty : (job : Job) (jobs : List Job) (answers : List Answer) → AreAnswers
 not_empty job jobs [] h e = h
 not_empty job jobs (answer ∷ answers) h e = cc
 
--- the queue whose turn it is isn't empty
+-- as long as jobs are left, the queue whose turn it is isn't empty
 pub gather_some : {Q : Type 0} (f : Q → List Answer) (qs : List Q) (n place : ℕ) (q : Q) (jobs : List Job) →
     0 < n → length qs ≡ n → place < length jobs → q ≡ get_or qs (place % n) q → AllLeft jobs n place (map f qs) → f q ≡ [] → ⊥
 gather_some f qs n place q jobs some len h e left empty =
@@ -113,7 +113,7 @@ gather_some f qs n place q jobs some len h e left empty =
     not_empty _ _ _ (gather_front n place r.0 (drop (suc place) jobs) (map f qs) rest within)
     (sym (queue_at f qs (place % n) q (subst (λ m. place % n < m) (sym len) within) e) ∙ empty)
 
--- the next answer is gathered
+-- if the queue whose turn it is gives its next answer, one more job is answered, and the rest is left
 pub gather_next : {Q : Type 0} (f : Q → List Answer) (qs : List Q) (n place : ℕ) (q q' : Q) (jobs : List Job) (answer : Answer)
     (gathered : List Answer) →
     0 < n → length qs ≡ n → place < length jobs → q ≡ get_or qs (place % n) q → f q ≡ answer ∷ f q' →
@@ -138,7 +138,7 @@ gather_next f qs n place q q' jobs answer gathered some len h e front before lef
           (gather_step n place r.0 (drop (suc place) jobs) (map f qs) answer (f q') inside' within at rest k b)),
     )
 
--- the next job is dealt
+-- if the next job goes to the queue whose turn it is, each queue lacks only its share of the rest
 pub deal_next : {Q T : Type 0} (f : Q → List T) (qs : List Q) (n place : ℕ) (q q' : Q) (job : T) (rest xs : List T) →
     0 < n → length qs ≡ n → q ≡ get_or qs (place % n) q → f q' ≡ f q ++ job ∷ [] →
     ((k : ℕ) → k < n → get_or (map f qs) k [] ++ dealt_from place (job ∷ rest) n k ≡ dealt xs n k) →
@@ -153,6 +153,7 @@ deal_next f qs n place q q' job rest xs some len e pushed before k b =
     ∙ ap (λ l. get_or (set (map f qs) (place % n) l) k [] ++ dealt_from (place + 1) rest n k) content
     ∙ deal_step (map f qs) n place job rest xs inside' before k b
 
+-- a list of length 0 is empty
 pub nil_of : {A : Type 0} (xs : List A) → length xs ≡ 0 → xs ≡ []
 nil_of [] h = refl
 nil_of (x ∷ xs) h = absurd (omega arith)

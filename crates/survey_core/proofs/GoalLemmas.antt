@@ -27,7 +27,7 @@ lines_decide full (line ∷ lines) =
       λ all. and_from _ _ (here.1 all.0) (others.1 all.1),
     )
 
--- the test is true exactly where the grid meets the clues
+-- the test is true exactly if the grid meets the clues
 meets_decide : (p : Nonogram) (full : List Bool) → Decides (meets_clues p full) (Meets p full)
 meets_decide p full =
     let lines = lines_decide full (lines_of p) in
@@ -46,7 +46,7 @@ by_test p values false word.Absent decides some meets = absurd (some refl)
 by_test p values false word.Meets decides some meets = let bad = decides.1 (meets.0 refl) in cc
 by_test p values false word.Misses decides some meets = refl
 
--- what is said where it is Absent exactly without a goal, and Meets exactly where the goal meets the clues
+-- a word that is Absent exactly without a goal, and Meets exactly if it meets the clues, is the goal's word
 pub word_of_goal_is : (p : Nonogram) (goal : Option (List Bool)) (said : GoalWord) → (said ≡ word.Absent) ↔ (goal ≡ None)
     → (said ≡ word.Meets) ↔ GivenMeets p goal → said ≡ word_of_goal p goal
 word_of_goal_is p None said absent meets = absent.1 refl
@@ -112,7 +112,7 @@ only_met p solution values only meets =
     } in
     ap (λ (grid : PartialGrid). map is_filled grid.cells) (sym (only.only drawn solves)) ∙ colours_filled values
 
--- the values of a goal meet the clues exactly where they are the colours of the only solution
+-- the values of a goal meet the clues exactly if they are the colours of the only solution
 pub meets_where_shown : (p : Nonogram) (solution : PartialGrid) (values : List Bool) → IsOnlySolution p solution
     → 1 ≤ solution.width → length solution.cells ≡ solution.width * solution.height → length values ≡ p.width * p.height
     → ((y : ℕ) → y < solution.height → IsRowShown solution values y) ↔ Meets p values
@@ -125,12 +125,12 @@ meets_where_shown p solution values only wide_enough cells size =
       λ meets. values_shown solution values cells (only_met p solution values only meets),
     )
 
--- what is said of a goal that meets the clues
+-- the word for a goal that meets the clues is Meets
 pub meets_said : (p : Nonogram) (values : List Bool) → Meets p values → word.Meets ≡ word_of_goal p (Some values)
 meets_said p values meets =
     by_test p values (meets_clues p values) word.Meets (meets_decide p values) (λ e. cc) (λ _. meets, λ _. refl)
 
--- what is said of one that does not
+-- the word for a goal that doesn't meet the clues is Misses
 pub misses_said : (p : Nonogram) (values : List Bool) → (Meets p values → ⊥) → word.Misses ≡ word_of_goal p (Some values)
 misses_said p values misses =
     by_test p values (meets_clues p values) word.Misses (meets_decide p values) (λ e. cc) (λ e. cc, λ meets. absurd (misses meets))

@@ -1,3 +1,4 @@
+-- Lemmas on surveys: entries read, jobs dealt and answered lane by lane, goals, totals, and texts.
 pub mod Front
 pub mod NumberedLemmas
 pub mod PrintedLemmas

@@ -3,7 +3,7 @@ use Rattle.std.proofs.Common.{◌≡◌, ℕ, suc, zero, ◌+◌, ◌<◌, List,
 use Rattle.std.proofs.lemmas.List.{get_or-map, length-map, take-map}
 use Rattle.std.specs.List.{enumerate_from, flat_map}
 
--- one more item
+-- one more item adds what is made of it and its number
 numbered-more : {X Y : Type 0} (f : ℕ × X → List Y) (n : ℕ) (xs : List X) (i : ℕ) (d : X) → i < length xs
     → flat_map f (enumerate_from n (take (suc i) xs)) ≡ flat_map f (enumerate_from n (take i xs)) ++ f (n + i, get_or xs i d)
 numbered-more f n [] i d h = absurd (omega arith)
@@ -15,7 +15,7 @@ numbered-more {X = X} f n (x ∷ xs) (suc i) d h =
     ap (λ rest. f (n, x) ++ rest) (others ∙ ap (λ (k : ℕ). flat_map f (enumerate_from (n + 1) (take i xs)) ++ f (k, get_or xs i d)) number)
     ∙ sym (append_assoc (f (n, x)) (flat_map f (enumerate_from (n + 1) (take i xs))) (f (n + suc i, get_or xs i d)))
 
--- one more item, of items numbered from 1 that each come from another
+-- if items are numbered from 1 and each comes from another, one more adds what is made of it
 pub made-more : {X Y Z : Type 0} (f : ℕ × Y → List Z) (h : X → Y) (xs : List X) (i : ℕ) (d : X) → i < length xs
     → flat_map f (enumerate_from 1 (map h (take (i + 1) xs))) ≡ flat_map f (enumerate_from 1 (map h (take i xs))) ++
     f (i + 1, h (get_or xs i d))

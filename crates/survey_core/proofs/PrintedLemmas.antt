@@ -13,12 +13,12 @@ range-more : (a n j : ℕ) → a + n ≡ j → range_with_len a (suc n) ≡ rang
 range-more a zero j e = let start : a ≡ j = omega arith in ap (λ (k : ℕ). k ∷ []) start
 range-more a (suc n) j e = ap (λ (others : List ℕ). a ∷ others) (range-more (a + 1) n j (omega arith))
 
--- a row with one more cell
+-- one more cell adds its byte to the row
 pub row_front-more : (grid : PartialGrid) (y count : ℕ) → row_front grid y (count + 1) ≡ row_front grid y count ++
     cell_byte (cell_at grid count y) ∷ []
 row_front-more grid y count = map-range_with_len_more (λ x. cell_byte (cell_at grid x y)) 0 count count (omega arith)
 
--- one more row
+-- one more row adds its text
 pub rows_text-more : (grid : PartialGrid) (count : ℕ) → rows_text grid (count + 1) ≡ rows_text grid count ++ row_text grid count
 rows_text-more grid count =
     ap (flat_map (row_text grid)) (ap (range_with_len 0) (add-one count) ∙ range-more 0 count count (omega arith)) ∙
@@ -43,7 +43,7 @@ entries_text-push show entries entry =
     numbered-push (λ (numbered : ℕ × GradedEntry). entry_text show numbered.0 numbered.1) 1 entries entry
     ∙ ap (λ (k : ℕ). entries_text show entries ++ entry_text show k entry) number
 
--- the text so far, with that of one more entry
+-- the text of the entries, with that of one more entry behind it, is the text of all
 pub added_text : (show shows : Bool) (entries : List GradedEntry) (entry : GradedEntry) (old new : List ℕ) (count : ℕ) → shows ≡ show
     → old ≡ entries_text show entries → count ≡ length entries → new ≡ old ++ entry_text shows (count + 1) entry →
     new ≡ entries_text show (entries ++ entry ∷ [])

@@ -23,7 +23,7 @@ use Rattle.survey_core.specs.Guessing.{Guessing}
 use Rattle.survey_core.specs.Readings.{NumberedPuzzle, TakesAnswer, fault_of, job_of, jobs_from, jobs_of, reading, readings, shown_job}
 use Rattle.survey_core.specs.Survey.{graded, reported}
 
--- the jobs of one more entry
+-- one more entry adds its job, if it is a puzzle
 pub jobs_of-more : (guesses : Guessing) (entries : List Entry) (i : ℕ) (d : Entry) → i < length entries
     → jobs_of guesses (readings (take (i + 1) entries)) ≡ jobs_of guesses (readings (take i entries)) ++
     job_of guesses (i + 1) (reading (get_or entries i d))
@@ -52,7 +52,7 @@ are_graded guesses first (Ok p ∷ read) (job ∷ jobs) (answer ∷ answers) mad
       are_graded guesses (first + 1) read jobs answers others answered.1,
     )
 
--- the first of the entries that are left
+-- answers to the entries from i on are answers to entry i and to those behind it
 pub next_graded : (guesses : Guessing) (entries : List Entry) (i : ℕ) (d : Entry) (answers : List Answer) → i < length entries →
     AreGraded guesses (readings (drop i entries)) answers
     → AreGraded guesses (reading (get_or entries i d) ∷ readings (drop (i + 1) entries)) answers
@@ -60,7 +60,7 @@ next_graded guesses entries i d answers h graded =
     let parts : drop i entries ≡ get_or entries i d ∷ drop (i + 1) entries = rw (add-one i) (drop-cons entries i d h) in
     subst (λ (left : List Entry). AreGraded guesses (readings left) answers) parts graded
 
--- where the first entry is a puzzle, there is an answer
+-- if the first entry is a puzzle, there is an answer
 pub has_answer : (guesses : Guessing) (read : Result Nonogram EntryFault) (others : List (Result Nonogram EntryFault))
     (answers : List Answer)
     → AreGraded guesses (read ∷ others) answers → fault_of read ≡ None → 0 < length answers
@@ -68,7 +68,7 @@ has_answer guesses (Err fault) others answers graded e = cc
 has_answer guesses (Ok p) others [] graded e = absurd graded
 has_answer guesses (Ok p) others (answer ∷ answers) graded e = omega arith
 
--- what an answer found is the report on the puzzle, where it is one
+-- what an answer found is the report on the puzzle, if it is one
 pub found_is : (guesses : Guessing) (p q : Nonogram) (outcome : Result Findings NoMemory) → q ≡ p →
     IsOutcome p guesses.limit guesses.pick outcome → IsOk outcome
     → found_of q outcome ≡ Ok (p, report_of (picked guesses.pick p.width) p guesses.limit)
@@ -76,7 +76,7 @@ found_is guesses p q (Err refused) e is_outcome ok = let bad : false ≡ true = 
 found_is guesses p q (Ok findings) e is_outcome ok =
     ap (λ (r : Nonogram). found_of r (Ok findings)) e ∙ ap (λ (found : Findings). found_of p (Ok found)) is_outcome
 
--- the first of the answers is taken
+-- an entry with no fault takes the first of the answers, if that is a report
 pub taken_first : (fault : Option EntryFault) (answers : List Answer) (answer : Answer)
     (result : Result (Nonogram × Findings) EntryFault) → fault ≡ None
     → 1 ≤ length answers → answer ≡ get_or answers 0 answer → result ≡ found_of answer.puzzle answer.outcome → IsOk answer.outcome
@@ -92,7 +92,8 @@ taken_first None (first ∷ answers) answer result none some at found ok = (
   ),
 )
 
--- what is listed of the first entry is its report or its fault, and the answers that are left are those to the other entries
+-- what is listed of the first entry is its report or its fault, and the answers that are left are those to
+-- the other entries
 pub takes_next : (guesses : Guessing) (read : Result Nonogram EntryFault) (others : List (Result Nonogram EntryFault))
     (old new : List Answer)
     (result : Result (Nonogram × Findings) EntryFault) → AreGraded guesses (read ∷ others) old → TakesAnswer (fault_of read) old new result
@@ -102,7 +103,7 @@ takes_next guesses (Ok p) others old new result graded taken =
     let both = subst (AreGraded guesses (Ok p ∷ others)) taken.1.0 graded in
     (taken.1.1 ∙ found_is guesses p taken.0.puzzle taken.0.outcome both.0 both.1 taken.1.2, both.2)
 
--- the fault of the entry at a place
+-- the fault at place i is that of entry i
 pub fault_at : (faults : List (Option EntryFault)) (entries : List Entry) (i : ℕ) (d : Entry) → faults ≡ map fault_of (readings entries) →
     i < length entries
     → get_or faults i None ≡ fault_of (reading (get_or entries i d))
@@ -121,13 +122,13 @@ mapped-more : {Y Z : Type 0} (f : Y → Z) (h : Entry → Y) (entries : List Ent
 mapped-more {Y = Y} f h entries i d l =
     ap (map f) (map_more h entries i d l) ∙ map-append f (map h (take i entries)) (h (get_or entries i d) ∷ [])
 
--- the faults of one more entry
+-- one more entry adds its fault, or that it has none
 pub faults-more : (entries : List Entry) (i : ℕ) (d : Entry) → i < length entries
     → map fault_of (readings (take (i + 1) entries)) ≡ map fault_of (readings (take i entries)) ++
     fault_of (reading (get_or entries i d)) ∷ []
 faults-more entries i d h = mapped-more fault_of reading entries i d h
 
--- the graded entries with one more
+-- one more entry adds the graded one, which has its name and its report or fault
 pub graded-more : (guesses : Guessing) (entries : List Entry) (i : ℕ) (d : Entry) (listed : GradedEntry) → i < length entries
     → listed.name ≡ (get_or entries i d).name.now → listed.result ≡ reported guesses (reading (get_or entries i d))
     → map (graded guesses) (map shown_entry (take (i + 1) entries)) ≡ map (graded guesses) (map shown_entry (take i entries)) ++ listed ∷ []

@@ -10,6 +10,7 @@ use Rattle.survey_core.specs.Leaving.{Leaves}
 use Rattle.survey_core.specs.Survey.{survey_of, survey_of_list, survey_or_fault}
 use Rattle.survey_core.specs.declared.faults.RunFault.{RunFault}
 
+-- a number that isn't greater than a limit is at most that limit
 pub at_most : (n limit : ℕ) → (limit < n → ⊥) → n ≤ limit
 at_most n limit h = omega (arith, h)
 

@@ -11,14 +11,14 @@ one_more_is : (b : Bool) (n : ℕ) → n + (0 + cond b 1 0) ≡ one_more_where b
 one_more_is true n = omega arith
 one_more_is false n = omega arith
 
--- a count of elements, kept up where one is added
+-- if one more element is counted as the test tells, the count is that of all elements that pass the test
 pub count_more : {X : Type 0} (p : X → Bool) (xs : List X) (x : X) (old new : ℕ) → old ≡ count_by p xs → new ≡ one_more_where (p x) old
     → new ≡ count_by p (xs ++ x ∷ [])
 count_more {X = X} p xs x old new counted more =
     more ∙ ap (one_more_where (p x)) counted
     ∙ sym (sum_by-append (λ (y : X). cond (p y) 1 0) xs (x ∷ []) ∙ one_more_is (p x) (count_by p xs))
 
--- the number of elements, kept up where one is added
+-- if one more element is counted, the count is the number of all elements
 pub one_more : {X : Type 0} (xs : List X) (x : X) (old new : ℕ) → old ≡ length xs → new ≡ old + 1 → new ≡ length (xs ++ x ∷ [])
 one_more xs x old new counted more = omega (arith, length-append xs (x ∷ []))
 

@@ -1,4 +1,4 @@
--- Why a survey is not written, where its answers were not collected.
+-- Why a survey is not written if its answers were not collected.
 use Rattle.survey_core.specs.declared.collecting.CollectFault.{CollectFault}
 use Rattle.survey_core.specs.declared.collecting.CollectFault.TheVariants as collect
 use Rattle.survey_core.specs.declared.faults.RunFault.{RunFault}

@@ -43,7 +43,7 @@ pub record IsOnlySolution (p : Nonogram) (solution : PartialGrid) : Type 0 where
   pub solves : Solves p solution
   pub only : (grid : PartialGrid) → Solves p grid → grid ≡ solution
 
--- where a verdict shows one solution, it is the only one
+-- if a verdict shows one solution, it is the only one
 abbrev pub IsOnlyWhereOne : Nonogram → Verdict → Type 0
 IsOnlyWhereOne p Nothing = Unit {0}
 IsOnlyWhereOne p (One solution) = IsOnlySolution p solution

@@ -9,12 +9,12 @@ use Rattle.survey_core.specs.declared.faults.RunFault.TheVariants.{Read, Collect
 abbrev pub WritesSurvey : Result (List ℕ) CollectionFault → Option (List ℕ) → Option (List ℕ) → Type 0
 WritesSurvey survey old new = (text : List ℕ) × (survey ≡ Ok text) × Appends old new text
 
--- so many bytes of the survey were written, the first ones, and nothing else
+-- the first `sent` bytes of the survey were written, and nothing else
 abbrev pub WritesFront : Result (List ℕ) CollectionFault → ℕ → Option (List ℕ) → Option (List ℕ) → Type 0
 WritesFront survey sent old new = (text : List ℕ) × (survey ≡ Ok text) × (sent ≤ length text) × Appends old new (take sent text)
 
--- What is left at a fault: a collection's fault comes only where it is the survey's, Thread and Write only where there is a survey, and only Write
--- leaves something written.
+-- What is left at a fault: a collection's fault comes only if it is the survey's, Thread and Write only if
+-- there is a survey, and only Write leaves something written.
 abbrev pub LeavesAt : Result (List ℕ) CollectionFault → RunFault → Option (List ℕ) → Option (List ℕ) → Type 0
 LeavesAt survey Read old new = Keeps old new
 LeavesAt survey (Collection fault) old new = (survey ≡ Err fault) × Keeps old new

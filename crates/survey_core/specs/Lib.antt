@@ -1,3 +1,4 @@
+-- The definitions that the contracts cite.
 pub mod Dealt
 pub mod Collected
 pub mod Counted

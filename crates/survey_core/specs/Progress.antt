@@ -29,7 +29,7 @@ line_unless stands count total = if stands then [] else progress_line count tota
 abbrev pub text_at : Option ℕ → ℕ → List ℕ
 text_at total count = if is_due count then progress_line count total else []
 
--- what is printed while so many entries are counted
+-- what is printed until this number of entries is counted
 abbrev pub counted_text : Option ℕ → ℕ → List ℕ
 counted_text total zero = []
 counted_text total (suc before) = counted_text total before ++ text_at total (suc before)
@@ -39,7 +39,7 @@ abbrev pub end_text : Option ℕ → ℕ → List ℕ
 end_text total zero = []
 end_text total (suc before) = line_unless (is_due (suc before)) (suc before) total ++ codes "\n"
 
--- what is printed of a survey in which so many entries are counted
+-- what is printed of a survey in which `count` entries are counted
 abbrev pub progress_text : Option ℕ → ℕ → List ℕ
 progress_text total count = counted_text total count ++ end_text total count
 

@@ -43,7 +43,7 @@ abbrev pub job_of : Guessing → ℕ → Result Nonogram EntryFault → List Num
 job_of guesses number (Ok p) = record { number = number; puzzle = p; guesses = guesses.limit; pick = guesses.pick } ∷ []
 job_of guesses number (Err fault) = []
 
--- the jobs of entries, numbered from here on. A refused entry keeps its number, and makes no job
+-- the jobs of entries, numbered from `first` on. A refused entry keeps its number, and makes no job
 abbrev pub jobs_from : Guessing → ℕ → List (Result Nonogram EntryFault) → List NumberedPuzzle
 jobs_from guesses first readings = flat_map (λ numbered. job_of guesses numbered.0 numbered.1) (enumerate_from first readings)
 

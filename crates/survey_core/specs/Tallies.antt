@@ -4,7 +4,7 @@ use Rattle.survey_core.specs.Entries.{GradedEntry}
 use Rattle.survey_core.specs.Totals.{count_text, has_grade, has_status}
 use Rattle.survey_core.specs.declared.totals.Totals.{Totals}
 
--- one more where the test holds
+-- one more if the test holds
 abbrev pub one_more_where : Bool → ℕ → ℕ
 one_more_where true count = count + 1
 one_more_where false count = count

@@ -28,7 +28,7 @@ has_grade word entry = is_of_grade word entry.result
 abbrev pub count_text : List ℕ → ℕ → List ℕ
 count_text word count = codes " " ++ word ++ codes " " ++ decimal count
 
--- a word, and how many entries it became of
+-- a word, and the number of entries whose word it is
 abbrev pub status_count : List GradedEntry → List ℕ → List ℕ
 status_count entries word = count_text word (count_by (has_status word) entries)
 

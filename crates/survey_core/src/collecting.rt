@@ -134,7 +134,7 @@ fn run_lanes<'s, 'b: 's, E, R: Threads + Wait + Sync, G: Gate + Sync>(
     Ok(settle_all(shared.rt, complete, settled))
 }
 
-/// Starts the worker of each lane. Where one is not started, those before it are stopped.
+/// Starts the worker of each lane. If one is not started, those before it are stopped.
 pub fn start_all<'s, 'b: 's, E, R: Threads + Wait + Sync, G: Gate + Sync>(
     shared: &'s Shared<'s, R, G>,
     scope: &Scope<'s, E>,

@@ -1,3 +1,4 @@
+-- `count`: a word has as many ones as its set has places.
 use Rattle.std.proofs.Common.{arith}
 use Rattle.grid_core.proofs.BlockLemmas.{ones_of}
 use Rattle.grid_core.proofs.blocks.count.Goals as goal

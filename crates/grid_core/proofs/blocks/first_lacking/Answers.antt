@@ -1,3 +1,4 @@
+-- `first_lacking`: the set has each place below 64 that isn't among those that it lacks.
 use Rattle.std.proofs.Common.{arith}
 use Rattle.grid_core.proofs.BlockLemmas.{held, is_zero, nothing_in}
 use Rattle.grid_core.proofs.blocks.first_lacking.Goals as goal

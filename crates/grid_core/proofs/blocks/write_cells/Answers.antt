@@ -1,3 +1,4 @@
+-- `write_cells`: the lower halves of both sets tell the first 128 cells, and the upper ones those behind.
 use Rattle.std.proofs.Common.{◌≡◌, ◌+◌, ◌-◌, ◌<◌, refl, arith, rules}
 use Rattle.place_sets.specs.Masks.{joined}
 use Rattle.grid_core.specs.Blocks.{AreWritten}

@@ -1,3 +1,4 @@
+-- `write_half`: the first 64 cells are written as one word, and those behind as a second one.
 use Rattle.std.proofs.Common.{◌≡◌, ◌+◌, ◌-◌, ◌∙◌, refl, arith}
 use Rattle.grid_core.specs.Blocks.{AreWritten, cell_in}
 use Rattle.grid_core.specs.Rows.{cell_told}

@@ -1,3 +1,4 @@
+-- `write_word`: the cells go into the block of the place, and those beyond its end into the next one.
 use Rattle.std.proofs.Common.{◌≡◌, ℕ, ◌+◌, ◌-◌, ◌%◌, ◌/◌, ◌<◌, inl, inr, refl, ap, subst, set, length, arith}
 use Rattle.std.proofs.lemmas.List.{length-set}
 use Rattle.grid_core.specs.Blocks.{AreWritten, cell_in}

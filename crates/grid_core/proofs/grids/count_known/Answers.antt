@@ -1,3 +1,4 @@
+-- `count_known`: each block adds its known cells, 64 at most.
 use Rattle.std.proofs.Common.{refl, arith}
 use Rattle.grid_core.specs.Blocks.{cells_of}
 use Rattle.grid_core.proofs.BlockLemmas.{known-more}

@@ -1,3 +1,4 @@
+-- What the loop of `count_known` keeps: the known cells of the blocks passed are counted, at most 64 a block.
 use Rattle.std.proofs.Common.{◌≡◌, ◌*◌, ◌≤◌}
 use Rattle.std.specs.List.{count_by}
 use Rattle.grid_core.specs.Blocks.{cells_of}

@@ -1,3 +1,4 @@
+-- `first_unknown_place`: all cells of the blocks passed are known, and those before the place in its block.
 use Rattle.std.proofs.Common.{arith}
 use Rattle.grid_core.proofs.FirstUnknown.{before-more}
 use Rattle.grid_core.proofs.grids.first_unknown_place.Goals as goal

@@ -1,3 +1,4 @@
+-- What the loop of `first_unknown_place` keeps: all cells of the blocks passed are known.
 use Rattle.std.proofs.Common.{◌≡◌, ◌*◌, ◌<◌, ℕ, true}
 use Rattle.grid_core.specs.Blocks.{cell_of_blocks}
 use Rattle.grid_core.specs.Cells.{is_known}

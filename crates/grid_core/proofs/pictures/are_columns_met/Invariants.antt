@@ -1,3 +1,4 @@
+-- What the loop of `are_columns_met` keeps: the picture meets the clues of the columns passed.
 use Rattle.std.proofs.Common.{◌<◌, ℕ}
 use Rattle.grid_core.specs.Nonogram.{MeetsLine, column_at}
 use Rattle.grid_core.specs.Pictures.{values_of}

@@ -1,3 +1,4 @@
+-- What the loop of `are_rows_met` keeps: the picture meets the clues of the rows passed.
 use Rattle.std.proofs.Common.{◌<◌, ℕ}
 use Rattle.grid_core.specs.Nonogram.{MeetsLine, row_at}
 use Rattle.grid_core.specs.Pictures.{values_of}

@@ -1,3 +1,4 @@
+-- `is_met`: the clues of all lines are met exactly if those of all rows and of all columns are.
 use Rattle.grid_core.specs.Nonogram.{MeetsLine}
 use Rattle.grid_core.specs.Pictures.{values_of}
 use Rattle.grid_core.proofs.LineLaws.{all_lines, each_row, each_column}

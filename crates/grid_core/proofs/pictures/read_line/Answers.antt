@@ -1,3 +1,4 @@
+-- `read_line`: a list that has the cells of a line, place by place, is the cells along it.
 use Rattle.std.proofs.Common.{false, length, arith}
 use Rattle.grid_core.specs.Pictures.{values_of}
 use Rattle.grid_core.proofs.LineLaws.{cells-along}

@@ -1,3 +1,4 @@
+-- What the loop of `copy_clues` keeps: the clues passed are copied.
 use Rattle.std.proofs.Common.{◌≡◌, take}
 use Rattle.grid_core.proofs.puzzles.copy_clues.Given as goal
 

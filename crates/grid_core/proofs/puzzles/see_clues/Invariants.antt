@@ -1,3 +1,4 @@
+-- What the loop of `see_clues` keeps: all clues are lawful if those that are left are, which get fewer.
 use Rattle.std.proofs.Common.{◌≡◌, true, length}
 use Rattle.std.specs.List.{AllByRecursion}
 use Rattle.grid_core.specs.Clues.{is_clue}

@@ -1,3 +1,4 @@
+-- `files_of`: the words that were copied, up to the last, are those that name files.
 use Rattle.std.proofs.Common.{ap, ◌∙◌, refl, map, List, ℕ, ◌≡◌, take}
 use Rattle.std.specs.Borrow.{Bor}
 use Rattle.clap.specs.Words.{found_of}

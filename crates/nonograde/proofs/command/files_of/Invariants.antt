@@ -1,3 +1,4 @@
+-- What the loop of `files_of` keeps: the words passed are copied.
 use Rattle.std.proofs.Common.{◌≡◌, map, take, string_bytes}
 use Rattle.nonograde.proofs.command.files_of.Given as goal
 

@@ -1,4 +1,4 @@
--- The words ask for what the entered command asks for.
+-- `parse_words`: the words ask for what the entered command asks for.
 use Rattle.std.proofs.Common.{ap, map, refl, string_bytes}
 use Rattle.nonograde.proofs.WordLemmas.{asked_of}
 use Rattle.nonograde.proofs.command.parse_words.Goals as goal

@@ -1,4 +1,4 @@
--- The default's text is the constant's.
+-- `ring_option`: the default's text is the constant's.
 use Rattle.std.proofs.Common.{codes, rules}
 use Rattle.std.specs.Fmt.{digits}
 use Rattle.survey_core.specs.declared.settings.TheConstants.{LARGEST_RING}

@@ -1,4 +1,4 @@
--- The entries of the survey's command.
+-- `survey_of`: the settings, the flag and the files are those of the command's entries.
 use Rattle.std.proofs.Common.{codes, false, true}
 use Rattle.clap.specs.Words.{found_of}
 use Rattle.nonograde.proofs.WordLemmas.{flag_of_entry}

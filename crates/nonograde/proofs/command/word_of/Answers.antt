@@ -1,3 +1,4 @@
+-- `word_of`: the text that `clap` read, or else the empty one, is that of the entry.
 use Rattle.std.proofs.Common.{ap, ◌∙◌, refl, List, ℕ}
 use Rattle.std.specs.Borrow.{Bor}
 use Rattle.clap.specs.Words.{found_of}

@@ -1,3 +1,4 @@
+-- `entries_of`: one more entry has the name and the bytes of one more file.
 use Rattle.std.proofs.Common.{arith}
 use Rattle.nonograde.proofs.FilesLemmas.{more_entries}
 use Rattle.nonograde.proofs.files.entries_of.Goals as goal

@@ -1,3 +1,4 @@
+-- What the loop of `entries_of` keeps: the files passed have their entries.
 use Rattle.std.proofs.Common.{◌≡◌, map, take, string_bytes}
 use Rattle.puzzle_text.specs.Shown.{shown_entry}
 use Rattle.nonograde.specs.Printing.{named_texts}

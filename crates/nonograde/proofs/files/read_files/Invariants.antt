@@ -1,3 +1,4 @@
+-- What the loop of `read_files` keeps: each file passed has its bytes.
 use Rattle.std.proofs.Common.{◌≡◌, vec_len}
 use Rattle.nonograde.proofs.files.read_files.Given as goal
 

@@ -1,4 +1,4 @@
--- The text went out, or the file's text was refused.
+-- `convert_file`: the text went out, or the file's text was refused.
 use Rattle.nonograde.proofs.PrintingLemmas.{conversion_printed, unconverted_of}
 use Rattle.nonograde.proofs.performing.convert_file.Goals as goal
 

@@ -1,4 +1,4 @@
--- The survey of the entries is that of the files.
+-- `survey_files`: the survey of the entries is that of the files.
 use Rattle.std.proofs.Common.{◌∙◌, Vec, ℕ, ap, length, map, string_bytes, sym}
 use Rattle.std.specs.declared.alloc.Global.{Global}
 use Rattle.std.proofs.lemmas.List.{length-map}

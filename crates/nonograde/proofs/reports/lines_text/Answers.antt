@@ -1,3 +1,4 @@
+-- `lines_text`: the report of what closing the unknown grid leaves is what is printed of the puzzle.
 use Rattle.std.proofs.Common.{◌∙◌, ap, ◌++◌}
 use Rattle.nonograde.proofs.LinesLemmas.{report_of_closed, unknown_is}
 use Rattle.nonograde.specs.Reports.{outcome_report}

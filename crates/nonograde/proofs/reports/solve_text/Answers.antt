@@ -1,3 +1,4 @@
+-- `solve_text`: the text of the answer to the puzzle's job is that of the puzzle.
 use Rattle.nonograde.proofs.FoundLemmas.{answer_printed}
 use Rattle.nonograde.proofs.reports.solve_text.Goals as goal
 

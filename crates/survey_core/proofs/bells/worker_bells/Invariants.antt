@@ -1,3 +1,4 @@
+-- What the loop of `worker_bells` keeps: there is a bell for each worker passed.
 use Rattle.std.proofs.Common.{◌≡◌, vec_len}
 use Rattle.survey_core.proofs.bells.worker_bells.Given as goal
 

@@ -1,3 +1,4 @@
+-- `collect_some`: there is a queue of answers for each lane, and it answers what the lane was dealt.
 use Rattle.std.proofs.Common.{sym, ap, ◌∙◌}
 use Rattle.survey_core.specs.Dealt.{dealt}
 use Rattle.survey_core.proofs.CollectedLemmas.{answered_length, answered_at}

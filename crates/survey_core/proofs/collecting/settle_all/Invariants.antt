@@ -1,3 +1,4 @@
+-- What the loop of `settle_all` keeps: the answers of the lanes passed, and room for those of the others.
 use Rattle.std.proofs.Common.{◌≡◌, ◌+◌, ◌≤◌, ◌++◌, map, vec_len, vec_capacity, List}
 use Rattle.std.specs.VecDeque.{deque_len}
 use Rattle.lane_core.specs.declared.jobs.Job.{Job}

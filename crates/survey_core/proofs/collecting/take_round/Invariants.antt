@@ -1,3 +1,4 @@
+-- What the loop of `take_round` keeps: how many lanes there are, and what each was dealt.
 use Rattle.std.proofs.Common.{◌≡◌}
 use Rattle.std.specs.VecDeque.{deque_len}
 use Rattle.survey_core.specs.Collected.{dealt_jobs}

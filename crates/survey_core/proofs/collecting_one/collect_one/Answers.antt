@@ -1,3 +1,4 @@
+-- `collect_one`: one more job is graded, and its answer goes behind those to the jobs before it.
 use Rattle.std.proofs.Common.{◌++◌, ◌∷◌, [], sym, ap, ◌∙◌, subst, append_assoc, arith}
 use Rattle.lane_core.specs.Answers.{AreAnswersTo}
 use Rattle.lane_core.proofs.AnswersLemmas.{AreAnswersTo-push}

@@ -1,3 +1,4 @@
+-- `goal_word`: what `grid_core` says of a goal is what the definition says of it.
 use Rattle.survey_core.proofs.GoalLemmas.{word_of_goal_is}
 use Rattle.survey_core.proofs.goals.goal_word.Goals as goal
 

@@ -1,3 +1,4 @@
+-- `goal_word_beside`: a goal meets the clues exactly if its values are the colours of the only solution.
 use Rattle.std.proofs.Common.{◌≡◌, ◌*◌, Bool, IfSome, List, Option, length, ap, subst, sym, ◌∙◌}
 use Rattle.survey_core.specs.Goals.{word_of_goal}
 use Rattle.survey_core.proofs.GoalLemmas.{meets_said, meets_where_shown, misses_said}

@@ -1,3 +1,4 @@
+-- What the loop of `is_row_shown` keeps: the values passed are the colours of their cells.
 use Rattle.std.proofs.Common.{◌≡◌, ◌+◌, ◌*◌, ◌<◌, ℕ, false, get_or}
 use Rattle.grid_core.specs.Cells.{is_filled}
 use Rattle.grid_core.specs.PartialGrid.{cell_at}

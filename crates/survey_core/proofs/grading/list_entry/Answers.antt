@@ -1,3 +1,4 @@
+-- `list_entry`: an entry with no fault takes the first of the answers, and leaves the others.
 use Rattle.std.proofs.Common.{ap}
 use Rattle.survey_core.specs.Entries.{GradedEntry}
 use Rattle.survey_core.proofs.ReadingLemmas.{taken_first}

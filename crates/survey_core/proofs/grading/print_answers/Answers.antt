@@ -1,3 +1,4 @@
+-- `print_answers`: one more entry is listed with its fault or with the next answer, up to the last entry.
 use Rattle.std.proofs.Common.{◌≡◌, ◌+◌, IfOk, List, Option, drop, get_or, map, subst, sym, take, ◌∙◌, arith}
 use Rattle.std.proofs.lemmas.Grind.{common_steps}
 use Rattle.puzzle_text.specs.Shown.{shown_entry}

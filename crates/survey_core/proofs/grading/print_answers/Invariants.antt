@@ -1,3 +1,4 @@
+-- What the loop of `print_answers` keeps: the survey of the entries passed, and the answers to the others.
 use Rattle.std.proofs.Common.{map, take, drop}
 use Rattle.puzzle_text.specs.Shown.{shown_entry}
 use Rattle.survey_core.specs.Guessing.{guessing}

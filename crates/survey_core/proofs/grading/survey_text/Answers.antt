@@ -1,3 +1,4 @@
+-- `survey_text`: the answers that were collected are those to the puzzles that were read.
 use Rattle.std.proofs.Common.{List, subst, sym}
 use Rattle.lane_core.specs.Answers.{AreAnswersTo}
 use Rattle.lane_core.specs.declared.answers.Answer.{Answer}

@@ -1,3 +1,4 @@
+-- `gather`: the queue whose turn it is has the next answer at its front, which is gathered.
 use Rattle.std.proofs.Common.{◌<◌, ◌+◌, take, sym, ap, ◌∙◌, subst}
 use Rattle.lane_core.specs.Answers.{AreAnswersTo}
 use Rattle.survey_core.proofs.DealtLemmas.{gather_some, gather_next, nil_of}

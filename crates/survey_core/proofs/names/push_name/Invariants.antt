@@ -1,3 +1,4 @@
+-- What the loop of `push_name` keeps: the bytes passed are added as they are printed.
 use Rattle.std.proofs.Common.{◌≡◌, ◌++◌, map, take}
 use Rattle.survey_core.specs.Entries.{printed_byte}
 use Rattle.survey_core.proofs.names.push_name.Given as goal

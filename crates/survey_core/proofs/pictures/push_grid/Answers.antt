@@ -1,3 +1,4 @@
+-- `push_grid`: one more row is added to the rows before it.
 use Rattle.std.proofs.Common.{arith}
 use Rattle.std.proofs.lemmas.Grind.{common_steps}
 use Rattle.survey_core.proofs.PrintedLemmas.{rows_text-more}

@@ -1,3 +1,4 @@
+-- What the loop of `push_grid` keeps: the rows passed are added.
 use Rattle.std.proofs.Common.{◌≡◌, ◌++◌}
 use Rattle.survey_core.specs.Grids.{rows_text}
 use Rattle.survey_core.proofs.pictures.push_grid.Given as goal

@@ -1,3 +1,4 @@
+-- `push_row`: one more cell's byte is added to those of the cells before it.
 use Rattle.std.proofs.Common.{arith}
 use Rattle.std.proofs.lemmas.Grind.{common_steps}
 use Rattle.survey_core.proofs.PrintedLemmas.{row_front-more}

@@ -1,3 +1,4 @@
+-- What the loop of `push_row` keeps: the bytes of the cells passed are added.
 use Rattle.std.proofs.Common.{◌≡◌, ◌++◌}
 use Rattle.survey_core.specs.Grids.{row_front}
 use Rattle.survey_core.proofs.pictures.push_row.Given as goal

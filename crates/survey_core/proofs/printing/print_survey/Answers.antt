@@ -1,3 +1,4 @@
+-- `print_survey`: one more entry is added, for which the totals have room.
 use Rattle.std.proofs.Common.{◌++◌, ◌∷◌, [], List, ap, map, subst, sym, take, ◌∙◌, arith}
 use Rattle.std.proofs.lemmas.List.{map_more}
 use Rattle.survey_core.specs.Entries.{GradedEntry, shown_outcome}

@@ -1,3 +1,4 @@
+-- What the loop of `print_survey` keeps: the text and the totals are those of the entries passed.
 use Rattle.std.proofs.Common.{map, take}
 use Rattle.survey_core.specs.Entries.{shown_outcome}
 use Rattle.survey_core.specs.SurveyTexts.{IsSurveyText}

@@ -1,3 +1,4 @@
+-- `read_entries`: one more entry adds its job if it is a puzzle, and its fault if it has one.
 use Rattle.std.proofs.Common.{◌+◌, ◌++◌, ◌∷◌, [], List, Option, get_or, ap, sym, ◌∙◌, arith}
 use Rattle.puzzle_text.specs.declared.faults.EntryFault.{EntryFault}
 use Rattle.survey_core.specs.Guessing.{guessing}

@@ -1,3 +1,4 @@
+-- What the loop of `read_entries` keeps: the jobs and the faults of the entries passed.
 use Rattle.std.proofs.Common.{◌≡◌, ◌≤◌, map, take, vec_len}
 use Rattle.survey_core.specs.Guessing.{guessing}
 use Rattle.survey_core.specs.Readings.{fault_of, jobs_of, readings, shown_job}

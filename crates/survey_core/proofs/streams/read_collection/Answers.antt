@@ -1,3 +1,4 @@
+-- `read_collection`: if a growth is refused, at most one byte more than a collection may have was read.
 use Rattle.std.proofs.Common.{◌++◌, take, arith}
 use Rattle.std.proofs.lemmas.List.{length-append, length-take}
 use Rattle.std.proofs.KnownBytes.{Consumes-trans}

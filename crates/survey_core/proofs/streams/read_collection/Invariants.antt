@@ -1,3 +1,4 @@
+-- What the loop of `read_collection` keeps: the text is what was read, and each turn read some of it.
 use Rattle.std.proofs.Common.{◌≡◌, ◌≤◌, vec_len}
 use Rattle.std.specs.Io.KnownBytes.{Consumes}
 use Rattle.puzzle_text.specs.declared.limits.TheConstants.{LONGEST_COLLECTION}

@@ -1,3 +1,4 @@
+-- `write_text`: what one more write takes of the rest goes out behind what went out before.
 use Rattle.std.proofs.Common.{rules}
 use Rattle.survey_core.proofs.Front.{appends_front}
 use Rattle.survey_core.proofs.streams.write_text.Goals as goal

@@ -1,3 +1,4 @@
+-- What the loop of `write_text` keeps: the first `sent` bytes of the text went out, and no call failed.
 use Rattle.std.proofs.Common.{◌≡◌, ◌≤◌, ◌-◌, length, take}
 use Rattle.std.specs.Io.KnownBytes.{Appends}
 use Rattle.survey_core.specs.Counted.{fault_count}

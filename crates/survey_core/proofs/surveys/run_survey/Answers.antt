@@ -1,3 +1,4 @@
+-- `run_survey`: the survey of the entries is that of the input, which was read to its end.
 use Rattle.std.proofs.Common.{◌≡◌, ◌≤◌, List, ℕ, Ok, map, subst, arith, vec_len}
 use Rattle.puzzle_text.specs.Collections.{cut}
 use Rattle.puzzle_text.specs.Shown.{shown_entry}

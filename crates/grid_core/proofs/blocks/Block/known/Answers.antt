@@ -1,3 +1,4 @@
+-- `Block::known`: the set of the known cells has as many places as there are known cells.
 use Rattle.std.proofs.Common.{◌∙◌}
 use Rattle.grid_core.proofs.BlockLemmas.{known_count}
 use Rattle.grid_core.proofs.blocks.Block.known.Goals as goal

@@ -1,3 +1,4 @@
+-- `Grid::at`: there is a block of the place, and it has the grid's cell.
 use Rattle.std.proofs.Common.{◌≡◌, ◌*◌, ◌<◌, ◌∙◌, length, vec_len, arith}
 use Rattle.grid_core.proofs.BlockLemmas.{cell-read, length-cells_of, room}
 use Rattle.grid_core.proofs.grids.Grid.at.Goals as goal

@@ -1,3 +1,4 @@
+-- `Grid::first_unknown`: the blocks' first unknown cell is the grid's if it lies within; else there is none.
 use Rattle.std.proofs.Common.{◌≡◌, ℕ, ◌*◌, ◌/◌, ◌%◌, ◌<◌, ◌≤◌, ◌∙◌, sym, ap, List, length, Some, None, arith}
 use Rattle.std.specs.List.{position}
 use Rattle.std.specs.Option.{option_map}

@@ -1,3 +1,4 @@
+-- `Grid::get`: the place of column x and row y lies within the grid.
 use Rattle.std.proofs.Common.{◌≡◌, ◌*◌, ◌+◌, ◌<◌, ap, length, arith}
 use Rattle.grid_core.specs.PartialGrid.{PartialGrid}
 use Rattle.grid_core.proofs.BlockLemmas.{length-cells_of}

@@ -1,3 +1,4 @@
+-- `Grid::known`: nothing behind the last cell is known, so the blocks' known cells are those of the grid.
 use Rattle.std.proofs.Common.{◌*◌, ◌∙◌, ap, List, length}
 use Rattle.std.specs.List.{count_by}
 use Rattle.grid_core.specs.declared.blocks.Block.{Block}

@@ -1,3 +1,4 @@
+-- `Grid::set`: the place of column x and row y lies within the grid, and the cell there changes.
 use Rattle.std.proofs.Common.{◌≡◌, ◌*◌, ◌+◌, ◌<◌, ◌∙◌, ap, set, length, arith}
 use Rattle.grid_core.specs.PartialGrid.{PartialGrid}
 use Rattle.grid_core.proofs.BlockLemmas.{length-cells_of}

@@ -1,3 +1,4 @@
+-- `Grid::set_at`: one cell of one block changes, and so does that one of the grid; the value stays lawful.
 use Rattle.std.proofs.Common.{◌≡◌, ◌*◌, ◌/◌, ◌<◌, ◌∙◌, ap, List, length, vec_len, arith}
 use Rattle.grid_core.specs.declared.cells.Cell.{Cell}
 use Rattle.grid_core.specs.PartialGrid.{PartialGrid}

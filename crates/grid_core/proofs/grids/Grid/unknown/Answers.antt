@@ -1,3 +1,4 @@
+-- `Grid::unknown`: blocks of which nothing is known are those of a grid of which nothing is known.
 use Rattle.std.proofs.Common.{◌*◌, ◌∙◌, ap, List, replicate}
 use Rattle.grid_core.specs.declared.blocks.Block.{Block}
 use Rattle.grid_core.specs.declared.cells.Cell.{Cell}

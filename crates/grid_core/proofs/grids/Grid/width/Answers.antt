@@ -1,3 +1,4 @@
+-- `Grid::width`: a grid has as many cells as its width times its height.
 use Rattle.std.proofs.Common.{◌*◌}
 use Rattle.grid_core.proofs.BlockLemmas.{length-cells_of}
 use Rattle.grid_core.proofs.grids.Grid.width.Goals as goal

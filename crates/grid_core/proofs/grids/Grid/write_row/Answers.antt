@@ -1,3 +1,4 @@
+-- `Grid::write_row`: cells written into the blocks replace the grid's row y; the value stays lawful.
 use Rattle.std.proofs.Common.{◌≡◌, ◌+◌, ◌*◌, ◌≤◌, ◌∙◌, ap, sym, subst, List, arith}
 use Rattle.std.proofs.lemmas.List.{with_items_is}
 use Rattle.place_sets.specs.Masks.{joined}

@@ -1,3 +1,4 @@
+-- `Puzzle::solved_by`: a grid of the puzzle's size is full if no cell is unknown, and then the clues decide.
 use Rattle.std.proofs.Common.{◌≡◌, ℕ, ◌/◌, ◌%◌, ◌∙◌, true, false, not, is_some, sym, ap, true≢false}
 use Rattle.std.specs.List.{list_all}
 use Rattle.grid_core.specs.Cells.{is_known}

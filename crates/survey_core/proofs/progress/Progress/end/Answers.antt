@@ -1,3 +1,4 @@
+-- `Progress::end`: the last number's line, unless it stands there, and LF complete what is printed.
 use Rattle.std.proofs.Common.{◌≡◌, arith}
 use Rattle.survey_core.proofs.ProgressLemmas.{ended}
 use Rattle.survey_core.proofs.progress.Progress.end.Goals as goal
