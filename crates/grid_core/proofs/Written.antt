@@ -13,17 +13,20 @@ use Rattle.grid_core.specs.Blocks.{AreWritten, IsBlock, cell_in, cell_of, cell_o
 use Rattle.grid_core.specs.Rows.{cell_told}
 use Rattle.grid_core.proofs.BlockLemmas.{same_or_other}
 
-lacks : (m i : ℕ) → (Has m i → ⊥) → has m i ≡ false
+-- a mask that is shown not to have a place lacks it
+pub lacks : (m i : ℕ) → (Has m i → ⊥) → has m i ≡ false
 lacks m i n = by (has m i) refl
   where
     by : (v : Bool) → has m i ≡ v → v ≡ false
     by true e = absurd (n (true_has m i e))
     by false e = refl
 
-chosen : (v : Bool) (x y : Cell) → v ≡ true → (if v then x else y) ≡ x
+-- the first of two cells, if the test passes
+pub chosen : (v : Bool) (x y : Cell) → v ≡ true → (if v then x else y) ≡ x
 chosen v x y e = rw e refl
 
-left_out : (v : Bool) (x y : Cell) → v ≡ false → (if v then x else y) ≡ y
+-- the second of two cells, if the test fails
+pub left_out : (v : Bool) (x y : Cell) → v ≡ false → (if v then x else y) ≡ y
 left_out v x y e = rw e refl
 
 -- the block b has the cells that are told from a place on, and else those of the old block

@@ -1,12 +1,12 @@
 //! Blocks of 64 cells, two bits a cell.
 
-ghost use Rattle.std.specs.Prelude.{◌≡◌, ◌≢◌, ℕ, ◌+◌, ◌-◌, ◌*◌, ◌<◌, ◌≤◌, true, false, if◌then◌else◌, IfNone, IfSome, count_by, length};
+ghost use Rattle.std.specs.Prelude.{◌≡◌, ◌≢◌, ℕ, ◌+◌, ◌-◌, ◌*◌, ◌<◌, ◌≤◌, ◌^◌, true, false, if◌then◌else◌, IfNone, IfSome, count_by, length, slice_index_or};
 ghost use Rattle.std.specs.List.{range_with_len};
-ghost use Rattle.place_sets.specs.Masks.{Has, has, joined};
-ghost use Rattle.grid_core.specs.Blocks.{AreWritten, IsBlock, cell_in, cells_in, empty};
+ghost use Rattle.place_sets.specs.Masks.{Has, IsMaskOf, has, joined};
+ghost use Rattle.grid_core.specs.Blocks.{AreWritten, IsBlock, cell_in, cell_of_blocks, cells_in, empty};
 ghost use Rattle.grid_core.specs.Cells.{is_known};
 ghost use Rattle.grid_core.specs.Rows.{cell_told};
-ghost use Rattle.grid_core.specs.declared.cells.Cell.TheVariants.{Unknown};
+ghost use Rattle.grid_core.specs.declared.cells.Cell.TheVariants.{Blank, Filled, Unknown};
 
 use crate::Cell;
 use place_sets::{PlaceSet, Wide, places};
@@ -204,4 +204,54 @@ pub(crate) fn write_cells(blocks: &mut [Block], place: usize, count: u16, filled
     if count > 128 {
         write_half(blocks, place + 128, count - 128, filled.high, blank.high);
     }
+}
+
+/// A block of blocks that follow one another; behind the last one nothing is known.
+fn block_at(blocks: &[Block], index: usize) -> Block
+    ensures { result ≡ slice_index_or blocks.now index empty }
+{
+    if index < blocks.len() {
+        blocks[index]
+    } else {
+        Block::unknown()
+    }
+}
+
+/// The 64 cells from a place on, in blocks that follow one another.
+fn word_from(blocks: &[Block], place: usize) -> Block
+    requires { place < 2 ^ 17 }
+    ensures cells { (i : ℕ) → i < 64 → cell_in result i ≡ cell_of_blocks blocks.now (place + i) }
+    ensures block { ((k : ℕ) → IsBlock (slice_index_or blocks.now k empty)) → IsBlock result }
+{
+    let index = place / BLOCK;
+    let by = (place % BLOCK) as u16;
+    let word = block_at(blocks, index).down(by);
+    if by == 0 {
+        return word;
+    }
+    let over = 64 - by;
+    let next = block_at(blocks, index + 1);
+    next.up(over).with_part(places(over), word)
+}
+
+/// Which of `count` cells from a place on are filled, and which are blank, in blocks that follow one another.
+pub(crate) fn read_cells(blocks: &[Block], place: usize, count: u16) -> (Wide, Wide)
+    requires count { (0 < count) × (count ≤ 256) }
+    requires few { length blocks.now ≤ 1024 }
+    requires room { place + count ≤ 64 * length blocks.now }
+    requires blocks { (k : ℕ) → IsBlock (slice_index_or blocks.now k empty) }
+    ensures filled { IsMaskOf (λ i. (i < count) × (cell_of_blocks blocks.now (place + i) ≡ Filled))
+        (joined result.0.low result.0.high) }
+    ensures blank { IsMaskOf (λ i. (i < count) × (cell_of_blocks blocks.now (place + i) ≡ Blank))
+        (joined result.1.low result.1.high) }
+{
+    let mut filled = Wide::none();
+    let mut blank = Wide::none();
+    for k in 0..count.div_ceil(64) {
+        let word = word_from(blocks, place + BLOCK * usize::from(k));
+        filled = filled.or(word.filled.widened().up(64 * k));
+        blank = blank.or(word.blank.widened().up(64 * k));
+    }
+    let row = places::<Wide>(count);
+    (filled.and(row), blank.and(row))
 }

@@ -5,10 +5,10 @@ ghost use Rattle.grid_core.specs.Blocks.{AreBlocks, cell_of_blocks, cells_of};
 ghost use Rattle.grid_core.specs.Cells.{is_known, is_unknown};
 ghost use Rattle.grid_core.specs.PartialGrid.{PartialGrid, cell_at, IsSize, place};
 ghost use Rattle.grid_core.specs.Rows.{cells_told, with_row};
-ghost use Rattle.place_sets.specs.Masks.{Has, joined};
-ghost use Rattle.grid_core.specs.declared.cells.Cell.TheVariants.{Unknown};
+ghost use Rattle.place_sets.specs.Masks.{Has, IsMaskOf, joined};
+ghost use Rattle.grid_core.specs.declared.cells.Cell.TheVariants.{Blank, Filled, Unknown};
 
-use crate::blocks::{BLOCK, Block, write_cells};
+use crate::blocks::{BLOCK, Block, read_cells, write_cells};
 use crate::{Cell, NoMemory};
 use place_sets::Wide;
 use std::alloc::Global;
@@ -107,6 +107,19 @@ impl Grid {
     {
         let first = usize::from(y) * usize::from(self.width);
         write_cells(&mut self.blocks, first, self.width, filled, blank);
+    }
+
+    /// Which cells of row y are filled, and which are blank, each as the places of these, from 0 at the left.
+    pub fn read_row(&self, y: u16) -> (Wide, Wide)
+        requires { y < self.now.height }
+        ensures filled { IsMaskOf (λ x. (x < self.now.width) × (cell_at self.now x y ≡ Filled))
+            (joined result.0.low result.0.high) }
+        ensures blank { IsMaskOf (λ x. (x < self.now.width) × (cell_at self.now x y ≡ Blank))
+            (joined result.1.low result.1.high) }
+        ensures count { length self.now.cells ≡ self.now.width * self.now.height }
+    {
+        let place = usize::from(y) * usize::from(self.width);
+        read_cells(&self.blocks, place, self.width)
     }
 
     /// How many cells are known.

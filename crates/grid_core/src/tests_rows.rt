@@ -1,5 +1,5 @@
-//! Tests of rows that are written whole: against values worked out by hand, and against rows that are set
-//! cell by cell.
+//! Tests of rows that are written and read whole: against values worked out by hand, and against rows that
+//! are set cell by cell.
 
 ghost use Rattle.grid_core.specs.PartialGrid.{IsSize};
 
@@ -127,5 +127,69 @@ fn a_row_in_the_middle_of_a_grid(rt: HostRuntime) -> Result<(), Fail> {
         grid.get(4, 0) == Cell::Filled && grid.get(0, 2) == Cell::Blank && grid.known() == 5,
         "the other rows"
     );
+    Ok(())
+}
+
+// Whether the sets that a row gives have the pattern's places, and none beyond the width.
+fn is_read(grid: &Grid, y: u16) -> bool {
+    if y >= grid.height() {
+        return false;
+    }
+    let (filled, blank) = grid.read_row(y);
+    for x in 0..256 {
+        let is_within = x < grid.width();
+        let cell = pattern(x, y);
+        if filled.has(x) != (is_within && cell == Cell::Filled)
+            || blank.has(x) != (is_within && cell == Cell::Blank)
+        {
+            return false;
+        }
+    }
+    true
+}
+
+// Whether each row of a grid that has the pattern is read as it was set.
+fn reads_as_it_sets(alloc: Global, width: u16) -> Result<bool, NoMemory>
+    requires { IsSize width HEIGHT }
+{
+    let mut grid = Grid::unknown(alloc, width, HEIGHT)?;
+    for y in 0..HEIGHT {
+        set_by_cells(&mut grid, y);
+    }
+    for y in 0..HEIGHT {
+        if !is_read(&grid, y) {
+            return Ok(false);
+        }
+    }
+    Ok(true)
+}
+
+#[test]
+fn rows_are_read_as_they_are_set(rt: HostRuntime) -> Result<(), Fail> {
+    assert!(rt; reads_as_it_sets(rt.alloc(), 1)?, "1 cell");
+    assert!(rt; reads_as_it_sets(rt.alloc(), 5)?, "5 cells");
+    assert!(rt; reads_as_it_sets(rt.alloc(), 63)?, "63 cells");
+    assert!(rt; reads_as_it_sets(rt.alloc(), 64)?, "64 cells");
+    assert!(rt; reads_as_it_sets(rt.alloc(), 65)?, "65 cells");
+    assert!(rt; reads_as_it_sets(rt.alloc(), 128)?, "128 cells");
+    assert!(rt; reads_as_it_sets(rt.alloc(), 129)?, "129 cells");
+    assert!(rt; reads_as_it_sets(rt.alloc(), 256)?, "256 cells");
+    Ok(())
+}
+
+#[test]
+fn a_row_is_read_from_the_middle_of_a_grid(rt: HostRuntime) -> Result<(), Fail> {
+    let mut grid = Grid::unknown(rt.alloc(), 5, 3)?;
+    grid.set(4, 0, Cell::Filled);
+    grid.set(0, 1, Cell::Filled);
+    grid.set(2, 1, Cell::Blank);
+    grid.set(4, 1, Cell::Filled);
+    grid.set(0, 2, Cell::Blank);
+    let (filled, blank) = grid.read_row(1);
+    assert!(rt;
+        filled.low == 0b1_0001 && filled.high == 0,
+        "its filled cells"
+    );
+    assert!(rt; blank.low == 0b0_0100 && blank.high == 0, "its blank cells");
     Ok(())
 }

@@ -6,6 +6,7 @@ pub mod Joining
 pub mod Certain
 pub mod Composing
 pub mod LineCells
+pub mod RowCells
 pub mod RunStarts
 mod Seeking
 pub mod Painting

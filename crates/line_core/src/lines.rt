@@ -3,7 +3,7 @@
 ghost use Rattle.std.specs.Prelude.{◌≡◌, ◌≢◌, ◌*◌, ◌<◌, ◌≤◌, ◌↔◌, IsTrue, length, replicate, slice_index_or, slice_set, true};
 ghost use Rattle.grid_core.specs.declared.cells.Cell.TheVariants.{Unknown};
 ghost use Rattle.grid_core.specs.Cells.{is_known};
-ghost use Rattle.grid_core.specs.Rows.{with_row};
+ghost use Rattle.grid_core.specs.Rows.{row_of, with_row};
 ghost use Rattle.grid_core.specs.declared.limits.TheConstants.{LONGEST_SIDE};
 ghost use Rattle.place_sets.specs.Masks.{IsMaskOf};
 ghost use Rattle.line_core.specs.Lines.{IsChanged, IsUnknownCell, IsUnknownFrom, is_blank};
@@ -166,6 +166,18 @@ impl<W: PlaceSet> LineOf<W> {
         ensures count { length grid.old.cells ≡ grid.old.width * grid.old.height }
     {
         grid.write_row(y, self.filled.widened(), self.blank.widened());
+    }
+
+    /// Takes over the cells of row y of a grid, which has as many as this line.
+    pub fn read_row(&mut self, grid: &Grid, y: u16)
+        requires row { y < grid.now.height }
+        requires width { grid.now.width ≡ length self.old }
+        ensures cells { self.new ≡ row_of grid.now y }
+        ensures count { length grid.now.cells ≡ grid.now.width * grid.now.height }
+    {
+        let (filled, blank) = grid.read_row(y);
+        self.filled = W::narrowed(filled);
+        self.blank = W::narrowed(blank);
     }
 
     /// A number that lines with the same cells share, mostly, and that others seldom do, for tables of lines.

@@ -161,3 +161,23 @@ fn a_line_is_written_into_a_row(rt: HostRuntime) -> Result<(), Fail> {
     assert!(rt; is_row(&grid, 1, second), "the row");
     Ok(())
 }
+
+#[test]
+fn a_line_takes_over_a_row(rt: HostRuntime) -> Result<(), Fail> {
+    // The rows `#.?` and `?.#`.
+    let mut grid = Grid::unknown(rt.alloc(), 3, 2)?;
+    grid.set(0, 0, Cell::Filled);
+    grid.set(1, 0, Cell::Blank);
+    grid.set(1, 1, Cell::Blank);
+    grid.set(2, 1, Cell::Filled);
+    // The line `#?.`.
+    let mut line = LineOf::<u64>::unknown(3);
+    line.set(0, Cell::Filled);
+    line.set(2, Cell::Blank);
+    line.read_row(&grid, 1);
+    assert!(rt; line.get(0) == Cell::Unknown, "its first cell");
+    assert!(rt; line.get(1) == Cell::Blank, "its second cell");
+    assert!(rt; line.get(2) == Cell::Filled, "its last cell");
+    assert!(rt; line.len() == 3, "its length");
+    Ok(())
+}

@@ -8,7 +8,8 @@ use Rattle.grid_core.specs.PartialGrid.{PartialGrid, IsSize}
 use Rattle.solve_core.specs.Boards.{IsBoard}
 use Rattle.solve_core.specs.Trails.{TrailedGrid}
 use Rattle.solve_core.proofs.NumberedLines.{row_within}
-use Rattle.solve_core.proofs.TrailSteps.{count-settled, unknown_count-at_most}
+use Rattle.solve_core.proofs.Closing.{unknown_count-le}
+use Rattle.solve_core.proofs.TrailSteps.{count-settled}
 use Rattle.solve_core.proofs.BranchLaws.{unknown_count-cleared_one, all_append, all_split}
 
 -- a grid with a trail
@@ -22,7 +23,7 @@ pub board-fresh : (g : PartialGrid) (old : TrailedGrid) (trail : List ℕ) (room
 board-fresh g old trail room left b w h long t s = record {
   size = rw (w, h) b.size;
   count = long ∙ b.count ∙ (λ i. sym w i * sym h i);
-  grid = record { inside = rw t tt; settled = rw t (omega (arith, unknown_count-at_most g.cells)) };
+  grid = record { inside = rw t tt; settled = rw t (omega (arith, unknown_count-le g.cells)) };
   room_is = omega (arith, long, b.room_is);
 }
 
@@ -71,7 +72,7 @@ pub board-unknown : (w h room : ℕ) (g : PartialGrid) (trail : List ℕ) → Is
 board-unknown w h room g trail size e t fits = record {
   size = rw e size;
   count = rw e (length-replicate (w * h) Unknown);
-  grid = record { inside = rw t tt; settled = rw t (omega (arith, unknown_count-at_most g.cells)) };
+  grid = record { inside = rw t tt; settled = rw t (omega (arith, unknown_count-le g.cells)) };
   room_is = fits;
 }
 

@@ -15,10 +15,6 @@ at_most_one zero = inl (omega arith)
 at_most_one (suc zero) = inl (omega arith)
 at_most_one (suc (suc n)) = inr (omega arith)
 
-none_or_some : (n : ℕ) → (n ≡ 0) ⊎ (1 ≤ n)
-none_or_some zero = inl refl
-none_or_some (suc n) = inr (omega arith)
-
 zero_or : (n : ℕ) → (n ≡ 0) ⊎ (1 ≤ n)
 zero_or zero = inl refl
 zero_or (suc n) = inr (omega arith)
@@ -46,7 +42,7 @@ counts_by f e b c i = by (has e i) (has b i) refl refl
         elim (at_most_one (f i)) [ inl few ↦ omega (arith, one, few) | inr two ↦ absurd (lacking b i q (c.both_is.from i two)) ]
     by false true p q = let two : 2 ≤ f i = c.both_is.to i (true_has b i q) in
         absurd (lacking e i p (c.either_is.from i (omega (arith, two))))
-    by false false p q = elim (none_or_some (f i)) [
+    by false false p q = elim (zero_or (f i)) [
       | inl none ↦ omega (arith, none)
       | inr some ↦ absurd (lacking e i p (c.either_is.from i some))
     ]

@@ -1,16 +1,17 @@
 -- A grid as its rows and its columns: its cells, and what changing one of them does.
-use Rattle.std.proofs.Common.{◌≡◌, ◌≢◌, ℕ, zero, suc, ◌+◌, ◌-◌, ◌*◌, ◌/◌, ◌%◌, ◌<◌, ◌≤◌, inl, inr, false, Some, None, List, [], ◌∷◌, ◌++◌, length, take, drop, get_or, set, refl, sym, ap, subst, ◌∙◌, arith, length-append, length-set, get_or-set_same, get_or-set_other, replicate}
+use Rattle.std.proofs.Common.{◌≡◌, ◌≢◌, ℕ, zero, suc, ◌+◌, ◌-◌, ◌*◌, ◌/◌, ◌%◌, ◌<◌, ◌≤◌, inl, inr, false, Some, None, List, [], ◌∷◌, ◌++◌, length, take, drop, get_or, set, refl, sym, ap, subst, ◌∙◌, arith, zero-add, length-append, length-set, get_or-set_same, get_or-set_other, replicate}
 use Rattle.std.proofs.lemmas.List.{ext_get_or, get_or_default, get_or-replicate, length-replicate, get_or_append_left, get_or-append_right}
+use Rattle.std.proofs.lemmas.List.FromFn.{length-map-range_with_len, get_or-map-range_with_len}
 use Rattle.std.proofs.lemmas.Nat.{div_below}
 use Rattle.grid_core.specs.declared.cells.Cell.{Cell}
 use Rattle.grid_core.specs.declared.cells.Cell.TheVariants.{Unknown}
 use Rattle.grid_core.specs.Cells.{is_unknown}
-use Rattle.grid_core.specs.PartialGrid.{PartialGrid, IsSize}
+use Rattle.grid_core.specs.PartialGrid.{PartialGrid, IsSize, cell_at}
 use Rattle.grid_core.specs.Nonogram.{places_from, cells_at}
 use Rattle.grid_core.proofs.LineLaws.{length-places_from, get_or-places_from, length-cells_at, get_or-cells_at}
 use Rattle.line_core.specs.Lines.{IsUnknownFrom}
 use Rattle.solve_core.specs.GridLines.{AreLinesOf, cells_of_rows}
-use Rattle.grid_core.specs.Rows.{with_row}
+use Rattle.grid_core.specs.Rows.{row_of, with_row}
 use Rattle.grid_core.proofs.RowLemmas.{length-replaced, replaced-here, replaced-others}
 use Rattle.std.proofs.Math.Nat.{mul-le-mul_left}
 use Rattle.solve_core.proofs.LineSteps.{before_or_from, same_or_not}
@@ -286,6 +287,48 @@ row-unknown rows columns y column x a ly found =
           ap is_unknown (ap (λ (q : ℕ). get_or (cells_of_rows rows) q Unknown) (sym at) ∙ sym (cell-read rows columns z y a lz ly).0) ∙
           found.3 z (omega arith) (omega arith)),
     )
+
+-- ---- rows read from a grid
+
+-- a row of a grid has as many cells as the grid is wide
+pub length-row_of : (g : PartialGrid) (y : ℕ) → length (row_of g y) ≡ g.width
+length-row_of g y = length-map-range_with_len (λ (x : ℕ). cell_at g x y) 0 g.width
+
+-- if the rows are those of a grid, and the columns have the cells of the rows, they are the lines of the grid
+pub lines-read : (g : PartialGrid) (rows columns : List (List Cell)) → IsSize (length columns) (length rows) →
+    length g.cells ≡ length columns * length rows → g.width ≡ length columns →
+    ((y : ℕ) → y < length rows → get_or rows y [] ≡ row_of g y) →
+    ((x : ℕ) → x < length columns → length (get_or columns x []) ≡ length rows) →
+    ((x y : ℕ) → x < length columns → y < length rows → get_or (get_or columns x []) y Unknown ≡ get_or (get_or rows y []) x Unknown) →
+    AreLinesOf g.cells rows columns
+lines-read g rows columns size count wide rows_are long cells = record {
+  size = size;
+  count = count;
+  rows_are = λ y ly.
+      let same : length (get_or rows y []) ≡ w = ap length (rows_are y ly) ∙ length-row_of g y ∙ wide in
+      ext_get_or Unknown (get_or rows y []) (cells_at Unknown g.cells (places_from (y * w) 1 w))
+      (same ∙ sym (length-along g.cells (y * w) 1 w))
+      (λ x h. let lx : x < w = omega (arith, h, same) in
+      let at : y * w + x * 1 ≡ y * w + x = omega arith in
+      row_cell x y lx ly ∙ sym (get_or-along g.cells (y * w) 1 w x lx ∙ ap (λ (k : ℕ). get_or g.cells k Unknown) at));
+  columns_are = λ x lx.
+      ext_get_or Unknown (get_or columns x []) (cells_at Unknown g.cells (places_from x w (length rows)))
+      (long x lx ∙ sym (length-along g.cells x w (length rows)))
+      (λ y h. let ly : y < length rows = omega (arith, h, long x lx) in
+      let at : x + y * w ≡ y * w + x = omega arith in
+      cells x y lx ly ∙ row_cell x y lx ly
+      ∙ sym (get_or-along g.cells x w (length rows) y ly ∙ ap (λ (k : ℕ). get_or g.cells k Unknown) at));
+}
+  where
+    w : ℕ
+    w = length columns
+
+    row_cell : (x y : ℕ) → x < length columns → y < length rows →
+        get_or (get_or rows y []) x Unknown ≡ get_or g.cells (y * length columns + x) Unknown
+    row_cell x y lx ly =
+        ap (λ (row : List Cell). get_or row x Unknown) (rows_are y ly)
+        ∙ get_or-map-range_with_len (λ (k : ℕ). cell_at g k y) 0 g.width x x Unknown (omega (arith, lx, wide)) (zero-add x)
+        ∙ ap (λ (n : ℕ). get_or g.cells (y * n + x) Unknown) wide
 
 -- ---- rows written into a grid
 

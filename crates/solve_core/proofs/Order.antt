@@ -1,5 +1,5 @@
 -- What grids know together, in the order of what is known.
-use Rattle.std.proofs.Common.{◌≡◌, ℕ, List, [], ◌∷◌, length, Option, Some, None, refl, sym, arith, option_and_then}
+use Rattle.std.proofs.Common.{◌≡◌, ℕ, zero, suc, List, [], ◌∷◌, length, get_or, set, Option, Some, None, refl, sym, subst, arith, option_and_then}
 use Rattle.std.specs.List.{AllByRecursion}
 use Rattle.grid_core.specs.declared.cells.Cell.{Cell}
 use Rattle.grid_core.specs.declared.cells.Cell.TheVariants.{Unknown, Filled, Blank}
@@ -116,3 +116,17 @@ join_all-above_each g (Some d ∷ os) h =
           (AtMost-trans (Some d) (Some j) (join_all j os) l (join_all-above j os lengths), join_all-above_each j os lengths))
     ]
     (join-left g d (sym h.0)) (join-right g d (sym h.0))
+
+-- a grid with a cell that another one has is below that one
+pub set_within : (a b : List Cell) (i : ℕ) (d : Cell) → Extends a b → CellExtends d (get_or b i Unknown) → Extends (set a i d) b
+set_within [] [] i d e f = tt
+set_within [] (y ∷ b) i d e f = absurd e
+set_within (x ∷ a) [] i d e f = absurd e
+set_within (x ∷ a) (y ∷ b) zero d e f = (f, e.1)
+set_within (x ∷ a) (y ∷ b) (suc i) d e f = (e.0, set_within a b i d e.1 f)
+
+-- a grid with an unknown cell settled knows more
+pub set_extends : (g : List Cell) (k : ℕ) (c : Cell) → get_or g k Unknown ≡ Unknown → Extends g (set g k c)
+set_extends [] k c e = tt
+set_extends (x ∷ g) zero c e = (subst (λ (q : Cell). CellExtends q c) (sym e) tt, Extends-refl g)
+set_extends (x ∷ g) (suc k) c e = ((Extends-refl (x ∷ [])).0, set_extends g k c e)

@@ -11,7 +11,7 @@ use Rattle.grid_core.specs.Nonogram.{GridLine}
 use Rattle.solve_core.specs.Closure.{round, closure}
 use Rattle.solve_core.specs.Search.{Event, Guess, Solution, IsPick, first_unknown, guess_at, search_from, events_within, events}
 use Rattle.solve_core.specs.Report.{solutions_in, through_solution}
-use Rattle.solve_core.proofs.Order.{AtMost, Extends-refl, Extends-trans, length-Extends, Extends-antisym}
+use Rattle.solve_core.proofs.Order.{AtMost, Extends-trans, length-Extends, Extends-antisym, set_extends, set_within}
 use Rattle.solve_core.proofs.Closing.{unknown_count, unknown_count-le, fewer_unknown}
 use Rattle.line_core.proofs.DeductionLaws.{Extends-at, Extends-from_places, get_or-map_colour}
 use Rattle.solve_core.proofs.ClosureLaws.{MeetsLines, AreInRange, full-meets, closure-below, closure-IsLeastClosed}
@@ -81,13 +81,6 @@ full_only pick lawful c z h e =
     equal_extends (get_or c k Unknown) (get_or z k Unknown)
     (same_known (get_or c k Unknown) (get_or z k Unknown) (lawful.only_full c e k (omega (arith, length-Extends c z h)))
     (Extends-at c z k h))))
-
-set_within : (g z : List Cell) (k : ℕ) (d : Cell) → Extends g z → CellExtends d (get_or z k Unknown) → Extends (set g k d) z
-set_within [] [] k d h e = tt
-set_within [] (y ∷ z) k d h e = absurd h
-set_within (x ∷ g) [] k d h e = absurd h
-set_within (x ∷ g) (y ∷ z) zero d h e = (e, h.1)
-set_within (x ∷ g) (y ∷ z) (suc k) d h e = (h.0, set_within g z k d h.1 e)
 
 -- a grid that knows no less has no more unknown cells
 pub unknown_count-more : (g z : List Cell) → Extends g z → unknown_count z ≤ unknown_count g
@@ -172,11 +165,6 @@ IsAmong-split : (s : List Cell) (xs ys : List (List Cell)) → IsAmong s (xs ++ 
 IsAmong-split s [] ys h = inr h
 IsAmong-split s (x ∷ xs) ys (inl e) = inl (inl e)
 IsAmong-split s (x ∷ xs) ys (inr h) = elim (IsAmong-split s xs ys h) [ inl k ↦ inl (inr k) | inr k ↦ inr k ]
-
-set_extends : (g : List Cell) (k : ℕ) (c : Cell) → get_or g k Unknown ≡ Unknown → Extends g (set g k c)
-set_extends [] k c e = tt
-set_extends (x ∷ g) zero c e = (subst (λ (y : Cell). CellExtends y c) (sym e) tt, Extends-refl g)
-set_extends (x ∷ g) (suc k) c e = (equal_extends x x refl, set_extends g k c e)
 
 pub guess_solutions : (below : List Cell → List Event) (c : List Cell) (k : ℕ) →
     solutions_in (guess_at below c (Some k)) ≡ solutions_in (below (set c k Filled)) ++ solutions_in (below (set c k Blank))

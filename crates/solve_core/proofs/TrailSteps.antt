@@ -1,5 +1,5 @@
 -- How the trail of settled cells grows.
-use Rattle.std.proofs.Common.{◌≡◌, ℕ, zero, suc, ◌+◌, ◌<◌, ◌≤◌, true, List, [], ◌∷◌, ◌++◌, length, get_or, set, refl, sym, ap, ◌∙◌, arith, subst, length-append, length-set, append-nil, append_assoc, true≢false, replicate}
+use Rattle.std.proofs.Common.{◌≡◌, ℕ, zero, suc, ◌+◌, ◌<◌, true, List, [], ◌∷◌, ◌++◌, length, get_or, set, refl, sym, ap, ◌∙◌, arith, subst, length-append, length-set, append-nil, append_assoc, true≢false, replicate}
 use Rattle.std.proofs.lemmas.List.{length-replicate}
 use Rattle.std.specs.List.{AllByRecursion}
 use Rattle.grid_core.specs.declared.cells.Cell.{Cell}
@@ -83,13 +83,6 @@ trailed-one g after k c h e n w t a b = record {
   within = ((omega (arith, ap length a, length-set g.cells k c)), tt);
   count = rw a (count-settled g.cells k c h e n);
 }
-
--- no more cells are unknown than there are cells
-pub unknown_count-at_most : (g : List Cell) → unknown_count g ≤ length g
-unknown_count-at_most [] = omega arith
-unknown_count-at_most (Unknown ∷ g) = omega (arith, unknown_count-at_most g)
-unknown_count-at_most (Filled ∷ g) = omega (arith, unknown_count-at_most g)
-unknown_count-at_most (Blank ∷ g) = omega (arith, unknown_count-at_most g)
 
 unknown_count-all : (n : ℕ) → unknown_count (replicate n Unknown) ≡ n
 unknown_count-all zero = refl

@@ -8,7 +8,7 @@ use Rattle.grid_core.specs.Cells.{CellExtends, Extends, colour}
 use Rattle.grid_core.specs.Nonogram.{GridLine}
 use Rattle.solve_core.specs.Closure.{option_cons, round, closure}
 use Rattle.solve_core.specs.Trials.{is_refuted, left_over, tried, all_present, trial_round, trials}
-use Rattle.solve_core.proofs.Order.{AtMost, Extends-trans, length-Extends}
+use Rattle.solve_core.proofs.Order.{AtMost, Extends-trans, length-Extends, set_within}
 use Rattle.solve_core.proofs.Closing.{IsDeduction, repeat-fixed, and_then-above, and_then-below}
 use Rattle.line_core.proofs.DeductionLaws.{Extends-at, get_or-map_colour}
 use Rattle.solve_core.proofs.ClosureLaws.{IsLeastClosed, closure-IsLeastClosed, repeat-IsLeastClosed, MeetsLines, round-solution, same_at_most, set-monotone}
@@ -98,13 +98,6 @@ refuted_not_there lines g w k c closed h refuted there l =
     none_above : (o : Option (List Cell)) (w' : List Cell) → is_none o ≡ true → AtMost o (Some w') → ⊥
     none_above None w' e m = m
     none_above (Some g') w' e m = true≢false (sym e)
-
-    set_within : (a b : List Cell) (i : ℕ) (d : Cell) → Extends a b → CellExtends d (get_or b i Unknown) → Extends (set a i d) b
-    set_within [] [] i d e f = tt
-    set_within [] (y ∷ b) i d e f = absurd e
-    set_within (x ∷ a) [] i d e f = absurd e
-    set_within (x ∷ a) (y ∷ b) zero d e f = (f, e.1)
-    set_within (x ∷ a) (y ∷ b) (suc i) d e f = (e.0, set_within a b i d e.1 f)
 
 -- a grid that knows more has a closure that knows no less
 pub closure-monotone : (lines : List GridLine) (g z : List Cell) → Extends g z → AtMost (closure lines g) (closure lines z)

@@ -11,7 +11,7 @@ use Rattle.solve_core.specs.Closure.{round, closure}
 use Rattle.solve_core.specs.Trials.{is_refuted, left_over, tried, trial_round, trials, IsTried}
 use Rattle.solve_core.specs.Marks.{Progresses, if_alive, IsTrialOf}
 use Rattle.solve_core.specs.Trails.{unknown_count}
-use Rattle.solve_core.proofs.Order.{AtMost, Extends-refl, Extends-trans, length-Extends}
+use Rattle.solve_core.proofs.Order.{AtMost, Extends-refl, Extends-trans, length-Extends, set_extends, set_within}
 use Rattle.solve_core.proofs.Closing.{repeat-fixed, fewer_unknown}
 use Rattle.line_core.proofs.DeductionLaws.{Extends-at}
 use Rattle.solve_core.proofs.ClosureLaws.{IsLeastClosed, closure-IsLeastClosed, same_at_most}
@@ -47,19 +47,6 @@ none_only (Some z) h = absurd h
 -- if the closure of a grid is dead, its trials end dead
 pub closure_dead : (lines : List GridLine) (g : List Cell) → closure lines g ≡ None → trials lines g ≡ None
 closure_dead lines g e = none_only (trials lines g) (rw e at (closure_below lines g))
-
--- a grid with a cell that another one has is below that one
-pub set_within : (a b : List Cell) (i : ℕ) (d : Cell) → Extends a b → CellExtends d (get_or b i Unknown) → Extends (set a i d) b
-set_within [] [] i d e f = tt
-set_within [] (y ∷ b) i d e f = absurd e
-set_within (x ∷ a) [] i d e f = absurd e
-set_within (x ∷ a) (y ∷ b) zero d e f = (f, e.1)
-set_within (x ∷ a) (y ∷ b) (suc i) d e f = (e.0, set_within a b i d e.1 f)
-
-pub set-extends : (g : List Cell) (k : ℕ) (c : Cell) → get_or g k Unknown ≡ Unknown → Extends g (set g k c)
-set-extends [] k c e = tt
-set-extends (x ∷ g) zero c e = (subst (λ (q : Cell). CellExtends q c) (sym e) tt, Extends-refl g)
-set-extends (x ∷ g) (suc k) c e = (Extends-at (x ∷ []) (x ∷ []) 0 (Extends-refl (x ∷ [])), set-extends g k c e)
 
 left_blank_below : (b : Bool) (w : Cell) → OptionBelow (left_over true b) w → CellExtends Blank w
 left_blank_below true w h = absurd h
@@ -157,7 +144,7 @@ pub settled-extends : (lines : List GridLine) (g z : List Cell) (k : ℕ) (c : C
     closure lines (set g k c) ≡ Some z → Extends g z
 settled-extends lines g z k c unknown e =
     let above : Extends (set g k c) z = rw e at ((closure-IsLeastClosed lines (set g k c)).above) in
-    Extends-trans g (set g k c) z (set-extends g k c unknown) above
+    Extends-trans g (set g k c) z (set_extends g k c unknown) above
 
 count-set : (g : List Cell) (k : ℕ) (c : Cell) → k < length g → get_or g k Unknown ≡ Unknown → is_known c ≡ true →
     unknown_count (set g k c) < unknown_count g
@@ -177,14 +164,14 @@ settle-changed lines g new k c l unknown n below e =
     let z = set g k c in
     let above : Extends z new = rw e at ((closure-IsLeastClosed lines z).above) in
     let fewer = count-set g k c l unknown n in (
-      closure_trials lines z new e ∙ trials_between lines g z (set-extends g k c unknown) below,
+      closure_trials lines z new e ∙ trials_between lines g z (set_extends g k c unknown) below,
       elim (fewer_unknown z new above) [ inl s ↦ omega (arith, ap unknown_count s, fewer) | inr m ↦ omega (arith, m, fewer) ],
     )
 
 -- if settling a cell as trials do leads to a dead closure, the trials end dead
 pub settle-dead : (lines : List GridLine) (g : List Cell) (k : ℕ) (c : Cell) → get_or g k Unknown ≡ Unknown →
     AtMost (Some (set g k c)) (trials lines g) → closure lines (set g k c) ≡ None → trials lines g ≡ None
-settle-dead lines g k c unknown below e = sym (trials_between lines g (set g k c) (set-extends g k c unknown) below) ∙
+settle-dead lines g k c unknown below e = sym (trials_between lines g (set g k c) (set_extends g k c unknown) below) ∙
     closure_dead lines (set g k c) e
 
 -- a trial that came to `Refuted` refutes its colour

@@ -18,9 +18,9 @@ use Rattle.solve_core.specs.declared.witnesses.Crossed.{Crossed}
 use Rattle.solve_core.specs.declared.witnesses.Witness.{Witness}
 use Rattle.solve_core.specs.WitnessedPuzzles.{WitnessedPuzzle, no_witness, witness_at, met_by, open_marks}
 use Rattle.solve_core.specs.Witnesses.{has_side, IsCrossed, DifferWithin, ShareNoLine, IsWitness, AreWitnesses, AreNumbered, IsKept, AddsMet}
-use Rattle.solve_core.proofs.Order.{Extends-refl, Extends-antisym, length-Extends}
+use Rattle.solve_core.proofs.Order.{Extends-refl, Extends-antisym, length-Extends, set_within}
 use Rattle.solve_core.proofs.ClosureLaws.{closure-IsLeastClosed}
-use Rattle.solve_core.proofs.TrialSteps.{met_open, set_within}
+use Rattle.solve_core.proofs.TrialSteps.{met_open}
 use Rattle.solve_core.proofs.NumberedLines.{unique_place, along-row, along-column, line_is_one}
 use Rattle.solve_core.proofs.GridSteps.{settled_closed, place_again, line_place, line-distinct, line-below}
 use Rattle.solve_core.proofs.LineSteps.{cells_at-same, closed_settled, before_or_from, same_or_not}

@@ -3,6 +3,7 @@ ghost use Rattle.std.specs.Prelude.{◌≡◌, ◌+◌, ◌-◌, ◌*◌, ◌<�
 ghost use Rattle.grid_core.specs.Cells.{is_known};
 ghost use Rattle.grid_core.specs.Nonogram.{cells_at};
 ghost use Rattle.grid_core.specs.PartialGrid.{IsSize};
+ghost use Rattle.grid_core.specs.Rows.{row_of};
 ghost use Rattle.grid_core.specs.declared.cells.Cell.TheVariants.{Unknown};
 ghost use Rattle.line_core.specs.Lines.{IsUnknownFrom};
 ghost use Rattle.solve_core.specs.GridLines.{AreLinesOf, cells_of_rows};
@@ -101,6 +102,62 @@ fn copy_lines<W: LineSet>(lines: &mut [LineOf<W>], others: &[LineOf<W>])
     for i in 0..lines.len() {
         lines[i].copy_from(&others[i]);
     }
+}
+
+/// Takes over the rows of a grid, each as a whole.
+fn read_rows<W: LineSet>(rows: &mut [LineOf<W>], grid: &Grid)
+    requires few { length rows.old ≤ 256 }
+    requires count { length rows.old ≡ grid.now.height }
+    requires lengths { (y : ℕ) → y < length rows.old → length (slice_index_or rows.old y []) ≡ grid.now.width }
+    ensures rows { (y : ℕ) → y < length rows.old → slice_index_or rows.new y [] ≡ row_of grid.now y }
+    ensures len { length rows.new ≡ length rows.old }
+    ensures count { 0 < length rows.old → length grid.now.cells ≡ grid.now.width * grid.now.height }
+{
+    for y in 0..rows.len() {
+        rows[y].read_row(grid, y as u16);
+    }
+}
+
+/// Writes the cells of row `y` into the columns.
+fn write_across<W: LineSet>(columns: &mut [LineOf<W>], y: usize, row: &LineOf<W>)
+    requires few { (length columns.old ≤ 256) × (y < 256) }
+    requires count { length columns.old ≡ length row.now }
+    requires lengths { (x : ℕ) → x < length columns.old → y < length (slice_index_or columns.old x []) }
+    ensures cells { (x : ℕ) → x < length columns.old → slice_index_or columns.new x []
+        ≡ slice_set (slice_index_or columns.old x []) y (slice_index_or row.now x Unknown) }
+    ensures len { length columns.new ≡ length columns.old }
+{
+    for x in 0..columns.len() {
+        columns[x].set(y as u16, row.get(x as u16));
+    }
+}
+
+/// Writes the cells of rows into the columns.
+fn read_columns<W: LineSet>(columns: &mut [LineOf<W>], rows: &[LineOf<W>])
+    requires few { (length columns.old ≤ 256) × (length rows.now ≤ 256) }
+    requires rows { (y : ℕ) → y < length rows.now → length (slice_index_or rows.now y []) ≡ length columns.old }
+    requires columns { (x : ℕ) → x < length columns.old → length (slice_index_or columns.old x []) ≡ length rows.now }
+    ensures cells { (x y : ℕ) → x < length columns.old → y < length rows.now → slice_index_or (slice_index_or columns.new x []) y Unknown
+        ≡ slice_index_or (slice_index_or rows.now y []) x Unknown }
+    ensures lengths { (x : ℕ) → x < length columns.old → length (slice_index_or columns.new x []) ≡ length rows.now }
+    ensures len { length columns.new ≡ length columns.old }
+{
+    for y in 0..rows.len() {
+        write_across(columns, y, &rows[y]);
+    }
+}
+
+/// Takes over the cells of a grid into its rows and its columns.
+fn read_lines<W: LineSet>(rows: &mut [LineOf<W>], columns: &mut [LineOf<W>], grid: &Grid)
+    requires lines { AreLinesOf (cells_of_rows rows.old) rows.old columns.old }
+    requires width { grid.now.width ≡ length columns.old }
+    requires height { grid.now.height ≡ length rows.old }
+    ensures lines { AreLinesOf grid.now.cells rows.new columns.new }
+    ensures rows { length rows.new ≡ length rows.old }
+    ensures columns { length columns.new ≡ length columns.old }
+{
+    read_rows(rows, grid);
+    read_columns(columns, rows);
 }
 
 /// The places of which the cell of the row above row y is known, or all if there is no row above.
@@ -262,12 +319,7 @@ impl<W: LineSet> GridLines<W> {
         ensures lines { self.new ≡ grid.now }
         ensures count { length grid.now.cells ≡ grid.now.width * grid.now.height }
     {
-        let width = usize::from(grid.width());
-        for place in 0..self.count() {
-            let (x, y) = (place % width, place / width);
-            let cell = grid.get(x as u16, y as u16);
-            self.set(x, y, cell);
-        }
+        read_lines(&mut self.rows, &mut self.columns, grid);
     }
 
     /// Writes its cells into a grid of its size.

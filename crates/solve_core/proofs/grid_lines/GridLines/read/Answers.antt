@@ -1,39 +1,37 @@
--- `GridLines::read`: each place is in a row of the grid, and with all cells read both grids are the same.
-use Rattle.std.proofs.Common.{◌≡◌, ◌∙◌, ◌*◌, ◌<◌, ◌/◌, length, sym, arith}
-use Rattle.std.proofs.lemmas.List.{ext_get_or}
-use Rattle.std.proofs.lemmas.Nat.{div_below}
-use Rattle.grid_core.specs.declared.cells.Cell.TheVariants.{Unknown}
+-- `GridLines::read`: the lines that are read are those of the grid, so the cells of the rows are its cells.
+use Rattle.std.proofs.Common.{◌≡◌, ◌∙◌, List, length, ap, sym, subst}
+use Rattle.std.proofs.lemmas.List.{with_items_is}
+use Rattle.grid_core.specs.declared.cells.Cell.{Cell}
+use Rattle.grid_core.specs.PartialGrid.{PartialGrid}
+use Rattle.solve_core.specs.GridLines.{AreLinesOf, cells_of_rows}
+use Rattle.solve_core.proofs.GridLineSteps.{lines-cells}
 use Rattle.solve_core.proofs.grid_lines.GridLines.read.Goals as goal
 
-pub get-cell-requires-clause-row : goal.get-cell-requires-clause-row
-get-cell-requires-clause-row g c =
-    let grid = c.args.grid.now in
-    let wide : c.from-width.result ≡ grid.width = c.from-width.ensures ∙ c.width.ensures.width in
-    let positive : 0 < grid.width = c.width.ensures.size.width_from in
-    let all : length c.args.self.now.cells ≡ grid.height * grid.width = c.count-place-end.ensures.product ∙
-    (λ i. sym c.requires.width i * sym c.requires.height i) ∙ omega arith in
-    rw wide (div_below c.loop-place.place grid.width grid.height positive
-    (omega (arith, c.loop-place-test.true, c.count-place-end.ensures.count, all)))
-
-pub set-requires-clause-row : goal.set-requires-clause-row
-set-requires-clause-row g c =
-    let grid = c.args.grid.now in
-    let wide : c.from-width.result ≡ grid.width = c.from-width.ensures ∙ c.width.ensures.width in
-    let positive : 0 < grid.width = c.width.ensures.size.width_from in
-    let all : length c.args.self.now.cells ≡ grid.height * grid.width = c.count-place-end.ensures.product ∙
-    (λ i. sym c.requires.width i * sym c.requires.height i) ∙ omega arith in
-    let below : c.loop-place.place / grid.width < grid.height =
-    div_below c.loop-place.place grid.width grid.height positive
-    (omega (arith, c.loop-place-test.true, c.count-place-end.ensures.count, all)) in
-    rw (wide, c.loop-place.invariant.height) below
+pub invariant_of-self : goal.invariant_of-self
+invariant_of-self g c =
+    let new_rows = c.read_lines.new.rows in
+    let new_columns = c.read_lines.new.columns in
+    let rows = with_items_is c.self.inside.rows new_rows (c.read_lines.ensures.rows ∙ c.deref_mut.ensures.len) in
+    let columns = with_items_is c.self.inside.columns new_columns (c.read_lines.ensures.columns ∙ c.deref_mut-2.ensures.len) in
+    let same = lines-cells c.args.grid.now.cells new_rows new_columns c.read_lines.ensures.lines in
+    rw (rows, columns)
+    (subst (λ (cells : List Cell). AreLinesOf cells new_rows new_columns) (sym same) c.read_lines.ensures.lines)
 
 pub returns-clause-lines : goal.returns-clause-lines
 returns-clause-lines g c =
     let grid = c.args.grid.now in
-    let before = c.loop-place.invariant in
-    let long : length c.loop-place.self.cells ≡ length grid.cells =
-    before.count ∙ c.count-place-end.ensures.count ∙ c.count-place-end.ensures.product ∙
-    (λ i. sym c.requires.width i * sym c.requires.height i) ∙ sym c.width.ensures.cells in
-    let cells = ext_get_or Unknown c.loop-place.self.cells grid.cells long
-    (λ k h. before.read k (omega (arith, before.count, c.loop-place-test.false))) in
-    λ i. record { width = before.width i; height = before.height i; cells = cells i }
+    let seen = c.self.view_is in
+    let new_rows = c.read_lines.new.rows in
+    let new_columns = c.read_lines.new.columns in
+    let rows = with_items_is c.self.inside.rows new_rows (c.read_lines.ensures.rows ∙ c.deref_mut.ensures.len) in
+    let columns = with_items_is c.self.inside.columns new_columns (c.read_lines.ensures.columns ∙ c.deref_mut-2.ensures.len) in
+    let wide : length new_columns ≡ grid.width =
+    c.read_lines.ensures.columns ∙ ap length c.deref_mut-2.ensures.value ∙ ap (λ (g : PartialGrid). g.width) seen ∙ sym c.requires.width in
+    let high : length new_rows ≡ grid.height =
+    c.read_lines.ensures.rows ∙ ap length c.deref_mut.ensures.value ∙ ap (λ (g : PartialGrid). g.height) seen ∙ sym c.requires.height in
+    let same = lines-cells grid.cells new_rows new_columns c.read_lines.ensures.lines in
+    λ i. record {
+      width = (ap length columns ∙ wide) i;
+      height = (ap length rows ∙ high) i;
+      cells = (ap cells_of_rows rows ∙ same) i;
+    }

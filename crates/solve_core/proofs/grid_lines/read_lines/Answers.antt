@@ -1,0 +1,33 @@
+-- `read_lines`: rows that are those of the grid, and columns with the cells of the rows, are its lines.
+use Rattle.std.proofs.Common.{◌≡◌, ◌*◌, ◌∙◌, length, ap, sym, arith}
+use Rattle.grid_core.specs.PartialGrid.{IsSize}
+use Rattle.solve_core.proofs.GridLineSteps.{length-row_of, lines-long, lines-read}
+use Rattle.solve_core.proofs.grid_lines.read_lines.Goals as goal
+
+pub read_rows-requires-clause-lengths : goal.read_rows-requires-clause-lengths
+read_rows-requires-clause-lengths g c = λ y l.
+    (lines-long c.args.rows.now c.args.columns.now 0 y c.requires.lines c.requires.lines.size.width_from l).0 ∙ sym c.requires.width
+
+pub read_columns-requires-clause-rows : goal.read_columns-requires-clause-rows
+read_columns-requires-clause-rows g c = λ y l.
+    ap length (c.read_rows.ensures.rows y (omega (arith, l, c.read_rows.ensures.len))) ∙ length-row_of c.args.grid.now y ∙ c.requires.width
+
+pub read_columns-requires-clause-columns : goal.read_columns-requires-clause-columns
+read_columns-requires-clause-columns g c = λ x l.
+    (lines-long c.args.rows.now c.args.columns.now x 0 c.requires.lines l c.requires.lines.size.height_from).1
+    ∙ sym c.read_rows.ensures.len
+
+pub returns-clause-lines : goal.returns-clause-lines
+returns-clause-lines g c =
+    let rows = c.read_rows.new.rows in
+    let columns = c.read_columns.new.columns in
+    let high = c.read_rows.ensures.len in
+    let wide = c.read_columns.ensures.len in
+    let size : IsSize (length columns) (length rows) = rw (high, wide) c.requires.lines.size in
+    let count : length c.args.grid.now.cells ≡ length columns * length rows =
+    c.read_rows.ensures.count c.requires.lines.size.height_from
+    ∙ (λ i. (c.requires.width ∙ sym wide) i * (c.requires.height ∙ sym high) i) in
+    lines-read c.args.grid.now rows columns size count (c.requires.width ∙ sym wide)
+    (λ y l. c.read_rows.ensures.rows y (omega (arith, l, high)))
+    (λ x l. c.read_columns.ensures.lengths x (omega (arith, l, wide)))
+    (λ x y lx ly. c.read_columns.ensures.cells x y (omega (arith, lx, wide)) ly)
