@@ -25,7 +25,7 @@ pub fn spent_is_within()
     ensures { (pick : List Cell → Option ℕ) (p : Nonogram) (limit : ℕ) → guesses_of pick p limit ≤ limit }
 {}
 
-/// Where the verdict is final, the whole report is the same for every greater limit.
+/// If the verdict is final, the whole report is the same for every greater limit.
 pub fn final_report_stays()
     ensures { (pick : List Cell → Option ℕ) (p : Nonogram) (limit greater : ℕ) → limit ≤ greater → IsFinal (report_of pick p limit).verdict
         → report_of pick p greater ≡ report_of pick p limit }
