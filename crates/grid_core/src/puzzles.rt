@@ -31,7 +31,7 @@ pub enum PuzzleFault {
 /// A nonogram: a width and a height from 1 to 256, the clue of each row and column, texts, and perhaps a
 /// goal, which says of each cell, row by row, whether it is to be filled. Nothing is demanded of the clues:
 /// they may not fit their lines, and their sums may differ.
-#[derive(Debug, Drop)]
+#[derive(Debug)]
 pub struct Puzzle {
     width: u16,
     height: u16,
@@ -39,6 +39,20 @@ pub struct Puzzle {
     columns: Vec<Clue>,
     texts: Texts,
     goal: Option<Vec<bool>>,
+}
+
+/// A call of its own, so that a proof takes it as one step.
+impl Drop for Puzzle {
+    fn drop(self) {
+        let Puzzle {
+            width: _,
+            height: _,
+            rows: _,
+            columns: _,
+            texts: _,
+            goal: _,
+        } = self;
+    }
 }
 
 impl Model for Puzzle {
