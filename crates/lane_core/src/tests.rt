@@ -12,20 +12,32 @@ use std::process::Abort;
 use std::sync::atomic::{AtomicU32, Ordering};
 use std::test::Fail;
 
+/// The clue of one line, a single 1.
+fn lone_clue(alloc: Global) -> Result<Vec<Clue>, Fail> {
+    let mut clues = Vec::with_capacity(alloc, 1)?;
+    clues.push(Clue::from_numbers(alloc, &[1]).ok().ok_or("clue")?)?;
+    Ok(clues)
+}
+
 /// The puzzle of one cell, which is filled.
 fn one_cell(alloc: Global) -> Result<Puzzle, Fail> {
-    let row = Clue::from_numbers(alloc, &[1]).ok().ok_or("row")?;
-    let column = Clue::from_numbers(alloc, &[1]).ok().ok_or("column")?;
-    let mut rows = Vec::with_capacity(alloc, 1)?;
-    rows.push(row)?;
-    let mut columns = Vec::with_capacity(alloc, 1)?;
-    columns.push(column)?;
+    let rows = lone_clue(alloc)?;
+    let columns = lone_clue(alloc)?;
     let puzzle = Puzzle::new(1, 1, rows, columns, Texts::none(), None);
     Ok(puzzle.ok().ok_or("puzzle")?)
 }
 
 pub(crate) fn job(alloc: Global, number: u32) -> Result<Job, Fail> {
     Ok(Job::new(number, one_cell(alloc)?, 1000, Pick::First))
+}
+
+/// Jobs with the numbers from `first` on, `count` of them, in the order of their numbers.
+pub(crate) fn jobs(alloc: Global, first: u32, count: u32) -> Result<VecDeque<Job, Global>, Fail> {
+    let mut jobs = VecDeque::new(alloc);
+    for index in 0..count {
+        jobs.push_back(job(alloc, first.wrapping_add(index))?)?;
+    }
+    Ok(jobs)
 }
 
 /// A call on a lane.
@@ -182,26 +194,53 @@ fn lane_on_one_thread(rt: HostRuntime) -> Result<(), Fail> {
     Ok(())
 }
 
-fn call_of_batch(lane: &mut BatchLane, alloc: Global, call: Call) -> Result<Reply, Fail> {
-    Ok(match call {
-        Call::Send(number) => sent(lane.send(job(alloc, number)?)),
-        Call::Finish => finished(lane.finish()),
-        Call::Take => taken(lane.take()),
-        Call::Work => {
-            lane.work(alloc, &OpenGate);
-            Reply::Worked
+/// A lane of batches.
+#[derive(Drop)]
+struct Batch {
+    lane: BatchLane,
+}
+
+impl Batch {
+    fn open(alloc: Global, capacity: usize) -> Result<Batch, NoMemory>
+        requires least { 1 ≤ capacity }
+        requires most { capacity ≤ LARGEST_BATCH }
+    {
+        Ok(Batch {
+            lane: BatchLane::new(alloc, capacity)?,
+        })
+    }
+
+    fn work(&mut self, alloc: Global) -> Reply {
+        self.lane.work(alloc, &OpenGate);
+        Reply::Worked
+    }
+
+    fn call(&mut self, alloc: Global, call: Call) -> Result<Reply, Fail> {
+        Ok(match call {
+            Call::Send(number) => sent(self.lane.send(job(alloc, number)?)),
+            Call::Finish => finished(self.lane.finish()),
+            Call::Take => taken(self.lane.take()),
+            Call::Work => self.work(alloc),
+        })
+    }
+
+    fn close(self) -> Result<(), (SettleFault, Batch)> {
+        let Batch { lane } = self;
+        match lane.close() {
+            Ok(()) => Ok(()),
+            Err((fault, lane)) => Err((fault, Batch { lane })),
         }
-    })
+    }
 }
 
 fn follow_in_batch(
     rt: &impl Abort,
     alloc: Global,
-    lane: &mut BatchLane,
+    lane: &mut Batch,
     script: &[(Call, Reply)],
 ) -> Result<(), Fail> {
     for (call, reply) in script {
-        assert_eq!(rt; call_of_batch(lane, alloc, *call)?, *reply);
+        assert_eq!(rt; lane.call(alloc, *call)?, *reply);
     }
     Ok(())
 }
@@ -223,13 +262,13 @@ const DRAINING_THE_BATCH: [(Call, Reply); 3] = [
 #[test]
 fn batch_lane(rt: HostRuntime) -> Result<(), Fail> {
     let alloc = rt.alloc();
-    let mut lane = BatchLane::new(alloc, 2).ok().ok_or("memory")?;
+    let mut lane = Batch::open(alloc, 2).ok().ok_or("memory")?;
     follow_in_batch(&rt, alloc, &mut lane, &BATCH)?;
     let Err((fault, mut lane)) = lane.close() else {
         return Err(Fail::from("closed"));
     };
     assert_eq!(rt; fault, SettleFault::Unfinished);
-    lane.work(alloc, &OpenGate);
+    lane.work(alloc);
     let Err((fault, mut lane)) = lane.close() else {
         return Err(Fail::from("closed"));
     };
@@ -242,11 +281,8 @@ fn batch_lane(rt: HostRuntime) -> Result<(), Fail> {
 #[test]
 fn dealing_a_batch(rt: HostRuntime) -> Result<(), Fail> {
     let alloc = rt.alloc();
+    let mut waiting = jobs(alloc, 1, 3)?;
     let mut lane = BatchLane::new(alloc, 2).ok().ok_or("memory")?;
-    let mut waiting = VecDeque::with_capacity(alloc, 3)?;
-    for number in 1..4 {
-        waiting.push_back(job(alloc, number)?)?;
-    }
     let mut got = Vec::with_capacity(alloc, 64)?;
     assert!(rt; deal(&mut lane, &mut waiting, &mut got));
     assert_eq!(rt; (waiting.len(), got.len()), (1, 0));
@@ -267,11 +303,8 @@ fn dealing_a_batch(rt: HostRuntime) -> Result<(), Fail> {
 #[test]
 fn dealing_with_little_room(rt: HostRuntime) -> Result<(), Fail> {
     let alloc = rt.alloc();
+    let mut waiting = jobs(alloc, 1, 2)?;
     let mut lane = BatchLane::new(alloc, 2).ok().ok_or("memory")?;
-    let mut waiting = VecDeque::with_capacity(alloc, 2)?;
-    for number in 1..3 {
-        waiting.push_back(job(alloc, number)?)?;
-    }
     let mut got = Vec::with_capacity(alloc, 1)?;
     assert!(rt; deal(&mut lane, &mut waiting, &mut got));
     lane.work(alloc, &OpenGate);
@@ -287,11 +320,8 @@ fn dealing_with_little_room(rt: HostRuntime) -> Result<(), Fail> {
 #[test]
 fn dealing_at_a_front(rt: HostRuntime) -> Result<(), Fail> {
     let alloc = rt.alloc();
+    let mut waiting = jobs(alloc, 1, 2)?;
     let mut lane = Both::open(alloc, 1).ok().ok_or("memory")?;
-    let mut waiting = VecDeque::with_capacity(alloc, 2)?;
-    for number in 1..3 {
-        waiting.push_back(job(alloc, number)?)?;
-    }
     let mut got = Vec::with_capacity(alloc, 2)?;
     assert!(rt; deal(&mut lane.front, &mut waiting, &mut got));
     assert!(rt; !deal(&mut lane.front, &mut waiting, &mut got));

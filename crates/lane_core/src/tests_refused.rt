@@ -1,12 +1,11 @@
 //! Calls whose growths of memory are refused, each in turn, and calls that take no memory
 //! with every growth refused.
 
-use super::tests::job;
+use super::tests::{job, jobs};
 use super::tests_refusals::{Told, assert_heeded, assert_swept, refuse, told_if, was_refused};
 use super::*;
 use grid_core::NoMemory;
 use std::alloc::Global;
-use std::collections::VecDeque;
 use std::process::Abort;
 use std::test::Fail;
 
@@ -58,10 +57,9 @@ fn jobs_are_graded_or_refused(rt: HostRuntime) -> Result<(), Fail> {
 #[test]
 fn lanes_take_no_memory(rt: HostRuntime) -> Result<(), Fail> {
     let alloc = rt.alloc();
-    let mut lane = BatchLane::new(alloc, 3).ok().ok_or("memory")?;
     let first = job(alloc, 1)?;
-    let mut waiting = VecDeque::with_capacity(alloc, 1)?;
-    waiting.push_back(job(alloc, 2)?)?;
+    let mut waiting = jobs(alloc, 2, 1)?;
+    let mut lane = BatchLane::new(alloc, 3).ok().ok_or("memory")?;
     let mut got = Vec::with_capacity(alloc, 1)?;
     refuse(alloc, 0);
     let sent = lane.send(first).is_ok() && deal(&mut lane, &mut waiting, &mut got);

@@ -11,14 +11,17 @@ use std::test::Fail;
 
 const MOST_TURNS: u32 = 100_000_000;
 
+/// The clue of one line, a single 1.
+fn lone_clue(alloc: Global) -> Result<Vec<Clue>, Fail> {
+    let mut clues = Vec::with_capacity(alloc, 1)?;
+    clues.push(Clue::from_numbers(alloc, &[1]).ok().ok_or("clue")?)?;
+    Ok(clues)
+}
+
 /// The puzzle of one cell, which is filled.
 fn one_cell(alloc: Global) -> Result<Puzzle, Fail> {
-    let row = Clue::from_numbers(alloc, &[1]).ok().ok_or("row")?;
-    let column = Clue::from_numbers(alloc, &[1]).ok().ok_or("column")?;
-    let mut rows = Vec::with_capacity(alloc, 1)?;
-    rows.push(row)?;
-    let mut columns = Vec::with_capacity(alloc, 1)?;
-    columns.push(column)?;
+    let rows = lone_clue(alloc)?;
+    let columns = lone_clue(alloc)?;
     let puzzle = Puzzle::new(1, 1, rows, columns, Texts::none(), None);
     Ok(puzzle.ok().ok_or("puzzle")?)
 }
