@@ -2,6 +2,5 @@
 mod FilesLemmas
 mod FoundLemmas
 mod FullLemmas
-mod LinesLemmas
 mod PrintingLemmas
 mod WordLemmas

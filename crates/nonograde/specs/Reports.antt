@@ -1,13 +1,12 @@
 -- The texts that the commands on one puzzle print.
-use Rattle.std.specs.Prelude.{◌≡◌, ℕ, Bool, true, false, List, ◌++◌, codes, decimal, count_by, if◌then◌else◌, Option, Some, None, Result, Ok, Err, Vec}
+use Rattle.std.specs.Prelude.{◌≡◌, ℕ, true, List, ◌++◌, codes, decimal, count_by, if◌then◌else◌, Option, Some, None, Result, Ok, Err, Vec}
 use Rattle.std.specs.List.{list_all}
 use Rattle.std.specs.declared.alloc.Global.{Global}
-use Rattle.grid_core.specs.declared.cells.Cell.{Cell}
 use Rattle.grid_core.specs.declared.limits.TheConstants.{LONGEST_SIDE}
 use Rattle.grid_core.specs.Cells.{is_known}
 use Rattle.grid_core.specs.Nonogram.{Nonogram}
 use Rattle.grid_core.specs.PartialGrid.{PartialGrid}
-use Rattle.solve_core.specs.Report.{grid_of, line_closure}
+use Rattle.solve_core.specs.Report.{line_grid}
 use Rattle.solve_core.specs.declared.picks.Pick.{Pick}
 use Rattle.puzzle_text.specs.Formats.{read_entry}
 use Rattle.puzzle_text.specs.declared.faults.EntryFault.{EntryFault}
@@ -25,19 +24,14 @@ closed_word grid = if list_all is_known grid.cells then codes "one" else codes "
 abbrev pub grid_report : PartialGrid → List ℕ
 grid_report grid = closed_word grid ++ codes " " ++ decimal (count_by is_known grid.cells) ++ codes "\n" ++ grid_text grid
 
--- what is printed of a closed grid that is alive, or dead
-abbrev pub outcome_report : Bool → PartialGrid → List ℕ
-outcome_report true grid = grid_report grid
-outcome_report false grid = codes "none 0\n"
-
--- what is printed of a closed grid of the puzzle's size; a dead one has no rows
-abbrev pub closed_text : Nonogram → Option (List Cell) → List ℕ
-closed_text p None = codes "none 0\n"
-closed_text p (Some cells) = grid_report (grid_of p cells)
+-- what is printed of a closed grid; a dead one has no rows
+abbrev pub closed_text : Option PartialGrid → List ℕ
+closed_text None = codes "none 0\n"
+closed_text (Some grid) = grid_report grid
 
 -- the puzzle closed by lines
 abbrev pub lines_text : Nonogram → List ℕ
-lines_text p = closed_text p (line_closure p)
+lines_text p = closed_text (line_grid p)
 
 -- the puzzle's line in a survey with this limit on guesses and this rule for them, numbered 1, and its
 -- solutions

@@ -4,14 +4,14 @@ ghost use Rattle.std.specs.Prelude.{◌≡◌, ◌≤◌, ◌<◌, ◌↔◌, �
 ghost use Rattle.std.specs.List.{list_all};
 ghost use Rattle.grid_core.specs.Cells.{is_known};
 ghost use Rattle.puzzle_text.specs.Formats.{is_known as is_known_format};
-ghost use Rattle.nonograde.specs.Reports.{GivesText, closed_word, grid_report, lines_text, outcome_report, said, solve_text, text_or_fault};
+ghost use Rattle.nonograde.specs.Reports.{GivesText, closed_text, closed_word, grid_report, lines_text, said, solve_text, text_or_fault};
 
 use grid_core::{Grid, NoMemory, Puzzle};
 use lane_core::{Job, MOST_GUESSES, grade};
 use puzzle_text::{
     Entry, EntryFault, LONGEST_PUZZLE, TextFault, push_bytes, push_number, read_entry,
 };
-use solve_core::{Pick, Solver};
+use solve_core::{Pick, line_grid};
 use std::alloc::Global;
 use survey_core::{print_graded, push_grid};
 
@@ -40,14 +40,13 @@ fn push_report(text: &mut Vec<u8>, grid: &Grid) -> Result<(), NoMemory>
     push_grid(text, grid)
 }
 
-/// Adds what is printed of a closed grid, which is alive or dead.
-fn push_closed(text: &mut Vec<u8>, alive: bool, grid: &Grid) -> Result<(), NoMemory>
-    ensures { OnOk result (text.new.items ≡ text.old.items ++ outcome_report alive grid.now) }
+/// Adds what is printed of a closed grid, or of a dead one.
+fn push_closed(text: &mut Vec<u8>, closed: &Option<Grid>) -> Result<(), NoMemory>
+    ensures { OnOk result (text.new.items ≡ text.old.items ++ closed_text closed.now) }
 {
-    if alive {
-        push_report(text, grid)
-    } else {
-        push_bytes(text, b"none 0\n")
+    match closed {
+        Some(grid) => push_report(text, grid),
+        None => push_bytes(text, b"none 0\n"),
     }
 }
 
@@ -56,10 +55,8 @@ fn lines_text(alloc: Global, puzzle: &Puzzle) -> Result<Vec<u8>, NoMemory>
     ensures { IfOk result (λ text. text.items ≡ lines_text puzzle.now) }
 {
     let mut text = Vec::new(alloc);
-    let mut grid = Grid::unknown(alloc, puzzle.width(), puzzle.height())?;
-    let mut solver = Solver::new(alloc, puzzle)?;
-    let alive = solver.close_lines(&mut grid);
-    push_closed(&mut text, alive, &grid)?;
+    let closed = line_grid(alloc, puzzle)?;
+    push_closed(&mut text, &closed)?;
     Ok(text)
 }
 

@@ -10,6 +10,7 @@ mod grid_lines;
 mod grids;
 mod guessing;
 pub mod laws;
+mod line_grids;
 mod marks;
 mod picks;
 mod places;
@@ -40,6 +41,7 @@ mod workspaces;
 
 pub use findings::{Findings, Grade, Verdict};
 pub use guessing::next_guess;
+pub use line_grids::line_grid;
 pub use picks::Pick;
 pub use reports::report;
 pub use solver::Solver;

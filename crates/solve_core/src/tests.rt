@@ -65,6 +65,12 @@ fn after_trials(alloc: Global, puzzle: &Puzzle, solver: &mut Solver) -> Option<P
     Some(picture(alive, &grid))
 }
 
+/// What lines make of the unknown grid, without a solver.
+fn line_picture(alloc: Global, puzzle: &Puzzle) -> Option<Picture> {
+    let grid = line_grid(alloc, puzzle).ok()?;
+    Some(grid.as_ref().and_then(|grid| picture(true, grid)))
+}
+
 /// What one solver makes of unknown grids: by lines, by trials, and again by lines and by trials.
 fn pictures_by(alloc: Global, puzzle: &Puzzle, solver: &mut Solver) -> Option<[Picture; 4]>
     requires { solver.old ≡ puzzle.now }
@@ -140,7 +146,8 @@ fn trials_find_a_contradiction(rt: HostRuntime) -> Result<(), Fail> {
     Ok(())
 }
 
-fn lines_of_demonstration(alloc: Global) -> Option<Picture> {
+/// What lines make of the demonstration puzzle, without a solver and by one.
+fn lines_of_demonstration(alloc: Global) -> Option<[Picture; 2]> {
     let rows: &[&[u16]] = &[
         TWO,
         &[2, 1],
@@ -155,14 +162,28 @@ fn lines_of_demonstration(alloc: Global) -> Option<Picture> {
     ];
     let columns: &[&[u16]] = &[&[2, 1], &[2, 1, 3], &[7], &[1, 3], &[2, 1]];
     let puzzle = puzzle_of(alloc, rows, columns)?;
+    let grid = line_picture(alloc, &puzzle)?;
     let mut solver = Solver::new(alloc, &puzzle).ok()?;
-    after_lines(alloc, &puzzle, &mut solver)
+    let closed = after_lines(alloc, &puzzle, &mut solver)?;
+    Some([grid, closed])
 }
 
 #[test]
 fn lines_settle_the_demonstration_puzzle(rt: HostRuntime) -> Result<(), Fail> {
     let found = lines_of_demonstration(rt.alloc());
-    assert!(rt; matches!(&found, Some(Some((50, _)))));
+    assert!(rt; matches!(&found, Some([Some((50, _)), Some((50, _))])));
+    Ok(())
+}
+
+/// What lines make of the puzzle of one cell whose row fills it and whose column doesn't.
+fn lines_of_clash(alloc: Global) -> Option<Picture> {
+    let puzzle = puzzle_of(alloc, &[ONE], &[&[]])?;
+    line_picture(alloc, &puzzle)
+}
+
+#[test]
+fn a_contradiction_leaves_no_grid(rt: HostRuntime) -> Result<(), Fail> {
+    assert!(rt; lines_of_clash(rt.alloc()) == Some(None));
     Ok(())
 }
 
@@ -252,7 +273,8 @@ fn agreed(alloc: Global, width: u16, height: u16, count: u32) -> Option<u32> {
         let puzzle = numbered_puzzle(alloc, width, height, number)?;
         let found = solver_pictures(alloc, &puzzle)?;
         let plain = plain_pictures(alloc, &puzzle)?;
-        if found == plain {
+        let lines = line_picture(alloc, &puzzle)?;
+        if found == plain && found[0] == lines {
             agreed = agreed.wrapping_add(1);
         }
     }

@@ -48,6 +48,21 @@ fn solvers_are_made_or_refused(rt: HostRuntime) -> Result<(), Fail> {
     Ok(())
 }
 
+fn told_of_grid(answer: Result<Option<Grid>, NoMemory>, wanted: u32) -> Told {
+    match answer {
+        Ok(grid) => told_if(grid.as_ref().map(|grid| grid.known()) == Some(wanted)),
+        Err(NoMemory) => Told::NoMemory,
+    }
+}
+
+#[test]
+fn line_grids_are_made_or_refused(rt: HostRuntime) -> Result<(), Fail> {
+    let alloc = rt.alloc();
+    let puzzle = pair(alloc).ok_or("puzzle")?;
+    assert_swept(&rt, alloc, || told_of_grid(line_grid(alloc, &puzzle), 2));
+    Ok(())
+}
+
 /// Asserts that lines close a grid, or that the growth of this number was refused and the grid is as before.
 /// Whether it was refused.
 fn assert_closed(

@@ -1,5 +1,7 @@
 //! Tests of the width of the sets that a puzzle is solved in.
+ghost use Rattle.std.specs.Prelude.{◌≤◌};
 
+use crate::line_grid;
 use crate::test_puzzles::puzzle_of;
 use crate::widths::places_for;
 use std::alloc::Global;
@@ -10,7 +12,7 @@ const NONE: &[u16] = &[];
 const ONE: &[u16] = &[1];
 
 /// Clues of lines that may lie across one long line.
-const MANY: [&[u16]; 129] = [NONE; 129];
+const MANY: [&[u16]; 256] = [NONE; 256];
 
 /// How many places are needed for the puzzle with these clues of its rows and of its columns.
 fn needed(alloc: Global, rows: &[&[u16]], columns: &[&[u16]]) -> Option<u16> {
@@ -37,6 +39,23 @@ fn long_sides_need_their_length(rt: HostRuntime) -> Result<(), Fail> {
         assert!(rt; wide == Some(side as u16), "{side} by 1");
         let high = needed(rt.alloc(), &MANY[..side], &[NONE]);
         assert!(rt; high == Some(side as u16), "1 by {side}");
+    }
+    Ok(())
+}
+
+/// How many cells of one row without runs lines settle.
+fn settled(alloc: Global, width: usize) -> Option<u32>
+    requires { width ≤ 256 }
+{
+    let puzzle = puzzle_of(alloc, &[NONE], &MANY[..width])?;
+    let grid = line_grid(alloc, &puzzle).ok()?;
+    grid.as_ref().map(|grid| grid.known())
+}
+
+#[test]
+fn lines_settle_rows_of_each_width(rt: HostRuntime) -> Result<(), Fail> {
+    for width in [1, 64, 65, 128, 129, 256] {
+        assert!(rt; settled(rt.alloc(), width) == Some(width as u32), "{width}");
     }
     Ok(())
 }

@@ -1,0 +1,61 @@
+//! The grid of a puzzle as far as line logic gets.
+ghost use Rattle.std.specs.Prelude.{◌≡◌, IfOk};
+ghost use Rattle.solve_core.specs.Boards.{unknown_board};
+ghost use Rattle.solve_core.specs.Report.{grid_of, line_grid, unknown_grid};
+ghost use Rattle.solve_core.specs.Widths.{FitsIn};
+
+use crate::boards::Board;
+use crate::closures::Closer;
+use crate::widths::places_for;
+use grid_core::{Grid, NoMemory, Puzzle};
+use line_core::LineSet;
+use place_sets::Wide;
+use std::alloc::Global;
+
+/// Closes a board of which nothing is known, and writes it to a grid of which nothing is known. Returns the
+/// grid, or none if it is dead.
+fn closed_grid<W: LineSet>(
+    closer: &mut Closer<'_, W>,
+    board: &mut Board<W>,
+    grid: Grid,
+) -> Option<Grid>
+    requires board { board.old ≡ unknown_board closer.old.puzzle.width closer.old.puzzle.height }
+    requires grid { grid ≡ grid_of closer.old.puzzle (unknown_grid closer.old.puzzle) }
+    ensures { result ≡ line_grid closer.old.puzzle }
+{
+    if closer.propagate_all(board) {
+        let mut grid = grid;
+        board.lines().write(&mut grid);
+        Some(grid)
+    } else {
+        None
+    }
+}
+
+/// The closed grid, by sets of a width that has room for the puzzle's lines and the numbers of its clues.
+fn line_grid_within<W: LineSet>(alloc: Global, puzzle: &Puzzle) -> Result<Option<Grid>, NoMemory>
+    requires { FitsIn W.WIDTH puzzle.now }
+    ensures { IfOk result (λ grid. grid ≡ line_grid puzzle.now) }
+{
+    let width = puzzle.width();
+    let height = puzzle.height();
+    let grid = Grid::unknown(alloc, width, height)?;
+    let mut board = Board::<W>::unknown(alloc, width, height)?;
+    let mut closer = Closer::<W>::new(alloc, puzzle)?;
+    Ok(closed_grid(&mut closer, &mut board, grid))
+}
+
+/// The grid of a puzzle of which nothing was known, closed under line deduction; none if it is dead. All of
+/// its room is made before the first line is deduced; `NoMemory` if that is refused.
+pub fn line_grid(alloc: Global, puzzle: &Puzzle) -> Result<Option<Grid>, NoMemory>
+    ensures { IfOk result (λ grid. grid ≡ line_grid puzzle.now) }
+{
+    let needed = places_for(puzzle);
+    if needed <= 64 {
+        line_grid_within::<u64>(alloc, puzzle)
+    } else if needed <= 128 {
+        line_grid_within::<u128>(alloc, puzzle)
+    } else {
+        line_grid_within::<Wide>(alloc, puzzle)
+    }
+}
