@@ -3,8 +3,9 @@
 
     tools/benchmark.py crates/nonograde/out/nonograde [solve] [trials] [survey] [lanes] [rules] [texts]
 
-Each figure is the least wall time of three runs of the program as a whole (start, reading, solving, printing), or that of one run where it takes
-over a second, and, where it says so, the greatest peak memory of a process. Nothing here is part of the product or of its gate.
+Each figure is the least wall time of three runs of the program as a whole (start, reading, solving,
+printing), or that of one run if it takes over a second, and, if it says so, the greatest peak memory of a
+process. Nothing here is part of the product or of its gate.
 """
 import os
 import subprocess
@@ -72,7 +73,8 @@ def as_mk(cells):
 
 
 def run(words, text=None, times=3):
-    """The least time in seconds, the peak memory in MiB, and what was printed. One run where it takes over a second."""
+    """The least time in seconds, the peak memory in MiB, and what was printed. One run if it takes over a
+    second."""
     best, peak, out = None, 0, b""
     for _ in range(times):
         with tempfile.TemporaryFile() as source, tempfile.TemporaryFile() as sink:

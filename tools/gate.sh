@@ -39,6 +39,16 @@ spreads() {
     parallel --version | grep -q '^GNU parallel'
 }
 
+# How many checks run side by side: one a processor, as far as each has 5 GB of the free memory (the largest
+# takes 4.5). By itself `rt` counts up to 8 GB for a check of the larger crates, and leaves processors idle.
+lanes() {
+    local lanes memory
+    lanes=$(nproc)
+    memory=$(awk '/^MemAvailable:/ { print int($2 / 5000000) }' /proc/meminfo)
+    [ "$memory" -lt "$lanes" ] && lanes=$memory
+    echo $((lanes < 1 ? 1 : lanes))
+}
+
 # Runs a step, and adds what its last line counts. A step that fails ends the gate.
 step() {
     local status counts
@@ -60,6 +70,8 @@ step() {
 
 need compiles gcc libc6-dev
 need spreads parallel
+RT_JOBS=${RT_JOBS:-$(lanes)}
+export RT_JOBS
 step rt ci
 step tools/sweep.sh
 step tools/outside.sh
