@@ -100,10 +100,14 @@ grading_app picks = record {
   subs = (survey_app picks).top ∷ (solve_app picks).top ∷ [];
 }
 
+-- the same, with the command `convert`
+abbrev pub converting_app : Choices → Choices → App
+converting_app formats picks = record { top = (grading_app picks).top; subs = (grading_app picks).subs ++ (convert_app formats).top ∷ [] }
+
 -- the program, with its four commands
 abbrev pub program_app : Choices → Choices → App
 program_app formats picks =
-    record { top = (grading_app picks).top; subs = (grading_app picks).subs ++ (convert_app formats).top ∷ lines_app.top ∷ [] }
+    record { top = (converting_app formats picks).top; subs = (converting_app formats picks).subs ++ lines_app.top ∷ [] }
 
 -- a command is this one, and has no argument that holds of others too
 pub record IsCommand (app : App) (command : Command) : Type 0 where

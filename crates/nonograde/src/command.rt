@@ -6,7 +6,7 @@ ghost use Rattle.clap.specs.Words.{found_of, kind_of, subcommand_rows_of};
 ghost use Rattle.clap.specs.declared.error.kind.ErrorKind.TheVariants.{OutOfMemory};
 ghost use Rattle.nonograde.specs.declared.command.CommandFault.TheVariants.{NoMemory as command_memory, Words as refused_words};
 ghost use Rattle.nonograde.specs.Command.{HasSettingsInRange};
-ghost use Rattle.nonograde.specs.Words.{AreSettingsIn, Asks, AsksIn, AsksSurvey, IsArgument, IsCommand, IsNumberIn, WordsAsk, command_app, convert_app, file_rule, files_rule, grading_app, grading_rules, guesses_rule, lanes_rule, lines_app, pick_of_word, pick_rule, program_app, progress_rule, ring_rule, show_rule, solve_app, survey_app, text_in, texts_in, to_rule};
+ghost use Rattle.nonograde.specs.Words.{AreSettingsIn, Asks, AsksIn, AsksSurvey, IsArgument, IsCommand, IsNumberIn, WordsAsk, command_app, convert_app, converting_app, file_rule, files_rule, grading_app, grading_rules, guesses_rule, lanes_rule, lines_app, pick_of_word, pick_rule, program_app, progress_rule, ring_rule, show_rule, solve_app, survey_app, text_in, texts_in, to_rule};
 
 use clap::error::ErrorKind;
 use clap::{Arg, ArgAction, ArgMatches, Command, Error, value_parser};
@@ -280,6 +280,17 @@ fn grading_program<'a>(alloc: Global, picks: &'a [&'a str]) -> Result<Command<'a
         .subcommand(solve_command(alloc, picks)?)
 }
 
+/// The same with the command `convert`, with the words of the formats.
+fn converting_program<'a>(
+    alloc: Global,
+    formats: &'a [&'a str],
+    picks: &'a [&'a str],
+) -> Result<Command<'a>, AllocError>
+    ensures { IfOk result (IsCommand (converting_app formats.entry picks.entry)) }
+{
+    grading_program(alloc, picks)?.subcommand(convert_command(alloc, formats)?)
+}
+
 /// The program with all commands, with the words of the formats and those of the rules for guesses.
 fn whole_program<'a>(
     alloc: Global,
@@ -288,10 +299,8 @@ fn whole_program<'a>(
 ) -> Result<Command<'a>, NoMemory>
     ensures { IfOk result (IsCommand (program_app formats.entry picks.entry)) }
 {
-    let program = grading_program(alloc, picks)?
-        .subcommand(convert_command(alloc, formats)?)?
-        .subcommand(lines_command(alloc)?)?;
-    Ok(program)
+    let program = converting_program(alloc, formats, picks)?;
+    Ok(program.subcommand(lines_command(alloc)?)?)
 }
 
 /// The text of an argument, or the empty one if it has none.

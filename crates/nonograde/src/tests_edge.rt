@@ -5,6 +5,7 @@ use crate::program::refuse_words;
 use crate::tests_running::{asked, ended, ended_into};
 use crate::tests_samples::{FIT, ONE, TWO, joined, repeated};
 use crate::tests_surveys::FailingWriter;
+use std::alloc::Global;
 use std::fs::remove_file;
 use std::io::{ErrorKind, Write};
 use std::process::Abort;
@@ -62,14 +63,18 @@ fn write_file<R: Files>(rt: &R, name: &str, bytes: &[u8]) -> Result<(), Fail> {
     Ok(())
 }
 
+/// Writes a file with the puzzle of ten rows and nine columns that have a 1 each, which has no solution.
+fn write_holes<R: Files + AllocGlobal>(rt: &R) -> Result<(), Fail> {
+    let rows = repeated(rt.alloc(), b"1\n", 10)?;
+    let columns = repeated(rt.alloc(), b"1\n", 9)?;
+    let holes = joined(rt.alloc(), &[b"10 9\n", &rows, b"#\n", &columns])?;
+    write_file(rt, "edge-holes.mk", &holes)
+}
+
 #[test]
 fn limits_on_guesses_ignored(rt: HostRuntime) -> Result<(), Fail> {
-    let alloc = rt.alloc();
-    let rows = repeated(alloc, b"1\n", 10)?;
-    let columns = repeated(alloc, b"1\n", 9)?;
-    let holes = joined(alloc, &[b"10 9\n", &rows, b"#\n", &columns])?;
+    write_holes(&rt)?;
     write_file(&rt, "edge-two.mk", TWO)?;
-    write_file(&rt, "edge-holes.mk", &holes)?;
     let table: [(&str, &[u8]); 4] = [
         (
             "solve --guesses 0 edge-two.mk",
@@ -96,8 +101,10 @@ fn limits_on_guesses_ignored(rt: HostRuntime) -> Result<(), Fail> {
     Ok(())
 }
 
-#[test]
-fn survey_settings_ignored(rt: HostRuntime) -> Result<(), Fail> {
+/// Asserts that surveys on standard input and on files heed `--show` and `--guesses`.
+fn assert_settings_heeded<R: Abort + Files + Threads + Wait + Sync + AllocGlobal>(
+    rt: &R,
+) -> Result<(), Fail> {
     let alloc = rt.alloc();
     let first = b"1 2x2 unsettled search 0 0 0 absent edge-open.mk\n";
     let second = b"2 1x1 one line 1 1 0 absent edge-one.mk\n.\n\n";
@@ -105,10 +112,8 @@ fn survey_settings_ignored(rt: HostRuntime) -> Result<(), Fail> {
         b"entries 2 refused 0 none 0 one 1 several 0 unsettled 1 line 1 trials 0 search 1\n";
     let wanted = joined(alloc, &[first, second, totals])?;
     let collection = joined(alloc, &[b"@ edge-open.mk\n", TWO, b"@ edge-one.mk\n", ONE])?;
-    write_file(&rt, "edge-open.mk", TWO)?;
-    write_file(&rt, "edge-one.mk", ONE)?;
     assert_ends(
-        &rt,
+        rt,
         "survey --show --guesses 0",
         &collection,
         0,
@@ -116,7 +121,14 @@ fn survey_settings_ignored(rt: HostRuntime) -> Result<(), Fail> {
         b"",
     )?;
     let files = "survey --show --guesses 0 edge-open.mk edge-one.mk";
-    assert_ends(&rt, files, b"", 0, &wanted, b"")?;
+    assert_ends(rt, files, b"", 0, &wanted, b"")
+}
+
+#[test]
+fn survey_settings_ignored(rt: HostRuntime) -> Result<(), Fail> {
+    write_file(&rt, "edge-open.mk", TWO)?;
+    write_file(&rt, "edge-one.mk", ONE)?;
+    assert_settings_heeded(&rt)?;
     remove_file(&rt, "edge-open.mk").ok().ok_or("remove")?;
     remove_file(&rt, "edge-one.mk").ok().ok_or("remove")?;
     Ok(())
@@ -205,31 +217,42 @@ fn unread_words_are_told(rt: HostRuntime) {
     }
 }
 
+/// The text of the largest puzzle, all of it filled: what stands above the clues of rows and of columns, and
+/// these.
+fn largest(alloc: Global, above_rows: &[u8], above_columns: &[u8]) -> Result<Vec<u8>, Fail> {
+    let clues = repeated(alloc, b"256\n", 256)?;
+    joined(alloc, &[above_rows, &clues, above_columns, &clues])
+}
+
+/// Asserts that a file of these bytes is converted so by a command line.
+fn assert_converted<R: Abort + Files + Threads + Wait + Sync + AllocGlobal>(
+    rt: &R,
+    name: &str,
+    text: &[u8],
+    line: &str,
+    wanted: &[u8],
+) -> Result<(), Fail> {
+    write_file(rt, name, text)?;
+    assert_ends(rt, line, b"", 0, wanted, b"")?;
+    remove_file(rt, name).ok().ok_or("remove")?;
+    Ok(())
+}
+
 #[test]
 fn largest_puzzles_pass(rt: HostRuntime) -> Result<(), Fail> {
-    let alloc = rt.alloc();
-    let clues = repeated(alloc, b"256\n", 256)?;
-    let non = joined(
-        alloc,
-        &[
-            b"width 256\nheight 256\n\nrows\n",
-            &clues,
-            b"\ncolumns\n",
-            &clues,
-        ],
+    let non = largest(
+        rt.alloc(),
+        b"width 256\nheight 256\n\nrows\n",
+        b"\ncolumns\n",
     )?;
-    let mk = joined(alloc, &[b"256 256\n", &clues, b"#\n", &clues])?;
-    let nin = joined(alloc, &[b"256 256\n", &clues, &clues])?;
-    write_file(&rt, "edge-large.non", &non)?;
-    write_file(&rt, "edge-large.mk", &mk)?;
-    write_file(&rt, "edge-large.nin", &nin)?;
-    assert_ends(&rt, "convert --to mk edge-large.non", b"", 0, &mk, b"")?;
-    assert_ends(&rt, "convert --to nin edge-large.mk", b"", 0, &nin, b"")?;
-    assert_ends(&rt, "convert --to non edge-large.nin", b"", 0, &non, b"")?;
-    remove_file(&rt, "edge-large.non").ok().ok_or("remove")?;
-    remove_file(&rt, "edge-large.mk").ok().ok_or("remove")?;
-    remove_file(&rt, "edge-large.nin").ok().ok_or("remove")?;
-    Ok(())
+    let mk = largest(rt.alloc(), b"256 256\n", b"#\n")?;
+    let nin = largest(rt.alloc(), b"256 256\n", b"")?;
+    let line = "convert --to mk edge-large.non";
+    assert_converted(&rt, "edge-large.non", &non, line, &mk)?;
+    let line = "convert --to nin edge-large.mk";
+    assert_converted(&rt, "edge-large.mk", &mk, line, &nin)?;
+    let line = "convert --to non edge-large.nin";
+    assert_converted(&rt, "edge-large.nin", &nin, line, &non)
 }
 
 #[test]

@@ -4,8 +4,10 @@ use crate::tests_samples::{DEMO, MEETS, TEN, THREE, TWO, joined, repeated, ten_e
 use lane_core::OpenGate;
 use puzzle_text::{CollectionFault, entries};
 use solve_core::Pick;
+use std::alloc::Global;
 use std::io;
 use std::io::{ErrorKind, Read, Write};
+use std::process::Abort;
 use std::sync::Wait;
 use std::test::Fail;
 use std::thread::Threads;
@@ -69,27 +71,34 @@ fn survey_not_always_no_memory(rt: HostRuntime) -> Result<(), Fail> {
     Ok(())
 }
 
+/// Asserts what a survey prints of one puzzle, with at most `guesses` guesses: its line, and the totals behind
+/// `entries 1`.
+fn assert_single<R: Abort + Threads + Wait + Sync + AllocGlobal>(
+    rt: &R,
+    guesses: u32,
+    name: &[u8],
+    body: &[u8],
+    line: &[u8],
+    totals: &[u8],
+) -> Result<(), Fail> {
+    let collection = joined(rt.alloc(), &[b"@ ", name, b"\n", body])?;
+    let expected = joined(rt.alloc(), &[line, b"entries 1", totals])?;
+    let wanted = Settings {
+        lanes: 2,
+        ring: 1,
+        guesses: guesses.min(1000),
+        pick: Pick::First,
+        show: false,
+    };
+    let found = surveyed(rt, &collection, &wanted).ok().ok_or("a survey")?;
+    assert!(rt; found == expected);
+    Ok(())
+}
+
 #[test]
 fn single_puzzles_are_surveyed(rt: HostRuntime) -> Result<(), Fail> {
-    let alloc = rt.alloc();
-    let demo = joined(alloc, &[DEMO, MEETS])?;
-    let clues = repeated(alloc, b"128\n", 128)?;
-    let big = joined(alloc, &[b"128 128\n", &clues, b"#\n", &clues])?;
-    let short = joined(alloc, &[b"129 128\n", &clues, b"#\n", &clues])?;
-    let most = repeated(alloc, b"256\n", 256)?;
-    let huge = joined(alloc, &[b"256 256\n", &most, b"#\n", &most])?;
-    let large = joined(alloc, &[b"257 256\n", &most, b"#\n", &most])?;
-    let ones = repeated(alloc, b"1\n", 200)?;
-    let wide = joined(alloc, &[b"1 200\n200\n#\n", &ones])?;
-    // guesses, name, text, the entry's line, and the totals after `entries 1`
-    let table: [(u32, &[u8], &[u8], &[u8], &[u8]); 16] = [
-        (
-            0,
-            b"demo.non",
-            &demo,
-            b"1 5x10 one line 50 50 0 meets demo.non\n",
-            b" refused 0 none 0 one 1 several 0 unsettled 0 line 1 trials 0 search 0\n",
-        ),
+    // guesses, name, text, the entry's line, and the totals
+    let table: [(u32, &[u8], &[u8], &[u8], &[u8]); 10] = [
         (
             1000,
             b"pair.mk",
@@ -148,34 +157,6 @@ fn single_puzzles_are_surveyed(rt: HostRuntime) -> Result<(), Fail> {
         ),
         (
             1000,
-            b"big.mk",
-            &big,
-            b"1 128x128 one line 16384 16384 0 absent big.mk\n",
-            b" refused 0 none 0 one 1 several 0 unsettled 0 line 1 trials 0 search 0\n",
-        ),
-        (
-            1000,
-            b"short.mk",
-            &short,
-            b"1 refused BadCount short.mk\n",
-            b" refused 1 none 0 one 0 several 0 unsettled 0 line 0 trials 0 search 0\n",
-        ),
-        (
-            1000,
-            b"huge.mk",
-            &huge,
-            b"1 256x256 one line 65536 65536 0 absent huge.mk\n",
-            b" refused 0 none 0 one 1 several 0 unsettled 0 line 1 trials 0 search 0\n",
-        ),
-        (
-            1000,
-            b"wide.mk",
-            &wide,
-            b"1 200x1 one line 200 200 0 absent wide.mk\n",
-            b" refused 0 none 0 one 1 several 0 unsettled 0 line 1 trials 0 search 0\n",
-        ),
-        (
-            1000,
             b"old.mk",
             b"1 1\n129\n#\n1\n",
             b"1 1x1 none line 0 0 0 absent old.mk\n",
@@ -188,28 +169,88 @@ fn single_puzzles_are_surveyed(rt: HostRuntime) -> Result<(), Fail> {
             b"1 refused BadNumber:2 over.mk\n",
             b" refused 1 none 0 one 0 several 0 unsettled 0 line 0 trials 0 search 0\n",
         ),
+    ];
+    for (guesses, name, body, line, totals) in table {
+        assert_single(&rt, guesses, name, body, line, totals)?;
+    }
+    Ok(())
+}
+
+/// A puzzle in `.mk` with these sizes: the same clue for each line, `count` of them above `#`, and below.
+fn uniform(alloc: Global, sizes: &[u8], clue: &[u8], count: usize) -> Result<Vec<u8>, Fail> {
+    let clues = repeated(alloc, clue, count)?;
+    joined(alloc, &[sizes, &clues, b"#\n", &clues])
+}
+
+#[test]
+fn large_puzzles_are_surveyed(rt: HostRuntime) -> Result<(), Fail> {
+    // sizes, clue and how many of it, name, the entry's line, and the totals
+    let table: [(&[u8], &[u8], usize, &[u8], &[u8], &[u8]); 4] = [
         (
-            1000,
+            b"128 128\n",
+            b"128\n",
+            128,
+            b"big.mk",
+            b"1 128x128 one line 16384 16384 0 absent big.mk\n",
+            b" refused 0 none 0 one 1 several 0 unsettled 0 line 1 trials 0 search 0\n",
+        ),
+        (
+            b"129 128\n",
+            b"128\n",
+            128,
+            b"short.mk",
+            b"1 refused BadCount short.mk\n",
+            b" refused 1 none 0 one 0 several 0 unsettled 0 line 0 trials 0 search 0\n",
+        ),
+        (
+            b"256 256\n",
+            b"256\n",
+            256,
+            b"huge.mk",
+            b"1 256x256 one line 65536 65536 0 absent huge.mk\n",
+            b" refused 0 none 0 one 1 several 0 unsettled 0 line 1 trials 0 search 0\n",
+        ),
+        (
+            b"257 256\n",
+            b"256\n",
+            256,
             b"large.mk",
-            &large,
             b"1 refused BadSize large.mk\n",
             b" refused 1 none 0 one 0 several 0 unsettled 0 line 0 trials 0 search 0\n",
         ),
     ];
-    for (guesses, name, body, line, totals) in table {
-        let collection = joined(alloc, &[b"@ ", name, b"\n", body])?;
-        let expected = joined(alloc, &[line, b"entries 1", totals])?;
-        let wanted = Settings {
-            lanes: 2,
-            ring: 1,
-            guesses: guesses.min(1000),
-            pick: Pick::First,
-            show: false,
-        };
-        let found = surveyed(&rt, &collection, &wanted).ok().ok_or("a survey")?;
-        assert!(rt; found == expected);
+    for (sizes, clue, count, name, line, totals) in table {
+        let body = uniform(rt.alloc(), sizes, clue, count)?;
+        assert_single(&rt, 1000, name, &body, line, totals)?;
     }
     Ok(())
+}
+
+#[test]
+fn a_wide_puzzle_is_surveyed(rt: HostRuntime) -> Result<(), Fail> {
+    let ones = repeated(rt.alloc(), b"1\n", 200)?;
+    let wide = joined(rt.alloc(), &[b"1 200\n200\n#\n", &ones])?;
+    assert_single(
+        &rt,
+        1000,
+        b"wide.mk",
+        &wide,
+        b"1 200x1 one line 200 200 0 absent wide.mk\n",
+        b" refused 0 none 0 one 1 several 0 unsettled 0 line 1 trials 0 search 0\n",
+    )
+}
+
+#[test]
+fn a_puzzle_with_its_goal_is_surveyed(rt: HostRuntime) -> Result<(), Fail> {
+    let demo = joined(rt.alloc(), &[DEMO, MEETS])?;
+    assert_single(
+        &rt,
+        0,
+        b"demo.non",
+        &demo,
+        b"1 5x10 one line 50 50 0 meets demo.non\n",
+        b" refused 0 none 0 one 1 several 0 unsettled 0 line 1 trials 0 search 0\n",
+    )
 }
 
 #[test]
