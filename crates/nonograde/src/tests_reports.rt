@@ -5,29 +5,25 @@ use crate::converting::{ConvertFault, convert};
 use crate::reports::{lines_report, solve_report};
 use crate::tests_samples::{
     CLASH, DEMO, DEMO_GRID, DEMO_NIN, FIT, MEETS, MISSES, ONE, PAIR, SIX, THREE, TWIN, TWO,
-    assert_bytes, joined, repeated, text_or_word,
+    assert_bytes, full_rows, joined, text_or_word, uniform,
 };
 use puzzle_text::{EntryFault, Format, TextFault};
 use solve_core::Pick;
+use std::process::Abort;
 use std::test::Fail;
 
+/// Asserts what is printed of a text closed by lines, or its fault's word.
+fn assert_lines(rt: &(impl Abort + AllocGlobal), name: &[u8], body: &[u8], expected: &[u8]) {
+    let found = text_or_word(rt.alloc(), lines_report(rt.alloc(), name, body));
+    assert_bytes(rt, found, expected, body.len());
+}
+
 #[test]
-fn lines_not_always_no_memory(rt: HostRuntime) -> Result<(), Fail> {
-    let alloc = rt.alloc();
-    let demo = joined(alloc, &[b"one 50\n", DEMO_GRID])?;
-    let demo_non = joined(alloc, &[DEMO, MISSES])?;
-    let clues = repeated(alloc, b"256\n", 256)?;
-    let big = joined(alloc, &[b"256 256\n", &clues, b"#\n", &clues])?;
-    let row = repeated(alloc, b"#", 256)?;
-    let rows = repeated(alloc, &joined(alloc, &[&row, b"\n"])?, 256)?;
-    let full = joined(alloc, &[b"one 65536\n", &rows])?;
-    let table: [(&[u8], &[u8], &[u8]); 12] = [
-        (b"demo.nin", DEMO_NIN, &demo),
-        (b"demo.non", &demo_non, &demo),
+fn lines_not_always_no_memory(rt: HostRuntime) {
+    let table: [(&[u8], &[u8], &[u8]); 9] = [
         (b"clash.nin", b"1 1\n1\n0\n", b"none 0\n"),
         (b"two.nin", b"2 2\n1\n1\n1\n1\n", b"open 0\n??\n??\n"),
         (b"fit.nin", FIT, b"open 0\n????\n????\n"),
-        (b"big.mk", &big, &full),
         (b"a.nin", b"", b"NoSize"),
         (b"a.nin", b"1 257\n", b"BadSize"),
         (b"a.nin", b"1 1\n1\n", b"BadCount"),
@@ -35,38 +31,46 @@ fn lines_not_always_no_memory(rt: HostRuntime) -> Result<(), Fail> {
         (b"a.txt", b"", b"UnknownFormat"),
         (b"nin", FIT, b"UnknownFormat"),
     ];
-    for (place, (name, body, expected)) in table.iter().enumerate() {
-        let found = text_or_word(alloc, lines_report(alloc, name, body));
-        assert_bytes(&rt, found, expected, place);
+    for (name, body, expected) in table {
+        assert_lines(&rt, name, body, expected);
     }
+}
+
+#[test]
+fn demonstration_is_closed(rt: HostRuntime) -> Result<(), Fail> {
+    let closed = joined(rt.alloc(), &[b"one 50\n", DEMO_GRID])?;
+    assert_lines(&rt, b"demo.nin", DEMO_NIN, &closed);
+    let with_goal = joined(rt.alloc(), &[DEMO, MISSES])?;
+    assert_lines(&rt, b"demo.non", &with_goal, &closed);
     Ok(())
 }
 
 #[test]
-fn solve_not_always_no_memory(rt: HostRuntime) -> Result<(), Fail> {
-    let alloc = rt.alloc();
-    let demo = joined(alloc, &[DEMO, MEETS])?;
-    let demo2 = joined(alloc, &[DEMO, MISSES])?;
-    let met = joined(
-        alloc,
-        &[
-            b"1 5x10 one line 50 50 0 meets demo.non\n",
-            DEMO_GRID,
-            b"\n",
-        ],
-    )?;
-    let missed = joined(
-        alloc,
-        &[
-            b"1 5x10 one line 50 50 0 misses demo2.non\n",
-            DEMO_GRID,
-            b"\n",
-        ],
-    )?;
-    let table: [(u32, &[u8], &[u8], &[u8]); 19] = [
-        (1000, b"demo.non", &demo, &met),
-        (0, b"demo.non", &demo, &met),
-        (1000, b"demo2.non", &demo2, &missed),
+fn largest_puzzle_is_closed(rt: HostRuntime) -> Result<(), Fail> {
+    let big = uniform(rt.alloc(), b"256 256\n", b"256\n", 256)?;
+    let rows = full_rows(rt.alloc(), 256)?;
+    let closed = joined(rt.alloc(), &[b"one 65536\n", &rows])?;
+    assert_lines(&rt, b"big.mk", &big, &closed);
+    Ok(())
+}
+
+/// Asserts what is printed of a text solved with at most `guesses` guesses, or its fault's word.
+fn assert_solved(
+    rt: &(impl Abort + AllocGlobal),
+    guesses: u32,
+    name: &[u8],
+    body: &[u8],
+    expected: &[u8],
+) {
+    let guesses = guesses.min(1000);
+    let answer = solve_report(rt.alloc(), name, body, guesses, Pick::First);
+    let found = text_or_word(rt.alloc(), answer);
+    assert_bytes(rt, found, expected, body.len());
+}
+
+#[test]
+fn solve_not_always_no_memory(rt: HostRuntime) {
+    let table: [(u32, &[u8], &[u8], &[u8]); 16] = [
         (
             1000,
             b"one.mk",
@@ -154,11 +158,27 @@ fn solve_not_always_no_memory(rt: HostRuntime) -> Result<(), Fail> {
         (1000, b"bad.mk", b"2 2\n2 x\n1\n#\n1\n1\n", b"BadNumber:2"),
         (1000, b"what.txt", b"", b"UnknownFormat"),
     ];
-    for (place, (guesses, name, body, expected)) in table.iter().enumerate() {
-        let guesses = (*guesses).min(1000);
-        let found = text_or_word(alloc, solve_report(alloc, name, body, guesses, Pick::First));
-        assert_bytes(&rt, found, expected, place);
+    for (guesses, name, body, expected) in table {
+        assert_solved(&rt, guesses, name, body, expected);
     }
+}
+
+#[test]
+fn met_goals_are_told(rt: HostRuntime) -> Result<(), Fail> {
+    let line = b"1 5x10 one line 50 50 0 meets demo.non\n";
+    let met = joined(rt.alloc(), &[line, DEMO_GRID, b"\n"])?;
+    let demo = joined(rt.alloc(), &[DEMO, MEETS])?;
+    assert_solved(&rt, 1000, b"demo.non", &demo, &met);
+    assert_solved(&rt, 0, b"demo.non", &demo, &met);
+    Ok(())
+}
+
+#[test]
+fn missed_goals_are_told(rt: HostRuntime) -> Result<(), Fail> {
+    let line = b"1 5x10 one line 50 50 0 misses demo2.non\n";
+    let missed = joined(rt.alloc(), &[line, DEMO_GRID, b"\n"])?;
+    let demo = joined(rt.alloc(), &[DEMO, MISSES])?;
+    assert_solved(&rt, 1000, b"demo2.non", &demo, &missed);
     Ok(())
 }
 
@@ -195,32 +215,41 @@ fn rule_told_by_second_solution(rt: HostRuntime) {
 }
 
 #[test]
-fn large_puzzles_are_solved(rt: HostRuntime) -> Result<(), Fail> {
-    let alloc = rt.alloc();
-    let clues = repeated(alloc, b"256\n", 256)?;
-    let big = joined(alloc, &[b"256 256\n", &clues, b"#\n", &clues])?;
-    let large = joined(alloc, &[b"257 256\n", &clues, b"#\n", &clues])?;
-    let row = repeated(alloc, b"#", 256)?;
-    let rows = repeated(alloc, &joined(alloc, &[&row, b"\n"])?, 256)?;
+fn largest_puzzle_is_solved(rt: HostRuntime) -> Result<(), Fail> {
+    let big = uniform(rt.alloc(), b"256 256\n", b"256\n", 256)?;
+    let rows = full_rows(rt.alloc(), 256)?;
     let line = b"1 256x256 one line 65536 65536 0 absent big.mk\n";
-    let solved = joined(alloc, &[line, &rows, b"\n"])?;
-    let table: [(&[u8], &[u8]); 2] = [(&big, &solved), (&large, b"BadSize")];
-    for (place, (body, expected)) in table.iter().enumerate() {
-        let found = text_or_word(
-            alloc,
-            solve_report(alloc, b"big.mk", body, 1000, Pick::First),
-        );
-        assert_bytes(&rt, found, expected, place);
-    }
+    let solved = joined(rt.alloc(), &[line, &rows, b"\n"])?;
+    assert_solved(&rt, 1000, b"big.mk", &big, &solved);
     Ok(())
 }
 
 #[test]
-fn convert_not_always_no_memory(rt: HostRuntime) -> Result<(), Fail> {
-    let alloc = rt.alloc();
-    let demo = joined(alloc, &[DEMO, MEETS])?;
+fn larger_puzzle_is_refused(rt: HostRuntime) -> Result<(), Fail> {
+    let large = uniform(rt.alloc(), b"257 256\n", b"256\n", 256)?;
+    assert_solved(&rt, 1000, b"big.mk", &large, b"BadSize");
+    Ok(())
+}
+
+/// Asserts what a text is in another format, or the fault.
+fn assert_converted(
+    rt: &(impl Abort + AllocGlobal),
+    name: &[u8],
+    body: &[u8],
+    format: Format,
+    expected: Result<&[u8], ConvertFault>,
+) {
+    match (convert(rt.alloc(), name, body, format), expected) {
+        (Ok(text), Ok(wanted)) => assert!(rt; text.as_slice() == wanted),
+        (Err(fault), Err(wanted)) => assert_eq!(rt; fault, wanted),
+        _ => assert!(rt; false, "{} bytes", body.len()),
+    }
+}
+
+#[test]
+fn convert_not_always_no_memory(rt: HostRuntime) {
     let fit = b"width 4\nheight 2\n\nrows\n2\n1,1\n\ncolumns\n1\n1\n1\n1\n";
-    let table: [(&[u8], &[u8], Format, Result<&[u8], ConvertFault>); 8] = [
+    let table: [(&[u8], &[u8], Format, Result<&[u8], ConvertFault>); 6] = [
         (b"fit.nin", FIT, Format::Non, Ok(fit)),
         (b"fit.nin", FIT, Format::Mk, Ok(PAIR)),
         (
@@ -229,8 +258,6 @@ fn convert_not_always_no_memory(rt: HostRuntime) -> Result<(), Fail> {
             Format::Nin,
             Ok(b"4 2\n2\n1 1\n1\n1\n1\n1\n"),
         ),
-        (b"demo.non", &demo, Format::Non, Ok(&demo)),
-        (b"demo.non", &demo, Format::Nin, Ok(DEMO_NIN)),
         (
             b"flat.mk",
             b"1 2\n1\n#\n1\n2\n",
@@ -250,12 +277,15 @@ fn convert_not_always_no_memory(rt: HostRuntime) -> Result<(), Fail> {
             Err(ConvertFault::Entry(EntryFault::Text(TextFault::BadNumber(2)))),
         ),
     ];
-    for (place, (name, body, format, expected)) in table.iter().enumerate() {
-        match (convert(alloc, name, body, *format), expected) {
-            (Ok(text), Ok(wanted)) => assert!(rt; text.as_slice() == *wanted, "row {place}"),
-            (Err(fault), Err(wanted)) => assert_eq!(rt; fault, *wanted, "row {place}"),
-            _ => assert!(rt; false, "row {place}"),
-        }
+    for (name, body, format, expected) in table {
+        assert_converted(&rt, name, body, format, expected);
     }
+}
+
+#[test]
+fn demonstration_is_converted(rt: HostRuntime) -> Result<(), Fail> {
+    let demo = joined(rt.alloc(), &[DEMO, MEETS])?;
+    assert_converted(&rt, b"demo.non", &demo, Format::Non, Ok(&demo));
+    assert_converted(&rt, b"demo.non", &demo, Format::Nin, Ok(DEMO_NIN));
     Ok(())
 }

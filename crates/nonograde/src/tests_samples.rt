@@ -68,6 +68,18 @@ pub fn repeated(alloc: Global, piece: &[u8], count: usize) -> Result<Vec<u8>, Fa
     Ok(text)
 }
 
+/// A puzzle in `.mk` with these sizes: the same clue for each line, `count` of them above `#`, and below.
+pub fn uniform(alloc: Global, sizes: &[u8], clue: &[u8], count: usize) -> Result<Vec<u8>, Fail> {
+    let clues = repeated(alloc, clue, count)?;
+    joined(alloc, &[sizes, &clues, b"#\n", &clues])
+}
+
+/// The rows of a full grid of `side` by `side` cells.
+pub fn full_rows(alloc: Global, side: usize) -> Result<Vec<u8>, Fail> {
+    let row = repeated(alloc, b"#", side)?;
+    repeated(alloc, &joined(alloc, &[&row, b"\n"])?, side)
+}
+
 /// Ten entries, eight of them puzzles.
 pub fn ten_entries(alloc: Global) -> Result<Vec<u8>, Fail> {
     let pieces: [&[u8]; 19] = [

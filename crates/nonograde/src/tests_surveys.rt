@@ -1,10 +1,9 @@
 //! What a survey prints, and its faults.
 
-use crate::tests_samples::{DEMO, MEETS, TEN, THREE, TWO, joined, repeated, ten_entries};
+use crate::tests_samples::{DEMO, MEETS, TEN, THREE, TWO, joined, repeated, ten_entries, uniform};
 use lane_core::OpenGate;
 use puzzle_text::{CollectionFault, entries};
 use solve_core::Pick;
-use std::alloc::Global;
 use std::io;
 use std::io::{ErrorKind, Read, Write};
 use std::process::Abort;
@@ -174,12 +173,6 @@ fn single_puzzles_are_surveyed(rt: HostRuntime) -> Result<(), Fail> {
         assert_single(&rt, guesses, name, body, line, totals)?;
     }
     Ok(())
-}
-
-/// A puzzle in `.mk` with these sizes: the same clue for each line, `count` of them above `#`, and below.
-fn uniform(alloc: Global, sizes: &[u8], clue: &[u8], count: usize) -> Result<Vec<u8>, Fail> {
-    let clues = repeated(alloc, clue, count)?;
-    joined(alloc, &[sizes, &clues, b"#\n", &clues])
 }
 
 #[test]
