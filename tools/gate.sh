@@ -39,8 +39,9 @@ spreads() {
     parallel --version | grep -q '^GNU parallel'
 }
 
-# How many checks run side by side: one a processor, as far as each has 5 GB of the free memory (the largest
-# takes 4.5). By itself `rt` counts up to 8 GB for a check of the larger crates, and leaves processors idle.
+# How many checks run side by side: one a processor, as far as each has 5 GB of the free memory. Most take 1
+# to 4 GB, and the largest, one at a time, 5.3. By itself `rt` counts up to 8 GB for a check of the larger
+# crates, and leaves processors idle.
 lanes() {
     local lanes memory
     lanes=$(nproc)
