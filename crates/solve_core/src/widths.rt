@@ -1,5 +1,5 @@
 //! The width of the sets that a puzzle is solved in.
-ghost use Rattle.std.specs.Prelude.{◌≤◌, All};
+ghost use Rattle.std.specs.Prelude.{◌≤◌, All, ℕ};
 ghost use Rattle.grid_core.specs.declared.limits.TheConstants.{LONGEST_SIDE};
 ghost use Rattle.solve_core.specs.Widths.{FitsIn};
 
@@ -11,6 +11,7 @@ fn places_for_clues(clues: &[Clue], least: u16) -> u16
     requires { least ≤ LONGEST_SIDE }
     ensures least { least ≤ result }
     ensures clues { All (All (λ number. number ≤ result)) clues.now }
+    ensures fewest { (room : ℕ) → least ≤ room → All (All (λ number. number ≤ room)) clues.now → result ≤ room }
     ensures most { result ≤ LONGEST_SIDE }
 {
     let mut needed = least;
@@ -20,9 +21,11 @@ fn places_for_clues(clues: &[Clue], least: u16) -> u16
     needed
 }
 
-/// How many places sets need for the lines of a puzzle and for the numbers of its clues.
+/// How many places sets need for the lines of a puzzle and for the numbers of its clues: the longer side, or
+/// the greatest number if that is greater.
 pub fn places_for(puzzle: &Puzzle) -> u16
     ensures fits { FitsIn result puzzle.now }
+    ensures fewest { (room : ℕ) → FitsIn room puzzle.now → result ≤ room }
     ensures most { result ≤ LONGEST_SIDE }
 {
     let sides = puzzle.width().max(puzzle.height());

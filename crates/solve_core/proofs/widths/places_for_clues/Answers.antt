@@ -26,6 +26,8 @@ loop-clue-preserved c =
       passed = All-more (All (λ n. n ≤ new)) clues i [] (omega arith)
           (λ k d h j e l. omega (arith, c.loop-clue.invariant.passed k d h j e l))
           (subst (All (λ n. n ≤ new)) item c.places_needed-needed.ensures.clue);
+      fewest = λ room a b. c.places_needed-needed.ensures.least room (c.loop-clue.invariant.fewest room a b)
+          (subst (All (λ n. n ≤ room)) (sym item) (b i [] (omega arith)));
       most = c.places_needed-needed.ensures.least LONGEST_SIDE c.loop-clue.invariant.most
           (subst (All (λ n. n ≤ LONGEST_SIDE)) (sym c.numbers.ensures.numbers) (clue_short LONGEST_SIDE _ c.numbers.ensures.clue));
     }

@@ -1,5 +1,6 @@
--- What the loop of `places_for_clues` keeps: the places have room for the numbers of the clues passed.
-use Rattle.std.proofs.Common.{◌≤◌, take}
+-- What the loop of `places_for_clues` keeps: the places have room for the numbers of the clues passed, and no
+-- fewer have room for those of all.
+use Rattle.std.proofs.Common.{◌≤◌, ℕ, take}
 use Rattle.std.specs.List.{All}
 use Rattle.grid_core.specs.declared.limits.TheConstants.{LONGEST_SIDE}
 use Rattle.solve_core.proofs.widths.places_for_clues.Given as goal
@@ -8,5 +9,6 @@ abbrev pub invariant-loop-clue : goal.invariant-loop-clue
 invariant-loop-clue l = record {
   least : l.least ≤ l.needed;
   passed : All (All (λ number. number ≤ l.needed)) (take l.clue-index l.clues);
+  fewest : (room : ℕ) → l.least ≤ room → All (All (λ number. number ≤ room)) l.clues → l.needed ≤ room;
   most : l.needed ≤ LONGEST_SIDE;
 }
