@@ -1,10 +1,10 @@
 /* Refuses growths of memory to a program that is run under it, as tools/sweep.sh does. A start of a thread
- * counts as a growth.
+ * counts as a growth; before one is refused, threads that were started have 50 ms in which to fall asleep.
  *
- * Tests ask for it by signs (src/tests_refusals.rt of the crates). A request of SIGN + n bytes, which no
- * machine grants, has the n-th growth from there refused, or with n = 0 each of them; a request of QUESTION
- * bytes ends that, and is refused if there was a refusal. At each question the number of refusals since the
- * program began goes to standard error, as `swept N`.
+ * Tests ask for it by signs (crates/refusals). A request of SIGN + n bytes, which no machine grants, has the
+ * n-th growth from there refused, or with n = 0 each of them; a request of QUESTION bytes ends that, and is
+ * refused if there was a refusal. At each question the number of refusals since the program began goes to
+ * standard error, as `swept N`.
  *
  * Another program has the growth refused whose number is in SWEEP_GROWTH, from 1, and the refusal is told on
  * file descriptor 9.
@@ -92,5 +92,7 @@ void *realloc(void *old, size_t size) {
 int pthread_create(pthread_t *thread, const pthread_attr_t *how, void *(*start)(void *), void *given) {
     static int (*real)(pthread_t *, const pthread_attr_t *, void *(*)(void *), void *);
     if (!real) real = (int (*)(pthread_t *, const pthread_attr_t *, void *(*)(void *), void *))dlsym(RTLD_NEXT, "pthread_create");
-    return refused() ? EAGAIN : real(thread, how, start, given);
+    if (!refused()) return real(thread, how, start, given);
+    usleep(50000);
+    return EAGAIN;
 }

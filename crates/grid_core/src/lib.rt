@@ -21,12 +21,3 @@ pub use limits::{LONGEST_SIDE, LONGEST_TEXT, MOST_RUNS};
 pub use memory::NoMemory;
 pub use puzzles::{GoalWord, Puzzle, PuzzleFault};
 pub use runs::has_runs;
-
-#[cfg(test)]
-mod tests;
-#[cfg(test)]
-mod tests_refusals;
-#[cfg(test)]
-mod tests_refused;
-#[cfg(test)]
-mod tests_rows;

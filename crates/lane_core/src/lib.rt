@@ -31,16 +31,3 @@ pub use messages::Message;
 pub use opening::{LARGEST_RING, open_lane};
 pub use settling::settle;
 pub use steps::Step;
-
-#[cfg(test)]
-mod tests;
-#[cfg(test)]
-mod tests_limits;
-#[cfg(test)]
-mod tests_refusals;
-#[cfg(test)]
-mod tests_refused;
-#[cfg(test)]
-mod tests_refused_lanes;
-#[cfg(test)]
-mod tests_scripts;

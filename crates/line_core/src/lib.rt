@@ -14,18 +14,6 @@ mod reach;
 mod rooms;
 mod spans;
 mod starts;
-#[cfg(test)]
-mod tests;
-#[cfg(test)]
-mod tests_lines;
-#[cfg(test)]
-mod tests_overlaps;
-#[cfg(test)]
-mod tests_refusals;
-#[cfg(test)]
-mod tests_refused;
-#[cfg(test)]
-mod tests_starts;
 mod widths;
 
 pub use deduction::{LineSet, Tables, deduce};

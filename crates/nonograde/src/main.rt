@@ -35,8 +35,6 @@ mod tests_edge;
 #[cfg(test)]
 mod tests_files;
 #[cfg(test)]
-mod tests_refusals;
-#[cfg(test)]
 mod tests_refused;
 #[cfg(test)]
 mod tests_reports;
@@ -44,8 +42,6 @@ mod tests_reports;
 mod tests_running;
 #[cfg(test)]
 mod tests_samples;
-#[cfg(test)]
-mod tests_surveys;
 #[cfg(test)]
 mod tests_terminal;
 #[cfg(test)]

@@ -2,9 +2,8 @@
 
 use crate::command::Request;
 use crate::program::refuse_words;
-use crate::tests_running::{asked, ended, ended_into};
+use crate::tests_running::{FailingWriter, asked, ended, ended_into};
 use crate::tests_samples::{FIT, ONE, TWO, joined, repeated};
-use crate::tests_surveys::FailingWriter;
 use std::alloc::Global;
 use std::fs::remove_file;
 use std::io::{ErrorKind, Write};

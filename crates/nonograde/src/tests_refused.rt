@@ -5,12 +5,12 @@ use crate::command::{CommandFault, Request};
 use crate::converting::{ConvertFault, convert};
 use crate::reports::{lines_report, solve_report};
 use crate::stop::{Stop, stop_text};
-use crate::tests_refusals::{Told, assert_heeded, assert_swept, refuse, told_if, was_refused};
 use crate::tests_running::asked;
 use crate::tests_samples::{DEMO, DEMO_GRID, DEMO_NIN, MEETS, PAIR, TWO, joined, repeated};
 use clap::error::ErrorKind;
 use grid_core::NoMemory;
 use puzzle_text::{EntryFault, Format, LONGEST_PUZZLE, TextFault};
+use refusals::{Told, is_heeded, refuse, sweep, told_if, was_refused};
 use solve_core::Pick;
 use std::test::Fail;
 use survey_core::{RunFault, Settings};
@@ -29,11 +29,10 @@ fn lines_are_reported_or_refused(rt: HostRuntime) -> Result<(), Fail> {
     let alloc = rt.alloc();
     let demo = joined(alloc, &[DEMO, MEETS])?;
     let wanted = joined(alloc, &[b"one 50\n", DEMO_GRID])?;
-    assert_swept(
-        &rt,
+    sweep(
         alloc,
         || told_of_text(lines_report(alloc, b"demo.non", &demo), &wanted),
-    );
+    )?;
     Ok(())
 }
 
@@ -43,22 +42,20 @@ fn puzzles_are_solved_or_refused(rt: HostRuntime) -> Result<(), Fail> {
     let demo = joined(alloc, &[DEMO, MEETS])?;
     let line = b"1 5x10 one line 50 50 0 meets demo.non\n";
     let wanted = joined(alloc, &[line, DEMO_GRID, b"\n"])?;
-    assert_swept(
-        &rt,
+    sweep(
         alloc,
         || told_of_text(
             solve_report(alloc, b"demo.non", &demo, 1000, Pick::First),
             &wanted,
         ),
-    );
-    assert_swept(
-        &rt,
+    )?;
+    sweep(
         alloc,
         || told_of_text(
             solve_report(alloc, b"two.mk", TWO, 2, Pick::First),
             b"1 2x2 several search 0 0 2 absent two.mk\n#.\n.#\n\n.#\n#.\n\n",
         ),
-    );
+    )?;
     Ok(())
 }
 
@@ -77,32 +74,28 @@ fn told_of_converted(answer: Result<Vec<u8>, ConvertFault>, wanted: Option<&[u8]
 fn texts_are_converted_or_refused(rt: HostRuntime) -> Result<(), Fail> {
     let alloc = rt.alloc();
     let demo = joined(alloc, &[DEMO, MEETS])?;
-    assert_swept(
-        &rt,
+    sweep(
         alloc,
         || told_of_converted(convert(alloc, b"demo.non", &demo, Format::Non), Some(&demo)),
-    );
-    assert_swept(
-        &rt,
+    )?;
+    sweep(
         alloc,
         || told_of_converted(
             convert(alloc, b"demo.non", &demo, Format::Nin),
             Some(DEMO_NIN),
         ),
-    );
-    assert_swept(
-        &rt,
+    )?;
+    sweep(
         alloc,
         || told_of_converted(convert(alloc, b"pair.mk", PAIR, Format::Mk), Some(PAIR)),
-    );
-    assert_swept(
-        &rt,
+    )?;
+    sweep(
         alloc,
         || told_of_converted(
             convert(alloc, b"flat.mk", b"1 2\n1\n#\n1\n2\n", Format::Nin),
             None,
         ),
-    );
+    )?;
     Ok(())
 }
 
@@ -114,7 +107,7 @@ fn told_of_stop(answer: Result<Vec<u8>, NoMemory>, wanted: &[u8]) -> Told {
 }
 
 #[test]
-fn stops_are_told_or_refused(rt: HostRuntime) {
+fn stops_are_told_or_refused(rt: HostRuntime) -> Result<(), Fail> {
     let alloc = rt.alloc();
     let stops = [
         (
@@ -128,8 +121,9 @@ fn stops_are_told_or_refused(rt: HostRuntime) {
         (Stop::NoMemory, b"nonograde: NoMemory\n".as_slice()),
     ];
     for (stop, wanted) in &stops {
-        assert_swept(&rt, alloc, || told_of_stop(stop_text(alloc, stop), wanted));
+        sweep(alloc, || told_of_stop(stop_text(alloc, stop), wanted))?;
     }
+    Ok(())
 }
 
 /// What words told that are to ask for this survey of two files.
@@ -153,7 +147,7 @@ fn told_of_bad_value(answer: Result<Request, CommandFault>) -> Told {
 }
 
 #[test]
-fn words_are_parsed_or_refused(rt: HostRuntime) {
+fn words_are_parsed_or_refused(rt: HostRuntime) -> Result<(), Fail> {
     let alloc = rt.alloc();
     let wanted = Settings {
         lanes: 3,
@@ -163,9 +157,10 @@ fn words_are_parsed_or_refused(rt: HostRuntime) {
         show: true,
     };
     let line = "survey --lanes 3 --ring 1 --guesses 7 --pick most --show a.mk b.nin";
-    assert_swept(&rt, alloc, || told_of_survey(asked(alloc, line), wanted));
+    sweep(alloc, || told_of_survey(asked(alloc, line), wanted))?;
     let line = "survey --lanes 17";
-    assert_swept(&rt, alloc, || told_of_bad_value(asked(alloc, line)));
+    sweep(alloc, || told_of_bad_value(asked(alloc, line)))?;
+    Ok(())
 }
 
 /// What is said of a text that is too long.
@@ -185,6 +180,6 @@ fn long_texts_are_too_long(rt: HostRuntime) -> Result<(), Fail> {
     assert!(rt; solved.err() == Some(TOO_LONG));
     assert!(rt; converted.err() == Some(ConvertFault::Entry(TOO_LONG)));
     assert!(rt; unknown.err() == Some(EntryFault::UnknownFormat));
-    assert_heeded(&rt, alloc);
+    assert!(rt; is_heeded(alloc));
     Ok(())
 }

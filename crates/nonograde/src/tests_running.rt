@@ -3,7 +3,8 @@
 use crate::command::{CommandFault, Request, parse_words};
 use crate::program::run;
 use std::alloc::{AllocError, Global};
-use std::io::Write;
+use std::io;
+use std::io::{ErrorKind, Write};
 use std::rt::Files;
 use std::sync::Wait;
 use std::test::Fail;
@@ -27,6 +28,27 @@ impl Drop for Ending {
             said: _,
             told: _,
         } = self;
+    }
+}
+
+/// Takes `room` bytes, and then fails.
+#[derive(Drop)]
+pub struct FailingWriter {
+    pub room: usize,
+}
+
+impl Write for FailingWriter {
+    fn write(&mut self, bytes: &[u8]) -> io::Result<usize> {
+        if self.room == 0 {
+            return Err(io::Error::from(ErrorKind::BrokenPipe));
+        }
+        let count = self.room.min(bytes.len());
+        self.room -= count;
+        Ok(count)
+    }
+
+    fn flush(&mut self) -> io::Result<()> {
+        Ok(())
     }
 }
 

@@ -37,19 +37,6 @@ pub const TWIN: &[u8] = b"8 5\n1\n1\n0\n5\n5\n0\n1\n1\n#\n1 2\n1 2\n2 1\n2\n2 1\
 
 pub const FIT: &[u8] = b"2 4\n2\n1 1\n1\n1\n1\n1\n";
 
-pub const TEN: &[u8] = b"1 1x1 one line 1 1 0 absent one.mk
-2 1x1 none line 0 0 0 absent clash.mk
-3 refused BadNumber:2 bad.mk
-4 4x2 one trials 0 8 0 absent pair.mk
-5 6x2 none trials 0 0 0 absent six.mk
-6 2x2 several search 0 0 2 absent two.mk
-7 refused UnknownFormat what.txt
-8 4x2 one trials 0 8 0 absent fit.nin
-9 5x10 one line 50 50 0 meets demo.non
-10 5x10 one line 50 50 0 misses demo2.non
-entries 10 refused 2 none 2 one 5 several 1 unsettled 0 line 4 trials 3 search 1
-";
-
 /// The pieces in one text.
 pub fn joined(alloc: Global, pieces: &[&[u8]]) -> Result<Vec<u8>, Fail> {
     let mut text = Vec::new(alloc);
@@ -78,32 +65,6 @@ pub fn uniform(alloc: Global, sizes: &[u8], clue: &[u8], count: usize) -> Result
 pub fn full_rows(alloc: Global, side: usize) -> Result<Vec<u8>, Fail> {
     let row = repeated(alloc, b"#", side)?;
     repeated(alloc, &joined(alloc, &[&row, b"\n"])?, side)
-}
-
-/// Ten entries, eight of them puzzles.
-pub fn ten_entries(alloc: Global) -> Result<Vec<u8>, Fail> {
-    let pieces: [&[u8]; 19] = [
-        b"@ one.mk\n",
-        ONE,
-        b"@ clash.mk\n",
-        CLASH,
-        b"@ bad.mk\n2 2\n2 x\n1\n#\n1\n1\n@ pair.mk\n",
-        PAIR,
-        b"@ six.mk\n",
-        SIX,
-        b"@ two.mk\n",
-        TWO,
-        b"@ what.txt\n",
-        b"@ fit.nin\n",
-        FIT,
-        b"@ demo.non\n",
-        DEMO,
-        MEETS,
-        b"@ demo2.non\n",
-        DEMO,
-        MISSES,
-    ];
-    joined(alloc, &pieces)
 }
 
 /// The text, or the fault's word.

@@ -1,9 +1,8 @@
 //! At the terminal: help, the version, and a survey's progress.
 
 use crate::program::run;
-use crate::tests_running::{ended, words_of};
+use crate::tests_running::{FailingWriter, ended, words_of};
 use crate::tests_samples::{ONE, TWO};
-use crate::tests_surveys::FailingWriter;
 use std::fs::remove_file;
 use std::test::Fail;
 use std::{fs, str};

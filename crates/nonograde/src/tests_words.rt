@@ -2,9 +2,8 @@
 
 use crate::command::{CommandFault, Request};
 use crate::stop::{Stop, stop_text};
-use crate::tests_running::{asked, ended, ended_into};
+use crate::tests_running::{FailingWriter, asked, ended, ended_into};
 use crate::tests_samples::assert_bytes;
-use crate::tests_surveys::FailingWriter;
 use grid_core::NoMemory;
 use puzzle_text::{CollectionFault, EntryFault, Format, TextFault};
 use solve_core::Pick;

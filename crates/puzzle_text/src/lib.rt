@@ -36,20 +36,3 @@ pub use non::read_non;
 pub use texts::{push_bytes, push_number};
 pub use words::{FaultWord, fault_text};
 pub use writing::{write_mk, write_nin, write_non};
-
-#[cfg(test)]
-mod tests;
-#[cfg(test)]
-mod tests_refusals;
-#[cfg(test)]
-mod tests_refused;
-#[cfg(test)]
-mod tests_slow;
-#[cfg(test)]
-mod tests_slow_mk;
-#[cfg(test)]
-mod tests_slow_nin;
-#[cfg(test)]
-mod tests_slow_non;
-#[cfg(test)]
-mod tests_slowly;

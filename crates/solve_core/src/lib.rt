@@ -20,20 +20,6 @@ mod search;
 pub mod search_laws;
 mod solutions;
 mod solver;
-#[cfg(test)]
-mod test_puzzles;
-#[cfg(test)]
-mod tests;
-#[cfg(test)]
-mod tests_deductions;
-#[cfg(test)]
-mod tests_refusals;
-#[cfg(test)]
-mod tests_refused;
-#[cfg(test)]
-mod tests_search;
-#[cfg(test)]
-mod tests_widths;
 mod trials;
 mod widths;
 mod witnesses;

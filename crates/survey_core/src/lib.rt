@@ -43,26 +43,3 @@ pub use settings::{
 };
 pub use streams::write_text;
 pub use surveys::{run_survey, survey_entries};
-
-#[cfg(test)]
-mod tests;
-#[cfg(test)]
-mod tests_answers;
-#[cfg(test)]
-mod tests_collect;
-#[cfg(test)]
-mod tests_counted;
-#[cfg(test)]
-mod tests_progress;
-#[cfg(test)]
-mod tests_refusals;
-#[cfg(test)]
-mod tests_refused;
-#[cfg(test)]
-mod tests_rules;
-#[cfg(test)]
-mod tests_samples;
-#[cfg(test)]
-mod tests_sleep;
-#[cfg(test)]
-mod tests_streams;

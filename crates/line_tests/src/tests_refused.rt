@@ -1,0 +1,87 @@
+//! Calls whose growths of memory are refused, each in turn, and calls that take no memory
+//! with every growth refused.
+
+use crate::tests::{is_same_line, line_of};
+use grid_core::{Cell, Clue, NoMemory};
+use line_core::*;
+use refusals::{Told, is_heeded, refuse, sweep, told_if, was_refused};
+use std::alloc::Global;
+use std::test::Fail;
+
+/// What is deduced of ten unknown cells by tables that are made for it.
+fn deduced(alloc: Global, clue: &Clue) -> Result<Option<Line>, NoMemory> {
+    let mut tables = Tables::new(alloc, 256)?;
+    Ok(deduce(&mut tables, &Line::unknown(10), clue))
+}
+
+fn is_shown(line: &Line, text: &str) -> bool {
+    match line_of(text) {
+        Some(shown) => is_same_line(line, &shown),
+        None => false,
+    }
+}
+
+fn told_of_deduced(answer: Result<Option<Line>, NoMemory>) -> Told {
+    match answer {
+        Ok(Some(line)) => told_if(is_shown(&line, "??######??")),
+        Ok(None) => Told::Other,
+        Err(NoMemory) => Told::NoMemory,
+    }
+}
+
+#[test]
+fn tables_are_made_or_refused(rt: HostRuntime) -> Result<(), Fail> {
+    let alloc = rt.alloc();
+    let clue = Clue::from_numbers(alloc, &[8])?;
+    sweep(alloc, || told_of_deduced(deduced(alloc, &clue)))?;
+    Ok(())
+}
+
+fn told_of_starts(answer: Result<Starts, NoMemory>, clue: &Clue) -> Told {
+    match answer {
+        Ok(mut starts) => told_if(
+            starts.list().is_empty()
+                && rightmost(&Line::unknown(10), clue, &mut starts)
+                && starts.list() == [2].as_slice(),
+        ),
+        Err(NoMemory) => Told::NoMemory,
+    }
+}
+
+#[test]
+fn starts_are_made_or_refused(rt: HostRuntime) -> Result<(), Fail> {
+    let alloc = rt.alloc();
+    let clue = Clue::from_numbers(alloc, &[8])?;
+    sweep(alloc, || told_of_starts(Starts::new(alloc), &clue))?;
+    Ok(())
+}
+
+/// Whether lines are set, copied and compared as they should be.
+fn are_lines_well() -> bool {
+    let mut line = LineOf::<u64>::unknown(10);
+    line.set(3, Cell::Filled);
+    let mut copy = line.copy();
+    copy.set(9, Cell::Blank);
+    let changed = line.changes(&copy) == 1 << 9;
+    line.copy_from(&copy);
+    changed && line.is_same(&copy) && line.hash() == copy.hash()
+}
+
+#[test]
+fn lines_and_deductions_take_no_memory(rt: HostRuntime) -> Result<(), Fail> {
+    let alloc = rt.alloc();
+    let clue = Clue::from_numbers(alloc, &[8])?;
+    let mut tables = Tables::new(alloc, 256)?;
+    let mut starts = Starts::new(alloc)?;
+    let line = Line::unknown(10);
+    refuse(alloc, 0);
+    let answer = deduce(&mut tables, &line, &clue);
+    let left = leftmost(&line, &clue, &mut starts) && starts.list() == [0].as_slice();
+    let right = rightmost(&line, &clue, &mut starts) && starts.list() == [2].as_slice();
+    let well = are_lines_well();
+    assert!(rt; !was_refused(alloc), "no growth");
+    assert!(rt; told_of_deduced(Ok(answer)) == Told::Wanted);
+    assert!(rt; left && right && well);
+    assert!(rt; is_heeded(alloc));
+    Ok(())
+}

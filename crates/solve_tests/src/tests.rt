@@ -1,0 +1,303 @@
+//! Tests of closing grids: by lines and under trials, by solvers and by the plain programs.
+ghost use Rattle.std.specs.Prelude.{◌≡◌, ◌<◌, ◌≤◌, IfSome};
+ghost use Rattle.solve_core.specs.Sizes.{HasSizeOf};
+
+use crate::test_puzzles::puzzle_of;
+use grid_core::{Cell, Clue, Grid, Puzzle, Texts};
+use solve_core::*;
+use std::alloc::Global;
+use std::test::Fail;
+
+/// A grid of the puzzle's size of which nothing is known.
+fn unknown_grid(alloc: Global, puzzle: &Puzzle) -> Option<Grid>
+    ensures { IfSome result (λ grid. HasSizeOf puzzle.now grid) }
+{
+    Grid::unknown(alloc, puzzle.width(), puzzle.height()).ok()
+}
+
+/// The digits of a row after those of the rows above: 0 for an unknown cell, 1 for a filled and 2 for a blank
+/// one.
+fn row_digits(grid: &Grid, y: u16, above: u32) -> u32
+    requires { y < grid.now.height }
+{
+    let mut digits = above;
+    for x in 0..grid.width() {
+        let digit = match grid.get(x, y) {
+            Cell::Unknown => 0,
+            Cell::Filled => 1,
+            Cell::Blank => 2,
+        };
+        digits = digits.wrapping_mul(3).wrapping_add(digit);
+    }
+    digits
+}
+
+/// How many cells of a closed grid are known, and its cells as the digits of a number to the base 3. `None`
+/// if it is dead.
+fn picture(alive: bool, grid: &Grid) -> Option<(u32, u32)> {
+    if !alive {
+        return None;
+    }
+    let mut digits = 0;
+    for y in 0..grid.height() {
+        digits = row_digits(grid, y, digits);
+    }
+    Some((grid.known(), digits))
+}
+
+type Picture = Option<(u32, u32)>;
+
+fn after_lines(alloc: Global, puzzle: &Puzzle, solver: &mut Solver) -> Option<Picture>
+    requires { solver.old ≡ puzzle.now }
+    ensures { solver.new ≡ puzzle.now }
+{
+    let mut grid = unknown_grid(alloc, puzzle)?;
+    let alive = solver.close_lines(&mut grid);
+    Some(picture(alive, &grid))
+}
+
+fn after_trials(alloc: Global, puzzle: &Puzzle, solver: &mut Solver) -> Option<Picture>
+    requires { solver.old ≡ puzzle.now }
+    ensures { solver.new ≡ puzzle.now }
+{
+    let mut grid = unknown_grid(alloc, puzzle)?;
+    let alive = solver.close_trials(&mut grid);
+    Some(picture(alive, &grid))
+}
+
+/// What lines make of the unknown grid, without a solver.
+fn line_picture(alloc: Global, puzzle: &Puzzle) -> Option<Picture> {
+    let grid = line_grid(alloc, puzzle).ok()?;
+    Some(grid.as_ref().and_then(|grid| picture(true, grid)))
+}
+
+/// What one solver makes of unknown grids: by lines, by trials, and again by lines and by trials.
+fn pictures_by(alloc: Global, puzzle: &Puzzle, solver: &mut Solver) -> Option<[Picture; 4]>
+    requires { solver.old ≡ puzzle.now }
+{
+    let lines = after_lines(alloc, puzzle, solver)?;
+    let trials = after_trials(alloc, puzzle, solver)?;
+    let lines_again = after_lines(alloc, puzzle, solver)?;
+    let trials_again = after_trials(alloc, puzzle, solver)?;
+    Some([lines, trials, lines_again, trials_again])
+}
+
+/// The same of a new solver.
+fn solver_pictures(alloc: Global, puzzle: &Puzzle) -> Option<[Picture; 4]> {
+    let mut solver = Solver::new(alloc, puzzle).ok()?;
+    pictures_by(alloc, puzzle, &mut solver)
+}
+
+fn plain_lines(alloc: Global, puzzle: &Puzzle) -> Option<Picture> {
+    let mut grid = unknown_grid(alloc, puzzle)?;
+    let alive = plain::close_by_rounds(alloc, puzzle, &mut grid).ok()?;
+    Some(picture(alive, &grid))
+}
+
+fn plain_trials(alloc: Global, puzzle: &Puzzle) -> Option<Picture> {
+    let mut grid = unknown_grid(alloc, puzzle)?;
+    let alive = plain::try_by_rounds(alloc, puzzle, &mut grid).ok()?;
+    Some(picture(alive, &grid))
+}
+
+/// What the plain programs make of unknown grids: by lines, by trials, and the same again.
+fn plain_pictures(alloc: Global, puzzle: &Puzzle) -> Option<[Picture; 4]> {
+    let lines = plain_lines(alloc, puzzle)?;
+    let trials = plain_trials(alloc, puzzle)?;
+    Some([lines, trials, lines, trials])
+}
+
+const ONE: &[u16] = &[1];
+
+const TWO: &[u16] = &[2];
+
+const PAIR: &[u16] = &[1, 1];
+
+#[test]
+fn trials_settle_what_lines_leave(rt: HostRuntime) -> Result<(), Fail> {
+    let alloc = rt.alloc();
+    let puzzle = puzzle_of(alloc, &[TWO, PAIR], &[ONE, ONE, ONE, ONE]);
+    let found = puzzle
+        .as_ref()
+        .and_then(|puzzle| solver_pictures(alloc, puzzle));
+    let plain = puzzle
+        .as_ref()
+        .and_then(|puzzle| plain_pictures(alloc, puzzle));
+    // Nothing by lines; then `.##.` over `#..#`, which is 21121221 to the base 3.
+    let wanted = Some([Some((0, 0)), Some((8, 5560)), Some((0, 0)), Some((8, 5560))]);
+    assert!(rt; found == wanted);
+    assert!(rt; plain == wanted);
+    Ok(())
+}
+
+#[test]
+fn trials_find_a_contradiction(rt: HostRuntime) -> Result<(), Fail> {
+    let alloc = rt.alloc();
+    let puzzle = puzzle_of(alloc, &[&[1, 1, 1], &[3]], &[ONE, ONE, ONE, ONE, ONE, ONE]);
+    let found = puzzle
+        .as_ref()
+        .and_then(|puzzle| solver_pictures(alloc, puzzle));
+    let plain = puzzle
+        .as_ref()
+        .and_then(|puzzle| plain_pictures(alloc, puzzle));
+    let wanted = Some([Some((0, 0)), None, Some((0, 0)), None]);
+    assert!(rt; found == wanted);
+    assert!(rt; plain == wanted);
+    Ok(())
+}
+
+/// What lines make of the demonstration puzzle, without a solver and by one.
+fn lines_of_demonstration(alloc: Global) -> Option<[Picture; 2]> {
+    let rows: &[&[u16]] = &[
+        TWO,
+        &[2, 1],
+        PAIR,
+        &[3],
+        PAIR,
+        PAIR,
+        TWO,
+        PAIR,
+        &[1, 2],
+        TWO,
+    ];
+    let columns: &[&[u16]] = &[&[2, 1], &[2, 1, 3], &[7], &[1, 3], &[2, 1]];
+    let puzzle = puzzle_of(alloc, rows, columns)?;
+    let grid = line_picture(alloc, &puzzle)?;
+    let mut solver = Solver::new(alloc, &puzzle).ok()?;
+    let closed = after_lines(alloc, &puzzle, &mut solver)?;
+    Some([grid, closed])
+}
+
+#[test]
+fn lines_settle_the_demonstration_puzzle(rt: HostRuntime) -> Result<(), Fail> {
+    let found = lines_of_demonstration(rt.alloc());
+    assert!(rt; matches!(&found, Some([Some((50, _)), Some((50, _))])));
+    Ok(())
+}
+
+/// What lines make of the puzzle of one cell whose row fills it and whose column doesn't.
+fn lines_of_clash(alloc: Global) -> Option<Picture> {
+    let puzzle = puzzle_of(alloc, &[ONE], &[&[]])?;
+    line_picture(alloc, &puzzle)
+}
+
+#[test]
+fn a_contradiction_leaves_no_grid(rt: HostRuntime) -> Result<(), Fail> {
+    assert!(rt; lines_of_clash(rt.alloc()) == Some(None));
+    Ok(())
+}
+
+/// Fills a cell of the first row and closes the grid.
+fn after_filling(puzzle: &Puzzle, solver: &mut Solver, grid: &mut Grid, x: u16) -> Picture
+    requires solver { solver.old ≡ puzzle.now }
+    requires size { HasSizeOf puzzle.now grid.old }
+    requires x { x < puzzle.now.width }
+    ensures solver { solver.new ≡ puzzle.now }
+    ensures size { HasSizeOf puzzle.now grid.new }
+{
+    puzzle.width();
+    grid.set(x, 0, Cell::Filled);
+    let alive = solver.close_lines(grid);
+    picture(alive, grid)
+}
+
+/// What a solver makes of a puzzle: by trials, then with a cell filled, then with its neighbour filled too.
+fn closed_by(alloc: Global, puzzle: &Puzzle, solver: &mut Solver) -> Option<[Picture; 3]>
+    requires solver { solver.old ≡ puzzle.now }
+    requires width { 2 ≤ puzzle.now.width }
+{
+    let open = after_trials(alloc, puzzle, solver)?;
+    let mut grid = unknown_grid(alloc, puzzle)?;
+    let full = after_filling(puzzle, solver, &mut grid, 1);
+    let dead = after_filling(puzzle, solver, &mut grid, 0);
+    Some([open, full, dead])
+}
+
+/// What a solver makes so of the 2 by 2 puzzle with a 1 for each line.
+fn closed_again(alloc: Global) -> Option<[Picture; 3]> {
+    let puzzle = puzzle_of(alloc, &[ONE, ONE], &[ONE, ONE])?;
+    if puzzle.width() < 2 {
+        return None;
+    }
+    let mut solver = Solver::new(alloc, &puzzle).ok()?;
+    closed_by(alloc, &puzzle, &mut solver)
+}
+
+#[test]
+fn a_closed_grid_is_closed_again(rt: HostRuntime) -> Result<(), Fail> {
+    let found = closed_again(rt.alloc());
+    // `.#` over `#.` is 2112 to the base 3.
+    assert!(rt; found == Some([Some((0, 0)), Some((4, 68)), None]));
+    Ok(())
+}
+
+/// Clues of a line of 3 cells; the first 2 fit on a line of 1 cell, the first 3 on one of 2 cells.
+const CLUES: [&[u16]; 5] = [&[], &[1], &[2], &[1, 1], &[3]];
+
+/// How many of the clues fit on a line.
+fn choices(len: u16) -> u32
+    ensures { (1 ≤ result) × (result ≤ 5) }
+{
+    match len {
+        1 => 2,
+        2 => 3,
+        _ => 5,
+    }
+}
+
+/// `count` clues, chosen by the digits of a number.
+fn numbered_clues(alloc: Global, count: u16, choices: u32, number: &mut u32) -> Option<Vec<Clue>>
+    requires { (1 ≤ choices) × (choices ≤ 5) }
+{
+    let mut clues = Vec::new(alloc);
+    for _ in 0..count {
+        let index = (*number % choices) as usize;
+        *number /= choices;
+        let clue = Clue::from_numbers(alloc, CLUES[index]).ok()?;
+        clues.push(clue).ok()?;
+    }
+    Some(clues)
+}
+
+fn numbered_puzzle(alloc: Global, width: u16, height: u16, number: u32) -> Option<Puzzle> {
+    let mut left = number;
+    let rows = numbered_clues(alloc, height, choices(width), &mut left)?;
+    let columns = numbered_clues(alloc, width, choices(height), &mut left)?;
+    Puzzle::new(width, height, rows, columns, Texts::none(), None).ok()
+}
+
+/// How many of the puzzles of a size the plain programs agree on.
+fn agreed(alloc: Global, width: u16, height: u16, count: u32) -> Option<u32> {
+    let mut agreed: u32 = 0;
+    for number in 0..count {
+        let puzzle = numbered_puzzle(alloc, width, height, number)?;
+        let found = solver_pictures(alloc, &puzzle)?;
+        let plain = plain_pictures(alloc, &puzzle)?;
+        let lines = line_picture(alloc, &puzzle)?;
+        if found == plain && found[0] == lines {
+            agreed = agreed.wrapping_add(1);
+        }
+    }
+    Some(agreed)
+}
+
+/// Widths, heights, and how many puzzles there are.
+const SIZES: [(u16, u16, u32); 9] = [
+    (1, 1, 4),
+    (2, 1, 12),
+    (3, 1, 40),
+    (1, 2, 12),
+    (2, 2, 81),
+    (3, 2, 675),
+    (1, 3, 40),
+    (2, 3, 675),
+    (3, 3, 15_625),
+];
+
+#[test]
+fn plain_programs_agree_on_small_puzzles(rt: HostRuntime) -> Result<(), Fail> {
+    for (width, height, count) in SIZES {
+        assert!(rt; agreed(rt.alloc(), width, height, count) == Some(count));
+    }
+    Ok(())
+}

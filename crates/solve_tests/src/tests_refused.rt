@@ -1,0 +1,174 @@
+//! Calls whose growths of memory are refused, each in turn, and calls that take no memory with every growth
+//! refused.
+
+use crate::test_puzzles::puzzle_of;
+use grid_core::{Grid, NoMemory, Puzzle};
+use refusals::{Told, Unswept, is_heeded, refuse, sweep, told_if, was_refused};
+use solve_core::*;
+use std::alloc::Global;
+use std::process::Abort;
+use std::test::Fail;
+
+const ONE: &[u16] = &[1];
+
+/// The puzzle whose cells trials settle, all eight of them, and lines none.
+fn knot(alloc: Global) -> Option<Puzzle> {
+    puzzle_of(alloc, &[&[2], &[1, 1]], &[ONE, ONE, ONE, ONE])
+}
+
+/// The puzzle of two cells that lines settle.
+fn pair(alloc: Global) -> Option<Puzzle> {
+    puzzle_of(alloc, &[&[2]], &[ONE, ONE])
+}
+
+/// How many cells of a puzzle lines settle, by a solver and on a grid that are made for it.
+fn settled_by_lines(alloc: Global, puzzle: &Puzzle) -> Result<u32, NoMemory> {
+    let mut grid = Grid::unknown(alloc, puzzle.width(), puzzle.height())?;
+    let mut solver = Solver::new(alloc, puzzle)?;
+    solver.close_lines(&mut grid);
+    Ok(grid.known())
+}
+
+fn told_of_count(answer: Result<u32, NoMemory>, wanted: u32) -> Told {
+    match answer {
+        Ok(count) => told_if(count == wanted),
+        Err(NoMemory) => Told::NoMemory,
+    }
+}
+
+#[test]
+fn solvers_are_made_or_refused(rt: HostRuntime) -> Result<(), Fail> {
+    let alloc = rt.alloc();
+    let puzzle = pair(alloc).ok_or("puzzle")?;
+    sweep(alloc, || told_of_count(settled_by_lines(alloc, &puzzle), 2))?;
+    Ok(())
+}
+
+fn told_of_grid(answer: Result<Option<Grid>, NoMemory>, wanted: u32) -> Told {
+    match answer {
+        Ok(grid) => told_if(grid.as_ref().map(|grid| grid.known()) == Some(wanted)),
+        Err(NoMemory) => Told::NoMemory,
+    }
+}
+
+#[test]
+fn line_grids_are_made_or_refused(rt: HostRuntime) -> Result<(), Fail> {
+    let alloc = rt.alloc();
+    let puzzle = pair(alloc).ok_or("puzzle")?;
+    sweep(alloc, || told_of_grid(line_grid(alloc, &puzzle), 2))?;
+    Ok(())
+}
+
+/// Asserts that lines close a grid, or that the growth of this number was refused and the grid is as before.
+/// Whether it was refused.
+fn assert_closed(
+    rt: &impl Abort,
+    alloc: Global,
+    puzzle: &Puzzle,
+    growth: usize,
+) -> Result<bool, Fail> {
+    let mut grid = Grid::unknown(alloc, puzzle.width(), puzzle.height())?;
+    refuse(alloc, growth);
+    let answer = plain::close_by_rounds(alloc, puzzle, &mut grid);
+    let refused = was_refused(alloc);
+    match answer {
+        Ok(alive) => assert!(rt; alive && grid.known() == 2),
+        Err(NoMemory) => assert!(rt; refused && grid.known() == 0),
+    }
+    assert!(rt; plain::close_by_rounds(alloc, puzzle, &mut grid)? && grid.known() == 2);
+    Ok(refused)
+}
+
+#[test]
+fn rounds_close_or_are_refused(rt: HostRuntime) -> Result<(), Fail> {
+    let puzzle = pair(rt.alloc()).ok_or("puzzle")?;
+    for growth in 1..100 {
+        if !assert_closed(&rt, rt.alloc(), &puzzle, growth)? {
+            return Ok(());
+        }
+    }
+    assert!(rt; false, "growths without end");
+    Ok(())
+}
+
+/// The same of trials.
+fn assert_tried(
+    rt: &impl Abort,
+    alloc: Global,
+    puzzle: &Puzzle,
+    growth: usize,
+) -> Result<bool, Fail> {
+    let mut grid = Grid::unknown(alloc, puzzle.width(), puzzle.height())?;
+    refuse(alloc, growth);
+    let answer = plain::try_by_rounds(alloc, puzzle, &mut grid);
+    let refused = was_refused(alloc);
+    match answer {
+        Ok(alive) => assert!(rt; alive && grid.known() == 8),
+        Err(NoMemory) => assert!(rt; refused && grid.known() == 0),
+    }
+    assert!(rt; plain::try_by_rounds(alloc, puzzle, &mut grid)? && grid.known() == 8);
+    Ok(refused)
+}
+
+#[test]
+fn rounds_try_or_are_refused(rt: HostRuntime) -> Result<(), Fail> {
+    let puzzle = knot(rt.alloc()).ok_or("puzzle")?;
+    for growth in 1..100 {
+        if !assert_tried(&rt, rt.alloc(), &puzzle, growth)? {
+            return Ok(());
+        }
+    }
+    assert!(rt; false, "growths without end");
+    Ok(())
+}
+
+/// Whether a report on the puzzle with the clue 1 in each of three rows and columns is the one with this
+/// limit on guesses.
+fn told_of_report(answer: Result<Findings, NoMemory>, puzzle: &Puzzle, guesses: u32) -> Told {
+    let Ok(findings) = answer else {
+        return Told::NoMemory;
+    };
+    let is_found = match &findings.verdict {
+        Verdict::Unsettled(None) => guesses == 0,
+        Verdict::Unsettled(Some(grid)) => guesses == 2 && puzzle.solved_by(grid),
+        Verdict::Several(first, second) => {
+            guesses == 3 && puzzle.solved_by(first) && puzzle.solved_by(second)
+        }
+        _ => false,
+    };
+    told_if(is_found && findings.spent == guesses && findings.grade == Grade::Search)
+}
+
+/// How many growths of a report with this limit on guesses are refused.
+fn growths_with(alloc: Global, puzzle: &Puzzle, guesses: u32) -> Result<usize, Unswept> {
+    sweep(
+        alloc,
+        || told_of_report(report(alloc, puzzle, guesses, Pick::First), puzzle, guesses),
+    )
+}
+
+#[test]
+fn reports_are_made_or_refused(rt: HostRuntime) -> Result<(), Fail> {
+    let alloc = rt.alloc();
+    let puzzle = puzzle_of(alloc, &[ONE, ONE, ONE], &[ONE, ONE, ONE]).ok_or("puzzle")?;
+    let growths = growths_with(alloc, &puzzle, 0)?;
+    // A report makes all its room before it deduces its first line.
+    assert_eq!(rt; growths_with(alloc, &puzzle, 2)?, growths);
+    assert_eq!(rt; growths_with(alloc, &puzzle, 3)?, growths);
+    Ok(())
+}
+
+#[test]
+fn closing_takes_no_memory(rt: HostRuntime) -> Result<(), Fail> {
+    let alloc = rt.alloc();
+    let puzzle = knot(alloc).ok_or("puzzle")?;
+    let mut grid = Grid::unknown(alloc, puzzle.width(), puzzle.height())?;
+    let mut solver = Solver::new(alloc, &puzzle)?;
+    refuse(alloc, 0);
+    let by_lines = solver.close_lines(&mut grid) && grid.known() == 0;
+    let by_trials = solver.close_trials(&mut grid) && grid.known() == 8;
+    assert!(rt; !was_refused(alloc), "no growth");
+    assert!(rt; by_lines && by_trials);
+    assert!(rt; is_heeded(alloc));
+    Ok(())
+}

@@ -1,0 +1,52 @@
+//! Tests of lines in puzzles that need sets of each width.
+ghost use Rattle.std.specs.Prelude.{◌≤◌};
+
+use crate::test_puzzles::puzzle_of;
+use solve_core::line_grid;
+use std::alloc::Global;
+use std::test::Fail;
+
+const NONE: &[u16] = &[];
+
+const ONE: &[u16] = &[1];
+
+/// Clues of lines that may lie across one long line.
+const MANY: [&[u16]; 256] = [NONE; 256];
+
+/// How many cells of one row without runs lines settle.
+fn settled(alloc: Global, width: usize) -> Option<u32>
+    requires { width ≤ 256 }
+{
+    let puzzle = puzzle_of(alloc, &[NONE], &MANY[..width])?;
+    let grid = line_grid(alloc, &puzzle).ok()?;
+    grid.as_ref().map(|grid| grid.known())
+}
+
+#[test]
+fn lines_settle_rows_of_each_width(rt: HostRuntime) -> Result<(), Fail> {
+    for width in [1, 64, 65, 128, 129, 256] {
+        assert!(rt; settled(rt.alloc(), width) == Some(width as u32), "{width}");
+    }
+    Ok(())
+}
+
+/// Whether lines contradict the clues of a puzzle of 3 by 3.
+fn is_contradictory(alloc: Global, rows: &[&[u16]], columns: &[&[u16]]) -> Option<bool> {
+    let puzzle = puzzle_of(alloc, rows, columns)?;
+    let grid = line_grid(alloc, &puzzle).ok()?;
+    Some(grid.is_none())
+}
+
+#[test]
+fn a_number_above_the_sides_is_a_contradiction(rt: HostRuntime) -> Result<(), Fail> {
+    let alloc = rt.alloc();
+    let of_row = is_contradictory(alloc, &[ONE, &[1, 65], ONE], &[ONE, ONE, ONE]);
+    assert!(rt; of_row == Some(true), "a row's");
+    let of_column = is_contradictory(alloc, &[ONE, ONE, ONE], &[ONE, ONE, &[256]]);
+    assert!(rt; of_column == Some(true), "a column's");
+    let of_both = is_contradictory(alloc, &[ONE, ONE, &[129]], &[&[128], ONE, ONE]);
+    assert!(rt; of_both == Some(true), "both");
+    let of_none = is_contradictory(alloc, &[ONE, ONE, ONE], &[ONE, ONE, ONE]);
+    assert!(rt; of_none == Some(false), "none");
+    Ok(())
+}

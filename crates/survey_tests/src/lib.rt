@@ -1,0 +1,25 @@
+//! Tests of `survey_core`.
+#![tactic(auto)]
+
+#[cfg(test)]
+mod tests;
+#[cfg(test)]
+mod tests_answers;
+#[cfg(test)]
+mod tests_collect;
+#[cfg(test)]
+mod tests_counted;
+#[cfg(test)]
+mod tests_progress;
+#[cfg(test)]
+mod tests_puzzles;
+#[cfg(test)]
+mod tests_refused;
+#[cfg(test)]
+mod tests_rules;
+#[cfg(test)]
+mod tests_samples;
+#[cfg(test)]
+mod tests_sleep;
+#[cfg(test)]
+mod tests_streams;

@@ -1,0 +1,206 @@
+//! The printed bytes of surveys, and that their puzzles are graded at the same time.
+
+use crate::tests_samples::{NOTHING, TEN, TEN_SURVEY, settings};
+use lane_core::{Gate, OpenGate};
+use puzzle_text::{CollectionFault, EntryFault, TextFault, entries};
+use solve_core::Pick;
+use std::alloc::Global;
+use std::process::Abort;
+use std::sync::Wait;
+use std::sync::atomic::{AtomicU32, Ordering};
+use std::test::Fail;
+use std::thread::Threads;
+use survey_core::*;
+
+/// Asserts what a survey of a collection answers and prints.
+pub(crate) fn assert_survey(
+    rt: &(impl Threads + Wait + Sync + Abort + AllocGlobal),
+    collection: &[u8],
+    settings: &Settings,
+    wanted: Result<(), RunFault>,
+    text: &str,
+) {
+    let mut reader = Counted::new(collection);
+    let mut output = Counted::new(Vec::new(rt.alloc()));
+    let outcome = run_survey(
+        rt,
+        rt.alloc(),
+        &mut reader,
+        &mut output,
+        settings,
+        &OpenGate,
+    );
+    assert_eq!(rt; outcome, wanted);
+    assert_eq!(rt; output.inner.as_slice(), text.as_bytes());
+}
+
+#[test]
+fn surveys_ten_entries(rt: HostRuntime) {
+    for lanes in [1u16, 3, 16] {
+        for ring in [1u16, 8] {
+            assert_survey(
+                &rt,
+                TEN.as_bytes(),
+                &settings(lanes, ring, false),
+                Ok(()),
+                TEN_SURVEY,
+            );
+        }
+    }
+}
+
+#[test]
+fn surveys_entries_in_hand(rt: HostRuntime) -> Result<(), Fail> {
+    for lanes in [1u16, 3, 16] {
+        let found = entries(rt.alloc(), TEN.as_bytes())?;
+        let mut output = Counted::new(Vec::new(rt.alloc()));
+        let settings = settings(lanes, 1, false);
+        survey_entries(&rt, rt.alloc(), &found, &mut output, &settings, &OpenGate)?;
+        assert_eq!(rt; output.inner.as_slice(), TEN_SURVEY.as_bytes());
+    }
+    Ok(())
+}
+
+#[test]
+fn shows_solutions(rt: HostRuntime) {
+    let collection = "@ clash.mk\n1 1\n1\n#\n0\n@ what\n@ two.mk\n2 2\n1\n1\n#\n1\n1\n";
+    let text = "1 1x1 none line 0 0 0 absent clash.mk\n2 refused UnknownFormat what\n\
+        3 2x2 several search 0 0 2 absent two.mk\n#.\n.#\n\n.#\n#.\n\n\
+        entries 3 refused 1 none 1 one 0 several 1 unsettled 0 line 1 trials 0 search 1\n";
+    assert_survey(
+        &rt,
+        collection.as_bytes(),
+        &settings(4, 8, true),
+        Ok(()),
+        text,
+    );
+}
+
+#[test]
+fn surveys_collections(rt: HostRuntime) {
+    let stray = |number: u32| Err(RunFault::Collection(CollectionFault::Stray(number)));
+    let settings = settings(1, 1, false);
+    assert_survey(&rt, b"", &settings, Ok(()), NOTHING);
+    assert_survey(&rt, b"x\n", &settings, stray(1), "");
+    assert_survey(&rt, b"x\n@ a.mk\n", &settings, stray(1), "");
+    assert_survey(&rt, b"@ a.mk\n@\n", &settings, stray(2), "");
+}
+
+/// A line, `count` times over.
+pub(crate) fn repeated(alloc: Global, line: &[u8], count: usize) -> Result<Vec<u8>, Fail> {
+    let mut text = Vec::new(alloc);
+    for _ in 0..count {
+        text.extend_from_slice(line)?;
+    }
+    Ok(text)
+}
+
+#[test]
+fn refuses_large_collections(rt: HostRuntime) -> Result<(), Fail> {
+    let settings = settings(1, 1, false);
+    let many = repeated(rt.alloc(), b"@ a.mk\n", 10_001)?;
+    let too_many = Err(RunFault::Collection(CollectionFault::TooMany));
+    assert_survey(&rt, &many, &settings, too_many, "");
+    let long = vec![in rt.alloc(); b'\n'; 16_777_217]?;
+    let too_long = Err(RunFault::Collection(CollectionFault::TooLong));
+    assert_survey(&rt, &long, &settings, too_long, "");
+    Ok(())
+}
+
+#[test]
+fn largest_collections_pass(rt: HostRuntime) -> Result<(), Fail> {
+    let settings = Settings {
+        lanes: 16,
+        ring: 64,
+        guesses: 1_000_000,
+        pick: Pick::First,
+        show: false,
+    };
+    assert_survey(&rt, TEN.as_bytes(), &settings, Ok(()), TEN_SURVEY);
+    let long = vec![in rt.alloc(); b'\n'; 16_777_216]?;
+    assert_survey(&rt, &long, &settings, Ok(()), NOTHING);
+    let most = repeated(rt.alloc(), b"@ a.mk\n", 10_000)?;
+    let mut reader = Counted::new(most.as_slice());
+    let mut output = Counted::new(Vec::new(rt.alloc()));
+    let outcome = run_survey(
+        &rt,
+        rt.alloc(),
+        &mut reader,
+        &mut output,
+        &settings,
+        &OpenGate,
+    );
+    assert_eq!(rt; outcome, Ok(()));
+    let last = b"10000 refused NoSize a.mk\n\
+        entries 10000 refused 10000 none 0 one 0 several 0 unsettled 0 line 0 trials 0 search 0\n";
+    assert!(rt; output.inner.ends_with(last));
+    Ok(())
+}
+
+#[test]
+fn prints_refused_entries(rt: HostRuntime) -> Result<(), Fail> {
+    let refused = Outcome {
+        name: Vec::from_slice(rt.alloc(), b"bad\t\x7f\x1f .mk")?,
+        result: Err(EntryFault::Text(TextFault::BadNumber(2))),
+    };
+    let line = print_entry(rt.alloc(), 3, &refused, true)?;
+    assert_eq!(rt;
+        line.as_slice(),
+        b"3 refused BadNumber:2 bad??? .mk\n".as_slice()
+    );
+    let text = print_survey(rt.alloc(), &[refused], false)?;
+    let survey = b"1 refused BadNumber:2 bad??? .mk\n\
+        entries 1 refused 1 none 0 one 0 several 0 unsettled 0 line 0 trials 0 search 0\n";
+    assert_eq!(rt; text.as_slice(), survey.as_slice());
+    Ok(())
+}
+
+/// A gate at which each of two jobs, with the numbers 1 and 2, waits until both have entered.
+#[derive(Drop)]
+struct Pair {
+    entered: AtomicU32,
+    saw_both: AtomicU32,
+}
+
+impl Gate for Pair {
+    fn enter(&self, number: u32) {
+        self.entered.fetch_add(number, Ordering::SeqCst);
+        for _ in 0..100_000_000u32 {
+            if self.entered.load(Ordering::SeqCst) == 3 {
+                self.saw_both.fetch_add(1, Ordering::SeqCst);
+                return;
+            }
+        }
+    }
+}
+
+const PAIR: &str = "@ one.mk\n1 1\n0\n#\n0\n@ clash.mk\n1 1\n1\n#\n0\n";
+
+fn pair_gate() -> Pair {
+    Pair {
+        entered: AtomicU32::new(0),
+        saw_both: AtomicU32::new(0),
+    }
+}
+
+#[test]
+fn surveys_grade_at_the_same_time(rt: HostRuntime) -> Result<(), Fail> {
+    let settings = settings(2, 1, false);
+    let gate = pair_gate();
+    let mut reader = Counted::new(PAIR.as_bytes());
+    let mut output = Counted::new(Vec::new(rt.alloc()));
+    run_survey(&rt, rt.alloc(), &mut reader, &mut output, &settings, &gate)?;
+    assert_eq!(rt; gate.saw_both.load(Ordering::SeqCst), 2);
+    Ok(())
+}
+
+#[test]
+fn surveys_of_entries_grade_at_the_same_time(rt: HostRuntime) -> Result<(), Fail> {
+    let settings = settings(2, 1, false);
+    let gate = pair_gate();
+    let found = entries(rt.alloc(), PAIR.as_bytes())?;
+    let mut output = Counted::new(Vec::new(rt.alloc()));
+    survey_entries(&rt, rt.alloc(), &found, &mut output, &settings, &gate)?;
+    assert_eq!(rt; gate.saw_both.load(Ordering::SeqCst), 2);
+    Ok(())
+}

@@ -1,0 +1,114 @@
+//! Growths of memory and starts of threads that are refused, each in turn.
+
+use crate::tests_answers::{EIGHT, eight_jobs};
+use crate::tests_samples::{TEN, TEN_SURVEY, settings};
+use lane_core::{Answer, Gate, OpenGate};
+use refusals::{refuse, was_refused};
+use std::process::Abort;
+use std::sync::atomic::{AtomicU32, Ordering};
+use std::test::Fail;
+use survey_core::{Counted, MOST_JOBS, ProgressGate, RunFault, collect, run_survey};
+
+/// More growths than any call here makes.
+const MOST_GROWTHS: usize = 3000;
+
+/// A gate that counts the jobs that enter.
+#[derive(Drop)]
+struct Entries {
+    count: AtomicU32,
+}
+
+impl Gate for Entries {
+    fn enter(&self, _number: u32) {
+        self.count.fetch_add(1, Ordering::SeqCst);
+    }
+}
+
+/// Asserts that eight answers stand in job order, each with its report, or without it if a growth was
+/// refused.
+fn assert_answers(rt: &impl Abort, answers: &[Answer], refused: bool) {
+    assert_eq!(rt; answers.len(), 8);
+    for (answer, (number, _, grade, spent, goal)) in answers.iter().zip(EIGHT) {
+        assert_eq!(rt; answer.number(), number);
+        assert_eq!(rt; answer.puzzle().goal_word(), goal, "puzzle {number}");
+        match answer.outcome() {
+            Ok(findings) => assert_eq!(rt; (findings.grade, findings.spent), (grade, spent)),
+            Err(_) => assert!(rt; refused, "puzzle {number}"),
+        }
+    }
+}
+
+#[test]
+fn answers_are_collected_or_refused(rt: HostRuntime) -> Result<(), Fail> {
+    let alloc = rt.alloc();
+    for growth in 1..MOST_GROWTHS {
+        let jobs = eight_jobs(alloc)?;
+        assert!(rt; jobs.len() <= MOST_JOBS);
+        let gate = Entries {
+            count: AtomicU32::new(0),
+        };
+        refuse(alloc, growth);
+        let answers = collect(&rt, alloc, jobs, 3, 1, &gate);
+        let refused = was_refused(alloc);
+        match &answers {
+            Ok(answers) => {
+                assert_answers(&rt, answers, refused);
+                assert_eq!(rt; gate.count.load(Ordering::SeqCst), 8);
+            }
+            Err(_) => {
+                assert!(rt; refused, "growth {growth}");
+                assert_eq!(rt; gate.count.load(Ordering::SeqCst), 0);
+            }
+        }
+        if !refused {
+            return Ok(());
+        }
+    }
+    assert!(rt; false, "growths without end");
+    Ok(())
+}
+
+#[test]
+fn surveys_are_written_or_refused(rt: HostRuntime) -> Result<(), Fail> {
+    let alloc = rt.alloc();
+    for growth in 1..MOST_GROWTHS {
+        let mut reader = Counted::new(TEN.as_bytes());
+        let mut output = Counted::new(Vec::with_capacity(alloc, 1000)?);
+        let settings = settings(3, 1, false);
+        refuse(alloc, growth);
+        let outcome = run_survey(&rt, alloc, &mut reader, &mut output, &settings, &OpenGate);
+        let refused = was_refused(alloc);
+        match outcome {
+            Ok(()) => assert_eq!(rt; output.inner.as_slice(), TEN_SURVEY.as_bytes()),
+            Err(fault) => {
+                assert!(rt; refused && output.inner.is_empty(), "growth {growth}");
+                assert!(rt; matches!(&fault, RunFault::NoMemory | RunFault::Thread));
+            }
+        }
+        if !refused {
+            return Ok(());
+        }
+    }
+    assert!(rt; false, "growths without end");
+    Ok(())
+}
+
+/// The gate takes all its memory as it is made, in one growth.
+#[test]
+fn progress_gates_are_made_or_refused(rt: HostRuntime) -> Result<(), Fail> {
+    let alloc = rt.alloc();
+    for growth in [1usize, 2] {
+        let mut text = Vec::with_capacity(alloc, 1000)?;
+        refuse(alloc, growth);
+        if let Ok(gate) = ProgressGate::new(&rt, alloc, &mut text, Some(u32::MAX)) {
+            for number in 0..7u32 {
+                gate.enter(number);
+            }
+            gate.finish();
+        }
+        let refused = was_refused(alloc);
+        assert_eq!(rt; text.len(), if refused { 0 } else { 4 * 23 + 1 });
+        assert!(rt; growth == 1 || !refused);
+    }
+    Ok(())
+}

@@ -1,0 +1,137 @@
+//! Lanes whose ends sleep and wake one another: that no wake is lost, and that a lane goes on while others
+//! sleep or are held, no contract says.
+
+use crate::tests_collect::jobs_numbered;
+use crate::tests_samples::settings;
+use lane_core::{Gate, Job, OpenGate};
+use puzzle_text::{Entry, MOST_ENTRIES, entries, read_entry};
+use solve_core::Pick;
+use std::alloc::Global;
+use std::process::Abort;
+use std::sync::Wait;
+use std::sync::atomic::{AtomicU32, Ordering};
+use std::test::Fail;
+use std::thread::Threads;
+use survey_core::{
+    Counted, MOST_JOBS, MOST_LANES, Outcome, collect, collect_one, print_survey, survey_entries,
+};
+
+const TINY: [&[u8]; 3] = [
+    b"@ one.mk\n1 1\n0\n#\n0\n",
+    b"@ clash.mk\n1 1\n1\n#\n0\n",
+    b"@ two.mk\n2 2\n1\n1\n#\n1\n1\n",
+];
+
+/// A collection of `count` tiny puzzles, whose answers differ.
+fn tiny_collection(alloc: Global, count: u32) -> Result<Vec<u8>, Fail> {
+    let mut text = Vec::new(alloc);
+    for number in 0..count {
+        text.extend_from_slice(TINY[number as usize % 3])?;
+    }
+    Ok(text)
+}
+
+/// The jobs of entries that are all puzzles.
+fn jobs_of(alloc: Global, entries: &[Entry<'_>]) -> Result<Vec<Job>, Fail> {
+    let mut jobs = Vec::new(alloc);
+    for (entry, number) in entries.iter().zip(1u32..) {
+        let puzzle = read_entry(alloc, entry).ok().ok_or("puzzle")?;
+        jobs.push(Job::new(number, puzzle, 1000, Pick::First))?;
+    }
+    Ok(jobs)
+}
+
+/// The survey of entries that are all puzzles, graded on one thread.
+fn one_thread_survey(alloc: Global, entries: &[Entry<'_>]) -> Result<Vec<u8>, Fail> {
+    let answers = collect_one(alloc, jobs_of(alloc, entries)?);
+    let mut outcomes = Vec::new(alloc);
+    for (entry, answer) in entries.iter().zip(answers.ok().ok_or("memory")?) {
+        outcomes.push(Outcome {
+            name: Vec::from_slice(alloc, entry.name)?,
+            result: Ok(answer),
+        })?;
+    }
+    if outcomes.len() > MOST_ENTRIES {
+        return Err("too many".into());
+    }
+    Ok(print_survey(alloc, &outcomes, false)?)
+}
+
+/// Surveys the entries over `lanes` lanes, with rings of 1, 2 and 8, twice each.
+fn assert_surveys(
+    rt: &(impl Threads + Wait + Sync + Abort + AllocGlobal),
+    entries: &[Entry<'_>],
+    lanes: u16,
+    wanted: &[u8],
+) -> Result<(), Fail> {
+    for ring in [1u16, 2, 8, 8, 2, 1] {
+        let mut output = Counted::new(Vec::new(rt.alloc()));
+        let settings = settings(lanes, ring, false);
+        survey_entries(rt, rt.alloc(), entries, &mut output, &settings, &OpenGate)?;
+        assert_eq!(rt;
+            output.inner.as_slice(),
+            wanted,
+            "{lanes} lanes, rings of {ring}"
+        );
+    }
+    Ok(())
+}
+
+#[test]
+fn surveys_of_tiny_puzzles_end_alike(rt: HostRuntime) -> Result<(), Fail> {
+    for count in 0..21u32 {
+        let collection = tiny_collection(rt.alloc(), count)?;
+        let found = entries(rt.alloc(), &collection)?;
+        let wanted = one_thread_survey(rt.alloc(), &found)?;
+        for lanes in 1..=MOST_LANES {
+            assert_surveys(&rt, &found, lanes, &wanted)?;
+        }
+    }
+    Ok(())
+}
+
+const MOST_TURNS: u32 = 100_000_000;
+
+/// A gate at which job 0 waits until as many jobs as wanted have entered that are dealt to other lanes, of
+/// four.
+#[derive(Drop)]
+struct HoldsFirstLane {
+    wanted: u32,
+    others: AtomicU32,
+    saw_all: AtomicU32,
+}
+
+impl Gate for HoldsFirstLane {
+    fn enter(&self, number: u32) {
+        if number % 4 > 0 {
+            self.others.fetch_add(1, Ordering::SeqCst);
+            return;
+        }
+        if number > 0 {
+            return;
+        }
+        for _ in 0..MOST_TURNS {
+            if self.others.load(Ordering::SeqCst) == self.wanted {
+                self.saw_all.fetch_add(1, Ordering::SeqCst);
+                return;
+            }
+        }
+    }
+}
+
+#[test]
+fn lanes_go_on_while_one_is_held(rt: HostRuntime) -> Result<(), Fail> {
+    for ring in [1u16, 2, 8] {
+        let jobs = jobs_numbered(rt.alloc(), 200)?;
+        assert!(rt; jobs.len() <= MOST_JOBS);
+        let gate = HoldsFirstLane {
+            wanted: 150,
+            others: AtomicU32::new(0),
+            saw_all: AtomicU32::new(0),
+        };
+        let answers = collect(&rt, rt.alloc(), jobs, 4, ring, &gate)?;
+        assert_eq!(rt; answers.len(), 200);
+        assert_eq!(rt; gate.saw_all.load(Ordering::SeqCst), 1);
+    }
+    Ok(())
+}

@@ -1,0 +1,224 @@
+//! Readers and writers that fail in mid-stream.
+
+ghost use Rattle.std.specs.Prelude.{◌≡◌};
+ghost use Rattle.survey_core.specs.Counted.{fault_count};
+
+use crate::tests_samples::{DEMO, DEMO_SURVEY, NOTHING, settings};
+use lane_core::OpenGate;
+use std::alloc::Global;
+use std::io;
+use std::io::{ErrorKind, Read, Write};
+use std::process::Abort;
+use std::sync::Wait;
+use std::thread::Threads;
+use survey_core::{Counted, RunFault, run_survey};
+
+/// Gives its bytes in pieces, and fails at the call of that number, from 1.
+#[derive(Drop)]
+struct FailingReader<'a> {
+    rest: &'a [u8],
+    piece: usize,
+    calls_left: usize,
+}
+
+impl<'a> Read for FailingReader<'a> {
+    fn read(&mut self, buffer: &mut [u8]) -> io::Result<usize> {
+        self.calls_left = self.calls_left.saturating_sub(1);
+        if self.calls_left == 0 {
+            return Err(io::Error::from(ErrorKind::Interrupted));
+        }
+        let count = self.piece.min(self.rest.len()).min(buffer.len());
+        let (first, rest) = self.rest.split_at(count);
+        buffer[..count].copy_from_slice(first);
+        self.rest = rest;
+        Ok(count)
+    }
+}
+
+fn failing_reader(text: &'static str, piece: usize, calls: usize) -> Counted<FailingReader<'static>>
+    ensures { fault_count result ≡ 0 }
+{
+    Counted::new(FailingReader {
+        rest: text.as_bytes(),
+        piece,
+        calls_left: calls,
+    })
+}
+
+/// Takes `room` bytes, in pieces, and then fails, or takes nothing.
+#[derive(Drop)]
+struct FailingWriter {
+    taken: Vec<u8>,
+    piece: usize,
+    room: usize,
+    takes_nothing: bool,
+    flush_fails: bool,
+    is_interrupted: bool,
+}
+
+impl FailingWriter {
+    /// What a call that fails says.
+    fn error(&self) -> io::Error {
+        io::Error::from(if self.is_interrupted {
+            ErrorKind::Interrupted
+        } else {
+            ErrorKind::BrokenPipe
+        })
+    }
+}
+
+impl Write for FailingWriter {
+    fn write(&mut self, bytes: &[u8]) -> io::Result<usize> {
+        let count = self.piece.min(self.room).min(bytes.len());
+        if count == 0 && !self.takes_nothing {
+            return Err(self.error());
+        }
+        self.taken.extend_from_slice(&bytes[..count])?;
+        self.room -= count;
+        Ok(count)
+    }
+
+    fn flush(&mut self) -> io::Result<()> {
+        if self.flush_fails {
+            return Err(self.error());
+        }
+        Ok(())
+    }
+}
+
+fn failing_writer(
+    alloc: Global,
+    piece: usize,
+    room: usize,
+    takes_nothing: bool,
+) -> Counted<FailingWriter>
+    ensures { fault_count result ≡ 0 }
+{
+    Counted::new(FailingWriter {
+        taken: Vec::new(alloc),
+        piece,
+        room,
+        takes_nothing,
+        flush_fails: false,
+        is_interrupted: false,
+    })
+}
+
+/// Surveys what the reader gives, over `lanes` lanes.
+fn survey_streams(
+    rt: &(impl Threads + Wait + Sync + AllocGlobal),
+    lanes: u16,
+    reader: &mut Counted<FailingReader<'static>>,
+    writer: &mut Counted<FailingWriter>,
+) -> Result<(), RunFault>
+    requires reading { fault_count reader.old ≡ 0 }
+    requires writing { fault_count writer.old ≡ 0 }
+{
+    let settings = settings(lanes, 1, false);
+    run_survey(rt, rt.alloc(), reader, writer, &settings, &OpenGate)
+}
+
+/// That a survey ends with `Write` once just the first `sent` bytes went out.
+fn assert_write_fails(
+    rt: &(impl Threads + Wait + Sync + Abort + AllocGlobal),
+    collection: &'static str,
+    lanes: u16,
+    writer: Counted<FailingWriter>,
+    sent: &[u8],
+)
+    requires { fault_count writer ≡ 0 }
+{
+    let mut writer = writer;
+    let mut reader = failing_reader(collection, 1000, 1000);
+    let outcome = survey_streams(rt, lanes, &mut reader, &mut writer);
+    assert_eq!(rt; outcome, Err(RunFault::Write(sent.len() as u64)));
+    assert_eq!(rt; writer.inner.taken.as_slice(), sent);
+    assert_eq!(rt; reader.faults(), 0);
+    assert_eq!(rt; writer.faults(), 1);
+}
+
+#[test]
+fn writer_fails_after_some_bytes(rt: HostRuntime) {
+    for takes_nothing in [false, true] {
+        for room in 0..NOTHING.len() {
+            let writer = failing_writer(rt.alloc(), 3, room, takes_nothing);
+            assert_write_fails(&rt, "", 1, writer, &NOTHING.as_bytes()[..room]);
+        }
+    }
+}
+
+#[test]
+fn writer_fails_at_each_call(rt: HostRuntime) {
+    assert_eq!(rt; DEMO_SURVEY.len(), 119);
+    for lanes in [1u16, 4] {
+        for room in 0..DEMO_SURVEY.len() {
+            let writer = failing_writer(rt.alloc(), 1, room, false);
+            assert_write_fails(&rt, DEMO, lanes, writer, &DEMO_SURVEY.as_bytes()[..room]);
+        }
+    }
+}
+
+#[test]
+fn writer_takes_a_line_and_then_nothing(rt: HostRuntime) {
+    for lanes in [1u16, 4] {
+        let writer = failing_writer(rt.alloc(), 1000, 39, true);
+        let line = b"1 5x10 one line 50 50 0 meets demo.non\n";
+        assert_write_fails(&rt, DEMO, lanes, writer, line);
+    }
+}
+
+#[test]
+fn flush_fails_at_the_end(rt: HostRuntime) {
+    for lanes in [1u16, 4] {
+        for (collection, survey) in [("", NOTHING), (DEMO, DEMO_SURVEY)] {
+            let mut writer = failing_writer(rt.alloc(), 3, 1000, false);
+            writer.inner.flush_fails = true;
+            assert_write_fails(&rt, collection, lanes, writer, survey.as_bytes());
+        }
+    }
+}
+
+#[test]
+fn interrupted_writes_and_flushes_fail(rt: HostRuntime) {
+    let line = b"1 5x10 one line 50 50 0 meets demo.non\n";
+    for lanes in [1u16, 4] {
+        let mut writer = failing_writer(rt.alloc(), 1, line.len(), false);
+        writer.inner.is_interrupted = true;
+        assert_write_fails(&rt, DEMO, lanes, writer, line);
+        let mut writer = failing_writer(rt.alloc(), 3, 1000, false);
+        writer.inner.is_interrupted = true;
+        writer.inner.flush_fails = true;
+        assert_write_fails(&rt, DEMO, lanes, writer, DEMO_SURVEY.as_bytes());
+    }
+}
+
+/// That a survey ends as wanted if the reader fails at this call, and has written this.
+fn assert_read(
+    rt: &(impl Threads + Wait + Sync + Abort + AllocGlobal),
+    lanes: u16,
+    piece: usize,
+    call: usize,
+    wanted: Result<(), RunFault>,
+    written: &str,
+) {
+    let mut reader = failing_reader(DEMO, piece, call);
+    let mut writer = failing_writer(rt.alloc(), 1000, 1000, false);
+    let outcome = survey_streams(rt, lanes, &mut reader, &mut writer);
+    assert_eq!(rt; outcome, wanted, "{piece} bytes a call, call {call}");
+    assert_eq!(rt; writer.inner.taken.as_slice(), written.as_bytes());
+    assert_eq!(rt; reader.faults(), u32::from(outcome.is_err()));
+    assert_eq!(rt; writer.faults(), 0);
+}
+
+/// The collection has 168 bytes, and one call more gives the end.
+#[test]
+fn reader_fails_at_each_call(rt: HostRuntime) {
+    for (piece, calls) in [(1usize, 169usize), (7, 25)] {
+        for lanes in [1u16, 4] {
+            for call in 1..calls + 1 {
+                assert_read(&rt, lanes, piece, call, Err(RunFault::Read), "");
+            }
+            assert_read(&rt, lanes, piece, calls + 1, Ok(()), DEMO_SURVEY);
+        }
+    }
+}

@@ -1,0 +1,380 @@
+//! Tests of what no contract says: that each call succeeds with ample memory,
+//! and that the definitions say what the formats mean, by texts whose answers were worked out by hand.
+
+use grid_core::NoMemory;
+use puzzle_text::*;
+use std::alloc::Global;
+use std::test::*;
+
+/// The puzzle that an entry says, as a text in .non, or the word of its fault.
+fn said(alloc: Global, name: &[u8], body: &[u8]) -> Result<Vec<u8>, NoMemory> {
+    match read_entry(alloc, &Entry { name, body }) {
+        Ok(puzzle) => write_non(alloc, &puzzle),
+        Err(fault) => fault_text(alloc, &fault),
+    }
+}
+
+/// Whether each entry says what stands beside it.
+fn all_said(alloc: Global, rows: &[(&[u8], &[u8], &[u8])]) -> bool {
+    for (name, body, expected) in rows {
+        match said(alloc, name, body) {
+            Ok(text) if text.as_slice() == *expected => {}
+            _ => return false,
+        }
+    }
+    true
+}
+
+/// A text, and another one `count` times.
+pub(crate) fn repeated(
+    alloc: Global,
+    front: &[u8],
+    piece: &[u8],
+    count: usize,
+) -> Result<Vec<u8>, Fail> {
+    let mut text = Vec::from_slice(alloc, front).ok().ok_or("memory")?;
+    for _ in 0..count {
+        text.extend_from_slice(piece).ok().ok_or("memory")?;
+    }
+    Ok(text)
+}
+
+const FIT: &[u8] = b"width 4\nheight 2\n\nrows\n2\n1,1\n\ncolumns\n1\n1\n1\n1\n";
+
+const ONE: &[u8] = b"width 1\nheight 1\n\nrows\n1\n\ncolumns\n1\n";
+
+const DEMO: &[u8] =
+    b"title \"Demo\"\nwidth 5\nheight 10\n\nrows\n2\n2,1\n1,1\n3\n1,1\n1,1\n2\n1,1\n1,2\n2\n\ncolumns\n2,1\n2,1,3\n7\n1,3\n2,1\n\ngoal \"01100011010010101110101001010000110010100101111000\"\n";
+
+#[test]
+fn puzzles_in_each_format(rt: HostRuntime) {
+    let rows: [(&[u8], &[u8], &[u8]); 10] = [
+        (b"demo.non", DEMO, DEMO),
+        (
+            b"old.mk",
+            b"1 1\n129\n#\n1\n",
+            b"width 1\nheight 1\n\nrows\n129\n\ncolumns\n1\n",
+        ),
+        (
+            b"one.mk",
+            b"1 1\n0\n#\n0\n",
+            b"width 1\nheight 1\n\nrows\n0\n\ncolumns\n0\n",
+        ),
+        (b"pair.mk", b"2 4\n2\n1 1\n#\n1\n1\n1\n1\n", FIT),
+        (b"PAIR.Mk", b"4 2\n2\n1 1\n#\n1\n1\n1\n1\n", FIT),
+        (b"fit.nin", b"2 4\n2\n1 1\n1\n1\n1\n1\n", FIT),
+        (b"fit.nin", b"4 2\n2\n1 1\n1\n1\n1\n1\n", FIT),
+        (
+            b"a.nin",
+            b"2 1\n1\n1\n2\n",
+            b"width 1\nheight 2\n\nrows\n1\n1\n\ncolumns\n2\n",
+        ),
+        (b"a.nin", b" 0001,1\t\n\n1\n1", ONE),
+        (
+            b"crlf.non",
+            b"width 2\r\nheight 3\r\nrows\r\n1\r\n\r\n2\r\ncolumns\r\n1,1\r\n1\r\n",
+            b"width 2\nheight 3\n\nrows\n1\n0\n2\n\ncolumns\n1,1\n1\n",
+        ),
+    ];
+    assert!(rt; all_said(rt.alloc(), &rows));
+}
+
+#[test]
+fn refused_texts(rt: HostRuntime) {
+    let rows: [(&[u8], &[u8], &[u8]); 14] = [
+        (b"what.txt", b"", b"UnknownFormat"),
+        (b"a.nin", b"", b"NoSize"),
+        (b"a.non", b"width 2\nrows\n1\ncolumns\n1\n0\n", b"NoSize"),
+        (b"a.non", b"width 0\nheight 1\n", b"BadSize"),
+        (b"a.mk", b"257 256\n", b"BadSize"),
+        (b"a.mk", b"1 1\n1\n1\n", b"NoSection"),
+        (
+            b"a.non",
+            b"7\nwidth 1\nheight 1\nwidth 1\nrows\n1\ncolumns\n1\n",
+            b"BadLine:1",
+        ),
+        (
+            b"a.non",
+            b"width 1\nheight 1\nwidth 1\nrows\n1\ncolumns\n1\n",
+            b"Twice:3",
+        ),
+        (
+            b"a.non",
+            b"width 2\nheight 1\nrows\n1\ncolumns\n",
+            b"BadCount",
+        ),
+        (b"a.mk", b"2 2\n2 x\n1\n#\n1\n1\n", b"BadNumber:2"),
+        (b"a.mk", b"1 1\n0 1\n#\n1\n", b"BadNumber:2"),
+        (b"old.mk", b"1 1\n257\n#\n1\n", b"BadNumber:2"),
+        (b"a.nin", b"1 1\n1\r\r\n1\n", b"BadNumber:2"),
+        (
+            b"a.non",
+            b"width 1\nheight 1\nrows\n1\ncolumns\n1\ngoal \"10\"\n",
+            b"BadGoal:7",
+        ),
+    ];
+    assert!(rt; all_said(rt.alloc(), &rows));
+}
+
+#[test]
+fn rules_of_non(rt: HostRuntime) {
+    let rows: [(&[u8], &[u8], &[u8]); 14] = [
+        // A comment belongs to no section.
+        (
+            b".non",
+            b"  # 7\nwidth 1\nheight 1\nrows\n# 7\n1\ncolumns\n1\n",
+            ONE,
+        ),
+        // Other keywords are skipped, and end a section.
+        (
+            b".non",
+            b"version 2\nwidth 1\nheight 1\nrows\n1\ncolumns\n1\ncolor x\n\n",
+            ONE,
+        ),
+        (
+            b".non",
+            b"width 1\nheight 1\nrows\n1\nversion 2\n7\ncolumns\n1\n",
+            b"BadLine:6",
+        ),
+        // Letters in either case, and a number beside its keyword.
+        (b".non", b"WIDTH1\nHeight 1\nROWS x\n1\nCoLuMnS\n1\n", ONE),
+        // The columns first.
+        (b".non", b"columns\n1\nrows\n1\nheight 1\nwidth 1\n", ONE),
+        (
+            b".non",
+            b"columns\n0 1\nrows\n0 1\nheight 1\nwidth 1\n",
+            b"BadNumber:2",
+        ),
+        // No quotes, one, none and no text, three, and a second text.
+        (
+            b".non",
+            b"by a b\nwidth 1\nheight 1\nrows\n1\ncolumns\n1\n",
+            b"by \"a b\"\nwidth 1\nheight 1\n\nrows\n1\n\ncolumns\n1\n",
+        ),
+        (
+            b".non",
+            b"by \"a\nwidth 1\nheight 1\nrows\n1\ncolumns\n1\n",
+            b"by \"\"a\"\nwidth 1\nheight 1\n\nrows\n1\n\ncolumns\n1\n",
+        ),
+        (
+            b".non",
+            b"by\nwidth 1\nheight 1\nrows\n1\ncolumns\n1\n",
+            b"by \"\"\nwidth 1\nheight 1\n\nrows\n1\n\ncolumns\n1\n",
+        ),
+        (
+            b".non",
+            b"by x\"a\"b\" y\nwidth 1\nheight 1\nrows\n1\ncolumns\n1\n",
+            b"by \"a\"b\"\nwidth 1\nheight 1\n\nrows\n1\n\ncolumns\n1\n",
+        ),
+        (
+            b".non",
+            b"by \"a\"\nby \"b\"\nwidth 1\nheight 1\nrows\n1\ncolumns\n1\n",
+            b"by \"a\"\nwidth 1\nheight 1\n\nrows\n1\n\ncolumns\n1\n",
+        ),
+        // A second goal.
+        (
+            b".non",
+            b"width 1\nheight 1\nrows\n1\ncolumns\n1\ngoal 1\ngoal x\n",
+            b"width 1\nheight 1\n\nrows\n1\n\ncolumns\n1\n\ngoal \"1\"\n",
+        ),
+        // A line behind a section that the goal ends, and a second height.
+        (
+            b".non",
+            b"width 1\nheight 1\nrows\n1\ncolumns\n1\ngoal 1\n1\n",
+            b"BadLine:8",
+        ),
+        (
+            b".non",
+            b"width 1\nheight 1\nheight 2\nrows\n1\ncolumns\n1\nrows\n",
+            b"Twice:3",
+        ),
+    ];
+    assert!(rt; all_said(rt.alloc(), &rows));
+}
+
+#[test]
+fn odd_lines(rt: HostRuntime) {
+    let rows: [(&[u8], &[u8], &[u8]); 7] = [
+        // What follows a second section line is that section's.
+        (
+            b".non",
+            b"width 1\nheight 1\nrows\n1\nrows\n7\ncolumns\n1\n",
+            b"Twice:5",
+        ),
+        // Commas alone: the empty clue in a section, no size, and belonging nowhere.
+        (
+            b".non",
+            b"width 1\nheight 1\nrows\n,,\ncolumns\n,\n",
+            b"width 1\nheight 1\n\nrows\n0\n\ncolumns\n0\n",
+        ),
+        (b".nin", b",\n1 1\n1\n1\n", b"NoSize"),
+        (
+            b".non",
+            b",\nwidth 1\nheight 1\nrows\n1\ncolumns\n1\n",
+            b"BadLine:1",
+        ),
+        // A first line that begins with the mark between rows and columns is the line of the sizes.
+        (b".nin", b"#\n1 1\n", b"NoSize"),
+        (b".mk", b"# 5\n1\n#\n1\n", b"BadSize"),
+        // Only a carriage return at the very end is dropped.
+        (b".nin", b"1 1\n1\r \n1\n", b"BadNumber:2"),
+    ];
+    assert!(rt; all_said(rt.alloc(), &rows));
+}
+
+#[test]
+fn each_front_of_a_text(rt: HostRuntime) {
+    let text = b"1 2\n1\n#\n1\n2\n";
+    for len in 0..=text.len() {
+        let (front, _) = text.split_at(len);
+        let expected: &[u8] = match len {
+            0..=2 => b"NoSize",
+            3..=6 => b"NoSection",
+            7..=10 => b"BadCount",
+            _ => b"width 2\nheight 1\n\nrows\n1\n\ncolumns\n1\n2\n",
+        };
+        assert!(rt;
+            all_said(rt.alloc(), &[(b".mk", front, expected)]),
+            "at {len}"
+        );
+    }
+}
+
+/// A text in .mk that begins with this line and has as many clues of rows and of columns, each `1`.
+fn square(alloc: Global, sizes: &[u8], side: usize) -> Result<Vec<u8>, Fail> {
+    let mut text = repeated(alloc, sizes, b"1\n", side)?;
+    text.extend_from_slice(b"#\n").ok().ok_or("memory")?;
+    let columns = repeated(alloc, b"", b"1\n", side)?;
+    text.extend_from_slice(&columns).ok().ok_or("memory")?;
+    Ok(text)
+}
+
+#[test]
+fn sides_up_to_256(rt: HostRuntime) -> Result<(), Fail> {
+    let wide = square(rt.alloc(), b"129 128\n", 128)?;
+    let over = square(rt.alloc(), b"256 257\n", 256)?;
+    let rows: [(&[u8], &[u8], &[u8]); 2] = [
+        (b"a.mk", &wide, b"BadCount"),
+        (b"a.mk", &over, b"BadSize"),
+    ];
+    assert!(rt; all_said(rt.alloc(), &rows));
+    let most = square(rt.alloc(), b"256 256\n", 256)?;
+    let puzzle = read_mk(rt.alloc(), &most).ok().ok_or("a puzzle")?;
+    assert!(rt; puzzle.width() == 256 && puzzle.height() == 256);
+    let again = write_mk(rt.alloc(), &puzzle).ok().ok_or("memory")?;
+    assert_eq!(rt; again.as_slice(), most.as_slice());
+    Ok(())
+}
+
+#[test]
+fn texts_up_to_1048576_bytes(rt: HostRuntime) -> Result<(), Fail> {
+    let feeds = repeated(rt.alloc(), b"", b"\n", 1_048_576)?;
+    let more = repeated(rt.alloc(), b"", b"\n", 1_048_577)?;
+    let front = b"1 1\n1\n#\n1\n";
+    let most = repeated(rt.alloc(), front, b" ", 1_048_566)?;
+    let over = repeated(rt.alloc(), front, b" ", 1_048_567)?;
+    let rows: [(&[u8], &[u8], &[u8]); 8] = [
+        (b".non", &more, b"TooLong"),
+        (b".mk", &more, b"TooLong"),
+        (b".nin", &more, b"TooLong"),
+        (b".non", &feeds, b"NoSize"),
+        (b".mk", &feeds, b"NoSize"),
+        (b".nin", &feeds, b"NoSize"),
+        (b".mk", &most, ONE),
+        (b".mk", &over, b"TooLong"),
+    ];
+    assert!(rt; all_said(rt.alloc(), &rows));
+    Ok(())
+}
+
+#[test]
+fn long_texts(rt: HostRuntime) -> Result<(), Fail> {
+    let front = b"width 1\nheight 1\nrows\n1\ncolumns\n1\ntitle ";
+    let fits = repeated(rt.alloc(), front, b"a", 65_536)?;
+    let title = repeated(rt.alloc(), front, b"a", 65_537)?;
+    let mut written = repeated(rt.alloc(), b"title \"", b"a", 65_536)?;
+    written.extend_from_slice(b"\"\n").ok().ok_or("memory")?;
+    written.extend_from_slice(ONE).ok().ok_or("memory")?;
+    let front = b"width 1\nheight 1\nrows\n1\ncolumns\n1\ngoal ";
+    let goal = repeated(rt.alloc(), front, b"1", 65_537)?;
+    let rows: [(&[u8], &[u8], &[u8]); 3] = [
+        (b".non", &fits, &written),
+        (b".non", &title, b"BadLine:7"),
+        (b".non", &goal, b"BadGoal:7"),
+    ];
+    assert!(rt; all_said(rt.alloc(), &rows));
+    Ok(())
+}
+
+#[test]
+fn written_texts(rt: HostRuntime) -> Result<(), Fail> {
+    let fit = read_non(rt.alloc(), FIT).ok().ok_or("a puzzle")?;
+    let mk = write_mk(rt.alloc(), &fit).ok().ok_or("memory")?;
+    assert_eq!(rt; mk.as_slice(), b"2 4\n2\n1 1\n#\n1\n1\n1\n1\n".as_slice());
+    let nin = write_nin(rt.alloc(), &fit).ok().ok_or("memory")?;
+    assert_eq!(rt; nin.as_slice(), b"4 2\n2\n1 1\n1\n1\n1\n1\n".as_slice());
+    let flat = read_mk(rt.alloc(), b"1 2\n1\n#\n1\n2\n")
+        .ok()
+        .ok_or("a puzzle")?;
+    assert!(rt; matches!(write_nin(rt.alloc(), &flat), Err(WriteFault::Ambiguous)));
+    let mk = write_mk(rt.alloc(), &flat).ok().ok_or("memory")?;
+    assert_eq!(rt; mk.as_slice(), b"1 2\n1\n#\n1\n2\n".as_slice());
+    Ok(())
+}
+
+#[test]
+fn collections(rt: HostRuntime) -> Result<(), Fail> {
+    let found = entries(rt.alloc(), b"\n@ a.mk \r\n1 1\n@b\n\n@\tb.nin")
+        .ok()
+        .ok_or("entries")?;
+    assert_eq!(rt; found.len(), 2);
+    assert_eq!(rt; found[0].name, b"a.mk".as_slice());
+    assert_eq!(rt; found[0].body, b"1 1\n@b\n\n".as_slice());
+    assert_eq!(rt; found[1].name, b"b.nin".as_slice());
+    assert_eq!(rt; found[1].body, b"".as_slice());
+    Ok(())
+}
+
+#[test]
+fn refused_collections(rt: HostRuntime) -> Result<(), Fail> {
+    let most = repeated(rt.alloc(), b"", b"@ a.mk\n", 10_000)?;
+    let more = repeated(rt.alloc(), b"", b"@ a.mk\n", 10_001)?;
+    let feeds = repeated(rt.alloc(), b"", b"\n", 16_777_216)?;
+    let longer = repeated(rt.alloc(), b"", b"\n", 16_777_217)?;
+    let rows: [(&[u8], Option<CollectionFault>); 11] = [
+        (b"", None),
+        (b"x\n", Some(CollectionFault::Stray(1))),
+        (b"x\n@ a.mk\n", Some(CollectionFault::Stray(1))),
+        (b"@ a.mk\n@\n", Some(CollectionFault::Stray(2))),
+        (b"@ a.mk\n@\r\n", Some(CollectionFault::Stray(2))),
+        (b"@ a.mk\n@\r", Some(CollectionFault::Stray(2))),
+        (b"@ a.mk\n@\rb\n", None),
+        (&most, None),
+        (&more, Some(CollectionFault::TooMany)),
+        (&feeds, None),
+        (&longer, Some(CollectionFault::TooLong)),
+    ];
+    for (text, fault) in &rows {
+        assert_eq!(rt; entries(rt.alloc(), text).err(), *fault);
+    }
+    Ok(())
+}
+
+#[test]
+fn faults_in_sentences(rt: HostRuntime) -> Result<(), Fail> {
+    let bad_line = format!(in rt.alloc(); "{}", TextFault::BadLine(3))?;
+    assert_eq!(rt; bad_line.as_str(), "line 3 belongs nowhere or is too long");
+    let bad_count = format!(in rt.alloc(); "{}", EntryFault::Text(TextFault::BadCount))?;
+    assert_eq!(rt;
+        bad_count.as_str(),
+        "the number of clue lines does not fit the size"
+    );
+    let stray = format!(in rt.alloc(); "{}", CollectionFault::Stray(1))?;
+    assert_eq!(rt; stray.as_str(), "line 1 belongs to no entry or names none");
+    let ambiguous = format!(in rt.alloc(); "{}", WriteFault::Ambiguous)?;
+    assert_eq!(rt;
+        ambiguous.as_str(),
+        "the text would be read with the sizes the other way round"
+    );
+    Ok(())
+}

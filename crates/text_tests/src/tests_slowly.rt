@@ -1,0 +1,174 @@
+//! Each reader's answer is that of its slow reader: on the fronts of five texts,
+//! on these with one byte replaced or put in, on a front of one with an end of another, and on random texts.
+
+use crate::tests_slow::agree;
+use crate::tests_slow_mk::slow_mk;
+use crate::tests_slow_nin::slow_nin;
+use crate::tests_slow_non::slow_non;
+use puzzle_text::{read_mk, read_nin, read_non};
+use std::alloc::{AllocError, Global};
+use std::process::Abort;
+use std::test::Fail;
+
+/// The demonstration puzzle with its goal, one that trials solve, a small one,
+/// and one whose text in .nin is ambiguous, in both formats.
+const TEXTS: [&[u8]; 5] = [
+    b"# a comment\ntitle \"Demo\"\nwidth 5\nheight 10\n\nrows\n2\n2,1\n1,1\n3\n1,1\n1,1\n2\n1,1\n1,2\n2\n\ncolumns\n2,1\n2,1,3\n7\n1,3\n2,1\n\ngoal \"01100011010010101110101001010000110010100101111000\"\n",
+    b"2 4\n2\n1 1\n#\n1\n1\n1\n1\n",
+    b"2 4\n2\n1 1\n1\n1\n1\n1\n",
+    b"1 2\n1\n#\n1\n2\n",
+    b"2 1\n1\n1\n2\n",
+];
+
+/// Whether the three readers answer what the slow ones answer.
+fn all_agree(alloc: Global, text: &[u8]) -> bool {
+    agree(&read_non(alloc, text), &slow_non(alloc, text))
+        && agree(&read_mk(alloc, text), &slow_mk(alloc, text))
+        && agree(&read_nin(alloc, text), &slow_nin(alloc, text))
+}
+
+/// Asserts that the three readers answer what the slow ones answer.
+fn assert_agree(rt: &impl Abort, alloc: Global, text: &[u8]) {
+    assert!(rt; all_agree(alloc, text), "on {text:?}");
+}
+
+#[test]
+fn fronts_agree(rt: HostRuntime) {
+    for text in TEXTS {
+        for len in 0..=text.len() {
+            assert_agree(&rt, rt.alloc(), &text[..len]);
+        }
+    }
+}
+
+/// Asserts the same of a text with each of its bytes replaced by this one.
+fn assert_replaced(
+    rt: &impl Abort,
+    alloc: Global,
+    text: &[u8],
+    byte: u8,
+) -> Result<(), AllocError> {
+    for place in 0..text.len() {
+        let mut changed = text.to_vec(alloc)?;
+        changed[place] = byte;
+        assert_agree(rt, alloc, &changed);
+    }
+    Ok(())
+}
+
+#[test]
+fn replaced_bytes_agree(rt: HostRuntime) -> Result<(), Fail> {
+    for text in TEXTS {
+        for byte in b"0x#\"\n\r\xff" {
+            assert_replaced(&rt, rt.alloc(), text, *byte)?;
+        }
+    }
+    Ok(())
+}
+
+/// Asserts the same of a text with this byte put in at each place.
+fn assert_put_in(rt: &impl Abort, alloc: Global, text: &[u8], byte: u8) -> Result<(), AllocError> {
+    for place in 0..=text.len() {
+        let mut changed = text.to_vec(alloc)?;
+        changed.insert(place, byte)?;
+        assert_agree(rt, alloc, &changed);
+    }
+    Ok(())
+}
+
+#[test]
+fn bytes_put_in_agree(rt: HostRuntime) -> Result<(), Fail> {
+    for text in TEXTS {
+        for byte in b"-+0x#\" ,\t\n\r\xff" {
+            assert_put_in(&rt, rt.alloc(), text, *byte)?;
+        }
+    }
+    Ok(())
+}
+
+/// Whether a place in a text comes after a line feed.
+fn is_after_feed(text: &[u8], place: usize) -> bool {
+    match text.get(place.wrapping_sub(1)) {
+        Some(byte) => *byte == b'\n',
+        None => false,
+    }
+}
+
+/// Asserts the same of a text with each end of another that begins after a line feed.
+fn assert_with_ends(
+    rt: &impl Abort,
+    alloc: Global,
+    front: &[u8],
+    other: &[u8],
+) -> Result<(), AllocError> {
+    for place in 0..=other.len() {
+        if is_after_feed(other, place) {
+            let mut text = front.to_vec(alloc)?;
+            text.extend_from_slice(&other[place..])?;
+            assert_agree(rt, alloc, &text);
+        }
+    }
+    Ok(())
+}
+
+/// Asserts the same of each front of a text that ends after a line feed, with each such end of another.
+fn assert_joined(
+    rt: &impl Abort,
+    alloc: Global,
+    text: &[u8],
+    other: &[u8],
+) -> Result<(), AllocError> {
+    for len in 0..=text.len() {
+        if is_after_feed(text, len) {
+            assert_with_ends(rt, alloc, &text[..len], other)?;
+        }
+    }
+    Ok(())
+}
+
+#[test]
+fn joined_texts_agree(rt: HostRuntime) -> Result<(), Fail> {
+    for (place, text) in TEXTS.iter().enumerate() {
+        for (other_place, other) in TEXTS.iter().enumerate() {
+            if place != other_place {
+                assert_joined(&rt, rt.alloc(), text, other)?;
+            }
+        }
+    }
+    Ok(())
+}
+
+/// What random texts are made of.
+const BYTES: [u8; 24] = *b"012359 \t,\r\n\n#\"@-wrcgRx\0\xff";
+
+/// A generator of pseudorandom numbers.
+#[derive(Drop)]
+struct Draws(u64);
+
+impl Draws {
+    fn draw(&mut self) -> u64 {
+        self.0 = self
+            .0
+            .wrapping_mul(6_364_136_223_846_793_005)
+            .wrapping_add(1_442_695_040_888_963_407);
+        self.0 >> 33
+    }
+}
+
+fn random_text(alloc: Global, draws: &mut Draws) -> Result<Vec<u8>, AllocError> {
+    let mut text = Vec::new(alloc);
+    for _ in 0..draws.draw() % 200 {
+        text.push(BYTES[(draws.draw() % 24) as usize])?;
+    }
+    Ok(text)
+}
+
+#[test]
+fn random_texts_agree(rt: HostRuntime) -> Result<(), Fail> {
+    let mut draws = Draws(1);
+    for _ in 0..10_000 {
+        let text = random_text(rt.alloc(), &mut draws)?;
+        assert_agree(&rt, rt.alloc(), &text);
+    }
+    Ok(())
+}
