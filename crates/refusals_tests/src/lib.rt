@@ -1,0 +1,5 @@
+//! Tests of `refusals`.
+#![tactic(auto)]
+
+#[cfg(test)]
+mod tests;
