@@ -5,6 +5,7 @@ ghost use Rattle.grid_core.specs.PartialGrid.{IsSize};
 
 use grid_core::*;
 use std::alloc::Global;
+use std::fmt::Display;
 use std::test::Fail;
 
 const WIDTH: u16 = 5;
@@ -122,6 +123,25 @@ fn copies_equal_their_sources(rt: HostRuntime) -> Result<(), Fail> {
         puzzle.col_clue(2).numbers() == [7].as_slice(),
         "a column's clue"
     );
+    Ok(())
+}
+
+#[test]
+fn the_greatest_puzzle_is_copied(rt: HostRuntime) -> Result<(), Fail> {
+    let alloc = rt.alloc();
+    let ones: &[u16] = &[1; 128];
+    let lists = [ones; 256];
+    let rows = clues_of(alloc, &lists).ok_or("rows")?;
+    let columns = clues_of(alloc, &lists).ok_or("columns")?;
+    let mut texts = Texts::none();
+    texts.set(alloc, Field::By, &vec![in alloc; b'x'; 65_536]?)?;
+    let goal = vec![in alloc; true; 65_536]?;
+    let puzzle = Puzzle::new(256, 256, rows, columns, texts, Some(goal))?;
+    let copy = puzzle.copy(alloc)?;
+    assert!(rt; are_same_with_goal(&copy, &puzzle));
+    for clue in copy.rows() {
+        assert!(rt; clue.copy(alloc)?.numbers() == ones);
+    }
     Ok(())
 }
 
@@ -324,7 +344,7 @@ fn puzzles_are_refused_in_order(rt: HostRuntime) -> Result<(), Fail> {
         (2, 1, 1, 1, None, Some(PuzzleFault::BadCount)),
         (2, 1, 1, 2, Some(3), Some(PuzzleFault::BadGoal)),
         (2, 1, 1, 2, Some(2), None),
-        (256, 256, 256, 256, None, None),
+        (256, 256, 256, 256, Some(65_536), None),
     ];
     for (width, height, rows, columns, values, refusal) in cases {
         let (Some(rows), Some(columns)) = (
@@ -363,4 +383,32 @@ fn texts_have_limits(rt: HostRuntime) -> Result<(), Fail> {
         assert!(rt; texts.get(field).is_none());
     }
     Ok(())
+}
+
+/// Whether a fault is told by this sentence.
+fn is_told<F: Display>(alloc: Global, fault: &F, sentence: &str) -> bool {
+    match format!(in alloc; "{fault}") {
+        Ok(text) => text.as_str() == sentence,
+        Err(_) => false,
+    }
+}
+
+#[test]
+fn faults_in_sentences(rt: HostRuntime) {
+    let alloc = rt.alloc();
+    let bad_number = "a clue has at most 128 numbers, each from 1 to 256";
+    assert!(rt; is_told(alloc, &ClueFault::BadNumber, bad_number));
+    let bad_text = "a text has at most 65536 bytes and no line feed";
+    assert!(rt; is_told(alloc, &TextsFault::BadText, bad_text));
+    for (fault, sentence) in [
+        (PuzzleFault::BadSize, "a side is from 1 to 256"),
+        (PuzzleFault::BadCount, "there is one clue for each line"),
+        (PuzzleFault::BadGoal, "the goal has one value for each cell"),
+    ] {
+        assert!(rt; is_told(alloc, &fault, sentence), "{fault}");
+    }
+    let refused = "out of memory";
+    assert!(rt; is_told(alloc, &NoMemory, refused));
+    assert!(rt; is_told(alloc, &ClueFault::NoMemory, refused));
+    assert!(rt; is_told(alloc, &TextsFault::NoMemory, refused));
 }

@@ -393,7 +393,7 @@ fn runs_longer_than_the_line_are_dead(rt: HostRuntime) -> Result<(), Fail> {
 }
 
 /// The next of a row of numbers that look random.
-fn next_random(state: &mut u64) -> u64 {
+pub(crate) fn next_random(state: &mut u64) -> u64 {
     *state = state
         .wrapping_mul(6364136223846793005)
         .wrapping_add(1442695040888963407);

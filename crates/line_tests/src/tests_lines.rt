@@ -1,11 +1,12 @@
 //! Tests of single lines: of their cells, what differs between two, and a row of a grid.
 
-ghost use Rattle.std.specs.Prelude.{◌<◌};
+ghost use Rattle.std.specs.Prelude.{◌<◌, ◌≤◌};
 
-use crate::tests::is_line;
+use crate::tests::{is_line, next_random};
 use grid_core::{Cell, Clue, Grid};
 use line_core::{Line, LineOf, LineSet, Tables};
 use place_sets::{PlaceSet, Wide, spread, starts_within};
+use std::alloc::Global;
 use std::test::Fail;
 
 /// Whether these are the places at which two lines of 256 cells differ.
@@ -49,6 +50,42 @@ fn a_line_becomes_another(rt: HostRuntime) -> Result<(), Fail> {
         other.get(0) == Cell::Filled && other.get(99) == Cell::Unknown,
         "its cells"
     );
+    Ok(())
+}
+
+/// The next state of a cell, of three.
+fn next_cell(cell: Cell) -> Cell {
+    match cell {
+        Cell::Unknown => Cell::Filled,
+        Cell::Filled => Cell::Blank,
+        Cell::Blank => Cell::Unknown,
+    }
+}
+
+/// How many hashes 1,000 lines have, each of which differs from the one before in one cell.
+fn hashes<W: PlaceSet>(alloc: Global, len: u16) -> Result<usize, Fail>
+    requires { (1 ≤ len) × (len ≤ W.WIDTH) }
+{
+    let mut state = 1;
+    let mut line = LineOf::<W>::unknown(len);
+    let mut hashes = Vec::new(alloc);
+    for _ in 0..1000 {
+        let place = (next_random(&mut state) % u64::from(line.len())) as u16;
+        line.set(place, next_cell(line.get(place)));
+        let hash = line.hash();
+        if !hashes.contains(&hash) {
+            hashes.push(hash)?;
+        }
+    }
+    Ok(hashes.len())
+}
+
+#[test]
+fn unlike_lines_seldom_share_a_hash(rt: HostRuntime) -> Result<(), Fail> {
+    let alloc = rt.alloc();
+    assert!(rt; hashes::<u64>(alloc, 64)? >= 900, "64");
+    assert!(rt; hashes::<u128>(alloc, 128)? >= 900, "128");
+    assert!(rt; hashes::<Wide>(alloc, 256)? >= 900, "256");
     Ok(())
 }
 

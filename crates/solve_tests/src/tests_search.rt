@@ -215,6 +215,50 @@ fn a_search_goes_on_from_lines_and_trials(rt: HostRuntime) -> Result<(), Fail> {
     Ok(())
 }
 
+// One solution, though no line or trial settles a cell. By the first unknown cell the last guess finds it,
+// and by the most known neighbours it is found before.
+#[test]
+fn a_limit_exactly_met_leaves_one_solution(rt: HostRuntime) -> Result<(), Fail> {
+    let triple: &[u16] = &[1, 1, 1];
+    let rows: [&[u16]; 7] = [&[1, 1], &[2, 1], &[1, 2], &[2, 1], triple, triple, &[1, 1]];
+    let columns: [&[u16]; 7] = [&[2], &[2, 1], triple, &[2, 1], triple, &[1, 2], &[2]];
+    let puzzle = puzzle_of(rt.alloc(), &rows, &columns).ok_or("puzzle")?;
+    for (guesses, pick, expected) in [
+        (35, Pick::First, "search 0 0 35 unsettled"),
+        (
+            36,
+            Pick::First,
+            "search 0 0 36 one ....#.# ..##..# .#.##.. ##...#. #.#.#.. .#.#.#. ..#..#.",
+        ),
+        (
+            23,
+            Pick::Most,
+            "search 0 0 23 unsettled ....#.# ..##..# .#.##.. ##...#. #.#.#.. .#.#.#. ..#..#.",
+        ),
+        (
+            24,
+            Pick::Most,
+            "search 0 0 24 one ....#.# ..##..# .#.##.. ##...#. #.#.#.. .#.#.#. ..#..#.",
+        ),
+    ] {
+        assert_report_by(&rt, &puzzle, guesses, pick, expected);
+    }
+    Ok(())
+}
+
+// Four rows with a filled cell each and three columns with one each, which no line or trial refutes: lines do
+// once two rows are filled, since two are left for one column. So a filled guess in the first row costs two
+// more, both colours of a cell in the second row. After two such guesses, each with its blank one, lines fill
+// the first row's last cell: 3 + 1 + 3 + 1 + 2 guesses.
+#[test]
+fn a_limit_exactly_met_leaves_no_solution(rt: HostRuntime) -> Result<(), Fail> {
+    let one: &[u16] = &[1];
+    let puzzle = puzzle_of(rt.alloc(), &[one, one, one, one], &[one, one, one]).ok_or("puzzle")?;
+    assert_report(&rt, &puzzle, 9, "search 0 0 9 unsettled");
+    assert_report(&rt, &puzzle, 10, "search 0 0 10 none");
+    Ok(())
+}
+
 // Two switches, one in the corner above and one a cell above and left of the corner below: the rows and
 // columns between them are settled by lines.
 fn twin(alloc: Global) -> Option<Puzzle> {

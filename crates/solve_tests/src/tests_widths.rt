@@ -2,7 +2,8 @@
 ghost use Rattle.std.specs.Prelude.{◌≤◌};
 
 use crate::test_puzzles::puzzle_of;
-use solve_core::line_grid;
+use grid_core::Grid;
+use solve_core::{Solver, line_grid};
 use std::alloc::Global;
 use std::test::Fail;
 
@@ -48,5 +49,15 @@ fn a_number_above_the_sides_is_a_contradiction(rt: HostRuntime) -> Result<(), Fa
     assert!(rt; of_both == Some(true), "both");
     let of_none = is_contradictory(alloc, &[ONE, ONE, ONE], &[ONE, ONE, ONE]);
     assert!(rt; of_none == Some(false), "none");
+    Ok(())
+}
+
+#[test]
+fn the_largest_puzzle_is_closed(rt: HostRuntime) -> Result<(), Fail> {
+    let alloc = rt.alloc();
+    let puzzle = puzzle_of(alloc, &MANY, &MANY).ok_or("puzzle")?;
+    let mut solver = Solver::new(alloc, &puzzle)?;
+    let mut grid = Grid::unknown(alloc, puzzle.width(), puzzle.height())?;
+    assert!(rt; solver.close_lines(&mut grid) && grid.known() == 65_536);
     Ok(())
 }
