@@ -8,11 +8,13 @@ use crate::texts::{push_bytes, push_number};
 use grid_core::NoMemory;
 use std::alloc::Global;
 
-/// The word of a fault, and the number of the line that it is about, if there is one.
+/// The word of a fault, as it is printed.
 #[derive(Clone, Copy, Debug, PartialEq, Eq)]
 pub struct FaultWord {
-    name: &'static str,
-    line: Option<u32>,
+    /// The word.
+    pub name: &'static str,
+    /// The number of the line that the fault is about, if it is about one.
+    pub line: Option<u32>,
 }
 
 impl FaultWord {

@@ -4,6 +4,7 @@
 use grid_core::NoMemory;
 use puzzle_text::*;
 use std::alloc::Global;
+use std::fmt::Display;
 use std::test::*;
 
 /// The puzzle that an entry says, as a text in .non, or the word of its fault.
@@ -43,7 +44,7 @@ const FIT: &[u8] = b"width 4\nheight 2\n\nrows\n2\n1,1\n\ncolumns\n1\n1\n1\n1\n"
 
 const ONE: &[u8] = b"width 1\nheight 1\n\nrows\n1\n\ncolumns\n1\n";
 
-const DEMO: &[u8] =
+pub(crate) const DEMO: &[u8] =
     b"title \"Demo\"\nwidth 5\nheight 10\n\nrows\n2\n2,1\n1,1\n3\n1,1\n1,1\n2\n1,1\n1,2\n2\n\ncolumns\n2,1\n2,1,3\n7\n1,3\n2,1\n\ngoal \"01100011010010101110101001010000110010100101111000\"\n";
 
 #[test]
@@ -125,10 +126,10 @@ fn rules_of_non(rt: HostRuntime) {
             b"  # 7\nwidth 1\nheight 1\nrows\n# 7\n1\ncolumns\n1\n",
             ONE,
         ),
-        // Other keywords are skipped, and end a section.
+        // Other keywords are skipped, however many, and end a section.
         (
             b".non",
-            b"version 2\nwidth 1\nheight 1\nrows\n1\ncolumns\n1\ncolor x\n\n",
+            b"version 2\nwidth 1\nheight 1\nrows\n1\ncolumns\n1\ncolor x\n\na\nb\nc\nd\ne\nf\ng\nh\ni\nj\nk\n",
             ONE,
         ),
         (
@@ -240,29 +241,40 @@ fn each_front_of_a_text(rt: HostRuntime) {
     }
 }
 
-/// A text in .mk that begins with this line and has as many clues of rows and of columns, each `1`.
-fn square(alloc: Global, sizes: &[u8], side: usize) -> Result<Vec<u8>, Fail> {
-    let mut text = repeated(alloc, sizes, b"1\n", side)?;
-    text.extend_from_slice(b"#\n").ok().ok_or("memory")?;
-    let columns = repeated(alloc, b"", b"1\n", side)?;
+/// A text of these three parts, after the first and after the second as many clues, each `1`.
+fn square(alloc: Global, parts: [&[u8]; 3], side: usize) -> Result<Vec<u8>, Fail> {
+    let [front, between, end] = parts;
+    let mut text = repeated(alloc, front, b"1\n", side)?;
+    let columns = repeated(alloc, between, b"1\n", side)?;
     text.extend_from_slice(&columns).ok().ok_or("memory")?;
+    text.extend_from_slice(end).ok().ok_or("memory")?;
     Ok(text)
 }
 
 #[test]
 fn sides_up_to_256(rt: HostRuntime) -> Result<(), Fail> {
-    let wide = square(rt.alloc(), b"129 128\n", 128)?;
-    let over = square(rt.alloc(), b"256 257\n", 256)?;
-    let rows: [(&[u8], &[u8], &[u8]); 2] = [
+    let wide = square(rt.alloc(), [b"129 128\n", b"#\n", b""], 128)?;
+    let over = square(rt.alloc(), [b"256 257\n", b"#\n", b""], 256)?;
+    let mk = square(rt.alloc(), [b"256 256\n", b"#\n", b""], 256)?;
+    let nin = square(rt.alloc(), [b"256 256\n", b"", b""], 256)?;
+    let sizes = b"width 256\nheight 256\n\nrows\n";
+    let non = square(rt.alloc(), [sizes, b"\ncolumns\n", b""], 256)?;
+    let front = square(rt.alloc(), [sizes, b"\ncolumns\n", b"\ngoal \""], 256)?;
+    let mut goal = repeated(rt.alloc(), &front, b"1", 65_536)?;
+    goal.extend_from_slice(b"\"\n").ok().ok_or("memory")?;
+    let rows: [(&[u8], &[u8], &[u8]); 5] = [
         (b"a.mk", &wide, b"BadCount"),
         (b"a.mk", &over, b"BadSize"),
+        (b"a.mk", &mk, &non),
+        (b"a.nin", &nin, &non),
+        (b"a.non", &goal, &goal),
     ];
     assert!(rt; all_said(rt.alloc(), &rows));
-    let most = square(rt.alloc(), b"256 256\n", 256)?;
-    let puzzle = read_mk(rt.alloc(), &most).ok().ok_or("a puzzle")?;
-    assert!(rt; puzzle.width() == 256 && puzzle.height() == 256);
+    let puzzle = read_non(rt.alloc(), &goal).ok().ok_or("a puzzle")?;
     let again = write_mk(rt.alloc(), &puzzle).ok().ok_or("memory")?;
-    assert_eq!(rt; again.as_slice(), most.as_slice());
+    assert_eq!(rt; again.as_slice(), mk.as_slice());
+    let again = write_nin(rt.alloc(), &puzzle).ok().ok_or("memory")?;
+    assert_eq!(rt; again.as_slice(), nin.as_slice());
     Ok(())
 }
 
@@ -360,21 +372,63 @@ fn refused_collections(rt: HostRuntime) -> Result<(), Fail> {
     Ok(())
 }
 
+/// Whether a fault is told by this sentence.
+fn is_told<F: Display>(alloc: Global, fault: &F, sentence: &str) -> bool {
+    match format!(in alloc; "{fault}") {
+        Ok(text) => text.as_str() == sentence,
+        Err(_) => false,
+    }
+}
+
 #[test]
-fn faults_in_sentences(rt: HostRuntime) -> Result<(), Fail> {
-    let bad_line = format!(in rt.alloc(); "{}", TextFault::BadLine(3))?;
-    assert_eq!(rt; bad_line.as_str(), "line 3 belongs nowhere or is too long");
-    let bad_count = format!(in rt.alloc(); "{}", EntryFault::Text(TextFault::BadCount))?;
-    assert_eq!(rt;
-        bad_count.as_str(),
-        "the number of clue lines does not fit the size"
-    );
-    let stray = format!(in rt.alloc(); "{}", CollectionFault::Stray(1))?;
-    assert_eq!(rt; stray.as_str(), "line 1 belongs to no entry or names none");
-    let ambiguous = format!(in rt.alloc(); "{}", WriteFault::Ambiguous)?;
-    assert_eq!(rt;
-        ambiguous.as_str(),
-        "the text would be read with the sizes the other way round"
-    );
-    Ok(())
+fn faults_in_sentences(rt: HostRuntime) {
+    let alloc = rt.alloc();
+    for (fault, sentence) in [
+        (TextFault::TooLong, "the text has more than 1048576 bytes"),
+        (TextFault::NoSize, "the size is missing"),
+        (TextFault::BadSize, "a side is from 1 to 256"),
+        (TextFault::NoSection, "a section is missing"),
+        (
+            TextFault::BadLine(3),
+            "line 3 belongs nowhere or is too long",
+        ),
+        (TextFault::Twice(4), "line 4 repeats a keyword"),
+        (
+            TextFault::BadCount,
+            "the number of clue lines does not fit the size",
+        ),
+        (TextFault::BadNumber(2), "line 2 is no clue"),
+        (
+            TextFault::BadGoal(7),
+            "the goal of line 7 does not fit the size",
+        ),
+        (TextFault::NoMemory, "out of memory"),
+    ] {
+        assert!(rt;
+            is_told(alloc, &EntryFault::Text(fault), sentence),
+            "{fault}"
+        );
+    }
+    let unknown = "the name ends in none of .non, .mk and .nin";
+    assert!(rt; is_told(alloc, &EntryFault::UnknownFormat, unknown));
+    for (fault, sentence) in [
+        (
+            CollectionFault::TooLong,
+            "the collection has more than 16777216 bytes",
+        ),
+        (
+            CollectionFault::Stray(1),
+            "line 1 belongs to no entry or names none",
+        ),
+        (
+            CollectionFault::TooMany,
+            "the collection has more than 10000 entries",
+        ),
+        (CollectionFault::NoMemory, "out of memory"),
+    ] {
+        assert!(rt; is_told(alloc, &fault, sentence), "{fault}");
+    }
+    let ambiguous = "the text would be read with the sizes the other way round";
+    assert!(rt; is_told(alloc, &WriteFault::Ambiguous, ambiguous));
+    assert!(rt; is_told(alloc, &WriteFault::NoMemory, "out of memory"));
 }

@@ -339,8 +339,9 @@ fn numbers_are_added_or_refused(rt: HostRuntime) -> Result<(), Fail> {
     for growth in 1..3 {
         let mut text = full_text(rt.alloc())?;
         refuse(rt.alloc(), growth);
-        let answer = push_number(&mut text, 1234);
-        assert_grown(&rt, answer, was_refused(rt.alloc()), &text, b"text 1234");
+        let answer = push_number(&mut text, u64::MAX);
+        let wanted = b"text 18446744073709551615";
+        assert_grown(&rt, answer, was_refused(rt.alloc()), &text, wanted);
     }
     Ok(())
 }

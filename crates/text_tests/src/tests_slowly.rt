@@ -1,6 +1,7 @@
 //! Each reader's answer is that of its slow reader: on the fronts of five texts,
 //! on these with one byte replaced or put in, on a front of one with an end of another, and on random texts.
 
+use crate::tests::DEMO;
 use crate::tests_slow::agree;
 use crate::tests_slow_mk::slow_mk;
 use crate::tests_slow_nin::slow_nin;
@@ -13,7 +14,7 @@ use std::test::Fail;
 /// The demonstration puzzle with its goal, one that trials solve, a small one,
 /// and one whose text in .nin is ambiguous, in both formats.
 const TEXTS: [&[u8]; 5] = [
-    b"# a comment\ntitle \"Demo\"\nwidth 5\nheight 10\n\nrows\n2\n2,1\n1,1\n3\n1,1\n1,1\n2\n1,1\n1,2\n2\n\ncolumns\n2,1\n2,1,3\n7\n1,3\n2,1\n\ngoal \"01100011010010101110101001010000110010100101111000\"\n",
+    DEMO,
     b"2 4\n2\n1 1\n#\n1\n1\n1\n1\n",
     b"2 4\n2\n1 1\n1\n1\n1\n1\n",
     b"1 2\n1\n#\n1\n2\n",
