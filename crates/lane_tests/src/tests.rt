@@ -1,4 +1,4 @@
-//! Scripts of calls on one thread. Whether a ring is full or empty as an end sees it, no contract says.
+//! Jobs and lanes for scripts of calls, and tests of single calls.
 
 ghost use Rattle.std.specs.Prelude.{◌≡◌, ◌≤◌, IfOk};
 ghost use Rattle.lane_core.specs.Ends.{AreOneLane};
@@ -12,23 +12,35 @@ use std::process::Abort;
 use std::sync::atomic::{AtomicU32, Ordering};
 use std::test::Fail;
 
-/// The clue of one line, a single 1.
-fn lone_clue(alloc: Global) -> Result<Vec<Clue>, Fail> {
-    let mut clues = Vec::with_capacity(alloc, 1)?;
-    clues.push(Clue::from_numbers(alloc, &[1]).ok().ok_or("clue")?)?;
-    Ok(clues)
+/// The puzzle with one clue for all rows and one for all columns.
+pub(crate) fn puzzle_of(
+    alloc: Global,
+    width: u16,
+    height: u16,
+    row: &[u16],
+    column: &[u16],
+) -> Result<Puzzle, Fail> {
+    let mut rows = Vec::new(alloc);
+    for _ in 0..height {
+        rows.push(Clue::from_numbers(alloc, row)?)?;
+    }
+    let mut columns = Vec::new(alloc);
+    for _ in 0..width {
+        columns.push(Clue::from_numbers(alloc, column)?)?;
+    }
+    Ok(Puzzle::new(width, height, rows, columns, Texts::none(), None)?)
 }
 
-/// The puzzle of one cell, which is filled.
-fn one_cell(alloc: Global) -> Result<Puzzle, Fail> {
-    let rows = lone_clue(alloc)?;
-    let columns = lone_clue(alloc)?;
-    let puzzle = Puzzle::new(1, 1, rows, columns, Texts::none(), None);
-    Ok(puzzle.ok().ok_or("puzzle")?)
+/// How many cells the job of a number has, so that an answer's puzzle tells whose it is.
+fn width_of(number: u32) -> u16 {
+    (number % 9) as u16 + 1
 }
 
+/// The job of this number, with one row of cells that are all filled.
 pub(crate) fn job(alloc: Global, number: u32) -> Result<Job, Fail> {
-    Ok(Job::new(number, one_cell(alloc)?, 1000, Pick::First))
+    let width = width_of(number);
+    let puzzle = puzzle_of(alloc, width, 1, &[width], &[1])?;
+    Ok(Job::new(number, puzzle, 1000, Pick::First))
 }
 
 /// Jobs with the numbers from `first` on, `count` of them, in the order of their numbers.
@@ -58,9 +70,27 @@ pub(crate) enum Reply {
     FullReturning(u32),
     FinishedReturning(u32),
     Answered(u32),
+    /// An answer that says that its memory was refused.
+    Refused(u32),
+    /// An answer with the puzzle or the report of another job.
+    Mistaken(u32),
     Nothing,
     Stepped(Step),
     Worked,
+}
+
+/// The jobs that a script sends, in its order.
+pub(crate) fn jobs_of(
+    alloc: Global,
+    script: &[(Call, Reply)],
+) -> Result<VecDeque<Job, Global>, Fail> {
+    let mut jobs = VecDeque::new(alloc);
+    for (call, _) in script {
+        if let Call::Send(number) = call {
+            jobs.push_back(job(alloc, *number)?)?;
+        }
+    }
+    Ok(jobs)
 }
 
 fn sent(reply: Result<(), SendFault>) -> Reply {
@@ -79,11 +109,32 @@ fn finished(reply: Result<(), FinishFault>) -> Reply {
     }
 }
 
+pub(crate) fn told_of(answer: &Answer) -> Reply {
+    let number = answer.number();
+    let width = width_of(number);
+    if answer.puzzle().width() != width {
+        return Reply::Mistaken(number);
+    }
+    match answer.outcome() {
+        Err(NoMemory) => Reply::Refused(number),
+        Ok(found) => match &found.verdict {
+            Verdict::One(grid) if grid.width() == width => Reply::Answered(number),
+            _ => Reply::Mistaken(number),
+        },
+    }
+}
+
 fn taken(reply: Option<Answer>) -> Reply {
     match reply {
-        Some(answer) => Reply::Answered(answer.number()),
+        Some(answer) => told_of(&answer),
         None => Reply::Nothing,
     }
+}
+
+/// What a script is followed on.
+pub(crate) trait Called {
+    /// Makes a call. A job to send is the first of those at hand.
+    fn call(&mut self, alloc: Global, call: Call, jobs: &mut VecDeque<Job, Global>) -> Reply;
 }
 
 /// Both ends of one lane, so that each call keeps that they are.
@@ -103,32 +154,6 @@ impl Both {
         Ok(Both { front, back })
     }
 
-    pub(crate) fn call(&mut self, alloc: Global, call: Call) -> Result<Reply, Fail> {
-        Ok(match call {
-            Call::Send(number) => sent(self.front.send(job(alloc, number)?)),
-            Call::Finish => finished(self.front.finish()),
-            Call::Take => taken(self.front.take()),
-            Call::Work => Reply::Stepped(self.step(alloc)),
-        })
-    }
-
-    /// Sends a job. Returns whether it was accepted.
-    pub(crate) fn send(&mut self, job: Job) -> bool {
-        self.front.send(job).is_ok()
-    }
-
-    pub(crate) fn take(&mut self) -> Option<Answer> {
-        self.front.take()
-    }
-
-    pub(crate) fn step(&mut self, alloc: Global) -> Step {
-        self.back.step(alloc, &OpenGate)
-    }
-
-    pub(crate) fn finish(&mut self) -> bool {
-        self.front.finish().is_ok()
-    }
-
     pub(crate) fn settle(self) -> Result<(), (SettleFault, Both)> {
         let Both { front, back } = self;
         match settle(front, back) {
@@ -138,70 +163,28 @@ impl Both {
     }
 }
 
-fn follow(
-    rt: &impl Abort,
-    alloc: Global,
-    lane: &mut Both,
-    script: &[(Call, Reply)],
-) -> Result<(), Fail> {
-    for (call, reply) in script {
-        assert_eq!(rt; lane.call(alloc, *call)?, *reply);
+impl Called for Both {
+    fn call(&mut self, alloc: Global, call: Call, jobs: &mut VecDeque<Job, Global>) -> Reply {
+        match call {
+            Call::Send(_) => match jobs.pop_front() {
+                Some(job) => sent(self.front.send(job)),
+                None => Reply::Nothing,
+            },
+            Call::Finish => finished(self.front.finish()),
+            Call::Take => taken(self.front.take()),
+            Call::Work => Reply::Stepped(self.back.step(alloc, &OpenGate)),
+        }
     }
-    Ok(())
-}
-
-const BEFORE_THE_FINISH: [(Call, Reply); 11] = [
-    (Call::Take, Reply::Nothing),
-    (Call::Work, Reply::Stepped(Step::Idle)),
-    (Call::Send(1), Reply::Accepted),
-    (Call::Send(2), Reply::FullReturning(2)),
-    (Call::Work, Reply::Stepped(Step::Graded)),
-    (Call::Send(2), Reply::Accepted),
-    (Call::Finish, Reply::Full),
-    (Call::Work, Reply::Stepped(Step::Waiting)),
-    (Call::Finish, Reply::Accepted),
-    (Call::Finish, Reply::Finished),
-    (Call::Send(3), Reply::FinishedReturning(3)),
-];
-
-const TAKING_THE_FINISH: [(Call, Reply); 3] = [
-    (Call::Take, Reply::Answered(1)),
-    (Call::Work, Reply::Stepped(Step::Graded)),
-    (Call::Work, Reply::Stepped(Step::Done)),
-];
-
-const DRAINING: [(Call, Reply); 2] = [
-    (Call::Work, Reply::Stepped(Step::Done)),
-    (Call::Take, Reply::Answered(2)),
-];
-
-#[test]
-fn lane_on_one_thread(rt: HostRuntime) -> Result<(), Fail> {
-    let alloc = rt.alloc();
-    let mut lane = Both::open(alloc, 1).ok().ok_or("memory")?;
-    follow(&rt, alloc, &mut lane, &BEFORE_THE_FINISH)?;
-    let Err((fault, mut lane)) = lane.settle() else {
-        return Err(Fail::from("settled"));
-    };
-    assert_eq!(rt; fault, SettleFault::Unfinished);
-    follow(&rt, alloc, &mut lane, &TAKING_THE_FINISH)?;
-    let Err((fault, mut lane)) = lane.settle() else {
-        return Err(Fail::from("settled"));
-    };
-    assert_eq!(rt; fault, SettleFault::NotDrained);
-    follow(&rt, alloc, &mut lane, &DRAINING)?;
-    assert!(rt; lane.settle().is_ok());
-    Ok(())
 }
 
 /// A lane of batches.
 #[derive(Drop)]
-struct Batch {
+pub(crate) struct Batch {
     lane: BatchLane,
 }
 
 impl Batch {
-    fn open(alloc: Global, capacity: usize) -> Result<Batch, NoMemory>
+    pub(crate) fn open(alloc: Global, capacity: usize) -> Result<Batch, NoMemory>
         requires least { 1 ≤ capacity }
         requires most { capacity ≤ LARGEST_BATCH }
     {
@@ -210,21 +193,7 @@ impl Batch {
         })
     }
 
-    fn work(&mut self, alloc: Global) -> Reply {
-        self.lane.work(alloc, &OpenGate);
-        Reply::Worked
-    }
-
-    fn call(&mut self, alloc: Global, call: Call) -> Result<Reply, Fail> {
-        Ok(match call {
-            Call::Send(number) => sent(self.lane.send(job(alloc, number)?)),
-            Call::Finish => finished(self.lane.finish()),
-            Call::Take => taken(self.lane.take()),
-            Call::Work => self.work(alloc),
-        })
-    }
-
-    fn close(self) -> Result<(), (SettleFault, Batch)> {
+    pub(crate) fn close(self) -> Result<(), (SettleFault, Batch)> {
         let Batch { lane } = self;
         match lane.close() {
             Ok(()) => Ok(()),
@@ -233,71 +202,21 @@ impl Batch {
     }
 }
 
-fn follow_in_batch(
-    rt: &impl Abort,
-    alloc: Global,
-    lane: &mut Batch,
-    script: &[(Call, Reply)],
-) -> Result<(), Fail> {
-    for (call, reply) in script {
-        assert_eq!(rt; lane.call(alloc, *call)?, *reply);
+impl Called for Batch {
+    fn call(&mut self, alloc: Global, call: Call, jobs: &mut VecDeque<Job, Global>) -> Reply {
+        match call {
+            Call::Send(_) => match jobs.pop_front() {
+                Some(job) => sent(self.lane.send(job)),
+                None => Reply::Nothing,
+            },
+            Call::Finish => finished(self.lane.finish()),
+            Call::Take => taken(self.lane.take()),
+            Call::Work => {
+                self.lane.work(alloc, &OpenGate);
+                Reply::Worked
+            }
+        }
     }
-    Ok(())
-}
-
-const BATCH: [(Call, Reply); 5] = [
-    (Call::Send(1), Reply::Accepted),
-    (Call::Send(2), Reply::Accepted),
-    (Call::Finish, Reply::Full),
-    (Call::Work, Reply::Worked),
-    (Call::Finish, Reply::Accepted),
-];
-
-const DRAINING_THE_BATCH: [(Call, Reply); 3] = [
-    (Call::Take, Reply::Answered(1)),
-    (Call::Take, Reply::Answered(2)),
-    (Call::Take, Reply::Nothing),
-];
-
-#[test]
-fn batch_lane(rt: HostRuntime) -> Result<(), Fail> {
-    let alloc = rt.alloc();
-    let mut lane = Batch::open(alloc, 2).ok().ok_or("memory")?;
-    follow_in_batch(&rt, alloc, &mut lane, &BATCH)?;
-    let Err((fault, mut lane)) = lane.close() else {
-        return Err(Fail::from("closed"));
-    };
-    assert_eq!(rt; fault, SettleFault::Unfinished);
-    lane.work(alloc);
-    let Err((fault, mut lane)) = lane.close() else {
-        return Err(Fail::from("closed"));
-    };
-    assert_eq!(rt; fault, SettleFault::NotDrained);
-    follow_in_batch(&rt, alloc, &mut lane, &DRAINING_THE_BATCH)?;
-    assert!(rt; lane.close().is_ok());
-    Ok(())
-}
-
-#[test]
-fn dealing_a_batch(rt: HostRuntime) -> Result<(), Fail> {
-    let alloc = rt.alloc();
-    let mut waiting = jobs(alloc, 1, 3)?;
-    let mut lane = BatchLane::new(alloc, 2).ok().ok_or("memory")?;
-    let mut got = Vec::with_capacity(alloc, 64)?;
-    assert!(rt; deal(&mut lane, &mut waiting, &mut got));
-    assert_eq!(rt; (waiting.len(), got.len()), (1, 0));
-    lane.work(alloc, &OpenGate);
-    assert!(rt; deal(&mut lane, &mut waiting, &mut got));
-    assert_eq!(rt; (waiting.len(), got.len()), (0, 2));
-    lane.work(alloc, &OpenGate);
-    assert!(rt; deal(&mut lane, &mut waiting, &mut got));
-    assert!(rt; !deal(&mut lane, &mut waiting, &mut got));
-    for (answer, number) in got.iter().zip(1..4u32) {
-        assert_eq!(rt; answer.number(), number);
-    }
-    assert_eq!(rt; got.len(), 3);
-    assert!(rt; lane.close().is_ok());
-    Ok(())
 }
 
 #[test]
@@ -340,8 +259,8 @@ fn dealing_at_a_front(rt: HostRuntime) -> Result<(), Fail> {
 #[test]
 fn grades_a_job(rt: HostRuntime) -> Result<(), Fail> {
     let alloc = rt.alloc();
-    let answer = grade(alloc, job(alloc, 7)?);
-    assert_eq!(rt; (answer.number(), answer.guesses()), (7, 1000));
+    let answer = grade(alloc, job(alloc, 9)?);
+    assert_eq!(rt; (answer.number(), answer.guesses()), (9, 1000));
     let found = answer.outcome().ok().ok_or("no report")?;
     let Verdict::One(grid) = &found.verdict else {
         return Err(Fail::from("not one solution"));
@@ -356,10 +275,31 @@ fn grades_a_job(rt: HostRuntime) -> Result<(), Fail> {
 }
 
 #[test]
+fn faults_in_sentences(rt: HostRuntime) -> Result<(), Fail> {
+    let alloc = rt.alloc();
+    let told = format!(in alloc;
+        "{}, {}, {}, {}, {}, {}",
+        SendFault::Finished(job(alloc, 1)?),
+        SendFault::Full(job(alloc, 1)?),
+        FinishFault::Finished,
+        FinishFault::Full,
+        SettleFault::Unfinished,
+        SettleFault::NotDrained
+    )?;
+    let wanted =
+        "the finish was sent, the lane is full, the finish was sent, the lane is full, the finish was not taken, an answer was not received";
+    assert_eq!(rt; told.as_str(), wanted);
+    Ok(())
+}
+
+#[test]
 fn answers_keep_the_rule(rt: HostRuntime) -> Result<(), Fail> {
     let alloc = rt.alloc();
     for pick in [Pick::First, Pick::Most] {
-        let answer = grade(alloc, Job::new(7, one_cell(alloc)?, 1000, pick));
+        let answer = grade(
+            alloc,
+            Job::new(7, puzzle_of(alloc, 1, 1, &[1], &[1])?, 1000, pick),
+        );
         assert_eq!(rt; answer.pick(), pick);
         assert!(rt; answer.outcome().is_ok());
     }
@@ -390,7 +330,7 @@ fn jobs_enter_the_gate(rt: HostRuntime) -> Result<(), Fail> {
     assert_eq!(rt; gate.number.load(Ordering::SeqCst), 7);
     let answer = front.take().ok_or("no answer")?;
     assert_eq!(rt; (answer.number(), answer.guesses()), (7, 1000));
-    assert_eq!(rt; (answer.puzzle().width(), answer.puzzle().height()), (1, 1));
+    assert_eq!(rt; (answer.puzzle().width(), answer.puzzle().height()), (8, 1));
     Ok(())
 }
 

@@ -1,7 +1,8 @@
 //! Tests of the limits, with their numbers written out.
 
-use crate::tests::{job, jobs};
+use crate::tests::{job, jobs, puzzle_of};
 use lane_core::*;
+use solve_core::Pick;
 use std::alloc::Global;
 use std::test::Fail;
 
@@ -50,11 +51,13 @@ fn the_largest_batch_holds_10001_messages(rt: HostRuntime) -> Result<(), Fail> {
 }
 
 #[test]
-fn a_job_with_the_most_guesses(rt: HostRuntime) -> Result<(), Fail> {
+fn large_jobs_with_the_most_guesses(rt: HostRuntime) -> Result<(), Fail> {
     let alloc = rt.alloc();
-    let Job { puzzle, pick, .. } = job(alloc, 1)?;
-    let answer = grade(alloc, Job::new(1, puzzle, 1_000_000, pick));
-    assert_eq!(rt; answer.guesses(), 1_000_000);
-    assert!(rt; answer.outcome().is_ok());
+    for side in [1, 100, 256] {
+        let puzzle = puzzle_of(alloc, side, side, &[], &[])?;
+        let answer = grade(alloc, Job::new(1, puzzle, 1_000_000, Pick::Most));
+        assert_eq!(rt; answer.guesses(), 1_000_000);
+        assert!(rt; answer.outcome().is_ok(), "{side}");
+    }
     Ok(())
 }

@@ -40,7 +40,7 @@ fn assert_graded(rt: &impl Abort, alloc: Global, growth: usize) -> Result<bool, 
     let refused = was_refused(alloc);
     assert!(rt; answer.outcome().is_ok() || refused);
     assert_eq!(rt; (answer.number(), answer.guesses()), (7, 1000));
-    assert_eq!(rt; answer.puzzle().width(), 1);
+    assert_eq!(rt; answer.puzzle().width(), 8);
     Ok(refused)
 }
 

@@ -1,117 +1,182 @@
-//! Lanes on one thread with each growth of memory refused in turn.
-//! Their jobs have different puzzles, so that an answer's puzzle tells whose it is.
+//! Scripts of calls on one thread, with each growth of memory refused in turn. Whether a ring is full or
+//! empty as an end sees it, no contract says.
 
-use crate::tests::Both;
-use grid_core::{Clue, NoMemory, Puzzle, Texts};
+use crate::tests::{Batch, Both, Call, Called, Reply, jobs, jobs_of, told_of};
+use grid_core::NoMemory;
 use lane_core::*;
 use refusals::{refuse, was_refused};
-use solve_core::{Pick, Verdict};
 use std::alloc::Global;
+use std::collections::VecDeque;
 use std::process::Abort;
 use std::test::Fail;
 
-/// More growths than any lane here makes.
+/// More growths than any script makes.
 const MOST_GROWTHS: usize = 1000;
 
-/// The puzzle of one row of `width` cells, 1 to 9, all of them filled.
-fn full_row(alloc: Global, width: u16) -> Result<Puzzle, Fail> {
-    let width = width.clamp(1, 9);
-    let mut rows = Vec::with_capacity(alloc, 1)?;
-    rows.push(Clue::from_numbers(alloc, &[width]).ok().ok_or("row")?)?;
-    let mut columns = Vec::new(alloc);
-    for _ in 0..width {
-        columns.push(Clue::from_numbers(alloc, &[1]).ok().ok_or("column")?)?;
+const BEFORE_THE_FINISH: [(Call, Reply); 11] = [
+    (Call::Take, Reply::Nothing),
+    (Call::Work, Reply::Stepped(Step::Idle)),
+    (Call::Send(1), Reply::Accepted),
+    (Call::Send(2), Reply::FullReturning(2)),
+    (Call::Work, Reply::Stepped(Step::Graded)),
+    (Call::Send(2), Reply::Accepted),
+    (Call::Finish, Reply::Full),
+    (Call::Work, Reply::Stepped(Step::Waiting)),
+    (Call::Finish, Reply::Accepted),
+    (Call::Finish, Reply::Finished),
+    (Call::Send(3), Reply::FinishedReturning(3)),
+];
+
+const TAKING_THE_FINISH: [(Call, Reply); 3] = [
+    (Call::Take, Reply::Answered(1)),
+    (Call::Work, Reply::Stepped(Step::Graded)),
+    (Call::Work, Reply::Stepped(Step::Done)),
+];
+
+const DRAINING: [(Call, Reply); 2] = [
+    (Call::Work, Reply::Stepped(Step::Done)),
+    (Call::Take, Reply::Answered(2)),
+];
+
+const BATCH: [(Call, Reply); 9] = [
+    (Call::Send(1), Reply::Accepted),
+    (Call::Send(2), Reply::Accepted),
+    (Call::Send(3), Reply::FullReturning(3)),
+    (Call::Finish, Reply::Full),
+    (Call::Work, Reply::Worked),
+    (Call::Send(3), Reply::Accepted),
+    (Call::Finish, Reply::Accepted),
+    (Call::Finish, Reply::Finished),
+    (Call::Send(4), Reply::FinishedReturning(4)),
+];
+
+const FINISHING_THE_BATCH: [(Call, Reply); 2] = [
+    (Call::Take, Reply::Answered(1)),
+    (Call::Work, Reply::Worked),
+];
+
+const DRAINING_THE_BATCH: [(Call, Reply); 3] = [
+    (Call::Take, Reply::Answered(2)),
+    (Call::Take, Reply::Answered(3)),
+    (Call::Take, Reply::Nothing),
+];
+
+/// Asserts that a reply is the wanted one, or that the wanted answer's memory was refused. Returns whether it
+/// is the wanted one.
+fn is_told(rt: &impl Abort, reply: Reply, wanted: Reply) -> bool {
+    if let (Reply::Refused(number), Reply::Answered(wanted)) = (reply, wanted) {
+        assert_eq!(rt; number, wanted);
+        return false;
     }
-    let puzzle = Puzzle::new(width, 1, rows, columns, Texts::none(), None);
-    Ok(puzzle.ok().ok_or("puzzle")?)
+    assert_eq!(rt; reply, wanted);
+    true
 }
 
-/// The job of this number, from 1 to 9, with a row of as many cells.
-fn row_job(alloc: Global, number: u16) -> Result<Job, Fail> {
-    let puzzle = full_row(alloc, number)?;
-    Ok(Job::new(u32::from(number), puzzle, 1000, Pick::First))
-}
-
-/// What an answer to the job of this number says: that its memory was refused, or its report.
-fn told_of_answer(answer: Option<Answer>, number: u16) -> Option<Reported> {
-    let answer = answer?;
-    if answer.number() != u32::from(number) || answer.puzzle().width() != number {
-        return None;
+/// Follows a script. Returns whether no answer's memory was refused.
+fn follow<L: Called>(
+    rt: &impl Abort,
+    alloc: Global,
+    lane: &mut L,
+    jobs: &mut VecDeque<Job, Global>,
+    script: &[(Call, Reply)],
+) -> bool {
+    let mut all = true;
+    for (call, wanted) in script {
+        if !is_told(rt, lane.call(alloc, *call, jobs), *wanted) {
+            all = false;
+        }
     }
-    match answer.outcome() {
-        Ok(found) => match &found.verdict {
-            Verdict::One(grid) if grid.width() == number => Some(Reported::Report),
-            _ => None,
-        },
-        Err(NoMemory) => Some(Reported::NoMemory),
-    }
+    all
 }
 
-/// What an answer reports.
-#[derive(Clone, Copy, Debug, PartialEq, Eq)]
-enum Reported {
-    Report,
-    NoMemory,
+/// What is followed.
+#[derive(Clone, Copy)]
+enum Scene {
+    /// A lane of capacity 1.
+    Lane,
+    /// A batch lane of capacity 2.
+    Batch,
+    /// Three jobs, dealt at a batch lane of capacity 2.
+    Deal,
 }
 
-/// What both answers of a script report, or none if a call answered otherwise than it should.
-type Told = Option<(Reported, Reported)>;
-
-/// A lane of capacity 1, on which the second answer waits for the first to be taken.
-fn follow_lane(alloc: Global, first: Job, second: Job) -> Result<Told, NoMemory> {
+fn follow_lane(
+    rt: &impl Abort,
+    alloc: Global,
+    jobs: &mut VecDeque<Job, Global>,
+) -> Result<bool, NoMemory> {
     let mut lane = Both::open(alloc, 1)?;
-    let begun = lane.send(first) && lane.step(alloc) == Step::Graded;
-    let waits = lane.send(second) && lane.step(alloc) == Step::Waiting && lane.finish();
-    let first = told_of_answer(lane.take(), 1);
-    let ended = lane.step(alloc) == Step::Graded && lane.step(alloc) == Step::Done;
-    let second = told_of_answer(lane.take(), 2);
-    let settled = lane.settle().is_ok();
-    Ok(both(begun && waits && ended && settled, first, second))
+    let begun = follow(rt, alloc, &mut lane, jobs, &BEFORE_THE_FINISH);
+    let (fault, mut lane) = lane.settle().expect_err(rt, "settled");
+    assert_eq!(rt; fault, SettleFault::Unfinished);
+    let finished = follow(rt, alloc, &mut lane, jobs, &TAKING_THE_FINISH);
+    let (fault, mut lane) = lane.settle().expect_err(rt, "settled");
+    assert_eq!(rt; fault, SettleFault::NotDrained);
+    let drained = follow(rt, alloc, &mut lane, jobs, &DRAINING);
+    assert!(rt; lane.settle().is_ok());
+    Ok(begun && finished && drained)
 }
 
-/// A batch of two.
-fn follow_batch(alloc: Global, first: Job, second: Job) -> Result<Told, NoMemory> {
+fn follow_batch(
+    rt: &impl Abort,
+    alloc: Global,
+    jobs: &mut VecDeque<Job, Global>,
+) -> Result<bool, NoMemory> {
+    let mut lane = Batch::open(alloc, 2)?;
+    let begun = follow(rt, alloc, &mut lane, jobs, &BATCH);
+    let (fault, mut lane) = lane.close().expect_err(rt, "closed");
+    assert_eq!(rt; fault, SettleFault::Unfinished);
+    let finished = follow(rt, alloc, &mut lane, jobs, &FINISHING_THE_BATCH);
+    let (fault, mut lane) = lane.close().expect_err(rt, "closed");
+    assert_eq!(rt; fault, SettleFault::NotDrained);
+    let drained = follow(rt, alloc, &mut lane, jobs, &DRAINING_THE_BATCH);
+    assert!(rt; lane.close().is_ok());
+    Ok(begun && finished && drained)
+}
+
+fn deal_batch(
+    rt: &impl Abort,
+    alloc: Global,
+    waiting: &mut VecDeque<Job, Global>,
+) -> Result<bool, NoMemory> {
     let mut lane = BatchLane::new(alloc, 2)?;
-    let sent = lane.send(first).is_ok() && lane.send(second).is_ok();
+    let mut got = Vec::with_capacity(alloc, 64)?;
+    assert!(rt; deal(&mut lane, waiting, &mut got));
+    assert_eq!(rt; (waiting.len(), got.len()), (1, 0));
     lane.work(alloc, &OpenGate);
-    let finished = lane.finish().is_ok();
+    assert!(rt; deal(&mut lane, waiting, &mut got));
+    assert_eq!(rt; (waiting.len(), got.len()), (0, 2));
     lane.work(alloc, &OpenGate);
-    let first = told_of_answer(lane.take(), 1);
-    let second = told_of_answer(lane.take(), 2);
-    let closed = lane.close().is_ok();
-    Ok(both(sent && finished && closed, first, second))
-}
-
-fn both(is_well: bool, first: Option<Reported>, second: Option<Reported>) -> Told {
-    if is_well {
-        Some((first?, second?))
-    } else {
-        None
-    }
-}
-
-/// Asserts what a script told: that the lane wasn't opened, if a growth was refused,
-/// or what both answers report. All of it if none was refused.
-fn assert_told(rt: &impl Abort, told: Result<Told, NoMemory>, refused: bool, growth: usize) {
-    match told {
-        Ok(Some((first, second))) => {
-            let all = first == Reported::Report && second == Reported::Report;
-            assert!(rt; all || refused, "growth {growth}");
+    assert!(rt; deal(&mut lane, waiting, &mut got));
+    assert!(rt; !deal(&mut lane, waiting, &mut got));
+    assert_eq!(rt; got.len(), 3);
+    assert!(rt; lane.close().is_ok());
+    let mut all = true;
+    for (answer, number) in got.iter().zip(1..4u32) {
+        if !is_told(rt, told_of(answer), Reply::Answered(number)) {
+            all = false;
         }
-        Ok(None) => assert!(rt; false, "growth {growth}"),
-        Err(NoMemory) => assert!(rt; refused, "growth {growth}"),
     }
+    Ok(all)
 }
 
-#[test]
-fn lanes_are_followed_or_refused(rt: HostRuntime) -> Result<(), Fail> {
-    let alloc = rt.alloc();
+/// Follows a scene with each growth of memory refused in turn, and then with none. Each call answers as ever,
+/// but that the lane isn't opened, or an answer says that its memory was refused.
+fn follow_all(rt: &impl Abort, alloc: Global, scene: Scene) -> Result<(), Fail> {
     for growth in 1..MOST_GROWTHS {
-        let (first, second) = (row_job(alloc, 1)?, row_job(alloc, 2)?);
+        let mut jobs = match scene {
+            Scene::Lane => jobs_of(alloc, &BEFORE_THE_FINISH)?,
+            Scene::Batch => jobs_of(alloc, &BATCH)?,
+            Scene::Deal => jobs(alloc, 1, 3)?,
+        };
         refuse(alloc, growth);
-        let told = follow_lane(alloc, first, second);
+        let all = match scene {
+            Scene::Lane => follow_lane(rt, alloc, &mut jobs),
+            Scene::Batch => follow_batch(rt, alloc, &mut jobs),
+            Scene::Deal => deal_batch(rt, alloc, &mut jobs),
+        };
         let refused = was_refused(alloc);
-        assert_told(&rt, told, refused, growth);
+        assert!(rt; refused || matches!(&all, Ok(true)), "growth {growth}");
         if !refused {
             return Ok(());
         }
@@ -121,18 +186,16 @@ fn lanes_are_followed_or_refused(rt: HostRuntime) -> Result<(), Fail> {
 }
 
 #[test]
-fn batches_are_followed_or_refused(rt: HostRuntime) -> Result<(), Fail> {
-    let alloc = rt.alloc();
-    for growth in 1..MOST_GROWTHS {
-        let (first, second) = (row_job(alloc, 1)?, row_job(alloc, 2)?);
-        refuse(alloc, growth);
-        let told = follow_batch(alloc, first, second);
-        let refused = was_refused(alloc);
-        assert_told(&rt, told, refused, growth);
-        if !refused {
-            return Ok(());
-        }
-    }
-    assert!(rt; false, "growths without end");
-    Ok(())
+fn lane_on_one_thread(rt: HostRuntime) -> Result<(), Fail> {
+    follow_all(&rt, rt.alloc(), Scene::Lane)
+}
+
+#[test]
+fn batch_lane(rt: HostRuntime) -> Result<(), Fail> {
+    follow_all(&rt, rt.alloc(), Scene::Batch)
+}
+
+#[test]
+fn dealing_a_batch(rt: HostRuntime) -> Result<(), Fail> {
+    follow_all(&rt, rt.alloc(), Scene::Deal)
 }
