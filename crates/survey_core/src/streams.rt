@@ -1,7 +1,7 @@
 //! Reading a collection whole, and writing a text whole, with the number of bytes that went out before a
 //! fault.
 
-ghost use Rattle.std.specs.Prelude.{◌+◌, ◌-◌, ◌^◌, ◌<◌, ◌≤◌, ◌↔◌, length, take, vec_len, IfOk, IfErr, IsErr, OnOk, IsErrOf};
+ghost use Rattle.std.specs.Prelude.{◌≡◌, ◌+◌, ◌-◌, ◌^◌, ◌<◌, ◌≤◌, ◌↔◌, length, take, vec_len, IfOk, IfErr, IsErr, OnOk, IsErrOf};
 ghost use Rattle.std.specs.Io.KnownBytes.{Appends, Consumes, IsAtEnd};
 ghost use Rattle.survey_core.specs.Counted.{fault_count};
 ghost use Rattle.survey_core.specs.Reading.{ReadsWithin};
@@ -60,6 +60,7 @@ pub fn write_text<W: Write>(writer: &mut Counted<W>, text: &[u8]) -> Result<(), 
     ensures front { IfErr result (λ sent. sent ≤ length text.now) }
     ensures sent { IfErr result (λ sent. Appends (W.contents writer.old.inner) (W.contents writer.new.inner) (take sent text.now)) }
     ensures failed { IsErr result ↔ (fault_count writer.old < fault_count writer.new) }
+    ensures sound { OnOk result (fault_count writer.new ≡ fault_count writer.old) }
 {
     let mut sent = 0;
     while sent < text.len() {

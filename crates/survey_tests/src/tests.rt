@@ -1,8 +1,10 @@
 //! The printed bytes of surveys, and that their puzzles are graded at the same time.
 
-use crate::tests_samples::{NOTHING, TEN, TEN_SURVEY, settings};
-use lane_core::{Gate, OpenGate};
-use puzzle_text::{CollectionFault, EntryFault, TextFault, entries};
+use crate::tests_samples::{NOTHING, TEN, TEN_SHOWN, TEN_SURVEY, settings};
+use lane_core::{Gate, Job, OpenGate, grade};
+use puzzle_text::{
+    CollectionFault, Entry, EntryFault, MOST_ENTRIES, TextFault, entries, read_entry,
+};
 use solve_core::Pick;
 use std::alloc::Global;
 use std::process::Abort;
@@ -63,16 +65,12 @@ fn surveys_entries_in_hand(rt: HostRuntime) -> Result<(), Fail> {
 
 #[test]
 fn shows_solutions(rt: HostRuntime) {
-    let collection = "@ clash.mk\n1 1\n1\n#\n0\n@ what\n@ two.mk\n2 2\n1\n1\n#\n1\n1\n";
-    let text = "1 1x1 none line 0 0 0 absent clash.mk\n2 refused UnknownFormat what\n\
-        3 2x2 several search 0 0 2 absent two.mk\n#.\n.#\n\n.#\n#.\n\n\
-        entries 3 refused 1 none 1 one 0 several 1 unsettled 0 line 1 trials 0 search 1\n";
     assert_survey(
         &rt,
-        collection.as_bytes(),
+        TEN.as_bytes(),
         &settings(4, 8, true),
         Ok(()),
-        text,
+        TEN_SHOWN,
     );
 }
 
@@ -134,6 +132,60 @@ fn largest_collections_pass(rt: HostRuntime) -> Result<(), Fail> {
     let last = b"10000 refused NoSize a.mk\n\
         entries 10000 refused 10000 none 0 one 0 several 0 unsettled 0 line 0 trials 0 search 0\n";
     assert!(rt; output.inner.ends_with(last));
+    Ok(())
+}
+
+/// What becomes of an entry, graded with at most two guesses.
+fn outcome_of(alloc: Global, number: u32, entry: &Entry<'_>) -> Result<Outcome, Fail> {
+    let name = Vec::from_slice(alloc, entry.name)?;
+    let result = match read_entry(alloc, entry) {
+        Ok(puzzle) => Ok(grade(alloc, Job::new(number, puzzle, 2, Pick::First))),
+        Err(fault) => Err(fault),
+    };
+    Ok(Outcome { name, result })
+}
+
+/// The survey of entries, graded on one thread with at most two guesses.
+pub(crate) fn one_thread_survey(
+    alloc: Global,
+    entries: &[Entry<'_>],
+    show: bool,
+) -> Result<Vec<u8>, Fail> {
+    let mut outcomes = Vec::new(alloc);
+    for (entry, number) in entries.iter().zip(1u32..) {
+        outcomes.push(outcome_of(alloc, number, entry)?)?;
+    }
+    if outcomes.len() > MOST_ENTRIES {
+        return Err("too many".into());
+    }
+    Ok(print_survey(alloc, &outcomes, show)?)
+}
+
+#[test]
+fn prints_ten_entries(rt: HostRuntime) -> Result<(), Fail> {
+    let found = entries(rt.alloc(), TEN.as_bytes())?;
+    for (show, text) in [(false, TEN_SURVEY), (true, TEN_SHOWN)] {
+        let survey = one_thread_survey(rt.alloc(), &found, show)?;
+        assert_eq!(rt; survey.as_slice(), text.as_bytes());
+    }
+    let switch = outcome_of(rt.alloc(), 6, found.get(5).ok_or("entry")?)?;
+    let text = print_entry(rt.alloc(), 6, &switch, true)?;
+    assert_eq!(rt;
+        text.as_slice(),
+        b"6 2x2 several search 0 0 2 absent two.mk\n#.\n.#\n\n.#\n#.\n\n".as_slice()
+    );
+    Ok(())
+}
+
+#[test]
+fn long_names_pass(rt: HostRuntime) -> Result<(), Fail> {
+    let name = String::from_utf8(repeated(rt.alloc(), b"n", 65_536)?)?;
+    let named = format!(in rt.alloc(); "@ {name}\n")?;
+    let text = format!(in rt.alloc();
+        "1 refused UnknownFormat {name}\n\
+        entries 1 refused 1 none 0 one 0 several 0 unsettled 0 line 0 trials 0 search 0\n"
+    )?;
+    assert_survey(&rt, named.as_bytes(), &settings(1, 1, false), Ok(()), &text);
     Ok(())
 }
 
@@ -202,5 +254,30 @@ fn surveys_of_entries_grade_at_the_same_time(rt: HostRuntime) -> Result<(), Fail
     let mut output = Counted::new(Vec::new(rt.alloc()));
     survey_entries(&rt, rt.alloc(), &found, &mut output, &settings, &gate)?;
     assert_eq!(rt; gate.saw_both.load(Ordering::SeqCst), 2);
+    Ok(())
+}
+
+#[test]
+fn faults_in_sentences(rt: HostRuntime) -> Result<(), Fail> {
+    for (fault, sentence) in [
+        (RunFault::Read, "the reader failed"),
+        (
+            RunFault::Collection(CollectionFault::Stray(1)),
+            "line 1 belongs to no entry or names none",
+        ),
+        (RunFault::Thread, "a thread was not started"),
+        (RunFault::NoMemory, "out of memory"),
+        (RunFault::Write(7), "the writer failed after 7 bytes"),
+    ] {
+        let text = format!(in rt.alloc(); "{fault}")?;
+        assert_eq!(rt; text.as_str(), sentence);
+    }
+    for (fault, sentence) in [
+        (CollectFault::NoMemory, "out of memory"),
+        (CollectFault::Thread, "a thread was not started"),
+    ] {
+        let text = format!(in rt.alloc(); "{fault}")?;
+        assert_eq!(rt; text.as_str(), sentence);
+    }
     Ok(())
 }

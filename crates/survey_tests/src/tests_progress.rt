@@ -1,16 +1,18 @@
 //! What is told of the progress, over one lane and over more: no contract follows a value through a lock.
 
 use crate::tests_collect::jobs_numbered;
-use crate::tests_samples::{TEN, TEN_SURVEY, settings};
+use crate::tests_samples::{DEMO, TEN, TEN_SURVEY, settings};
 use lane_core::Gate;
+use solve_core::Pick;
 use std::alloc::Global;
 use std::io;
 use std::io::{ErrorKind, Write};
 use std::process::Abort;
 use std::sync::Wait;
+use std::sync::atomic::{AtomicU32, Ordering};
 use std::test::Fail;
 use std::thread::Threads;
-use survey_core::{Counted, MOST_JOBS, ProgressGate, collect, run_survey};
+use survey_core::{Counted, MOST_JOBS, ProgressGate, Settings, collect, run_survey};
 
 const OF_ONE: &str = "\rgraded 1\n";
 
@@ -52,17 +54,45 @@ fn due_numbers_are_told(rt: HostRuntime) -> Result<(), Fail> {
     Ok(())
 }
 
+/// Takes bytes, slowly, so that jobs come to the gate meanwhile.
+#[derive(Drop)]
+struct SlowErrors {
+    taken: Vec<u8>,
+    turns: AtomicU32,
+}
+
+impl Write for SlowErrors {
+    fn write(&mut self, bytes: &[u8]) -> io::Result<usize> {
+        for _ in 0..1_000_000u32 {
+            self.turns.fetch_add(1, Ordering::SeqCst);
+        }
+        self.taken.extend_from_slice(bytes)?;
+        Ok(bytes.len())
+    }
+
+    fn flush(&mut self) -> io::Result<()> {
+        Ok(())
+    }
+}
+
 #[test]
 fn lanes_tell_each_number_once(rt: HostRuntime) -> Result<(), Fail> {
-    for lanes in [1u16, 3] {
+    for lanes in [1u16, 4] {
         let jobs = jobs_numbered(rt.alloc(), 1000)?;
         assert!(rt; jobs.len() <= MOST_JOBS);
-        let mut text = Vec::new(rt.alloc());
-        let gate = ProgressGate::new(&rt, rt.alloc(), &mut text, None)?;
+        let mut errors = SlowErrors {
+            taken: Vec::new(rt.alloc()),
+            turns: AtomicU32::new(0),
+        };
+        let gate = ProgressGate::new(&rt, rt.alloc(), &mut errors, None)?;
         let answers = collect(&rt, rt.alloc(), jobs, lanes, 8, &gate)?;
         gate.finish();
         assert_eq!(rt; answers.len(), 1000);
-        assert_eq!(rt; text.as_slice(), OF_THOUSAND.as_bytes(), "{lanes} lanes");
+        assert_eq!(rt;
+            errors.taken.as_slice(),
+            OF_THOUSAND.as_bytes(),
+            "{lanes} lanes"
+        );
     }
     Ok(())
 }
@@ -132,6 +162,25 @@ fn survey_is_the_same_with_progress(rt: HostRuntime) -> Result<(), Fail> {
 }
 
 #[test]
+fn progress_is_told_without_guesses(rt: HostRuntime) -> Result<(), Fail> {
+    let settings = Settings {
+        lanes: 1,
+        ring: 1,
+        guesses: 0,
+        pick: Pick::First,
+        show: false,
+    };
+    let mut reader = Counted::new(DEMO.as_bytes());
+    let mut output = Counted::new(Vec::new(rt.alloc()));
+    let mut errors = Vec::new(rt.alloc());
+    let gate = ProgressGate::new(&rt, rt.alloc(), &mut errors, None)?;
+    run_survey(&rt, rt.alloc(), &mut reader, &mut output, &settings, &gate)?;
+    gate.finish();
+    assert_eq!(rt; errors.as_slice(), OF_ONE.as_bytes());
+    Ok(())
+}
+
+#[test]
 fn failed_errors_change_nothing(rt: HostRuntime) -> Result<(), Fail> {
     for kind in [ErrorKind::BrokenPipe, ErrorKind::Interrupted] {
         for lanes in [1u16, 4] {
@@ -163,16 +212,19 @@ fn progress_goes_on_after_a_failure(rt: HostRuntime) -> Result<(), Fail> {
 }
 
 #[test]
-fn last_number_is_tried_again(rt: HostRuntime) -> Result<(), Fail> {
-    let mut errors = FailingErrors::new(rt.alloc(), 2, 2, ErrorKind::WouldBlock);
-    let gate = ProgressGate::new(&rt, rt.alloc(), &mut errors, None)?;
-    for number in 0..5u32 {
-        gate.enter(number);
+fn failed_numbers_are_left_out(rt: HostRuntime) -> Result<(), Fail> {
+    // jobs, the first and the last call that fails, and what went out
+    for (count, first, last, wanted) in [
+        (5u32, 2u32, 2u32, "\rgraded 1\rgraded 2\rgraded 5\n"),
+        (1000, 0, 14, "\rgraded 1000\n"),
+    ] {
+        let mut errors = FailingErrors::new(rt.alloc(), first, last, ErrorKind::WouldBlock);
+        let gate = ProgressGate::new(&rt, rt.alloc(), &mut errors, None)?;
+        for number in 0..count {
+            gate.enter(number);
+        }
+        gate.finish();
+        assert_eq!(rt; errors.taken.as_slice(), wanted.as_bytes(), "{count} jobs");
     }
-    gate.finish();
-    assert_eq!(rt;
-        errors.taken.as_slice(),
-        b"\rgraded 1\rgraded 2\rgraded 5\n".as_slice()
-    );
     Ok(())
 }

@@ -93,21 +93,22 @@ fn surveys_are_written_or_refused(rt: HostRuntime) -> Result<(), Fail> {
     Ok(())
 }
 
-/// The gate takes all its memory as it is made, in one growth.
+/// The gate takes all its memory as it is made, in one growth: room for the line of each of the most jobs.
 #[test]
 fn progress_gates_are_made_or_refused(rt: HostRuntime) -> Result<(), Fail> {
     let alloc = rt.alloc();
     for growth in [1usize, 2] {
-        let mut text = Vec::with_capacity(alloc, 1000)?;
+        let mut text = Vec::with_capacity(alloc, 3000)?;
         refuse(alloc, growth);
         if let Ok(gate) = ProgressGate::new(&rt, alloc, &mut text, Some(u32::MAX)) {
-            for number in 0..7u32 {
+            for number in 0..MOST_JOBS as u32 {
                 gate.enter(number);
             }
             gate.finish();
         }
         let refused = was_refused(alloc);
-        assert_eq!(rt; text.len(), if refused { 0 } else { 4 * 23 + 1 });
+        let told = 3 * 23 + 3 * 24 + 9 * 25 + 90 * 26 + 27 + 1;
+        assert_eq!(rt; text.len(), if refused { 0 } else { told });
         assert!(rt; growth == 1 || !refused);
     }
     Ok(())

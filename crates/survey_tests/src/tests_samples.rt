@@ -29,6 +29,21 @@ pub const TEN_SURVEY: &str = "1 1x1 one line 1 1 0 absent one.mk\n\
     10 5x10 one line 50 50 0 misses demo2.non\n\
     entries 10 refused 2 none 2 one 5 several 1 unsettled 0 line 4 trials 3 search 1\n";
 
+/// The same survey with the solutions shown.
+pub const TEN_SHOWN: &str = "1 1x1 one line 1 1 0 absent one.mk\n.\n\n\
+    2 1x1 none line 0 0 0 absent clash.mk\n\
+    3 refused BadNumber:2 bad.mk\n\
+    4 4x2 one trials 0 8 0 absent pair.mk\n.##.\n#..#\n\n\
+    5 6x2 none trials 0 0 0 absent six.mk\n\
+    6 2x2 several search 0 0 2 absent two.mk\n#.\n.#\n\n.#\n#.\n\n\
+    7 refused UnknownFormat what.txt\n\
+    8 4x2 one trials 0 8 0 absent fit.nin\n.##.\n#..#\n\n\
+    9 5x10 one line 50 50 0 meets demo.non\n\
+    .##..\n.##.#\n..#.#\n.###.\n#.#..\n#.#..\n..##.\n.#.#.\n.#.##\n##...\n\n\
+    10 5x10 one line 50 50 0 misses demo2.non\n\
+    .##..\n.##.#\n..#.#\n.###.\n#.#..\n#.#..\n..##.\n.#.#.\n.#.##\n##...\n\n\
+    entries 10 refused 2 none 2 one 5 several 1 unsettled 0 line 4 trials 3 search 1\n";
+
 pub const NOTHING: &str =
     "entries 0 refused 0 none 0 one 0 several 0 unsettled 0 line 0 trials 0 search 0\n";
 

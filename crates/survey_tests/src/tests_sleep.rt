@@ -1,20 +1,18 @@
 //! Lanes whose ends sleep and wake one another: that no wake is lost, and that a lane goes on while others
 //! sleep or are held, no contract says.
 
+use crate::tests::one_thread_survey;
 use crate::tests_collect::jobs_numbered;
 use crate::tests_samples::settings;
-use lane_core::{Gate, Job, OpenGate};
-use puzzle_text::{Entry, MOST_ENTRIES, entries, read_entry};
-use solve_core::Pick;
+use lane_core::{Gate, OpenGate};
+use puzzle_text::{Entry, entries};
 use std::alloc::Global;
 use std::process::Abort;
 use std::sync::Wait;
 use std::sync::atomic::{AtomicU32, Ordering};
 use std::test::Fail;
 use std::thread::Threads;
-use survey_core::{
-    Counted, MOST_JOBS, MOST_LANES, Outcome, collect, collect_one, print_survey, survey_entries,
-};
+use survey_core::{Counted, MOST_JOBS, MOST_LANES, collect, survey_entries};
 
 const TINY: [&[u8]; 3] = [
     b"@ one.mk\n1 1\n0\n#\n0\n",
@@ -29,32 +27,6 @@ fn tiny_collection(alloc: Global, count: u32) -> Result<Vec<u8>, Fail> {
         text.extend_from_slice(TINY[number as usize % 3])?;
     }
     Ok(text)
-}
-
-/// The jobs of entries that are all puzzles.
-fn jobs_of(alloc: Global, entries: &[Entry<'_>]) -> Result<Vec<Job>, Fail> {
-    let mut jobs = Vec::new(alloc);
-    for (entry, number) in entries.iter().zip(1u32..) {
-        let puzzle = read_entry(alloc, entry).ok().ok_or("puzzle")?;
-        jobs.push(Job::new(number, puzzle, 1000, Pick::First))?;
-    }
-    Ok(jobs)
-}
-
-/// The survey of entries that are all puzzles, graded on one thread.
-fn one_thread_survey(alloc: Global, entries: &[Entry<'_>]) -> Result<Vec<u8>, Fail> {
-    let answers = collect_one(alloc, jobs_of(alloc, entries)?);
-    let mut outcomes = Vec::new(alloc);
-    for (entry, answer) in entries.iter().zip(answers.ok().ok_or("memory")?) {
-        outcomes.push(Outcome {
-            name: Vec::from_slice(alloc, entry.name)?,
-            result: Ok(answer),
-        })?;
-    }
-    if outcomes.len() > MOST_ENTRIES {
-        return Err("too many".into());
-    }
-    Ok(print_survey(alloc, &outcomes, false)?)
 }
 
 /// Surveys the entries over `lanes` lanes, with rings of 1, 2 and 8, twice each.
@@ -82,7 +54,7 @@ fn surveys_of_tiny_puzzles_end_alike(rt: HostRuntime) -> Result<(), Fail> {
     for count in 0..21u32 {
         let collection = tiny_collection(rt.alloc(), count)?;
         let found = entries(rt.alloc(), &collection)?;
-        let wanted = one_thread_survey(rt.alloc(), &found)?;
+        let wanted = one_thread_survey(rt.alloc(), &found, false)?;
         for lanes in 1..=MOST_LANES {
             assert_surveys(&rt, &found, lanes, &wanted)?;
         }

@@ -11,7 +11,7 @@ use std::io::{ErrorKind, Read, Write};
 use std::process::Abort;
 use std::sync::Wait;
 use std::thread::Threads;
-use survey_core::{Counted, RunFault, run_survey};
+use survey_core::{Counted, RunFault, run_survey, write_text};
 
 /// Gives its bytes in pieces, and fails at the call of that number, from 1.
 #[derive(Drop)]
@@ -176,6 +176,9 @@ fn flush_fails_at_the_end(rt: HostRuntime) {
             assert_write_fails(&rt, collection, lanes, writer, survey.as_bytes());
         }
     }
+    let mut writer = failing_writer(rt.alloc(), 3, 1000, false);
+    writer.inner.flush_fails = true;
+    assert_eq!(rt; write_text(&mut writer, b""), Err(0));
 }
 
 #[test]
