@@ -1,11 +1,27 @@
 -- Entries for files.
-use Rattle.std.proofs.Common.{◌≡◌, ◌<◌, ◌+◌, ◌∙◌, ℕ, zero, suc, List, [], ◌∷◌, ◌++◌, String, Vec, length, map, take, get_or, string_bytes, sym, ap, arith, add-one}
+use Rattle.std.proofs.Common.{◌≡◌, ◌<◌, ◌+◌, ◌∙◌, ℕ, zero, suc, List, [], ◌∷◌, ◌++◌, Option, Some, None, String, Vec, length, map, take, get_or, option_map, string_bytes, sym, ap, arith, add-one}
 use Rattle.std.proofs.lemmas.List.{length-map, map-append}
+use Rattle.std.specs.Prelude.{IfSome}
+use Rattle.std.specs.Io.Take.{take_inner, take_limit, take_remaining}
 use Rattle.std.specs.declared.alloc.Global.{Global}
+use Rattle.std.specs.declared.io.traits.Take.{Take}
 use Rattle.puzzle_text.specs.Collections.{Entry}
 use Rattle.puzzle_text.specs.Shown.{shown_entry}
 use Rattle.puzzle_text.specs.declared.collections.Entry.{Entry as KeptEntry}
 use Rattle.nonograde.specs.Printing.{named_texts}
+
+-- bytes that were read of a reader's front are that front
+pub front_read : {R : Type 0} (remaining : R → Option (List ℕ)) (front : Take R) (file : R) (limit : ℕ) (before body : List ℕ) →
+    take_limit front ≡ limit → take_inner front ≡ file → before ≡ []
+    → IfSome (take_remaining remaining front) (λ bytes. body ≡ before ++ bytes)
+    → IfSome (remaining file) (λ bytes. body ≡ take limit bytes)
+front_read remaining front file limit before body at_limit of_file empty read =
+    rw (← at_limit, ← of_file) (self (remaining front.inner) (rw empty at read))
+  where
+    self : (known : Option (List ℕ)) → IfSome (option_map (take front.limit) known) (λ bytes. body ≡ bytes)
+        → IfSome known (λ bytes. body ≡ take front.limit bytes)
+    self None is = tt
+    self (Some bytes) is = is
 
 -- one more name and text
 pub named_more : (i : ℕ) (names texts : List (List ℕ)) (name text : List ℕ) → i < length names → i < length texts →

@@ -1,7 +1,8 @@
 -- What is left in the output after a command, from what its parts give and leave.
-use Rattle.std.proofs.Common.{◌≡◌, ◌≤◌, ℕ, List, Option, Some, None, Result, Ok, Err, length, take, refl, sym, ap, ◌∙◌}
-use Rattle.std.specs.Prelude.{IfErr, IsErrAnd, OnErr, OnOk}
+use Rattle.std.proofs.Common.{◌≡◌, ◌≤◌, ℕ, List, Option, Some, None, Result, Ok, Err, [], codes, length, take, refl, sym, ap, ◌∙◌}
+use Rattle.std.specs.Prelude.{IfErr, IfSome, IsErrAnd, OnErr, OnOk}
 use Rattle.std.specs.Io.KnownBytes.{Appends, Keeps}
+use Rattle.std.proofs.KnownBytes.{Appends-trans}
 use Rattle.grid_core.specs.Nonogram.{Nonogram}
 use Rattle.puzzle_text.specs.Collections.{Entry as NamedText}
 use Rattle.puzzle_text.specs.declared.faults.EntryFault.{EntryFault}
@@ -14,13 +15,13 @@ use Rattle.survey_core.specs.Survey.{survey_of_entries}
 use Rattle.survey_core.specs.declared.faults.RunFault.{RunFault}
 use Rattle.survey_core.specs.declared.settings.Settings.{Settings}
 use Rattle.nonograde.specs.Converting.{GivesConverted, converted}
-use Rattle.nonograde.specs.Printing.{PrintsFile, PrintsFiles, convert_answer, named_texts, or_stop}
+use Rattle.nonograde.specs.Printing.{Prints, PrintsFile, PrintsFiles, convert_answer, named_texts, or_stop}
 use Rattle.nonograde.specs.Reports.{GivesText, said, text_or_fault}
-use Rattle.nonograde.specs.Stop.{stop_of_convert}
+use Rattle.nonograde.specs.Stop.{stop_line, stop_of_convert, stop_word}
 use Rattle.nonograde.specs.declared.converting.ConvertFault.{ConvertFault}
 use Rattle.nonograde.specs.declared.converting.ConvertFault.TheVariants as convert
 use Rattle.nonograde.specs.declared.stop.Stop.{Stop}
-use Rattle.nonograde.specs.declared.stop.Stop.TheVariants.{Entry, Run, Write}
+use Rattle.nonograde.specs.declared.stop.Stop.TheVariants.{Entry, Run, Write, NoMemory as memory_stop}
 
 -- if nothing is written, the bytes stay
 pub keeps : (known : Option (List ℕ)) → Keeps known known
@@ -31,6 +32,20 @@ keeps (Some bytes) = refl
 pub is_stop : (r : Result (Unit {0}) Stop) (stop : Stop) → IsErrAnd r (λ given. given ≡ stop) → r ≡ Err stop
 is_stop (Ok _) stop is = absurd is
 is_stop (Err given) stop is = ap (λ (s : Stop). Err s) is
+
+-- if there is no room for a text, nothing is printed
+pub unprinted : (shown known : Option (List ℕ)) →
+    (text : List ℕ) × IfSome shown (λ bytes. text ≡ bytes) × Prints {U = Unit {0}} (Ok text) (Err memory_stop) known known
+unprinted None known = ([], tt, keeps known)
+unprinted (Some text) known = (text, refl, keeps known)
+
+-- if the last piece of a stop's line goes out behind the others, the line went out
+pub stop_printed : (stop : Stop) (word : List ℕ) (r : Result (Unit {0}) Stop) (first second third last : Option (List ℕ))
+    → Appends first second (codes "nonograde: ") → Appends second third word → word ≡ stop_word stop
+    → OnOk r (Appends third last (codes "\n")) → OnOk r (Appends first last (stop_line stop))
+stop_printed stop word (Ok _) first second third last begun told is ended =
+    Appends-trans first second last _ _ begun (Appends-trans second third last _ _ (rw is at told) ended)
+stop_printed stop word (Err _) first second third last begun told is ended = tt
 
 -- if a text is that of a file's bytes, and it goes out whole or its front does, the file is printed
 printed_of : (answer : List ℕ → Result (List ℕ) Stop) (body text : List ℕ) (r : Result (Unit {0}) Stop) (old new : Option (List ℕ))

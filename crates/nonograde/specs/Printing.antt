@@ -1,15 +1,17 @@
--- What a command leaves in the output, by what it gives.
-use Rattle.std.specs.Prelude.{◌≡◌, ℕ, ◌≤◌, List, [], ◌∷◌, length, map, take, string_bytes, Option, IfSome, Result, Ok, Err}
-use Rattle.std.specs.Io.KnownBytes.{Appends, Keeps}
+-- What a command leaves in the output and of standard input, by what it gives.
+use Rattle.std.specs.Prelude.{◌≡◌, ℕ, ◌≤◌, List, [], ◌∷◌, length, map, take, string_bytes, Option, IfSome, OnOk, Result, Ok, Err}
+use Rattle.std.specs.Io.KnownBytes.{Appends, IsAtEnd, Keeps}
 use Rattle.puzzle_text.specs.Collections.{Entry as NamedText}
 use Rattle.puzzle_text.specs.declared.faults.CollectionFault.{CollectionFault}
 use Rattle.puzzle_text.specs.declared.faults.EntryFault.TheVariants.{Text}
 use Rattle.puzzle_text.specs.declared.faults.TextFault.TheVariants as text
 use Rattle.puzzle_text.specs.declared.formats.Format.{Format}
 use Rattle.solve_core.specs.declared.picks.Pick.{Pick}
+use Rattle.survey_core.specs.Counted.{fault_count}
 use Rattle.survey_core.specs.Guessing.{guessing}
 use Rattle.survey_core.specs.Leaving.{IsWrite, LeavesAt, WritesSurvey}
 use Rattle.survey_core.specs.Survey.{survey_of, survey_of_entries}
+use Rattle.survey_core.specs.declared.counted.Counted.{Counted}
 use Rattle.survey_core.specs.declared.settings.Settings.{Settings}
 use Rattle.nonograde.specs.Converting.{converted}
 use Rattle.nonograde.specs.Reports.{lines_text, said, solve_text, text_or_fault}
@@ -18,6 +20,22 @@ use Rattle.nonograde.specs.declared.command.Request.TheVariants.{Survey, Solve, 
 use Rattle.nonograde.specs.Stop.{stop_of_convert}
 use Rattle.nonograde.specs.declared.stop.Stop.{Stop}
 use Rattle.nonograde.specs.declared.stop.Stop.TheVariants.{Entry, Run, Read, Write, NoMemory}
+
+-- a stream before and after: its bytes, if they are known, and how many of its calls failed
+pub record Stream : Type 0 where
+  pub old : Option (List ℕ)
+  pub new : Option (List ℕ)
+  pub old_faults : ℕ
+  pub new_faults : ℕ
+
+-- a counted stream, before and after
+abbrev pub stream : {T : Type 0} → (T → Option (List ℕ)) → Counted T → Counted T → Stream
+stream contents old new =
+    record { old = contents old.inner; new = contents new.inner; old_faults = fault_count old; new_faults = fault_count new }
+
+-- the stream is as it was
+abbrev pub IsUntouched : Stream → Type 0
+IsUntouched stream = (stream.new ≡ stream.old) × (stream.new_faults ≡ stream.old_faults)
 
 -- a text, or the stop that a fault is
 abbrev pub or_stop : {E : Type 0} → (E → Stop) → Result (List ℕ) E → Result (List ℕ) Stop
@@ -83,25 +101,28 @@ PrintsFiles settings names (Err NoMemory) old new = Keeps old new
 PrintsFiles settings names result old new = (texts : List (List ℕ)) × (length texts ≡ length names) ×
     PrintsSurvey (files_survey settings names texts) result old new
 
--- What a survey of standard input leaves, if its bytes are known. If there is no room to tell its progress,
--- nothing is printed.
-abbrev pub PrintsInput : {U : Type 0} → Settings → Option (List ℕ) → Result U Stop → Option (List ℕ) → Option (List ℕ) → Type 0
+-- What a survey of standard input leaves, if its bytes are known; if it was printed, these were read to their
+-- end. If there is no room to tell its progress, nothing is printed.
+abbrev pub PrintsInput : {U : Type 0} → Settings → Stream → Result U Stop → Option (List ℕ) → Option (List ℕ) → Type 0
 PrintsInput settings input (Err NoMemory) old new = Keeps old new
 PrintsInput settings input result old new =
-    IfSome input (λ bytes. PrintsSurvey (survey_of (guessing settings) settings.show bytes) result old new)
+    IfSome input.old (λ bytes. PrintsSurvey (survey_of (guessing settings) settings.show bytes) result old new) ×
+    OnOk result (IsAtEnd input.new)
 
--- the survey of the files, or of standard input if there is none
-abbrev pub PrintsSurveyOf : {U : Type 0} → Settings → List (List ℕ) → Option (List ℕ) → Result U Stop → Option (List ℕ) →
+-- the survey of the files, and standard input is as it was; or the survey of standard input if there is no file
+abbrev pub PrintsSurveyOf : {U : Type 0} → Settings → List (List ℕ) → Stream → Result U Stop → Option (List ℕ) →
     Option (List ℕ) → Type 0
 PrintsSurveyOf settings [] input result old new = PrintsInput settings input result old new
-PrintsSurveyOf settings (name ∷ names) input result old new = PrintsFiles settings (name ∷ names) result old new
+PrintsSurveyOf settings (name ∷ names) input result old new = IsUntouched input × PrintsFiles settings (name ∷ names) result old new
 
--- what is left after a request is performed
-abbrev pub Performs : {U : Type 0} → Request → Option (List ℕ) → Result U Stop → Option (List ℕ) → Option (List ℕ) → Type 0
+-- what is left after a request is performed. Standard input is as it was, unless it is surveyed
+abbrev pub Performs : {U : Type 0} → Request → Stream → Result U Stop → Option (List ℕ) → Option (List ℕ) → Type 0
 Performs (Survey survey) input result old new = PrintsSurveyOf survey.settings (map string_bytes survey.files.items) input result old new
-Performs (Solve guesses pick path) input result old new = PrintsFile (solve_answer guesses pick (string_bytes path)) result old new
-Performs (Convert format path) input result old new = PrintsFile (convert_answer format (string_bytes path)) result old new
-Performs (Lines path) input result old new = PrintsFile (lines_answer (string_bytes path)) result old new
+Performs (Solve guesses pick path) input result old new =
+    IsUntouched input × PrintsFile (solve_answer guesses pick (string_bytes path)) result old new
+Performs (Convert format path) input result old new =
+    IsUntouched input × PrintsFile (convert_answer format (string_bytes path)) result old new
+Performs (Lines path) input result old new = IsUntouched input × PrintsFile (lines_answer (string_bytes path)) result old new
 
 -- the program stops because its output failed
 abbrev pub IsUnwritten : {U : Type 0} → Result U Stop → Type 0

@@ -20,21 +20,44 @@ use survey_core::{
 };
 
 /// The version: the day of the newest change that users see.
-const VERSION: &str = "2026.11.24";
+const VERSION: &str = "2026.11.25";
+
+/// What the help of a command that grades ends with: what it prints, and further lines.
+macro_rules! grading_help {
+    ($prints:literal, $further:literal) => {
+        concat!(
+            $prints,
+            "
+Each line is N WxH VERDICT GRADE LINE TRIALS GUESSES GOAL NAME, or N refused WORD NAME.
+VERDICT: none, one or several solutions; or unsettled, if the guesses allowed are too few.
+GRADE: what it takes, line (logic), trials (of a colour, until it contradicts) or search (guesses).
+LINE, TRIALS: cells known after each. GOAL: absent, or it meets or misses the clues.
+If unsettled, try --guesses 1000000 (mostly still in a fraction of a second), or the other --pick.
+
+",
+            $further
+        )
+    };
+}
 
 /// What the help of `survey` ends with.
-const SURVEY_HELP: &str = "It prints a line for each puzzle, and a line of totals.
+const SURVEY_HELP: &str = grading_help!(
+    "It prints a line for each puzzle, and a line of totals.",
+    "A collection is one text, each puzzle below a line \"@ NAME\". As FILE it is refused; give it on standard input:
+nonograde survey < puzzles/collection.txt
 
 Example: nonograde survey --lanes 8 --show puzzles/heart.non puzzles/cat.mk
 
-Exit status: 0 if the survey is printed, 1 at a fault, 2 if the words are refused.";
+Exit status: 0 if the survey is printed, 1 at a fault, 2 if the words are refused."
+);
 
 /// What the help of `solve` ends with.
-const SOLVE_HELP: &str = "It prints the puzzle's line, and its solutions: none, one or two of them.
+const SOLVE_HELP: &str = grading_help!(
+    "It prints the puzzle's line, and its solutions: none, one or two of them.",
+    "Example: nonograde solve puzzles/heart.non
 
-Example: nonograde solve puzzles/heart.non
-
-Exit status: 0 if the line is printed, 1 at a fault, 2 if the words are refused.";
+Exit status: 0 if the line is printed, 1 at a fault, 2 if the words are refused."
+);
 
 /// What the help of `convert` ends with.
 const CONVERT_HELP: &str = "It prints the puzzle's text in the format.
@@ -111,7 +134,7 @@ fn guesses_option<'a>(alloc: Global) -> Arg<'a>
     Arg::new(alloc, "guesses")
         .long("guesses")
         .value_name("N")
-        .help("The most guesses for a puzzle")
+        .help("The most guesses for a puzzle, 0 to 1000000")
         .value_parser(value_parser!(u32).range(0..=i64::from(MOST_GUESSES)))
         .default_value("1000")
 }
@@ -200,7 +223,7 @@ fn file_words<'a>(alloc: Global) -> Arg<'a>
 {
     Arg::new(alloc, "file")
         .value_name("FILE")
-        .help("Puzzles in .non, .mk or .nin, in place of a collection on standard input")
+        .help("A puzzle each: .non, .mk or .nin. Without FILE, a collection on standard input")
         .num_args(0..)
         .action(ArgAction::Append)
 }

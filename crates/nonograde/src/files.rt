@@ -1,6 +1,6 @@
 //! Files: what is read of them, and the entries that they are.
 
-ghost use Rattle.std.specs.Prelude.{◌≡◌, ◌≢◌, IfErr, IfOk, length, map, string_bytes};
+ghost use Rattle.std.specs.Prelude.{◌≡◌, ◌≢◌, IfErr, IfOk, IfSome, length, map, string_bytes, take};
 ghost use Rattle.std.specs.IoError.{error_kind};
 ghost use Rattle.puzzle_text.specs.Shown.{shown_entry};
 ghost use Rattle.nonograde.specs.Printing.{named_texts};
@@ -30,9 +30,10 @@ fn stop_of_error(error: &io::Error) -> Stop
     }
 }
 
-/// The first bytes of an open file: all of them, or as many as show that it is too long.
-fn read_front<F: Read + Drop>(alloc: Global, file: F) -> Result<Vec<u8>, Stop>
-    ensures { IfErr result IsUnread }
+/// The first bytes that a reader has: all of them, or as many as show that they are too many.
+pub fn read_front<F: Read + Drop>(alloc: Global, file: F) -> Result<Vec<u8>, Stop>
+    ensures bytes { IfOk result (λ body. IfSome (F.remaining file) (λ bytes. body.items ≡ take FILE_LIMIT bytes)) }
+    ensures refused { IfErr result IsUnread }
 {
     let mut body = Vec::new(alloc);
     match file.take(FILE_LIMIT).read_to_end(&mut body) {

@@ -1,12 +1,12 @@
 //! Performing what a command line asks for: what is printed of files and of standard input.
 
 ghost use Rattle.std.specs.Prelude.{◌≡◌, ◌+◌, ◌-◌, ◌^◌, ◌<◌, ◌≤◌, ◌↔◌, ℕ, Err, IfErr, IsErr, IsErrOf, OnErr, OnOk, length, map, string_bytes, take};
-ghost use Rattle.std.specs.Io.KnownBytes.{Appends, IsAtEnd};
+ghost use Rattle.std.specs.Io.KnownBytes.{Appends};
 ghost use Rattle.survey_core.specs.Counted.{fault_count};
 ghost use Rattle.survey_core.specs.declared.faults.RunFault.TheVariants.{Read as reader_failed};
 ghost use Rattle.survey_core.specs.Reading.{ReadsWithin};
 ghost use Rattle.nonograde.specs.Command.{HasSettingsInRange};
-ghost use Rattle.nonograde.specs.Printing.{IsUnwritten, Performs, PrintsFile, PrintsFiles, PrintsInput, PrintsSurveyOf, convert_answer, lines_answer, solve_answer};
+ghost use Rattle.nonograde.specs.Printing.{IsUnwritten, Performs, PrintsFile, PrintsFiles, PrintsInput, PrintsSurveyOf, convert_answer, lines_answer, solve_answer, stream};
 
 use crate::command::{Request, SurveyRequest};
 use crate::converting::convert;
@@ -23,13 +23,14 @@ use std::thread::Threads;
 use survey_core::{Counted, ProgressGate, Settings, run_survey, survey_entries, write_text};
 
 /// Prints a text and flushes.
-fn print_text<W: Write>(writer: &mut Counted<W>, text: &[u8]) -> Result<(), Stop>
+pub fn print_text<W: Write>(writer: &mut Counted<W>, text: &[u8]) -> Result<(), Stop>
     requires { fault_count writer.old < 2 ^ 32 - 1 }
     ensures ok { OnOk result (Appends (W.contents writer.old.inner) (W.contents writer.new.inner) text.now) }
     ensures front { OnErr result ((sent : ℕ) × (sent ≤ length text.now) ×
         Appends (W.contents writer.old.inner) (W.contents writer.new.inner) (take sent text.now)) }
     ensures write { IfErr result (λ stop. stop ≡ Stop.Write) }
     ensures failed { IsErr result ↔ (fault_count writer.old < fault_count writer.new) }
+    ensures sound { OnOk result (fault_count writer.new ≡ fault_count writer.old) }
 {
     match write_text(writer, text) {
         Ok(()) => Ok(()),
@@ -47,10 +48,9 @@ fn survey_input<R: Threads + Wait + Sync + AllocGlobal, I: Read, O: Write, G: Ga
 ) -> Result<(), Stop>
     requires reading { fault_count input.old < 2 ^ 32 - 1 }
     requires writing { fault_count output.old < 2 ^ 32 - 1 }
-    ensures answer { PrintsInput settings.now (I.remaining input.old.inner) result (O.contents output.old.inner)
+    ensures answer { PrintsInput settings.now (stream I.remaining input.old input.new) result (O.contents output.old.inner)
         (O.contents output.new.inner) }
     ensures bound { ReadsWithin (LONGEST_COLLECTION + 1) (I.remaining input.old.inner) (I.remaining input.new.inner) }
-    ensures ended { OnOk result (IsAtEnd (I.remaining input.new.inner)) }
     ensures read { IsErrOf result (Stop.Run reader_failed) ↔ (fault_count input.old < fault_count input.new) }
     ensures write { IsUnwritten result ↔ (fault_count output.old < fault_count output.new) }
 {
@@ -97,7 +97,7 @@ where
     requires reading { fault_count input.old < 2 ^ 32 - 1 }
     requires writing { fault_count output.old < 2 ^ 32 - 1 }
     ensures answer { PrintsSurveyOf survey.now.settings (map string_bytes survey.now.files.items)
-        (I.remaining input.old.inner) result (O.contents output.old.inner) (O.contents output.new.inner) }
+        (stream I.remaining input.old input.new) result (O.contents output.old.inner) (O.contents output.new.inner) }
     ensures write { IsUnwritten result ↔ (fault_count output.old < fault_count output.new) }
 {
     if survey.files.is_empty() {
@@ -131,7 +131,7 @@ where
     requires reading { fault_count input.old < 2 ^ 32 - 1 }
     requires writing { fault_count output.old < 2 ^ 32 - 1 }
     ensures answer { PrintsSurveyOf survey.now.settings (map string_bytes survey.now.files.items)
-        (I.remaining input.old.inner) result (O.contents output.old.inner) (O.contents output.new.inner) }
+        (stream I.remaining input.old input.new) result (O.contents output.old.inner) (O.contents output.new.inner) }
     ensures write { IsUnwritten result ↔ (fault_count output.old < fault_count output.new) }
 {
     if !survey.progress {
@@ -208,7 +208,7 @@ where
     requires range { HasSettingsInRange request.now }
     requires reading { fault_count input.old < 2 ^ 32 - 1 }
     requires writing { fault_count output.old < 2 ^ 32 - 1 }
-    ensures answer { Performs request.now (I.remaining input.old.inner) result (O.contents output.old.inner)
+    ensures answer { Performs request.now (stream I.remaining input.old input.new) result (O.contents output.old.inner)
         (O.contents output.new.inner) }
     ensures write { IsUnwritten result ↔ (fault_count output.old < fault_count output.new) }
 {

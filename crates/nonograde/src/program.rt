@@ -1,28 +1,31 @@
 //! What the program does with its words and its standard streams, and how it ends.
 
-ghost use Rattle.std.specs.Prelude.{◌≡◌, ◌≢◌, ◌-◌, ◌^◌, ◌<◌, ◌≤◌, IfOk, Result, map, string_bytes};
+ghost use Rattle.std.specs.Prelude.{◌≡◌, ◌≢◌, ◌-◌, ◌^◌, ◌<◌, ◌≤◌, ◌↔◌, ℕ, List, IfOk, IfSome, OnErr, OnOk, Ok, Result, map, string_bytes};
 ghost use Rattle.std.specs.IoError.{error_kind};
 ghost use Rattle.std.specs.Io.KnownBytes.{Appends};
 ghost use Rattle.clap.specs.Words.{kind_of};
+ghost use Rattle.puzzle_text.specs.Words.{word_text};
 ghost use Rattle.survey_core.specs.Counted.{fault_count};
 ghost use Rattle.nonograde.specs.Command.{HasSettingsInRange};
+ghost use Rattle.nonograde.specs.Printing.{IsUnwritten, Prints, stream};
+ghost use Rattle.nonograde.specs.Stop.{stop_line};
 ghost use Rattle.nonograde.specs.Words.{WordsAsk};
-ghost use Rattle.nonograde.specs.Ending.{EndsBy, EndsByWords, Says, Stops, refused_line, stream};
+ghost use Rattle.nonograde.specs.Ending.{EndsAfter, EndsBy, EndsByWords, Stops, refused_line};
 
 use crate::command::{CommandFault, Request, parse_words};
-use crate::performing::perform;
-use crate::stop::{Stop, stop_text};
+use crate::performing::{perform, print_text};
+use crate::stop::{Stop, word_of};
 use clap::Error;
+use itoa::Buffer;
+use puzzle_text::FaultWord;
 use std::alloc::Global;
+use std::fmt::Display;
 use std::io::{ErrorKind, Read, Write};
 use std::rt::{Env, Files};
 use std::sync::Wait;
 use std::thread::Threads;
 use std::{env, io};
-use survey_core::{Counted, write_text};
-
-/// What the program prints if a growth was refused, also in making its last words.
-const NO_MEMORY: &[u8] = b"nonograde: NoMemory\n";
+use survey_core::Counted;
 
 /// What the program prints if its words can't be read.
 const NO_TEXT: &[u8] = b"error: a word of the command line is no text\n";
@@ -32,24 +35,39 @@ pub fn words_of<R: Env + AllocGlobal>(rt: &R) -> io::Result<Vec<String>> {
     Ok(env::args(rt)?.skip(1).collect(rt.alloc())?)
 }
 
-/// Prints why the program stops. An `Err` has the number of bytes that went out.
-fn tell_stop<E: Write>(alloc: Global, errors: &mut Counted<E>, stop: &Stop) -> Result<(), u64>
+/// Prints the word of a fault, and after a colon the number of its line, if it has one.
+fn print_word<E: Write>(errors: &mut Counted<E>, word: FaultWord) -> Result<(), Stop>
     requires { fault_count errors.old < 2 ^ 32 - 1 }
-    ensures { fault_count errors.new ≡ fault_count errors.old
-        → Says stop.now (E.contents errors.old.inner) (E.contents errors.new.inner) }
+    ensures said { OnOk result (Appends (E.contents errors.old.inner) (E.contents errors.new.inner) (word_text word)) }
+    ensures failed { OnErr result (fault_count errors.old < fault_count errors.new) }
+    ensures sound { OnOk result (fault_count errors.new ≡ fault_count errors.old) }
 {
-    match stop_text(alloc, stop) {
-        Ok(text) => write_text(errors, &text),
-        Err(_) => write_text(errors, NO_MEMORY),
-    }
+    print_text(errors, word.name.as_bytes())?;
+    let Some(line) = word.line else {
+        return Ok(());
+    };
+    print_text(errors, b":")?;
+    print_text(errors, Buffer::new().format(line).as_bytes())
+}
+
+/// Prints why the program stops: `nonograde: `, the fault's word, and a line feed. It takes no memory, so the
+/// line goes out in pieces.
+fn print_stop<E: Write>(errors: &mut Counted<E>, stop: &Stop) -> Result<(), Stop>
+    requires { fault_count errors.old < 2 ^ 32 - 1 }
+    ensures said { OnOk result (Appends (E.contents errors.old.inner) (E.contents errors.new.inner) (stop_line stop.now)) }
+    ensures failed { OnErr result (fault_count errors.old < fault_count errors.new) }
+{
+    print_text(errors, b"nonograde: ")?;
+    print_word(errors, word_of(*stop))?;
+    print_text(errors, b"\n")
 }
 
 /// Prints why the program stops, and gives its status, 1.
-fn report_stop<E: Write>(alloc: Global, errors: &mut Counted<E>, stop: &Stop) -> u8
+pub fn report_stop<E: Write>(errors: &mut Counted<E>, stop: &Stop) -> u8
     requires { fault_count errors.old < 2 ^ 32 - 1 }
     ensures { Stops stop.now result (stream E.contents errors.old errors.new) }
 {
-    let _ = tell_stop(alloc, errors, stop);
+    let _ = print_stop(errors, stop);
     1
 }
 
@@ -62,11 +80,38 @@ pub fn refuse_words<E: Write>(errors: &mut Counted<E>, error: &io::Error) -> u8
         → Appends (E.contents errors.old.inner) (E.contents errors.new.inner) (refused_line result) }
 {
     if error.kind() == ErrorKind::OutOfMemory {
-        let _ = write_text(errors, NO_MEMORY);
-        return 1;
+        return report_stop(errors, &Stop::NoMemory);
     }
-    let _ = write_text(errors, NO_TEXT);
+    let _ = print_text(errors, NO_TEXT);
     2
+}
+
+/// Prints what is displayed of a value, and flushes.
+fn print_shown<T: Display, O: Write>(
+    alloc: Global,
+    shown: &T,
+    output: &mut Counted<O>,
+) -> Result<(), Stop>
+    requires { fault_count output.old < 2 ^ 32 - 1 }
+    ensures answer { (text : List ℕ) × IfSome (T.output shown.now) (λ known. text ≡ known)
+        × Prints (Ok text) result (O.contents output.old.inner) (O.contents output.new.inner) }
+    ensures write { IsUnwritten result ↔ (fault_count output.old < fault_count output.new) }
+{
+    match shown.to_string(alloc) {
+        Ok(text) => print_text(output, text.as_bytes()),
+        Err(_) => Err(Stop::NoMemory),
+    }
+}
+
+/// Ends the program with status 0, or at a stop, which it reports.
+fn end_after<E: Write>(errors: &mut Counted<E>, done: Result<(), Stop>) -> u8
+    requires { fault_count errors.old < 2 ^ 32 - 1 }
+    ensures { EndsAfter done result (stream E.contents errors.old errors.new) }
+{
+    match done {
+        Ok(()) => 0,
+        Err(stop) => report_stop(errors, &stop),
+    }
 }
 
 /// Prints what `clap` says of the words, help and the version on the output and all else on the stream for
@@ -77,7 +122,8 @@ fn tell_words<O: Write, E: Write>(
     output: &mut Counted<O>,
     errors: &mut Counted<E>,
 ) -> u8
-    requires { fault_count errors.old < 2 ^ 32 - 1 }
+    requires writing { fault_count output.old < 2 ^ 32 - 1 }
+    requires telling { fault_count errors.old < 2 ^ 32 - 1 }
     ensures status { result ≤ 2 }
     ensures ends { EndsByWords (kind_of error.now) result (stream O.contents output.old output.new)
         (stream E.contents errors.old errors.new) }
@@ -86,10 +132,8 @@ fn tell_words<O: Write, E: Write>(
         let _ = write!(errors.inner, "{error}");
         return 2;
     }
-    match write!(output.inner, "{error}").and_then(|()| output.inner.flush()) {
-        Ok(()) => 0,
-        Err(_) => report_stop(alloc, errors, &Stop::Write),
-    }
+    let done = print_shown(alloc, error, output);
+    end_after(errors, done)
 }
 
 /// Performs what is asked for, or tells why the words are refused, and gives the program's status.
@@ -112,17 +156,15 @@ where
     requires writing { fault_count output.old < 2 ^ 32 - 1 }
     requires telling { fault_count errors.old < 2 ^ 32 - 1 }
     ensures status { result ≤ 2 }
-    ensures ends { EndsBy asked (I.remaining input.old.inner) result (stream O.contents output.old output.new)
+    ensures ends { EndsBy asked (stream I.remaining input.old input.new) result (stream O.contents output.old output.new)
         (stream E.contents errors.old errors.new) }
 {
     match asked {
         Ok(request) => {
-            match perform(rt, &request, input, output, progress) {
-                Ok(()) => 0,
-                Err(stop) => report_stop(rt.alloc(), errors, &stop),
-            }
+            let done = perform(rt, &request, input, output, progress);
+            end_after(errors, done)
         }
-        Err(CommandFault::NoMemory) => report_stop(rt.alloc(), errors, &Stop::NoMemory),
+        Err(CommandFault::NoMemory) => report_stop(errors, &Stop::NoMemory),
         Err(CommandFault::Words(error)) => tell_words(rt.alloc(), &error, output, errors),
     }
 }
@@ -150,7 +192,7 @@ where
     requires telling { fault_count errors.old < 2 ^ 32 - 1 }
     ensures status { result ≤ 2 }
     ensures ends { (asked : Result Request CommandFault) × IfOk asked (WordsAsk (map string_bytes words.items))
-        × EndsBy asked (I.remaining input.old.inner) result (stream O.contents output.old output.new)
+        × EndsBy asked (stream I.remaining input.old input.new) result (stream O.contents output.old output.new)
         (stream E.contents errors.old errors.new) }
 {
     let asked = parse_words(rt.alloc(), words);

@@ -1,14 +1,13 @@
 //! What the program says if it stops at a fault.
 
-ghost use Rattle.std.specs.Prelude.{◌≡◌, ◌++◌, IfOk, codes};
+ghost use Rattle.std.specs.Prelude.{◌≡◌};
 ghost use Rattle.puzzle_text.specs.Words.{word_text};
-ghost use Rattle.nonograde.specs.Stop.{run_word, stop_line, stop_of_convert, stop_word};
+ghost use Rattle.nonograde.specs.Stop.{run_word, stop_of_convert, stop_word};
 ghost use Rattle.nonograde.specs.declared.stop.Stop.TheVariants.{Entry as entry_stop, NoMemory as memory_stop};
 
 use crate::converting::ConvertFault;
 use grid_core::NoMemory;
 use puzzle_text::{EntryFault, FaultWord};
-use std::alloc::Global;
 use survey_core::RunFault;
 
 /// Why the program stops.
@@ -71,7 +70,7 @@ fn word_of_run(fault: RunFault) -> FaultWord
 }
 
 /// The word of a fault.
-fn word_of(stop: Stop) -> FaultWord
+pub fn word_of(stop: Stop) -> FaultWord
     ensures { word_text result ≡ stop_word stop }
 {
     match stop {
@@ -82,14 +81,4 @@ fn word_of(stop: Stop) -> FaultWord
         Stop::Write => FaultWord::alone("Write"),
         Stop::NoMemory => FaultWord::alone("NoMemory"),
     }
-}
-
-/// The line that the program prints if it stops: `nonograde: `, the fault's word, and a line feed.
-pub fn stop_text(alloc: Global, stop: &Stop) -> Result<Vec<u8>, NoMemory>
-    ensures { IfOk result (λ text. text.items ≡ stop_line stop.now) }
-{
-    let mut text = Vec::from_slice(alloc, b"nonograde: ")?;
-    word_of(*stop).push(&mut text)?;
-    text.push(b'\n')?;
-    Ok(text)
 }

@@ -1,6 +1,8 @@
 //! Files: what is read of them, and in which order.
 
-use crate::tests_running::ended;
+use crate::files::read_front;
+use crate::stop::Stop;
+use crate::tests_running::{FailingReader, ended};
 use crate::tests_samples::{CLASH, FIT, ONE, repeated};
 use puzzle_text::LONGEST_PUZZLE;
 use std::fs;
@@ -53,6 +55,14 @@ fn long_files_are_too_long(rt: HostRuntime) -> Result<(), Fail> {
     assert_eq!(rt; surveyed.status, 0);
     assert!(rt; surveyed.printed.as_slice() == survey.as_slice());
     Ok(())
+}
+
+#[test]
+fn failed_reads_give_no_front(rt: HostRuntime) {
+    for room in [0, 5, 9000] {
+        let front = read_front(rt.alloc(), FailingReader { room });
+        assert!(rt; front.err() == Some(Stop::Read), "{room} bytes");
+    }
 }
 
 #[test]

@@ -4,16 +4,14 @@
 use crate::command::{CommandFault, Request};
 use crate::converting::{ConvertFault, convert};
 use crate::reports::{lines_report, solve_report};
-use crate::stop::{Stop, stop_text};
 use crate::tests_running::asked;
 use crate::tests_samples::{DEMO, DEMO_GRID, DEMO_NIN, MEETS, PAIR, TWO, joined, repeated};
 use clap::error::ErrorKind;
-use grid_core::NoMemory;
 use puzzle_text::{EntryFault, Format, LONGEST_PUZZLE, TextFault};
 use refusals::{Told, is_heeded, refuse, sweep, told_if, was_refused};
 use solve_core::Pick;
 use std::test::Fail;
-use survey_core::{RunFault, Settings};
+use survey_core::Settings;
 
 /// What a report told, whose text is to be this one.
 fn told_of_text(answer: Result<Vec<u8>, EntryFault>, wanted: &[u8]) -> Told {
@@ -96,33 +94,6 @@ fn texts_are_converted_or_refused(rt: HostRuntime) -> Result<(), Fail> {
             None,
         ),
     )?;
-    Ok(())
-}
-
-fn told_of_stop(answer: Result<Vec<u8>, NoMemory>, wanted: &[u8]) -> Told {
-    match answer {
-        Ok(text) => told_if(text.as_slice() == wanted),
-        Err(NoMemory) => Told::NoMemory,
-    }
-}
-
-#[test]
-fn stops_are_told_or_refused(rt: HostRuntime) -> Result<(), Fail> {
-    let alloc = rt.alloc();
-    let stops = [
-        (
-            Stop::Entry(EntryFault::Text(TextFault::BadNumber(1234567))),
-            b"nonograde: BadNumber:1234567\n".as_slice(),
-        ),
-        (
-            Stop::Run(RunFault::Thread),
-            b"nonograde: Thread\n".as_slice(),
-        ),
-        (Stop::NoMemory, b"nonograde: NoMemory\n".as_slice()),
-    ];
-    for (stop, wanted) in &stops {
-        sweep(alloc, || told_of_stop(stop_text(alloc, stop), wanted))?;
-    }
     Ok(())
 }
 

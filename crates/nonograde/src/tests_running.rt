@@ -4,7 +4,7 @@ use crate::command::{CommandFault, Request, parse_words};
 use crate::program::run;
 use std::alloc::{AllocError, Global};
 use std::io;
-use std::io::{ErrorKind, Write};
+use std::io::{ErrorKind, Read, Write};
 use std::rt::Files;
 use std::sync::Wait;
 use std::test::Fail;
@@ -49,6 +49,23 @@ impl Write for FailingWriter {
 
     fn flush(&mut self) -> io::Result<()> {
         Ok(())
+    }
+}
+
+/// Gives `room` bytes, and then fails.
+#[derive(Drop)]
+pub struct FailingReader {
+    pub room: usize,
+}
+
+impl Read for FailingReader {
+    fn read(&mut self, buffer: &mut [u8]) -> io::Result<usize> {
+        if self.room == 0 {
+            return Err(io::Error::from(ErrorKind::BrokenPipe));
+        }
+        let count = self.room.min(buffer.len());
+        self.room -= count;
+        Ok(count)
     }
 }
 

@@ -24,32 +24,37 @@ fn has_line(text: &[u8], line: &str) -> bool {
 }
 
 #[test]
-fn examples_missing_in_help(rt: HostRuntime) -> Result<(), Fail> {
+fn help_says_how_to_call(rt: HostRuntime) -> Result<(), Fail> {
     let table = [
         (
             "survey --help",
+            "Usage: nonograde survey [OPTIONS] [FILE]...",
             "Example: nonograde survey --lanes 8 --show puzzles/heart.non puzzles/cat.mk",
             "Exit status: 0 if the survey is printed, 1 at a fault, 2 if the words are refused.",
         ),
         (
             "solve --help",
+            "Usage: nonograde solve [OPTIONS] <FILE>",
             "Example: nonograde solve puzzles/heart.non",
             "Exit status: 0 if the line is printed, 1 at a fault, 2 if the words are refused.",
         ),
         (
             "convert --help",
+            "Usage: nonograde convert --to <FORMAT> <FILE>",
             "Example: nonograde convert --to mk puzzles/heart.non",
             "Exit status: 0 if the text is printed, 1 at a fault, 2 if the words are refused.",
         ),
         (
             "lines --help",
+            "Usage: nonograde lines <FILE>",
             "Example: nonograde lines puzzles/heart.non",
             "Exit status: 0 if the grid is printed, 1 at a fault, 2 if the words are refused.",
         ),
     ];
-    for (words, example, statuses) in table {
+    for (words, usage, example, statuses) in table {
         let ending = ended(&rt, words, b"")?;
         assert_eq!(rt; ending.status, 0, "{words}");
+        assert!(rt; has_line(&ending.printed, usage), "{words}");
         assert!(rt; has_line(&ending.printed, example), "{words}");
         assert!(rt; has_line(&ending.printed, statuses), "{words}");
         assert!(rt; ending.said.is_empty(), "{words}");
@@ -61,7 +66,7 @@ fn examples_missing_in_help(rt: HostRuntime) -> Result<(), Fail> {
 fn version_is_printed(rt: HostRuntime) -> Result<(), Fail> {
     let ending = ended(&rt, "--version", b"")?;
     assert_eq!(rt; ending.status, 0);
-    assert!(rt; ending.printed.as_slice() == b"nonograde 2026.11.24\n".as_slice());
+    assert!(rt; ending.printed.as_slice() == b"nonograde 2026.11.25\n".as_slice());
     Ok(())
 }
 

@@ -1,41 +1,82 @@
 //! Which words ask for what, and what the program says and answers.
 
 use crate::command::{CommandFault, Request};
-use crate::stop::{Stop, stop_text};
+use crate::converting::ConvertFault;
+use crate::program::report_stop;
+use crate::stop::Stop;
 use crate::tests_running::{FailingWriter, asked, ended, ended_into};
-use crate::tests_samples::assert_bytes;
+use crate::tests_samples::joined;
 use grid_core::NoMemory;
 use puzzle_text::{CollectionFault, EntryFault, Format, TextFault};
 use solve_core::Pick;
 use std::alloc::{AllocError, Global};
 use std::io::{Read, Write};
 use std::test::Fail;
-use survey_core::{RunFault, Settings};
+use survey_core::{Counted, RunFault, Settings};
+
+/// The stop at the fault of a puzzle's text.
+fn text_stop(fault: TextFault) -> Stop {
+    Stop::Entry(EntryFault::Text(fault))
+}
 
 #[test]
-fn stop_text_not_always_no_memory(rt: HostRuntime) {
-    let table: [(Stop, &[u8]); 8] = [
+fn stops_have_their_lines(rt: HostRuntime) -> Result<(), Fail> {
+    let last = u32::MAX;
+    let stray = CollectionFault::Stray(last);
+    let table = [
+        (Stop::Entry(EntryFault::UnknownFormat), "UnknownFormat"),
+        (text_stop(TextFault::TooLong), "TooLong"),
+        (text_stop(TextFault::NoSize), "NoSize"),
+        (text_stop(TextFault::BadSize), "BadSize"),
+        (text_stop(TextFault::NoSection), "NoSection"),
+        (text_stop(TextFault::BadLine(last)), "BadLine:4294967295"),
+        (text_stop(TextFault::Twice(last)), "Twice:4294967295"),
+        (text_stop(TextFault::BadCount), "BadCount"),
         (
-            Stop::Entry(EntryFault::Text(TextFault::NoSize)),
-            b"nonograde: NoSize\n",
+            text_stop(TextFault::BadNumber(last)),
+            "BadNumber:4294967295",
         ),
+        (text_stop(TextFault::BadGoal(last)), "BadGoal:4294967295"),
+        (text_stop(TextFault::NoMemory), "NoMemory"),
+        (Stop::Run(RunFault::Collection(stray)), "Stray:4294967295"),
         (
-            Stop::Entry(EntryFault::UnknownFormat),
-            b"nonograde: UnknownFormat\n",
+            Stop::Run(RunFault::Collection(CollectionFault::TooMany)),
+            "TooMany",
         ),
-        (
-            Stop::Run(RunFault::Collection(CollectionFault::Stray(1))),
-            b"nonograde: Stray:1\n",
-        ),
-        (Stop::Run(RunFault::Write(10)), b"nonograde: Write\n"),
-        (Stop::Run(RunFault::Thread), b"nonograde: Thread\n"),
-        (Stop::Ambiguous, b"nonograde: Ambiguous\n"),
-        (Stop::Read, b"nonograde: Read\n"),
-        (Stop::Write, b"nonograde: Write\n"),
+        (Stop::Run(RunFault::Write(u64::MAX)), "Write"),
+        (Stop::Run(RunFault::Thread), "Thread"),
+        (Stop::Ambiguous, "Ambiguous"),
+        (Stop::Read, "Read"),
+        (Stop::Write, "Write"),
+        (Stop::NoMemory, "NoMemory"),
     ];
-    for (place, (stop, expected)) in table.iter().enumerate() {
-        assert_bytes(&rt, stop_text(rt.alloc(), stop), expected, place);
+    for (stop, word) in &table {
+        let mut said = Counted::new(Vec::new(rt.alloc()));
+        let line = joined(rt.alloc(), &[b"nonograde: ", word.as_bytes(), b"\n"])?;
+        assert_eq!(rt; report_stop(&mut said, stop), 1, "{word}");
+        assert!(rt; said.inner == line, "{word}");
     }
+    Ok(())
+}
+
+#[test]
+fn faults_in_sentences(rt: HostRuntime) -> Result<(), Fail> {
+    let table = [
+        (
+            ConvertFault::Entry(EntryFault::Text(TextFault::BadLine(3))),
+            "line 3 belongs nowhere or is too long",
+        ),
+        (
+            ConvertFault::Ambiguous,
+            "the text would be read with the sizes the other way round",
+        ),
+        (ConvertFault::NoMemory, "out of memory"),
+    ];
+    for (fault, sentence) in table {
+        let told = format!(in rt.alloc(); "{fault}")?;
+        assert_eq!(rt; told.as_str(), sentence);
+    }
+    Ok(())
 }
 
 #[test]
@@ -233,13 +274,27 @@ fn statuses_and_streams(rt: HostRuntime) -> Result<(), Fail> {
     Ok(())
 }
 
+/// What `clap` says of words that ask for nothing to be done.
+fn said_of(alloc: Global, line: &str) -> Result<String, Fail> {
+    match asked(alloc, line) {
+        Err(CommandFault::Words(error)) => Ok(format!(in alloc; "{error}")?),
+        _ => Err(Fail::from("the words are taken")),
+    }
+}
+
 #[test]
 fn help_and_refused_words(rt: HostRuntime) -> Result<(), Fail> {
     for (line, status) in [("--help", 0), ("lines", 2), ("survey --lanes 17", 2)] {
         let ending = ended(&rt, line, b"")?;
+        let text = said_of(rt.alloc(), line)?;
+        let (printed, said) = if status == 0 {
+            (text.as_bytes(), b"".as_slice())
+        } else {
+            (b"".as_slice(), text.as_bytes())
+        };
         assert_eq!(rt; ending.status, status, "{line}");
-        assert_eq!(rt; ending.printed.is_empty(), status == 2, "{line}");
-        assert_eq!(rt; ending.said.is_empty(), status == 0, "{line}");
+        assert!(rt; ending.printed.as_slice() == printed, "{line}");
+        assert!(rt; ending.said.as_slice() == said, "{line}");
     }
     Ok(())
 }
