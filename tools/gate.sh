@@ -1,9 +1,10 @@
 #!/usr/bin/env bash
-# Passes all tests: `rt ci` (every proof from nothing, the must-fail edits, the tests and the stored run), and
-# then the scripts over what that leaves. It installs what it needs and doesn't find, and stops at the first
-# step that fails. Its last line is `N passed, M failed` over all steps.
+# Passes all tests: ShellCheck over the scripts, `rt ci` (every proof from nothing, the must-fail edits, the
+# tests and the stored run), and the scripts over what that leaves. It installs what it needs and doesn't
+# find, and stops at the first step that fails. Its last line is `N passed, M failed` over all steps.
 set -u
-cd "$(dirname "$0")/.."
+cd "$(dirname "$0")/.." || exit
+PATH=$PATH:/usr/sbin
 log=$(mktemp)
 trap 'rm -f "$log"' EXIT
 passed=0 failed=0
@@ -30,11 +31,13 @@ need() {
 }
 
 # Whether there is a C compiler with the headers of the C library.
+# shellcheck disable=SC2317 # `need` calls it.
 compiles() {
     echo '#include <stdio.h>' | cc -x c -c -o /dev/null -
 }
 
 # Whether there is GNU parallel.
+# shellcheck disable=SC2317 # `need` calls it.
 spreads() {
     parallel --version | grep -q '^GNU parallel'
 }
@@ -48,6 +51,14 @@ lanes() {
     memory=$(awk '/^MemAvailable:/ { print int($2 / 5000000) }' /proc/meminfo)
     [ "$memory" -lt "$lanes" ] && lanes=$memory
     echo $((lanes < 1 ? 1 : lanes))
+}
+
+# Tests that ShellCheck finds nothing in any script.
+# shellcheck disable=SC2317 # `step` calls it.
+check_scripts() {
+    local scripts=(.ci/run tools/*.sh)
+    shellcheck "${scripts[@]}" || return
+    echo "${#scripts[@]} passed, 0 failed"
 }
 
 # Runs a step, and adds what its last line counts. A step that fails ends the gate.
@@ -71,10 +82,17 @@ step() {
 
 need compiles gcc libc6-dev
 need spreads parallel
+need 'hash sshd ssh rsync gawk shellcheck' openssh-server openssh-client rsync gawk shellcheck
+need 'hash make mandoc man zsh' make mandoc man-db zsh
 RT_JOBS=${RT_JOBS:-$(lanes)}
 export RT_JOBS
+step check_scripts
 step rt ci
+tools/edits.sh <"$log" || { failed=1; finish 1; }
 step tools/sweep.sh
 step tools/outside.sh
 step tools/shards_test.sh
+step tools/machines_test.sh
+step tools/pack_test.sh
+step tools/pages_test.sh
 finish 0

@@ -1,19 +1,21 @@
 #!/usr/bin/env bash
 # Runs the program where the outside fails it: outputs that are closed, full or no longer read, inputs that
 # can't be read or come slowly, files of many kinds, and limits on threads and on memory. It builds and proves
-# nothing: it runs what `rt ci` left in crates/nonograde/out, or the program that its one argument names. Its
-# last line is `N passed, M failed`.
+# nothing of the program: it runs what `rt ci` left in crates/nonograde/out, or the program that its one
+# argument names. It needs a C compiler. Its last line is `N passed, M failed`.
 #
 # A case says what is outside, what the program is to say on standard error, what it is to print on standard
 # output, and its words.
 #   - It says `-`, nothing, and ends with status 0; or a fault's word, as `nonograde: WORD`, and ends with
 #     status 1; or `refused`, some text on the words, and ends with status 2; or `unsaid`, nothing, since
-#     standard error takes nothing, and ends with status 1.
+#     standard error takes nothing, and ends with status 1; or a text `told_..`, the progress, and ends with
+#     status 0; or `WORD:told_..`, the progress and then the fault's word, and ends with status 1.
 #   - It prints `-`, nothing; or one of the texts that make_texts makes; or `TEXT:K`, its first K bytes.
 # A case fails too if the program ends by a signal or runs for ten seconds.
+# shellcheck disable=SC2016,SC2046,SC2086 # A shell within expands its words; `words` and `lines` are some.
 set -u
 program=$(realpath "${1:-$(dirname "$0")/../crates/nonograde/out/nonograde}")
-cd "$(dirname "$0")/.."
+cd "$(dirname "$0")/.." || exit
 top=$PWD
 room=$(mktemp -d)
 trap 'rm -rf "$room"' EXIT
@@ -61,6 +63,40 @@ heart_line() {
     echo "1 7x6 one line 42 42 0 meets $1"
 }
 
+# The survey of the heart, COUNT times.
+hearts() {
+    lines "$1" "$(heart_line heart.non)" | awk '{ $1 = NR; print }'
+    totals "$1"
+}
+
+# The progress of a survey: its numbers, and what stands behind each.
+progress() {
+    local of=$1
+    shift
+    printf "\\rgraded %d$of" "$@"
+    echo
+}
+
+# A library under which writes to standard error are slow, and the first FAILING of them fail.
+make_writes() {
+    cc -O2 -shared -fPIC -x c -o writes.so - <<'END'
+#define _GNU_SOURCE
+#include <errno.h>
+#include <stdlib.h>
+#include <sys/syscall.h>
+#include <unistd.h>
+
+ssize_t write(int to, const void *bytes, size_t count) {
+    static int calls;
+    if (to == 2) {
+        usleep(50000);
+        if (calls++ < atoi(getenv("FAILING"))) return errno = EIO, -1;
+    }
+    return syscall(SYS_write, to, bytes, count);
+}
+END
+}
+
 # Makes the files that the program is to read.
 make_files() {
     local ones
@@ -92,7 +128,13 @@ make_texts() {
     printf '%s\n' "$(heart_line fifo.non)" "$picture" '' >solved_fifo
     printf '%s\n' "$(heart_line "$far")" "$picture" '' >solved_far
     printf '%s\n' "$(heart_line 'two?lines.non')" "$picture" '' >solved_two_lines
-    printf '%s\n' "$(heart_line heart.non)" "$(totals 1)" >surveyed_heart
+    for number in 1 10 256 300; do
+        hearts $number >surveyed_$number
+    done
+    progress '' 1 >told_input
+    progress ' of 1' 1 >told_1
+    progress ' of 10' 1 2 5 10 >told_10
+    progress ' of 300' 300 >told_300
     printf '%s\n' "$(heart_line "$far")" "$(totals 1)" >surveyed_far
     printf '%s\n' "$(heart_line 'two?lines.non')" "$(totals 1)" >surveyed_two_lines
     printf '%s\n' '1 refused TooLong zeros.non' '2 refused UnknownFormat zeros' \
@@ -135,6 +177,7 @@ output_full() {
 
 # Nobody reads the output, from the start.
 output_left() (
+    # shellcheck disable=SC2094
     exec 7<>pipe >pipe 7>&-
     run "$@" <collection
 )
@@ -165,10 +208,16 @@ input_from() {
     run "$@" <"$file" >printed
 }
 
+# Writes to standard error are slow, and the first COUNT of them fail.
+errors_slow() {
+    local limits=(env LD_PRELOAD=./writes.so FAILING="$1")
+    shift
+    ordinary "$@"
+}
+
 # The input comes in small pieces, with a pause after each.
 input_slow() {
-    local piece
-    for piece in {1..20}; do
+    for _ in {1..20}; do
         dd bs=9 count=1 status=none
         sleep 0.02
     done <collection | run "$@" >printed
@@ -229,6 +278,8 @@ wrong_word() {
     case "$1" in
         - | unsaid) [ ! -s said ] ;;
         refused) [ -s said ] ;;
+        told_*) cmp -s "$1" said ;;
+        *:told_*) cmp -s - said <<<"$(<"${1#*:}")"$'\n'"nonograde: ${1%:*}" ;;
         *) cmp -s - said <<<"nonograde: $1" ;;
     esac || echo "it said $(head -c 100 said); "
 }
@@ -236,7 +287,7 @@ wrong_word() {
 # The status with which the program says this.
 status_of() {
     case "$1" in
-        -) echo 0 ;;
+        - | told_*) echo 0 ;;
         refused) echo 2 ;;
         *) echo 1 ;;
     esac
@@ -305,12 +356,13 @@ least=$(($(stat -c %s nonograde) / 1024 + 2000))
 far=$(repeated 1994 ./).//heart.non
 long=$(repeated 4000 n)
 two_lines=$'two\nlines.non'
+make_writes
 make_files
 make_texts
 
 # Nothing fails but what is asked for.
 try ordinary - survey survey
-try ordinary - surveyed_heart survey heart.non
+try ordinary - surveyed_1 survey heart.non
 try ordinary - closed_heart lines heart.non
 try ordinary - solved_heart solve heart.non
 try ordinary - heart_in_mk convert --to mk heart.non
@@ -347,6 +399,14 @@ for outside in errors_closed errors_full; do
     try $outside - closed_heart lines heart.non
 done
 
+# A survey's progress.
+try ordinary told_input survey survey --progress
+try ordinary told_1 surveyed_1 survey --progress heart.non
+try ordinary told_1 surveyed_1 survey --progress --guesses 0 heart.non
+try output_full Write:told_input - survey --progress
+try errors_slow:0 told_10 surveyed_10 survey --progress $(lines 10 heart.non)
+try errors_slow:8 told_300 surveyed_300 survey --progress $(lines 300 heart.non)
+
 # Files. One that can't be read is told before anything is printed.
 for words in survey 'survey heart.non' lines solve 'convert --to mk'; do
     for file in folder.non nowhere.non "$long"; do
@@ -358,6 +418,9 @@ for words in lines solve 'convert --to mk'; do
     try ordinary UnknownFormat - $words zeros
 done
 try ordinary - surveyed_zeros survey zeros.non zeros
+for count in 256 300; do
+    try ordinary - surveyed_$count survey $(lines $count heart.non)
+done
 try ordinary - surveyed_far survey "$far"
 try ordinary - closed_heart lines "$far"
 try ordinary - solved_far solve "$far"

@@ -4,40 +4,30 @@
 # docs/scaling.md says how to use it.
 #
 #     tools/shards.sh [OPTIONS] FILE [parallel's options]     cuts, surveys and joins
-#     tools/shards.sh --cut --room ROOM [--entries N] FILE    cuts alone, and prints the number of shards
+#     tools/shards.sh --cut --room ROOM [OPTIONS] FILE        cuts alone, and prints the number of shards
 #     tools/shards.sh --join --room ROOM                      joins alone
 #
 # Options: --room ROOM, --entries N, and of the survey --lanes N, --ring N, --guesses N, --pick RULE, --show.
 # The program is crates/nonograde/out/nonograde, which `rt ci` leaves, or the one that NONOGRADE names.
 #
 # Status 0: all is printed. 1: a fault, told as `nonograde: WORD`. 2: the command line is refused. 3: shards
-# failed; each is named, and all others are printed.
-set -u
-export LC_ALL=C
-top=$(cd "$(dirname "$0")/.." && pwd)
-program=${NONOGRADE:-$top/crates/nonograde/out/nonograde}
-task=all room='' file='' entries=1000 lanes=1 settings=() spreading=()
+# failed; each run of them is told with the last line that it wrote on standard error, and all others are
+# printed.
+. "$(dirname "$0")/common.sh"
+task=all room='' file='' entries=5000 lanes=1 settings=() spreading=()
 
 # The limits of a collection and of a puzzle, in bytes.
 longest_collection=16777216
 longest_puzzle=1048576
 
-# Refuses the command line.
-refuse() {
-    echo "shards.sh: $*" >&2
-    exit 2
-}
-
-# Ends with a fault, by its word.
-stop() {
-    echo "nonograde: $1" >&2
-    exit 1
-}
-
 # Reads the command line.
 read_words() {
     while [ $# -gt 0 ]; do
         case "$1" in
+            --help)
+                print_head
+                exit
+                ;;
             --cut | --join) task=${1#--} ;;
             --show) settings+=("$1") ;;
             --room | --entries | --lanes | --ring | --guesses | --pick)
@@ -74,40 +64,48 @@ check_words() {
     [ "$task" = join ] || [ -n "$file" ] || refuse 'a FILE is wanted'
     [ "$task" != join ] || [ -z "$file" ] || refuse '--join wants no FILE'
     [ "$task" != cut ] || [ ${#spreading[@]} = 0 ] || refuse '--cut wants no word after FILE'
+    for word in "${spreading[@]}"; do
+        [[ ! $word =~ ^--(help|cut|join|room|entries|lanes|ring|guesses|pick|show)(=.*)?$ ]] ||
+            refuse "$word goes before FILE"
+        [[ $word != :::* ]] || refuse "$word is not wanted: parallel's input is FILE"
+    done
     case " ${spreading[*]-} " in
         *' --res'* | *' --retry-failed '*) [ -n "$room" ] || refuse 'to resume, a --room is wanted' ;;
     esac
 }
 
-# Looks for the program and for GNU parallel, and has the program refuse its settings.
+# Looks for the program and for GNU parallel, and has each of them refuse its words.
 check_tools() {
     command -v "$program" >/dev/null || refuse "there is no $program: rt ci makes it, or NONOGRADE names it"
-    case "$program" in
-        */*) program=$(realpath -s "$program") ;;
-    esac
     parallel --version 2>/dev/null | grep -q '^GNU parallel' || refuse 'there is no GNU parallel'
+    parallel "${spreading[@]}" --version </dev/null 2>/dev/null | grep -q '^GNU parallel' ||
+        refuse "words that parallel doesn't take: ${spreading[*]}"
     settings=(--lanes "$lanes" "${settings[@]}")
     "$program" survey "${settings[@]}" </dev/null >/dev/null || exit
 }
 
 # Makes the room for the shards and their lines, which is the one that is asked for or one that goes at the
 # end. A room serves just one collection, cut in one way and surveyed with the same settings.
-open_room() {
+take_room() {
     local of
     if [ -z "$room" ]; then
-        room=$(mktemp -d) || stop Write
-        trap 'rm -r "$room"' EXIT
+        open_room
         return
     fi
-    mkdir -p "$room" 2>/dev/null || stop Write
-    room=$(realpath "$room")
-    of="$entries ${settings[*]-} $(sha256sum <"$file")"
+    of="${settings[*]}"$'\n'"$entries $(sha256sum <"$file")"
     if [ -e "$room/of" ]; then
         [ "$(<"$room/of")" = "$of" ] || refuse "$room is the room of another run"
     else
-        [ -z "$(ls -A "$room")" ] || refuse "$room isn't empty"
+        make_folder "$room"
         echo "$of" >"$room/of" || stop Write
     fi
+    room=$(realpath "$room")
+}
+
+# Prints the first line that isn't blank, and all marker lines, each after its number and its place: `2:31:@ a`.
+list_markers() {
+    grep -abnvm 1 $'^[ \t]*\r\\?$' <"$file"
+    grep -abn $'^@\\([ \t]\\|\r\\?$\\)' <"$file"
 }
 
 # Prints a line for each shard: its number, the number of its first entry, how many entries it has, how many
@@ -116,45 +114,47 @@ open_room() {
 list_shards() {
     local size
     size=$(stat -L -c %s "$file")
-    awk -v most="$entries" -v limit=$longest_collection -v longest=$longest_puzzle -v size="$size" '
+    list_markers | awk -v most="$entries" -v limit=$longest_collection -v longest=$longest_puzzle -v size="$size" '
         function end_shard() {
             if (entries == 0) return
             printf "%d %d %d %.0f %.0f\n", ++shards, first, entries, skipped, bytes
             first += entries
             entries = bytes = skipped = 0
         }
-        function end_entry(kept) {
-            kept = place - start
+        function end_entry(end, kept) {
+            kept = end - start
             if (kept > limit && text - start + longest < limit) kept = limit
             if (entries == most || bytes + kept > limit) end_shard()
             entries++
             bytes += kept
-            if (start + kept == place) return
+            if (start + kept == end) return
             end_shard()
-            skipped = place - start - kept
-        }
-        function stop_at_stray() {
-            print "nonograde: Stray:" NR >"/dev/stderr"
-            strayed = 1
-            exit
+            skipped = end - start - kept
         }
         BEGIN { first = 1 }
-        /^@([ \t]|\r?$)/ {
-            if (/^@[ \t]*\r?$/) stop_at_stray()
-            if (markers++) end_entry()
+        {
+            line = substr($0, index($0, ":") + 1)
+            place = line + 0
+            line = substr(line, index(line, ":") + 1)
+        }
+        line !~ /^@[ \t]/ || line ~ /^@[ \t]*\r?$/ {
+            print "nonograde: Stray:" $0 + 0 >"/dev/stderr"
+            stray = 1
+            exit 1
+        }
+        NR == 1 { next }
+        {
+            if (NR > 2) end_entry(place)
             else skipped = place
             start = place
-            text = place + length($0) + 1
+            text = place + length(line) + 1
         }
-        !markers && !/^[ \t]*\r?$/ { stop_at_stray() }
-        { place += length($0) + 1 }
         END {
-            if (strayed) exit 1
-            place = size
-            if (markers) end_entry()
+            if (stray) exit 1
+            if (NR) end_entry(size)
             end_shard()
         }
-    ' "$file"
+    '
 }
 
 # Cuts the collection into the shards of the list.
@@ -169,7 +169,7 @@ write_shards() {
 # Cuts the collection.
 cut_collection() {
     { [ -f "$file" ] && [ -r "$file" ]; } || stop Read
-    open_room
+    take_room
     list_shards >"$room/list" || exit 1
     write_shards
 }
@@ -186,28 +186,53 @@ survey_shards() {
 }
 
 # Prints the lines of each shard after a line `after N`, if N entries stand before it. The lines of a survey
-# are whole if the last one is its totals. Other shards failed: it names them, and gives status 3.
+# are whole if the last one is its totals. Other shards failed: it tells them, and gives status 3.
 print_shards() {
-    local number first entries last status=0
+    local number first entries last failed=()
     while read -r number first entries _; do
         last=$(tail -n 1 "$room/$number.lines" 2>/dev/null; echo .)
         if [[ $last == "entries $entries refused "*$'\n.' ]]; then
             echo "after $((first - 1))"
             cat "$room/$number.lines"
         else
-            echo "shards.sh: shard $number failed: entries $first to $((first + entries - 1)) are missing" >&2
-            status=3
+            failed+=("$number $first $entries")
         fi
     done <"$room/list"
-    return $status
+    [ ${#failed[@]} = 0 ] || printf '%s\n' "${failed[@]}" | tell_failed
 }
 
-# Numbers the lines of all shards on, and adds up their totals.
+# Tells runs of failed shards, each with the last line that it wrote on standard error, and gives status 3.
+tell_failed() {
+    ROOM=$room awk '
+        function tell() {
+            if (from) print "shards.sh: shard" (from < last ? "s " from " to " : " ") last ": entries " first \
+                " to " before - 1 " are missing" cause
+            cause = ""
+        }
+        $1 != last + 1 || NR == 1 {
+            tell()
+            from = $1
+            first = $2
+        }
+        {
+            last = $1
+            before = $2 + $3
+            said = ENVIRON["ROOM"] "/" last ".lines.err"
+            while ((getline line <said) > 0) if (line ~ /[^ \t\r]/) cause = ": " line
+            close(said)
+        }
+        END { tell() }
+    ' | tr -d '\000-\011\013-\037\177' >&2
+    return 3
+}
+
+# Numbers the lines of all shards on, and adds up their totals. (In mawk, `sub` on line after line takes time
+# that grows with their square.)
 join_lines() {
     awk '
+        /^[0-9]/ { space = index($0, " "); print before + substr($0, 1, space) substr($0, space); next }
         /^after / { before = $2; next }
         /^entries / { for (i = 2; i <= NF; i += 2) totals[i] += $i; next }
-        /^[0-9]/ { sub(/^[0-9]+/, before + $1) }
         { print }
         END {
             words = split("entries refused none one several unsettled line trials search", word, " ")
@@ -218,11 +243,11 @@ join_lines() {
 
 # Prints the survey of the collection.
 join_shards() {
-    local statuses
-    print_shards | join_lines
-    statuses=("${PIPESTATUS[@]}")
-    [ "${statuses[1]}" = 0 ] || stop Write
-    exit "${statuses[0]}"
+    print_shards | join_lines | pass_on
+    case "${PIPESTATUS[*]}" in
+        [03]' 0 0') exit "${PIPESTATUS[0]}" ;;
+        *) stop Write ;;
+    esac
 }
 
 read_words "$@"

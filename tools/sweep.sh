@@ -9,7 +9,7 @@
 # nothing, says `nonograde: NoMemory` (of a survey also `nonograde: Thread`) and ends with status 1. Both fail
 # if fewer growths were refused than expected: then the tool wasn't loaded, or the call is another one.
 set -u
-cd "$(dirname "$0")/.."
+cd "$(dirname "$0")/.." || exit
 top=$PWD
 room=$(mktemp -d)
 trap 'rm -r "$room"' EXIT
@@ -97,7 +97,10 @@ input=$top/puzzles/collection.txt
 while read -r crate name rest; do
     case "$crate" in
         '' | '#') ;;
-        program) sweep_program "$name" $rest ;;
+        program)
+            # shellcheck disable=SC2086 # The words of the command line.
+            sweep_program "$name" $rest
+            ;;
         *) sweep_test "$crate" "$name" "$rest" ;;
     esac
 done <tools/sweep.txt

@@ -1,0 +1,17 @@
+# `make` proves, builds and runs the program on a collection; README.md has the other commands, with their times.
+PREFIX = /usr/local
+PROGRAM = crates/nonograde/out/nonograde
+
+program $(PROGRAM):
+	cd crates/nonograde && rt run -- survey <../../puzzles/collection.txt
+test:
+	tools/gate.sh
+look:
+	cd crates/nonograde && rt try --data heart.non=../../puzzles/heart.non -- solve heart.non
+install: $(PROGRAM)
+	@tools/install.sh "$(DESTDIR)$(PREFIX)"
+uninstall:
+	@tools/install.sh --remove "$(DESTDIR)$(PREFIX)"
+dist: $(PROGRAM)
+	@tools/install.sh --pack out
+.PHONY: program test look install uninstall dist
