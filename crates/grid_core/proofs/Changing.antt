@@ -9,7 +9,7 @@ use Rattle.grid_core.specs.Cells.{is_filled}
 use Rattle.place_sets.specs.Masks.{Has, has, IsMaskOf}
 use Rattle.place_sets.proofs.HasLemmas.{true_has}
 use Rattle.place_sets.proofs.WordSteps.{some_place}
-use Rattle.grid_core.specs.Blocks.{cell_of}
+use Rattle.grid_core.specs.Lines.{cell_of}
 use Rattle.grid_core.specs.Lines.{line_cells, is_blank, IsChanged}
 use Rattle.grid_core.proofs.LineCells.{cell_at, cell_itself, length_seen}
 
@@ -22,14 +22,6 @@ same_or_not true true = inl refl
 same_or_not true false = inr true≢false
 same_or_not false true = inr (λ e. true≢false (sym e))
 same_or_not false false = inl refl
-
-same_unless : (f g b d k : ℕ) → (((has f k ≢ has g k) ⊎ (has b k ≢ has d k)) → ⊥) → IsSameAt f g b d k
-same_unless f g b d k none = by (same_or_not (has f k) (has g k)) (same_or_not (has b k) (has d k))
-  where
-    by : (has f k ≡ has g k) ⊎ (has f k ≢ has g k) → (has b k ≡ has d k) ⊎ (has b k ≢ has d k) → IsSameAt f g b d k
-    by (inl x) (inl y) = (x, y)
-    by (inr x) y = absurd (none (inl x))
-    by (inl x) (inr y) = absurd (none (inr y))
 
 -- whether a cell is filled, of one that two tests tell
 pub filled_told : (f b : Bool) → is_filled (cell_of f b) ≡ f

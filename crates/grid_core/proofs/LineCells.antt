@@ -10,7 +10,7 @@ use Rattle.grid_core.specs.declared.cells.Cell.TheVariants.{Unknown, Filled, Bla
 use Rattle.grid_core.specs.Cells.{is_filled, is_known}
 use Rattle.place_sets.specs.Masks.{Has, has, IsMarked, IsMaskOf}
 use Rattle.place_sets.proofs.HasLemmas.{has_true, true_has, has_false}
-use Rattle.grid_core.specs.Blocks.{cell_of}
+use Rattle.grid_core.specs.Lines.{cell_of}
 use Rattle.grid_core.specs.Lines.{line_cells, is_blank}
 
 -- the cell at a place, by the masks
@@ -27,7 +27,8 @@ length_seen len filled blank l e = ap length (sym e) ∙ length_line len filled 
 
 -- ---- one cell changed
 
-same_or_other : (i p : ℕ) → (i ≡ p) ⊎ (i ≢ p)
+-- two places are the same, or they are not
+pub same_or_other : (i p : ℕ) → (i ≡ p) ⊎ (i ≢ p)
 same_or_other i p =
     elim (cases_lt i p) [
       | inl low ↦ inr (λ e. absurd (omega arith))

@@ -2,7 +2,7 @@
 use Rattle.std.proofs.Common.{◌≡◌, ℕ, ◌<◌, ◌≤◌, ◌⊎◌, inl, inr, Bool, true, false, List, length, get_or, Option, Some, None, refl, sym, ◌∙◌, arith, true≢false}
 use Rattle.grid_core.specs.declared.cells.Cell.{Cell}
 use Rattle.grid_core.specs.declared.cells.Cell.TheVariants.{Unknown, Filled, Blank}
-use Rattle.grid_core.specs.Blocks.{cell_of}
+use Rattle.grid_core.specs.Lines.{cell_of}
 use Rattle.grid_core.specs.Cells.{is_unknown}
 use Rattle.place_sets.specs.Masks.{Has, has, IsMaskOf, IsFirstFrom}
 use Rattle.place_sets.proofs.HasLemmas.{has_true, true_has}

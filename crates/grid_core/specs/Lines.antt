@@ -1,10 +1,10 @@
--- Lines that are kept as two masks.
-use Rattle.std.specs.Prelude.{◌≡◌, ◌≢◌, ◌<◌, ◌≤◌, ℕ, Bool, true, false, List, length, slice_index_or, Option, Some, None}
+-- Lines that are kept as two sets.
+use Rattle.std.specs.Prelude.{◌≡◌, ◌≢◌, ◌<◌, ◌≤◌, ℕ, Bool, true, false, List, length, map, slice_index_or, Option, Some, None}
+use Rattle.std.specs.List.{range_with_len}
 use Rattle.grid_core.specs.declared.cells.Cell.{Cell}
 use Rattle.grid_core.specs.declared.cells.Cell.TheVariants.{Unknown, Filled, Blank}
 use Rattle.grid_core.specs.Cells.{is_unknown}
-use Rattle.grid_core.specs.Rows.{cells_told}
-use Rattle.place_sets.specs.Masks.{Has}
+use Rattle.place_sets.specs.Masks.{Has, has}
 
 -- whether the cell is known to be blank
 abbrev pub is_blank : Cell → Bool
@@ -12,9 +12,15 @@ is_blank Unknown = false
 is_blank Filled = false
 is_blank Blank = true
 
--- the cells of a line that is kept as two masks
+-- the cell that two tests tell, whether it is filled and whether it is blank
+abbrev pub cell_of : Bool → Bool → Cell
+cell_of true blank = Filled
+cell_of false true = Blank
+cell_of false false = Unknown
+
+-- the cells of a line that is kept as two sets, of the filled and of the blank ones
 abbrev pub line_cells : ℕ → ℕ → ℕ → List Cell
-line_cells len filled blank = cells_told filled blank len
+line_cells len filled blank = map (λ place. cell_of (has filled place) (has blank place)) (range_with_len 0 len)
 
 -- a line has a cell at least, no more of them than there are places, and none of them is filled and blank
 pub record IsLine (width len filled blank : ℕ) : Type 0 where

@@ -1,7 +1,6 @@
 //! Clues, puzzles and partly known grids of nonograms.
 #![tactic(auto)]
 
-mod blocks;
 mod cells;
 mod clues;
 mod fields;
@@ -12,6 +11,7 @@ mod lines;
 mod memory;
 mod pictures;
 mod puzzles;
+mod rows;
 mod runs;
 
 pub use cells::Cell;

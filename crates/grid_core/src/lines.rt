@@ -1,14 +1,13 @@
 //! Lines, kept as two sets of places of one width.
 
-ghost use Rattle.std.specs.Prelude.{◌≡◌, ◌≢◌, ℕ, ◌*◌, ◌<◌, ◌≤◌, ◌↔◌, IsTrue, length, replicate, slice_index_or, slice_set, true};
+ghost use Rattle.std.specs.Prelude.{◌≡◌, ◌≢◌, ℕ, ◌<◌, ◌≤◌, ◌↔◌, IsTrue, length, replicate, slice_index_or, slice_set, true};
 ghost use Rattle.grid_core.specs.declared.cells.Cell.TheVariants.{Unknown};
 ghost use Rattle.grid_core.specs.Cells.{is_filled, is_known};
-ghost use Rattle.grid_core.specs.Rows.{row_of, with_row};
 ghost use Rattle.grid_core.specs.declared.limits.TheConstants.{LONGEST_SIDE};
 ghost use Rattle.place_sets.specs.Masks.{Has, IsMaskOf, has};
 ghost use Rattle.grid_core.specs.Lines.{IsChanged, IsUnknownCell, IsUnknownFrom, is_blank, line_cells};
 
-use crate::{Cell, Grid};
+use crate::Cell;
 use place_sets::{PlaceSet, Wide, first_from, lacking, places};
 use std::marker::Model;
 
@@ -18,8 +17,8 @@ pub struct LineOf<W: PlaceSet> {
     /// How many cells there are. The field is as wide as the narrowest set,
     /// so that there is no gap between the fields of the most frequent lines.
     len: usize,
-    filled: W,
-    blank: W,
+    pub(crate) filled: W,
+    pub(crate) blank: W,
 }
 
 impl<W: PlaceSet> Model for LineOf<W> {
@@ -182,26 +181,13 @@ impl<W: PlaceSet> LineOf<W> {
         other.len == self.len && self.changes(other).is_empty()
     }
 
-    /// Writes its cells into row `y` of a grid whose rows are as long.
-    pub fn write_row(&self, grid: &mut Grid, y: u16)
-        requires row { y < grid.old.height }
-        requires width { grid.old.width ≡ length self.now }
-        ensures row { grid.new ≡ with_row grid.old y self.now }
-        ensures count { length grid.old.cells ≡ grid.old.width * grid.old.height }
+    /// Becomes the same as a line of the same length in the widest sets.
+    pub fn read(&mut self, other: &LineOf<Wide>)
+        requires { length other.now ≡ length self.old }
+        ensures { self.new ≡ other.now }
     {
-        grid.write_row(y, self.filled.widened(), self.blank.widened());
-    }
-
-    /// Takes over the cells of row y of a grid, which has as many as this line.
-    pub fn read_row(&mut self, grid: &Grid, y: u16)
-        requires row { y < grid.now.height }
-        requires width { grid.now.width ≡ length self.old }
-        ensures cells { self.new ≡ row_of grid.now y }
-        ensures count { length grid.now.cells ≡ grid.now.width * grid.now.height }
-    {
-        let (filled, blank) = grid.read_row(y);
-        self.filled = W::narrowed(filled);
-        self.blank = W::narrowed(blank);
+        self.filled = W::narrowed(other.filled);
+        self.blank = W::narrowed(other.blank);
     }
 
     /// A number that lines with the same cells share, mostly, and that others seldom do, for tables of lines.

@@ -3,7 +3,7 @@ use Rattle.std.proofs.Common.{◌<◌, ◌∙◌, Bool, sym, ap, arith, List, ge
 use Rattle.grid_core.specs.declared.cells.Cell.{Cell}
 use Rattle.grid_core.specs.declared.cells.Cell.TheVariants.{Unknown}
 use Rattle.place_sets.specs.Masks.{has}
-use Rattle.grid_core.specs.Blocks.{cell_of}
+use Rattle.grid_core.specs.Lines.{cell_of}
 use Rattle.grid_core.proofs.LineCells.{length_seen, cell_at}
 use Rattle.grid_core.proofs.lines.LineOf.get.Goals as goal
 
