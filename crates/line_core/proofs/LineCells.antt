@@ -1,7 +1,6 @@
 -- The cells of a line that may have a colour, and the lengths of runs.
-use Rattle.std.proofs.Common.{◌≡◌, ℕ, ◌+◌, ◌<◌, ◌≤◌, ◌≢◌, Bool, true, false, List, length, get_or, set, refl, sym, ap, ◌∙◌, subst, arith, true≢false, inl, inr, rules, get_or-set_same, get_or-set_other, replicate}
+use Rattle.std.proofs.Common.{◌≡◌, ℕ, ◌+◌, ◌<◌, ◌≤◌, ◌≢◌, Bool, true, false, List, length, get_or, set, refl, sym, ◌∙◌, subst, arith, true≢false, inl, inr, rules, get_or-set_same, get_or-set_other}
 use Rattle.std.proofs.lemmas.Bool.{cases_lt}
-use Rattle.std.proofs.lemmas.List.{length-replicate, get_or-replicate}
 use Rattle.grid_core.specs.declared.cells.Cell.{Cell}
 use Rattle.grid_core.specs.declared.cells.Cell.TheVariants.{Unknown, Filled, Blank}
 use Rattle.grid_core.specs.Cells.{allows, is_filled}
@@ -66,12 +65,3 @@ written_more P xs j v l here below k h =
 pub length_at : (width : ℕ) (clue : List ℕ) (j : ℕ) → AreLengths width clue → j < length clue
     → (0 < get_or clue j 0) × (get_or clue j 0 ≤ width)
 length_at width clue j are l = (search rules, search rules)
-
--- a line of which nothing is known
-pub all_may_be : (len : ℕ) (f : Bool) (m : ℕ) → allows Unknown f ≡ true → IsMaskOf (λ i. i < len) m
-    → IsMaskOf (MayBe (replicate len Unknown) f) m
-all_may_be len f m a p =
-    let e = length-replicate len Unknown in
-    mask_same (λ i. i < len) (MayBe (replicate len Unknown) f) m p
-    (λ i l. (omega arith, subst (λ (c : Cell). allows c f ≡ true) (sym (get_or-replicate len i Unknown Unknown l)) a))
-    (λ i h. let l : i < length (replicate len Unknown) = h.0 in omega arith)

@@ -7,7 +7,7 @@ use Rattle.grid_core.specs.declared.cells.Cell.TheVariants.{Unknown}
 use Rattle.place_sets.specs.Masks.{Has, has, IsMaskOf}
 use Rattle.place_sets.proofs.HasLemmas.{has_true, true_has}
 use Rattle.line_core.specs.Deduction.{deduced}
-use Rattle.grid_core.specs.Blocks.{cell_of}
+use Rattle.grid_core.specs.Lines.{cell_of}
 use Rattle.grid_core.specs.Lines.{line_cells}
 use Rattle.line_core.specs.Told.{certain_by, told_by}
 use Rattle.line_core.specs.Reach.{IsFillable, IsBlankable}
