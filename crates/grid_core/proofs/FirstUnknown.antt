@@ -1,39 +1,30 @@
 -- The first unknown cell of a list.
-use Rattle.std.proofs.Common.{◌≡◌, ℕ, ◌+◌, ◌*◌, ◌/◌, ◌%◌, ◌<◌, ◌≤◌, Bool, true, false, List, [], ◌∷◌, length, get_or, Some, None, is_some, ◌⊎◌, inl, inr, not, refl, sym, ap, ◌∙◌, arith, true≢false}
+use Rattle.std.proofs.Common.{◌≡◌, ℕ, ◌+◌, ◌-◌, ◌*◌, ◌<◌, ◌≤◌, Bool, true, false, List, [], ◌∷◌, length, get_or, Some, None, is_some, ◌⊎◌, inl, inr, not, refl, sym, ap, ◌∙◌, arith, true≢false}
 use Rattle.std.specs.Option.{option_map}
 use Rattle.std.specs.List.{list_all, position, position_or_len}
 use Rattle.std.proofs.lemmas.Bool.{cases_lt, lt-ltb, le-ltb}
 use Rattle.std.proofs.lemmas.List.Sums.{position_or_len_is}
 use Rattle.grid_core.specs.declared.cells.Cell.{Cell}
 use Rattle.grid_core.specs.declared.cells.Cell.TheVariants.{Unknown, Filled, Blank}
-use Rattle.grid_core.specs.declared.blocks.Block.{Block}
-use Rattle.grid_core.specs.Blocks.{cell_in, cell_of_blocks, cells_of, empty}
 use Rattle.grid_core.specs.Cells.{is_known, is_unknown}
-use Rattle.grid_core.proofs.BlockLemmas.{get_or-cells_of, length-cells_of}
-
-pub known_not_unknown : (c : Cell) → is_known c ≡ true → is_unknown c ≡ false
-known_not_unknown Unknown h = absurd (true≢false (sym h))
-known_not_unknown Filled h = refl
-known_not_unknown Blank h = refl
+use Rattle.grid_core.specs.PartialGrid.{PartialGrid}
+use Rattle.grid_core.specs.Rows.{row_of}
+use Rattle.grid_core.proofs.RowLists.{get_or-row_of}
 
 found_at : (xs : List Cell) (i : ℕ) → position_or_len is_unknown xs ≡ i → i < length xs → position is_unknown xs ≡ Some i
 found_at xs i e h = rw (e, lt-ltb i (length xs) h) refl
 
--- a cell is the first unknown one if it is unknown and each one before it is known
+-- a cell is the first unknown one if it is unknown and none before it is
 pub position_some : (xs : List Cell) (i : ℕ) → i < length xs → get_or xs i Unknown ≡ Unknown →
-    ((k : ℕ) → k < i → is_known (get_or xs k Unknown) ≡ true)
-    → position is_unknown xs ≡ Some i
-position_some xs i h here before =
-    found_at xs i
-    (position_or_len_is is_unknown xs i Unknown (omega arith) (λ k l. known_not_unknown (get_or xs k Unknown) (before k l))
-    (λ l. ap is_unknown here)) h
+    ((k : ℕ) → k < i → is_unknown (get_or xs k Unknown) ≡ false) → position is_unknown xs ≡ Some i
+position_some xs i h here before = found_at xs i
+    (position_or_len_is is_unknown xs i Unknown (omega arith) before (λ l. ap is_unknown here)) h
 
--- if all cells are known, there is no first unknown one
-pub position_none : (xs : List Cell) → ((k : ℕ) → k < length xs → is_known (get_or xs k Unknown) ≡ true) → position is_unknown xs ≡ None
+-- if no cell is unknown, there is no first unknown one
+pub position_none : (xs : List Cell) → ((k : ℕ) → k < length xs → is_unknown (get_or xs k Unknown) ≡ false) → position is_unknown xs ≡ None
 position_none xs known =
     let all : position_or_len is_unknown xs ≡ length xs =
-    position_or_len_is is_unknown xs (length xs) Unknown (omega arith) (λ k l. known_not_unknown (get_or xs k Unknown) (known k l))
-    (λ l. absurd (omega arith)) in
+    position_or_len_is is_unknown xs (length xs) Unknown (omega arith) known (λ l. absurd (omega arith)) in
     rw (all, le-ltb (length xs) (length xs) (omega arith)) refl
 
 -- either all cells are known, or one is not
@@ -59,31 +50,17 @@ pub is_not : (b : Bool) → not b ≡ false → b ≡ true
 is_not true h = refl
 is_not false h = absurd (true≢false h)
 
--- ---- blocks of cells
+-- ---- rows of a grid
 
--- if cell p of n cells of blocks is unknown and each one before it is known, it is the first unknown one
-pub first_in : (blocks : List Block) (n p : ℕ) → p < n → cell_of_blocks blocks p ≡ Unknown →
-    ((i : ℕ) → i < p → is_known (cell_of_blocks blocks i) ≡ true)
-    → position is_unknown (cells_of blocks n) ≡ Some p
-first_in blocks n p h here before =
-    position_some (cells_of blocks n) p (omega (arith, length-cells_of blocks n)) (get_or-cells_of blocks n p Unknown h ∙ here)
-    (λ k l. ap is_known (get_or-cells_of blocks n k Unknown (omega arith)) ∙ before k l)
-
--- if each of the first n cells of blocks is known, none of them is unknown
-pub none_in : (blocks : List Block) (n : ℕ) → ((i : ℕ) → i < n → is_known (cell_of_blocks blocks i) ≡ true) →
-    position is_unknown (cells_of blocks n) ≡ None
-none_in blocks n known =
-    position_none (cells_of blocks n) (λ k l.
-    let within : k < n = omega (arith, length-cells_of blocks n) in ap is_known (get_or-cells_of blocks n k Unknown within) ∙
-    known k within)
-
--- if the cells of the first i blocks are known, and the first ones of block i too, all cells up to there are
-pub before-more : (blocks : List Block) (i place : ℕ) → place ≤ 64 → ((k : ℕ) → k < 64 * i → is_known (cell_of_blocks blocks k) ≡ true)
-    → ((k : ℕ) → k < place → is_known (cell_in (get_or blocks i empty) k) ≡ true) → (k : ℕ) → k < 64 * i + place →
-    is_known (cell_of_blocks blocks k) ≡ true
-before-more blocks i place short before here k l = elim (cases_lt k (64 * i)) [ inl low ↦ before k low | inr high ↦ in_block high ]
-  where
-    in_block : 64 * i ≤ k → is_known (cell_of_blocks blocks k) ≡ true
-    in_block high =
-        let at : k / 64 ≡ i = omega arith in
-        ap (λ (q : ℕ). is_known (cell_in (get_or blocks q empty) (k % 64))) at ∙ here (k % 64) (omega arith)
+-- if no cell of the rows above is unknown, nor one of the first `x` of row `y`, none up to there is
+pub known-more : (g : PartialGrid) (y x : ℕ) → x ≤ g.width → ((k : ℕ) → k < y * g.width → is_unknown (get_or g.cells k Unknown) ≡ false)
+    → ((k : ℕ) → k < x → is_unknown (get_or (row_of g y) k Unknown) ≡ false) → (k : ℕ) → k < y * g.width + x →
+    is_unknown (get_or g.cells k Unknown) ≡ false
+known-more g y x h above here k l = elim (cases_lt k (y * g.width)) [
+  | inl low ↦ above k low
+  | inr from ↦
+      (let at : y * g.width + (k - y * g.width) ≡ k = omega arith in
+      let lx : k - y * g.width < x = omega arith in
+      ap is_unknown (ap (λ (q : ℕ). get_or g.cells q Unknown) (sym at) ∙ sym (get_or-row_of g (k - y * g.width) y (omega arith)))
+      ∙ here (k - y * g.width) lx)
+]

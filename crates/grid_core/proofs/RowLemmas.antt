@@ -1,18 +1,14 @@
 -- A row of a grid with other cells.
-use Rattle.std.proofs.Common.{◌≡◌, ℕ, ◌+◌, ◌-◌, ◌*◌, ◌<◌, ◌≤◌, ◌⊎◌, inl, inr, List, ◌++◌, length, take, drop, get_or, sym, ap, ◌∙◌, subst, arith, length-append, length-drop, get_or-drop, get_or-take}
+use Rattle.std.proofs.Common.{◌≡◌, ◌≢◌, ℕ, ◌+◌, ◌-◌, ◌*◌, ◌<◌, ◌≤◌, ◌⊎◌, inl, inr, List, ◌++◌, length, take, drop, get_or, set, sym, ap, ◌∙◌, subst, arith, ext_get_or, length-append, length-drop, length-set, get_or-drop, get_or-take, get_or-set_same, get_or-set_other}
 use Rattle.std.proofs.Math.ListN.{get_or-append}
 use Rattle.std.proofs.lemmas.Bool.{cases_lt}
 use Rattle.std.proofs.lemmas.List.{get_or-append_right, length-take-le}
-use Rattle.std.proofs.lemmas.List.FromFn.{length-map-range_with_len, get_or-map-range_with_len}
-use Rattle.grid_core.specs.declared.blocks.Block.{Block}
 use Rattle.grid_core.specs.declared.cells.Cell.{Cell}
 use Rattle.grid_core.specs.declared.cells.Cell.TheVariants.{Unknown}
-use Rattle.grid_core.specs.Blocks.{AreBlocks, AreWritten, cell_of_blocks, cells_of}
-use Rattle.grid_core.specs.Nonogram.{cells_at, places_from}
 use Rattle.grid_core.specs.PartialGrid.{PartialGrid}
-use Rattle.grid_core.specs.Rows.{cell_told, cells_told, with_row}
-use Rattle.grid_core.proofs.BlockLemmas.{cells_of-is, get_or-cells_of, length-cells_of}
-use Rattle.grid_core.proofs.LineLaws.{cells-along}
+use Rattle.grid_core.specs.Rows.{row_of, with_row}
+use Rattle.grid_core.proofs.LineCells.{same_or_other}
+use Rattle.grid_core.proofs.RowLists.{get_or-row_of, length-row_of}
 
 -- ---- a list with another part
 
@@ -47,76 +43,50 @@ module _ (xs part : List Cell) (first count : ℕ) (long : length part ≡ count
       ∙ get_or-drop (first + count) xs (k - (first + count)) Unknown
       ∙ ap (λ (q : ℕ). get_or xs q Unknown) at
 
--- ---- the cells of written blocks
-
-length-cells_told : (filled blank count : ℕ) → length (cells_told filled blank count) ≡ count
-length-cells_told filled blank count = length-map-range_with_len (cell_told filled blank) 0 count
-
-get_or-cells_told : (filled blank count i : ℕ) → i < count → get_or (cells_told filled blank count) i Unknown ≡ cell_told filled blank i
-get_or-cells_told filled blank count i h = get_or-map-range_with_len (cell_told filled blank) 0 count i i Unknown h (omega arith)
-
--- if cells that two masks tell are written into blocks, they replace those of the list at their places
-pub cells_of-written : (old new : List Block) (n first count filled blank : ℕ) → first + count ≤ n →
-    AreWritten old new first count (cell_told filled blank)
-    → cells_of new n ≡ take first (cells_of old n) ++ cells_told filled blank count ++ drop (first + count) (cells_of old n)
-cells_of-written old new n first count filled blank h written =
-    cells_of-is new n whole (length-replaced cells told first count long fits ∙ length-cells_of old n) each
+-- if a range of a list has another element, the list has it
+pub replaced-set : (xs part : List Cell) (first count i : ℕ) (c : Cell) → length part ≡ count → first + count ≤ length xs → i < count
+    → ((k : ℕ) → k < count → get_or part k Unknown ≡ get_or xs (first + k) Unknown)
+    → take first xs ++ set part i c ++ drop (first + count) xs ≡ set xs (first + i) c
+replaced-set xs part first count i c long fits l same =
+    ext_get_or Unknown whole new (length-replaced xs (set part i c) first count more fits ∙ sym (length-set xs (first + i) c)) (λ k h.
+    elim (cases_lt k first) [
+      | inl low ↦ outside k (inl low)
+      | inr from ↦ elim (cases_lt k (first + count)) [ inl to ↦ inside k from to | inr high ↦ outside k (inr high) ]
+    ])
   where
-    cells : List Cell
-    cells = cells_of old n
-
-    told : List Cell
-    told = cells_told filled blank count
-
     whole : List Cell
-    whole = take first cells ++ told ++ drop (first + count) cells
+    whole = take first xs ++ set part i c ++ drop (first + count) xs
 
-    long : length told ≡ count
-    long = length-cells_told filled blank count
+    new : List Cell
+    new = set xs (first + i) c
 
-    fits : first + count ≤ length cells
-    fits = omega (arith, length-cells_of old n)
+    more : length (set part i c) ≡ count
+    more = length-set part i c ∙ long
 
-    kept : (k : ℕ) → k < n → (k < first) ⊎ (first + count ≤ k) → get_or whole k Unknown ≡ cell_of_blocks new k
-    kept k l o = replaced-others cells told first count long fits k o ∙ get_or-cells_of old n k Unknown l ∙ sym (written.others k o)
+    outside : (k : ℕ) → (k < first) ⊎ (first + count ≤ k) → get_or whole k Unknown ≡ get_or new k Unknown
+    outside k o =
+        let ne : k ≢ first + i = λ e. elim o [ inl low ↦ absurd (omega arith) | inr high ↦ absurd (omega arith) ] in
+        replaced-others xs (set part i c) first count more fits k o ∙ sym (get_or-set_other xs (first + i) k c Unknown ne)
 
-    here : (k : ℕ) → first ≤ k → k < first + count → get_or whole k Unknown ≡ cell_of_blocks new k
-    here k from to =
-        let at : k ≡ first + (k - first) = omega arith in
-        ap (λ (q : ℕ). get_or whole q Unknown) at
-        ∙ replaced-here cells told first count long fits (k - first) (omega arith)
-        ∙ get_or-cells_told filled blank count (k - first) (omega arith)
-        ∙ sym (written.here (k - first) (omega arith))
-        ∙ ap (cell_of_blocks new) (sym at)
+    here : (j : ℕ) → j < count → get_or (set part i c) j Unknown ≡ get_or new (first + j) Unknown
+    here j lj = elim (same_or_other j i) [
+      | inl e ↦ rw e (get_or-set_same part i c Unknown (omega (arith, long))
+          ∙ sym (get_or-set_same xs (first + i) c Unknown (omega arith)))
+      | inr other ↦
+          (let ne : first + j ≢ first + i = λ e. other (omega arith) in
+          get_or-set_other part i j c Unknown other ∙ same j lj ∙ sym (get_or-set_other xs (first + i) (first + j) c Unknown ne))
+    ]
 
-    each : (k : ℕ) → k < n → get_or whole k Unknown ≡ cell_of_blocks new k
-    each k l =
-        elim (cases_lt k first) [
-          | inl low ↦ kept k l (inl low)
-          | inr from ↦ elim (cases_lt k (first + count)) [ inl to ↦ here k from to | inr high ↦ kept k l (inr high) ]
-        ]
+    inside : (k : ℕ) → first ≤ k → k < first + count → get_or whole k Unknown ≡ get_or new k Unknown
+    inside k from to =
+        let at : first + (k - first) ≡ k = omega arith in
+        let lj : k - first < count = omega arith in
+        subst (λ (q : ℕ). get_or whole q Unknown ≡ get_or new q Unknown) at
+        (replaced-here xs (set part i c) first count more fits (k - first) lj ∙ here (k - first) lj)
 
--- cells that are written into blocks are written into equal blocks from an equal place on
-pub written_same : (old items new : List Block) (first from count : ℕ) (told : ℕ → Cell) → old ≡ items → first ≡ from →
-    AreWritten old new first count told → AreWritten items new from count told
-written_same old items new first from count told e f written =
-    subst (λ (b : List Block). AreWritten b new from count told) e (subst (λ (q : ℕ). AreWritten old new q count told) f written)
-
--- the blocks of n cells stay such blocks if they are written within these cells
-pub written_kept : (old new : List Block) (n first count : ℕ) (told : ℕ → Cell) → first + count ≤ n → AreBlocks n old →
-    AreWritten old new first count told → AreBlocks n new
-written_kept old new n first count told h are written = record {
-  count_of = written.size ∙ are.count_of;
-  each = written.each are.each;
-  behind = λ place b. written.others place (inr (omega arith)) ∙ are.behind place b;
-}
-
--- ---- the rows of a grid with another row
-
--- the cells along the row are the new ones
-pub row-written : (g : PartialGrid) (y : ℕ) (row : List Cell) → length row ≡ g.width → y * g.width + g.width ≤ length g.cells
-    → cells_at Unknown (with_row g y row).cells (places_from (y * g.width) 1 g.width) ≡ row
-row-written g y row long fits =
-    sym (cells-along Unknown (with_row g y row).cells row (y * g.width) 1 g.width long (λ k l.
-    let at : y * g.width + k * 1 ≡ y * g.width + k = omega arith in
-    sym (ap (λ (q : ℕ). get_or (with_row g y row).cells q Unknown) at ∙ replaced-here g.cells row (y * g.width) g.width long fits k l)))
+-- a grid whose row has another cell
+pub row-set : (g : PartialGrid) (x y : ℕ) (c : Cell) → x < g.width → y * g.width + g.width ≤ length g.cells →
+    with_row g y (set (row_of g y) x c) ≡ record g { cells = set g.cells (y * g.width + x) c }
+row-set g x y c l fits =
+    let cells = replaced-set g.cells (row_of g y) (y * g.width) g.width x c (length-row_of g y) fits l (λ k lk. get_or-row_of g k y lk) in
+    λ i. record { width = g.width; height = g.height; cells = cells i }

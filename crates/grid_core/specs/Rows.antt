@@ -1,18 +1,13 @@
--- Rows of a grid that are read and written whole.
-use Rattle.std.specs.Prelude.{ℕ, ◌+◌, ◌*◌, List, ◌++◌, map, take, drop}
+-- The rows of a grid: one after the other they have its cells, and each is read and written whole.
+use Rattle.std.specs.Prelude.{ℕ, ◌+◌, ◌*◌, List, [], ◌∷◌, ◌++◌, map, take, drop}
 use Rattle.std.specs.List.{range_with_len}
-use Rattle.place_sets.specs.Masks.{has}
 use Rattle.grid_core.specs.declared.cells.Cell.{Cell}
-use Rattle.grid_core.specs.Blocks.{cell_of}
 use Rattle.grid_core.specs.PartialGrid.{PartialGrid, cell_at}
 
--- the cell at a place, as the sets of the filled and of the blank places tell it
-abbrev pub cell_told : ℕ → ℕ → ℕ → Cell
-cell_told filled blank place = cell_of (has filled place) (has blank place)
-
--- the first `count` cells that two sets tell
-abbrev pub cells_told : ℕ → ℕ → ℕ → List Cell
-cells_told filled blank count = map (λ place. cell_of (has filled place) (has blank place)) (range_with_len 0 count)
+-- the cells of rows, one row after the other
+abbrev pub cells_of_rows : List (List Cell) → List Cell
+cells_of_rows [] = []
+cells_of_rows (row ∷ rows) = row ++ cells_of_rows rows
 
 -- the grid with other cells in row y
 abbrev pub with_row : PartialGrid → ℕ → List Cell → PartialGrid

@@ -4,7 +4,7 @@
 ghost use Rattle.grid_core.specs.PartialGrid.{IsSize};
 
 use grid_core::*;
-use place_sets::{PlaceSet, Wide};
+use place_sets::Wide;
 use std::alloc::Global;
 use std::test::Fail;
 
@@ -40,17 +40,16 @@ fn set_by_cells(grid: &mut Grid, y: u16) {
     }
 }
 
-// Gives a row the pattern at once, from sets that go on beyond the width.
+// Gives a row the pattern at once, from a line.
 fn write_whole(grid: &mut Grid, y: u16) {
-    let mut filled = Wide::none();
-    let mut blank = Wide::none();
-    for x in 0..256 {
-        let cell = pattern(x, y);
-        filled = filled.marked(x, cell == Cell::Filled);
-        blank = blank.marked(x, cell == Cell::Blank);
+    let mut line = LineOf::<Wide>::unknown(grid.width());
+    for x in 0..line.len() {
+        if x < line.len() {
+            line.set(x, pattern(x, y));
+        }
     }
-    if y < grid.height() {
-        grid.write_row(y, filled, blank.without(filled));
+    if y < grid.height() && line.len() == grid.width() {
+        grid.write_row(y, &line);
     }
 }
 
@@ -104,15 +103,12 @@ fn a_row_in_the_middle_of_a_grid(rt: HostRuntime) -> Result<(), Fail> {
     grid.set(1, 1, Cell::Filled);
     grid.set(2, 1, Cell::Blank);
     grid.set(0, 2, Cell::Blank);
-    let filled = Wide {
-        low: 0b0010_1001,
-        high: 1,
-    };
-    let blank = Wide {
-        low: 0b1101_0000,
-        high: 2,
-    };
-    grid.write_row(1, filled, blank.without(filled));
+    // The line `#??#.`.
+    let mut line = LineOf::<u64>::unknown(5);
+    line.set(0, Cell::Filled);
+    line.set(3, Cell::Filled);
+    line.set(4, Cell::Blank);
+    grid.write_row(1, &line);
     assert!(rt;
         grid.get(0, 1) == Cell::Filled && grid.get(1, 1) == Cell::Unknown,
         "its first two cells"
@@ -130,22 +126,18 @@ fn a_row_in_the_middle_of_a_grid(rt: HostRuntime) -> Result<(), Fail> {
     Ok(())
 }
 
-// Whether the sets that a row gives have the pattern's places, and none beyond the width.
+// Whether a row, as a line, has the pattern.
 fn is_read(grid: &Grid, y: u16) -> bool {
     if y >= grid.height() {
         return false;
     }
-    let (filled, blank) = grid.read_row(y);
-    for x in 0..256 {
-        let is_within = x < grid.width();
-        let cell = pattern(x, y);
-        if filled.has(x) != (is_within && cell == Cell::Filled)
-            || blank.has(x) != (is_within && cell == Cell::Blank)
-        {
+    let line = grid.row(y);
+    for x in 0..line.len() {
+        if line.get(x) != pattern(x, y) {
             return false;
         }
     }
-    true
+    line.len() == grid.width()
 }
 
 // Whether each row of a grid that has the pattern is read as it was set.
@@ -185,11 +177,15 @@ fn a_row_is_read_from_the_middle_of_a_grid(rt: HostRuntime) -> Result<(), Fail> 
     grid.set(2, 1, Cell::Blank);
     grid.set(4, 1, Cell::Filled);
     grid.set(0, 2, Cell::Blank);
-    let (filled, blank) = grid.read_row(1);
-    assert!(rt;
-        filled.low == 0b1_0001 && filled.high == 0,
-        "its filled cells"
-    );
-    assert!(rt; blank.low == 0b0_0100 && blank.high == 0, "its blank cells");
+    // The line `?..??`, which becomes `#?.?#`.
+    let mut line = LineOf::<u64>::unknown(5);
+    line.set(1, Cell::Blank);
+    line.set(2, Cell::Blank);
+    grid.read_row(1, &mut line);
+    assert!(rt; line.get(0) == Cell::Filled, "its first cell");
+    assert!(rt; line.get(1) == Cell::Unknown, "its second cell");
+    assert!(rt; line.get(2) == Cell::Blank, "its third cell");
+    assert!(rt; line.get(3) == Cell::Unknown, "its fourth cell");
+    assert!(rt; line.get(4) == Cell::Filled && line.len() == 5, "its last cell");
     Ok(())
 }

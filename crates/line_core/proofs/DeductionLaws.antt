@@ -61,11 +61,6 @@ length-Extends [] (y ∷ b) h = absurd h
 length-Extends (x ∷ a) [] h = absurd h
 length-Extends (x ∷ a) (y ∷ b) h = ap suc (length-Extends a b h.1)
 
--- what is known is at most itself
-pub AtMost-refl : (o : Option (List Cell)) → AtMost o o
-AtMost-refl None = tt
-AtMost-refl (Some g) = Extends-refl g
-
 -- what is at most one thing is at most what that is at most
 pub AtMost-trans : (a b c : Option (List Cell)) → AtMost a b → AtMost b c → AtMost a c
 AtMost-trans a b None h k = tt

@@ -6,13 +6,10 @@ pub mod Joining
 pub mod Certain
 pub mod Composing
 pub mod LineCells
-pub mod RowCells
 pub mod RunStarts
-mod Seeking
 pub mod Painting
 pub mod Outermost
 pub mod EndLaws
-pub mod Changing
 pub mod Telling
 pub mod Learning
 pub mod Examples

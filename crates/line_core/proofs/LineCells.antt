@@ -1,80 +1,54 @@
--- The cells of a line that is kept as two masks.
-use Rattle.std.proofs.Common.{◌≡◌, ℕ, ◌+◌, ◌^◌, ◌<◌, ◌≤◌, ◌≢◌, Bool, true, false, List, length, get_or, set, refl, sym, ap, ◌∙◌, subst, arith, true≢false, inl, inr, rules, zero-add, get_or-set_same, get_or-set_other, ◌⊎◌, ext_get_or, length-set, replicate}
+-- The cells of a line that may have a colour, and the lengths of runs.
+use Rattle.std.proofs.Common.{◌≡◌, ℕ, ◌+◌, ◌<◌, ◌≤◌, ◌≢◌, Bool, true, false, List, length, get_or, set, refl, sym, ◌∙◌, subst, arith, true≢false, inl, inr, rules, get_or-set_same, get_or-set_other}
 use Rattle.std.proofs.lemmas.Bool.{cases_lt}
-use Rattle.std.proofs.lemmas.List.{length-replicate, get_or-replicate}
-use Rattle.std.proofs.lemmas.Nat.Bits.{bit_at-zero}
-use Rattle.std.proofs.Math.Pow.{pow_mono}
-use Rattle.std.proofs.lemmas.List.FromFn.{length-map-range_with_len, get_or-map-range_with_len}
 use Rattle.grid_core.specs.declared.cells.Cell.{Cell}
 use Rattle.grid_core.specs.declared.cells.Cell.TheVariants.{Unknown, Filled, Blank}
-use Rattle.grid_core.specs.Cells.{allows, is_filled, is_known}
-use Rattle.place_sets.specs.Masks.{Has, has, IsMarked, IsMaskOf}
+use Rattle.grid_core.specs.Cells.{allows, is_filled}
+use Rattle.grid_core.specs.Lines.{is_blank}
+use Rattle.place_sets.specs.Masks.{has, IsMaskOf}
 use Rattle.place_sets.proofs.Steps.{mask_same}
-use Rattle.place_sets.proofs.HasLemmas.{has_true, true_has, has_false}
-use Rattle.grid_core.specs.Blocks.{cell_of}
-use Rattle.line_core.specs.Lines.{line_cells, is_blank}
 use Rattle.line_core.specs.Reach.{MayBe, AreLengths}
 
--- the cell at a place, by the masks
-pub cell_at : (len filled blank i : ℕ) → i < len → get_or (line_cells len filled blank) i Unknown ≡ cell_of (has filled i) (has blank i)
-cell_at len filled blank i h = get_or-map-range_with_len (λ (k : ℕ). cell_of (has filled k) (has blank k)) 0 len i i Unknown h (zero-add i)
+open_to : (c : Cell) → is_blank c ≡ false → allows c true ≡ true
+open_to Unknown e = refl
+open_to Filled e = refl
+open_to Blank e = absurd (true≢false e)
 
--- a line has as many cells as it says
-pub length_line : (len filled blank : ℕ) → length (line_cells len filled blank) ≡ len
-length_line len filled blank = length-map-range_with_len (λ (k : ℕ). cell_of (has filled k) (has blank k)) 0 len
+open_from : (c : Cell) → allows c true ≡ true → is_blank c ≡ false
+open_from Unknown e = refl
+open_from Filled e = refl
+open_from Blank e = absurd (true≢false (sym e))
 
--- the length of a line that is seen as a list
-pub length_seen : (len filled blank : ℕ) (l : List Cell) → line_cells len filled blank ≡ l → length l ≡ len
-length_seen len filled blank l e = ap length (sym e) ∙ length_line len filled blank
+free_to : (c : Cell) → is_filled c ≡ false → allows c false ≡ true
+free_to Unknown e = refl
+free_to Filled e = absurd (true≢false e)
+free_to Blank e = refl
 
-free_to : (f b : Bool) → f ≡ false → allows (cell_of f b) false ≡ true
-free_to true b e = absurd (true≢false e)
-free_to false true e = refl
-free_to false false e = refl
+free_from : (c : Cell) → allows c false ≡ true → is_filled c ≡ false
+free_from Unknown e = refl
+free_from Filled e = absurd (true≢false (sym e))
+free_from Blank e = refl
 
-free_from : (f b : Bool) → allows (cell_of f b) false ≡ true → f ≡ false
-free_from true b e = absurd (true≢false (sym e))
-free_from false b e = refl
+-- a set of the places that another lacks, which has a line's cells of one colour, has those that may have the
+-- other colour
+may_be_is : (line : List Cell) (set_of m : ℕ) (test : Cell → Bool) (filled : Bool)
+    → ((c : Cell) → test c ≡ false → allows c filled ≡ true) → ((c : Cell) → allows c filled ≡ true → test c ≡ false)
+    → ((i : ℕ) → i < length line → has set_of i ≡ test (get_or line i Unknown))
+    → IsMaskOf (λ i. (i < length line) × (has set_of i ≡ false)) m → IsMaskOf (MayBe line filled) m
+may_be_is line set_of m test filled to from same lacking =
+    mask_same (λ i. (i < length line) × (has set_of i ≡ false)) (MayBe line filled) m lacking
+    (λ i a. (a.0, to (get_or line i Unknown) (sym (same i a.0) ∙ a.1)))
+    (λ i a. (a.0, same i a.0 ∙ from (get_or line i Unknown) a.1))
 
-open_to : (f b : Bool) → b ≡ false → allows (cell_of f b) true ≡ true
-open_to f true e = absurd (true≢false e)
-open_to true false e = refl
-open_to false false e = refl
+-- the cells that may be blank are those that the set of filled ones lacks
+pub free_is : (line : List Cell) (filled m : ℕ) → ((i : ℕ) → i < length line → has filled i ≡ is_filled (get_or line i Unknown))
+    → IsMaskOf (λ i. (i < length line) × (has filled i ≡ false)) m → IsMaskOf (MayBe line false) m
+free_is line filled m = may_be_is line filled m is_filled false free_to free_from
 
-open_from : (f b : Bool) → (f ≡ true → b ≡ true → ⊥) → allows (cell_of f b) true ≡ true → b ≡ false
-open_from f false n e = refl
-open_from true true n e = absurd (n refl refl)
-open_from false true n e = absurd (true≢false (sym e))
-
--- the cells that may be blank are those that the mask of filled ones lacks
-pub free_is : (len filled blank m : ℕ) → IsMaskOf (λ i. (i < len) × (has filled i ≡ false)) m
-    → IsMaskOf (MayBe (line_cells len filled blank) false) m
-free_is len filled blank m p =
-    let long = length_line len filled blank in
-    mask_same (λ i. (i < len) × (has filled i ≡ false)) (MayBe (line_cells len filled blank) false) m p
-    (λ i a. let l : i < len = a.0 in (
-      omega arith,
-      subst (λ (c : Cell). allows c false ≡ true) (sym (cell_at len filled blank i l)) (free_to (has filled i) (has blank i) a.1),
-    ))
-    (λ i a. let within : i < length (line_cells len filled blank) = a.0 in
-    let l : i < len = omega arith in
-    (l, free_from (has filled i) (has blank i) (subst (λ (c : Cell). allows c false ≡ true) (cell_at len filled blank i l) a.1)))
-
--- the cells that may be filled are those that the mask of blank ones lacks
-pub open_is : (len filled blank m : ℕ) → ((i : ℕ) → Has filled i → Has blank i → ⊥) → IsMaskOf (λ i. (i < len) × (has blank i ≡ false)) m
-    → IsMaskOf (MayBe (line_cells len filled blank) true) m
-open_is len filled blank m apart p =
-    let long = length_line len filled blank in
-    mask_same (λ i. (i < len) × (has blank i ≡ false)) (MayBe (line_cells len filled blank) true) m p
-    (λ i a. let l : i < len = a.0 in (
-      omega arith,
-      subst (λ (c : Cell). allows c true ≡ true) (sym (cell_at len filled blank i l)) (open_to (has filled i) (has blank i) a.1),
-    ))
-    (λ i a. let within : i < length (line_cells len filled blank) = a.0 in let l : i < len = omega arith in (
-      l,
-      open_from (has filled i) (has blank i) (λ f e. apart i (true_has filled i f) (true_has blank i e))
-          (subst (λ (c : Cell). allows c true ≡ true) (cell_at len filled blank i l) a.1),
-    ))
+-- the cells that may be filled are those that the set of blank ones lacks
+pub open_is : (line : List Cell) (blank m : ℕ) → ((i : ℕ) → i < length line → has blank i ≡ is_blank (get_or line i Unknown))
+    → IsMaskOf (λ i. (i < length line) × (has blank i ≡ false)) m → IsMaskOf (MayBe line true) m
+open_is line blank m = may_be_is line blank m is_blank true open_to open_from
 
 -- one more element written
 pub written_more : (P : ℕ → ℕ → Type 0) (xs : List ℕ) (j v : ℕ) → j < length xs → P j v → ((k : ℕ) → k < j → P k (get_or xs k 0)) → (k : ℕ)
@@ -91,152 +65,3 @@ written_more P xs j v l here below k h =
 pub length_at : (width : ℕ) (clue : List ℕ) (j : ℕ) → AreLengths width clue → j < length clue
     → (0 < get_or clue j 0) × (get_or clue j 0 ≤ width)
 length_at width clue j are l = (search rules, search rules)
-
--- a line of which nothing is known
-pub all_may_be : (len : ℕ) (f : Bool) (m : ℕ) → allows Unknown f ≡ true → IsMaskOf (λ i. i < len) m
-    → IsMaskOf (MayBe (replicate len Unknown) f) m
-all_may_be len f m a p =
-    let e = length-replicate len Unknown in
-    mask_same (λ i. i < len) (MayBe (replicate len Unknown) f) m p
-    (λ i l. (omega arith, subst (λ (c : Cell). allows c f ≡ true) (sym (get_or-replicate len i Unknown Unknown l)) a))
-    (λ i h. let l : i < length (replicate len Unknown) = h.0 in omega arith)
-
--- ---- one cell changed
-
-same_or_other : (i p : ℕ) → (i ≡ p) ⊎ (i ≢ p)
-same_or_other i p =
-    elim (cases_lt i p) [
-      | inl low ↦ inr (λ e. absurd (omega arith))
-      | inr high ↦ elim (cases_lt p i) [ inl above ↦ inr (λ e. absurd (omega arith)) | inr low ↦ inl (omega arith) ]
-    ]
-
--- what a mask has at a place, told from both sides
-pub has_by : (m i : ℕ) (b : Bool) → (Has m i → b ≡ true) → (b ≡ true → Has m i) → has m i ≡ b
-has_by m i true to from = has_true m i (from refl)
-has_by m i false to from = by (has m i) refl
-  where
-    by : (v : Bool) → has m i ≡ v → v ≡ false
-    by true e = absurd (true≢false (sym (to (true_has m i e))))
-    by false e = refl
-
--- a mask has the changed place exactly if it is wanted
-pub marked_at : (m n p : ℕ) (wanted : Bool) → IsMaskOf (IsMarked (Has m) p wanted) n → has n p ≡ wanted
-marked_at m n p wanted h = has_by n p wanted to (λ w. h.from p (inr (refl, w)))
-  where
-    to : Has n p → wanted ≡ true
-    to x = elim (h.to p x) [ inl y ↦ absurd (y.1 refl) | inr y ↦ y.1 ]
-
--- and it has each other place as before
-pub marked_elsewhere : (m n p i : ℕ) (wanted : Bool) → IsMaskOf (IsMarked (Has m) p wanted) n → i ≢ p → has n i ≡ has m i
-marked_elsewhere m n p i wanted h ne = has_by n i (has m i) to (λ w. h.from i (inl (true_has m i w, ne)))
-  where
-    to : Has n i → has m i ≡ true
-    to x = elim (h.to i x) [ inl y ↦ has_true m i y.0 | inr y ↦ absurd (ne y.0) ]
-
--- a cell is told by whether it is filled and whether it is blank
-pub cell_itself : (c : Cell) → cell_of (is_filled c) (is_blank c) ≡ c
-cell_itself Unknown = refl
-cell_itself Filled = refl
-cell_itself Blank = refl
-
--- a cell written into both masks
-pub cells-set : (len f b nf nb p : ℕ) (c : Cell) → p < len → IsMaskOf (IsMarked (Has f) p (is_filled c)) nf
-    → IsMaskOf (IsMarked (Has b) p (is_blank c)) nb
-    → line_cells len nf nb ≡ set (line_cells len f b) p c
-cells-set len f b nf nb p c h mf mb =
-    let old = line_cells len f b in
-    let long = length_line len f b in
-    ext_get_or Unknown (line_cells len nf nb) (set old p c) (length_line len nf nb ∙ sym (length-set old p c ∙ long)) (λ k l.
-    let within : k < len = omega (arith, length_line len nf nb) in
-    cell_at len nf nb k within ∙ elim (same_or_other k p) as (λ z. cell_of (has nf k) (has nb k) ≡ get_or (set old p c) k Unknown) [
-      | inl e ↦
-          (let at : cell_of (has nf p) (has nb p) ≡ c =
-          ap (λ (v : Bool). cell_of v (has nb p)) (marked_at f nf p (is_filled c) mf)
-          ∙ ap (cell_of (is_filled c)) (marked_at b nb p (is_blank c) mb) ∙ cell_itself c in
-          subst (λ (z : ℕ). cell_of (has nf z) (has nb z) ≡ get_or (set old p c) z Unknown) (sym e)
-          (at ∙ sym (get_or-set_same old p c Unknown (omega arith))))
-      | inr ne ↦
-          ap (λ (v : Bool). cell_of v (has nb k)) (marked_elsewhere f nf p k (is_filled c) mf ne)
-          ∙ ap (cell_of (has f k)) (marked_elsewhere b nb p k (is_blank c) mb ne)
-          ∙ sym (cell_at len f b k within) ∙ sym (get_or-set_other old p k c Unknown ne)
-    ])
-
-not_both : (c : Cell) → is_filled c ≡ true → is_blank c ≡ true → ⊥
-not_both Unknown e h = true≢false (sym e)
-not_both Filled e h = true≢false (sym h)
-not_both Blank e h = true≢false (sym e)
-
--- and they stay apart
-pub apart-set : (f b nf nb p : ℕ) (c : Cell) → ((i : ℕ) → Has f i → Has b i → ⊥) → IsMaskOf (IsMarked (Has f) p (is_filled c)) nf
-    → IsMaskOf (IsMarked (Has b) p (is_blank c)) nb → (i : ℕ) → Has nf i → Has nb i → ⊥
-apart-set f b nf nb p c apart mf mb i x y = by (mf.to i x) (mb.to i y)
-  where
-    by : IsMarked (Has f) p (is_filled c) i → IsMarked (Has b) p (is_blank c) i → ⊥
-    by (inl u) (inl v) = apart i u.0 v.0
-    by (inl u) (inr v) = u.1 v.0
-    by (inr u) (inl v) = v.1 u.0
-    by (inr u) (inr v) = not_both c u.1 v.1
-
--- a set that lacks a place is the same with that place unwanted
-pub unmarked : (m p : ℕ) (wanted : Bool) → has m p ≡ false → wanted ≡ false → IsMaskOf (IsMarked (Has m) p wanted) m
-unmarked m p wanted lacks un = record {
-  to = λ i h. inl (h, λ e. true≢false (sym (has_true m i h) ∙ ap (has m) e ∙ lacks));
-  from = λ i h. elim h [ inl x ↦ x.0 | inr y ↦ absurd (true≢false (sym y.1 ∙ un)) ];
-}
-
-neither : (f b : Bool) → cell_of f b ≡ Unknown → (f ≡ false) × (b ≡ false)
-neither true b e = absurd (true≢false (ap is_filled e))
-neither false true e = absurd (true≢false (ap is_blank e))
-neither false false e = (refl, refl)
-
--- both masks lack the place of an unknown cell
-pub unknown_at : (len f b p : ℕ) (l : List Cell) → line_cells len f b ≡ l → p < length l → get_or l p Unknown ≡ Unknown
-    → (has f p ≡ false) × (has b p ≡ false)
-unknown_at len f b p l e h u =
-    let long = length_seen len f b l e in
-    neither (has f p) (has b p) (sym (cell_at len f b p (omega arith)) ∙ ap (λ (z : List Cell). get_or z p Unknown) e ∙ u)
-
--- a known cell is filled or blank
-pub blank_unless_filled : (c : Cell) → is_filled c ≡ true → is_blank c ≡ false
-blank_unless_filled Unknown e = refl
-blank_unless_filled Filled e = refl
-blank_unless_filled Blank e = absurd (true≢false (sym e))
-
--- a known cell that isn't filled is blank
-pub blank_if_not_filled : (c : Cell) → is_known c ≡ true → is_filled c ≡ false → is_blank c ≡ true
-blank_if_not_filled Unknown k e = absurd (true≢false (sym k))
-blank_if_not_filled Filled k e = absurd (true≢false e)
-blank_if_not_filled Blank k e = refl
-
--- nothing is known if both masks are empty
-pub cells-none : (len : ℕ) → line_cells len 0 0 ≡ replicate len Unknown
-cells-none len =
-    ext_get_or Unknown (line_cells len 0 0) (replicate len Unknown) (length_line len 0 0 ∙ sym (length-replicate len Unknown)) (λ k l.
-    let within : k < len = omega (arith, length_line len 0 0) in
-    cell_at len 0 0 k within ∙ ap (λ (v : Bool). cell_of v (has 0 k)) (has_false 0 k (bit_at-zero k))
-    ∙ ap (cell_of false) (has_false 0 k (bit_at-zero k)) ∙ sym (get_or-replicate len k Unknown Unknown within))
-
--- the same cells by masks of another width
-pub cells-resized : (width len f b wf wb nf nb : ℕ) → len ≤ width → wf ≡ f → wb ≡ b → IsMaskOf (λ i. (i < width) × Has wf i) nf
-    → IsMaskOf (λ i. (i < width) × Has wb i) nb
-    → line_cells len nf nb ≡ line_cells len f b
-cells-resized width len f b wf wb nf nb fits ef eb pf pb =
-    ext_get_or Unknown (line_cells len nf nb) (line_cells len f b) (length_line len nf nb ∙ sym (length_line len f b)) (λ k l.
-    let within : k < len = omega (arith, length_line len nf nb) in
-    cell_at len nf nb k within ∙ ap (λ (v : Bool). cell_of v (has nb k)) (same wf f nf k (omega arith) ef pf)
-    ∙ ap (cell_of (has f k)) (same wb b nb k (omega arith) eb pb) ∙ sym (cell_at len f b k within))
-  where
-    same : (w m n i : ℕ) → i < width → w ≡ m → IsMaskOf (λ i. (i < width) × Has w i) n → has n i ≡ has m i
-    same w m n i l e p =
-        has_by n i (has w i) (λ h. has_true w i (p.to i h).1) (λ t. p.from i (l, true_has w i t)) ∙ ap (λ (z : ℕ). has z i) e
-
--- masks of another width stay apart
-pub apart-resized : (width f b wf wb nf nb : ℕ) → wf ≡ f → wb ≡ b → IsMaskOf (λ i. (i < width) × Has wf i) nf
-    → IsMaskOf (λ i. (i < width) × Has wb i) nb
-    → ((i : ℕ) → Has f i → Has b i → ⊥) → (i : ℕ) → Has nf i → Has nb i → ⊥
-apart-resized width f b wf wb nf nb ef eb pf pb apart i x y =
-    apart i (subst (λ (z : ℕ). Has z i) ef (pf.to i x).1) (subst (λ (z : ℕ). Has z i) eb (pb.to i y).1)
-
--- no set has more than 256 places
-pub width_within : (width top : ℕ) → width ≡ 2 ^ top → top ≤ 8 → width ≤ 256
-width_within width top e h = let l : 2 ^ top ≤ 2 ^ 8 = pow_mono h in omega (arith, e, l)

@@ -11,7 +11,7 @@ use Rattle.place_sets.proofs.Steps.{mask_same}
 use Rattle.line_core.specs.Reach.{MayBe, IsFillable, IsBlankable}
 use Rattle.line_core.specs.Lone.{IsLoneStart}
 use Rattle.line_core.proofs.RunLaws.{ArePositive}
-use Rattle.line_core.proofs.LineCells.{has_by}
+use Rattle.grid_core.proofs.LineCells.{has_by}
 use Rattle.line_core.proofs.Joining.{fillable_to, fillable_from, blankable_to, blankable_from}
 use Rattle.line_core.proofs.RunStarts.{starts_from, run_of, filled_in_run, covered}
 use Rattle.line_core.proofs.Painting.{laid, placing_of}

@@ -17,7 +17,8 @@ use Rattle.place_sets.proofs.Steps.{mask_same}
 use Rattle.line_core.specs.Overlaps.{needed, least_start, IsOverlapBefore, IsOverlap}
 use Rattle.line_core.specs.Reach.{AreLengths, MayBe, IsFillable, IsBlankable}
 use Rattle.line_core.proofs.RunLaws.{ArePositive}
-use Rattle.line_core.proofs.LineCells.{has_by, length_at}
+use Rattle.grid_core.proofs.LineCells.{has_by}
+use Rattle.line_core.proofs.LineCells.{length_at}
 use Rattle.line_core.proofs.Joining.{positive_at, fillable_to, fillable_from, blankable_to, blankable_from}
 use Rattle.line_core.proofs.RunStarts.{starts_from, run_of, filled_in_run, covered}
 use Rattle.line_core.proofs.Painting.{IsLaid, laid, placing_of}

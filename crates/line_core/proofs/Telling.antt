@@ -7,15 +7,15 @@ use Rattle.grid_core.specs.declared.cells.Cell.TheVariants.{Unknown}
 use Rattle.place_sets.specs.Masks.{Has, has, IsMaskOf}
 use Rattle.place_sets.proofs.HasLemmas.{has_true, true_has}
 use Rattle.line_core.specs.Deduction.{deduced}
-use Rattle.grid_core.specs.Blocks.{cell_of}
-use Rattle.line_core.specs.Lines.{line_cells}
+use Rattle.grid_core.specs.Lines.{cell_of}
+use Rattle.grid_core.specs.Lines.{line_cells}
 use Rattle.line_core.specs.Told.{certain_by, told_by}
 use Rattle.line_core.specs.Reach.{IsFillable, IsBlankable}
 use Rattle.line_core.proofs.RunLaws.{ArePositive}
 use Rattle.line_core.proofs.DeductionLaws.{IsPlacing, agrees-Extends, Extends-agrees}
 use Rattle.line_core.proofs.Joining.{fillable_to, fillable_from, blankable_to, blankable_from}
 use Rattle.line_core.proofs.Certain.{CanBe, Tells, deduced-told, dead-told}
-use Rattle.line_core.proofs.LineCells.{cell_at, length_line, has_by}
+use Rattle.grid_core.proofs.LineCells.{cell_at, length_line, has_by}
 
 either_first : (f b m : ℕ) → IsMaskOf (λ i. Has f i ⊎ Has b i) m → (has f 0 || has b 0) ≡ has m 0
 either_first f b m p = by (has f 0) (has b 0) refl refl

@@ -3,7 +3,6 @@ pub mod Placings
 pub mod Deduction
 pub mod Order
 pub mod Ends
-pub mod Lines
 pub mod Reach
 pub mod Passes
 pub mod Told

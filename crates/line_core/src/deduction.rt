@@ -6,9 +6,9 @@ ghost use Rattle.place_sets.specs.Masks.{IsMaskOf};
 ghost use Rattle.line_core.specs.Deduction.{deduced};
 ghost use Rattle.line_core.specs.Passes.{IsSpanOf};
 ghost use Rattle.line_core.specs.Reach.{AreLengths, AreGapsAhead, IsFillable, IsBlankable};
+ghost use Rattle.line_core.specs.Told.{told_by};
 
 use crate::Line;
-use crate::lines::LineOf;
 use crate::lone::lone_colours;
 use crate::overlaps::{is_unknown, unknown_colours};
 use crate::passes::Pass;
@@ -16,7 +16,7 @@ use crate::reach::{GAPS, gap_ahead, inner_ends, whole_ends, write_gaps_ahead};
 use crate::rooms::{Rooms, make_ready};
 use crate::spans::Span;
 use crate::widths::places_needed;
-use grid_core::{Clue, LONGEST_SIDE, MOST_RUNS, NoMemory};
+use grid_core::{Clue, LONGEST_SIDE, LineOf, MOST_RUNS, NoMemory};
 use place_sets::{LEVELS, PlaceSet, Wide, add_ends, spread_levels, windows_within};
 use std::alloc::Global;
 use std::marker::Model;
@@ -74,6 +74,20 @@ pub fn colours<W: PlaceSet>(span: &Span<W>, clue: &[u16], gaps: &mut [W; GAPS]) 
     possible_colours(span, clue, gaps)
 }
 
+/// What is certain of a line, from the cells that can be filled and those that can be blank:
+/// none if the first can be neither.
+fn certain<W: PlaceSet>(len: u16, fillable: W, blankable: W) -> Option<LineOf<W>>
+    requires { (1 ≤ len) × (len ≤ W.WIDTH) }
+    ensures { result ≡ told_by len (W.number fillable) (W.number blankable) }
+{
+    if !fillable.or(blankable).has(0) {
+        return None;
+    }
+    let filled = fillable.without(blankable);
+    let blank = blankable.without(fillable);
+    Some(LineOf::of_sets(len, filled, blank))
+}
+
 /// What is certain of a line, given the numbers of its clue, with room for the gaps of the runs:
 /// what all placings share, or none if there is no placing.
 fn deduce_numbers<W: PlaceSet>(
@@ -87,9 +101,9 @@ fn deduce_numbers<W: PlaceSet>(
     requires count { length clue.now ≤ MOST_RUNS }
     ensures { result ≡ deduced cells clue.now }
 {
-    let span = line.span();
+    let span = Span::of(line);
     let (fillable, blankable) = colours(&span, clue, gaps);
-    LineOf::certain(span.len, fillable, blankable)
+    certain(span.len, fillable, blankable)
 }
 
 /// What is certain of a line, in sets of a width that has room for the line and for the clue's numbers.

@@ -5,7 +5,6 @@ mod deduction;
 mod gaps;
 pub mod laws;
 mod line;
-mod lines;
 mod listing;
 mod lone;
 mod overlaps;
@@ -17,8 +16,8 @@ mod starts;
 mod widths;
 
 pub use deduction::{LineSet, Tables, deduce};
+pub use grid_core::LineOf;
 pub use line::Line;
-pub use lines::LineOf;
 pub use listing::deduce_by_listing;
 pub use starts::{Starts, leftmost, rightmost};
 pub use widths::places_needed;

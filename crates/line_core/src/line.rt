@@ -3,8 +3,7 @@
 ghost use Rattle.std.specs.Prelude.{◌≡◌, ◌<◌, ◌≤◌, length, replicate, slice_index_or, slice_set};
 ghost use Rattle.grid_core.specs.declared.cells.Cell.TheVariants.{Unknown};
 
-use crate::lines::LineOf;
-use grid_core::{Cell, LONGEST_SIDE};
+use grid_core::{Cell, LONGEST_SIDE, LineOf};
 use place_sets::Wide;
 use std::marker::Model;
 

@@ -4,7 +4,8 @@ ghost use Rattle.std.specs.Prelude.{◌≡◌, ◌<◌, ◌≤◌, List, reverse
 ghost use Rattle.grid_core.specs.declared.cells.Cell.{Cell};
 ghost use Rattle.line_core.specs.Passes.{IsSpanOf};
 
-use place_sets::{PlaceSet, turn_line};
+use grid_core::LineOf;
+use place_sets::{PlaceSet, lacking, turn_line};
 
 /// How many cells a line has, and those of them that may be blank, and that may be filled.
 #[derive(Drop)]
@@ -12,6 +13,20 @@ pub struct Span<W: PlaceSet> {
     pub len: u16,
     pub free: W,
     pub room: W,
+}
+
+impl<W: PlaceSet> Span<W> {
+    /// How many cells a line has, and those that may be blank, and that may be filled.
+    pub fn of(line: &LineOf<W>) -> Span<W>
+        ensures { IsSpanOf W.WIDTH line.now result.len (W.number result.free) (W.number result.room) }
+    {
+        let len = line.len();
+        Span {
+            len,
+            free: lacking(line.filled(), len),
+            room: lacking(line.blank(), len),
+        }
+    }
 }
 
 /// The line seen from its other end.

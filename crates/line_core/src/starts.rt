@@ -10,13 +10,12 @@ ghost use Rattle.line_core.specs.Reach.{AreLengths, AreGapsAhead, HasPlacing};
 
 use crate::Line;
 use crate::gaps::first_gap;
-use crate::lines::LineOf;
 use crate::passes::Pass;
 use crate::reach::{GAPS, gap_ahead, whole_ends, write_gaps_ahead};
 use crate::rooms::{Rooms, make_ready};
 use crate::spans::Span;
 use crate::widths::places_needed;
-use grid_core::{Clue, LONGEST_SIDE, MOST_RUNS, NoMemory};
+use grid_core::{Clue, LONGEST_SIDE, LineOf, MOST_RUNS, NoMemory};
 use place_sets::{PlaceSet, windows_within};
 use std::alloc::Global;
 use std::marker::Model;
@@ -103,7 +102,7 @@ pub fn find_starts<W: PlaceSet>(
         (outermost side cells clue.now ≡ Some (take (length clue.now) list.new))
         (outermost side cells clue.now ≡ None) }
 {
-    let span = line.span();
+    let span = Span::of(line);
     write_gaps_ahead(&span, clue, gaps);
     if clue.is_empty() {
         may_have_no_run(&span, clue, gaps)

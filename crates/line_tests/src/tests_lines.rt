@@ -191,7 +191,7 @@ fn a_line_is_written_into_a_row(rt: HostRuntime) -> Result<(), Fail> {
     let mut line = LineOf::<u64>::unknown(3);
     line.set(1, Cell::Blank);
     line.set(2, Cell::Filled);
-    line.write_row(&mut grid, 1);
+    grid.write_row(1, &line);
     let first = [Cell::Filled, Cell::Blank, Cell::Unknown];
     assert!(rt; is_row(&grid, 0, first), "the other row");
     let second = [Cell::Unknown, Cell::Blank, Cell::Filled];
@@ -211,7 +211,7 @@ fn a_line_takes_over_a_row(rt: HostRuntime) -> Result<(), Fail> {
     let mut line = LineOf::<u64>::unknown(3);
     line.set(0, Cell::Filled);
     line.set(2, Cell::Blank);
-    line.read_row(&grid, 1);
+    grid.read_row(1, &mut line);
     assert!(rt; line.get(0) == Cell::Unknown, "its first cell");
     assert!(rt; line.get(1) == Cell::Blank, "its second cell");
     assert!(rt; line.get(2) == Cell::Filled, "its last cell");

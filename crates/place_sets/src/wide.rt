@@ -7,7 +7,7 @@ ghost use Rattle.place_sets.specs.Masks.{Has, IsMarked, IsMaskOf, joined};
 use crate::PlaceSet;
 
 /// A set of 256 places, in two halves.
-#[derive(Clone, Copy)]
+#[derive(Clone, Copy, Debug)]
 pub struct Wide {
     pub low: u128,
     pub high: u128,

@@ -5,8 +5,8 @@ use Rattle.grid_core.specs.declared.cells.Cell.TheVariants.{Unknown}
 use Rattle.grid_core.specs.Nonogram.{places_from, cells_at}
 use Rattle.grid_core.proofs.LineLaws.{length-places_from, get_or-places_from}
 use Rattle.place_sets.specs.Masks.{Has, IsMarked, IsMaskOf}
-use Rattle.line_core.specs.Lines.{IsChanged}
-use Rattle.line_core.proofs.Changing.{same_cells}
+use Rattle.grid_core.specs.Lines.{IsChanged}
+use Rattle.grid_core.proofs.Changing.{same_cells}
 use Rattle.solve_core.specs.Closure.{with_cells}
 use Rattle.solve_core.proofs.ClosureLaws.{length-with_cells}
 use Rattle.solve_core.proofs.LineSteps.{apart_places, before_or_from, get_or-with_cells, line-read, read-old, same_or_not}

@@ -6,8 +6,8 @@ use Rattle.grid_core.specs.declared.cells.Cell.TheVariants.{Unknown}
 use Rattle.grid_core.specs.Cells.{is_known}
 use Rattle.place_sets.specs.Masks.{Has, has, IsMaskOf, IsMoved}
 use Rattle.place_sets.proofs.HasLemmas.{true_has, has_true}
-use Rattle.line_core.specs.Lines.{IsUnknownCell}
-use Rattle.line_core.proofs.LineCells.{has_by}
+use Rattle.grid_core.specs.Lines.{IsUnknownCell}
+use Rattle.grid_core.proofs.LineCells.{has_by}
 use Rattle.solve_core.specs.Counts.{AreCounts, IsKnownCell, IsMostInRow, is_sure, row_score, two_of}
 
 at_most_one : (n : ℕ) → (n ≤ 1) ⊎ (2 ≤ n)

@@ -9,7 +9,7 @@ use Rattle.grid_core.specs.Cells.{is_unknown}
 use Rattle.grid_core.specs.PartialGrid.{PartialGrid, IsSize, cell_at}
 use Rattle.grid_core.specs.Nonogram.{places_from, cells_at}
 use Rattle.grid_core.proofs.LineLaws.{length-places_from, get_or-places_from, length-cells_at, get_or-cells_at}
-use Rattle.line_core.specs.Lines.{IsUnknownFrom}
+use Rattle.grid_core.specs.Lines.{IsUnknownFrom}
 use Rattle.solve_core.specs.GridLines.{AreLinesOf, cells_of_rows}
 use Rattle.grid_core.specs.Rows.{row_of, with_row}
 use Rattle.grid_core.proofs.RowLemmas.{length-replaced, replaced-here, replaced-others}

@@ -9,7 +9,7 @@ use Rattle.std.proofs.lemmas.List.{length-append, get_or_append_left, get_or-app
 use Rattle.std.proofs.lemmas.List.FromFn.{length-map-range_with_len, get_or-map-range_with_len}
 use Rattle.place_sets.specs.Masks.{Has, has, IsMarked, IsMaskOf}
 use Rattle.place_sets.proofs.HasLemmas.{has_true}
-use Rattle.line_core.proofs.LineCells.{has_by, marked_at, marked_elsewhere}
+use Rattle.grid_core.proofs.LineCells.{has_by, marked_at, marked_elsewhere}
 use Rattle.solve_core.specs.LineMarks.{marks_by, IsFirstBetween, IsFirstMarked, MarksPlaces}
 use Rattle.solve_core.specs.Lines.{places_in}
 use Rattle.solve_core.proofs.LineSteps.{same_or_not}

@@ -5,7 +5,7 @@ use Rattle.std.proofs.lemmas.Nat.{div-mul-add}
 use Rattle.grid_core.specs.declared.cells.Cell.{Cell}
 use Rattle.grid_core.specs.declared.cells.Cell.TheVariants.{Unknown, Filled, Blank}
 use Rattle.grid_core.specs.Cells.{is_unknown}
-use Rattle.line_core.specs.Lines.{IsUnknownCell}
+use Rattle.grid_core.specs.Lines.{IsUnknownCell}
 use Rattle.solve_core.specs.Counts.{IsMostInRow, is_sure, row_score, two_of}
 use Rattle.solve_core.specs.GridLines.{AreLinesOf, cells_of_rows}
 use Rattle.solve_core.specs.Picks.{is_left_sure, is_right_sure, is_above_sure, is_below_sure, sure_neighbours}

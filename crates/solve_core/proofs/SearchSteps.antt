@@ -13,7 +13,7 @@ use Rattle.solve_core.specs.Search.{Event, IsPick, guess_at, search_from, events
 use Rattle.solve_core.specs.Trails.{unknown_count}
 use Rattle.solve_core.specs.Branches.{AreKnownBefore, IsClosed, IsNext, IsOpen, IsWork, AreOlder}
 use Rattle.line_core.proofs.DeductionLaws.{Extends-at}
-use Rattle.line_core.specs.Lines.{IsUnknownFrom}
+use Rattle.grid_core.specs.Lines.{IsUnknownFrom}
 use Rattle.solve_core.proofs.LineSteps.{before_or_from}
 use Rattle.solve_core.proofs.Closing.{repeat-fixed}
 use Rattle.solve_core.proofs.ClosureLaws.{closure-IsLeastClosed}

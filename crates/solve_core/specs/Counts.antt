@@ -4,7 +4,7 @@ use Rattle.grid_core.specs.declared.cells.Cell.{Cell}
 use Rattle.grid_core.specs.declared.cells.Cell.TheVariants.{Unknown}
 use Rattle.grid_core.specs.Cells.{is_known}
 use Rattle.place_sets.specs.Masks.{IsMaskOf}
-use Rattle.line_core.specs.Lines.{IsUnknownCell}
+use Rattle.grid_core.specs.Lines.{IsUnknownCell}
 
 -- how many of two hold
 abbrev pub two_of : Bool → Bool → ℕ

@@ -5,7 +5,7 @@ ghost use Rattle.grid_core.specs.Nonogram.{cells_at};
 ghost use Rattle.grid_core.specs.PartialGrid.{IsSize};
 ghost use Rattle.grid_core.specs.Rows.{row_of};
 ghost use Rattle.grid_core.specs.declared.cells.Cell.TheVariants.{Unknown};
-ghost use Rattle.line_core.specs.Lines.{IsUnknownFrom};
+ghost use Rattle.grid_core.specs.Lines.{IsUnknownFrom};
 ghost use Rattle.solve_core.specs.GridLines.{AreLinesOf, cells_of_rows};
 ghost use Rattle.place_sets.specs.Masks.{has};
 ghost use Rattle.solve_core.specs.Counts.{is_sure};

@@ -7,7 +7,7 @@ ghost use Rattle.grid_core.specs.PartialGrid.{IsSize};
 ghost use Rattle.solve_core.specs.Lines.{line_count, line_at, places_in, places_of};
 ghost use Rattle.solve_core.specs.Boards.{cells_along};
 ghost use Rattle.place_sets.specs.Masks.{IsMaskOf};
-ghost use Rattle.line_core.specs.Lines.{IsChanged};
+ghost use Rattle.grid_core.specs.Lines.{IsChanged};
 ghost use Rattle.solve_core.specs.Trails.{IsTrailed};
 
 use crate::boards::Board;

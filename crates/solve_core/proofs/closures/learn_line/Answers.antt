@@ -7,8 +7,8 @@ use Rattle.grid_core.specs.Cells.{Extends}
 use Rattle.grid_core.specs.PartialGrid.{PartialGrid, IsSize}
 use Rattle.place_sets.specs.Masks.{Has, IsMaskOf}
 use Rattle.line_core.specs.Deduction.{deduced}
-use Rattle.line_core.specs.Lines.{IsChanged}
-use Rattle.line_core.proofs.Changing.{same_cells, same_without_change}
+use Rattle.grid_core.specs.Lines.{IsChanged}
+use Rattle.grid_core.proofs.Changing.{same_cells, same_without_change}
 use Rattle.line_core.proofs.DeductionLaws.{deduced-above, length-deduced}
 use Rattle.solve_core.specs.Boards.{IsBoardOf, cells_along}
 use Rattle.solve_core.specs.Closure.{with_cells}

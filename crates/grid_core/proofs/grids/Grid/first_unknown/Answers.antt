@@ -1,39 +1,53 @@
--- `Grid::first_unknown`: the blocks' first unknown cell is the grid's if it lies within; else there is none.
-use Rattle.std.proofs.Common.{◌≡◌, ℕ, ◌*◌, ◌/◌, ◌%◌, ◌<◌, ◌≤◌, ◌∙◌, sym, ap, List, length, Some, None, arith}
-use Rattle.std.specs.List.{position}
+-- `Grid::first_unknown`: the first unknown cell of the first row that has one is that of the grid.
+use Rattle.std.proofs.Common.{◌≡◌, ℕ, ◌+◌, ◌*◌, ◌/◌, ◌%◌, ◌<◌, ◌≤◌, ◌∙◌, sym, ap, List, get_or, length, Some, arith}
+use Rattle.std.proofs.Math.Nat.{mod-eq_of_lt, mul-add-mod_self_right, mul-le-mul_left}
+use Rattle.std.proofs.lemmas.Nat.{div-mul-add}
 use Rattle.std.specs.Option.{option_map}
-use Rattle.grid_core.specs.declared.blocks.Block.{Block}
-use Rattle.grid_core.specs.Blocks.{cells_of}
+use Rattle.std.specs.List.{position}
+use Rattle.grid_core.specs.declared.cells.Cell.{Cell}
+use Rattle.grid_core.specs.declared.cells.Cell.TheVariants.{Unknown}
 use Rattle.grid_core.specs.Cells.{is_unknown}
-use Rattle.grid_core.proofs.FirstUnknown.{first_in, none_in}
+use Rattle.grid_core.specs.PartialGrid.{PartialGrid}
+use Rattle.grid_core.proofs.FirstUnknown.{known-more, position_none, position_some}
+use Rattle.grid_core.proofs.KeptRows.{count-cells}
+use Rattle.grid_core.proofs.LineLaws.{place-within}
+use Rattle.grid_core.proofs.RowLists.{get_or-row_of, length-row_of}
 use Rattle.grid_core.proofs.grids.Grid.first_unknown.Goals as goal
 
 pub returns-in-Some : goal.returns-in-Some
 returns-in-Some c =
-    let width = c.self.inside.width in
-    let count = width * c.self.inside.height in
-    let within : c.in-Some.place < count = rw (← c.from-width.ensures, ← c.from.ensures) c.if-place-width.true in
-    let first : position is_unknown (cells_of c.self.inside.blocks.items count) ≡ Some c.in-Some.place =
-    ap (λ (b : List Block). position is_unknown (cells_of b count)) (sym c.deref.ensures.value)
-    ∙ first_in c.deref.result.now count c.in-Some.place within c.in-Some.ensures.unknown.1 c.in-Some.ensures.first in
-    rw (← c.self.view_is, c.from-width.ensures) (sym (ap (option_map (λ (k : ℕ). (k % width, k / width))) first))
+    let g = c.args.self.now in
+    let w = g.width in
+    let y = c.loop-y.y in
+    let x = c.in-Some.x in
+    let found = c.in-Some.ensures in
+    let row = c.row.ensures.row in
+    let lx : x < w = omega (arith, found.1, ap length row, length-row_of g y) in
+    let ly : y < g.height =
+    omega (arith, c.loop-y-test.true, c.len-y-end.ensures, c.self.inside.rows.ok.0, ap (λ (g : PartialGrid). g.height) c.self.view_is) in
+    let within : y * w + x < length g.cells = omega (arith, place-within w g.height x y lx ly, c.row.ensures.count) in
+    let here : get_or g.cells (y * w + x) Unknown ≡ Unknown =
+    sym (get_or-row_of g x y lx) ∙ ap (λ (r : List Cell). get_or r x Unknown) (sym row) ∙ found.2 in
+    let first : position is_unknown g.cells ≡ Some (y * w + x) = position_some g.cells (y * w + x) within here
+    (known-more g y x (omega (arith, lx)) c.loop-y.invariant
+    (λ k l. ap (λ (r : List Cell). is_unknown (get_or r k Unknown)) (sym row) ∙ found.3 k (omega arith) l)) in
+    let column : (y * w + x) % w ≡ x = mul-add-mod_self_right y w x ∙ mod-eq_of_lt lx in
+    sym (ap (option_map (λ (k : ℕ). (k % w, k / w))) first ∙ (λ i. Some (column i, div-mul-add y w x lx i)))
 
-pub returns-in_default : goal.returns-in_default
-returns-in_default c =
-    let width = c.self.inside.width in
-    let count = width * c.self.inside.height in
-    let beyond : count ≤ c.in-Some.place = rw (← c.from-width.ensures, ← c.from.ensures) c.if-place-width.false in
-    let none : position is_unknown (cells_of c.self.inside.blocks.items count) ≡ None =
-    ap (λ (b : List Block). position is_unknown (cells_of b count)) (sym c.deref.ensures.value)
-    ∙ none_in c.deref.result.now count (λ i l. c.in-Some.ensures.first i (omega (arith, beyond))) in
-    rw (← c.self.view_is) (sym (ap (option_map (λ (k : ℕ). (k % width, k / width))) none))
+pub loop-y-preserved : goal.loop-y-preserved
+loop-y-preserved c = λ k l.
+    let g = c.args.self.now in
+    let row = c.row.ensures.row in
+    known-more g c.loop-y.y g.width (omega arith) c.loop-y.invariant
+    (λ x lx. ap (λ (r : List Cell). is_unknown (get_or r x Unknown)) (sym row)
+    ∙ c.in_default.ensures x (omega arith) (omega (arith, lx, ap length row, length-row_of g c.loop-y.y)))
+    k (omega (arith, l))
 
-pub returns-in_default-2 : goal.returns-in_default-2
-returns-in_default-2 c =
-    let width = c.self.inside.width in
-    let count = width * c.self.inside.height in
-    let long : count ≤ 64 * length c.deref.result.now = omega (arith, ap length c.deref.ensures.value, c.self.invariant.1.count_of) in
-    let none : position is_unknown (cells_of c.self.inside.blocks.items count) ≡ None =
-    ap (λ (b : List Block). position is_unknown (cells_of b count)) (sym c.deref.ensures.value)
-    ∙ none_in c.deref.result.now count (λ i l. c.in_default.ensures.none i (omega (arith, long))) in
-    rw (← c.self.view_is) (sym (ap (option_map (λ (k : ℕ). (k % width, k / width))) none))
+pub returns : goal.returns
+returns c =
+    let g = c.args.self.now in
+    let high : g.height ≤ c.loop-y.y =
+    omega (arith, c.loop-y-test.false, c.len-y-end.ensures, c.self.inside.rows.ok.0, ap (λ (g : PartialGrid). g.height) c.self.view_is) in
+    let count : length g.cells ≡ g.width * g.height = rw (← c.self.view_is) (count-cells c.self.inside.width c.self.inside.rows.items) in
+    let none = position_none g.cells (λ k l. c.loop-y.invariant k (omega (arith, l, count, mul-le-mul_left g.width high))) in
+    sym (ap (option_map (λ (k : ℕ). (k % g.width, k / g.width))) none)

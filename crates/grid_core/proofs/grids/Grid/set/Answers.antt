@@ -1,29 +1,25 @@
--- `Grid::set`: the place of column x and row y lies within the grid, and the cell there changes.
-use Rattle.std.proofs.Common.{◌≡◌, ◌*◌, ◌+◌, ◌<◌, ◌∙◌, ap, set, length, arith}
-use Rattle.grid_core.specs.PartialGrid.{PartialGrid}
-use Rattle.grid_core.proofs.BlockLemmas.{length-cells_of}
-use Rattle.grid_core.proofs.LineLaws.{place-within}
+-- `Grid::set`: the row with another cell is written, which is one other cell of the grid.
+use Rattle.std.proofs.Common.{◌*◌, ◌+◌, ◌≤◌, ◌∙◌, List, set, sym, ap, arith, length, length-set}
+use Rattle.grid_core.specs.declared.cells.Cell.{Cell}
+use Rattle.grid_core.specs.Rows.{with_row}
+use Rattle.grid_core.proofs.LineLaws.{row-within}
+use Rattle.grid_core.proofs.RowLemmas.{row-set}
+use Rattle.grid_core.proofs.RowLists.{length-row_of}
 use Rattle.grid_core.proofs.grids.Grid.set.Goals as goal
 
-pub set_at-requires : goal.set_at-requires
-set_at-requires c =
-    let width = c.self.inside.width in
-    let height = c.self.inside.height in
-    let long : length c.args.self.now.cells ≡ width * height =
-    rw (← c.self.view_is) (length-cells_of c.self.inside.blocks.items (width * height)) in
-    let wide : width ≡ c.args.self.now.width = ap (λ (g : PartialGrid). g.width) c.self.view_is in
-    let high : height ≡ c.args.self.now.height = ap (λ (g : PartialGrid). g.height) c.self.view_is in
-    let within : c.args.y * width + c.args.x < width * height =
-    place-within width height c.args.x c.args.y (omega (arith, c.requires.column, wide)) (omega (arith, c.requires.row, high)) in
-    rw (c.from.ensures, c.from-2.ensures, c.from-3.ensures) (omega (arith, long, within))
+pub set-requires : goal.set-requires
+set-requires c = omega (arith, c.requires.column, ap length c.row-row.ensures.row, length-row_of c.args.self.now c.args.y)
+
+pub write_row-requires-clause-width : goal.write_row-requires-clause-width
+write_row-requires-clause-width c =
+    sym (ap length c.set.ensures ∙ length-set c.row-row.result c.args.x c.args.cell ∙ ap length c.row-row.ensures.row
+    ∙ length-row_of c.args.self.now c.args.y)
 
 pub returns : goal.returns
 returns c =
     let g = c.args.self.now in
-    let wide : c.self.inside.width ≡ g.width = ap (λ (g : PartialGrid). g.width) c.self.view_is in
-    c.set_at.ensures
-    ∙ (λ i. record {
-      width = g.width;
-      height = g.height;
-      cells = set g.cells (c.from.ensures i * (c.from-2.ensures ∙ wide) i + c.from-3.ensures i) c.args.cell;
-    })
+    let fits : c.args.y * g.width + g.width ≤ length g.cells =
+    omega (arith, row-within g.width g.height c.args.y c.requires.row, c.row-row.ensures.count) in
+    c.write_row.ensures.row
+    ∙ ap (with_row g c.args.y) (c.set.ensures ∙ ap (λ (row : List Cell). set row c.args.x c.args.cell) c.row-row.ensures.row)
+    ∙ row-set g c.args.x c.args.y c.args.cell c.requires.column fits

@@ -1,16 +1,23 @@
--- `Grid::unknown`: blocks of which nothing is known are those of a grid of which nothing is known.
-use Rattle.std.proofs.Common.{◌*◌, ◌∙◌, ap, List, replicate}
-use Rattle.grid_core.specs.declared.blocks.Block.{Block}
-use Rattle.grid_core.specs.declared.cells.Cell.{Cell}
-use Rattle.grid_core.specs.Blocks.{cells_of}
-use Rattle.grid_core.specs.PartialGrid.{PartialGrid}
-use Rattle.grid_core.proofs.BlockLemmas.{cells_of-unknown}
+-- `Grid::unknown`: rows of which nothing is known are those of a grid of which nothing is known.
+use Rattle.std.proofs.Common.{◌≡◌, ◌∙◌, ap, sym, length, List, replicate}
+use Rattle.std.proofs.lemmas.List.{length-replicate}
+use Rattle.grid_core.specs.declared.cells.Cell.TheVariants.{Unknown}
+use Rattle.grid_core.specs.declared.rows.Row.{Row}
+use Rattle.grid_core.specs.KeptRows.{row_cells, rows_cells}
+use Rattle.grid_core.specs.Rows.{cells_of_rows}
+use Rattle.grid_core.proofs.RowLists.{cells-unknown}
 use Rattle.grid_core.proofs.grids.Grid.unknown.Goals as goal
 
 pub returns : goal.returns
 returns c =
-    let count = c.args.width * c.args.height in
-    let blocks = c.div_ceil.result in
-    let grid : List Cell → PartialGrid = λ cells. record { width = c.args.width; height = c.args.height; cells = cells } in
-    let items = c.in_ok-vec.ensures.items_if_clones_equal (λ y e. e) ∙ ap (λ (b : Block). replicate blocks b) c.unknown.ensures in
-    ap grid (ap (λ (b : List Block). cells_of b count) items ∙ cells_of-unknown blocks count)
+    let w = c.args.width in
+    let h = c.args.height in
+    let row = c.of-row.result in
+    let items = c.in_ok-vec.ensures.items_if_clones_equal (λ y e. e) ∙ ap (λ n. replicate n row) c.from.ensures in
+    let long : length c.unknown.result ≡ w = ap length c.unknown.ensures ∙ length-replicate w Unknown in
+    let one : row_cells w row ≡ replicate w Unknown = ap (λ n. row_cells n row) (sym long) ∙ c.of-row.ensures.cells ∙ c.unknown.ensures in
+    λ i. record {
+      width = w;
+      height = (ap length items ∙ length-replicate h row) i;
+      cells = (ap (λ (rows : List Row). cells_of_rows (rows_cells w rows)) items ∙ cells-unknown (row_cells w) row w h one) i;
+    }

@@ -1,54 +1,41 @@
--- `Grid::write_row`: cells written into the blocks replace the grid's row y; the value stays lawful.
-use Rattle.std.proofs.Common.{◌≡◌, ◌+◌, ◌*◌, ◌≤◌, ◌∙◌, ap, sym, subst, List, arith}
-use Rattle.std.proofs.lemmas.List.{with_items_is}
-use Rattle.place_sets.specs.Masks.{joined}
-use Rattle.grid_core.specs.declared.blocks.Block.{Block}
+-- `Grid::write_row`: with a row kept in place of another, the grid has the line's cells there.
+use Rattle.std.proofs.Common.{◌≡◌, ◌<◌, ◌*◌, ◌+◌, ◌++◌, ◌∙◌, ℕ, List, ap, sym, set, take, drop, length, length-set, arith}
+use Rattle.std.proofs.lemmas.List.{length-map, map-set}
 use Rattle.grid_core.specs.declared.cells.Cell.{Cell}
-use Rattle.grid_core.specs.Blocks.{AreBlocks, AreWritten, cells_of}
+use Rattle.grid_core.specs.KeptRows.{row_cells, rows_cells}
 use Rattle.grid_core.specs.PartialGrid.{PartialGrid}
-use Rattle.grid_core.specs.Rows.{cell_told}
-use Rattle.grid_core.proofs.BlockLemmas.{length-cells_of}
-use Rattle.grid_core.proofs.LineLaws.{row-within}
-use Rattle.grid_core.proofs.RowLemmas.{cells_of-written, written_kept, written_same}
+use Rattle.grid_core.specs.Rows.{cells_of_rows, with_row}
+use Rattle.grid_core.proofs.KeptRows.{count-cells, rows-long, rows-set}
+use Rattle.grid_core.proofs.RowLists.{cells-set_row}
 use Rattle.grid_core.proofs.grids.Grid.write_row.Goals as goal
 
 pub invariant_of-self : goal.invariant_of-self
-invariant_of-self c =
-    let blocks = c.self.inside.blocks in
-    let width = c.self.inside.width in
-    let height = c.self.inside.height in
-    let new = c.write_cells.new.blocks in
-    let told = cell_told (joined c.args.filled.low c.args.filled.high) (joined c.args.blank.low c.args.blank.high) in
-    let items = with_items_is blocks new (c.write_cells.ensures.size ∙ c.deref_mut.ensures.len) in
-    let first : c.from.result * c.from-2.result ≡ c.args.y * width = rw (c.from.ensures, c.from-2.ensures) in
-    let high : height ≡ c.args.self.now.height = ap (λ (g : PartialGrid). g.height) c.self.view_is in
-    let within : c.args.y * width + width ≤ width * height = row-within width height c.args.y (omega (arith, c.requires.row, high)) in
-    let written : AreWritten blocks.items new (c.args.y * width) width told =
-    written_same c.deref_mut.result.now blocks.items new (c.from.result * c.from-2.result)
-    (c.args.y * width) width told c.deref_mut.ensures.value first c.write_cells.ensures in (
-      c.self.invariant.0,
-      subst (AreBlocks (width * height)) (sym items)
-          (written_kept blocks.items new (width * height) (c.args.y * width) width told within c.self.invariant.1 written),
+invariant_of-self g c =
+    let rows = c.self.inside.rows.items in
+    let within : c.from.result < length rows =
+    omega (arith, c.requires.row, c.from.ensures, ap (λ (g : PartialGrid). g.height) c.self.view_is) in (
+      rw (length-set rows c.from.result c.of.result) c.self.invariant.0,
+      rows-set rows c.from.result c.of.result within c.self.invariant.1 c.of.ensures.row,
     )
 
 pub returns-clause-row : goal.returns-clause-row
-returns-clause-row c =
-    let blocks = c.self.inside.blocks in
-    let width = c.self.inside.width in
-    let height = c.self.inside.height in
-    let new = c.write_cells.new.blocks in
-    let filled = joined c.args.filled.low c.args.filled.high in
-    let blank = joined c.args.blank.low c.args.blank.high in
-    let items = with_items_is blocks new (c.write_cells.ensures.size ∙ c.deref_mut.ensures.len) in
-    let first : c.from.result * c.from-2.result ≡ c.args.y * width = rw (c.from.ensures, c.from-2.ensures) in
-    let high : height ≡ c.args.self.now.height = ap (λ (g : PartialGrid). g.height) c.self.view_is in
-    let within : c.args.y * width + width ≤ width * height = row-within width height c.args.y (omega (arith, c.requires.row, high)) in
-    let written : AreWritten blocks.items new (c.args.y * width) width (cell_told filled blank) =
-    written_same c.deref_mut.result.now blocks.items new (c.from.result * c.from-2.result) (c.args.y * width) width
-    (cell_told filled blank) c.deref_mut.ensures.value first c.write_cells.ensures in
-    let grid : List Cell → PartialGrid = λ cells. record { width = width; height = height; cells = cells } in
-    rw (← c.self.view_is) (ap grid (ap (λ (b : List Block). cells_of b (width * height)) items
-    ∙ cells_of-written blocks.items new (width * height) (c.args.y * width) width filled blank within written))
+returns-clause-row g c =
+    let w = c.self.inside.width in
+    let rows = c.self.inside.rows.items in
+    let y = c.args.y in
+    let row = c.of.result in
+    let line = c.args.line.now in
+    let lines = rows_cells w rows in
+    let within : y < length rows = omega (arith, c.requires.row, ap (λ (g : PartialGrid). g.height) c.self.view_is) in
+    let wide : length line ≡ w = sym c.requires.width ∙ sym (ap (λ (g : PartialGrid). g.width) c.self.view_is) in
+    let kept : row_cells w row ≡ line = ap (λ (n : ℕ). row_cells n row) (sym wide) ∙ c.of.ensures.cells in
+    let cells : cells_of_rows (rows_cells w (set rows c.from.result row)) ≡
+    take (y * w) (cells_of_rows lines) ++ line ++ drop (y * w + w) (cells_of_rows lines) =
+    ap (λ (k : ℕ). cells_of_rows (rows_cells w (set rows k row))) c.from.ensures
+    ∙ ap cells_of_rows (map-set (row_cells w) rows y row) ∙ ap (λ (r : List Cell). cells_of_rows (set lines y r)) kept
+    ∙ cells-set_row w lines y line (rows-long w rows) (omega (arith, within, length-map rows (row_cells w))) in
+    (λ i. record { width = w; height = length-set rows c.from.result row i; cells = cells i })
+    ∙ ap (λ (g : PartialGrid). with_row g y line) c.self.view_is
 
 pub returns-clause-count : goal.returns-clause-count
-returns-clause-count c = rw (← c.self.view_is) (length-cells_of c.self.inside.blocks.items (c.self.inside.width * c.self.inside.height))
+returns-clause-count g c = rw (← c.self.view_is) (count-cells c.self.inside.width c.self.inside.rows.items)

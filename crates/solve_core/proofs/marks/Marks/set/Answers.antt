@@ -2,7 +2,7 @@
 use Rattle.std.proofs.Common.{rules, ◌∙◌, ℕ, ◌-◌, ◌<◌, inl, inr, length, set, ap, sym, subst, arith}
 use Rattle.place_sets.specs.Masks.{Has, IsMarked, IsMaskOf}
 use Rattle.solve_core.specs.LineMarks.{LineMarks}
-use Rattle.line_core.proofs.LineCells.{width_within}
+use Rattle.grid_core.proofs.LineCells.{width_within}
 use Rattle.solve_core.proofs.MarkSteps.{set_row, set_column, count_marks}
 use Rattle.solve_core.proofs.marks.Marks.set.Goals as goal
 

@@ -1,0 +1,8 @@
+-- What the loop of `Grid::known` keeps: the known ones of the cells passed are counted.
+use Rattle.std.proofs.Common.{◌≡◌, take}
+use Rattle.std.specs.List.{count_by}
+use Rattle.grid_core.specs.Cells.{is_known}
+use Rattle.grid_core.proofs.grids.Grid.known.Given as goal
+
+abbrev pub invariant-loop-place : goal.invariant-loop-place
+invariant-loop-place l = l.known ≡ count_by is_known (take l.place l.self.cells)

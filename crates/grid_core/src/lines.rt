@@ -1,0 +1,222 @@
+//! Lines, kept as two sets of places of one width.
+
+ghost use Rattle.std.specs.Prelude.{◌≡◌, ◌≢◌, ℕ, ◌<◌, ◌≤◌, ◌↔◌, IsTrue, length, replicate, slice_index_or, slice_set, true};
+ghost use Rattle.grid_core.specs.declared.cells.Cell.TheVariants.{Unknown};
+ghost use Rattle.grid_core.specs.Cells.{is_filled, is_known};
+ghost use Rattle.grid_core.specs.declared.limits.TheConstants.{LONGEST_SIDE};
+ghost use Rattle.place_sets.specs.Masks.{Has, IsMaskOf, has};
+ghost use Rattle.grid_core.specs.Lines.{IsChanged, IsUnknownCell, IsUnknownFrom, is_blank, line_cells};
+
+use crate::Cell;
+use place_sets::{PlaceSet, Wide, first_from, lacking, places};
+use std::marker::Model;
+
+/// The cells of a line, as many as its sets have places at most, seen as the list of its cells.
+#[derive(Drop)]
+pub struct LineOf<W: PlaceSet> {
+    /// How many cells there are. The field is as wide as the narrowest set,
+    /// so that there is no gap between the fields of the most frequent lines.
+    len: usize,
+    pub(crate) filled: W,
+    pub(crate) blank: W,
+}
+
+impl<W: PlaceSet> Model for LineOf<W> {
+    ghost use Rattle.std.specs.Prelude.{List};
+    ghost use Rattle.grid_core.specs.declared.cells.Cell.{Cell as CellValue};
+    ghost use Rattle.grid_core.specs.Lines.{line_cells, IsLine};
+
+    ghost Value = { List CellValue };
+
+    ghost view = { λ line. line_cells line.len (W.number line.filled) (W.number line.blank) };
+
+    ghost invariant = { λ line. IsLine W.WIDTH line.len (W.number line.filled) (W.number line.blank) };
+}
+
+/// Whether a cell is known to be blank.
+fn is_blank(cell: Cell) -> bool
+    ensures { result ≡ is_blank cell }
+{
+    matches!(&cell, Cell::Blank)
+}
+
+impl<W: PlaceSet> LineOf<W> {
+    /// A line of `len` cells, of which nothing is known.
+    pub fn unknown(len: u16) -> LineOf<W>
+        requires { (1 ≤ len) × (len ≤ W.WIDTH) }
+        ensures { result ≡ replicate len Unknown }
+    {
+        LineOf {
+            len: usize::from(len),
+            filled: W::none(),
+            blank: W::none(),
+        }
+    }
+
+    /// A line of `len` cells, filled and blank at the places of these sets. No place is in both.
+    pub fn of_sets(len: u16, filled: W, blank: W) -> LineOf<W>
+        requires len { (1 ≤ len) × (len ≤ W.WIDTH) }
+        requires apart { (i : ℕ) → Has (W.number filled) i → Has (W.number blank) i → ⊥ }
+        ensures { result ≡ line_cells len (W.number filled) (W.number blank) }
+    {
+        LineOf {
+            len: usize::from(len),
+            filled,
+            blank,
+        }
+    }
+
+    /// The same line, once more.
+    pub fn copy(&self) -> LineOf<W>
+        ensures { result ≡ self.now }
+    {
+        LineOf {
+            len: self.len,
+            filled: self.filled,
+            blank: self.blank,
+        }
+    }
+
+    /// Becomes the same as another line of the same length, in place.
+    pub fn copy_from(&mut self, other: &LineOf<W>)
+        requires { length other.now ≡ length self.old }
+        ensures { self.new ≡ other.now }
+    {
+        self.filled = other.filled;
+        self.blank = other.blank;
+    }
+
+    /// How many cells it has.
+    pub fn len(&self) -> u16
+        ensures len { result ≡ length self.now }
+        ensures some { 1 ≤ length self.now }
+        ensures fits { length self.now ≤ W.WIDTH }
+        ensures within { length self.now ≤ LONGEST_SIDE }
+    {
+        self.len as u16
+    }
+
+    /// What is known of the cell at a place, counted from 0.
+    pub fn get(&self, i: u16) -> Cell
+        requires { i < length self.now }
+        ensures { result ≡ slice_index_or self.now i Unknown }
+    {
+        if self.filled.has(i) {
+            Cell::Filled
+        } else if self.blank.has(i) {
+            Cell::Blank
+        } else {
+            Cell::Unknown
+        }
+    }
+
+    /// Changes what is known of the cell at a place.
+    pub fn set(&mut self, i: u16, cell: Cell)
+        requires { i < length self.old }
+        ensures { self.new ≡ slice_set self.old i cell }
+    {
+        self.filled = self.filled.marked(i, cell.is_filled());
+        self.blank = self.blank.marked(i, is_blank(cell));
+    }
+
+    /// A set with those of its places whose cells are filled.
+    pub fn filled(&self) -> W
+        ensures { (i : ℕ) → i < length self.now → has (W.number result) i ≡ is_filled (slice_index_or self.now i Unknown) }
+    {
+        self.filled
+    }
+
+    /// A set with those of its places whose cells are blank.
+    pub fn blank(&self) -> W
+        ensures { (i : ℕ) → i < length self.now → has (W.number result) i ≡ is_blank (slice_index_or self.now i Unknown) }
+    {
+        self.blank
+    }
+
+    /// The cells of which nothing is known.
+    pub fn unknown_cells(&self) -> W
+        ensures cells { IsMaskOf (IsUnknownCell self.now) (W.number result) }
+        ensures fits { length self.now ≤ W.WIDTH }
+    {
+        lacking(self.filled.or(self.blank), self.len as u16)
+    }
+
+    /// The first cell from a place on of which nothing is known, if there is one.
+    pub fn first_unknown(&self, from: u16) -> Option<u16>
+        requires { from ≤ length self.now }
+        ensures { IsUnknownFrom self.now from result }
+    {
+        first_from(self.unknown_cells(), from)
+    }
+
+    /// Settles the unknown cell at a place, counted from 0.
+    pub fn settle(&mut self, i: u16, cell: Cell)
+        requires i { i < length self.old }
+        requires unknown { slice_index_or self.old i Unknown ≡ Unknown }
+        requires known { is_known cell ≡ true }
+        ensures { self.new ≡ slice_set self.old i cell }
+    {
+        if cell.is_filled() {
+            self.filled = self.filled.marked(i, true);
+        } else {
+            self.blank = self.blank.marked(i, true);
+        }
+    }
+
+    /// The places at which another line of the same length differs.
+    pub fn changes(&self, other: &LineOf<W>) -> W
+        requires { length other.now ≡ length self.now }
+        ensures changes { IsMaskOf (IsChanged self.now other.now) (W.number result) }
+        ensures fits { length self.now ≤ W.WIDTH }
+    {
+        let filled = self.filled.xor(other.filled);
+        let blank = self.blank.xor(other.blank);
+        filled.or(blank).and(places(self.len as u16))
+    }
+
+    /// Whether another line has the same cells.
+    pub fn is_same(&self, other: &LineOf<W>) -> bool
+        ensures { IsTrue result ↔ (self.now ≡ other.now) }
+    {
+        other.len == self.len && self.changes(other).is_empty()
+    }
+
+    /// Becomes the same as a line of the same length in the widest sets.
+    pub fn read(&mut self, other: &LineOf<Wide>)
+        requires { length other.now ≡ length self.old }
+        ensures { self.new ≡ other.now }
+    {
+        self.filled = W::narrowed(other.filled);
+        self.blank = W::narrowed(other.blank);
+    }
+
+    /// A number that lines with the same cells share, mostly, and that others seldom do, for tables of lines.
+    pub fn hash(&self) -> u64 {
+        let filled = self.filled.folded().wrapping_mul(0x9e37_79b9_7f4a_7c15);
+        let blank = self.blank.folded().wrapping_mul(0xd1b5_4a32_d192_ed03);
+        filled.wrapping_add(blank)
+    }
+
+    /// The same line in sets of another width that has room for it.
+    pub fn resized<V: PlaceSet>(&self) -> LineOf<V>
+        requires { length self.now ≤ V.WIDTH }
+        ensures { result ≡ self.now }
+    {
+        LineOf {
+            len: self.len,
+            filled: V::narrowed(self.filled.widened()),
+            blank: V::narrowed(self.blank.widened()),
+        }
+    }
+
+    /// The same line in the widest sets.
+    pub fn widened(&self) -> LineOf<Wide>
+        ensures { result ≡ self.now }
+    {
+        LineOf {
+            len: self.len,
+            filled: self.filled.widened(),
+            blank: self.blank.widened(),
+        }
+    }
+}

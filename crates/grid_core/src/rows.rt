@@ -1,0 +1,36 @@
+//! Rows of a grid, which knows how long they are.
+
+ghost use Rattle.std.specs.Prelude.{◌≡◌, ◌≤◌, length};
+ghost use Rattle.grid_core.specs.KeptRows.{IsRow, row_cells};
+
+use crate::LineOf;
+use place_sets::{PlaceSet, Wide};
+
+/// What is known of the cells of a row: the places of those that are filled, and of those that are blank.
+#[derive(Clone, Copy, Debug)]
+pub(crate) struct Row {
+    filled: Wide,
+    blank: Wide,
+}
+
+impl Row {
+    /// The cells of a line.
+    pub(crate) fn of<W: PlaceSet>(line: &LineOf<W>) -> Row
+        ensures cells { row_cells (length line.now) result ≡ line.now }
+        ensures row { IsRow result }
+    {
+        Row {
+            filled: line.filled.widened(),
+            blank: line.blank.widened(),
+        }
+    }
+
+    /// The first `width` cells, as a line.
+    pub(crate) fn line(&self, width: u16) -> LineOf<Wide>
+        requires width { (1 ≤ width) × (width ≤ 256) }
+        requires row { IsRow self.now }
+        ensures { result ≡ row_cells width self.now }
+    {
+        LineOf::of_sets(width, self.filled, self.blank)
+    }
+}

@@ -1,0 +1,18 @@
+-- `Span::of`: what may be blank is what isn't filled, and what may be filled is what isn't blank.
+use Rattle.std.proofs.Common.{◌≡◌, ◌<◌, ℕ, false, length}
+use Rattle.line_core.proofs.LineCells.{free_is, open_is}
+use Rattle.line_core.proofs.spans.Span.of.Goals as goal
+
+pub returns : goal.returns
+returns g c =
+    let number = g.W.PlaceSet.number in
+    let line = c.args.line.now in
+    record {
+      some = c.len-len.ensures.some;
+      short = c.len-len.ensures.fits;
+      len_is = c.len-len.ensures.len;
+      free_is = free_is line (number c.filled.result) (number c.lacking.result) c.filled.ensures
+          (rw c.len-len.ensures.len at c.lacking.ensures);
+      room_is = open_is line (number c.blank.result) (number c.lacking-2.result) c.blank.ensures
+          (rw c.len-len.ensures.len at c.lacking-2.ensures);
+    }
