@@ -190,7 +190,7 @@ fn numbered_line(len: u16, code: u32) -> Line
 }
 
 /// The clue of the full line whose filled cells are the bits of a number.
-fn numbered_clue(alloc: Global, len: u16, code: u64) -> Result<Clue, Fail> {
+pub(crate) fn numbered_clue(alloc: Global, len: u16, code: u64) -> Result<Clue, Fail> {
     let mut numbers = Vec::new(alloc);
     let mut number = 0u16;
     let mut rest = code;

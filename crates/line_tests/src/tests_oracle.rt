@@ -1,0 +1,172 @@
+//! What is deduced of a line is what the oracle tells, which lists all full lines.
+
+ghost use Rattle.std.specs.Prelude.{◌≡◌, ◌≤◌, length};
+
+use crate::oracle_lines::{Cells, deduced, full_lines, lines_of_clue};
+use crate::tests::{next_random, numbered_clue};
+use grid_core::{Cell, Clue};
+use line_core::{Line, Tables, deduce};
+use std::alloc::{AllocError, Global};
+use std::test::Fail;
+
+/// The line of a length with these cells, and unknown ones after them.
+fn line_with(len: u16, cells: &[Cell]) -> Line
+    requires { (1 ≤ len) × (len ≤ 256) }
+    ensures { length result ≡ len }
+{
+    let mut line = Line::unknown(len);
+    for i in 0..line.len() {
+        let cell = cells.get(usize::from(i)).copied().unwrap_or(Cell::Unknown);
+        line.set(i, cell);
+    }
+    line
+}
+
+/// The cells of a line.
+fn cells_of(alloc: Global, line: &Line) -> Result<Cells, AllocError> {
+    let mut cells = Vec::new(alloc);
+    for i in 0..line.len() {
+        cells.push(line.get(i))?;
+    }
+    Ok(cells)
+}
+
+/// Whether what is deduced of a line is what is wanted, which is none if it should be dead.
+fn is_deduced(
+    alloc: Global,
+    answer: &Option<Line>,
+    wanted: &Option<Cells>,
+) -> Result<bool, AllocError> {
+    match (answer, wanted) {
+        (Some(line), Some(cells)) => Ok(cells_of(alloc, line)? == *cells),
+        (None, None) => Ok(true),
+        _ => Ok(false),
+    }
+}
+
+/// Whether what is deduced of the line with these cells is what the listing tells.
+fn is_deduced_alike(
+    alloc: Global,
+    tables: &mut Tables,
+    cells: &[Cell],
+    clue: &Clue,
+    lines_of_clue: &[Cells],
+) -> Result<bool, Fail>
+    requires { tables.old ≡ 16 }
+    ensures { tables.new ≡ 16 }
+{
+    let len = cells.len();
+    if len == 0 || len > 16 {
+        return Ok(false);
+    }
+    let answer = deduce(tables, &line_with(len as u16, cells), clue);
+    let wanted = deduced(alloc, cells, lines_of_clue)?;
+    Ok(is_deduced(alloc, &answer, &wanted)?)
+}
+
+/// Cells that are the digits of a number, base 3.
+fn numbered_cells(alloc: Global, count: u16, number: u32) -> Result<Cells, AllocError> {
+    let mut cells = Vec::new(alloc);
+    let mut rest = number;
+    for _ in 0..count {
+        cells.push(match rest % 3 {
+            0 => Cell::Unknown,
+            1 => Cell::Filled,
+            _ => Cell::Blank,
+        })?;
+        rest /= 3;
+    }
+    Ok(cells)
+}
+
+/// Whether a clue is deduced alike on the first `lines` lines of a length.
+fn clue_is_deduced_alike(
+    alloc: Global,
+    len: u16,
+    clue: &Clue,
+    full_lines: &[Cells],
+    lines: u32,
+) -> Result<bool, Fail> {
+    let mut tables = Tables::new(alloc, 16)?;
+    let lines_of_clue = lines_of_clue(alloc, full_lines, clue.numbers())?;
+    for number in 0..lines {
+        let cells = numbered_cells(alloc, len, number)?;
+        if !is_deduced_alike(alloc, &mut tables, &cells, clue, &lines_of_clue)? {
+            return Ok(false);
+        }
+    }
+    Ok(true)
+}
+
+/// Lengths, and how many lines there are.
+const LENGTHS: [(u16, u32); 6] = [(1, 3), (2, 9), (3, 27), (4, 81), (5, 243), (6, 729)];
+
+/// The clues of all lines of up to two cells more: those that fit, and those that don't.
+#[test]
+fn short_lines_are_deduced_alike(rt: HostRuntime) -> Result<(), Fail> {
+    let alloc = rt.alloc();
+    for (len, lines) in LENGTHS {
+        let full_lines = full_lines(alloc, usize::from(len))?;
+        for bits in 0..(1u64 << (len + 2)) {
+            let clue = numbered_clue(alloc, len + 2, bits)?;
+            assert!(rt;
+                clue_is_deduced_alike(alloc, len, &clue, &full_lines, lines)?,
+                "{len}: {bits}"
+            );
+        }
+    }
+    Ok(())
+}
+
+/// Cells of which about half are known, nearly all of them as in the full line whose filled cells are the bits
+/// of a number.
+fn partly_known_cells(
+    alloc: Global,
+    len: u16,
+    bits: u64,
+    state: &mut u64,
+) -> Result<Cells, AllocError> {
+    let mut cells = Vec::new(alloc);
+    let mut rest = bits;
+    for _ in 0..len {
+        let filled = rest % 2 == 1;
+        cells.push(match next_random(state) % 64 {
+            0 => Cell::of_colour(!filled),
+            1..32 => Cell::of_colour(filled),
+            _ => Cell::Unknown,
+        })?;
+        rest /= 2;
+    }
+    Ok(cells)
+}
+
+/// Whether a pseudorandom line of a length is deduced alike.
+fn drawn_line_is_deduced_alike(
+    alloc: Global,
+    len: u16,
+    full_lines: &[Cells],
+    state: &mut u64,
+) -> Result<bool, Fail> {
+    let mut tables = Tables::new(alloc, 16)?;
+    let bits = next_random(state);
+    let clue = numbered_clue(alloc, len, bits)?;
+    let lines_of_clue = lines_of_clue(alloc, full_lines, clue.numbers())?;
+    let cells = partly_known_cells(alloc, len, bits, state)?;
+    is_deduced_alike(alloc, &mut tables, &cells, &clue, &lines_of_clue)
+}
+
+#[test]
+fn drawn_lines_are_deduced_alike(rt: HostRuntime) -> Result<(), Fail> {
+    let alloc = rt.alloc();
+    let mut state = 1u64;
+    for len in 7..13u16 {
+        let full_lines = full_lines(alloc, usize::from(len))?;
+        for round in 0..500u32 {
+            assert!(rt;
+                drawn_line_is_deduced_alike(alloc, len, &full_lines, &mut state)?,
+                "{len}: {round}"
+            );
+        }
+    }
+    Ok(())
+}

@@ -1,0 +1,242 @@
+//! What `docs/solving.md` says of closing ("Closure and trials", "What is meant"), written a second time, for
+//! tests, in the plainest way: all rounds. Nothing here is shared with the solver but `Cell` and `Puzzle`.
+
+use grid_core::{Cell, Clue, Puzzle};
+use line_tests::oracle_lines::{Cells, deduced, full_lines, lines_of_clue};
+use std::alloc::{AllocError, Global};
+
+/// A row or a column: the places of its cells, and the full lines whose runs are its clue.
+#[derive(Drop)]
+struct PlainLine {
+    places: Vec<usize>,
+    lines_of_clue: Vec<Cells>,
+}
+
+/// `count` places, each a step after the one before.
+fn places_from(
+    alloc: Global,
+    first: usize,
+    step: usize,
+    count: usize,
+) -> Result<Vec<usize>, AllocError> {
+    let mut places = Vec::new(alloc);
+    let mut place = first;
+    for _ in 0..count {
+        places.push(place)?;
+        place = place.wrapping_add(step);
+    }
+    Ok(places)
+}
+
+impl PlainLine {
+    fn new(
+        alloc: Global,
+        places: Vec<usize>,
+        clue: &Clue,
+        full_lines: &[Cells],
+    ) -> Result<PlainLine, AllocError> {
+        let lines_of_clue = lines_of_clue(alloc, full_lines, clue.numbers())?;
+        Ok(PlainLine {
+            places,
+            lines_of_clue,
+        })
+    }
+
+    /// What a grid knows of the line.
+    fn read(&self, alloc: Global, cells: &[Cell]) -> Result<Cells, AllocError> {
+        self.places
+            .iter()
+            .map(|place| cells.get(*place).copied().unwrap_or(Cell::Unknown))
+            .collect(alloc)
+    }
+
+    /// Whether the runs of the line are its clue in a full grid.
+    fn is_met(&self, full: &[Cell]) -> bool {
+        self.lines_of_clue
+            .iter()
+            .any(|line| are_at(full, &self.places, line))
+    }
+
+    /// Writes what is certain of the line into a grid. False if one of its cells has the other colour there.
+    fn write(&self, cells: &mut [Cell], certain: &[Cell]) -> bool {
+        for (place, colour) in self.places.iter().zip(certain) {
+            if !settle(cells, *place, *colour) {
+                return false;
+            }
+        }
+        true
+    }
+}
+
+/// Whether these are the cells at some places of a grid.
+fn are_at(cells: &[Cell], places: &[usize], line: &[Cell]) -> bool {
+    places
+        .iter()
+        .zip(line)
+        .all(|(place, colour)| cells.get(*place) == Some(colour))
+}
+
+/// Gives the cell at a place a colour, if one is certain. False if it has the other one.
+fn settle(cells: &mut [Cell], place: usize, colour: Cell) -> bool {
+    let Some(cell) = cells.get_mut(place) else {
+        return false;
+    };
+    if cell.is_unknown() {
+        *cell = colour;
+    }
+    colour.is_unknown() || *cell == colour
+}
+
+/// A grid with one cell more known.
+pub fn with_cell(
+    alloc: Global,
+    cells: &[Cell],
+    place: usize,
+    colour: Cell,
+) -> Result<Cells, AllocError> {
+    let mut changed = cells.to_vec(alloc)?;
+    if let Some(cell) = changed.get_mut(place) {
+        *cell = colour;
+    }
+    Ok(changed)
+}
+
+/// A puzzle: its sizes, and its rows and then its columns. Its grids are lists of cells in row order.
+#[derive(Drop)]
+pub struct PlainPuzzle {
+    pub width: usize,
+    pub height: usize,
+    lines: Vec<PlainLine>,
+}
+
+impl PlainPuzzle {
+    pub fn new(alloc: Global, puzzle: &Puzzle) -> Result<PlainPuzzle, AllocError> {
+        let mut plain = PlainPuzzle {
+            width: usize::from(puzzle.width()),
+            height: usize::from(puzzle.height()),
+            lines: Vec::new(alloc),
+        };
+        plain.push_rows(alloc, puzzle.rows())?;
+        plain.push_columns(alloc, puzzle.columns())?;
+        Ok(plain)
+    }
+
+    fn push_rows(&mut self, alloc: Global, clues: &[Clue]) -> Result<(), AllocError> {
+        let full_lines = full_lines(alloc, self.width)?;
+        for (y, clue) in clues.iter().enumerate() {
+            let places = places_from(alloc, y.wrapping_mul(self.width), 1, self.width)?;
+            self.lines
+                .push(PlainLine::new(alloc, places, clue, &full_lines)?)?;
+        }
+        Ok(())
+    }
+
+    fn push_columns(&mut self, alloc: Global, clues: &[Clue]) -> Result<(), AllocError> {
+        let full_lines = full_lines(alloc, self.height)?;
+        for (x, clue) in clues.iter().enumerate() {
+            let places = places_from(alloc, x, self.width, self.height)?;
+            self.lines
+                .push(PlainLine::new(alloc, places, clue, &full_lines)?)?;
+        }
+        Ok(())
+    }
+
+    /// How many cells its grids have.
+    pub fn cell_count(&self) -> usize {
+        self.width.wrapping_mul(self.height)
+    }
+
+    /// The grid after a round: all that is certain of each line of the grid as it is. `None` if a line is dead,
+    /// or a row and a column give one cell two colours.
+    fn after_round(&self, alloc: Global, cells: &[Cell]) -> Result<Option<Cells>, AllocError> {
+        let mut after = cells.to_vec(alloc)?;
+        for line in &self.lines {
+            let known = line.read(alloc, cells)?;
+            match deduced(alloc, &known, &line.lines_of_clue)? {
+                Some(certain) if line.write(&mut after, &certain) => {}
+                _ => return Ok(None),
+            }
+        }
+        Ok(Some(after))
+    }
+
+    /// The closure of a grid: rounds, until one changes nothing. `None` if the grid is dead.
+    pub fn closure(&self, alloc: Global, cells: &[Cell]) -> Result<Option<Cells>, AllocError> {
+        let mut now = cells.to_vec(alloc)?;
+        for _ in 0..=cells.len() {
+            match self.after_round(alloc, &now)? {
+                Some(after) if after == now => break,
+                Some(after) => now = after,
+                None => return Ok(None),
+            }
+        }
+        Ok(Some(now))
+    }
+
+    /// Whether a colour of an unknown cell is refuted: the grid with the cell in it has a dead closure.
+    fn is_refuted(
+        &self,
+        alloc: Global,
+        cells: &[Cell],
+        place: usize,
+        colour: Cell,
+    ) -> Result<bool, AllocError> {
+        let tried = with_cell(alloc, cells, place, colour)?;
+        Ok(self.closure(alloc, &tried)?.is_none())
+    }
+
+    /// What trials tell of an unknown cell: the colour that is left, or unknown if both are. `None` if none is.
+    fn tried(
+        &self,
+        alloc: Global,
+        cells: &[Cell],
+        place: usize,
+    ) -> Result<Option<Cell>, AllocError> {
+        let no_filled = self.is_refuted(alloc, cells, place, Cell::Filled)?;
+        let no_blank = self.is_refuted(alloc, cells, place, Cell::Blank)?;
+        Ok(match (no_filled, no_blank) {
+            (false, false) => Some(Cell::Unknown),
+            (false, true) => Some(Cell::Filled),
+            (true, false) => Some(Cell::Blank),
+            (true, true) => None,
+        })
+    }
+
+    /// The grid after a trial round: both colours of each unknown cell are tried, all from the grid as it is,
+    /// and then it is closed by lines. `None` if it is dead.
+    fn after_trial_round(
+        &self,
+        alloc: Global,
+        cells: &[Cell],
+    ) -> Result<Option<Cells>, AllocError> {
+        let mut after = Vec::new(alloc);
+        for (place, cell) in cells.iter().enumerate() {
+            if cell.is_known() {
+                after.push(*cell)?;
+            } else if let Some(cell) = self.tried(alloc, cells, place)? {
+                after.push(cell)?;
+            } else {
+                return Ok(None);
+            }
+        }
+        self.closure(alloc, &after)
+    }
+
+    /// The grid closed under trials: trial rounds, until one changes nothing. `None` if it is dead.
+    pub fn trials(&self, alloc: Global, cells: &[Cell]) -> Result<Option<Cells>, AllocError> {
+        let mut now = cells.to_vec(alloc)?;
+        for _ in 0..=cells.len() {
+            match self.after_trial_round(alloc, &now)? {
+                Some(after) if after == now => break,
+                Some(after) => now = after,
+                None => return Ok(None),
+            }
+        }
+        Ok(Some(now))
+    }
+
+    /// Whether a full grid meets the puzzle: the runs along each line are its clue.
+    pub fn is_met(&self, full: &[Cell]) -> bool {
+        self.lines.iter().all(|line| line.is_met(full))
+    }
+}
