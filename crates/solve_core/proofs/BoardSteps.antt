@@ -61,10 +61,6 @@ board-undone g old less room left k b t e s =
       room_is = omega (arith, long, b.room_is);
     })
 
--- the cell that was settled last is in the grid
-pub undone_place : (g : TrailedGrid) (less : List ℕ) (room k : ℕ) → IsBoard g room → g.trail ≡ less ++ k ∷ [] → k < length g.cells
-undone_place g less room k b t = (all_split (λ j. j < length g.cells) less k (rw t at b.grid.inside)).0
-
 -- a board of which nothing is known
 pub board-unknown : (w h room : ℕ) (g : PartialGrid) (trail : List ℕ) → IsSize w h →
     g ≡ record { width = w; height = h; cells = replicate (w * h) Unknown } → trail ≡ [] → length g.cells ≤ room

@@ -1,10 +1,8 @@
 -- How a search ends, told by the event that comes next.
 use Rattle.std.proofs.Common.{◌≡◌, ℕ, suc, ◌+◌, ◌-◌, add-one, ◌<◌, List, [], ◌∷◌, ◌++◌, length, refl, sym, ap, ◌∙◌, arith}
-use Rattle.grid_core.specs.declared.cells.Cell.{Cell}
 use Rattle.grid_core.specs.PartialGrid.{PartialGrid}
 use Rattle.grid_core.specs.Nonogram.{Nonogram}
-use Rattle.solve_core.specs.Search.{Event, Guess, Solution}
-use Rattle.solve_core.specs.Report.{grid_of}
+use Rattle.solve_core.specs.Search.{Event, Guess}
 use Rattle.solve_core.specs.Endings.{Ending, ending}
 
 -- a list followed by nothing is the list
@@ -16,13 +14,6 @@ append-nil-right (x ∷ xs) = λ i. x ∷ append-nil-right xs i
 pub append-assoc-right : {X : Type 0} (xs ys zs : List X) → (xs ++ ys) ++ zs ≡ xs ++ (ys ++ zs)
 append-assoc-right [] ys zs = refl
 append-assoc-right (x ∷ xs) ys zs = λ i. x ∷ append-assoc-right xs ys zs i
-
--- a solution that is found is the next event
-pub ending-found : (p : Nonogram) (found : List PartialGrid) (cells : List Cell) (spent left : ℕ) (es : List Event) → length found < 2
-    → ending p (found ++ (grid_of p cells ∷ [])) spent left es ≡ ending p found spent left (Solution cells ∷ es)
-ending-found p [] cells spent left es l = refl
-ending-found p (a ∷ []) cells spent left es l = refl
-ending-found p (a ∷ b ∷ more) cells spent left es l = absurd (omega arith)
 
 -- a guess that the limit allows is spent
 pub ending-guess : (p : Nonogram) (found : List PartialGrid) (spent limit : ℕ) (es : List Event) → length found < 2 → spent < limit

@@ -21,15 +21,6 @@ fits_line width p n f is h = elim (cases_lt n (length p.rows)) [
       (f.columns (n - length p.rows) [] below))
 ]
 
--- what fits a width fits a greater one
-pub fits_more : (width more : ℕ) (p : Nonogram) → width ≤ more → FitsIn width p → FitsIn more p
-fits_more width more p l f = record {
-  rows_short = omega (arith, l, f.rows_short);
-  columns_short = omega (arith, l, f.columns_short);
-  rows = λ k d h i e j. omega (arith, l, f.rows k d h i e j);
-  columns = λ k d h i e j. omega (arith, l, f.columns k d h i e j);
-}
-
 -- the numbers of a clue are no greater than its limit
 pub clue_short : (limit : ℕ) (clue : List ℕ) → is_clue limit clue ≡ true → All (λ n. n ≤ limit) clue
 clue_short limit clue h =

@@ -1,18 +1,18 @@
 -- A grid as its rows and its columns: its cells, and what changing one of them does.
-use Rattle.std.proofs.Common.{◌≡◌, ◌≢◌, ℕ, zero, suc, ◌+◌, ◌-◌, ◌*◌, ◌/◌, ◌%◌, ◌<◌, ◌≤◌, inl, inr, false, Some, None, List, [], ◌∷◌, ◌++◌, length, take, drop, get_or, set, refl, sym, ap, subst, ◌∙◌, arith, zero-add, length-append, length-set, get_or-set_same, get_or-set_other, replicate}
-use Rattle.std.proofs.lemmas.List.{ext_get_or, get_or_default, get_or-replicate, length-replicate, get_or_append_left, get_or-append_right}
-use Rattle.std.proofs.lemmas.List.FromFn.{length-map-range_with_len, get_or-map-range_with_len}
+use Rattle.std.proofs.Common.{◌≡◌, ◌≢◌, ℕ, zero, suc, ◌+◌, ◌-◌, ◌*◌, ◌/◌, ◌%◌, ◌<◌, ◌≤◌, inl, inr, false, Some, None, List, [], ◌++◌, length, take, drop, get_or, set, refl, sym, ap, subst, ◌∙◌, arith, length-set, get_or-set_same, get_or-set_other, replicate}
+use Rattle.std.proofs.lemmas.List.{ext_get_or, get_or_default, get_or-replicate, length-replicate}
 use Rattle.std.proofs.lemmas.Nat.{div_below}
 use Rattle.grid_core.specs.declared.cells.Cell.{Cell}
 use Rattle.grid_core.specs.declared.cells.Cell.TheVariants.{Unknown}
 use Rattle.grid_core.specs.Cells.{is_unknown}
-use Rattle.grid_core.specs.PartialGrid.{PartialGrid, IsSize, cell_at}
+use Rattle.grid_core.specs.PartialGrid.{PartialGrid, IsSize}
 use Rattle.grid_core.specs.Nonogram.{places_from, cells_at}
 use Rattle.grid_core.proofs.LineLaws.{length-places_from, get_or-places_from, length-cells_at, get_or-cells_at}
 use Rattle.grid_core.specs.Lines.{IsUnknownFrom}
-use Rattle.solve_core.specs.GridLines.{AreLinesOf, cells_of_rows}
-use Rattle.grid_core.specs.Rows.{row_of, with_row}
+use Rattle.solve_core.specs.GridLines.{AreLinesOf}
+use Rattle.grid_core.specs.Rows.{cells_of_rows, row_of, with_row}
 use Rattle.grid_core.proofs.RowLemmas.{length-replaced, replaced-here, replaced-others}
+use Rattle.grid_core.proofs.RowLists.{get_or-row_of, get_or-rows, length-row_of, length-rows}
 use Rattle.std.proofs.Math.Nat.{mul-le-mul_left}
 use Rattle.solve_core.proofs.LineSteps.{before_or_from, same_or_not}
 use Rattle.solve_core.proofs.NumberedLines.{unique_place, row_within, column_within}
@@ -131,33 +131,6 @@ pub line_read : (lines : List (List Cell)) (i : ℕ) (line : List Cell) → i < 
 line_read lines i line h = get_or_default lines i line [] h
 
 -- ---- the cells of rows
-
--- if each row has `w` cells, all rows together have `w` cells times the number of rows
-pub length-rows : (w : ℕ) (rows : List (List Cell)) → ((y : ℕ) → y < length rows → length (get_or rows y []) ≡ w) →
-    length (cells_of_rows rows) ≡ length rows * w
-length-rows w [] h = omega arith
-length-rows w (row ∷ rows) h = omega (
-  arith,
-  length-append row (cells_of_rows rows),
-  h 0 (omega arith),
-  length-rows w rows (λ y l. h (suc y) (omega arith)),
-)
-
--- each cell of a row is among the cells
-pub get_or-rows : (w : ℕ) (rows : List (List Cell)) (y x : ℕ) → ((k : ℕ) → k < length rows → length (get_or rows k []) ≡ w) →
-    y < length rows → x < w
-    → get_or (cells_of_rows rows) (y * w + x) Unknown ≡ get_or (get_or rows y []) x Unknown
-get_or-rows w [] y x h l m = absurd (omega arith)
-get_or-rows w (row ∷ rows) zero x h l m =
-    let at : 0 * w + x ≡ x = omega arith in
-    ap (λ (k : ℕ). get_or (row ++ cells_of_rows rows) k Unknown) at ∙
-    get_or_append_left row (cells_of_rows rows) Unknown x (omega (arith, h 0 (omega arith)))
-get_or-rows w (row ∷ rows) (suc y) x h l m =
-    let long : length row ≡ w = h 0 (omega arith) in
-    let next : suc y * w + x - w ≡ y * w + x = omega arith in
-    get_or-append_right row (cells_of_rows rows) w (suc y * w + x) Unknown long (omega arith)
-    ∙ ap (λ (k : ℕ). get_or (cells_of_rows rows) k Unknown) next
-    ∙ get_or-rows w rows y x (λ k n. h (suc k) (omega arith)) (omega arith) m
 
 -- the cells of the rows of a grid are its cells
 pub lines-cells : (cells : List Cell) (rows columns : List (List Cell)) → AreLinesOf cells rows columns → cells_of_rows rows ≡ cells
@@ -290,10 +263,6 @@ row-unknown rows columns y column x a ly found =
 
 -- ---- rows read from a grid
 
--- a row of a grid has as many cells as the grid is wide
-pub length-row_of : (g : PartialGrid) (y : ℕ) → length (row_of g y) ≡ g.width
-length-row_of g y = length-map-range_with_len (λ (x : ℕ). cell_at g x y) 0 g.width
-
 -- if the rows are those of a grid, and the columns have the cells of the rows, they are the lines of the grid
 pub lines-read : (g : PartialGrid) (rows columns : List (List Cell)) → IsSize (length columns) (length rows) →
     length g.cells ≡ length columns * length rows → g.width ≡ length columns →
@@ -327,7 +296,7 @@ lines-read g rows columns size count wide rows_are long cells = record {
         get_or (get_or rows y []) x Unknown ≡ get_or g.cells (y * length columns + x) Unknown
     row_cell x y lx ly =
         ap (λ (row : List Cell). get_or row x Unknown) (rows_are y ly)
-        ∙ get_or-map-range_with_len (λ (k : ℕ). cell_at g k y) 0 g.width x x Unknown (omega (arith, lx, wide)) (zero-add x)
+        ∙ get_or-row_of g x y (omega (arith, lx, wide))
         ∙ ap (λ (n : ℕ). get_or g.cells (y * n + x) Unknown) wide
 
 -- ---- rows written into a grid

@@ -104,12 +104,6 @@ pub places-within : (p : Nonogram) (cells : List Cell) (n : ℕ) (places : Place
     places ≡ places_in p.width p.height n → AreWithin places (length cells)
 places-within p cells n places l size e = rw (e, size) (line-within p.width p.height n l)
 
--- one more line has no mark
-pub unmarked-more : (start n : ℕ) (marks : List Bool) → AreUnmarkedFrom start n marks → get_or marks n false ≡ false →
-    AreUnmarkedFrom start (n + 1) marks
-unmarked-more start n marks before here k from to =
-    elim (same_or_not k n) [ inl own ↦ rw own here | inr other ↦ before k from (omega arith) ]
-
 -- if no row had a mark, none was made since, and no column has one, then no line has a mark
 pub unmarked-both : (h count : ℕ) (old new : List Bool) → AreUnmarkedFrom 0 h old → AddsNone old new → AreUnmarkedFrom h count new →
     AreUnmarkedFrom 0 count new

@@ -192,50 +192,11 @@ write-step cells line first step count i h e =
     let next : first + i * step + step ≡ first + (i + 1) * step = omega arith in
     rw (left, drop-cons line i Unknown within, next, add-one i) refl
 
-pub same-step : (cells line : List Cell) (first step count i : ℕ) → i < count → length line ≡ count →
-    get_or line i Unknown ≡ get_or cells (first + i * step) Unknown
-    → with_cells cells (places_from (first + (i + 1) * step) step (count - (i + 1))) (drop (i + 1) line) ≡
-    with_cells cells (places_from (first + i * step) step (count - i)) (drop i line)
-same-step cells line first step count i h e same =
-    let kept : set cells (first + i * step) (get_or line i Unknown) ≡ cells = ap (set cells (first + i * step)) same ∙
-    set-get_or cells (first + i * step) Unknown in
-    ap (λ (r : List Cell). with_cells r (places_from (first + (i + 1) * step) step (count - (i + 1))) (drop (i + 1) line)) (sym kept) ∙
-    write-step cells line first step count i h e
-
 -- a line that is read at places has as many cells
 pub length-seen : (cells line : List Cell) (first step count : ℕ) → line ≡ cells_at Unknown cells (places_from first step count) →
     length line ≡ count
 length-seen cells line first step count e = ap length e ∙ length-cells_at Unknown cells (places_from first step count) ∙
     length-places_from first step count
-
--- cells of the line that stand in the grid already need not be written
-pub same-steps : (cells line : List Cell) (first step count from d : ℕ) → from + d ≤ count → length line ≡ count
-    → ((k : ℕ) → from ≤ k → k < from + d → get_or line k Unknown ≡ get_or cells (first + k * step) Unknown)
-    → with_cells cells (places_from (first + (from + d) * step) step (count - (from + d))) (drop (from + d) line) ≡
-    with_cells cells (places_from (first + from * step) step (count - from)) (drop from line)
-same-steps cells line first step count from zero h e same = let at : from + zero ≡ from = omega arith in rw at refl
-same-steps cells line first step count from (suc d) h e same =
-    let next : from + suc d ≡ from + d + 1 = omega arith in
-    rw next
-    (same-step cells line first step count (from + d) (omega arith) e (same (from + d) (omega arith) (omega arith))
-    ∙ same-steps cells line first step count from d (omega arith) e (λ k l m. same k l (omega arith)))
-
--- if the cells from `from` up to `i` stand there already, writing the line can start at `i`
-pub same-until : (cells line : List Cell) (first step count from i : ℕ) → from ≤ i → i ≤ count → length line ≡ count
-    → ((k : ℕ) → from ≤ k → k < i → get_or line k Unknown ≡ get_or cells (first + k * step) Unknown)
-    → with_cells cells (places_from (first + i * step) step (count - i)) (drop i line) ≡
-    with_cells cells (places_from (first + from * step) step (count - from)) (drop from line)
-same-until cells line first step count from i l m e same =
-    let at : from + (i - from) ≡ i = omega arith in
-    rw at at (same-steps cells line first step count from (i - from) (omega arith) e (λ k h n. same k h (omega arith)))
-
-pub same-rest : (cells line : List Cell) (first step count from : ℕ) → from ≤ count → length line ≡ count
-    → ((k : ℕ) → from ≤ k → k < count → get_or line k Unknown ≡ get_or cells (first + k * step) Unknown)
-    → cells ≡ with_cells cells (places_from (first + from * step) step (count - from)) (drop from line)
-same-rest cells line first step count from l e same =
-    let none : count - count ≡ 0 = omega arith in
-    let all : with_cells cells (places_from (first + count * step) step (count - count)) (drop count line) ≡ cells = rw none refl in
-    sym all ∙ same-until cells line first step count from count l (omega arith) e same
 
 -- a line that was written at places is read there
 pub line-read : (cells new line : List Cell) (first step count : ℕ) → 0 < step → ((i : ℕ) → i < count → first + i * step < length cells) →
@@ -311,14 +272,3 @@ closed_settled lines g line e m distinct within = to (deduced (cells_at Unknown 
         let read : cells_at Unknown (with_cells g line.places d) line.places ≡ d =
         cells_at-with_cells g line.places d distinct within long in
         ap (λ (r : List Cell). Some r) (sym read ∙ ap (λ (r : List Cell). cells_at Unknown r line.places) same)
-
--- a deduced line knows more
-pub deduce_line-above : (g : List Cell) (line : GridLine) → AtMost (Some g) (deduce_line g line)
-deduce_line-above g line = to (deduced (cells_at Unknown g line.places) line.clue)
-    (deduced-above (cells_at Unknown g line.places) line.clue)
-  where
-    to : (o : Option (List Cell)) → AtMost (Some (cells_at Unknown g line.places)) o →
-        AtMost (Some g) (option_map (with_cells g line.places) o)
-    to None above = tt
-    to (Some d) above = rw (with_cells-same g line.places) at
-        (with_cells-monotone g g line.places (cells_at Unknown g line.places) d (Extends-refl g) above)

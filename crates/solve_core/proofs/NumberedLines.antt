@@ -55,15 +55,6 @@ pub along-column : (w h n i : ℕ) → h ≤ n → ((places_in w h n).count ≡ 
 along-column w h n i l = by_kind (λ q. (q.count ≡ h) × (q.first + i * q.step ≡ i * w + (n - h))) w h n (λ r. absurd (omega arith))
     (λ c. (refl, omega arith))
 
--- a line has at least 1 cell and at most 256
-pub line-long : (w h n : ℕ) → IsSize w h → (1 ≤ (places_in w h n).count) × ((places_in w h n).count ≤ 256)
-line-long w h n size = by_kind (λ q. (1 ≤ q.count) × (q.count ≤ 256)) w h n (λ r. (size.width_from, size.width_to))
-    (λ c. (size.height_from, size.height_to))
-
--- the lines that cross a line are lines
-pub line-crossed : (w h n : ℕ) → (places_in w h n).crossing + (places_in w h n).count ≤ h + w
-line-crossed w h n = by_kind (λ q. q.crossing + q.count ≤ h + w) w h n (λ r. omega arith) (λ c. omega arith)
-
 -- the places of a line are a positive step apart, if the grid has a column
 pub line-step : (w h n : ℕ) → 0 < w → 0 < (places_in w h n).step
 line-step w h n positive = by_kind (λ l. 0 < l.step) w h n (λ r. omega arith) (λ c. positive)

@@ -6,7 +6,7 @@ use Rattle.grid_core.specs.declared.cells.Cell.TheVariants.{Unknown, Filled, Bla
 use Rattle.grid_core.specs.Cells.{CellExtends, Extends}
 use Rattle.solve_core.specs.Closure.{join_cells, join, join_all, option_cons}
 pub use Rattle.line_core.specs.Order.{AtMost}
-pub use Rattle.line_core.proofs.DeductionLaws.{Extends-refl, Extends-trans, Extends-antisym, length-Extends, AtMost-refl, AtMost-trans}
+pub use Rattle.line_core.proofs.DeductionLaws.{Extends-refl, Extends-trans, Extends-antisym, length-Extends, AtMost-trans}
 
 -- at one cell
 abbrev CellAtMost : Cell → Option Cell → Type 0

@@ -8,7 +8,7 @@ use Rattle.solve_core.specs.Closure.{closure}
 use Rattle.solve_core.specs.Trials.{trials}
 use Rattle.grid_core.specs.declared.cells.Cell.{Cell}
 use Rattle.grid_core.specs.PartialGrid.{PartialGrid}
-use Rattle.grid_core.specs.Nonogram.{Nonogram, GridLine, lines_of}
+use Rattle.grid_core.specs.Nonogram.{Nonogram, lines_of}
 use Rattle.solve_core.specs.declared.findings.Verdict.{Verdict}
 use Rattle.solve_core.specs.declared.findings.Verdict.TheVariants.{Nothing}
 use Rattle.solve_core.specs.declared.findings.Findings.{Findings}
@@ -16,8 +16,6 @@ use Rattle.solve_core.specs.Search.{Event, Guess, Solution, events}
 use Rattle.solve_core.specs.Report.{through_solution, within_guesses, solutions_in, guesses_in, verdict_by, grid_of, whole_search, events_from, verdict_of, guesses_of, unknown_grid, line_closure, trial_closure, is_settled, known_in, grade_by, report_of}
 use Rattle.solve_core.specs.Verdicts.{IsFinal}
 use Rattle.solve_core.specs.Endings.{Ending, ending}
-use Rattle.solve_core.specs.Branches.{IsClosed}
-use Rattle.solve_core.proofs.TrialLaws.{tried_cells, after_trials, trials-IsLeastClosed}
 
 nat_lt-more : (m n : ℕ) → nat_lt m n ≡ nat_lt (suc m) (suc n)
 nat_lt-more m n = by (nat_lt m n) (nat_lt (suc m) (suc n)) refl refl
@@ -171,10 +169,6 @@ report-greater pick p limit greater l h =
       spent = end.spent;
     })
     ∙ report-is pick p limit
-
--- a trial-closed grid is line-closed
-pub trials-closed : (lines : List GridLine) (g z : List Cell) → Some z ≡ trials lines g → IsClosed lines z
-trials-closed lines g z e = (after_trials lines z z (tried_cells lines z) ((trials-IsLeastClosed lines g).closed z (sym e))).1
 
 -- the report on a puzzle that neither closure finds dead, by how its search ends
 pub report-alive : (pick : List Cell → Option ℕ) (p q r : Nonogram) (start closed tried : List Cell) (limit : ℕ)

@@ -188,11 +188,6 @@ trial-closed Refuted lines g trial k c e h = cc
 trial-closed Open lines g trial k c e h = cc
 trial-closed Closed lines g trial k c e h = h
 
-pub not_known : (c : Cell) → is_known c ≡ false → c ≡ Unknown
-not_known Unknown e = refl
-not_known Filled e = cc
-not_known Blank e = cc
-
 -- if the cells are alive, the outcome is the cells
 pub alive_cells : (alive : Bool) (cells : List Cell) (o : Option (List Cell)) → alive ≡ true → if_alive alive cells ≡ o → o ≡ Some cells
 alive_cells true cells o e h = sym h

@@ -1,14 +1,9 @@
 -- A grid as its rows and its columns.
-use Rattle.std.specs.Prelude.{◌≡◌, ℕ, ◌*◌, ◌<◌, List, [], ◌∷◌, ◌++◌, length, slice_index_or}
+use Rattle.std.specs.Prelude.{◌≡◌, ℕ, ◌*◌, ◌<◌, List, [], length, slice_index_or}
 use Rattle.grid_core.specs.declared.cells.Cell.{Cell}
 use Rattle.grid_core.specs.declared.cells.Cell.TheVariants.{Unknown}
 use Rattle.grid_core.specs.Nonogram.{places_from, cells_at}
 use Rattle.grid_core.specs.PartialGrid.{IsSize}
-
--- the cells of rows, one row after the other
-abbrev pub cells_of_rows : List (List Cell) → List Cell
-cells_of_rows [] = []
-cells_of_rows (row ∷ rows) = row ++ cells_of_rows rows
 
 -- each row and each column has its cells
 pub record AreLinesOf (cells : List Cell) (rows columns : List (List Cell)) : Type 0 where

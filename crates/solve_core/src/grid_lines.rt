@@ -3,10 +3,10 @@ ghost use Rattle.std.specs.Prelude.{◌≡◌, ◌+◌, ◌-◌, ◌*◌, ◌<�
 ghost use Rattle.grid_core.specs.Cells.{is_known};
 ghost use Rattle.grid_core.specs.Nonogram.{cells_at};
 ghost use Rattle.grid_core.specs.PartialGrid.{IsSize};
-ghost use Rattle.grid_core.specs.Rows.{row_of};
+ghost use Rattle.grid_core.specs.Rows.{cells_of_rows, row_of};
 ghost use Rattle.grid_core.specs.declared.cells.Cell.TheVariants.{Unknown};
 ghost use Rattle.grid_core.specs.Lines.{IsUnknownFrom};
-ghost use Rattle.solve_core.specs.GridLines.{AreLinesOf, cells_of_rows};
+ghost use Rattle.solve_core.specs.GridLines.{AreLinesOf};
 ghost use Rattle.place_sets.specs.Masks.{has};
 ghost use Rattle.solve_core.specs.Counts.{is_sure};
 ghost use Rattle.solve_core.specs.Lines.{places_in, places_of};
@@ -30,7 +30,8 @@ pub struct GridLines<W: LineSet> {
 impl<W: LineSet> Model for GridLines<W> {
     ghost use Rattle.std.specs.Prelude.{length};
     ghost use Rattle.grid_core.specs.PartialGrid.{PartialGrid};
-    ghost use Rattle.solve_core.specs.GridLines.{AreLinesOf, cells_of_rows};
+    ghost use Rattle.solve_core.specs.GridLines.{AreLinesOf};
+    ghost use Rattle.grid_core.specs.Rows.{cells_of_rows};
 
     ghost Value = { PartialGrid };
 
@@ -114,7 +115,7 @@ fn read_rows<W: LineSet>(rows: &mut [LineOf<W>], grid: &Grid)
     ensures count { 0 < length rows.old → length grid.now.cells ≡ grid.now.width * grid.now.height }
 {
     for y in 0..rows.len() {
-        rows[y].read_row(grid, y as u16);
+        grid.read_row(y as u16, &mut rows[y]);
     }
 }
 
@@ -329,7 +330,7 @@ impl<W: LineSet> GridLines<W> {
         ensures { grid.new ≡ self.now }
     {
         for y in 0..self.rows.len() {
-            self.rows[y].write_row(grid, y as u16);
+            grid.write_row(y as u16, &self.rows[y]);
         }
     }
 }

@@ -1,7 +1,8 @@
 -- `read_lines`: rows that are those of the grid, and columns with the cells of the rows, are its lines.
 use Rattle.std.proofs.Common.{◌≡◌, ◌*◌, ◌∙◌, length, ap, sym, arith}
 use Rattle.grid_core.specs.PartialGrid.{IsSize}
-use Rattle.solve_core.proofs.GridLineSteps.{length-row_of, lines-long, lines-read}
+use Rattle.grid_core.proofs.RowLists.{length-row_of}
+use Rattle.solve_core.proofs.GridLineSteps.{lines-long, lines-read}
 use Rattle.solve_core.proofs.grid_lines.read_lines.Goals as goal
 
 pub read_rows-requires-clause-lengths : goal.read_rows-requires-clause-lengths

@@ -5,7 +5,7 @@ use Rattle.grid_core.specs.declared.cells.Cell.{Cell}
 use Rattle.grid_core.specs.declared.cells.Cell.TheVariants.{Unknown}
 use Rattle.grid_core.specs.PartialGrid.{PartialGrid}
 use Rattle.grid_core.specs.Lines.{IsUnknownFrom}
-use Rattle.solve_core.specs.GridLines.{cells_of_rows}
+use Rattle.grid_core.specs.Rows.{cells_of_rows}
 use Rattle.solve_core.proofs.GridLineSteps.{cell_in, line_read, lines-long, row-known, row-unknown}
 use Rattle.solve_core.proofs.LineSteps.{before_or_from}
 use Rattle.solve_core.proofs.grid_lines.GridLines.first_unknown.Goals as goal

@@ -5,7 +5,7 @@ use Rattle.std.proofs.lemmas.List.{ext_get_or}
 use Rattle.grid_core.specs.declared.cells.Cell.{Cell}
 use Rattle.grid_core.specs.declared.cells.Cell.TheVariants.{Unknown}
 use Rattle.grid_core.specs.PartialGrid.{PartialGrid}
-use Rattle.solve_core.specs.GridLines.{cells_of_rows}
+use Rattle.grid_core.specs.Rows.{cells_of_rows}
 use Rattle.solve_core.proofs.GridLineSteps.{line_read, lines-long, rows-written}
 use Rattle.solve_core.proofs.grid_lines.GridLines.write.Goals as goal
 
