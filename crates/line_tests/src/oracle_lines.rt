@@ -1,5 +1,5 @@
-//! What `docs/solving.md` says of one line ("Lines", "What is meant"), written a second time, for tests, in the
-//! plainest way: all full lines are listed. Nothing here is shared with the deduction but `Cell`.
+//! What `docs/solving.md` says of one line ("Lines", "What is meant"), written a second time, for tests, in
+//! the plainest way: all full lines are listed. Nothing here is shared with the deduction but `Cell`.
 
 use grid_core::Cell;
 use std::alloc::{AllocError, Global};

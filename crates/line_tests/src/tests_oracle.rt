@@ -118,8 +118,8 @@ fn short_lines_are_deduced_alike(rt: HostRuntime) -> Result<(), Fail> {
     Ok(())
 }
 
-/// Cells of which about half are known, nearly all of them as in the full line whose filled cells are the bits
-/// of a number.
+/// Cells of which about half are known, nearly all of them as in the full line whose filled cells are the
+/// bits of a number.
 fn partly_known_cells(
     alloc: Global,
     len: u16,

@@ -146,8 +146,8 @@ impl PlainPuzzle {
         self.width.wrapping_mul(self.height)
     }
 
-    /// The grid after a round: all that is certain of each line of the grid as it is. `None` if a line is dead,
-    /// or a row and a column give one cell two colours.
+    /// The grid after a round: all that is certain of each line of the grid as it is is written. `None` if a
+    /// line is dead, or a row and a column give one cell two colours.
     fn after_round(&self, alloc: Global, cells: &[Cell]) -> Result<Option<Cells>, AllocError> {
         let mut after = cells.to_vec(alloc)?;
         for line in &self.lines {
@@ -185,7 +185,8 @@ impl PlainPuzzle {
         Ok(self.closure(alloc, &tried)?.is_none())
     }
 
-    /// What trials tell of an unknown cell: the colour that is left, or unknown if both are. `None` if none is.
+    /// What trials tell of an unknown cell: the colour that is left, or unknown if both are. `None` if none
+    /// is.
     fn tried(
         &self,
         alloc: Global,

@@ -45,8 +45,8 @@ fn sure_neighbours(width: usize, cells: &[Cell], x: usize, y: usize) -> usize {
     .count()
 }
 
-/// The place of the unknown cell of whose neighbours the most are known or outside the grid, and of equals the
-/// first in row order.
+/// The place of the unknown cell of whose neighbours the most are known or outside the grid, and of equals
+/// the first in row order.
 fn most_known(
     alloc: Global,
     width: usize,
@@ -87,7 +87,8 @@ pub enum Event {
     Solution(Cells),
 }
 
-/// A search under way: what has happened, and the guessed grids that are still to be closed, the next one last.
+/// A search under way: what has happened, and the guessed grids that are still to be closed, the next one
+/// last.
 #[derive(Drop)]
 struct PlainSearch<'p> {
     puzzle: &'p PlainPuzzle,
@@ -97,8 +98,8 @@ struct PlainSearch<'p> {
 }
 
 impl PlainSearch<'_> {
-    /// Goes on from a closed grid: a full one is a solution, and in any other a cell is guessed, filled first and
-    /// then blank.
+    /// Goes on from a closed grid: a full one is a solution, and in any other a cell is guessed, filled first
+    /// and then blank.
     fn go_on(&mut self, alloc: Global, cells: Cells) -> Result<(), AllocError> {
         match picked(
             alloc,
@@ -154,8 +155,8 @@ pub fn events(
     Ok(search.events)
 }
 
-/// How far a search comes: the guesses that it spends, the solutions that it finds, and whether the limit cuts
-/// it short.
+/// How far a search comes: the guesses that it spends, the solutions that it finds, and whether the limit
+/// cuts it short.
 #[derive(Drop)]
 pub struct Course<'e> {
     pub spent: u32,
@@ -163,7 +164,8 @@ pub struct Course<'e> {
     pub is_cut: bool,
 }
 
-/// The walk along what happens: to the second solution, or up to the guess after the last that the limit allows.
+/// The walk along what happens: to the second solution, or up to the guess after the last that the limit
+/// allows.
 pub fn walk(alloc: Global, events: &[Event], limit: u32) -> Result<Course<'_>, AllocError> {
     let mut course = Course {
         spent: 0,

@@ -4,8 +4,8 @@ use grid_core::{Clue, Puzzle, Texts};
 use std::alloc::Global;
 use std::test::Fail;
 
-/// Of these the first 2, 3 and 5 are all that fit on a line of 1, 2 and 3 cells, and the next 1, 2 and 3 are all
-/// that need one cell more.
+/// Of these the first 2, 3 and 5 are all that fit on a line of 1, 2 and 3 cells, and the next 1, 2 and 3 are
+/// all that need one cell more.
 const CLUES: [&[u16]; 8] = [&[], &[1], &[2], &[3], &[1, 1], &[4], &[1, 2], &[2, 1]];
 
 /// Clues that the digits of a number choose, and how many of them don't fit on their lines.
@@ -41,7 +41,8 @@ impl Choices {
     }
 }
 
-/// The puzzle of a size whose clues the digits of a number choose. `None` if two of them don't fit on their lines.
+/// The puzzle of a size whose clues the digits of a number choose. `None` if two of them don't fit on their
+/// lines.
 pub fn numbered_puzzle(
     alloc: Global,
     width: u16,

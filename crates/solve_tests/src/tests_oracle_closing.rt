@@ -1,5 +1,5 @@
-//! Closing by lines and under trials ends as the oracle's rounds do: on all puzzles of up to 3 by 3 cells, and on
-//! pseudorandom ones of up to 6 by 6, of unknown grids and of partly known ones.
+//! Closing by lines and under trials ends as the oracle's rounds do: on all puzzles of up to 3 by 3 cells, and
+//! on pseudorandom ones of up to 6 by 6, of unknown grids and of partly known ones.
 
 ghost use Rattle.std.specs.Prelude.{◌≡◌};
 
