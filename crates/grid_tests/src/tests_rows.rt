@@ -186,6 +186,9 @@ fn a_row_is_read_from_the_middle_of_a_grid(rt: HostRuntime) -> Result<(), Fail> 
     assert!(rt; line.get(1) == Cell::Unknown, "its second cell");
     assert!(rt; line.get(2) == Cell::Blank, "its third cell");
     assert!(rt; line.get(3) == Cell::Unknown, "its fourth cell");
-    assert!(rt; line.get(4) == Cell::Filled && line.len() == 5, "its last cell");
+    assert!(rt;
+        line.get(4) == Cell::Filled && line.len() == 5,
+        "its last cell"
+    );
     Ok(())
 }
