@@ -375,9 +375,6 @@ narrow_64 low high = record {
     part : IsMaskOf (λ i. Has low i × (i < 64)) (bit_and low 18446744073709551615)
     part = and_is (Has low) (λ i. i < 64) low 18446744073709551615 (has-itself low) (low_ones 64)
 
-pub low_fits : (n : ℕ) → bit_and n 18446744073709551615 < 18446744073709551616
-low_fits n = omega (arith, and_le_r n 18446744073709551615)
-
 -- the low half has the places below 128
 pub narrow_128 : (low high : ℕ) → Fits low → IsMaskOf (λ i. (i < 128) × Has (joined low high) i) low
 narrow_128 low high f = record {

@@ -4,16 +4,6 @@ use Rattle.std.specs.Int.{bit_at}
 use Rattle.std.proofs.lemmas.Nat.Bits.{bit_at-lt}
 use Rattle.place_sets.specs.Masks.{Has, has}
 
--- the first of two tests that both pass
-pub and_left : (a b : Bool) → (a && b) ≡ true → a ≡ true
-and_left true b h = refl
-and_left false b h = h
-
--- the second of two tests that both pass
-pub and_right : (a b : Bool) → (a && b) ≡ true → b ≡ true
-and_right true b h = h
-and_right false b h = absurd (true≢false (sym h))
-
 -- the test passes at a place of the mask
 pub has_true : (m i : ℕ) → Has m i → has m i ≡ true
 has_true m i h = rw h refl

@@ -1,19 +1,12 @@
 -- One place of a mask changed.
 use Rattle.std.proofs.Common.{◌≡◌, ◌≢◌, ℕ, ◌+◌, ◌-◌, ◌*◌, ◌%◌, ◌^◌, ◌<◌, ◌≤◌, ◌⊎◌, inl, inr, Bool, true, false, refl, sym, ◌∙◌, arith, subst, true≢false}
 use Rattle.std.specs.Int.RustNames.{bit_and, bit_or}
-use Rattle.std.proofs.lemmas.Bool.{cases_lt}
+use Rattle.std.proofs.lemmas.Bool.{cases_eq}
 use Rattle.place_sets.specs.Masks.{Has, has, IsMarked, IsMaskOf, IsMoved, joined}
 use Rattle.place_sets.proofs.HasLemmas.{has_true, true_has}
 use Rattle.place_sets.proofs.Steps.{or_is, shl_is, has-itself, mask_same}
 use Rattle.place_sets.proofs.WordSteps.{one_is, lacks_64, lacks_128}
 use Rattle.place_sets.proofs.Halves.{bit_low, bit_high, halves}
-
-same_or_other : (i p : ℕ) → (i ≡ p) ⊎ (i ≢ p)
-same_or_other i p =
-    elim (cases_lt i p) [
-      | inl low ↦ inr (λ e. absurd (omega arith))
-      | inr high ↦ elim (cases_lt p i) [ inl above ↦ inr (λ e. absurd (omega arith)) | inr low ↦ inl (omega arith) ]
-    ]
 
 -- the mask of one place
 place_is : (w p : ℕ) → p < w → IsMaskOf (λ i. i ≡ p) (1 * 2 ^ p % 2 ^ w)
@@ -28,7 +21,7 @@ marked_with w m p wanted h is =
     (or_is (Has m) (λ i. i ≡ p) m (1 * 2 ^ p % 2 ^ w) (has-itself m) (place_is w p h)) to from
   where
     to : (i : ℕ) → Has m i ⊎ (i ≡ p) → IsMarked (Has m) p wanted i
-    to i x = elim (same_or_other i p) [ inl e ↦ inr (e, is) | inr n ↦ elim x [ inl y ↦ inl (y, n) | inr e ↦ absurd (n e) ] ]
+    to i x = elim (cases_eq i p) [ inl e ↦ inr (e, is) | inr n ↦ elim x [ inl y ↦ inl (y, n) | inr e ↦ absurd (n e) ] ]
 
     from : (i : ℕ) → IsMarked (Has m) p wanted i → Has m i ⊎ (i ≡ p)
     from i (inl x) = inl x.0

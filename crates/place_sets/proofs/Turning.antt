@@ -1,18 +1,18 @@
 -- A mask seen from its other end.
 use Rattle.std.proofs.Common.{◌≡◌, ℕ, zero, suc, ◌+◌, ◌-◌, ◌*◌, ◌/◌, ◌%◌, ◌^◌, ◌<◌, ◌≤◌, ◌⊎◌, inl, inr, refl, sym, arith, subst, Bool, true, false, not, ◌&&◌, cond, nat_eq, nat_lt, nat_le, true≢false, ltb-true, leb-true, eqb-true}
 use Rattle.std.specs.Int.RustNames.{bit_and, bit_or}
-use Rattle.std.proofs.lemmas.Bool.{cases_lt}
+use Rattle.std.proofs.lemmas.Bool.{cases_lt, and_parts}
 use Rattle.place_sets.specs.Masks.{Has, has, IsMaskOf, IsMoved, IsTurned, all_below, swapped_place, is_pairing_at, IsPairing}
 use Rattle.place_sets.proofs.Flooding.{has_below}
 use Rattle.place_sets.proofs.Steps.{and_is, or_is, shr_is, shl_is, has-itself}
-use Rattle.place_sets.proofs.HasLemmas.{has_true, true_has, and_left, and_right}
+use Rattle.place_sets.proofs.HasLemmas.{has_true, true_has}
 
 pub below_all : (n : ℕ) (p : ℕ → Bool) → all_below n p ≡ true → (i : ℕ) → i < n → p i ≡ true
 below_all zero p h i l = absurd (omega arith)
 below_all (suc n) p h i l =
     elim (cases_lt i n) [
-      | inl low ↦ below_all n p (and_right (p n) (all_below n p) h) i low
-      | inr high ↦ (let e : n ≡ i = omega arith in subst (λ (k : ℕ). p k ≡ true) e (and_left (p n) (all_below n p) h))
+      | inl low ↦ below_all n p (and_parts (p n) (all_below n p) h).1 i low
+      | inr high ↦ (let e : n ≡ i = omega arith in subst (λ (k : ℕ). p k ≡ true) e (and_parts (p n) (all_below n p) h).0)
     ]
 
 -- one step of a turn
@@ -41,8 +41,7 @@ pairs_swapped x low by b pairing =
   where
     pair : (i : ℕ) → i < 64 → cond (has low i) (not (has low (i + by))) (nat_le by i && has low (i - by)) ≡ true
     pair i l =
-        and_right (nat_lt (swapped_place low by i) 64) (cond (has low i) (not (has low (i + by))) (nat_le by i && has low (i - by)))
-        (below_all 64 (is_pairing_at 64 low by) pairing i l)
+        (and_parts (nat_lt (swapped_place low by i) 64) (cond (has low i) (not (has low (i + by))) (nat_le by i && has low (i - by))) (below_all 64 (is_pairing_at 64 low by) pairing i l)).1
 
     is_low : (i : ℕ) → i < 64 → has low i ≡ true → has low (i + by) ≡ false
     is_low i l h =
@@ -70,8 +69,8 @@ pairs_swapped x low by b pairing =
     back i false e l p h =
         inr (
           l,
-          leb-true by i (and_left (nat_le by i) (has low (i - by)) p),
-          (h, true_has low (i - by) (and_right (nat_le by i) (has low (i - by)) p)),
+          leb-true by i (and_parts (nat_le by i) (has low (i - by)) p).0,
+          (h, true_has low (i - by) (and_parts (nat_le by i) (has low (i - by)) p).1),
         )
 
 -- one step after another
@@ -85,8 +84,7 @@ steps x r s f g within p q = record {
 pub place_below : (low by : ℕ) → IsPairing 64 low by → (i : ℕ) → i < 64 → swapped_place low by i < 64
 place_below low by pairing i l =
     ltb-true (swapped_place low by i) 64
-    (and_left (nat_lt (swapped_place low by i) 64) (cond (has low i) (not (has low (i + by))) (nat_le by i && has low (i - by)))
-    (below_all 64 (is_pairing_at 64 low by) pairing i l))
+    (and_parts (nat_lt (swapped_place low by i) 64) (cond (has low i) (not (has low (i + by))) (nat_le by i && has low (i - by))) (below_all 64 (is_pairing_at 64 low by) pairing i l)).0
 
 -- from which place each step of a turn takes a place
 abbrev by_ones : ℕ → ℕ

@@ -102,13 +102,6 @@ none_above m r a b i h =
       | inr low ↦ low
     ]
 
--- the low places of a mask
-pub low_places : (w n : ℕ) → IsMaskOf (λ i. (i < w) × Has n i) (n % 2 ^ w)
-low_places w n = record {
-  to = λ i h. let l = has_below w (n % 2 ^ w) i (mod-lt n (pow_pos w)) h in (l, sym (bit_at_mod w n i l) ∙ h);
-  from = λ i h. bit_at_mod w n i h.0 ∙ h.1;
-}
-
 below_power : (m : ℕ) → m < 2 ^ m
 below_power zero = omega arith
 below_power (suc m) = let e : 2 ^ (m + 1) ≡ 2 ^ m * 2 ^ 1 = pow-add 2 m 1 in omega (arith, e, below_power m)

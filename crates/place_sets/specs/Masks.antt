@@ -1,6 +1,7 @@
 -- Words as sets of places: a bit a place.
 use Rattle.std.specs.Prelude.{◌≡◌, ◌≢◌, ℕ, zero, suc, ◌+◌, ◌-◌, ◌*◌, ◌<◌, ◌≤◌, ◌⊎◌, Bool, true, not, ◌&&◌, nat_eq, nat_lt, nat_le, if◌then◌else◌, List, slice_index_or, ◌^◌, Option, Some, None}
 use Rattle.std.specs.Int.{bit_at}
+use Rattle.place_sets.specs.declared.wide.Wide.{Wide}
 
 -- whether a mask has a place
 abbrev pub Has : ℕ → ℕ → Type 0
@@ -71,9 +72,13 @@ pub record AreLevelsOf (P : ℕ → Type 0) (top : ℕ) (levels : List ℕ) : Ty
   pub to : (i : ℕ) → SomeLevel top levels i → P i
   pub from : (i : ℕ) → P i → SomeLevel top levels i
 
--- the number of a wide word, in two halves
+-- the number of two halves
 abbrev pub joined : ℕ → ℕ → ℕ
 joined low high = high * 2 ^ 128 + low
+
+-- the number of a set of 256 places
+abbrev pub number_of : Wide → ℕ
+number_of set = joined set.low set.high
 
 -- the first place of a mask from a given place on, if there is one
 abbrev pub IsFirstFrom : ℕ → ℕ → ℕ → Option ℕ → Type 0

@@ -2,7 +2,7 @@
 
 ghost use Rattle.std.specs.Prelude.{◌≡◌, ◌≢◌, ◌+◌, ◌*◌, ◌^◌, ◌<◌, ◌≤◌, ◌==◌, ◌⊎◌, ℕ, false, refl};
 ghost use Rattle.std.proofs.Common.{arith};
-ghost use Rattle.place_sets.specs.Masks.{Has, has, IsFlooded, IsMarked, IsMaskOf, IsMoved, IsTurned, joined};
+ghost use Rattle.place_sets.specs.Masks.{Has, has, IsFlooded, IsMarked, IsMaskOf, IsMoved, IsTurned, number_of};
 
 use crate::Wide;
 
@@ -100,11 +100,11 @@ pub trait PlaceSet: Copy {
 
     /// The places of a wide word that there is room for.
     fn narrowed(wide: Wide) -> Self
-        ensures { IsMaskOf (λ i. (i < WIDTH) × Has (joined wide.low wide.high) i) (number result) };
+        ensures { IsMaskOf (λ i. (i < WIDTH) × Has (number_of wide) i) (number result) };
 
     /// The same places, in a wide word.
     fn widened(self) -> Wide
-        ensures { joined result.low result.high ≡ number self };
+        ensures { number_of result ≡ number self };
 
     /// All places in one word, for hashes: sets with the same places share it.
     fn folded(self) -> u64;

@@ -2,7 +2,7 @@
 
 ghost use Rattle.std.specs.Prelude.{◌≡◌, ◌+◌, ◌*◌, ◌^◌, ◌<◌, ◌≤◌, ◌⊎◌, ℕ, refl};
 ghost use Rattle.std.proofs.Common.{arith};
-ghost use Rattle.place_sets.specs.Masks.{Has, IsMarked, IsMaskOf, joined};
+ghost use Rattle.place_sets.specs.Masks.{Has, IsMarked, IsMaskOf, number_of};
 
 use crate::PlaceSet;
 
@@ -14,7 +14,7 @@ pub struct Wide {
 }
 
 impl PlaceSet for Wide {
-    ghost number = { λ word. joined word.low word.high };
+    ghost number = { number_of };
 
     ghost WIDTH = { 256 };
 
