@@ -1,6 +1,6 @@
 -- The cells of a line that is kept as two sets.
 use Rattle.std.proofs.Common.{◌≡◌, ℕ, ◌^◌, ◌<◌, ◌≤◌, ◌≢◌, Bool, true, false, List, length, get_or, set, refl, sym, ap, ◌∙◌, subst, arith, true≢false, inl, inr, zero-add, get_or-set_same, get_or-set_other, ◌⊎◌, ext_get_or, length-set, replicate}
-use Rattle.std.proofs.lemmas.Bool.{cases_lt}
+use Rattle.std.proofs.lemmas.Bool.{cases_eq}
 use Rattle.std.proofs.lemmas.List.{length-replicate, get_or-replicate}
 use Rattle.std.proofs.lemmas.Nat.Bits.{bit_at-zero}
 use Rattle.std.proofs.Math.Pow.{pow_mono}
@@ -26,14 +26,6 @@ pub length_seen : (len filled blank : ℕ) (l : List Cell) → line_cells len fi
 length_seen len filled blank l e = ap length (sym e) ∙ length_line len filled blank
 
 -- ---- one cell changed
-
--- two places are the same, or they are not
-pub same_or_other : (i p : ℕ) → (i ≡ p) ⊎ (i ≢ p)
-same_or_other i p =
-    elim (cases_lt i p) [
-      | inl low ↦ inr (λ e. absurd (omega arith))
-      | inr high ↦ elim (cases_lt p i) [ inl above ↦ inr (λ e. absurd (omega arith)) | inr low ↦ inl (omega arith) ]
-    ]
 
 -- what a mask has at a place, told from both sides
 pub has_by : (m i : ℕ) (b : Bool) → (Has m i → b ≡ true) → (b ≡ true → Has m i) → has m i ≡ b
@@ -73,7 +65,7 @@ cells-set len f b nf nb p c h mf mb =
     let long = length_line len f b in
     ext_get_or Unknown (line_cells len nf nb) (set old p c) (length_line len nf nb ∙ sym (length-set old p c ∙ long)) (λ k l.
     let within : k < len = omega (arith, length_line len nf nb) in
-    cell_at len nf nb k within ∙ elim (same_or_other k p) as (λ z. cell_of (has nf k) (has nb k) ≡ get_or (set old p c) k Unknown) [
+    cell_at len nf nb k within ∙ elim (cases_eq k p) as (λ z. cell_of (has nf k) (has nb k) ≡ get_or (set old p c) k Unknown) [
       | inl e ↦
           (let at : cell_of (has nf p) (has nb p) ≡ c =
           ap (λ (v : Bool). cell_of v (has nb p)) (marked_at f nf p (is_filled c) mf)
@@ -109,7 +101,8 @@ unmarked m p wanted lacks un = record {
   from = λ i h. elim h [ inl x ↦ x.0 | inr y ↦ absurd (true≢false (sym y.1 ∙ un)) ];
 }
 
-neither : (f b : Bool) → cell_of f b ≡ Unknown → (f ≡ false) × (b ≡ false)
+-- if a cell is unknown, neither test passes
+pub neither : (f b : Bool) → cell_of f b ≡ Unknown → (f ≡ false) × (b ≡ false)
 neither true b e = absurd (true≢false (ap is_filled e))
 neither false true e = absurd (true≢false (ap is_blank e))
 neither false false e = (refl, refl)

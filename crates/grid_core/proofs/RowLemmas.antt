@@ -1,13 +1,12 @@
 -- A row of a grid with other cells.
 use Rattle.std.proofs.Common.{◌≡◌, ◌≢◌, ℕ, ◌+◌, ◌-◌, ◌*◌, ◌<◌, ◌≤◌, ◌⊎◌, inl, inr, List, ◌++◌, length, take, drop, get_or, set, sym, ap, ◌∙◌, subst, arith, ext_get_or, length-append, length-drop, length-set, get_or-drop, get_or-take, get_or-set_same, get_or-set_other}
 use Rattle.std.proofs.Math.ListN.{get_or-append}
-use Rattle.std.proofs.lemmas.Bool.{cases_lt}
+use Rattle.std.proofs.lemmas.Bool.{cases_eq, cases_lt}
 use Rattle.std.proofs.lemmas.List.{get_or-append_right, length-take-le}
 use Rattle.grid_core.specs.declared.cells.Cell.{Cell}
 use Rattle.grid_core.specs.declared.cells.Cell.TheVariants.{Unknown}
 use Rattle.grid_core.specs.PartialGrid.{PartialGrid}
 use Rattle.grid_core.specs.Rows.{row_of, with_row}
-use Rattle.grid_core.proofs.LineCells.{same_or_other}
 use Rattle.grid_core.proofs.RowLists.{get_or-row_of, length-row_of}
 
 -- ---- a list with another part
@@ -69,7 +68,7 @@ replaced-set xs part first count i c long fits l same =
         replaced-others xs (set part i c) first count more fits k o ∙ sym (get_or-set_other xs (first + i) k c Unknown ne)
 
     here : (j : ℕ) → j < count → get_or (set part i c) j Unknown ≡ get_or new (first + j) Unknown
-    here j lj = elim (same_or_other j i) [
+    here j lj = elim (cases_eq j i) [
       | inl e ↦ rw e (get_or-set_same part i c Unknown (omega (arith, long))
           ∙ sym (get_or-set_same xs (first + i) c Unknown (omega arith)))
       | inr other ↦

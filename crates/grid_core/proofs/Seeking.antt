@@ -7,7 +7,7 @@ use Rattle.grid_core.specs.Cells.{is_unknown}
 use Rattle.place_sets.specs.Masks.{Has, has, IsMaskOf, IsFirstFrom}
 use Rattle.place_sets.proofs.HasLemmas.{has_true, true_has}
 use Rattle.grid_core.specs.Lines.{IsUnknownCell, IsUnknownFrom, line_cells}
-use Rattle.grid_core.proofs.LineCells.{cell_at, length_line}
+use Rattle.grid_core.proofs.LineCells.{cell_at, has_by, length_line, neither}
 
 -- a cell is unknown if neither mask has it
 unknown_by : (f b : Bool) → (f ≡ true → ⊥) → (b ≡ true → ⊥) → cell_of f b ≡ Unknown
@@ -15,21 +15,8 @@ unknown_by true b nf nb = absurd (nf refl)
 unknown_by false true nf nb = absurd (nb refl)
 unknown_by false false nf nb = refl
 
--- and only then
-none_by : (f b : Bool) → cell_of f b ≡ Unknown → (f ≡ false) × (b ≡ false)
-none_by true b e = cc
-none_by false true e = cc
-none_by false false e = (refl, refl)
-
-neither : (m i : ℕ) → has m i ≡ false → Has m i → ⊥
-neither m i e h = true≢false (sym (has_true m i h) ∙ e)
-
-lacks : (m i : ℕ) → (Has m i → ⊥) → has m i ≡ false
-lacks m i n = by (has m i) refl
-  where
-    by : (v : Bool) → has m i ≡ v → v ≡ false
-    by true e = absurd (n (true_has m i e))
-    by false e = refl
+absent : (m i : ℕ) → has m i ≡ false → Has m i → ⊥
+absent m i e h = true≢false (sym (has_true m i h) ∙ e)
 
 -- the mask of what neither mask has is that of the unknown cells
 pub unknown_cells : (len f b n m : ℕ) → IsMaskOf (λ i. Has f i ⊎ Has b i) n → IsMaskOf (λ i. (i < len) × (has n i ≡ false)) m
@@ -39,13 +26,17 @@ unknown_cells len f b n m either rest = record {
       let at = rest.to i x in (
         omega (arith, at.0, length_line len f b),
         cell_at len f b i at.0
-            ∙ unknown_by (has f i) (has b i) (λ t. neither n i at.1 (either.from i (inl (true_has f i t))))
-            (λ t. neither n i at.1 (either.from i (inr (true_has b i t)))),
+            ∙ unknown_by (has f i) (has b i) (λ t. absent n i at.1 (either.from i (inl (true_has f i t))))
+            (λ t. absent n i at.1 (either.from i (inr (true_has b i t)))),
       );
   from = λ i x.
       let within : i < len = omega (arith, x.0, length_line len f b) in
-      let none = none_by (has f i) (has b i) (sym (cell_at len f b i within) ∙ x.1) in
-      rest.from i (within, lacks n i (λ y. elim (either.to i y) [ inl z ↦ neither f i none.0 z | inr z ↦ neither b i none.1 z ]));
+      let none = neither (has f i) (has b i) (sym (cell_at len f b i within) ∙ x.1) in
+      rest.from i (
+        within,
+        has_by n i false (λ y. absurd (elim (either.to i y) [ inl z ↦ absent f i none.0 z | inr z ↦ absent b i none.1 z ]))
+            (λ e. absurd (true≢false (sym e))),
+      );
 }
 
 known_if : (c : Cell) → (c ≡ Unknown → ⊥) → is_unknown c ≡ false

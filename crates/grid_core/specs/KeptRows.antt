@@ -1,13 +1,13 @@
 -- Rows as a grid keeps them: two sets of places each, and no length.
 use Rattle.std.specs.Prelude.{◌<◌, ℕ, List, length, map, slice_index_or}
-use Rattle.place_sets.specs.Masks.{Has, joined}
+use Rattle.place_sets.specs.Masks.{Has, number_of}
 use Rattle.grid_core.specs.declared.cells.Cell.{Cell}
 use Rattle.grid_core.specs.declared.rows.Row.{Row}
 use Rattle.grid_core.specs.Lines.{line_cells}
 
 -- the first `width` cells of a row
 abbrev pub row_cells : ℕ → Row → List Cell
-row_cells width row = line_cells width (joined row.filled.low row.filled.high) (joined row.blank.low row.blank.high)
+row_cells width row = line_cells width (number_of row.filled) (number_of row.blank)
 
 -- of each of these rows the first `width` cells
 abbrev pub rows_cells : ℕ → List Row → List (List Cell)
@@ -15,7 +15,7 @@ rows_cells width rows = map (row_cells width) rows
 
 -- no place of a row is filled and blank
 abbrev pub IsRow : Row → Type 0
-IsRow row = (x : ℕ) → Has (joined row.filled.low row.filled.high) x → Has (joined row.blank.low row.blank.high) x → ⊥
+IsRow row = (x : ℕ) → Has (number_of row.filled) x → Has (number_of row.blank) x → ⊥
 
 -- each of the rows is one
 abbrev pub AreRows : List Row → Type 0

@@ -87,6 +87,7 @@ impl<W: PlaceSet> LineOf<W> {
     }
 
     /// How many cells it has.
+    #[tactic(auto, using(crate::proofs::LineCells::length_seen))]
     pub fn len(&self) -> u16
         ensures len { result ≡ length self.now }
         ensures some { 1 ≤ length self.now }
@@ -97,6 +98,7 @@ impl<W: PlaceSet> LineOf<W> {
     }
 
     /// What is known of the cell at a place, counted from 0.
+    #[tactic(auto, using(crate::proofs::LineCells::length_seen))]
     pub fn get(&self, i: u16) -> Cell
         requires { i < length self.now }
         ensures { result ≡ slice_index_or self.now i Unknown }
@@ -111,6 +113,7 @@ impl<W: PlaceSet> LineOf<W> {
     }
 
     /// Changes what is known of the cell at a place.
+    #[tactic(auto, using(crate::proofs::LineCells::length_seen))]
     pub fn set(&mut self, i: u16, cell: Cell)
         requires { i < length self.old }
         ensures { self.new ≡ slice_set self.old i cell }
@@ -134,6 +137,7 @@ impl<W: PlaceSet> LineOf<W> {
     }
 
     /// The cells of which nothing is known.
+    #[tactic(auto, using(crate::proofs::LineCells::length_seen))]
     pub fn unknown_cells(&self) -> W
         ensures cells { IsMaskOf (IsUnknownCell self.now) (W.number result) }
         ensures fits { length self.now ≤ W.WIDTH }
@@ -150,6 +154,7 @@ impl<W: PlaceSet> LineOf<W> {
     }
 
     /// Settles the unknown cell at a place, counted from 0.
+    #[tactic(auto, using(crate::proofs::LineCells::length_seen))]
     pub fn settle(&mut self, i: u16, cell: Cell)
         requires i { i < length self.old }
         requires unknown { slice_index_or self.old i Unknown ≡ Unknown }
@@ -164,6 +169,7 @@ impl<W: PlaceSet> LineOf<W> {
     }
 
     /// The places at which another line of the same length differs.
+    #[tactic(auto, using(crate::proofs::LineCells::length_seen))]
     pub fn changes(&self, other: &LineOf<W>) -> W
         requires { length other.now ≡ length self.now }
         ensures changes { IsMaskOf (IsChanged self.now other.now) (W.number result) }

@@ -12,7 +12,7 @@ set-requires c = omega (arith, c.requires.column, ap length c.row-row.ensures.ro
 
 pub write_row-requires-clause-width : goal.write_row-requires-clause-width
 write_row-requires-clause-width c =
-    sym (ap length c.set.ensures ∙ length-set c.row-row.result c.args.x c.args.cell ∙ ap length c.row-row.ensures.row
+    sym (ap length c.set.ensures ∙ length-set c.row-row.result c.args.x _ ∙ ap length c.row-row.ensures.row
     ∙ length-row_of c.args.self.now c.args.y)
 
 pub returns : goal.returns

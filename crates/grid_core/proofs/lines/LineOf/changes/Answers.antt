@@ -1,6 +1,4 @@
 -- `LineOf::changes`: the places at which either mask differs.
-use Rattle.std.proofs.Common.{arith}
-use Rattle.grid_core.proofs.LineCells.{length_seen}
 use Rattle.grid_core.proofs.Changing.{changed_is}
 use Rattle.grid_core.proofs.lines.LineOf.changes.Goals as goal
 
@@ -14,12 +12,3 @@ returns-clause-changes g c =
     (number c.and.result) c.args.self.now c.args.other.now
     c.self.view_is c.other.view_is c.requires c.self.invariant.apart c.other.invariant.apart c.xor-filled.ensures c.xor-blank.ensures
     c.or.ensures c.places.ensures c.and.ensures
-
-pub returns-clause-fits : goal.returns-clause-fits
-returns-clause-fits g c =
-    let line = c.self.inside in
-    omega (
-      arith,
-      c.self.invariant.short,
-      length_seen line.len (g.W.PlaceSet.number line.filled) (g.W.PlaceSet.number line.blank) c.args.self.now c.self.view_is,
-    )

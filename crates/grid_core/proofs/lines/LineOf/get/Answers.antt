@@ -7,18 +7,6 @@ use Rattle.grid_core.specs.Lines.{cell_of}
 use Rattle.grid_core.proofs.LineCells.{length_seen, cell_at}
 use Rattle.grid_core.proofs.lines.LineOf.get.Goals as goal
 
-pub has-requires : goal.has-requires
-has-requires g c =
-    let line = c.self.inside in
-    let long = length_seen line.len (g.W.PlaceSet.number line.filled) (g.W.PlaceSet.number line.blank) c.args.self.now c.self.view_is in
-    omega (arith, c.requires, c.self.invariant.short)
-
-pub has-requires-else-has : goal.has-requires-else-has
-has-requires-else-has g c =
-    let line = c.self.inside in
-    let long = length_seen line.len (g.W.PlaceSet.number line.filled) (g.W.PlaceSet.number line.blank) c.args.self.now c.self.view_is in
-    omega (arith, c.requires, c.self.invariant.short)
-
 pub returns-then-has : goal.returns-then-has
 returns-then-has g c =
     let line = c.self.inside in

@@ -1,6 +1,6 @@
 -- `LineOf::read`: the narrowed sets have the same places as those of the other line.
 use Rattle.std.proofs.Common.{◌≡◌, ◌∙◌, ℕ, refl, ap, sym, arith}
-use Rattle.place_sets.specs.Masks.{joined}
+use Rattle.place_sets.specs.Masks.{number_of}
 use Rattle.grid_core.specs.Lines.{line_cells}
 use Rattle.grid_core.proofs.LineCells.{apart-resized, cells-resized, length_seen}
 use Rattle.grid_core.proofs.lines.LineOf.read.Goals as goal
@@ -9,8 +9,8 @@ pub invariant_of-self : goal.invariant_of-self
 invariant_of-self g c =
     let number = g.W.PlaceSet.number in
     let other = c.other.inside in
-    let f = joined other.filled.low other.filled.high in
-    let b = joined other.blank.low other.blank.high in
+    let f = number_of other.filled in
+    let b = number_of other.blank in
     record {
       some = c.self.invariant.some;
       short = c.self.invariant.short;
@@ -24,8 +24,8 @@ returns g c =
     let number = g.W.PlaceSet.number in
     let line = c.self.inside in
     let other = c.other.inside in
-    let f = joined other.filled.low other.filled.high in
-    let b = joined other.blank.low other.blank.high in
+    let f = number_of other.filled in
+    let b = number_of other.blank in
     let nf = number c.narrowed-self-inside.result in
     let nb = number c.narrowed-self-inside-2.result in
     let long : line.len ≡ other.len =

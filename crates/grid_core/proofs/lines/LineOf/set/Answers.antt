@@ -5,26 +5,6 @@ use Rattle.place_sets.specs.Masks.{Has, IsMarked, IsMaskOf}
 use Rattle.grid_core.proofs.LineCells.{length_seen, cells-set}
 use Rattle.grid_core.proofs.lines.LineOf.set.Goals as goal
 
-pub marked-self-inside-requires : goal.marked-self-inside-requires
-marked-self-inside-requires g c =
-    let line = c.self.inside in
-    omega (
-      arith,
-      c.requires,
-      c.self.invariant.short,
-      length_seen line.len (g.W.PlaceSet.number line.filled) (g.W.PlaceSet.number line.blank) c.args.self.now c.self.view_is,
-    )
-
-pub marked-self-inside-requires-2 : goal.marked-self-inside-requires-2
-marked-self-inside-requires-2 g c =
-    let line = c.self.inside in
-    omega (
-      arith,
-      c.requires,
-      c.self.invariant.short,
-      length_seen line.len (g.W.PlaceSet.number line.filled) (g.W.PlaceSet.number line.blank) c.args.self.now c.self.view_is,
-    )
-
 pub returns : goal.returns
 returns g c =
     let number = g.W.PlaceSet.number in

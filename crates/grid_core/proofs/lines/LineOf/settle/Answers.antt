@@ -6,26 +6,6 @@ use Rattle.grid_core.specs.Lines.{is_blank}
 use Rattle.grid_core.proofs.LineCells.{length_seen, cells-set, apart-set, unmarked, unknown_at, blank_unless_filled, blank_if_not_filled}
 use Rattle.grid_core.proofs.lines.LineOf.settle.Goals as goal
 
-pub marked-self-inside-requires : goal.marked-self-inside-requires
-marked-self-inside-requires g c =
-    let line = c.self.inside in
-    omega (
-      arith,
-      c.requires.i,
-      c.self.invariant.short,
-      length_seen line.len (g.W.PlaceSet.number line.filled) (g.W.PlaceSet.number line.blank) c.args.self.now c.self.view_is,
-    )
-
-pub marked-self-inside-requires-else-is_filled : goal.marked-self-inside-requires-else-is_filled
-marked-self-inside-requires-else-is_filled g c =
-    let line = c.self.inside in
-    omega (
-      arith,
-      c.requires.i,
-      c.self.invariant.short,
-      length_seen line.len (g.W.PlaceSet.number line.filled) (g.W.PlaceSet.number line.blank) c.args.self.now c.self.view_is,
-    )
-
 pub invariant_of-self : goal.invariant_of-self
 invariant_of-self g c =
     let number = g.W.PlaceSet.number in

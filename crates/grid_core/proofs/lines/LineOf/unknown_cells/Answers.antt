@@ -1,9 +1,8 @@
 -- `LineOf::unknown_cells`: the places that neither mask has.
-use Rattle.std.proofs.Common.{List, subst, arith}
+use Rattle.std.proofs.Common.{List, subst}
 use Rattle.grid_core.specs.declared.cells.Cell.{Cell}
 use Rattle.place_sets.specs.Masks.{IsMaskOf}
 use Rattle.grid_core.specs.Lines.{IsUnknownCell}
-use Rattle.grid_core.proofs.LineCells.{length_seen}
 use Rattle.grid_core.proofs.Seeking.{unknown_cells}
 use Rattle.grid_core.proofs.lines.LineOf.unknown_cells.Goals as goal
 
@@ -14,12 +13,3 @@ returns-clause-cells g c =
     subst (λ (l : List Cell). IsMaskOf (IsUnknownCell l) (number c.lacking.result)) c.self.view_is
     (unknown_cells line.len (number line.filled) (number line.blank) (number c.or.result)
     (number c.lacking.result) c.or.ensures c.lacking.ensures)
-
-pub returns-clause-fits : goal.returns-clause-fits
-returns-clause-fits g c =
-    let line = c.self.inside in
-    omega (
-      arith,
-      c.self.invariant.short,
-      length_seen line.len (g.W.PlaceSet.number line.filled) (g.W.PlaceSet.number line.blank) c.args.self.now c.self.view_is,
-    )

@@ -1,6 +1,6 @@
 -- `LineOf::widened` gives what its contract says, and its value is a lawful one.
 use Rattle.std.proofs.Common.{◌∙◌, ℕ, ap, subst}
-use Rattle.place_sets.specs.Masks.{Has, joined}
+use Rattle.place_sets.specs.Masks.{Has, number_of}
 use Rattle.grid_core.specs.Lines.{line_cells}
 use Rattle.grid_core.proofs.lines.LineOf.widened.Goals as goal
 
@@ -16,5 +16,5 @@ invariant_of-result g c = record {
 pub returns : goal.returns
 returns g c =
     let line = c.self.inside in
-    ap (λ (f : ℕ). line_cells line.len f (joined c.widened-2.result.low c.widened-2.result.high)) c.widened.ensures
+    ap (λ (f : ℕ). line_cells line.len f (number_of c.widened-2.result)) c.widened.ensures
     ∙ ap (line_cells line.len (g.W.PlaceSet.number line.filled)) c.widened-2.ensures ∙ c.self.view_is
