@@ -1,14 +1,15 @@
 -- A line cut at a cell: placings of both parts make one of the whole, and a placing falls into two.
 use Rattle.std.proofs.Common.{◌≡◌, ℕ, zero, suc, ◌+◌, ◌-◌, ◌<◌, ◌≤◌, Bool, true, false, List, [], ◌∷◌, ◌++◌, length, replicate, refl, sym, ap, ◌∙◌, subst, arith, add-zero, zero-add, true≢false, ◌⊎◌, inl, inr, drop, get_or, drop-cons, add-one, drop_of_length-le, length-drop, reverse}
+use Rattle.grid_core.proofs.RunsLemmas.{runs_after}
 use Rattle.std.proofs.lemmas.List.{get_or-reverse, length-reverse}
-use Rattle.std.proofs.lemmas.Bool.{cases_lt}
+use Rattle.std.proofs.lemmas.Bool.{cases_lt, and_from, and_parts}
 use Rattle.grid_core.specs.declared.cells.Cell.{Cell}
 use Rattle.grid_core.specs.declared.cells.Cell.TheVariants.{Unknown}
 use Rattle.grid_core.specs.Cells.{allows, agrees}
 use Rattle.grid_core.specs.Runs.{runs}
 use Rattle.place_sets.specs.Masks.{AllFrom, SomeFrom}
 use Rattle.line_core.specs.Reach.{behind, HasPlacing, IsClosed, MayBe, IsGapAfter, IsEndAfter, IsGap, IsGapAhead, IsBlankable, IsFillable}
-use Rattle.line_core.proofs.RunLaws.{ArePositive, and_left, and_right, and_both, runs_after, runs_after-zero, runs_after-true, runs_after-false, runs_after-close, runs_after-nil}
+use Rattle.line_core.proofs.RunLaws.{ArePositive, runs_after-zero, runs_after-true, runs_after-false, runs_after-close, runs_after-nil}
 use Rattle.line_core.proofs.Certain.{CanBe}
 
 -- a full line that agrees with a line is as long
@@ -16,7 +17,7 @@ pub length-agrees : (l : List Cell) (x : List Bool) → agrees l x ≡ true → 
 length-agrees [] [] h = refl
 length-agrees [] (b ∷ x) h = cc
 length-agrees (c ∷ l) [] h = cc
-length-agrees (c ∷ l) (b ∷ x) h = ap suc (length-agrees l x (and_right (allows c b) (agrees l x) h))
+length-agrees (c ∷ l) (b ∷ x) h = ap suc (length-agrees l x (and_parts (allows c b) (agrees l x) h).1)
 
 -- ---- a list turned round in front of another
 
@@ -50,8 +51,8 @@ agrees_onto [] t [] b h k = k
 agrees_onto [] t (x ∷ a) b h k = cc
 agrees_onto (c ∷ s) t [] b h k = cc
 agrees_onto (c ∷ s) t (x ∷ a) b h k =
-    agrees_onto s (c ∷ t) a (x ∷ b) (and_right (allows c x) (agrees s a) h)
-    (and_both (allows c x) (agrees t b) (and_left (allows c x) (agrees s a) h) k)
+    agrees_onto s (c ∷ t) a (x ∷ b) (and_parts (allows c x) (agrees s a) h).1
+    (and_from (allows c x) (agrees t b) (and_parts (allows c x) (agrees s a) h).0 k)
 
 -- and the parts of a whole that agrees do so
 pub onto_agrees : (s t : List Cell) (a b : List Bool) → length s ≡ length a → agrees (onto s t) (onto a b) ≡ true
@@ -61,7 +62,7 @@ onto_agrees [] t (x ∷ a) b e h = absurd (omega arith)
 onto_agrees (c ∷ s) t [] b e h = absurd (omega arith)
 onto_agrees (c ∷ s) t (x ∷ a) b e h =
     let r = onto_agrees s (c ∷ t) a (x ∷ b) (omega arith) h in
-    (and_both (allows c x) (agrees s a) (and_left (allows c x) (agrees t b) r.1) r.0, and_right (allows c x) (agrees t b) r.1)
+    (and_from (allows c x) (agrees s a) (and_parts (allows c x) (agrees t b) r.1).0 r.0, (and_parts (allows c x) (agrees t b) r.1).1)
 
 -- the first of the elements that are left
 pub drop_head : (xs : List ℕ) (i r : ℕ) (q : List ℕ) → r ∷ q ≡ drop i xs → (get_or xs i 0 ≡ r) × (q ≡ drop (suc i) xs) × (i < length xs)
@@ -152,14 +153,14 @@ agrees_run l (suc n) s y o h =
     (subst (λ (k : ℕ). agrees (drop k l) y ≡ true) e h) in
     let split : drop s l ≡ get_or l s Unknown ∷ drop (suc s) l = drop-cons l s Unknown first.0 in
     subst (λ (t : List Cell). agrees t (true ∷ (replicate n true ++ y)) ≡ true) (sym split)
-    (and_both (allows (get_or l s Unknown) true) (agrees (drop (suc s) l) (replicate n true ++ y)) first.1 rest)
+    (and_from (allows (get_or l s Unknown) true) (agrees (drop (suc s) l) (replicate n true ++ y)) first.1 rest)
 
 -- what remains of a line after its cells at s
 drop_past : (l : List Cell) (s : ℕ) (b : Bool) (y : List Bool) → agrees (drop s l) (b ∷ y) ≡ true
     → (MayBe l b s) × (agrees (drop (suc s) l) y ≡ true)
 drop_past [] zero b y h = cc
 drop_past [] (suc s) b y h = cc
-drop_past (c ∷ l) zero b y h = ((omega arith, and_left (allows c b) (agrees l y) h), and_right (allows c b) (agrees l y) h)
+drop_past (c ∷ l) zero b y h = ((omega arith, (and_parts (allows c b) (agrees l y) h).0), (and_parts (allows c b) (agrees l y) h).1)
 drop_past (c ∷ l) (suc s) b y h = let r = drop_past l s b y h in ((omega (arith, r.0.0), r.0.1), r.1)
 
 -- and cells that agree with a run may be filled
@@ -225,7 +226,7 @@ blankable_to l clue i (j, jl, gap, ahead) =
     let after : agrees (drop (suc i) l) b.0 ≡ true = subst (λ (k : ℕ). agrees (drop k l) b.0 ≡ true) (add-one i) b.1 in
     let here : agrees (drop i l) (false ∷ b.0) ≡ true =
     subst (λ (t : List Cell). agrees t (false ∷ b.0) ≡ true) (sym split)
-    (and_both (allows (get_or l i Unknown) false) (agrees (drop (suc i) l) b.0) gap.0.1 after) in
+    (and_from (allows (get_or l i Unknown) false) (agrees (drop (suc i) l) b.0) gap.0.1 after) in
     let at : length a.0 + 0 ≡ i = omega arith in (
       onto a.0 (false ∷ b.0),
       subst (λ (t : List Cell). agrees t (onto a.0 (false ∷ b.0)) ≡ true) (onto_behind Unknown l i (omega arith))
@@ -360,11 +361,11 @@ pub closed_first : (c : Cell) (cells : List Cell) (cs : List ℕ) → IsClosed (
 closed_first c cells cs ([], agree, is, closed) = cc
 closed_first c cells cs (true ∷ y, agree, is, closed) = cc
 closed_first c cells cs (false ∷ y, agree, is, closed) =
-    (and_left (allows c false) (agrees cells y) agree, (y, and_right (allows c false) (agrees cells y) agree, is))
+    ((and_parts (allows c false) (agrees cells y) agree).0, (y, (and_parts (allows c false) (agrees cells y) agree).1, is))
 
 -- a placing goes on with a blank cell before it
 pub first_closed : (c : Cell) (cells : List Cell) (cs : List ℕ) → allows c false ≡ true → HasPlacing cells cs → IsClosed (c ∷ cells) cs
-first_closed c cells cs a (y, agree, is) = (false ∷ y, and_both (allows c false) (agrees cells y) a agree, is, refl)
+first_closed c cells cs a (y, agree, is) = (false ∷ y, and_from (allows c false) (agrees cells y) a agree, is, refl)
 
 pub none_closed : (cs : List ℕ) → length cs ≡ 0 → IsClosed [] cs
 none_closed [] h = ([], refl, refl, refl)

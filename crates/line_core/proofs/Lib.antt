@@ -11,7 +11,6 @@ pub mod Painting
 pub mod Outermost
 pub mod EndLaws
 pub mod Telling
-pub mod Learning
 pub mod Examples
 pub mod Packing
 pub mod LoneRuns

@@ -1,13 +1,13 @@
 -- Full lines made of starts.
 use Rattle.std.proofs.Common.{◌≡◌, ℕ, zero, suc, ◌+◌, ◌-◌, ◌<◌, ◌≤◌, Bool, true, false, List, [], ◌∷◌, ◌++◌, length, replicate, refl, sym, ap, ◌∙◌, subst, arith, inl, inr, drop, get_or, drop-cons, drop_of_length-le}
-use Rattle.std.proofs.lemmas.Bool.{cases_lt}
+use Rattle.std.proofs.lemmas.Bool.{cases_lt, and_from, and_parts}
 use Rattle.grid_core.specs.declared.cells.Cell.{Cell}
 use Rattle.grid_core.specs.declared.cells.Cell.TheVariants.{Unknown}
 use Rattle.grid_core.specs.Cells.{allows, agrees}
 use Rattle.grid_core.specs.Runs.{runs}
 use Rattle.place_sets.specs.Masks.{AllFrom}
 use Rattle.line_core.specs.Reach.{MayBe}
-use Rattle.line_core.proofs.RunLaws.{ArePositive, and_left, and_right, and_both}
+use Rattle.line_core.proofs.RunLaws.{ArePositive}
 use Rattle.line_core.proofs.Joining.{length-agrees, runs_run, runs_closed}
 use Rattle.line_core.proofs.RunStarts.{starts_from, length-run_starts, run_of, filled_in_run, runs_apart, covered}
 
@@ -24,8 +24,8 @@ agrees_at : (l : List Cell) (x : List Bool) (i : ℕ) → agrees l x ≡ true �
     → allows (get_or l i Unknown) (get_or x i false) ≡ true
 agrees_at [] x i a h = absurd (omega arith)
 agrees_at (c ∷ l) [] i a h = cc
-agrees_at (c ∷ l) (b ∷ x) zero a h = and_left (allows c b) (agrees l x) a
-agrees_at (c ∷ l) (b ∷ x) (suc i) a h = agrees_at l x i (and_right (allows c b) (agrees l x) a) (omega arith)
+agrees_at (c ∷ l) (b ∷ x) zero a h = (and_parts (allows c b) (agrees l x) a).0
+agrees_at (c ∷ l) (b ∷ x) (suc i) a h = agrees_at l x i (and_parts (allows c b) (agrees l x) a).1 (omega arith)
 
 filled_inside : (x : List Bool) (i : ℕ) → get_or x i false ≡ true → i < length x
 filled_inside [] i h = cc
@@ -112,7 +112,7 @@ agrees_span l v (suc n) p y o h =
     (subst (λ (k : ℕ). agrees (drop k l) y ≡ true) e h) in
     let split : drop p l ≡ get_or l p Unknown ∷ drop (suc p) l = drop-cons l p Unknown first.0 in
     subst (λ (t : List Cell). agrees t (v ∷ (replicate n v ++ y)) ≡ true) (sym split)
-    (and_both (allows (get_or l p Unknown) v) (agrees (drop (suc p) l) (replicate n v ++ y)) first.1 rest)
+    (and_from (allows (get_or l p Unknown) v) (agrees (drop (suc p) l) (replicate n v ++ y)) first.1 rest)
 
 painted_agrees : (l : List Cell) (g p : ℕ) (clue ss : List ℕ) → ArePositive clue → p ≤ length l → Laid l g p clue ss
     → agrees (drop p l) (painted (length l) p clue ss) ≡ true

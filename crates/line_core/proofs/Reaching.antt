@@ -1,12 +1,12 @@
 -- How far the runs reach: gaps and ends as floods tell them, and as placings of the cells before do.
 use Rattle.std.proofs.Common.{◌≡◌, ℕ, zero, suc, ◌+◌, ◌-◌, ◌<◌, ◌≤◌, Bool, true, false, List, [], ◌∷◌, ◌++◌, length, replicate, refl, sym, ap, ◌∙◌, subst, arith, ◌⊎◌, inl, inr, get_or}
+use Rattle.std.proofs.lemmas.Bool.{and_from, and_parts}
 use Rattle.grid_core.specs.declared.cells.Cell.{Cell}
 use Rattle.grid_core.specs.declared.cells.Cell.TheVariants.{Unknown}
 use Rattle.grid_core.specs.Cells.{allows, agrees}
 use Rattle.grid_core.specs.Runs.{runs}
 use Rattle.place_sets.specs.Masks.{IsFlooded, AllFrom}
 use Rattle.line_core.specs.Reach.{behind, HasPlacing, IsClosed, MayBe, IsGapAfter, IsEndAfter}
-use Rattle.line_core.proofs.RunLaws.{and_left, and_right, and_both}
 use Rattle.line_core.proofs.Joining.{begins, begins_some, runs_about, first_closed}
 
 -- one more blank cell before a placing
@@ -26,7 +26,7 @@ first_cell : (c : Cell) (cells : List Cell) (cs : List ℕ) → HasPlacing (c �
     → ((allows c false ≡ true) × HasPlacing cells cs) ⊎ BeginsWithRun (c ∷ cells) cs
 first_cell c cells cs ([], agree, is) = cc
 first_cell c cells cs (false ∷ y, agree, is) =
-    inl (and_left (allows c false) (agrees cells y) agree, (y, and_right (allows c false) (agrees cells y) agree, is))
+    inl ((and_parts (allows c false) (agrees cells y) agree).0, (y, (and_parts (allows c false) (agrees cells y) agree).1, is))
 first_cell c cells cs (true ∷ y, agree, is) =
     let b = begins (true ∷ y) in
     let some : 0 < b.count = begins_some (true ∷ y) b refl in
@@ -71,8 +71,8 @@ open_run l zero p rest h =
     }
 open_run l (suc m) zero rest h = cc
 open_run l (suc m) (suc p) rest h =
-    let first = and_left (allows (get_or l p Unknown) true) (agrees (behind Unknown l p) (replicate m true ++ rest)) h in
-    let r = open_run l m p rest (and_right (allows (get_or l p Unknown) true) (agrees (behind Unknown l p) (replicate m true ++ rest)) h) in
+    let first = (and_parts (allows (get_or l p Unknown) true) (agrees (behind Unknown l p) (replicate m true ++ rest)) h).0 in
+    let r = open_run l m p rest (and_parts (allows (get_or l p Unknown) true) (agrees (behind Unknown l p) (replicate m true ++ rest)) h).1 in
     let e : p - m ≡ suc p - suc m = omega arith in
     record {
       enough = omega (arith, r.enough);
@@ -110,7 +110,7 @@ run_open l (suc m) (suc p) rest r =
           subst (λ (q : ℕ). allows (get_or l q Unknown) true ≡ true) f (r.cells z (omega arith));
       before = subst (λ (q : ℕ). agrees (behind Unknown l q) rest ≡ true) e r.before;
     } in
-    and_both (allows (get_or l p Unknown) true) (agrees (behind Unknown l p) (replicate m true ++ rest)) nearest
+    and_from (allows (get_or l p Unknown) true) (agrees (behind Unknown l p) (replicate m true ++ rest)) nearest
     (run_open l m p rest others)
 
 -- a run of `n` cells that goes back from the next cell, with a blank one or none before it, ends here

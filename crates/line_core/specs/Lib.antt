@@ -8,5 +8,4 @@ pub mod Passes
 pub mod Told
 pub mod Overlaps
 pub mod Outermost
-pub mod Listing
 pub mod Lone

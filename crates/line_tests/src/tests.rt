@@ -1,5 +1,4 @@
-//! Tests of what no contract says: each call on lines worked out by hand,
-//! deduction against the listing of all placings, and by sets of each width.
+//! Tests of what no contract says: each call on lines worked out by hand, and by sets of each width.
 
 ghost use Rattle.std.specs.Prelude.{◌≡◌, ◌+◌, ◌<◌, ◌≤◌, All, length, IfSome};
 
@@ -140,15 +139,6 @@ pub(crate) fn is_same_line(some: &Line, other: &Line) -> bool {
     true
 }
 
-/// Whether two answers are the same: both none, or lines with the same cells.
-fn is_same(some: &Option<Line>, other: &Option<Line>) -> bool {
-    match (some, other) {
-        (Some(line), Some(answer)) => is_same_line(line, answer),
-        (None, None) => true,
-        _ => false,
-    }
-}
-
 /// Whether the deduction of a row is what was worked out.
 fn comes_out(alloc: Global, row: &Row) -> Result<bool, Fail> {
     let mut tables = Tables::new(alloc, 256)?;
@@ -170,25 +160,6 @@ fn rows_come_out_as_worked_out(rt: HostRuntime) -> Result<(), Fail> {
     Ok(())
 }
 
-/// The line whose cells are the digits of a number, base 3.
-fn numbered_line(len: u16, code: u32) -> Line
-    requires { (1 ≤ len) × (len ≤ 256) }
-    ensures { length result ≡ len }
-{
-    let mut line = Line::unknown(len);
-    let mut rest = code;
-    for i in 0..line.len() {
-        let cell = match rest % 3 {
-            0 => Cell::Unknown,
-            1 => Cell::Filled,
-            _ => Cell::Blank,
-        };
-        line.set(i, cell);
-        rest /= 3;
-    }
-    line
-}
-
 /// The clue of the full line whose filled cells are the bits of a number.
 pub(crate) fn numbered_clue(alloc: Global, len: u16, code: u64) -> Result<Clue, Fail> {
     let mut numbers = Vec::new(alloc);
@@ -207,35 +178,6 @@ pub(crate) fn numbered_clue(alloc: Global, len: u16, code: u64) -> Result<Clue, 
         numbers.push(number)?;
     }
     Ok(Clue::from_numbers(alloc, &numbers)?)
-}
-
-/// Whether deduction tells what the listing tells of the first `lines` lines of a length.
-fn lines_agree(alloc: Global, len: u16, clue: &Clue, lines: u32) -> Result<bool, Fail>
-    requires { (1 ≤ len) × (len ≤ 256) }
-{
-    let mut tables = Tables::new(alloc, len)?;
-    for code in 0..lines {
-        let line = numbered_line(len, code);
-        let deduced = deduce(&mut tables, &line, clue);
-        if !is_same(&deduced, &deduce_by_listing(&line, clue)) {
-            return Ok(false);
-        }
-    }
-    Ok(true)
-}
-
-#[test]
-fn deduction_is_what_all_placings_share(rt: HostRuntime) -> Result<(), Fail> {
-    let alloc = rt.alloc();
-    let mut lines = 1u32;
-    for len in 1..7u16 {
-        lines = lines.wrapping_mul(3);
-        for full in 0..(1u64 << len) {
-            let clue = numbered_clue(alloc, len, full)?;
-            assert!(rt; lines_agree(alloc, len, &clue, lines)?, "{len} {full}");
-        }
-    }
-    Ok(())
 }
 
 /// The cell that is wanted at a place of a line.
