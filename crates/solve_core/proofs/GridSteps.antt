@@ -7,8 +7,7 @@ use Rattle.grid_core.specs.Nonogram.{Nonogram, IsNonogram, GridLine, lines_of}
 use Rattle.solve_core.specs.declared.closures.Progress.{Progress}
 use Rattle.solve_core.specs.declared.closures.Progress.TheVariants.{Dead, Same, Changed}
 use Rattle.solve_core.specs.Closure.{round, closure, deduce_line}
-use Rattle.solve_core.specs.declared.places.Places.{Places}
-use Rattle.solve_core.specs.Lines.{line_count, line_at, places_in, AreWithin}
+use Rattle.solve_core.specs.Lines.{line_count, line_at, places_in}
 use Rattle.solve_core.specs.Marks.{IsSettled, IsWritten, IsLearned, MarksChanges, HasMarks, MarksAfter, Progresses, AreParallel, AreUnmarkedFrom, AddsNone, IsUnmarked, IsAtRest}
 use Rattle.solve_core.specs.MarkedPuzzles.{MarkedPuzzle}
 use Rattle.solve_core.specs.Trails.{unknown_count}
@@ -98,11 +97,6 @@ marks-after p cells new marks after n Same m l learned changes =
           ];
     })
 marks-after p cells new marks after n Changed m l learned changes = written_marks p cells new marks after n m l learned.0 changes
-
--- the places of a line are in the grid
-pub places-within : (p : Nonogram) (cells : List Cell) (n : ℕ) (places : Places) → n < line_count p → length cells ≡ p.width * p.height →
-    places ≡ places_in p.width p.height n → AreWithin places (length cells)
-places-within p cells n places l size e = rw (e, size) (line-within p.width p.height n l)
 
 -- if no row had a mark, none was made since, and no column has one, then no line has a mark
 pub unmarked-both : (h count : ℕ) (old new : List Bool) → AreUnmarkedFrom 0 h old → AddsNone old new → AreUnmarkedFrom h count new →
@@ -233,16 +227,3 @@ learned-progress lines line g new Dead m h = line_dead lines g line m h
 learned-progress lines line g new Same m h = h.0
 learned-progress lines line g new Changed m h =
     (line_keeps lines g new line m (written-extends line g new h.0) (written_line line g new h.0), h.1)
-
--- a line that gave nothing more is settled
-pub learned-settled : (line : GridLine) (g new : List Cell) (r : Progress) → IsLearned r line g new → r ≡ Same → IsSettled new line
-learned-settled line g new Dead h e = cc
-learned-settled line g new Same h e = rw h.0 h.1
-learned-settled line g new Changed h e = cc
-
--- a step that came to `Same` left the cells as they were
-pub progress-still : (f : List Cell → Option (List Cell)) (r : Progress) (old new : List Cell) → r ≡ Same → Progresses f r old new →
-    new ≡ old
-progress-still f Dead old new e h = cc
-progress-still f Same old new e h = h
-progress-still f Changed old new e h = cc

@@ -127,14 +127,6 @@ line_at-places p n is l =
     ap (λ (line : GridLine). line.places) (line_at-column p n (omega (arith, is.clues.0)) (omega (arith, is.clues.0, is.clues.1)))
     ∙ ap (λ (h : ℕ). places_from (n - h) p.width p.height) is.clues.0)
 
--- a line of these places and this clue is the one of its number
-pub line-is : (p : Nonogram) (n : ℕ) (places : Places) (clue : List ℕ) → IsNonogram p → n < line_count p →
-    places ≡ places_in p.width p.height n → clue ≡ (line_at p n).clue
-    → (let line : GridLine = record { places = places_of places; clue = clue } in line ≡ line_at p n)
-line-is p n places clue is l e f =
-    let same : places_of places ≡ (line_at p n).places = ap places_of e ∙ sym (line_at-places p n is l) in
-    λ i. record { places = same i; clue = f i }
-
 count_lines : (p : Nonogram) → IsNonogram p → length (lines_of p) ≡ line_count p
 count_lines p is =
     omega (

@@ -9,7 +9,7 @@ use Rattle.solve_core.specs.declared.trials.Trial.TheVariants.{Refuted, Open, Cl
 use Rattle.solve_core.specs.declared.closures.Progress.TheVariants.{Changed}
 use Rattle.solve_core.specs.Closure.{round, closure}
 use Rattle.solve_core.specs.Trials.{is_refuted, left_over, tried, trial_round, trials, IsTried}
-use Rattle.solve_core.specs.Marks.{Progresses, if_alive, IsTrialOf}
+use Rattle.solve_core.specs.Marks.{Progresses, IsTrialOf}
 use Rattle.solve_core.specs.Trails.{unknown_count}
 use Rattle.solve_core.proofs.Order.{AtMost, Extends-refl, Extends-trans, length-Extends, set_extends, set_within}
 use Rattle.solve_core.proofs.Closing.{repeat-fixed, fewer_unknown}
@@ -187,13 +187,3 @@ pub trial-closed : (r : Trial) (lines : List GridLine) (g trial : List Cell) (k 
 trial-closed Refuted lines g trial k c e h = cc
 trial-closed Open lines g trial k c e h = cc
 trial-closed Closed lines g trial k c e h = h
-
--- if the cells are alive, the outcome is the cells
-pub alive_cells : (alive : Bool) (cells : List Cell) (o : Option (List Cell)) → alive ≡ true → if_alive alive cells ≡ o → o ≡ Some cells
-alive_cells true cells o e h = sym h
-alive_cells false cells o e h = absurd (true≢false (sym e))
-
--- if the cells are dead, the outcome is none
-pub dead_cells : (alive : Bool) (cells : List Cell) (o : Option (List Cell)) → alive ≡ false → if_alive alive cells ≡ o → o ≡ None
-dead_cells true cells o e h = absurd (true≢false e)
-dead_cells false cells o e h = sym h

@@ -1,9 +1,9 @@
-//! Tests of closing grids: by lines and under trials, by solvers and by the plain programs.
+//! Tests of closing grids, by lines and under trials, worked out by hand.
 ghost use Rattle.std.specs.Prelude.{◌≡◌, ◌<◌, ◌≤◌, IfSome};
 ghost use Rattle.solve_core.specs.Sizes.{HasSizeOf};
 
 use crate::test_puzzles::puzzle_of;
-use grid_core::{Cell, Clue, Grid, Puzzle, Texts};
+use grid_core::{Cell, Grid, Puzzle};
 use solve_core::*;
 use std::alloc::Global;
 use std::test::Fail;
@@ -88,25 +88,6 @@ fn solver_pictures(alloc: Global, puzzle: &Puzzle) -> Option<[Picture; 4]> {
     pictures_by(alloc, puzzle, &mut solver)
 }
 
-fn plain_lines(alloc: Global, puzzle: &Puzzle) -> Option<Picture> {
-    let mut grid = unknown_grid(alloc, puzzle)?;
-    let alive = plain::close_by_rounds(alloc, puzzle, &mut grid).ok()?;
-    Some(picture(alive, &grid))
-}
-
-fn plain_trials(alloc: Global, puzzle: &Puzzle) -> Option<Picture> {
-    let mut grid = unknown_grid(alloc, puzzle)?;
-    let alive = plain::try_by_rounds(alloc, puzzle, &mut grid).ok()?;
-    Some(picture(alive, &grid))
-}
-
-/// What the plain programs make of unknown grids: by lines, by trials, and the same again.
-fn plain_pictures(alloc: Global, puzzle: &Puzzle) -> Option<[Picture; 4]> {
-    let lines = plain_lines(alloc, puzzle)?;
-    let trials = plain_trials(alloc, puzzle)?;
-    Some([lines, trials, lines, trials])
-}
-
 const ONE: &[u16] = &[1];
 
 const TWO: &[u16] = &[2];
@@ -120,13 +101,9 @@ fn trials_settle_what_lines_leave(rt: HostRuntime) -> Result<(), Fail> {
     let found = puzzle
         .as_ref()
         .and_then(|puzzle| solver_pictures(alloc, puzzle));
-    let plain = puzzle
-        .as_ref()
-        .and_then(|puzzle| plain_pictures(alloc, puzzle));
     // Nothing by lines; then `.##.` over `#..#`, which is 21121221 to the base 3.
     let wanted = Some([Some((0, 0)), Some((8, 5560)), Some((0, 0)), Some((8, 5560))]);
     assert!(rt; found == wanted);
-    assert!(rt; plain == wanted);
     Ok(())
 }
 
@@ -137,12 +114,8 @@ fn trials_find_a_contradiction(rt: HostRuntime) -> Result<(), Fail> {
     let found = puzzle
         .as_ref()
         .and_then(|puzzle| solver_pictures(alloc, puzzle));
-    let plain = puzzle
-        .as_ref()
-        .and_then(|puzzle| plain_pictures(alloc, puzzle));
     let wanted = Some([Some((0, 0)), None, Some((0, 0)), None]);
     assert!(rt; found == wanted);
-    assert!(rt; plain == wanted);
     Ok(())
 }
 
@@ -228,76 +201,5 @@ fn a_closed_grid_is_closed_again(rt: HostRuntime) -> Result<(), Fail> {
     let found = closed_again(rt.alloc());
     // `.#` over `#.` is 2112 to the base 3.
     assert!(rt; found == Some([Some((0, 0)), Some((4, 68)), None]));
-    Ok(())
-}
-
-/// Clues of a line of 3 cells; the first 2 fit on a line of 1 cell, the first 3 on one of 2 cells.
-const CLUES: [&[u16]; 5] = [&[], &[1], &[2], &[1, 1], &[3]];
-
-/// How many of the clues fit on a line.
-fn choices(len: u16) -> u32
-    ensures { (1 ≤ result) × (result ≤ 5) }
-{
-    match len {
-        1 => 2,
-        2 => 3,
-        _ => 5,
-    }
-}
-
-/// `count` clues, chosen by the digits of a number.
-fn numbered_clues(alloc: Global, count: u16, choices: u32, number: &mut u32) -> Option<Vec<Clue>>
-    requires { (1 ≤ choices) × (choices ≤ 5) }
-{
-    let mut clues = Vec::new(alloc);
-    for _ in 0..count {
-        let index = (*number % choices) as usize;
-        *number /= choices;
-        let clue = Clue::from_numbers(alloc, CLUES[index]).ok()?;
-        clues.push(clue).ok()?;
-    }
-    Some(clues)
-}
-
-fn numbered_puzzle(alloc: Global, width: u16, height: u16, number: u32) -> Option<Puzzle> {
-    let mut left = number;
-    let rows = numbered_clues(alloc, height, choices(width), &mut left)?;
-    let columns = numbered_clues(alloc, width, choices(height), &mut left)?;
-    Puzzle::new(width, height, rows, columns, Texts::none(), None).ok()
-}
-
-/// How many of the puzzles of a size the plain programs agree on.
-fn agreed(alloc: Global, width: u16, height: u16, count: u32) -> Option<u32> {
-    let mut agreed: u32 = 0;
-    for number in 0..count {
-        let puzzle = numbered_puzzle(alloc, width, height, number)?;
-        let found = solver_pictures(alloc, &puzzle)?;
-        let plain = plain_pictures(alloc, &puzzle)?;
-        let lines = line_picture(alloc, &puzzle)?;
-        if found == plain && found[0] == lines {
-            agreed = agreed.wrapping_add(1);
-        }
-    }
-    Some(agreed)
-}
-
-/// Widths, heights, and how many puzzles there are.
-const SIZES: [(u16, u16, u32); 9] = [
-    (1, 1, 4),
-    (2, 1, 12),
-    (3, 1, 40),
-    (1, 2, 12),
-    (2, 2, 81),
-    (3, 2, 675),
-    (1, 3, 40),
-    (2, 3, 675),
-    (3, 3, 15_625),
-];
-
-#[test]
-fn plain_programs_agree_on_small_puzzles(rt: HostRuntime) -> Result<(), Fail> {
-    for (width, height, count) in SIZES {
-        assert!(rt; agreed(rt.alloc(), width, height, count) == Some(count));
-    }
     Ok(())
 }

@@ -6,7 +6,6 @@ use grid_core::{Grid, NoMemory, Puzzle};
 use refusals::{Told, Unswept, is_heeded, refuse, sweep, told_if, was_refused};
 use solve_core::*;
 use std::alloc::Global;
-use std::process::Abort;
 use std::test::Fail;
 
 const ONE: &[u16] = &[1];
@@ -56,69 +55,6 @@ fn line_grids_are_made_or_refused(rt: HostRuntime) -> Result<(), Fail> {
     let alloc = rt.alloc();
     let puzzle = pair(alloc).ok_or("puzzle")?;
     sweep(alloc, || told_of_grid(line_grid(alloc, &puzzle), 2))?;
-    Ok(())
-}
-
-/// Asserts that lines close a grid, or that the growth of this number was refused and the grid is as before.
-/// Whether it was refused.
-fn assert_closed(
-    rt: &impl Abort,
-    alloc: Global,
-    puzzle: &Puzzle,
-    growth: usize,
-) -> Result<bool, Fail> {
-    let mut grid = Grid::unknown(alloc, puzzle.width(), puzzle.height())?;
-    refuse(alloc, growth);
-    let answer = plain::close_by_rounds(alloc, puzzle, &mut grid);
-    let refused = was_refused(alloc);
-    match answer {
-        Ok(alive) => assert!(rt; alive && grid.known() == 2),
-        Err(NoMemory) => assert!(rt; refused && grid.known() == 0),
-    }
-    assert!(rt; plain::close_by_rounds(alloc, puzzle, &mut grid)? && grid.known() == 2);
-    Ok(refused)
-}
-
-#[test]
-fn rounds_close_or_are_refused(rt: HostRuntime) -> Result<(), Fail> {
-    let puzzle = pair(rt.alloc()).ok_or("puzzle")?;
-    for growth in 1..100 {
-        if !assert_closed(&rt, rt.alloc(), &puzzle, growth)? {
-            return Ok(());
-        }
-    }
-    assert!(rt; false, "growths without end");
-    Ok(())
-}
-
-/// The same of trials.
-fn assert_tried(
-    rt: &impl Abort,
-    alloc: Global,
-    puzzle: &Puzzle,
-    growth: usize,
-) -> Result<bool, Fail> {
-    let mut grid = Grid::unknown(alloc, puzzle.width(), puzzle.height())?;
-    refuse(alloc, growth);
-    let answer = plain::try_by_rounds(alloc, puzzle, &mut grid);
-    let refused = was_refused(alloc);
-    match answer {
-        Ok(alive) => assert!(rt; alive && grid.known() == 8),
-        Err(NoMemory) => assert!(rt; refused && grid.known() == 0),
-    }
-    assert!(rt; plain::try_by_rounds(alloc, puzzle, &mut grid)? && grid.known() == 8);
-    Ok(refused)
-}
-
-#[test]
-fn rounds_try_or_are_refused(rt: HostRuntime) -> Result<(), Fail> {
-    let puzzle = knot(rt.alloc()).ok_or("puzzle")?;
-    for growth in 1..100 {
-        if !assert_tried(&rt, rt.alloc(), &puzzle, growth)? {
-            return Ok(());
-        }
-    }
-    assert!(rt; false, "growths without end");
     Ok(())
 }
 

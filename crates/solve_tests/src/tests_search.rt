@@ -2,7 +2,7 @@
 
 use crate::test_puzzles::puzzle_of;
 use grid_core::{Cell, Grid, Puzzle};
-use solve_core::{Findings, Grade, Pick, Verdict, next_guess, plain, report};
+use solve_core::{Findings, Grade, Pick, Verdict, line_grid, next_guess, report};
 use std::alloc::{AllocError, Global};
 use std::process::Abort;
 use std::test::Fail;
@@ -301,8 +301,7 @@ fn rules_guess_different_cells(rt: HostRuntime) -> Result<(), Fail> {
 fn rules_pick_different_cells(rt: HostRuntime) -> Result<(), Fail> {
     let alloc = rt.alloc();
     let puzzle = twin(alloc).ok_or("puzzle")?;
-    let mut grid = Grid::unknown(alloc, puzzle.width(), puzzle.height())?;
-    assert!(rt; plain::close_by_rounds(alloc, &puzzle, &mut grid)?);
+    let grid = line_grid(alloc, &puzzle)?.ok_or("dead")?;
     assert_eq!(rt; next_guess(&grid, Pick::First), Some((0, 0)));
     assert_eq!(rt; next_guess(&grid, Pick::Most), Some((2, 6)));
     Ok(())
