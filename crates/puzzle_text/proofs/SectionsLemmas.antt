@@ -55,11 +55,6 @@ module _ {X : Type 0} (view : X → Line) where
       rw (drop-map view count section, list_all-map is_blank_line view (drop count section)) blank in
       rw (within, empty, take-map view count section) refl
 
-  pub front_short : (count : ℕ) (section : List X) → length section < count → front count (map view section) ≡ None
-  front_short count section short =
-      let past : leb count (length (map view section)) ≡ false = lt-leb _ _ (omega (arith, length-map section view)) in
-      rw past refl
-
   -- the first lines are no clue lines if one after them isn't blank
   pub front_mixed : (count : ℕ) (section : List X) → count ≤ length section
       → list_all (λ x. is_blank_line (view x)) (drop count section) ≡ false → front count (map view section) ≡ None
