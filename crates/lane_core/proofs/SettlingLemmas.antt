@@ -1,6 +1,6 @@
 -- What is known with both ends of a lane in hand.
 use Rattle.std.proofs.Common.{◌≡◌, true, List, [], ◌∷◌, ◌++◌, length, take, refl, ap, sym, ◌∙◌, subst, append_assoc, arith}
-use Rattle.std.proofs.lemmas.List.{append-nil}
+use Rattle.std.proofs.lemmas.List.{append-nil, nil_from_length}
 use Rattle.std.specs.Prelude.{Option, Some, None, option_to_list, is_none}
 use Rattle.lane_core.specs.Messages.{jobs_of, has_finish, finish_is_last}
 use Rattle.lane_core.specs.Answers.{AreAnswersTo}
@@ -34,11 +34,6 @@ none_of : (held : Option Answer) → is_none held ≡ true → held ≡ None
 none_of None h = refl
 none_of (Some answer) h = cc
 
--- a list of length 0 is empty
-pub nil_of : {A : Type 0} (xs : List A) → length xs ≡ 0 → xs ≡ []
-nil_of [] h = refl
-nil_of (x ∷ xs) h = absurd (omega arith)
-
 -- a lane whose finish was taken, and in whose ring no answer lies
 pub finished_is_drained : (front : FrontLists) (back : BackLists) (known : List Message) (waiting : List Answer) →
     back.taken ++ known ≡ front.sent → front.received ++ waiting ≡ back.put → length waiting ≡ 0 →
@@ -48,7 +43,7 @@ finished_is_drained front back known waiting messages answers empty last finishe
     record {
       taken = sym (append-nil back.taken) ∙ ap (λ l. back.taken ++ l) (sym nothing) ∙ messages;
       held = none_of back.held free;
-      received = sym (append-nil front.received) ∙ ap (λ l. front.received ++ l) (sym (nil_of waiting empty)) ∙ answers;
+      received = sym (append-nil front.received) ∙ ap (λ l. front.received ++ l) (sym (nil_from_length waiting empty)) ∙ answers;
     }
 
 -- what a drained lane received answers the jobs that were sent

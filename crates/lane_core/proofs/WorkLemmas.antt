@@ -1,6 +1,6 @@
 -- Lemmas on a batch lane's work.
 use Rattle.std.proofs.Common.{◌≡◌, ◌≢◌, ◌<◌, ◌↔◌, inl, inr, ℕ, List, [], ◌∷◌, ◌++◌, length, refl, ap, sym, ◌∙◌, subst, length-append, arith}
-use Rattle.std.proofs.lemmas.List.{append-nil}
+use Rattle.std.proofs.lemmas.List.{append-nil, nil_from_length}
 use Rattle.std.specs.Prelude.{None, option_to_list}
 use Rattle.lane_core.specs.Lane.{FrontLists, BackLists, TakesMessage, PutsAnswer, IsFinished}
 use Rattle.lane_core.specs.Steps.{Steps, StepRun, Works, IsWorkDone, work_left}
@@ -8,7 +8,6 @@ use Rattle.lane_core.specs.declared.answers.Answer.{Answer}
 use Rattle.lane_core.specs.declared.messages.Message.{Message}
 use Rattle.lane_core.specs.declared.steps.Step.{Step}
 use Rattle.lane_core.specs.declared.steps.Step.TheVariants.{Idle, Graded, Waiting, Done}
-use Rattle.lane_core.proofs.SettlingLemmas.{nil_of}
 
 one_less : (front : FrontLists) (old mid new : BackLists) (message : Message) (answer : Answer) (known : List Message) →
     TakesMessage message old mid → PutsAnswer answer mid new → old.taken ++ known ≡ front.sent → 0 < length known
@@ -45,7 +44,7 @@ pub work_ends : (capacity : ℕ) (result : Step) (front : FrontLists) (old new :
 work_ends capacity result front old new known (inl f) fifo idle done other = inl (done.0 f.1)
 work_ends capacity Idle front old new known (inr s) fifo idle done other =
     inr (inl
-    (ap (λ b. b.taken) s.1.0 ∙ sym (append-nil old.taken) ∙ ap (λ l. old.taken ++ l) (sym (nil_of known (idle refl))) ∙ fifo, s.1.1))
+    (ap (λ b. b.taken) s.1.0 ∙ sym (append-nil old.taken) ∙ ap (λ l. old.taken ++ l) (sym (nil_from_length known (idle refl))) ∙ fifo, s.1.1))
 work_ends capacity Graded front old new known (inr s) fifo idle done other = absurd (other refl)
 work_ends capacity Waiting front old new known (inr s) fifo idle done other = inr (inr (s.1.1, s.1.2))
 work_ends capacity Done front old new known (inr s) fifo idle done other = inl (done.0 refl)
