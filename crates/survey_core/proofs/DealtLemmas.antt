@@ -152,8 +152,3 @@ deal_next f qs n place q q' job rest xs some len e pushed before k b =
     ap (λ xss. get_or xss k [] ++ dealt_from (place + 1) rest n k) (map-set f qs (place % n) q')
     ∙ ap (λ l. get_or (set (map f qs) (place % n) l) k [] ++ dealt_from (place + 1) rest n k) content
     ∙ deal_step (map f qs) n place job rest xs inside' before k b
-
--- a list of length 0 is empty
-pub nil_of : {A : Type 0} (xs : List A) → length xs ≡ 0 → xs ≡ []
-nil_of [] h = refl
-nil_of (x ∷ xs) h = absurd (omega arith)

@@ -39,10 +39,6 @@ has_room totals entries is few = record {
   by_search = fits _ entries _ is.by_search few;
 }
 
--- what is printed of the totals of entries
-pub totals_text-is : (totals : Totals) (entries : List GradedEntry) → IsTotals totals entries → totals_text totals ≡ totals_line entries
-totals_text-is totals entries is = cc
-
 -- the first of few elements, mapped, are few
 pub few_mapped : {X Y : Type 0} (f : X → Y) (xs : List X) (i : ℕ) → length xs < 2 ^ 31 → length (map f (take i xs)) < 2 ^ 31
 few_mapped f xs i few = omega (arith, length-map (take i xs) f, length-take i xs)

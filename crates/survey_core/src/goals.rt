@@ -12,9 +12,10 @@ fn is_row_shown(grid: &Grid, y: u16, values: &[bool]) -> bool
     requires cells { length values.now ≡ grid.now.width * grid.now.height }
     ensures { IsTrue result ↔ IsRowShown grid.now values.now y }
 {
+    let row = grid.row(y);
     let first = usize::from(y) * usize::from(grid.width());
     for x in 0..grid.width() {
-        if values[first + usize::from(x)] != grid.get(x, y).is_filled() {
+        if values[first + usize::from(x)] != row.get(x).is_filled() {
             return false;
         }
     }

@@ -21,8 +21,9 @@ fn push_row(text: &mut Vec<u8>, grid: &Grid, y: u16) -> Result<(), NoMemory>
     requires { y < grid.now.height }
     ensures { OnOk result (text.new.items ≡ text.old.items ++ row_text grid.now y) }
 {
+    let row = grid.row(y);
     for x in 0..grid.width() {
-        text.push(cell_byte(grid.get(x, y)))?;
+        text.push(cell_byte(row.get(x)))?;
     }
     text.push(b'\n')?;
     Ok(())

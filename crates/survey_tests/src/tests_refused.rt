@@ -3,10 +3,12 @@
 use crate::tests_answers::{EIGHT, eight_jobs};
 use crate::tests_samples::{TEN, TEN_SURVEY, settings};
 use lane_core::{Answer, Gate, OpenGate};
-use refusals::{refuse, was_refused};
+use refusals::{Told, refuse, sweep, told_if, was_refused};
 use std::process::Abort;
+use std::sync::Wait;
 use std::sync::atomic::{AtomicU32, Ordering};
 use std::test::Fail;
+use std::thread::Threads;
 use survey_core::{Counted, MOST_JOBS, ProgressGate, RunFault, collect, run_survey};
 
 /// More growths than any call here makes.
@@ -68,28 +70,32 @@ fn answers_are_collected_or_refused(rt: HostRuntime) -> Result<(), Fail> {
     Ok(())
 }
 
+/// What a survey of ten entries told, into a text that has its room.
+fn told_of_survey<R: Threads + Wait + Sync + AllocGlobal>(rt: &R, text: Vec<u8>) -> Told {
+    let mut reader = Counted::new(TEN.as_bytes());
+    let mut output = Counted::new(text);
+    let settings = settings(3, 1, false);
+    match run_survey(
+        rt,
+        rt.alloc(),
+        &mut reader,
+        &mut output,
+        &settings,
+        &OpenGate,
+    ) {
+        Ok(()) => told_if(output.inner.as_slice() == TEN_SURVEY.as_bytes()),
+        Err(RunFault::NoMemory | RunFault::Thread) if output.inner.is_empty() => Told::NoMemory,
+        Err(_) => Told::Other,
+    }
+}
+
 #[test]
 fn surveys_are_written_or_refused(rt: HostRuntime) -> Result<(), Fail> {
     let alloc = rt.alloc();
-    for growth in 1..MOST_GROWTHS {
-        let mut reader = Counted::new(TEN.as_bytes());
-        let mut output = Counted::new(Vec::with_capacity(alloc, 1000)?);
-        let settings = settings(3, 1, false);
-        refuse(alloc, growth);
-        let outcome = run_survey(&rt, alloc, &mut reader, &mut output, &settings, &OpenGate);
-        let refused = was_refused(alloc);
-        match outcome {
-            Ok(()) => assert_eq!(rt; output.inner.as_slice(), TEN_SURVEY.as_bytes()),
-            Err(fault) => {
-                assert!(rt; refused && output.inner.is_empty(), "growth {growth}");
-                assert!(rt; matches!(&fault, RunFault::NoMemory | RunFault::Thread));
-            }
-        }
-        if !refused {
-            return Ok(());
-        }
-    }
-    assert!(rt; false, "growths without end");
+    sweep(alloc, || match Vec::with_capacity(alloc, 1000) {
+        Ok(text) => told_of_survey(&rt, text),
+        Err(_) => Told::NoMemory,
+    })?;
     Ok(())
 }
 

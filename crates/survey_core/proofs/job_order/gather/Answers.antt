@@ -1,7 +1,8 @@
 -- `gather`: the queue whose turn it is has the next answer at its front, which is gathered.
 use Rattle.std.proofs.Common.{◌<◌, ◌+◌, take, sym, ap, ◌∙◌, subst}
+use Rattle.std.proofs.lemmas.List.{nil_from_length}
 use Rattle.lane_core.specs.Answers.{AreAnswersTo}
-use Rattle.survey_core.proofs.DealtLemmas.{gather_some, gather_next, nil_of}
+use Rattle.survey_core.proofs.DealtLemmas.{gather_some, gather_next}
 use Rattle.survey_core.proofs.job_order.gather.Goals as goal
 
 pub unreachable-requires : goal.unreachable-requires
@@ -11,7 +12,7 @@ unreachable-requires c =
     c.requires.some (sym c.loop-place.queues.ok.0 ∙ c.loop-place.invariant.lanes)
     (subst (λ m. c.loop-place.place < m) c.requires.count c.loop-place-test.true) c.index_mut-queue.ensures.value
     c.loop-place.invariant.left
-    (nil_of _ (sym c.index_mut-queue.result.now.ok.0 ∙ c.in_default.ensures.cases.0))
+    (nil_from_length _ (sym c.index_mut-queue.result.now.ok.0 ∙ c.in_default.ensures.cases.0))
 
 pub loop-place-preserved : goal.loop-place-preserved
 loop-place-preserved c =
