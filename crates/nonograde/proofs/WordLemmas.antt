@@ -63,16 +63,6 @@ pub text_of_entry : (f : Found) (id : Text) (given : Option (Bor Text)) (d : Bor
 text_of_entry f id None d reads empty = empty ∙ ap (λ o. unwrap_or o []) (reads ∙ first_value-rows f id)
 text_of_entry f id (Some x) d reads empty = ap (λ o. unwrap_or o []) (reads ∙ first_value-rows f id)
 
--- the rule that a word names
-pub pick_of_most : (word : Text) → word ≡ codes "most" → Most ≡ pick_of_word word
-pick_of_most word is = rw is refl
-
-pub pick_of_other : (word : Text) → (word ≡ codes "most" → ⊥) → First ≡ pick_of_word word
-pick_of_other word other = elim (cases_Bool (bytes_eq word (codes "most"))) [
-  | inl same ↦ absurd (other ((bytes_eq-Decides word (codes "most")).0 same))
-  | inr differs ↦ rw differs refl
-]
-
 -- the texts that a getter read, or else none, are those of the entry
 pub texts_of_entry : (f : Found) (id : Text) (given : Option (Bor (List (Bor Text)))) (d : Bor (List (Bor Text)))
     → option_map (λ s. map (λ v. v.now) s.now) given ≡ option_map raw_values (matched_of f id) → d.now ≡ []
