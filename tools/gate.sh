@@ -1,7 +1,8 @@
 #!/usr/bin/env bash
-# Passes all tests: ShellCheck over the scripts, `rt ci` (every proof from nothing, the must-fail edits, the
-# tests and the stored run), and the scripts over what that leaves. It installs what it needs and doesn't
-# find, and stops at the first step that fails. Its last line is `N passed, M failed` over all steps.
+# Passes all tests: ShellCheck over the scripts, what public contracts rest on, `rt ci` (every proof from nothing,
+# the must-fail edits, the tests and the stored run), and the scripts over what that leaves. It installs what it
+# needs and doesn't find, and stops at the first step that fails. Its last line is `N passed, M failed` over all
+# steps.
 set -u
 cd "$(dirname "$0")/.." || exit
 PATH=$PATH:/usr/sbin
@@ -61,6 +62,20 @@ check_scripts() {
     echo "${#scripts[@]} passed, 0 failed"
 }
 
+# Tests that no public contract rests on a definition that only private calls need, and that the page on proofs
+# tells how many there are for the headline.
+# shellcheck disable=SC2317 # `step` calls it.
+check_promises() {
+    local said
+    said=$(tools/promises.py) || { tail -n 5 <<<"$said"; return 1; }
+    said=$(tools/promises.py headline | tail -n 1)
+    if ! grep -qF "$said" docs/proofs.md; then
+        echo "docs/proofs.md doesn't tell of $said"
+        return 1
+    fi
+    echo '2 passed, 0 failed'
+}
+
 # Runs a step, and adds what its last line counts. A step that fails ends the gate.
 step() {
     local status counts
@@ -87,6 +102,7 @@ need 'hash make mandoc man zsh' make mandoc man-db zsh
 RT_JOBS=${RT_JOBS:-$(lanes)}
 export RT_JOBS
 step check_scripts
+step check_promises
 step rt ci
 tools/edits.sh <"$log" || { failed=1; finish 1; }
 step tools/sweep.sh

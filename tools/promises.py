@@ -1,11 +1,12 @@
 #!/usr/bin/env python3
 """Lists the definitions that the contracts of public calls rest on, through all layers.
 
-Usage: tools/promises.py [CALL..]
+Usage: tools/promises.py [CALL.. | headline]
 
 Without calls: how many definitions and lines there are for each public call, and in all. With calls (`report`,
-`Grid::set`): their definitions, each with its file, line and length. Status 1 if a definition that a public
-contract rests on stands among the steps (`specs/steps/`), or if a call is unknown.
+`Grid::set`), or `headline` for those of the headline in `docs/proofs.md`: their definitions, each with its file,
+line and length. Status 1 if a definition that a public contract rests on stands among the steps
+(`specs/steps/`), or if a call is unknown.
 """
 
 import re
@@ -13,6 +14,11 @@ import sys
 from pathlib import Path
 
 TOP = Path(__file__).resolve().parent.parent
+HEADLINE = (
+    "settle BatchLane::close open_lane BatchLane::new Lane::send Lane::finish Lane::take LaneBack::step "
+    "BatchLane::work answers_in_order drained_lanes_are_answered grade report Answer::outcome collect run_survey "
+    "survey_entries"
+).split()
 DEFINITION = re.compile(r"(?:(?:abbrev|unfoldable|foldable) )*(?:pub )?(?:(?:record|data) )?(?:pub )?([^\s(){}]+) ")
 IMPORT = re.compile(r"\buse ([\w.]+)\.\{([^}]*)\}")
 NAME = re.compile(r"[^\s(){}\[\],;.λ]+")
@@ -50,7 +56,7 @@ def definitions_of(path, module):
     start = 0
     while start < len(lines):
         match = DEFINITION.match(lines[start])
-        if lines[start][:1] in ("", " ", "-") or lines[start].startswith(("use ", "pub mod ")) or not match:
+        if lines[start][:1] in ("", " ", "-") or lines[start].startswith(("use ", "pub mod ", "infix")) or not match:
             start += 1
             continue
         end = start + 1
@@ -81,13 +87,21 @@ def exports_of(crate):
 
 def contract_at(text, start, indent):
     """The head and the clauses of a call that begins at a place: all up to its body, or to its end in a trait."""
-    end = re.compile(r"[;{]$|{}$", re.M).search(text, text.index("(", start))
-    return text[start : end.end()]
+    lines = []
+    for line in text[start:].lstrip("\n").split("\n"):
+        if line == indent + "{":
+            break
+        lines.append(line)
+        whole = "\n".join(lines)
+        has_clauses = re.search(r"^ *(requires|ensures|ghost) ", whole, re.M)
+        if line.endswith(";") and whole.count("{") == whole.count("}") or line.endswith(("{", "{}")) and not has_clauses:
+            break
+    return "\n".join(lines)
 
 
 def ghosts_of(block):
     """What the ghost lines of an item say: its fields, its model and what it keeps."""
-    return "\n".join(re.findall(r"^ +(?:pub )?ghost (?!use).*(?:\n {8,}.*)*", block, re.M))
+    return "\n".join(re.findall(r"^ +(?:pub )?ghost (?!use).*(?:\n(?! *(?:ghost|$)).*)*", block, re.M))
 
 
 def items_of(path):
@@ -121,7 +135,7 @@ def rests_on(texts, definitions, types):
         text, imports = waiting.pop()
         code = "\n".join(line for line in text.split("\n") if not line.lstrip().startswith(("--", "//")))
         for name in set(NAME.findall(code)):
-            key = imports.get(name, ("", name))
+            key = imports.get(name) or imports.get(f"◌{name}◌", ("", name))
             if key in definitions and key not in found:
                 found[key] = definitions[key]
                 waiting.append((definitions[key].text, definitions[key].imports))
@@ -164,6 +178,8 @@ def main(wanted):
     """Lists what the calls that are wanted rest on, or counts it for all."""
     definitions = definitions_of_all()
     calls, types = calls_and_types()
+    if wanted == ["headline"]:
+        wanted = HEADLINE
     unknown = [name for name in wanted if name not in calls]
     chosen = [name for name in wanted or calls if name in calls]
     everything = {}
