@@ -9,3 +9,4 @@ pub mod Told
 pub mod Overlaps
 pub mod Outermost
 pub mod Lone
+pub mod Widths

@@ -15,7 +15,7 @@ use crate::passes::Pass;
 use crate::reach::{GAPS, gap_ahead, inner_ends, whole_ends, write_gaps_ahead};
 use crate::rooms::{Rooms, make_ready};
 use crate::spans::Span;
-use crate::widths::places_needed;
+use crate::widths::{Width, places_needed};
 use grid_core::{Clue, LONGEST_SIDE, LineOf, MOST_RUNS, NoMemory};
 use place_sets::{LEVELS, PlaceSet, Wide, add_ends, spread_levels, windows_within};
 use std::alloc::Global;
@@ -131,16 +131,19 @@ fn deduce_with(line: &Line, clue: &[u16], rooms: &mut Rooms) -> Option<Line>
     requires count { length clue.now ≤ MOST_RUNS }
     ensures { result ≡ deduced line.now clue.now }
 {
-    let needed = places_needed(line.len(), clue);
-    if needed <= 64 {
-        make_ready(&mut rooms.narrow);
-        deduce_at(&mut rooms.narrow[0], line, clue)
-    } else if needed <= 128 {
-        make_ready(&mut rooms.middle);
-        deduce_at(&mut rooms.middle[0], line, clue)
-    } else {
-        make_ready(&mut rooms.wide);
-        deduce_at(&mut rooms.wide[0], line, clue)
+    match Width::of(places_needed(line.len(), clue)) {
+        Width::Narrow => {
+            make_ready(&mut rooms.narrow);
+            deduce_at(&mut rooms.narrow[0], line, clue)
+        }
+        Width::Middle => {
+            make_ready(&mut rooms.middle);
+            deduce_at(&mut rooms.middle[0], line, clue)
+        }
+        Width::Wide => {
+            make_ready(&mut rooms.wide);
+            deduce_at(&mut rooms.wide[0], line, clue)
+        }
     }
 }
 

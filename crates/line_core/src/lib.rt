@@ -18,4 +18,4 @@ pub use deduction::{LineSet, Tables, deduce};
 pub use grid_core::LineOf;
 pub use line::Line;
 pub use starts::{Starts, leftmost, rightmost};
-pub use widths::places_needed;
+pub use widths::{Width, places_needed};

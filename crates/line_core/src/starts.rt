@@ -14,7 +14,7 @@ use crate::passes::Pass;
 use crate::reach::{GAPS, gap_ahead, whole_ends, write_gaps_ahead};
 use crate::rooms::{Rooms, make_ready};
 use crate::spans::Span;
-use crate::widths::places_needed;
+use crate::widths::{Width, places_needed};
 use grid_core::{Clue, LONGEST_SIDE, LineOf, MOST_RUNS, NoMemory};
 use place_sets::{PlaceSet, windows_within};
 use std::alloc::Global;
@@ -126,28 +126,31 @@ fn find_by_width(
         (outermost side line.now clue.now ≡ Some (take (length clue.now) list.new))
         (outermost side line.now clue.now ≡ None) }
 {
-    let needed = places_needed(line.len(), clue);
-    if needed <= 64 {
-        make_ready(&mut rooms.narrow);
-        find_starts(
-            side,
-            &line.cells.resized(),
-            clue,
-            &mut rooms.narrow[0],
-            list,
-        )
-    } else if needed <= 128 {
-        make_ready(&mut rooms.middle);
-        find_starts(
-            side,
-            &line.cells.resized(),
-            clue,
-            &mut rooms.middle[0],
-            list,
-        )
-    } else {
-        make_ready(&mut rooms.wide);
-        find_starts(side, &line.cells.resized(), clue, &mut rooms.wide[0], list)
+    match Width::of(places_needed(line.len(), clue)) {
+        Width::Narrow => {
+            make_ready(&mut rooms.narrow);
+            find_starts(
+                side,
+                &line.cells.resized(),
+                clue,
+                &mut rooms.narrow[0],
+                list,
+            )
+        }
+        Width::Middle => {
+            make_ready(&mut rooms.middle);
+            find_starts(
+                side,
+                &line.cells.resized(),
+                clue,
+                &mut rooms.middle[0],
+                list,
+            )
+        }
+        Width::Wide => {
+            make_ready(&mut rooms.wide);
+            find_starts(side, &line.cells.resized(), clue, &mut rooms.wide[0], list)
+        }
     }
 }
 
