@@ -6,9 +6,9 @@ ghost use Rattle.solve_core.specs.Widths.{FitsIn};
 
 use crate::boards::Board;
 use crate::closures::Closer;
-use crate::widths::places_for;
+use crate::widths::width_for;
 use grid_core::{Grid, NoMemory, Puzzle};
-use line_core::LineSet;
+use line_core::{LineSet, Width};
 use place_sets::Wide;
 use std::alloc::Global;
 
@@ -50,12 +50,9 @@ fn line_grid_within<W: LineSet>(alloc: Global, puzzle: &Puzzle) -> Result<Option
 pub fn line_grid(alloc: Global, puzzle: &Puzzle) -> Result<Option<Grid>, NoMemory>
     ensures { IfOk result (λ grid. grid ≡ line_grid puzzle.now) }
 {
-    let needed = places_for(puzzle);
-    if needed <= 64 {
-        line_grid_within::<u64>(alloc, puzzle)
-    } else if needed <= 128 {
-        line_grid_within::<u128>(alloc, puzzle)
-    } else {
-        line_grid_within::<Wide>(alloc, puzzle)
+    match width_for(puzzle) {
+        Width::Narrow => line_grid_within::<u64>(alloc, puzzle),
+        Width::Middle => line_grid_within::<u128>(alloc, puzzle),
+        Width::Wide => line_grid_within::<Wide>(alloc, puzzle),
     }
 }

@@ -19,10 +19,10 @@ use crate::picks::Pick;
 use crate::search::search;
 use crate::solutions::Solutions;
 use crate::trials::Trials;
-use crate::widths::places_for;
+use crate::widths::width_for;
 use crate::{Findings, Grade, Verdict};
 use grid_core::{NoMemory, Puzzle};
-use line_core::LineSet;
+use line_core::{LineSet, Width};
 use place_sets::Wide;
 use std::alloc::Global;
 
@@ -187,12 +187,9 @@ pub fn report(
     ensures holds { IfOk result (λ findings. Holds (picked pick puzzle.now.width) puzzle.now guesses findings.verdict) }
     ensures spent { IfOk result (λ findings. findings.spent ≤ guesses) }
 {
-    let needed = places_for(puzzle);
-    if needed <= 64 {
-        report_within::<u64>(alloc, puzzle, guesses, pick)
-    } else if needed <= 128 {
-        report_within::<u128>(alloc, puzzle, guesses, pick)
-    } else {
-        report_within::<Wide>(alloc, puzzle, guesses, pick)
+    match width_for(puzzle) {
+        Width::Narrow => report_within::<u64>(alloc, puzzle, guesses, pick),
+        Width::Middle => report_within::<u128>(alloc, puzzle, guesses, pick),
+        Width::Wide => report_within::<Wide>(alloc, puzzle, guesses, pick),
     }
 }

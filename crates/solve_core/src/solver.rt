@@ -6,9 +6,10 @@ ghost use Rattle.solve_core.specs.Sizes.{HasSizeOf};
 ghost use Rattle.solve_core.specs.Trials.{trials};
 ghost use Rattle.solve_core.specs.Marks.{if_alive};
 
-use crate::widths::places_for;
+use crate::widths::width_for;
 use crate::workspaces::Workspace;
 use grid_core::{Grid, NoMemory, Puzzle};
+use line_core::Width;
 use place_sets::Wide;
 use std::alloc::Global;
 use std::marker::Model;
@@ -47,13 +48,10 @@ impl<'p> Solver<'p> {
     pub fn new(alloc: Global, puzzle: &'p Puzzle) -> Result<Solver<'p>, NoMemory>
         ensures { IfOk result (λ solver. solver ≡ puzzle.now) }
     {
-        let needed = places_for(puzzle);
-        let workspace = if needed <= 64 {
-            Fitting::Narrow(Workspace::new(alloc, puzzle)?)
-        } else if needed <= 128 {
-            Fitting::Middle(Workspace::new(alloc, puzzle)?)
-        } else {
-            Fitting::Wide(Workspace::new(alloc, puzzle)?)
+        let workspace = match width_for(puzzle) {
+            Width::Narrow => Fitting::Narrow(Workspace::new(alloc, puzzle)?),
+            Width::Middle => Fitting::Middle(Workspace::new(alloc, puzzle)?),
+            Width::Wide => Fitting::Wide(Workspace::new(alloc, puzzle)?),
         };
         Ok(Solver { workspace })
     }

@@ -1,10 +1,12 @@
 //! The width of the sets that a puzzle is solved in.
 ghost use Rattle.std.specs.Prelude.{◌≤◌, All, ℕ};
 ghost use Rattle.grid_core.specs.declared.limits.TheConstants.{LONGEST_SIDE};
+ghost use Rattle.line_core.specs.Widths.{places_of};
+ghost use Rattle.line_core.specs.declared.widths.Width.{Width};
 ghost use Rattle.solve_core.specs.Widths.{FitsIn};
 
 use grid_core::{Clue, Puzzle};
-use line_core::places_needed;
+use line_core::{Width, places_needed};
 
 /// How many places sets need that have `least` places at least, and have room for each number of some clues.
 fn places_for_clues(clues: &[Clue], least: u16) -> u16
@@ -21,14 +23,12 @@ fn places_for_clues(clues: &[Clue], least: u16) -> u16
     needed
 }
 
-/// How many places sets need for the lines of a puzzle and for the numbers of its clues: the longer side, or
-/// the greatest number if that is greater.
-pub fn places_for(puzzle: &Puzzle) -> u16
-    ensures fits { FitsIn result puzzle.now }
-    ensures fewest { (room : ℕ) → FitsIn room puzzle.now → result ≤ room }
-    ensures most { result ≤ LONGEST_SIDE }
+/// The least width in which the lines of a puzzle and the numbers of its clues have room.
+pub fn width_for(puzzle: &Puzzle) -> Width
+    ensures fits { FitsIn (places_of result) puzzle.now }
+    ensures least { (width : Width) → FitsIn (places_of width) puzzle.now → places_of result ≤ places_of width }
 {
     let sides = puzzle.width().max(puzzle.height());
     let rows = places_for_clues(puzzle.rows(), sides);
-    places_for_clues(puzzle.columns(), rows)
+    Width::of(places_for_clues(puzzle.columns(), rows))
 }
