@@ -26,3 +26,4 @@ pub mod Counting
 pub mod PickLaws
 pub mod CountLaws
 pub mod PickRows
+pub mod StatedLaws

@@ -1,10 +1,16 @@
-//! Laws of the definitions.
-ghost use Rattle.std.specs.Prelude.{◌≡◌, ◌<◌, ◌↔◌, ℕ, List, length, Some};
+//! Laws of the definitions: of closing, of the search, of the report and of the rules for guesses.
+#![tactic(auto, using(crate::proofs::StatedLaws::laws))]
+
+ghost use Rattle.std.specs.Prelude.{◌≡◌, ◌<◌, ◌≤◌, ◌↔◌, ℕ, List, length, Option, Some};
 ghost use Rattle.grid_core.specs.declared.cells.Cell.{Cell};
-ghost use Rattle.grid_core.specs.Nonogram.{GridLine};
+ghost use Rattle.grid_core.specs.Nonogram.{GridLine, Nonogram, IsNonogram};
 ghost use Rattle.solve_core.specs.Closure.{round, closure};
-ghost use Rattle.solve_core.specs.Trials.{trial_round, trials, IsTried};
 ghost use Rattle.solve_core.specs.LeastClosed.{IsLeastClosed};
+ghost use Rattle.solve_core.specs.Picks.{most_known};
+ghost use Rattle.solve_core.specs.Report.{verdict_of, guesses_of, report_of};
+ghost use Rattle.solve_core.specs.Search.{IsPick, first_unknown, search_from, events};
+ghost use Rattle.solve_core.specs.Trials.{trial_round, trials, IsTried};
+ghost use Rattle.solve_core.specs.Verdicts.{Holds, IsFinal};
 
 /// The closure is the least line-closed grid that knows what the grid knows, whatever the order of the work;
 /// and it is dead exactly if there is none.
@@ -22,4 +28,37 @@ pub fn trials_are_least()
 pub fn trial_closed_means()
     ensures { (lines : List GridLine) (grid : List Cell) → (trial_round lines grid ≡ Some grid)
         ↔ ((round lines grid ≡ Some grid) × ((k : ℕ) → k < length grid → IsTried lines grid k)) }
+{}
+
+/// Below each guess the search goes on as a whole search.
+pub fn search_unfolds()
+    ensures { (pick : List Cell → Option ℕ) → IsPick pick → (lines : List GridLine) (grid : List Cell) →
+        events pick lines grid ≡ search_from pick (events pick lines) (closure lines grid) }
+{}
+
+/// The verdict on a puzzle holds of all full grids, whatever the rule for guesses.
+pub fn verdict_holds()
+    ensures { (pick : List Cell → Option ℕ) → IsPick pick → (p : Nonogram) → IsNonogram p → (limit : ℕ) →
+        Holds pick p limit (verdict_of pick p limit) }
+{}
+
+/// No more guesses are spent than the limit allows.
+pub fn spent_is_within()
+    ensures { (pick : List Cell → Option ℕ) (p : Nonogram) (limit : ℕ) → guesses_of pick p limit ≤ limit }
+{}
+
+/// If the verdict is final, the whole report is the same for every greater limit.
+pub fn final_report_stays()
+    ensures { (pick : List Cell → Option ℕ) (p : Nonogram) (limit greater : ℕ) → limit ≤ greater → IsFinal (report_of pick p limit).verdict
+        → report_of pick p greater ≡ report_of pick p limit }
+{}
+
+/// The first unknown cell is a lawful pick.
+pub fn first_unknown_is_pick()
+    ensures { IsPick first_unknown }
+{}
+
+/// The unknown cell of which most neighbours are known is a lawful pick.
+pub fn most_known_is_pick()
+    ensures { (width : ℕ) → IsPick (most_known width) }
 {}

@@ -15,7 +15,6 @@ mod picks;
 mod places;
 mod reports;
 mod search;
-pub mod search_laws;
 mod solutions;
 mod solver;
 mod trials;
