@@ -1,5 +1,5 @@
 //! The closure of a grid, by a mark at each line that may have more to give.
-ghost use Rattle.std.specs.Prelude.{◌≡◌, ◌≢◌, ℕ, ◌+◌, ◌*◌, ◌<◌, ◌≤◌, ◌↔◌, true, false, length, slice_set, slice_index_or, IsTrue, IfOk};
+ghost use Rattle.std.specs.Prelude.{◌≡◌, ◌≢◌, ℕ, ◌+◌, ◌*◌, ◌<◌, ◌≤◌, ◌↔◌, true, false, length, slice_set, slice_index_or, IsTrue};
 ghost use Rattle.grid_core.specs.Cells.{is_known};
 ghost use Rattle.grid_core.specs.Nonogram.{IsNonogram, lines_of};
 ghost use Rattle.grid_core.specs.declared.cells.Cell.TheVariants.{Unknown};
@@ -15,9 +15,8 @@ use crate::boards::Board;
 use crate::deductions::Deductions;
 use crate::marks::Marks;
 use crate::places::write_line;
-use grid_core::{Cell, NoMemory, Puzzle};
+use grid_core::{Cell, Puzzle};
 use line_core::LineSet;
-use std::alloc::Global;
 use std::marker::Model;
 
 /// What became of a grid by a step that adds to what is known.
@@ -98,16 +97,17 @@ fn learn_line<W: LineSet>(
 }
 
 impl<'p, W: LineSet> Closer<'p, W> {
-    /// Makes the room that closing takes. No line is marked.
-    pub fn new(alloc: Global, puzzle: &'p Puzzle) -> Result<Closer<'p, W>, NoMemory>
-        requires { FitsIn W.WIDTH puzzle.now }
-        ensures { IfOk result (λ closer. closer.puzzle ≡ puzzle.now) }
+    /// Closes grids of a puzzle by these deductions of its lines. No line is marked.
+    pub fn new(puzzle: &'p Puzzle, deductions: Deductions<'p, W>) -> Closer<'p, W>
+        requires fits { FitsIn W.WIDTH puzzle.now }
+        requires puzzle { deductions ≡ puzzle.now }
+        ensures { result.puzzle ≡ puzzle.now }
     {
-        Ok(Closer {
+        Closer {
             puzzle,
-            deductions: Deductions::new(alloc, puzzle)?,
+            deductions,
             marks: Marks::new(puzzle.height(), puzzle.width()),
-        })
+        }
     }
 
     /// Deduces line n.

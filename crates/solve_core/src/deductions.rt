@@ -155,7 +155,7 @@ impl<'p, W: LineSet> Deductions<'p, W> {
     }
 
     /// Makes the room for `room` deductions, 1 to 16,384.
-    pub(crate) fn with_room(
+    pub fn with_room(
         alloc: Global,
         puzzle: &'p Puzzle,
         room: usize,

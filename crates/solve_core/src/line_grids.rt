@@ -6,6 +6,7 @@ ghost use Rattle.solve_core.specs.Widths.{FitsIn};
 
 use crate::boards::Board;
 use crate::closures::Closer;
+use crate::deductions::Deductions;
 use crate::widths::width_for;
 use grid_core::{Grid, NoMemory, Puzzle};
 use line_core::{LineSet, Width};
@@ -32,7 +33,8 @@ fn closed_grid<W: LineSet>(
     }
 }
 
-/// The closed grid, by sets of a width that has room for the puzzle's lines and the numbers of its clues.
+/// The closed grid, by sets of a width that has room for the puzzle's lines and the numbers of its clues. No
+/// deduction is remembered, since there are no trials.
 fn line_grid_within<W: LineSet>(alloc: Global, puzzle: &Puzzle) -> Result<Option<Grid>, NoMemory>
     requires { FitsIn W.WIDTH puzzle.now }
     ensures { IfOk result (λ grid. grid ≡ line_grid puzzle.now) }
@@ -41,7 +43,8 @@ fn line_grid_within<W: LineSet>(alloc: Global, puzzle: &Puzzle) -> Result<Option
     let height = puzzle.height();
     let grid = Grid::unknown(alloc, width, height)?;
     let mut board = Board::<W>::unknown(alloc, width, height)?;
-    let mut closer = Closer::<W>::new(alloc, puzzle)?;
+    let deductions = Deductions::<W>::with_room(alloc, puzzle, 1)?;
+    let mut closer = Closer::new(puzzle, deductions);
     Ok(closed_grid(&mut closer, &mut board, grid))
 }
 

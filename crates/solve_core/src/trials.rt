@@ -17,6 +17,7 @@ ghost use Rattle.solve_core.specs.declared.closures.Progress.TheVariants.{Dead, 
 
 use crate::boards::Board;
 use crate::closures::{Closer, Progress};
+use crate::deductions::Deductions;
 use crate::witnesses::Witnesses;
 use grid_core::{Cell, NoMemory, Puzzle};
 use line_core::LineSet;
@@ -127,7 +128,7 @@ impl<'p, W: LineSet> Trials<'p, W> {
         let width = puzzle.width();
         let height = puzzle.height();
         Ok(Trials {
-            closer: Closer::new(alloc, puzzle)?,
+            closer: Closer::new(puzzle, Deductions::new(alloc, puzzle)?),
             filled_trial: Board::unknown(alloc, width, height)?,
             blank_trial: Board::unknown(alloc, width, height)?,
             witnesses: Witnesses::new(alloc, puzzle)?,

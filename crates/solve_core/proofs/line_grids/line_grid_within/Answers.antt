@@ -4,4 +4,4 @@ use Rattle.solve_core.specs.Report.{line_grid}
 use Rattle.solve_core.proofs.line_grids.line_grid_within.Goals as goal
 
 pub returns : goal.returns
-returns g c = c.closed_grid.ensures ∙ ap line_grid c.in_ok-closer.ensures
+returns g c = c.closed_grid.ensures ∙ ap line_grid c.new-closer.ensures
