@@ -1,119 +1,95 @@
 -- What the rule of most known neighbours picks.
-use Rattle.std.proofs.Common.{◌≡◌, ℕ, zero, suc, ◌+◌, ◌<◌, ◌≤◌, ◌≢◌, ◌⊎◌, inl, inr, Bool, true, false, cond, nat_le, length, get_or, Option, Some, None, refl, sym, ap, ◌∙◌, subst, arith, true≢false, leb-true, leb-false}
+use Rattle.std.proofs.Common.{◌≡◌, ℕ, zero, suc, ◌<◌, ◌≤◌, inl, inr, Bool, true, false, cond, nat_lt, List, length, get_or, Option, Some, None, refl, sym, ap, ◌∙◌, subst, arith, true≢false, ltb-true, ltb-false}
+use Rattle.grid_core.specs.declared.cells.Cell.{Cell}
 use Rattle.grid_core.specs.declared.cells.Cell.TheVariants.{Unknown}
 use Rattle.grid_core.specs.Cells.{is_unknown}
 use Rattle.solve_core.specs.declared.picks.Pick.{Pick}
 use Rattle.solve_core.specs.declared.picks.Pick.TheVariants.{First, Most}
+use Rattle.solve_core.specs.MostKnown.{IsMostKnown}
 use Rattle.solve_core.specs.Picks.{better, first_most, most_known, picked, sure_neighbours}
 use Rattle.solve_core.specs.Search.{IsPick}
-use Rattle.solve_core.proofs.LineSteps.{before_or_from, same_or_not}
-use Rattle.solve_core.proofs.SearchLaws.{first_unknown-IsPick}
+use Rattle.solve_core.proofs.LineSteps.{same_or_not}
+use Rattle.solve_core.proofs.SearchLaws.{first_unknown-IsPick, unknown_is}
 
--- of the `n` places from `start` on, the place passes the test, no other one that passes scores more, and
--- those before it that pass score less; or none passes
-abbrev pub IsFirstMost : (ℕ → ℕ) → (ℕ → Bool) → ℕ → ℕ → Option ℕ → Type 0
-IsFirstMost score passes start n None = (j : ℕ) → start ≤ j → j < start + n → passes j ≡ false
-IsFirstMost score passes start n (Some k) =
-    (start ≤ k) × (k < start + n) × (passes k ≡ true)
-    × ((j : ℕ) → start ≤ j → j < start + n → passes j ≡ true → score j ≤ score k)
-    × ((j : ℕ) → start ≤ j → j < k → passes j ≡ true → score j < score k)
+-- of the first `n` places, the place passes the test, no other one that passes scores more, and those before
+-- it that pass score less; or none passes
+abbrev pub IsFirstMost : (ℕ → ℕ) → (ℕ → Bool) → ℕ → Option ℕ → Type 0
+IsFirstMost score passes n None = (j : ℕ) → j < n → passes j ≡ false
+IsFirstMost score passes n (Some k) =
+    (k < n) × (passes k ≡ true)
+    × ((j : ℕ) → j < n → passes j ≡ true → score j ≤ score k)
+    × ((j : ℕ) → j < k → passes j ≡ true → score j < score k)
 
--- the search for the first place with the highest score finds it, or none if no place passes
-pub first_most-is : (score : ℕ → ℕ) (passes : ℕ → Bool) (start n : ℕ) → IsFirstMost score passes start n (first_most score passes start n)
-first_most-is score passes start zero = λ j l m. absurd (omega arith)
-first_most-is score passes start (suc n) =
-    by (passes start) refl (first_most score passes (start + 1) n) (first_most-is score passes (start + 1) n)
+-- the first place with the highest score is that, or no place passes
+pub first_most-is : (score : ℕ → ℕ) (passes : ℕ → Bool) (n : ℕ) → IsFirstMost score passes n (first_most score passes n)
+first_most-is score passes zero = λ j l. absurd (omega arith)
+first_most-is score passes (suc n) = by (passes n) refl (first_most score passes n) (first_most-is score passes n)
   where
-    passed : (k : ℕ) → passes start ≡ true → IsFirstMost score passes (start + 1) n (Some k) → (b : Bool) →
-        nat_le (score k) (score start) ≡ b
-        → IsFirstMost score passes start (suc n) (cond b (Some start) (Some k))
-    passed k o later true e = (
-      omega arith,
+    later : (k : ℕ) → passes n ≡ true → IsFirstMost score passes n (Some k) → (b : Bool) → nat_lt (score k) (score n) ≡ b
+        → IsFirstMost score passes (suc n) (cond b (Some n) (Some k))
+    later k o most true e = (
       omega arith,
       o,
-      λ j l m p. elim (same_or_not j start) [
+      λ j l p. elim (same_or_not j n) [
         | inl own ↦ rw own (omega arith)
-        | inr other ↦ (let most = later.3 j (omega arith) (omega arith) p in omega (arith, most, leb-true (score k) (score start) e))
+        | inr other ↦ (let less = most.2 j (omega arith) p in omega (arith, less, ltb-true (score k) (score n) e))
       ],
-      λ j l m p. absurd (omega arith),
+      λ j l p. (let less = most.2 j l p in omega (arith, less, ltb-true (score k) (score n) e)),
     )
-    passed k o later false e = (
-      omega (arith, later.0),
-      omega (arith, later.1),
-      later.2,
-      λ j l m p. elim (same_or_not j start) [
-        | inl own ↦ rw own (omega (arith, leb-false (score k) (score start) e))
-        | inr other ↦ later.3 j (omega arith) (omega arith) p
+    later k o most false e = (
+      omega (arith, most.0),
+      most.1,
+      λ j l p. elim (same_or_not j n) [
+        | inl own ↦ rw own (ltb-false (score k) (score n) e)
+        | inr other ↦ most.2 j (omega arith) p
       ],
-      λ j l m p. elim (same_or_not j start) [
-        | inl own ↦ rw own (omega (arith, leb-false (score k) (score start) e))
-        | inr other ↦ later.4 j (omega arith) m p
-      ],
+      most.3,
     )
 
-    by : (b : Bool) → passes start ≡ b → (later : Option ℕ) → IsFirstMost score passes (start + 1) n later
-        → IsFirstMost score passes start (suc n) (cond b (better score start later) later)
+    by : (b : Bool) → passes n ≡ b → (best : Option ℕ) → IsFirstMost score passes n best
+        → IsFirstMost score passes (suc n) (cond b (better score best n) best)
     by true o None none = (
       omega arith,
-      omega arith,
       o,
-      λ j l m p. elim (same_or_not j start) [
+      λ j l p. elim (same_or_not j n) [
         | inl own ↦ rw own (omega arith)
-        | inr other ↦ absurd (true≢false (sym p ∙ none j (omega arith) (omega arith)))
+        | inr other ↦ absurd (true≢false (sym p ∙ none j (omega arith)))
       ],
-      λ j l m p. absurd (omega arith),
+      λ j l p. absurd (true≢false (sym p ∙ none j l)),
     )
-    by true o (Some k) later = passed k o later (nat_le (score k) (score start)) refl
-    by false o None none = λ j l m. elim (same_or_not j start) [ inl own ↦ rw own o | inr other ↦ none j (omega arith) (omega arith) ]
-    by false o (Some k) later = (
-      omega (arith, later.0),
-      omega (arith, later.1),
-      later.2,
-      λ j l m p. elim (same_or_not j start) [
+    by true o (Some k) most = later k o most (nat_lt (score k) (score n)) refl
+    by false o None none = λ j l. elim (same_or_not j n) [ inl own ↦ rw own o | inr other ↦ none j (omega arith) ]
+    by false o (Some k) most = (
+      omega (arith, most.0),
+      most.1,
+      λ j l p. elim (same_or_not j n) [
         | inl own ↦ absurd (true≢false (sym p ∙ ap passes own ∙ o))
-        | inr other ↦ later.3 j (omega arith) (omega arith) p
+        | inr other ↦ most.2 j (omega arith) p
       ],
-      λ j l m p. elim (same_or_not j start) [
-        | inl own ↦ absurd (true≢false (sym p ∙ ap passes own ∙ o))
-        | inr other ↦ later.4 j (omega arith) m p
-      ],
+      most.3,
     )
 
--- there is only one first place with the highest score
-pub first_most-only : (score : ℕ → ℕ) (passes : ℕ → Bool) (start n : ℕ) (a b : Option ℕ) → IsFirstMost score passes start n a →
-    IsFirstMost score passes start n b → a ≡ b
-first_most-only score passes start n None None x y = refl
-first_most-only score passes start n None (Some k) x y = absurd (true≢false (sym y.2 ∙ x k y.0 y.1))
-first_most-only score passes start n (Some k) None x y = absurd (true≢false (sym x.2 ∙ y k x.0 x.1))
-first_most-only score passes start n (Some k) (Some j) x y = ap (λ (q : ℕ). Some q) (same (same_or_not k j))
-  where
-    same : (k ≡ j) ⊎ (k ≢ j) → k ≡ j
-    same (inl e) = e
-    same (inr apart) =
-        (let up = y.3 k x.0 x.1 x.2 in
-        let down = x.3 j y.0 y.1 y.2 in
-        elim (before_or_from k j) [
-          | inl less ↦ (let strict = y.4 k x.0 less x.2 in absurd (omega (arith, strict, down)))
-          | inr more ↦ (let strict = x.4 j y.0 (omega arith) y.2 in absurd (omega (arith, strict, up)))
-        ])
+picked-most : (width : ℕ) (grid : List Cell) (best : Option ℕ) → most_known width grid ≡ best
+    → IsFirstMost (sure_neighbours width grid) (λ j. is_unknown (get_or grid j Unknown)) (length grid) best
+picked-most width grid best e = subst (IsFirstMost (sure_neighbours width grid) (λ j. is_unknown (get_or grid j Unknown)) (length grid)) e
+    (first_most-is (sure_neighbours width grid) (λ j. is_unknown (get_or grid j Unknown)) (length grid))
+
+-- the cell that the rule picks is what the rule says
+pub most_known-is : (width : ℕ) (grid : List Cell) (k : ℕ) → most_known width grid ≡ Some k → IsMostKnown width grid k
+most_known-is width grid k e =
+    let most = picked-most width grid (Some k) e in
+    record {
+      unknown = (most.0, unknown_is (get_or grid k Unknown) most.1);
+      most = λ j u. most.2 j u.0 (ap is_unknown u.1);
+      earliest = λ j l u. most.3 j l (ap is_unknown u.1);
+    }
 
 -- the rule picks an unknown cell wherever there is one
 pub most_known-IsPick : (width : ℕ) → IsPick (most_known width)
 most_known-IsPick width = record {
-  within = λ grid k e.
-      let is = subst (IsFirstMost (sure_neighbours width grid) (λ j. is_unknown (get_or grid j Unknown)) 0 (length grid)) e
-      (first_most-is (sure_neighbours width grid) (λ j. is_unknown (get_or grid j Unknown)) 0 (length grid)) in
-      (omega (arith, is.1), is.2);
-  only_full = λ grid e k l.
-      subst (IsFirstMost (sure_neighbours width grid) (λ j. is_unknown (get_or grid j Unknown)) 0 (length grid)) e
-      (first_most-is (sure_neighbours width grid) (λ j. is_unknown (get_or grid j Unknown)) 0 (length grid)) k (omega arith)
-      (omega (arith, l));
+  within = λ grid k e. let unknown = (most_known-is width grid k e).unknown in (unknown.0, ap is_unknown unknown.1);
+  only_full = λ grid e. picked-most width grid None e;
 }
-
--- how much has to count for a later place to be better
-abbrev pub least_after : (ℕ → ℕ) → Option ℕ → ℕ
-least_after score None = 0
-least_after score (Some k) = score k + 1
 
 -- each rule is lawful
 pub picked-IsPick : (pick : Pick) (width : ℕ) → IsPick (picked pick width)

@@ -1,19 +1,18 @@
 -- The cell to guess, found row by row.
-use Rattle.std.proofs.Common.{◌≡◌, ◌≢◌, ℕ, zero, suc, ◌+◌, ◌-◌, ◌*◌, ◌/◌, ◌%◌, ◌<◌, ◌≤◌, inl, inr, Bool, true, false, cond, nat_eq, nat_lt, nat_le, List, [], length, get_or, Option, Some, None, refl, sym, ap, ◌∙◌, arith, true≢false, ltb-true, ltb-false, leb-true, leb-false}
-use Rattle.std.proofs.lemmas.Bool.{eqb-true, eqb-false}
+use Rattle.std.proofs.Common.{◌≡◌, ◌≢◌, ℕ, zero, suc, ◌+◌, ◌-◌, ◌*◌, ◌/◌, ◌%◌, ◌<◌, ◌≤◌, Bool, true, false, cond, nat_eq, nat_lt, nat_le, List, [], length, get_or, Option, Some, None, refl, sym, ap, ◌∙◌, subst, arith, true≢false, ltb-true, ltb-false, leb-true, leb-false, add-one, add-zero}
+use Rattle.std.proofs.lemmas.Bool.{eqb-true, eqb-false, lt-ltb, le-ltb}
 use Rattle.std.proofs.lemmas.Nat.{div-mul-add}
 use Rattle.grid_core.specs.declared.cells.Cell.{Cell}
-use Rattle.grid_core.specs.declared.cells.Cell.TheVariants.{Unknown, Filled, Blank}
+use Rattle.grid_core.specs.declared.cells.Cell.TheVariants.{Unknown}
 use Rattle.grid_core.specs.Cells.{is_unknown}
 use Rattle.grid_core.specs.Lines.{IsUnknownCell}
 use Rattle.solve_core.specs.Counts.{IsMostInRow, is_sure, row_score, two_of}
 use Rattle.solve_core.specs.GridLines.{AreLinesOf}
 use Rattle.grid_core.specs.Rows.{cells_of_rows}
-use Rattle.solve_core.specs.Picks.{is_left_sure, is_right_sure, is_above_sure, is_below_sure, sure_neighbours}
+use Rattle.solve_core.specs.Picks.{better, first_most, is_left_sure, is_right_sure, is_above_sure, is_below_sure, sure_neighbours}
 use Rattle.solve_core.proofs.GridLineSteps.{cell-read, lines-long}
-use Rattle.solve_core.proofs.LineSteps.{before_or_from}
 use Rattle.solve_core.proofs.NumberedLines.{row_within}
-use Rattle.solve_core.proofs.PickLaws.{IsFirstMost, least_after}
+use Rattle.solve_core.proofs.SearchLaws.{unknown_is}
 
 sure_same : (o p : Bool) (c d : Cell) → o ≡ p → (o ≡ false → c ≡ d) → is_sure o c ≡ is_sure p d
 sure_same true true c d e h = refl
@@ -116,57 +115,76 @@ score-is rows columns y x above below a ly lx up down =
         let at : (y + 1) * w + x ≡ k + w = omega arith in
         (cell-read rows columns x (y + 1) a lx (omega (arith, ly, some))).0 ∙ ap (λ (n : ℕ). get_or cells n Unknown) at))
 
-false_if : (b : Bool) → (b ≡ true → ⊥) → b ≡ false
-false_if true n = absurd (n refl)
-false_if false n = refl
+-- how much has to count for a later place to be better
+abbrev pub least_after : (ℕ → ℕ) → Option ℕ → ℕ
+least_after score None = 0
+least_after score (Some k) = score k + 1
+
+kept : (score : ℕ → ℕ) (best : Option ℕ) (k : ℕ) → score k < least_after score best → better score best k ≡ best
+kept score None k l = absurd (omega arith)
+kept score (Some j) k l = rw (le-ltb (score j) (score k) (omega arith)) refl
+
+taken : (score : ℕ → ℕ) (best : Option ℕ) (k : ℕ) → least_after score best ≤ score k → better score best k ≡ Some k
+taken score None k l = refl
+taken score (Some j) k l = rw (lt-ltb (score j) (score k) (omega arith)) refl
+
+-- a place that doesn't pass, or for which not enough counts, changes nothing
+pub cell-none : (score : ℕ → ℕ) (passes : ℕ → Bool) (s : ℕ) (best : Option ℕ) → best ≡ first_most score passes s →
+    (passes s ≡ true → score s < least_after score best) → best ≡ first_most score passes (s + 1)
+cell-none score passes s best e few = by (passes s) refl ∙ (λ i. cond (passes s) (better score (e i) s) (e i)) ∙
+    ap (first_most score passes) (sym (add-one s))
+  where
+    by : (b : Bool) → passes s ≡ b → best ≡ cond b (better score best s) best
+    by true o = sym (kept score best s (few o))
+    by false o = refl
+
+-- a place that passes, and for which enough counts, is the best
+pub cell-some : (score : ℕ → ℕ) (passes : ℕ → Bool) (s : ℕ) (best : Option ℕ) → best ≡ first_most score passes s → passes s ≡ true →
+    least_after score best ≤ score s → Some s ≡ first_most score passes (s + 1)
+cell-some score passes s best e o enough = sym (taken score best s enough) ∙ (λ i. cond (sym o i) (better score (e i) s) (e i)) ∙
+    ap (first_most score passes) (sym (add-one s))
 
 -- if no place of a row counts for enough, the best one stays
-pub row-none : (score : ℕ → ℕ) (passes : ℕ → Bool) (s w : ℕ) (best : Option ℕ) → IsFirstMost score passes 0 s best
-    → ((x : ℕ) → x < w → passes (s + x) ≡ true → score (s + x) < least_after score best) → IsFirstMost score passes 0 (s + w) best
-row-none score passes s w None h none = λ j l m.
-    elim (before_or_from j s) [
-      | inl early ↦ h j l (omega arith)
-      | inr late ↦ false_if (passes j) (λ p. (let at : s + (j - s) ≡ j = omega arith in let few = none (j - s) (omega arith) (rw at p) in
-          omega (arith, few)))
-    ]
-row-none score passes s w (Some k) h none = (
-  omega arith,
-  omega (arith, h.1),
-  h.2,
-  λ j l m p. elim (before_or_from j s) [
-    | inl early ↦ h.3 j l (omega arith) p
-    | inr late ↦ (let at : s + (j - s) ≡ j = omega arith in let few = none (j - s) (omega arith) (rw at p) in
-        let less : score j < score k + 1 = rw at at few in omega (arith, less))
-  ],
-  λ j l m p. h.4 j l m p,
-)
+pub row-none : (score : ℕ → ℕ) (passes : ℕ → Bool) (s w : ℕ) (best : Option ℕ) → best ≡ first_most score passes s
+    → ((x : ℕ) → x < w → passes (s + x) ≡ true → score (s + x) < least_after score best) → best ≡ first_most score passes (s + w)
+row-none score passes s zero best e none = rw (add-zero s) e
+row-none score passes s (suc w) best e none =
+    let next : s + w + 1 ≡ s + suc w = omega arith in
+    rw next at (cell-none score passes (s + w) best (row-none score passes s w best e (λ x l. none x (omega arith))) (none w (omega arith)))
+
+-- nor does what has to count for a later place grow beyond what none of the row counts for
+row-low : (score : ℕ → ℕ) (passes : ℕ → Bool) (s w most : ℕ) (best : Option ℕ) → best ≡ first_most score passes s
+    → least_after score best ≤ most → ((x : ℕ) → x < w → passes (s + x) ≡ true → score (s + x) < most)
+    → least_after score (first_most score passes (s + w)) ≤ most
+row-low score passes s zero most best e low few = rw (add-zero s, ← e) low
+row-low score passes s (suc w) most best e low few =
+    let next : suc (s + w) ≡ s + suc w = omega arith in
+    subst (λ n. least_after score (first_most score passes n) ≤ most) next
+    (by (passes (s + w)) refl (first_most score passes (s + w)) (row-low score passes s w most best e low (λ x l. few x (omega arith))))
+  where
+    later : (j : ℕ) → passes (s + w) ≡ true → score j + 1 ≤ most → (b : Bool) → least_after score (cond b (Some (s + w)) (Some j)) ≤ most
+    later j o l true = (let less = few w (omega arith) o in omega (arith, less))
+    later j o l false = l
+
+    by : (b : Bool) → passes (s + w) ≡ b → (best : Option ℕ) → least_after score best ≤ most
+        → least_after score (cond b (better score best (s + w)) best) ≤ most
+    by true o None l = (let less = few w (omega arith) o in omega (arith, less))
+    by true o (Some j) l = later j o l (nat_lt (score j) (score (s + w)))
+    by false o best l = l
 
 -- if enough counts for a place of a row, the first of those for which the most counts is the best
-pub row-some : (score : ℕ → ℕ) (passes : ℕ → Bool) (s w x : ℕ) (best : Option ℕ) → IsFirstMost score passes 0 s best → x < w →
+pub row-some : (score : ℕ → ℕ) (passes : ℕ → Bool) (s w x : ℕ) (best : Option ℕ) → best ≡ first_most score passes s → x < w →
     passes (s + x) ≡ true → least_after score best ≤ score (s + x)
     → ((z : ℕ) → z < w → passes (s + z) ≡ true → score (s + z) ≤ score (s + x)) →
     ((z : ℕ) → z < x → passes (s + z) ≡ true → score (s + z) < score (s + x))
-    → IsFirstMost score passes 0 (s + w) (Some (s + x))
-row-some score passes s w x best h lx here least most earliest = (
-  omega arith,
-  omega arith,
-  here,
-  λ j l m p. elim (before_or_from j s) [
-    | inl early ↦ (let less = before best h least j early p in omega (arith, less))
-    | inr late ↦ (let at : s + (j - s) ≡ j = omega arith in let few = most (j - s) (omega arith) (rw at p) in
-        let less : score j ≤ score (s + x) = rw at at few in less)
-  ],
-  λ j l m p. elim (before_or_from j s) [
-    | inl early ↦ before best h least j early p
-    | inr late ↦ (let at : s + (j - s) ≡ j = omega arith in let few = earliest (j - s) (omega arith) (rw at p) in
-        let less : score j < score (s + x) = rw at at few in less)
-  ],
-)
-  where
-    before : (b : Option ℕ) → IsFirstMost score passes 0 s b → least_after score b ≤ score (s + x) → (j : ℕ) → j < s → passes j ≡ true →
-        score j < score (s + x)
-    before None h least j l p = absurd (true≢false (sym p ∙ h j (omega arith) (omega arith)))
-    before (Some k) h least j l p = let up = h.3 j (omega arith) (omega arith) p in omega (arith, up, least)
+    → Some (s + x) ≡ first_most score passes (s + w)
+row-some score passes s w x best e lx here least most earliest =
+    let all : s + x + 1 + (w - (x + 1)) ≡ s + w = omega (arith, lx) in
+    rw all at (row-none score passes (s + x + 1) (w - (x + 1)) (Some (s + x))
+    (cell-some score passes (s + x) (first_most score passes (s + x)) refl here
+    (row-low score passes s x (score (s + x)) best e least earliest))
+    (λ z l p. (let at : s + x + 1 + z ≡ s + (x + 1 + z) = omega arith in
+    let less = most (x + 1 + z) (omega (arith, l, lx)) (rw at at p) in rw at (omega (arith, less)))))
 
 -- the best place after one more row
 abbrev pub best_after : ℕ → Option ℕ → Option (ℕ × ℕ) → Option ℕ
@@ -178,11 +196,6 @@ abbrev pub least_then : ℕ → Option (ℕ × ℕ) → ℕ
 least_then least None = least
 least_then least (Some found) = found.0 + 1
 
-unknown_here : (c : Cell) → is_unknown c ≡ true → c ≡ Unknown
-unknown_here Unknown e = refl
-unknown_here Filled e = cc
-unknown_here Blank e = cc
-
 -- one more row looked at
 pub row-step : (rows columns : List (List Cell)) (y width : ℕ) (cells row : List Cell) (above below : ℕ → Bool) (best : Option ℕ)
     (least : ℕ) (found : Option (ℕ × ℕ))
@@ -190,11 +203,11 @@ pub row-step : (rows columns : List (List Cell)) (y width : ℕ) (cells row : Li
     row ≡ get_or rows y []
     → ((x : ℕ) → x < length columns → above x ≡ is_sure (nat_eq y 0) (get_or (get_or rows (y - 1) []) x Unknown))
     → ((x : ℕ) → x < length columns → below x ≡ is_sure (nat_eq (y + 1) (length rows)) (get_or (get_or rows (y + 1) []) x Unknown))
-    → IsFirstMost (sure_neighbours width cells) (λ k. is_unknown (get_or cells k Unknown)) 0 (y * width) best →
+    → best ≡ first_most (sure_neighbours width cells) (λ k. is_unknown (get_or cells k Unknown)) (y * width) →
     least ≡ least_after (sure_neighbours width cells) best
     → IsMostInRow row above below least found
-    → IsFirstMost (sure_neighbours width cells) (λ k. is_unknown (get_or cells k Unknown)) 0 ((y + 1) * width)
-    (best_after (y * width) best found)
+    → (best_after (y * width) best found
+    ≡ first_most (sure_neighbours width cells) (λ k. is_unknown (get_or cells k Unknown)) ((y + 1) * width))
     × (least_then least found ≡ least_after (sure_neighbours width cells) (best_after (y * width) best found))
 row-step rows columns y width cells row above below best least found a ly wide seen is up down first l m =
     rw (wide, ← seen) (by found (rw is at m))
@@ -214,7 +227,7 @@ row-step rows columns y width cells row above below best least found a ly wide s
     line : List Cell
     line = get_or rows y []
 
-    old : IsFirstMost score passes 0 (y * w) best
+    old : best ≡ first_most score passes (y * w)
     old = rw (wide, ← seen) at first
 
     low : least ≡ least_after score best
@@ -227,13 +240,13 @@ row-step rows columns y width cells row above below best least found a ly wide s
     same x lx = score-is rows columns y x above below a ly lx (up x lx) (down x lx)
 
     here : (x : ℕ) → x < w → passes (y * w + x) ≡ true → IsUnknownCell line x
-    here x lx p = (omega (arith, lx, long), (cell-read rows columns x y a lx ly).0 ∙ unknown_here (get_or grid (y * w + x) Unknown) p)
+    here x lx p = (omega (arith, lx, long), (cell-read rows columns x y a lx ly).0 ∙ unknown_is (get_or grid (y * w + x) Unknown) p)
 
     next : y * w + w ≡ (y + 1) * w
     next = omega arith
 
     by : (f : Option (ℕ × ℕ)) → IsMostInRow line above below least f
-        → IsFirstMost score passes 0 ((y + 1) * w) (best_after (y * w) best f) ×
+        → (best_after (y * w) best f ≡ first_most score passes ((y + 1) * w)) ×
         (least_then least f ≡ least_after score (best_after (y * w) best f))
     by None none = (
       rw next at (row-none score passes (y * w) w best old
@@ -252,29 +265,6 @@ row-step rows columns y width cells row above below best least found a ly wide s
               omega (arith, few, same z within, counted)))),
           omega (arith, counted),
         )
-
--- ---- one more cell looked at
-
-only-one : (x : ℕ) → x < 1 → x ≡ 0
-only-one zero l = refl
-only-one (suc x) l = absurd (omega arith)
-
--- a cell that isn't unknown, or for which not enough counts, changes nothing
-pub cell-none : (score : ℕ → ℕ) (passes : ℕ → Bool) (s : ℕ) (best : Option ℕ) → IsFirstMost score passes 0 s best →
-    (passes s ≡ true → score s < least_after score best) → IsFirstMost score passes 0 (s + 1) best
-cell-none score passes s best h few =
-    row-none score passes s 1 best h (λ x lx p. (let at : s + x ≡ s = omega (arith, only-one x lx) in rw at (few (rw at at p))))
-
--- an unknown cell for which enough counts is the best
-pub cell-some : (score : ℕ → ℕ) (passes : ℕ → Bool) (s : ℕ) (best : Option ℕ) → IsFirstMost score passes 0 s best → passes s ≡ true →
-    least_after score best ≤ score s
-    → IsFirstMost score passes 0 (s + 1) (Some s)
-cell-some score passes s best h p enough =
-    let at : s + 0 ≡ s = omega arith in
-    rw at at
-    (row-some score passes s 1 0 best h (omega arith) (rw at p) (rw at enough)
-    (λ z lz q. (let same : s + z ≡ s + 0 = omega (arith, only-one z lz) in rw same (omega arith)))
-    (λ z lz q. absurd (omega arith)))
 
 one_at_most : (b : Bool) → cond b 1 0 ≤ 1
 one_at_most true = omega arith

@@ -26,3 +26,4 @@ pub mod Fittings
 pub mod LineMarks
 pub mod Picks
 pub mod Counts
+pub mod MostKnown

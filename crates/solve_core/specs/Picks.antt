@@ -31,21 +31,19 @@ sure_neighbours width cells k =
     (is_below_sure width cells k) 1 0
 
 -- the earlier one of two places, unless more counts for the later one
-abbrev pub better : (ℕ → ℕ) → ℕ → Option ℕ → Option ℕ
-better score k None = Some k
-better score k (Some j) = cond (nat_le (score j) (score k)) (Some k) (Some j)
+abbrev pub better : (ℕ → ℕ) → Option ℕ → ℕ → Option ℕ
+better score None k = Some k
+better score (Some j) k = cond (nat_lt (score j) (score k)) (Some k) (Some j)
 
--- of a number of places from `start` on, the one that passes a test and for which the most counts,
--- and of several the first
-abbrev pub first_most : (ℕ → ℕ) → (ℕ → Bool) → ℕ → ℕ → Option ℕ
-first_most score passes start zero = None
-first_most score passes start (suc n) = cond (passes start) (better score start (first_most score passes (start + 1) n))
-    (first_most score passes (start + 1) n)
+-- of the first n places, the one that passes a test and for which the most counts, and of several the first
+abbrev pub first_most : (ℕ → ℕ) → (ℕ → Bool) → ℕ → Option ℕ
+first_most score passes zero = None
+first_most score passes (suc n) = cond (passes n) (better score (first_most score passes n) n) (first_most score passes n)
 
 -- the unknown cell of whose neighbours the most are known or outside the grid,
 -- and of several the first in row order
 abbrev pub most_known : ℕ → List Cell → Option ℕ
-most_known width cells = first_most (sure_neighbours width cells) (λ k. is_unknown (slice_index_or cells k Unknown)) 0 (length cells)
+most_known width cells = first_most (sure_neighbours width cells) (λ k. is_unknown (slice_index_or cells k Unknown)) (length cells)
 
 -- the cell of the next guess, by the rule, in a grid of `width` columns
 abbrev pub picked : Pick → ℕ → List Cell → Option ℕ

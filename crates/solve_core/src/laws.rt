@@ -6,6 +6,7 @@ ghost use Rattle.grid_core.specs.declared.cells.Cell.{Cell};
 ghost use Rattle.grid_core.specs.Nonogram.{GridLine, Nonogram, IsNonogram};
 ghost use Rattle.solve_core.specs.Closure.{round, closure};
 ghost use Rattle.solve_core.specs.LeastClosed.{IsLeastClosed};
+ghost use Rattle.solve_core.specs.MostKnown.{IsMostKnown};
 ghost use Rattle.solve_core.specs.Picks.{most_known};
 ghost use Rattle.solve_core.specs.Report.{verdict_of, guesses_of, report_of};
 ghost use Rattle.solve_core.specs.Search.{IsPick, first_unknown, search_from, events};
@@ -61,4 +62,10 @@ pub fn first_unknown_is_pick()
 /// The unknown cell of which most neighbours are known is a lawful pick.
 pub fn most_known_is_pick()
     ensures { (width : ℕ) → IsPick (most_known width) }
+{}
+
+/// The cell that the rule of most known neighbours picks is unknown; no unknown cell has more neighbours that
+/// are known or outside the grid, and each unknown cell before it in row order has fewer.
+pub fn most_known_is_most()
+    ensures { (width : ℕ) (grid : List Cell) (k : ℕ) → most_known width grid ≡ Some k → IsMostKnown width grid k }
 {}

@@ -1,10 +1,9 @@
 -- `most_known`: one more cell is the best so far or changes nothing, and the best of all cells is the rule's.
-use Rattle.std.proofs.Common.{◌≡◌, ◌∙◌, ◌+◌, ◌*◌, ℕ, Bool, length, get_or, ap, sym, subst, arith, true≢false}
+use Rattle.std.proofs.Common.{◌≡◌, ◌∙◌, ◌+◌, ◌*◌, ℕ, Bool, length, get_or, ap, sym, arith, true≢false}
 use Rattle.grid_core.specs.declared.cells.Cell.TheVariants.{Unknown}
 use Rattle.grid_core.specs.Cells.{is_unknown}
-use Rattle.solve_core.specs.Picks.{most_known, sure_neighbours}
-use Rattle.solve_core.proofs.PickLaws.{IsFirstMost, first_most-is, first_most-only, least_after}
-use Rattle.solve_core.proofs.PickRows.{cell-none, cell-some, score-few}
+use Rattle.solve_core.specs.Picks.{first_most, sure_neighbours}
+use Rattle.solve_core.proofs.PickRows.{cell-none, cell-some, least_after, score-few}
 use Rattle.solve_core.proofs.guessing.most_known.Goals as goal
 use Rattle.solve_core.proofs.guessing.most_known.Goals.{then-is_unknown+then-sure-least, then-is_unknown+else-sure-least, else-is_unknown}
 
@@ -27,25 +26,22 @@ loop-place-preserved c =
       | then-is_unknown+then-sure-least w ↦
           record {
             within = omega (arith, c.loop-place-test.true);
-            best_is = subst (IsFirstMost score passes 0 (place + 1)) (sym w.best-is)
-                (cell-some score passes place c.loop-place.best before.best_is (sym seen ∙ w.if-is_unknown.true)
-                (omega (arith, before.least_is, w.if-sure-least.true, w.sure_neighbours-sure.ensures)));
+            best_is = w.best-is ∙ cell-some score passes place c.loop-place.best before.best_is (sym seen ∙ w.if-is_unknown.true)
+                (omega (arith, before.least_is, w.if-sure-least.true, w.sure_neighbours-sure.ensures));
             least_is = w.least-is ∙ ap (λ (n : ℕ). n + 1) w.sure_neighbours-sure.ensures ∙ sym (ap (least_after score) w.best-is);
           }
       | then-is_unknown+else-sure-least w ↦
           record {
             within = omega (arith, c.loop-place-test.true);
-            best_is = subst (IsFirstMost score passes 0 (place + 1)) (sym w.best-is)
-                (cell-none score passes place c.loop-place.best before.best_is
-                (λ p. omega (arith, before.least_is, w.if-sure-least.false, w.sure_neighbours-sure.ensures)));
+            best_is = w.best-is ∙ cell-none score passes place c.loop-place.best before.best_is
+                (λ p. omega (arith, before.least_is, w.if-sure-least.false, w.sure_neighbours-sure.ensures));
             least_is = w.least-is ∙ before.least_is ∙ sym (ap (least_after score) w.best-is);
           }
       | else-is_unknown w ↦
           record {
             within = omega (arith, c.loop-place-test.true);
-            best_is = subst (IsFirstMost score passes 0 (place + 1)) (sym w.best-is)
-                (cell-none score passes place c.loop-place.best before.best_is
-                (λ p. absurd (true≢false (sym p ∙ sym seen ∙ w.if-is_unknown.false))));
+            best_is = w.best-is ∙ cell-none score passes place c.loop-place.best before.best_is
+                (λ p. absurd (true≢false (sym p ∙ sym seen ∙ w.if-is_unknown.false)));
             least_is = w.least-is ∙ before.least_is ∙ sym (ap (least_after score) w.best-is);
           }
     ]
@@ -58,6 +54,4 @@ returns c =
     let count : c.from.result * c.from-2.result ≡ length cells =
     (λ i. (c.from.ensures ∙ c.width.ensures.width) i * (c.from-2.ensures ∙ c.height.ensures) i) ∙ sym c.width.ensures.cells in
     let last : c.loop-place.place ≡ length cells = omega (arith, c.loop-place-test.false, c.loop-place.invariant.within, count) in
-    first_most-only score passes 0 (length cells) c.loop-place.best (most_known c.args.grid.now.width cells)
-    (subst (λ (n : ℕ). IsFirstMost score passes 0 n c.loop-place.best) last c.loop-place.invariant.best_is)
-    (first_most-is score passes 0 (length cells))
+    c.loop-place.invariant.best_is ∙ ap (first_most score passes) last

@@ -2,14 +2,14 @@
 use Rattle.std.proofs.Common.{◌≡◌, ◌≤◌, get_or}
 use Rattle.grid_core.specs.Cells.{is_unknown}
 use Rattle.grid_core.specs.declared.cells.Cell.TheVariants.{Unknown}
-use Rattle.solve_core.specs.Picks.{sure_neighbours}
-use Rattle.solve_core.proofs.PickLaws.{IsFirstMost, least_after}
+use Rattle.solve_core.specs.Picks.{first_most, sure_neighbours}
+use Rattle.solve_core.proofs.PickRows.{least_after}
 use Rattle.solve_core.proofs.guessing.most_known.Given as goal
 
 -- the best place so far, and what a later one has to have
 abbrev pub invariant-loop-place : goal.invariant-loop-place
 invariant-loop-place l = record {
   within : l.place ≤ l.count;
-  best_is : IsFirstMost (sure_neighbours l.grid.width l.grid.cells) (λ k. is_unknown (get_or l.grid.cells k Unknown)) 0 l.place l.best;
+  best_is : l.best ≡ first_most (sure_neighbours l.grid.width l.grid.cells) (λ k. is_unknown (get_or l.grid.cells k Unknown)) l.place;
   least_is : l.least ≡ least_after (sure_neighbours l.grid.width l.grid.cells) l.best;
 }

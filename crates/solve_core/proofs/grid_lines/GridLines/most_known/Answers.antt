@@ -1,14 +1,13 @@
 -- `GridLines::most_known`: with one more row, the best place is that of the rows above and of this one.
-use Rattle.std.proofs.Common.{◌≡◌, ◌∙◌, ◌+◌, ◌-◌, ◌*◌, ◌<◌, ℕ, Bool, [], Option, Some, length, get_or, nat_eq, ap, sym, subst, arith}
+use Rattle.std.proofs.Common.{◌≡◌, ◌∙◌, ◌+◌, ◌-◌, ◌*◌, ◌<◌, ℕ, Bool, [], Some, length, get_or, nat_eq, ap, sym, arith}
 use Rattle.grid_core.specs.declared.cells.Cell.TheVariants.{Unknown}
 use Rattle.grid_core.specs.Cells.{is_unknown}
 use Rattle.grid_core.specs.PartialGrid.{PartialGrid}
 use Rattle.place_sets.specs.Masks.{has}
 use Rattle.solve_core.specs.Counts.{is_sure}
-use Rattle.solve_core.specs.Picks.{most_known, sure_neighbours}
+use Rattle.solve_core.specs.Picks.{first_most, sure_neighbours}
 use Rattle.solve_core.proofs.GridLineSteps.{line_read, lines-long}
-use Rattle.solve_core.proofs.PickLaws.{IsFirstMost, least_after, first_most-is, first_most-only}
-use Rattle.solve_core.proofs.PickRows.{best_after, least_then, row-step}
+use Rattle.solve_core.proofs.PickRows.{best_after, least_after, least_then, row-step}
 use Rattle.solve_core.proofs.grid_lines.GridLines.most_known.Goals as goal
 use Rattle.solve_core.proofs.grid_lines.GridLines.most_known.Goals.{in-Some, in_default}
 
@@ -38,8 +37,7 @@ loop-y-preserved g c =
           (λ i. Some (y * c.len-width.result + sym w.from.ensures i)) ∙ sym w.best-is in
           record {
             within = omega (arith, c.loop-y-test.true);
-            best_is = subst (λ (b : Option ℕ). IsFirstMost (sure_neighbours c.len-width.result c.args.self.now.cells)
-                (λ k. is_unknown (get_or c.args.self.now.cells k Unknown)) 0 ((y + 1) * c.len-width.result) b) same step.0;
+            best_is = sym same ∙ step.0;
             least_is = w.least-is ∙ sym (ap (least_then c.loop-y.least) w.in-Some.is) ∙ step.1 ∙
                 ap (least_after (sure_neighbours c.len-width.result c.args.self.now.cells)) same;
           })
@@ -48,8 +46,7 @@ loop-y-preserved g c =
           ap (best_after (y * c.len-width.result) c.loop-y.best) w.in_default.is ∙ sym w.best-is in
           record {
             within = omega (arith, c.loop-y-test.true);
-            best_is = subst (λ (b : Option ℕ). IsFirstMost (sure_neighbours c.len-width.result c.args.self.now.cells)
-                (λ k. is_unknown (get_or c.args.self.now.cells k Unknown)) 0 ((y + 1) * c.len-width.result) b) same step.0;
+            best_is = sym same ∙ step.0;
             least_is = w.least-is ∙ sym (ap (least_then c.loop-y.least) w.in_default.is) ∙ step.1 ∙
                 ap (least_after (sure_neighbours c.len-width.result c.args.self.now.cells)) same;
           })
@@ -58,7 +55,6 @@ loop-y-preserved g c =
 pub returns : goal.returns
 returns g c =
     let cells = c.args.self.now.cells in
-    let score = sure_neighbours c.args.self.now.width cells in
     let passes : ℕ → Bool = λ k. is_unknown (get_or cells k Unknown) in
     let wide : c.len-width.result ≡ c.args.self.now.width = c.len-width.ensures ∙ c.self.inside.columns.ok.0 ∙
     ap (λ (t : PartialGrid). t.width) c.self.view_is in
@@ -67,9 +63,4 @@ returns g c =
     let all : c.loop-y.y * c.len-width.result ≡ length cells =
     (λ i. last i * (c.len-width.ensures ∙ c.self.inside.columns.ok.0) i) ∙ omega arith ∙ sym c.self.invariant.count ∙
     ap (λ (t : PartialGrid). length t.cells) c.self.view_is in
-    let best : IsFirstMost score passes 0 (length cells) c.loop-y.best =
-    subst (λ (n : ℕ). IsFirstMost score passes 0 n c.loop-y.best) all
-    (subst (λ (w : ℕ). IsFirstMost (sure_neighbours w cells) passes 0 (c.loop-y.y * c.len-width.result) c.loop-y.best)
-    wide c.loop-y.invariant.best_is) in
-    first_most-only score passes 0 (length cells) c.loop-y.best (most_known c.args.self.now.width cells) best
-    (first_most-is score passes 0 (length cells))
+    c.loop-y.invariant.best_is ∙ (λ i. first_most (sure_neighbours (wide i) cells) passes (all i))

@@ -2,14 +2,14 @@
 use Rattle.std.proofs.Common.{◌≡◌, ◌*◌, ◌≤◌, get_or}
 use Rattle.grid_core.specs.Cells.{is_unknown}
 use Rattle.grid_core.specs.declared.cells.Cell.TheVariants.{Unknown}
-use Rattle.solve_core.specs.Picks.{sure_neighbours}
-use Rattle.solve_core.proofs.PickLaws.{IsFirstMost, least_after}
+use Rattle.solve_core.specs.Picks.{first_most, sure_neighbours}
+use Rattle.solve_core.proofs.PickRows.{least_after}
 use Rattle.solve_core.proofs.grid_lines.GridLines.most_known.Given as goal
 
 -- the best place of the rows above, and what a later one has to have
 abbrev pub invariant-loop-y : goal.invariant-loop-y
 invariant-loop-y g l = record {
   within : l.y ≤ l.y-end;
-  best_is : IsFirstMost (sure_neighbours l.width l.self.cells) (λ k. is_unknown (get_or l.self.cells k Unknown)) 0 (l.y * l.width) l.best;
+  best_is : l.best ≡ first_most (sure_neighbours l.width l.self.cells) (λ k. is_unknown (get_or l.self.cells k Unknown)) (l.y * l.width);
   least_is : l.least ≡ least_after (sure_neighbours l.width l.self.cells) l.best;
 }

@@ -1,0 +1,6 @@
+-- The law `most_known_is_most` holds: the cell that the fold over all cells picks is what the rule says.
+use Rattle.solve_core.proofs.PickLaws.{most_known-is}
+use Rattle.solve_core.proofs.laws.most_known_is_most.Goals as goal
+
+pub returns : goal.returns
+returns c = most_known-is
