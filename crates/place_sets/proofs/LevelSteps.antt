@@ -160,12 +160,6 @@ levels_none P top levels none never = record {
   from = λ i p. absurd (never i p);
 }
 
--- each element of a list of zeros is 0
-pub zeros_at : (count k : ℕ) → ◌≡◌ {A = ℕ} (get_or (replicate count 0) k 0) 0
-zeros_at zero k = refl
-zeros_at (suc count) zero = refl
-zeros_at (suc count) (suc k) = zeros_at count k
-
 -- the next level down
 pub levels_on : (P : ℕ → Type 0) (top t k : ℕ) (old new : List ℕ) → t ≡ top → k < top → AreLevelsOf P (top - k) old
     → AreLevelsOf (SomeLevel (t - 1 - k + 1) old) (t - 1 - k) new → AreLevelsOf P (top - (k + 1)) new
