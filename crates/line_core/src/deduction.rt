@@ -1,6 +1,6 @@
 //! What is certain of a line.
 
-ghost use Rattle.std.specs.Prelude.{◌≡◌, ◌≤◌, List, length, map, IfOk, All};
+ghost use Rattle.std.specs.Prelude.{◌≡◌, ◌<◌, ◌≤◌, List, length, map, vec_capacity, IfOk, All};
 ghost use Rattle.grid_core.specs.declared.cells.Cell.{Cell};
 ghost use Rattle.place_sets.specs.Masks.{IsMaskOf};
 ghost use Rattle.line_core.specs.Deduction.{deduced};
@@ -91,7 +91,7 @@ fn certain<W: PlaceSet>(len: u16, fillable: W, blankable: W) -> Option<LineOf<W>
 /// What is certain of a line, given the numbers of its clue, with room for the gaps of the runs:
 /// what all placings share, or none if there is no placing.
 fn deduce_numbers<W: PlaceSet>(
-    gaps: &mut [W; GAPS],
+    room: &mut Vec<[W; GAPS]>,
     line: &LineOf<W>,
     clue: &[u16],
 ) -> Option<LineOf<W>>
@@ -99,25 +99,26 @@ fn deduce_numbers<W: PlaceSet>(
     requires cells { line.now ≡ cells }
     requires clue { AreLengths W.WIDTH clue.now }
     requires count { length clue.now ≤ MOST_RUNS }
-    ensures { result ≡ deduced cells clue.now }
+    requires room { 0 < vec_capacity room.old }
+    ensures answer { result ≡ deduced cells clue.now }
+    ensures room { 0 < vec_capacity room.new }
 {
+    make_ready(room);
     let span = Span::of(line);
-    let (fillable, blankable) = colours(&span, clue, gaps);
+    let (fillable, blankable) = colours(&span, clue, &mut room[0]);
     certain(span.len, fillable, blankable)
 }
 
 /// What is certain of a line, in sets of a width that has room for the line and for the clue's numbers.
-pub(crate) fn deduce_at<W: PlaceSet>(
-    gaps: &mut [W; GAPS],
-    line: &Line,
-    clue: &[u16],
-) -> Option<Line>
+fn deduce_at<W: PlaceSet>(room: &mut Vec<[W; GAPS]>, line: &Line, clue: &[u16]) -> Option<Line>
     requires line { length line.now ≤ W.WIDTH }
     requires clue { AreLengths W.WIDTH clue.now }
     requires count { length clue.now ≤ MOST_RUNS }
-    ensures { result ≡ deduced line.now clue.now }
+    requires room { 0 < vec_capacity room.old }
+    ensures answer { result ≡ deduced line.now clue.now }
+    ensures room { 0 < vec_capacity room.new }
 {
-    match deduce_numbers(gaps, &line.cells.resized(), clue) {
+    match deduce_numbers(room, &line.cells.resized(), clue) {
         None => None,
         Some(certain) => Some(Line {
             cells: certain.widened(),
@@ -132,18 +133,9 @@ fn deduce_with(line: &Line, clue: &[u16], rooms: &mut Rooms) -> Option<Line>
     ensures { result ≡ deduced line.now clue.now }
 {
     match Width::of(places_needed(line.len(), clue)) {
-        Width::Narrow => {
-            make_ready(&mut rooms.narrow);
-            deduce_at(&mut rooms.narrow[0], line, clue)
-        }
-        Width::Middle => {
-            make_ready(&mut rooms.middle);
-            deduce_at(&mut rooms.middle[0], line, clue)
-        }
-        Width::Wide => {
-            make_ready(&mut rooms.wide);
-            deduce_at(&mut rooms.wide[0], line, clue)
-        }
+        Width::Narrow => deduce_at(&mut rooms.narrow, line, clue),
+        Width::Middle => deduce_at(&mut rooms.middle, line, clue),
+        Width::Wide => deduce_at(&mut rooms.wide, line, clue),
     }
 }
 
@@ -186,14 +178,16 @@ pub fn deduce(tables: &mut Tables, line: &Line, clue: &Clue) -> Option<Line>
 
 /// What is certain of a line, given its clue, whose numbers are no greater than its sets have places.
 fn deduce_within<W: PlaceSet>(
-    gaps: &mut [W; GAPS],
+    room: &mut Vec<[W; GAPS]>,
     line: &LineOf<W>,
     clue: &Clue,
 ) -> Option<LineOf<W>>
-    requires { All (λ number. number ≤ W.WIDTH) clue.now }
-    ensures { result ≡ deduced line.now clue.now }
+    requires clue { All (λ number. number ≤ W.WIDTH) clue.now }
+    requires room { 0 < vec_capacity room.old }
+    ensures answer { result ≡ deduced line.now clue.now }
+    ensures room { 0 < vec_capacity room.new }
 {
-    deduce_numbers(gaps, line, clue.numbers())
+    deduce_numbers(room, line, clue.numbers())
 }
 
 /// Sets that lines are kept in and deduced by.
@@ -208,24 +202,18 @@ pub trait LineSet: PlaceSet {
 
 impl LineSet for u64 {
     fn deduce(tables: &mut Tables, line: &LineOf<u64>, clue: &Clue) -> Option<LineOf<u64>> {
-        let room = &mut tables.rooms.narrow;
-        make_ready(room);
-        deduce_within(&mut room[0], line, clue)
+        deduce_within(&mut tables.rooms.narrow, line, clue)
     }
 }
 
 impl LineSet for u128 {
     fn deduce(tables: &mut Tables, line: &LineOf<u128>, clue: &Clue) -> Option<LineOf<u128>> {
-        let room = &mut tables.rooms.middle;
-        make_ready(room);
-        deduce_within(&mut room[0], line, clue)
+        deduce_within(&mut tables.rooms.middle, line, clue)
     }
 }
 
 impl LineSet for Wide {
     fn deduce(tables: &mut Tables, line: &LineOf<Wide>, clue: &Clue) -> Option<LineOf<Wide>> {
-        let room = &mut tables.rooms.wide;
-        make_ready(room);
-        deduce_within(&mut room[0], line, clue)
+        deduce_within(&mut tables.rooms.wide, line, clue)
     }
 }

@@ -1,6 +1,6 @@
 //! The leftmost and the rightmost placing.
 
-ghost use Rattle.std.specs.Prelude.{◌≡◌, ◌<◌, ◌≤◌, [], length, map, take, slice_index, ℕ, List, Some, None, IfOk, MatchBool};
+ghost use Rattle.std.specs.Prelude.{◌≡◌, ◌<◌, ◌≤◌, [], length, map, take, slice_index, vec_capacity, ℕ, List, Some, None, IfOk, MatchBool};
 ghost use Rattle.grid_core.specs.declared.cells.Cell.{Cell};
 ghost use Rattle.place_sets.specs.Masks.{Has};
 ghost use Rattle.line_core.specs.Ends.{leftmost, rightmost};
@@ -87,22 +87,26 @@ fn write_starts<W: PlaceSet>(
 
 /// Writes the starts of the placing that is furthest to a side, found in sets of one width.
 /// Returns whether there is a placing.
-pub fn find_starts<W: PlaceSet>(
+fn find_starts<W: PlaceSet>(
     side: Side,
     line: &LineOf<W>,
     clue: &[u16],
-    gaps: &mut [W; GAPS],
+    room: &mut Vec<[W; GAPS]>,
     list: &mut [u16; MOST_RUNS],
 ) -> bool
     ghost cells: { List Cell }
     requires cells { line.now ≡ cells }
     requires clue { AreLengths W.WIDTH clue.now }
     requires count { length clue.now ≤ MOST_RUNS }
-    ensures { MatchBool result
+    requires room { 0 < vec_capacity room.old }
+    ensures found { MatchBool result
         (outermost side cells clue.now ≡ Some (take (length clue.now) list.new))
         (outermost side cells clue.now ≡ None) }
+    ensures room { 0 < vec_capacity room.new }
 {
+    make_ready(room);
     let span = Span::of(line);
+    let gaps = &mut room[0];
     write_gaps_ahead(&span, clue, gaps);
     if clue.is_empty() {
         may_have_no_run(&span, clue, gaps)
@@ -127,30 +131,9 @@ fn find_by_width(
         (outermost side line.now clue.now ≡ None) }
 {
     match Width::of(places_needed(line.len(), clue)) {
-        Width::Narrow => {
-            make_ready(&mut rooms.narrow);
-            find_starts(
-                side,
-                &line.cells.resized(),
-                clue,
-                &mut rooms.narrow[0],
-                list,
-            )
-        }
-        Width::Middle => {
-            make_ready(&mut rooms.middle);
-            find_starts(
-                side,
-                &line.cells.resized(),
-                clue,
-                &mut rooms.middle[0],
-                list,
-            )
-        }
-        Width::Wide => {
-            make_ready(&mut rooms.wide);
-            find_starts(side, &line.cells.resized(), clue, &mut rooms.wide[0], list)
-        }
+        Width::Narrow => find_starts(side, &line.cells.resized(), clue, &mut rooms.narrow, list),
+        Width::Middle => find_starts(side, &line.cells.resized(), clue, &mut rooms.middle, list),
+        Width::Wide => find_starts(side, &line.cells.resized(), clue, &mut rooms.wide, list),
     }
 }
 

@@ -4,8 +4,8 @@ use Rattle.std.proofs.lemmas.List.Elements.{recursion_from_All}
 use Rattle.line_core.proofs.Telling.{told-deduced}
 use Rattle.line_core.proofs.deduction.deduce_numbers.Goals as goal
 
-pub returns : goal.returns
-returns g c =
+pub returns-clause-answer : goal.returns-clause-answer
+returns-clause-answer g c =
     let number = g.W.PlaceSet.number in
     let clue = c.args.clue.now in
     let span = c.of-span.ensures in

@@ -8,8 +8,8 @@ use Rattle.line_core.proofs.RunLaws.{ArePositive}
 use Rattle.line_core.proofs.Outermost.{match_more, answered, some_placing}
 use Rattle.line_core.proofs.starts.find_starts.Goals as goal
 
-pub returns-then-is_empty : goal.returns-then-is_empty
-returns-then-is_empty g c =
+pub returns-then-is_empty-clause-found : goal.returns-then-is_empty-clause-found
+returns-then-is_empty-clause-found g c =
     let line = g.cells in
     let clue = c.args.clue.now in
     let pos : ArePositive clue = recursion_from_All (λ (n : ℕ). 0 < n) clue c.requires.1.1.1.0.positive in
@@ -20,13 +20,13 @@ returns-then-is_empty g c =
     (HasPlacing line clue → ⊥)
     (λ p. (p, λ j h. absurd (omega arith))) (λ n. n) c.may_have_no_run.ensures)
 
-pub returns-else-is_empty : goal.returns-else-is_empty
-returns-else-is_empty g c =
+pub returns-else-is_empty-clause-found : goal.returns-else-is_empty-clause-found
+returns-else-is_empty-clause-found g c =
     let line = g.cells in
     let clue = c.args.clue.now in
     let pos : ArePositive clue = recursion_from_All (λ (n : ℕ). 0 < n) clue c.requires.1.1.1.0.positive in
     let list = c.write_starts.new.list in
-    let few = c.requires.1.1.1.1 in
+    let few = c.requires.1.1.1.1.0 in
     let some : 0 < length clue = (let ne = eqb-false (length clue) 0 (sym c.is_empty.ensures ∙ c.if-is_empty.false) in omega arith) in
     answered c.args.side line clue list c.write_starts.result pos (omega arith)
     (match_more c.write_starts.result ((j : ℕ) → j < length clue → IsOuterStart c.args.side line clue j (get_or list j 0))

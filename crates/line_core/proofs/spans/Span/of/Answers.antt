@@ -1,5 +1,4 @@
 -- `Span::of`: what may be blank is what isn't filled, and what may be filled is what isn't blank.
-use Rattle.std.proofs.Common.{◌≡◌, ◌<◌, ℕ, false, length}
 use Rattle.line_core.proofs.LineCells.{free_is, open_is}
 use Rattle.line_core.proofs.spans.Span.of.Goals as goal
 
