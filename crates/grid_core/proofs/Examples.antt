@@ -2,7 +2,8 @@
 use Rattle.std.proofs.Common.{◌≡◌, ℕ, zero, suc, ◌<◌, Bool, true, false, List, [], ◌∷◌, refl, arith}
 use Rattle.grid_core.specs.declared.cells.Cell.TheVariants.{Unknown, Filled, Blank}
 use Rattle.grid_core.specs.Cells.{agrees, Extends}
-use Rattle.grid_core.specs.Nonogram.{Nonogram, plain, row_at, column_at, Meets, MeetsLine}
+use Rattle.grid_core.specs.declared.sides.Side.TheVariants.{Rows, Columns}
+use Rattle.grid_core.specs.Nonogram.{Nonogram, plain, line_on, Meets, MeetsLine}
 use Rattle.grid_core.specs.Runs.{runs}
 use Rattle.grid_core.proofs.LineLaws.{all_lines}
 
@@ -20,12 +21,12 @@ full = false ∷ true ∷ true ∷ false ∷ true ∷ false ∷ false ∷ true �
 full_meets : Meets pair full
 full_meets = record { size = refl; clues = all_lines (MeetsLine full) pair rows columns }
   where
-    rows : (y : ℕ) → y < 2 → MeetsLine full (row_at pair y)
+    rows : (y : ℕ) → y < 2 → MeetsLine full (line_on Rows pair y)
     rows zero l = refl
     rows (suc zero) l = refl
     rows (suc (suc y)) l = absurd (omega arith)
 
-    columns : (x : ℕ) → x < 4 → MeetsLine full (column_at pair x)
+    columns : (x : ℕ) → x < 4 → MeetsLine full (line_on Columns pair x)
     columns zero l = refl
     columns (suc zero) l = refl
     columns (suc (suc zero)) l = refl

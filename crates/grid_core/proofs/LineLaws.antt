@@ -5,8 +5,10 @@ use Rattle.std.proofs.Math.Seq.{drop-cons}
 use Rattle.std.proofs.lemmas.List.{length-map}
 use Rattle.std.specs.List.{All, AllByRecursion, enumerate_from}
 use Rattle.std.proofs.lemmas.List.Elements.{recursion_from_All, All-from_recursion}
+use Rattle.grid_core.specs.declared.sides.Side.{Side}
+use Rattle.grid_core.specs.declared.sides.Side.TheVariants.{Rows, Columns}
 use Rattle.grid_core.specs.Reading.{ColumnIsStride, RowIsRange}
-use Rattle.grid_core.specs.Nonogram.{GridLine, Nonogram, cells_at, column_at, column_line, lines_of, places_from, row_at, row_line}
+use Rattle.grid_core.specs.Nonogram.{GridLine, Nonogram, cells_at, clues_on, count_on, crossing, line_on, lines_of, numbered_line, place_on, places_from, places_on}
 
 both_parts : (P : GridLine → Type 0) (xs ys : List GridLine) → AllByRecursion P xs → AllByRecursion P ys → AllByRecursion P (xs ++ ys)
 both_parts P [] ys h k = k
@@ -39,32 +41,31 @@ one_numbered P f n (c ∷ clues) h (suc k) l =
     subst (λ (q : ℕ). P (f (q, get_or clues k []))) e (one_numbered P f (n + 1) clues h.1 k (omega arith))
 
 -- what holds of each row and of each column holds of each line
-pub all_lines : (P : GridLine → Type 0) (p : Nonogram) → ((y : ℕ) → y < length p.rows → P (row_at p y)) →
-    ((x : ℕ) → x < length p.columns → P (column_at p x)) → All P (lines_of p)
+pub all_lines : (P : GridLine → Type 0) (p : Nonogram) → ((y : ℕ) → y < length p.rows → P (line_on Rows p y)) →
+    ((x : ℕ) → x < length p.columns → P (line_on Columns p x)) → All P (lines_of p)
 all_lines P p r c =
     All-from_recursion P (lines_of p)
-    (both_parts P (map (row_line p) (enumerate_from 0 p.rows)) (map (column_line p) (enumerate_from 0 p.columns))
-    (all_numbered P (row_line p) 0 p.rows (λ k l. subst (λ (q : ℕ). P (row_line p (q, get_or p.rows k []))) (sym (zero-add k)) (r k l)))
-    (all_numbered P (column_line p) 0 p.columns (λ k l. subst (λ (q : ℕ). P (column_line p (q, get_or p.columns k []))) (sym (zero-add k))
+    (both_parts P (map (numbered_line Rows p) (enumerate_from 0 p.rows)) (map (numbered_line Columns p) (enumerate_from 0 p.columns))
+    (all_numbered P (numbered_line Rows p) 0 p.rows (λ k l. subst (λ (q : ℕ). P (numbered_line Rows p (q, get_or p.rows k []))) (sym (zero-add k)) (r k l)))
+    (all_numbered P (numbered_line Columns p) 0 p.columns (λ k l. subst (λ (q : ℕ). P (numbered_line Columns p (q, get_or p.columns k []))) (sym (zero-add k))
     (c k l))))
 
--- what holds of each line holds of each row
-pub each_row : (P : GridLine → Type 0) (p : Nonogram) → All P (lines_of p) → (y : ℕ) → y < length p.rows → P (row_at p y)
-each_row P p h y l =
-    subst (λ (q : ℕ). P (row_line p (q, get_or p.rows y []))) (zero-add y)
-    (one_numbered P (row_line p) 0 p.rows
-    (first_part P (map (row_line p) (enumerate_from 0 p.rows)) (map (column_line p) (enumerate_from 0 p.columns))
-    (recursion_from_All P (lines_of p) h))
-    y l)
+-- what holds of each line holds of line i of a side
+pub each_line : (P : GridLine → Type 0) (p : Nonogram) → All P (lines_of p) → (side : Side) (i : ℕ) → i < length (clues_on side p) →
+    P (line_on side p i)
+each_line P p h side i l =
+    subst (λ (q : ℕ). P (numbered_line side p (q, get_or (clues_on side p) i []))) (zero-add i)
+    (one_numbered P (numbered_line side p) 0 (clues_on side p) (part side (recursion_from_All P (lines_of p) h)) i l)
+  where
+    rows : List GridLine
+    rows = map (numbered_line Rows p) (enumerate_from 0 p.rows)
 
--- what holds of each line holds of each column
-pub each_column : (P : GridLine → Type 0) (p : Nonogram) → All P (lines_of p) → (x : ℕ) → x < length p.columns → P (column_at p x)
-each_column P p h x l =
-    subst (λ (q : ℕ). P (column_line p (q, get_or p.columns x []))) (zero-add x)
-    (one_numbered P (column_line p) 0 p.columns
-    (second_part P (map (row_line p) (enumerate_from 0 p.rows)) (map (column_line p) (enumerate_from 0 p.columns))
-    (recursion_from_All P (lines_of p) h))
-    x l)
+    columns : List GridLine
+    columns = map (numbered_line Columns p) (enumerate_from 0 p.columns)
+
+    part : (s : Side) → AllByRecursion P (lines_of p) → AllByRecursion P (map (numbered_line s p) (enumerate_from 0 (clues_on s p)))
+    part Rows each = first_part P rows columns each
+    part Columns each = second_part P rows columns each
 
 -- a list that has the cells of a line, place by place, is the cells along it
 pub cells-along : {X : Type 0} (d : X) (cells line : List X) (first step count : ℕ) → length line ≡ count
@@ -92,6 +93,16 @@ get_or-places_from first step (suc n) (suc i) h =
     let rest = get_or-places_from (first + step) step n i (omega arith) in
     let sum : first + step + i * step ≡ first + suc i * step = omega arith in
     rest ∙ sum
+
+-- a line has as many cells as the other side has lines
+pub length-places_on : (side : Side) (w h i : ℕ) → length (places_on side w h i) ≡ count_on (crossing side) w h
+length-places_on Rows w h i = length-places_from (i * w) 1 w
+length-places_on Columns w h i = length-places_from i w h
+
+-- the place of cell k of a line
+pub get_or-places_on : (side : Side) (w h i k : ℕ) → k < count_on (crossing side) w h → get_or (places_on side w h i) k 0 ≡ place_on side w i k
+get_or-places_on Rows w h i k l = let at = get_or-places_from (i * w) 1 w k l in omega (arith, at)
+get_or-places_on Columns w h i k l = let at = get_or-places_from i w h k l in omega (arith, at)
 
 pub length-cells_at : {X : Type 0} (d : X) (cells : List X) (places : List ℕ) → length (cells_at d cells places) ≡ length places
 length-cells_at d cells places = length-map places (λ k. get_or cells k d)
@@ -133,10 +144,10 @@ row-is_range p full y long l = cells-range false full (y * p.width) p.width (ome
 -- the cells of each column are as many as there are rows, each p.width cells of the grid further on
 pub column-is_stride : (p : Nonogram) → ColumnIsStride p
 column-is_stride p full x long l = (
-  length-cells_at false full ((column_at p x).places) ∙ length-places_from x p.width p.height,
+  length-cells_at false full ((line_on Columns p x).places) ∙ length-places_from x p.width p.height,
   λ y k. (
     omega (arith, column-within p.width p.height x y l k),
-    get_or-cells_at false full ((column_at p x).places) y (rw length-places_from k)
+    get_or-cells_at false full ((line_on Columns p x).places) y (rw length-places_from k)
         ∙ ap (λ (q : ℕ). get_or full q false) (get_or-places_from x p.width p.height y k),
   ),
 )

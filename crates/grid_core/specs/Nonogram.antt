@@ -3,6 +3,8 @@ use Rattle.std.specs.Prelude.{◌≡◌, ℕ, zero, suc, ◌+◌, ◌*◌, List,
 use Rattle.std.specs.declared.alloc.Global.{Global}
 use Rattle.std.specs.List.{enumerate_from, list_all, AllByRecursion}
 use Rattle.grid_core.specs.declared.limits.TheConstants.{LONGEST_SIDE}
+use Rattle.grid_core.specs.declared.sides.Side.{Side}
+use Rattle.grid_core.specs.declared.sides.Side.TheVariants.{Rows, Columns}
 use Rattle.grid_core.specs.Clues.{is_clue}
 use Rattle.grid_core.specs.Description.{Description, IsDescription, no_texts}
 use Rattle.grid_core.specs.PartialGrid.{PartialGrid, IsSizeWithin}
@@ -61,25 +63,51 @@ abbrev pub places_from : ℕ → ℕ → ℕ → List ℕ
 places_from first step zero = []
 places_from first step (suc n) = first ∷ places_from (first + step) step n
 
--- the row of this number and clue
-abbrev pub row_line : Nonogram → ℕ × List ℕ → GridLine
-row_line p numbered = record { places = places_from (numbered.0 * p.width) 1 p.width; clue = numbered.1 }
+-- the side whose lines cross those of a side
+abbrev pub crossing : Side → Side
+crossing Rows = Columns
+crossing Columns = Rows
 
--- the column of this number and clue
-abbrev pub column_line : Nonogram → ℕ × List ℕ → GridLine
-column_line p numbered = record { places = places_from numbered.0 p.width p.height; clue = numbered.1 }
+-- how many lines of a grid a side has
+abbrev pub count_on : Side → ℕ → ℕ → ℕ
+count_on Rows width height = height
+count_on Columns width height = width
+
+-- the row of cell k of line i of a side
+abbrev pub row_on : Side → ℕ → ℕ → ℕ
+row_on Rows i k = i
+row_on Columns i k = k
+
+-- the column of cell k of line i of a side
+abbrev pub column_on : Side → ℕ → ℕ → ℕ
+column_on Rows i k = k
+column_on Columns i k = i
+
+-- where that cell is in a grid of this width
+abbrev pub place_on : Side → ℕ → ℕ → ℕ → ℕ
+place_on side width i k = row_on side i k * width + column_on side i k
+
+-- where the cells of line i of a side are: one after the other in a row, a row apart in a column
+abbrev pub places_on : Side → ℕ → ℕ → ℕ → List ℕ
+places_on Rows width height i = places_from (i * width) 1 width
+places_on Columns width height i = places_from i width height
+
+-- the clues of the lines of a side
+abbrev pub clues_on : Side → Nonogram → List (List ℕ)
+clues_on Rows p = p.rows
+clues_on Columns p = p.columns
+
+-- the line of a side of this number and clue
+abbrev pub numbered_line : Side → Nonogram → ℕ × List ℕ → GridLine
+numbered_line side p numbered = record { places = places_on side p.width p.height numbered.0; clue = numbered.1 }
 
 -- the rows and then the columns
 abbrev pub lines_of : Nonogram → List GridLine
-lines_of p = map (row_line p) (enumerate_from 0 p.rows) ++ map (column_line p) (enumerate_from 0 p.columns)
+lines_of p = map (numbered_line Rows p) (enumerate_from 0 p.rows) ++ map (numbered_line Columns p) (enumerate_from 0 p.columns)
 
--- the row of this number
-abbrev pub row_at : Nonogram → ℕ → GridLine
-row_at p y = row_line p (y, slice_index_or p.rows y [])
-
--- the column of this number
-abbrev pub column_at : Nonogram → ℕ → GridLine
-column_at p x = column_line p (x, slice_index_or p.columns x [])
+-- line i of a side
+abbrev pub line_on : Side → Nonogram → ℕ → GridLine
+line_on side p i = numbered_line side p (i, slice_index_or (clues_on side p) i [])
 
 -- the cells at some places, d standing for one outside
 abbrev pub cells_at : {X : Type 0} → X → List X → List ℕ → List X

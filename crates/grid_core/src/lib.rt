@@ -13,6 +13,7 @@ mod pictures;
 mod puzzles;
 mod rows;
 mod runs;
+mod sides;
 
 pub use cells::Cell;
 pub use clues::{Clue, ClueFault};
@@ -23,3 +24,4 @@ pub use lines::LineOf;
 pub use memory::NoMemory;
 pub use puzzles::{GoalWord, Puzzle, PuzzleFault};
 pub use runs::has_runs;
+pub use sides::Side;

@@ -1,8 +1,9 @@
 //! Pictures: full grids and goals, and whether they meet clues.
 
 ghost use Rattle.std.specs.Prelude.{◌≡◌, ◌+◌, ◌*◌, ◌^◌, ◌<◌, ◌≤◌, ◌↔◌, ℕ, false, length, IsTrue, slice_index_or};
-ghost use Rattle.grid_core.specs.Nonogram.{Meets, MeetsLine, cells_at, column_at, places_from, row_at};
+ghost use Rattle.grid_core.specs.Nonogram.{Meets, MeetsLine, cells_at, line_on, places_from};
 ghost use Rattle.grid_core.specs.Pictures.{values_of};
+ghost use Rattle.grid_core.specs.declared.sides.Side.TheVariants.{Rows, Columns};
 
 use crate::limits::LONGEST_SIDE;
 use crate::runs::has_runs;
@@ -57,7 +58,7 @@ fn is_line_met(picture: Picture<'_>, first: usize, step: usize, count: u16, clue
 /// Whether a picture has each row's clue.
 fn are_rows_met(puzzle: &Puzzle, picture: Picture<'_>) -> bool
     requires { length (values_of picture) ≡ puzzle.now.width * puzzle.now.height }
-    ensures { IsTrue result ↔ ((y : ℕ) → y < length puzzle.now.rows → MeetsLine (values_of picture.entry) (row_at puzzle.now y)) }
+    ensures { IsTrue result ↔ ((y : ℕ) → y < length puzzle.now.rows → MeetsLine (values_of picture.entry) (line_on Rows puzzle.now y)) }
 {
     let width = puzzle.width();
     for y in 0..puzzle.height() {
@@ -72,7 +73,7 @@ fn are_rows_met(puzzle: &Puzzle, picture: Picture<'_>) -> bool
 /// Whether a picture has each column's clue.
 fn are_columns_met(puzzle: &Puzzle, picture: Picture<'_>) -> bool
     requires { length (values_of picture) ≡ puzzle.now.width * puzzle.now.height }
-    ensures { IsTrue result ↔ ((x : ℕ) → x < length puzzle.now.columns → MeetsLine (values_of picture.entry) (column_at puzzle.now x)) }
+    ensures { IsTrue result ↔ ((x : ℕ) → x < length puzzle.now.columns → MeetsLine (values_of picture.entry) (line_on Columns puzzle.now x)) }
 {
     let step = usize::from(puzzle.width());
     for x in 0..puzzle.width() {

@@ -1,13 +1,15 @@
 -- What settling a cell and going back do to a board.
-use Rattle.std.proofs.Common.{◌≡◌, ℕ, ◌+◌, ◌*◌, ◌<◌, ◌≤◌, true, List, [], ◌∷◌, ◌++◌, length, get_or, set, sym, ap, ◌∙◌, arith, length-append, length-set, replicate}
+use Rattle.std.proofs.Common.{◌≡◌, ℕ, ◌*◌, ◌<◌, ◌≤◌, true, List, [], ◌∷◌, ◌++◌, length, get_or, set, sym, ap, ◌∙◌, arith, length-append, length-set, replicate}
 use Rattle.std.proofs.lemmas.List.{length-replicate}
 use Rattle.grid_core.specs.declared.cells.Cell.{Cell}
 use Rattle.grid_core.specs.declared.cells.Cell.TheVariants.{Unknown}
 use Rattle.grid_core.specs.Cells.{is_known}
+use Rattle.grid_core.specs.declared.sides.Side.{Side}
+use Rattle.grid_core.specs.Nonogram.{count_on, crossing, place_on}
 use Rattle.grid_core.specs.PartialGrid.{PartialGrid, IsSize}
 use Rattle.solve_core.specs.Boards.{IsBoard}
 use Rattle.solve_core.specs.Trails.{TrailedGrid}
-use Rattle.solve_core.proofs.NumberedLines.{row_within}
+use Rattle.solve_core.proofs.SideLines.{cell_within}
 use Rattle.solve_core.proofs.Closing.{unknown_count-le}
 use Rattle.solve_core.proofs.TrailSteps.{count-settled}
 use Rattle.solve_core.proofs.BranchLaws.{unknown_count-cleared_one, all_append, all_split}
@@ -72,6 +74,7 @@ board-unknown w h room g trail size e t fits = record {
   room_is = fits;
 }
 
--- a cell in a column and a row is one of the board's
-pub place-within : (g : TrailedGrid) (room x y : ℕ) → IsBoard g room → x < g.width → y < g.height → y * g.width + x < length g.cells
-place-within g room x y b lx ly = omega (arith, row_within g.width g.height y x ly lx, b.count)
+-- a cell of a line is one of the board's
+pub place-within : (g : TrailedGrid) (room : ℕ) (side : Side) (i k : ℕ) → IsBoard g room → i < count_on side g.width g.height →
+    k < count_on (crossing side) g.width g.height → place_on side g.width i k < length g.cells
+place-within g room side i k b li lk = omega (arith, cell_within side g.width g.height i k li lk, b.count)

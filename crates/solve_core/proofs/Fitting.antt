@@ -1,25 +1,31 @@
 -- The clues of a puzzle that fits sets of some width.
-use Rattle.std.proofs.Common.{◌≡◌, ℕ, ◌-◌, ◌<◌, ◌≤◌, List, [], length, get_or, inl, inr, true, leb, arith, sym, subst, All}
+use Rattle.std.proofs.Common.{◌≡◌, ℕ, ◌≤◌, List, [], length, get_or, inl, inr, true, leb, arith, sym, subst, All}
+use Rattle.std.proofs.Math.ListN.{get_or-eq_default}
 use Rattle.std.specs.List.{list_all}
 use Rattle.std.proofs.lemmas.Bool.{cases_lt, and_parts, leb-true}
 use Rattle.std.proofs.lemmas.List.Sums.{AllPass-from_list_all}
 use Rattle.grid_core.specs.Clues.{is_clue, is_run}
 use Rattle.grid_core.specs.declared.limits.TheConstants.{MOST_RUNS}
-use Rattle.grid_core.specs.Nonogram.{Nonogram, GridLine, IsNonogram}
-use Rattle.solve_core.specs.Lines.{line_at, line_count}
+use Rattle.grid_core.specs.declared.sides.Side.{Side}
+use Rattle.grid_core.specs.declared.sides.Side.TheVariants.{Rows, Columns}
+use Rattle.grid_core.specs.Nonogram.{Nonogram, count_on, line_on}
 use Rattle.solve_core.specs.Widths.{FitsIn}
-use Rattle.solve_core.proofs.NumberedLines.{line_at-row, line_at-column}
+
+-- a side has no more lines than a set has places
+pub count_fits : (side : Side) (width : ℕ) (p : Nonogram) → FitsIn width p → count_on side p.width p.height ≤ width
+count_fits Rows width p f = f.columns_short
+count_fits Columns width p f = f.rows_short
+
+clue_fits : (width : ℕ) (clues : List (List ℕ)) (i : ℕ) → All (All (λ k. k ≤ width)) clues → All (λ k. k ≤ width) (get_or clues i [])
+clue_fits width clues i f = elim (cases_lt i (length clues)) [
+  | inl l ↦ f i [] l
+  | inr out ↦ subst (λ (clue : List ℕ). All (λ k. k ≤ width) clue) (sym (get_or-eq_default clues [] out)) (λ k d l. absurd (omega arith))
+]
 
 -- each line's clue has numbers that fit
-pub fits_line : (width : ℕ) (p : Nonogram) (n : ℕ) → FitsIn width p → IsNonogram p → n < line_count p →
-    All (λ k. k ≤ width) (line_at p n).clue
-fits_line width p n f is h = elim (cases_lt n (length p.rows)) [
-  | inl l ↦ subst (λ (line : GridLine). All (λ k. k ≤ width) line.clue) (sym (line_at-row p n l)) (f.rows n [] l)
-  | inr l ↦ (
-      let below : n - length p.rows < length p.columns = omega (arith, is.clues.0, is.clues.1) in
-      subst (λ (line : GridLine). All (λ k. k ≤ width) line.clue) (sym (line_at-column p n l below))
-      (f.columns (n - length p.rows) [] below))
-]
+pub fits_line : (side : Side) (width : ℕ) (p : Nonogram) (i : ℕ) → FitsIn width p → All (λ k. k ≤ width) (line_on side p i).clue
+fits_line Rows width p i f = clue_fits width p.rows i f.rows
+fits_line Columns width p i f = clue_fits width p.columns i f.columns
 
 -- the numbers of a clue are no greater than its limit
 pub clue_short : (limit : ℕ) (clue : List ℕ) → is_clue limit clue ≡ true → All (λ n. n ≤ limit) clue

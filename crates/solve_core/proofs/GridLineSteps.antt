@@ -14,8 +14,8 @@ use Rattle.grid_core.specs.Rows.{cells_of_rows, row_of, with_row}
 use Rattle.grid_core.proofs.RowLemmas.{length-replaced, replaced-here, replaced-others}
 use Rattle.grid_core.proofs.RowLists.{get_or-row_of, get_or-rows, length-row_of, length-rows}
 use Rattle.std.proofs.Math.Nat.{mul-le-mul_left}
-use Rattle.solve_core.proofs.LineSteps.{before_or_from, same_or_not}
-use Rattle.solve_core.proofs.NumberedLines.{unique_place, row_within, column_within}
+use Rattle.std.proofs.lemmas.Bool.{cases_eq, cases_lt}
+use Rattle.solve_core.proofs.SideLines.{unique_place, row_within, column_within}
 
 pub length-along : (cells : List Cell) (first step n : ℕ) → length (cells_at Unknown cells (places_from first step n)) ≡ n
 length-along cells first step n = length-cells_at Unknown cells (places_from first step n) ∙ length-places_from first step n
@@ -38,7 +38,7 @@ along-set cells first step n i k c s h e l =
     (λ j below.
     let lj : j < n = omega (arith, length-along (set cells k c) first step n) in
     let read : get_or new j Unknown ≡ get_or (set cells k c) (first + j * step) Unknown = get_or-along (set cells k c) first step n j lj in
-    elim (same_or_not j i) [
+    elim (cases_eq j i) [
       | inl same ↦
           (let at : first + j * step ≡ k = ap (λ (q : ℕ). first + q * step) same ∙ sym e in
           read ∙ ap (λ (q : ℕ). get_or (set cells k c) q Unknown) at ∙ get_or-set_same cells k c Unknown l
@@ -101,7 +101,7 @@ lines-written cells rows columns row column x y c a lx ly er ec =
       rows_are = λ j below.
           let lj : j < h = omega (arith, lh) in
           rw lw
-          (elim (same_or_not j y) [
+          (elim (cases_eq j y) [
             | inl same ↦
                 (rw same
                 (get_or-set_same rows y row [] ly ∙ er ∙ ap (λ (line : List Cell). set line x c) (a.rows_are y ly)
@@ -114,7 +114,7 @@ lines-written cells rows columns row column x y c a lx ly er ec =
       columns_are = λ j below.
           let lj : j < w = omega (arith, lw) in
           rw (lw, lh)
-          (elim (same_or_not j x) [
+          (elim (cases_eq j x) [
             | inl same ↦
                 (rw same
                 (get_or-set_same columns x column [] lx ∙ ec ∙ ap (λ (line : List Cell). set line y c) (a.columns_are x lx)
@@ -331,7 +331,7 @@ rows-written old rows columns y row a wide count ly is above = rw wide (size, ea
 
     each : (k : ℕ) → k < (y + 1) * w → get_or new k Unknown ≡ get_or (cells_of_rows rows) k Unknown
     each k l =
-        elim (before_or_from k (y * w)) [
+        elim (cases_lt k (y * w)) [
           | inl low ↦ replaced-others old.cells row (y * w) w long fits k (inl low) ∙ above k low
           | inr from ↦ (let at : y * w + (k - y * w) ≡ k = omega arith in rw at at (here (k - y * w) (omega arith)))
         ]

@@ -5,8 +5,8 @@ pub mod Closing
 pub mod ClosureLaws
 pub mod TrialLaws
 pub mod StepLaws
-pub mod NumberedLines
 pub mod LineSteps
+pub mod SideLines
 pub mod GridSteps
 pub mod GridLineSteps
 pub mod BoardSteps
@@ -21,7 +21,6 @@ pub mod SearchSteps
 pub mod Examples
 pub mod Fitting
 pub mod Changes
-pub mod MarkSteps
 pub mod Counting
 pub mod PickLaws
 pub mod CountLaws

@@ -1,10 +1,9 @@
 -- Writing a line into a grid: which cells change, and what the closure is afterwards.
-use Rattle.std.proofs.Common.{◌≡◌, ◌≢◌, ℕ, zero, suc, ◌+◌, ◌-◌, ◌*◌, ◌<◌, ◌≤◌, inl, inr, Bool, true, false, List, [], ◌∷◌, length, get_or, set, drop, drop-cons, Option, Some, None, option_map, refl, sym, ap, ◌∙◌, arith, ◌⊎◌, length-set, get_or-set_same, add-one}
+use Rattle.std.proofs.Common.{◌≡◌, ◌≢◌, ℕ, zero, suc, ◌+◌, ◌*◌, ◌<◌, inl, inr, true, List, [], ◌∷◌, length, get_or, set, Option, Some, None, option_map, refl, sym, ap, ◌∙◌, arith, length-set, get_or-set_same}
 use Rattle.std.specs.List.{AllByRecursion}
 use Rattle.std.proofs.lemmas.List.{set-get_or}
 use Rattle.grid_core.specs.declared.cells.Cell.{Cell}
 use Rattle.grid_core.specs.declared.cells.Cell.TheVariants.{Unknown, Filled, Blank}
-use Rattle.std.proofs.Math.Nat.{mul-le-mul_left}
 use Rattle.grid_core.specs.Cells.{CellExtends, Extends, is_known}
 use Rattle.grid_core.specs.Nonogram.{GridLine, places_from, cells_at}
 use Rattle.line_core.specs.Deduction.{deduced}
@@ -75,19 +74,6 @@ below_from first step (suc n) size h = (
   (let start = h 0 (omega arith) in omega (arith, start)),
   below_from (first + step) step n size (λ i l. let next = h (suc i) (omega arith) in omega (arith, next)),
 )
-
--- two numbers are the same, or they aren't
-pub same_or_not : (j y : ℕ) → (j ≡ y) ⊎ (j ≢ y)
-same_or_not zero zero = inl refl
-same_or_not zero (suc y) = inr (λ e. omega arith)
-same_or_not (suc j) zero = inr (λ e. omega arith)
-same_or_not (suc j) (suc y) = elim (same_or_not j y) [ inl e ↦ inl (ap suc e) | inr n ↦ inr (λ e. n (omega arith)) ]
-
--- a number is below another one, or it is at least that one
-pub before_or_from : (k n : ℕ) → (k < n) ⊎ (n ≤ k)
-before_or_from k zero = inr (omega arith)
-before_or_from zero (suc n) = inl (omega arith)
-before_or_from (suc k) (suc n) = elim (before_or_from k n) [ inl less ↦ inl (omega arith) | inr more ↦ inr (omega arith) ]
 
 -- writing what stands there changes nothing
 pub with_cells-same : (g : List Cell) (places : List ℕ) → with_cells g places (cells_at Unknown g places) ≡ g
@@ -179,49 +165,14 @@ pub line_dead : (lines : List GridLine) (g : List Cell) (line : GridLine) → Is
 line_dead lines g line m e =
     dead_within lines g g line m (closure-IsLeastClosed lines g).above (ap (option_map (with_cells g line.places)) e)
 
--- ---- what the loops over one line's places do
-
--- writing a line from cell `i` on is writing cell `i`, and then the line from the next cell on
-pub write-step : (cells line : List Cell) (first step count i : ℕ) → i < count → length line ≡ count
-    → with_cells (set cells (first + i * step) (get_or line i Unknown)) (places_from (first + (i + 1) * step) step (count - (i + 1)))
-    (drop (i + 1) line)
-    ≡ with_cells cells (places_from (first + i * step) step (count - i)) (drop i line)
-write-step cells line first step count i h e =
-    let left : count - i ≡ suc (count - (i + 1)) = omega arith in
-    let within : i < length line = omega arith in
-    let next : first + i * step + step ≡ first + (i + 1) * step = omega arith in
-    rw (left, drop-cons line i Unknown within, next, add-one i) refl
-
--- a line that is read at places has as many cells
-pub length-seen : (cells line : List Cell) (first step count : ℕ) → line ≡ cells_at Unknown cells (places_from first step count) →
-    length line ≡ count
-length-seen cells line first step count e = ap length e ∙ length-cells_at Unknown cells (places_from first step count) ∙
-    length-places_from first step count
-
--- a line that was written at places is read there
-pub line-read : (cells new line : List Cell) (first step count : ℕ) → 0 < step → ((i : ℕ) → i < count → first + i * step < length cells) →
-    length line ≡ count
-    → new ≡ with_cells cells (places_from first step count) line → line ≡ cells_at Unknown new (places_from first step count)
-line-read cells new line first step count positive within long e =
-    sym
-    (ap (λ (r : List Cell). cells_at Unknown r (places_from first step count)) e
-    ∙ cells_at-with_cells cells (places_from first step count) line (distinct_from first step count positive)
-    (below_from first step count (length cells) within) (long ∙ sym (length-places_from first step count)))
-
--- cell `k` of a line that was read from a grid is the grid's cell at that place
-pub read-old : (cells old : List Cell) (first step count k : ℕ) → old ≡ cells_at Unknown cells (places_from first step count) →
-    k < count → get_or cells (first + k * step) Unknown ≡ get_or old k Unknown
-read-old cells old first step count k e h =
-    let within : k < length (places_from first step count) = omega (arith, length-places_from first step count) in
-    sym
-    (ap (λ (r : List Cell). get_or r k Unknown) e ∙ get_or-cells_at Unknown cells (places_from first step count) k within
-    ∙ ap (λ (q : ℕ). get_or cells q Unknown) (get_or-places_from first step count k h))
-
--- a later place of a line isn't an earlier one, if the step is positive
-pub apart_places : (first step i k : ℕ) → 0 < step → i < k → first + k * step ≢ first + i * step
-apart_places first step i k h l e =
-    let more : step * (i + 1) ≤ step * k = mul-le-mul_left step (omega arith) in
-    omega (arith, more, e)
+-- each place of a list is a different one
+pub distinct_same : (places : List ℕ) (k i : ℕ) → AreDistinct places → k < length places → i < length places →
+    get_or places k 0 ≡ get_or places i 0 → k ≡ i
+distinct_same [] k i d l m e = absurd (omega arith)
+distinct_same (p ∷ ps) zero zero d l m e = refl
+distinct_same (p ∷ ps) zero (suc i) d l m e = absurd (d.0 i (omega arith) (sym e))
+distinct_same (p ∷ ps) (suc k) zero d l m e = absurd (d.0 k (omega arith) e)
+distinct_same (p ∷ ps) (suc k) (suc i) d l m e = ap suc (distinct_same ps k i d.1 (omega arith) (omega arith) e)
 
 -- a cell that learned something was unknown
 pub learned_cell : (old new : Cell) → CellExtends old new → new ≢ old → (old ≡ Unknown) × (is_known new ≡ true)
@@ -234,17 +185,6 @@ learned_cell Filled Blank h n = absurd h
 learned_cell Blank Unknown h n = absurd h
 learned_cell Blank Filled h n = absurd h
 learned_cell Blank Blank h n = absurd (n refl)
-
--- if a mark is missing after one was made, it is another one, and it was missing before
-pub set-unmarked : (marks : List Bool) (i k : ℕ) → i < length marks → get_or (set marks i true) k false ≡ false →
-    (k ≢ i) × (get_or marks k false ≡ false)
-set-unmarked [] i k h e = absurd (omega arith)
-set-unmarked (b ∷ marks) zero zero h e = cc
-set-unmarked (b ∷ marks) zero (suc k) h e = ((λ s. omega arith), e)
-set-unmarked (b ∷ marks) (suc i) zero h e = ((λ s. omega arith), e)
-set-unmarked (b ∷ marks) (suc i) (suc k) h e =
-    let rest = set-unmarked marks i k (omega arith) e in
-    ((λ s. rest.0 (omega arith)), rest.1)
 
 -- a line stays settled if a cell that isn't its own is written
 pub settled-elsewhere : (g : List Cell) (k : ℕ) (c : Cell) (line : GridLine) → IsSettled g line →

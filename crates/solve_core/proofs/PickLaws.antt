@@ -1,5 +1,6 @@
 -- What the rule of most known neighbours picks.
 use Rattle.std.proofs.Common.{◌≡◌, ℕ, zero, suc, ◌<◌, ◌≤◌, inl, inr, Bool, true, false, cond, nat_lt, List, length, get_or, Option, Some, None, refl, sym, ap, ◌∙◌, subst, arith, true≢false, ltb-true, ltb-false}
+use Rattle.std.proofs.lemmas.Bool.{cases_eq}
 use Rattle.grid_core.specs.declared.cells.Cell.{Cell}
 use Rattle.grid_core.specs.declared.cells.Cell.TheVariants.{Unknown}
 use Rattle.grid_core.specs.Cells.{is_unknown}
@@ -8,7 +9,6 @@ use Rattle.solve_core.specs.declared.picks.Pick.TheVariants.{First, Most}
 use Rattle.solve_core.specs.MostKnown.{IsMostKnown}
 use Rattle.solve_core.specs.Picks.{better, first_most, most_known, picked, sure_neighbours}
 use Rattle.solve_core.specs.Search.{IsPick}
-use Rattle.solve_core.proofs.LineSteps.{same_or_not}
 use Rattle.solve_core.proofs.SearchLaws.{first_unknown-IsPick, unknown_is}
 
 -- of the first `n` places, the place passes the test, no other one that passes scores more, and those before
@@ -30,7 +30,7 @@ first_most-is score passes (suc n) = by (passes n) refl (first_most score passes
     later k o most true e = (
       omega arith,
       o,
-      λ j l p. elim (same_or_not j n) [
+      λ j l p. elim (cases_eq j n) [
         | inl own ↦ rw own (omega arith)
         | inr other ↦ (let less = most.2 j (omega arith) p in omega (arith, less, ltb-true (score k) (score n) e))
       ],
@@ -39,7 +39,7 @@ first_most-is score passes (suc n) = by (passes n) refl (first_most score passes
     later k o most false e = (
       omega (arith, most.0),
       most.1,
-      λ j l p. elim (same_or_not j n) [
+      λ j l p. elim (cases_eq j n) [
         | inl own ↦ rw own (ltb-false (score k) (score n) e)
         | inr other ↦ most.2 j (omega arith) p
       ],
@@ -51,18 +51,18 @@ first_most-is score passes (suc n) = by (passes n) refl (first_most score passes
     by true o None none = (
       omega arith,
       o,
-      λ j l p. elim (same_or_not j n) [
+      λ j l p. elim (cases_eq j n) [
         | inl own ↦ rw own (omega arith)
         | inr other ↦ absurd (true≢false (sym p ∙ none j (omega arith)))
       ],
       λ j l p. absurd (true≢false (sym p ∙ none j l)),
     )
     by true o (Some k) most = later k o most (nat_lt (score k) (score n)) refl
-    by false o None none = λ j l. elim (same_or_not j n) [ inl own ↦ rw own o | inr other ↦ none j (omega arith) ]
+    by false o None none = λ j l. elim (cases_eq j n) [ inl own ↦ rw own o | inr other ↦ none j (omega arith) ]
     by false o (Some k) most = (
       omega (arith, most.0),
       most.1,
-      λ j l p. elim (same_or_not j n) [
+      λ j l p. elim (cases_eq j n) [
         | inl own ↦ absurd (true≢false (sym p ∙ ap passes own ∙ o))
         | inr other ↦ most.2 j (omega arith) p
       ],

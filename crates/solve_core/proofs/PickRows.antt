@@ -11,7 +11,7 @@ use Rattle.solve_core.specs.GridLines.{AreLinesOf}
 use Rattle.grid_core.specs.Rows.{cells_of_rows}
 use Rattle.solve_core.specs.Picks.{better, first_most, is_left_sure, is_right_sure, is_above_sure, is_below_sure, sure_neighbours}
 use Rattle.solve_core.proofs.GridLineSteps.{cell-read, lines-long}
-use Rattle.solve_core.proofs.NumberedLines.{row_within}
+use Rattle.solve_core.proofs.SideLines.{row_within}
 use Rattle.solve_core.proofs.SearchLaws.{unknown_is}
 
 sure_same : (o p : Bool) (c d : Cell) → o ≡ p → (o ≡ false → c ≡ d) → is_sure o c ≡ is_sure p d

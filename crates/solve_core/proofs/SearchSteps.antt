@@ -1,5 +1,6 @@
 -- What happens below a guess, and at which cell the next one is made.
 use Rattle.std.proofs.Common.{◌≡◌, ◌≢◌, ℕ, zero, suc, ◌+◌, ◌<◌, ◌≤◌, inl, inr, List, [], ◌∷◌, ◌++◌, length, get_or, set, refl, sym, ap, ◌∙◌, arith, subst, Option, Some, None, IfSome, true, false, Bool, cond, position, true≢false, get_or-set_other}
+use Rattle.std.proofs.lemmas.Bool.{cases_lt}
 use Rattle.std.specs.List.{position_from}
 use Rattle.std.proofs.lemmas.List.Quantifiers.{position-Some}
 use Rattle.std.proofs.lemmas.Iterator.Adapters.{position_from-zero}
@@ -14,7 +15,6 @@ use Rattle.solve_core.specs.Trails.{unknown_count}
 use Rattle.solve_core.specs.Branches.{AreKnownBefore, IsClosed, IsNext, IsOpen, IsWork, AreOlder}
 use Rattle.line_core.proofs.DeductionLaws.{Extends-at}
 use Rattle.grid_core.specs.Lines.{IsUnknownFrom}
-use Rattle.solve_core.proofs.LineSteps.{before_or_from}
 use Rattle.solve_core.proofs.Closing.{repeat-fixed}
 use Rattle.solve_core.proofs.ClosureLaws.{closure-IsLeastClosed}
 use Rattle.solve_core.proofs.SearchLaws.{events-unfold, unknown_is, unknown_count-more}
@@ -134,8 +134,8 @@ first-from cells seen start found e before h = by found (subst (λ (r : List Cel
   where
     by : (found : Option ℕ) → IsUnknownFrom cells start found → found ≡ first_unknown cells
     by None none = sym (position-none is_unknown cells
-        (λ j l. elim (before_or_from j start) [ inl early ↦ before j early | inr late ↦ none j late l ]))
+        (λ j l. elim (cases_lt j start) [ inl early ↦ before j early | inr late ↦ none j late l ]))
     by (Some place) at =
         sym
         (position-at is_unknown cells place at.1 (ap is_unknown at.2)
-        (λ j l. elim (before_or_from j start) [ inl early ↦ before j early | inr late ↦ at.3 j late l ]))
+        (λ j l. elim (cases_lt j start) [ inl early ↦ before j early | inr late ↦ at.3 j late l ]))

@@ -1,16 +1,18 @@
 -- What an alive trial of a grid tells of a grid that has learned more.
-use Rattle.std.proofs.Common.{◌≡◌, ◌≢◌, ℕ, zero, suc, ◌+◌, ◌-◌, ◌*◌, ◌/◌, ◌%◌, ◌<◌, ◌≤◌, ◌⊎◌, inl, inr, Bool, true, false, List, [], ◌∷◌, ◌++◌, length, take, replicate, get_or, set, Some, refl, sym, ap, ◌∙◌, arith, subst, true≢false, get_or-set_same, get_or-set_other, length-append, length-set}
+use Rattle.std.proofs.Common.{◌≡◌, ◌≢◌, ℕ, zero, suc, ◌+◌, ◌*◌, ◌/◌, ◌%◌, ◌<◌, ◌≤◌, ◌⊎◌, inl, inr, Bool, true, false, List, [], ◌∷◌, ◌++◌, length, take, replicate, get_or, set, Some, refl, sym, ap, ◌∙◌, arith, subst, true≢false, get_or-set_same, get_or-set_other, length-append, length-set}
+use Rattle.std.proofs.lemmas.Bool.{cases_eq, cases_lt}
 use Rattle.std.proofs.Math.ListN.{get_or-map}
 use Rattle.std.proofs.lemmas.List.{get_or_append_left, get_or_past, get_or-take, get_or-replicate, length-take-le, length-replicate, length-map}
 use Rattle.std.proofs.Math.Seq.{get_or-append_seam}
 use Rattle.grid_core.specs.declared.cells.Cell.{Cell}
 use Rattle.grid_core.specs.declared.cells.Cell.TheVariants.{Unknown, Filled, Blank}
 use Rattle.grid_core.specs.Cells.{CellExtends, Extends, is_known}
-use Rattle.grid_core.specs.Nonogram.{Nonogram, IsNonogram, GridLine, lines_of, cells_at}
+use Rattle.grid_core.specs.Nonogram.{Nonogram, IsNonogram, GridLine, lines_of, cells_at, line_on, count_on}
 use Rattle.line_core.specs.Deduction.{deduced}
 use Rattle.line_core.proofs.DeductionLaws.{Extends-at}
 use Rattle.solve_core.specs.Closure.{round, closure}
-use Rattle.solve_core.specs.Lines.{line_count, line_at}
+use Rattle.grid_core.specs.declared.sides.Side.{Side}
+use Rattle.grid_core.specs.declared.sides.Side.TheVariants.{Rows, Columns}
 use Rattle.solve_core.specs.Marks.{IsSettled, AreOpen}
 use Rattle.solve_core.specs.Trails.{cleared}
 use Rattle.solve_core.specs.Overlaid.{over, overlaid, AreAlike, AreApart}
@@ -21,9 +23,9 @@ use Rattle.solve_core.specs.Witnesses.{has_side, IsCrossed, DifferWithin, ShareN
 use Rattle.solve_core.proofs.Order.{Extends-refl, Extends-antisym, length-Extends, set_within}
 use Rattle.solve_core.proofs.ClosureLaws.{closure-IsLeastClosed}
 use Rattle.solve_core.proofs.TrialSteps.{met_open}
-use Rattle.solve_core.proofs.NumberedLines.{unique_place, along-row, along-column, line_is_one}
-use Rattle.solve_core.proofs.GridSteps.{settled_closed, place_again, line_place, line-distinct, line-below}
-use Rattle.solve_core.proofs.LineSteps.{cells_at-same, closed_settled, before_or_from, same_or_not}
+use Rattle.solve_core.proofs.SideLines.{along, line_is_one, unique_place}
+use Rattle.solve_core.proofs.GridSteps.{settled_closed, place_again, line-distinct, line-below}
+use Rattle.solve_core.proofs.LineSteps.{cells_at-same, closed_settled}
 
 -- ---- two grids as one
 
@@ -115,10 +117,11 @@ overlaid_settled : (g new t : List Cell) (line : GridLine) → length new ≡ le
 overlaid_settled g new t line e h k (inl same) n s = settled_alike (overlaid new t) t line (line_as_trial g new t line.places e k same) s
 overlaid_settled g new t line e h k (inr same) n s = settled_alike (overlaid new t) new line (line_as_new g new t line.places e h same) n
 
-line_settled : (p : Nonogram) (g : List Cell) (n : ℕ) → IsNonogram p → length g ≡ p.width * p.height → round (lines_of p) g ≡ Some g →
-    n < line_count p → IsSettled g (line_at p n)
-line_settled p g n is size closed l =
-    closed_settled (lines_of p) g (line_at p n) closed (line_is_one p n is l) (line-distinct p n is l) (line-below p (length g) n is l size)
+line_settled : (p : Nonogram) (g : List Cell) (side : Side) (i : ℕ) → IsNonogram p → length g ≡ p.width * p.height →
+    round (lines_of p) g ≡ Some g → i < count_on side p.width p.height → IsSettled g (line_on side p i)
+line_settled p g side i is size closed l =
+    closed_settled (lines_of p) g (line_on side p i) closed (line_is_one side p i is l) (line-distinct p side i is)
+    (line-below p (length g) side i l size)
 
 -- Two line-closed grids that came from the same one and share no line as one are line-closed.
 overlaid_closed : (p : Nonogram) (g new t : List Cell) → IsNonogram p → length g ≡ p.width * p.height →
@@ -130,8 +133,8 @@ overlaid_closed p g new t is size new_closed t_closed h k apart =
     let t_size : length t ≡ p.width * p.height = sym (length-Extends g t k) ∙ size in
     let own : closure (lines_of p) both ≡ Some both =
     settled_closed p both is
-    (λ n l. overlaid_settled g new t (line_at p n) (new_size ∙ sym t_size) h k (apart n l) (line_settled p new n is new_size new_closed l)
-    (line_settled p t n is t_size t_closed l)) in
+    (λ side i l. overlaid_settled g new t (line_on side p i) (new_size ∙ sym t_size) h k (apart side i l)
+    (line_settled p new side i is new_size new_closed l) (line_settled p t side i is t_size t_closed l)) in
     (closure-IsLeastClosed (lines_of p) both).closed both own
 
 -- ---- lines that two grids share
@@ -140,40 +143,37 @@ overlaid_closed p g new t is size new_closed t_closed h k apart =
 split_place : (w y x k : ℕ) → x < w → k ≡ y * w + x → (k / w ≡ y) × (k % w ≡ x)
 split_place w y x k l e = unique_place w (k / w) y (k % w) x (omega arith) l (place_again k w w refl (omega arith) ∙ e)
 
-alike_row : (p : Nonogram) (g other : List Cell) (lines : Crossed) (n : ℕ) → IsNonogram p → DifferWithin p.width g other lines →
-    n < p.height → has_side lines.rows n ≡ false → AreAlike g other (line_at p n)
-alike_row p g other lines n is d l e = cells_at-same g other ((line_at p n).places) (λ i h.
-    let k = get_or ((line_at p n).places) i 0 in
-    let there = line_place p n i is (omega arith) h in
-    let along = along-row p.width p.height n i l in
-    let row : k / p.width ≡ n = (split_place p.width n i k (omega (arith, there.0, along.0)) (there.1 ∙ along.1)).0 in
-    d.rows k (ap (has_side lines.rows) row ∙ e))
+alike_row : (p : Nonogram) (g other : List Cell) (lines : Crossed) (y : ℕ) → DifferWithin p.width g other lines →
+    has_side lines.rows y ≡ false → AreAlike g other (line_on Rows p y)
+alike_row p g other lines y d e = cells_at-same g other ((line_on Rows p y).places) (λ i h.
+    let k = get_or ((line_on Rows p y).places) i 0 in
+    let there = along Rows p.width p.height y i h in
+    d.rows k (ap (has_side lines.rows) (split_place p.width y i k there.0 there.1).0 ∙ e))
 
-alike_column : (p : Nonogram) (g other : List Cell) (lines : Crossed) (n : ℕ) → IsNonogram p → DifferWithin p.width g other lines →
-    p.height ≤ n → n < line_count p → has_side lines.columns (n - p.height) ≡ false
-    → AreAlike g other (line_at p n)
-alike_column p g other lines n is d l m e = cells_at-same g other ((line_at p n).places) (λ i h.
-    let k = get_or ((line_at p n).places) i 0 in
-    let there = line_place p n i is m h in
-    let along = along-column p.width p.height n i l in
-    let column : k % p.width ≡ n - p.height = (split_place p.width i (n - p.height) k (omega arith) (there.1 ∙ along.1)).1 in
-    d.columns k (ap (has_side lines.columns) column ∙ e))
+alike_column : (p : Nonogram) (g other : List Cell) (lines : Crossed) (x : ℕ) → DifferWithin p.width g other lines → x < p.width →
+    has_side lines.columns x ≡ false → AreAlike g other (line_on Columns p x)
+alike_column p g other lines x d l e = cells_at-same g other ((line_on Columns p x).places) (λ i h.
+    let k = get_or ((line_on Columns p x).places) i 0 in
+    let there = along Columns p.width p.height x i h in
+    d.columns k (ap (has_side lines.columns) (split_place p.width i x k l there.1).1 ∙ e))
 
-apart_lines : (p : Nonogram) (g new t : List Cell) (lines learned : Crossed) → IsNonogram p → DifferWithin p.width g t lines →
+apart_lines : (p : Nonogram) (g new t : List Cell) (lines learned : Crossed) → DifferWithin p.width g t lines →
     DifferWithin p.width g new learned → ShareNoLine lines learned → AreApart p g new t
-apart_lines p g new t lines learned is mine theirs apart n l = elim (before_or_from n p.height) [
-  | inl row ↦ by_row row (has_side lines.rows n) refl
-  | inr column ↦ by_column column (has_side lines.columns (n - p.height)) refl
-]
+apart_lines p g new t lines learned mine theirs apart = each
   where
-    by_row : n < p.height → (v : Bool) → has_side lines.rows n ≡ v → AreAlike g new (line_at p n) ⊎ AreAlike g t (line_at p n)
-    by_row h true e = inl (alike_row p g new learned n is theirs h (apart.rows n e))
-    by_row h false e = inr (alike_row p g t lines n is mine h e)
+    by_row : (y : ℕ) (v : Bool) → has_side lines.rows y ≡ v → AreAlike g new (line_on Rows p y) ⊎ AreAlike g t (line_on Rows p y)
+    by_row y true e = inl (alike_row p g new learned y theirs (apart.rows y e))
+    by_row y false e = inr (alike_row p g t lines y mine e)
 
-    by_column : p.height ≤ n → (v : Bool) → has_side lines.columns (n - p.height) ≡ v →
-        AreAlike g new (line_at p n) ⊎ AreAlike g t (line_at p n)
-    by_column h true e = inl (alike_column p g new learned n is theirs h l (apart.columns (n - p.height) e))
-    by_column h false e = inr (alike_column p g t lines n is mine h l e)
+    by_column : (x : ℕ) → x < p.width → (v : Bool) → has_side lines.columns x ≡ v →
+        AreAlike g new (line_on Columns p x) ⊎ AreAlike g t (line_on Columns p x)
+    by_column x l true e = inl (alike_column p g new learned x theirs l (apart.columns x e))
+    by_column x l false e = inr (alike_column p g t lines x mine l e)
+
+    each : (side : Side) (i : ℕ) → i < count_on side p.width p.height →
+        AreAlike g new (line_on side p i) ⊎ AreAlike g t (line_on side p i)
+    each Rows y l = by_row y (has_side lines.rows y) refl
+    each Columns x l = by_column x l (has_side lines.columns x) refl
 
 -- ---- witnesses that stay
 
@@ -218,7 +218,7 @@ apart_stays w g new number learned is size closed h theirs apart some was =
     record {
       trial = overlaid new t;
       closed = overlaid_closed w.puzzle g new t is size closed was.closed h was.extends
-          (apart_lines w.puzzle g new t lines learned is was.within theirs apart);
+          (apart_lines w.puzzle g new t lines learned was.within theirs apart);
       extends = overlaid-extends new t;
       within = record {
         rows = λ k e. sym (as_new g new t k same h (was.within.rows k e));
@@ -363,7 +363,7 @@ pub kept_witnesses : (w : WitnessedPuzzle) (after : List Witness) (g new : List 
 kept_witnesses w after g new learned holder place c n size e h differ are held same kept =
     with_colours (record w { witnesses = after }) new (kept_numbered w after learned holder n same kept) (sym (length-Extends g new h) ∙
     size)
-    (λ number counts. elim (before_or_from number (length w.witnesses)) [
+    (λ number counts. elim (cases_lt number (length w.witnesses)) [
       | inl low ↦ kept_witness w after g new learned holder place c number n size e h differ are held (kept number low) counts
       | inr high ↦ absurd (past after number (omega (arith, same)) counts)
     ])
@@ -396,7 +396,7 @@ meets-filled w place number trial h e = record {
         ⊎ ((get_or (met_by (record w { fillable = set w.fillable place number }) colour) k 0 ≡ number) × (get_or trial k Unknown ≡ colour))
     by k Unknown = inl refl
     by k Filled =
-        elim (same_or_not k place) [
+        elim (cases_eq k place) [
           | inl same ↦ inr (
             ap (λ (q : ℕ). get_or (set w.fillable place number) q 0) same ∙ get_or-set_same w.fillable place number 0 h,
             ap (λ (q : ℕ). get_or trial q Unknown) same ∙ e,
@@ -424,7 +424,7 @@ meets-blank w place number trial h e = record {
     by k Unknown = inl refl
     by k Filled = inl refl
     by k Blank =
-        elim (same_or_not k place) [
+        elim (cases_eq k place) [
           | inl same ↦ inr (
             ap (λ (q : ℕ). get_or (set w.blankable place number) q 0) same ∙ get_or-set_same w.blankable place number 0 h,
             ap (λ (q : ℕ). get_or trial q Unknown) same ∙ e,
@@ -455,11 +455,11 @@ added_witnesses w new g trial last n size closed h differ are adds =
     with_colours new g (more_numbered (record w { witnesses = w.witnesses ++ last ∷ [] }) new (length w.witnesses) trial
     (added_numbered w last n) (omega (arith, length-append w.witnesses (last ∷ []))) adds)
     (size ∙ ap (λ (p : Nonogram). p.width * p.height) (sym adds.puzzle))
-    (λ number counts. elim (before_or_from number (length w.witnesses)) [
+    (λ number counts. elim (cases_lt number (length w.witnesses)) [
       | inl low ↦ before number low counts
       | inr high ↦
           (let few : number < length new.witnesses =
-          elim (before_or_from number (length new.witnesses)) [ inl l ↦ l | inr l ↦ absurd (past new.witnesses number l counts) ] in
+          elim (cases_lt number (length new.witnesses)) [ inl l ↦ l | inr l ↦ absurd (past new.witnesses number l counts) ] in
           let own : number ≡ length w.witnesses = omega (arith, ap length adds.witnesses, length-append w.witnesses (last ∷ [])) in
           subst (IsWitness new g) (sym own) itself)
     ])
@@ -506,14 +506,14 @@ added_witnesses w new g trial last n size closed h differ are adds =
 -- if no witness but the first is left, none counts, and so each that counts is alive
 pub no_witnesses : (w : WitnessedPuzzle) (cells : List Cell) → AreNumbered w → length cells ≡ w.puzzle.width * w.puzzle.height →
     length w.witnesses ≤ 1 → AreWitnesses w cells
-no_witnesses w cells n size few = with_colours w cells n size (λ number counts. elim (before_or_from number 1) [
+no_witnesses w cells n size few = with_colours w cells n size (λ number counts. elim (cases_lt number 1) [
   | inl low ↦ (let first : number ≡ 0 = omega arith in
       absurd (true≢false (sym counts ∙ ap (λ (q : ℕ). (witness_at w.witnesses q).counts) first ∙ n.none)))
   | inr high ↦ absurd (past w.witnesses number (omega arith) counts)
 ])
 
 zeros : (n k : ℕ) → let none : ℕ = 0 in get_or (replicate n none) k none ≡ none
-zeros n k = let none : ℕ = 0 in elim (before_or_from k n) [
+zeros n k = let none : ℕ = 0 in elim (cases_lt k n) [
   | inl l ↦ get_or-replicate n k none none l
   | inr l ↦ get_or_past (replicate n none) k none (omega (arith, length-replicate n none))
 ]

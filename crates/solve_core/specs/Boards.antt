@@ -2,9 +2,9 @@
 use Rattle.std.specs.Prelude.{◌≡◌, ℕ, ◌*◌, ◌≤◌, List, [], length, replicate}
 use Rattle.grid_core.specs.declared.cells.Cell.{Cell}
 use Rattle.grid_core.specs.declared.cells.Cell.TheVariants.{Unknown}
-use Rattle.grid_core.specs.Nonogram.{Nonogram, cells_at}
+use Rattle.grid_core.specs.declared.sides.Side.{Side}
+use Rattle.grid_core.specs.Nonogram.{Nonogram, cells_at, places_on}
 use Rattle.grid_core.specs.PartialGrid.{PartialGrid, IsSize}
-use Rattle.solve_core.specs.Lines.{places_in, places_of}
 use Rattle.solve_core.specs.Trails.{TrailedGrid, IsTrailedGrid}
 
 -- a grid of which nothing is known
@@ -30,6 +30,10 @@ pub record IsBoard (g : TrailedGrid) (room : ℕ) : Type 0 where
 abbrev pub IsBoardOf : Nonogram → TrailedGrid → Type 0
 IsBoardOf p g = (g.width ≡ p.width) × (g.height ≡ p.height) × (length g.cells ≡ p.width * p.height)
 
--- the cells of a grid along line n
-abbrev pub cells_along : TrailedGrid → ℕ → List Cell
-cells_along g n = cells_at Unknown g.cells (places_of (places_in g.width g.height n))
+-- the size is one of a grid, and there are as many cells
+abbrev pub IsWhole : TrailedGrid → Type 0
+IsWhole g = IsSize g.width g.height × (length g.cells ≡ g.width * g.height)
+
+-- the cells of a grid along line i of a side
+abbrev pub cells_along : TrailedGrid → Side → ℕ → List Cell
+cells_along g side i = cells_at Unknown g.cells (places_on side g.width g.height i)

@@ -1,16 +1,15 @@
 -- Deductions of a puzzle's lines that are remembered.
 use Rattle.std.specs.Prelude.{◌≡◌, ◌⊎◌, ℕ, ◌*◌, ◌≤◌, List, All}
 use Rattle.std.specs.List.{Contains}
-use Rattle.grid_core.specs.Nonogram.{Nonogram}
+use Rattle.grid_core.specs.Nonogram.{Nonogram, line_on}
 use Rattle.line_core.specs.Deduction.{deduced}
-use Rattle.solve_core.specs.Lines.{line_at}
 use Rattle.solve_core.specs.Widths.{FitsIn}
 use Rattle.solve_core.specs.declared.deductions.TheConstants.{MOST_REMEMBERED}
 use Rattle.solve_core.specs.declared.deductions.Deduction.{Deduction}
 
 -- what is remembered of a line is what is certain of it
 abbrev pub IsDeductionOf : {W : Type 0} → Nonogram → Deduction W → Type 0
-IsDeductionOf p d = d.answer ≡ deduced d.line (line_at p d.number).clue
+IsDeductionOf p d = d.answer ≡ deduced d.line (line_on d.side p d.number).clue
 
 -- a deduction is the new one, or one of the old ones
 abbrev pub IsKeptFrom : {W : Type 0} → List (Deduction W) → Deduction W → Deduction W → Type 0

@@ -10,7 +10,6 @@ pub mod Boards
 pub mod GridLines
 pub mod MarkedPuzzles
 pub mod TriedPuzzles
-pub mod Lines
 pub mod Deductions
 pub mod Marks
 pub mod Sizes

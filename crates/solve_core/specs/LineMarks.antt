@@ -1,42 +1,32 @@
 -- Marks of lines.
-use Rattle.std.specs.Prelude.{◌≡◌, ◌+◌, ◌<◌, ◌≤◌, ℕ, Bool, true, false, List, ◌++◌, map, slice_index_or, Option, Some, None}
-use Rattle.std.specs.List.{range_with_len}
-use Rattle.place_sets.specs.Masks.{Has, has}
-use Rattle.solve_core.specs.Marks.{AreUnmarkedFrom}
-use Rattle.solve_core.specs.declared.places.Places.{Places}
+use Rattle.std.specs.Prelude.{◌<◌, ℕ}
+use Rattle.grid_core.specs.declared.sides.Side.{Side}
+use Rattle.grid_core.specs.declared.sides.Side.TheVariants.{Rows, Columns}
+use Rattle.grid_core.specs.Nonogram.{count_on}
+use Rattle.place_sets.specs.Masks.{Has}
 
--- a mark for each line of a grid, the rows first, and how many rows there are
+-- the marks of the rows and of the columns, each as a mask
 pub record LineMarks : Type 0 where
-  pub height : ℕ
-  pub list : List Bool
+  pub rows : ℕ
+  pub columns : ℕ
 
--- the marks that are kept as two masks
-abbrev pub marks_by : ℕ → ℕ → ℕ → ℕ → List Bool
-marks_by height width rows columns = map (has rows) (range_with_len 0 height) ++ map (has columns) (range_with_len 0 width)
+-- the marks of the lines of a side
+abbrev pub marks_on : Side → LineMarks → ℕ
+marks_on Rows marks = marks.rows
+marks_on Columns marks = marks.columns
 
--- what the masks keep: no more rows and columns than there are places, and no mark beyond them
-pub record AreMarks (most height width rows columns : ℕ) : Type 0 where
-  pub rows_some : 1 ≤ height
-  pub columns_some : 1 ≤ width
-  pub rows_fit : height ≤ most
-  pub columns_fit : width ≤ most
-  pub rows_within : (i : ℕ) → Has rows i → i < height
-  pub columns_within : (i : ℕ) → Has columns i → i < width
+-- line i of a side is marked
+abbrev pub IsMarkedOn : LineMarks → Side → ℕ → Type 0
+IsMarkedOn marks side i = Has (marks_on side marks) i
 
--- no mark was taken away, only lines that cross at these places were marked,
--- and each of them was marked if `P` holds of its place
-pub record MarksPlaces (places : Places) (P : ℕ → Type 0) (before after : List Bool) : Type 0 where
-  pub kept : (n : ℕ) → slice_index_or after n false ≡ false → slice_index_or before n false ≡ false
-  pub others : (n : ℕ) → (places.crossing ≤ n → places.crossing + places.count ≤ n) →
-      slice_index_or after n false ≡ slice_index_or before n false
-  pub marked : (i : ℕ) → i < places.count → slice_index_or after (places.crossing + i) false ≡ false → P i → ⊥
+-- no line of a side is marked
+abbrev pub IsUnmarkedOn : LineMarks → Side → Type 0
+IsUnmarkedOn marks side = (i : ℕ) → IsMarkedOn marks side i → ⊥
 
--- the first marked line of a range, if there is one
-abbrev pub IsFirstMarked : List Bool → ℕ → ℕ → Option ℕ → Type 0
-IsFirstMarked marks start end None = AreUnmarkedFrom start end marks
-IsFirstMarked marks start end (Some n) = (start ≤ n) × (n < end) × (slice_index_or marks n false ≡ true) × AreUnmarkedFrom start n marks
+-- no line is marked
+abbrev pub AreUnmarked : LineMarks → Type 0
+AreUnmarked marks = (side : Side) → IsUnmarkedOn marks side
 
--- the first place of a mask between two bounds, if there is one
-abbrev pub IsFirstBetween : ℕ → ℕ → ℕ → Option ℕ → Type 0
-IsFirstBetween mask start end None = (k : ℕ) → start ≤ k → k < end → Has mask k → ⊥
-IsFirstBetween mask start end (Some i) = (start ≤ i) × (i < end) × Has mask i × ((k : ℕ) → start ≤ k → k < i → Has mask k → ⊥)
+-- only lines of a grid of this size are marked
+abbrev pub AreMarksWithin : ℕ → ℕ → LineMarks → Type 0
+AreMarksWithin width height marks = (side : Side) (i : ℕ) → IsMarkedOn marks side i → i < count_on side width height

@@ -1,8 +1,8 @@
 -- A puzzle with the marks of its lines.
-use Rattle.std.specs.Prelude.{Bool, List}
 use Rattle.grid_core.specs.Nonogram.{Nonogram}
+use Rattle.solve_core.specs.LineMarks.{LineMarks}
 
--- a puzzle, with a mark for each line, the rows first
+-- a puzzle, with the marks of its lines
 pub record MarkedPuzzle : Type 0 where
   pub puzzle : Nonogram
-  pub marks : List Bool
+  pub marks : LineMarks

@@ -1,15 +1,15 @@
 -- What closing and trials keep: the marks of lines and of colours, and what a step came to.
-use Rattle.std.specs.Prelude.{◌⊎◌, ◌≡◌, ℕ, ◌+◌, ◌*◌, ◌<◌, ◌≤◌, Bool, true, false, List, length, Option, Some, None, slice_index_or, slice_set}
+use Rattle.std.specs.Prelude.{◌⊎◌, ◌≡◌, ℕ, ◌*◌, ◌<◌, Bool, true, false, List, length, Option, Some, None, slice_index_or, slice_set}
 use Rattle.grid_core.specs.declared.cells.Cell.{Cell}
 use Rattle.grid_core.specs.declared.cells.Cell.TheVariants.{Unknown, Filled, Blank}
-use Rattle.grid_core.specs.Nonogram.{Nonogram, IsNonogram, GridLine, lines_of, cells_at}
+use Rattle.grid_core.specs.declared.sides.Side.{Side}
+use Rattle.grid_core.specs.Nonogram.{Nonogram, IsNonogram, GridLine, lines_of, line_on, count_on, place_on, crossing, cells_at}
 use Rattle.line_core.specs.Deduction.{deduced}
 use Rattle.solve_core.specs.Closure.{with_cells, closure}
-use Rattle.solve_core.specs.Lines.{line_count, line_at}
+use Rattle.solve_core.specs.LineMarks.{LineMarks, marks_on, IsMarkedOn, AreUnmarked, AreMarksWithin}
 use Rattle.solve_core.specs.Trails.{unknown_count}
 use Rattle.solve_core.specs.Trials.{is_refuted}
 use Rattle.solve_core.specs.MarkedPuzzles.{MarkedPuzzle}
-use Rattle.solve_core.specs.declared.places.Places.{Places}
 use Rattle.solve_core.specs.declared.trials.Trial.{Trial}
 use Rattle.solve_core.specs.declared.trials.Trial.TheVariants.{Refuted, Open, Closed}
 use Rattle.solve_core.specs.declared.closures.Progress.{Progress}
@@ -37,46 +37,29 @@ IsLearned Dead line old new = deduced (cells_at Unknown old line.places) line.cl
 IsLearned Same line old new = (new ≡ old) × IsSettled old line
 IsLearned Changed line old new = IsWritten line old new × (unknown_count new < unknown_count old)
 
--- no mark was taken away, only lines that cross at these places were marked,
--- and each of them was marked if the cell there changed
-pub record MarksChanges (places : Places) (old new : List Cell) (before after : List Bool) : Type 0 where
-  pub kept : (n : ℕ) → slice_index_or after n false ≡ false → slice_index_or before n false ≡ false
-  pub others : (n : ℕ) → (places.crossing ≤ n → places.crossing + places.count ≤ n) →
-      slice_index_or after n false ≡ slice_index_or before n false
-  pub same : (i : ℕ) → i < places.count → slice_index_or after (places.crossing + i) false ≡ false
-      → slice_index_or new (places.first + i * places.step) Unknown ≡ slice_index_or old (places.first + i * places.step) Unknown
+-- line i of a side got new cells. The marks of that side stayed, no mark of a crossing line was taken away, only
+-- lines that cross it were marked, and each of them was marked if the cell there changed
+pub record MarksChanges (side : Side) (i width height : ℕ) (old new : List Cell) (before after : LineMarks) : Type 0 where
+  pub own : marks_on side after ≡ marks_on side before
+  pub kept : (k : ℕ) → IsMarkedOn before (crossing side) k → IsMarkedOn after (crossing side) k
+  pub crossing_it : (k : ℕ) → IsMarkedOn after (crossing side) k → IsMarkedOn before (crossing side) k ⊎
+      (k < count_on (crossing side) width height)
+  pub same : (k : ℕ) → k < count_on (crossing side) width height → (IsMarkedOn after (crossing side) k → ⊥)
+      → slice_index_or new (place_on side width i k) Unknown ≡ slice_index_or old (place_on side width i k) Unknown
 
--- each line that may have more to give is marked
-pub record HasMarks (m : MarkedPuzzle) (cells : List Cell) : Type 0 where
-  pub puzzle : IsNonogram m.puzzle
-  pub size : length cells ≡ m.puzzle.width * m.puzzle.height
-  pub settled : (n : ℕ) → n < line_count m.puzzle → slice_index_or m.marks n false ≡ false → IsSettled cells (line_at m.puzzle n)
+-- each line that may have more to give is marked, and only lines of the puzzle are
+pub record HasMarks (p : Nonogram) (marks : LineMarks) (cells : List Cell) : Type 0 where
+  pub puzzle : IsNonogram p
+  pub size : length cells ≡ p.width * p.height
+  pub within : AreMarksWithin p.width p.height marks
+  pub settled : (side : Side) (i : ℕ) → i < count_on side p.width p.height → (IsMarkedOn marks side i → ⊥) →
+      IsSettled cells (line_on side p i)
 
 -- each line that may have more to give is marked, unless the cells are dead
-abbrev pub MarksAfter : Progress → MarkedPuzzle → List Cell → Type 0
-MarksAfter Dead m cells = Unit {0}
-MarksAfter Same m cells = HasMarks m cells
-MarksAfter Changed m cells = HasMarks m cells
-
--- no mark is set
-abbrev pub AreUnmarked : List Bool → Type 0
-AreUnmarked marks = (k : ℕ) → slice_index_or marks k false ≡ false
-
--- no line of a range is marked
-abbrev pub AreUnmarkedFrom : ℕ → ℕ → List Bool → Type 0
-AreUnmarkedFrom start end marks = (n : ℕ) → start ≤ n → n < end → slice_index_or marks n false ≡ false
-
--- no mark was made
-abbrev pub AddsNone : List Bool → List Bool → Type 0
-AddsNone old new = (n : ℕ) → slice_index_or old n false ≡ false → slice_index_or new n false ≡ false
-
--- all lines of a range are rows, or all are columns: none of them crosses another
-abbrev pub AreParallel : Nonogram → ℕ → ℕ → Type 0
-AreParallel p start end = (end ≤ p.height) ⊎ (p.height ≤ start)
-
--- no line is marked
-abbrev pub IsUnmarked : MarkedPuzzle → Type 0
-IsUnmarked m = AreUnmarkedFrom 0 (line_count m.puzzle) m.marks
+abbrev pub MarksAfter : Progress → Nonogram → LineMarks → List Cell → Type 0
+MarksAfter Dead p marks cells = Unit {0}
+MarksAfter Same p marks cells = HasMarks p marks cells
+MarksAfter Changed p marks cells = HasMarks p marks cells
 
 -- a step towards f of the cells: they are dead, the same, or fewer are unknown, and f of them is the same
 abbrev pub Progresses : (List Cell → Option (List Cell)) → Progress → List Cell → List Cell → Type 0
@@ -86,8 +69,8 @@ Progresses f Changed old new = (f new ≡ f old) × (unknown_count new < unknown
 
 -- no line has more to give, and none is marked
 pub record IsAtRest (m : MarkedPuzzle) (cells : List Cell) : Type 0 where
-  pub marks : HasMarks m cells
-  pub unmarked : IsUnmarked m
+  pub marks : HasMarks m.puzzle m.marks cells
+  pub unmarked : AreUnmarked m.marks
 
 -- at each marked place the colour isn't refuted
 abbrev pub AreOpen : List GridLine → List Cell → Cell → List Bool → Type 0

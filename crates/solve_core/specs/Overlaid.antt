@@ -2,8 +2,8 @@
 use Rattle.std.specs.Prelude.{◌≡◌, ◌⊎◌, ℕ, ◌<◌, List, [], ◌∷◌}
 use Rattle.grid_core.specs.declared.cells.Cell.{Cell}
 use Rattle.grid_core.specs.declared.cells.Cell.TheVariants.{Unknown, Filled, Blank}
-use Rattle.grid_core.specs.Nonogram.{Nonogram, GridLine, cells_at}
-use Rattle.solve_core.specs.Lines.{line_at, line_count}
+use Rattle.grid_core.specs.declared.sides.Side.{Side}
+use Rattle.grid_core.specs.Nonogram.{Nonogram, GridLine, cells_at, count_on, line_on}
 
 -- the cell, or the other one if nothing is known of it
 abbrev pub over : Cell → Cell → Cell
@@ -23,4 +23,5 @@ AreAlike grid other line = cells_at Unknown grid line.places ≡ cells_at Unknow
 
 -- along each line one grid or the other knows no more than the one that both came from
 abbrev pub AreApart : Nonogram → List Cell → List Cell → List Cell → Type 0
-AreApart p from one other = (n : ℕ) → n < line_count p → AreAlike from one (line_at p n) ⊎ AreAlike from other (line_at p n)
+AreApart p from one other = (side : Side) (i : ℕ) → i < count_on side p.width p.height →
+    AreAlike from one (line_on side p i) ⊎ AreAlike from other (line_on side p i)

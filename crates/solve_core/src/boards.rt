@@ -1,16 +1,16 @@
 //! A grid as its rows and its columns, with the way back.
 ghost use Rattle.std.specs.Prelude.{◌≡◌, ◌+◌, ◌-◌, ◌*◌, ◌<◌, ◌≤◌, [], length, take, slice_index_or, slice_set, true, IfOk};
 ghost use Rattle.grid_core.specs.Cells.{is_known};
-ghost use Rattle.solve_core.specs.Lines.{places_in, place_along};
+ghost use Rattle.grid_core.specs.Nonogram.{column_on, count_on, crossing, place_on, row_on};
 ghost use Rattle.grid_core.specs.PartialGrid.{IsSize};
 ghost use Rattle.grid_core.specs.declared.cells.Cell.TheVariants.{Unknown};
-ghost use Rattle.solve_core.specs.Boards.{fresh_board, grid_of_board, unknown_board};
+ghost use Rattle.solve_core.specs.Boards.{cells_along, fresh_board, grid_of_board, unknown_board, IsWhole};
 ghost use Rattle.solve_core.specs.Branches.{cells_before};
 ghost use Rattle.solve_core.specs.Trails.{IsTrailed, IsTrailedGrid};
 
 use crate::grid_lines::GridLines;
-use grid_core::{Cell, Grid, NoMemory};
-use line_core::LineSet;
+use grid_core::{Cell, Grid, NoMemory, Side};
+use line_core::{LineOf, LineSet};
 use std::alloc::Global;
 use std::marker::Model;
 
@@ -37,6 +37,17 @@ impl<W: LineSet> Model for Board<W> {
       cells = b.lines.cells;
       trail = b.trail.items;
     }) (vec_capacity b.trail) };
+}
+
+/// The column and the row of cell k of line i of a side.
+fn cell_on(side: Side, i: u16, k: u16) -> (usize, usize)
+    ensures column { result.0 ≡ column_on side i k }
+    ensures row { result.1 ≡ row_on side i k }
+{
+    match side {
+        Side::Rows => (usize::from(k), usize::from(i)),
+        Side::Columns => (usize::from(i), usize::from(k)),
+    }
 }
 
 impl<W: LineSet> Board<W> {
@@ -69,35 +80,28 @@ impl<W: LineSet> Board<W> {
         &self.trail
     }
 
-    /// Settles the unknown cell in column x and row y.
-    pub fn settle(&mut self, x: usize, y: usize, cell: Cell)
-        requires column { x < self.old.width }
-        requires row { y < self.old.height }
-        requires unknown { slice_index_or self.old.cells (y * self.old.width + x) Unknown ≡ Unknown }
+    /// The cells of line i of a side.
+    pub fn line(&self, side: Side, i: u16) -> &LineOf<W>
+        requires { i < count_on side self.now.width self.now.height }
+        ensures cells { result.now ≡ cells_along self.now side i }
+        ensures whole { IsWhole self.now }
+    {
+        self.lines.line(side, i)
+    }
+
+    /// Settles the unknown cell k of line i of a side.
+    pub fn settle(&mut self, side: Side, i: u16, k: u16, cell: Cell)
+        requires i { i < count_on side self.old.width self.old.height }
+        requires k { k < count_on (crossing side) self.old.width self.old.height }
+        requires unknown { slice_index_or self.old.cells (place_on side self.old.width i k) Unknown ≡ Unknown }
         requires known { is_known cell ≡ true }
-        ensures cells { self.new.cells ≡ slice_set self.old.cells (y * self.old.width + x) cell }
+        ensures cells { self.new.cells ≡ slice_set self.old.cells (place_on side self.old.width i k) cell }
         ensures trail { IsTrailed self.old self.new }
     {
+        let (x, y) = cell_on(side, i, k);
         let place = y * self.lines.width() + x;
         self.lines.settle(x, y, cell);
         self.trail.push_reserved(place as u16);
-    }
-
-    /// Settles the unknown cell i of line n.
-    pub fn settle_along(&mut self, n: usize, i: usize, cell: Cell)
-        requires n { n < self.old.height + self.old.width }
-        requires i { i < (places_in self.old.width self.old.height n).count }
-        requires unknown { slice_index_or self.old.cells (place_along self.old.width self.old.height n i) Unknown ≡ Unknown }
-        requires known { is_known cell ≡ true }
-        ensures cells { self.new.cells ≡ slice_set self.old.cells (place_along self.old.width self.old.height n i) cell }
-        ensures trail { IsTrailed self.old self.new }
-    {
-        let height = self.lines.height();
-        if n < height {
-            self.settle(i, n, cell);
-        } else {
-            self.settle(n - height, i, cell);
-        }
     }
 
     /// Makes the cell unknown that was settled last.

@@ -1,11 +1,12 @@
 //! The closure of a grid, by a mark at each line that may have more to give.
 ghost use Rattle.std.specs.Prelude.{◌≡◌, ◌≢◌, ℕ, ◌+◌, ◌*◌, ◌<◌, ◌≤◌, ◌↔◌, true, false, length, slice_set, slice_index_or, IsTrue};
 ghost use Rattle.grid_core.specs.Cells.{is_known};
-ghost use Rattle.grid_core.specs.Nonogram.{IsNonogram, lines_of};
+ghost use Rattle.grid_core.specs.Nonogram.{count_on, crossing, line_on, lines_of};
+ghost use Rattle.place_sets.specs.Masks.{Has, IsMarked, IsMaskOf};
 ghost use Rattle.grid_core.specs.declared.cells.Cell.TheVariants.{Unknown};
 ghost use Rattle.solve_core.specs.Closure.{closure};
-ghost use Rattle.solve_core.specs.Lines.{line_at, line_count, places_in};
-ghost use Rattle.solve_core.specs.Marks.{IsLearned, MarksChanges, HasMarks, Progresses, MarksAfter, AreParallel, AreUnmarkedFrom, AddsNone, IsUnmarked, IsAtRest, if_alive};
+ghost use Rattle.solve_core.specs.LineMarks.{marks_on, AreUnmarked, IsUnmarkedOn};
+ghost use Rattle.solve_core.specs.Marks.{IsLearned, MarksChanges, HasMarks, Progresses, MarksAfter, IsAtRest, if_alive};
 ghost use Rattle.solve_core.specs.Trails.{IsTrailed, cleared};
 ghost use Rattle.solve_core.specs.Widths.{FitsIn};
 ghost use Rattle.solve_core.specs.Boards.{IsBoardOf};
@@ -15,7 +16,7 @@ use crate::boards::Board;
 use crate::deductions::Deductions;
 use crate::marks::Marks;
 use crate::places::write_line;
-use grid_core::{Cell, Puzzle};
+use grid_core::{Cell, Puzzle, Side};
 use line_core::LineSet;
 use std::marker::Model;
 
@@ -39,8 +40,7 @@ impl Progress {
     }
 }
 
-/// What closing works with: a puzzle, its tables, and a mark for each line that may have more to give, the
-/// rows first.
+/// What closing works with: a puzzle, its tables, and a mark for each line that may have more to give.
 #[derive(Drop)]
 pub struct Closer<'p, W: LineSet> {
     puzzle: &'p Puzzle,
@@ -49,50 +49,43 @@ pub struct Closer<'p, W: LineSet> {
 }
 
 impl<'p, W: LineSet> Model for Closer<'p, W> {
-    ghost use Rattle.std.specs.Prelude.{◌≡◌, length};
-    ghost use Rattle.grid_core.specs.Nonogram.{IsNonogram};
-    ghost use Rattle.solve_core.specs.Lines.{line_count};
+    ghost use Rattle.std.specs.Prelude.{◌≡◌};
+    ghost use Rattle.solve_core.specs.Widths.{FitsIn};
     ghost use Rattle.solve_core.specs.MarkedPuzzles.{MarkedPuzzle};
 
     ghost Value = { MarkedPuzzle };
 
-    ghost view = { λ c. record { puzzle = c.puzzle.now; marks = c.marks.list } };
+    ghost view = { λ c. record { puzzle = c.puzzle.now; marks = c.marks } };
 
-    ghost invariant = { λ c. IsNonogram c.puzzle.now × (c.deductions ≡ c.puzzle.now) × (length c.marks.list ≡ line_count c.puzzle.now) ×
-        (c.marks.height ≡ c.puzzle.now.height) };
+    ghost invariant = { λ c. FitsIn W.WIDTH c.puzzle.now × (c.deductions ≡ c.puzzle.now) };
 }
 
-/// Writes what is certain of line n, and marks the lines that cross it at the cells that it learned.
+/// Writes what is certain of line i of a side, and marks the lines that cross it at the cells that it learned.
 fn learn_line<W: LineSet>(
     deductions: &mut Deductions<'_, W>,
-    n: usize,
+    side: Side,
+    i: u16,
     board: &mut Board<W>,
     marks: &mut Marks<W>,
 ) -> Progress
-    requires n { n < line_count deductions.old }
-    requires puzzle { IsNonogram deductions.old }
+    requires i { i < count_on side deductions.old.width deductions.old.height }
     requires board { IsBoardOf deductions.old board.old }
-    requires marks { length marks.old.list ≡ line_count deductions.old }
-    requires height { marks.old.height ≡ deductions.old.height }
-    ensures learned { IsLearned result (line_at deductions.old n) board.old.cells board.new.cells }
-    ensures marks { MarksChanges (places_in deductions.old.width deductions.old.height n) board.old.cells board.new.cells marks.old.list
-        marks.new.list }
+    ensures learned { IsLearned result (line_on side deductions.old i) board.old.cells board.new.cells }
+    ensures marks { MarksChanges side i deductions.old.width deductions.old.height board.old.cells board.new.cells marks.old marks.new }
     ensures same { result ≡ Same → marks.new ≡ marks.old }
-    ensures count { length marks.new.list ≡ length marks.old.list }
-    ensures height { marks.new.height ≡ marks.old.height }
     ensures trail { IsTrailed board.old board.new }
     ensures puzzle { deductions.new ≡ deductions.old }
 {
-    let old = board.lines().line(n);
-    let Some(new) = deductions.deduce(n, old) else {
+    let old = board.line(side, i);
+    let Some(new) = deductions.deduce(side, i, old) else {
         return Progress::Dead;
     };
     let changes = old.changes(&new);
     if changes.is_empty() {
         return Progress::Same;
     }
-    marks.mark_crossing(n, changes);
-    write_line(board, n, &new, changes);
+    marks.add(side.crossing(), changes);
+    write_line(board, side, i, &new, changes);
     Progress::Changed
 }
 
@@ -106,49 +99,46 @@ impl<'p, W: LineSet> Closer<'p, W> {
         Closer {
             puzzle,
             deductions,
-            marks: Marks::new(puzzle.height(), puzzle.width()),
+            marks: Marks::none(),
         }
     }
 
-    /// Deduces line n.
-    fn deduce_line(&mut self, n: usize, board: &mut Board<W>) -> Progress
-        requires n { n < line_count self.old.puzzle }
-        requires marks { HasMarks self.old board.old.cells }
+    /// Deduces line i of a side.
+    fn deduce_line(&mut self, side: Side, i: u16, board: &mut Board<W>) -> Progress
+        requires i { i < count_on side self.old.puzzle.width self.old.puzzle.height }
+        requires marks { HasMarks self.old.puzzle self.old.marks board.old.cells }
         requires size { IsBoardOf self.old.puzzle board.old }
         ensures progress { Progresses (closure (lines_of self.old.puzzle)) result board.old.cells board.new.cells }
-        ensures marks { MarksAfter result self.new board.new.cells }
-        ensures unmarked { (start end : ℕ) → AreParallel self.old.puzzle start end → start ≤ n → n < end →
-            AreUnmarkedFrom start n self.old.marks → AreUnmarkedFrom start (n + 1) self.new.marks }
-        ensures same { result ≡ Same → AddsNone self.old.marks self.new.marks }
+        ensures marks { MarksAfter result self.old.puzzle self.new.marks board.new.cells }
+        ensures own { IsMaskOf (IsMarked (Has (marks_on side self.old.marks)) i false) (marks_on side self.new.marks) }
+        ensures same { result ≡ Same → marks_on (crossing side) self.new.marks ≡ marks_on (crossing side) self.old.marks }
         ensures trail { IsTrailed board.old board.new }
         ensures puzzle { self.new.puzzle ≡ self.old.puzzle }
     {
-        self.marks.set(n, false);
-        learn_line(&mut self.deductions, n, board, &mut self.marks)
+        self.marks.set(side, i, false);
+        learn_line(&mut self.deductions, side, i, board, &mut self.marks)
     }
 
-    /// Deduces each marked line from `start` on and before `end`: rows, or columns.
-    fn deduce_range(&mut self, start: usize, end: usize, board: &mut Board<W>) -> Progress
-        requires end { end ≤ line_count self.old.puzzle }
-        requires parallel { AreParallel self.old.puzzle start end }
-        requires marks { HasMarks self.old board.old.cells }
+    /// Deduces each marked line of a side.
+    fn deduce_side(&mut self, side: Side, board: &mut Board<W>) -> Progress
+        requires marks { HasMarks self.old.puzzle self.old.marks board.old.cells }
         requires size { IsBoardOf self.old.puzzle board.old }
         ensures progress { Progresses (closure (lines_of self.old.puzzle)) result board.old.cells board.new.cells }
-        ensures marks { MarksAfter result self.new board.new.cells }
-        ensures unmarked { result ≢ Dead → AreUnmarkedFrom start end self.new.marks }
-        ensures same { result ≡ Same → AddsNone self.old.marks self.new.marks }
+        ensures marks { MarksAfter result self.old.puzzle self.new.marks board.new.cells }
+        ensures unmarked { result ≢ Dead → IsUnmarkedOn self.new.marks side }
+        ensures same { result ≡ Same → marks_on (crossing side) self.new.marks ≡ marks_on (crossing side) self.old.marks }
         ensures trail { IsTrailed board.old board.new }
         ensures puzzle { self.new.puzzle ≡ self.old.puzzle }
     {
         let mut progress = Progress::Same;
-        let mut from = start;
-        while let Some(n) = self.marks.first(from, end) {
-            match self.deduce_line(n, board) {
+        let mut from = 0;
+        while let Some(i) = self.marks.first(side, from) {
+            match self.deduce_line(side, i, board) {
                 Progress::Dead => return Progress::Dead,
                 Progress::Same => {}
                 Progress::Changed => progress = Progress::Changed,
             }
-            from = n + 1;
+            from = i + 1;
         }
         progress
     }
@@ -156,20 +146,18 @@ impl<'p, W: LineSet> Closer<'p, W> {
     /// Deduces marked lines until none is marked: all rows in turn, then all columns, and again. Returns
     /// whether the grid is alive.
     fn deduce_marked(&mut self, board: &mut Board<W>) -> bool
-        requires marks { HasMarks self.old board.old.cells }
+        requires marks { HasMarks self.old.puzzle self.old.marks board.old.cells }
         requires size { IsBoardOf self.old.puzzle board.old }
         ensures closed { if_alive result board.new.cells ≡ closure (lines_of self.old.puzzle) board.old.cells }
         ensures rest { IsTrue result → IsAtRest self.new board.new.cells }
         ensures trail { IsTrailed board.old board.new }
         ensures puzzle { self.new.puzzle ≡ self.old.puzzle }
     {
-        let height = usize::from(self.puzzle.height());
-        let count = height + usize::from(self.puzzle.width());
         loop {
-            if self.deduce_range(0, height, board).is_dead() {
+            if self.deduce_side(Side::Rows, board).is_dead() {
                 return false;
             }
-            match self.deduce_range(height, count, board) {
+            match self.deduce_side(Side::Columns, board) {
                 Progress::Dead => return false,
                 Progress::Same => return true,
                 Progress::Changed => {}
@@ -179,10 +167,10 @@ impl<'p, W: LineSet> Closer<'p, W> {
 
     /// Closes a board by the marked lines. Returns whether it is alive. No line is marked then.
     fn propagate(&mut self, board: &mut Board<W>) -> bool
-        requires marks { HasMarks self.old board.old.cells }
+        requires marks { HasMarks self.old.puzzle self.old.marks board.old.cells }
         requires size { IsBoardOf self.old.puzzle board.old }
         ensures closed { if_alive result board.new.cells ≡ closure (lines_of self.old.puzzle) board.old.cells }
-        ensures unmarked { IsUnmarked self.new }
+        ensures unmarked { AreUnmarked self.new.marks }
         ensures rest { IsTrue result → IsAtRest self.new board.new.cells }
         ensures trail { IsTrailed board.old board.new }
         ensures size { IsBoardOf self.old.puzzle board.new }
@@ -190,7 +178,7 @@ impl<'p, W: LineSet> Closer<'p, W> {
     {
         let alive = self.deduce_marked(board);
         if !alive {
-            self.marks.clear();
+            self.marks = Marks::none();
         }
         alive
     }
@@ -204,7 +192,8 @@ impl<'p, W: LineSet> Closer<'p, W> {
         ensures size { IsBoardOf self.old.puzzle board.new }
         ensures puzzle { self.new.puzzle ≡ self.old.puzzle }
     {
-        self.marks.mark_all();
+        self.marks
+            .mark_all(self.puzzle.width(), self.puzzle.height());
         self.propagate(board)
     }
 
@@ -218,18 +207,17 @@ impl<'p, W: LineSet> Closer<'p, W> {
         requires unknown { slice_index_or board.old.cells place Unknown ≡ Unknown }
         requires colour { is_known colour ≡ true }
         ensures closed { if_alive result board.new.cells ≡ closure (lines_of self.old.puzzle) (slice_set board.old.cells place colour) }
-        ensures unmarked { IsUnmarked self.new }
+        ensures unmarked { AreUnmarked self.new.marks }
         ensures rest { IsTrue result → IsAtRest self.new board.new.cells }
         ensures trail { IsTrailed board.old board.new }
         ensures size { IsBoardOf self.old.puzzle board.new }
         ensures puzzle { self.new.puzzle ≡ self.old.puzzle }
     {
         let width = usize::from(self.puzzle.width());
-        let height = usize::from(self.puzzle.height());
-        let (x, y) = (place % width, place / width);
-        self.marks.set(y, true);
-        self.marks.set(height + x, true);
-        board.settle(x, y, colour);
+        let (x, y) = ((place % width) as u16, (place / width) as u16);
+        self.marks.set(Side::Rows, y, true);
+        self.marks.set(Side::Columns, x, true);
+        board.settle(Side::Rows, y, x, colour);
         self.propagate(board)
     }
 

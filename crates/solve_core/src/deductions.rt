@@ -2,11 +2,11 @@
 ghost use Rattle.std.specs.Prelude.{◌≡◌, ◌+◌, ◌*◌, ◌<◌, ◌≤◌, ◌↔◌, length, vec_capacity, IsTrue, IfOk, IfSome, All};
 ghost use Rattle.line_core.specs.Deduction.{deduced};
 ghost use Rattle.solve_core.specs.Deductions.{IsKeptFrom};
-ghost use Rattle.solve_core.specs.Lines.{line_at, line_count};
+ghost use Rattle.grid_core.specs.Nonogram.{count_on, line_on};
 ghost use Rattle.solve_core.specs.Widths.{FitsIn};
 
 use crate::places::clue_of_line;
-use grid_core::{LONGEST_SIDE, NoMemory, Puzzle};
+use grid_core::{LONGEST_SIDE, NoMemory, Puzzle, Side};
 use line_core::{LineOf, LineSet, Tables};
 use std::alloc::Global;
 use std::marker::Model;
@@ -26,10 +26,11 @@ const FEWEST_RUNS: usize = 3;
 /// What stands in a slot that no deduction has taken: the index of none.
 const NO_DEDUCTION: u16 = u16::MAX;
 
-/// A line of a puzzle, by its number and its cells, and what is certain of it.
+/// A line of a puzzle, by its side, its number and its cells, and what is certain of it.
 #[derive(Drop)]
 pub struct Deduction<W: LineSet> {
-    number: usize,
+    side: Side,
+    number: u16,
     line: LineOf<W>,
     answer: Option<LineOf<W>>,
 }
@@ -45,11 +46,11 @@ fn copy_answer<W: LineSet>(answer: &Option<LineOf<W>>) -> Option<LineOf<W>>
 }
 
 impl<W: LineSet> Deduction<W> {
-    /// Whether it is that of the line of this number and with these cells.
-    fn is_of(&self, number: usize, line: &LineOf<W>) -> bool
-        ensures { IsTrue result ↔ ((self.now.number ≡ number) × (self.now.line ≡ line.now)) }
+    /// Whether it is that of line i of a side with these cells.
+    fn is_of(&self, side: Side, i: u16, line: &LineOf<W>) -> bool
+        ensures { IsTrue result → (self.now.side ≡ side) × (self.now.number ≡ i) × (self.now.line ≡ line.now) }
     {
-        self.number == number && self.line.is_same(line)
+        self.side == side && self.number == i && self.line.is_same(line)
     }
 }
 
@@ -71,12 +72,21 @@ fn room_for<W: LineSet>(cells: usize) -> usize
         .min(most_remembered::<W>())
 }
 
+/// A number for each line, by which it is told from others.
+fn key_of(side: Side, i: u16) -> u64 {
+    match side {
+        Side::Rows => u64::from(i),
+        Side::Columns => u64::from(i) + u64::from(LONGEST_SIDE),
+    }
+}
+
 /// Which of `slots` slots, a power of two, is that of a line, by its group and its place there. `None` if
 /// there is no slot yet, or if the line's clue has so few runs that it is deduced as soon as it is looked up.
 fn slot_of<W: LineSet>(
     groups: &[[u16; GROUP]],
     slots: usize,
-    number: usize,
+    side: Side,
+    number: u16,
     line: &LineOf<W>,
     runs: usize,
 ) -> Option<(usize, usize)>
@@ -88,7 +98,7 @@ fn slot_of<W: LineSet>(
     }
     let mixed = line
         .hash()
-        .wrapping_add((number as u64).wrapping_mul(0x8cb9_2ba7_2f3d_8dd7));
+        .wrapping_add(key_of(side, number).wrapping_mul(0x8cb9_2ba7_2f3d_8dd7));
     let slot = (mixed >> 50) as usize & (slots - 1);
     if slot / GROUP < groups.len() {
         Some((slot / GROUP, slot % GROUP))
@@ -182,25 +192,26 @@ impl<'p, W: LineSet> Deductions<'p, W> {
         }
     }
 
-    /// What is certain of the line of this number, the rows first, with these cells: what all placings of its
-    /// clue share, or none if there is no placing.
-    pub fn deduce(&mut self, number: usize, line: &LineOf<W>) -> Option<LineOf<W>>
-        requires number { number < line_count self.old }
-        ensures answer { result ≡ deduced line.now (line_at self.old number).clue }
+    /// What is certain of line i of a side with these cells: what all placings of its clue share, or none if
+    /// there is no placing.
+    pub fn deduce(&mut self, side: Side, i: u16, line: &LineOf<W>) -> Option<LineOf<W>>
+        requires i { i < count_on side self.old.width self.old.height }
+        ensures answer { result ≡ deduced line.now (line_on side self.old i).clue }
         ensures puzzle { self.new ≡ self.old }
     {
-        let clue = clue_of_line(self.puzzle, number);
+        let clue = clue_of_line(self.puzzle, side, i);
         let runs = clue.numbers().len();
-        let Some((group, place)) = slot_of(&self.slots, self.room, number, line, runs) else {
+        let Some((group, place)) = slot_of(&self.slots, self.room, side, i, line, runs) else {
             return W::deduce(&mut self.tables, line, clue);
         };
         let index = usize::from(self.slots[group][place]);
-        if index < self.kept.len() && self.kept[index].is_of(number, line) {
+        if index < self.kept.len() && self.kept[index].is_of(side, i, line) {
             return copy_answer(&self.kept[index].answer);
         }
         let answer = W::deduce(&mut self.tables, line, clue);
         let deduction = Deduction {
-            number,
+            side,
+            number: i,
             line: line.copy(),
             answer: copy_answer(&answer),
         };

@@ -1,7 +1,7 @@
 //! A grid as its rows and its columns.
 ghost use Rattle.std.specs.Prelude.{◌≡◌, ◌+◌, ◌-◌, ◌*◌, ◌<◌, ◌≤◌, ℕ, nat_eq, [], length, replicate, slice_index_or, slice_set, true, IfOk};
 ghost use Rattle.grid_core.specs.Cells.{is_known};
-ghost use Rattle.grid_core.specs.Nonogram.{cells_at};
+ghost use Rattle.grid_core.specs.Nonogram.{cells_at, count_on, places_on};
 ghost use Rattle.grid_core.specs.PartialGrid.{IsSize};
 ghost use Rattle.grid_core.specs.Rows.{cells_of_rows, row_of};
 ghost use Rattle.grid_core.specs.declared.cells.Cell.TheVariants.{Unknown};
@@ -9,11 +9,10 @@ ghost use Rattle.grid_core.specs.Lines.{IsUnknownFrom};
 ghost use Rattle.solve_core.specs.GridLines.{AreLinesOf};
 ghost use Rattle.place_sets.specs.Masks.{has};
 ghost use Rattle.solve_core.specs.Counts.{is_sure};
-ghost use Rattle.solve_core.specs.Lines.{places_in, places_of};
 ghost use Rattle.solve_core.specs.Picks.{most_known};
 
 use crate::picks::{known_cells, most_in_row};
-use grid_core::{Cell, Grid, NoMemory};
+use grid_core::{Cell, Grid, NoMemory, Side};
 use line_core::{LineOf, LineSet};
 use place_sets::places;
 use std::alloc::Global;
@@ -234,17 +233,14 @@ impl<W: LineSet> GridLines<W> {
         self.rows[place / width].get((place % width) as u16)
     }
 
-    /// What is known of the cells of line n: the rows come first, from the top, and then the columns, from
-    /// the left.
-    pub fn line(&self, n: usize) -> &LineOf<W>
-        requires { n < self.now.height + self.now.width }
-        ensures { result.now ≡ cells_at Unknown self.now.cells (places_of (places_in self.now.width self.now.height n)) }
+    /// What is known of the cells of line i of a side.
+    pub fn line(&self, side: Side, i: u16) -> &LineOf<W>
+        requires { i < count_on side self.now.width self.now.height }
+        ensures { result.now ≡ cells_at Unknown self.now.cells (places_on side self.now.width self.now.height i) }
     {
-        let height = self.rows.len();
-        if n < height {
-            &self.rows[n]
-        } else {
-            &self.columns[n - height]
+        match side {
+            Side::Rows => &self.rows[usize::from(i)],
+            Side::Columns => &self.columns[usize::from(i)],
         }
     }
 

@@ -7,7 +7,8 @@ ghost use Rattle.solve_core.specs.Search.{Event, guess_at, events};
 ghost use Rattle.solve_core.specs.Picks.{picked};
 ghost use Rattle.solve_core.specs.declared.picks.Pick.TheVariants.{First};
 ghost use Rattle.solve_core.specs.Sizes.{IsSizeOf};
-ghost use Rattle.solve_core.specs.Marks.{IsAtRest, IsUnmarked};
+ghost use Rattle.solve_core.specs.LineMarks.{AreUnmarked};
+ghost use Rattle.solve_core.specs.Marks.{IsAtRest};
 ghost use Rattle.solve_core.specs.Guesses.{GoesOn};
 ghost use Rattle.solve_core.specs.Endings.{ending};
 ghost use Rattle.solve_core.specs.Boards.{IsBoardOf};
@@ -96,7 +97,7 @@ fn explore<W: LineSet>(
         GoesOn (picked pick closer.old.puzzle.width) closer.old.puzzle
         (events (picked pick closer.old.puzzle.width) (lines_of closer.old.puzzle) (slice_set board.old.cells place colour)) branches
         board.old solutions.old.grids board.new solutions.new.grids result }
-    ensures unmarked { IsUnmarked closer.new }
+    ensures unmarked { AreUnmarked closer.new.marks }
     ensures board { IsBoardOf closer.old.puzzle board.new }
     ensures found { length solutions.new.grids ≤ 2 }
     ensures size { IsSizeOf closer.old.puzzle solutions.new.width solutions.new.height }

@@ -1,8 +1,9 @@
 -- What the loop of `are_columns_met` keeps: the picture meets the clues of the columns passed.
 use Rattle.std.proofs.Common.{◌<◌, ℕ}
-use Rattle.grid_core.specs.Nonogram.{MeetsLine, column_at}
+use Rattle.grid_core.specs.declared.sides.Side.TheVariants.{Columns}
+use Rattle.grid_core.specs.Nonogram.{MeetsLine, line_on}
 use Rattle.grid_core.specs.Pictures.{values_of}
 use Rattle.grid_core.proofs.pictures.are_columns_met.Given as goal
 
 abbrev pub invariant-loop-x : goal.invariant-loop-x
-invariant-loop-x l = (k : ℕ) → k < l.x → MeetsLine (values_of l.picture) (column_at l.puzzle k)
+invariant-loop-x l = (k : ℕ) → k < l.x → MeetsLine (values_of l.picture) (line_on Columns l.puzzle k)

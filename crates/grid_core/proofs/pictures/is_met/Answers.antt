@@ -1,7 +1,8 @@
 -- `is_met`: the clues of all lines are met exactly if those of all rows and of all columns are.
 use Rattle.grid_core.specs.Nonogram.{MeetsLine}
+use Rattle.grid_core.specs.declared.sides.Side.TheVariants.{Rows, Columns}
 use Rattle.grid_core.specs.Pictures.{values_of}
-use Rattle.grid_core.proofs.LineLaws.{all_lines, each_row, each_column}
+use Rattle.grid_core.proofs.LineLaws.{all_lines, each_line}
 use Rattle.grid_core.proofs.pictures.is_met.Goals as goal
 
 pub returns-then-are_rows_met : goal.returns-then-are_rows_met
@@ -13,11 +14,11 @@ returns-then-are_rows_met c = (
             all_lines (MeetsLine (values_of c.args.picture)) c.args.puzzle.now (c.are_rows_met.ensures.0 c.if-are_rows_met.true)
             (c.are_columns_met.ensures.0 columns);
       },
-  λ meets. c.are_columns_met.ensures.1 (each_column (MeetsLine (values_of c.args.picture)) c.args.puzzle.now meets.clues),
+  λ meets. c.are_columns_met.ensures.1 (each_line (MeetsLine (values_of c.args.picture)) c.args.puzzle.now meets.clues Columns),
 )
 
 pub returns-else-are_rows_met : goal.returns-else-are_rows_met
 returns-else-are_rows_met c = (
   λ rows. cc,
-  λ meets. c.are_rows_met.ensures.1 (each_row (MeetsLine (values_of c.args.picture)) c.args.puzzle.now meets.clues),
+  λ meets. c.are_rows_met.ensures.1 (each_line (MeetsLine (values_of c.args.picture)) c.args.puzzle.now meets.clues Rows),
 )

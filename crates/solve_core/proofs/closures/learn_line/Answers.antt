@@ -1,185 +1,146 @@
--- `learn_line`: what is certain of line `n` is written, and the lines that cross where it changes are marked.
-use Rattle.std.proofs.Common.{true≢false, ◌≡◌, ◌∙◌, ◌+◌, ◌-◌, ◌*◌, ◌<◌, ℕ, sym, arith, ap, subst, length, get_or, refl, List, Bool, Some}
+-- `learn_line`: what is certain of a line is written, and the lines that cross where it changes are marked.
+use Rattle.std.proofs.Common.{true≢false, ◌≡◌, ◌∙◌, ◌*◌, ◌<◌, ◌⊎◌, inl, inr, ℕ, sym, arith, ap, subst, length, get_or, refl, List, Some}
 use Rattle.grid_core.specs.declared.cells.Cell.{Cell}
 use Rattle.grid_core.specs.declared.cells.Cell.TheVariants.{Unknown}
-use Rattle.grid_core.specs.Nonogram.{Nonogram, IsNonogram, cells_at}
+use Rattle.grid_core.specs.declared.sides.Side.{Side}
+use Rattle.grid_core.specs.Nonogram.{Nonogram, cells_at, count_on, crossing, line_on, place_on, places_on}
 use Rattle.grid_core.specs.Cells.{Extends}
-use Rattle.grid_core.specs.PartialGrid.{PartialGrid, IsSize}
+use Rattle.grid_core.specs.PartialGrid.{IsSize}
 use Rattle.place_sets.specs.Masks.{Has, IsMaskOf}
 use Rattle.line_core.specs.Deduction.{deduced}
 use Rattle.grid_core.specs.Lines.{IsChanged}
 use Rattle.grid_core.proofs.Changing.{same_cells, same_without_change}
+use Rattle.grid_core.proofs.LineLaws.{length-cells_at, get_or-cells_at, length-places_on, get_or-places_on}
 use Rattle.line_core.proofs.DeductionLaws.{deduced-above, length-deduced}
 use Rattle.solve_core.specs.Boards.{IsBoardOf, cells_along}
+use Rattle.solve_core.specs.LineMarks.{marks_on}
 use Rattle.solve_core.specs.Closure.{with_cells}
-use Rattle.solve_core.specs.LineMarks.{MarksPlaces}
-use Rattle.solve_core.specs.Lines.{line_at, line_count, places_in, places_of, AreWithin}
-use Rattle.solve_core.specs.Marks.{IsWritten, MarksChanges}
+use Rattle.solve_core.specs.Marks.{IsWritten}
 use Rattle.solve_core.specs.Trails.{TrailedGrid}
-use Rattle.solve_core.proofs.LineSteps.{length-seen, line-read, read-old, written-fewer}
-use Rattle.solve_core.proofs.NumberedLines.{line_at-places, line-step, line-within}
-use Rattle.solve_core.proofs.GridSteps.{line-distinct, line-below}
+use Rattle.solve_core.proofs.LineSteps.{written-fewer, written-read}
+use Rattle.solve_core.proofs.SideLines.{below_places, crossing_twice, distinct_places}
 use Rattle.solve_core.proofs.closures.learn_line.Goals as goal
 
--- the places of a board's line are those of the puzzle's
-same_places : (p : Nonogram) (g : TrailedGrid) (n : ℕ) → IsNonogram p → n < line_count p → IsBoardOf p g →
-    places_of (places_in g.width g.height n) ≡ (line_at p n).places
-same_places p g n is l b = (λ i. places_of (places_in (b.0 i) (b.1 i) n)) ∙ sym (line_at-places p n is l)
+-- a board's line has the cells at the places of the puzzle's line
+seen : (p : Nonogram) (g : TrailedGrid) (side : Side) (i : ℕ) → IsBoardOf p g → cells_along g side i ≡
+    cells_at Unknown g.cells ((line_on side p i).places)
+seen p g side i b = λ j. cells_at Unknown g.cells (places_on side (b.0 j) (b.1 j) i)
 
--- a board's line has as many cells as places
-seen : (g : TrailedGrid) (n : ℕ) → length (cells_along g n) ≡ (places_in g.width g.height n).count
-seen g n = let places = places_in g.width g.height n in length-seen g.cells (cells_along g n) places.first places.step places.count refl
-
--- marks at the crossing lines of what changed tell of all changes
-marks-tell : (g : TrailedGrid) (n m : ℕ) (new after : List Cell) (before more : List Bool) → IsSize g.width g.height →
-    length g.cells ≡ g.width * g.height → n < g.height + g.width
-    → length new ≡ (places_in g.width g.height n).count → after ≡ with_cells g.cells (places_of (places_in g.width g.height n)) new →
-    IsMaskOf (IsChanged (cells_along g n) new) m
-    → MarksPlaces (places_in g.width g.height n) (Has m) before more → MarksChanges (places_in g.width g.height n) g.cells after before more
-marks-tell g n m new after before more size whole l long written p q =
-    let places = places_in g.width g.height n in
-    let inside : AreWithin places (length g.cells) = rw whole (line-within g.width g.height n l) in
-    let read : new ≡ cells_at Unknown after (places_of places) =
-    line-read g.cells after new places.first places.step places.count (line-step g.width g.height n (omega (arith, size.width_from)))
-    inside long written in
-    record {
-      kept = q.kept;
-      others = q.others;
-      same = λ i h e.
-          read-old after new places.first places.step places.count i read h
-          ∙ same_cells (get_or (cells_along g n) i Unknown) (get_or new i Unknown)
-          (λ d. q.marked i h e (p.from i (omega (arith, h, seen g n), d)))
-          ∙ sym (read-old g.cells (cells_along g n) places.first places.step places.count i refl h);
-    }
+pub line-old-requires : goal.line-old-requires
+line-old-requires g c = rw (c.requires.board.0, c.requires.board.1) c.requires.i
 
 pub changes-changes-requires : goal.changes-changes-requires
-changes-changes-requires g c = length-deduced c.line-old.result.now c.in-Some.new (line_at c.args.deductions.now c.args.n).clue
+changes-changes-requires g c = length-deduced c.line-old.result.now c.in-Some.new (line_on c.args.side c.args.deductions.now c.args.i).clue
     (sym c.in-Some.is ∙ c.deduce.ensures.answer)
 
-pub mark_crossing-requires-clause-cells : goal.mark_crossing-requires-clause-cells
-mark_crossing-requires-clause-cells g c = λ i h.
-    let b = c.args.board.now in
-    let n = c.args.n in
-    let wide : length c.args.marks.now.list - c.args.marks.now.height ≡ b.width =
-    omega (arith, c.requires.marks, c.requires.height, c.requires.board.0, c.requires.board.1) in
-    let tall : c.args.marks.now.height ≡ b.height = c.requires.height ∙ sym c.requires.board.1 in
-    let at : i < (places_in b.width b.height n).count =
-    omega (
-      arith,
-      (c.changes-changes.ensures.changes.to i h).0,
-      ap length (c.line-old.ensures ∙
-          ap (λ (g : PartialGrid). cells_at Unknown g.cells (places_of (places_in g.width g.height c.args.n))) c.lines.ensures.lines),
-      seen b n,
-    ) in
-    subst (λ (w : ℕ). i < (places_in w c.args.marks.now.height n).count) (sym wide)
-    (subst (λ (t : ℕ). i < (places_in b.width t n).count) (sym tall) at)
-
-pub write_line-requires-clause-fits : goal.write_line-requires-clause-fits
-write_line-requires-clause-fits g c =
-    omega (
-      arith,
-      c.changes-changes.ensures.fits,
-      ap length (c.line-old.ensures ∙
-          ap (λ (g : PartialGrid). cells_at Unknown g.cells (places_of (places_in g.width g.height c.args.n))) c.lines.ensures.lines),
-      seen c.args.board.now c.args.n,
-    )
-
-pub write_line-requires-clause-count : goal.write_line-requires-clause-count
-write_line-requires-clause-count g c =
-    (length-deduced c.line-old.result.now c.in-Some.new (line_at c.args.deductions.now c.args.n).clue
-    (sym c.in-Some.is ∙ c.deduce.ensures.answer)) ∙
-    ap length (c.line-old.ensures ∙
-    ap (λ (g : PartialGrid). cells_at Unknown g.cells (places_of (places_in g.width g.height c.args.n))) c.lines.ensures.lines) ∙
-    seen c.args.board.now c.args.n
+pub write_line-requires-clause-i : goal.write_line-requires-clause-i
+write_line-requires-clause-i g c = rw (c.requires.board.0, c.requires.board.1) c.requires.i
 
 pub write_line-requires-clause-more : goal.write_line-requires-clause-more
 write_line-requires-clause-more g c =
-    subst (λ (r : List Cell). Extends r c.in-Some.new) (c.line-old.ensures ∙
-    ap (λ (g : PartialGrid). cells_at Unknown g.cells (places_of (places_in g.width g.height c.args.n))) c.lines.ensures.lines)
-    (rw (sym c.deduce.ensures.answer ∙ c.in-Some.is) at (deduced-above c.line-old.result.now (line_at c.args.deductions.now c.args.n).clue))
+    subst (λ (r : List Cell). Extends r c.in-Some.new) c.line-old.ensures.cells
+    (rw (sym c.deduce.ensures.answer ∙ c.in-Some.is) at
+    (deduced-above c.line-old.result.now (line_on c.args.side c.args.deductions.now c.args.i).clue))
+
+pub write_line-requires-clause-changes : goal.write_line-requires-clause-changes
+write_line-requires-clause-changes g c =
+    subst (λ (r : List Cell). IsMaskOf (IsChanged r c.in-Some.new) (g.W.PlaceSet.number c.changes-changes.result)) c.line-old.ensures.cells
+    c.changes-changes.ensures.changes
 
 pub returns-in_default-clause-learned : goal.returns-in_default-clause-learned
 returns-in_default-clause-learned g c =
     let p = c.args.deductions.now in
-    let b = c.args.board.now in
-    let line = line_at p c.args.n in
-    let places = same_places p b c.args.n c.requires.puzzle c.requires.n c.requires.board in
-    ap (λ (ps : List ℕ). deduced (cells_at Unknown b.cells ps) line.clue) (sym places) ∙
+    let line = line_on c.args.side p c.args.i in
     ap (λ (r : List Cell). deduced r line.clue)
-    (sym (c.line-old.ensures ∙ ap (λ (g : PartialGrid). cells_at Unknown g.cells
-    (places_of (places_in g.width g.height c.args.n))) c.lines.ensures.lines)) ∙ sym c.deduce.ensures.answer ∙ c.in_default.is
+    (sym (c.line-old.ensures.cells ∙ seen p c.args.board.now c.args.side c.args.i c.requires.board)) ∙ sym c.deduce.ensures.answer ∙
+    c.in_default.is
 
 pub returns-then-is_empty-clause-learned : goal.returns-then-is_empty-clause-learned
 returns-then-is_empty-clause-learned g c =
     let p = c.args.deductions.now in
-    let b = c.args.board.now in
-    let line = line_at p c.args.n in
-    let places = same_places p b c.args.n c.requires.puzzle c.requires.n c.requires.board in
-    let read : c.line-old.result.now ≡ cells_at Unknown b.cells line.places =
-    (c.line-old.ensures ∙ ap (λ (g : PartialGrid). cells_at Unknown g.cells
-    (places_of (places_in g.width g.height c.args.n))) c.lines.ensures.lines) ∙ ap (cells_at Unknown b.cells) places in
+    let line = line_on c.args.side p c.args.i in
+    let read = c.line-old.ensures.cells ∙ seen p c.args.board.now c.args.side c.args.i c.requires.board in
     let same : c.line-old.result.now ≡ c.in-Some.new =
     (same_without_change c.line-old.result.now c.in-Some.new (g.W.PlaceSet.number c.changes-changes.result)
-    (length-deduced c.line-old.result.now c.in-Some.new (line_at c.args.deductions.now c.args.n).clue
-    (sym c.in-Some.is ∙ c.deduce.ensures.answer)) c.changes-changes.ensures.changes).0 (sym c.is_empty.ensures ∙
-    c.if-is_empty.true) in (
+    (length-deduced c.line-old.result.now c.in-Some.new line.clue (sym c.in-Some.is ∙ c.deduce.ensures.answer))
+    c.changes-changes.ensures.changes).0 (sym c.is_empty.ensures ∙ c.if-is_empty.true) in (
       refl,
       ap (λ (r : List Cell). deduced r line.clue) (sym read) ∙ sym c.deduce.ensures.answer ∙ c.in-Some.is ∙
           ap (λ (r : List Cell). Some r) (sym same ∙ read),
     )
 
+-- a cell at a place that isn't among the changes of a line stays as it was
+unchanged : (p : Nonogram) (old new certain : List Cell) (side : Side) (i k m : ℕ) → 0 < p.width → i < count_on side p.width p.height →
+    length old ≡ p.width * p.height → (w : IsWritten (line_on side p i) old new) → w.certain ≡ certain →
+    IsMaskOf (IsChanged (cells_at Unknown old ((line_on side p i).places)) certain) m → k < count_on (crossing side) p.width p.height →
+    (Has m k → ⊥) → get_or new (place_on side p.width i k) Unknown ≡ get_or old (place_on side p.width i k) Unknown
+unchanged p old new certain side i k m positive l size w e changes lk n =
+    let line = line_on side p i in
+    let places = line.places in
+    let line_old = cells_at Unknown old places in
+    let at = get_or-places_on side p.width p.height i k lk in
+    let here : k < length places = omega (arith, lk, length-places_on side p.width p.height i) in
+    let read = written-read line old new w (distinct_places side p.width p.height i positive)
+    (rw size (below_places side p.width p.height i l)) ∙ e in
+    ap (λ (q : ℕ). get_or new q Unknown) (sym at) ∙ sym (get_or-cells_at Unknown new places k here) ∙
+    ap (λ (r : List Cell). get_or r k Unknown) read ∙
+    same_cells (get_or line_old k Unknown) (get_or certain k Unknown)
+    (λ d. n (changes.from k (omega (arith, here, length-cells_at Unknown old places), d))) ∙
+    get_or-cells_at Unknown old places k here ∙ ap (λ (q : ℕ). get_or old q Unknown) at
+
 pub returns-clause-learned : goal.returns-clause-learned
 returns-clause-learned g c =
     let p = c.args.deductions.now in
     let b = c.args.board.now in
-    let n = c.args.n in
-    let line = line_at p n in
+    let side = c.args.side in
+    let line = line_on side p c.args.i in
     let new = c.write_line.new.board.cells in
-    let places = same_places p b n c.requires.puzzle c.requires.n c.requires.board in
-    let read : c.line-old.result.now ≡ cells_at Unknown b.cells line.places =
-    (c.line-old.ensures ∙ ap (λ (g : PartialGrid). cells_at Unknown g.cells
-    (places_of (places_in g.width g.height c.args.n))) c.lines.ensures.lines) ∙ ap (cells_at Unknown b.cells) places in
+    let read = c.line-old.ensures.cells ∙ seen p b side c.args.i c.requires.board in
     let same = same_without_change c.line-old.result.now c.in-Some.new (g.W.PlaceSet.number c.changes-changes.result)
-    (length-deduced c.line-old.result.now c.in-Some.new (line_at c.args.deductions.now c.args.n).clue
-    (sym c.in-Some.is ∙ c.deduce.ensures.answer)) c.changes-changes.ensures.changes in
+    (length-deduced c.line-old.result.now c.in-Some.new line.clue (sym c.in-Some.is ∙ c.deduce.ensures.answer))
+    c.changes-changes.ensures.changes in
     let w : IsWritten line b.cells new = record {
       certain = c.in-Some.new;
       is_certain = ap (λ (r : List Cell). deduced r line.clue) (sym read) ∙ sym c.deduce.ensures.answer ∙ c.in-Some.is;
-      written = c.write_line.ensures.cells ∙ ap (λ (ps : List ℕ). with_cells b.cells ps c.in-Some.new) places;
-    } in (
+      written = c.write_line.ensures.cells ∙ (λ j. with_cells b.cells
+          (places_on side (c.requires.board.0 j) (c.requires.board.1 j) c.args.i) c.in-Some.new);
+    } in
+    let size : IsSize p.width p.height = rw (← c.requires.board.0, ← c.requires.board.1) c.line-old.ensures.whole.0 in (
       w,
       written-fewer line b.cells new w (λ e. true≢false (sym (same.1 (read ∙ sym e)) ∙ sym c.is_empty.ensures ∙ c.if-is_empty.false))
-          (line-distinct p n c.requires.puzzle c.requires.n)
-          (line-below p (length b.cells) n c.requires.puzzle c.requires.n c.requires.board.2),
+          (distinct_places side p.width p.height c.args.i (omega (arith, size.width_from)))
+          (rw c.requires.board.2 (below_places side p.width p.height c.args.i c.requires.i)),
     )
 
 pub returns-clause-marks : goal.returns-clause-marks
 returns-clause-marks g c =
     let p = c.args.deductions.now in
     let b = c.args.board.now in
-    let n = c.args.n in
+    let side = c.args.side in
+    let i = c.args.i in
+    let line = line_on side p i in
     let m = g.W.PlaceSet.number c.changes-changes.result in
     let new = c.write_line.new.board.cells in
-    let before = c.args.marks.now.list in
-    let after = c.mark_crossing.new.self.list in
-    let wide : length before - c.args.marks.now.height ≡ b.width =
-    omega (arith, c.requires.marks, c.requires.height, c.requires.board.0, c.requires.board.1) in
-    let tall : c.args.marks.now.height ≡ b.height = c.requires.height ∙ sym c.requires.board.1 in
-    let marked : MarksPlaces (places_in b.width b.height n) (Has m) before after =
-    subst (λ (w : ℕ). MarksPlaces (places_in w b.height n) (Has m) before after) wide
-    (subst (λ (t : ℕ). MarksPlaces (places_in (length before - c.args.marks.now.height) t n) (Has m) before after)
-    tall c.mark_crossing.ensures.marks) in
-    let size : IsSize b.width b.height = rw (c.requires.board.0, c.requires.board.1) c.requires.puzzle.size in
-    let whole : length b.cells ≡ b.width * b.height = rw (c.requires.board.0, c.requires.board.1) c.requires.board.2 in
-    let tells = marks-tell b n m c.in-Some.new new before after size whole
-    (omega (arith, c.requires.n, c.requires.board.0, c.requires.board.1))
-    ((length-deduced c.line-old.result.now c.in-Some.new (line_at c.args.deductions.now c.args.n).clue
-    (sym c.in-Some.is ∙ c.deduce.ensures.answer)) ∙
-    ap length (c.line-old.ensures ∙
-    ap (λ (g : PartialGrid). cells_at Unknown g.cells (places_of (places_in g.width g.height c.args.n))) c.lines.ensures.lines) ∙
-    seen c.args.board.now c.args.n) c.write_line.ensures.cells
-    (subst (λ (r : List Cell). IsMaskOf (IsChanged r c.in-Some.new) m)
-    (c.line-old.ensures ∙ ap (λ (g : PartialGrid). cells_at Unknown g.cells
-    (places_of (places_in g.width g.height c.args.n))) c.lines.ensures.lines) c.changes-changes.ensures.changes) marked in
-    subst (λ (w : ℕ). MarksChanges (places_in w p.height n) b.cells new before after) c.requires.board.0
-    (subst (λ (t : ℕ). MarksChanges (places_in b.width t n) b.cells new before after) c.requires.board.1 tells)
+    let before = c.args.marks.now in
+    let after = c.add.new.self in
+    let read = c.line-old.ensures.cells ∙ seen p b side i c.requires.board in
+    let w : IsWritten line b.cells new = record {
+      certain = c.in-Some.new;
+      is_certain = ap (λ (r : List Cell). deduced r line.clue) (sym read) ∙ sym c.deduce.ensures.answer ∙ c.in-Some.is;
+      written = c.write_line.ensures.cells ∙ (λ j. with_cells b.cells
+          (places_on side (c.requires.board.0 j) (c.requires.board.1 j) i) c.in-Some.new);
+    } in
+    let size : IsSize p.width p.height = rw (← c.requires.board.0, ← c.requires.board.1) c.line-old.ensures.whole.0 in
+    let added = subst (λ (s : Side). IsMaskOf (λ k. Has (marks_on s before) k ⊎ Has m k) (marks_on s after)) c.crossing.ensures
+    c.add.ensures.own in
+    let changes = subst (λ (r : List Cell). IsMaskOf (IsChanged r c.in-Some.new) m) read c.changes-changes.ensures.changes in
+    let within : (k : ℕ) → Has m k → k < count_on (crossing side) p.width p.height = λ k h.
+    omega (arith, (changes.to k h).0, length-cells_at Unknown b.cells line.places, length-places_on side p.width p.height i) in
+    record {
+      own = subst (λ (s : Side). marks_on s after ≡ marks_on s before) (ap crossing c.crossing.ensures ∙ crossing_twice side)
+          c.add.ensures.other;
+      kept = λ k h. added.from k (inl h);
+      crossing_it = λ k h. elim (added.to k h) [ inl old ↦ inl old | inr cell ↦ inr (within k cell) ];
+      same = λ k l n. unchanged p b.cells new c.in-Some.new side i k m (omega (arith, size.width_from)) c.requires.i c.requires.board.2
+          w refl changes l (λ h. n (added.from k (inr h)));
+    }

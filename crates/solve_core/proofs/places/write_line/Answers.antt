@@ -1,123 +1,127 @@
 -- `write_line`: a cell that changes was unknown and gets known; with no change left, the line is `new`.
-use Rattle.std.proofs.Common.{◌≡◌, ◌∙◌, ◌+◌, ◌*◌, ◌<◌, ℕ, length, get_or, set, sym, arith, refl}
+use Rattle.std.proofs.Common.{◌≡◌, ◌∙◌, ◌<◌, ℕ, length, get_or, set, sym, ap, arith}
 use Rattle.std.proofs.lemmas.Bool.{eqb-true}
+use Rattle.std.proofs.lemmas.List.Elements.{All-from_recursion}
 use Rattle.grid_core.specs.declared.cells.Cell.TheVariants.{Unknown}
+use Rattle.grid_core.specs.Nonogram.{place_on, places_on}
+use Rattle.grid_core.proofs.LineLaws.{length-cells_at, get_or-cells_at}
 use Rattle.line_core.proofs.DeductionLaws.{Extends-at}
 use Rattle.solve_core.specs.Boards.{cells_along}
-use Rattle.solve_core.specs.Lines.{places_in, place_along}
-use Rattle.solve_core.specs.Trails.{TrailedGrid}
-use Rattle.solve_core.proofs.Changes.{partly-init, partly-step, partly-end}
-use Rattle.solve_core.proofs.LineSteps.{length-seen, learned_cell}
-use Rattle.solve_core.proofs.MarkSteps.{none_in}
-use Rattle.solve_core.proofs.NumberedLines.{line-step, line-within}
+use Rattle.solve_core.proofs.Changes.{none_in, partly-init, partly-step, partly-end}
+use Rattle.solve_core.proofs.LineSteps.{AreBelow, learned_cell}
+use Rattle.solve_core.proofs.Order.{length-Extends}
+use Rattle.solve_core.proofs.SideLines.{along, below_places, distinct_places}
 use Rattle.solve_core.proofs.TrailSteps.{trailed-refl, trailed-trans, count-settled}
 use Rattle.solve_core.proofs.places.write_line.Goals as goal
 
--- a line has as many cells as places
-seen : (g : TrailedGrid) (n : ℕ) → length (cells_along g n) ≡ (places_in g.width g.height n).count
-seen g n = let places = places_in g.width g.height n in length-seen g.cells (cells_along g n) places.first places.step places.count refl
-
-pub loop-left-init : goal.loop-left-init
-loop-left-init g c =
+pub loop-side-init : goal.loop-side-init
+loop-side-init g c =
     let board = c.args.board.now in
-    let places = places_in board.width board.height c.args.n in
     record {
-      partly = partly-init places.first places.step places.count board.cells (cells_along board c.args.n) c.args.new.now
-          (g.W.PlaceSet.number c.args.changes) refl (seen board c.args.n) c.requires.changes;
+      partly = partly-init (places_on c.args.side board.width board.height c.args.i) board.cells c.args.new.now
+          (g.W.PlaceSet.number c.args.changes) c.requires.changes;
       trail = trailed-refl board;
     }
 
-pub settle_along-requires-clause-n : goal.settle_along-requires-clause-n
-settle_along-requires-clause-n g c = omega (arith, c.requires.n, c.loop-left.invariant.trail.width, c.loop-left.invariant.trail.height)
+pub settle-requires-clause-i : goal.settle-requires-clause-i
+settle-requires-clause-i g c = rw (c.loop-side.invariant.trail.width, c.loop-side.invariant.trail.height) c.requires.i
 
-pub settle_along-requires-clause-i : goal.settle_along-requires-clause-i
-settle_along-requires-clause-i g c =
-    let at = (c.loop-left.invariant.partly.changed c.first_place-i.result c.first_place-i.ensures.in_mask).0 in
-    rw (c.loop-left.invariant.trail.width, c.loop-left.invariant.trail.height, c.from.ensures)
-    (omega (arith, at, seen c.args.board.now c.args.n))
+pub settle-requires-clause-k : goal.settle-requires-clause-k
+settle-requires-clause-k g c =
+    let board = c.args.board.now in
+    let k = c.first_place-k.result in
+    let places = places_on c.args.side board.width board.height c.args.i in
+    let at = c.loop-side.invariant.partly.changed k c.first_place-k.ensures.in_mask in
+    let here : k < length places = omega (arith, at.0, length-cells_at Unknown board.cells places) in
+    rw (c.loop-side.invariant.trail.width, c.loop-side.invariant.trail.height)
+    (along c.args.side board.width board.height c.args.i k here).0
 
-pub settle_along-requires-clause-unknown : goal.settle_along-requires-clause-unknown
-settle_along-requires-clause-unknown g c =
-    let i = c.first_place-i.result in
-    let old = cells_along c.args.board.now c.args.n in
-    let at = c.loop-left.invariant.partly.changed i c.first_place-i.ensures.in_mask in
-    let more = Extends-at old c.args.new.now i c.requires.more in
-    rw (c.loop-left.invariant.trail.width, c.loop-left.invariant.trail.height, c.from.ensures)
-    (c.loop-left.invariant.partly.as_old i (omega (arith, at.0, seen c.args.board.now c.args.n)) c.first_place-i.ensures.in_mask ∙
-    (learned_cell (get_or old i Unknown) (get_or c.args.new.now i Unknown) more at.1).0)
+pub settle-requires-clause-unknown : goal.settle-requires-clause-unknown
+settle-requires-clause-unknown g c =
+    let board = c.args.board.now in
+    let k = c.first_place-k.result in
+    let old = cells_along board c.args.side c.args.i in
+    let places = places_on c.args.side board.width board.height c.args.i in
+    let at = c.loop-side.invariant.partly.changed k c.first_place-k.ensures.in_mask in
+    let here : k < length places = omega (arith, at.0, length-cells_at Unknown board.cells places) in
+    let more = Extends-at old c.args.new.now k c.requires.more in
+    rw (c.loop-side.invariant.trail.width, ← (along c.args.side board.width board.height c.args.i k here).1)
+    (c.loop-side.invariant.partly.as_old k here c.first_place-k.ensures.in_mask ∙ sym (get_or-cells_at Unknown board.cells places k here) ∙
+    (learned_cell (get_or old k Unknown) (get_or c.args.new.now k Unknown) more at.1).0)
 
 pub get-requires : goal.get-requires
 get-requires g c =
-    let at = (c.loop-left.invariant.partly.changed c.first_place-i.result c.first_place-i.ensures.in_mask).0 in
-    omega (arith, at, seen c.args.board.now c.args.n, c.requires.count)
+    let at = (c.loop-side.invariant.partly.changed c.first_place-k.result c.first_place-k.ensures.in_mask).0 in
+    omega (arith, at, length-Extends (cells_along c.args.board.now c.args.side c.args.i) c.args.new.now c.requires.more)
 
-pub settle_along-requires-clause-known : goal.settle_along-requires-clause-known
-settle_along-requires-clause-known g c =
-    let i = c.first_place-i.result in
-    let old = cells_along c.args.board.now c.args.n in
-    let at = c.loop-left.invariant.partly.changed i c.first_place-i.ensures.in_mask in
-    rw c.get.ensures ((learned_cell (get_or old i Unknown) (get_or c.args.new.now i Unknown)
-    (Extends-at old c.args.new.now i c.requires.more) at.1).1)
+pub settle-requires-clause-known : goal.settle-requires-clause-known
+settle-requires-clause-known g c =
+    let k = c.first_place-k.result in
+    let old = cells_along c.args.board.now c.args.side c.args.i in
+    let at = c.loop-side.invariant.partly.changed k c.first_place-k.ensures.in_mask in
+    rw c.get.ensures ((learned_cell (get_or old k Unknown) (get_or c.args.new.now k Unknown)
+    (Extends-at old c.args.new.now k c.requires.more) at.1).1)
 
-pub loop-left-smaller : goal.loop-left-smaller
-loop-left-smaller g c =
-    let now = c.loop-left.board in
-    let before = c.loop-left.invariant in
-    let i = c.first_place-i.result in
-    let n = c.args.n in
-    let old = cells_along c.args.board.now n in
-    let places = places_in c.args.board.now.width c.args.board.now.height n in
-    let at = before.partly.changed i c.first_place-i.ensures.in_mask in
-    let here : i < places.count = omega (arith, at.0, seen c.args.board.now n) in
-    let inside : places.first + i * places.step < length now.cells = let within =
-    line-within c.args.board.now.width c.args.board.now.height n c.requires.n i here in
-    omega (arith, within, before.partly.size, c.requires.cells) in
-    let learned = learned_cell (get_or old i Unknown) (get_or c.args.new.now i Unknown)
-    (Extends-at old c.args.new.now i c.requires.more) at.1 in
-    let cells : c.settle_along.new.self.cells ≡ set now.cells (places.first + i * places.step) (get_or c.args.new.now i Unknown) =
-    c.settle_along.ensures.cells ∙ (λ j. set now.cells (place_along (before.trail.width j) (before.trail.height j) n (c.from.ensures j))
-    (c.get.ensures j)) in
+pub loop-side-smaller : goal.loop-side-smaller
+loop-side-smaller g c =
+    let board = c.args.board.now in
+    let now = c.loop-side.board in
+    let before = c.loop-side.invariant in
+    let k = c.first_place-k.result in
+    let new = c.args.new.now in
+    let old = cells_along board c.args.side c.args.i in
+    let places = places_on c.args.side board.width board.height c.args.i in
+    let at = before.partly.changed k c.first_place-k.ensures.in_mask in
+    let here : k < length places = omega (arith, at.0, length-cells_at Unknown board.cells places) in
+    let place = (along c.args.side board.width board.height c.args.i k here).1 in
+    let below : AreBelow (length board.cells) places =
+    rw c.requires.whole.1 (below_places c.args.side board.width board.height c.args.i c.requires.i) in
+    let inside : get_or places k 0 < length now.cells =
+    omega (arith, All-from_recursion (λ q. q < length board.cells) places below k 0 here, before.partly.size) in
+    let learned = learned_cell (get_or old k Unknown) (get_or new k Unknown) (Extends-at old new k c.requires.more) at.1 in
+    let cells : c.settle.new.self.cells ≡ set now.cells (get_or places k 0) (get_or new k Unknown) =
+    c.settle.ensures.cells ∙ (λ j. set now.cells (place_on c.args.side (before.trail.width j) c.args.i k) (c.get.ensures j)) ∙
+    ap (λ (q : ℕ). set now.cells q (get_or new k Unknown)) (sym place) in
     rw cells
     (omega (
       arith,
-      count-settled now.cells (places.first + i * places.step) (get_or c.args.new.now i Unknown) inside
-          (before.partly.as_old i here c.first_place-i.ensures.in_mask ∙ learned.0) learned.1,
+      count-settled now.cells (get_or places k 0) (get_or new k Unknown) inside
+          (before.partly.as_old k here c.first_place-k.ensures.in_mask ∙ sym (get_or-cells_at Unknown board.cells places k here) ∙ learned.0)
+          learned.1,
     ))
 
-pub loop-left-preserved : goal.loop-left-preserved
-loop-left-preserved g c =
-    let now = c.loop-left.board in
-    let before = c.loop-left.invariant in
-    let i = c.first_place-i.result in
-    let n = c.args.n in
-    let old = cells_along c.args.board.now n in
+pub loop-side-preserved : goal.loop-side-preserved
+loop-side-preserved g c =
+    let board = c.args.board.now in
+    let now = c.loop-side.board in
+    let before = c.loop-side.invariant in
+    let k = c.first_place-k.result in
     let new = c.args.new.now in
-    let places = places_in c.args.board.now.width c.args.board.now.height n in
-    let at = before.partly.changed i c.first_place-i.ensures.in_mask in
-    let here : i < places.count = omega (arith, at.0, seen c.args.board.now n) in
-    let inside : places.first + i * places.step < length now.cells = let within =
-    line-within c.args.board.now.width c.args.board.now.height n c.requires.n i here in
-    omega (arith, within, before.partly.size, c.requires.cells) in
-    let cells : c.settle_along.new.self.cells ≡ set now.cells (places.first + i * places.step) (get_or new i Unknown) =
-    c.settle_along.ensures.cells ∙ (λ j. set now.cells (place_along (before.trail.width j) (before.trail.height j) n (c.from.ensures j))
-    (c.get.ensures j)) in
+    let places = places_on c.args.side board.width board.height c.args.i in
+    let at = before.partly.changed k c.first_place-k.ensures.in_mask in
+    let here : k < length places = omega (arith, at.0, length-cells_at Unknown board.cells places) in
+    let place = (along c.args.side board.width board.height c.args.i k here).1 in
+    let below : AreBelow (length board.cells) places =
+    rw c.requires.whole.1 (below_places c.args.side board.width board.height c.args.i c.requires.i) in
+    let cells : c.settle.new.self.cells ≡ set now.cells (get_or places k 0) (get_or new k Unknown) =
+    c.settle.ensures.cells ∙ (λ j. set now.cells (place_on c.args.side (before.trail.width j) c.args.i k) (c.get.ensures j)) ∙
+    ap (λ (q : ℕ). set now.cells q (get_or new k Unknown)) (sym place) in
     record {
       partly = rw cells
-          (partly-step places.first places.step places.count c.args.board.now.cells now.cells old new
-          (g.W.PlaceSet.number c.loop-left.left) (g.W.PlaceSet.number c.marked-left.result) i
-          (line-step c.args.board.now.width c.args.board.now.height n (omega (arith, c.requires.size.width_from))) here inside
+          (partly-step places board.cells now.cells new (g.W.PlaceSet.number c.loop-side.left) (g.W.PlaceSet.number c.marked-left.result) k
+          (distinct_places c.args.side board.width board.height c.args.i (omega (arith, c.requires.whole.0.width_from))) below here
           c.marked-left.ensures before.partly);
-      trail = trailed-trans c.args.board.now now c.settle_along.new.self before.trail c.settle_along.ensures.trail;
+      trail = trailed-trans c.args.board.now now c.settle.new.self before.trail c.settle.ensures.trail;
     }
 
 pub returns-clause-cells : goal.returns-clause-cells
 returns-clause-cells g c =
     let board = c.args.board.now in
-    let n = c.args.n in
-    let places = places_in board.width board.height n in
-    let m = g.W.PlaceSet.number c.loop-left.left in
-    let empty : m ≡ 0 = eqb-true m 0 (sym c.is_empty.ensures ∙ c.loop-left-test.false) in
-    partly-end places.first places.step places.count board.cells c.loop-left.board.cells (cells_along board n) c.args.new.now m
-    (line-step board.width board.height n (omega (arith, c.requires.size.width_from)))
-    (λ k l. (let within = line-within board.width board.height n c.requires.n k l in omega (arith, within, c.requires.cells)))
-    c.requires.count (none_in m empty) c.loop-left.invariant.partly
+    let places = places_on c.args.side board.width board.height c.args.i in
+    let m = g.W.PlaceSet.number c.loop-side.left in
+    let empty : m ≡ 0 = eqb-true m 0 (sym c.is_empty.ensures ∙ c.loop-side-test.false) in
+    partly-end places board.cells c.loop-side.board.cells c.args.new.now m
+    (distinct_places c.args.side board.width board.height c.args.i (omega (arith, c.requires.whole.0.width_from)))
+    (rw c.requires.whole.1 (below_places c.args.side board.width board.height c.args.i c.requires.i))
+    (sym (length-Extends (cells_along board c.args.side c.args.i) c.args.new.now c.requires.more) ∙
+    length-cells_at Unknown board.cells places) (none_in m empty) c.loop-side.invariant.partly

@@ -5,7 +5,7 @@ use Rattle.solve_core.specs.Search.{events}
 use Rattle.solve_core.specs.Sizes.{IsSizeOf}
 use Rattle.solve_core.specs.Endings.{ending}
 use Rattle.solve_core.specs.Boards.{IsBoardOf}
-use Rattle.solve_core.specs.Marks.{IsUnmarked}
+use Rattle.solve_core.specs.LineMarks.{AreUnmarked}
 use Rattle.solve_core.specs.Guesses.{owed, IsUnderWay}
 use Rattle.solve_core.proofs.search.search.Given as goal
 use Rattle.solve_core.specs.Picks.{picked}
@@ -24,7 +24,7 @@ invariant-loop-pick g l =
       board : IsBoardOf p l.board;
       size : IsSizeOf p l.solutions.width l.solutions.height;
       same : l.closer.puzzle ≡ p;
-      unmarked : IsUnmarked l.closer;
+      unmarked : AreUnmarked l.closer.marks;
       spent : l.spent ≤ l.guesses;
       found : length l.solutions.grids ≤ 2;
     }

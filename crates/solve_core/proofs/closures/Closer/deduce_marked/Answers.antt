@@ -1,91 +1,85 @@
 -- `Closer::deduce_marked`: if a pass over the columns learns nothing, no mark is left: the board is closed.
-use Rattle.std.proofs.Common.{◌≡◌, ◌∙◌, ◌+◌, ℕ, Some, sym, refl, subst, ap, arith, true≢false}
-use Rattle.solve_core.specs.Lines.{line_count}
-use Rattle.solve_core.specs.MarkedPuzzles.{MarkedPuzzle}
-use Rattle.solve_core.specs.Marks.{AreUnmarkedFrom, Progresses, IsUnmarked}
-use Rattle.solve_core.specs.Boards.{IsBoardOf}
+use Rattle.std.proofs.Common.{◌≡◌, ◌∙◌, ℕ, sym, refl, subst, true≢false}
+use Rattle.grid_core.specs.declared.sides.Side.TheVariants.{Columns}
+use Rattle.place_sets.specs.Masks.{Has}
+use Rattle.solve_core.specs.LineMarks.{AreUnmarked, IsUnmarkedOn}
+use Rattle.solve_core.specs.Marks.{HasMarks, Progresses}
 use Rattle.grid_core.specs.Nonogram.{Nonogram, lines_of}
 use Rattle.solve_core.specs.Closure.{closure}
 use Rattle.solve_core.proofs.TrailSteps.{trailed-trans, trailed-size}
-use Rattle.solve_core.proofs.GridSteps.{closed_after, unmarked-both, progress-keeps}
+use Rattle.solve_core.proofs.GridSteps.{closed_after, progress-keeps}
+use Rattle.solve_core.proofs.SideLines.{by_side}
 use Rattle.solve_core.proofs.closures.Closer.deduce_marked.Goals as goal
 use Rattle.solve_core.proofs.closures.Closer.deduce_marked.Given.{Over}
 use Rattle.solve_core.proofs.closures.Closer.deduce_marked.Goals.{In-Same}
 
-unmarked : (g : Over) (c : In-Same g) → IsUnmarked c.deduce_range-in-loop-height.new.self
+unmarked : (g : Over) (c : In-Same g) → AreUnmarked c.deduce_side-in-loop-self.new.self.marks
 unmarked g c =
-    let p : c.deduce_range-in-loop-height.new.self.puzzle ≡ c.self.inside.puzzle.now =
-    c.deduce_range-in-loop-height.ensures.puzzle ∙ c.deduce_range.ensures.puzzle ∙ c.loop-height.invariant.puzzle ∙
-    sym (ap (λ (m : MarkedPuzzle). m.puzzle) c.self.view_is) in
-    let count : c.from-height.result + c.from.result ≡ line_count c.deduce_range-in-loop-height.new.self.puzzle =
-    omega (arith, ap line_count p, c.from-height.ensures, c.height.ensures, c.from.ensures, c.width.ensures.width) in
-    subst (λ (n : ℕ). AreUnmarkedFrom 0 n c.deduce_range-in-loop-height.new.self.marks) count
-    (unmarked-both c.from-height.result (c.from-height.result + c.from.result) c.deduce_range.new.self.marks
-    c.deduce_range-in-loop-height.new.self.marks
-    (c.deduce_range.ensures.unmarked (λ e. true≢false (sym (c.is_dead.ensures.1 e) ∙ c.if-is_dead.false)))
-    (c.in-Same.ensures.same refl)
-    (c.in-Same.ensures.unmarked (λ e. cc)))
+    by_side (IsUnmarkedOn c.deduce_side-in-loop-self.new.self.marks) Columns
+    (c.in-Same.ensures.unmarked (λ e. cc))
+    (λ k h. c.deduce_side.ensures.unmarked (λ e. true≢false (sym (c.is_dead.ensures.1 e) ∙ c.if-is_dead.false)) k
+    (subst (λ (n : ℕ). Has n k) (c.in-Same.ensures.same refl) h))
 
 pub returns-in-Same-clause-closed : goal.returns-in-Same-clause-closed
 returns-in-Same-clause-closed g c =
-    let first = c.args.board.now.cells in
-    let cells = c.loop-height.board.cells in
-    let middle = c.deduce_range.new.board.cells in
-    let new = c.deduce_range-in-loop-height.new.board.cells in
-    let back : c.deduce_range-in-loop-height.new.self.puzzle ≡ c.loop-height.self.puzzle =
-    c.deduce_range-in-loop-height.ensures.puzzle ∙ c.deduce_range.ensures.puzzle in
-    subst (λ (p : Nonogram). Some new ≡ closure (lines_of p) first) (back ∙ c.loop-height.invariant.puzzle)
-    (closed_after c.deduce_range-in-loop-height.new.self first cells middle new c.deduce_range.result
+    let p = c.args.self.now.puzzle in
+    let cells = c.loop-self.board.cells in
+    let middle = c.deduce_side.new.board.cells in
+    let new = c.deduce_side-in-loop-self.new.board.cells in
+    closed_after p c.deduce_side-in-loop-self.new.self.marks c.args.board.now.cells cells middle new c.deduce_side.result
     (λ e. true≢false (sym (c.is_dead.ensures.1 e) ∙ c.if-is_dead.false))
-    (subst (λ (p : Nonogram). Progresses (closure (lines_of p)) c.deduce_range.result cells middle)
-    (sym back) c.deduce_range.ensures.progress)
-    c.in-Same.ensures.progress c.in-Same.ensures.marks (unmarked g c)
-    (subst (λ (p : Nonogram). closure (lines_of p) cells ≡ closure (lines_of p) first) (sym back) c.loop-height.invariant.closed))
+    (subst (λ (q : Nonogram). Progresses (closure (lines_of q)) c.deduce_side.result cells middle) c.loop-self.invariant.puzzle
+    c.deduce_side.ensures.progress)
+    c.in-Same.ensures.progress
+    (subst (λ (q : Nonogram). HasMarks q c.deduce_side-in-loop-self.new.self.marks new)
+    (c.deduce_side.ensures.puzzle ∙ c.loop-self.invariant.puzzle) c.in-Same.ensures.marks)
+    (unmarked g c) c.loop-self.invariant.closed
 
 pub returns-in-Same-clause-rest : goal.returns-in-Same-clause-rest
-returns-in-Same-clause-rest g c = λ alive. record { marks = c.in-Same.ensures.marks; unmarked = unmarked g c }
+returns-in-Same-clause-rest g c = λ alive. record {
+  marks = subst (λ (q : Nonogram). HasMarks q c.deduce_side-in-loop-self.new.self.marks c.deduce_side-in-loop-self.new.board.cells)
+      (sym c.deduce_side-in-loop-self.ensures.puzzle) c.in-Same.ensures.marks;
+  unmarked = unmarked g c;
+}
 
 pub returns-then-is_dead-clause-trail : goal.returns-then-is_dead-clause-trail
-returns-then-is_dead-clause-trail g c = trailed-trans c.args.board.now c.loop-height.board c.deduce_range.new.board
-    c.loop-height.invariant.trail c.deduce_range.ensures.trail
+returns-then-is_dead-clause-trail g c = trailed-trans c.args.board.now c.loop-self.board c.deduce_side.new.board
+    c.loop-self.invariant.trail c.deduce_side.ensures.trail
 
 pub returns-in-Dead-clause-trail : goal.returns-in-Dead-clause-trail
 returns-in-Dead-clause-trail g c =
-    trailed-trans c.args.board.now c.deduce_range.new.board c.deduce_range-in-loop-height.new.board
-    (trailed-trans c.args.board.now c.loop-height.board c.deduce_range.new.board c.loop-height.invariant.trail c.deduce_range.ensures.trail)
-    c.deduce_range-in-loop-height.ensures.trail
+    trailed-trans c.args.board.now c.deduce_side.new.board c.deduce_side-in-loop-self.new.board
+    (trailed-trans c.args.board.now c.loop-self.board c.deduce_side.new.board c.loop-self.invariant.trail c.deduce_side.ensures.trail)
+    c.deduce_side-in-loop-self.ensures.trail
 
 pub returns-in-Same-clause-trail : goal.returns-in-Same-clause-trail
 returns-in-Same-clause-trail g c =
-    trailed-trans c.args.board.now c.deduce_range.new.board c.deduce_range-in-loop-height.new.board
-    (trailed-trans c.args.board.now c.loop-height.board c.deduce_range.new.board c.loop-height.invariant.trail c.deduce_range.ensures.trail)
-    c.deduce_range-in-loop-height.ensures.trail
+    trailed-trans c.args.board.now c.deduce_side.new.board c.deduce_side-in-loop-self.new.board
+    (trailed-trans c.args.board.now c.loop-self.board c.deduce_side.new.board c.loop-self.invariant.trail c.deduce_side.ensures.trail)
+    c.deduce_side-in-loop-self.ensures.trail
 
-pub loop-height-preserved : goal.loop-height-preserved
-loop-height-preserved g c =
-    let first = c.args.board.now.cells in
-    let cells = c.loop-height.board.cells in
-    let middle = c.deduce_range.new.board.cells in
-    let new = c.deduce_range-in-loop-height.new.board.cells in
-    let back : c.deduce_range-in-loop-height.new.self.puzzle ≡ c.loop-height.self.puzzle =
-    c.deduce_range-in-loop-height.ensures.puzzle ∙ c.deduce_range.ensures.puzzle in
-    let p = c.loop-height.self.puzzle in
+pub loop-self-preserved : goal.loop-self-preserved
+loop-self-preserved g c =
+    let p = c.args.self.now.puzzle in
+    let cells = c.loop-self.board.cells in
+    let middle = c.deduce_side.new.board in
+    let new = c.deduce_side-in-loop-self.new.board in
+    let once = c.deduce_side.ensures.puzzle ∙ c.loop-self.invariant.puzzle in
     record {
-      puzzle = back ∙ c.loop-height.invariant.puzzle;
-      marks = c.in-Changed.ensures.marks;
+      puzzle = c.deduce_side-in-loop-self.ensures.puzzle ∙ once;
+      marks = subst (λ (q : Nonogram). HasMarks q c.deduce_side-in-loop-self.new.self.marks new.cells) once c.in-Changed.ensures.marks;
       trail =
-          trailed-trans c.args.board.now c.deduce_range.new.board c.deduce_range-in-loop-height.new.board
-          (trailed-trans c.args.board.now c.loop-height.board c.deduce_range.new.board
-          c.loop-height.invariant.trail c.deduce_range.ensures.trail)
-          c.deduce_range-in-loop-height.ensures.trail;
-      size = subst (λ (q : Nonogram). IsBoardOf q c.deduce_range-in-loop-height.new.board) (sym back)
-          (trailed-size p c.deduce_range.new.board c.deduce_range-in-loop-height.new.board c.deduce_range-in-loop-height.ensures.trail
-          (trailed-size p c.loop-height.board c.deduce_range.new.board c.deduce_range.ensures.trail c.loop-height.invariant.size));
+          trailed-trans c.args.board.now middle new
+          (trailed-trans c.args.board.now c.loop-self.board middle c.loop-self.invariant.trail c.deduce_side.ensures.trail)
+          c.deduce_side-in-loop-self.ensures.trail;
+      size = trailed-size p middle new c.deduce_side-in-loop-self.ensures.trail
+          (trailed-size p c.loop-self.board middle c.deduce_side.ensures.trail c.loop-self.invariant.size);
       closed =
-          subst (λ (q : Nonogram). closure (lines_of q) new ≡ closure (lines_of q) first) (sym back)
-          (subst (λ (q : Nonogram). closure (lines_of q) new ≡ closure (lines_of q) middle) c.deduce_range.ensures.puzzle
+          subst (λ (q : Nonogram). closure (lines_of q) new.cells ≡ closure (lines_of q) middle.cells) once
           c.in-Changed.ensures.progress.0
-          ∙ progress-keeps (closure (lines_of p)) c.deduce_range.result cells middle
-          (λ e. true≢false (sym (c.is_dead.ensures.1 e) ∙ c.if-is_dead.false)) c.deduce_range.ensures.progress
-          ∙ c.loop-height.invariant.closed);
+          ∙ progress-keeps (closure (lines_of p)) c.deduce_side.result cells middle.cells
+          (λ e. true≢false (sym (c.is_dead.ensures.1 e) ∙ c.if-is_dead.false))
+          (subst (λ (q : Nonogram). Progresses (closure (lines_of q)) c.deduce_side.result cells middle.cells)
+          c.loop-self.invariant.puzzle c.deduce_side.ensures.progress)
+          ∙ c.loop-self.invariant.closed;
     }

@@ -7,14 +7,14 @@ use Rattle.solve_core.specs.Trails.{IsTrailed, unknown_count}
 use Rattle.solve_core.specs.Boards.{IsBoardOf}
 use Rattle.solve_core.proofs.closures.Closer.deduce_marked.Given as goal
 
-abbrev pub invariant-loop-height : goal.invariant-loop-height
-invariant-loop-height g l = record {
+abbrev pub invariant-loop-self : goal.invariant-loop-self
+invariant-loop-self g l = record {
   puzzle : l.self.puzzle ≡ l.fn.self.puzzle;
-  marks : HasMarks l.self l.board.cells;
+  marks : HasMarks l.fn.self.puzzle l.self.marks l.board.cells;
   trail : IsTrailed l.fn.board l.board;
-  size : IsBoardOf l.self.puzzle l.board;
-  closed : closure (lines_of l.self.puzzle) l.board.cells ≡ closure (lines_of l.self.puzzle) l.fn.board.cells;
+  size : IsBoardOf l.fn.self.puzzle l.board;
+  closed : closure (lines_of l.fn.self.puzzle) l.board.cells ≡ closure (lines_of l.fn.self.puzzle) l.fn.board.cells;
 }
 
-abbrev pub decreases-loop-height : goal.decreases-loop-height
-decreases-loop-height g l = unknown_count l.board.cells
+abbrev pub decreases-loop-self : goal.decreases-loop-self
+decreases-loop-self g l = unknown_count l.board.cells

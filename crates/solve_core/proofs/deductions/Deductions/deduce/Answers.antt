@@ -3,66 +3,57 @@ use Rattle.std.proofs.Common.{◌≡◌, ◌∙◌, ◌<◌, ◌≤◌, ℕ, Lis
 use Rattle.std.proofs.lemmas.List.{get_or_default}
 use Rattle.std.proofs.lemmas.List.Elements.{All-contains}
 use Rattle.grid_core.specs.declared.cells.Cell.{Cell}
-use Rattle.grid_core.specs.Nonogram.{Nonogram, IsNonogram}
+use Rattle.grid_core.specs.declared.sides.Side.{Side}
+use Rattle.grid_core.specs.Nonogram.{Nonogram, line_on}
 use Rattle.line_core.specs.Deduction.{deduced}
 use Rattle.solve_core.specs.Deductions.{IsDeductionOf}
 use Rattle.solve_core.specs.declared.deductions.Deduction.{Deduction}
-use Rattle.solve_core.specs.Lines.{line_at, line_count}
-use Rattle.solve_core.specs.Widths.{FitsIn}
 use Rattle.solve_core.proofs.Fitting.{fits_line}
 use Rattle.solve_core.proofs.deductions.Deductions.deduce.Goals as goal
 
--- the clue of a line fits
-fits_clue : (width : ℕ) (p seen : Nonogram) (n : ℕ) (clue : List ℕ) → FitsIn width p → IsNonogram p → p ≡ seen → n < line_count seen →
-    clue ≡ (line_at p n).clue → All (λ k. k ≤ width) clue
-fits_clue width p seen n clue f is e h c =
-    subst (λ (l : List ℕ). All (λ k. k ≤ width) l) (sym c) (fits_line width p n f is (subst (λ (q : Nonogram). n < line_count q) (sym e) h))
-
 pub deduce-requires : goal.deduce-requires
 deduce-requires g c =
-    fits_clue g.W.PlaceSet.WIDTH c.self.inside.puzzle.now c.args.self.now c.args.number _ c.self.invariant.fits
-    c.clue_of_line-clue.ensures.puzzle c.self.view_is c.requires.number c.clue_of_line-clue.ensures.clue
+    subst (λ (l : List ℕ). All (λ k. k ≤ g.W.PlaceSet.WIDTH) l) (sym c.clue_of_line-clue.ensures)
+    (fits_line c.args.side g.W.PlaceSet.WIDTH c.self.inside.puzzle.now c.args.i c.self.invariant.fits)
 
 pub deduce-answer-requires : goal.deduce-answer-requires
 deduce-answer-requires g c =
-    fits_clue g.W.PlaceSet.WIDTH c.self.inside.puzzle.now c.args.self.now c.args.number _ c.self.invariant.fits
-    c.clue_of_line-clue.ensures.puzzle c.self.view_is c.requires.number c.clue_of_line-clue.ensures.clue
+    subst (λ (l : List ℕ). All (λ k. k ≤ g.W.PlaceSet.WIDTH) l) (sym c.clue_of_line-clue.ensures)
+    (fits_line c.args.side g.W.PlaceSet.WIDTH c.self.inside.puzzle.now c.args.i c.self.invariant.fits)
 
 pub returns-in_default-clause-answer : goal.returns-in_default-clause-answer
 returns-in_default-clause-answer g c =
-    c.deduce.ensures.answer ∙ ap (deduced c.args.line.now) (c.clue_of_line-clue.ensures.clue ∙
-    ap (λ (p : Nonogram). (line_at p c.args.number).clue) c.self.view_is)
+    c.deduce.ensures.answer ∙ ap (deduced c.args.line.now) (c.clue_of_line-clue.ensures ∙
+    ap (λ (p : Nonogram). (line_on c.args.side p c.args.i).clue) c.self.view_is)
 
 pub returns-clause-answer : goal.returns-clause-answer
 returns-clause-answer g c =
-    c.deduce-answer.ensures.answer ∙ ap (deduced c.args.line.now) (c.clue_of_line-clue.ensures.clue ∙
-    ap (λ (p : Nonogram). (line_at p c.args.number).clue) c.self.view_is)
+    c.deduce-answer.ensures.answer ∙ ap (deduced c.args.line.now) (c.clue_of_line-clue.ensures ∙
+    ap (λ (p : Nonogram). (line_on c.args.side p c.args.i).clue) c.self.view_is)
 
 -- what is remembered of a line is what is certain of it
-remembered : {W : Type 0} (p seen : Nonogram) (kept : List (Deduction W)) (k number : ℕ) (line : List Cell) (d e : Deduction W) →
+remembered : {W : Type 0} (p seen : Nonogram) (kept : List (Deduction W)) (k : ℕ) (side : Side) (i : ℕ) (line : List Cell) (d e : Deduction W) →
     All (IsDeductionOf p) kept → k < length kept
-    → d ≡ get_or kept k d → e ≡ get_or kept k e → (e.number ≡ number) × (e.line ≡ line) → p ≡ seen →
-    d.answer ≡ deduced line (line_at seen number).clue
-remembered p seen kept k number line d e right l x y is s =
+    → d ≡ get_or kept k d → e ≡ get_or kept k e → (e.side ≡ side) × (e.number ≡ i) × (e.line ≡ line) → p ≡ seen →
+    d.answer ≡ deduced line (line_on side seen i).clue
+remembered p seen kept k side i line d e right l x y is s =
     let same : d ≡ e = x ∙ get_or_default kept k d e l ∙ sym y in
-    let numbers : d.number ≡ number = ap (λ z. z.number) same ∙ is.0 in
-    let lines : d.line ≡ line = ap (λ z. z.line) same ∙ is.1 in
-    let own : d.answer ≡ deduced d.line (line_at p d.number).clue = subst (IsDeductionOf p) (sym x) (right k d l) in
-    own ∙ (λ i. deduced (lines i) (line_at (s i) (numbers i)).clue)
+    let own : d.answer ≡ deduced d.line (line_on d.side p d.number).clue = subst (IsDeductionOf p) (sym x) (right k d l) in
+    own ∙ ap (λ z. deduced z.line (line_on z.side p z.number).clue) same ∙ (λ j. deduced (is.2 j) (line_on (is.0 j) (s j) (is.1 j)).clue)
 
 pub returns-then-is_of-clause-answer : goal.returns-then-is_of-clause-answer
 returns-then-is_of-clause-answer g c =
     c.copy_answer.ensures
-    ∙ remembered c.self.inside.puzzle.now c.args.self.now c.self.inside.kept.items c.from-index.result c.args.number c.args.line.now
+    ∙ remembered c.self.inside.puzzle.now c.args.self.now c.self.inside.kept.items c.from-index.result c.args.side c.args.i c.args.line.now
     c.index-then-is_of.result.now c.index-then-index-len.result.now
     c.self.invariant.right (omega (arith, c.if-index-len.true, c.len.ensures)) c.index-then-is_of.ensures c.index-then-index-len.ensures
-    (c.is_of.ensures.0 c.if-is_of.true) c.self.view_is
+    (c.is_of.ensures c.if-is_of.true) c.self.view_is
 
 pub invariant_of-self-2 : goal.invariant_of-self-2
 invariant_of-self-2 g c =
     let p = c.self.inside.puzzle.now in
-    let own : c.copy_answer-2.result ≡ deduced c.copy.result (line_at p c.args.number).clue =
-    c.copy_answer-2.ensures ∙ c.deduce-answer.ensures.answer ∙ (λ i. deduced (sym c.copy.ensures i) (c.clue_of_line-clue.ensures.clue i)) in
+    let own : c.copy_answer-2.result ≡ deduced c.copy.result (line_on c.args.side p c.args.i).clue =
+    c.copy_answer-2.ensures ∙ c.deduce-answer.ensures.answer ∙ (λ i. deduced (sym c.copy.ensures i) (c.clue_of_line-clue.ensures i)) in
     record {
       fits = c.self.invariant.fits;
       some = c.self.invariant.some;

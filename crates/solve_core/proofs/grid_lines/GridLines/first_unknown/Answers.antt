@@ -1,5 +1,6 @@
 -- `GridLines::first_unknown`: all cells passed are known, so a row's first unknown cell is the grid's.
 use Rattle.std.proofs.Common.{◌≡◌, ◌∙◌, ◌+◌, ◌*◌, ◌<◌, ◌≤◌, ℕ, [], List, Some, None, false, inl, inr, length, get_or, ap, sym, subst, arith}
+use Rattle.std.proofs.lemmas.Bool.{cases_lt}
 use Rattle.grid_core.specs.Cells.{is_unknown}
 use Rattle.grid_core.specs.declared.cells.Cell.{Cell}
 use Rattle.grid_core.specs.declared.cells.Cell.TheVariants.{Unknown}
@@ -7,7 +8,6 @@ use Rattle.grid_core.specs.PartialGrid.{PartialGrid}
 use Rattle.grid_core.specs.Lines.{IsUnknownFrom}
 use Rattle.grid_core.specs.Rows.{cells_of_rows}
 use Rattle.solve_core.proofs.GridLineSteps.{cell_in, line_read, lines-long, row-known, row-unknown}
-use Rattle.solve_core.proofs.LineSteps.{before_or_from}
 use Rattle.solve_core.proofs.grid_lines.GridLines.first_unknown.Goals as goal
 
 pub first_unknown-requires : goal.first_unknown-requires
@@ -52,7 +52,7 @@ returns-in-Some g c =
       omega (arith, start, found.0),
       cell_in cells rows columns x y c.self.invariant at.0 ly,
       at.1,
-      λ k f t. elim (before_or_from k (y * w + column)) [ inl early ↦ before k f early | inr late ↦ at.2 k late t ],
+      λ k f t. elim (cases_lt k (y * w + column)) [ inl early ↦ before k f early | inr late ↦ at.2 k late t ],
     ) in
     subst (λ (r : List Cell). IsUnknownFrom r from (Some (y * c.len-width.result + c.from.result))) seen
     (subst (λ (k : ℕ). IsUnknownFrom cells from (Some k)) (sym place) there)
@@ -79,7 +79,7 @@ loop-y-preserved g c =
       column = omega (arith, wide, c.self.invariant.size.width_from);
       from = omega (arith, next, start, short);
       known = λ k f t.
-          elim (before_or_from k (y * w + column)) [
+          elim (cases_lt k (y * w + column)) [
             | inl early ↦ c.loop-y.invariant.known k f (subst (λ (q : ℕ). k < y * q + column) (sym wide) early)
             | inr late ↦ ap (λ (r : List Cell). is_unknown (get_or r k Unknown)) (sym seen) ∙
                 row-known rows columns y column c.self.invariant ly none k late (omega (arith, next))

@@ -1,5 +1,6 @@
 -- `Trials::try_all`: cells before the next unknown one are tried or known, so if there is none all are tried.
 use Rattle.std.proofs.Common.{◌≡◌, ◌∙◌, ◌+◌, ◌<◌, ◌≤◌, ℕ, List, inl, inr, sym, refl, ap, subst, arith, below_more, length, get_or}
+use Rattle.std.proofs.lemmas.Bool.{cases_lt}
 use Rattle.grid_core.specs.Cells.{is_unknown}
 use Rattle.grid_core.specs.declared.cells.Cell.{Cell}
 use Rattle.grid_core.specs.declared.cells.Cell.TheVariants.{Unknown}
@@ -8,7 +9,6 @@ use Rattle.grid_core.specs.PartialGrid.{PartialGrid}
 use Rattle.solve_core.specs.Trials.{trials, IsTried}
 use Rattle.solve_core.proofs.Counting.{known-tried}
 use Rattle.solve_core.proofs.GridSteps.{progress-same, progress-changed}
-use Rattle.solve_core.proofs.LineSteps.{before_or_from}
 use Rattle.solve_core.proofs.trials.Trials.try_all.Goals as goal
 use Rattle.solve_core.proofs.trials.Trials.try_all.Goals.{in-Same, in-Changed}
 
@@ -39,7 +39,7 @@ loop-place-preserved g c =
                 (below_more (λ k. IsTried (lines_of p) new k) place
                 (λ k l.
                 subst (λ (cells : List Cell). IsTried (lines_of p) cells k) (sym same)
-                (elim (before_or_from k c.loop-place.from) [
+                (elim (cases_lt k c.loop-place.from) [
                   | inl early ↦ before.tried (sym w.progress-is ∙ e) k early
                   | inr late ↦ known-tried (lines_of p) old k (ap (λ (r : List Cell). is_unknown (get_or r k Unknown)) (sym seen) ∙
                       c.in-Some.ensures.3 k late l)
@@ -69,7 +69,7 @@ returns-clause-tried g c =
     λ e.
     subst (λ (q : Nonogram). (k : ℕ) → k < length cells → IsTried (lines_of q) cells k) before.puzzle
     (λ k l.
-    elim (before_or_from k c.loop-place.from) [
+    elim (cases_lt k c.loop-place.from) [
       | inl early ↦ before.tried e k early
       | inr late ↦ known-tried (lines_of p) cells k (ap (λ (r : List Cell). is_unknown (get_or r k Unknown)) (sym seen) ∙
           c.in_default.ensures k late (omega (arith, l, ap length seen)))

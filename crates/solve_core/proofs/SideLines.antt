@@ -1,0 +1,109 @@
+-- The lines of a grid by side and number.
+use Rattle.std.proofs.Common.{◌≡◌, ℕ, zero, suc, ◌+◌, ◌*◌, ◌<◌, ◌≤◌, inl, inr, List, [], ◌∷◌, length, get_or, refl, ap, arith}
+use Rattle.std.specs.List.{AllByRecursion}
+use Rattle.std.proofs.Math.Nat.{mul-le-mul_left}
+use Rattle.std.proofs.lemmas.List.Elements.{recursion_from_All}
+use Rattle.grid_core.specs.declared.sides.Side.{Side}
+use Rattle.grid_core.specs.declared.sides.Side.TheVariants.{Rows, Columns}
+use Rattle.grid_core.specs.PartialGrid.{IsSize}
+use Rattle.grid_core.specs.Nonogram.{Nonogram, IsNonogram, GridLine, lines_of, clues_on, column_on, count_on, crossing, line_on, place_on, places_on, row_on}
+use Rattle.grid_core.proofs.LineLaws.{all_lines, each_line, place-within, length-places_on, get_or-places_on}
+use Rattle.solve_core.proofs.StepLaws.{IsOneOf}
+use Rattle.solve_core.proofs.LineSteps.{AreDistinct, AreBelow, distinct_from, below_from}
+
+-- the places of a grid fit 16 bits
+pub longest_sides_fit : (w h : ℕ) → IsSize w h → w * h ≤ 65536
+longest_sides_fit w h size =
+    let by_height : w * h ≤ w * 256 = mul-le-mul_left w (omega (arith, size.height_to)) in
+    omega (arith, by_height, size.width_to)
+
+-- a place has only one row and only one column
+pub unique_place : (w y j a b : ℕ) → a < w → b < w → y * w + a ≡ j * w + b → (y ≡ j) × (a ≡ b)
+unique_place w zero zero a b h k e = (refl, omega arith)
+unique_place w zero (suc j) a b h k e = absurd (omega arith)
+unique_place w (suc y) zero a b h k e = absurd (omega arith)
+unique_place w (suc y) (suc j) a b h k e =
+    let rest = unique_place w y j a b h k (omega arith) in
+    (ap suc rest.0, rest.1)
+
+-- a cell of a row is in the grid
+pub row_within : (w h y i : ℕ) → y < h → i < w → y * w + i * 1 < w * h
+row_within w h y i a b = omega (arith, place-within w h i y b a)
+
+-- a cell of a column is in the grid
+pub column_within : (w h x i : ℕ) → x < w → i < h → x + i * w < w * h
+column_within w h x i a b = omega (arith, place-within w h x i a b)
+
+-- what holds of a side and of the one that crosses it holds of each side
+pub by_side : (P : Side → Type 0) (side : Side) → P side → P (crossing side) → (s : Side) → P s
+by_side P Rows own cross Rows = own
+by_side P Rows own cross Columns = cross
+by_side P Columns own cross Rows = cross
+by_side P Columns own cross Columns = own
+
+-- a cell of a line is in the grid
+pub cell_within : (side : Side) (w h i k : ℕ) → i < count_on side w h → k < count_on (crossing side) w h → place_on side w i k < w * h
+cell_within Rows w h i k l m = place-within w h k i m l
+cell_within Columns w h i k l m = place-within w h i k l m
+
+-- its column and its row are those of the grid
+pub cell_in : (side : Side) (w h i k : ℕ) → i < count_on side w h → k < count_on (crossing side) w h →
+    (column_on side i k < w) × (row_on side i k < h)
+cell_in Rows w h i k l m = (m, l)
+cell_in Columns w h i k l m = (l, m)
+
+-- a side crosses those that cross it
+pub crossing_twice : (side : Side) → crossing (crossing side) ≡ side
+crossing_twice Rows = refl
+crossing_twice Columns = refl
+
+-- a cell of the lines of a side is one of only one line, and only once
+pub same_place : (side : Side) (w h i k j m : ℕ) → i < count_on side w h → k < count_on (crossing side) w h → j < count_on side w h →
+    m < count_on (crossing side) w h → place_on side w i k ≡ place_on side w j m → (i ≡ j) × (k ≡ m)
+same_place Rows w h i k j m li lk lj lm e = unique_place w i j k m lk lm e
+same_place Columns w h i k j m li lk lj lm e = let same = unique_place w k m i j li lj e in (same.1, same.0)
+
+-- a place of a line, by its number along the line
+pub along : (side : Side) (w h i k : ℕ) → k < length (places_on side w h i) →
+    (k < count_on (crossing side) w h) × (get_or (places_on side w h i) k 0 ≡ place_on side w i k)
+along side w h i k l =
+    let short : k < count_on (crossing side) w h = omega (arith, length-places_on side w h i) in
+    (short, get_or-places_on side w h i k short)
+
+-- a place of a line that crosses those of a side, by its number along it
+pub across : (side : Side) (w h i k : ℕ) → k < length (places_on (crossing side) w h i) →
+    (k < count_on side w h) × (get_or (places_on (crossing side) w h i) k 0 ≡ place_on side w k i)
+across Rows w h i k l = along Columns w h i k l
+across Columns w h i k l = along Rows w h i k l
+
+-- no place of a line is there twice, if the grid has a column
+pub distinct_places : (side : Side) (w h i : ℕ) → 0 < w → AreDistinct (places_on side w h i)
+distinct_places Rows w h i l = distinct_from (i * w) 1 w (omega arith)
+distinct_places Columns w h i l = distinct_from i w h l
+
+-- each place of a line is in the grid
+pub below_places : (side : Side) (w h i : ℕ) → i < count_on side w h → AreBelow (w * h) (places_on side w h i)
+below_places Rows w h i l = below_from (i * w) 1 w (w * h) (λ k m. row_within w h i k l m)
+below_places Columns w h i l = below_from i w h (w * h) (λ k m. column_within w h i k l m)
+
+-- there is a clue for each line of a side
+pub count_clues : (side : Side) (p : Nonogram) → IsNonogram p → length (clues_on side p) ≡ count_on side p.width p.height
+count_clues Rows p is = is.clues.0
+count_clues Columns p is = is.clues.1
+
+-- what holds of each line of each side holds of all lines
+pub all_sides : (P : GridLine → Type 0) (p : Nonogram) → IsNonogram p →
+    ((side : Side) (i : ℕ) → i < count_on side p.width p.height → P (line_on side p i)) → AllByRecursion P (lines_of p)
+all_sides P p is h = recursion_from_All P (lines_of p)
+    (all_lines P p (λ y l. h Rows y (omega (arith, is.clues.0))) (λ x l. h Columns x (omega (arith, is.clues.1))))
+
+one_at : (lines : List GridLine) (n : ℕ) (d : GridLine) → n < length lines → IsOneOf (get_or lines n d) lines
+one_at [] n d l = absurd (omega arith)
+one_at (x ∷ lines) zero d l = inl refl
+one_at (x ∷ lines) (suc n) d l = inr (one_at lines n d (omega arith))
+
+-- each line of a side is one of the puzzle's lines
+pub line_is_one : (side : Side) (p : Nonogram) (i : ℕ) → IsNonogram p → i < count_on side p.width p.height →
+    IsOneOf (line_on side p i) (lines_of p)
+line_is_one side p i is l =
+    each_line (λ line. IsOneOf line (lines_of p)) p (λ n d m. one_at (lines_of p) n d m) side i (omega (arith, count_clues side p is))

@@ -1,0 +1,61 @@
+-- `Closer::deduce_side`: the lines passed have no mark, and deducing another line of the side gives them none.
+use Rattle.std.proofs.Common.{rules, ◌∙◌, ◌+◌, ◌<◌, ℕ, refl, true≢false, sym, subst, inl, inr, arith}
+use Rattle.std.proofs.lemmas.Bool.{cases_lt}
+use Rattle.grid_core.specs.Nonogram.{Nonogram}
+use Rattle.solve_core.specs.MarkedPuzzles.{MarkedPuzzle}
+use Rattle.solve_core.specs.LineMarks.{IsMarkedOn}
+use Rattle.solve_core.specs.Marks.{HasMarks}
+use Rattle.solve_core.proofs.TrailSteps.{trailed-trans, trailed-size}
+use Rattle.solve_core.proofs.closures.Closer.deduce_side.Goals as goal
+use Rattle.solve_core.proofs.closures.Closer.deduce_side.Goals.{in-Same, in-Changed}
+
+pub loop-i-preserved : goal.loop-i-preserved
+loop-i-preserved g c =
+    let p = c.args.self.now.puzzle in
+    let before = c.loop-i.invariant in
+    let side = c.args.side in
+    let i = c.in-Some.i in
+    let first = c.in-Some.ensures in
+    let new = c.deduce_line.new.self in
+    let trail = trailed-trans c.args.board.now c.loop-i.board c.deduce_line.new.board before.trail c.deduce_line.ensures.trail in
+    let size = trailed-size p c.loop-i.board c.deduce_line.new.board c.deduce_line.ensures.trail before.size in
+    let seen : (k : ℕ) → IsMarkedOn c.loop-i.self.marks side k → IsMarkedOn c.self.inside.marks side k =
+    λ k h. subst (λ (m : MarkedPuzzle). IsMarkedOn m.marks side k) (sym c.self.view_is) h in
+    let passed : (k : ℕ) → k < i + 1 → IsMarkedOn new.marks side k → ⊥ = λ k l h.
+    elim (c.deduce_line.ensures.own.to k h) [
+      | inl old ↦ elim (cases_lt k c.loop-i.from) [
+        | inl sooner ↦ before.passed k sooner old.0
+        | inr later ↦ first.3 k later (let other = old.1 in omega arith) (seen k old.0)
+      ]
+      | inr gone ↦ true≢false (sym gone.1)
+    ] in
+    elim c.match-deduce_line.branch [
+      | in-Same w ↦
+          record {
+            puzzle = c.deduce_line.ensures.puzzle ∙ before.puzzle;
+            marks = subst (λ (q : Nonogram). HasMarks q new.marks c.deduce_line.new.board.cells) before.puzzle w.in-Same.ensures.marks;
+            trail = trail;
+            size = size;
+            progress = search rules;
+            alive = search rules;
+            same = λ e. w.in-Same.ensures.same refl ∙ before.same (sym w.progress-is ∙ e);
+            passed = passed;
+            within = omega (arith, first.1);
+          }
+      | in-Changed w ↦
+          record {
+            puzzle = c.deduce_line.ensures.puzzle ∙ before.puzzle;
+            marks = subst (λ (q : Nonogram). HasMarks q new.marks c.deduce_line.new.board.cells) before.puzzle w.in-Changed.ensures.marks;
+            trail = trail;
+            size = size;
+            progress = search rules;
+            alive = search rules;
+            same = search rules;
+            passed = passed;
+            within = omega (arith, first.1);
+          }
+    ]
+
+pub returns-in-Dead-clause-trail : goal.returns-in-Dead-clause-trail
+returns-in-Dead-clause-trail g c =
+    trailed-trans c.args.board.now c.loop-i.board c.deduce_line.new.board c.loop-i.invariant.trail c.deduce_line.ensures.trail
