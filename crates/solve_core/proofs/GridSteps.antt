@@ -13,7 +13,7 @@ use Rattle.place_sets.specs.Masks.{Has, IsMarked, IsMaskOf}
 use Rattle.grid_core.specs.declared.sides.Side.{Side}
 use Rattle.grid_core.specs.declared.sides.Side.TheVariants.{Rows, Columns}
 use Rattle.solve_core.specs.Marks.{IsSettled, IsWritten, IsLearned, MarksChanges, HasMarks, MarksAfter, Progresses, IsAtRest}
-use Rattle.solve_core.specs.MarkedPuzzles.{MarkedPuzzle}
+use Rattle.solve_core.specs.Closers.{Closing, IsIdle}
 use Rattle.solve_core.specs.Trails.{unknown_count}
 use Rattle.solve_core.proofs.Order.{Extends-refl, length-Extends}
 use Rattle.solve_core.proofs.ClosureLaws.{closure-IsLeastClosed}
@@ -197,29 +197,27 @@ place_split p cells k is size l =
     (omega arith, div_below k p.width p.height positive within, omega arith)
 
 -- cells at rest are line-closed
-pub rest_closed : (p : MarkedPuzzle) (cells : List Cell) → IsAtRest p cells → round (lines_of p.puzzle) cells ≡ Some cells
-rest_closed p cells r =
-    (closure-IsLeastClosed (lines_of p.puzzle) cells).closed cells (unmarked_closed p.puzzle p.marks cells r.marks r.unmarked)
+pub rest_closed : (p : Nonogram) (c : Closing) (cells : List Cell) → IsAtRest p c cells → round (lines_of p) cells ≡ Some cells
+rest_closed p c cells r =
+    (closure-IsLeastClosed (lines_of p) cells).closed cells (unmarked_closed p c.marks cells r.marks r.idle.unmarked)
 
 -- a place is its row times the width, plus its column, if the width is positive
 pub place_again : (k width other : ℕ) → width ≡ other → 0 < other → k / width * other + k % width ≡ k
 place_again k width other e h = rw e (omega arith)
 
 -- a closed grid is at rest if no line is marked
-pub closed_rest : (m : MarkedPuzzle) (cells : List Cell) → IsNonogram m.puzzle → length cells ≡ m.puzzle.width * m.puzzle.height →
-    round (lines_of m.puzzle) cells ≡ Some cells → AreUnmarked m.marks → IsAtRest m cells
-closed_rest m cells is size closed unmarked =
-    let p = m.puzzle in
-    record {
-      marks = record {
-        puzzle = is;
-        size = size;
-        within = λ side i h. absurd (unmarked side i h);
-        settled = λ side i l n. closed_settled (lines_of p) cells (line_on side p i) closed (line_is_one side p i is l)
-            (line-distinct p side i is) (line-below p (length cells) side i l size);
-      };
-      unmarked = unmarked;
-    }
+pub closed_rest : (p : Nonogram) (c : Closing) (cells : List Cell) → IsNonogram p → length cells ≡ p.width * p.height →
+    round (lines_of p) cells ≡ Some cells → IsIdle p c → IsAtRest p c cells
+closed_rest p c cells is size closed idle = record {
+  marks = record {
+    puzzle = is;
+    size = size;
+    within = λ side i h. absurd (idle.unmarked side i h);
+    settled = λ side i l n. closed_settled (lines_of p) cells (line_on side p i) closed (line_is_one side p i is l)
+        (line-distinct p side i is) (line-below p (length cells) side i l size);
+  };
+  idle = idle;
+}
 
 -- learning one of the lines is progress towards the closure
 pub learned-progress : (lines : List GridLine) (line : GridLine) (g new : List Cell) (r : Progress) → IsOneOf line lines →

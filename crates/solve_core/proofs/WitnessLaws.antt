@@ -18,7 +18,7 @@ use Rattle.solve_core.specs.Trails.{cleared}
 use Rattle.solve_core.specs.Overlaid.{over, overlaid, AreAlike, AreApart}
 use Rattle.solve_core.specs.declared.witnesses.Crossed.{Crossed}
 use Rattle.solve_core.specs.declared.witnesses.Witness.{Witness}
-use Rattle.solve_core.specs.WitnessedPuzzles.{WitnessedPuzzle, no_witness, witness_at, met_by, open_marks}
+use Rattle.solve_core.specs.WitnessLists.{WitnessLists, no_witness, witness_at, met_by, open_marks}
 use Rattle.solve_core.specs.Witnesses.{has_side, IsCrossed, DifferWithin, ShareNoLine, IsWitness, AreWitnesses, AreNumbered, IsKept, AddsMet}
 use Rattle.solve_core.proofs.Order.{Extends-refl, Extends-antisym, length-Extends, set_within}
 use Rattle.solve_core.proofs.ClosureLaws.{closure-IsLeastClosed}
@@ -201,30 +201,30 @@ met_stays width g new t lines learned k c same h l mine theirs apart known at = 
         as_new g new t k same h old ∙ known_stays c (get_or new k Unknown) known more
 
 -- a cell that a number was noted at is known, unless it is that of no witness
-noted_known : (w : WitnessedPuzzle) (k number : ℕ) (c : Cell) → number ≢ 0 → get_or (met_by w c) k 0 ≡ number → is_known c ≡ true
+noted_known : (w : WitnessLists) (k number : ℕ) (c : Cell) → number ≢ 0 → get_or (met_by w c) k 0 ≡ number → is_known c ≡ true
 noted_known w k number Unknown n e = absurd (n (sym e))
 noted_known w k number Filled n e = refl
 noted_known w k number Blank n e = refl
 
 -- A witness stays one if what was learned shares no line with it.
-apart_stays : (w : WitnessedPuzzle) (g new : List Cell) (number : ℕ) (learned : Crossed) → IsNonogram w.puzzle →
-    length g ≡ w.puzzle.width * w.puzzle.height → round (lines_of w.puzzle) new ≡ Some new
-    → Extends g new → DifferWithin w.puzzle.width g new learned → ShareNoLine ((witness_at w.witnesses number).lines) learned →
-    number ≢ 0 → IsWitness w g number → IsWitness w new number
-apart_stays w g new number learned is size closed h theirs apart some was =
+apart_stays : (p : Nonogram) (w : WitnessLists) (g new : List Cell) (number : ℕ) (learned : Crossed) → IsNonogram p →
+    length g ≡ p.width * p.height → round (lines_of p) new ≡ Some new
+    → Extends g new → DifferWithin p.width g new learned → ShareNoLine ((witness_at w.witnesses number).lines) learned →
+    number ≢ 0 → IsWitness p w g number → IsWitness p w new number
+apart_stays p w g new number learned is size closed h theirs apart some was =
     let t = was.trial in
     let lines = (witness_at w.witnesses number).lines in
     let same : length new ≡ length t = sym (length-Extends g new h) ∙ length-Extends g t was.extends in
     record {
       trial = overlaid new t;
-      closed = overlaid_closed w.puzzle g new t is size closed was.closed h was.extends
-          (apart_lines w.puzzle g new t lines learned was.within theirs apart);
+      closed = overlaid_closed p g new t is size closed was.closed h was.extends
+          (apart_lines p g new t lines learned was.within theirs apart);
       extends = overlaid-extends new t;
       within = record {
         rows = λ k e. sym (as_new g new t k same h (was.within.rows k e));
         columns = λ k e. sym (as_new g new t k same h (was.within.columns k e));
       };
-      met = λ k c e. met_stays w.puzzle.width g new t lines learned k c same h was.extends was.within theirs apart
+      met = λ k c e. met_stays p.width g new t lines learned k c same h was.extends was.within theirs apart
           (noted_known w k number c some e) (was.met k c e);
     }
 
@@ -241,12 +241,12 @@ cell_itself : (c : Cell) → CellExtends c c
 cell_itself c = Extends-at (c ∷ []) (c ∷ []) 0 (Extends-refl (c ∷ []))
 
 -- A witness stays one if it has the colour of the settled cell: it knows all that was learned from that.
-holding_stays : (w : WitnessedPuzzle) (g new : List Cell) (number place : ℕ) (c : Cell) →
-    closure (lines_of w.puzzle) (set g place c) ≡ Some new → Extends g new
-    → get_or (met_by w c) place 0 ≡ number → IsWitness w g number → IsWitness w new number
-holding_stays w g new number place c e h noted was =
+holding_stays : (p : Nonogram) (w : WitnessLists) (g new : List Cell) (number place : ℕ) (c : Cell) →
+    closure (lines_of p) (set g place c) ≡ Some new → Extends g new
+    → get_or (met_by w c) place 0 ≡ number → IsWitness p w g number → IsWitness p w new number
+holding_stays p w g new number place c e h noted was =
     let t = was.trial in
-    let lines = lines_of w.puzzle in
+    let lines = lines_of p in
     let with_it : Extends (set g place c) t =
     set_within g t place c was.extends (subst (λ (q : Cell). CellExtends c q) (sym (was.met place c noted)) (cell_itself c)) in
     let more : Extends new t = rw e at ((closure-IsLeastClosed lines (set g place c)).least t was.closed with_it) in
@@ -282,47 +282,51 @@ cleared_within width cells ks lines crossed = record {
 -- ---- the steps of the program
 
 -- what a mark says
-mark_is : (w : WitnessedPuzzle) (k : ℕ) (c : Cell) → AreNumbered w →
+mark_is : (w : WitnessLists) (k : ℕ) (c : Cell) → AreNumbered w →
     get_or (open_marks w c) k false ≡ (witness_at w.witnesses (get_or (met_by w c) k 0)).counts
 mark_is w k c n =
     let f : ℕ → Bool = (λ number. (witness_at w.witnesses number).counts) in
     ap (λ (d : Bool). get_or (open_marks w c) k d) (sym n.none) ∙ get_or-map f (met_by w c) k 0
 
 -- witnesses that are alive, with what their marks say
-pub with_colours : (w : WitnessedPuzzle) (cells : List Cell) → AreNumbered w → length cells ≡ w.puzzle.width * w.puzzle.height
-    → ((number : ℕ) → (witness_at w.witnesses number).counts ≡ true → IsWitness w cells number) → AreWitnesses w cells
-with_colours w cells n size each = record {
+pub with_colours : (p : Nonogram) (w : WitnessLists) (cells : List Cell) → AreNumbered w → length cells ≡ length w.fillable
+    → ((number : ℕ) → (witness_at w.witnesses number).counts ≡ true → IsWitness p w cells number) → AreWitnesses p w cells
+with_colours p w cells n size each = record {
   each = each;
   colours = record {
-    filled_count = length-map w.fillable (λ number. (witness_at w.witnesses number).counts) ∙ n.filled_count ∙ sym size;
-    blank_count = length-map w.blankable (λ number. (witness_at w.witnesses number).counts) ∙ n.blank_count ∙ sym size;
+    filled_count = length-map w.fillable (λ number. (witness_at w.witnesses number).counts) ∙ sym size;
+    blank_count = length-map w.blankable (λ number. (witness_at w.witnesses number).counts) ∙ n.count ∙ sym size;
     filled = opened Filled;
     blank = opened Blank;
   };
 }
   where
-    opened : (c : Cell) → AreOpen (lines_of w.puzzle) cells c (open_marks w c)
+    opened : (c : Cell) → AreOpen (lines_of p) cells c (open_marks w c)
     opened c k marked =
         let number = get_or (met_by w c) k 0 in
         let was = each number (sym (mark_is w k c n) ∙ marked) in
-        met_open (lines_of w.puzzle) cells was.trial k c was.closed was.extends (was.met k c refl)
+        met_open (lines_of p) cells was.trial k c was.closed was.extends (was.met k c refl)
+
+-- there is a number for each cell of a grid that has witnesses
+pub places_for : (p : Nonogram) (w : WitnessLists) (cells : List Cell) → AreWitnesses p w cells → length cells ≡ length w.fillable
+places_for p w cells are =
+    sym are.colours.filled_count ∙ length-map w.fillable (λ number. (witness_at w.witnesses number).counts)
 
 -- one witness, after the grid learned more
-kept_witness : (w : WitnessedPuzzle) (after : List Witness) (g new : List Cell) (learned : Crossed) (holder place : ℕ) (c : Cell)
-    (number : ℕ) → AreNumbered w → length g ≡ w.puzzle.width * w.puzzle.height
-    → closure (lines_of w.puzzle) (set g place c) ≡ Some new → Extends g new → DifferWithin w.puzzle.width g new learned →
-    AreWitnesses w g → holder ≡ get_or (met_by w c) place 0
+kept_witness : (p : Nonogram) (w : WitnessLists) (after : List Witness) (g new : List Cell) (learned : Crossed) (holder place : ℕ) (c : Cell)
+    (number : ℕ) → IsNonogram p → AreNumbered w → length g ≡ p.width * p.height
+    → closure (lines_of p) (set g place c) ≡ Some new → Extends g new → DifferWithin p.width g new learned →
+    AreWitnesses p w g → holder ≡ get_or (met_by w c) place 0
     → IsKept learned (number ≡ holder) (witness_at w.witnesses number) (witness_at after number) →
-    (witness_at after number).counts ≡ true → IsWitness (record w { witnesses = after }) new number
-kept_witness w after g new learned holder place c number n size e h differ are held kept counts =
-    let p = w.puzzle in
+    (witness_at after number).counts ≡ true → IsWitness p (record w { witnesses = after }) new number
+kept_witness p w after g new learned holder place c number is n size e h differ are held kept counts =
     let before = kept.counts counts in
     let was = are.each number before.0 in
     let some : number ≢ 0 = (λ z. true≢false (sym before.0 ∙ ap (λ (q : ℕ). (witness_at w.witnesses q).counts) z ∙ n.none)) in
     let closed : round (lines_of p) new ≡ Some new = (closure-IsLeastClosed (lines_of p) (set g place c)).closed new e in
-    let stays : IsWitness w new number = elim before.1 [
-      | inl holds ↦ holding_stays w g new number place c e h (sym (holds ∙ held)) was
-      | inr apart ↦ apart_stays w g new number learned n.puzzle size closed h differ apart some was
+    let stays : IsWitness p w new number = elim before.1 [
+      | inl holds ↦ holding_stays p w g new number place c e h (sym (holds ∙ held)) was
+      | inr apart ↦ apart_stays p w g new number learned is size closed h differ apart some was
     ] in
     record {
       trial = stays.trial;
@@ -337,14 +341,12 @@ past : (witnesses : List Witness) (number : ℕ) → length witnesses ≤ number
 past witnesses number l counts = true≢false (sym counts ∙ ap (λ (q : Witness). q.counts) (get_or_past witnesses number no_witness l))
 
 -- numbers stay those of witnesses
-pub kept_numbered : (w : WitnessedPuzzle) (after : List Witness) (learned : Crossed) (holder : ℕ) → AreNumbered w →
+pub kept_numbered : (w : WitnessLists) (after : List Witness) (learned : Crossed) (holder : ℕ) → AreNumbered w →
     length after ≡ length w.witnesses
     → ((i : ℕ) → i < length w.witnesses → IsKept learned (i ≡ holder) (witness_at w.witnesses i) (witness_at after i)) →
     AreNumbered (record w { witnesses = after })
 kept_numbered w after learned holder n same kept = record {
-  puzzle = n.puzzle;
-  filled_count = n.filled_count;
-  blank_count = n.blank_count;
+  count = n.count;
   none = by ((witness_at after 0).counts) refl;
   within = λ k c. let before = n.within k c in omega (arith, same);
 }
@@ -354,37 +356,34 @@ kept_numbered w after learned holder n same kept = record {
     by false e = e
 
 -- the witnesses after the grid learned more
-pub kept_witnesses : (w : WitnessedPuzzle) (after : List Witness) (g new : List Cell) (learned : Crossed) (holder place : ℕ) (c : Cell) →
-    AreNumbered w → length g ≡ w.puzzle.width * w.puzzle.height
-    → closure (lines_of w.puzzle) (set g place c) ≡ Some new → Extends g new → DifferWithin w.puzzle.width g new learned →
-    AreWitnesses w g → holder ≡ get_or (met_by w c) place 0 → length after ≡ length w.witnesses
+pub kept_witnesses : (p : Nonogram) (w : WitnessLists) (after : List Witness) (g new : List Cell) (learned : Crossed) (holder place : ℕ) (c : Cell) →
+    IsNonogram p → AreNumbered w → length g ≡ p.width * p.height
+    → closure (lines_of p) (set g place c) ≡ Some new → Extends g new → DifferWithin p.width g new learned →
+    AreWitnesses p w g → holder ≡ get_or (met_by w c) place 0 → length after ≡ length w.witnesses
     → ((i : ℕ) → i < length w.witnesses → IsKept learned (i ≡ holder) (witness_at w.witnesses i) (witness_at after i)) →
-    AreWitnesses (record w { witnesses = after }) new
-kept_witnesses w after g new learned holder place c n size e h differ are held same kept =
-    with_colours (record w { witnesses = after }) new (kept_numbered w after learned holder n same kept) (sym (length-Extends g new h) ∙
-    size)
+    AreWitnesses p (record w { witnesses = after }) new
+kept_witnesses p w after g new learned holder place c is n size e h differ are held same kept =
+    with_colours p (record w { witnesses = after }) new (kept_numbered w after learned holder n same kept) (sym (length-Extends g new h) ∙
+    places_for p w g are)
     (λ number counts. elim (cases_lt number (length w.witnesses)) [
-      | inl low ↦ kept_witness w after g new learned holder place c number n size e h differ are held (kept number low) counts
+      | inl low ↦ kept_witness p w after g new learned holder place c number is n size e h differ are held (kept number low) counts
       | inr high ↦ absurd (past after number (omega (arith, same)) counts)
     ])
 
 -- with one witness more the numbers are those of witnesses
-pub added_numbered : (w : WitnessedPuzzle) (last : Witness) → AreNumbered w →
+pub added_numbered : (w : WitnessLists) (last : Witness) → AreNumbered w →
     AreNumbered (record w { witnesses = w.witnesses ++ last ∷ [] })
 added_numbered w last n = record {
-  puzzle = n.puzzle;
-  filled_count = n.filled_count;
-  blank_count = n.blank_count;
+  count = n.count;
   none = ap (λ (q : Witness). q.counts) (get_or_append_left w.witnesses (last ∷ []) no_witness 0 (n.within 0 Unknown)) ∙ n.none;
   within = λ k c. let before = n.within k c in omega (arith, length-append w.witnesses (last ∷ []));
 }
 
 -- a number is noted for filled at a place where the trial is filled
-pub meets-filled : (w : WitnessedPuzzle) (place number : ℕ) (trial : List Cell) → place < length w.fillable →
+pub meets-filled : (w : WitnessLists) (place number : ℕ) (trial : List Cell) → place < length w.fillable →
     get_or trial place Unknown ≡ Filled
     → AddsMet w (record w { fillable = set w.fillable place number }) number trial
 meets-filled w place number trial h e = record {
-  puzzle = refl;
   witnesses = refl;
   filled_count = length-set w.fillable place number;
   blank_count = refl;
@@ -406,11 +405,10 @@ meets-filled w place number trial h e = record {
     by k Blank = inl refl
 
 -- a number is noted for blank at a place where the trial is blank
-pub meets-blank : (w : WitnessedPuzzle) (place number : ℕ) (trial : List Cell) → place < length w.blankable →
+pub meets-blank : (w : WitnessLists) (place number : ℕ) (trial : List Cell) → place < length w.blankable →
     get_or trial place Unknown ≡ Blank
     → AddsMet w (record w { blankable = set w.blankable place number }) number trial
 meets-blank w place number trial h e = record {
-  puzzle = refl;
   witnesses = refl;
   filled_count = refl;
   blank_count = length-set w.blankable place number;
@@ -433,12 +431,10 @@ meets-blank w place number trial h e = record {
         ]
 
 -- noted numbers of a witness are those of witnesses
-pub more_numbered : (w new : WitnessedPuzzle) (number : ℕ) (trial : List Cell) → AreNumbered w → number < length w.witnesses →
+pub more_numbered : (w new : WitnessLists) (number : ℕ) (trial : List Cell) → AreNumbered w → number < length w.witnesses →
     AddsMet w new number trial → AreNumbered new
 more_numbered w new number trial n l adds = record {
-  puzzle = subst IsNonogram (sym adds.puzzle) n.puzzle;
-  filled_count = adds.filled_count ∙ n.filled_count ∙ ap (λ (p : Nonogram). p.width * p.height) (sym adds.puzzle);
-  blank_count = adds.blank_count ∙ n.blank_count ∙ ap (λ (p : Nonogram). p.width * p.height) (sym adds.puzzle);
+  count = adds.blank_count ∙ n.count ∙ sym adds.filled_count;
   none = ap (λ (ws : List Witness). (witness_at ws 0).counts) adds.witnesses ∙ n.none;
   within = λ k c. elim (adds.met k c) [
     | inl old ↦ (let before = n.within k c in omega (arith, before, old, ap length adds.witnesses))
@@ -447,43 +443,42 @@ more_numbered w new number trial n l adds = record {
 }
 
 -- the witnesses with one more, which met colours
-pub added_witnesses : (w new : WitnessedPuzzle) (g trial : List Cell) (last : Witness) → AreNumbered w →
-    length g ≡ w.puzzle.width * w.puzzle.height → round (lines_of w.puzzle) trial ≡ Some trial
-    → Extends g trial → DifferWithin w.puzzle.width g trial last.lines → AreWitnesses w g →
-    AddsMet (record w { witnesses = w.witnesses ++ last ∷ [] }) new (length w.witnesses) trial → AreWitnesses new g
-added_witnesses w new g trial last n size closed h differ are adds =
-    with_colours new g (more_numbered (record w { witnesses = w.witnesses ++ last ∷ [] }) new (length w.witnesses) trial
+pub added_witnesses : (p : Nonogram) (w new : WitnessLists) (g trial : List Cell) (last : Witness) → AreNumbered w →
+    round (lines_of p) trial ≡ Some trial
+    → Extends g trial → DifferWithin p.width g trial last.lines → AreWitnesses p w g →
+    AddsMet (record w { witnesses = w.witnesses ++ last ∷ [] }) new (length w.witnesses) trial → AreWitnesses p new g
+added_witnesses p w new g trial last n closed h differ are adds =
+    with_colours p new g (more_numbered (record w { witnesses = w.witnesses ++ last ∷ [] }) new (length w.witnesses) trial
     (added_numbered w last n) (omega (arith, length-append w.witnesses (last ∷ []))) adds)
-    (size ∙ ap (λ (p : Nonogram). p.width * p.height) (sym adds.puzzle))
+    (places_for p w g are ∙ sym adds.filled_count)
     (λ number counts. elim (cases_lt number (length w.witnesses)) [
       | inl low ↦ before number low counts
       | inr high ↦
           (let few : number < length new.witnesses =
           elim (cases_lt number (length new.witnesses)) [ inl l ↦ l | inr l ↦ absurd (past new.witnesses number l counts) ] in
           let own : number ≡ length w.witnesses = omega (arith, ap length adds.witnesses, length-append w.witnesses (last ∷ [])) in
-          subst (IsWitness new g) (sym own) itself)
+          subst (IsWitness p new g) (sym own) itself)
     ])
   where
     lines_are : (number : ℕ) (of : Witness) → witness_at (w.witnesses ++ last ∷ []) number ≡ of →
         (witness_at new.witnesses number).lines ≡ of.lines
     lines_are number of e = ap (λ (ws : List Witness). (witness_at ws number).lines) adds.witnesses ∙ ap (λ (q : Witness). q.lines) e
 
-    itself : IsWitness new g (length w.witnesses)
+    itself : IsWitness p new g (length w.witnesses)
     itself = record {
       trial = trial;
-      closed = subst (λ (p : Nonogram). round (lines_of p) trial ≡ Some trial) (sym adds.puzzle) closed;
+      closed = closed;
       extends = h;
       within =
-          subst (λ (p : Nonogram). DifferWithin p.width g trial ((witness_at new.witnesses (length w.witnesses)).lines)) (sym adds.puzzle)
-          (subst (λ (lines : Crossed). DifferWithin w.puzzle.width g trial lines)
-          (sym (lines_are (length w.witnesses) last (get_or-append_seam w.witnesses last [] no_witness))) differ);
+          subst (λ (lines : Crossed). DifferWithin p.width g trial lines)
+          (sym (lines_are (length w.witnesses) last (get_or-append_seam w.witnesses last [] no_witness))) differ;
       met = λ k c e. elim (adds.met k c) [
         | inl old ↦ (let low = n.within k c in absurd (omega (arith, old, e)))
         | inr met ↦ met.1
       ];
     }
 
-    before : (number : ℕ) → number < length w.witnesses → (witness_at new.witnesses number).counts ≡ true → IsWitness new g number
+    before : (number : ℕ) → number < length w.witnesses → (witness_at new.witnesses number).counts ≡ true → IsWitness p new g number
     before number low counts =
         let at : witness_at (w.witnesses ++ last ∷ []) number ≡ witness_at w.witnesses number =
         get_or_append_left w.witnesses (last ∷ []) no_witness number low in
@@ -491,12 +486,11 @@ added_witnesses w new g trial last n size closed h differ are adds =
         ap (λ (q : Witness). q.counts) at) ∙ counts) in
         record {
           trial = was.trial;
-          closed = subst (λ (p : Nonogram). round (lines_of p) was.trial ≡ Some was.trial) (sym adds.puzzle) was.closed;
+          closed = was.closed;
           extends = was.extends;
           within =
-              subst (λ (p : Nonogram). DifferWithin p.width g was.trial ((witness_at new.witnesses number).lines)) (sym adds.puzzle)
-              (subst (λ (lines : Crossed). DifferWithin w.puzzle.width g was.trial lines)
-              (sym (lines_are number (witness_at w.witnesses number) at)) was.within);
+              subst (λ (lines : Crossed). DifferWithin p.width g was.trial lines)
+              (sym (lines_are number (witness_at w.witnesses number) at)) was.within;
           met = λ k c e. elim (adds.met k c) [
             | inl old ↦ was.met k c (sym old ∙ e)
             | inr met ↦ absurd (omega (arith, met.0, e))
@@ -504,9 +498,9 @@ added_witnesses w new g trial last n size closed h differ are adds =
         }
 
 -- if no witness but the first is left, none counts, and so each that counts is alive
-pub no_witnesses : (w : WitnessedPuzzle) (cells : List Cell) → AreNumbered w → length cells ≡ w.puzzle.width * w.puzzle.height →
-    length w.witnesses ≤ 1 → AreWitnesses w cells
-no_witnesses w cells n size few = with_colours w cells n size (λ number counts. elim (cases_lt number 1) [
+pub no_witnesses : (p : Nonogram) (w : WitnessLists) (cells : List Cell) → AreNumbered w → length cells ≡ length w.fillable →
+    length w.witnesses ≤ 1 → AreWitnesses p w cells
+no_witnesses p w cells n size few = with_colours p w cells n size (λ number counts. elim (cases_lt number 1) [
   | inl low ↦ (let first : number ≡ 0 = omega arith in
       absurd (true≢false (sym counts ∙ ap (λ (q : ℕ). (witness_at w.witnesses q).counts) first ∙ n.none)))
   | inr high ↦ absurd (past w.witnesses number (omega arith) counts)
@@ -519,13 +513,12 @@ zeros n k = let none : ℕ = 0 in elim (cases_lt k n) [
 ]
 
 -- if all witnesses but the first are dropped and all numbers are 0, the numbers are those of witnesses
-pub forgotten : (w : WitnessedPuzzle) (fillable blankable : List ℕ) → AreNumbered w → fillable ≡ replicate (length w.fillable) 0 →
+pub forgotten : (w : WitnessLists) (fillable blankable : List ℕ) → AreNumbered w → fillable ≡ replicate (length w.fillable) 0 →
     blankable ≡ replicate (length w.blankable) 0
     → AreNumbered (record w { witnesses = take 1 w.witnesses; fillable = fillable; blankable = blankable })
 forgotten w fillable blankable n filled blank = record {
-  puzzle = n.puzzle;
-  filled_count = ap length filled ∙ length-replicate (length w.fillable) 0 ∙ n.filled_count;
-  blank_count = ap length blank ∙ length-replicate (length w.blankable) 0 ∙ n.blank_count;
+  count = ap length blank ∙ length-replicate (length w.blankable) 0 ∙ n.count ∙
+      sym (ap length filled ∙ length-replicate (length w.fillable) 0);
   none = ap (λ (q : Witness). q.counts) (get_or-take 1 w.witnesses 0 no_witness (omega arith)) ∙ n.none;
   within = λ k c. by k c;
 }

@@ -3,13 +3,13 @@ pub mod Closure
 pub mod LeastClosed
 pub mod Trials
 pub mod Overlaid
-pub mod WitnessedPuzzles
+pub mod WitnessLists
 pub mod Witnesses
 pub mod Trails
 pub mod Boards
 pub mod GridLines
-pub mod MarkedPuzzles
-pub mod TriedPuzzles
+pub mod Closers
+pub mod Tried
 pub mod Deductions
 pub mod Marks
 pub mod Sizes

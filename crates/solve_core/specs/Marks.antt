@@ -6,10 +6,10 @@ use Rattle.grid_core.specs.declared.sides.Side.{Side}
 use Rattle.grid_core.specs.Nonogram.{Nonogram, IsNonogram, GridLine, lines_of, line_on, count_on, place_on, crossing, cells_at}
 use Rattle.line_core.specs.Deduction.{deduced}
 use Rattle.solve_core.specs.Closure.{with_cells, closure}
-use Rattle.solve_core.specs.LineMarks.{LineMarks, marks_on, IsMarkedOn, AreUnmarked, AreMarksWithin}
+use Rattle.solve_core.specs.LineMarks.{LineMarks, marks_on, IsMarkedOn, AreMarksWithin}
 use Rattle.solve_core.specs.Trails.{unknown_count}
 use Rattle.solve_core.specs.Trials.{is_refuted}
-use Rattle.solve_core.specs.MarkedPuzzles.{MarkedPuzzle}
+use Rattle.solve_core.specs.Closers.{Closing, IsIdle}
 use Rattle.solve_core.specs.declared.trials.Trial.{Trial}
 use Rattle.solve_core.specs.declared.trials.Trial.TheVariants.{Refuted, Open, Closed}
 use Rattle.solve_core.specs.declared.closures.Progress.{Progress}
@@ -68,9 +68,9 @@ Progresses f Same old new = new ≡ old
 Progresses f Changed old new = (f new ≡ f old) × (unknown_count new < unknown_count old)
 
 -- no line has more to give, and none is marked
-pub record IsAtRest (m : MarkedPuzzle) (cells : List Cell) : Type 0 where
-  pub marks : HasMarks m.puzzle m.marks cells
-  pub unmarked : AreUnmarked m.marks
+pub record IsAtRest (p : Nonogram) (c : Closing) (cells : List Cell) : Type 0 where
+  pub marks : HasMarks p c.marks cells
+  pub idle : IsIdle p c
 
 -- at each marked place the colour isn't refuted
 abbrev pub AreOpen : List GridLine → List Cell → Cell → List Bool → Type 0

@@ -1,13 +1,13 @@
 -- Witnesses: trials of a grid that stayed alive, kept while the grid learns more.
-use Rattle.std.specs.Prelude.{◌≡◌, ◌⊎◌, ℕ, ◌*◌, ◌/◌, ◌%◌, ◌<◌, Bool, true, false, List, length, Some, slice_index_or}
+use Rattle.std.specs.Prelude.{◌≡◌, ◌⊎◌, ℕ, ◌/◌, ◌%◌, ◌<◌, Bool, true, false, List, length, Some, slice_index_or}
 use Rattle.grid_core.specs.declared.cells.Cell.{Cell}
 use Rattle.grid_core.specs.declared.cells.Cell.TheVariants.{Unknown, Filled, Blank}
 use Rattle.grid_core.specs.Cells.{Extends}
-use Rattle.grid_core.specs.Nonogram.{IsNonogram, lines_of}
+use Rattle.grid_core.specs.Nonogram.{Nonogram, lines_of}
 use Rattle.place_sets.specs.Masks.{has}
 use Rattle.solve_core.specs.Closure.{round}
 use Rattle.solve_core.specs.Marks.{AreOpenColours}
-use Rattle.solve_core.specs.WitnessedPuzzles.{WitnessedPuzzle, witness_at, met_by, open_marks}
+use Rattle.solve_core.specs.WitnessLists.{WitnessLists, witness_at, met_by, open_marks}
 use Rattle.solve_core.specs.declared.witnesses.Crossed.{Crossed}
 use Rattle.solve_core.specs.declared.witnesses.Witness.{Witness}
 
@@ -31,23 +31,21 @@ pub record ShareNoLine (lines other : Crossed) : Type 0 where
 
 -- A grid that a witness stands for: it is line-closed, it knows all that the cells know and more only in rows
 -- and columns of the sets, and it has the colour at each place where the witness is the one that met it.
-pub record IsWitness (w : WitnessedPuzzle) (cells : List Cell) (number : ℕ) : Type 0 where
+pub record IsWitness (p : Nonogram) (w : WitnessLists) (cells : List Cell) (number : ℕ) : Type 0 where
   pub trial : List Cell
-  pub closed : round (lines_of w.puzzle) trial ≡ Some trial
+  pub closed : round (lines_of p) trial ≡ Some trial
   pub extends : Extends cells trial
-  pub within : DifferWithin w.puzzle.width cells trial ((witness_at w.witnesses number).lines)
+  pub within : DifferWithin p.width cells trial ((witness_at w.witnesses number).lines)
   pub met : (k : ℕ) (colour : Cell) → slice_index_or (met_by w colour) k 0 ≡ number → slice_index_or trial k Unknown ≡ colour
 
 -- each witness that counts is one, and so the marked colours are open
-pub record AreWitnesses (w : WitnessedPuzzle) (cells : List Cell) : Type 0 where
-  pub each : (number : ℕ) → (witness_at w.witnesses number).counts ≡ true → IsWitness w cells number
-  pub colours : AreOpenColours w.puzzle cells (open_marks w Filled) (open_marks w Blank)
+pub record AreWitnesses (p : Nonogram) (w : WitnessLists) (cells : List Cell) : Type 0 where
+  pub each : (number : ℕ) → (witness_at w.witnesses number).counts ≡ true → IsWitness p w cells number
+  pub colours : AreOpenColours p cells (open_marks w Filled) (open_marks w Blank)
 
--- each cell has a number for each colour, all are those of witnesses, and witness 0 doesn't count
-pub record AreNumbered (w : WitnessedPuzzle) : Type 0 where
-  pub puzzle : IsNonogram w.puzzle
-  pub filled_count : length w.fillable ≡ w.puzzle.width * w.puzzle.height
-  pub blank_count : length w.blankable ≡ w.puzzle.width * w.puzzle.height
+-- there are as many numbers for each colour, all are those of witnesses, and witness 0 doesn't count
+pub record AreNumbered (w : WitnessLists) : Type 0 where
+  pub count : length w.blankable ≡ length w.fillable
   pub none : (witness_at w.witnesses 0).counts ≡ false
   pub within : (k : ℕ) (colour : Cell) → slice_index_or (met_by w colour) k 0 < length w.witnesses
 
@@ -58,8 +56,7 @@ pub record IsKept (learned : Crossed) (holds : Type 0) (old new : Witness) : Typ
 
 -- nothing but numbers changed, and each new one is that of the witness, at a place where the trial has
 -- the colour
-pub record AddsMet (old new : WitnessedPuzzle) (number : ℕ) (trial : List Cell) : Type 0 where
-  pub puzzle : new.puzzle ≡ old.puzzle
+pub record AddsMet (old new : WitnessLists) (number : ℕ) (trial : List Cell) : Type 0 where
   pub witnesses : new.witnesses ≡ old.witnesses
   pub filled_count : length new.fillable ≡ length old.fillable
   pub blank_count : length new.blankable ≡ length old.blankable

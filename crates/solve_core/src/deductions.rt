@@ -1,7 +1,7 @@
 //! Deductions of a puzzle's lines, remembered.
-ghost use Rattle.std.specs.Prelude.{◌≡◌, ◌+◌, ◌*◌, ◌<◌, ◌≤◌, ◌↔◌, length, vec_capacity, IsTrue, IfOk, IfSome, All};
+ghost use Rattle.std.specs.Prelude.{[], ◌≡◌, ◌+◌, ◌*◌, ◌<◌, ◌≤◌, ◌↔◌, length, vec_capacity, IsTrue, IfOk, IfSome, All};
 ghost use Rattle.line_core.specs.Deduction.{deduced};
-ghost use Rattle.solve_core.specs.Deductions.{IsKeptFrom};
+ghost use Rattle.solve_core.specs.Deductions.{AreRight, IsKeptFrom};
 ghost use Rattle.grid_core.specs.Nonogram.{count_on, line_on};
 ghost use Rattle.solve_core.specs.Widths.{FitsIn};
 
@@ -43,6 +43,14 @@ fn copy_answer<W: LineSet>(answer: &Option<LineOf<W>>) -> Option<LineOf<W>>
         None => None,
         Some(line) => Some(line.copy()),
     }
+}
+
+impl<W: LineSet> Model for Deduction<W> {
+    ghost use Rattle.solve_core.specs.Deductions.{KnownLine};
+
+    ghost Value = { KnownLine };
+
+    ghost view = { λ d. record { side = d.side; number = d.number; line = d.line; answer = d.answer } };
 }
 
 impl<W: LineSet> Deduction<W> {
@@ -133,49 +141,42 @@ fn keep<W: LineSet>(
 /// What deduces the lines of a puzzle. Once it is open it remembers what it deduced: each line has one slot,
 /// and a line that takes a slot takes it from the one before.
 #[derive(Drop)]
-pub struct Deductions<'p, W: LineSet> {
-    puzzle: &'p Puzzle,
+pub struct Deductions<W: LineSet> {
     tables: Tables,
     room: usize,
     slots: Vec<[u16; GROUP]>,
     kept: Vec<Deduction<W>>,
 }
 
-impl<'p, W: LineSet> Model for Deductions<'p, W> {
+impl<W: LineSet> Model for Deductions<W> {
     ghost use Rattle.std.specs.Prelude.{vec_capacity};
-    ghost use Rattle.grid_core.specs.Nonogram.{Nonogram};
-    ghost use Rattle.solve_core.specs.Deductions.{AreDeductionsOf};
+    ghost use Rattle.std.specs.Prelude.{List};
+    ghost use Rattle.solve_core.specs.Deductions.{HasRoom, KnownLine};
 
-    ghost Value = { Nonogram };
+    ghost Value = { List KnownLine };
 
-    ghost view = { λ d. d.puzzle.now };
+    ghost view = { λ d. d.kept.items };
 
-    ghost invariant = { λ d. AreDeductionsOf d.puzzle.now W.WIDTH d.room (vec_capacity d.slots) (vec_capacity d.kept) d.kept.items };
+    ghost invariant = { λ d. HasRoom d.room (vec_capacity d.slots) (vec_capacity d.kept) };
 }
 
-impl<'p, W: LineSet> Deductions<'p, W> {
+impl<W: LineSet> Deductions<W> {
     /// Makes all the room that it takes, in proportion to the puzzle. Nothing is remembered before it is
     /// opened.
-    pub fn new(alloc: Global, puzzle: &'p Puzzle) -> Result<Deductions<'p, W>, NoMemory>
+    pub fn new(alloc: Global, puzzle: &Puzzle) -> Result<Deductions<W>, NoMemory>
         requires { FitsIn W.WIDTH puzzle.now }
-        ensures { IfOk result (λ deductions. deductions ≡ puzzle.now) }
+        ensures { IfOk result (λ deductions. AreRight W.WIDTH puzzle.now deductions) }
     {
         let cells = usize::from(puzzle.width()) * usize::from(puzzle.height());
-        Deductions::with_room(alloc, puzzle, room_for::<W>(cells))
+        Deductions::with_room(alloc, room_for::<W>(cells))
     }
 
     /// Makes the room for `room` deductions, 1 to 16,384.
-    pub fn with_room(
-        alloc: Global,
-        puzzle: &'p Puzzle,
-        room: usize,
-    ) -> Result<Deductions<'p, W>, NoMemory>
-        requires room { (1 ≤ room) × (room ≤ MOST_REMEMBERED) }
-        requires fits { FitsIn W.WIDTH puzzle.now }
-        ensures { IfOk result (λ deductions. deductions ≡ puzzle.now) }
+    pub fn with_room(alloc: Global, room: usize) -> Result<Deductions<W>, NoMemory>
+        requires { (1 ≤ room) × (room ≤ MOST_REMEMBERED) }
+        ensures { IfOk result (λ deductions. deductions ≡ []) }
     {
         Ok(Deductions {
-            puzzle,
             tables: Tables::new(alloc, LONGEST_SIDE)?,
             room,
             slots: Vec::with_capacity(alloc, room.div_ceil(GROUP))?,
@@ -192,14 +193,21 @@ impl<'p, W: LineSet> Deductions<'p, W> {
         }
     }
 
-    /// What is certain of line i of a side with these cells: what all placings of its clue share, or none if
-    /// there is no placing.
-    pub fn deduce(&mut self, side: Side, i: u16, line: &LineOf<W>) -> Option<LineOf<W>>
-        requires i { i < count_on side self.old.width self.old.height }
-        ensures answer { result ≡ deduced line.now (line_on side self.old i).clue }
-        ensures puzzle { self.new ≡ self.old }
+    /// What is certain of line i of a side of the puzzle with these cells: what all placings of its clue
+    /// share, or none if there is no placing.
+    pub fn deduce(
+        &mut self,
+        puzzle: &Puzzle,
+        side: Side,
+        i: u16,
+        line: &LineOf<W>,
+    ) -> Option<LineOf<W>>
+        requires i { i < count_on side puzzle.now.width puzzle.now.height }
+        requires memory { AreRight W.WIDTH puzzle.now self.old }
+        ensures answer { result ≡ deduced line.now (line_on side puzzle.now i).clue }
+        ensures memory { AreRight W.WIDTH puzzle.now self.new }
     {
-        let clue = clue_of_line(self.puzzle, side, i);
+        let clue = clue_of_line(puzzle, side, i);
         let runs = clue.numbers().len();
         let Some((group, place)) = slot_of(&self.slots, self.room, side, i, line, runs) else {
             return W::deduce(&mut self.tables, line, clue);

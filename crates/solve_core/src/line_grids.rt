@@ -1,6 +1,7 @@
 //! The grid of a puzzle as far as line logic gets.
 ghost use Rattle.std.specs.Prelude.{◌≡◌, IfOk};
 ghost use Rattle.solve_core.specs.Boards.{unknown_board};
+ghost use Rattle.solve_core.specs.Closers.{IsMemoryOf};
 ghost use Rattle.solve_core.specs.Report.{grid_of, line_grid, unknown_grid};
 ghost use Rattle.solve_core.specs.Widths.{FitsIn};
 
@@ -16,15 +17,17 @@ use std::alloc::Global;
 /// Closes a board of which nothing is known, and writes it to a grid of which nothing is known. Returns the
 /// grid, or none if it is dead.
 fn closed_grid<W: LineSet>(
-    closer: &mut Closer<'_, W>,
+    closer: &mut Closer<W>,
+    puzzle: &Puzzle,
     board: &mut Board<W>,
     grid: Grid,
 ) -> Option<Grid>
-    requires board { board.old ≡ unknown_board closer.old.puzzle.width closer.old.puzzle.height }
-    requires grid { grid ≡ grid_of closer.old.puzzle (unknown_grid closer.old.puzzle) }
-    ensures { result ≡ line_grid closer.old.puzzle }
+    requires memory { IsMemoryOf puzzle.now closer.old }
+    requires board { board.old ≡ unknown_board puzzle.now.width puzzle.now.height }
+    requires grid { grid ≡ grid_of puzzle.now (unknown_grid puzzle.now) }
+    ensures { result ≡ line_grid puzzle.now }
 {
-    if closer.propagate_all(board) {
+    if closer.propagate_all(puzzle, board) {
         let mut grid = grid;
         board.lines().write(&mut grid);
         Some(grid)
@@ -43,9 +46,9 @@ fn line_grid_within<W: LineSet>(alloc: Global, puzzle: &Puzzle) -> Result<Option
     let height = puzzle.height();
     let grid = Grid::unknown(alloc, width, height)?;
     let mut board = Board::<W>::unknown(alloc, width, height)?;
-    let deductions = Deductions::<W>::with_room(alloc, puzzle, 1)?;
-    let mut closer = Closer::new(puzzle, deductions);
-    Ok(closed_grid(&mut closer, &mut board, grid))
+    let deductions = Deductions::with_room(alloc, 1)?;
+    let mut closer = Closer::<W>::new(deductions);
+    Ok(closed_grid(&mut closer, puzzle, &mut board, grid))
 }
 
 /// The grid of a puzzle of which nothing was known, closed under line deduction; none if it is dead. All of

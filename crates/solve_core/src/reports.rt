@@ -10,6 +10,7 @@ ghost use Rattle.solve_core.specs.Trails.{IsFullTrail};
 ghost use Rattle.solve_core.specs.Trials.{trials as trials_of};
 ghost use Rattle.solve_core.specs.Sizes.{IsSizeOf};
 ghost use Rattle.solve_core.specs.Report.{report_of, grade_by};
+ghost use Rattle.solve_core.specs.Tried.{HasRoomFor};
 ghost use Rattle.solve_core.specs.Verdicts.{Holds};
 ghost use Rattle.solve_core.specs.Widths.{FitsIn};
 
@@ -66,17 +67,22 @@ fn are_known<W: LineSet>(board: &Board<W>, known: u32) -> bool
 
 /// Closes a board at rest under trials, of which nothing is left to do if it is full. Returns whether it is
 /// alive.
-fn try_unless_full<W: LineSet>(trials: &mut Trials<'_, W>, board: &mut Board<W>, full: bool) -> bool
-    requires rest { IsAtRest trials.old.closer board.old.cells }
-    requires size { IsBoardOf trials.old.closer.puzzle board.old }
+fn try_unless_full<W: LineSet>(
+    trials: &mut Trials<W>,
+    puzzle: &Puzzle,
+    board: &mut Board<W>,
+    full: bool,
+) -> bool
+    requires rest { IsAtRest puzzle.now trials.old.closer board.old.cells }
+    requires room { HasRoomFor puzzle.now trials.old }
+    requires size { IsBoardOf puzzle.now board.old }
     requires full { full ≡ list_all is_known board.old.cells }
-    ensures tried { if_alive result board.new.cells ≡ trials_of (lines_of trials.old.closer.puzzle) board.old.cells }
-    ensures rest { IsTrue result → IsAtRest trials.new.closer board.new.cells }
-    ensures size { IsBoardOf trials.old.closer.puzzle board.new }
+    ensures tried { if_alive result board.new.cells ≡ trials_of (lines_of puzzle.now) board.old.cells }
+    ensures rest { IsTrue result → IsAtRest puzzle.now trials.new.closer board.new.cells }
+    ensures size { IsBoardOf puzzle.now board.new }
     ensures full { full ≡ true → board.new ≡ board.old }
-    ensures puzzle { trials.new.closer.puzzle ≡ trials.old.closer.puzzle }
 {
-    full || trials.try_at_rest(board)
+    full || trials.try_at_rest(puzzle, board)
 }
 
 fn grade(lines_settle: bool, trials_settle: bool) -> Grade
@@ -93,21 +99,23 @@ fn grade(lines_settle: bool, trials_settle: bool) -> Grade
 
 /// The report, by a board of which nothing is known and in room that is made.
 fn findings<W: LineSet>(
-    trials: &mut Trials<'_, W>,
+    trials: &mut Trials<W>,
+    puzzle: &Puzzle,
     board: &mut Board<W>,
     branches: &mut Vec<Branch>,
     solutions: Solutions,
     guesses: u32,
     pick: Pick,
 ) -> Findings
-    requires board { board.old ≡ unknown_board trials.old.closer.puzzle.width trials.old.closer.puzzle.height }
-    requires size { IsSizeOf trials.old.closer.puzzle solutions.width solutions.height }
+    requires trials { HasRoomFor puzzle.now trials.old }
+    requires board { board.old ≡ unknown_board puzzle.now.width puzzle.now.height }
+    requires size { IsSizeOf puzzle.now solutions.width solutions.height }
     requires branches { branches.old.items ≡ [] }
     requires found { solutions.grids ≡ [] }
     requires room { length board.old.cells ≤ vec_capacity branches.old }
-    ensures { result ≡ report_of (picked pick trials.old.closer.puzzle.width) trials.old.closer.puzzle guesses }
+    ensures { result ≡ report_of (picked pick puzzle.now.width) puzzle.now guesses }
 {
-    if !trials.closer.propagate_all(board) {
+    if !trials.closer.propagate_all(puzzle, board) {
         return Findings {
             verdict: Verdict::Nothing,
             grade: Grade::Lines,
@@ -118,7 +126,7 @@ fn findings<W: LineSet>(
     }
     let line_known = count_settled(board);
     let lines_settle = are_known(board, line_known);
-    if !try_unless_full(trials, board, lines_settle) {
+    if !try_unless_full(trials, puzzle, board, lines_settle) {
         return Findings {
             verdict: Verdict::Nothing,
             grade: grade(lines_settle, true),
@@ -132,6 +140,7 @@ fn findings<W: LineSet>(
     let mut solutions = solutions;
     let end = search(
         &mut trials.closer,
+        puzzle,
         board,
         branches,
         &mut solutions,
@@ -167,6 +176,7 @@ fn report_within<W: LineSet>(
     let solutions = Solutions::new(alloc, width, height)?;
     Ok(findings(
         &mut trials,
+        puzzle,
         &mut board,
         &mut branches,
         solutions,

@@ -7,8 +7,8 @@ ghost use Rattle.solve_core.specs.Search.{Event, guess_at, events};
 ghost use Rattle.solve_core.specs.Picks.{picked};
 ghost use Rattle.solve_core.specs.declared.picks.Pick.TheVariants.{First};
 ghost use Rattle.solve_core.specs.Sizes.{IsSizeOf};
-ghost use Rattle.solve_core.specs.LineMarks.{AreUnmarked};
 ghost use Rattle.solve_core.specs.Marks.{IsAtRest};
+ghost use Rattle.solve_core.specs.Closers.{IsIdle};
 ghost use Rattle.solve_core.specs.Guesses.{GoesOn};
 ghost use Rattle.solve_core.specs.Endings.{ending};
 ghost use Rattle.solve_core.specs.Boards.{IsBoardOf};
@@ -19,7 +19,7 @@ use crate::branches::{Branch, next_guess};
 use crate::closures::Closer;
 use crate::picks::Pick;
 use crate::solutions::Solutions;
-use grid_core::Cell;
+use grid_core::{Cell, Puzzle};
 use line_core::LineSet;
 
 /// How a search ended: whether the limit on guesses cut it short, and how many it spent.
@@ -79,31 +79,31 @@ fn look_at<W: LineSet>(
 
 /// Makes a guess and looks at what comes of it.
 fn explore<W: LineSet>(
-    closer: &mut Closer<'_, W>,
+    closer: &mut Closer<W>,
+    puzzle: &Puzzle,
     board: &mut Board<W>,
     place: usize,
     colour: Cell,
     pick: Pick,
     solutions: &mut Solutions,
 ) -> Option<usize>
-    requires size { IsSizeOf closer.old.puzzle solutions.old.width solutions.old.height }
-    requires board { IsBoardOf closer.old.puzzle board.old }
-    requires rest { IsAtRest closer.old board.old.cells }
-    requires next { IsNext (picked pick closer.old.puzzle.width) (lines_of closer.old.puzzle) board.old.cells place }
+    requires size { IsSizeOf puzzle.now solutions.old.width solutions.old.height }
+    requires board { IsBoardOf puzzle.now board.old }
+    requires rest { IsAtRest puzzle.now closer.old board.old.cells }
+    requires next { IsNext (picked pick puzzle.now.width) (lines_of puzzle.now) board.old.cells place }
     requires colour { is_known colour ≡ true }
     requires found { length solutions.old.grids < 2 }
     ensures goes_on { (branches : List BranchValue) →
-        IsWork (picked pick closer.old.puzzle.width) (lines_of closer.old.puzzle) board.old.cells board.old.trail branches →
-        GoesOn (picked pick closer.old.puzzle.width) closer.old.puzzle
-        (events (picked pick closer.old.puzzle.width) (lines_of closer.old.puzzle) (slice_set board.old.cells place colour)) branches
+        IsWork (picked pick puzzle.now.width) (lines_of puzzle.now) board.old.cells board.old.trail branches →
+        GoesOn (picked pick puzzle.now.width) puzzle.now
+        (events (picked pick puzzle.now.width) (lines_of puzzle.now) (slice_set board.old.cells place colour)) branches
         board.old solutions.old.grids board.new solutions.new.grids result }
-    ensures unmarked { AreUnmarked closer.new.marks }
-    ensures board { IsBoardOf closer.old.puzzle board.new }
+    ensures idle { IsIdle puzzle.now closer.new }
+    ensures board { IsBoardOf puzzle.now board.new }
     ensures found { length solutions.new.grids ≤ 2 }
-    ensures size { IsSizeOf closer.old.puzzle solutions.new.width solutions.new.height }
-    ensures puzzle { closer.new.puzzle ≡ closer.old.puzzle }
+    ensures size { IsSizeOf puzzle.now solutions.new.width solutions.new.height }
 {
-    if !closer.assign(board, place, colour) {
+    if !closer.assign(puzzle, board, place, colour) {
         return None;
     }
     look_at(board, place, pick, solutions)
@@ -112,23 +112,23 @@ fn explore<W: LineSet>(
 /// Searches from a board at rest, in place: it remembers what is settled, and each filled guess stands on the
 /// branches until its cell is guessed blank.
 pub fn search<W: LineSet>(
-    closer: &mut Closer<'_, W>,
+    closer: &mut Closer<W>,
+    puzzle: &Puzzle,
     board: &mut Board<W>,
     branches: &mut Vec<Branch>,
     solutions: &mut Solutions,
     guesses: u32,
     pick: Pick,
 ) -> SearchEnd
-    requires size { IsSizeOf closer.old.puzzle solutions.old.width solutions.old.height }
-    requires board { IsBoardOf closer.old.puzzle board.old }
-    requires rest { IsAtRest closer.old board.old.cells }
+    requires size { IsSizeOf puzzle.now solutions.old.width solutions.old.height }
+    requires board { IsBoardOf puzzle.now board.old }
+    requires rest { IsAtRest puzzle.now closer.old board.old.cells }
     requires branches { branches.old.items ≡ [] }
     requires found { solutions.old.grids ≡ [] }
     requires room { length board.old.cells ≤ vec_capacity branches.old }
-    ensures ending { record { found = solutions.new.grids; cut = result.cut; spent = result.spent }
-        ≡ ending closer.old.puzzle [] 0 guesses
-        (events (picked pick closer.old.puzzle.width) (lines_of closer.old.puzzle) board.old.cells) }
-    ensures puzzle { closer.new.puzzle ≡ closer.old.puzzle }
+    ensures { record { found = solutions.new.grids; cut = result.cut; spent = result.spent }
+        ≡ ending puzzle.now [] 0 guesses
+        (events (picked pick puzzle.now.width) (lines_of puzzle.now) board.old.cells) }
 {
     let mut spent: u32 = 0;
     let mut next = look_at(board, 0, pick, solutions);
@@ -140,7 +140,7 @@ pub fn search<W: LineSet>(
             return SearchEnd { cut: true, spent };
         }
         spent += 1;
-        next = explore(closer, board, place, colour, pick, solutions);
+        next = explore(closer, puzzle, board, place, colour, pick, solutions);
     }
     SearchEnd { cut: false, spent }
 }

@@ -8,7 +8,7 @@ ghost use Rattle.line_core.specs.Order.{AtMost};
 ghost use Rattle.solve_core.specs.Trials.{trials, IsTried};
 ghost use Rattle.solve_core.specs.Marks.{Progresses, if_alive, IsAtRest, IsTrialOf};
 ghost use Rattle.solve_core.specs.Trails.{cleared};
-ghost use Rattle.solve_core.specs.TriedPuzzles.{IsReady};
+ghost use Rattle.solve_core.specs.Tried.{HasRoomFor, IsReady};
 ghost use Rattle.solve_core.specs.Widths.{FitsIn};
 ghost use Rattle.solve_core.specs.Witnesses.{AreWitnesses};
 ghost use Rattle.solve_core.specs.Boards.{IsBoardOf};
@@ -52,50 +52,49 @@ impl Trial {
 /// Tries a colour at an unknown cell, on a copy, unless a witness has met it there. If the copy closes alive,
 /// it is a witness.
 fn try_colour<W: LineSet>(
-    closer: &mut Closer<'_, W>,
-    witnesses: &mut Witnesses<'_>,
+    closer: &mut Closer<W>,
+    witnesses: &mut Witnesses,
+    puzzle: &Puzzle,
     board: &Board<W>,
     trial: &mut Board<W>,
     place: usize,
     colour: Cell,
 ) -> Trial
-    requires rest { IsAtRest closer.old board.now.cells }
-    requires witnesses { AreWitnesses witnesses.old board.now.cells }
-    requires puzzle { witnesses.old.puzzle ≡ closer.old.puzzle }
-    requires size { IsBoardOf closer.old.puzzle board.now }
-    requires trial { IsBoardOf closer.old.puzzle trial.old }
+    requires rest { IsAtRest puzzle.now closer.old board.now.cells }
+    requires witnesses { AreWitnesses puzzle.now witnesses.old board.now.cells }
+    requires size { IsBoardOf puzzle.now board.now }
+    requires trial { IsBoardOf puzzle.now trial.old }
     requires place { place < length board.now.cells }
     requires unknown { slice_index_or board.now.cells place Unknown ≡ Unknown }
     requires colour { is_known colour ≡ true }
-    ensures tried { IsTrialOf result (lines_of closer.old.puzzle) board.now.cells place colour trial.new.cells }
-    ensures witnesses { AreWitnesses witnesses.new board.now.cells }
-    ensures witnessed { witnesses.new.puzzle ≡ witnesses.old.puzzle }
-    ensures rest { IsAtRest closer.new board.now.cells }
-    ensures closed_rest { result ≡ Closed → IsAtRest closer.new trial.new.cells }
+    ensures tried { IsTrialOf result (lines_of puzzle.now) board.now.cells place colour trial.new.cells }
+    ensures witnesses { AreWitnesses puzzle.now witnesses.new board.now.cells }
+    ensures count { length witnesses.new.fillable ≡ length witnesses.old.fillable }
+    ensures rest { IsAtRest puzzle.now closer.new board.now.cells }
+    ensures closed_rest { result ≡ Closed → IsAtRest puzzle.now closer.new trial.new.cells }
     ensures back { result ≡ Closed → cleared trial.new.cells trial.new.trail ≡ board.now.cells }
-    ensures trial { IsBoardOf closer.old.puzzle trial.new }
-    ensures puzzle { closer.new.puzzle ≡ closer.old.puzzle }
+    ensures trial { IsBoardOf puzzle.now trial.new }
 {
     if witnesses.has_met(place, colour) {
         return Trial::Open;
     }
-    if !closer.assign_copy(board, trial, place, colour) {
+    if !closer.assign_copy(puzzle, board, trial, place, colour) {
         return Trial::Refuted;
     }
-    witnesses.add(trial);
+    witnesses.add(puzzle, trial);
     Trial::Closed
 }
 
 /// What trials work with: what closes, a board for the trials of each colour, and the witnesses.
-pub struct Trials<'p, W: LineSet> {
-    pub(crate) closer: Closer<'p, W>,
+pub struct Trials<W: LineSet> {
+    pub(crate) closer: Closer<W>,
     filled_trial: Board<W>,
     blank_trial: Board<W>,
-    witnesses: Witnesses<'p>,
+    witnesses: Witnesses,
 }
 
 /// A call of its own, so that a proof takes it as one step.
-impl<W: LineSet> Drop for Trials<'_, W> {
+impl<W: LineSet> Drop for Trials<W> {
     fn drop(self) {
         let Trials {
             closer: _,
@@ -106,29 +105,29 @@ impl<W: LineSet> Drop for Trials<'_, W> {
     }
 }
 
-impl<'p, W: LineSet> Model for Trials<'p, W> {
-    ghost use Rattle.std.specs.Prelude.{◌≡◌};
-    ghost use Rattle.solve_core.specs.TriedPuzzles.{TriedPuzzle};
-    ghost use Rattle.solve_core.specs.Boards.{IsBoardOf};
+impl<W: LineSet> Model for Trials<W> {
+    ghost use Rattle.solve_core.specs.Tried.{Tried};
 
-    ghost Value = { TriedPuzzle };
+    ghost Value = { Tried };
 
-    ghost view = { λ t. record { closer = t.closer; witnesses = t.witnesses } };
-
-    ghost invariant = { λ t. IsBoardOf t.closer.puzzle t.filled_trial × IsBoardOf t.closer.puzzle t.blank_trial
-        × (t.witnesses.puzzle ≡ t.closer.puzzle) };
+    ghost view = { λ t. record {
+      closer = t.closer;
+      filled = t.filled_trial;
+      blank = t.blank_trial;
+      witnesses = t.witnesses;
+    } };
 }
 
-impl<'p, W: LineSet> Trials<'p, W> {
+impl<W: LineSet> Trials<W> {
     /// Makes the room that closing and trials take.
-    pub fn new(alloc: Global, puzzle: &'p Puzzle) -> Result<Trials<'p, W>, NoMemory>
+    pub fn new(alloc: Global, puzzle: &Puzzle) -> Result<Trials<W>, NoMemory>
         requires { FitsIn W.WIDTH puzzle.now }
-        ensures { IfOk result (λ trials. trials.closer.puzzle ≡ puzzle.now) }
+        ensures { IfOk result (λ trials. HasRoomFor puzzle.now trials) }
     {
         let width = puzzle.width();
         let height = puzzle.height();
         Ok(Trials {
-            closer: Closer::new(puzzle, Deductions::new(alloc, puzzle)?),
+            closer: Closer::new(Deductions::new(alloc, puzzle)?),
             filled_trial: Board::unknown(alloc, width, height)?,
             blank_trial: Board::unknown(alloc, width, height)?,
             witnesses: Witnesses::new(alloc, puzzle)?,
@@ -136,53 +135,63 @@ impl<'p, W: LineSet> Trials<'p, W> {
     }
 
     /// Gives a cell the colour that is left, and closes the board.
-    fn keep_colour(&mut self, board: &mut Board<W>, place: usize, colour: Cell) -> Progress
-        requires ready { IsReady self.old board.old.cells }
-        requires size { IsBoardOf self.old.closer.puzzle board.old }
+    fn keep_colour(
+        &mut self,
+        puzzle: &Puzzle,
+        board: &mut Board<W>,
+        place: usize,
+        colour: Cell,
+    ) -> Progress
+        requires ready { IsReady puzzle.now self.old board.old.cells }
+        requires room { HasRoomFor puzzle.now self.old }
+        requires size { IsBoardOf puzzle.now board.old }
         requires place { place < length board.old.cells }
         requires unknown { slice_index_or board.old.cells place Unknown ≡ Unknown }
         requires colour { is_known colour ≡ true }
-        requires below { AtMost (Some (slice_set board.old.cells place colour)) (trials (lines_of self.old.closer.puzzle) board.old.cells) }
-        ensures progress { Progresses (trials (lines_of self.old.closer.puzzle)) result board.old.cells board.new.cells }
+        requires below { AtMost (Some (slice_set board.old.cells place colour)) (trials (lines_of puzzle.now) board.old.cells) }
+        ensures progress { Progresses (trials (lines_of puzzle.now)) result board.old.cells board.new.cells }
         ensures changed { result ≢ Same }
-        ensures ready { result ≢ Dead → IsReady self.new board.new.cells }
-        ensures size { IsBoardOf self.old.closer.puzzle board.new }
-        ensures puzzle { self.new.closer.puzzle ≡ self.old.closer.puzzle }
+        ensures ready { result ≢ Dead → IsReady puzzle.now self.new board.new.cells }
+        ensures size { IsBoardOf puzzle.now board.new }
+        ensures room { HasRoomFor puzzle.now self.new }
     {
         let mark = board.trail().len();
-        if !self.closer.assign(board, place, colour) {
+        if !self.closer.assign(puzzle, board, place, colour) {
             return Progress::Dead;
         }
-        self.witnesses.keep(board, mark, place, colour);
+        self.witnesses.keep(puzzle, board, mark, place, colour);
         Progress::Changed
     }
 
     /// Tries both colours at an unknown cell.
-    fn try_place(&mut self, board: &mut Board<W>, place: usize) -> Progress
-        requires ready { IsReady self.old board.old.cells }
-        requires size { IsBoardOf self.old.closer.puzzle board.old }
+    fn try_place(&mut self, puzzle: &Puzzle, board: &mut Board<W>, place: usize) -> Progress
+        requires ready { IsReady puzzle.now self.old board.old.cells }
+        requires room { HasRoomFor puzzle.now self.old }
+        requires size { IsBoardOf puzzle.now board.old }
         requires place { place < length board.old.cells }
         requires unknown { slice_index_or board.old.cells place Unknown ≡ Unknown }
-        ensures progress { Progresses (trials (lines_of self.old.closer.puzzle)) result board.old.cells board.new.cells }
-        ensures ready { result ≢ Dead → IsReady self.new board.new.cells }
-        ensures tried { result ≡ Same → IsTried (lines_of self.old.closer.puzzle) board.new.cells place }
-        ensures size { IsBoardOf self.old.closer.puzzle board.new }
-        ensures puzzle { self.new.closer.puzzle ≡ self.old.closer.puzzle }
+        ensures progress { Progresses (trials (lines_of puzzle.now)) result board.old.cells board.new.cells }
+        ensures ready { result ≢ Dead → IsReady puzzle.now self.new board.new.cells }
+        ensures tried { result ≡ Same → IsTried (lines_of puzzle.now) board.new.cells place }
+        ensures size { IsBoardOf puzzle.now board.new }
+        ensures room { HasRoomFor puzzle.now self.new }
     {
         let filled = try_colour(
             &mut self.closer,
             &mut self.witnesses,
+            puzzle,
             board,
             &mut self.filled_trial,
             place,
             Cell::Filled,
         );
         if filled.is_refuted() {
-            return self.keep_colour(board, place, Cell::Blank);
+            return self.keep_colour(puzzle, board, place, Cell::Blank);
         }
         let blank = try_colour(
             &mut self.closer,
             &mut self.witnesses,
+            puzzle,
             board,
             &mut self.blank_trial,
             place,
@@ -193,27 +202,28 @@ impl<'p, W: LineSet> Trials<'p, W> {
         }
         if filled.is_closed() {
             self.witnesses
-                .keep(&self.filled_trial, 0, place, Cell::Filled);
+                .keep(puzzle, &self.filled_trial, 0, place, Cell::Filled);
             board.restart_from(&self.filled_trial);
             return Progress::Changed;
         }
-        self.keep_colour(board, place, Cell::Filled)
+        self.keep_colour(puzzle, board, place, Cell::Filled)
     }
 
     /// Tries each unknown cell once.
-    fn try_all(&mut self, board: &mut Board<W>) -> Progress
-        requires ready { IsReady self.old board.old.cells }
-        requires size { IsBoardOf self.old.closer.puzzle board.old }
-        ensures progress { Progresses (trials (lines_of self.old.closer.puzzle)) result board.old.cells board.new.cells }
-        ensures ready { result ≢ Dead → IsReady self.new board.new.cells }
-        ensures tried { result ≡ Same → (k : ℕ) → k < length board.new.cells → IsTried (lines_of self.old.closer.puzzle) board.new.cells k }
-        ensures size { IsBoardOf self.old.closer.puzzle board.new }
-        ensures puzzle { self.new.closer.puzzle ≡ self.old.closer.puzzle }
+    fn try_all(&mut self, puzzle: &Puzzle, board: &mut Board<W>) -> Progress
+        requires ready { IsReady puzzle.now self.old board.old.cells }
+        requires room { HasRoomFor puzzle.now self.old }
+        requires size { IsBoardOf puzzle.now board.old }
+        ensures progress { Progresses (trials (lines_of puzzle.now)) result board.old.cells board.new.cells }
+        ensures ready { result ≢ Dead → IsReady puzzle.now self.new board.new.cells }
+        ensures tried { result ≡ Same → (k : ℕ) → k < length board.new.cells → IsTried (lines_of puzzle.now) board.new.cells k }
+        ensures size { IsBoardOf puzzle.now board.new }
+        ensures room { HasRoomFor puzzle.now self.new }
     {
         let mut progress = Progress::Same;
         let mut from = 0;
         while let Some(place) = board.lines().first_unknown(from) {
-            match self.try_place(board, place) {
+            match self.try_place(puzzle, board, place) {
                 Progress::Dead => return Progress::Dead,
                 Progress::Same => {}
                 Progress::Changed => progress = Progress::Changed,
@@ -224,16 +234,17 @@ impl<'p, W: LineSet> Trials<'p, W> {
     }
 
     /// Tries cells until a whole pass changes nothing. Returns whether the board is alive.
-    fn try_until_same(&mut self, board: &mut Board<W>) -> bool
-        requires ready { IsReady self.old board.old.cells }
-        requires size { IsBoardOf self.old.closer.puzzle board.old }
-        ensures tried { if_alive result board.new.cells ≡ trials (lines_of self.old.closer.puzzle) board.old.cells }
-        ensures rest { IsTrue result → IsAtRest self.new.closer board.new.cells }
-        ensures size { IsBoardOf self.old.closer.puzzle board.new }
-        ensures puzzle { self.new.closer.puzzle ≡ self.old.closer.puzzle }
+    fn try_until_same(&mut self, puzzle: &Puzzle, board: &mut Board<W>) -> bool
+        requires ready { IsReady puzzle.now self.old board.old.cells }
+        requires room { HasRoomFor puzzle.now self.old }
+        requires size { IsBoardOf puzzle.now board.old }
+        ensures tried { if_alive result board.new.cells ≡ trials (lines_of puzzle.now) board.old.cells }
+        ensures rest { IsTrue result → IsAtRest puzzle.now self.new.closer board.new.cells }
+        ensures size { IsBoardOf puzzle.now board.new }
+        ensures room { HasRoomFor puzzle.now self.new }
     {
         loop {
-            match self.try_all(board) {
+            match self.try_all(puzzle, board) {
                 Progress::Dead => return false,
                 Progress::Same => return true,
                 Progress::Changed => {}
@@ -242,29 +253,31 @@ impl<'p, W: LineSet> Trials<'p, W> {
     }
 
     /// Closes a board at rest under trials. Returns whether it is alive.
-    pub fn try_at_rest(&mut self, board: &mut Board<W>) -> bool
-        requires rest { IsAtRest self.old.closer board.old.cells }
-        requires size { IsBoardOf self.old.closer.puzzle board.old }
-        ensures tried { if_alive result board.new.cells ≡ trials (lines_of self.old.closer.puzzle) board.old.cells }
-        ensures rest { IsTrue result → IsAtRest self.new.closer board.new.cells }
-        ensures size { IsBoardOf self.old.closer.puzzle board.new }
-        ensures puzzle { self.new.closer.puzzle ≡ self.old.closer.puzzle }
+    pub fn try_at_rest(&mut self, puzzle: &Puzzle, board: &mut Board<W>) -> bool
+        requires rest { IsAtRest puzzle.now self.old.closer board.old.cells }
+        requires room { HasRoomFor puzzle.now self.old }
+        requires size { IsBoardOf puzzle.now board.old }
+        ensures tried { if_alive result board.new.cells ≡ trials (lines_of puzzle.now) board.old.cells }
+        ensures rest { IsTrue result → IsAtRest puzzle.now self.new.closer board.new.cells }
+        ensures size { IsBoardOf puzzle.now board.new }
+        ensures room { HasRoomFor puzzle.now self.new }
     {
         self.witnesses.forget();
-        self.try_until_same(board)
+        self.try_until_same(puzzle, board)
     }
 
     /// Closes a board under trials. Returns whether it is alive.
-    pub fn try_board(&mut self, board: &mut Board<W>) -> bool
-        requires size { IsBoardOf self.old.closer.puzzle board.old }
-        ensures tried { if_alive result board.new.cells ≡ trials (lines_of self.old.closer.puzzle) board.old.cells }
-        ensures rest { IsTrue result → IsAtRest self.new.closer board.new.cells }
-        ensures size { IsBoardOf self.old.closer.puzzle board.new }
-        ensures puzzle { self.new.closer.puzzle ≡ self.old.closer.puzzle }
+    pub fn try_board(&mut self, puzzle: &Puzzle, board: &mut Board<W>) -> bool
+        requires room { HasRoomFor puzzle.now self.old }
+        requires size { IsBoardOf puzzle.now board.old }
+        ensures tried { if_alive result board.new.cells ≡ trials (lines_of puzzle.now) board.old.cells }
+        ensures rest { IsTrue result → IsAtRest puzzle.now self.new.closer board.new.cells }
+        ensures size { IsBoardOf puzzle.now board.new }
+        ensures room { HasRoomFor puzzle.now self.new }
     {
-        if !self.closer.propagate_all(board) {
+        if !self.closer.propagate_all(puzzle, board) {
             return false;
         }
-        self.try_at_rest(board)
+        self.try_at_rest(puzzle, board)
     }
 }

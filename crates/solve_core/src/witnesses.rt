@@ -3,12 +3,12 @@ ghost use Rattle.std.specs.Prelude.{◌≡◌, ◌*◌, ◌<◌, ◌≤◌, ℕ,
 ghost use Rattle.grid_core.specs.declared.cells.Cell.{Cell as CellValue};
 ghost use Rattle.grid_core.specs.declared.cells.Cell.TheVariants.{Unknown};
 ghost use Rattle.grid_core.specs.Cells.{Extends};
-ghost use Rattle.grid_core.specs.Nonogram.{lines_of};
+ghost use Rattle.grid_core.specs.Nonogram.{Nonogram, lines_of};
 ghost use Rattle.solve_core.specs.Boards.{IsBoardOf};
 ghost use Rattle.solve_core.specs.Branches.{cells_before};
 ghost use Rattle.solve_core.specs.Closure.{round, closure};
 ghost use Rattle.solve_core.specs.Trails.{cleared};
-ghost use Rattle.solve_core.specs.WitnessedPuzzles.{witness_at, met_by, open_marks};
+ghost use Rattle.solve_core.specs.WitnessLists.{witness_at, met_by, open_marks};
 ghost use Rattle.solve_core.specs.Witnesses.{AddsMet, AreWitnesses, IsCrossed, IsKept, ShareNoLine};
 
 use crate::boards::Board;
@@ -107,56 +107,52 @@ fn keep_each(witnesses: &mut [Witness], learned: &Crossed, holder: usize)
 /// The witnesses of a grid, and for each cell and each of the two colours the number of one that met it
 /// there, in room that is made once. Witness 0 stands for none.
 #[derive(Drop)]
-pub struct Witnesses<'p> {
-    puzzle: &'p Puzzle,
+pub struct Witnesses {
     witnesses: Vec<Witness>,
     fillable: Vec<u16>,
     blankable: Vec<u16>,
 }
 
-impl<'p> Model for Witnesses<'p> {
-    ghost use Rattle.solve_core.specs.WitnessedPuzzles.{WitnessedPuzzle};
+impl Model for Witnesses {
+    ghost use Rattle.solve_core.specs.WitnessLists.{WitnessLists};
     ghost use Rattle.solve_core.specs.Witnesses.{AreNumbered};
 
-    ghost Value = { WitnessedPuzzle };
+    ghost Value = { WitnessLists };
 
     ghost view = { λ w. record {
-      puzzle = w.puzzle.now;
       witnesses = w.witnesses.items;
       fillable = w.fillable.items;
       blankable = w.blankable.items;
     } };
 
     ghost invariant = { λ w. AreNumbered (record {
-      puzzle = w.puzzle.now;
       witnesses = w.witnesses.items;
       fillable = w.fillable.items;
       blankable = w.blankable.items;
     }) };
 }
 
-impl<'p> Witnesses<'p> {
+impl Witnesses {
     /// Makes the room, in proportion to the puzzle. There is no witness.
-    pub fn new(alloc: Global, puzzle: &'p Puzzle) -> Result<Witnesses<'p>, NoMemory>
-        ensures { IfOk result (λ made. made.puzzle ≡ puzzle.now) }
+    pub fn new(alloc: Global, puzzle: &Puzzle) -> Result<Witnesses, NoMemory>
+        ensures { IfOk result (λ made. length made.fillable ≡ puzzle.now.width * puzzle.now.height) }
     {
         let cells = usize::from(puzzle.width()) * usize::from(puzzle.height());
         let room = (cells * WITNESSES_PER_CELL).min(MOST_WITNESSES);
         let mut witnesses = Vec::with_capacity(alloc, room)?;
         witnesses.push_reserved(Witness::none());
         Ok(Witnesses {
-            puzzle,
             witnesses,
             fillable: vec![in alloc; 0; cells]?,
             blankable: vec![in alloc; 0; cells]?,
         })
     }
 
-    /// Drops all witnesses, so that there is none for any grid of the puzzle's size.
+    /// Drops all witnesses, so that there is none for any grid with as many cells.
     pub fn forget(&mut self)
-        ensures witnesses { (cells : List CellValue) → length cells ≡ self.old.puzzle.width * self.old.puzzle.height →
-            AreWitnesses self.new cells }
-        ensures puzzle { self.new.puzzle ≡ self.old.puzzle }
+        ensures witnesses { (p : Nonogram) (cells : List CellValue) → length cells ≡ length self.old.fillable →
+            AreWitnesses p self.new cells }
+        ensures count { length self.new.fillable ≡ length self.old.fillable }
     {
         if self.witnesses.len() == 1 {
             return;
@@ -168,7 +164,7 @@ impl<'p> Witnesses<'p> {
 
     /// The number of the witness that met a colour at a place, whether or not it counts.
     fn number_at(&self, place: usize, colour: Cell) -> usize
-        requires { place < self.now.puzzle.width * self.now.puzzle.height }
+        requires { place < length self.now.fillable }
         ensures { result ≡ slice_index_or (met_by self.now colour) place 0 }
     {
         match colour {
@@ -180,7 +176,7 @@ impl<'p> Witnesses<'p> {
 
     /// Whether a witness that counts met a colour at a place.
     pub fn has_met(&self, place: usize, colour: Cell) -> bool
-        requires { place < self.now.puzzle.width * self.now.puzzle.height }
+        requires { place < length self.now.fillable }
         ensures { result ≡ slice_index_or (open_marks self.now colour) place false }
     {
         self.witnesses[self.number_at(place, colour)].counts
@@ -189,7 +185,7 @@ impl<'p> Witnesses<'p> {
     /// Notes that a witness met the colour of its cell at a place, unless another one that counts did.
     fn meet<W: LineSet>(&mut self, number: u16, trial: &GridLines<W>, place: usize)
         requires number { number < length self.old.witnesses }
-        requires cells { length trial.now.cells ≡ self.old.puzzle.width * self.old.puzzle.height }
+        requires cells { length trial.now.cells ≡ length self.old.fillable }
         requires place { place < length trial.now.cells }
         ensures { AddsMet self.old self.new number trial.now.cells }
     {
@@ -207,7 +203,7 @@ impl<'p> Witnesses<'p> {
     /// Notes that a witness met the colours of the cells that it settled.
     fn meet_settled<W: LineSet>(&mut self, number: u16, trial: &Board<W>)
         requires number { number < length self.old.witnesses }
-        requires size { IsBoardOf self.old.puzzle trial.now }
+        requires cells { length trial.now.cells ≡ length self.old.fillable }
         ensures { AddsMet self.old self.new number trial.now.cells }
     {
         let lines = trial.lines();
@@ -218,20 +214,20 @@ impl<'p> Witnesses<'p> {
 
     /// Keeps an alive trial of the grid that its trail leads back to. If there is no room left, all witnesses
     /// are dropped.
-    pub fn add<W: LineSet>(&mut self, trial: &Board<W>)
-        requires size { IsBoardOf self.old.puzzle trial.now }
-        requires closed { round (lines_of self.old.puzzle) trial.now.cells ≡ Some trial.now.cells }
+    pub fn add<W: LineSet>(&mut self, puzzle: &Puzzle, trial: &Board<W>)
+        requires size { IsBoardOf puzzle.now trial.now }
+        requires closed { round (lines_of puzzle.now) trial.now.cells ≡ Some trial.now.cells }
         requires extends { Extends (cleared trial.now.cells trial.now.trail) trial.now.cells }
-        requires witnesses { AreWitnesses self.old (cleared trial.now.cells trial.now.trail) }
-        ensures witnesses { AreWitnesses self.new (cleared trial.now.cells trial.now.trail) }
-        ensures puzzle { self.new.puzzle ≡ self.old.puzzle }
+        requires witnesses { AreWitnesses puzzle.now self.old (cleared trial.now.cells trial.now.trail) }
+        ensures witnesses { AreWitnesses puzzle.now self.new (cleared trial.now.cells trial.now.trail) }
+        ensures count { length self.new.fillable ≡ length self.old.fillable }
     {
         let number = self.witnesses.len();
         if number == self.witnesses.capacity() || number >= MOST_WITNESSES {
             self.forget();
             return;
         }
-        let lines = Crossed::of_places(trial.trail(), self.puzzle.width());
+        let lines = Crossed::of_places(trial.trail(), puzzle.width());
         self.witnesses.push_reserved(Witness {
             lines,
             counts: true,
@@ -242,18 +238,25 @@ impl<'p> Witnesses<'p> {
     /// Keeps those witnesses that hold for a board after an unknown cell was settled, when its trail had
     /// `mark` places, and the board was closed: those that share no row and no column with the places that it
     /// learned, and the one that met the colour at the cell.
-    pub fn keep<W: LineSet>(&mut self, board: &Board<W>, mark: usize, place: usize, colour: Cell)
-        requires size { IsBoardOf self.old.puzzle board.now }
+    pub fn keep<W: LineSet>(
+        &mut self,
+        puzzle: &Puzzle,
+        board: &Board<W>,
+        mark: usize,
+        place: usize,
+        colour: Cell,
+    )
+        requires size { IsBoardOf puzzle.now board.now }
         requires place { place < length board.now.cells }
         requires mark { mark ≤ length board.now.trail }
         requires unknown { slice_index_or (cells_before board.now.cells board.now.trail mark) place Unknown ≡ Unknown }
-        requires settled { closure (lines_of self.old.puzzle)
+        requires settled { closure (lines_of puzzle.now)
             (slice_set (cells_before board.now.cells board.now.trail mark) place colour) ≡ Some board.now.cells }
-        requires witnesses { AreWitnesses self.old (cells_before board.now.cells board.now.trail mark) }
-        ensures witnesses { AreWitnesses self.new board.now.cells }
-        ensures puzzle { self.new.puzzle ≡ self.old.puzzle }
+        requires witnesses { AreWitnesses puzzle.now self.old (cells_before board.now.cells board.now.trail mark) }
+        ensures witnesses { AreWitnesses puzzle.now self.new board.now.cells }
+        ensures count { length self.new.fillable ≡ length self.old.fillable }
     {
-        let learned = Crossed::of_places(&board.trail()[mark..], self.puzzle.width());
+        let learned = Crossed::of_places(&board.trail()[mark..], puzzle.width());
         let holder = self.number_at(place, colour);
         keep_each(&mut self.witnesses, &learned, holder);
     }

@@ -18,19 +18,21 @@ use std::marker::Model;
 /// clues.
 #[derive(Drop)]
 pub struct Workspace<'p, W: LineSet> {
-    trials: Trials<'p, W>,
+    puzzle: &'p Puzzle,
+    trials: Trials<W>,
     board: Board<W>,
 }
 
 impl<'p, W: LineSet> Model for Workspace<'p, W> {
     ghost use Rattle.grid_core.specs.Nonogram.{Nonogram};
     ghost use Rattle.solve_core.specs.Boards.{IsBoardOf};
+    ghost use Rattle.solve_core.specs.Tried.{HasRoomFor};
 
     ghost Value = { Nonogram };
 
-    ghost view = { λ s. s.trials.closer.puzzle };
+    ghost view = { λ s. s.puzzle.now };
 
-    ghost invariant = { λ s. IsBoardOf s.trials.closer.puzzle s.board };
+    ghost invariant = { λ s. HasRoomFor s.puzzle.now s.trials × IsBoardOf s.puzzle.now s.board };
 }
 
 impl<'p, W: LineSet> Workspace<'p, W> {
@@ -40,6 +42,7 @@ impl<'p, W: LineSet> Workspace<'p, W> {
         ensures { IfOk result (λ workspace. workspace ≡ puzzle.now) }
     {
         Ok(Workspace {
+            puzzle,
             trials: Trials::new(alloc, puzzle)?,
             board: Board::unknown(alloc, puzzle.width(), puzzle.height())?,
         })
@@ -54,7 +57,7 @@ impl<'p, W: LineSet> Workspace<'p, W> {
     {
         self.board.read(grid);
         let trials = &mut self.trials;
-        let alive = trials.closer.propagate_all(&mut self.board);
+        let alive = trials.closer.propagate_all(self.puzzle, &mut self.board);
         self.board.lines().write(grid);
         alive
     }
@@ -67,7 +70,7 @@ impl<'p, W: LineSet> Workspace<'p, W> {
         ensures puzzle { self.new ≡ self.old }
     {
         self.board.read(grid);
-        let alive = self.trials.try_board(&mut self.board);
+        let alive = self.trials.try_board(self.puzzle, &mut self.board);
         self.board.lines().write(grid);
         alive
     }

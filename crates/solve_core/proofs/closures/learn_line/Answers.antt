@@ -30,7 +30,7 @@ pub line-old-requires : goal.line-old-requires
 line-old-requires g c = rw (c.requires.board.0, c.requires.board.1) c.requires.i
 
 pub changes-changes-requires : goal.changes-changes-requires
-changes-changes-requires g c = length-deduced c.line-old.result.now c.in-Some.new (line_on c.args.side c.args.deductions.now c.args.i).clue
+changes-changes-requires g c = length-deduced c.line-old.result.now c.in-Some.new (line_on c.args.side c.args.puzzle.now c.args.i).clue
     (sym c.in-Some.is ∙ c.deduce.ensures.answer)
 
 pub write_line-requires-clause-i : goal.write_line-requires-clause-i
@@ -40,7 +40,7 @@ pub write_line-requires-clause-more : goal.write_line-requires-clause-more
 write_line-requires-clause-more g c =
     subst (λ (r : List Cell). Extends r c.in-Some.new) c.line-old.ensures.cells
     (rw (sym c.deduce.ensures.answer ∙ c.in-Some.is) at
-    (deduced-above c.line-old.result.now (line_on c.args.side c.args.deductions.now c.args.i).clue))
+    (deduced-above c.line-old.result.now (line_on c.args.side c.args.puzzle.now c.args.i).clue))
 
 pub write_line-requires-clause-changes : goal.write_line-requires-clause-changes
 write_line-requires-clause-changes g c =
@@ -49,7 +49,7 @@ write_line-requires-clause-changes g c =
 
 pub returns-in_default-clause-learned : goal.returns-in_default-clause-learned
 returns-in_default-clause-learned g c =
-    let p = c.args.deductions.now in
+    let p = c.args.puzzle.now in
     let line = line_on c.args.side p c.args.i in
     ap (λ (r : List Cell). deduced r line.clue)
     (sym (c.line-old.ensures.cells ∙ seen p c.args.board.now c.args.side c.args.i c.requires.board)) ∙ sym c.deduce.ensures.answer ∙
@@ -57,7 +57,7 @@ returns-in_default-clause-learned g c =
 
 pub returns-then-is_empty-clause-learned : goal.returns-then-is_empty-clause-learned
 returns-then-is_empty-clause-learned g c =
-    let p = c.args.deductions.now in
+    let p = c.args.puzzle.now in
     let line = line_on c.args.side p c.args.i in
     let read = c.line-old.ensures.cells ∙ seen p c.args.board.now c.args.side c.args.i c.requires.board in
     let same : c.line-old.result.now ≡ c.in-Some.new =
@@ -90,7 +90,7 @@ unchanged p old new certain side i k m positive l size w e changes lk n =
 
 pub returns-clause-learned : goal.returns-clause-learned
 returns-clause-learned g c =
-    let p = c.args.deductions.now in
+    let p = c.args.puzzle.now in
     let b = c.args.board.now in
     let side = c.args.side in
     let line = line_on side p c.args.i in
@@ -114,7 +114,7 @@ returns-clause-learned g c =
 
 pub returns-clause-marks : goal.returns-clause-marks
 returns-clause-marks g c =
-    let p = c.args.deductions.now in
+    let p = c.args.puzzle.now in
     let b = c.args.board.now in
     let side = c.args.side in
     let i = c.args.i in

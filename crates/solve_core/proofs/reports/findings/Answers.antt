@@ -1,26 +1,23 @@
 -- `findings`: the report is the defined one, whether lines end dead, trials end dead, or there is a search.
-use Rattle.std.proofs.Common.{[], true, ◌≡◌, Some, None, ap, sym, subst, ◌∙◌, ◌*◌, length, count_by}
+use Rattle.std.proofs.Common.{refl, true, ap, sym, subst, ◌∙◌, ◌*◌, length, count_by}
 use Rattle.std.proofs.lemmas.List.{length-replicate}
 use Rattle.grid_core.specs.declared.cells.Cell.TheVariants.{Unknown}
 use Rattle.grid_core.specs.Cells.{is_known}
-use Rattle.grid_core.specs.Nonogram.{Nonogram, lines_of}
 use Rattle.solve_core.specs.Report.{grade_by}
 use Rattle.solve_core.specs.Picks.{picked}
-use Rattle.solve_core.specs.Endings.{ending}
-use Rattle.solve_core.specs.Search.{events}
-use Rattle.solve_core.specs.Boards.{IsBoardOf}
-use Rattle.solve_core.specs.Closure.{closure}
-use Rattle.solve_core.specs.TriedPuzzles.{TriedPuzzle}
+use Rattle.solve_core.specs.Tried.{Tried}
 use Rattle.solve_core.specs.Trails.{TrailedGrid}
 use Rattle.solve_core.proofs.TrailSteps.{full-trail}
 use Rattle.solve_core.proofs.ReportLaws.{report-alive, report-dead, report-refuted}
+use Rattle.solve_core.specs.Closers.{IsMemoryOf}
 use Rattle.solve_core.proofs.reports.findings.Goals as goal
 
 pub propagate_all-requires : goal.propagate_all-requires
 propagate_all-requires g c =
-    let p = c.args.trials.now.closer.puzzle in
+    let p = c.args.puzzle.now in
     record {
-      size = subst (λ (x : Nonogram). IsBoardOf x c.args.board.now) (sym (ap (λ (t : TriedPuzzle). t.closer.puzzle) c.trials.view_is)) (
+      memory = subst (λ (t : Tried). IsMemoryOf p t.closer) (sym c.trials.view_is) c.requires.trials.memory;
+      size = (
         ap (λ (g : TrailedGrid). g.width) c.requires.board,
         ap (λ (g : TrailedGrid). g.height) c.requires.board,
         ap (λ (g : TrailedGrid). length g.cells) c.requires.board ∙ length-replicate (p.width * p.height) Unknown,
@@ -29,42 +26,28 @@ propagate_all-requires g c =
 
 pub returns-then-not-propagate_all : goal.returns-then-not-propagate_all
 returns-then-not-propagate_all g c =
-    let p = c.args.trials.now.closer.puzzle in
-    report-dead (picked c.args.pick c.args.trials.now.closer.puzzle.width) p c.args.board.now.cells c.args.guesses
-    (ap (λ (g : TrailedGrid). g.cells) c.requires.board)
-    (subst (λ (t : TriedPuzzle). None ≡ closure (lines_of t.closer.puzzle) c.args.board.now.cells)
-    c.trials.view_is c.if-not-propagate_all.ensures.closed)
+    report-dead (picked c.args.pick c.args.puzzle.now.width) c.args.puzzle.now c.args.board.now.cells c.args.guesses
+    (ap (λ (g : TrailedGrid). g.cells) c.requires.board) c.if-not-propagate_all.ensures.closed
 
 pub returns-then-not-try_unless_full : goal.returns-then-not-try_unless_full
 returns-then-not-try_unless_full g c =
-    let seen = ap (λ (t : TriedPuzzle). t.closer.puzzle) c.trials.view_is in
-    let closed = c.propagate_all.new.board.cells in
-    report-refuted (picked c.args.pick c.args.trials.now.closer.puzzle.width) c.args.trials.now.closer.puzzle
-    c.propagate_all.new.self.puzzle c.args.board.now.cells closed c.args.guesses c.grade.result c.count_settled-line_known.result
-    (c.if-not-propagate_all.ensures.puzzle ∙ seen) (ap (λ (g : TrailedGrid). g.cells) c.requires.board)
-    (subst (λ (t : TriedPuzzle). Some closed ≡ closure (lines_of t.closer.puzzle) c.args.board.now.cells)
-    c.trials.view_is c.if-not-propagate_all.ensures.closed) c.if-not-try_unless_full.ensures.tried
+    let p = c.args.puzzle.now in
+    report-refuted (picked c.args.pick p.width) p p c.args.board.now.cells c.propagate_all.new.board.cells c.args.guesses
+    c.grade.result c.count_settled-line_known.result refl (ap (λ (g : TrailedGrid). g.cells) c.requires.board)
+    c.if-not-propagate_all.ensures.closed c.if-not-try_unless_full.ensures.tried
     (c.grade.ensures ∙ ap (λ b. grade_by b true) c.are_known-lines_settle.ensures)
     c.count_settled-line_known.ensures
 
 pub returns : goal.returns
 returns g c =
-    let seen = ap (λ (t : TriedPuzzle). t.closer.puzzle) c.trials.view_is in
-    let again = ap (λ (t : TriedPuzzle). t.closer.puzzle) c.trials-2.view_is in
-    let same = c.if-not-propagate_all.ensures.puzzle ∙ seen in
-    let closed = c.propagate_all.new.board.cells in
-    report-alive (picked c.args.pick c.args.trials.now.closer.puzzle.width) c.args.trials.now.closer.puzzle
-    c.propagate_all.new.self.puzzle c.trials-2.inside.closer.puzzle c.args.board.now.cells closed c.try_unless_full.new.board.cells
+    let p = c.args.puzzle.now in
+    report-alive (picked c.args.pick p.width) p p p c.args.board.now.cells c.propagate_all.new.board.cells c.try_unless_full.new.board.cells
     c.args.guesses
     c.search-end.new.solutions.grids c.search-end.result.cut c.search-end.result.spent c.verdict.result c.grade-grade.result
     c.count_settled-line_known.result c.count_unless_full-trial_known.result
-    same (again ∙ c.if-not-try_unless_full.ensures.puzzle ∙ same) (ap (λ (g : TrailedGrid). g.cells) c.requires.board)
-    (subst (λ (t : TriedPuzzle). Some closed ≡ closure (lines_of t.closer.puzzle) c.args.board.now.cells)
-    c.trials.view_is c.if-not-propagate_all.ensures.closed) c.if-not-try_unless_full.ensures.tried
-    (c.search-end.ensures.ending
-    ∙ (λ i. ending c.trials-2.inside.closer.puzzle [] 0 c.args.guesses
-    (events (picked c.args.pick ((again ∙ c.if-not-try_unless_full.ensures.puzzle ∙ same) i).width)
-    (lines_of c.trials-2.inside.closer.puzzle) c.try_unless_full.new.board.cells)))
+    refl refl (ap (λ (g : TrailedGrid). g.cells) c.requires.board)
+    c.if-not-propagate_all.ensures.closed c.if-not-try_unless_full.ensures.tried
+    c.search-end.ensures
     c.verdict.ensures
     (c.grade-grade.ensures ∙ (λ i. grade_by (c.are_known-lines_settle.ensures i) (c.are_known.ensures i)))
     c.count_settled-line_known.ensures c.count_unless_full-trial_known.ensures

@@ -1,26 +1,26 @@
 -- `report_within`: the defined report's verdict holds of all grids, and it spends no more than `guesses`.
-use Rattle.std.proofs.Common.{◌≤◌, ap, sym, subst, ◌∙◌}
+use Rattle.std.proofs.Common.{◌≤◌, sym, subst}
 use Rattle.solve_core.specs.declared.findings.Findings.{Findings}
 use Rattle.solve_core.specs.Picks.{picked}
-use Rattle.solve_core.specs.Report.{search_of, report_of}
+use Rattle.solve_core.specs.Report.{search_of}
 use Rattle.solve_core.specs.Verdicts.{Holds}
 use Rattle.solve_core.proofs.PickLaws.{picked-IsPick}
 use Rattle.solve_core.proofs.AnswerLaws.{verdict-Holds, guesses-within}
 use Rattle.solve_core.proofs.reports.report_within.Goals as goal
 
 pub returns-clause-findings : goal.returns-clause-findings
-returns-clause-findings g c = c.findings.ensures ∙ ap (λ p. report_of (picked c.args.pick p.width) p c.args.guesses) c.in_ok-trials.ensures
+returns-clause-findings g c = c.findings.ensures
 
 pub returns-clause-holds : goal.returns-clause-holds
 returns-clause-holds g c =
     let p = c.args.puzzle.now in
     subst (λ (f : Findings). Holds (picked c.args.pick c.args.puzzle.now.width) p c.args.guesses f.verdict)
-    (sym (c.findings.ensures ∙ ap (λ q. report_of (picked c.args.pick q.width) q c.args.guesses) c.in_ok-trials.ensures))
+    (sym c.findings.ensures)
     (verdict-Holds (picked c.args.pick c.args.puzzle.now.width) (picked-IsPick c.args.pick c.args.puzzle.now.width) p
     c.width-width.ensures.puzzle c.args.guesses)
 
 pub returns-clause-spent : goal.returns-clause-spent
 returns-clause-spent g c =
     subst (λ (f : Findings). f.spent ≤ c.args.guesses)
-    (sym (c.findings.ensures ∙ ap (λ q. report_of (picked c.args.pick q.width) q c.args.guesses) c.in_ok-trials.ensures))
+    (sym c.findings.ensures)
     (guesses-within c.args.guesses (search_of (picked c.args.pick c.args.puzzle.now.width) c.args.puzzle.now))

@@ -5,7 +5,7 @@ use Rattle.solve_core.specs.Search.{events}
 use Rattle.solve_core.specs.Sizes.{IsSizeOf}
 use Rattle.solve_core.specs.Endings.{ending}
 use Rattle.solve_core.specs.Boards.{IsBoardOf}
-use Rattle.solve_core.specs.LineMarks.{AreUnmarked}
+use Rattle.solve_core.specs.Closers.{IsIdle}
 use Rattle.solve_core.specs.Guesses.{owed, IsUnderWay}
 use Rattle.solve_core.proofs.search.search.Given as goal
 use Rattle.solve_core.specs.Picks.{picked}
@@ -13,21 +13,20 @@ use Rattle.solve_core.specs.Picks.{picked}
 -- the search so far and what is still to happen end as the whole search
 abbrev pub invariant-loop-pick : goal.invariant-loop-pick
 invariant-loop-pick g l =
-    let p = l.fn.closer.puzzle in
+    let p = l.puzzle in
     record {
-      under_way : IsUnderWay (picked l.pick l.fn.closer.puzzle.width) p l.branches.items l.board l.next;
+      under_way : IsUnderWay (picked l.pick l.puzzle.width) p l.branches.items l.board l.next;
       ends : ending p l.solutions.grids l.spent (l.guesses - l.spent)
-          (owed (picked l.pick l.fn.closer.puzzle.width) p l.branches.items l.board l.next)
-          ≡ ending p [] 0 l.guesses (events (picked l.pick l.fn.closer.puzzle.width) (lines_of p) l.fn.board.cells);
+          (owed (picked l.pick l.puzzle.width) p l.branches.items l.board l.next)
+          ≡ ending p [] 0 l.guesses (events (picked l.pick l.puzzle.width) (lines_of p) l.fn.board.cells);
       room : length l.fn.board.cells ≤ vec_capacity l.branches;
       cells : length l.board.cells ≡ length l.fn.board.cells;
       board : IsBoardOf p l.board;
       size : IsSizeOf p l.solutions.width l.solutions.height;
-      same : l.closer.puzzle ≡ p;
-      unmarked : AreUnmarked l.closer.marks;
+      idle : IsIdle p l.closer;
       spent : l.spent ≤ l.guesses;
       found : length l.solutions.grids ≤ 2;
     }
 
 abbrev pub decreases-loop-pick : goal.decreases-loop-pick
-decreases-loop-pick g l = length (owed (picked l.pick l.fn.closer.puzzle.width) l.fn.closer.puzzle l.branches.items l.board l.next)
+decreases-loop-pick g l = length (owed (picked l.pick l.puzzle.width) l.puzzle l.branches.items l.board l.next)

@@ -1,24 +1,31 @@
 -- `try_colour`: a copy that closes alive is line-closed and knows all that the board does: it is a witness.
-use Rattle.std.proofs.Common.{◌≡◌, List, Some, set, sym, subst}
+use Rattle.std.proofs.Common.{List, set, sym, subst, arith}
 use Rattle.grid_core.specs.declared.cells.Cell.{Cell}
 use Rattle.grid_core.specs.Cells.{Extends}
-use Rattle.grid_core.specs.Nonogram.{Nonogram, lines_of}
-use Rattle.solve_core.specs.Closure.{round}
+use Rattle.grid_core.specs.Nonogram.{lines_of}
 use Rattle.solve_core.proofs.ClosureLaws.{closure-IsLeastClosed}
 use Rattle.solve_core.proofs.TrialSteps.{settled-extends}
+use Rattle.solve_core.proofs.WitnessLaws.{places_for}
 use Rattle.solve_core.proofs.trials.try_colour.Goals as goal
+
+pub has_met-requires : goal.has_met-requires
+has_met-requires g c = omega (
+  arith,
+  c.requires.place,
+  places_for c.args.puzzle.now c.args.witnesses.now c.args.board.now.cells
+      c.requires.witnesses,
+)
 
 pub add-requires-clause-closed : goal.add-requires-clause-closed
 add-requires-clause-closed g c =
-    let lines = lines_of c.args.closer.now.puzzle in
+    let lines = lines_of c.args.puzzle.now in
     let given = set c.args.board.now.cells c.args.place c.args.colour in
     let new = c.assign_copy.new.trial.cells in
-    subst (λ (p : Nonogram). round (lines_of p) new ≡ Some new) (sym c.requires.puzzle)
-    ((closure-IsLeastClosed lines given).closed new (sym c.if-not-assign_copy.ensures.closed))
+    (closure-IsLeastClosed lines given).closed new (sym c.if-not-assign_copy.ensures.closed)
 
 pub add-requires-clause-extends : goal.add-requires-clause-extends
 add-requires-clause-extends g c =
-    let lines = lines_of c.args.closer.now.puzzle in
+    let lines = lines_of c.args.puzzle.now in
     let old = c.args.board.now.cells in
     let new = c.assign_copy.new.trial.cells in
     subst (λ (cells : List Cell). Extends cells new) (sym c.assign_copy.ensures.back)

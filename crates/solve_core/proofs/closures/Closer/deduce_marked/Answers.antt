@@ -1,10 +1,9 @@
 -- `Closer::deduce_marked`: if a pass over the columns learns nothing, no mark is left: the board is closed.
-use Rattle.std.proofs.Common.{◌≡◌, ◌∙◌, ℕ, sym, refl, subst, true≢false}
+use Rattle.std.proofs.Common.{◌∙◌, ℕ, sym, refl, subst, true≢false}
 use Rattle.grid_core.specs.declared.sides.Side.TheVariants.{Columns}
 use Rattle.place_sets.specs.Masks.{Has}
 use Rattle.solve_core.specs.LineMarks.{AreUnmarked, IsUnmarkedOn}
-use Rattle.solve_core.specs.Marks.{HasMarks, Progresses}
-use Rattle.grid_core.specs.Nonogram.{Nonogram, lines_of}
+use Rattle.grid_core.specs.Nonogram.{lines_of}
 use Rattle.solve_core.specs.Closure.{closure}
 use Rattle.solve_core.proofs.TrailSteps.{trailed-trans, trailed-size}
 use Rattle.solve_core.proofs.GridSteps.{closed_after, progress-keeps}
@@ -22,24 +21,15 @@ unmarked g c =
 
 pub returns-in-Same-clause-closed : goal.returns-in-Same-clause-closed
 returns-in-Same-clause-closed g c =
-    let p = c.args.self.now.puzzle in
-    let cells = c.loop-self.board.cells in
-    let middle = c.deduce_side.new.board.cells in
-    let new = c.deduce_side-in-loop-self.new.board.cells in
-    closed_after p c.deduce_side-in-loop-self.new.self.marks c.args.board.now.cells cells middle new c.deduce_side.result
-    (λ e. true≢false (sym (c.is_dead.ensures.1 e) ∙ c.if-is_dead.false))
-    (subst (λ (q : Nonogram). Progresses (closure (lines_of q)) c.deduce_side.result cells middle) c.loop-self.invariant.puzzle
-    c.deduce_side.ensures.progress)
-    c.in-Same.ensures.progress
-    (subst (λ (q : Nonogram). HasMarks q c.deduce_side-in-loop-self.new.self.marks new)
-    (c.deduce_side.ensures.puzzle ∙ c.loop-self.invariant.puzzle) c.in-Same.ensures.marks)
-    (unmarked g c) c.loop-self.invariant.closed
+    closed_after c.args.puzzle.now c.deduce_side-in-loop-self.new.self.marks c.args.board.now.cells c.loop-self.board.cells
+    c.deduce_side.new.board.cells c.deduce_side-in-loop-self.new.board.cells c.deduce_side.result
+    (λ e. true≢false (sym (c.is_dead.ensures.1 e) ∙ c.if-is_dead.false)) c.deduce_side.ensures.progress c.in-Same.ensures.progress
+    c.in-Same.ensures.marks (unmarked g c) c.loop-self.invariant.closed
 
 pub returns-in-Same-clause-rest : goal.returns-in-Same-clause-rest
 returns-in-Same-clause-rest g c = λ alive. record {
-  marks = subst (λ (q : Nonogram). HasMarks q c.deduce_side-in-loop-self.new.self.marks c.deduce_side-in-loop-self.new.board.cells)
-      (sym c.deduce_side-in-loop-self.ensures.puzzle) c.in-Same.ensures.marks;
-  unmarked = unmarked g c;
+  marks = c.in-Same.ensures.marks;
+  idle = record { memory = c.deduce_side-in-loop-self.ensures.memory; unmarked = unmarked g c };
 }
 
 pub returns-then-is_dead-clause-trail : goal.returns-then-is_dead-clause-trail
@@ -60,14 +50,12 @@ returns-in-Same-clause-trail g c =
 
 pub loop-self-preserved : goal.loop-self-preserved
 loop-self-preserved g c =
-    let p = c.args.self.now.puzzle in
-    let cells = c.loop-self.board.cells in
+    let p = c.args.puzzle.now in
     let middle = c.deduce_side.new.board in
     let new = c.deduce_side-in-loop-self.new.board in
-    let once = c.deduce_side.ensures.puzzle ∙ c.loop-self.invariant.puzzle in
     record {
-      puzzle = c.deduce_side-in-loop-self.ensures.puzzle ∙ once;
-      marks = subst (λ (q : Nonogram). HasMarks q c.deduce_side-in-loop-self.new.self.marks new.cells) once c.in-Changed.ensures.marks;
+      memory = c.deduce_side-in-loop-self.ensures.memory;
+      marks = c.in-Changed.ensures.marks;
       trail =
           trailed-trans c.args.board.now middle new
           (trailed-trans c.args.board.now c.loop-self.board middle c.loop-self.invariant.trail c.deduce_side.ensures.trail)
@@ -75,11 +63,8 @@ loop-self-preserved g c =
       size = trailed-size p middle new c.deduce_side-in-loop-self.ensures.trail
           (trailed-size p c.loop-self.board middle c.deduce_side.ensures.trail c.loop-self.invariant.size);
       closed =
-          subst (λ (q : Nonogram). closure (lines_of q) new.cells ≡ closure (lines_of q) middle.cells) once
           c.in-Changed.ensures.progress.0
-          ∙ progress-keeps (closure (lines_of p)) c.deduce_side.result cells middle.cells
-          (λ e. true≢false (sym (c.is_dead.ensures.1 e) ∙ c.if-is_dead.false))
-          (subst (λ (q : Nonogram). Progresses (closure (lines_of q)) c.deduce_side.result cells middle.cells)
-          c.loop-self.invariant.puzzle c.deduce_side.ensures.progress)
+          ∙ progress-keeps (closure (lines_of p)) c.deduce_side.result c.loop-self.board.cells middle.cells
+          (λ e. true≢false (sym (c.is_dead.ensures.1 e) ∙ c.if-is_dead.false)) c.deduce_side.ensures.progress
           ∙ c.loop-self.invariant.closed;
     }

@@ -1,17 +1,15 @@
 -- `Closer::deduce_side`: the lines passed have no mark, and deducing another line of the side gives them none.
 use Rattle.std.proofs.Common.{rules, ◌∙◌, ◌+◌, ◌<◌, ℕ, refl, true≢false, sym, subst, inl, inr, arith}
 use Rattle.std.proofs.lemmas.Bool.{cases_lt}
-use Rattle.grid_core.specs.Nonogram.{Nonogram}
-use Rattle.solve_core.specs.MarkedPuzzles.{MarkedPuzzle}
+use Rattle.solve_core.specs.Closers.{Closing}
 use Rattle.solve_core.specs.LineMarks.{IsMarkedOn}
-use Rattle.solve_core.specs.Marks.{HasMarks}
 use Rattle.solve_core.proofs.TrailSteps.{trailed-trans, trailed-size}
 use Rattle.solve_core.proofs.closures.Closer.deduce_side.Goals as goal
 use Rattle.solve_core.proofs.closures.Closer.deduce_side.Goals.{in-Same, in-Changed}
 
 pub loop-i-preserved : goal.loop-i-preserved
 loop-i-preserved g c =
-    let p = c.args.self.now.puzzle in
+    let p = c.args.puzzle.now in
     let before = c.loop-i.invariant in
     let side = c.args.side in
     let i = c.in-Some.i in
@@ -20,7 +18,7 @@ loop-i-preserved g c =
     let trail = trailed-trans c.args.board.now c.loop-i.board c.deduce_line.new.board before.trail c.deduce_line.ensures.trail in
     let size = trailed-size p c.loop-i.board c.deduce_line.new.board c.deduce_line.ensures.trail before.size in
     let seen : (k : ℕ) → IsMarkedOn c.loop-i.self.marks side k → IsMarkedOn c.self.inside.marks side k =
-    λ k h. subst (λ (m : MarkedPuzzle). IsMarkedOn m.marks side k) (sym c.self.view_is) h in
+    λ k h. subst (λ (m : Closing). IsMarkedOn m.marks side k) (sym c.self.view_is) h in
     let passed : (k : ℕ) → k < i + 1 → IsMarkedOn new.marks side k → ⊥ = λ k l h.
     elim (c.deduce_line.ensures.own.to k h) [
       | inl old ↦ elim (cases_lt k c.loop-i.from) [
@@ -32,8 +30,8 @@ loop-i-preserved g c =
     elim c.match-deduce_line.branch [
       | in-Same w ↦
           record {
-            puzzle = c.deduce_line.ensures.puzzle ∙ before.puzzle;
-            marks = subst (λ (q : Nonogram). HasMarks q new.marks c.deduce_line.new.board.cells) before.puzzle w.in-Same.ensures.marks;
+            memory = c.deduce_line.ensures.memory;
+            marks = w.in-Same.ensures.marks;
             trail = trail;
             size = size;
             progress = search rules;
@@ -44,8 +42,8 @@ loop-i-preserved g c =
           }
       | in-Changed w ↦
           record {
-            puzzle = c.deduce_line.ensures.puzzle ∙ before.puzzle;
-            marks = subst (λ (q : Nonogram). HasMarks q new.marks c.deduce_line.new.board.cells) before.puzzle w.in-Changed.ensures.marks;
+            memory = c.deduce_line.ensures.memory;
+            marks = w.in-Changed.ensures.marks;
             trail = trail;
             size = size;
             progress = search rules;

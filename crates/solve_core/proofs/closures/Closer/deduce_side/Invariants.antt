@@ -3,6 +3,7 @@ use Rattle.std.proofs.Common.{◌≡◌, ◌≢◌, ◌-◌, ◌<◌, ◌≤◌,
 use Rattle.grid_core.specs.Nonogram.{crossing, lines_of}
 use Rattle.solve_core.specs.declared.closures.Progress.TheVariants.{Dead, Same}
 use Rattle.solve_core.specs.Closure.{closure}
+use Rattle.solve_core.specs.Closers.{IsMemoryOf}
 use Rattle.solve_core.specs.LineMarks.{marks_on, IsMarkedOn}
 use Rattle.solve_core.specs.Marks.{HasMarks, Progresses}
 use Rattle.solve_core.specs.Trails.{IsTrailed}
@@ -11,11 +12,11 @@ use Rattle.solve_core.proofs.closures.Closer.deduce_side.Given as goal
 
 abbrev pub invariant-loop-i : goal.invariant-loop-i
 invariant-loop-i g l = record {
-  puzzle : l.self.puzzle ≡ l.fn.self.puzzle;
-  marks : HasMarks l.fn.self.puzzle l.self.marks l.board.cells;
+  memory : IsMemoryOf l.puzzle l.self;
+  marks : HasMarks l.puzzle l.self.marks l.board.cells;
   trail : IsTrailed l.fn.board l.board;
-  size : IsBoardOf l.fn.self.puzzle l.board;
-  progress : Progresses (closure (lines_of l.fn.self.puzzle)) l.progress l.fn.board.cells l.board.cells;
+  size : IsBoardOf l.puzzle l.board;
+  progress : Progresses (closure (lines_of l.puzzle)) l.progress l.fn.board.cells l.board.cells;
   alive : l.progress ≢ Dead;
   same : l.progress ≡ Same → marks_on (crossing l.side) l.self.marks ≡ marks_on (crossing l.side) l.fn.self.marks;
   passed : (k : ℕ) → k < l.from → IsMarkedOn l.self.marks l.side k → ⊥;

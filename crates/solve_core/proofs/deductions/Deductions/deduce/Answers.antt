@@ -6,62 +6,55 @@ use Rattle.grid_core.specs.declared.cells.Cell.{Cell}
 use Rattle.grid_core.specs.declared.sides.Side.{Side}
 use Rattle.grid_core.specs.Nonogram.{Nonogram, line_on}
 use Rattle.line_core.specs.Deduction.{deduced}
-use Rattle.solve_core.specs.Deductions.{IsDeductionOf}
-use Rattle.solve_core.specs.declared.deductions.Deduction.{Deduction}
+use Rattle.solve_core.specs.Deductions.{AreRight, IsDeductionOf, KnownLine}
 use Rattle.solve_core.proofs.Fitting.{fits_line}
 use Rattle.solve_core.proofs.deductions.Deductions.deduce.Goals as goal
 
 pub deduce-requires : goal.deduce-requires
 deduce-requires g c =
     subst (λ (l : List ℕ). All (λ k. k ≤ g.W.PlaceSet.WIDTH) l) (sym c.clue_of_line-clue.ensures)
-    (fits_line c.args.side g.W.PlaceSet.WIDTH c.self.inside.puzzle.now c.args.i c.self.invariant.fits)
+    (fits_line c.args.side g.W.PlaceSet.WIDTH c.args.puzzle.now c.args.i c.requires.memory.fits)
 
 pub deduce-answer-requires : goal.deduce-answer-requires
 deduce-answer-requires g c =
     subst (λ (l : List ℕ). All (λ k. k ≤ g.W.PlaceSet.WIDTH) l) (sym c.clue_of_line-clue.ensures)
-    (fits_line c.args.side g.W.PlaceSet.WIDTH c.self.inside.puzzle.now c.args.i c.self.invariant.fits)
+    (fits_line c.args.side g.W.PlaceSet.WIDTH c.args.puzzle.now c.args.i c.requires.memory.fits)
 
 pub returns-in_default-clause-answer : goal.returns-in_default-clause-answer
-returns-in_default-clause-answer g c =
-    c.deduce.ensures.answer ∙ ap (deduced c.args.line.now) (c.clue_of_line-clue.ensures ∙
-    ap (λ (p : Nonogram). (line_on c.args.side p c.args.i).clue) c.self.view_is)
+returns-in_default-clause-answer g c = c.deduce.ensures.answer ∙ ap (deduced c.args.line.now) c.clue_of_line-clue.ensures
 
 pub returns-clause-answer : goal.returns-clause-answer
-returns-clause-answer g c =
-    c.deduce-answer.ensures.answer ∙ ap (deduced c.args.line.now) (c.clue_of_line-clue.ensures ∙
-    ap (λ (p : Nonogram). (line_on c.args.side p c.args.i).clue) c.self.view_is)
+returns-clause-answer g c = c.deduce-answer.ensures.answer ∙ ap (deduced c.args.line.now) c.clue_of_line-clue.ensures
 
 -- what is remembered of a line is what is certain of it
-remembered : {W : Type 0} (p seen : Nonogram) (kept : List (Deduction W)) (k : ℕ) (side : Side) (i : ℕ) (line : List Cell) (d e : Deduction W) →
+remembered : (p : Nonogram) (kept : List KnownLine) (k : ℕ) (side : Side) (i : ℕ) (line : List Cell) (d e : KnownLine) →
     All (IsDeductionOf p) kept → k < length kept
-    → d ≡ get_or kept k d → e ≡ get_or kept k e → (e.side ≡ side) × (e.number ≡ i) × (e.line ≡ line) → p ≡ seen →
-    d.answer ≡ deduced line (line_on side seen i).clue
-remembered p seen kept k side i line d e right l x y is s =
+    → d ≡ get_or kept k d → e ≡ get_or kept k e → (e.side ≡ side) × (e.number ≡ i) × (e.line ≡ line) →
+    d.answer ≡ deduced line (line_on side p i).clue
+remembered p kept k side i line d e right l x y is =
     let same : d ≡ e = x ∙ get_or_default kept k d e l ∙ sym y in
     let own : d.answer ≡ deduced d.line (line_on d.side p d.number).clue = subst (IsDeductionOf p) (sym x) (right k d l) in
-    own ∙ ap (λ z. deduced z.line (line_on z.side p z.number).clue) same ∙ (λ j. deduced (is.2 j) (line_on (is.0 j) (s j) (is.1 j)).clue)
+    own ∙ ap (λ z. deduced z.line (line_on z.side p z.number).clue) same ∙ (λ j. deduced (is.2 j) (line_on (is.0 j) p (is.1 j)).clue)
 
 pub returns-then-is_of-clause-answer : goal.returns-then-is_of-clause-answer
 returns-then-is_of-clause-answer g c =
-    c.copy_answer.ensures
-    ∙ remembered c.self.inside.puzzle.now c.args.self.now c.self.inside.kept.items c.from-index.result c.args.side c.args.i c.args.line.now
+    c.copy_answer.ensures ∙ ap (λ (d : KnownLine). d.answer) c.behind-self.view_is
+    ∙ remembered c.args.puzzle.now c.self.inside.kept.items c.from-index.result c.args.side c.args.i c.args.line.now
     c.index-then-is_of.result.now c.index-then-index-len.result.now
-    c.self.invariant.right (omega (arith, c.if-index-len.true, c.len.ensures)) c.index-then-is_of.ensures c.index-then-index-len.ensures
-    (c.is_of.ensures c.if-is_of.true) c.self.view_is
+    (subst (AreRight g.W.PlaceSet.WIDTH c.args.puzzle.now) (sym c.self.view_is) c.requires.memory).right
+    (omega (arith, c.if-index-len.true, c.len.ensures)) c.index-then-is_of.ensures c.index-then-index-len.ensures
+    (c.is_of.ensures c.if-is_of.true)
 
-pub invariant_of-self-2 : goal.invariant_of-self-2
-invariant_of-self-2 g c =
-    let p = c.self.inside.puzzle.now in
+pub returns-clause-memory : goal.returns-clause-memory
+returns-clause-memory g c =
+    let p = c.args.puzzle.now in
+    let before = subst (AreRight g.W.PlaceSet.WIDTH p) (sym c.self.view_is) c.requires.memory in
     let own : c.copy_answer-2.result ≡ deduced c.copy.result (line_on c.args.side p c.args.i).clue =
     c.copy_answer-2.ensures ∙ c.deduce-answer.ensures.answer ∙ (λ i. deduced (sym c.copy.ensures i) (c.clue_of_line-clue.ensures i)) in
     record {
-      fits = c.self.invariant.fits;
-      some = c.self.invariant.some;
-      few = c.self.invariant.few;
-      slots_fit = c.self.invariant.slots_fit;
-      kept_fit = omega (arith, c.self.invariant.kept_fit, c.keep.ensures.fits);
+      fits = before.fits;
       right = λ k d l. elim (c.keep.ensures.kept k d l) [
         | inl e ↦ subst (IsDeductionOf p) (sym e) own
-        | inr m ↦ All-contains (IsDeductionOf p) c.self.inside.kept.items (get_or c.keep.new.kept.items k d) c.self.invariant.right m
+        | inr m ↦ All-contains (IsDeductionOf p) c.self.inside.kept.items (get_or c.keep.new.kept.items k d) before.right m
       ];
     }

@@ -4,7 +4,6 @@ use Rattle.solve_core.proofs.deductions.Deductions.open.Given as goal
 
 abbrev pub invariant-loop-self : goal.invariant-loop-self
 invariant-loop-self g l = record {
-  puzzle : l.self-inside.puzzle ≡ l.initial.self-inside.puzzle;
   tables : l.self-inside.tables ≡ l.initial.self-inside.tables;
   room : l.self-inside.room ≡ l.initial.self-inside.room;
   kept : l.self-inside.kept ≡ l.initial.self-inside.kept;

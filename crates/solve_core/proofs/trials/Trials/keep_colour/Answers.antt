@@ -1,24 +1,22 @@
 -- `Trials::keep_colour`: `colour` takes the board no further than trials do, so closing it is progress.
-use Rattle.std.proofs.Common.{◌≡◌, Some, None, set, sym, subst}
+use Rattle.std.proofs.Common.{set, sym}
 use Rattle.grid_core.specs.Nonogram.{lines_of}
-use Rattle.solve_core.specs.Closure.{closure}
-use Rattle.solve_core.specs.TriedPuzzles.{TriedPuzzle}
 use Rattle.solve_core.proofs.TrialSteps.{settle-changed, settle-dead}
 use Rattle.solve_core.proofs.trials.Trials.keep_colour.Goals as goal
 
 pub returns-then-not-assign-clause-progress : goal.returns-then-not-assign-clause-progress
 returns-then-not-assign-clause-progress g c =
-    let lines = lines_of c.args.self.now.closer.puzzle in
+    let lines = lines_of c.args.puzzle.now in
     let old = c.args.board.now.cells in
     let given = set old c.args.place c.args.colour in
     settle-dead lines old c.args.place c.args.colour c.requires.unknown c.requires.below
-    (subst (λ (t : TriedPuzzle). closure (lines_of t.closer.puzzle) given ≡ None) c.self.view_is (sym c.if-not-assign.ensures.closed))
+    (sym c.if-not-assign.ensures.closed)
 
 pub returns-clause-progress : goal.returns-clause-progress
 returns-clause-progress g c =
-    let lines = lines_of c.args.self.now.closer.puzzle in
+    let lines = lines_of c.args.puzzle.now in
     let old = c.args.board.now.cells in
     let new = c.assign.new.board.cells in
     let given = set old c.args.place c.args.colour in
     settle-changed lines old new c.args.place c.args.colour c.requires.place c.requires.unknown c.requires.colour c.requires.below
-    (subst (λ (t : TriedPuzzle). closure (lines_of t.closer.puzzle) given ≡ Some new) c.self.view_is (sym c.if-not-assign.ensures.closed))
+    (sym c.if-not-assign.ensures.closed)

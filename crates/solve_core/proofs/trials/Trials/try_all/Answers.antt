@@ -1,10 +1,10 @@
 -- `Trials::try_all`: cells before the next unknown one are tried or known, so if there is none all are tried.
-use Rattle.std.proofs.Common.{◌≡◌, ◌∙◌, ◌+◌, ◌<◌, ◌≤◌, ℕ, List, inl, inr, sym, refl, ap, subst, arith, below_more, length, get_or}
+use Rattle.std.proofs.Common.{◌≡◌, ◌∙◌, ◌+◌, ◌≤◌, List, inl, inr, sym, refl, ap, subst, arith, below_more, length, get_or}
 use Rattle.std.proofs.lemmas.Bool.{cases_lt}
 use Rattle.grid_core.specs.Cells.{is_unknown}
 use Rattle.grid_core.specs.declared.cells.Cell.{Cell}
 use Rattle.grid_core.specs.declared.cells.Cell.TheVariants.{Unknown}
-use Rattle.grid_core.specs.Nonogram.{Nonogram, lines_of}
+use Rattle.grid_core.specs.Nonogram.{lines_of}
 use Rattle.grid_core.specs.PartialGrid.{PartialGrid}
 use Rattle.solve_core.specs.Trials.{trials, IsTried}
 use Rattle.solve_core.proofs.Counting.{known-tried}
@@ -15,28 +15,26 @@ use Rattle.solve_core.proofs.trials.Trials.try_all.Goals.{in-Same, in-Changed}
 pub loop-place-preserved : goal.loop-place-preserved
 loop-place-preserved g c =
     let before = c.loop-place.invariant in
-    let p = c.loop-place.self.closer.puzzle in
+    let p = c.args.puzzle.now in
     let first = c.args.board.now.cells in
     let old = c.loop-place.board.cells in
     let new = c.try_place.new.board.cells in
     let place = c.in-Some.place in
     let seen : c.lines.result.now.cells ≡ old = ap (λ (g : PartialGrid). g.cells) c.lines.ensures.lines in
-    let back : p ≡ c.try_place.new.self.closer.puzzle = sym c.try_place.ensures.puzzle in
     let next : place + 1 ≤ length new = omega (arith, c.in-Some.ensures.1, ap length seen, before.size.2, c.try_place.ensures.size.2) in
     elim c.match-try_place.branch [
       | in-Same w ↦
           (let same : new ≡ old = w.in-Same.ensures.progress in
           record {
-            puzzle = c.try_place.ensures.puzzle ∙ before.puzzle;
-            size = rw c.try_place.ensures.puzzle c.try_place.ensures.size;
+            room = c.try_place.ensures.room;
+            size = c.try_place.ensures.size;
             ready = w.in-Same.ensures.ready (λ e. cc);
             alive = rw w.progress-is before.alive;
-            progress = rw (w.progress-is, c.try_place.ensures.puzzle)
+            progress = rw w.progress-is
                 (progress-same (trials (lines_of p)) c.loop-place.progress first old new before.progress same);
             from = next;
             tried = λ e.
-                subst (λ (q : Nonogram). (k : ℕ) → k < place + 1 → IsTried (lines_of q) new k) back
-                (below_more (λ k. IsTried (lines_of p) new k) place
+                below_more (λ k. IsTried (lines_of p) new k) place
                 (λ k l.
                 subst (λ (cells : List Cell). IsTried (lines_of p) cells k) (sym same)
                 (elim (cases_lt k c.loop-place.from) [
@@ -44,15 +42,15 @@ loop-place-preserved g c =
                   | inr late ↦ known-tried (lines_of p) old k (ap (λ (r : List Cell). is_unknown (get_or r k Unknown)) (sym seen) ∙
                       c.in-Some.ensures.3 k late l)
                 ]))
-                (w.in-Same.ensures.tried refl));
+                (w.in-Same.ensures.tried refl);
           })
       | in-Changed w ↦
           record {
-            puzzle = c.try_place.ensures.puzzle ∙ before.puzzle;
-            size = rw c.try_place.ensures.puzzle c.try_place.ensures.size;
+            room = c.try_place.ensures.room;
+            size = c.try_place.ensures.size;
             ready = w.in-Changed.ensures.ready (λ e. cc);
             alive = rw w.progress-is (λ e. cc);
-            progress = rw (w.progress-is, c.try_place.ensures.puzzle)
+            progress = rw w.progress-is
                 (progress-changed (trials (lines_of p)) c.loop-place.progress first old new before.alive
                 before.progress w.in-Changed.ensures.progress);
             from = next;
@@ -63,14 +61,12 @@ loop-place-preserved g c =
 pub returns-clause-tried : goal.returns-clause-tried
 returns-clause-tried g c =
     let before = c.loop-place.invariant in
-    let p = c.loop-place.self.closer.puzzle in
+    let p = c.args.puzzle.now in
     let cells = c.loop-place.board.cells in
     let seen : c.lines.result.now.cells ≡ cells = ap (λ (g : PartialGrid). g.cells) c.lines.ensures.lines in
-    λ e.
-    subst (λ (q : Nonogram). (k : ℕ) → k < length cells → IsTried (lines_of q) cells k) before.puzzle
-    (λ k l.
+    λ e k l.
     elim (cases_lt k c.loop-place.from) [
       | inl early ↦ before.tried e k early
       | inr late ↦ known-tried (lines_of p) cells k (ap (λ (r : List Cell). is_unknown (get_or r k Unknown)) (sym seen) ∙
           c.in_default.ensures k late (omega (arith, l, ap length seen)))
-    ])
+    ]

@@ -5,18 +5,18 @@ use Rattle.solve_core.specs.declared.closures.Progress.TheVariants.{Dead, Same}
 use Rattle.solve_core.specs.Trials.{trials, IsTried}
 use Rattle.solve_core.specs.Boards.{IsBoardOf}
 use Rattle.solve_core.specs.Marks.{Progresses}
-use Rattle.solve_core.specs.TriedPuzzles.{IsReady}
+use Rattle.solve_core.specs.Tried.{HasRoomFor, IsReady}
 use Rattle.solve_core.proofs.trials.Trials.try_all.Given as goal
 
 abbrev pub invariant-loop-place : goal.invariant-loop-place
 invariant-loop-place g l = record {
-  puzzle : l.self.closer.puzzle ≡ l.fn.self.closer.puzzle;
-  size : IsBoardOf l.self.closer.puzzle l.board;
-  ready : IsReady l.self l.board.cells;
+  room : HasRoomFor l.puzzle l.self;
+  size : IsBoardOf l.puzzle l.board;
+  ready : IsReady l.puzzle l.self l.board.cells;
   alive : l.progress ≢ Dead;
-  progress : Progresses (trials (lines_of l.self.closer.puzzle)) l.progress l.fn.board.cells l.board.cells;
+  progress : Progresses (trials (lines_of l.puzzle)) l.progress l.fn.board.cells l.board.cells;
   from : l.from ≤ length l.board.cells;
-  tried : l.progress ≡ Same → (k : ℕ) → k < l.from → IsTried (lines_of l.self.closer.puzzle) l.board.cells k;
+  tried : l.progress ≡ Same → (k : ℕ) → k < l.from → IsTried (lines_of l.puzzle) l.board.cells k;
 }
 
 abbrev pub decreases-loop-place : goal.decreases-loop-place

@@ -3,16 +3,16 @@ use Rattle.std.proofs.Common.{◌≡◌}
 use Rattle.grid_core.specs.Nonogram.{lines_of}
 use Rattle.solve_core.specs.Trials.{trials}
 use Rattle.solve_core.specs.Boards.{IsBoardOf}
-use Rattle.solve_core.specs.TriedPuzzles.{IsReady}
+use Rattle.solve_core.specs.Tried.{HasRoomFor, IsReady}
 use Rattle.solve_core.specs.Trails.{unknown_count}
 use Rattle.solve_core.proofs.trials.Trials.try_until_same.Given as goal
 
 abbrev pub invariant-loop : goal.invariant-loop
 invariant-loop g l = record {
-  puzzle : l.self.closer.puzzle ≡ l.fn.self.closer.puzzle;
-  size : IsBoardOf l.self.closer.puzzle l.board;
-  ready : IsReady l.self l.board.cells;
-  same : trials (lines_of l.self.closer.puzzle) l.board.cells ≡ trials (lines_of l.self.closer.puzzle) l.fn.board.cells;
+  room : HasRoomFor l.puzzle l.self;
+  size : IsBoardOf l.puzzle l.board;
+  ready : IsReady l.puzzle l.self l.board.cells;
+  same : trials (lines_of l.puzzle) l.board.cells ≡ trials (lines_of l.puzzle) l.fn.board.cells;
 }
 
 abbrev pub decreases-loop : goal.decreases-loop

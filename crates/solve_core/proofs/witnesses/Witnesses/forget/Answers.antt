@@ -1,7 +1,7 @@
 -- `Witnesses::forget`: only witness 0 is left, which doesn't count, and so there is none for any cells.
-use Rattle.std.proofs.Common.{◌≡◌, ◌∙◌, ◌*◌, ℕ, length, replicate, sym, ap, subst, arith}
-use Rattle.std.proofs.lemmas.List.{length-take}
-use Rattle.solve_core.specs.WitnessedPuzzles.{WitnessedPuzzle}
+use Rattle.std.proofs.Common.{◌≡◌, ◌∙◌, ℕ, length, replicate, sym, ap, subst, arith}
+use Rattle.std.proofs.lemmas.List.{length-replicate, length-take}
+use Rattle.solve_core.specs.WitnessLists.{WitnessLists}
 use Rattle.solve_core.specs.Witnesses.{AreWitnesses}
 use Rattle.solve_core.proofs.WitnessLaws.{forgotten, no_witnesses}
 use Rattle.solve_core.proofs.witnesses.Witnesses.forget.Goals as goal
@@ -9,8 +9,7 @@ use Rattle.solve_core.proofs.witnesses.Witnesses.forget.Goals as goal
 pub invariant_of-self : goal.invariant_of-self
 invariant_of-self c =
     let inside = c.self.inside in
-    let w : WitnessedPuzzle = record {
-      puzzle = inside.puzzle.now;
+    let w : WitnessLists = record {
       witnesses = inside.witnesses.items;
       fillable = inside.fillable.items;
       blankable = inside.blankable.items;
@@ -23,27 +22,37 @@ invariant_of-self c =
     rw c.truncate.ensures.items (forgotten w c.fill.new.self.items c.fill-2.new.self.items c.self.invariant filled blank)
 
 pub returns-clause-witnesses : goal.returns-clause-witnesses
-returns-clause-witnesses c = λ cells size.
+returns-clause-witnesses c = λ p cells size.
     let inside = c.self.inside in
-    let new : WitnessedPuzzle = record {
-      puzzle = inside.puzzle.now;
+    let new : WitnessLists = record {
       witnesses = c.truncate.new.self.items;
       fillable = c.fill.new.self.items;
       blankable = c.fill-2.new.self.items;
     } in
-    no_witnesses new cells (invariant_of-self c) (size ∙ ap (λ (q : WitnessedPuzzle). q.puzzle.width * q.puzzle.height)
-    (sym c.self.view_is)) (omega (arith, ap length c.truncate.ensures.items, length-take 1 inside.witnesses.items))
+    let none : ℕ = 0 in
+    let filled : c.fill.new.self.items ≡ replicate (length inside.fillable.items) 0 =
+    c.fill.ensures.items (λ y e. e) ∙ ap (λ (n : ℕ). replicate n none) inside.fillable.ok.0 in
+    no_witnesses p new cells (invariant_of-self c)
+    (size ∙ ap (λ (q : WitnessLists). length q.fillable) (sym c.self.view_is) ∙
+    sym (ap length filled ∙ length-replicate (length inside.fillable.items) none))
+    (omega (arith, ap length c.truncate.ensures.items, length-take 1 inside.witnesses.items))
+
+pub returns-clause-count : goal.returns-clause-count
+returns-clause-count c =
+    let inside = c.self.inside in
+    let none : ℕ = 0 in
+    let filled : c.fill.new.self.items ≡ replicate (length inside.fillable.items) 0 =
+    c.fill.ensures.items (λ y e. e) ∙ ap (λ (n : ℕ). replicate n none) inside.fillable.ok.0 in
+    ap length filled ∙ length-replicate (length inside.fillable.items) none ∙ ap (λ (q : WitnessLists). length q.fillable) c.self.view_is
 
 pub returns-then-len-eq1-clause-witnesses : goal.returns-then-len-eq1-clause-witnesses
-returns-then-len-eq1-clause-witnesses c = λ cells size.
+returns-then-len-eq1-clause-witnesses c = λ p cells size.
     let inside = c.self.inside in
-    let w : WitnessedPuzzle = record {
-      puzzle = inside.puzzle.now;
+    let w : WitnessLists = record {
       witnesses = inside.witnesses.items;
       fillable = inside.fillable.items;
       blankable = inside.blankable.items;
     } in
-    let same : w.puzzle.width * w.puzzle.height ≡ c.args.self.now.puzzle.width * c.args.self.now.puzzle.height =
-    ap (λ (q : WitnessedPuzzle). q.puzzle.width * q.puzzle.height) c.self.view_is in
-    subst (λ (q : WitnessedPuzzle). AreWitnesses q cells) c.self.view_is
-    (no_witnesses w cells c.self.invariant (size ∙ sym same) (omega (arith, c.len.ensures, c.if-len-eq1.true, inside.witnesses.ok.0)))
+    subst (λ (q : WitnessLists). AreWitnesses p q cells) c.self.view_is
+    (no_witnesses p w cells c.self.invariant (size ∙ ap (λ (q : WitnessLists). length q.fillable) (sym c.self.view_is))
+    (omega (arith, c.len.ensures, c.if-len-eq1.true, inside.witnesses.ok.0)))

@@ -1,0 +1,15 @@
+-- `Trials::try_at_rest`: without witnesses each that counts is alive.
+use Rattle.std.proofs.Common.{◌∙◌, length, ap, sym, subst}
+use Rattle.solve_core.specs.Marks.{IsAtRest}
+use Rattle.solve_core.specs.Tried.{Tried}
+use Rattle.solve_core.proofs.trials.Trials.try_at_rest.Goals as goal
+
+pub try_until_same-requires-clause-ready : goal.try_until_same-requires-clause-ready
+try_until_same-requires-clause-ready g c =
+    let p = c.args.puzzle.now in
+    let cells = c.args.board.now.cells in
+    record {
+      rest = subst (λ (t : Tried). IsAtRest p t.closer cells) (sym c.self.view_is) c.requires.rest;
+      witnesses = c.forget.ensures.witnesses p cells (c.requires.size.2 ∙ sym c.requires.room.cells ∙
+          ap (λ (t : Tried). length t.witnesses.fillable) (sym c.self.view_is));
+    }

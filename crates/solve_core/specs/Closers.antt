@@ -1,0 +1,20 @@
+-- What closing by lines keeps.
+use Rattle.std.specs.Prelude.{ℕ, List}
+use Rattle.grid_core.specs.Nonogram.{Nonogram}
+use Rattle.solve_core.specs.Deductions.{AreRight, KnownLine}
+use Rattle.solve_core.specs.LineMarks.{LineMarks, AreUnmarked}
+
+-- what is remembered of lines in sets of `width` places, and which lines may have more to give
+pub record Closing : Type 0 where
+  pub width : ℕ
+  pub kept : List KnownLine
+  pub marks : LineMarks
+
+-- there is room for the puzzle, and what is remembered of its lines is right
+abbrev pub IsMemoryOf : Nonogram → Closing → Type 0
+IsMemoryOf p c = AreRight c.width p c.kept
+
+-- and no line is marked
+pub record IsIdle (p : Nonogram) (c : Closing) : Type 0 where
+  pub memory : IsMemoryOf p c
+  pub unmarked : AreUnmarked c.marks

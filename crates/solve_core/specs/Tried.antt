@@ -1,0 +1,29 @@
+-- What is known of the trials of a grid.
+use Rattle.std.specs.Prelude.{◌≡◌, ◌*◌, List, length}
+use Rattle.grid_core.specs.declared.cells.Cell.{Cell}
+use Rattle.grid_core.specs.Nonogram.{Nonogram}
+use Rattle.solve_core.specs.Boards.{IsBoardOf}
+use Rattle.solve_core.specs.Marks.{IsAtRest}
+use Rattle.solve_core.specs.Closers.{Closing, IsMemoryOf}
+use Rattle.solve_core.specs.Trails.{TrailedGrid}
+use Rattle.solve_core.specs.WitnessLists.{WitnessLists}
+use Rattle.solve_core.specs.Witnesses.{AreWitnesses}
+
+-- what closing keeps, a board for the trials of each colour, and witnesses
+pub record Tried : Type 0 where
+  pub closer : Closing
+  pub filled : TrailedGrid
+  pub blank : TrailedGrid
+  pub witnesses : WitnessLists
+
+-- there is room for the puzzle, and what is remembered of its lines is right
+pub record HasRoomFor (p : Nonogram) (t : Tried) : Type 0 where
+  pub memory : IsMemoryOf p t.closer
+  pub filled : IsBoardOf p t.filled
+  pub blank : IsBoardOf p t.blank
+  pub cells : length t.witnesses.fillable ≡ p.width * p.height
+
+-- no line has more to give, and the witnesses are alive: what a trial of these cells starts from
+pub record IsReady (p : Nonogram) (t : Tried) (cells : List Cell) : Type 0 where
+  pub rest : IsAtRest p t.closer cells
+  pub witnesses : AreWitnesses p t.witnesses cells
