@@ -171,20 +171,19 @@ report-greater pick p limit greater l h =
     ∙ report-is pick p limit
 
 -- the report on a puzzle that neither closure finds dead, by how its search ends
-pub report-alive : (pick : List Cell → Option ℕ) (p q r : Nonogram) (start closed tried : List Cell) (limit : ℕ)
+pub report-alive : (pick : List Cell → Option ℕ) (p : Nonogram) (start closed tried : List Cell) (limit : ℕ)
     (found : List PartialGrid) (cut : Bool) (spent : ℕ) (verdict : Verdict) (grade : Grade) (line_known trial_known : ℕ)
-    → q ≡ p → r ≡ p → start ≡ unknown_grid p
-    → Some closed ≡ closure (lines_of p) start → Some tried ≡ trials (lines_of q) closed
-    → record { found = found; cut = cut; spent = spent } ≡ ending r [] 0 limit (events pick (lines_of r) tried)
+    → start ≡ unknown_grid p
+    → Some closed ≡ closure (lines_of p) start → Some tried ≡ trials (lines_of p) closed
+    → record { found = found; cut = cut; spent = spent } ≡ ending p [] 0 limit (events pick (lines_of p) tried)
     → verdict ≡ verdict_by found cut → grade ≡ grade_by (list_all is_known closed) (list_all is_known tried)
     → line_known ≡ count_by is_known closed → trial_known ≡ count_by is_known tried
     → record { verdict = verdict; grade = grade; line_known = line_known; trial_known = trial_known; spent = spent } ≡
     report_of pick p limit
-report-alive pick p q r start closed tried limit found cut spent verdict grade line_known trial_known sq sr s c d e v g l k =
+report-alive pick p start closed tried limit found cut spent verdict grade line_known trial_known s c d e v g l k =
     let c' : Some closed ≡ line_closure p = c ∙ ap (closure (lines_of p)) s in
-    let d' : Some tried ≡ trial_closure p = d ∙ (λ i. trials (lines_of (sq i)) closed) ∙ ap (option_and_then (trials (lines_of p))) c' in
-    let e' : record { found = found; cut = cut; spent = spent } ≡ end_from pick p limit (Some tried) =
-    e ∙ (λ i. ending (sr i) [] 0 limit (events pick (lines_of (sr i)) tried)) in
+    let d' : Some tried ≡ trial_closure p = d ∙ ap (option_and_then (trials (lines_of p))) c' in
+    let e' : record { found = found; cut = cut; spent = spent } ≡ end_from pick p limit (Some tried) = e in
     (λ i. record { verdict = v i; grade = g i; line_known = l i; trial_known = k i; spent = spent })
     ∙ (λ i. let end : Ending = e' i in record {
       verdict = verdict_by end.found end.cut;
@@ -196,13 +195,13 @@ report-alive pick p q r start closed tried limit found cut spent verdict grade l
     ∙ report-by pick p limit (Some closed) (Some tried) c' d'
 
 -- the report on a puzzle that trials find dead
-pub report-refuted : (pick : List Cell → Option ℕ) (p q : Nonogram) (start closed : List Cell) (limit : ℕ) (grade : Grade) (line_known : ℕ)
-    → q ≡ p → start ≡ unknown_grid p → Some closed ≡ closure (lines_of p) start → None ≡ trials (lines_of q) closed
+pub report-refuted : (pick : List Cell → Option ℕ) (p : Nonogram) (start closed : List Cell) (limit : ℕ) (grade : Grade) (line_known : ℕ)
+    → start ≡ unknown_grid p → Some closed ≡ closure (lines_of p) start → None ≡ trials (lines_of p) closed
     → grade ≡ grade_by (list_all is_known closed) true → line_known ≡ count_by is_known closed
     → record { verdict = Nothing; grade = grade; line_known = line_known; trial_known = 0; spent = 0 } ≡ report_of pick p limit
-report-refuted pick p q start closed limit grade line_known sq s c d g l =
+report-refuted pick p start closed limit grade line_known s c d g l =
     let c' : Some closed ≡ line_closure p = c ∙ ap (closure (lines_of p)) s in
-    let d' : None ≡ trial_closure p = d ∙ (λ i. trials (lines_of (sq i)) closed) ∙ ap (option_and_then (trials (lines_of p))) c' in
+    let d' : None ≡ trial_closure p = d ∙ ap (option_and_then (trials (lines_of p))) c' in
     (λ i. record { verdict = Nothing; grade = g i; line_known = l i; trial_known = 0; spent = 0 })
     ∙ report-by pick p limit (Some closed) None c' d'
 

@@ -9,7 +9,7 @@ use Rattle.solve_core.specs.Closure.{with_cells, closure}
 use Rattle.solve_core.specs.LineMarks.{LineMarks, marks_on, IsMarkedOn, AreMarksWithin}
 use Rattle.solve_core.specs.Trails.{unknown_count}
 use Rattle.solve_core.specs.Trials.{is_refuted}
-use Rattle.solve_core.specs.Closers.{Closing, IsIdle}
+use Rattle.solve_core.specs.Closers.{Closing, IsIdle, IsMemoryOf}
 use Rattle.solve_core.specs.declared.trials.Trial.{Trial}
 use Rattle.solve_core.specs.declared.trials.Trial.TheVariants.{Refuted, Open, Closed}
 use Rattle.solve_core.specs.declared.closures.Progress.{Progress}
@@ -60,6 +60,16 @@ abbrev pub MarksAfter : Progress → Nonogram → LineMarks → List Cell → Ty
 MarksAfter Dead p marks cells = Unit {0}
 MarksAfter Same p marks cells = HasMarks p marks cells
 MarksAfter Changed p marks cells = HasMarks p marks cells
+
+-- what closing some cells starts from: room and right memory, and the marks of all lines that may have more to give
+pub record HasWork (p : Nonogram) (c : Closing) (cells : List Cell) : Type 0 where
+  pub marks : HasMarks p c.marks cells
+  pub memory : IsMemoryOf p c
+
+-- what a step leaves: the same, unless the cells are dead, and then room and right memory alone
+pub record LeavesWork (r : Progress) (p : Nonogram) (c : Closing) (cells : List Cell) : Type 0 where
+  pub marks : MarksAfter r p c.marks cells
+  pub memory : IsMemoryOf p c
 
 -- a step towards f of the cells: they are dead, the same, or fewer are unknown, and f of them is the same
 abbrev pub Progresses : (List Cell → Option (List Cell)) → Progress → List Cell → List Cell → Type 0

@@ -1,6 +1,7 @@
 -- The trail of settled cells, which leads back.
-use Rattle.std.specs.Prelude.{◌≡◌, ℕ, suc, ◌+◌, ◌<◌, ◌≤◌, List, [], ◌∷◌, ◌++◌, length, slice_set}
+use Rattle.std.specs.Prelude.{◌≡◌, ℕ, suc, ◌+◌, ◌<◌, ◌≤◌, List, [], ◌∷◌, ◌++◌, length, true, slice_set, slice_index_or}
 use Rattle.std.specs.List.{AllByRecursion}
+use Rattle.grid_core.specs.Cells.{is_known}
 use Rattle.grid_core.specs.declared.cells.Cell.{Cell}
 use Rattle.grid_core.specs.declared.cells.Cell.TheVariants.{Unknown, Filled, Blank}
 
@@ -17,6 +18,12 @@ unknown_count [] = 0
 unknown_count (Unknown ∷ g) = suc (unknown_count g)
 unknown_count (Filled ∷ g) = unknown_count g
 unknown_count (Blank ∷ g) = unknown_count g
+
+-- the cell at a place is there and unknown, and gets a colour
+pub record CanSettle (cells : List Cell) (place : ℕ) (colour : Cell) : Type 0 where
+  pub within : place < length cells
+  pub unknown : slice_index_or cells place Unknown ≡ Unknown
+  pub known : is_known colour ≡ true
 
 -- the cells with some places made unknown, the last one first
 abbrev pub cleared : List Cell → List ℕ → List Cell

@@ -8,8 +8,8 @@ ghost use Rattle.solve_core.specs.Closure.{closure};
 ghost use Rattle.solve_core.specs.Closers.{IsIdle, IsMemoryOf};
 ghost use Rattle.solve_core.specs.Deductions.{AreRight};
 ghost use Rattle.solve_core.specs.LineMarks.{marks_on, IsUnmarkedOn};
-ghost use Rattle.solve_core.specs.Marks.{IsLearned, MarksChanges, HasMarks, Progresses, MarksAfter, IsAtRest, if_alive};
-ghost use Rattle.solve_core.specs.Trails.{IsTrailed, cleared};
+ghost use Rattle.solve_core.specs.Marks.{IsLearned, MarksChanges, HasWork, LeavesWork, Progresses, IsAtRest, if_alive};
+ghost use Rattle.solve_core.specs.Trails.{CanSettle, IsTrailed, cleared};
 ghost use Rattle.solve_core.specs.Boards.{IsBoardOf};
 ghost use Rattle.solve_core.specs.declared.closures.Progress.TheVariants.{Dead, Same};
 
@@ -102,15 +102,13 @@ impl<W: LineSet> Closer<W> {
     /// Deduces line i of a side.
     fn deduce_line(&mut self, puzzle: &Puzzle, side: Side, i: u16, board: &mut Board<W>) -> Progress
         requires i { i < count_on side puzzle.now.width puzzle.now.height }
-        requires marks { HasMarks puzzle.now self.old.marks board.old.cells }
-        requires memory { IsMemoryOf puzzle.now self.old }
+        requires work { HasWork puzzle.now self.old board.old.cells }
         requires size { IsBoardOf puzzle.now board.old }
         ensures progress { Progresses (closure (lines_of puzzle.now)) result board.old.cells board.new.cells }
-        ensures marks { MarksAfter result puzzle.now self.new.marks board.new.cells }
+        ensures work { LeavesWork result puzzle.now self.new board.new.cells }
         ensures own { IsMaskOf (IsMarked (Has (marks_on side self.old.marks)) i false) (marks_on side self.new.marks) }
         ensures same { result ≡ Same → marks_on (crossing side) self.new.marks ≡ marks_on (crossing side) self.old.marks }
         ensures trail { IsTrailed board.old board.new }
-        ensures memory { IsMemoryOf puzzle.now self.new }
     {
         self.marks.set(side, i, false);
         learn_line(
@@ -125,15 +123,13 @@ impl<W: LineSet> Closer<W> {
 
     /// Deduces each marked line of a side.
     fn deduce_side(&mut self, puzzle: &Puzzle, side: Side, board: &mut Board<W>) -> Progress
-        requires marks { HasMarks puzzle.now self.old.marks board.old.cells }
-        requires memory { IsMemoryOf puzzle.now self.old }
+        requires work { HasWork puzzle.now self.old board.old.cells }
         requires size { IsBoardOf puzzle.now board.old }
         ensures progress { Progresses (closure (lines_of puzzle.now)) result board.old.cells board.new.cells }
-        ensures marks { MarksAfter result puzzle.now self.new.marks board.new.cells }
+        ensures work { LeavesWork result puzzle.now self.new board.new.cells }
         ensures unmarked { result ≢ Dead → IsUnmarkedOn self.new.marks side }
         ensures same { result ≡ Same → marks_on (crossing side) self.new.marks ≡ marks_on (crossing side) self.old.marks }
         ensures trail { IsTrailed board.old board.new }
-        ensures memory { IsMemoryOf puzzle.now self.new }
     {
         let mut progress = Progress::Same;
         let mut from = 0;
@@ -151,8 +147,7 @@ impl<W: LineSet> Closer<W> {
     /// Deduces marked lines until none is marked: all rows in turn, then all columns, and again. Returns
     /// whether the grid is alive.
     fn deduce_marked(&mut self, puzzle: &Puzzle, board: &mut Board<W>) -> bool
-        requires marks { HasMarks puzzle.now self.old.marks board.old.cells }
-        requires memory { IsMemoryOf puzzle.now self.old }
+        requires work { HasWork puzzle.now self.old board.old.cells }
         requires size { IsBoardOf puzzle.now board.old }
         ensures closed { if_alive result board.new.cells ≡ closure (lines_of puzzle.now) board.old.cells }
         ensures rest { IsTrue result → IsAtRest puzzle.now self.new board.new.cells }
@@ -173,8 +168,7 @@ impl<W: LineSet> Closer<W> {
 
     /// Closes a board by the marked lines. Returns whether it is alive. No line is marked then.
     fn propagate(&mut self, puzzle: &Puzzle, board: &mut Board<W>) -> bool
-        requires marks { HasMarks puzzle.now self.old.marks board.old.cells }
-        requires memory { IsMemoryOf puzzle.now self.old }
+        requires work { HasWork puzzle.now self.old board.old.cells }
         requires size { IsBoardOf puzzle.now board.old }
         ensures closed { if_alive result board.new.cells ≡ closure (lines_of puzzle.now) board.old.cells }
         ensures idle { IsIdle puzzle.now self.new }
@@ -215,9 +209,7 @@ impl<W: LineSet> Closer<W> {
     ) -> bool
         requires rest { IsAtRest puzzle.now self.old board.old.cells }
         requires size { IsBoardOf puzzle.now board.old }
-        requires place { place < length board.old.cells }
-        requires unknown { slice_index_or board.old.cells place Unknown ≡ Unknown }
-        requires colour { is_known colour ≡ true }
+        requires cell { CanSettle board.old.cells place colour }
         ensures closed { if_alive result board.new.cells ≡ closure (lines_of puzzle.now) (slice_set board.old.cells place colour) }
         ensures idle { IsIdle puzzle.now self.new }
         ensures rest { IsTrue result → IsAtRest puzzle.now self.new board.new.cells }
@@ -245,9 +237,7 @@ impl<W: LineSet> Closer<W> {
         requires rest { IsAtRest puzzle.now self.old board.now.cells }
         requires size { IsBoardOf puzzle.now board.now }
         requires trial { IsBoardOf puzzle.now trial.old }
-        requires place { place < length board.now.cells }
-        requires unknown { slice_index_or board.now.cells place Unknown ≡ Unknown }
-        requires colour { is_known colour ≡ true }
+        requires cell { CanSettle board.now.cells place colour }
         ensures closed { if_alive result trial.new.cells ≡ closure (lines_of puzzle.now) (slice_set board.now.cells place colour) }
         ensures rest { IsAtRest puzzle.now self.new board.now.cells }
         ensures closed_rest { IsTrue result → IsAtRest puzzle.now self.new trial.new.cells }

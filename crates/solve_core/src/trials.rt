@@ -7,7 +7,7 @@ ghost use Rattle.solve_core.specs.Closure.{round, closure};
 ghost use Rattle.line_core.specs.Order.{AtMost};
 ghost use Rattle.solve_core.specs.Trials.{trials, IsTried};
 ghost use Rattle.solve_core.specs.Marks.{Progresses, if_alive, IsAtRest, IsTrialOf};
-ghost use Rattle.solve_core.specs.Trails.{cleared};
+ghost use Rattle.solve_core.specs.Trails.{CanSettle, cleared};
 ghost use Rattle.solve_core.specs.Tried.{HasRoomFor, IsReady};
 ghost use Rattle.solve_core.specs.Widths.{FitsIn};
 ghost use Rattle.solve_core.specs.Witnesses.{AreWitnesses};
@@ -64,9 +64,7 @@ fn try_colour<W: LineSet>(
     requires witnesses { AreWitnesses puzzle.now witnesses.old board.now.cells }
     requires size { IsBoardOf puzzle.now board.now }
     requires trial { IsBoardOf puzzle.now trial.old }
-    requires place { place < length board.now.cells }
-    requires unknown { slice_index_or board.now.cells place Unknown ≡ Unknown }
-    requires colour { is_known colour ≡ true }
+    requires cell { CanSettle board.now.cells place colour }
     ensures tried { IsTrialOf result (lines_of puzzle.now) board.now.cells place colour trial.new.cells }
     ensures witnesses { AreWitnesses puzzle.now witnesses.new board.now.cells }
     ensures count { length witnesses.new.fillable ≡ length witnesses.old.fillable }
@@ -145,9 +143,7 @@ impl<W: LineSet> Trials<W> {
         requires ready { IsReady puzzle.now self.old board.old.cells }
         requires room { HasRoomFor puzzle.now self.old }
         requires size { IsBoardOf puzzle.now board.old }
-        requires place { place < length board.old.cells }
-        requires unknown { slice_index_or board.old.cells place Unknown ≡ Unknown }
-        requires colour { is_known colour ≡ true }
+        requires cell { CanSettle board.old.cells place colour }
         requires below { AtMost (Some (slice_set board.old.cells place colour)) (trials (lines_of puzzle.now) board.old.cells) }
         ensures progress { Progresses (trials (lines_of puzzle.now)) result board.old.cells board.new.cells }
         ensures changed { result ≢ Same }

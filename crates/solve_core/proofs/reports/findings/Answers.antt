@@ -1,5 +1,5 @@
 -- `findings`: the report is the defined one, whether lines end dead, trials end dead, or there is a search.
-use Rattle.std.proofs.Common.{refl, true, ap, sym, subst, ◌∙◌, ◌*◌, length, count_by}
+use Rattle.std.proofs.Common.{true, ap, sym, subst, ◌∙◌, ◌*◌, length, count_by}
 use Rattle.std.proofs.lemmas.List.{length-replicate}
 use Rattle.grid_core.specs.declared.cells.Cell.TheVariants.{Unknown}
 use Rattle.grid_core.specs.Cells.{is_known}
@@ -32,8 +32,8 @@ returns-then-not-propagate_all g c =
 pub returns-then-not-try_unless_full : goal.returns-then-not-try_unless_full
 returns-then-not-try_unless_full g c =
     let p = c.args.puzzle.now in
-    report-refuted (picked c.args.pick p.width) p p c.args.board.now.cells c.propagate_all.new.board.cells c.args.guesses
-    c.grade.result c.count_settled-line_known.result refl (ap (λ (g : TrailedGrid). g.cells) c.requires.board)
+    report-refuted (picked c.args.pick p.width) p c.args.board.now.cells c.propagate_all.new.board.cells c.args.guesses
+    c.grade.result c.count_settled-line_known.result (ap (λ (g : TrailedGrid). g.cells) c.requires.board)
     c.if-not-propagate_all.ensures.closed c.if-not-try_unless_full.ensures.tried
     (c.grade.ensures ∙ ap (λ b. grade_by b true) c.are_known-lines_settle.ensures)
     c.count_settled-line_known.ensures
@@ -41,11 +41,11 @@ returns-then-not-try_unless_full g c =
 pub returns : goal.returns
 returns g c =
     let p = c.args.puzzle.now in
-    report-alive (picked c.args.pick p.width) p p p c.args.board.now.cells c.propagate_all.new.board.cells c.try_unless_full.new.board.cells
+    report-alive (picked c.args.pick p.width) p c.args.board.now.cells c.propagate_all.new.board.cells c.try_unless_full.new.board.cells
     c.args.guesses
     c.search-end.new.solutions.grids c.search-end.result.cut c.search-end.result.spent c.verdict.result c.grade-grade.result
     c.count_settled-line_known.result c.count_unless_full-trial_known.result
-    refl refl (ap (λ (g : TrailedGrid). g.cells) c.requires.board)
+    (ap (λ (g : TrailedGrid). g.cells) c.requires.board)
     c.if-not-propagate_all.ensures.closed c.if-not-try_unless_full.ensures.tried
     c.search-end.ensures
     c.verdict.ensures

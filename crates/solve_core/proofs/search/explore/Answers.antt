@@ -10,10 +10,11 @@ use Rattle.solve_core.proofs.BranchLaws.{trailed-work, trailed-pending, trailed-
 use Rattle.solve_core.proofs.SearchSteps.{dead-events, alive-events, closure-closed, next-unknown, alive-fewer, known-before}
 use Rattle.solve_core.proofs.search.explore.Goals as goal
 
-pub assign-requires-clause-unknown : goal.assign-requires-clause-unknown
-assign-requires-clause-unknown g c =
-    (next-unknown (picked c.args.pick c.args.puzzle.now.width) (picked-IsPick c.args.pick c.args.puzzle.now.width)
-    (lines_of c.args.puzzle.now) c.args.board.now.cells c.args.place c.requires.next).1
+pub assign-requires-clause-cell : goal.assign-requires-clause-cell
+assign-requires-clause-cell g c =
+    let at = next-unknown (picked c.args.pick c.args.puzzle.now.width) (picked-IsPick c.args.pick c.args.puzzle.now.width)
+    (lines_of c.args.puzzle.now) c.args.board.now.cells c.args.place c.requires.next in
+    record { within = at.0; unknown = at.1; known = c.requires.colour }
 
 pub returns-then-not-assign-clause-goes_on : goal.returns-then-not-assign-clause-goes_on
 returns-then-not-assign-clause-goes_on g c =
@@ -83,11 +84,6 @@ returns-clause-goes_on g c =
         ap length same,
       );
     }
-
-pub assign-requires-clause-place : goal.assign-requires-clause-place
-assign-requires-clause-place g c =
-    (next-unknown (picked c.args.pick c.args.puzzle.now.width) (picked-IsPick c.args.pick c.args.puzzle.now.width)
-    (lines_of c.args.puzzle.now) c.args.board.now.cells c.args.place c.requires.next).0
 
 pub look_at-requires-clause-start : goal.look_at-requires-clause-start
 look_at-requires-clause-start g c =

@@ -11,7 +11,7 @@ use Rattle.solve_core.proofs.trials.try_colour.Goals as goal
 pub has_met-requires : goal.has_met-requires
 has_met-requires g c = omega (
   arith,
-  c.requires.place,
+  c.requires.cell.within,
   places_for c.args.puzzle.now c.args.witnesses.now c.args.board.now.cells
       c.requires.witnesses,
 )
@@ -29,4 +29,4 @@ add-requires-clause-extends g c =
     let old = c.args.board.now.cells in
     let new = c.assign_copy.new.trial.cells in
     subst (λ (cells : List Cell). Extends cells new) (sym c.assign_copy.ensures.back)
-    (settled-extends lines old new c.args.place c.args.colour c.requires.unknown (sym c.if-not-assign_copy.ensures.closed))
+    (settled-extends lines old new c.args.place c.args.colour c.requires.cell.unknown (sym c.if-not-assign_copy.ensures.closed))

@@ -3,7 +3,7 @@ use Rattle.std.proofs.Common.{◌≡◌, ◌∙◌, ◌+◌, ◌*◌, ◌/◌, �
 use Rattle.grid_core.specs.declared.cells.Cell.{Cell}
 use Rattle.grid_core.specs.declared.cells.Cell.TheVariants.{Unknown}
 use Rattle.place_sets.specs.Masks.{Has, IsMarked, IsMaskOf}
-use Rattle.solve_core.specs.Closers.{Closing}
+use Rattle.solve_core.specs.Closers.{Closing, IsMemoryOf}
 use Rattle.solve_core.specs.Marks.{HasMarks}
 use Rattle.solve_core.proofs.GridSteps.{place_marks, place_split}
 use Rattle.solve_core.proofs.TrailSteps.{trailed-trans}
@@ -16,13 +16,13 @@ settle-requires-clause-unknown g c =
     let place = c.args.place in
     let width = c.from-width.result in
     let wide : width ≡ p.width = c.from-width.ensures ∙ c.width.ensures.width in
-    let split = place_split p old place c.width.ensures.puzzle c.requires.size.2 c.requires.place in
+    let split = place_split p old place c.width.ensures.puzzle c.requires.size.2 c.requires.cell.within in
     let at : place / width * p.width + place % width ≡ place = rw wide split.2 in
     (λ i. get_or old (place / width * c.requires.size.0 i + place % width) Unknown) ∙
-    ap (λ (k : ℕ). get_or old k Unknown) at ∙ c.requires.unknown
+    ap (λ (k : ℕ). get_or old k Unknown) at ∙ c.requires.cell.unknown
 
-pub propagate-requires-clause-marks : goal.propagate-requires-clause-marks
-propagate-requires-clause-marks g c =
+pub propagate-requires-clause-work : goal.propagate-requires-clause-work
+propagate-requires-clause-work g c =
     let p = c.args.puzzle.now in
     let before = c.self.inside.marks in
     let after = c.set-2.new.self in
@@ -31,16 +31,19 @@ propagate-requires-clause-marks g c =
     let width = c.from-width.result in
     let marks : HasMarks p before old = subst (λ (m : Closing). HasMarks p m.marks old) (sym c.self.view_is) c.requires.rest.marks in
     let wide : width ≡ p.width = c.from-width.ensures ∙ c.width.ensures.width in
-    let split = place_split p old place marks.puzzle marks.size c.requires.place in
+    let split = place_split p old place marks.puzzle marks.size c.requires.cell.within in
     let at : place ≡ place / width * p.width + place % width = rw wide (sym split.2) in
     let rows = subst (λ (n : ℕ). IsMaskOf (IsMarked (Has before.rows) (place / width) true) n) (sym c.set-2.ensures.other) c.set.ensures.own in
     let columns = subst (λ (n : ℕ). IsMaskOf (IsMarked (Has n) (place % width) true) after.columns) c.set.ensures.other c.set-2.ensures.own in
     let cells : c.settle.new.self.cells ≡ set old place c.args.colour =
     c.settle.ensures.cells ∙ (λ i. set old (place / width * c.requires.size.0 i + place % width) c.args.colour) ∙
     ap (λ (k : ℕ). set old k c.args.colour) (sym at) in
-    subst (λ (r : List Cell). HasMarks p after r) (sym cells)
-    (place_marks p old before after place (place / width) (place % width) c.args.colour marks (rw wide split.1) (rw wide split.0) at
-    rows columns)
+    record {
+      marks = subst (λ (r : List Cell). HasMarks p after r) (sym cells)
+          (place_marks p old before after place (place / width) (place % width) c.args.colour marks (rw wide split.1) (rw wide split.0) at
+          rows columns);
+      memory = subst (IsMemoryOf p) (sym c.self.view_is) c.requires.rest.idle.memory;
+    }
 
 pub returns-clause-trail : goal.returns-clause-trail
 returns-clause-trail g c =

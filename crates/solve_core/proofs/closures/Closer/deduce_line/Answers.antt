@@ -14,28 +14,32 @@ set-requires g c =
     omega (
       arith,
       c.requires.i,
-      count_fits c.args.side c.args.self.now.width c.args.puzzle.now c.requires.memory.fits,
+      count_fits c.args.side c.args.self.now.width c.args.puzzle.now c.requires.work.memory.fits,
       ap (λ (m : Closing). m.width) c.self.view_is,
     )
 
 pub learn_line-requires-clause-memory : goal.learn_line-requires-clause-memory
-learn_line-requires-clause-memory g c = subst (IsMemoryOf c.args.puzzle.now) (sym c.self.view_is) c.requires.memory
+learn_line-requires-clause-memory g c = subst (IsMemoryOf c.args.puzzle.now) (sym c.self.view_is) c.requires.work.memory
 
 pub returns-clause-progress : goal.returns-clause-progress
 returns-clause-progress g c =
     let p = c.args.puzzle.now in
     learned-progress (lines_of p) (line_on c.args.side p c.args.i) c.args.board.now.cells c.learn_line.new.board.cells c.learn_line.result
-    (line_is_one c.args.side p c.args.i c.requires.marks.puzzle c.requires.i) c.learn_line.ensures.learned
+    (line_is_one c.args.side p c.args.i c.requires.work.marks.puzzle c.requires.i) c.learn_line.ensures.learned
 
-pub returns-clause-marks : goal.returns-clause-marks
-returns-clause-marks g c =
+pub returns-clause-work : goal.returns-clause-work
+returns-clause-work g c =
     let side = c.args.side in
-    marks-after c.args.puzzle.now c.args.board.now.cells c.learn_line.new.board.cells c.args.self.now.marks c.set.new.self
-    c.learn_line.new.marks side c.args.i c.learn_line.result c.requires.marks c.requires.i
-    (subst (λ (m : Closing). IsMaskOf (IsMarked (Has (marks_on side m.marks)) c.args.i false) (marks_on side c.set.new.self))
-    c.self.view_is c.set.ensures.own)
-    (c.set.ensures.other ∙ ap (λ (m : Closing). marks_on (crossing side) m.marks) c.self.view_is)
-    c.learn_line.ensures.learned c.learn_line.ensures.marks
+    record {
+      marks =
+          marks-after c.args.puzzle.now c.args.board.now.cells c.learn_line.new.board.cells c.args.self.now.marks c.set.new.self
+          c.learn_line.new.marks side c.args.i c.learn_line.result c.requires.work.marks c.requires.i
+          (subst (λ (m : Closing). IsMaskOf (IsMarked (Has (marks_on side m.marks)) c.args.i false) (marks_on side c.set.new.self))
+          c.self.view_is c.set.ensures.own)
+          (c.set.ensures.other ∙ ap (λ (m : Closing). marks_on (crossing side) m.marks) c.self.view_is)
+          c.learn_line.ensures.learned c.learn_line.ensures.marks;
+      memory = c.learn_line.ensures.memory;
+    }
 
 pub returns-clause-own : goal.returns-clause-own
 returns-clause-own g c =

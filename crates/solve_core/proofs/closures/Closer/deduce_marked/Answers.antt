@@ -24,12 +24,12 @@ returns-in-Same-clause-closed g c =
     closed_after c.args.puzzle.now c.deduce_side-in-loop-self.new.self.marks c.args.board.now.cells c.loop-self.board.cells
     c.deduce_side.new.board.cells c.deduce_side-in-loop-self.new.board.cells c.deduce_side.result
     (λ e. true≢false (sym (c.is_dead.ensures.1 e) ∙ c.if-is_dead.false)) c.deduce_side.ensures.progress c.in-Same.ensures.progress
-    c.in-Same.ensures.marks (unmarked g c) c.loop-self.invariant.closed
+    c.in-Same.ensures.work.marks (unmarked g c) c.loop-self.invariant.closed
 
 pub returns-in-Same-clause-rest : goal.returns-in-Same-clause-rest
 returns-in-Same-clause-rest g c = λ alive. record {
-  marks = c.in-Same.ensures.marks;
-  idle = record { memory = c.deduce_side-in-loop-self.ensures.memory; unmarked = unmarked g c };
+  marks = c.in-Same.ensures.work.marks;
+  idle = record { memory = c.deduce_side-in-loop-self.ensures.work.memory; unmarked = unmarked g c };
 }
 
 pub returns-then-is_dead-clause-trail : goal.returns-then-is_dead-clause-trail
@@ -54,8 +54,7 @@ loop-self-preserved g c =
     let middle = c.deduce_side.new.board in
     let new = c.deduce_side-in-loop-self.new.board in
     record {
-      memory = c.deduce_side-in-loop-self.ensures.memory;
-      marks = c.in-Changed.ensures.marks;
+      work = record { marks = c.in-Changed.ensures.work.marks; memory = c.deduce_side-in-loop-self.ensures.work.memory };
       trail =
           trailed-trans c.args.board.now middle new
           (trailed-trans c.args.board.now c.loop-self.board middle c.loop-self.invariant.trail c.deduce_side.ensures.trail)

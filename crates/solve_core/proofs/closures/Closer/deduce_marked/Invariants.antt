@@ -1,17 +1,15 @@
 -- What the loop of `Closer::deduce_marked` keeps: the cells' closure; each turn that goes on settles some.
 use Rattle.std.proofs.Common.{◌≡◌}
 use Rattle.grid_core.specs.Nonogram.{lines_of}
-use Rattle.solve_core.specs.Closers.{IsMemoryOf}
 use Rattle.solve_core.specs.Closure.{closure}
-use Rattle.solve_core.specs.Marks.{HasMarks}
+use Rattle.solve_core.specs.Marks.{HasWork}
 use Rattle.solve_core.specs.Trails.{IsTrailed, unknown_count}
 use Rattle.solve_core.specs.Boards.{IsBoardOf}
 use Rattle.solve_core.proofs.closures.Closer.deduce_marked.Given as goal
 
 abbrev pub invariant-loop-self : goal.invariant-loop-self
 invariant-loop-self g l = record {
-  memory : IsMemoryOf l.puzzle l.self;
-  marks : HasMarks l.puzzle l.self.marks l.board.cells;
+  work : HasWork l.puzzle l.self l.board.cells;
   trail : IsTrailed l.fn.board l.board;
   size : IsBoardOf l.puzzle l.board;
   closed : closure (lines_of l.puzzle) l.board.cells ≡ closure (lines_of l.puzzle) l.fn.board.cells;

@@ -30,8 +30,7 @@ loop-i-preserved g c =
     elim c.match-deduce_line.branch [
       | in-Same w ↦
           record {
-            memory = c.deduce_line.ensures.memory;
-            marks = w.in-Same.ensures.marks;
+            work = record { marks = w.in-Same.ensures.work.marks; memory = c.deduce_line.ensures.work.memory };
             trail = trail;
             size = size;
             progress = search rules;
@@ -42,8 +41,7 @@ loop-i-preserved g c =
           }
       | in-Changed w ↦
           record {
-            memory = c.deduce_line.ensures.memory;
-            marks = w.in-Changed.ensures.marks;
+            work = record { marks = w.in-Changed.ensures.work.marks; memory = c.deduce_line.ensures.work.memory };
             trail = trail;
             size = size;
             progress = search rules;

@@ -3,17 +3,15 @@ use Rattle.std.proofs.Common.{◌≡◌, ◌≢◌, ◌-◌, ◌<◌, ◌≤◌,
 use Rattle.grid_core.specs.Nonogram.{crossing, lines_of}
 use Rattle.solve_core.specs.declared.closures.Progress.TheVariants.{Dead, Same}
 use Rattle.solve_core.specs.Closure.{closure}
-use Rattle.solve_core.specs.Closers.{IsMemoryOf}
 use Rattle.solve_core.specs.LineMarks.{marks_on, IsMarkedOn}
-use Rattle.solve_core.specs.Marks.{HasMarks, Progresses}
+use Rattle.solve_core.specs.Marks.{HasWork, Progresses}
 use Rattle.solve_core.specs.Trails.{IsTrailed}
 use Rattle.solve_core.specs.Boards.{IsBoardOf}
 use Rattle.solve_core.proofs.closures.Closer.deduce_side.Given as goal
 
 abbrev pub invariant-loop-i : goal.invariant-loop-i
 invariant-loop-i g l = record {
-  memory : IsMemoryOf l.puzzle l.self;
-  marks : HasMarks l.puzzle l.self.marks l.board.cells;
+  work : HasWork l.puzzle l.self l.board.cells;
   trail : IsTrailed l.fn.board l.board;
   size : IsBoardOf l.puzzle l.board;
   progress : Progresses (closure (lines_of l.puzzle)) l.progress l.fn.board.cells l.board.cells;

@@ -9,7 +9,7 @@ returns-then-not-assign-clause-progress g c =
     let lines = lines_of c.args.puzzle.now in
     let old = c.args.board.now.cells in
     let given = set old c.args.place c.args.colour in
-    settle-dead lines old c.args.place c.args.colour c.requires.unknown c.requires.below
+    settle-dead lines old c.args.place c.args.colour c.requires.cell.unknown c.requires.below
     (sym c.if-not-assign.ensures.closed)
 
 pub returns-clause-progress : goal.returns-clause-progress
@@ -18,5 +18,5 @@ returns-clause-progress g c =
     let old = c.args.board.now.cells in
     let new = c.assign.new.board.cells in
     let given = set old c.args.place c.args.colour in
-    settle-changed lines old new c.args.place c.args.colour c.requires.place c.requires.unknown c.requires.colour c.requires.below
+    settle-changed lines old new c.args.place c.args.colour c.requires.cell.within c.requires.cell.unknown c.requires.cell.known c.requires.below
     (sym c.if-not-assign.ensures.closed)
