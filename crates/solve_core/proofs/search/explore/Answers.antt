@@ -12,31 +12,25 @@ use Rattle.solve_core.proofs.search.explore.Goals as goal
 
 pub assign-requires-clause-cell : goal.assign-requires-clause-cell
 assign-requires-clause-cell g c =
-    let at = next-unknown (picked c.args.pick c.args.puzzle.now.width) (picked-IsPick c.args.pick c.args.puzzle.now.width)
-    (lines_of c.args.puzzle.now) c.args.board.now.cells c.args.place c.requires.next in
+    let p = c.args.puzzle.now in
+    let at = next-unknown (picked c.args.pick p.width) (picked-IsPick c.args.pick p.width) (lines_of p) c.args.board.now.cells
+    c.args.place c.requires.next in
     record { within = at.0; unknown = at.1; known = c.requires.colour }
 
 pub returns-then-not-assign-clause-goes_on : goal.returns-then-not-assign-clause-goes_on
 returns-then-not-assign-clause-goes_on g c =
     let p = c.args.puzzle.now in
+    let rule = picked c.args.pick p.width in
     let lines = lines_of p in
     let old = c.args.board.now in
     let new = c.assign.new.board in
     let given = set old.cells c.args.place c.args.colour in
     λ branches w.
-    let same : owed_by (picked c.args.pick c.args.puzzle.now.width) p branches new ≡
-    events (picked c.args.pick c.args.puzzle.now.width) lines given ++
-    owed_by (picked c.args.pick c.args.puzzle.now.width) p branches old =
-    trailed-pending (picked c.args.pick c.args.puzzle.now.width) lines old new branches c.assign.ensures.trail w
-    ∙ dead-events (picked c.args.pick c.args.puzzle.now.width) (picked-IsPick c.args.pick c.args.puzzle.now.width) lines
-    given (owed_by (picked c.args.pick c.args.puzzle.now.width) p branches old) c.if-not-assign.ensures.closed in
+    let same : owed_by rule p branches new ≡ events rule lines given ++ owed_by rule p branches old =
+    trailed-pending rule lines old new branches c.assign.ensures.trail w
+    ∙ dead-events rule (picked-IsPick c.args.pick p.width) lines given (owed_by rule p branches old) c.if-not-assign.ensures.closed in
     record {
-      under_way = record {
-        work = trailed-work (picked c.args.pick c.args.puzzle.now.width) lines old new branches
-            c.assign.ensures.trail w;
-        older = tt;
-        next_open = tt;
-      };
+      under_way = record { work = trailed-work rule lines old new branches c.assign.ensures.trail w; older = tt; next_open = tt };
       ends = λ spent left. ap (ending p c.args.solutions.now.grids spent left) same;
       fewer = omega (arith, ap length same);
     }
@@ -49,44 +43,34 @@ look_at-requires-clause-known g c = λ e.
 pub returns-clause-goes_on : goal.returns-clause-goes_on
 returns-clause-goes_on g c =
     let p = c.args.puzzle.now in
+    let rule = picked c.args.pick p.width in
     let lines = lines_of p in
     let old = c.args.board.now in
     let new = c.assign.new.board in
     let given = set old.cells c.args.place c.args.colour in
-    let at = next-unknown (picked c.args.pick c.args.puzzle.now.width) (picked-IsPick c.args.pick c.args.puzzle.now.width)
-    lines old.cells c.args.place c.requires.next in
+    let at = next-unknown rule (picked-IsPick c.args.pick p.width) lines old.cells c.args.place c.requires.next in
     λ branches w.
-    let same : guess_at (events (picked c.args.pick c.args.puzzle.now.width) lines) new.cells
-    ((picked c.args.pick c.args.puzzle.now.width) new.cells) ++
-    owed_by (picked c.args.pick c.args.puzzle.now.width) p branches new ≡
-    events (picked c.args.pick c.args.puzzle.now.width) lines given ++
-    owed_by (picked c.args.pick c.args.puzzle.now.width) p branches old =
-    alive-events (picked c.args.pick c.args.puzzle.now.width) (picked-IsPick c.args.pick c.args.puzzle.now.width) lines
-    given new.cells (owed_by (picked c.args.pick c.args.puzzle.now.width) p branches new) c.if-not-assign.ensures.closed
-    ∙ ap (λ es. events (picked c.args.pick c.args.puzzle.now.width) lines given ++ es)
-    (trailed-pending (picked c.args.pick c.args.puzzle.now.width) lines old new branches c.assign.ensures.trail w) in
+    let same : guess_at (events rule lines) new.cells (rule new.cells) ++ owed_by rule p branches new ≡
+    events rule lines given ++ owed_by rule p branches old =
+    alive-events rule (picked-IsPick c.args.pick p.width) lines given new.cells (owed_by rule p branches new)
+    c.if-not-assign.ensures.closed
+    ∙ ap (λ es. events rule lines given ++ es) (trailed-pending rule lines old new branches c.assign.ensures.trail w) in
     record {
       under_way = record {
-        work = trailed-work (picked c.args.pick c.args.puzzle.now.width) lines old new branches c.assign.ensures.trail w;
-        older = trailed-older (picked c.args.pick c.args.puzzle.now.width) lines old new branches c.look_at.result
-            c.assign.ensures.trail
+        work = trailed-work rule lines old new branches c.assign.ensures.trail w;
+        older = trailed-older rule lines old new branches c.look_at.result c.assign.ensures.trail
             (alive-fewer lines old.cells new.cells c.args.place c.args.colour at.0 at.1 c.requires.colour c.if-not-assign.ensures.closed) w;
         next_open = (rw c.assign.ensures.size.0 at c.look_at.ensures.next) p
             (closure-closed lines given new.cells c.if-not-assign.ensures.closed);
       };
       ends = λ spent left. (rw c.assign.ensures.size.0 at c.look_at.ensures.ending) p c.requires.size spent left
-          (owed_by (picked c.args.pick c.args.puzzle.now.width) p branches new) ∙
-          ap (ending p c.args.solutions.now.grids spent left) same;
-      fewer = omega (
-        arith,
-        (rw c.assign.ensures.size.0 at c.look_at.ensures.fewer) p
-            (owed_by (picked c.args.pick c.args.puzzle.now.width) p branches new),
-        ap length same,
-      );
+          (owed_by rule p branches new) ∙ ap (ending p c.args.solutions.now.grids spent left) same;
+      fewer = omega (arith, (rw c.assign.ensures.size.0 at c.look_at.ensures.fewer) p (owed_by rule p branches new), ap length same);
     }
 
 pub look_at-requires-clause-start : goal.look_at-requires-clause-start
 look_at-requires-clause-start g c =
-    let at = next-unknown (picked c.args.pick c.args.puzzle.now.width) (picked-IsPick c.args.pick c.args.puzzle.now.width)
-    (lines_of c.args.puzzle.now) c.args.board.now.cells c.args.place c.requires.next in
+    let p = c.args.puzzle.now in
+    let at = next-unknown (picked c.args.pick p.width) (picked-IsPick c.args.pick p.width) (lines_of p) c.args.board.now.cells
+    c.args.place c.requires.next in
     omega (arith, at.0, c.assign.ensures.size.2, c.requires.board.2)

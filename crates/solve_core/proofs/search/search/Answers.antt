@@ -15,32 +15,28 @@ use Rattle.solve_core.proofs.search.search.Goals as goal
 pub loop-pick-init : goal.loop-pick-init
 loop-pick-init g c =
     let p = c.args.puzzle.now in
+    let rule = picked c.args.pick p.width in
     let lines = lines_of p in
     let board = c.args.board.now in
     let branches = c.args.branches.now.items in
-    let found = c.args.solutions.now.grids in
     let limit = c.args.guesses in
     let closed = rest_closed p c.args.closer.now board.cells c.requires.rest in
     let all : limit - 0 ≡ limit = omega arith in
-    let none : owed_by (picked c.args.pick c.args.puzzle.now.width) p branches board ≡ [] =
-    ap (λ bs. owed_by (picked c.args.pick c.args.puzzle.now.width) p bs board) c.requires.branches in
+    let none : owed_by rule p branches board ≡ [] = ap (λ bs. owed_by rule p bs board) c.requires.branches in
     record {
       under_way = record {
-        work = start-work (picked c.args.pick c.args.puzzle.now.width) lines board.cells board.trail branches c.requires.branches;
+        work = start-work rule lines board.cells board.trail branches c.requires.branches;
         older = older-none board.trail branches c.look_at-next.result c.requires.branches;
         next_open = (rw c.requires.board.0 at c.look_at-next.ensures.next) p closed;
       };
-      ends = ap (λ n. ending p c.look_at-next.new.solutions.grids 0 n
-          (owed (picked c.args.pick c.args.puzzle.now.width) p branches board c.look_at-next.result)) all
-          ∙ (rw c.requires.board.0 at c.look_at-next.ensures.ending) p c.requires.size 0 limit
-          (owed_by (picked c.args.pick c.args.puzzle.now.width) p branches board)
-          ∙ ap (ending p found 0 limit)
-          (alive-events (picked c.args.pick c.args.puzzle.now.width) (picked-IsPick c.args.pick c.args.puzzle.now.width)
-          lines board.cells board.cells (owed_by (picked c.args.pick c.args.puzzle.now.width) p branches board)
+      ends = ap (λ n. ending p c.look_at-next.new.solutions.grids 0 n (owed rule p branches board c.look_at-next.result)) all
+          ∙ (rw c.requires.board.0 at c.look_at-next.ensures.ending) p c.requires.size 0 limit (owed_by rule p branches board)
+          ∙ ap (ending p c.args.solutions.now.grids 0 limit)
+          (alive-events rule (picked-IsPick c.args.pick p.width) lines board.cells board.cells (owed_by rule p branches board)
           (sym (closed-closure lines board.cells closed))
-          ∙ ap (λ es. events (picked c.args.pick c.args.puzzle.now.width) lines board.cells ++ es) none
-          ∙ append-nil-right (events (picked c.args.pick c.args.puzzle.now.width) lines board.cells))
-          ∙ ap (λ gs. ending p gs 0 limit (events (picked c.args.pick c.args.puzzle.now.width) lines board.cells)) c.requires.found;
+          ∙ ap (λ es. events rule lines board.cells ++ es) none
+          ∙ append-nil-right (events rule lines board.cells))
+          ∙ ap (λ gs. ending p gs 0 limit (events rule lines board.cells)) c.requires.found;
       room = c.requires.room;
       cells = refl;
       board = c.requires.board;
@@ -52,69 +48,57 @@ loop-pick-init g c =
 
 pub next_guess-requires : goal.next_guess-requires
 next_guess-requires g c =
-    let lines = lines_of c.args.puzzle.now in
+    let p = c.args.puzzle.now in
+    let rule = picked c.args.pick p.width in
     let now = c.loop-pick.board in
     let kept = c.loop-pick.invariant in
     record {
-      next = open-unknown (picked c.args.pick c.args.puzzle.now.width) (picked-IsPick c.args.pick c.args.puzzle.now.width)
-          lines now.cells c.loop-pick.next kept.under_way.next_open;
-      older = open-older (picked c.args.pick c.args.puzzle.now.width) lines now.cells now.trail c.loop-pick.branches.items
-          c.loop-pick.next kept.under_way.work kept.under_way.older;
+      next = open-unknown rule (picked-IsPick c.args.pick p.width) (lines_of p) now.cells c.loop-pick.next kept.under_way.next_open;
+      older = open-older rule (lines_of p) now.cells now.trail c.loop-pick.branches.items c.loop-pick.next kept.under_way.work
+          kept.under_way.older;
       room = omega (arith, kept.room, kept.cells);
     }
 
 pub explore-next-requires-clause-next : goal.explore-next-requires-clause-next
 explore-next-requires-clause-next g c =
+    let p = c.args.puzzle.now in
     let kept = c.loop-pick.invariant in
-    c.in-Some.ensures.ready (picked c.args.pick c.args.puzzle.now.width) (lines_of c.args.puzzle.now) kept.under_way.work
-    kept.under_way.next_open
+    c.in-Some.ensures.ready (picked c.args.pick p.width) (lines_of p) kept.under_way.work kept.under_way.next_open
 
 pub explore-next-requires-clause-rest : goal.explore-next-requires-clause-rest
 explore-next-requires-clause-rest g c =
-    let kept = c.loop-pick.invariant in
     let p = c.args.puzzle.now in
-    let cells = c.next_guess.new.board.cells in
-    let closed = (c.in-Some.ensures.ready (picked c.args.pick c.args.puzzle.now.width)
-    (lines_of p) kept.under_way.work kept.under_way.next_open).1 in
-    closed_rest p c.loop-pick.closer cells c.requires.rest.marks.puzzle (c.in-Some.ensures.count ∙ kept.board.2) closed kept.idle
+    let kept = c.loop-pick.invariant in
+    closed_rest p c.loop-pick.closer c.next_guess.new.board.cells c.requires.rest.marks.puzzle (c.in-Some.ensures.count ∙ kept.board.2)
+    (c.in-Some.ensures.ready (picked c.args.pick p.width) (lines_of p) kept.under_way.work kept.under_way.next_open).1 kept.idle
 
 pub loop-pick-smaller : goal.loop-pick-smaller
 loop-pick-smaller g c =
     let p = c.args.puzzle.now in
+    let rule = picked c.args.pick p.width in
     let kept = c.loop-pick.invariant in
-    let now = c.next_guess.new.board in
-    let branches = c.next_guess.new.branches.items in
-    let after = c.explore-next.new in
-    let work = c.in-Some.ensures.work (picked c.args.pick c.args.puzzle.now.width)
-    (lines_of p) kept.under_way.work kept.under_way.older kept.under_way.next_open in
-    let on = c.explore-next.ensures.goes_on branches work in
-    omega (
-      arith,
-      on.fewer,
-      ap length (c.in-Some.ensures.events (picked c.args.pick c.args.puzzle.now.width)
-          (lines_of p) kept.under_way.work),
-    )
+    let work = c.in-Some.ensures.work rule (lines_of p) kept.under_way.work kept.under_way.older kept.under_way.next_open in
+    let on = c.explore-next.ensures.goes_on c.next_guess.new.branches.items work in
+    omega (arith, on.fewer, ap length (c.in-Some.ensures.events rule (lines_of p) kept.under_way.work))
 
 pub loop-pick-preserved : goal.loop-pick-preserved
 loop-pick-preserved g c =
     let p = c.args.puzzle.now in
+    let rule = picked c.args.pick p.width in
     let kept = c.loop-pick.invariant in
     let now = c.next_guess.new.board in
     let branches = c.next_guess.new.branches.items in
     let after = c.explore-next.new in
-    let work = c.in-Some.ensures.work (picked c.args.pick c.args.puzzle.now.width)
-    (lines_of p) kept.under_way.work kept.under_way.older kept.under_way.next_open in
+    let work = c.in-Some.ensures.work rule (lines_of p) kept.under_way.work kept.under_way.older kept.under_way.next_open in
     let on = c.explore-next.ensures.goes_on branches work in
     let less : c.loop-pick.spent + 1 ≤ c.args.guesses = omega (arith, c.if-spent-guesses.false, kept.spent) in
     record {
       under_way = on.under_way;
       ends = ending-next p c.loop-pick.solutions.grids after.solutions.grids c.loop-pick.spent c.args.guesses _
-          (owed (picked c.args.pick c.args.puzzle.now.width) p c.loop-pick.branches.items c.loop-pick.board c.loop-pick.next)
-          (events (picked c.args.pick c.args.puzzle.now.width) (lines_of p)
-          (slice_set now.cells c.in-Some.place c.in-Some.colour) ++
-          owed_by (picked c.args.pick c.args.puzzle.now.width) p branches now)
-          (owed (picked c.args.pick c.args.puzzle.now.width) p branches after.board c.explore-next.result)
-          (c.in-Some.ensures.events (picked c.args.pick c.args.puzzle.now.width) (lines_of p) kept.under_way.work) (omega arith)
+          (owed rule p c.loop-pick.branches.items c.loop-pick.board c.loop-pick.next)
+          (events rule (lines_of p) (slice_set now.cells c.in-Some.place c.in-Some.colour) ++ owed_by rule p branches now)
+          (owed rule p branches after.board c.explore-next.result)
+          (c.in-Some.ensures.events rule (lines_of p) kept.under_way.work) (omega arith)
           (omega (arith, less)) kept.ends on.ends;
       room = omega (arith, c.next_guess.ensures.branches, kept.room);
       cells = c.explore-next.ensures.board.2 ∙ sym c.requires.board.2;

@@ -14,11 +14,11 @@ use Rattle.solve_core.specs.Picks.{picked}
 abbrev pub invariant-loop-pick : goal.invariant-loop-pick
 invariant-loop-pick g l =
     let p = l.puzzle in
+    let rule = picked l.pick p.width in
     record {
-      under_way : IsUnderWay (picked l.pick l.puzzle.width) p l.branches.items l.board l.next;
-      ends : ending p l.solutions.grids l.spent (l.guesses - l.spent)
-          (owed (picked l.pick l.puzzle.width) p l.branches.items l.board l.next)
-          ≡ ending p [] 0 l.guesses (events (picked l.pick l.puzzle.width) (lines_of p) l.fn.board.cells);
+      under_way : IsUnderWay rule p l.branches.items l.board l.next;
+      ends : ending p l.solutions.grids l.spent (l.guesses - l.spent) (owed rule p l.branches.items l.board l.next)
+          ≡ ending p [] 0 l.guesses (events rule (lines_of p) l.fn.board.cells);
       room : length l.fn.board.cells ≤ vec_capacity l.branches;
       cells : length l.board.cells ≡ length l.fn.board.cells;
       board : IsBoardOf p l.board;
