@@ -1,7 +1,7 @@
 //! A grid as its rows and its columns, with the way back.
 ghost use Rattle.std.specs.Prelude.{◌≡◌, ◌+◌, ◌-◌, ◌*◌, ◌<◌, ◌≤◌, [], length, take, slice_index_or, slice_set, true, IfOk};
 ghost use Rattle.grid_core.specs.Cells.{is_known};
-ghost use Rattle.grid_core.specs.Nonogram.{column_on, count_on, crossing, place_on, row_on};
+ghost use Rattle.grid_core.specs.Nonogram.{count_on, crossing, place_on};
 ghost use Rattle.grid_core.specs.PartialGrid.{IsSize};
 ghost use Rattle.grid_core.specs.declared.cells.Cell.TheVariants.{Unknown};
 ghost use Rattle.solve_core.specs.Boards.{cells_along, fresh_board, grid_of_board, unknown_board, IsWhole};
@@ -37,17 +37,6 @@ impl<W: LineSet> Model for Board<W> {
       cells = b.lines.cells;
       trail = b.trail.items;
     }) (vec_capacity b.trail) };
-}
-
-/// The column and the row of cell k of line i of a side.
-fn cell_on(side: Side, i: u16, k: u16) -> (usize, usize)
-    ensures column { result.0 ≡ column_on side i k }
-    ensures row { result.1 ≡ row_on side i k }
-{
-    match side {
-        Side::Rows => (usize::from(k), usize::from(i)),
-        Side::Columns => (usize::from(i), usize::from(k)),
-    }
 }
 
 impl<W: LineSet> Board<W> {
@@ -89,6 +78,20 @@ impl<W: LineSet> Board<W> {
         self.lines.line(side, i)
     }
 
+    /// Settles the unknown cell in column x and row y.
+    fn settle_at(&mut self, x: usize, y: usize, cell: Cell)
+        requires column { x < self.old.width }
+        requires row { y < self.old.height }
+        requires unknown { slice_index_or self.old.cells (y * self.old.width + x) Unknown ≡ Unknown }
+        requires known { is_known cell ≡ true }
+        ensures cells { self.new.cells ≡ slice_set self.old.cells (y * self.old.width + x) cell }
+        ensures trail { IsTrailed self.old self.new }
+    {
+        let place = y * self.lines.width() + x;
+        self.lines.settle(x, y, cell);
+        self.trail.push_reserved(place as u16);
+    }
+
     /// Settles the unknown cell k of line i of a side.
     pub fn settle(&mut self, side: Side, i: u16, k: u16, cell: Cell)
         requires i { i < count_on side self.old.width self.old.height }
@@ -98,10 +101,10 @@ impl<W: LineSet> Board<W> {
         ensures cells { self.new.cells ≡ slice_set self.old.cells (place_on side self.old.width i k) cell }
         ensures trail { IsTrailed self.old self.new }
     {
-        let (x, y) = cell_on(side, i, k);
-        let place = y * self.lines.width() + x;
-        self.lines.settle(x, y, cell);
-        self.trail.push_reserved(place as u16);
+        match side {
+            Side::Rows => self.settle_at(usize::from(k), usize::from(i), cell),
+            Side::Columns => self.settle_at(usize::from(i), usize::from(k), cell),
+        }
     }
 
     /// Makes the cell unknown that was settled last.

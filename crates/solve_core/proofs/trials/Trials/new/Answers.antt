@@ -18,7 +18,7 @@ pub returns : goal.returns
 returns g c =
     let p = c.args.puzzle.now in
     record {
-      memory = c.in_ok-new.ensures.memory;
+      memory = (c.new-2.ensures p c.in_ok-new.ensures).memory;
       filled = fresh p _ _ c.in_ok-unknown.field-0 c.width-width.ensures.width c.height-height.ensures c.in_ok-unknown.ensures;
       blank = fresh p _ _ c.in_ok-unknown-2.field-0 c.width-width.ensures.width c.height-height.ensures c.in_ok-unknown-2.ensures;
       cells = c.in_ok-new-2.ensures;

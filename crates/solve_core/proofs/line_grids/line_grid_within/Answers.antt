@@ -1,0 +1,7 @@
+-- `line_grid_within`: nothing is remembered yet, and so all that is remembered is right.
+use Rattle.std.proofs.Common.{arith}
+use Rattle.solve_core.proofs.line_grids.line_grid_within.Goals as goal
+
+pub closed_grid-requires-clause-memory : goal.closed_grid-requires-clause-memory
+closed_grid-requires-clause-memory g c =
+    (c.new-closer.ensures c.args.puzzle.now (record { fits = c.requires; right = rw c.in_ok-deductions.ensures (λ k d l. absurd (omega arith)) })).memory
