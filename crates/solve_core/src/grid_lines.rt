@@ -66,8 +66,8 @@ fn set_cell<W: LineSet>(
     requires lines { AreLinesOf (cells_of_rows rows.old) rows.old columns.old }
     requires column { x < length columns.old }
     requires row { y < length rows.old }
-    ensures cells { cells_of_rows rows.new ≡ slice_set (cells_of_rows rows.old) (y * length columns.old + x) cell }
-    ensures lines { AreLinesOf (cells_of_rows rows.new) rows.new columns.new }
+    ensures { (cells_of_rows rows.new ≡ slice_set (cells_of_rows rows.old) (y * length columns.old + x) cell) ×
+        AreLinesOf (cells_of_rows rows.new) rows.new columns.new }
 {
     rows[y].set(x as u16, cell);
     columns[x].set(y as u16, cell);
@@ -86,8 +86,8 @@ fn settle_cell<W: LineSet>(
     requires row { y < length rows.old }
     requires unknown { slice_index_or (cells_of_rows rows.old) (y * length columns.old + x) Unknown ≡ Unknown }
     requires known { is_known cell ≡ true }
-    ensures cells { cells_of_rows rows.new ≡ slice_set (cells_of_rows rows.old) (y * length columns.old + x) cell }
-    ensures lines { AreLinesOf (cells_of_rows rows.new) rows.new columns.new }
+    ensures { (cells_of_rows rows.new ≡ slice_set (cells_of_rows rows.old) (y * length columns.old + x) cell) ×
+        AreLinesOf (cells_of_rows rows.new) rows.new columns.new }
 {
     rows[y].settle(x as u16, cell);
     columns[x].settle(y as u16, cell);

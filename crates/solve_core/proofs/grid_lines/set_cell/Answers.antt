@@ -16,24 +16,12 @@ set-requires-2 g c =
     let long = lines-long c.args.rows.now columns c.args.x c.args.y c.requires.lines c.requires.column c.requires.row in
     omega (arith, c.requires.row, ap length (line_read columns c.args.x c.index-columns-x.result c.requires.column), long.1)
 
-pub returns-clause-cells : goal.returns-clause-cells
-returns-clause-cells g c =
+pub returns : goal.returns
+returns g c =
     let rows = c.args.rows.now in
     let columns = c.args.columns.now in
-    (cell-written rows columns c.set.new.self c.set-2.new.self c.args.x c.args.y c.args.cell c.requires.lines c.requires.column
-    c.requires.row
+    cell-written rows columns c.set.new.self c.set-2.new.self c.args.x c.args.y c.args.cell c.requires.lines c.requires.column c.requires.row
     (c.set.ensures ∙ ap (λ (line : List Cell). set line c.args.x c.args.cell)
     (line_read rows c.args.y c.index-rows-y.result c.requires.row))
     (c.set-2.ensures ∙ ap (λ (line : List Cell). set line c.args.y c.args.cell)
-    (line_read columns c.args.x c.index-columns-x.result c.requires.column))).0
-
-pub returns-clause-lines : goal.returns-clause-lines
-returns-clause-lines g c =
-    let rows = c.args.rows.now in
-    let columns = c.args.columns.now in
-    (cell-written rows columns c.set.new.self c.set-2.new.self c.args.x c.args.y c.args.cell c.requires.lines c.requires.column
-    c.requires.row
-    (c.set.ensures ∙ ap (λ (line : List Cell). set line c.args.x c.args.cell)
-    (line_read rows c.args.y c.index-rows-y.result c.requires.row))
-    (c.set-2.ensures ∙ ap (λ (line : List Cell). set line c.args.y c.args.cell)
-    (line_read columns c.args.x c.index-columns-x.result c.requires.column))).1
+    (line_read columns c.args.x c.index-columns-x.result c.requires.column))

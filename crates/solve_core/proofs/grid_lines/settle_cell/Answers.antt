@@ -29,24 +29,12 @@ settle-requires-2-clause-unknown g c =
     ap (λ (line : List Cell). get_or line c.args.y Unknown) (line_read columns c.args.x c.index-columns-x.result c.requires.column)
     ∙ (cell-read c.args.rows.now columns c.args.x c.args.y c.requires.lines c.requires.column c.requires.row).1 ∙ c.requires.unknown
 
-pub returns-clause-cells : goal.returns-clause-cells
-returns-clause-cells g c =
+pub returns : goal.returns
+returns g c =
     let rows = c.args.rows.now in
     let columns = c.args.columns.now in
-    (cell-written rows columns c.settle.new.self c.settle-2.new.self c.args.x c.args.y c.args.cell c.requires.lines c.requires.column
-    c.requires.row
+    cell-written rows columns c.settle.new.self c.settle-2.new.self c.args.x c.args.y c.args.cell c.requires.lines c.requires.column c.requires.row
     (c.settle.ensures ∙ ap (λ (line : List Cell). set line c.args.x c.args.cell)
     (line_read rows c.args.y c.index-rows-y.result c.requires.row))
     (c.settle-2.ensures ∙ ap (λ (line : List Cell). set line c.args.y c.args.cell)
-    (line_read columns c.args.x c.index-columns-x.result c.requires.column))).0
-
-pub returns-clause-lines : goal.returns-clause-lines
-returns-clause-lines g c =
-    let rows = c.args.rows.now in
-    let columns = c.args.columns.now in
-    (cell-written rows columns c.settle.new.self c.settle-2.new.self c.args.x c.args.y c.args.cell c.requires.lines c.requires.column
-    c.requires.row
-    (c.settle.ensures ∙ ap (λ (line : List Cell). set line c.args.x c.args.cell)
-    (line_read rows c.args.y c.index-rows-y.result c.requires.row))
-    (c.settle-2.ensures ∙ ap (λ (line : List Cell). set line c.args.y c.args.cell)
-    (line_read columns c.args.x c.index-columns-x.result c.requires.column))).1
+    (line_read columns c.args.x c.index-columns-x.result c.requires.column))
