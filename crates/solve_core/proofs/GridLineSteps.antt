@@ -1,13 +1,15 @@
 -- A grid as its rows and its columns: its cells, and what changing one of them does.
-use Rattle.std.proofs.Common.{◌≡◌, ◌≢◌, ℕ, zero, suc, ◌+◌, ◌-◌, ◌*◌, ◌/◌, ◌%◌, ◌<◌, ◌≤◌, inl, inr, false, Some, None, List, [], ◌++◌, length, take, drop, get_or, set, refl, sym, ap, subst, ◌∙◌, arith, length-set, get_or-set_same, get_or-set_other, replicate}
+use Rattle.std.proofs.Common.{◌≡◌, ℕ, ◌+◌, ◌-◌, ◌*◌, ◌/◌, ◌%◌, ◌<◌, ◌≤◌, inl, inr, false, Some, None, List, [], ◌++◌, length, take, drop, get_or, set, refl, sym, ap, subst, ◌∙◌, arith, length-set, get_or-set_same, get_or-set_other, replicate}
 use Rattle.std.proofs.lemmas.List.{ext_get_or, get_or_default, get_or-replicate, length-replicate}
 use Rattle.std.proofs.lemmas.Nat.{div_below}
 use Rattle.grid_core.specs.declared.cells.Cell.{Cell}
 use Rattle.grid_core.specs.declared.cells.Cell.TheVariants.{Unknown}
 use Rattle.grid_core.specs.Cells.{is_unknown}
 use Rattle.grid_core.specs.PartialGrid.{PartialGrid, IsSize}
-use Rattle.grid_core.specs.Nonogram.{places_from, cells_at}
-use Rattle.grid_core.proofs.LineLaws.{length-places_from, get_or-places_from, length-cells_at, get_or-cells_at}
+use Rattle.grid_core.specs.declared.sides.Side.{Side}
+use Rattle.grid_core.specs.declared.sides.Side.TheVariants.{Rows, Columns}
+use Rattle.grid_core.specs.Nonogram.{places_from, cells_at, count_on, crossing, place_on, places_on}
+use Rattle.grid_core.proofs.LineLaws.{length-places_from, get_or-places_from, length-places_on, get_or-places_on, length-cells_at, get_or-cells_at}
 use Rattle.grid_core.specs.Lines.{IsUnknownFrom}
 use Rattle.solve_core.specs.GridLines.{AreLinesOf}
 use Rattle.grid_core.specs.Rows.{cells_of_rows, row_of, with_row}
@@ -15,7 +17,8 @@ use Rattle.grid_core.proofs.RowLemmas.{length-replaced, replaced-here, replaced-
 use Rattle.grid_core.proofs.RowLists.{get_or-row_of, get_or-rows, length-row_of, length-rows}
 use Rattle.std.proofs.Math.Nat.{mul-le-mul_left}
 use Rattle.std.proofs.lemmas.Bool.{cases_eq, cases_lt}
-use Rattle.solve_core.proofs.SideLines.{unique_place, row_within, column_within}
+use Rattle.solve_core.proofs.SideLines.{along, distinct_places, same_place, row_within, column_within}
+use Rattle.solve_core.proofs.LineSteps.{AreDistinct, cells_at-same, distinct_same}
 
 pub length-along : (cells : List Cell) (first step n : ℕ) → length (cells_at Unknown cells (places_from first step n)) ≡ n
 length-along cells first step n = length-cells_at Unknown cells (places_from first step n) ∙ length-places_from first step n
@@ -27,46 +30,38 @@ get_or-along cells first step n i h =
     get_or-cells_at Unknown cells (places_from first step n) i within ∙
     ap (λ (q : ℕ). get_or cells q Unknown) (get_or-places_from first step n i h)
 
--- a written cell is written in a line that has its place
-pub along-set : (cells : List Cell) (first step n i k : ℕ) (c : Cell) → 0 < step → i < n → k ≡ first + i * step → k < length cells
-    → cells_at Unknown (set cells k c) (places_from first step n) ≡ set (cells_at Unknown cells (places_from first step n)) i c
-along-set cells first step n i k c s h e l =
-    let old = cells_at Unknown cells (places_from first step n) in
-    let new = cells_at Unknown (set cells k c) (places_from first step n) in
-    ext_get_or Unknown new (set old i c) (length-along (set cells k c) first step n ∙
-    sym (length-set old i c ∙ length-along cells first step n))
-    (λ j below.
-    let lj : j < n = omega (arith, length-along (set cells k c) first step n) in
-    let read : get_or new j Unknown ≡ get_or (set cells k c) (first + j * step) Unknown = get_or-along (set cells k c) first step n j lj in
-    elim (cases_eq j i) [
-      | inl same ↦
-          (let at : first + j * step ≡ k = ap (λ (q : ℕ). first + q * step) same ∙ sym e in
-          read ∙ ap (λ (q : ℕ). get_or (set cells k c) q Unknown) at ∙ get_or-set_same cells k c Unknown l
-          ∙ sym (ap (λ (q : ℕ). get_or (set old i c) q Unknown) same ∙
-          get_or-set_same old i c Unknown (omega (arith, length-along cells first step n))))
-      | inr other ↦
-          (let apart : first + j * step ≢ k = λ x. other (unique_step step first j i s (x ∙ e)) in
-          read ∙ get_or-set_other cells k (first + j * step) c Unknown apart ∙
-          sym (get_or-set_other old i j c Unknown other ∙ get_or-along cells first step n j lj))
+-- a written cell is written in a line at the number of its place, if no place is there twice
+along-set : (cells : List Cell) (places : List ℕ) (k at : ℕ) (c : Cell) → AreDistinct places → k < length places →
+    at ≡ get_or places k 0 → at < length cells → cells_at Unknown (set cells at c) places ≡ set (cells_at Unknown cells places) k c
+along-set cells places k at c distinct lk e l =
+    let old = cells_at Unknown cells places in
+    let long = length-cells_at Unknown cells places in
+    let new_long = length-cells_at Unknown (set cells at c) places in
+    ext_get_or Unknown (cells_at Unknown (set cells at c) places) (set old k c) (new_long ∙ sym (length-set old k c ∙ long)) (λ j below.
+    let lj : j < length places = omega (arith, new_long) in
+    get_or-cells_at Unknown (set cells at c) places j lj ∙ elim (cases_eq j k) [
+      | inl same ↦ rw (same, ← e) (get_or-set_same cells at c Unknown l ∙ sym (get_or-set_same old k c Unknown (omega (arith, long))))
+      | inr other ↦ get_or-set_other cells at (get_or places j 0) c Unknown
+          (λ x. other (distinct_same places j k distinct lj lk (x ∙ e))) ∙
+          sym (get_or-cells_at Unknown cells places j lj) ∙ sym (get_or-set_other old k j c Unknown other)
     ])
-  where
-    unique_step : (step first j i : ℕ) → 0 < step → first + j * step ≡ first + i * step → j ≡ i
-    unique_step step first zero zero h e = refl
-    unique_step step first zero (suc i) h e = absurd (omega arith)
-    unique_step step first (suc j) zero h e = absurd (omega arith)
-    unique_step step first (suc j) (suc i) h e = ap suc (unique_step step first j i h (omega arith))
 
--- a written cell changes nothing in a line that doesn't have its place
-pub along-elsewhere : (cells : List Cell) (first step n k : ℕ) (c : Cell) → ((i : ℕ) → i < n → first + i * step ≢ k)
-    → cells_at Unknown (set cells k c) (places_from first step n) ≡ cells_at Unknown cells (places_from first step n)
-along-elsewhere cells first step n k c apart =
-    let old = cells_at Unknown cells (places_from first step n) in
-    let new = cells_at Unknown (set cells k c) (places_from first step n) in
-    ext_get_or Unknown new old (length-along (set cells k c) first step n ∙ sym (length-along cells first step n))
-    (λ j below.
-    let lj : j < n = omega (arith, length-along (set cells k c) first step n) in
-    get_or-along (set cells k c) first step n j lj ∙ get_or-set_other cells k (first + j * step) c Unknown (apart j lj) ∙
-    sym (get_or-along cells first step n j lj))
+-- the lines of a side after cell k of line i was written
+line-written : (side : Side) (w h i k j at : ℕ) (cells line : List Cell) (lines : List (List Cell)) (c : Cell) → 0 < w →
+    length lines ≡ count_on side w h → i < length lines → k < count_on (crossing side) w h → at ≡ place_on side w i k → at < length cells →
+    ((m : ℕ) → m < length lines → get_or lines m [] ≡ cells_at Unknown cells (places_on side w h m)) → line ≡ set (get_or lines i []) k c →
+    j < length lines → get_or (set lines i line) j [] ≡ cells_at Unknown (set cells at c) (places_on side w h j)
+line-written side w h i k j at cells line lines c positive count li lk e l are is lj = elim (cases_eq j i) [
+  | inl same ↦ rw same (get_or-set_same lines i line [] li ∙ is ∙ ap (λ (cs : List Cell). set cs k c) (are i li) ∙
+      sym (along-set cells (places_on side w h i) k at c (distinct_places side w h i positive)
+      (omega (arith, lk, length-places_on side w h i)) (e ∙ sym (get_or-places_on side w h i k lk)) l))
+  | inr other ↦ get_or-set_other lines i j line [] other ∙ are j lj ∙
+      sym (cells_at-same (set cells at c) cells (places_on side w h j) (λ m lm.
+      let there = along side w h j m lm in
+      get_or-set_other cells at (get_or (places_on side w h j) m 0) c Unknown
+      (λ x. other ((same_place side w h j m i k (omega (arith, lj, count)) there.0 (omega (arith, li, count)) lk
+      (sym there.1 ∙ x ∙ e)).0))))
+]
 
 -- the column and the row of a place
 pub place_in : (cells : List Cell) (rows columns : List (List Cell)) (k : ℕ) → AreLinesOf cells rows columns → k < length cells
@@ -98,32 +93,10 @@ lines-written cells rows columns row column x y c a lx ly er ec =
     record {
       size = rw (lw, lh) a.size;
       count = rw (lw, lh) (length-set cells k c ∙ a.count);
-      rows_are = λ j below.
-          let lj : j < h = omega (arith, lh) in
-          rw lw
-          (elim (cases_eq j y) [
-            | inl same ↦
-                (rw same
-                (get_or-set_same rows y row [] ly ∙ er ∙ ap (λ (line : List Cell). set line x c) (a.rows_are y ly)
-                ∙ sym (along-set cells (y * w) 1 w x k c (omega arith) lx (omega arith) l)))
-            | inr other ↦
-                (get_or-set_other rows y j row [] other ∙ a.rows_are j lj
-                ∙ sym (along-elsewhere cells (j * w) 1 w k c (λ i li e. let same : j * w + i ≡ y * w + x = omega (arith, e) in
-                other ((unique_place w j y i x li lx same).0))))
-          ]);
-      columns_are = λ j below.
-          let lj : j < w = omega (arith, lw) in
-          rw (lw, lh)
-          (elim (cases_eq j x) [
-            | inl same ↦
-                (rw same
-                (get_or-set_same columns x column [] lx ∙ ec ∙ ap (λ (line : List Cell). set line y c) (a.columns_are x lx)
-                ∙ sym (along-set cells x w h y k c positive ly (omega arith) l)))
-            | inr other ↦
-                (get_or-set_other columns x j column [] other ∙ a.columns_are j lj
-                ∙ sym (along-elsewhere cells j w h k c (λ i li e. let same : i * w + j ≡ y * w + x = omega (arith, e) in
-                other ((unique_place w i y j x lj lx same).1))))
-          ]);
+      rows_are = λ j below. rw lw (line-written Rows w h y x j k cells row rows c positive refl ly lx refl l a.rows_are er
+          (omega (arith, below, lh)));
+      columns_are = λ j below. rw (lw, lh) (line-written Columns w h x y j k cells column columns c positive refl lx ly refl l a.columns_are ec
+          (omega (arith, below, lw)));
     }
 
 -- the line that is read at an index, whatever stands for one outside
