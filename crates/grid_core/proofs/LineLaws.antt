@@ -46,8 +46,10 @@ pub all_lines : (P : GridLine → Type 0) (p : Nonogram) → ((y : ℕ) → y < 
 all_lines P p r c =
     All-from_recursion P (lines_of p)
     (both_parts P (map (numbered_line Rows p) (enumerate_from 0 p.rows)) (map (numbered_line Columns p) (enumerate_from 0 p.columns))
-    (all_numbered P (numbered_line Rows p) 0 p.rows (λ k l. subst (λ (q : ℕ). P (numbered_line Rows p (q, get_or p.rows k []))) (sym (zero-add k)) (r k l)))
-    (all_numbered P (numbered_line Columns p) 0 p.columns (λ k l. subst (λ (q : ℕ). P (numbered_line Columns p (q, get_or p.columns k []))) (sym (zero-add k))
+    (all_numbered P (numbered_line Rows p) 0 p.rows (λ k l.
+    subst (λ (q : ℕ). P (numbered_line Rows p (q, get_or p.rows k []))) (sym (zero-add k)) (r k l)))
+    (all_numbered P (numbered_line Columns p) 0 p.columns (λ k l.
+    subst (λ (q : ℕ). P (numbered_line Columns p (q, get_or p.columns k []))) (sym (zero-add k))
     (c k l))))
 
 -- what holds of each line holds of line i of a side
@@ -100,7 +102,8 @@ length-places_on Rows w h i = length-places_from (i * w) 1 w
 length-places_on Columns w h i = length-places_from i w h
 
 -- the place of cell k of a line
-pub get_or-places_on : (side : Side) (w h i k : ℕ) → k < count_on (crossing side) w h → get_or (places_on side w h i) k 0 ≡ place_on side w i k
+pub get_or-places_on : (side : Side) (w h i k : ℕ) → k < count_on (crossing side) w h →
+    get_or (places_on side w h i) k 0 ≡ place_on side w i k
 get_or-places_on Rows w h i k l = let at = get_or-places_from (i * w) 1 w k l in omega (arith, at)
 get_or-places_on Columns w h i k l = let at = get_or-places_from i w h k l in omega (arith, at)
 

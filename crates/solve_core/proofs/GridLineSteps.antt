@@ -95,8 +95,8 @@ lines-written cells rows columns row column x y c a lx ly er ec =
       count = rw (lw, lh) (length-set cells k c ∙ a.count);
       rows_are = λ j below. rw lw (line-written Rows w h y x j k cells row rows c positive refl ly lx refl l a.rows_are er
           (omega (arith, below, lh)));
-      columns_are = λ j below. rw (lw, lh) (line-written Columns w h x y j k cells column columns c positive refl lx ly refl l a.columns_are ec
-          (omega (arith, below, lw)));
+      columns_are = λ j below. rw (lw, lh) (line-written Columns w h x y j k cells column columns c positive refl lx ly refl l
+          a.columns_are ec (omega (arith, below, lw)));
     }
 
 -- the line that is read at an index, whatever stands for one outside

@@ -116,7 +116,8 @@ marks-after p cells new marks middle after side i r m l taken other learned chan
 
 -- if no line has more to give, the cells are their own closure
 pub settled_closed : (p : Nonogram) (cells : List Cell) → IsNonogram p →
-    ((side : Side) (i : ℕ) → i < count_on side p.width p.height → IsSettled cells (line_on side p i)) → closure (lines_of p) cells ≡ Some cells
+    ((side : Side) (i : ℕ) → i < count_on side p.width p.height → IsSettled cells (line_on side p i)) →
+    closure (lines_of p) cells ≡ Some cells
 settled_closed p cells is settled =
     done_within (lines_of p) cells cells (Extends-refl cells) ((closure-IsLeastClosed (lines_of p) cells).above)
     (all_sides (λ line. deduce_line cells line ≡ Some cells) p is (λ side i l. settled_line cells (line_on side p i) (settled side i l)))

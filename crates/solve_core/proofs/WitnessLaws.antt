@@ -313,8 +313,8 @@ places_for p w cells are =
     sym are.colours.filled_count ∙ length-map w.fillable (λ number. (witness_at w.witnesses number).counts)
 
 -- one witness, after the grid learned more
-kept_witness : (p : Nonogram) (w : WitnessLists) (after : List Witness) (g new : List Cell) (learned : Crossed) (holder place : ℕ) (c : Cell)
-    (number : ℕ) → IsNonogram p → AreNumbered w → length g ≡ p.width * p.height
+kept_witness : (p : Nonogram) (w : WitnessLists) (after : List Witness) (g new : List Cell) (learned : Crossed) (holder place : ℕ)
+    (c : Cell) (number : ℕ) → IsNonogram p → AreNumbered w → length g ≡ p.width * p.height
     → closure (lines_of p) (set g place c) ≡ Some new → Extends g new → DifferWithin p.width g new learned →
     AreWitnesses p w g → holder ≡ get_or (met_by w c) place 0
     → IsKept learned (number ≡ holder) (witness_at w.witnesses number) (witness_at after number) →
@@ -356,8 +356,8 @@ kept_numbered w after learned holder n same kept = record {
     by false e = e
 
 -- the witnesses after the grid learned more
-pub kept_witnesses : (p : Nonogram) (w : WitnessLists) (after : List Witness) (g new : List Cell) (learned : Crossed) (holder place : ℕ) (c : Cell) →
-    IsNonogram p → AreNumbered w → length g ≡ p.width * p.height
+pub kept_witnesses : (p : Nonogram) (w : WitnessLists) (after : List Witness) (g new : List Cell) (learned : Crossed) (holder place : ℕ)
+    (c : Cell) → IsNonogram p → AreNumbered w → length g ≡ p.width * p.height
     → closure (lines_of p) (set g place c) ≡ Some new → Extends g new → DifferWithin p.width g new learned →
     AreWitnesses p w g → holder ≡ get_or (met_by w c) place 0 → length after ≡ length w.witnesses
     → ((i : ℕ) → i < length w.witnesses → IsKept learned (i ≡ holder) (witness_at w.witnesses i) (witness_at after i)) →

@@ -37,8 +37,8 @@ IsLearned Dead line old new = deduced (cells_at Unknown old line.places) line.cl
 IsLearned Same line old new = (new ≡ old) × IsSettled old line
 IsLearned Changed line old new = IsWritten line old new × (unknown_count new < unknown_count old)
 
--- line i of a side got new cells. The marks of that side stayed, no mark of a crossing line was taken away, only
--- lines that cross it were marked, and each of them was marked if the cell there changed
+-- line i of a side got new cells. The marks of that side stayed, no mark of a crossing line was taken away,
+-- only lines that cross it were marked, and each of them was marked if the cell there changed
 pub record MarksChanges (side : Side) (i width height : ℕ) (old new : List Cell) (before after : LineMarks) : Type 0 where
   pub own : marks_on side after ≡ marks_on side before
   pub kept : (k : ℕ) → IsMarkedOn before (crossing side) k → IsMarkedOn after (crossing side) k
@@ -61,7 +61,8 @@ MarksAfter Dead p marks cells = Unit {0}
 MarksAfter Same p marks cells = HasMarks p marks cells
 MarksAfter Changed p marks cells = HasMarks p marks cells
 
--- what closing some cells starts from: room and right memory, and the marks of all lines that may have more to give
+-- what closing some cells starts from: room and right memory, and a mark at each line that may have more to
+-- give
 pub record HasWork (p : Nonogram) (c : Closing) (cells : List Cell) : Type 0 where
   pub marks : HasMarks p c.marks cells
   pub memory : IsMemoryOf p c

@@ -33,7 +33,8 @@ pub returns : goal.returns
 returns g c =
     let rows = c.args.rows.now in
     let columns = c.args.columns.now in
-    cell-written rows columns c.settle.new.self c.settle-2.new.self c.args.x c.args.y c.args.cell c.requires.lines c.requires.column c.requires.row
+    cell-written rows columns c.settle.new.self c.settle-2.new.self c.args.x c.args.y c.args.cell c.requires.lines
+    c.requires.column c.requires.row
     (c.settle.ensures ∙ ap (λ (line : List Cell). set line c.args.x c.args.cell)
     (line_read rows c.args.y c.index-rows-y.result c.requires.row))
     (c.settle-2.ensures ∙ ap (λ (line : List Cell). set line c.args.y c.args.cell)

@@ -108,8 +108,8 @@ loop-side-preserved g c =
     ap (λ (q : ℕ). set now.cells q (get_or new k Unknown)) (sym place) in
     record {
       partly = rw cells
-          (partly-step places board.cells now.cells new (g.W.PlaceSet.number c.loop-side.left) (g.W.PlaceSet.number c.marked-left.result) k
-          (distinct_places c.args.side board.width board.height c.args.i (omega (arith, c.requires.whole.0.width_from))) below here
+          (partly-step places board.cells now.cells new (g.W.PlaceSet.number c.loop-side.left) (g.W.PlaceSet.number c.marked-left.result)
+          k (distinct_places c.args.side board.width board.height c.args.i (omega (arith, c.requires.whole.0.width_from))) below here
           c.marked-left.ensures before.partly);
       trail = trailed-trans c.args.board.now now c.settle.new.self before.trail c.settle.ensures.trail;
     }

@@ -33,8 +33,10 @@ propagate-requires-clause-work g c =
     let wide : width ≡ p.width = c.from-width.ensures ∙ c.width.ensures.width in
     let split = place_split p old place marks.puzzle marks.size c.requires.cell.within in
     let at : place ≡ place / width * p.width + place % width = rw wide (sym split.2) in
-    let rows = subst (λ (n : ℕ). IsMaskOf (IsMarked (Has before.rows) (place / width) true) n) (sym c.set-2.ensures.other) c.set.ensures.own in
-    let columns = subst (λ (n : ℕ). IsMaskOf (IsMarked (Has n) (place % width) true) after.columns) c.set.ensures.other c.set-2.ensures.own in
+    let rows = subst (λ (n : ℕ). IsMaskOf (IsMarked (Has before.rows) (place / width) true) n) (sym c.set-2.ensures.other)
+    c.set.ensures.own in
+    let columns = subst (λ (n : ℕ). IsMaskOf (IsMarked (Has n) (place % width) true) after.columns) c.set.ensures.other
+    c.set-2.ensures.own in
     let cells : c.settle.new.self.cells ≡ set old place c.args.colour =
     c.settle.ensures.cells ∙ (λ i. set old (place / width * c.requires.size.0 i + place % width) c.args.colour) ∙
     ap (λ (k : ℕ). set old k c.args.colour) (sym at) in

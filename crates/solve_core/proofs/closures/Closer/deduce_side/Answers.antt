@@ -1,4 +1,4 @@
--- `Closer::deduce_side`: the lines passed have no mark, and deducing another line of the side gives them none.
+-- `Closer::deduce_side`: the lines passed have no mark, and deducing another of the side gives them none.
 use Rattle.std.proofs.Common.{rules, ◌∙◌, ◌+◌, ◌<◌, ℕ, refl, true≢false, sym, subst, inl, inr, arith}
 use Rattle.std.proofs.lemmas.Bool.{cases_lt}
 use Rattle.solve_core.specs.Closers.{Closing}

@@ -18,5 +18,6 @@ returns-clause-progress g c =
     let old = c.args.board.now.cells in
     let new = c.assign.new.board.cells in
     let given = set old c.args.place c.args.colour in
-    settle-changed lines old new c.args.place c.args.colour c.requires.cell.within c.requires.cell.unknown c.requires.cell.known c.requires.below
+    settle-changed lines old new c.args.place c.args.colour c.requires.cell.within c.requires.cell.unknown c.requires.cell.known
+    c.requires.below
     (sym c.if-not-assign.ensures.closed)
