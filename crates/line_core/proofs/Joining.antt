@@ -8,7 +8,7 @@ use Rattle.grid_core.specs.declared.cells.Cell.TheVariants.{Unknown}
 use Rattle.grid_core.specs.Cells.{allows, agrees}
 use Rattle.grid_core.specs.Runs.{runs}
 use Rattle.place_sets.specs.Masks.{AllFrom, SomeFrom}
-use Rattle.line_core.specs.Reach.{behind, HasPlacing, IsClosed, MayBe, IsGapAfter, IsEndAfter, IsGap, IsGapAhead, IsBlankable, IsFillable}
+use Rattle.line_core.specs.Reach.{behind, HasPlacing, MayBeginBlank, MayBe, IsGapAfter, IsEndAfter, IsGap, IsGapAhead, IsBlankable, IsFillable}
 use Rattle.line_core.proofs.RunLaws.{ArePositive, runs_after-zero, runs_after-true, runs_after-false, runs_after-close, runs_after-nil}
 use Rattle.line_core.proofs.Certain.{CanBe}
 
@@ -334,45 +334,45 @@ fillable_from l clue i h (x, agree, is, at) =
     let run = run_agrees l c s v.rest cut.1 in
     let start : s ≡ i + (v.count - 1) + 1 - c = omega arith in
     let past : s + c ≡ i + (v.count - 1) + 1 = omega arith in
-    let before : IsClosed (behind Unknown l s) (behind 0 clue j) =
+    let before : MayBeginBlank (behind Unknown l s) (behind 0 clue j) =
     (u.rest, cut.0, parts.0, u.closed) in
     let rest_is : runs v.rest ≡ drop (j + 1) clue = head.1 ∙ ap (λ (k : ℕ). drop k clue) (sym (add-one j)) in
-    let after : IsClosed (drop (s + c) l) (drop (j + 1) clue) =
+    let after : MayBeginBlank (drop (s + c) l) (drop (j + 1) clue) =
     (v.rest, run.1, rest_is, v.closed) in
     let ends : IsEndAfter l (behind 0 clue j) c (i + (v.count - 1)) =
-    (omega arith, subst (λ (k : ℕ). IsClosed (behind Unknown l k) (behind 0 clue j) × AllFrom (MayBe l true) c k) start (before, run.0)) in
+    (omega arith, subst (λ (k : ℕ). MayBeginBlank (behind Unknown l k) (behind 0 clue j) × AllFrom (MayBe l true) c k) start (before, run.0)) in
     let enough : v.count - 1 < c = omega arith in
-    let found : SomeFrom (λ e. IsEndAfter l (behind 0 clue j) c e × IsClosed (drop (e + 1) l) (drop (j + 1) clue)) c i =
-    (v.count - 1, enough, (ends, subst (λ (k : ℕ). IsClosed (drop k l) (drop (j + 1) clue)) past after)) in (
+    let found : SomeFrom (λ e. IsEndAfter l (behind 0 clue j) c e × MayBeginBlank (drop (e + 1) l) (drop (j + 1) clue)) c i =
+    (v.count - 1, enough, (ends, subst (λ (k : ℕ). MayBeginBlank (drop k l) (drop (j + 1) clue)) past after)) in (
       j,
       head.2,
-      subst (λ (n : ℕ). SomeFrom (λ e. IsEndAfter l (behind 0 clue j) n e × IsClosed (drop (e + 1) l) (drop (j + 1) clue)) n i)
+      subst (λ (n : ℕ). SomeFrom (λ e. IsEndAfter l (behind 0 clue j) n e × MayBeginBlank (drop (e + 1) l) (drop (j + 1) clue)) n i)
           (sym head.0) found,
     )
 
 -- ---- no run at an end: the end of the line, or a gap
 
 -- a placing whose first cell is blank has no run there
-pub closed_none : (cs : List ℕ) → IsClosed [] cs → length cs ≡ 0
+pub closed_none : (cs : List ℕ) → MayBeginBlank [] cs → length cs ≡ 0
 closed_none cs ([], agree, is, closed) = sym (ap length is)
 closed_none cs (b ∷ y, agree, is, closed) = cc
 
-pub closed_first : (c : Cell) (cells : List Cell) (cs : List ℕ) → IsClosed (c ∷ cells) cs → (allows c false ≡ true) × HasPlacing cells cs
+pub closed_first : (c : Cell) (cells : List Cell) (cs : List ℕ) → MayBeginBlank (c ∷ cells) cs → (allows c false ≡ true) × HasPlacing cells cs
 closed_first c cells cs ([], agree, is, closed) = cc
 closed_first c cells cs (true ∷ y, agree, is, closed) = cc
 closed_first c cells cs (false ∷ y, agree, is, closed) =
     ((and_parts (allows c false) (agrees cells y) agree).0, (y, (and_parts (allows c false) (agrees cells y) agree).1, is))
 
 -- a placing goes on with a blank cell before it
-pub first_closed : (c : Cell) (cells : List Cell) (cs : List ℕ) → allows c false ≡ true → HasPlacing cells cs → IsClosed (c ∷ cells) cs
+pub first_closed : (c : Cell) (cells : List Cell) (cs : List ℕ) → allows c false ≡ true → HasPlacing cells cs → MayBeginBlank (c ∷ cells) cs
 first_closed c cells cs a (y, agree, is) = (false ∷ y, and_from (allows c false) (agrees cells y) a agree, is, refl)
 
-pub none_closed : (cs : List ℕ) → length cs ≡ 0 → IsClosed [] cs
+pub none_closed : (cs : List ℕ) → length cs ≡ 0 → MayBeginBlank [] cs
 none_closed [] h = ([], refl, refl, refl)
 none_closed (c ∷ cs) h = absurd (omega arith)
 
 -- no run touches a place from behind: it is the first place, or one after a gap
-pub closed_behind_to : (l : List Cell) (runs : List ℕ) (s : ℕ) → s ≤ length l → IsClosed (behind Unknown l s) runs
+pub closed_behind_to : (l : List Cell) (runs : List ℕ) (s : ℕ) → s ≤ length l → MayBeginBlank (behind Unknown l s) runs
     → ((s ≡ 0) × (length runs ≡ 0)) ⊎ ((1 ≤ s) × IsGapAfter l runs (s - 1))
 closed_behind_to l runs zero sl h = inl (refl, closed_none runs h)
 closed_behind_to l runs (suc s) sl h =
@@ -383,7 +383,7 @@ closed_behind_to l runs (suc s) sl h =
 
 -- and back
 pub closed_behind_from : (l : List Cell) (runs : List ℕ) (s : ℕ) → ((s ≡ 0) × (length runs ≡ 0)) ⊎ ((1 ≤ s) × IsGapAfter l runs (s - 1))
-    → IsClosed (behind Unknown l s) runs
+    → MayBeginBlank (behind Unknown l s) runs
 closed_behind_from l runs zero (inl h) = none_closed runs h.1
 closed_behind_from l runs zero (inr h) = let bad : 1 ≤ 0 = h.0 in absurd (omega arith)
 closed_behind_from l runs (suc s) (inl h) = let bad : suc s ≡ 0 = h.0 in absurd (omega arith)
@@ -435,29 +435,29 @@ turned_gap_from l clue j i jl il g =
     )
 
 -- the end of the line, or a gap, after a run's end
-pub closed_ahead_to : (l : List Cell) (clue : List ℕ) (j p : ℕ) → j ≤ length clue → p ≤ length l → IsClosed (drop p l) (drop j clue)
+pub closed_ahead_to : (l : List Cell) (clue : List ℕ) (j p : ℕ) → j ≤ length clue → p ≤ length l → MayBeginBlank (drop p l) (drop j clue)
     → ((p ≡ length l) × (j ≡ length clue)) ⊎ IsGapAhead l clue j p
 closed_ahead_to l clue j p jl pl h = by (cases_lt p (length l))
   where
     by : (p < length l) ⊎ (length l ≤ p) → ((p ≡ length l) × (j ≡ length clue)) ⊎ IsGapAhead l clue j p
     by (inr past) =
         let gone : drop p l ≡ [] = drop_of_length-le l {i = p} past in
-        let none : length (drop j clue) ≡ 0 = closed_none (drop j clue) (subst (λ (t : List Cell). IsClosed t (drop j clue)) gone h) in
+        let none : length (drop j clue) ≡ 0 = closed_none (drop j clue) (subst (λ (t : List Cell). MayBeginBlank t (drop j clue)) gone h) in
         inl (omega arith, omega (arith, length-drop j clue))
     by (inl within) =
         let split : drop p l ≡ get_or l p Unknown ∷ drop (suc p) l = drop-cons l p Unknown within in
         let first =
-        closed_first (get_or l p Unknown) (drop (suc p) l) (drop j clue) (subst (λ (t : List Cell). IsClosed t (drop j clue)) split h) in
+        closed_first (get_or l p Unknown) (drop (suc p) l) (drop j clue) (subst (λ (t : List Cell). MayBeginBlank t (drop j clue)) split h) in
         inr ((within, first.0), subst (λ (k : ℕ). HasPlacing (drop k l) (drop j clue)) (sym (add-one p)) first.1)
 
 -- and back
 pub closed_ahead_from : (l : List Cell) (clue : List ℕ) (j p : ℕ) → ((p ≡ length l) × (j ≡ length clue)) ⊎ IsGapAhead l clue j p
-    → IsClosed (drop p l) (drop j clue)
+    → MayBeginBlank (drop p l) (drop j clue)
 closed_ahead_from l clue j p (inl h) =
     let gone : [] ≡ drop p l = sym (drop_of_length-le l {i = p} (omega (arith, h.0))) in
     let none : length (drop j clue) ≡ 0 = ap length (drop_of_length-le clue {i = j} (omega (arith, h.1))) in
-    subst (λ (t : List Cell). IsClosed t (drop j clue)) gone (none_closed (drop j clue) none)
+    subst (λ (t : List Cell). MayBeginBlank t (drop j clue)) gone (none_closed (drop j clue) none)
 closed_ahead_from l clue j p (inr g) =
     let split : get_or l p Unknown ∷ drop (suc p) l ≡ drop p l = sym (drop-cons l p Unknown g.0.0) in
     let holds : HasPlacing (drop (suc p) l) (drop j clue) = subst (λ (k : ℕ). HasPlacing (drop k l) (drop j clue)) (add-one p) g.1 in
-    subst (λ (t : List Cell). IsClosed t (drop j clue)) split (first_closed (get_or l p Unknown) (drop (suc p) l) (drop j clue) g.0.1 holds)
+    subst (λ (t : List Cell). MayBeginBlank t (drop j clue)) split (first_closed (get_or l p Unknown) (drop (suc p) l) (drop j clue) g.0.1 holds)

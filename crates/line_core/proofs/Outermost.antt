@@ -17,7 +17,7 @@ use Rattle.line_core.specs.Outermost.{outermost, IsAsFar, IsOuterStart}
 use Rattle.place_sets.specs.Masks.{Has, IsMaskOf, AllFrom}
 use Rattle.place_sets.proofs.Uses.{meet_of}
 use Rattle.line_core.proofs.LineCells.{written_more}
-use Rattle.line_core.specs.Reach.{behind, MayBe, IsClosed, IsStartAfter, IsWholeEnd, IsGap, IsGapAhead, HasPlacing}
+use Rattle.line_core.specs.Reach.{behind, MayBe, MayBeginBlank, IsStartAfter, IsWholeEnd, IsGap, IsGapAhead, HasPlacing}
 use Rattle.line_core.proofs.RunLaws.{ArePositive}
 use Rattle.line_core.proofs.Joining.{onto, length-agrees, length_behind, onto_behind, onto_agrees, agrees_onto, run_agrees, agrees_run, positive_at, runs_about, blankable_to, blankable_from}
 use Rattle.line_core.proofs.DeductionLaws.{IsPlacing, ListsPlacings, placings_listed, false_unless, agrees-Extends, Extends-agrees}
@@ -44,12 +44,12 @@ whole_of l clue x k e pos agree is h at =
     (subst (λ (t : List Bool). agrees l t ≡ true) (sym r.whole) agree) in
     let cut = onto_agrees (behind Unknown l s) (drop s l) r.front y (length_behind Unknown l s ∙ sym long) both in
     let run = run_agrees l c s r.back cut.1 in
-    let before : IsClosed (behind Unknown l s) (behind 0 clue k) = (r.front, cut.0, r.front_runs, r.front_closed) in
+    let before : MayBeginBlank (behind Unknown l s) (behind 0 clue k) = (r.front, cut.0, r.front_runs, r.front_closed) in
     let rest_is : runs r.back ≡ drop (k + 1) clue = r.back_runs ∙ ap (λ (n : ℕ). drop n clue) (sym (add-one k)) in
-    let after : IsClosed (drop (s + c) l) (drop (k + 1) clue) = (r.back, run.1, rest_is, r.back_closed) in
+    let after : MayBeginBlank (drop (s + c) l) (drop (k + 1) clue) = (r.back, run.1, rest_is, r.back_closed) in
     let start : s ≡ e + 1 - c = omega arith in (
       (omega arith, subst (IsStartAfter l (behind 0 clue k) c) start (before, run.0)),
-      subst (λ (n : ℕ). IsClosed (drop n l) (drop (k + 1) clue)) (sym at) after,
+      subst (λ (n : ℕ). MayBeginBlank (drop n l) (drop (k + 1) clue)) (sym at) after,
     )
 
 -- and each such end is one in a placing

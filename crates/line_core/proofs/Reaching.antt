@@ -6,7 +6,7 @@ use Rattle.grid_core.specs.declared.cells.Cell.TheVariants.{Unknown}
 use Rattle.grid_core.specs.Cells.{allows, agrees}
 use Rattle.grid_core.specs.Runs.{runs}
 use Rattle.place_sets.specs.Masks.{IsFlooded, AllFrom}
-use Rattle.line_core.specs.Reach.{behind, HasPlacing, IsClosed, MayBe, IsGapAfter, IsEndAfter}
+use Rattle.line_core.specs.Reach.{behind, HasPlacing, MayBeginBlank, MayBe, IsGapAfter, IsEndAfter}
 use Rattle.line_core.proofs.Joining.{begins, begins_some, runs_about, first_closed}
 
 -- one more blank cell before a placing
@@ -119,7 +119,7 @@ end_from_run : (l : List Cell) (cs : List ℕ) (n i : ℕ) (rest : List Bool) �
 end_from_run l cs n i rest within o is closed =
     let enough : n ≤ suc i = o.enough in
     let e : suc i - n ≡ i + 1 - n = omega arith in
-    let start : IsClosed (behind Unknown l (i + 1 - n)) cs =
+    let start : MayBeginBlank (behind Unknown l (i + 1 - n)) cs =
     (rest, subst (λ (q : ℕ). agrees (behind Unknown l q) rest ≡ true) e o.before, is, closed) in
     let cells : AllFrom (MayBe l true) n (i + 1 - n) =
     λ z b. let f : suc i - n + z ≡ i + 1 - n + z = omega arith in

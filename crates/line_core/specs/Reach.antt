@@ -21,8 +21,8 @@ abbrev pub HasPlacing : List Cell → List ℕ → Type 0
 HasPlacing cells clue = (full : List Bool) × (agrees cells full ≡ true) × (runs full ≡ clue)
 
 -- and the first of its cells, if there is one, is blank
-abbrev pub IsClosed : List Cell → List ℕ → Type 0
-IsClosed cells clue = (full : List Bool) × (agrees cells full ≡ true) × (runs full ≡ clue) × (slice_index_or full 0 false ≡ false)
+abbrev pub MayBeginBlank : List Cell → List ℕ → Type 0
+MayBeginBlank cells clue = (full : List Bool) × (agrees cells full ≡ true) × (runs full ≡ clue) × (slice_index_or full 0 false ≡ false)
 
 -- a cell of the line leaves a colour open
 abbrev pub MayBe : List Cell → Bool → ℕ → Type 0
@@ -35,7 +35,7 @@ IsGapAfter line runs i = MayBe line false i × HasPlacing (behind Unknown line i
 -- a run of `number` cells can start here, with exactly `runs`, the last of them first, in the cells before,
 -- and a blank one next to it
 abbrev pub IsStartAfter : List Cell → List ℕ → ℕ → ℕ → Type 0
-IsStartAfter line runs number s = IsClosed (behind Unknown line s) runs × AllFrom (MayBe line true) number s
+IsStartAfter line runs number s = MayBeginBlank (behind Unknown line s) runs × AllFrom (MayBe line true) number s
 
 -- and end here
 abbrev pub IsEndAfter : List Cell → List ℕ → ℕ → ℕ → Type 0
@@ -70,7 +70,7 @@ AreGapsAhead line clue gaps = (j : ℕ) → j ≤ length clue → IsMaskOf (IsGa
 
 -- run j ends here in some whole placing
 abbrev pub IsWholeEnd : List Cell → List ℕ → ℕ → ℕ → Type 0
-IsWholeEnd line clue j e = IsEnd line clue j e × IsClosed (drop (e + 1) line) (drop (j + 1) clue)
+IsWholeEnd line clue j e = IsEnd line clue j e × MayBeginBlank (drop (e + 1) line) (drop (j + 1) clue)
 
 -- a cell is blank in some placing
 abbrev pub IsBlankable : List Cell → List ℕ → ℕ → Type 0

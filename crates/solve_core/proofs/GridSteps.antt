@@ -12,7 +12,7 @@ use Rattle.solve_core.specs.LineMarks.{LineMarks, marks_on, IsMarkedOn, AreUnmar
 use Rattle.place_sets.specs.Masks.{Has, IsMarked, IsMaskOf}
 use Rattle.grid_core.specs.declared.sides.Side.{Side}
 use Rattle.grid_core.specs.declared.sides.Side.TheVariants.{Rows, Columns}
-use Rattle.solve_core.specs.Marks.{IsSettled, IsWritten, IsLearned, MarksChanges, HasMarks, MarksAfter, Progresses, IsAtRest}
+use Rattle.solve_core.specs.Marks.{IsDeduced, IsWritten, IsLearned, MarksChanges, HasMarks, MarksAfter, Progresses, IsAtRest}
 use Rattle.solve_core.specs.Closers.{Closing, IsIdle}
 use Rattle.solve_core.specs.Trails.{unknown_count}
 use Rattle.solve_core.proofs.Order.{Extends-refl, length-Extends}
@@ -31,9 +31,9 @@ pub line-below : (p : Nonogram) (size : ℕ) (side : Side) (i : ℕ) → i < cou
 line-below p size side i l e = rw e (below_places side p.width p.height i l)
 
 -- a line stays settled if none of its cells changed
-settled-same : (g new : List Cell) (line : GridLine) → IsSettled g line →
+settled-same : (g new : List Cell) (line : GridLine) → IsDeduced g line →
     ((i : ℕ) → i < length line.places → get_or new (get_or line.places i 0) Unknown ≡ get_or g (get_or line.places i 0) Unknown) →
-    IsSettled new line
+    IsDeduced new line
 settled-same g new line settled same = rw (cells_at-same new g line.places same) settled
 
 -- after a line is deduced, the lines that may have more to give are marked, unless the line is dead
@@ -62,12 +62,12 @@ marks-after p cells new marks middle after side i r m l taken other learned chan
         ])
 
     -- a line of the side that has no mark had none before, if it is another one
-    own : (j : ℕ) → j < count_on side w h → (IsMarkedOn after side j → ⊥) → j ≢ i → IsSettled cells (line_on side p j)
+    own : (j : ℕ) → j < count_on side w h → (IsMarkedOn after side j → ⊥) → j ≢ i → IsDeduced cells (line_on side p j)
     own j lj n ne = m.settled side j lj (λ x. n (subst (λ (q : ℕ). Has q j) (sym changes.own) (taken.from j (inl (x, ne)))))
 
     -- a crossing line that has no mark had none before
     cross : (j : ℕ) → j < count_on (crossing side) w h → (IsMarkedOn after (crossing side) j → ⊥) →
-        IsSettled cells (line_on (crossing side) p j)
+        IsDeduced cells (line_on (crossing side) p j)
     cross j lj n = m.settled (crossing side) j lj (λ x. n (changes.kept j (subst (λ (q : ℕ). Has q j) (sym other) x)))
 
     written : IsWritten (line_on side p i) cells new → HasMarks p after new
@@ -78,9 +78,9 @@ marks-after p cells new marks middle after side i r m l taken other learned chan
           puzzle = m.puzzle;
           size = sym (length-Extends cells new (written-extends (line_on side p i) cells new wr)) ∙ m.size;
           within = within;
-          settled = by_side (λ s. (j : ℕ) → j < count_on s w h → (IsMarkedOn after s j → ⊥) → IsSettled new (line_on s p j)) side
+          settled = by_side (λ s. (j : ℕ) → j < count_on s w h → (IsMarkedOn after s j → ⊥) → IsDeduced new (line_on s p j)) side
               (λ j lj n. elim (cases_eq j i) [
-                | inl same ↦ subst (λ (q : ℕ). IsSettled new (line_on side p q)) (sym same)
+                | inl same ↦ subst (λ (q : ℕ). IsDeduced new (line_on side p q)) (sym same)
                     (written-settled (line_on side p i) cells new wr distinct below)
                 | inr ne ↦ settled-same cells new (line_on side p j) (own j lj n ne) (λ b lb.
                     let there = along side w h j b lb in
@@ -105,9 +105,9 @@ marks-after p cells new marks middle after side i r m l taken other learned chan
           puzzle = m.puzzle;
           size = m.size;
           within = within;
-          settled = by_side (λ s. (j : ℕ) → j < count_on s w h → (IsMarkedOn after s j → ⊥) → IsSettled cells (line_on s p j)) side
+          settled = by_side (λ s. (j : ℕ) → j < count_on s w h → (IsMarkedOn after s j → ⊥) → IsDeduced cells (line_on s p j)) side
               (λ j lj n. elim (cases_eq j i) [
-                | inl same ↦ subst (λ (q : ℕ). IsSettled cells (line_on side p q)) (sym same) learned.1
+                | inl same ↦ subst (λ (q : ℕ). IsDeduced cells (line_on side p q)) (sym same) learned.1
                 | inr ne ↦ own j lj n ne
               ])
               cross;
@@ -116,7 +116,7 @@ marks-after p cells new marks middle after side i r m l taken other learned chan
 
 -- if no line has more to give, the cells are their own closure
 pub settled_closed : (p : Nonogram) (cells : List Cell) → IsNonogram p →
-    ((side : Side) (i : ℕ) → i < count_on side p.width p.height → IsSettled cells (line_on side p i)) →
+    ((side : Side) (i : ℕ) → i < count_on side p.width p.height → IsDeduced cells (line_on side p i)) →
     closure (lines_of p) cells ≡ Some cells
 settled_closed p cells is settled =
     done_within (lines_of p) cells cells (Extends-refl cells) ((closure-IsLeastClosed (lines_of p) cells).above)
@@ -170,8 +170,8 @@ place_marks p cells marks after k y x c m hy hx at rows columns = record {
 }
   where
     stays : (side : Side) (i b j : ℕ) → i < count_on side p.width p.height → b < count_on (crossing side) p.width p.height →
-        j < count_on side p.width p.height → k ≡ place_on side p.width i b → j ≢ i → IsSettled cells (line_on side p j) →
-        IsSettled (set cells k c) (line_on side p j)
+        j < count_on side p.width p.height → k ≡ place_on side p.width i b → j ≢ i → IsDeduced cells (line_on side p j) →
+        IsDeduced (set cells k c) (line_on side p j)
     stays side i b j li lb lj e ne settled = settled-elsewhere cells k c (line_on side p j) settled (λ d ld s.
         let there = along side p.width p.height j d ld in
         ne (sym (same_place side p.width p.height i b j d li lb lj there.0 (sym e ∙ s ∙ there.1)).0))
@@ -181,7 +181,7 @@ place_marks p cells marks after k y x c m hy hx at rows columns = record {
     each_within Columns j h = elim (columns.to j h) [ inl old ↦ m.within Columns j old.0 | inr own ↦ rw own.0 hx ]
 
     each : (side : Side) (j : ℕ) → j < count_on side p.width p.height → (IsMarkedOn after side j → ⊥) →
-        IsSettled (set cells k c) (line_on side p j)
+        IsDeduced (set cells k c) (line_on side p j)
     each Rows j l n =
         let ne : j ≢ y = λ e. n (rows.from j (inr (e, refl))) in
         stays Rows y x j hy hx l at ne (m.settled Rows j l (λ h. n (rows.from j (inl (h, ne)))))

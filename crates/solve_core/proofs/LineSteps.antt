@@ -9,7 +9,7 @@ use Rattle.grid_core.specs.Nonogram.{GridLine, places_from, cells_at}
 use Rattle.line_core.specs.Deduction.{deduced}
 use Rattle.grid_core.proofs.LineLaws.{length-places_from, get_or-places_from, length-cells_at, get_or-cells_at}
 use Rattle.solve_core.specs.Closure.{with_cells, deduce_line, round, closure}
-use Rattle.solve_core.specs.Marks.{IsSettled, IsWritten}
+use Rattle.solve_core.specs.Marks.{IsDeduced, IsWritten}
 use Rattle.solve_core.specs.Trails.{unknown_count}
 use Rattle.solve_core.proofs.Order.{AtMost, Extends-refl, Extends-trans, Extends-antisym, length-Extends}
 use Rattle.solve_core.proofs.Closing.{fewer_unknown}
@@ -91,7 +91,7 @@ cells_at-same a b (p ∷ ps) h =
     λ i. first i ∷ rest i
 
 -- a settled line gives nothing
-pub settled_line : (g : List Cell) (line : GridLine) → IsSettled g line → deduce_line g line ≡ Some g
+pub settled_line : (g : List Cell) (line : GridLine) → IsDeduced g line → deduce_line g line ≡ Some g
 settled_line g line h = ap (option_map (with_cells g line.places)) h ∙ ap (λ (r : List Cell). Some r) (with_cells-same g line.places)
 
 above_line : (line : GridLine) (g d : List Cell) → deduced (cells_at Unknown g line.places) line.clue ≡ Some d →
@@ -120,7 +120,7 @@ written-read line g new w a b =
 
 -- the line that was written is settled
 pub written-settled : (line : GridLine) (g new : List Cell) → IsWritten line g new → AreDistinct line.places →
-    AreBelow (length g) line.places → IsSettled new line
+    AreBelow (length g) line.places → IsDeduced new line
 written-settled line g new w a b =
     rw (written-read line g new w a b) (deduced-settled (cells_at Unknown g line.places) w.certain line.clue w.is_certain)
 
@@ -187,8 +187,8 @@ learned_cell Blank Filled h n = absurd h
 learned_cell Blank Blank h n = absurd (n refl)
 
 -- a line stays settled if a cell that isn't its own is written
-pub settled-elsewhere : (g : List Cell) (k : ℕ) (c : Cell) (line : GridLine) → IsSettled g line →
-    ((b : ℕ) → b < length line.places → k ≢ get_or line.places b 0) → IsSettled (set g k c) line
+pub settled-elsewhere : (g : List Cell) (k : ℕ) (c : Cell) (line : GridLine) → IsDeduced g line →
+    ((b : ℕ) → b < length line.places → k ≢ get_or line.places b 0) → IsDeduced (set g k c) line
 settled-elsewhere g k c line settled apart =
     let same : cells_at Unknown (set g k c) line.places ≡ cells_at Unknown g line.places =
     cells_at-same (set g k c) g line.places (λ b l. set_elsewhere g k c (get_or line.places b 0) (λ e. absurd (apart b l e))) in
@@ -196,7 +196,7 @@ settled-elsewhere g k c line settled apart =
 
 -- a line of a closed grid knows all that is certain of it
 pub closed_settled : (lines : List GridLine) (g : List Cell) (line : GridLine) → round lines g ≡ Some g → IsOneOf line lines →
-    AreDistinct line.places → AreBelow (length g) line.places → IsSettled g line
+    AreDistinct line.places → AreBelow (length g) line.places → IsDeduced g line
 closed_settled lines g line e m distinct within = to (deduced (cells_at Unknown g line.places) line.clue)
     (deduced-above (cells_at Unknown g line.places) line.clue) (closed_line lines g line e m)
   where

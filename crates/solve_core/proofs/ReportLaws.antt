@@ -13,7 +13,7 @@ use Rattle.solve_core.specs.declared.findings.Verdict.{Verdict}
 use Rattle.solve_core.specs.declared.findings.Verdict.TheVariants.{Nothing}
 use Rattle.solve_core.specs.declared.findings.Findings.{Findings}
 use Rattle.solve_core.specs.Search.{Event, Guess, Solution, events}
-use Rattle.solve_core.specs.Report.{through_solution, within_guesses, solutions_in, guesses_in, verdict_by, grid_of, whole_search, events_from, verdict_of, guesses_of, unknown_grid, line_closure, trial_closure, is_settled, known_in, grade_by, report_of}
+use Rattle.solve_core.specs.Report.{through_solution, within_guesses, solutions_in, guesses_in, verdict_by, grid_of, whole_search, events_from, verdict_of, guesses_of, unknown_grid, line_closure, trial_closure, is_decided, known_in, grade_by, report_of}
 use Rattle.solve_core.specs.Verdicts.{IsFinal}
 use Rattle.solve_core.specs.Endings.{Ending, ending}
 
@@ -91,7 +91,7 @@ abbrev pub report_by : (List Cell → Option ℕ) → Nonogram → ℕ → Optio
 report_by pick p limit closed tried =
     record {
       verdict = verdict_by (end_from pick p limit tried).found (end_from pick p limit tried).cut;
-      grade = grade_by (is_settled closed) (is_settled tried);
+      grade = grade_by (is_decided closed) (is_decided tried);
       line_known = known_in closed;
       trial_known = known_in tried;
       spent = (end_from pick p limit tried).spent;
@@ -104,14 +104,14 @@ report-is pick p limit =
     let z = zero-add (guesses_of pick p limit) in
     (λ i. let end : Ending = e i in record {
       verdict = verdict_by end.found end.cut;
-      grade = grade_by (is_settled (line_closure p)) (is_settled (trial_closure p));
+      grade = grade_by (is_decided (line_closure p)) (is_decided (trial_closure p));
       line_known = known_in (line_closure p);
       trial_known = known_in (trial_closure p);
       spent = end.spent;
     })
     ∙ (λ i. record {
       verdict = verdict_of pick p limit;
-      grade = grade_by (is_settled (line_closure p)) (is_settled (trial_closure p));
+      grade = grade_by (is_decided (line_closure p)) (is_decided (trial_closure p));
       line_known = known_in (line_closure p);
       trial_known = known_in (trial_closure p);
       spent = z i;
@@ -163,7 +163,7 @@ report-greater pick p limit greater l h =
     sym (report-is pick p greater)
     ∙ (λ i. let end : Ending = e i in record {
       verdict = verdict_by end.found end.cut;
-      grade = grade_by (is_settled (line_closure p)) (is_settled (trial_closure p));
+      grade = grade_by (is_decided (line_closure p)) (is_decided (trial_closure p));
       line_known = known_in (line_closure p);
       trial_known = known_in (trial_closure p);
       spent = end.spent;

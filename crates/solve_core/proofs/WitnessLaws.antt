@@ -13,7 +13,7 @@ use Rattle.line_core.proofs.DeductionLaws.{Extends-at}
 use Rattle.solve_core.specs.Closure.{round, closure}
 use Rattle.grid_core.specs.declared.sides.Side.{Side}
 use Rattle.grid_core.specs.declared.sides.Side.TheVariants.{Rows, Columns}
-use Rattle.solve_core.specs.Marks.{IsSettled, AreOpen}
+use Rattle.solve_core.specs.Marks.{IsDeduced, AreOpen}
 use Rattle.solve_core.specs.Trails.{cleared}
 use Rattle.solve_core.specs.Overlaid.{over, overlaid, AreAlike, AreApart}
 use Rattle.solve_core.specs.declared.witnesses.Crossed.{Crossed}
@@ -108,17 +108,17 @@ line_as_new g new t (k ∷ ks) e h same =
     (cells_at Unknown t ks) same) in
     λ i. first i ∷ rest i
 
-settled_alike : (a b : List Cell) (line : GridLine) → AreAlike a b line → IsSettled b line → IsSettled a line
+settled_alike : (a b : List Cell) (line : GridLine) → AreAlike a b line → IsDeduced b line → IsDeduced a line
 settled_alike a b line same h = subst (λ (cells : List Cell). deduced cells line.clue ≡ Some cells) (sym same) h
 
 overlaid_settled : (g new t : List Cell) (line : GridLine) → length new ≡ length t → Extends g new → Extends g t →
-    AreAlike g new line ⊎ AreAlike g t line → IsSettled new line → IsSettled t line
-    → IsSettled (overlaid new t) line
+    AreAlike g new line ⊎ AreAlike g t line → IsDeduced new line → IsDeduced t line
+    → IsDeduced (overlaid new t) line
 overlaid_settled g new t line e h k (inl same) n s = settled_alike (overlaid new t) t line (line_as_trial g new t line.places e k same) s
 overlaid_settled g new t line e h k (inr same) n s = settled_alike (overlaid new t) new line (line_as_new g new t line.places e h same) n
 
 line_settled : (p : Nonogram) (g : List Cell) (side : Side) (i : ℕ) → IsNonogram p → length g ≡ p.width * p.height →
-    round (lines_of p) g ≡ Some g → i < count_on side p.width p.height → IsSettled g (line_on side p i)
+    round (lines_of p) g ≡ Some g → i < count_on side p.width p.height → IsDeduced g (line_on side p i)
 line_settled p g side i is size closed l =
     closed_settled (lines_of p) g (line_on side p i) closed (line_is_one side p i is l) (line-distinct p side i is)
     (line-below p (length g) side i l size)

@@ -21,8 +21,8 @@ if_alive true cells = Some cells
 if_alive false cells = None
 
 -- the line knows all that is certain of it
-abbrev pub IsSettled : List Cell → GridLine → Type 0
-IsSettled grid line = deduced (cells_at Unknown grid line.places) line.clue ≡ Some (cells_at Unknown grid line.places)
+abbrev pub IsDeduced : List Cell → GridLine → Type 0
+IsDeduced grid line = deduced (cells_at Unknown grid line.places) line.clue ≡ Some (cells_at Unknown grid line.places)
 
 -- what is certain of a line stands in the new cells
 pub record IsWritten (line : GridLine) (old new : List Cell) : Type 0 where
@@ -34,7 +34,7 @@ pub record IsWritten (line : GridLine) (old new : List Cell) : Type 0 where
 -- or what is certain of it was written
 abbrev pub IsLearned : Progress → GridLine → List Cell → List Cell → Type 0
 IsLearned Dead line old new = deduced (cells_at Unknown old line.places) line.clue ≡ None
-IsLearned Same line old new = (new ≡ old) × IsSettled old line
+IsLearned Same line old new = (new ≡ old) × IsDeduced old line
 IsLearned Changed line old new = IsWritten line old new × (unknown_count new < unknown_count old)
 
 -- line i of a side got new cells. The marks of that side stayed, no mark of a crossing line was taken away,
@@ -53,7 +53,7 @@ pub record HasMarks (p : Nonogram) (marks : LineMarks) (cells : List Cell) : Typ
   pub size : length cells ≡ p.width * p.height
   pub within : AreMarksWithin p.width p.height marks
   pub settled : (side : Side) (i : ℕ) → i < count_on side p.width p.height → (IsMarkedOn marks side i → ⊥) →
-      IsSettled cells (line_on side p i)
+      IsDeduced cells (line_on side p i)
 
 -- each line that may have more to give is marked, unless the cells are dead
 abbrev pub MarksAfter : Progress → Nonogram → LineMarks → List Cell → Type 0

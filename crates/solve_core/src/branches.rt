@@ -21,7 +21,7 @@ pub struct Branch {
 
 /// The next guess, a place and a colour, and the board made ready for it: the cell to guess is filled, or
 /// else the last branch's cell is blank in the board as it was. `None` if neither is left.
-pub(crate) fn next_guess<W: LineSet>(
+pub(crate) fn take_guess<W: LineSet>(
     board: &mut Board<W>,
     branches: &mut Vec<Branch>,
     next: Option<usize>,
@@ -29,17 +29,17 @@ pub(crate) fn next_guess<W: LineSet>(
     requires next { IfSome next (λ place. (place < length board.old.cells) × (slice_index_or board.old.cells place Unknown ≡ Unknown)) }
     requires older { next ≢ None → length branches.old.items ≤ length board.old.trail }
     requires room { length board.old.cells ≤ vec_capacity branches.old }
-    ensures events { (rule : List CellValue → Option ℕ) (lines : List GridLine) →
-        IsWork rule lines board.old.cells board.old.trail branches.old.items →
-        open_events rule lines board.old.cells next (pending rule lines board.old.cells board.old.trail branches.old.items)
-        ≡ ready_events rule lines board.new.cells result (pending rule lines board.new.cells board.new.trail branches.new.items) }
-    ensures work { (rule : List CellValue → Option ℕ) (lines : List GridLine) →
-        IsWork rule lines board.old.cells board.old.trail branches.old.items →
-        AreOlder board.old.trail branches.old.items next → IsOpen rule lines board.old.cells next →
-        IsWork rule lines board.new.cells board.new.trail branches.new.items }
-    ensures ready { (rule : List CellValue → Option ℕ) (lines : List GridLine) →
-        IsWork rule lines board.old.cells board.old.trail branches.old.items →
-        IsOpen rule lines board.old.cells next → IsReady rule lines board.new.cells result }
+    ensures events { (pick : List CellValue → Option ℕ) (lines : List GridLine) →
+        IsWork pick lines board.old.cells board.old.trail branches.old.items →
+        open_events pick lines board.old.cells next (pending pick lines board.old.cells board.old.trail branches.old.items)
+        ≡ ready_events pick lines board.new.cells result (pending pick lines board.new.cells board.new.trail branches.new.items) }
+    ensures work { (pick : List CellValue → Option ℕ) (lines : List GridLine) →
+        IsWork pick lines board.old.cells board.old.trail branches.old.items →
+        AreOlder board.old.trail branches.old.items next → IsOpen pick lines board.old.cells next →
+        IsWork pick lines board.new.cells board.new.trail branches.new.items }
+    ensures ready { (pick : List CellValue → Option ℕ) (lines : List GridLine) →
+        IsWork pick lines board.old.cells board.old.trail branches.old.items →
+        IsOpen pick lines board.old.cells next → IsReady pick lines board.new.cells result }
     ensures colour { IfSome result (λ guess. is_known guess.1 ≡ true) }
     ensures width { board.new.width ≡ board.old.width }
     ensures height { board.new.height ≡ board.old.height }

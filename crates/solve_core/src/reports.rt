@@ -85,12 +85,12 @@ fn try_unless_full<W: LineSet>(
     full || trials.try_at_rest(puzzle, board)
 }
 
-fn grade(lines_settle: bool, trials_settle: bool) -> Grade
-    ensures { result ≡ grade_by lines_settle trials_settle }
+fn grade(by_lines: bool, by_trials: bool) -> Grade
+    ensures { result ≡ grade_by by_lines by_trials }
 {
-    if lines_settle {
+    if by_lines {
         Grade::Lines
-    } else if trials_settle {
+    } else if by_trials {
         Grade::Trials
     } else {
         Grade::Search
@@ -125,18 +125,18 @@ fn findings<W: LineSet>(
         };
     }
     let line_known = count_settled(board);
-    let lines_settle = are_known(board, line_known);
-    if !try_unless_full(trials, puzzle, board, lines_settle) {
+    let by_lines = are_known(board, line_known);
+    if !try_unless_full(trials, puzzle, board, by_lines) {
         return Findings {
             verdict: Verdict::Nothing,
-            grade: grade(lines_settle, true),
+            grade: grade(by_lines, true),
             line_known,
             trial_known: 0,
             spent: 0,
         };
     }
-    let trial_known = count_unless_full(board, lines_settle, line_known);
-    let grade = grade(lines_settle, are_known(board, trial_known));
+    let trial_known = count_unless_full(board, by_lines, line_known);
+    let grade = grade(by_lines, are_known(board, trial_known));
     let mut solutions = solutions;
     let end = search(
         &mut trials.closer,

@@ -15,7 +15,7 @@ ghost use Rattle.solve_core.specs.Boards.{IsBoardOf};
 ghost use Rattle.solve_core.specs.Branches.{AreKnownBefore, IsClosed, IsNext, IsOpen, IsWork, AreOlder, pending, open_events};
 
 use crate::boards::Board;
-use crate::branches::{Branch, next_guess};
+use crate::branches::{Branch, take_guess};
 use crate::closures::Closer;
 use crate::picks::Pick;
 use crate::solutions::Solutions;
@@ -133,7 +133,7 @@ pub fn search<W: LineSet>(
     let mut spent: u32 = 0;
     let mut next = look_at(board, 0, pick, solutions);
     while solutions.len() < 2 {
-        let Some((place, colour)) = next_guess(board, branches, next) else {
+        let Some((place, colour)) = take_guess(board, branches, next) else {
             return SearchEnd { cut: false, spent };
         };
         if spent == guesses {

@@ -46,8 +46,8 @@ loop-pick-init g c =
       found = c.look_at-next.ensures.found;
     }
 
-pub next_guess-requires : goal.next_guess-requires
-next_guess-requires g c =
+pub take_guess-requires : goal.take_guess-requires
+take_guess-requires g c =
     let p = c.args.puzzle.now in
     let rule = picked c.args.pick p.width in
     let now = c.loop-pick.board in
@@ -69,7 +69,7 @@ pub explore-next-requires-clause-rest : goal.explore-next-requires-clause-rest
 explore-next-requires-clause-rest g c =
     let p = c.args.puzzle.now in
     let kept = c.loop-pick.invariant in
-    closed_rest p c.loop-pick.closer c.next_guess.new.board.cells c.requires.rest.marks.puzzle (c.in-Some.ensures.count ∙ kept.board.2)
+    closed_rest p c.loop-pick.closer c.take_guess.new.board.cells c.requires.rest.marks.puzzle (c.in-Some.ensures.count ∙ kept.board.2)
     (c.in-Some.ensures.ready (picked c.args.pick p.width) (lines_of p) kept.under_way.work kept.under_way.next_open).1 kept.idle
 
 pub loop-pick-smaller : goal.loop-pick-smaller
@@ -78,7 +78,7 @@ loop-pick-smaller g c =
     let rule = picked c.args.pick p.width in
     let kept = c.loop-pick.invariant in
     let work = c.in-Some.ensures.work rule (lines_of p) kept.under_way.work kept.under_way.older kept.under_way.next_open in
-    let on = c.explore-next.ensures.goes_on c.next_guess.new.branches.items work in
+    let on = c.explore-next.ensures.goes_on c.take_guess.new.branches.items work in
     omega (arith, on.fewer, ap length (c.in-Some.ensures.events rule (lines_of p) kept.under_way.work))
 
 pub loop-pick-preserved : goal.loop-pick-preserved
@@ -86,8 +86,8 @@ loop-pick-preserved g c =
     let p = c.args.puzzle.now in
     let rule = picked c.args.pick p.width in
     let kept = c.loop-pick.invariant in
-    let now = c.next_guess.new.board in
-    let branches = c.next_guess.new.branches.items in
+    let now = c.take_guess.new.board in
+    let branches = c.take_guess.new.branches.items in
     let after = c.explore-next.new in
     let work = c.in-Some.ensures.work rule (lines_of p) kept.under_way.work kept.under_way.older kept.under_way.next_open in
     let on = c.explore-next.ensures.goes_on branches work in
@@ -100,7 +100,7 @@ loop-pick-preserved g c =
           (owed rule p branches after.board c.explore-next.result)
           (c.in-Some.ensures.events rule (lines_of p) kept.under_way.work) (omega arith)
           (omega (arith, less)) kept.ends on.ends;
-      room = omega (arith, c.next_guess.ensures.branches, kept.room);
+      room = omega (arith, c.take_guess.ensures.branches, kept.room);
       cells = c.explore-next.ensures.board.2 ∙ sym c.requires.board.2;
       board = c.explore-next.ensures.board;
       size = c.explore-next.ensures.size;
