@@ -8,7 +8,8 @@ use Rattle.std.proofs.lemmas.List.Elements.{recursion_from_All, All-from_recursi
 use Rattle.grid_core.specs.declared.sides.Side.{Side}
 use Rattle.grid_core.specs.declared.sides.Side.TheVariants.{Rows, Columns}
 use Rattle.grid_core.specs.Reading.{ColumnIsStride, RowIsRange}
-use Rattle.grid_core.specs.Nonogram.{GridLine, Nonogram, cells_at, clues_on, count_on, crossing, line_on, lines_of, numbered_line, place_on, places_from, places_on}
+use Rattle.grid_core.specs.Nonogram.{GridLine, Nonogram, cells_at, clues_on, crossing, line_on, lines_of, numbered_line, places_from, places_on}
+use Rattle.grid_core.specs.steps.Sides.{count_on, place_on}
 
 both_parts : (P : GridLine → Type 0) (xs ys : List GridLine) → AllByRecursion P xs → AllByRecursion P ys → AllByRecursion P (xs ++ ys)
 both_parts P [] ys h k = k

@@ -68,25 +68,6 @@ abbrev pub crossing : Side → Side
 crossing Rows = Columns
 crossing Columns = Rows
 
--- how many lines of a grid a side has
-abbrev pub count_on : Side → ℕ → ℕ → ℕ
-count_on Rows width height = height
-count_on Columns width height = width
-
--- the row of cell k of line i of a side
-abbrev pub row_on : Side → ℕ → ℕ → ℕ
-row_on Rows i k = i
-row_on Columns i k = k
-
--- the column of cell k of line i of a side
-abbrev pub column_on : Side → ℕ → ℕ → ℕ
-column_on Rows i k = k
-column_on Columns i k = i
-
--- where that cell is in a grid of this width
-abbrev pub place_on : Side → ℕ → ℕ → ℕ → ℕ
-place_on side width i k = row_on side i k * width + column_on side i k
-
 -- where the cells of line i of a side are: one after the other in a row, a row apart in a column
 abbrev pub places_on : Side → ℕ → ℕ → ℕ → List ℕ
 places_on Rows width height i = places_from (i * width) 1 width

@@ -2,7 +2,7 @@
 
 ghost use Rattle.std.specs.Prelude.{◌≡◌, ◌+◌, ◌*◌, ◌^◌, ◌<◌, ◌≤◌, ◌↔◌, ℕ, false, length, IsTrue, slice_index_or};
 ghost use Rattle.grid_core.specs.Nonogram.{Meets, MeetsLine, cells_at, line_on, places_from};
-ghost use Rattle.grid_core.specs.Pictures.{values_of};
+ghost use Rattle.grid_core.specs.steps.Pictures.{values_of};
 ghost use Rattle.grid_core.specs.declared.sides.Side.TheVariants.{Rows, Columns};
 
 use crate::limits::LONGEST_SIDE;

@@ -3,7 +3,8 @@ use Rattle.std.proofs.Common.{◌≡◌, ◌≤◌, ◌⊎◌, inl, inr, ℕ, Li
 use mathlib.Core.List.{IsPrefix}
 use Rattle.lane_core.specs.Messages.{jobs_of, has_finish}
 use Rattle.lane_core.specs.Lane.{FrontLists, PutsMessage}
-use Rattle.lane_core.specs.Dealing.{MayRefuse, Deals, Sends, Asks, Takes, Grows}
+use Rattle.lane_core.specs.Dealing.{MayRefuse, Deals, Grows}
+use Rattle.lane_core.specs.steps.Dealing.{Sends, Asks, Takes}
 use Rattle.lane_core.specs.declared.jobs.Job.{Job}
 use Rattle.lane_core.specs.declared.answers.Answer.{Answer}
 use Rattle.lane_core.specs.declared.messages.Message.{Message}

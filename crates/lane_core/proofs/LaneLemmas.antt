@@ -6,8 +6,8 @@ use mathlib.Core.List.{IsPrefix}
 use Rattle.lane_core.specs.Messages.{jobs_of, finish_is_last}
 use Rattle.lane_core.specs.Answers.{IsAnswerTo, AreAnswersTo}
 use Rattle.lane_core.specs.Lane.{BackLists, Lane, Event, Put_message, Take_message, Put_answer, Receive_answer, IsHeldFor, TakesMessage, PutsAnswer, Happens, Run, opening, IsAnswered, IsDrained}
-use Rattle.lane_core.specs.Steps.{StepsBeforeFinish}
-use Rattle.lane_core.specs.Offer.{IsOffered}
+use Rattle.lane_core.specs.Stepping.{StepsBeforeFinish}
+use Rattle.lane_core.specs.steps.Offer.{IsOffered}
 use Rattle.lane_core.specs.declared.jobs.Job.{Job}
 use Rattle.lane_core.specs.declared.answers.Answer.{Answer}
 use Rattle.lane_core.specs.declared.messages.Message.{Message}

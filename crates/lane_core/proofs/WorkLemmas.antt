@@ -3,7 +3,8 @@ use Rattle.std.proofs.Common.{◌≡◌, ◌≢◌, ◌<◌, ◌↔◌, inl, inr
 use Rattle.std.proofs.lemmas.List.{append-nil, nil_from_length}
 use Rattle.std.specs.Prelude.{None, option_to_list}
 use Rattle.lane_core.specs.Lane.{FrontLists, BackLists, TakesMessage, PutsAnswer, IsFinished}
-use Rattle.lane_core.specs.Steps.{Steps, StepRun, Works, IsWorkDone, work_left}
+use Rattle.lane_core.specs.Stepping.{Steps, StepRun, Works, IsWorkDone}
+use Rattle.lane_core.specs.steps.WorkLeft.{work_left}
 use Rattle.lane_core.specs.declared.answers.Answer.{Answer}
 use Rattle.lane_core.specs.declared.messages.Message.{Message}
 use Rattle.lane_core.specs.declared.steps.Step.{Step}

@@ -2,7 +2,7 @@
 
 ghost use Rattle.std.specs.Prelude.{◌≡◌, ◌+◌, ◌≤◌, ◌++◌, length, true, is_none, option_to_list};
 ghost use Rattle.rtrb.specs.Ring.{sent, received, known_free, producer_capacity, SameProducer};
-ghost use Rattle.lane_core.specs.Offer.{IsOffered};
+ghost use Rattle.lane_core.specs.steps.Offer.{IsOffered};
 ghost use Rattle.lane_core.specs.Messages.{has_finish, jobs_of};
 ghost use Rattle.lane_core.specs.Answers.{AreAnswersTo};
 
@@ -49,7 +49,7 @@ pub struct LaneBack {
 impl LaneBack {
     ghost use Rattle.std.specs.Prelude.{◌≡◌, ◌↔◌, length};
     ghost use Rattle.lane_core.specs.Lane.{IsFinished};
-    ghost use Rattle.lane_core.specs.Steps.{Steps};
+    ghost use Rattle.lane_core.specs.Stepping.{Steps};
     ghost use Rattle.lane_core.specs.Ends.{back_lists, back_capacity, known_messages, SameBack};
 
     /// One step: after the finish `Done`, and nothing happens. Else the answer that is held is put;

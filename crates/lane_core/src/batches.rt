@@ -1,7 +1,8 @@
 //! Lanes with both ends in one value.
 
 ghost use Rattle.std.specs.Prelude.{◌≡◌, ◌++◌, ◌<◌, length, IsTrue, IsFalse};
-ghost use Rattle.lane_core.specs.Steps.{Steps, Works, IsWorkDone, work_left};
+ghost use Rattle.lane_core.specs.Stepping.{Steps, Works, IsWorkDone};
+ghost use Rattle.lane_core.specs.steps.WorkLeft.{work_left};
 ghost use Rattle.lane_core.specs.Ends.{front_lists, back_lists, back_capacity, known_messages, AreOneLane, SameFront, SameBack};
 
 use crate::answers::Answer;

@@ -4,7 +4,8 @@ ghost use Rattle.std.specs.Prelude.{◌≡◌, ◌≢◌, ◌↔◌, ◌⊎◌, 
 ghost use Rattle.std.specs.VecDeque.{deque_capacity, deque_len};
 ghost use mathlib.Core.List.{IsPrefix};
 ghost use Rattle.lane_core.specs.Messages.{has_finish, jobs_of};
-ghost use Rattle.lane_core.specs.Dealing.{Asks, Deals, Grows, Sends, Takes};
+ghost use Rattle.lane_core.specs.Dealing.{Deals, Grows};
+ghost use Rattle.lane_core.specs.steps.Dealing.{Asks, Sends, Takes};
 
 use crate::answers::Answer;
 use crate::faults::SendFault;

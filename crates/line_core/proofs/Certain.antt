@@ -8,7 +8,7 @@ use Rattle.line_core.specs.Placings.{placings}
 use Rattle.line_core.specs.Deduction.{shared, shared_at, deduced}
 use Rattle.grid_core.specs.Cells.{agrees}
 use Rattle.grid_core.specs.Runs.{runs}
-use Rattle.line_core.specs.Told.{certain_by}
+use Rattle.line_core.specs.steps.Told.{certain_by}
 use Rattle.line_core.proofs.DeductionLaws.{IsPlacing, ListsPlacings, placings_listed, no_placing, false_unless, filled_at, blank_at, agrees-Extends, Extends-agrees}
 
 -- the line has a placing with a colour at a cell

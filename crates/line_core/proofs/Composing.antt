@@ -5,7 +5,7 @@ use Rattle.grid_core.specs.declared.cells.Cell.{Cell}
 use Rattle.place_sets.specs.Masks.{Has, IsMaskOf, IsMoved, IsFlooded, AllFrom, SomeFrom, SomeLevel, AreLevelsOf}
 use Rattle.place_sets.proofs.Steps.{mask_same}
 use Rattle.place_sets.proofs.Uses.{flood_same, meet_of, join_of}
-use Rattle.line_core.specs.Reach.{behind, MayBe, IsGapAfter, IsStartAfter, IsEndAfter, IsGap, IsEnd, IsGapAhead, IsWholeEnd}
+use Rattle.line_core.specs.steps.Reach.{behind, MayBe, IsGapAfter, IsStartAfter, IsEndAfter, IsGap, IsEnd, IsGapAhead, IsWholeEnd}
 use Rattle.line_core.proofs.Reaching.{After, first_gap_to, first_gap_from, gap_after_to, gap_after_from}
 use Rattle.line_core.proofs.Joining.{closed_behind_to, closed_behind_from, closed_ahead_to, closed_ahead_from, turned_gap_to, turned_gap_from}
 

@@ -7,7 +7,7 @@ use Rattle.grid_core.specs.Cells.{allows, is_filled}
 use Rattle.grid_core.specs.Lines.{is_blank}
 use Rattle.place_sets.specs.Masks.{has, IsMaskOf}
 use Rattle.place_sets.proofs.Steps.{mask_same}
-use Rattle.line_core.specs.Reach.{MayBe, AreLengths}
+use Rattle.line_core.specs.steps.Reach.{MayBe, AreLengths}
 
 open_to : (c : Cell) → is_blank c ≡ false → allows c true ≡ true
 open_to Unknown e = refl

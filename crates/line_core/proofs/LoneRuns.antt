@@ -8,8 +8,8 @@ use Rattle.grid_core.specs.Runs.{runs}
 use Rattle.place_sets.specs.Masks.{Has, has, IsMaskOf, IsMoved, AllFrom, SomeFrom}
 use Rattle.place_sets.proofs.HasLemmas.{has_true, true_has}
 use Rattle.place_sets.proofs.Steps.{mask_same}
-use Rattle.line_core.specs.Reach.{MayBe, IsFillable, IsBlankable}
-use Rattle.line_core.specs.Lone.{IsLoneStart}
+use Rattle.line_core.specs.steps.Reach.{MayBe, IsFillable, IsBlankable}
+use Rattle.line_core.specs.steps.Lone.{IsLoneStart}
 use Rattle.line_core.proofs.RunLaws.{ArePositive}
 use Rattle.grid_core.proofs.LineCells.{has_by}
 use Rattle.line_core.proofs.Joining.{fillable_to, fillable_from, blankable_to, blankable_from}

@@ -13,11 +13,11 @@ use Rattle.line_core.specs.Placings.{placings}
 use Rattle.line_core.specs.Ends.{run_starts, all_starts, leftmost, rightmost}
 use Rattle.line_core.specs.declared.starts.Side.{Side}
 use Rattle.line_core.specs.declared.starts.Side.TheVariants.{Left, Right}
-use Rattle.line_core.specs.Outermost.{outermost, IsAsFar, IsOuterStart}
+use Rattle.line_core.specs.steps.Outermost.{outermost, IsAsFar, IsOuterStart}
 use Rattle.place_sets.specs.Masks.{Has, IsMaskOf, AllFrom}
 use Rattle.place_sets.proofs.Uses.{meet_of}
 use Rattle.line_core.proofs.LineCells.{written_more}
-use Rattle.line_core.specs.Reach.{behind, MayBe, MayBeginBlank, IsStartAfter, IsWholeEnd, IsGap, IsGapAhead, HasPlacing}
+use Rattle.line_core.specs.steps.Reach.{behind, MayBe, MayBeginBlank, IsStartAfter, IsWholeEnd, IsGap, IsGapAhead, HasPlacing}
 use Rattle.line_core.proofs.RunLaws.{ArePositive}
 use Rattle.line_core.proofs.Joining.{onto, length-agrees, length_behind, onto_behind, onto_agrees, agrees_onto, run_agrees, agrees_run, positive_at, runs_about, blankable_to, blankable_from}
 use Rattle.line_core.proofs.DeductionLaws.{IsPlacing, ListsPlacings, placings_listed, false_unless, agrees-Extends, Extends-agrees}

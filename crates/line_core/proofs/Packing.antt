@@ -14,8 +14,8 @@ use Rattle.grid_core.specs.Runs.{runs}
 use Rattle.place_sets.specs.Masks.{Has, has, IsMaskOf, IsMoved, AllFrom}
 use Rattle.place_sets.proofs.HasLemmas.{has_true, true_has}
 use Rattle.place_sets.proofs.Steps.{mask_same}
-use Rattle.line_core.specs.Overlaps.{needed, least_start, IsOverlapBefore, IsOverlap}
-use Rattle.line_core.specs.Reach.{AreLengths, MayBe, IsFillable, IsBlankable}
+use Rattle.line_core.specs.steps.Overlaps.{needed, least_start, IsOverlapBefore, IsOverlap}
+use Rattle.line_core.specs.steps.Reach.{AreLengths, MayBe, IsFillable, IsBlankable}
 use Rattle.line_core.proofs.RunLaws.{ArePositive}
 use Rattle.grid_core.proofs.LineCells.{has_by}
 use Rattle.line_core.proofs.LineCells.{length_at}

@@ -6,7 +6,7 @@ use Rattle.grid_core.specs.declared.cells.Cell.TheVariants.{Unknown}
 use Rattle.grid_core.specs.Cells.{allows, agrees}
 use Rattle.grid_core.specs.Runs.{runs}
 use Rattle.place_sets.specs.Masks.{IsFlooded, AllFrom}
-use Rattle.line_core.specs.Reach.{behind, HasPlacing, MayBeginBlank, MayBe, IsGapAfter, IsEndAfter}
+use Rattle.line_core.specs.steps.Reach.{behind, HasPlacing, MayBeginBlank, MayBe, IsGapAfter, IsEndAfter}
 use Rattle.line_core.proofs.Joining.{begins, begins_some, runs_about, first_closed}
 
 -- one more blank cell before a placing

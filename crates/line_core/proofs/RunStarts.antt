@@ -4,7 +4,7 @@ use Rattle.std.proofs.lemmas.Bool.{cases_lt}
 use Rattle.std.specs.List.{range_with_len}
 use Rattle.grid_core.specs.Runs.{runs}
 use Rattle.line_core.specs.Ends.{starts_run, run_starts}
-use Rattle.line_core.specs.Reach.{behind}
+use Rattle.line_core.specs.steps.Reach.{behind}
 use Rattle.grid_core.proofs.RunsLemmas.{runs_after}
 use Rattle.line_core.proofs.RunLaws.{runs_after-zero, runs_after-true, runs_after-false, runs_after-close, runs_after-nil}
 use Rattle.line_core.proofs.Joining.{onto, length_behind, onto_behind, get_or-onto, onto_split, drop_head, runs_cut, runs_about, get_or-run, begins, begins_some}

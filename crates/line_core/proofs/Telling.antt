@@ -9,8 +9,8 @@ use Rattle.place_sets.proofs.HasLemmas.{has_true, true_has}
 use Rattle.line_core.specs.Deduction.{deduced}
 use Rattle.grid_core.specs.Lines.{cell_of}
 use Rattle.grid_core.specs.Lines.{line_cells}
-use Rattle.line_core.specs.Told.{certain_by, told_by}
-use Rattle.line_core.specs.Reach.{IsFillable, IsBlankable}
+use Rattle.line_core.specs.steps.Told.{certain_by, told_by}
+use Rattle.line_core.specs.steps.Reach.{IsFillable, IsBlankable}
 use Rattle.line_core.proofs.RunLaws.{ArePositive}
 use Rattle.line_core.proofs.DeductionLaws.{IsPlacing, agrees-Extends, Extends-agrees}
 use Rattle.line_core.proofs.Joining.{fillable_to, fillable_from, blankable_to, blankable_from}

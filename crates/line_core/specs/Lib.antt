@@ -1,12 +1,7 @@
--- The definitions that the contracts cite.
+-- The definitions that public contracts rest on; those that only private calls need are the steps.
 pub mod Placings
 pub mod Deduction
 pub mod Order
 pub mod Ends
-pub mod Reach
-pub mod Passes
-pub mod Told
-pub mod Overlaps
-pub mod Outermost
-pub mod Lone
 pub mod Widths
+pub mod steps

@@ -4,9 +4,9 @@ ghost use Rattle.std.specs.Prelude.{◌≡◌, ◌<◌, ◌≤◌, List, length,
 ghost use Rattle.grid_core.specs.declared.cells.Cell.{Cell};
 ghost use Rattle.place_sets.specs.Masks.{IsMaskOf};
 ghost use Rattle.line_core.specs.Deduction.{deduced};
-ghost use Rattle.line_core.specs.Passes.{IsSpanOf};
-ghost use Rattle.line_core.specs.Reach.{AreLengths, AreGapsAhead, IsFillable, IsBlankable};
-ghost use Rattle.line_core.specs.Told.{told_by};
+ghost use Rattle.line_core.specs.steps.Passes.{IsSpanOf};
+ghost use Rattle.line_core.specs.steps.Reach.{AreLengths, AreGapsAhead, IsFillable, IsBlankable};
+ghost use Rattle.line_core.specs.steps.Told.{told_by};
 
 use crate::Line;
 use crate::lone::lone_colours;

@@ -3,9 +3,9 @@
 ghost use Rattle.std.specs.Prelude.{◌≡◌, ◌+◌, ◌<◌, ◌≤◌, List, length};
 ghost use Rattle.grid_core.specs.declared.cells.Cell.{Cell};
 ghost use Rattle.place_sets.specs.Masks.{IsMaskOf};
-ghost use Rattle.line_core.specs.Lone.{IsLoneStart};
-ghost use Rattle.line_core.specs.Passes.{IsSpanOf};
-ghost use Rattle.line_core.specs.Reach.{AreLengths, IsFillable, IsBlankable};
+ghost use Rattle.line_core.specs.steps.Lone.{IsLoneStart};
+ghost use Rattle.line_core.specs.steps.Passes.{IsSpanOf};
+ghost use Rattle.line_core.specs.steps.Reach.{AreLengths, IsFillable, IsBlankable};
 
 use crate::spans::Span;
 use place_sets::{PlaceSet, places, spread, starts_within};

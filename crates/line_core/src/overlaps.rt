@@ -5,9 +5,9 @@ ghost use Rattle.std.specs.Prelude.{◌≡◌, ◌+◌, ◌<◌, ◌≤◌, ◌�
 ghost use Rattle.grid_core.specs.declared.cells.Cell.{Cell};
 ghost use Rattle.grid_core.specs.declared.cells.Cell.TheVariants.{Unknown};
 ghost use Rattle.place_sets.specs.Masks.{IsMaskOf};
-ghost use Rattle.line_core.specs.Overlaps.{needed, IsOverlap};
-ghost use Rattle.line_core.specs.Passes.{IsSpanOf};
-ghost use Rattle.line_core.specs.Reach.{AreLengths, IsFillable, IsBlankable};
+ghost use Rattle.line_core.specs.steps.Overlaps.{needed, IsOverlap};
+ghost use Rattle.line_core.specs.steps.Passes.{IsSpanOf};
+ghost use Rattle.line_core.specs.steps.Reach.{AreLengths, IsFillable, IsBlankable};
 
 use crate::spans::Span;
 use grid_core::{LONGEST_SIDE, MOST_RUNS};

@@ -3,8 +3,8 @@
 ghost use Rattle.std.specs.Prelude.{◌≡◌, ◌<◌, ◌≤◌, ℕ, List, [], ◌∷◌, true, map};
 ghost use Rattle.grid_core.specs.declared.cells.Cell.{Cell};
 ghost use Rattle.place_sets.specs.Masks.{IsMaskOf, AreWindows};
-ghost use Rattle.line_core.specs.Reach.{IsEndAfter};
-ghost use Rattle.line_core.specs.Passes.{IsSpanOf, IsPassOver};
+ghost use Rattle.line_core.specs.steps.Reach.{IsEndAfter};
+ghost use Rattle.line_core.specs.steps.Passes.{IsSpanOf, IsPassOver};
 
 use crate::gaps::{first_gap, gap_after, run_ends};
 use crate::spans::Span;

@@ -3,9 +3,9 @@
 ghost use Rattle.std.specs.Prelude.{◌≡◌, ◌+◌, ◌-◌, ◌<◌, ◌≤◌, List, length, map, true};
 ghost use Rattle.grid_core.specs.declared.cells.Cell.{Cell};
 ghost use Rattle.place_sets.specs.Masks.{IsMaskOf};
-ghost use Rattle.line_core.specs.Passes.{IsSpanOf};
+ghost use Rattle.line_core.specs.steps.Passes.{IsSpanOf};
 ghost use Rattle.line_core.specs.declared.reach.TheConstants.{GAPS};
-ghost use Rattle.line_core.specs.Reach.{AreLengths, AreTurnedGaps, AreTurnedMasks, AreGapsAhead, IsEnd, IsGapAhead, IsWholeEnd};
+ghost use Rattle.line_core.specs.steps.Reach.{AreLengths, AreTurnedGaps, AreTurnedMasks, AreGapsAhead, IsEnd, IsGapAhead, IsWholeEnd};
 
 use crate::passes::Pass;
 use crate::spans::{Span, turned};

@@ -2,7 +2,7 @@
 
 ghost use Rattle.std.specs.Prelude.{◌≡◌, ◌<◌, ◌≤◌, List, reverse};
 ghost use Rattle.grid_core.specs.declared.cells.Cell.{Cell};
-ghost use Rattle.line_core.specs.Passes.{IsSpanOf};
+ghost use Rattle.line_core.specs.steps.Passes.{IsSpanOf};
 
 use grid_core::LineOf;
 use place_sets::{PlaceSet, lacking, turn_line};

@@ -4,9 +4,9 @@ ghost use Rattle.std.specs.Prelude.{◌≡◌, ◌<◌, ◌≤◌, [], length, m
 ghost use Rattle.grid_core.specs.declared.cells.Cell.{Cell};
 ghost use Rattle.place_sets.specs.Masks.{Has};
 ghost use Rattle.line_core.specs.Ends.{leftmost, rightmost};
-ghost use Rattle.line_core.specs.Outermost.{outermost, IsAsFar, IsOuterStart};
-ghost use Rattle.line_core.specs.Passes.{IsSpanOf};
-ghost use Rattle.line_core.specs.Reach.{AreLengths, AreGapsAhead, HasPlacing};
+ghost use Rattle.line_core.specs.steps.Outermost.{outermost, IsAsFar, IsOuterStart};
+ghost use Rattle.line_core.specs.steps.Passes.{IsSpanOf};
+ghost use Rattle.line_core.specs.steps.Reach.{AreLengths, AreGapsAhead, HasPlacing};
 
 use crate::Line;
 use crate::gaps::first_gap;

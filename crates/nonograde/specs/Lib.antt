@@ -1,8 +1,8 @@
--- The definitions that the contracts cite.
-pub mod Command
+-- The definitions that public contracts rest on; those that only private calls need are the steps.
 pub mod Stop
 pub mod Reports
 pub mod Converting
 pub mod Printing
 pub mod Ending
 pub mod Words
+pub mod steps

@@ -1,7 +1,6 @@
 -- The texts that the commands on one puzzle print.
-use Rattle.std.specs.Prelude.{◌≡◌, ℕ, true, List, ◌++◌, codes, decimal, count_by, if◌then◌else◌, Option, Some, None, Result, Ok, Err, Vec}
+use Rattle.std.specs.Prelude.{ℕ, true, List, ◌++◌, codes, decimal, count_by, if◌then◌else◌, Option, Some, None, Result, Ok, Err}
 use Rattle.std.specs.List.{list_all}
-use Rattle.std.specs.declared.alloc.Global.{Global}
 use Rattle.grid_core.specs.declared.limits.TheConstants.{LONGEST_SIDE}
 use Rattle.grid_core.specs.Cells.{is_known}
 use Rattle.grid_core.specs.Nonogram.{Nonogram}
@@ -10,8 +9,6 @@ use Rattle.solve_core.specs.Report.{line_grid}
 use Rattle.solve_core.specs.declared.picks.Pick.{Pick}
 use Rattle.puzzle_text.specs.Formats.{read_entry}
 use Rattle.puzzle_text.specs.declared.faults.EntryFault.{EntryFault}
-use Rattle.puzzle_text.specs.declared.faults.EntryFault.TheVariants.{Text}
-use Rattle.puzzle_text.specs.declared.faults.TextFault.TheVariants.{NoMemory}
 use Rattle.survey_core.specs.Entries.{entry_text}
 use Rattle.survey_core.specs.Grids.{grid_text}
 use Rattle.survey_core.specs.Survey.{reported}
@@ -46,9 +43,3 @@ said name body = read_entry LONGEST_SIDE (record { name = name; body = body })
 abbrev pub text_or_fault : (Nonogram → List ℕ) → Result Nonogram EntryFault → Result (List ℕ) EntryFault
 text_or_fault text (Ok p) = Ok (text p)
 text_or_fault text (Err fault) = Err fault
-
--- What a call answered is this answer. Want of memory may stand in place of any answer.
-abbrev pub GivesText : Result (Vec ℕ Global) EntryFault → Result (List ℕ) EntryFault → Type 0
-GivesText (Ok text) answer = answer ≡ Ok text.items
-GivesText (Err (Text NoMemory)) answer = Unit {0}
-GivesText (Err fault) answer = answer ≡ Err fault

@@ -34,9 +34,3 @@ abbrev pub stop_of_convert : ConvertFault → Stop
 stop_of_convert (convert.Entry fault) = stop.Entry fault
 stop_of_convert convert.Ambiguous = stop.Ambiguous
 stop_of_convert convert.NoMemory = stop.NoMemory
-
--- the file can't be read, or there is no room for its bytes
-abbrev pub IsUnread : Stop → Type 0
-IsUnread stop.Read = Unit {0}
-IsUnread stop.NoMemory = Unit {0}
-IsUnread _ = ⊥

@@ -5,12 +5,9 @@ use Rattle.std.specs.List.{find}
 use Rattle.std.specs.Str.{bytes_eq}
 use Rattle.std.specs.Str.Parse.{IsNumeral, digits_value, without_leading_plus}
 use Rattle.clap.specs.Lexer.{usize_max}
-use Rattle.clap.specs.Walk.{Row, Rule, Text, all_of, first_of, one_of, rule_of}
-use Rattle.clap.specs.Simple.{App, app_of, new_app, new_rule, subcommand_of}
-use Rattle.clap.specs.declared.builder.arg.Arg.{Arg}
+use Rattle.clap.specs.Walk.{Row, Rule, Text, all_of, first_of, one_of}
+use Rattle.clap.specs.Simple.{App, new_app, new_rule, subcommand_of}
 use Rattle.clap.specs.declared.builder.action.ArgAction.TheVariants.{Append, SetTrue}
-use Rattle.clap.specs.declared.builder.command.Command.{Command}
-use Rattle.clap.specs.declared.builder.command.Command.TheViews.{out-Command}
 use Rattle.clap.specs.declared.builder.value_parser.ValueParser.{ValueParser}
 use Rattle.clap.specs.declared.builder.value_parser.ValueParser.TheVariants.{Names, Signed}
 use Rattle.puzzle_text.specs.Formats.{formats as all_formats, word}
@@ -108,16 +105,6 @@ converting_app formats picks = record { top = (grading_app picks).top; subs = (g
 abbrev pub program_app : Choices → Choices → App
 program_app formats picks =
     record { top = (converting_app formats picks).top; subs = (converting_app formats picks).subs ++ lines_app.top ∷ [] }
-
--- a command is this one, and has no argument that holds of others too
-pub record IsCommand (app : App) (command : Command) : Type 0 where
-  pub shape : app_of command ≡ app
-  pub local : (out-Command command).has_globals ≡ false
-
--- an argument follows this rule, in its own command
-pub record IsArgument (rule : Rule) (arg : Arg) : Type 0 where
-  pub follows : rule_of arg ≡ rule
-  pub local : arg.global ≡ false
 
 -- n is the number that the text writes, if that lies in the range
 abbrev pub IsNumberIn : ℕ → ℕ → Option Text → ℕ → Type 0

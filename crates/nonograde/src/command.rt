@@ -5,8 +5,9 @@ ghost use Rattle.clap.specs.Walk.{one_of, rows_of};
 ghost use Rattle.clap.specs.Words.{found_of, kind_of, subcommand_rows_of};
 ghost use Rattle.clap.specs.declared.error.kind.ErrorKind.TheVariants.{OutOfMemory};
 ghost use Rattle.nonograde.specs.declared.command.CommandFault.TheVariants.{NoMemory as command_memory, Words as refused_words};
-ghost use Rattle.nonograde.specs.Command.{HasSettingsInRange};
-ghost use Rattle.nonograde.specs.Words.{AreSettingsIn, Asks, AsksIn, AsksSurvey, IsArgument, IsCommand, IsNumberIn, WordsAsk, command_app, convert_app, converting_app, file_rule, files_rule, grading_app, grading_rules, guesses_rule, lanes_rule, lines_app, pick_of_word, pick_rule, program_app, progress_rule, ring_rule, show_rule, solve_app, survey_app, text_in, texts_in, to_rule};
+ghost use Rattle.nonograde.specs.steps.Command.{HasSettingsInRange};
+ghost use Rattle.nonograde.specs.Words.{AreSettingsIn, Asks, AsksIn, AsksSurvey, IsNumberIn, WordsAsk, command_app, convert_app, converting_app, file_rule, files_rule, grading_app, grading_rules, guesses_rule, lanes_rule, lines_app, pick_of_word, pick_rule, program_app, progress_rule, ring_rule, show_rule, solve_app, survey_app, text_in, texts_in, to_rule};
+ghost use Rattle.nonograde.specs.steps.Words.{IsArgument, IsCommand};
 
 use clap::error::ErrorKind;
 use clap::{Arg, ArgAction, ArgMatches, Command, Error, value_parser};

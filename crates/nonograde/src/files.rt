@@ -4,7 +4,7 @@ ghost use Rattle.std.specs.Prelude.{◌≡◌, ◌≢◌, IfErr, IfOk, IfSome, l
 ghost use Rattle.std.specs.IoError.{error_kind};
 ghost use Rattle.puzzle_text.specs.Shown.{shown_entry};
 ghost use Rattle.nonograde.specs.Printing.{named_texts};
-ghost use Rattle.nonograde.specs.Stop.{IsUnread};
+ghost use Rattle.nonograde.specs.steps.Stop.{IsUnread};
 
 use crate::stop::Stop;
 use grid_core::NoMemory;

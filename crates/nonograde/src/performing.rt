@@ -5,7 +5,7 @@ ghost use Rattle.std.specs.Io.KnownBytes.{Appends};
 ghost use Rattle.survey_core.specs.Counted.{fault_count};
 ghost use Rattle.survey_core.specs.declared.faults.RunFault.TheVariants.{Read as reader_failed};
 ghost use Rattle.survey_core.specs.Reading.{ReadsWithin};
-ghost use Rattle.nonograde.specs.Command.{HasSettingsInRange};
+ghost use Rattle.nonograde.specs.steps.Command.{HasSettingsInRange};
 ghost use Rattle.nonograde.specs.Printing.{IsUnwritten, Performs, PrintsFile, PrintsFiles, PrintsInput, PrintsSurveyOf, convert_answer, lines_answer, solve_answer, stream};
 
 use crate::command::{Request, SurveyRequest};

@@ -6,7 +6,7 @@ ghost use Rattle.std.specs.Io.KnownBytes.{Appends};
 ghost use Rattle.clap.specs.Words.{kind_of};
 ghost use Rattle.puzzle_text.specs.Words.{word_text};
 ghost use Rattle.survey_core.specs.Counted.{fault_count};
-ghost use Rattle.nonograde.specs.Command.{HasSettingsInRange};
+ghost use Rattle.nonograde.specs.steps.Command.{HasSettingsInRange};
 ghost use Rattle.nonograde.specs.Printing.{IsUnwritten, Prints, stream};
 ghost use Rattle.nonograde.specs.Stop.{stop_line};
 ghost use Rattle.nonograde.specs.Words.{WordsAsk};

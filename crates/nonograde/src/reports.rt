@@ -4,7 +4,8 @@ ghost use Rattle.std.specs.Prelude.{◌≡◌, ◌≤◌, ◌<◌, ◌↔◌, �
 ghost use Rattle.std.specs.List.{list_all};
 ghost use Rattle.grid_core.specs.Cells.{is_known};
 ghost use Rattle.puzzle_text.specs.Formats.{is_known as is_known_format};
-ghost use Rattle.nonograde.specs.Reports.{GivesText, closed_text, closed_word, grid_report, lines_text, said, solve_text, text_or_fault};
+ghost use Rattle.nonograde.specs.Reports.{closed_text, closed_word, grid_report, lines_text, said, solve_text, text_or_fault};
+ghost use Rattle.nonograde.specs.steps.Reports.{GivesText};
 
 use grid_core::{Grid, NoMemory, Puzzle};
 use lane_core::{Job, MOST_GUESSES, grade};

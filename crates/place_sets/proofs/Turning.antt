@@ -2,7 +2,8 @@
 use Rattle.std.proofs.Common.{◌≡◌, ℕ, zero, suc, ◌+◌, ◌-◌, ◌*◌, ◌/◌, ◌%◌, ◌^◌, ◌<◌, ◌≤◌, ◌⊎◌, inl, inr, refl, sym, arith, subst, Bool, true, false, not, ◌&&◌, cond, nat_eq, nat_lt, nat_le, true≢false, ltb-true, leb-true, eqb-true}
 use Rattle.std.specs.Int.RustNames.{bit_and, bit_or}
 use Rattle.std.proofs.lemmas.Bool.{cases_lt, and_parts}
-use Rattle.place_sets.specs.Masks.{Has, has, IsMaskOf, IsMoved, IsTurned, all_below, swapped_place, is_pairing_at, IsPairing}
+use Rattle.place_sets.specs.Masks.{Has, has, IsMaskOf, IsMoved, IsTurned}
+use Rattle.place_sets.specs.steps.Masks.{all_below, swapped_place, is_pairing_at, IsPairing}
 use Rattle.place_sets.proofs.Flooding.{has_below}
 use Rattle.place_sets.proofs.Steps.{and_is, or_is, shr_is, shl_is, has-itself}
 use Rattle.place_sets.proofs.HasLemmas.{has_true, true_has}

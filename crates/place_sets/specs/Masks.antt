@@ -1,5 +1,5 @@
 -- Words as sets of places: a bit a place.
-use Rattle.std.specs.Prelude.{◌≡◌, ◌≢◌, ℕ, zero, suc, ◌+◌, ◌-◌, ◌*◌, ◌<◌, ◌≤◌, ◌⊎◌, Bool, true, not, ◌&&◌, nat_eq, nat_lt, nat_le, if◌then◌else◌, List, slice_index_or, ◌^◌, Option, Some, None}
+use Rattle.std.specs.Prelude.{◌≡◌, ◌≢◌, ℕ, zero, suc, ◌+◌, ◌-◌, ◌*◌, ◌<◌, ◌≤◌, ◌⊎◌, Bool, true, nat_eq, List, slice_index_or, ◌^◌, Option, Some, None}
 use Rattle.std.specs.Int.{bit_at}
 use Rattle.place_sets.specs.declared.wide.Wide.{Wide}
 
@@ -40,24 +40,6 @@ has mask i = nat_eq (bit_at mask i) 1
 -- the same places but one, which is among them exactly if it is wanted
 abbrev pub IsMarked : (ℕ → Type 0) → ℕ → Bool → ℕ → Type 0
 IsMarked P place wanted i = (P i × (i ≢ place)) ⊎ ((i ≡ place) × (wanted ≡ true))
-
--- whether a test passes at each number below a bound
-abbrev pub all_below : ℕ → (ℕ → Bool) → Bool
-all_below zero p = true
-all_below (suc n) p = p n && all_below n p
-
--- the place that a step of a turn brings to a place: the low half of each pair is in the mask
-abbrev pub swapped_place : ℕ → ℕ → ℕ → ℕ
-swapped_place low by i = if has low i then i + by else (i - by)
-
--- whether a mask has the low half of each pair, at a place
-abbrev pub is_pairing_at : ℕ → ℕ → ℕ → ℕ → Bool
-is_pairing_at width low by i =
-    nat_lt (swapped_place low by i) width && (if has low i then not (has low (i + by)) else (nat_le by i && has low (i - by)))
-
--- the low half of each pair is in the mask, and nothing else
-abbrev pub IsPairing : ℕ → ℕ → ℕ → Type 0
-IsPairing width low by = all_below width (is_pairing_at width low by) ≡ true
 
 -- a table of the starts of windows of 1, 2, 4 and so on cells, up to a top level
 pub record AreWindows (cells top : ℕ) (table : List ℕ) : Type 0 where

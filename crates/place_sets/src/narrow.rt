@@ -2,7 +2,8 @@
 
 ghost use Rattle.std.specs.Prelude.{◌≡◌, ◌≢◌, ◌+◌, ◌*◌, ◌^◌, ◌<◌, ◌≤◌, ◌==◌, ◌⊎◌, ℕ, false, refl};
 ghost use Rattle.std.proofs.Common.{arith};
-ghost use Rattle.place_sets.specs.Masks.{Has, has, IsMaskOf, IsPairing, swapped_place};
+ghost use Rattle.place_sets.specs.Masks.{Has, has, IsMaskOf};
+ghost use Rattle.place_sets.specs.steps.Masks.{IsPairing, swapped_place};
 
 use crate::{PlaceSet, Wide};
 

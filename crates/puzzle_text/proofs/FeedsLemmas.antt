@@ -13,7 +13,8 @@ use Rattle.grid_core.specs.declared.limits.TheConstants.{LONGEST_TEXT}
 use Rattle.puzzle_text.specs.declared.faults.TextFault.TheVariants.{TooLong}
 use Rattle.puzzle_text.specs.declared.limits.TheConstants.{LONGEST_PUZZLE}
 use Rattle.puzzle_text.specs.Sizes.{lines_of}
-use Rattle.puzzle_text.specs.Lines.{Line, HaveNoFeed, has_no_feed, is_blank, lines, numbered_from, raw_lines, strip_last, trim, trim_start, without_ending}
+use Rattle.puzzle_text.specs.Lines.{Line, is_blank, lines, numbered_from, raw_lines, strip_last, trim, trim_start, without_ending}
+use Rattle.puzzle_text.specs.steps.Lines.{HaveNoFeed, has_no_feed}
 use Rattle.puzzle_text.specs.Keywords.{after_quote, before_quote, first_with, has_keyword, rest, quoted_text}
 use Rattle.puzzle_text.specs.Non.{bad_line, field_text, least, long_text, number_of_line, texts_of}
 

@@ -5,7 +5,8 @@ use Rattle.grid_core.specs.declared.fields.Field.{Field}
 use Rattle.grid_core.specs.declared.fields.Field.TheVariants.{Catalogue, Title, By, Copyright, License}
 use Rattle.puzzle_text.specs.Lines.{Line}
 use Rattle.puzzle_text.specs.Keywords.{all_fields, field_word}
-use Rattle.puzzle_text.specs.Non.{field_text, texts_of, with_all_found, with_found}
+use Rattle.puzzle_text.specs.Non.{field_text, texts_of}
+use Rattle.puzzle_text.specs.steps.Non.{with_all_found, with_found}
 
 -- what is set into a field may stand there
 pub field_is_lawful : (field : Field) (lines : List Line) → IsDescription (texts_of lines)

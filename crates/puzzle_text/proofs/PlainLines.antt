@@ -5,7 +5,8 @@ use Rattle.std.proofs.lemmas.Bool.{and_parts, cond-false, ne_eqb}
 use Rattle.std.proofs.lemmas.List.{get_or-take, get_or_default, length-take-le}
 use Rattle.std.proofs.lemmas.List.Sums.{list_all-from_AllPass}
 use Rattle.puzzle_text.specs.Lines.{raw_lines, strip_last, without_ending}
-use Rattle.puzzle_text.specs.Collections.{Entry, FollowsPlain, body_of, ends_line, entries_of, is_marker, is_marker_text, name_of}
+use Rattle.puzzle_text.specs.Collections.{Entry, body_of, entries_of, is_marker, is_marker_text, name_of}
+use Rattle.puzzle_text.specs.steps.Collections.{FollowsPlain, ends_line}
 
 -- there is no @ among these bytes
 abbrev pub HasNoAt : List ℕ → Type 0

@@ -6,7 +6,8 @@ use Rattle.std.proofs.lemmas.List.{take-map, drop-map, length-map, length-take-l
 use Rattle.std.proofs.lemmas.List.Elements.{filter-append}
 use Rattle.std.proofs.lemmas.List.Sums.{length-filter}
 use Rattle.puzzle_text.specs.Lines.{Line, is_full, is_blank_line}
-use Rattle.puzzle_text.specs.Sections.{choice, front}
+use Rattle.puzzle_text.specs.Sections.{choice}
+use Rattle.puzzle_text.specs.steps.Sections.{front}
 
 kept : {X Y : Type 0} (view : X → Y) (b : Bool) (x : X) (xs : List X) (ys : List Y) → ys ≡ map view xs
     → cond b (view x ∷ ys) ys ≡ map view (cond b (x ∷ xs) xs)

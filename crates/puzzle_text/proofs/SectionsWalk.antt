@@ -12,8 +12,8 @@ use Rattle.puzzle_text.specs.Lines.{Line, is_empty, is_full, is_hash}
 use Rattle.puzzle_text.specs.Keywords.{keyword}
 use Rattle.puzzle_text.specs.Mk.{or_else}
 use Rattle.puzzle_text.specs.Non.{Sections, is_stray, section, placed, sections_of}
-use Rattle.puzzle_text.specs.Places.{IsUnder, with_line}
-use Rattle.puzzle_text.specs.Shown.{shown_line}
+use Rattle.puzzle_text.specs.steps.Places.{IsUnder, with_line}
+use Rattle.puzzle_text.specs.steps.Shown.{shown_line}
 use Rattle.puzzle_text.proofs.PlacedWalk.{walked, walked-placed}
 
 -- sections, and then those of lines below them

@@ -8,7 +8,8 @@ use Rattle.std.proofs.lemmas.Bool.{and_parts}
 use Rattle.std.proofs.lemmas.List.{length-append}
 use Rattle.std.proofs.lemmas.List.Folds.{list_any-append}
 use Rattle.puzzle_text.specs.Lines.{is_empty, trim, without_ending}
-use Rattle.puzzle_text.specs.Collections.{Entry, are_named, begins_with_marker, body_of, entries_of, first_stray, is_marker, is_stray, name_of}
+use Rattle.puzzle_text.specs.Collections.{Entry, body_of, entries_of, first_stray, is_marker, is_stray, name_of}
+use Rattle.puzzle_text.specs.steps.Collections.{are_named, begins_with_marker}
 use Rattle.puzzle_text.proofs.PlainLines.{not_true}
 
 -- the number of the first stray line: `raws` are the lines from `number` on,

@@ -1,6 +1,6 @@
 -- A collection of puzzle texts.
-use Rattle.std.specs.Prelude.{◌≡◌, ℕ, ◌+◌, Bool, false, not, ◌&&◌, ◌||◌, ◌-◌, true, slice_index, List, [], ◌∷◌, ◌++◌, length, drop, take, Option, Some, None, Result, Ok, Err, IsOk, nat_lt, ◌==◌, if◌then◌else◌}
-use Rattle.std.specs.List.{enumerate_from, find, list_all, list_any}
+use Rattle.std.specs.Prelude.{◌≡◌, ℕ, ◌+◌, Bool, false, not, ◌&&◌, List, [], ◌∷◌, ◌++◌, length, drop, take, Option, Some, None, Result, Ok, Err, IsOk, nat_lt, ◌==◌, if◌then◌else◌}
+use Rattle.std.specs.List.{enumerate_from, find, list_any}
 use Rattle.std.specs.Option.{option_map}
 use Rattle.puzzle_text.specs.declared.faults.CollectionFault.{CollectionFault}
 use Rattle.puzzle_text.specs.declared.faults.CollectionFault.TheVariants.{TooLong, Stray, TooMany, NoMemory}
@@ -37,24 +37,6 @@ entries_of [] = []
 entries_of (raw ∷ raws) =
     let others = entries_of raws in
     if is_marker raw then record { name = name_of raw; body = body_of raws } ∷ others else others
-
--- whether a line may begin after these bytes: there are none, or the last is a line feed
-abbrev pub ends_line : List ℕ → Bool
-ends_line bytes = is_empty bytes || slice_index bytes (length bytes - 1) == 10
-
--- `rest` follows a front of the text that is of the body alone: no entry begins in it
-abbrev pub FollowsPlain : List ℕ → List ℕ → Type 0
-FollowsPlain bytes rest = (front : List ℕ) × (bytes ≡ front ++ rest)
-    × (front ++ body_of (raw_lines rest) ≡ body_of (raw_lines bytes)) × (entries_of (raw_lines rest) ≡ entries_of (raw_lines bytes))
-
--- whether the first line begins an entry, if there is one
-abbrev pub begins_with_marker : List (List ℕ) → Bool
-begins_with_marker [] = true
-begins_with_marker (raw ∷ raws) = is_marker raw
-
--- whether each entry has a name
-abbrev pub are_named : List Entry → Bool
-are_named entries = list_all (λ entry. not (is_empty entry.name)) entries
 
 -- whether a line below these belongs to no entry or names none:
 -- it is a marker line without a name, or isn't blank and has no marker line above it

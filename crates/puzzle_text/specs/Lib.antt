@@ -1,4 +1,4 @@
--- The definitions that the contracts cite.
+-- The definitions that public contracts rest on; those that only private calls need are the steps.
 pub mod Lines
 pub mod Numbers
 pub mod Answers
@@ -12,8 +12,8 @@ pub mod Keywords
 pub mod Non
 pub mod Collections
 pub mod Shown
-pub mod Places
 pub mod Words
 pub mod Written
 pub mod Formats
 pub mod Laws
+pub mod steps

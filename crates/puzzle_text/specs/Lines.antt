@@ -1,6 +1,6 @@
 -- A text as numbered lines.
-use Rattle.std.specs.Prelude.{◌≡◌, ℕ, ◌+◌, ◌-◌, Bool, true, not, ◌||◌, List, [], ◌∷◌, length, reverse, ◌==◌, if◌then◌else◌, slice_index, take}
-use Rattle.std.specs.List.{onto_first, list_all, AllByRecursion}
+use Rattle.std.specs.Prelude.{ℕ, ◌+◌, ◌-◌, Bool, not, ◌||◌, List, [], ◌∷◌, length, reverse, ◌==◌, if◌then◌else◌, slice_index, take}
+use Rattle.std.specs.List.{onto_first}
 
 -- the lines of a text, each with the line feed that ends it
 abbrev pub raw_lines : List ℕ → List (List ℕ)
@@ -62,11 +62,3 @@ is_full line = not (is_blank_line line)
 -- whether a line begins with #
 abbrev pub is_hash : Line → Bool
 is_hash line = slice_index line.text 0 == 35
-
--- whether there is no line feed among these bytes
-abbrev pub has_no_feed : List ℕ → Bool
-has_no_feed bytes = list_all (λ byte. not (byte == 10)) bytes
-
--- no line has a line feed in it
-abbrev pub HaveNoFeed : List Line → Type 0
-HaveNoFeed lines = AllByRecursion (λ line. has_no_feed line.text ≡ true) lines

@@ -1,5 +1,5 @@
 -- What a text in .mk says: the first check that fails, each over all lines, or the puzzle.
-use Rattle.std.specs.Prelude.{ℕ, true, ◌+◌, List, ◌++◌, take, drop, Option, Some, None, Result, Ok, option_and_then}
+use Rattle.std.specs.Prelude.{ℕ, ◌+◌, List, ◌++◌, take, drop, Option, Some, None, Result, Ok, option_and_then}
 use Rattle.std.specs.List.{position, before_first}
 use Rattle.std.specs.Option.{option_map}
 use Rattle.grid_core.specs.Nonogram.{Nonogram}
@@ -8,7 +8,6 @@ use Rattle.puzzle_text.specs.declared.faults.TextFault.TheVariants.{NoSection, B
 use Rattle.puzzle_text.specs.Lines.{Line, is_hash}
 use Rattle.puzzle_text.specs.Answers.{◌>>=◌, or_fault}
 use Rattle.puzzle_text.specs.ClueLines.{clues_of}
-use Rattle.puzzle_text.specs.Non.{both_clues}
 use Rattle.puzzle_text.specs.Sections.{choice}
 use Rattle.puzzle_text.specs.Sizes.{lines_of, size_line}
 use Rattle.puzzle_text.specs.Readings.{reading}
@@ -45,11 +44,6 @@ or_else (Some x) other = Some x
 -- the puzzle that these clue lines say, the first of which are its rows
 abbrev pub puzzle_of : ℕ → ℕ → ℕ → List Line → Result Nonogram TextFault
 puzzle_of limit width height chosen = clues_of limit chosen >>= λ clues. Ok (reading width height clues)
-
--- the puzzle that the clue lines of both sections say
-abbrev pub puzzle_of_both : ℕ → ℕ → ℕ → List Line → List Line → Result Nonogram TextFault
-puzzle_of_both limit width height rows columns =
-    both_clues limit true rows columns >>= λ clues. Ok (reading width height (clues.0 ++ clues.1))
 
 -- the puzzle that these lines say: the height stands first in the size line,
 -- unless only the other order has clue lines in both sections

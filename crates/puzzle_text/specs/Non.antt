@@ -1,10 +1,10 @@
 -- What a text in .non says: the first check that fails, each over all lines, or the puzzle.
+-- ---- sections
 use Rattle.std.specs.Prelude.{ℕ, ◌*◌, Bool, true, false, not, ◌&&◌, ◌||◌, List, [], ◌∷◌, length, map, filter, codes, Option, Some, None, Result, Ok, Err, option_and_then, nat_lt, ◌==◌, min, take, unwrap_or, if◌then◌else◌}
 use Rattle.std.specs.Option.{option_map}
 use Rattle.std.specs.List.{enumerate_from, find, last_or}
 use Rattle.std.specs.Str.{bytes_eq}
-use Rattle.grid_core.specs.Description.{Description, with_text}
-use Rattle.grid_core.specs.declared.fields.Field.{Field}
+use Rattle.grid_core.specs.Description.{Description}
 use Rattle.grid_core.specs.declared.fields.Field.TheVariants.{Catalogue, Title, By, Copyright, License}
 use Rattle.grid_core.specs.Nonogram.{Nonogram}
 use Rattle.grid_core.specs.declared.limits.TheConstants.{LONGEST_TEXT}
@@ -16,8 +16,6 @@ use Rattle.puzzle_text.specs.ClueLines.{clues_of}
 use Rattle.puzzle_text.specs.Sections.{choice}
 use Rattle.puzzle_text.specs.Sizes.{lines_of, size_of}
 use Rattle.puzzle_text.specs.Keywords.{all_fields, field_word, keyword, rest, is_keyword_line, first_with, second_with, quoted_text}
-
--- ---- sections
 
 -- whether a line is neither a keyword line nor a comment
 abbrev pub is_content : Line → Bool
@@ -149,16 +147,6 @@ goal_of count (Some line) = or_fault (BadGoal line.number) (goal_cells count (qu
 -- the text of the first line of a field
 abbrev pub field_text : List ℕ → List Line → Option (List ℕ)
 field_text word lines = option_map quoted_text (first_with word lines)
-
--- the description with this text of a field, if there is one
-abbrev pub with_found : Description → Field → Option (List ℕ) → Description
-with_found d field None = d
-with_found d field (Some text) = with_text d field text
-
--- the description with the texts of these fields, one after the other
-abbrev pub with_all_found : List Line → Description → List Field → Description
-with_all_found lines d [] = d
-with_all_found lines d (field ∷ fields) = with_all_found lines (with_found d field (field_text (field_word field) lines)) fields
 
 -- the texts of all fields
 abbrev pub texts_of : List Line → Description

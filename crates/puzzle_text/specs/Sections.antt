@@ -3,11 +3,6 @@ use Rattle.std.specs.Prelude.{ℕ, ◌&&◌, List, length, take, drop, filter, O
 use Rattle.std.specs.List.{list_all}
 use Rattle.puzzle_text.specs.Lines.{Line, is_blank_line, is_full}
 
--- the first `count` lines of a section, if all after them are blank
-abbrev pub front : ℕ → List Line → Option (List Line)
-front count section =
-    if nat_le count (length section) && list_all is_blank_line (drop count section) then Some (take count section) else None
-
 -- `count` clue lines of a section: its lines that aren't blank, if they are `count`;
 -- or else its first lines, if all after them are blank
 abbrev pub choice : ℕ → List Line → Option (List Line)

@@ -1,32 +1,6 @@
 -- What the code keeps, as the definitions see it.
-use Rattle.std.specs.Prelude.{List, map}
-use Rattle.puzzle_text.specs.declared.lines.Line.{Line as KeptLine}
-use Rattle.puzzle_text.specs.declared.keyword_line.KeywordLine.{KeywordLine}
-use Rattle.puzzle_text.specs.declared.places.Sections.{Sections as KeptSections}
-use Rattle.puzzle_text.specs.declared.sections.Chosen.{Chosen}
-use Rattle.puzzle_text.specs.declared.sections.Chosen.TheVariants.{Part, Full}
 use Rattle.puzzle_text.specs.declared.collections.Entry.{Entry as KeptEntry}
 use Rattle.puzzle_text.specs.Collections.{Entry}
-use Rattle.puzzle_text.specs.Lines.{Line}
-use Rattle.puzzle_text.specs.Non.{Sections}
-
--- a line's number and text
-abbrev pub shown_line : KeptLine → Line
-shown_line line = record { number = line.number; text = line.text.now }
-
--- a keyword line as a line
-abbrev pub shown_keyword : KeywordLine → Line
-shown_keyword found = shown_line found.line
-
--- the lines of both sections, and the number of the first stray line
-abbrev pub shown_sections : KeptSections → Sections
-shown_sections sections =
-    record { rows = map shown_line sections.rows.items; columns = map shown_line sections.columns.items; stray = sections.stray }
-
--- clue lines
-abbrev pub shown_chosen : Chosen → List Line
-shown_chosen (Part lines) = map shown_line lines.now
-shown_chosen (Full lines) = map shown_line lines.items
 
 -- an entry's name and body
 abbrev pub shown_entry : KeptEntry → Entry

@@ -5,7 +5,7 @@ ghost use Rattle.puzzle_text.specs.Answers.{Gives};
 ghost use Rattle.puzzle_text.specs.ClueLines.{clue_of, clue_of_numbers, clues_of, numbers_within};
 ghost use Rattle.puzzle_text.specs.Non.{both_clues};
 ghost use Rattle.puzzle_text.specs.Numbers.{pieces};
-ghost use Rattle.puzzle_text.specs.Shown.{shown_chosen, shown_line};
+ghost use Rattle.puzzle_text.specs.steps.Shown.{shown_chosen, shown_line};
 
 use crate::faults::TextFault;
 use crate::lines::Line;

@@ -2,7 +2,8 @@
 
 ghost use Rattle.std.specs.Prelude.{◌≡◌, ◌==◌, ◌∷◌, ◌++◌, ◌<◌, ◌≤◌, ◌^◌, not, drop, take, map, true, false, length, Err, IfErr, IfOk, IfSome, Some, None, if◌then◌else◌};
 ghost use Rattle.std.specs.List.{list_all};
-ghost use Rattle.puzzle_text.specs.Collections.{FollowsPlain, GivesEntries, are_named, begins_with_marker, body_of, cut, ends_line, entries_of, first_stray, is_marker, name_of};
+ghost use Rattle.puzzle_text.specs.Collections.{GivesEntries, body_of, cut, entries_of, first_stray, is_marker, name_of};
+ghost use Rattle.puzzle_text.specs.steps.Collections.{FollowsPlain, are_named, begins_with_marker, ends_line};
 ghost use Rattle.puzzle_text.specs.Lines.{is_empty, raw_lines};
 ghost use Rattle.puzzle_text.specs.Shown.{shown_entry};
 

@@ -4,8 +4,9 @@ ghost use Rattle.std.specs.Prelude.{◌≡◌, map, true, IfOk, OnOk};
 ghost use Rattle.std.specs.Option.{option_map};
 ghost use Rattle.grid_core.specs.Description.{IsDescription, is_field};
 ghost use Rattle.puzzle_text.specs.Keywords.{field_word};
-ghost use Rattle.puzzle_text.specs.Non.{field_text, long_text, number_of_line, texts_of, with_all_found, with_found};
-ghost use Rattle.puzzle_text.specs.Shown.{shown_keyword};
+ghost use Rattle.puzzle_text.specs.Non.{field_text, long_text, number_of_line, texts_of};
+ghost use Rattle.puzzle_text.specs.steps.Non.{with_all_found, with_found};
+ghost use Rattle.puzzle_text.specs.steps.Shown.{shown_keyword};
 
 use crate::keyword_line::KeywordLine;
 use crate::keywords::{FIELDS, field_word, nth_with, quoted_text};

@@ -5,7 +5,7 @@ ghost use Rattle.std.specs.Option.{option_map};
 ghost use Rattle.grid_core.specs.Nonogram.{bools_of, is_goal};
 ghost use Rattle.puzzle_text.specs.Answers.{Gives};
 ghost use Rattle.puzzle_text.specs.Non.{cell_of, goal_cells, goal_of};
-ghost use Rattle.puzzle_text.specs.Shown.{shown_keyword};
+ghost use Rattle.puzzle_text.specs.steps.Shown.{shown_keyword};
 
 use crate::faults::TextFault;
 use crate::keyword_line::KeywordLine;

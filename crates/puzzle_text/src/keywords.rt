@@ -7,7 +7,7 @@ ghost use Rattle.std.specs.Char.{is_ascii_alphabetic};
 ghost use Rattle.std.specs.Str.{bytes_eq, str_to_ascii_lowercase};
 ghost use Rattle.puzzle_text.specs.Lines.{is_empty};
 ghost use Rattle.puzzle_text.specs.Keywords.{after_quote, before_quote, field_word, has_keyword, is_keyword_line, keyword, quoted, rest, quoted_text, with_keyword};
-ghost use Rattle.puzzle_text.specs.Shown.{shown_keyword, shown_line};
+ghost use Rattle.puzzle_text.specs.steps.Shown.{shown_keyword, shown_line};
 
 use crate::keyword_line::KeywordLine;
 use crate::lines::{Line, trim};

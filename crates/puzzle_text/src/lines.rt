@@ -3,7 +3,7 @@
 ghost use Rattle.std.specs.Prelude.{ℕ, ◌≡◌, ◌==◌, ◌+◌, ◌^◌, ◌<◌, ◌≤◌, ◌∷◌, [], ◌++◌, reverse, length, map, IfOk};
 ghost use Rattle.std.specs.List.{position};
 ghost use Rattle.puzzle_text.specs.Lines.{is_blank, is_hash, lines, numbered_from, raw_lines, strip_last, trim, trim_end, trim_start, without_ending};
-ghost use Rattle.puzzle_text.specs.Shown.{shown_line};
+ghost use Rattle.puzzle_text.specs.steps.Shown.{shown_line};
 
 use grid_core::NoMemory;
 use std::alloc::Global;

@@ -6,8 +6,9 @@ ghost use Rattle.std.specs.Option.{option_map};
 ghost use Rattle.grid_core.specs.PartialGrid.{IsSize};
 ghost use Rattle.puzzle_text.specs.Answers.{Gives};
 ghost use Rattle.puzzle_text.specs.Lines.{is_hash};
-ghost use Rattle.puzzle_text.specs.Mk.{at_hash, before_hash, both_choices, mk_of, puzzle_of, puzzle_of_both, read_mk};
-ghost use Rattle.puzzle_text.specs.Shown.{shown_chosen, shown_line};
+ghost use Rattle.puzzle_text.specs.Mk.{at_hash, before_hash, both_choices, mk_of, puzzle_of, read_mk};
+ghost use Rattle.puzzle_text.specs.steps.Mk.{puzzle_of_both};
+ghost use Rattle.puzzle_text.specs.steps.Shown.{shown_chosen, shown_line};
 
 use crate::clue_lines::both_clues;
 use crate::faults::TextFault;

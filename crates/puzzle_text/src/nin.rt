@@ -3,7 +3,7 @@
 ghost use Rattle.std.specs.Prelude.{◌≡◌, ◌<◌, map, length, Err};
 ghost use Rattle.puzzle_text.specs.Answers.{Gives};
 ghost use Rattle.puzzle_text.specs.Nin.{nin_of, read_nin};
-ghost use Rattle.puzzle_text.specs.Shown.{shown_line};
+ghost use Rattle.puzzle_text.specs.steps.Shown.{shown_line};
 
 use crate::clue_lines::chosen_clues;
 use crate::faults::TextFault;

@@ -6,9 +6,9 @@ ghost use Rattle.grid_core.specs.Description.{IsDescription};
 ghost use Rattle.grid_core.specs.PartialGrid.{IsSize};
 ghost use Rattle.puzzle_text.specs.Answers.{Gives};
 ghost use Rattle.puzzle_text.specs.Keywords.{second_with};
-ghost use Rattle.puzzle_text.specs.Lines.{HaveNoFeed};
+ghost use Rattle.puzzle_text.specs.steps.Lines.{HaveNoFeed};
 ghost use Rattle.puzzle_text.specs.Non.{bad_line, check_lines, least, least_of, non_of, number_of_line, puzzle_said, read_non, repeated, rows_first, sizes_of, texts_of};
-ghost use Rattle.puzzle_text.specs.Shown.{shown_keyword, shown_line, shown_sections};
+ghost use Rattle.puzzle_text.specs.steps.Shown.{shown_keyword, shown_line, shown_sections};
 
 use crate::clue_lines::both_clues;
 use crate::descriptions::{long_number, texts_of};

@@ -4,8 +4,8 @@ ghost use Rattle.std.specs.Prelude.{◌≡◌, map, length, IfOk, OnOk};
 ghost use Rattle.std.specs.Str.{str_to_ascii_lowercase};
 ghost use Rattle.puzzle_text.specs.Answers.{Gives};
 ghost use Rattle.puzzle_text.specs.Non.{clue_lines_of, placed, sections_of};
-ghost use Rattle.puzzle_text.specs.Places.{IsUnder, with_line};
-ghost use Rattle.puzzle_text.specs.Shown.{shown_chosen, shown_line, shown_sections};
+ghost use Rattle.puzzle_text.specs.steps.Places.{IsUnder, with_line};
+ghost use Rattle.puzzle_text.specs.steps.Shown.{shown_chosen, shown_line, shown_sections};
 
 use crate::faults::TextFault;
 use crate::keywords::{keyword, same_word};

@@ -4,8 +4,9 @@ ghost use Rattle.std.specs.Prelude.{◌≡◌, ◌==◌, ◌<◌, ◌^◌, not, 
 ghost use Rattle.std.specs.List.{list_all};
 ghost use Rattle.std.specs.Option.{option_map};
 ghost use Rattle.puzzle_text.specs.Lines.{is_blank_line, is_full};
-ghost use Rattle.puzzle_text.specs.Sections.{choice, front};
-ghost use Rattle.puzzle_text.specs.Shown.{shown_chosen, shown_line};
+ghost use Rattle.puzzle_text.specs.Sections.{choice};
+ghost use Rattle.puzzle_text.specs.steps.Sections.{front};
+ghost use Rattle.puzzle_text.specs.steps.Shown.{shown_chosen, shown_line};
 
 use crate::lines::Line;
 use grid_core::NoMemory;

@@ -6,7 +6,7 @@ ghost use Rattle.grid_core.specs.PartialGrid.{IsSize};
 ghost use Rattle.puzzle_text.specs.Answers.{Gives};
 ghost use Rattle.puzzle_text.specs.Numbers.{pieces};
 ghost use Rattle.puzzle_text.specs.Sizes.{first_full, lines_of, size_of, size_line, two_sizes};
-ghost use Rattle.puzzle_text.specs.Shown.{shown_line};
+ghost use Rattle.puzzle_text.specs.steps.Shown.{shown_line};
 
 use crate::faults::TextFault;
 use crate::limits::LONGEST_PUZZLE;

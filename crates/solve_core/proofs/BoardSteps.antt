@@ -5,10 +5,11 @@ use Rattle.grid_core.specs.declared.cells.Cell.{Cell}
 use Rattle.grid_core.specs.declared.cells.Cell.TheVariants.{Unknown}
 use Rattle.grid_core.specs.Cells.{is_known}
 use Rattle.grid_core.specs.declared.sides.Side.{Side}
-use Rattle.grid_core.specs.Nonogram.{count_on, crossing, place_on}
+use Rattle.grid_core.specs.Nonogram.{crossing}
+use Rattle.grid_core.specs.steps.Sides.{count_on, place_on}
 use Rattle.grid_core.specs.PartialGrid.{PartialGrid, IsSize}
-use Rattle.solve_core.specs.Boards.{IsBoard}
-use Rattle.solve_core.specs.Trails.{TrailedGrid}
+use Rattle.solve_core.specs.steps.Boards.{IsBoard}
+use Rattle.solve_core.specs.steps.Trails.{TrailedGrid}
 use Rattle.solve_core.proofs.SideLines.{cell_within}
 use Rattle.solve_core.proofs.Closing.{unknown_count-le}
 use Rattle.solve_core.proofs.TrailSteps.{count-settled}

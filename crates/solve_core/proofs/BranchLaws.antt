@@ -6,8 +6,8 @@ use Rattle.grid_core.specs.declared.cells.Cell.TheVariants.{Unknown, Filled, Bla
 use Rattle.grid_core.specs.Nonogram.{GridLine}
 use Rattle.solve_core.specs.declared.branches.Branch.{Branch}
 use Rattle.solve_core.specs.Search.{Guess, events}
-use Rattle.solve_core.specs.Trails.{TrailedGrid, unknown_count, cleared, IsTrailed}
-use Rattle.solve_core.specs.Branches.{cells_before, IsNext, IsBranch, AreInOrder, AreBefore, AreOlder, IsWork, pending, open_events, ready_events}
+use Rattle.solve_core.specs.steps.Trails.{TrailedGrid, unknown_count, cleared, IsTrailed}
+use Rattle.solve_core.specs.steps.Branches.{cells_before, IsNext, IsBranch, AreInOrder, AreBefore, AreOlder, IsWork, pending, open_events, ready_events}
 use Rattle.solve_core.proofs.TrailSteps.{cleared-append}
 use Rattle.solve_core.proofs.EndingLaws.{append-nil-right, append-assoc-right}
 

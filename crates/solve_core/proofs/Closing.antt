@@ -4,7 +4,7 @@ use Rattle.grid_core.specs.declared.cells.Cell.{Cell}
 use Rattle.grid_core.specs.declared.cells.Cell.TheVariants.{Unknown, Filled, Blank}
 use Rattle.grid_core.specs.Cells.{Extends}
 use Rattle.solve_core.specs.Closure.{repeat}
-pub use Rattle.solve_core.specs.Trails.{unknown_count}
+pub use Rattle.solve_core.specs.steps.Trails.{unknown_count}
 use Rattle.solve_core.proofs.Order.{AtMost, AtMost-trans, Extends-refl}
 
 -- a step that only adds to what is known, and gives no less if more is known

@@ -8,7 +8,8 @@ use Rattle.place_sets.specs.Masks.{Has, has, IsMaskOf, IsMoved}
 use Rattle.place_sets.proofs.HasLemmas.{true_has, has_true}
 use Rattle.grid_core.specs.Lines.{IsUnknownCell}
 use Rattle.grid_core.proofs.LineCells.{has_by}
-use Rattle.solve_core.specs.Counts.{AreCounts, IsKnownCell, IsMostInRow, is_sure, row_score, two_of}
+use Rattle.solve_core.specs.steps.Counts.{AreCounts, IsKnownCell, IsMostInRow, row_score, two_of}
+use Rattle.solve_core.specs.Picks.{is_sure}
 
 at_most_one : (n : ℕ) → (n ≤ 1) ⊎ (2 ≤ n)
 at_most_one zero = inl (omega arith)

@@ -7,7 +7,7 @@ use Rattle.grid_core.specs.declared.cells.Cell.{Cell}
 use Rattle.grid_core.specs.declared.cells.Cell.TheVariants.{Unknown, Filled, Blank}
 use Rattle.grid_core.specs.Cells.{is_known, is_unknown}
 use Rattle.grid_core.specs.Nonogram.{GridLine}
-use Rattle.solve_core.specs.Trails.{unknown_count}
+use Rattle.solve_core.specs.steps.Trails.{unknown_count}
 use Rattle.solve_core.specs.Trials.{IsTried}
 
 -- each cell is known or unknown

@@ -3,7 +3,7 @@ use Rattle.std.proofs.Common.{◌≡◌, ℕ, suc, ◌+◌, ◌-◌, add-one, �
 use Rattle.grid_core.specs.PartialGrid.{PartialGrid}
 use Rattle.grid_core.specs.Nonogram.{Nonogram}
 use Rattle.solve_core.specs.Search.{Event, Guess}
-use Rattle.solve_core.specs.Endings.{Ending, ending}
+use Rattle.solve_core.specs.steps.Endings.{Ending, ending}
 
 -- a list followed by nothing is the list
 pub append-nil-right : {X : Type 0} (xs : List X) → xs ++ [] ≡ xs

@@ -8,8 +8,9 @@ use Rattle.grid_core.specs.Clues.{is_clue, is_run}
 use Rattle.grid_core.specs.declared.limits.TheConstants.{MOST_RUNS}
 use Rattle.grid_core.specs.declared.sides.Side.{Side}
 use Rattle.grid_core.specs.declared.sides.Side.TheVariants.{Rows, Columns}
-use Rattle.grid_core.specs.Nonogram.{Nonogram, count_on, line_on}
-use Rattle.solve_core.specs.Widths.{FitsIn}
+use Rattle.grid_core.specs.Nonogram.{Nonogram, line_on}
+use Rattle.grid_core.specs.steps.Sides.{count_on}
+use Rattle.solve_core.specs.steps.Widths.{FitsIn}
 
 -- a side has no more lines than a set has places
 pub count_fits : (side : Side) (width : ℕ) (p : Nonogram) → FitsIn width p → count_on side p.width p.height ≤ width

@@ -8,10 +8,11 @@ use Rattle.grid_core.specs.Cells.{is_unknown}
 use Rattle.grid_core.specs.PartialGrid.{PartialGrid, IsSize}
 use Rattle.grid_core.specs.declared.sides.Side.{Side}
 use Rattle.grid_core.specs.declared.sides.Side.TheVariants.{Rows, Columns}
-use Rattle.grid_core.specs.Nonogram.{places_from, cells_at, count_on, crossing, place_on, places_on}
+use Rattle.grid_core.specs.Nonogram.{places_from, cells_at, crossing, places_on}
+use Rattle.grid_core.specs.steps.Sides.{count_on, place_on}
 use Rattle.grid_core.proofs.LineLaws.{length-places_from, get_or-places_from, length-places_on, get_or-places_on, length-cells_at, get_or-cells_at}
 use Rattle.grid_core.specs.Lines.{IsUnknownFrom}
-use Rattle.solve_core.specs.GridLines.{AreLinesOf}
+use Rattle.solve_core.specs.steps.GridLines.{AreLinesOf}
 use Rattle.grid_core.specs.Rows.{cells_of_rows, row_of, with_row}
 use Rattle.grid_core.proofs.RowLemmas.{length-replaced, replaced-here, replaced-others}
 use Rattle.grid_core.proofs.RowLists.{get_or-row_of, get_or-rows, length-row_of, length-rows}

@@ -4,17 +4,18 @@ use Rattle.std.proofs.lemmas.Bool.{cases_eq}
 use Rattle.std.proofs.lemmas.Nat.{div_below}
 use Rattle.grid_core.specs.declared.cells.Cell.{Cell}
 use Rattle.grid_core.specs.declared.cells.Cell.TheVariants.{Unknown}
-use Rattle.grid_core.specs.Nonogram.{Nonogram, IsNonogram, GridLine, lines_of, line_on, count_on, crossing, place_on, places_on}
+use Rattle.grid_core.specs.Nonogram.{Nonogram, IsNonogram, GridLine, lines_of, line_on, crossing, places_on}
+use Rattle.grid_core.specs.steps.Sides.{count_on, place_on}
 use Rattle.solve_core.specs.declared.closures.Progress.{Progress}
 use Rattle.solve_core.specs.declared.closures.Progress.TheVariants.{Dead, Same, Changed}
 use Rattle.solve_core.specs.Closure.{round, closure, deduce_line}
-use Rattle.solve_core.specs.LineMarks.{LineMarks, marks_on, IsMarkedOn, AreUnmarked, AreMarksWithin}
+use Rattle.solve_core.specs.steps.LineMarks.{LineMarks, marks_on, IsMarkedOn, AreUnmarked, AreMarksWithin}
 use Rattle.place_sets.specs.Masks.{Has, IsMarked, IsMaskOf}
 use Rattle.grid_core.specs.declared.sides.Side.{Side}
 use Rattle.grid_core.specs.declared.sides.Side.TheVariants.{Rows, Columns}
-use Rattle.solve_core.specs.Marks.{IsDeduced, IsWritten, IsLearned, MarksChanges, HasMarks, MarksAfter, Progresses, IsAtRest}
-use Rattle.solve_core.specs.Closers.{Closing, IsIdle}
-use Rattle.solve_core.specs.Trails.{unknown_count}
+use Rattle.solve_core.specs.steps.Marks.{IsDeduced, IsWritten, IsLearned, MarksChanges, HasMarks, MarksAfter, Progresses, IsAtRest}
+use Rattle.solve_core.specs.steps.Closers.{Closing, IsIdle}
+use Rattle.solve_core.specs.steps.Trails.{unknown_count}
 use Rattle.solve_core.proofs.Order.{Extends-refl, length-Extends}
 use Rattle.solve_core.proofs.ClosureLaws.{closure-IsLeastClosed}
 use Rattle.solve_core.proofs.StepLaws.{IsOneOf, done_within}

@@ -9,8 +9,8 @@ use Rattle.grid_core.specs.Nonogram.{GridLine, places_from, cells_at}
 use Rattle.line_core.specs.Deduction.{deduced}
 use Rattle.grid_core.proofs.LineLaws.{length-places_from, get_or-places_from, length-cells_at, get_or-cells_at}
 use Rattle.solve_core.specs.Closure.{with_cells, deduce_line, round, closure}
-use Rattle.solve_core.specs.Marks.{IsDeduced, IsWritten}
-use Rattle.solve_core.specs.Trails.{unknown_count}
+use Rattle.solve_core.specs.steps.Marks.{IsDeduced, IsWritten}
+use Rattle.solve_core.specs.steps.Trails.{unknown_count}
 use Rattle.solve_core.proofs.Order.{AtMost, Extends-refl, Extends-trans, Extends-antisym, length-Extends}
 use Rattle.solve_core.proofs.Closing.{fewer_unknown}
 use Rattle.line_core.proofs.DeductionLaws.{deduced-above, deduced-settled}

@@ -6,8 +6,9 @@ use Rattle.grid_core.specs.declared.cells.Cell.{Cell}
 use Rattle.grid_core.specs.declared.cells.Cell.TheVariants.{Unknown}
 use Rattle.grid_core.specs.Cells.{is_unknown}
 use Rattle.grid_core.specs.Lines.{IsUnknownCell}
-use Rattle.solve_core.specs.Counts.{IsMostInRow, is_sure, row_score, two_of}
-use Rattle.solve_core.specs.GridLines.{AreLinesOf}
+use Rattle.solve_core.specs.steps.Counts.{IsMostInRow, row_score, two_of}
+use Rattle.solve_core.specs.Picks.{is_sure}
+use Rattle.solve_core.specs.steps.GridLines.{AreLinesOf}
 use Rattle.grid_core.specs.Rows.{cells_of_rows}
 use Rattle.solve_core.specs.Picks.{better, first_most, is_left_sure, is_right_sure, is_above_sure, is_below_sure, sure_neighbours}
 use Rattle.solve_core.proofs.GridLineSteps.{cell-read, lines-long}

@@ -15,7 +15,7 @@ use Rattle.solve_core.specs.declared.findings.Findings.{Findings}
 use Rattle.solve_core.specs.Search.{Event, Guess, Solution, events}
 use Rattle.solve_core.specs.Report.{through_solution, within_guesses, solutions_in, guesses_in, verdict_by, grid_of, whole_search, events_from, verdict_of, guesses_of, unknown_grid, line_closure, trial_closure, is_decided, known_in, grade_by, report_of}
 use Rattle.solve_core.specs.Verdicts.{IsFinal}
-use Rattle.solve_core.specs.Endings.{Ending, ending}
+use Rattle.solve_core.specs.steps.Endings.{Ending, ending}
 
 nat_lt-more : (m n : ℕ) → nat_lt m n ≡ nat_lt (suc m) (suc n)
 nat_lt-more m n = by (nat_lt m n) (nat_lt (suc m) (suc n)) refl refl

@@ -11,8 +11,8 @@ use Rattle.grid_core.specs.Nonogram.{GridLine}
 use Rattle.solve_core.specs.declared.branches.Branch.{Branch}
 use Rattle.solve_core.specs.Closure.{round, closure}
 use Rattle.solve_core.specs.Search.{Event, IsPick, guess_at, search_from, events, first_unknown}
-use Rattle.solve_core.specs.Trails.{unknown_count}
-use Rattle.solve_core.specs.Branches.{AreKnownBefore, IsClosed, IsNext, IsOpen, IsWork, AreOlder}
+use Rattle.solve_core.specs.steps.Trails.{unknown_count}
+use Rattle.solve_core.specs.steps.Branches.{AreKnownBefore, IsClosed, IsNext, IsOpen, IsWork, AreOlder}
 use Rattle.line_core.proofs.DeductionLaws.{Extends-at}
 use Rattle.grid_core.specs.Lines.{IsUnknownFrom}
 use Rattle.solve_core.proofs.Closing.{repeat-fixed}

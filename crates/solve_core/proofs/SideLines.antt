@@ -6,7 +6,8 @@ use Rattle.std.proofs.lemmas.List.Elements.{recursion_from_All}
 use Rattle.grid_core.specs.declared.sides.Side.{Side}
 use Rattle.grid_core.specs.declared.sides.Side.TheVariants.{Rows, Columns}
 use Rattle.grid_core.specs.PartialGrid.{IsSize}
-use Rattle.grid_core.specs.Nonogram.{Nonogram, IsNonogram, GridLine, lines_of, clues_on, column_on, count_on, crossing, line_on, place_on, places_on, row_on}
+use Rattle.grid_core.specs.Nonogram.{Nonogram, IsNonogram, GridLine, lines_of, clues_on, crossing, line_on, places_on}
+use Rattle.grid_core.specs.steps.Sides.{column_on, count_on, place_on, row_on}
 use Rattle.grid_core.proofs.LineLaws.{all_lines, each_line, place-within, length-places_on, get_or-places_on}
 use Rattle.solve_core.proofs.StepLaws.{IsOneOf}
 use Rattle.solve_core.proofs.LineSteps.{AreDistinct, AreBelow, distinct_from, below_from}

@@ -6,8 +6,8 @@ use Rattle.grid_core.specs.declared.cells.Cell.{Cell}
 use Rattle.grid_core.specs.declared.cells.Cell.TheVariants.{Unknown, Filled, Blank}
 use Rattle.grid_core.specs.Cells.{is_known}
 use Rattle.grid_core.specs.Nonogram.{Nonogram}
-use Rattle.solve_core.specs.Boards.{IsBoardOf}
-use Rattle.solve_core.specs.Trails.{TrailedGrid, unknown_count, cleared, IsFullTrail, IsTrailed}
+use Rattle.solve_core.specs.steps.Boards.{IsBoardOf}
+use Rattle.solve_core.specs.steps.Trails.{TrailedGrid, unknown_count, cleared, IsFullTrail, IsTrailed}
 
 -- clearing the places of two lists clears those of the second one first
 pub cleared-append : (cells : List Cell) (ks js : List ℕ) → cleared cells (ks ++ js) ≡ cleared (cleared cells js) ks

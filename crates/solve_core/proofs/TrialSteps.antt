@@ -9,8 +9,8 @@ use Rattle.solve_core.specs.declared.trials.Trial.TheVariants.{Refuted, Open, Cl
 use Rattle.solve_core.specs.declared.closures.Progress.TheVariants.{Changed}
 use Rattle.solve_core.specs.Closure.{round, closure}
 use Rattle.solve_core.specs.Trials.{is_refuted, left_over, tried, trial_round, trials, IsTried}
-use Rattle.solve_core.specs.Marks.{Progresses, IsTrialOf}
-use Rattle.solve_core.specs.Trails.{unknown_count}
+use Rattle.solve_core.specs.steps.Marks.{Progresses, IsTrialOf}
+use Rattle.solve_core.specs.steps.Trails.{unknown_count}
 use Rattle.solve_core.proofs.Order.{AtMost, Extends-refl, Extends-trans, length-Extends, set_extends, set_within}
 use Rattle.solve_core.proofs.Closing.{repeat-fixed, fewer_unknown}
 use Rattle.line_core.proofs.DeductionLaws.{Extends-at}

@@ -7,19 +7,20 @@ use Rattle.std.proofs.Math.Seq.{get_or-append_seam}
 use Rattle.grid_core.specs.declared.cells.Cell.{Cell}
 use Rattle.grid_core.specs.declared.cells.Cell.TheVariants.{Unknown, Filled, Blank}
 use Rattle.grid_core.specs.Cells.{CellExtends, Extends, is_known}
-use Rattle.grid_core.specs.Nonogram.{Nonogram, IsNonogram, GridLine, lines_of, cells_at, line_on, count_on}
+use Rattle.grid_core.specs.Nonogram.{Nonogram, IsNonogram, GridLine, lines_of, cells_at, line_on}
+use Rattle.grid_core.specs.steps.Sides.{count_on}
 use Rattle.line_core.specs.Deduction.{deduced}
 use Rattle.line_core.proofs.DeductionLaws.{Extends-at}
 use Rattle.solve_core.specs.Closure.{round, closure}
 use Rattle.grid_core.specs.declared.sides.Side.{Side}
 use Rattle.grid_core.specs.declared.sides.Side.TheVariants.{Rows, Columns}
-use Rattle.solve_core.specs.Marks.{IsDeduced, AreOpen}
-use Rattle.solve_core.specs.Trails.{cleared}
-use Rattle.solve_core.specs.Overlaid.{over, overlaid, AreAlike, AreApart}
+use Rattle.solve_core.specs.steps.Marks.{IsDeduced, AreOpen}
+use Rattle.solve_core.specs.steps.Trails.{cleared}
+use Rattle.solve_core.specs.steps.Overlaid.{over, overlaid, AreAlike, AreApart}
 use Rattle.solve_core.specs.declared.witnesses.Crossed.{Crossed}
 use Rattle.solve_core.specs.declared.witnesses.Witness.{Witness}
-use Rattle.solve_core.specs.WitnessLists.{WitnessLists, no_witness, witness_at, met_by, open_marks}
-use Rattle.solve_core.specs.Witnesses.{has_side, IsCrossed, DifferWithin, ShareNoLine, IsWitness, AreWitnesses, AreNumbered, IsKept, AddsMet}
+use Rattle.solve_core.specs.steps.WitnessLists.{WitnessLists, no_witness, witness_at, met_by, open_marks}
+use Rattle.solve_core.specs.steps.Witnesses.{has_side, IsCrossed, DifferWithin, ShareNoLine, IsWitness, AreWitnesses, AreNumbered, IsKept, AddsMet}
 use Rattle.solve_core.proofs.Order.{Extends-refl, Extends-antisym, length-Extends, set_within}
 use Rattle.solve_core.proofs.ClosureLaws.{closure-IsLeastClosed}
 use Rattle.solve_core.proofs.TrialSteps.{met_open}

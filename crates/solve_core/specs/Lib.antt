@@ -1,28 +1,12 @@
--- The definitions that the contracts cite.
+-- The definitions that public contracts rest on; those that only private calls need are the steps.
 pub mod Closure
 pub mod LeastClosed
 pub mod Trials
-pub mod Overlaid
-pub mod WitnessLists
-pub mod Witnesses
-pub mod Trails
-pub mod Boards
-pub mod GridLines
-pub mod Closers
-pub mod Tried
-pub mod Deductions
-pub mod Marks
 pub mod Sizes
 pub mod Search
 pub mod Report
 pub mod Verdicts
-pub mod Endings
-pub mod FoundGrids
-pub mod Branches
-pub mod Guesses
-pub mod Widths
 pub mod Fittings
-pub mod LineMarks
 pub mod Picks
-pub mod Counts
 pub mod MostKnown
+pub mod steps

@@ -1,12 +1,15 @@
 -- The rules for the cell of the next guess.
-use Rattle.std.specs.Prelude.{ℕ, zero, suc, ◌+◌, ◌-◌, ◌%◌, Bool, cond, nat_eq, nat_lt, nat_le, List, length, slice_index_or, Option, Some, None}
+use Rattle.std.specs.Prelude.{ℕ, zero, suc, ◌+◌, ◌-◌, ◌%◌, Bool, cond, nat_eq, nat_lt, nat_le, List, length, slice_index_or, Option, Some, None, ◌||◌}
 use Rattle.grid_core.specs.declared.cells.Cell.{Cell}
 use Rattle.grid_core.specs.declared.cells.Cell.TheVariants.{Unknown}
-use Rattle.grid_core.specs.Cells.{is_unknown}
+use Rattle.grid_core.specs.Cells.{is_unknown, is_known}
 use Rattle.solve_core.specs.declared.picks.Pick.{Pick}
 use Rattle.solve_core.specs.declared.picks.Pick.TheVariants.{First, Most}
-use Rattle.solve_core.specs.Counts.{is_sure}
 use Rattle.solve_core.specs.Search.{first_unknown}
+
+-- whether a neighbour is outside the grid, or else known
+abbrev pub is_sure : Bool → Cell → Bool
+is_sure outside cell = outside || is_known cell
 
 -- whether the neighbour to the left of cell `k`, in a grid of `width` columns, is known or outside the grid
 abbrev pub is_left_sure : ℕ → List Cell → ℕ → Bool

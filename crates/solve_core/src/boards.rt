@@ -1,12 +1,13 @@
 //! A grid as its rows and its columns, with the way back.
 ghost use Rattle.std.specs.Prelude.{◌≡◌, ◌+◌, ◌-◌, ◌*◌, ◌<◌, ◌≤◌, [], length, take, slice_index_or, slice_set, true, IfOk};
 ghost use Rattle.grid_core.specs.Cells.{is_known};
-ghost use Rattle.grid_core.specs.Nonogram.{count_on, crossing, place_on};
+ghost use Rattle.grid_core.specs.Nonogram.{crossing};
+ghost use Rattle.grid_core.specs.steps.Sides.{count_on, place_on};
 ghost use Rattle.grid_core.specs.PartialGrid.{IsSize};
 ghost use Rattle.grid_core.specs.declared.cells.Cell.TheVariants.{Unknown};
-ghost use Rattle.solve_core.specs.Boards.{cells_along, fresh_board, grid_of_board, unknown_board, IsWhole};
-ghost use Rattle.solve_core.specs.Branches.{cells_before};
-ghost use Rattle.solve_core.specs.Trails.{IsTrailed, IsTrailedGrid};
+ghost use Rattle.solve_core.specs.steps.Boards.{cells_along, fresh_board, grid_of_board, unknown_board, IsWhole};
+ghost use Rattle.solve_core.specs.steps.Branches.{cells_before};
+ghost use Rattle.solve_core.specs.steps.Trails.{IsTrailed, IsTrailedGrid};
 
 use crate::grid_lines::GridLines;
 use grid_core::{Cell, Grid, NoMemory, Side};
@@ -24,8 +25,8 @@ pub struct Board<W: LineSet> {
 
 impl<W: LineSet> Model for Board<W> {
     ghost use Rattle.std.specs.Prelude.{vec_capacity};
-    ghost use Rattle.solve_core.specs.Boards.{IsBoard};
-    ghost use Rattle.solve_core.specs.Trails.{TrailedGrid};
+    ghost use Rattle.solve_core.specs.steps.Boards.{IsBoard};
+    ghost use Rattle.solve_core.specs.steps.Trails.{TrailedGrid};
 
     ghost Value = { TrailedGrid };
 

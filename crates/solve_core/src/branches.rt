@@ -4,7 +4,7 @@ ghost use Rattle.grid_core.specs.declared.cells.Cell.{Cell as CellValue};
 ghost use Rattle.grid_core.specs.Cells.{is_known};
 ghost use Rattle.grid_core.specs.Nonogram.{GridLine};
 ghost use Rattle.grid_core.specs.declared.cells.Cell.TheVariants.{Unknown};
-ghost use Rattle.solve_core.specs.Branches.{IsWork, AreOlder, IsOpen, IsReady, pending, open_events, ready_events};
+ghost use Rattle.solve_core.specs.steps.Branches.{IsWork, AreOlder, IsOpen, IsReady, pending, open_events, ready_events};
 
 use crate::boards::Board;
 use grid_core::Cell;

@@ -1,16 +1,18 @@
 //! The closure of a grid, by a mark at each line that may have more to give.
 ghost use Rattle.std.specs.Prelude.{◌≡◌, ◌≢◌, ℕ, ◌+◌, ◌*◌, ◌<◌, ◌≤◌, ◌↔◌, true, false, length, slice_set, slice_index_or, IsTrue};
 ghost use Rattle.grid_core.specs.Cells.{is_known};
-ghost use Rattle.grid_core.specs.Nonogram.{Nonogram, count_on, crossing, line_on, lines_of};
+ghost use Rattle.grid_core.specs.Nonogram.{Nonogram, crossing, line_on, lines_of};
+ghost use Rattle.grid_core.specs.steps.Sides.{count_on};
 ghost use Rattle.place_sets.specs.Masks.{Has, IsMarked, IsMaskOf};
 ghost use Rattle.grid_core.specs.declared.cells.Cell.TheVariants.{Unknown};
 ghost use Rattle.solve_core.specs.Closure.{closure};
-ghost use Rattle.solve_core.specs.Closers.{IsIdle, IsMemoryOf};
-ghost use Rattle.solve_core.specs.Deductions.{AreRight};
-ghost use Rattle.solve_core.specs.LineMarks.{marks_on, IsUnmarkedOn};
-ghost use Rattle.solve_core.specs.Marks.{IsLearned, MarksChanges, HasWork, LeavesWork, Progresses, IsAtRest, if_alive};
-ghost use Rattle.solve_core.specs.Trails.{CanSettle, IsTrailed, cleared};
-ghost use Rattle.solve_core.specs.Boards.{IsBoardOf};
+ghost use Rattle.solve_core.specs.steps.Closers.{IsIdle, IsMemoryOf};
+ghost use Rattle.solve_core.specs.steps.Deductions.{AreRight};
+ghost use Rattle.solve_core.specs.steps.LineMarks.{marks_on, IsUnmarkedOn};
+ghost use Rattle.solve_core.specs.steps.Marks.{IsLearned, MarksChanges, HasWork, LeavesWork, Progresses, IsAtRest};
+ghost use Rattle.solve_core.specs.Closure.{if_alive};
+ghost use Rattle.solve_core.specs.steps.Trails.{CanSettle, IsTrailed, cleared};
+ghost use Rattle.solve_core.specs.steps.Boards.{IsBoardOf};
 ghost use Rattle.solve_core.specs.declared.closures.Progress.TheVariants.{Dead, Same};
 
 use crate::boards::Board;
@@ -50,7 +52,7 @@ pub struct Closer<W: LineSet> {
 }
 
 impl<W: LineSet> Model for Closer<W> {
-    ghost use Rattle.solve_core.specs.Closers.{Closing};
+    ghost use Rattle.solve_core.specs.steps.Closers.{Closing};
 
     ghost Value = { Closing };
 

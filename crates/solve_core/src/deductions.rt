@@ -1,9 +1,10 @@
 //! Deductions of a puzzle's lines, remembered.
 ghost use Rattle.std.specs.Prelude.{[], ◌≡◌, ◌+◌, ◌*◌, ◌<◌, ◌≤◌, ◌↔◌, length, vec_capacity, IsTrue, IfOk, IfSome, All};
 ghost use Rattle.line_core.specs.Deduction.{deduced};
-ghost use Rattle.solve_core.specs.Deductions.{AreRight, IsKeptFrom};
-ghost use Rattle.grid_core.specs.Nonogram.{count_on, line_on};
-ghost use Rattle.solve_core.specs.Widths.{FitsIn};
+ghost use Rattle.solve_core.specs.steps.Deductions.{AreRight, IsKeptFrom};
+ghost use Rattle.grid_core.specs.Nonogram.{line_on};
+ghost use Rattle.grid_core.specs.steps.Sides.{count_on};
+ghost use Rattle.solve_core.specs.steps.Widths.{FitsIn};
 
 use crate::places::clue_of_line;
 use grid_core::{LONGEST_SIDE, NoMemory, Puzzle, Side};
@@ -46,7 +47,7 @@ fn copy_answer<W: LineSet>(answer: &Option<LineOf<W>>) -> Option<LineOf<W>>
 }
 
 impl<W: LineSet> Model for Deduction<W> {
-    ghost use Rattle.solve_core.specs.Deductions.{KnownLine};
+    ghost use Rattle.solve_core.specs.steps.Deductions.{KnownLine};
 
     ghost Value = { KnownLine };
 
@@ -151,7 +152,7 @@ pub struct Deductions<W: LineSet> {
 impl<W: LineSet> Model for Deductions<W> {
     ghost use Rattle.std.specs.Prelude.{vec_capacity};
     ghost use Rattle.std.specs.Prelude.{List};
-    ghost use Rattle.solve_core.specs.Deductions.{HasRoom, KnownLine};
+    ghost use Rattle.solve_core.specs.steps.Deductions.{HasRoom, KnownLine};
 
     ghost Value = { List KnownLine };
 

@@ -1,14 +1,15 @@
 //! A grid as its rows and its columns.
 ghost use Rattle.std.specs.Prelude.{◌≡◌, ◌+◌, ◌-◌, ◌*◌, ◌<◌, ◌≤◌, ℕ, nat_eq, [], length, replicate, slice_index_or, slice_set, true, IfOk};
 ghost use Rattle.grid_core.specs.Cells.{is_known};
-ghost use Rattle.grid_core.specs.Nonogram.{cells_at, count_on, places_on};
+ghost use Rattle.grid_core.specs.Nonogram.{cells_at, places_on};
+ghost use Rattle.grid_core.specs.steps.Sides.{count_on};
 ghost use Rattle.grid_core.specs.PartialGrid.{IsSize};
 ghost use Rattle.grid_core.specs.Rows.{cells_of_rows, row_of};
 ghost use Rattle.grid_core.specs.declared.cells.Cell.TheVariants.{Unknown};
 ghost use Rattle.grid_core.specs.Lines.{IsUnknownFrom};
-ghost use Rattle.solve_core.specs.GridLines.{AreLinesOf};
+ghost use Rattle.solve_core.specs.steps.GridLines.{AreLinesOf};
 ghost use Rattle.place_sets.specs.Masks.{has};
-ghost use Rattle.solve_core.specs.Counts.{is_sure};
+ghost use Rattle.solve_core.specs.Picks.{is_sure};
 ghost use Rattle.solve_core.specs.Picks.{most_known};
 
 use crate::picks::{known_cells, most_in_row};
@@ -29,7 +30,7 @@ pub struct GridLines<W: LineSet> {
 impl<W: LineSet> Model for GridLines<W> {
     ghost use Rattle.std.specs.Prelude.{length};
     ghost use Rattle.grid_core.specs.PartialGrid.{PartialGrid};
-    ghost use Rattle.solve_core.specs.GridLines.{AreLinesOf};
+    ghost use Rattle.solve_core.specs.steps.GridLines.{AreLinesOf};
     ghost use Rattle.grid_core.specs.Rows.{cells_of_rows};
 
     ghost Value = { PartialGrid };

@@ -1,9 +1,9 @@
 //! The grid of a puzzle as far as line logic gets.
 ghost use Rattle.std.specs.Prelude.{◌≡◌, IfOk};
-ghost use Rattle.solve_core.specs.Boards.{unknown_board};
-ghost use Rattle.solve_core.specs.Closers.{IsMemoryOf};
+ghost use Rattle.solve_core.specs.steps.Boards.{unknown_board};
+ghost use Rattle.solve_core.specs.steps.Closers.{IsMemoryOf};
 ghost use Rattle.solve_core.specs.Report.{grid_of, line_grid, unknown_grid};
-ghost use Rattle.solve_core.specs.Widths.{FitsIn};
+ghost use Rattle.solve_core.specs.steps.Widths.{FitsIn};
 
 use crate::boards::Board;
 use crate::closures::Closer;

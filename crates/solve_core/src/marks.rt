@@ -1,9 +1,10 @@
 //! Marks of lines.
 ghost use Rattle.std.specs.Prelude.{◌≡◌, ◌<◌, ◌≤◌, ◌↔◌, ◌⊎◌, ℕ};
 ghost use Rattle.grid_core.specs.declared.sides.Side.{Side as SideValue};
-ghost use Rattle.grid_core.specs.Nonogram.{count_on, crossing};
+ghost use Rattle.grid_core.specs.Nonogram.{crossing};
+ghost use Rattle.grid_core.specs.steps.Sides.{count_on};
 ghost use Rattle.place_sets.specs.Masks.{Has, IsFirstFrom, IsMarked, IsMaskOf};
-ghost use Rattle.solve_core.specs.LineMarks.{marks_on, AreUnmarked, IsMarkedOn};
+ghost use Rattle.solve_core.specs.steps.LineMarks.{marks_on, AreUnmarked, IsMarkedOn};
 
 use grid_core::Side;
 use line_core::LineSet;
@@ -18,7 +19,7 @@ pub struct Marks<W: LineSet> {
 }
 
 impl<W: LineSet> Model for Marks<W> {
-    ghost use Rattle.solve_core.specs.LineMarks.{LineMarks};
+    ghost use Rattle.solve_core.specs.steps.LineMarks.{LineMarks};
 
     ghost Value = { LineMarks };
 

@@ -2,7 +2,7 @@
 
 ghost use Rattle.std.specs.Prelude.{◌≡◌, ◌+◌, ◌<◌, ◌≤◌, ℕ, IfNone, IfSome};
 ghost use Rattle.place_sets.specs.Masks.{Has, has, IsMaskOf};
-ghost use Rattle.solve_core.specs.Counts.{AreCounts, IsKnownCell, IsMostInRow, two_of};
+ghost use Rattle.solve_core.specs.steps.Counts.{AreCounts, IsKnownCell, IsMostInRow, two_of};
 
 use line_core::LineOf;
 use place_sets::{PlaceSet, lacking};

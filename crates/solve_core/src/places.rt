@@ -1,12 +1,13 @@
 //! The clue of a line, and what a deduction changes along it.
 ghost use Rattle.std.specs.Prelude.{◌≡◌, ◌<◌, ◌≤◌, length};
-ghost use Rattle.grid_core.specs.Nonogram.{count_on, line_on, places_on};
+ghost use Rattle.grid_core.specs.Nonogram.{line_on, places_on};
+ghost use Rattle.grid_core.specs.steps.Sides.{count_on};
 ghost use Rattle.solve_core.specs.Closure.{with_cells};
 ghost use Rattle.grid_core.specs.Cells.{Extends};
-ghost use Rattle.solve_core.specs.Boards.{cells_along, IsWhole};
+ghost use Rattle.solve_core.specs.steps.Boards.{cells_along, IsWhole};
 ghost use Rattle.place_sets.specs.Masks.{IsMaskOf};
 ghost use Rattle.grid_core.specs.Lines.{IsChanged};
-ghost use Rattle.solve_core.specs.Trails.{IsTrailed};
+ghost use Rattle.solve_core.specs.steps.Trails.{IsTrailed};
 
 use crate::boards::Board;
 use grid_core::{Clue, Puzzle, Side};

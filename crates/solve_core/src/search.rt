@@ -7,12 +7,12 @@ ghost use Rattle.solve_core.specs.Search.{Event, guess_at, events};
 ghost use Rattle.solve_core.specs.Picks.{picked};
 ghost use Rattle.solve_core.specs.declared.picks.Pick.TheVariants.{First};
 ghost use Rattle.solve_core.specs.Sizes.{IsSizeOf};
-ghost use Rattle.solve_core.specs.Marks.{IsAtRest};
-ghost use Rattle.solve_core.specs.Closers.{IsIdle};
-ghost use Rattle.solve_core.specs.Guesses.{GoesOn};
-ghost use Rattle.solve_core.specs.Endings.{ending};
-ghost use Rattle.solve_core.specs.Boards.{IsBoardOf};
-ghost use Rattle.solve_core.specs.Branches.{AreKnownBefore, IsClosed, IsNext, IsOpen, IsWork, AreOlder, pending, open_events};
+ghost use Rattle.solve_core.specs.steps.Marks.{IsAtRest};
+ghost use Rattle.solve_core.specs.steps.Closers.{IsIdle};
+ghost use Rattle.solve_core.specs.steps.Guesses.{GoesOn};
+ghost use Rattle.solve_core.specs.steps.Endings.{ending};
+ghost use Rattle.solve_core.specs.steps.Boards.{IsBoardOf};
+ghost use Rattle.solve_core.specs.steps.Branches.{AreKnownBefore, IsClosed, IsNext, IsOpen, IsWork, AreOlder, pending, open_events};
 
 use crate::boards::Board;
 use crate::branches::{Branch, take_guess};

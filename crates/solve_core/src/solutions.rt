@@ -1,7 +1,7 @@
 //! The solutions that a search keeps.
 ghost use Rattle.std.specs.Prelude.{◌≡◌, ◌<◌, ◌≤◌, ◌++◌, [], ◌∷◌, length, IfOk};
 ghost use Rattle.grid_core.specs.PartialGrid.{IsSize};
-ghost use Rattle.solve_core.specs.FoundGrids.{FoundGrids};
+ghost use Rattle.solve_core.specs.steps.FoundGrids.{FoundGrids};
 ghost use Rattle.solve_core.specs.Report.{verdict_by};
 
 use crate::Verdict;
@@ -21,7 +21,7 @@ pub struct Solutions {
 
 impl Model for Solutions {
     ghost use Rattle.std.specs.Prelude.{◌≡◌, ◌≤◌, [], ◌∷◌, take};
-    ghost use Rattle.solve_core.specs.FoundGrids.{FoundGrids};
+    ghost use Rattle.solve_core.specs.steps.FoundGrids.{FoundGrids};
 
     ghost Value = { FoundGrids };
 

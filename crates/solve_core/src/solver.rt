@@ -4,7 +4,7 @@ ghost use Rattle.grid_core.specs.Nonogram.{lines_of};
 ghost use Rattle.solve_core.specs.Closure.{closure};
 ghost use Rattle.solve_core.specs.Sizes.{HasSizeOf};
 ghost use Rattle.solve_core.specs.Trials.{trials};
-ghost use Rattle.solve_core.specs.Marks.{if_alive};
+ghost use Rattle.solve_core.specs.Closure.{if_alive};
 
 use crate::widths::width_for;
 use crate::workspaces::Workspace;

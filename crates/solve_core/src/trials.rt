@@ -6,12 +6,13 @@ ghost use Rattle.grid_core.specs.Cells.{is_known};
 ghost use Rattle.solve_core.specs.Closure.{round, closure};
 ghost use Rattle.line_core.specs.Order.{AtMost};
 ghost use Rattle.solve_core.specs.Trials.{trials, IsTried};
-ghost use Rattle.solve_core.specs.Marks.{Progresses, if_alive, IsAtRest, IsTrialOf};
-ghost use Rattle.solve_core.specs.Trails.{CanSettle, cleared};
-ghost use Rattle.solve_core.specs.Tried.{HasRoomFor, IsReady};
-ghost use Rattle.solve_core.specs.Widths.{FitsIn};
-ghost use Rattle.solve_core.specs.Witnesses.{AreWitnesses};
-ghost use Rattle.solve_core.specs.Boards.{IsBoardOf};
+ghost use Rattle.solve_core.specs.steps.Marks.{Progresses, IsAtRest, IsTrialOf};
+ghost use Rattle.solve_core.specs.Closure.{if_alive};
+ghost use Rattle.solve_core.specs.steps.Trails.{CanSettle, cleared};
+ghost use Rattle.solve_core.specs.steps.Tried.{HasRoomFor, IsReady};
+ghost use Rattle.solve_core.specs.steps.Widths.{FitsIn};
+ghost use Rattle.solve_core.specs.steps.Witnesses.{AreWitnesses};
+ghost use Rattle.solve_core.specs.steps.Boards.{IsBoardOf};
 ghost use Rattle.solve_core.specs.declared.trials.Trial.TheVariants.{Refuted, Closed};
 ghost use Rattle.solve_core.specs.declared.closures.Progress.TheVariants.{Dead, Same};
 
@@ -104,7 +105,7 @@ impl<W: LineSet> Drop for Trials<W> {
 }
 
 impl<W: LineSet> Model for Trials<W> {
-    ghost use Rattle.solve_core.specs.Tried.{Tried};
+    ghost use Rattle.solve_core.specs.steps.Tried.{Tried};
 
     ghost Value = { Tried };
 

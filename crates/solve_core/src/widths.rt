@@ -3,7 +3,7 @@ ghost use Rattle.std.specs.Prelude.{◌≤◌, All, ℕ};
 ghost use Rattle.grid_core.specs.declared.limits.TheConstants.{LONGEST_SIDE};
 ghost use Rattle.line_core.specs.Widths.{places_of};
 ghost use Rattle.line_core.specs.declared.widths.Width.{Width};
-ghost use Rattle.solve_core.specs.Widths.{FitsIn};
+ghost use Rattle.solve_core.specs.steps.Widths.{FitsIn};
 
 use grid_core::{Clue, Puzzle};
 use line_core::{Width, places_needed};

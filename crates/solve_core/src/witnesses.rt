@@ -4,12 +4,12 @@ ghost use Rattle.grid_core.specs.declared.cells.Cell.{Cell as CellValue};
 ghost use Rattle.grid_core.specs.declared.cells.Cell.TheVariants.{Unknown};
 ghost use Rattle.grid_core.specs.Cells.{Extends};
 ghost use Rattle.grid_core.specs.Nonogram.{Nonogram, lines_of};
-ghost use Rattle.solve_core.specs.Boards.{IsBoardOf};
-ghost use Rattle.solve_core.specs.Branches.{cells_before};
+ghost use Rattle.solve_core.specs.steps.Boards.{IsBoardOf};
+ghost use Rattle.solve_core.specs.steps.Branches.{cells_before};
 ghost use Rattle.solve_core.specs.Closure.{round, closure};
-ghost use Rattle.solve_core.specs.Trails.{cleared};
-ghost use Rattle.solve_core.specs.WitnessLists.{witness_at, met_by, open_marks};
-ghost use Rattle.solve_core.specs.Witnesses.{AddsMet, AreWitnesses, IsCrossed, IsKept, ShareNoLine};
+ghost use Rattle.solve_core.specs.steps.Trails.{cleared};
+ghost use Rattle.solve_core.specs.steps.WitnessLists.{witness_at, met_by, open_marks};
+ghost use Rattle.solve_core.specs.steps.Witnesses.{AddsMet, AreWitnesses, IsCrossed, IsKept, ShareNoLine};
 
 use crate::boards::Board;
 use crate::grid_lines::GridLines;
@@ -114,8 +114,8 @@ pub struct Witnesses {
 }
 
 impl Model for Witnesses {
-    ghost use Rattle.solve_core.specs.WitnessLists.{WitnessLists};
-    ghost use Rattle.solve_core.specs.Witnesses.{AreNumbered};
+    ghost use Rattle.solve_core.specs.steps.WitnessLists.{WitnessLists};
+    ghost use Rattle.solve_core.specs.steps.Witnesses.{AreNumbered};
 
     ghost Value = { WitnessLists };
 

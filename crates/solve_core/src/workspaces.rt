@@ -4,8 +4,8 @@ ghost use Rattle.grid_core.specs.Nonogram.{lines_of};
 ghost use Rattle.solve_core.specs.Closure.{closure};
 ghost use Rattle.solve_core.specs.Sizes.{HasSizeOf};
 ghost use Rattle.solve_core.specs.Trials.{trials};
-ghost use Rattle.solve_core.specs.Marks.{if_alive};
-ghost use Rattle.solve_core.specs.Widths.{FitsIn};
+ghost use Rattle.solve_core.specs.Closure.{if_alive};
+ghost use Rattle.solve_core.specs.steps.Widths.{FitsIn};
 
 use crate::boards::Board;
 use crate::trials::Trials;
@@ -25,8 +25,8 @@ pub struct Workspace<'p, W: LineSet> {
 
 impl<'p, W: LineSet> Model for Workspace<'p, W> {
     ghost use Rattle.grid_core.specs.Nonogram.{Nonogram};
-    ghost use Rattle.solve_core.specs.Boards.{IsBoardOf};
-    ghost use Rattle.solve_core.specs.Tried.{HasRoomFor};
+    ghost use Rattle.solve_core.specs.steps.Boards.{IsBoardOf};
+    ghost use Rattle.solve_core.specs.steps.Tried.{HasRoomFor};
 
     ghost Value = { Nonogram };
 

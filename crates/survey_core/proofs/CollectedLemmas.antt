@@ -5,7 +5,7 @@ use Rattle.std.proofs.Math.Seq.{map-set_same}
 use Rattle.lane_core.specs.Answers.{AreAnswersTo}
 use Rattle.lane_core.specs.declared.jobs.Job.{Job}
 use Rattle.lane_core.specs.declared.answers.Answer.{Answer}
-use Rattle.survey_core.specs.Collected.{EachAnswered}
+use Rattle.survey_core.specs.steps.Collected.{EachAnswered}
 
 pub EachAnswered-push : (jss : List (List Job)) (ass : List (List Answer)) (js : List Job) (answers : List Answer) →
     EachAnswered jss ass → AreAnswersTo js answers → EachAnswered (jss ++ js ∷ []) (ass ++ answers ∷ [])

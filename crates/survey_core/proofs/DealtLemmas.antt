@@ -7,7 +7,7 @@ use Rattle.lane_core.specs.Answers.{IsAnswerTo, AreAnswersTo}
 use Rattle.lane_core.specs.declared.jobs.Job.{Job}
 use Rattle.lane_core.specs.declared.answers.Answer.{Answer}
 use Rattle.lane_core.proofs.AnswersLemmas.{AreAnswersTo-push}
-use Rattle.survey_core.specs.Dealt.{dealt_from, dealt}
+use Rattle.survey_core.specs.steps.Dealt.{dealt_from, dealt}
 
 same_of : (i k : ℕ) → (i == k) ≡ true → i ≡ k
 same_of i k h = grind (arith, nat_tests)

@@ -15,7 +15,8 @@ use Rattle.grid_core.specs.declared.cells.Cell.{Cell}
 use Rattle.grid_core.specs.declared.cells.Cell.TheVariants.{Unknown}
 use Rattle.grid_core.specs.declared.puzzles.GoalWord.{GoalWord}
 use Rattle.grid_core.specs.declared.puzzles.GoalWord.TheVariants as word
-use Rattle.survey_core.specs.Goals.{IsOnlySolution, IsRowShown, meets_clues, meets_line, word_of_goal}
+use Rattle.survey_core.specs.Goals.{meets_clues, meets_line, word_of_goal}
+use Rattle.survey_core.specs.steps.Goals.{IsOnlySolution, IsRowShown}
 
 lines_decide : (full : List Bool) (lines : List GridLine) →
     Decides (list_all (meets_line full) lines) (AllByRecursion (MeetsLine full) lines)

@@ -3,7 +3,7 @@ use Rattle.std.proofs.Common.{◌≡◌, ℕ, zero, suc, Bool, List, Option, Res
 use Rattle.std.specs.Prelude.{OnOk, codes}
 use Rattle.std.specs.Io.KnownBytes.{Appends}
 use Rattle.std.proofs.KnownBytes.{Appends-trans}
-use Rattle.survey_core.specs.Progress.{counted_text, is_due, line_unless, progress_text}
+use Rattle.survey_core.specs.steps.Progress.{counted_text, is_due, line_unless, progress_text}
 
 -- the last number and LF, behind what was printed before, are the whole text
 pub ended_text : (total : Option ℕ) (count : ℕ) (before first second third : Option (List ℕ)) → (count ≡ 0 → ⊥)

@@ -18,9 +18,9 @@ use Rattle.lane_core.specs.declared.jobs.Job.{Job}
 use Rattle.survey_core.proofs.Front.{rest_of}
 use Rattle.survey_core.proofs.NumberedLemmas.{made-more}
 use Rattle.survey_core.specs.Entries.{GradedEntry, found_of}
-use Rattle.survey_core.specs.Graded.{AreGraded}
+use Rattle.survey_core.specs.steps.Graded.{AreGraded}
 use Rattle.survey_core.specs.Guessing.{Guessing}
-use Rattle.survey_core.specs.Readings.{NumberedPuzzle, TakesAnswer, fault_of, job_of, jobs_from, jobs_of, reading, readings, shown_job}
+use Rattle.survey_core.specs.steps.Readings.{NumberedPuzzle, TakesAnswer, fault_of, job_of, jobs_from, jobs_of, reading, readings, shown_job}
 use Rattle.survey_core.specs.Survey.{graded, reported}
 
 -- one more entry adds its job, if it is a puzzle

@@ -16,8 +16,6 @@ use Rattle.puzzle_text.specs.declared.faults.TextFault.TheVariants as text
 use Rattle.lane_core.specs.declared.answers.Answer.{Answer}
 use Rattle.survey_core.specs.Goals.{goal_text, goal_word}
 use Rattle.survey_core.specs.Grids.{grid_text}
-use Rattle.survey_core.specs.declared.listed.GradedPuzzle.{GradedPuzzle}
-use Rattle.survey_core.specs.declared.listed.ListedEntry.{ListedEntry}
 use Rattle.survey_core.specs.declared.outcomes.Outcome.{Outcome}
 
 -- an entry's name, and its puzzle with what was found of it, or why it is refused
@@ -101,12 +99,3 @@ shown_result (Err fault) = Err fault
 -- an outcome as the definitions see it
 abbrev pub shown_outcome : Outcome → GradedEntry
 shown_outcome outcome = record { name = outcome.name.items; result = shown_result outcome.result }
-
--- a graded puzzle, or the fault, as the definitions see it
-abbrev pub shown_found : Result GradedPuzzle EntryFault → Result (Nonogram × Findings) EntryFault
-shown_found (Ok found) = Ok (found.puzzle.now, found.findings.now)
-shown_found (Err fault) = Err fault
-
--- a listed entry as the definitions see it
-abbrev pub shown_listed : ListedEntry → GradedEntry
-shown_listed entry = record { name = entry.name.now; result = shown_found entry.result }

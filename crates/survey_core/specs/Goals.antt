@@ -1,15 +1,11 @@
 -- Whether a puzzle's goal meets its clues, as a test.
-use Rattle.std.specs.Prelude.{◌≡◌, ℕ, ◌+◌, ◌*◌, ◌<◌, Bool, ◌&&◌, ◌==◌, List, slice_index_or, length, codes, Option, Some, None, false, if◌then◌else◌}
+use Rattle.std.specs.Prelude.{ℕ, ◌*◌, Bool, ◌&&◌, ◌==◌, List, length, codes, Option, Some, None, false, if◌then◌else◌}
 use Rattle.std.specs.List.{list_all}
 use Rattle.std.specs.Str.{bytes_eq}
 use Rattle.grid_core.specs.Runs.{runs}
-use Rattle.grid_core.specs.Cells.{is_filled}
-use Rattle.grid_core.specs.Nonogram.{GridLine, Nonogram, Solves, cells_at, lines_of}
-use Rattle.grid_core.specs.PartialGrid.{PartialGrid, cell_at}
+use Rattle.grid_core.specs.Nonogram.{GridLine, Nonogram, cells_at, lines_of}
 use Rattle.grid_core.specs.declared.puzzles.GoalWord.{GoalWord}
 use Rattle.grid_core.specs.declared.puzzles.GoalWord.TheVariants.{Absent, Meets, Misses}
-use Rattle.solve_core.specs.declared.findings.Verdict.{Verdict}
-use Rattle.solve_core.specs.declared.findings.Verdict.TheVariants.{Nothing, One, Several, Unsettled}
 
 -- whether along a line the runs of a full grid are the clue
 abbrev pub meets_line : List Bool → GridLine → Bool
@@ -33,19 +29,3 @@ abbrev pub goal_text : GoalWord → List ℕ
 goal_text Absent = codes "absent"
 goal_text Meets = codes "meets"
 goal_text Misses = codes "misses"
-
--- the values of a goal are the colours of a row
-abbrev pub IsRowShown : PartialGrid → List Bool → ℕ → Type 0
-IsRowShown grid values y = (x : ℕ) → x < grid.width → slice_index_or values (y * grid.width + x) false ≡ is_filled (cell_at grid x y)
-
--- a grid solves the puzzle, and no other does
-pub record IsOnlySolution (p : Nonogram) (solution : PartialGrid) : Type 0 where
-  pub solves : Solves p solution
-  pub only : (grid : PartialGrid) → Solves p grid → grid ≡ solution
-
--- if a verdict shows one solution, it is the only one
-abbrev pub IsOnlyWhereOne : Nonogram → Verdict → Type 0
-IsOnlyWhereOne p Nothing = Unit {0}
-IsOnlyWhereOne p (One solution) = IsOnlySolution p solution
-IsOnlyWhereOne p (Several first second) = Unit {0}
-IsOnlyWhereOne p (Unsettled found) = Unit {0}

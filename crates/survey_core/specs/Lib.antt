@@ -1,18 +1,12 @@
--- The definitions that the contracts cite.
-pub mod Dealt
-pub mod Collected
+-- The definitions that public contracts rest on; those that only private calls need are the steps.
 pub mod Counted
 pub mod Grids
 pub mod Goals
 pub mod Entries
 pub mod Totals
-pub mod Tallies
 pub mod Guessing
 pub mod Survey
-pub mod SurveyTexts
-pub mod Readings
-pub mod Graded
 pub mod Reading
 pub mod Leaving
 pub mod Faults
-pub mod Progress
+pub mod steps

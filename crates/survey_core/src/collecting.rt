@@ -4,7 +4,7 @@ ghost use Rattle.std.specs.Prelude.{◌≡◌, ◌+◌, ◌<◌, ◌≤◌, ◌+
 ghost use Rattle.std.specs.VecDeque.{deque_len, deque_capacity};
 ghost use Rattle.lane_core.specs.Answers.{AreAnswersTo};
 ghost use Rattle.survey_core.specs.declared.collecting.CollectFault.TheVariants.{NoMemory as collect_memory, Thread as collect_thread};
-ghost use Rattle.survey_core.specs.Collected.{waiting_jobs, dealt_jobs, complete_jobs, EachAnswered};
+ghost use Rattle.survey_core.specs.steps.Collected.{waiting_jobs, dealt_jobs, complete_jobs, EachAnswered};
 
 use crate::bells::{answers_before_ringing, worker_bells};
 use crate::job_order::{deal_out, gather, room_for_answers};

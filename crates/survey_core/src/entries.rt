@@ -3,7 +3,8 @@
 ghost use Rattle.std.specs.Prelude.{◌≡◌, ◌++◌, IfOk, IsOk, OnOk, codes, Ok, Err};
 ghost use Rattle.std.specs.List.{flat_map};
 ghost use Rattle.puzzle_text.specs.Words.{word_of};
-ghost use Rattle.survey_core.specs.Entries.{counts_text, entry_line, entry_text, found_of, grade_word, result_text, shown_listed, shown_outcome, solution_text, solutions_of, solutions_text, verdict_text, verdict_word};
+ghost use Rattle.survey_core.specs.Entries.{counts_text, entry_line, entry_text, found_of, grade_word, result_text, shown_outcome, solution_text, solutions_of, solutions_text, verdict_text, verdict_word};
+ghost use Rattle.survey_core.specs.steps.Entries.{shown_listed};
 ghost use Rattle.survey_core.specs.Goals.{goal_text};
 
 use crate::Outcome;

@@ -1,7 +1,8 @@
 //! What is said of goals.
 
 ghost use Rattle.std.specs.Prelude.{◌≡◌, ◌*◌, ◌<◌, ◌↔◌, ℕ, IsTrue, length};
-ghost use Rattle.survey_core.specs.Goals.{IsOnlySolution, IsOnlyWhereOne, IsRowShown, goal_word};
+ghost use Rattle.survey_core.specs.Goals.{goal_word};
+ghost use Rattle.survey_core.specs.steps.Goals.{IsOnlySolution, IsOnlyWhereOne, IsRowShown};
 
 use grid_core::{GoalWord, Grid, Puzzle};
 use solve_core::Verdict;

@@ -4,9 +4,9 @@
 ghost use Rattle.std.specs.Prelude.{◌≡◌, ◌≤◌, ◌<◌, None, length, map, IfOk};
 ghost use Rattle.puzzle_text.specs.Shown.{shown_entry};
 ghost use Rattle.survey_core.specs.Guessing.{guessing};
-ghost use Rattle.survey_core.specs.Entries.{shown_listed};
-ghost use Rattle.survey_core.specs.Graded.{AreGraded};
-ghost use Rattle.survey_core.specs.Readings.{TakesAnswer, fault_of, readings};
+ghost use Rattle.survey_core.specs.steps.Entries.{shown_listed};
+ghost use Rattle.survey_core.specs.steps.Graded.{AreGraded};
+ghost use Rattle.survey_core.specs.steps.Readings.{TakesAnswer, fault_of, readings};
 ghost use Rattle.survey_core.specs.Survey.{survey_of_list};
 
 use crate::Settings;

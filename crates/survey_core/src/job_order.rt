@@ -2,7 +2,7 @@
 
 ghost use Rattle.std.specs.Prelude.{◌≡◌, ◌<◌, ◌≤◌, ℕ, [], IfOk, length, map, slice_index_or, vec_len, vec_capacity};
 ghost use Rattle.lane_core.specs.Answers.{AreAnswersTo};
-ghost use Rattle.survey_core.specs.Dealt.{dealt};
+ghost use Rattle.survey_core.specs.steps.Dealt.{dealt};
 
 use grid_core::NoMemory;
 use lane_core::{Answer, Job};

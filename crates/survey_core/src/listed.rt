@@ -32,7 +32,8 @@ pub(crate) struct ListedEntry<'a> {
 
 impl<'a> ListedEntry<'a> {
     ghost use Rattle.std.specs.Prelude.{◌≡◌, Err, IfErr, IfOk, IsOk, OnOk};
-    ghost use Rattle.survey_core.specs.Entries.{found_of, shown_listed};
+    ghost use Rattle.survey_core.specs.Entries.{found_of};
+    ghost use Rattle.survey_core.specs.steps.Entries.{shown_listed};
 
     /// An entry that is refused.
     pub fn refused(name: &'a [u8], fault: EntryFault) -> ListedEntry<'a>

@@ -3,7 +3,7 @@
 ghost use Rattle.std.specs.Prelude.{◌≡◌, ◌≤◌, [], IfOk, length, map, vec_len, vec_capacity};
 ghost use Rattle.std.specs.VecDeque.{deque_len, deque_capacity};
 ghost use Rattle.lane_core.specs.declared.opening.TheConstants.{LARGEST_RING};
-ghost use Rattle.survey_core.specs.Collected.{waiting_jobs};
+ghost use Rattle.survey_core.specs.steps.Collected.{waiting_jobs};
 
 use crate::lanes::{CompleteLane, OpenLane, RunningLane};
 use grid_core::NoMemory;
@@ -31,7 +31,7 @@ pub struct Lists<'s> {
 impl<'s> Lists<'s> {
     ghost use Rattle.std.specs.Prelude.{◌≡◌, ◌≤◌, IfOk, length, map, vec_len};
     ghost use Rattle.lane_core.specs.declared.opening.TheConstants.{LARGEST_RING};
-    ghost use Rattle.survey_core.specs.Collected.{waiting_jobs};
+    ghost use Rattle.survey_core.specs.steps.Collected.{waiting_jobs};
 
     /// Opens a lane for each queue of jobs, with one of these bells for its worker, and makes the lists. The
     /// rings have a capacity from 1 to 64.

@@ -15,7 +15,8 @@ pub struct Outcome {
 
 impl Outcome {
     ghost use Rattle.std.specs.Prelude.{◌≡◌};
-    ghost use Rattle.survey_core.specs.Entries.{shown_listed, shown_outcome};
+    ghost use Rattle.survey_core.specs.Entries.{shown_outcome};
+    ghost use Rattle.survey_core.specs.steps.Entries.{shown_listed};
 
     /// The entry as a survey lists it. Want of memory in an answer stands as a fault.
     pub(crate) fn listed(&self) -> ListedEntry<'_>

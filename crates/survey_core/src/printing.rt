@@ -1,10 +1,11 @@
 //! The text of a survey.
 
 ghost use Rattle.std.specs.Prelude.{◌≡◌, ◌++◌, ◌∷◌, ◌≤◌, [], List, Bool, length, IfOk, OnOk, map};
-ghost use Rattle.survey_core.specs.Entries.{GradedEntry, shown_listed, shown_outcome};
+ghost use Rattle.survey_core.specs.Entries.{GradedEntry, shown_outcome};
+ghost use Rattle.survey_core.specs.steps.Entries.{shown_listed};
 ghost use Rattle.survey_core.specs.Survey.{survey_text};
-ghost use Rattle.survey_core.specs.SurveyTexts.{IsSurveyText};
-ghost use Rattle.survey_core.specs.Tallies.{HasRoom};
+ghost use Rattle.survey_core.specs.steps.SurveyTexts.{IsSurveyText};
+ghost use Rattle.survey_core.specs.steps.Tallies.{HasRoom};
 
 use crate::Outcome;
 use crate::entries::push_entry;

@@ -2,7 +2,7 @@
 
 ghost use Rattle.std.specs.Prelude.{◌≡◌, ℕ, ◌+◌, ◌-◌, ◌^◌, min, List, ◌++◌, Option, IfOk, OnOk, OnErr, IsTrue};
 ghost use Rattle.std.specs.Io.KnownBytes.{Appends};
-ghost use Rattle.survey_core.specs.Progress.{HasPrinted, is_due, line_unless, progress_line, progress_text};
+ghost use Rattle.survey_core.specs.steps.Progress.{HasPrinted, is_due, line_unless, progress_line, progress_text};
 
 use crate::Counted;
 use crate::streams::write_text;

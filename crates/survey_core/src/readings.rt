@@ -2,7 +2,7 @@
 
 ghost use Rattle.std.specs.Prelude.{◌≡◌, ◌≤◌, ◌+◌, ◌∷◌, [], ◌++◌, length, map, vec_len, IfOk, OnOk};
 ghost use Rattle.survey_core.specs.Guessing.{guessing};
-ghost use Rattle.survey_core.specs.Readings.{fault_of, job_of, jobs_of, reading, readings, shown_job};
+ghost use Rattle.survey_core.specs.steps.Readings.{fault_of, job_of, jobs_of, reading, readings, shown_job};
 
 use crate::settings::Settings;
 use grid_core::NoMemory;

@@ -2,9 +2,10 @@
 
 ghost use Rattle.std.specs.Prelude.{◌≡◌, ◌+◌, ◌++◌, ◌^◌, ◌<◌, [], OnOk, codes};
 ghost use Rattle.std.specs.Str.{bytes_eq};
-ghost use Rattle.survey_core.specs.Entries.{grade_word, shown_listed, verdict_word};
+ghost use Rattle.survey_core.specs.Entries.{grade_word, verdict_word};
+ghost use Rattle.survey_core.specs.steps.Entries.{shown_listed};
 ghost use Rattle.survey_core.specs.Totals.{count_text, has_grade, has_status};
-ghost use Rattle.survey_core.specs.Tallies.{HasRoom, IsTotals, grades_text, one_more_where, statuses_text, totals_text};
+ghost use Rattle.survey_core.specs.steps.Tallies.{HasRoom, IsTotals, grades_text, one_more_where, statuses_text, totals_text};
 
 use crate::listed::ListedEntry;
 use grid_core::NoMemory;

@@ -2,7 +2,7 @@
 use Rattle.std.proofs.Common.{◌<◌, ℕ}
 use Rattle.grid_core.specs.declared.sides.Side.TheVariants.{Columns}
 use Rattle.grid_core.specs.Nonogram.{MeetsLine, line_on}
-use Rattle.grid_core.specs.Pictures.{values_of}
+use Rattle.grid_core.specs.steps.Pictures.{values_of}
 use Rattle.grid_core.proofs.pictures.are_columns_met.Given as goal
 
 abbrev pub invariant-loop-x : goal.invariant-loop-x

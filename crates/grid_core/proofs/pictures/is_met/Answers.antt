@@ -1,7 +1,7 @@
 -- `is_met`: the clues of all lines are met exactly if those of all rows and of all columns are.
 use Rattle.grid_core.specs.Nonogram.{MeetsLine}
 use Rattle.grid_core.specs.declared.sides.Side.TheVariants.{Rows, Columns}
-use Rattle.grid_core.specs.Pictures.{values_of}
+use Rattle.grid_core.specs.steps.Pictures.{values_of}
 use Rattle.grid_core.proofs.LineLaws.{all_lines, each_line}
 use Rattle.grid_core.proofs.pictures.is_met.Goals as goal
 

@@ -5,8 +5,8 @@ use Rattle.std.proofs.lemmas.List.{length-replicate}
 use Rattle.std.proofs.lemmas.List.Elements.{recursion_from_All}
 use Rattle.grid_core.specs.declared.cells.Cell.TheVariants.{Unknown}
 use Rattle.place_sets.specs.Masks.{IsMaskOf}
-use Rattle.line_core.specs.Overlaps.{needed}
-use Rattle.line_core.specs.Reach.{IsFillable}
+use Rattle.line_core.specs.steps.Overlaps.{needed}
+use Rattle.line_core.specs.steps.Reach.{IsFillable}
 use Rattle.line_core.proofs.RunLaws.{ArePositive}
 use Rattle.line_core.proofs.Packing.{unknown_any, unfit_fillable, unfit_blankable, blankable_is, all_fillable, overlaps_fillable}
 use Rattle.line_core.proofs.overlaps.unknown_colours.Goals as goal

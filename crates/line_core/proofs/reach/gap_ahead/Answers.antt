@@ -1,7 +1,7 @@
 -- `gap_ahead`: the masks stand with the last one first.
 use Rattle.std.proofs.Common.{◌-◌, ◌<◌, length, sym, subst, arith}
 use Rattle.place_sets.specs.Masks.{IsMaskOf}
-use Rattle.line_core.specs.Reach.{IsGapAhead}
+use Rattle.line_core.specs.steps.Reach.{IsGapAhead}
 use Rattle.place_sets.proofs.LevelSteps.{number_at}
 use Rattle.line_core.proofs.reach.gap_ahead.Goals as goal
 

@@ -3,8 +3,8 @@ use Rattle.std.proofs.Common.{ℕ, ◌+◌, ◌-◌, ◌<◌, ◌∙◌, List, l
 use Rattle.std.proofs.Math.ListN.{length-set}
 use Rattle.std.proofs.lemmas.List.{map-set, length-map, get_or-reverse}
 use Rattle.place_sets.specs.Masks.{IsMaskOf}
-use Rattle.line_core.specs.Reach.{behind, IsGap}
-use Rattle.line_core.specs.Passes.{IsPassOver}
+use Rattle.line_core.specs.steps.Reach.{behind, IsGap}
+use Rattle.line_core.specs.steps.Passes.{IsPassOver}
 use Rattle.line_core.proofs.LineCells.{written_more, length_at}
 use Rattle.line_core.proofs.Composing.{runs_more}
 use Rattle.line_core.proofs.reach.write_turned_gaps.Goals as goal

@@ -1,8 +1,8 @@
 -- What the loop of `write_turned_gaps` keeps: the pass over the turned line, and the gaps so far.
 use Rattle.std.proofs.Common.{◌≡◌, ℕ, ◌≤◌, length, get_or, reverse, map}
 use Rattle.place_sets.specs.Masks.{IsMaskOf}
-use Rattle.line_core.specs.Reach.{behind, IsGap}
-use Rattle.line_core.specs.Passes.{IsPassOver}
+use Rattle.line_core.specs.steps.Reach.{behind, IsGap}
+use Rattle.line_core.specs.steps.Passes.{IsPassOver}
 use Rattle.line_core.proofs.reach.write_turned_gaps.Given as goal
 
 abbrev pub ghost-turned : goal.ghost-turned

@@ -2,8 +2,8 @@
 use Rattle.std.proofs.Common.{◌≡◌, ◌<◌, ℕ, length, get_or, arith, sym, ◌∙◌}
 use Rattle.std.proofs.lemmas.Bool.{eqb-true, eqb-false}
 use Rattle.std.proofs.lemmas.List.Elements.{recursion_from_All}
-use Rattle.line_core.specs.Reach.{HasPlacing}
-use Rattle.line_core.specs.Outermost.{IsOuterStart}
+use Rattle.line_core.specs.steps.Reach.{HasPlacing}
+use Rattle.line_core.specs.steps.Outermost.{IsOuterStart}
 use Rattle.line_core.proofs.RunLaws.{ArePositive}
 use Rattle.line_core.proofs.Outermost.{match_more, answered, some_placing}
 use Rattle.line_core.proofs.starts.find_starts.Goals as goal

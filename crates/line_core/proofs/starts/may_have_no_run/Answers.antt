@@ -2,7 +2,7 @@
 use Rattle.std.proofs.Common.{◌≡◌, Bool, true, false, ℕ, sym, ◌∙◌, true≢false, MatchBool}
 use Rattle.place_sets.specs.Masks.{Has, has}
 use Rattle.place_sets.proofs.HasLemmas.{has_true, true_has}
-use Rattle.line_core.specs.Reach.{HasPlacing}
+use Rattle.line_core.specs.steps.Reach.{HasPlacing}
 use Rattle.line_core.proofs.Composing.{gap_none_is}
 use Rattle.line_core.proofs.Outermost.{no_run_to, no_run_from}
 use Rattle.line_core.proofs.starts.may_have_no_run.Goals as goal

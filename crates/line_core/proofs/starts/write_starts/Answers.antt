@@ -4,8 +4,8 @@ use Rattle.std.proofs.lemmas.Bool.{eqb-true}
 use Rattle.std.proofs.lemmas.List.Elements.{recursion_from_All}
 use Rattle.std.proofs.lemmas.Nat.Bits.{bit_at-zero}
 use Rattle.place_sets.specs.Masks.{Has}
-use Rattle.line_core.specs.Reach.{behind}
-use Rattle.line_core.specs.Passes.{IsPassOver}
+use Rattle.line_core.specs.steps.Reach.{behind}
+use Rattle.line_core.specs.steps.Passes.{IsPassOver}
 use Rattle.line_core.proofs.RunLaws.{ArePositive}
 use Rattle.line_core.proofs.LineCells.{length_at}
 use Rattle.line_core.proofs.Composing.{runs_more}

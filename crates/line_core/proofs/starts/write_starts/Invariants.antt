@@ -1,8 +1,8 @@
 -- What the loop of `write_starts` keeps: the pass over the runs so far, and their outermost starts.
 use Rattle.std.proofs.Common.{ℕ, ◌<◌, get_or, map}
-use Rattle.line_core.specs.Reach.{behind}
-use Rattle.line_core.specs.Passes.{IsPassOver}
-use Rattle.line_core.specs.Outermost.{IsOuterStart}
+use Rattle.line_core.specs.steps.Reach.{behind}
+use Rattle.line_core.specs.steps.Passes.{IsPassOver}
+use Rattle.line_core.specs.steps.Outermost.{IsOuterStart}
 use Rattle.line_core.proofs.starts.write_starts.Given as goal
 
 abbrev pub ghost-gap_ahead : goal.ghost-gap_ahead

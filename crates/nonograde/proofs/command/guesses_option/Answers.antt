@@ -2,7 +2,8 @@
 use Rattle.std.proofs.Common.{codes, rules}
 use Rattle.std.specs.Fmt.{digits}
 use Rattle.lane_core.specs.declared.jobs.TheConstants.{MOST_GUESSES}
-use Rattle.nonograde.specs.Words.{IsArgument, number_rule}
+use Rattle.nonograde.specs.Words.{number_rule}
+use Rattle.nonograde.specs.steps.Words.{IsArgument}
 use Rattle.nonograde.proofs.command.guesses_option.Goals as goal
 
 pub returns : goal.returns

@@ -2,7 +2,8 @@
 use Rattle.std.proofs.Common.{codes, rules}
 use Rattle.std.specs.Fmt.{digits}
 use Rattle.survey_core.specs.declared.settings.TheConstants.{LARGEST_RING}
-use Rattle.nonograde.specs.Words.{IsArgument, number_rule}
+use Rattle.nonograde.specs.Words.{number_rule}
+use Rattle.nonograde.specs.steps.Words.{IsArgument}
 use Rattle.nonograde.proofs.command.ring_option.Goals as goal
 
 pub returns : goal.returns

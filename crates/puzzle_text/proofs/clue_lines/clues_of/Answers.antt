@@ -3,7 +3,7 @@ use Rattle.grid_core.specs.declared.limits.TheConstants.{LONGEST_SIDE}
 use Rattle.puzzle_text.specs.declared.faults.TextFault.TheVariants.{BadNumber}
 use Rattle.puzzle_text.specs.Answers.{or_fault}
 use Rattle.puzzle_text.specs.ClueLines.{clue_of}
-use Rattle.puzzle_text.specs.Shown.{shown_line}
+use Rattle.puzzle_text.specs.steps.Shown.{shown_line}
 use Rattle.puzzle_text.proofs.EachLemmas.{each_begins}
 use Rattle.puzzle_text.proofs.clue_lines.clues_of.Goals as goal
 

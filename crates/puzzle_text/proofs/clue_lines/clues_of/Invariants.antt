@@ -5,7 +5,7 @@ use Rattle.grid_core.specs.declared.limits.TheConstants.{LONGEST_SIDE}
 use Rattle.puzzle_text.specs.declared.faults.TextFault.TheVariants.{BadNumber}
 use Rattle.puzzle_text.specs.Answers.{or_fault, each}
 use Rattle.puzzle_text.specs.ClueLines.{clue_of, clues_of}
-use Rattle.puzzle_text.specs.Shown.{shown_line}
+use Rattle.puzzle_text.specs.steps.Shown.{shown_line}
 use Rattle.puzzle_text.proofs.EachLemmas.{with_front}
 use Rattle.puzzle_text.proofs.clue_lines.clues_of.Given as goal
 

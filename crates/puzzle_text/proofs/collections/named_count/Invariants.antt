@@ -1,7 +1,8 @@
 -- What the loop of `named_count` keeps: each entry passed has a name, and is counted.
 use Rattle.std.proofs.Common.{◌≡◌, ◌+◌, ◌≤◌, length}
 use Rattle.puzzle_text.specs.Lines.{raw_lines}
-use Rattle.puzzle_text.specs.Collections.{are_named, entries_of}
+use Rattle.puzzle_text.specs.Collections.{entries_of}
+use Rattle.puzzle_text.specs.steps.Collections.{are_named}
 use Rattle.puzzle_text.proofs.collections.named_count.Given as goal
 
 abbrev pub invariant-lines : goal.invariant-lines

@@ -1,7 +1,8 @@
 -- `sound_count`: if the first line is a marker line, and each entry has a name, no line is stray.
 use Rattle.std.proofs.Common.{◌≡◌, None, length, subst, sym}
 use Rattle.std.specs.Prelude.{IfSome}
-use Rattle.puzzle_text.specs.Collections.{are_named, entries_of, first_stray}
+use Rattle.puzzle_text.specs.Collections.{entries_of, first_stray}
+use Rattle.puzzle_text.specs.steps.Collections.{are_named}
 use Rattle.puzzle_text.specs.Lines.{raw_lines}
 use Rattle.puzzle_text.proofs.StrayWalk.{none_stray, sound}
 use Rattle.puzzle_text.proofs.collections.sound_count.Goals as goal

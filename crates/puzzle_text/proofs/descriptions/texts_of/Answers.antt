@@ -2,8 +2,8 @@
 use Rattle.std.proofs.Common.{◌∙◌, ap, map}
 use Rattle.grid_core.specs.Description.{Description}
 use Rattle.puzzle_text.specs.Keywords.{all_fields}
-use Rattle.puzzle_text.specs.Non.{with_all_found}
-use Rattle.puzzle_text.specs.Shown.{shown_keyword}
+use Rattle.puzzle_text.specs.steps.Non.{with_all_found}
+use Rattle.puzzle_text.specs.steps.Shown.{shown_keyword}
 use Rattle.puzzle_text.proofs.FieldsLemmas.{all_fields_set}
 use Rattle.puzzle_text.proofs.descriptions.texts_of.Goals as goal
 

@@ -5,7 +5,7 @@ use Rattle.std.specs.Str.{str_to_ascii_lowercase}
 use Rattle.std.proofs.lemmas.Iterator.{YieldsList-from_slice}
 use Rattle.std.proofs.lemmas.Iterator.Consumers.{nth_from_yields_List, YieldsList-from_filter, YieldsList-at}
 use Rattle.puzzle_text.specs.Keywords.{has_keyword}
-use Rattle.puzzle_text.specs.Shown.{shown_keyword}
+use Rattle.puzzle_text.specs.steps.Shown.{shown_keyword}
 use Rattle.puzzle_text.proofs.KeywordsLemmas.{kept_at}
 use Rattle.puzzle_text.proofs.keywords.nth_with.Goals as goal
 

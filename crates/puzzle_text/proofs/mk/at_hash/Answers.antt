@@ -1,6 +1,6 @@
 -- `at_hash`: cut at the first line that begins with `#`, if there is one.
 use Rattle.std.proofs.Common.{sym}
-use Rattle.puzzle_text.specs.Shown.{shown_line}
+use Rattle.puzzle_text.specs.steps.Shown.{shown_line}
 use Rattle.puzzle_text.proofs.MkLemmas.{at_hash_found, at_hash_none}
 use Rattle.puzzle_text.proofs.mk.at_hash.Goals as goal
 

@@ -1,6 +1,6 @@
 -- `before_hash`: up to the first line that begins with `#`, or all lines.
 use Rattle.std.proofs.Common.{sym}
-use Rattle.puzzle_text.specs.Shown.{shown_line}
+use Rattle.puzzle_text.specs.steps.Shown.{shown_line}
 use Rattle.puzzle_text.proofs.MkLemmas.{before_hash_found, before_hash_none}
 use Rattle.puzzle_text.proofs.mk.before_hash.Goals as goal
 

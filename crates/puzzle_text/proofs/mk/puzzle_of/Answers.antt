@@ -2,7 +2,7 @@
 use Rattle.std.proofs.Common.{subst, sym}
 use Rattle.grid_core.specs.declared.limits.TheConstants.{LONGEST_SIDE}
 use Rattle.puzzle_text.specs.Answers.{Gives}
-use Rattle.puzzle_text.specs.Shown.{shown_chosen}
+use Rattle.puzzle_text.specs.steps.Shown.{shown_chosen}
 use Rattle.puzzle_text.proofs.MkLemmas.{puzzle_of_parts}
 use Rattle.puzzle_text.proofs.mk.puzzle_of.Goals as goal
 

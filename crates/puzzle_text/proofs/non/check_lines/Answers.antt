@@ -1,6 +1,6 @@
 -- `check_lines`: if no line is bad, the texts may stand in their fields.
 use Rattle.std.proofs.Common.{map, sym, ◌∙◌}
-use Rattle.puzzle_text.specs.Shown.{shown_keyword}
+use Rattle.puzzle_text.specs.steps.Shown.{shown_keyword}
 use Rattle.puzzle_text.proofs.FeedsLemmas.{lawful_texts}
 use Rattle.puzzle_text.proofs.non.check_lines.Goals as goal
 

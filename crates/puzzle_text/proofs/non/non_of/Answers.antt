@@ -3,9 +3,9 @@ use Rattle.std.proofs.Common.{map, sym, ap, subst, ◌∙◌}
 use Rattle.grid_core.specs.declared.limits.TheConstants.{LONGEST_SIDE}
 use Rattle.puzzle_text.specs.Answers.{Gives}
 use Rattle.puzzle_text.specs.Keywords.{is_keyword_line}
-use Rattle.puzzle_text.specs.Lines.{HaveNoFeed}
+use Rattle.puzzle_text.specs.steps.Lines.{HaveNoFeed}
 use Rattle.puzzle_text.specs.Non.{Sections, placed, puzzle_said, sections_of}
-use Rattle.puzzle_text.specs.Shown.{shown_keyword, shown_line}
+use Rattle.puzzle_text.specs.steps.Shown.{shown_keyword, shown_line}
 use Rattle.puzzle_text.proofs.FeedsLemmas.{clean_filter}
 use Rattle.puzzle_text.proofs.KeywordsLemmas.{said_of_kept}
 use Rattle.puzzle_text.proofs.non.non_of.Goals as goal

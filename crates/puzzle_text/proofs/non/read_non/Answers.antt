@@ -1,6 +1,6 @@
 -- `read_non`: no line has a line feed in it.
 use Rattle.std.proofs.Common.{map}
-use Rattle.puzzle_text.specs.Shown.{shown_line}
+use Rattle.puzzle_text.specs.steps.Shown.{shown_line}
 use Rattle.puzzle_text.proofs.FeedsLemmas.{lines_have_no_feed}
 use Rattle.puzzle_text.proofs.non.read_non.Goals as goal
 

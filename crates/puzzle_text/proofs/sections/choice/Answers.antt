@@ -1,6 +1,6 @@
 -- `choice`: the first lines, if all after them are blank, are the choice; else the lines that aren't blank.
 use Rattle.std.proofs.Common.{map, sym, ◌∙◌}
-use Rattle.puzzle_text.specs.Shown.{shown_line}
+use Rattle.puzzle_text.specs.steps.Shown.{shown_line}
 use Rattle.puzzle_text.proofs.SectionsLemmas.{choice_full, choice_none, front_chosen, front_length, length_full}
 use Rattle.std.proofs.lemmas.List.{length-map}
 use Rattle.puzzle_text.proofs.sections.choice.Goals as goal

@@ -1,6 +1,6 @@
 -- `front`: there are too few lines, or one after the first lines isn't blank, or these are the clue lines.
 use Rattle.std.proofs.Common.{sym, arith}
-use Rattle.puzzle_text.specs.Shown.{shown_line}
+use Rattle.puzzle_text.specs.steps.Shown.{shown_line}
 use Rattle.puzzle_text.proofs.SectionsLemmas.{front_first, front_mixed}
 use Rattle.puzzle_text.proofs.sections.front.Goals as goal
 

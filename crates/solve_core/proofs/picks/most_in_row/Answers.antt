@@ -2,7 +2,7 @@
 use Rattle.std.proofs.Common.{rules, ◌≡◌, ◌∙◌, ◌+◌, ◌-◌, ℕ, length, subst}
 use Rattle.place_sets.specs.Masks.{Has, has, IsMaskOf, IsMoved}
 use Rattle.place_sets.proofs.Doubling.{one_within}
-use Rattle.solve_core.specs.Counts.{two_of}
+use Rattle.solve_core.specs.steps.Counts.{two_of}
 use Rattle.solve_core.proofs.CountLaws.{counts_by, counts_own, left_is, most_by, right_is}
 use Rattle.solve_core.proofs.picks.most_in_row.Goals as goal
 

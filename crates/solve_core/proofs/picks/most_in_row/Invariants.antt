@@ -1,6 +1,6 @@
 -- The counts that `most_in_row` tells `first_in_most`: in how many of two sets each place is.
 use Rattle.place_sets.specs.Masks.{has}
-use Rattle.solve_core.specs.Counts.{two_of}
+use Rattle.solve_core.specs.steps.Counts.{two_of}
 use Rattle.solve_core.proofs.picks.most_in_row.Given as goal
 
 abbrev pub ghost-first_in_most : goal.ghost-first_in_most

@@ -3,10 +3,11 @@ use Rattle.std.proofs.Common.{◌≡◌, ◌∙◌, ◌<◌, ℕ, length, get_or
 use Rattle.std.proofs.lemmas.Bool.{eqb-true}
 use Rattle.std.proofs.lemmas.List.Elements.{All-from_recursion}
 use Rattle.grid_core.specs.declared.cells.Cell.TheVariants.{Unknown}
-use Rattle.grid_core.specs.Nonogram.{place_on, places_on}
+use Rattle.grid_core.specs.Nonogram.{places_on}
+use Rattle.grid_core.specs.steps.Sides.{place_on}
 use Rattle.grid_core.proofs.LineLaws.{length-cells_at, get_or-cells_at}
 use Rattle.line_core.proofs.DeductionLaws.{Extends-at}
-use Rattle.solve_core.specs.Boards.{cells_along}
+use Rattle.solve_core.specs.steps.Boards.{cells_along}
 use Rattle.solve_core.proofs.Changes.{none_in, partly-init, partly-step, partly-end}
 use Rattle.solve_core.proofs.LineSteps.{AreBelow, learned_cell}
 use Rattle.solve_core.proofs.Order.{length-Extends}

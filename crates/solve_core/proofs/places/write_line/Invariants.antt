@@ -1,6 +1,6 @@
 -- What the loop of `write_line` keeps: the line's cells at `left` are as they were, its others as in `new`.
 use Rattle.grid_core.specs.Nonogram.{places_on}
-use Rattle.solve_core.specs.Trails.{IsTrailed, unknown_count}
+use Rattle.solve_core.specs.steps.Trails.{IsTrailed, unknown_count}
 use Rattle.solve_core.proofs.Changes.{IsPartly}
 use Rattle.solve_core.proofs.places.write_line.Given as goal
 

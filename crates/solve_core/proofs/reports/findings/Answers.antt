@@ -5,11 +5,11 @@ use Rattle.grid_core.specs.declared.cells.Cell.TheVariants.{Unknown}
 use Rattle.grid_core.specs.Cells.{is_known}
 use Rattle.solve_core.specs.Report.{grade_by}
 use Rattle.solve_core.specs.Picks.{picked}
-use Rattle.solve_core.specs.Tried.{Tried}
-use Rattle.solve_core.specs.Trails.{TrailedGrid}
+use Rattle.solve_core.specs.steps.Tried.{Tried}
+use Rattle.solve_core.specs.steps.Trails.{TrailedGrid}
 use Rattle.solve_core.proofs.TrailSteps.{full-trail}
 use Rattle.solve_core.proofs.ReportLaws.{report-alive, report-dead, report-refuted}
-use Rattle.solve_core.specs.Closers.{IsMemoryOf}
+use Rattle.solve_core.specs.steps.Closers.{IsMemoryOf}
 use Rattle.solve_core.proofs.reports.findings.Goals as goal
 
 pub propagate_all-requires : goal.propagate_all-requires
@@ -35,7 +35,7 @@ returns-then-not-try_unless_full g c =
     report-refuted (picked c.args.pick p.width) p c.args.board.now.cells c.propagate_all.new.board.cells c.args.guesses
     c.grade.result c.count_settled-line_known.result (ap (λ (g : TrailedGrid). g.cells) c.requires.board)
     c.if-not-propagate_all.ensures.closed c.if-not-try_unless_full.ensures.tried
-    (c.grade.ensures ∙ ap (λ b. grade_by b true) c.are_known-lines_settle.ensures)
+    (c.grade.ensures ∙ ap (λ b. grade_by b true) c.are_known-by_lines.ensures)
     c.count_settled-line_known.ensures
 
 pub returns : goal.returns
@@ -49,7 +49,7 @@ returns g c =
     c.if-not-propagate_all.ensures.closed c.if-not-try_unless_full.ensures.tried
     c.search-end.ensures
     c.verdict.ensures
-    (c.grade-grade.ensures ∙ (λ i. grade_by (c.are_known-lines_settle.ensures i) (c.are_known.ensures i)))
+    (c.grade-grade.ensures ∙ (λ i. grade_by (c.are_known-by_lines.ensures i) (c.are_known.ensures i)))
     c.count_settled-line_known.ensures c.count_unless_full-trial_known.ensures
 
 pub count_settled-line_known-requires : goal.count_settled-line_known-requires

@@ -2,8 +2,8 @@
 use Rattle.std.proofs.Common.{◌≡◌, ◌++◌, length, set, ap, sym, ◌∙◌, arith}
 use Rattle.grid_core.specs.Nonogram.{lines_of}
 use Rattle.solve_core.specs.Search.{guess_at, events}
-use Rattle.solve_core.specs.Endings.{ending}
-use Rattle.solve_core.specs.Guesses.{owed_by}
+use Rattle.solve_core.specs.steps.Endings.{ending}
+use Rattle.solve_core.specs.steps.Guesses.{owed_by}
 use Rattle.solve_core.specs.Picks.{picked}
 use Rattle.solve_core.proofs.PickLaws.{picked-IsPick}
 use Rattle.solve_core.proofs.BranchLaws.{trailed-work, trailed-pending, trailed-older}

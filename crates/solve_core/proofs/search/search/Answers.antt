@@ -2,8 +2,8 @@
 use Rattle.std.proofs.Common.{◌≡◌, ◌+◌, ◌-◌, ◌≤◌, ◌++◌, [], refl, ap, sym, ◌∙◌, arith, length, slice_set}
 use Rattle.grid_core.specs.Nonogram.{lines_of}
 use Rattle.solve_core.specs.Search.{events}
-use Rattle.solve_core.specs.Endings.{ending}
-use Rattle.solve_core.specs.Guesses.{owed, owed_by}
+use Rattle.solve_core.specs.steps.Endings.{ending}
+use Rattle.solve_core.specs.steps.Guesses.{owed, owed_by}
 use Rattle.solve_core.specs.Picks.{picked}
 use Rattle.solve_core.proofs.PickLaws.{picked-IsPick}
 use Rattle.solve_core.proofs.EndingLaws.{append-nil-right, ending-next}

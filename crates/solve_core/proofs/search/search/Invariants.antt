@@ -3,10 +3,10 @@ use Rattle.std.proofs.Common.{◌≡◌, ◌-◌, ◌≤◌, [], length, vec_cap
 use Rattle.grid_core.specs.Nonogram.{lines_of}
 use Rattle.solve_core.specs.Search.{events}
 use Rattle.solve_core.specs.Sizes.{IsSizeOf}
-use Rattle.solve_core.specs.Endings.{ending}
-use Rattle.solve_core.specs.Boards.{IsBoardOf}
-use Rattle.solve_core.specs.Closers.{IsIdle}
-use Rattle.solve_core.specs.Guesses.{owed, IsUnderWay}
+use Rattle.solve_core.specs.steps.Endings.{ending}
+use Rattle.solve_core.specs.steps.Boards.{IsBoardOf}
+use Rattle.solve_core.specs.steps.Closers.{IsIdle}
+use Rattle.solve_core.specs.steps.Guesses.{owed, IsUnderWay}
 use Rattle.solve_core.proofs.search.search.Given as goal
 use Rattle.solve_core.specs.Picks.{picked}
 

@@ -1,6 +1,6 @@
 -- `collect_some`: there is a queue of answers for each lane, and it answers what the lane was dealt.
 use Rattle.std.proofs.Common.{sym, ap, ◌∙◌}
-use Rattle.survey_core.specs.Dealt.{dealt}
+use Rattle.survey_core.specs.steps.Dealt.{dealt}
 use Rattle.survey_core.proofs.CollectedLemmas.{answered_length, answered_at}
 use Rattle.survey_core.proofs.collecting.collect_some.Goals as goal
 

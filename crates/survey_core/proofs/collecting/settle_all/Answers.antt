@@ -1,6 +1,6 @@
 -- `settle_all`: one more lane is settled, and its answers are those to the jobs that it was dealt.
 use Rattle.std.proofs.Common.{◌++◌, ◌∷◌, [], sym, ap, ◌∙◌, append_assoc, arith}
-use Rattle.survey_core.specs.Collected.{complete_jobs}
+use Rattle.survey_core.specs.steps.Collected.{complete_jobs}
 use Rattle.survey_core.proofs.CollectedLemmas.{EachAnswered-more}
 use Rattle.survey_core.proofs.collecting.settle_all.Goals as goal
 

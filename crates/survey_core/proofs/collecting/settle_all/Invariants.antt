@@ -2,7 +2,7 @@
 use Rattle.std.proofs.Common.{◌≡◌, ◌+◌, ◌≤◌, ◌++◌, map, vec_len, vec_capacity, List}
 use Rattle.std.specs.VecDeque.{deque_len}
 use Rattle.lane_core.specs.declared.jobs.Job.{Job}
-use Rattle.survey_core.specs.Collected.{complete_jobs, EachAnswered}
+use Rattle.survey_core.specs.steps.Collected.{complete_jobs, EachAnswered}
 use Rattle.survey_core.proofs.collecting.settle_all.Given as goal
 
 abbrev pub invariant-settling : goal.invariant-settling

@@ -1,7 +1,7 @@
 -- What the loop of `take_round` keeps: how many lanes there are, and what each was dealt.
 use Rattle.std.proofs.Common.{◌≡◌}
 use Rattle.std.specs.VecDeque.{deque_len}
-use Rattle.survey_core.specs.Collected.{dealt_jobs}
+use Rattle.survey_core.specs.steps.Collected.{dealt_jobs}
 use Rattle.survey_core.proofs.collecting.take_round.Given as goal
 
 abbrev pub invariant-lanes : goal.invariant-lanes

@@ -1,7 +1,7 @@
 -- What the loop of `take_turns` keeps: what the complete lanes, and then the running ones, were dealt.
 use Rattle.std.proofs.Common.{◌≡◌, ◌+◌, ◌≤◌, ◌++◌}
 use Rattle.std.specs.VecDeque.{deque_len, deque_capacity}
-use Rattle.survey_core.specs.Collected.{complete_jobs, dealt_jobs}
+use Rattle.survey_core.specs.steps.Collected.{complete_jobs, dealt_jobs}
 use Rattle.survey_core.proofs.collecting.take_turns.Given as goal
 
 abbrev pub invariant-rounds : goal.invariant-rounds

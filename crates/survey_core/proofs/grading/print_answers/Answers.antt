@@ -5,10 +5,11 @@ use Rattle.puzzle_text.specs.Shown.{shown_entry}
 use Rattle.puzzle_text.specs.declared.collections.Entry.{Entry}
 use Rattle.puzzle_text.specs.declared.faults.EntryFault.{EntryFault}
 use Rattle.survey_core.specs.Guessing.{guessing}
-use Rattle.survey_core.specs.Entries.{GradedEntry, shown_listed}
-use Rattle.survey_core.specs.Readings.{TakesAnswer, reading, readings}
+use Rattle.survey_core.specs.Entries.{GradedEntry}
+use Rattle.survey_core.specs.steps.Entries.{shown_listed}
+use Rattle.survey_core.specs.steps.Readings.{TakesAnswer, reading, readings}
 use Rattle.survey_core.specs.Survey.{graded, survey_of_list}
-use Rattle.survey_core.specs.SurveyTexts.{IsSurveyText}
+use Rattle.survey_core.specs.steps.SurveyTexts.{IsSurveyText}
 use Rattle.survey_core.proofs.ReadingLemmas.{fault_at, graded-more, has_answer, next_graded, no_entry, takes_next}
 use Rattle.survey_core.proofs.TotalsLemmas.{few_mapped_twice, has_room}
 use Rattle.survey_core.proofs.grading.print_answers.Goals as goal

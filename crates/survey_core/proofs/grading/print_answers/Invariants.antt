@@ -2,10 +2,10 @@
 use Rattle.std.proofs.Common.{map, take, drop}
 use Rattle.puzzle_text.specs.Shown.{shown_entry}
 use Rattle.survey_core.specs.Guessing.{guessing}
-use Rattle.survey_core.specs.Graded.{AreGraded}
-use Rattle.survey_core.specs.Readings.{readings}
+use Rattle.survey_core.specs.steps.Graded.{AreGraded}
+use Rattle.survey_core.specs.steps.Readings.{readings}
 use Rattle.survey_core.specs.Survey.{graded}
-use Rattle.survey_core.specs.SurveyTexts.{IsSurveyText}
+use Rattle.survey_core.specs.steps.SurveyTexts.{IsSurveyText}
 use Rattle.survey_core.proofs.grading.print_answers.Given as goal
 
 abbrev pub invariant-loop-place : goal.invariant-loop-place

@@ -3,7 +3,7 @@ use Rattle.std.proofs.Common.{List, subst, sym}
 use Rattle.lane_core.specs.Answers.{AreAnswersTo}
 use Rattle.lane_core.specs.declared.answers.Answer.{Answer}
 use Rattle.survey_core.specs.Guessing.{guessing}
-use Rattle.survey_core.specs.Readings.{readings}
+use Rattle.survey_core.specs.steps.Readings.{readings}
 use Rattle.survey_core.proofs.ReadingLemmas.{are_graded}
 use Rattle.survey_core.proofs.grading.survey_text.Goals as goal
 

@@ -1,7 +1,7 @@
 -- `deal_out`: the next job goes to the queue whose turn it is.
 use Rattle.std.proofs.Common.{◌≡◌, ◌++◌, [], map, get_or, sym, ◌∙◌, subst, arith}
 use Rattle.std.specs.Vec.Iter.{into_iter_items}
-use Rattle.survey_core.specs.Dealt.{dealt_from, dealt}
+use Rattle.survey_core.specs.steps.Dealt.{dealt_from, dealt}
 use Rattle.survey_core.proofs.DealtLemmas.{deal_next}
 use Rattle.survey_core.proofs.job_order.deal_out.Goals as goal
 

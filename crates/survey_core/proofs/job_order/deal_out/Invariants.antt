@@ -1,7 +1,7 @@
 -- What the loop of `deal_out` keeps: a queue, with its share of the jobs left, is what its lane is dealt.
 use Rattle.std.proofs.Common.{◌≡◌, ◌+◌, ◌<◌, ◌++◌, ℕ, vec_len, map, get_or, []}
 use Rattle.std.specs.Vec.Iter.{into_iter_items, into_iter_len}
-use Rattle.survey_core.specs.Dealt.{dealt_from, dealt}
+use Rattle.survey_core.specs.steps.Dealt.{dealt_from, dealt}
 use Rattle.survey_core.proofs.job_order.deal_out.Given as goal
 
 abbrev pub invariant-loop-place : goal.invariant-loop-place

@@ -1,7 +1,7 @@
 -- What the loop of `gather` keeps: the jobs passed are answered, and a queue answers its share of the rest.
 use Rattle.std.proofs.Common.{◌≡◌, ◌<◌, ℕ, vec_len, vec_capacity, map, get_or, take, drop, []}
 use Rattle.lane_core.specs.Answers.{AreAnswersTo}
-use Rattle.survey_core.specs.Dealt.{dealt_from}
+use Rattle.survey_core.specs.steps.Dealt.{dealt_from}
 use Rattle.survey_core.proofs.job_order.gather.Given as goal
 
 abbrev pub invariant-loop-place : goal.invariant-loop-place

@@ -2,7 +2,7 @@
 use Rattle.std.proofs.Common.{◌++◌, ◌∷◌, [], List, ap, map, subst, sym, take, ◌∙◌, arith}
 use Rattle.std.proofs.lemmas.List.{map_more}
 use Rattle.survey_core.specs.Entries.{GradedEntry, shown_outcome}
-use Rattle.survey_core.specs.SurveyTexts.{IsSurveyText}
+use Rattle.survey_core.specs.steps.SurveyTexts.{IsSurveyText}
 use Rattle.survey_core.proofs.TotalsLemmas.{few_mapped, has_room}
 use Rattle.survey_core.proofs.printing.print_survey.Goals as goal
 

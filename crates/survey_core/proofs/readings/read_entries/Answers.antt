@@ -2,7 +2,7 @@
 use Rattle.std.proofs.Common.{◌+◌, ◌++◌, ◌∷◌, [], List, Option, get_or, ap, sym, ◌∙◌, arith}
 use Rattle.puzzle_text.specs.declared.faults.EntryFault.{EntryFault}
 use Rattle.survey_core.specs.Guessing.{guessing}
-use Rattle.survey_core.specs.Readings.{NumberedPuzzle, fault_of, job_of, reading}
+use Rattle.survey_core.specs.steps.Readings.{NumberedPuzzle, fault_of, job_of, reading}
 use Rattle.survey_core.proofs.ReadingLemmas.{faults-more, jobs_of-more, no_entry}
 use Rattle.survey_core.proofs.readings.read_entries.Goals as goal
 

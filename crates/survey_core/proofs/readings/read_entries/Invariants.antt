@@ -1,7 +1,7 @@
 -- What the loop of `read_entries` keeps: the jobs and the faults of the entries passed.
 use Rattle.std.proofs.Common.{◌≡◌, ◌≤◌, map, take, vec_len}
 use Rattle.survey_core.specs.Guessing.{guessing}
-use Rattle.survey_core.specs.Readings.{fault_of, jobs_of, readings, shown_job}
+use Rattle.survey_core.specs.steps.Readings.{fault_of, jobs_of, readings, shown_job}
 use Rattle.survey_core.proofs.readings.read_entries.Given as goal
 
 abbrev pub invariant-loop-place : goal.invariant-loop-place

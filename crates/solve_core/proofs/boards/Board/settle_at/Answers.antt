@@ -3,7 +3,7 @@ use Rattle.std.proofs.Common.{◌≡◌, ◌∙◌, ◌+◌, ◌*◌, ◌++◌, 
 use Rattle.grid_core.specs.declared.cells.Cell.TheVariants.{Unknown}
 use Rattle.grid_core.specs.declared.sides.Side.TheVariants.{Rows}
 use Rattle.grid_core.specs.PartialGrid.{PartialGrid}
-use Rattle.solve_core.specs.Trails.{TrailedGrid}
+use Rattle.solve_core.specs.steps.Trails.{TrailedGrid}
 use Rattle.solve_core.proofs.BoardSteps.{board-settled, place-within, trailed}
 use Rattle.solve_core.proofs.TrailSteps.{trailed-one, count-settled}
 use Rattle.solve_core.proofs.boards.Board.settle_at.Goals as goal

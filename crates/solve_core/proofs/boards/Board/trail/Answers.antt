@@ -1,6 +1,6 @@
 -- `Board::trail`: the trail has no more places than the grid has cells, and so 65,536 at most.
 use Rattle.std.proofs.Common.{◌≤◌, ◌*◌, length, ap, arith}
-use Rattle.solve_core.specs.Trails.{TrailedGrid}
+use Rattle.solve_core.specs.steps.Trails.{TrailedGrid}
 use Rattle.solve_core.proofs.SideLines.{longest_sides_fit}
 use Rattle.solve_core.proofs.boards.Board.trail.Goals as goal
 

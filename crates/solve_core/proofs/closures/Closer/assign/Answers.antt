@@ -3,8 +3,8 @@ use Rattle.std.proofs.Common.{◌≡◌, ◌∙◌, ◌+◌, ◌*◌, ◌/◌, �
 use Rattle.grid_core.specs.declared.cells.Cell.{Cell}
 use Rattle.grid_core.specs.declared.cells.Cell.TheVariants.{Unknown}
 use Rattle.place_sets.specs.Masks.{Has, IsMarked, IsMaskOf}
-use Rattle.solve_core.specs.Closers.{Closing, IsMemoryOf}
-use Rattle.solve_core.specs.Marks.{HasMarks}
+use Rattle.solve_core.specs.steps.Closers.{Closing, IsMemoryOf}
+use Rattle.solve_core.specs.steps.Marks.{HasMarks}
 use Rattle.solve_core.proofs.GridSteps.{place_marks, place_split}
 use Rattle.solve_core.proofs.TrailSteps.{trailed-trans}
 use Rattle.solve_core.proofs.closures.Closer.assign.Goals as goal

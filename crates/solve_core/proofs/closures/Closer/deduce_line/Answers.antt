@@ -2,8 +2,8 @@
 use Rattle.std.proofs.Common.{◌∙◌, ℕ, false, arith, ap, sym, subst}
 use Rattle.grid_core.specs.Nonogram.{crossing, line_on, lines_of}
 use Rattle.place_sets.specs.Masks.{Has, IsMarked, IsMaskOf}
-use Rattle.solve_core.specs.LineMarks.{marks_on}
-use Rattle.solve_core.specs.Closers.{Closing, IsMemoryOf}
+use Rattle.solve_core.specs.steps.LineMarks.{marks_on}
+use Rattle.solve_core.specs.steps.Closers.{Closing, IsMemoryOf}
 use Rattle.solve_core.proofs.Fitting.{count_fits}
 use Rattle.solve_core.proofs.SideLines.{line_is_one}
 use Rattle.solve_core.proofs.GridSteps.{learned-progress, marks-after}

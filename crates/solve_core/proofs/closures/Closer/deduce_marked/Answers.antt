@@ -2,7 +2,7 @@
 use Rattle.std.proofs.Common.{◌∙◌, ℕ, sym, refl, subst, true≢false}
 use Rattle.grid_core.specs.declared.sides.Side.TheVariants.{Columns}
 use Rattle.place_sets.specs.Masks.{Has}
-use Rattle.solve_core.specs.LineMarks.{AreUnmarked, IsUnmarkedOn}
+use Rattle.solve_core.specs.steps.LineMarks.{AreUnmarked, IsUnmarkedOn}
 use Rattle.grid_core.specs.Nonogram.{lines_of}
 use Rattle.solve_core.specs.Closure.{closure}
 use Rattle.solve_core.proofs.TrailSteps.{trailed-trans, trailed-size}

@@ -2,9 +2,9 @@
 use Rattle.std.proofs.Common.{◌≡◌}
 use Rattle.grid_core.specs.Nonogram.{lines_of}
 use Rattle.solve_core.specs.Closure.{closure}
-use Rattle.solve_core.specs.Marks.{HasWork}
-use Rattle.solve_core.specs.Trails.{IsTrailed, unknown_count}
-use Rattle.solve_core.specs.Boards.{IsBoardOf}
+use Rattle.solve_core.specs.steps.Marks.{HasWork}
+use Rattle.solve_core.specs.steps.Trails.{IsTrailed, unknown_count}
+use Rattle.solve_core.specs.steps.Boards.{IsBoardOf}
 use Rattle.solve_core.proofs.closures.Closer.deduce_marked.Given as goal
 
 abbrev pub invariant-loop-self : goal.invariant-loop-self

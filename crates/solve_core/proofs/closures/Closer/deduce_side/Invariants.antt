@@ -3,10 +3,10 @@ use Rattle.std.proofs.Common.{◌≡◌, ◌≢◌, ◌-◌, ◌<◌, ◌≤◌,
 use Rattle.grid_core.specs.Nonogram.{crossing, lines_of}
 use Rattle.solve_core.specs.declared.closures.Progress.TheVariants.{Dead, Same}
 use Rattle.solve_core.specs.Closure.{closure}
-use Rattle.solve_core.specs.LineMarks.{marks_on, IsMarkedOn}
-use Rattle.solve_core.specs.Marks.{HasWork, Progresses}
-use Rattle.solve_core.specs.Trails.{IsTrailed}
-use Rattle.solve_core.specs.Boards.{IsBoardOf}
+use Rattle.solve_core.specs.steps.LineMarks.{marks_on, IsMarkedOn}
+use Rattle.solve_core.specs.steps.Marks.{HasWork, Progresses}
+use Rattle.solve_core.specs.steps.Trails.{IsTrailed}
+use Rattle.solve_core.specs.steps.Boards.{IsBoardOf}
 use Rattle.solve_core.proofs.closures.Closer.deduce_side.Given as goal
 
 abbrev pub invariant-loop-i : goal.invariant-loop-i

@@ -1,6 +1,6 @@
 -- `Closer::propagate_all`: each line of the puzzle is marked, and no other.
 use Rattle.std.proofs.Common.{subst, sym}
-use Rattle.solve_core.specs.Closers.{IsMemoryOf}
+use Rattle.solve_core.specs.steps.Closers.{IsMemoryOf}
 use Rattle.solve_core.proofs.closures.Closer.propagate_all.Goals as goal
 
 pub propagate-requires-clause-work : goal.propagate-requires-clause-work

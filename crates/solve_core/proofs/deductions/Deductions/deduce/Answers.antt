@@ -6,7 +6,7 @@ use Rattle.grid_core.specs.declared.cells.Cell.{Cell}
 use Rattle.grid_core.specs.declared.sides.Side.{Side}
 use Rattle.grid_core.specs.Nonogram.{Nonogram, line_on}
 use Rattle.line_core.specs.Deduction.{deduced}
-use Rattle.solve_core.specs.Deductions.{AreRight, IsDeductionOf, KnownLine}
+use Rattle.solve_core.specs.steps.Deductions.{AreRight, IsDeductionOf, KnownLine}
 use Rattle.solve_core.proofs.Fitting.{fits_line}
 use Rattle.solve_core.proofs.deductions.Deductions.deduce.Goals as goal
 

@@ -4,7 +4,7 @@ use Rattle.grid_core.specs.declared.cells.Cell.TheVariants.{Unknown}
 use Rattle.grid_core.specs.Cells.{is_unknown}
 use Rattle.grid_core.specs.PartialGrid.{PartialGrid}
 use Rattle.place_sets.specs.Masks.{has}
-use Rattle.solve_core.specs.Counts.{is_sure}
+use Rattle.solve_core.specs.Picks.{is_sure}
 use Rattle.solve_core.specs.Picks.{first_most, sure_neighbours}
 use Rattle.solve_core.proofs.GridLineSteps.{line_read, lines-long}
 use Rattle.solve_core.proofs.PickRows.{best_after, least_after, least_then, row-step}

@@ -3,7 +3,7 @@ use Rattle.std.proofs.Common.{◌≡◌, ◌∙◌, List, length, ap, sym, subst
 use Rattle.std.proofs.lemmas.List.{with_items_is}
 use Rattle.grid_core.specs.declared.cells.Cell.{Cell}
 use Rattle.grid_core.specs.PartialGrid.{PartialGrid}
-use Rattle.solve_core.specs.GridLines.{AreLinesOf}
+use Rattle.solve_core.specs.steps.GridLines.{AreLinesOf}
 use Rattle.grid_core.specs.Rows.{cells_of_rows}
 use Rattle.solve_core.proofs.GridLineSteps.{lines-cells}
 use Rattle.solve_core.proofs.grid_lines.GridLines.read.Goals as goal

@@ -3,8 +3,8 @@ use Rattle.std.proofs.Common.{◌≡◌, ◌∙◌, ◌*◌, ℕ, length, ap}
 use Rattle.std.proofs.lemmas.List.{length-replicate}
 use Rattle.grid_core.specs.declared.cells.Cell.TheVariants.{Unknown}
 use Rattle.grid_core.specs.Nonogram.{Nonogram}
-use Rattle.solve_core.specs.Boards.{IsBoardOf, unknown_board}
-use Rattle.solve_core.specs.Trails.{TrailedGrid}
+use Rattle.solve_core.specs.steps.Boards.{IsBoardOf, unknown_board}
+use Rattle.solve_core.specs.steps.Trails.{TrailedGrid}
 use Rattle.solve_core.proofs.trials.Trials.new.Goals as goal
 
 fresh : (p : Nonogram) (w h : ℕ) (g : TrailedGrid) → w ≡ p.width → h ≡ p.height → g ≡ unknown_board w h → IsBoardOf p g

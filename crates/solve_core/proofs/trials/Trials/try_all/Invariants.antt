@@ -3,9 +3,9 @@ use Rattle.std.proofs.Common.{◌≡◌, ◌≢◌, ◌-◌, ◌<◌, ◌≤◌,
 use Rattle.grid_core.specs.Nonogram.{lines_of}
 use Rattle.solve_core.specs.declared.closures.Progress.TheVariants.{Dead, Same}
 use Rattle.solve_core.specs.Trials.{trials, IsTried}
-use Rattle.solve_core.specs.Boards.{IsBoardOf}
-use Rattle.solve_core.specs.Marks.{Progresses}
-use Rattle.solve_core.specs.Tried.{HasRoomFor, IsReady}
+use Rattle.solve_core.specs.steps.Boards.{IsBoardOf}
+use Rattle.solve_core.specs.steps.Marks.{Progresses}
+use Rattle.solve_core.specs.steps.Tried.{HasRoomFor, IsReady}
 use Rattle.solve_core.proofs.trials.Trials.try_all.Given as goal
 
 abbrev pub invariant-loop-place : goal.invariant-loop-place

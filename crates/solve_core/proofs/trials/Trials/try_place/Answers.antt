@@ -2,7 +2,7 @@
 use Rattle.std.proofs.Common.{refl, ap}
 use Rattle.grid_core.specs.Nonogram.{lines_of}
 use Rattle.grid_core.specs.declared.cells.Cell.TheVariants.{Filled, Blank}
-use Rattle.solve_core.specs.Trails.{TrailedGrid}
+use Rattle.solve_core.specs.steps.Trails.{TrailedGrid}
 use Rattle.solve_core.proofs.TrialSteps.{blank_below, filled_below, trial-refuted, trial-closed, settle-changed}
 use Rattle.solve_core.proofs.trials.Trials.try_place.Goals as goal
 

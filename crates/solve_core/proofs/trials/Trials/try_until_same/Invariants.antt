@@ -2,9 +2,9 @@
 use Rattle.std.proofs.Common.{◌≡◌}
 use Rattle.grid_core.specs.Nonogram.{lines_of}
 use Rattle.solve_core.specs.Trials.{trials}
-use Rattle.solve_core.specs.Boards.{IsBoardOf}
-use Rattle.solve_core.specs.Tried.{HasRoomFor, IsReady}
-use Rattle.solve_core.specs.Trails.{unknown_count}
+use Rattle.solve_core.specs.steps.Boards.{IsBoardOf}
+use Rattle.solve_core.specs.steps.Tried.{HasRoomFor, IsReady}
+use Rattle.solve_core.specs.steps.Trails.{unknown_count}
 use Rattle.solve_core.proofs.trials.Trials.try_until_same.Given as goal
 
 abbrev pub invariant-loop : goal.invariant-loop

@@ -1,8 +1,8 @@
 -- `Witnesses::add`: the trial is a witness for the cells that its trail leads back to, as the others are.
 use Rattle.std.proofs.Common.{◌≡◌, ◌∙◌, ◌++◌, [], ◌∷◌, length, ap, arith, sym, subst, true}
-use Rattle.solve_core.specs.Trails.{cleared}
-use Rattle.solve_core.specs.WitnessLists.{WitnessLists}
-use Rattle.solve_core.specs.Witnesses.{AddsMet, AreWitnesses, DifferWithin}
+use Rattle.solve_core.specs.steps.Trails.{cleared}
+use Rattle.solve_core.specs.steps.WitnessLists.{WitnessLists}
+use Rattle.solve_core.specs.steps.Witnesses.{AddsMet, AreWitnesses, DifferWithin}
 use Rattle.solve_core.specs.declared.witnesses.Witness.{Witness}
 use Rattle.solve_core.proofs.Order.{length-Extends}
 use Rattle.solve_core.proofs.WitnessLaws.{cleared_within, added_numbered, added_witnesses, places_for}

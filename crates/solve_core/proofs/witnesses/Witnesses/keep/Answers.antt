@@ -4,9 +4,9 @@ use Rattle.std.specs.Vec.{with_items}
 use Rattle.std.proofs.lemmas.List.{take_rest, with_items_is}
 use Rattle.grid_core.specs.Cells.{Extends}
 use Rattle.grid_core.specs.Nonogram.{lines_of}
-use Rattle.solve_core.specs.Branches.{cells_before}
-use Rattle.solve_core.specs.WitnessLists.{WitnessLists, met_by}
-use Rattle.solve_core.specs.Witnesses.{AreNumbered, AreWitnesses, DifferWithin}
+use Rattle.solve_core.specs.steps.Branches.{cells_before}
+use Rattle.solve_core.specs.steps.WitnessLists.{WitnessLists, met_by}
+use Rattle.solve_core.specs.steps.Witnesses.{AreNumbered, AreWitnesses, DifferWithin}
 use Rattle.solve_core.specs.declared.witnesses.Witness.{Witness}
 use Rattle.solve_core.proofs.Order.{length-Extends}
 use Rattle.solve_core.proofs.TrialSteps.{settled-extends}

@@ -1,5 +1,5 @@
 -- `SurveyText::add`: the entry's text is added, and it is counted in each total of its words.
-use Rattle.survey_core.specs.Entries.{shown_listed}
+use Rattle.survey_core.specs.steps.Entries.{shown_listed}
 use Rattle.survey_core.proofs.PrintedLemmas.{added_text}
 use Rattle.survey_core.proofs.TotalsLemmas.{count_more, one_more}
 use Rattle.survey_core.proofs.printing.SurveyText.add.Goals as goal

@@ -7,7 +7,7 @@ use Rattle.grid_core.specs.Cells.{is_unknown}
 use Rattle.grid_core.specs.Nonogram.{GridLine}
 use Rattle.solve_core.specs.declared.branches.Branch.{Branch}
 use Rattle.solve_core.specs.Closure.{round}
-use Rattle.solve_core.specs.Trails.{cleared}
+use Rattle.solve_core.specs.steps.Trails.{cleared}
 use Rattle.solve_core.specs.Search.{Event, Guess, events}
 
 -- the cells as they were when the trail had `mark` places

@@ -3,22 +3,18 @@ use Rattle.std.specs.Prelude.{◌⊎◌, ◌≡◌, ℕ, ◌*◌, ◌<◌, Bool,
 use Rattle.grid_core.specs.declared.cells.Cell.{Cell}
 use Rattle.grid_core.specs.declared.cells.Cell.TheVariants.{Unknown, Filled, Blank}
 use Rattle.grid_core.specs.declared.sides.Side.{Side}
-use Rattle.grid_core.specs.Nonogram.{Nonogram, IsNonogram, GridLine, lines_of, line_on, count_on, place_on, crossing, cells_at}
+use Rattle.grid_core.specs.Nonogram.{Nonogram, IsNonogram, GridLine, lines_of, line_on, crossing, cells_at}
+use Rattle.grid_core.specs.steps.Sides.{count_on, place_on}
 use Rattle.line_core.specs.Deduction.{deduced}
 use Rattle.solve_core.specs.Closure.{with_cells, closure}
-use Rattle.solve_core.specs.LineMarks.{LineMarks, marks_on, IsMarkedOn, AreMarksWithin}
-use Rattle.solve_core.specs.Trails.{unknown_count}
+use Rattle.solve_core.specs.steps.LineMarks.{LineMarks, marks_on, IsMarkedOn, AreMarksWithin}
+use Rattle.solve_core.specs.steps.Trails.{unknown_count}
 use Rattle.solve_core.specs.Trials.{is_refuted}
-use Rattle.solve_core.specs.Closers.{Closing, IsIdle, IsMemoryOf}
+use Rattle.solve_core.specs.steps.Closers.{Closing, IsIdle, IsMemoryOf}
 use Rattle.solve_core.specs.declared.trials.Trial.{Trial}
 use Rattle.solve_core.specs.declared.trials.Trial.TheVariants.{Refuted, Open, Closed}
 use Rattle.solve_core.specs.declared.closures.Progress.{Progress}
 use Rattle.solve_core.specs.declared.closures.Progress.TheVariants.{Dead, Same, Changed}
-
--- the cells, or none if they are dead
-abbrev pub if_alive : Bool → List Cell → Option (List Cell)
-if_alive true cells = Some cells
-if_alive false cells = None
 
 -- the line knows all that is certain of it
 abbrev pub IsDeduced : List Cell → GridLine → Type 0

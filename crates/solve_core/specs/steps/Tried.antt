@@ -2,12 +2,12 @@
 use Rattle.std.specs.Prelude.{◌≡◌, ◌*◌, List, length}
 use Rattle.grid_core.specs.declared.cells.Cell.{Cell}
 use Rattle.grid_core.specs.Nonogram.{Nonogram}
-use Rattle.solve_core.specs.Boards.{IsBoardOf}
-use Rattle.solve_core.specs.Marks.{IsAtRest}
-use Rattle.solve_core.specs.Closers.{Closing, IsMemoryOf}
-use Rattle.solve_core.specs.Trails.{TrailedGrid}
-use Rattle.solve_core.specs.WitnessLists.{WitnessLists}
-use Rattle.solve_core.specs.Witnesses.{AreWitnesses}
+use Rattle.solve_core.specs.steps.Boards.{IsBoardOf}
+use Rattle.solve_core.specs.steps.Marks.{IsAtRest}
+use Rattle.solve_core.specs.steps.Closers.{Closing, IsMemoryOf}
+use Rattle.solve_core.specs.steps.Trails.{TrailedGrid}
+use Rattle.solve_core.specs.steps.WitnessLists.{WitnessLists}
+use Rattle.solve_core.specs.steps.Witnesses.{AreWitnesses}
 
 -- what closing keeps, a board for the trials of each colour, and witnesses
 pub record Tried : Type 0 where

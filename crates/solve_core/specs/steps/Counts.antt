@@ -5,6 +5,7 @@ use Rattle.grid_core.specs.declared.cells.Cell.TheVariants.{Unknown}
 use Rattle.grid_core.specs.Cells.{is_known}
 use Rattle.place_sets.specs.Masks.{IsMaskOf}
 use Rattle.grid_core.specs.Lines.{IsUnknownCell}
+use Rattle.solve_core.specs.Picks.{is_sure}
 
 -- how many of two hold
 abbrev pub two_of : Bool → Bool → ℕ
@@ -19,10 +20,6 @@ pub record AreCounts (count : ℕ → ℕ) (either both : ℕ) : Type 0 where
 -- a place of a known cell
 abbrev pub IsKnownCell : List Cell → ℕ → Type 0
 IsKnownCell cells i = (i < length cells) × (is_known (slice_index_or cells i Unknown) ≡ true)
-
--- whether a neighbour is outside the grid, or else known
-abbrev pub is_sure : Bool → Cell → Bool
-is_sure outside cell = outside || is_known cell
 
 -- how many neighbours of a row's cell are known or outside the grid,
 -- given for each cell whether the one above is, and the one below

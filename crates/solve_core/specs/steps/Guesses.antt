@@ -5,9 +5,9 @@ use Rattle.grid_core.specs.PartialGrid.{PartialGrid}
 use Rattle.grid_core.specs.Nonogram.{Nonogram, lines_of}
 use Rattle.solve_core.specs.declared.branches.Branch.{Branch}
 use Rattle.solve_core.specs.Search.{Event}
-use Rattle.solve_core.specs.Trails.{TrailedGrid}
-use Rattle.solve_core.specs.Endings.{ending}
-use Rattle.solve_core.specs.Branches.{IsOpen, IsWork, AreOlder, pending, open_events}
+use Rattle.solve_core.specs.steps.Trails.{TrailedGrid}
+use Rattle.solve_core.specs.steps.Endings.{ending}
+use Rattle.solve_core.specs.steps.Branches.{IsOpen, IsWork, AreOlder, pending, open_events}
 
 -- what the branches owe
 abbrev pub owed_by : (List Cell → Option ℕ) → Nonogram → List Branch → TrailedGrid → List Event

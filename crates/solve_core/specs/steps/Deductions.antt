@@ -5,7 +5,7 @@ use Rattle.grid_core.specs.declared.cells.Cell.{Cell}
 use Rattle.grid_core.specs.declared.sides.Side.{Side}
 use Rattle.grid_core.specs.Nonogram.{Nonogram, line_on}
 use Rattle.line_core.specs.Deduction.{deduced}
-use Rattle.solve_core.specs.Widths.{FitsIn}
+use Rattle.solve_core.specs.steps.Widths.{FitsIn}
 use Rattle.solve_core.specs.declared.deductions.TheConstants.{MOST_REMEMBERED}
 
 -- a line, by its side, its number and its cells, and what is certain of it

@@ -5,7 +5,7 @@ use Rattle.grid_core.specs.declared.cells.Cell.TheVariants.{Unknown}
 use Rattle.grid_core.specs.declared.sides.Side.{Side}
 use Rattle.grid_core.specs.Nonogram.{Nonogram, cells_at, places_on}
 use Rattle.grid_core.specs.PartialGrid.{PartialGrid, IsSize}
-use Rattle.solve_core.specs.Trails.{TrailedGrid, IsTrailedGrid}
+use Rattle.solve_core.specs.steps.Trails.{TrailedGrid, IsTrailedGrid}
 
 -- a grid of which nothing is known
 abbrev pub unknown_board : ℕ → ℕ → TrailedGrid

@@ -1,8 +1,8 @@
 -- What closing by lines keeps.
 use Rattle.std.specs.Prelude.{ℕ, List}
 use Rattle.grid_core.specs.Nonogram.{Nonogram}
-use Rattle.solve_core.specs.Deductions.{AreRight, KnownLine}
-use Rattle.solve_core.specs.LineMarks.{LineMarks, AreUnmarked}
+use Rattle.solve_core.specs.steps.Deductions.{AreRight, KnownLine}
+use Rattle.solve_core.specs.steps.LineMarks.{LineMarks, AreUnmarked}
 
 -- what is remembered of lines in sets of `width` places, and which lines may have more to give
 pub record Closing : Type 0 where

@@ -6,8 +6,8 @@ use Rattle.grid_core.specs.Cells.{Extends}
 use Rattle.grid_core.specs.Nonogram.{Nonogram, lines_of}
 use Rattle.place_sets.specs.Masks.{has}
 use Rattle.solve_core.specs.Closure.{round}
-use Rattle.solve_core.specs.Marks.{AreOpenColours}
-use Rattle.solve_core.specs.WitnessLists.{WitnessLists, witness_at, met_by, open_marks}
+use Rattle.solve_core.specs.steps.Marks.{AreOpenColours}
+use Rattle.solve_core.specs.steps.WitnessLists.{WitnessLists, witness_at, met_by, open_marks}
 use Rattle.solve_core.specs.declared.witnesses.Crossed.{Crossed}
 use Rattle.solve_core.specs.declared.witnesses.Witness.{Witness}
 

@@ -3,7 +3,8 @@ use Rattle.std.specs.Prelude.{◌≡◌, ◌⊎◌, ℕ, ◌<◌, List, [], ◌�
 use Rattle.grid_core.specs.declared.cells.Cell.{Cell}
 use Rattle.grid_core.specs.declared.cells.Cell.TheVariants.{Unknown, Filled, Blank}
 use Rattle.grid_core.specs.declared.sides.Side.{Side}
-use Rattle.grid_core.specs.Nonogram.{Nonogram, GridLine, cells_at, count_on, line_on}
+use Rattle.grid_core.specs.Nonogram.{Nonogram, GridLine, cells_at, line_on}
+use Rattle.grid_core.specs.steps.Sides.{count_on}
 
 -- the cell, or the other one if nothing is known of it
 abbrev pub over : Cell → Cell → Cell

@@ -4,7 +4,7 @@ use Rattle.grid_core.specs.declared.cells.Cell.{Cell}
 use Rattle.line_core.specs.declared.starts.Side.{Side}
 use Rattle.line_core.specs.declared.starts.Side.TheVariants.{Left, Right}
 use Rattle.line_core.specs.Ends.{leftmost, rightmost}
-use Rattle.line_core.specs.Reach.{IsWholeEnd}
+use Rattle.line_core.specs.steps.Reach.{IsWholeEnd}
 
 -- the leftmost or the rightmost starts
 abbrev pub outermost : Side → List Cell → List ℕ → Option (List ℕ)

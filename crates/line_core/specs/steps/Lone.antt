@@ -2,7 +2,7 @@
 use Rattle.std.specs.Prelude.{ℕ, ◌+◌, ◌<◌, ◌≤◌, true, false, List, length}
 use Rattle.grid_core.specs.declared.cells.Cell.{Cell}
 use Rattle.place_sets.specs.Masks.{AllFrom}
-use Rattle.line_core.specs.Reach.{MayBe}
+use Rattle.line_core.specs.steps.Reach.{MayBe}
 
 -- a run of `number` cells can start here, with every other cell of the line blank
 pub record IsLoneStart (line : List Cell) (number s : ℕ) : Type 0 where

@@ -2,7 +2,7 @@
 use Rattle.std.specs.Prelude.{◌≡◌, ℕ, ◌≤◌, true, false, List, length}
 use Rattle.grid_core.specs.declared.cells.Cell.{Cell}
 use Rattle.place_sets.specs.Masks.{IsMaskOf, AreWindows}
-use Rattle.line_core.specs.Reach.{MayBe, IsGapAfter}
+use Rattle.line_core.specs.steps.Reach.{MayBe, IsGapAfter}
 
 -- a line's length, and the masks of its cells that may be blank and of those that may be filled,
 -- in words of `width` places

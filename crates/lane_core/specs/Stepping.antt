@@ -1,5 +1,5 @@
 -- What a step of a lane's back does to its lists.
-use Rattle.std.specs.Prelude.{◌≡◌, ℕ, ◌+◌, ◌-◌, ◌*◌, option_to_list, ◌≤◌, ◌⊎◌, false, List, [], ◌∷◌, length, IsSome, None}
+use Rattle.std.specs.Prelude.{◌≡◌, ℕ, ◌≤◌, ◌⊎◌, false, List, [], ◌∷◌, length, IsSome, None}
 use Rattle.lane_core.specs.Messages.{has_finish}
 use Rattle.lane_core.specs.Lane.{FrontLists, BackLists, TakesMessage, PutsAnswer, IsFinished}
 use Rattle.lane_core.specs.declared.answers.Answer.{Answer}
@@ -40,10 +40,6 @@ StepRun capacity (step ∷ steps) old new = (mid : BackLists) × Steps capacity 
 -- any steps
 abbrev pub Works : ℕ → BackLists → BackLists → Type 0
 Works capacity old new = (steps : List Step) × StepRun capacity steps old new
-
--- twice the messages that wait, and one for an answer that is held
-abbrev pub work_left : FrontLists → BackLists → ℕ
-work_left front back = 2 * (length front.sent - length back.taken) + length (option_to_list back.held)
 
 -- the finish was taken; or no message waits and no answer is held;
 -- or one is held, and as many were put as the ring has room for

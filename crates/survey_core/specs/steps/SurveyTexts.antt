@@ -2,7 +2,7 @@
 use Rattle.std.specs.Prelude.{◌≡◌, Bool, List}
 use Rattle.survey_core.specs.Entries.{GradedEntry}
 use Rattle.survey_core.specs.Survey.{entries_text}
-use Rattle.survey_core.specs.Tallies.{IsTotals}
+use Rattle.survey_core.specs.steps.Tallies.{IsTotals}
 use Rattle.survey_core.specs.declared.printing.SurveyText.{SurveyText}
 
 -- it has come as far as these entries, and shows solutions or not

@@ -2,7 +2,7 @@
 use Rattle.std.specs.Prelude.{◌<◌, ℕ}
 use Rattle.grid_core.specs.declared.sides.Side.{Side}
 use Rattle.grid_core.specs.declared.sides.Side.TheVariants.{Rows, Columns}
-use Rattle.grid_core.specs.Nonogram.{count_on}
+use Rattle.grid_core.specs.steps.Sides.{count_on}
 use Rattle.place_sets.specs.Masks.{Has}
 
 -- the marks of the rows and of the columns, each as a mask

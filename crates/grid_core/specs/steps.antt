@@ -1,0 +1,3 @@
+-- The definitions that only private calls need.
+pub mod Sides
+pub mod Pictures

@@ -1,0 +1,7 @@
+-- The definitions that only private calls need.
+pub mod Lone
+pub mod Outermost
+pub mod Overlaps
+pub mod Passes
+pub mod Reach
+pub mod Told

@@ -1,0 +1,10 @@
+-- The definitions that only private calls need.
+pub mod Collected
+pub mod Dealt
+pub mod Entries
+pub mod Goals
+pub mod Graded
+pub mod Progress
+pub mod Readings
+pub mod SurveyTexts
+pub mod Tallies
