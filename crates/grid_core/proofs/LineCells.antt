@@ -1,5 +1,5 @@
 -- The cells of a line that is kept as two sets.
-use Rattle.std.proofs.Common.{◌≡◌, ℕ, ◌^◌, ◌<◌, ◌≤◌, ◌≢◌, Bool, true, false, List, length, get_or, set, refl, sym, ap, ◌∙◌, subst, arith, true≢false, inl, inr, zero-add, get_or-set_same, get_or-set_other, ◌⊎◌, ext_get_or, length-set, replicate}
+use Rattle.std.proofs.Common.{◌≡◌, ℕ, ◌^◌, ◌<◌, ◌≤◌, ◌≢◌, Bool, true, false, List, length, get_or, set, refl, sym, ap, ◌∙◌, subst, arith, true≢false, inl, inr, zero-add, get_or-set_same, get_or-set_other, ext_get_or, length-set, replicate}
 use Rattle.std.proofs.lemmas.Bool.{cases_eq}
 use Rattle.std.proofs.lemmas.List.{length-replicate, get_or-replicate}
 use Rattle.std.proofs.lemmas.Nat.Bits.{bit_at-zero}

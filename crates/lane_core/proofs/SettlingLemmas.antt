@@ -1,5 +1,5 @@
 -- What is known with both ends of a lane in hand.
-use Rattle.std.proofs.Common.{◌≡◌, true, List, [], ◌∷◌, ◌++◌, length, take, refl, ap, sym, ◌∙◌, subst, append_assoc, arith}
+use Rattle.std.proofs.Common.{◌≡◌, true, List, [], ◌++◌, length, take, refl, ap, sym, ◌∙◌, subst, append_assoc}
 use Rattle.std.proofs.lemmas.List.{append-nil, nil_from_length}
 use Rattle.std.specs.Prelude.{Option, Some, None, option_to_list, is_none}
 use Rattle.lane_core.specs.Messages.{jobs_of, has_finish, finish_is_last}

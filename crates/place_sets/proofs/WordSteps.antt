@@ -5,10 +5,9 @@ use Rattle.std.specs.Int.Bits.{bit_xor}
 use Rattle.std.specs.Int.RustNames.{bit_and, bit_or}
 use Rattle.std.proofs.lemmas.Bool.{cases_lt}
 use Rattle.std.proofs.lemmas.Nat.Bits.{bit_at_xor, bit_at_not, bit_at-lt, bit_at-zero, bit_at_ones, bit_at_ones_above, bit_at_cat_high}
-use Rattle.std.proofs.lemmas.Nat.{pow-add, pow_pos}
-use Rattle.std.proofs.Math.Nat.{mod-lt}
+use Rattle.std.proofs.lemmas.Nat.{pow-add}
 use Rattle.place_sets.specs.Masks.{Has, has, IsMaskOf, IsMoved}
-use Rattle.place_sets.proofs.Flooding.{has_below, bit_at_mod}
+use Rattle.place_sets.proofs.Flooding.{has_below}
 use Rattle.place_sets.proofs.HasLemmas.{true_has, has_false, false_has}
 use Rattle.place_sets.proofs.Steps.{and_is, or_is, shr_is, shl_is, has-itself, mask_same}
 

@@ -3,8 +3,7 @@ use Rattle.std.proofs.Common.{◌≡◌, ℕ, ◌+◌, ◌<◌, ◌^◌, Bool, t
 use Rattle.std.proofs.lemmas.List.{length-map, length-take}
 use Rattle.std.proofs.lemmas.List.Sums.{count_by-le-length, sum_by-append}
 use Rattle.survey_core.specs.Entries.{GradedEntry}
-use Rattle.survey_core.specs.steps.Tallies.{HasRoom, IsTotals, one_more_where, totals_text}
-use Rattle.survey_core.specs.Totals.{totals_line}
+use Rattle.survey_core.specs.steps.Tallies.{HasRoom, IsTotals, one_more_where}
 use Rattle.survey_core.specs.declared.totals.Totals.{Totals}
 
 one_more_is : (b : Bool) (n : ℕ) → n + (0 + cond b 1 0) ≡ one_more_where b n

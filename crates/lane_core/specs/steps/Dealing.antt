@@ -1,5 +1,5 @@
 -- What each part of a call of `deal` does.
-use Rattle.std.specs.Prelude.{◌≡◌, ℕ, ◌+◌, ◌⊎◌, List, [], ◌++◌}
+use Rattle.std.specs.Prelude.{◌≡◌, ℕ, ◌⊎◌, List, [], ◌++◌}
 use mathlib.Core.List.{IsPrefix}
 use Rattle.lane_core.specs.Messages.{has_finish, jobs_of}
 use Rattle.lane_core.specs.Lane.{FrontLists, PutsMessage}

@@ -1,5 +1,5 @@
 -- A collection that is cut from marker to marker.
-use Rattle.std.specs.Prelude.{◌≡◌, ℕ, ◌+◌, Bool, not, ◌||◌, ◌-◌, true, slice_index, List, [], ◌∷◌, ◌++◌, length, ◌==◌}
+use Rattle.std.specs.Prelude.{◌≡◌, ℕ, Bool, not, ◌||◌, ◌-◌, true, slice_index, List, [], ◌∷◌, ◌++◌, length, ◌==◌}
 use Rattle.std.specs.List.{list_all}
 use Rattle.puzzle_text.specs.Lines.{raw_lines, is_empty}
 use Rattle.puzzle_text.specs.Collections.{Entry, is_marker, body_of, entries_of}

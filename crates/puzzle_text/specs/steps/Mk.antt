@@ -1,5 +1,5 @@
 -- The puzzle that the clue lines of both sections say.
-use Rattle.std.specs.Prelude.{ℕ, true, ◌+◌, List, ◌++◌, Result, Ok}
+use Rattle.std.specs.Prelude.{ℕ, true, List, ◌++◌, Result, Ok}
 use Rattle.grid_core.specs.Nonogram.{Nonogram}
 use Rattle.puzzle_text.specs.declared.faults.TextFault.{TextFault}
 use Rattle.puzzle_text.specs.Lines.{Line}
