@@ -1,10 +1,11 @@
 //! Calls whose growths of memory are refused, each in turn, and calls that take no memory
 //! with every growth refused.
 
-use crate::tests::{job, jobs};
+use crate::tests::{job, jobs, puzzle_of};
 use grid_core::NoMemory;
 use lane_core::*;
 use refusals::{Told, is_heeded, refuse, sweep, told_if, was_refused};
+use solve_core::Pick;
 use std::alloc::Global;
 use std::test::Fail;
 
@@ -41,9 +42,10 @@ fn told_of_answer(answer: &Answer) -> Told {
 #[test]
 fn jobs_are_graded_or_refused(rt: HostRuntime) -> Result<(), Fail> {
     let alloc = rt.alloc();
-    sweep(alloc, || match job(alloc, 7) {
-        Ok(job) => told_of_answer(&grade(alloc, job)),
-        Err(_) => Told::NoMemory,
+    let puzzle = puzzle_of(alloc, 8, 1, &[8], &[1])?;
+    sweep(alloc, || match puzzle.copy(alloc) {
+        Ok(puzzle) => told_of_answer(&grade(alloc, Job::new(7, puzzle, 1000, Pick::First))),
+        Err(NoMemory) => Told::NoMemory,
     })?;
     Ok(())
 }
