@@ -117,6 +117,26 @@ pointwise_antisym xs ys h k =
     let b = pointwise_to ys xs k in
     ext_get_or 0 xs ys a.0 (λ j l. let p = a.1 j in let q = b.1 j in omega arith)
 
+-- each of some starts is as far to a side as the other there, or further
+abbrev pub all_as_far : Side → List ℕ → List ℕ → Bool
+all_as_far Left = pointwise nat_le
+all_as_far Right = λ xs ys. pointwise nat_le ys xs
+
+as_far_from : (side : Side) (xs ys : List ℕ) → length xs ≡ length ys →
+    ((j : ℕ) → j < length xs → IsAsFar side (get_or xs j 0) (get_or ys j 0)) → all_as_far side xs ys ≡ true
+as_far_from Left xs ys e h = pointwise_from xs ys e h
+as_far_from Right xs ys e h = pointwise_from ys xs (sym e) (λ j l. h j (omega (arith, e)))
+
+as_far_antisym : (side : Side) (xs ys : List ℕ) → all_as_far side xs ys ≡ true → all_as_far side ys xs ≡ true → xs ≡ ys
+as_far_antisym Left xs ys h k = pointwise_antisym xs ys h k
+as_far_antisym Right xs ys h k = pointwise_antisym xs ys k h
+
+-- the outermost starts are the first that are as far as all
+pub outermost_found : (side : Side) (l : List Cell) (clue : List ℕ) →
+    outermost side l clue ≡ find (λ starts. list_all (all_as_far side starts) (all_starts l clue)) (all_starts l clue)
+outermost_found Left l clue = refl
+outermost_found Right l clue = refl
+
 -- the first that passes is the only one that does
 find_only : (p : List ℕ → Bool) (m : List ℕ) (ps : List (List Bool)) → AllByRecursion (λ x. p (run_starts x) ≡ true → run_starts x ≡ m) ps
     → list_all (λ x. not (p (run_starts x))) ps ≡ false → find p (map run_starts ps) ≡ Some m
@@ -164,50 +184,25 @@ placed l clue m pos d =
     let x = placing_of l clue m pos d in
     (x.0, record { extends = agrees-Extends l x.0 x.1; runs_are = x.2 }, run_starts-from x.0 ∙ x.3)
 
--- starts that lay the clue and are at most those of every placing are the leftmost
-pub leftmost_is : (l : List Cell) (clue m : List ℕ) → ArePositive clue → IsLaid l clue m
-    → ((ss : List ℕ) → IsLaid l clue ss → (j : ℕ) → j < length clue → get_or m j 0 ≤ get_or ss j 0) → leftmost l clue ≡ Some m
-leftmost_is l clue m pos d least =
+-- starts that lay the clue and are as far as those of every placing are the outermost
+pub furthest_is : (side : Side) (l : List Cell) (clue m : List ℕ) → ArePositive clue → IsLaid l clue m
+    → ((ss : List ℕ) → IsLaid l clue ss → (j : ℕ) → j < length clue → IsAsFar side (get_or m j 0) (get_or ss j 0)) →
+    outermost side l clue ≡ Some m
+furthest_is side l clue m pos d furthest =
     let x = placed l clue m pos d in
-    let test = λ (starts : List ℕ). list_all (pointwise nat_le starts) (all_starts l clue) in
+    let test = λ (starts : List ℕ). list_all (all_as_far side starts) (all_starts l clue) in
     let pass : test m ≡ true =
-    all_pass l clue (pointwise nat_le m)
-    (λ ss e. pointwise_from m ss (d.count ∙ sym e.count) (λ j h. least ss e j (omega (arith, d.count)))) in
-    found_is l clue m test x.0 x.1 x.2 pass (λ y q t.
-    pointwise_antisym (run_starts y) m
-    (ap (pointwise nat_le (run_starts y)) (sym x.2) ∙ pass_all l clue (pointwise nat_le (run_starts y)) t x.0 x.1)
-    (pass_all l clue (pointwise nat_le m) pass y q))
-
--- and those that are at least those of every placing the rightmost
-pub rightmost_is : (l : List Cell) (clue m : List ℕ) → ArePositive clue → IsLaid l clue m
-    → ((ss : List ℕ) → IsLaid l clue ss → (j : ℕ) → j < length clue → get_or ss j 0 ≤ get_or m j 0) → rightmost l clue ≡ Some m
-rightmost_is l clue m pos d greatest =
-    let x = placed l clue m pos d in
-    let test = λ (starts : List ℕ). list_all (λ other. pointwise nat_le other starts) (all_starts l clue) in
-    let pass : test m ≡ true =
-    all_pass l clue (λ other. pointwise nat_le other m)
-    (λ ss e. pointwise_from ss m (e.count ∙ sym d.count) (λ j h. greatest ss e j (omega (arith, e.count)))) in
-    found_is l clue m test x.0 x.1 x.2 pass (λ y q t.
-    pointwise_antisym (run_starts y) m
-    (pass_all l clue (λ other. pointwise nat_le other m) pass y q)
-    (ap (λ (z : List ℕ). pointwise nat_le z (run_starts y)) (sym x.2)
-    ∙ pass_all l clue (λ other. pointwise nat_le other (run_starts y)) t x.0 x.1))
+    all_pass l clue (all_as_far side m)
+    (λ ss e. as_far_from side m ss (d.count ∙ sym e.count) (λ j h. furthest ss e j (omega (arith, d.count)))) in
+    outermost_found side l clue ∙ found_is l clue m test x.0 x.1 x.2 pass (λ y q t.
+    as_far_antisym side (run_starts y) m
+    (ap (all_as_far side (run_starts y)) (sym x.2) ∙ pass_all l clue (all_as_far side (run_starts y)) t x.0 x.1)
+    (pass_all l clue (all_as_far side m) pass y q))
 
 none_listed : (l : List Cell) (clue : List ℕ) (ps : List (List Bool)) → ListsPlacings l clue ps → ((x : List Bool) → IsPlacing l clue x → ⊥)
     → ps ≡ []
 none_listed l clue [] listed none = refl
 none_listed l clue (x ∷ ps) listed none = absurd (none x listed.members.0)
-
-pub leftmost_none : (l : List Cell) (clue : List ℕ) → ((x : List Bool) → IsPlacing l clue x → ⊥) → leftmost l clue ≡ None
-leftmost_none l clue none =
-    ap (λ (ps : List (List Bool)). find (λ starts. list_all (pointwise nat_le starts) (map run_starts ps)) (map run_starts ps))
-    (none_listed l clue (placings l clue) (placings_listed l clue) none)
-
-pub rightmost_none : (l : List Cell) (clue : List ℕ) → ((x : List Bool) → IsPlacing l clue x → ⊥) → rightmost l clue ≡ None
-rightmost_none l clue none =
-    ap (λ (ps : List (List Bool)).
-    find (λ starts. list_all (λ other. pointwise nat_le other starts) (map run_starts ps)) (map run_starts ps))
-    (none_listed l clue (placings l clue) (placings_listed l clue) none)
 
 -- ---- either side
 
@@ -227,41 +222,40 @@ laid_end l clue ss j pos d h =
     let at : get_or (starts_from 0 false x.0) j 0 ≡ get_or ss j 0 = ap (λ (z : List ℕ). get_or z j 0) x.3 in
     whole_of l clue x.0 j (get_or ss j 0 + get_or clue j 0 - 1) pos x.1 x.2 h (omega arith)
 
+-- starts of runs of placings that are as far as those of every placing are those of one placing, the outermost
+pub outermost_of : (side : Side) (l : List Cell) (clue m ss : List ℕ) → ArePositive clue → IsLaid l clue ss → length m ≡ length clue →
+    ((j : ℕ) → j < length clue → Witness l clue j (get_or m j 0))
+    → ((ss : List ℕ) → IsLaid l clue ss → (j : ℕ) → j < length clue → IsAsFar side (get_or m j 0) (get_or ss j 0)) →
+    outermost side l clue ≡ Some m
+outermost_of Left l clue m ss pos d count each least = furthest_is Left l clue m pos (least_laid l clue m ss d count each least) least
+outermost_of Right l clue m ss pos d count each greatest =
+    furthest_is Right l clue m pos (greatest_laid l clue m ss d count each greatest) greatest
+
+as_far_start : (side : Side) (some end other start : ℕ) → 0 < some → start ≡ end + 1 - some → IsAsFar side end (other + some - 1)
+    → IsAsFar side start other
+as_far_start Left some end other start s at far = omega arith
+as_far_start Right some end other start s at far = omega arith
+
 -- the starts that are furthest to a side are those of one placing, which is the outermost
 pub outermost_is : (side : Side) (l : List Cell) (clue m : List ℕ) → ArePositive clue → HasPlacing l clue → length m ≡ length clue
     → ((j : ℕ) → j < length clue → IsOuterStart side l clue j (get_or m j 0)) → outermost side l clue ≡ Some m
-outermost_is Left l clue m pos p count each =
-    leftmost_is l clue m pos (least_laid l clue m (starts_from 0 false p.0) (laid l clue p.0 p.1 p.2) count witness least) least
+outermost_is side l clue m pos p count each =
+    outermost_of side l clue m (starts_from 0 false p.0) pos (laid l clue p.0 p.1 p.2) count witness furthest
   where
     witness : (j : ℕ) → j < length clue → Witness l clue j (get_or m j 0)
     witness j h = let o = each j h in subst (Witness l clue j) (sym o.start_is) (witness_of l clue j o.end pos h o.whole)
 
-    least : (ss : List ℕ) → IsLaid l clue ss → (j : ℕ) → j < length clue → get_or m j 0 ≤ get_or ss j 0
-    least ss d j h =
+    furthest : (ss : List ℕ) → IsLaid l clue ss → (j : ℕ) → j < length clue → IsAsFar side (get_or m j 0) (get_or ss j 0)
+    furthest ss d j h =
         let o = each j h in
-        let at : get_or m j 0 ≡ o.end + 1 - get_or clue j 0 = o.start_is in
-        let some : 0 < get_or clue j 0 = positive_at clue pos j h in
-        let far : o.end ≤ get_or ss j 0 + get_or clue j 0 - 1 =
-        o.outermost_so (get_or ss j 0 + get_or clue j 0 - 1) (laid_end l clue ss j pos d h) in
-        omega arith
-outermost_is Right l clue m pos p count each =
-    rightmost_is l clue m pos (greatest_laid l clue m (starts_from 0 false p.0) (laid l clue p.0 p.1 p.2) count witness greatest) greatest
-  where
-    witness : (j : ℕ) → j < length clue → Witness l clue j (get_or m j 0)
-    witness j h = let o = each j h in subst (Witness l clue j) (sym o.start_is) (witness_of l clue j o.end pos h o.whole)
-
-    greatest : (ss : List ℕ) → IsLaid l clue ss → (j : ℕ) → j < length clue → get_or ss j 0 ≤ get_or m j 0
-    greatest ss d j h =
-        let o = each j h in
-        let at : get_or m j 0 ≡ o.end + 1 - get_or clue j 0 = o.start_is in
-        let some : 0 < get_or clue j 0 = positive_at clue pos j h in
-        let far : get_or ss j 0 + get_or clue j 0 - 1 ≤ o.end =
-        o.outermost_so (get_or ss j 0 + get_or clue j 0 - 1) (laid_end l clue ss j pos d h) in
-        omega arith
+        as_far_start side (get_or clue j 0) o.end (get_or ss j 0) (get_or m j 0) (positive_at clue pos j h) o.start_is
+        (o.outermost_so (get_or ss j 0 + get_or clue j 0 - 1) (laid_end l clue ss j pos d h))
 
 pub outermost_none : (side : Side) (l : List Cell) (clue : List ℕ) → (HasPlacing l clue → ⊥) → outermost side l clue ≡ None
-outermost_none Left l clue none = leftmost_none l clue (λ x p. none (x, Extends-agrees l x p.extends, p.runs_are))
-outermost_none Right l clue none = rightmost_none l clue (λ x p. none (x, Extends-agrees l x p.extends, p.runs_are))
+outermost_none side l clue none =
+    outermost_found side l clue ∙
+    ap (λ (ps : List (List Bool)). find (λ starts. list_all (all_as_far side starts) (map run_starts ps)) (map run_starts ps))
+    (none_listed l clue (placings l clue) (placings_listed l clue) (λ x p. none (x, Extends-agrees l x p.extends, p.runs_are)))
 
 -- one more run's start
 pub outer_more : (side : Side) (l : List Cell) (clue : List ℕ) (list : List ℕ) (j whole place start : ℕ) → j < length list

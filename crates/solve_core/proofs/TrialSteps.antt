@@ -66,31 +66,27 @@ tried_at_end lines g w k closed gw l =
     rw (zero-add k) at (each_below at 0 w after.0 k l) in
     tried-below lines g w w k Unknown gw (Extends-refl w) after.1 l tt here
 
+left_below : (lines : List GridLine) (g : List Cell) (k : ℕ) (colour : Cell) → k < length g →
+    ((w : Cell) → OptionBelow (tried lines g k Unknown) w → CellExtends colour w)
+    → (o : Option (List Cell)) → IsLeastClosed (trial_round lines) g o → AtMost (Some (set g k colour)) o
+left_below lines g k colour l below None law = tt
+left_below lines g k colour l below (Some w) law =
+    set_within g w k colour law.above (below (get_or w k Unknown)
+    (tried_at_end lines g w k (law.closed w refl) law.above (omega (arith, length-Extends g w law.above))))
+
 -- if filled is refuted, the grid with the cell blank is below the trials' end
 pub blank_below : (lines : List GridLine) (g : List Cell) (k : ℕ) → k < length g → is_refuted lines g k Filled ≡ true →
     AtMost (Some (set g k Blank)) (trials lines g)
-blank_below lines g k l r = to (trials lines g) (trials-IsLeastClosed lines g)
-  where
-    to : (o : Option (List Cell)) → IsLeastClosed (trial_round lines) g o → AtMost (Some (set g k Blank)) o
-    to None law = tt
-    to (Some w) law =
-        let within : k < length w = omega (arith, length-Extends g w law.above) in
-        let here : OptionBelow (left_over (is_refuted lines g k Filled) (is_refuted lines g k Blank)) (get_or w k Unknown) =
-        tried_at_end lines g w k (law.closed w refl) law.above within in
-        set_within g w k Blank law.above (left_blank_below (is_refuted lines g k Blank) (get_or w k Unknown) (rw r at here))
+blank_below lines g k l r =
+    left_below lines g k Blank l (λ w h. left_blank_below (is_refuted lines g k Blank) w (rw r at h))
+    (trials lines g) (trials-IsLeastClosed lines g)
 
 -- if blank is refuted, the grid with the cell filled is below the trials' end
 pub filled_below : (lines : List GridLine) (g : List Cell) (k : ℕ) → k < length g → is_refuted lines g k Blank ≡ true →
     AtMost (Some (set g k Filled)) (trials lines g)
-filled_below lines g k l r = to (trials lines g) (trials-IsLeastClosed lines g)
-  where
-    to : (o : Option (List Cell)) → IsLeastClosed (trial_round lines) g o → AtMost (Some (set g k Filled)) o
-    to None law = tt
-    to (Some w) law =
-        let within : k < length w = omega (arith, length-Extends g w law.above) in
-        let here : OptionBelow (left_over (is_refuted lines g k Filled) (is_refuted lines g k Blank)) (get_or w k Unknown) =
-        tried_at_end lines g w k (law.closed w refl) law.above within in
-        set_within g w k Filled law.above (left_filled_below (is_refuted lines g k Filled) (get_or w k Unknown) (rw r at here))
+filled_below lines g k l r =
+    left_below lines g k Filled l (λ w h. left_filled_below (is_refuted lines g k Filled) w (rw r at h))
+    (trials lines g) (trials-IsLeastClosed lines g)
 
 tried_stays : (lines : List GridLine) (z : List Cell) (k : ℕ) (c : Cell) →
     (c ≡ Unknown → (is_refuted lines z k Filled ≡ false) × (is_refuted lines z k Blank ≡ false)) → OptionBelow (tried lines z k c) c

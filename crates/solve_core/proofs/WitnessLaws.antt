@@ -86,27 +86,14 @@ first_of c d a b e = cc
 rest_of : (c d : Cell) (a b : List Cell) → c ∷ a ≡ d ∷ b → a ≡ b
 rest_of c d a b e = cc
 
--- the same along a line
-line_as_trial : (g new t : List Cell) (places : List ℕ) → length new ≡ length t → Extends g t →
-    cells_at Unknown g places ≡ cells_at Unknown new places
-    → cells_at Unknown (overlaid new t) places ≡ cells_at Unknown t places
-line_as_trial g new t [] e h same = refl
-line_as_trial g new t (k ∷ ks) e h same =
-    let first = as_trial g new t k e h (first_of (get_or g k Unknown) (get_or new k Unknown) (cells_at Unknown g ks)
-    (cells_at Unknown new ks) same) in
-    let rest = line_as_trial g new t ks e h (rest_of (get_or g k Unknown) (get_or new k Unknown) (cells_at Unknown g ks)
-    (cells_at Unknown new ks) same) in
-    λ i. first i ∷ rest i
-
-line_as_new : (g new t : List Cell) (places : List ℕ) → length new ≡ length t → Extends g new →
-    cells_at Unknown g places ≡ cells_at Unknown t places
-    → cells_at Unknown (overlaid new t) places ≡ cells_at Unknown new places
-line_as_new g new t [] e h same = refl
-line_as_new g new t (k ∷ ks) e h same =
-    let first = as_new g new t k e h (first_of (get_or g k Unknown) (get_or t k Unknown) (cells_at Unknown g ks)
-    (cells_at Unknown t ks) same) in
-    let rest = line_as_new g new t ks e h (rest_of (get_or g k Unknown) (get_or t k Unknown) (cells_at Unknown g ks)
-    (cells_at Unknown t ks) same) in
+-- what holds where two grids have one cell holds along a line where they have the same cells
+line_as : (g a b o : List Cell) (places : List ℕ) →
+    ((k : ℕ) → get_or g k Unknown ≡ get_or a k Unknown → get_or o k Unknown ≡ get_or b k Unknown) → cells_at Unknown g places ≡ cells_at Unknown a places → cells_at Unknown o places ≡ cells_at Unknown b places
+line_as g a b o [] h same = refl
+line_as g a b o (k ∷ ks) h same =
+    let first = h k (first_of (get_or g k Unknown) (get_or a k Unknown) (cells_at Unknown g ks) (cells_at Unknown a ks) same) in
+    let rest = line_as g a b o ks h
+    (rest_of (get_or g k Unknown) (get_or a k Unknown) (cells_at Unknown g ks) (cells_at Unknown a ks) same) in
     λ i. first i ∷ rest i
 
 settled_alike : (a b : List Cell) (line : GridLine) → AreAlike a b line → IsDeduced b line → IsDeduced a line
@@ -115,8 +102,10 @@ settled_alike a b line same h = subst (λ (cells : List Cell). deduced cells lin
 overlaid_settled : (g new t : List Cell) (line : GridLine) → length new ≡ length t → Extends g new → Extends g t →
     AreAlike g new line ⊎ AreAlike g t line → IsDeduced new line → IsDeduced t line
     → IsDeduced (overlaid new t) line
-overlaid_settled g new t line e h k (inl same) n s = settled_alike (overlaid new t) t line (line_as_trial g new t line.places e k same) s
-overlaid_settled g new t line e h k (inr same) n s = settled_alike (overlaid new t) new line (line_as_new g new t line.places e h same) n
+overlaid_settled g new t line e h k (inl same) n s = settled_alike (overlaid new t) t line
+    (line_as g new t (overlaid new t) line.places (λ q. as_trial g new t q e k) same) s
+overlaid_settled g new t line e h k (inr same) n s = settled_alike (overlaid new t) new line
+    (line_as g t new (overlaid new t) line.places (λ q. as_new g new t q e h) same) n
 
 line_settled : (p : Nonogram) (g : List Cell) (side : Side) (i : ℕ) → IsNonogram p → length g ≡ p.width * p.height →
     round (lines_of p) g ≡ Some g → i < count_on side p.width p.height → IsDeduced g (line_on side p i)
@@ -380,56 +369,43 @@ added_numbered w last n = record {
   within = λ k c. let before = n.within k c in omega (arith, length-append w.witnesses (last ∷ []));
 }
 
+abbrev Noted : List ℕ → List ℕ → ℕ → List Cell → Cell → ℕ → Type 0
+Noted old new number trial colour k = (get_or new k 0 ≡ get_or old k 0) ⊎ ((get_or new k 0 ≡ number) × (get_or trial k Unknown ≡ colour))
+
+noted : (list : List ℕ) (place number : ℕ) (trial : List Cell) (colour : Cell) → place < length list → get_or trial place Unknown ≡ colour
+    → (k : ℕ) → Noted list (set list place number) number trial colour k
+noted list place number trial colour h e k =
+    elim (cases_eq k place) [
+      | inl same ↦ inr (
+        ap (λ (q : ℕ). get_or (set list place number) q 0) same ∙ get_or-set_same list place number 0 h,
+        ap (λ (q : ℕ). get_or trial q Unknown) same ∙ e,
+      )
+      | inr other ↦ inl (get_or-set_other list place k number 0 other)
+    ]
+
 -- a number is noted for filled at a place where the trial is filled
 pub meets-filled : (w : WitnessLists) (place number : ℕ) (trial : List Cell) → place < length w.fillable →
-    get_or trial place Unknown ≡ Filled
-    → AddsMet w (record w { fillable = set w.fillable place number }) number trial
-meets-filled w place number trial h e = record {
-  witnesses = refl;
-  filled_count = length-set w.fillable place number;
-  blank_count = refl;
-  met = by;
-}
+    get_or trial place Unknown ≡ Filled → AddsMet w (record w { fillable = set w.fillable place number }) number trial
+meets-filled w place number trial h e =
+    record { witnesses = refl; filled_count = length-set w.fillable place number; blank_count = refl; met = by }
   where
-    by : (k : ℕ) (colour : Cell) → (get_or (met_by (record w { fillable = set w.fillable place number }) colour) k 0 ≡
-        get_or (met_by w colour) k 0)
-        ⊎ ((get_or (met_by (record w { fillable = set w.fillable place number }) colour) k 0 ≡ number) × (get_or trial k Unknown ≡ colour))
+    by : (k : ℕ) (colour : Cell) →
+        Noted (met_by w colour) (met_by (record w { fillable = set w.fillable place number }) colour) number trial colour k
     by k Unknown = inl refl
-    by k Filled =
-        elim (cases_eq k place) [
-          | inl same ↦ inr (
-            ap (λ (q : ℕ). get_or (set w.fillable place number) q 0) same ∙ get_or-set_same w.fillable place number 0 h,
-            ap (λ (q : ℕ). get_or trial q Unknown) same ∙ e,
-          )
-          | inr other ↦ inl (get_or-set_other w.fillable place k number 0 other)
-        ]
+    by k Filled = noted w.fillable place number trial Filled h e k
     by k Blank = inl refl
 
 -- a number is noted for blank at a place where the trial is blank
 pub meets-blank : (w : WitnessLists) (place number : ℕ) (trial : List Cell) → place < length w.blankable →
-    get_or trial place Unknown ≡ Blank
-    → AddsMet w (record w { blankable = set w.blankable place number }) number trial
-meets-blank w place number trial h e = record {
-  witnesses = refl;
-  filled_count = refl;
-  blank_count = length-set w.blankable place number;
-  met = by;
-}
+    get_or trial place Unknown ≡ Blank → AddsMet w (record w { blankable = set w.blankable place number }) number trial
+meets-blank w place number trial h e =
+    record { witnesses = refl; filled_count = refl; blank_count = length-set w.blankable place number; met = by }
   where
-    by : (k : ℕ) (colour : Cell) → (get_or (met_by (record w { blankable = set w.blankable place number }) colour) k 0 ≡
-        get_or (met_by w colour) k 0)
-        ⊎ ((get_or (met_by (record w { blankable = set w.blankable place number }) colour) k 0 ≡ number) ×
-        (get_or trial k Unknown ≡ colour))
+    by : (k : ℕ) (colour : Cell) →
+        Noted (met_by w colour) (met_by (record w { blankable = set w.blankable place number }) colour) number trial colour k
     by k Unknown = inl refl
     by k Filled = inl refl
-    by k Blank =
-        elim (cases_eq k place) [
-          | inl same ↦ inr (
-            ap (λ (q : ℕ). get_or (set w.blankable place number) q 0) same ∙ get_or-set_same w.blankable place number 0 h,
-            ap (λ (q : ℕ). get_or trial q Unknown) same ∙ e,
-          )
-          | inr other ↦ inl (get_or-set_other w.blankable place k number 0 other)
-        ]
+    by k Blank = noted w.blankable place number trial Blank h e k
 
 -- noted numbers of a witness are those of witnesses
 pub more_numbered : (w new : WitnessLists) (number : ℕ) (trial : List Cell) → AreNumbered w → number < length w.witnesses →

@@ -1,6 +1,7 @@
 -- The law `leftmost_is_least` holds: the definition's search finds the least starts.
-use Rattle.line_core.proofs.EndLaws.{leftmost-least}
+use Rattle.line_core.specs.declared.starts.Side.TheVariants.{Left}
+use Rattle.line_core.proofs.EndLaws.{outermost-furthest}
 use Rattle.line_core.proofs.laws.leftmost_is_least.Goals as goal
 
 pub returns : goal.returns
-returns c = leftmost-least
+returns c = outermost-furthest Left
