@@ -80,21 +80,14 @@ as_new g new t k e h same =
     get_or-overlaid new t k e ∙ over_less (get_or new k Unknown) (get_or t k Unknown)
     (subst (λ (c : Cell). CellExtends c (get_or new k Unknown)) same (Extends-at g new k h))
 
-first_of : (c d : Cell) (a b : List Cell) → c ∷ a ≡ d ∷ b → c ≡ d
-first_of c d a b e = cc
-
-rest_of : (c d : Cell) (a b : List Cell) → c ∷ a ≡ d ∷ b → a ≡ b
-rest_of c d a b e = cc
-
 -- what holds where two grids have one cell holds along a line where they have the same cells
 line_as : (g a b o : List Cell) (places : List ℕ) →
     ((k : ℕ) → get_or g k Unknown ≡ get_or a k Unknown → get_or o k Unknown ≡ get_or b k Unknown) → cells_at Unknown g places ≡ cells_at Unknown a places → cells_at Unknown o places ≡ cells_at Unknown b places
 line_as g a b o [] h same = refl
 line_as g a b o (k ∷ ks) h same =
-    let first = h k (first_of (get_or g k Unknown) (get_or a k Unknown) (cells_at Unknown g ks) (cells_at Unknown a ks) same) in
-    let rest = line_as g a b o ks h
-    (rest_of (get_or g k Unknown) (get_or a k Unknown) (cells_at Unknown g ks) (cells_at Unknown a ks) same) in
-    λ i. first i ∷ rest i
+    let here : get_or g k Unknown ≡ get_or a k Unknown = cc in
+    let rest : cells_at Unknown g ks ≡ cells_at Unknown a ks = cc in
+    λ i. h k here i ∷ line_as g a b o ks h rest i
 
 settled_alike : (a b : List Cell) (line : GridLine) → AreAlike a b line → IsDeduced b line → IsDeduced a line
 settled_alike a b line same h = subst (λ (cells : List Cell). deduced cells line.clue ≡ Some cells) (sym same) h
@@ -219,7 +212,7 @@ apart_stays p w g new number learned is size closed h theirs apart some was =
     }
 
 cell-antisym : (a b : Cell) → CellExtends a b → CellExtends b a → a ≡ b
-cell-antisym a b h k = first_of a b [] [] (Extends-antisym (a ∷ []) (b ∷ []) (h, tt) (k, tt))
+cell-antisym a b h k = let e : a ∷ [] ≡ b ∷ [] = Extends-antisym (a ∷ []) (b ∷ []) (h, tt) (k, tt) in cc
 
 squeezed : (a b c : List Cell) (k : ℕ) → Extends a b → Extends b c → get_or a k Unknown ≡ get_or c k Unknown →
     get_or b k Unknown ≡ get_or c k Unknown
