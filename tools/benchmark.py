@@ -1,13 +1,16 @@
 #!/usr/bin/env python3
 """Times the built program on puzzles that it makes itself, from a fixed seed, and prints Markdown tables.
 
-    tools/benchmark.py crates/nonograde/out/nonograde [solve] [trials] [survey] [lanes] [rules] [texts]
+    tools/benchmark.py crates/nonograde/out/nonograde [peers] [solve] [trials] [survey] [lanes] [rules] [texts]
+
+`peers` times the SAT solvers `minisat` and `cadical`, of those that are installed, on the same puzzles.
 
 Each figure is the least wall time of three runs of the program as a whole (start, reading, solving,
 printing), or that of one run if it takes over a second, and, if it says so, the greatest peak memory of a
 process. Nothing here is part of the product or of its gate.
 """
 import os
+import shutil
 import subprocess
 import sys
 import tempfile
@@ -15,6 +18,8 @@ import time
 
 SEED = 20261122
 PUZZLES = 5
+# of each grade beside SAT solvers
+PEERS = 30
 # how many are drawn at most to find them
 DRAWN = 100
 # sides of mirrored pictures whose puzzles need trials, and their seeds
@@ -219,9 +224,119 @@ def texts(program, folder):
     table(["format", "1,048,576 bytes of", "time", "peak memory", "answer"], rows)
 
 
+class Formula:
+    """A formula in clauses, with its variables numbered from 1."""
+
+    def __init__(self):
+        self.variables, self.clauses = 0, []
+
+    def variable(self):
+        self.variables += 1
+        return self.variables
+
+    def add(self, *literals):
+        """Adds a clause: a literal that is True makes it needless, one that is False says nothing."""
+        if not any(literal is True for literal in literals):
+            self.clauses.append([literal for literal in literals if literal is not False])
+
+    def write(self, path):
+        with open(path, "w") as file:
+            file.write(f"p cnf {self.variables} {len(self.clauses)}\n")
+            file.writelines(" ".join(map(str, [*clause, 0])) + "\n" for clause in self.clauses)
+
+
+def negated(literal):
+    return not literal if isinstance(literal, bool) else -literal
+
+
+def add_line(formula, cells, runs):
+    """Says that the runs of filled cells along a line are these. A variable for each run and place says that the run
+    begins there or before."""
+    least, starts = 0, []
+    slack = len(cells) - sum(runs) - max(0, len(runs) - 1)
+    if slack < 0:
+        formula.add(False)
+        return
+    for run in runs:
+        begun = {place: formula.variable() for place in range(least, least + slack)}
+        starts.append(lambda place, begun=begun, least=least: begun.get(place, place >= least))
+        for place in range(least + 1, least + slack):
+            formula.add(-begun[place - 1], begun[place])
+        least += run + 1
+    for number, run in enumerate(runs[1:], 1):
+        for place in range(len(cells)):
+            formula.add(negated(starts[number](place)), starts[number - 1](place - runs[number - 1] - 1))
+    for place, cell in enumerate(cells):
+        covers = []
+        for begun, run in zip(starts, runs):
+            here, past = begun(place), begun(place - run)
+            formula.add(negated(here), past, cell)
+            if here is True and past is False:
+                covers.append(True)
+            elif here is not False and past is not True:
+                covered = formula.variable()
+                formula.add(-covered, here)
+                formula.add(-covered, negated(past))
+                covers.append(covered)
+        formula.add(-cell, *covers)
+
+
+def formula_of(cells):
+    """The puzzle of a picture as a formula, and its variables for the cells, row by row."""
+    formula = Formula()
+    grid = [[formula.variable() for _ in row] for row in cells]
+    for variables, line in [*zip(grid, cells), *zip(zip(*grid), zip(*cells))]:
+        add_line(formula, variables, [int(run) for run in clue(line).split() if run != "0"])
+    return formula, [variable for row in grid for variable in row]
+
+
+def settled_by(solver, formula, cells, folder):
+    """How long a SAT solver takes to find a solution and to look for another one, and the verdict."""
+    path, answer = os.path.join(folder, "puzzle.cnf"), os.path.join(folder, "answer")
+    total = 0.0
+    for verdict in ("none", "one"):
+        formula.write(path)
+        words = [solver, path, answer] if solver == "minisat" else [solver, "-q", "-w", answer, path]
+        took, _, _ = run(words)
+        total += took
+        with open(answer) as file:
+            said = file.read()
+        if "UNSAT" in said:
+            return total, verdict
+        true = {int(word) for word in said.replace("v ", "").split() if word.lstrip("-").isdigit()}
+        formula.add(*(-cell if cell in true else cell for cell in cells))
+    return total, "several"
+
+
+def peers(program, folder):
+    solvers = [name for name in ("minisat", "cadical") if shutil.which(name)]
+    kinds = [("line", 30, 52, 3), ("trials", 25, 50, 1), ("search", 25, 50, 1)]
+    rows = []
+    for grade, side, filled, rounds in kinds:
+        draws, times, count, differing = Draws(SEED), dict.fromkeys([program, *solvers], 0.0), 0, 0
+        while count < PEERS:
+            cells = picture(draws, side, side, filled, rounds)
+            path = os.path.join(folder, "peer.mk")
+            with open(path, "w") as file:
+                file.write(as_mk(cells))
+            took, _, out = run([program, "solve", "--guesses", "100000", path])
+            words = out.decode().split(" ")
+            if words[3] != grade or words[2] == "unsettled":
+                continue
+            count += 1
+            times[program] += took
+            for solver in solvers:
+                took, verdict = settled_by(solver, *formula_of(cells), folder)
+                times[solver] += took
+                differing += verdict != words[2]
+        ratios = [f"{times[solver] / times[program]:.1f}" for solver in solvers]
+        rows.append([f"{PEERS} of {side} by {side}, `{grade}`", milliseconds(times[program] / PEERS), *ratios, differing])
+    table(["pictures, by grade", "this program, each", *(f"{solver} over it" for solver in solvers), "verdicts that differ"], rows)
+
+
 def main():
     program = os.path.abspath(sys.argv[1])
-    parts = {"solve": solve, "trials": trials, "survey": survey, "lanes": lanes, "rules": rules, "texts": texts}
+    parts = {"peers": peers, "solve": solve, "trials": trials, "survey": survey, "lanes": lanes, "rules": rules, "texts": texts}
     chosen = sys.argv[2:] or list(parts)
     print(f"{time.strftime('%Y-%m-%d')}, {os.cpu_count()} cores\n")
     with tempfile.TemporaryDirectory() as folder:
