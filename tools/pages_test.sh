@@ -1,9 +1,9 @@
 #!/usr/bin/env bash
 # Tests that the pages say what is so, with the program that `rt ci` left in crates/nonograde/out, or the one
-# that NONOGRADE names: it installs it, types the commands of README.md and of the installed man page, asks it
-# for the examples of docs/formats.md and for each word of a fault, compares man page and completions with its
-# help, and runs it from its package. It needs mandoc, man-db, zsh and make. Its last line is
-# `N passed, M failed`.
+# that NONOGRADE names: it installs it, types the commands of README.md and of the installed man page, follows
+# the links of all pages, asks it for the examples of docs/formats.md and for each word of a fault, compares man
+# page and completions with its help, and runs it from its package. It needs mandoc, man-db, zsh and make. Its
+# last line is `N passed, M failed`.
 . "$(dirname "$0")/common.sh"
 program=$(realpath "$program")
 [ -x "$program" ] || refuse "there is no $program"
@@ -263,6 +263,17 @@ END
         print -r -- "${${text##*typed }%% end*}"' - "$1"
 }
 
+# Follows each link of the pages, and each path of a page or a script that they name.
+follow_links() {
+    local page target
+    for page in *.md docs/*.md; do
+        while IFS= read -r target; do
+            count "$target in $page" "$([ -e "$(dirname "$page")/${target%%#*}" ] || [ -e "$target" ] || [ -e "tools/$target" ] ||
+                echo "it isn't there")"
+        done < <(grep -oP "\]\(\K[^)]+|$tick\K[\w./-]+\.(md|sh|py)(?=$tick)" "$page" | sort -u)
+    done
+}
+
 # Runs the program from its package, unpacked into an empty folder.
 try_package() {
     local packed folder
@@ -287,6 +298,7 @@ make -s install PREFIX="$HOME/.local"
 type_commands 'the README' <README.md
 count 'the man page' "$(mandoc -T lint man/nonograde.1 2>&1)"
 type_commands 'the man page' < <(manual)
+follow_links
 ask_for_examples line 'Line | Clue'
 ask_for_examples section 'Section | Clue lines'
 ask_for_examples 'size line' 'Size line | Sizes'
