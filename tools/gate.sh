@@ -76,6 +76,22 @@ check_promises() {
     echo '2 passed, 0 failed'
 }
 
+# Has `rt lib` take the libraries that `rt ci` has just proved: that leaves them without the mark by which they are
+# known to be built.
+keep_libraries() {
+    python3 - "$(dirname "$(rt doc)")/bin" <<'END'
+import sys
+
+sys.path.insert(0, sys.argv[1])
+import rtlib
+
+for crate in rtlib.crates_below("."):
+    if crate.makes_rlib():
+        with open(f"{crate.folder}/out/rlib/stamp", "w") as stamp:
+            stamp.write(crate.stamp())
+END
+}
+
 # Runs a step, and adds what its last line counts. A step that fails ends the gate.
 step() {
     local status counts
@@ -99,6 +115,7 @@ need compiles gcc libc6-dev
 need spreads parallel
 need 'hash sshd ssh rsync gawk shellcheck' openssh-server openssh-client rsync gawk shellcheck
 need 'hash make mandoc man zsh' make mandoc man-db zsh
+need 'hash python3' python3
 RT_JOBS=${RT_JOBS:-$(lanes)}
 export RT_JOBS
 step check_scripts
@@ -111,4 +128,6 @@ step tools/shards_test.sh
 step tools/machines_test.sh
 step tools/pack_test.sh
 step tools/pages_test.sh
+keep_libraries
+step tools/library.sh
 finish 0

@@ -14,14 +14,12 @@ use Rattle.survey_core.specs.Leaving.{LeavesAt, WritesSurvey}
 use Rattle.survey_core.specs.Survey.{survey_of_entries}
 use Rattle.survey_core.specs.declared.faults.RunFault.{RunFault}
 use Rattle.survey_core.specs.declared.settings.Settings.{Settings}
-use Rattle.nonograde.specs.Converting.{converted}
-use Rattle.nonograde.specs.steps.Converting.{GivesConverted}
+use Rattle.reports.specs.Converting.{GivesConverted, converted}
 use Rattle.nonograde.specs.Printing.{Prints, PrintsFile, PrintsFiles, convert_answer, named_texts, or_stop}
-use Rattle.nonograde.specs.Reports.{said, text_or_fault}
-use Rattle.nonograde.specs.steps.Reports.{GivesText}
+use Rattle.reports.specs.Reports.{GivesText, said, text_or_fault}
 use Rattle.nonograde.specs.Stop.{stop_line, stop_of_convert, stop_word}
-use Rattle.nonograde.specs.declared.converting.ConvertFault.{ConvertFault}
-use Rattle.nonograde.specs.declared.converting.ConvertFault.TheVariants as convert
+use Rattle.reports.specs.declared.converting.ConvertFault.{ConvertFault}
+use Rattle.reports.specs.declared.converting.ConvertFault.TheVariants as convert
 use Rattle.nonograde.specs.declared.stop.Stop.{Stop}
 use Rattle.nonograde.specs.declared.stop.Stop.TheVariants.{Entry, Run, Write, NoMemory as memory_stop}
 

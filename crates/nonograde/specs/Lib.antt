@@ -1,7 +1,5 @@
 -- The definitions that public contracts rest on; those that only private calls need are the steps.
 pub mod Stop
-pub mod Reports
-pub mod Converting
 pub mod Printing
 pub mod Ending
 pub mod Words

@@ -13,8 +13,8 @@ use Rattle.survey_core.specs.Leaving.{IsWrite, LeavesAt, WritesSurvey}
 use Rattle.survey_core.specs.Survey.{survey_of, survey_of_entries}
 use Rattle.survey_core.specs.declared.counted.Counted.{Counted}
 use Rattle.survey_core.specs.declared.settings.Settings.{Settings}
-use Rattle.nonograde.specs.Converting.{converted}
-use Rattle.nonograde.specs.Reports.{lines_text, said, solve_text, text_or_fault}
+use Rattle.reports.specs.Converting.{converted}
+use Rattle.reports.specs.Reports.{lines_text, said, solve_text, text_or_fault}
 use Rattle.nonograde.specs.declared.command.Request.{Request}
 use Rattle.nonograde.specs.declared.command.Request.TheVariants.{Survey, Solve, Convert, Lines}
 use Rattle.nonograde.specs.Stop.{stop_of_convert}

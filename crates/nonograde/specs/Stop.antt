@@ -3,8 +3,8 @@ use Rattle.std.specs.Prelude.{ℕ, List, ◌++◌, codes}
 use Rattle.puzzle_text.specs.Words.{word_of, word_of_collection}
 use Rattle.survey_core.specs.declared.faults.RunFault.{RunFault}
 use Rattle.survey_core.specs.declared.faults.RunFault.TheVariants as run
-use Rattle.nonograde.specs.declared.converting.ConvertFault.{ConvertFault}
-use Rattle.nonograde.specs.declared.converting.ConvertFault.TheVariants as convert
+use Rattle.reports.specs.declared.converting.ConvertFault.{ConvertFault}
+use Rattle.reports.specs.declared.converting.ConvertFault.TheVariants as convert
 use Rattle.nonograde.specs.declared.stop.Stop.{Stop}
 use Rattle.nonograde.specs.declared.stop.Stop.TheVariants as stop
 

@@ -1,6 +1,4 @@
 -- The definitions that only private calls need.
 pub mod Command
-pub mod Converting
-pub mod Reports
 pub mod Stop
 pub mod Words

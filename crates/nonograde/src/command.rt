@@ -14,14 +14,12 @@ use clap::{Arg, ArgAction, ArgMatches, Command, Error, value_parser};
 use grid_core::NoMemory;
 use lane_core::MOST_GUESSES;
 use puzzle_text::Format;
+use reports::VERSION;
 use solve_core::Pick;
 use std::alloc::{AllocError, Global};
 use survey_core::{
     DEFAULT_GUESSES, DEFAULT_LANES, DEFAULT_RING, LARGEST_RING, MOST_LANES, Settings,
 };
-
-/// The version: the day of the newest change that users see.
-const VERSION: &str = "2026.11.25";
 
 /// What the help of a command that grades ends with: what it prints, and further lines.
 macro_rules! grading_help {

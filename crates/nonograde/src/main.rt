@@ -2,11 +2,9 @@
 #![tactic(auto)]
 
 mod command;
-mod converting;
 mod files;
 mod performing;
 mod program;
-mod reports;
 mod stop;
 
 use std::process::ExitCode;

@@ -9,12 +9,11 @@ ghost use Rattle.nonograde.specs.steps.Command.{HasSettingsInRange};
 ghost use Rattle.nonograde.specs.Printing.{IsUnwritten, Performs, PrintsFile, PrintsFiles, PrintsInput, PrintsSurveyOf, convert_answer, lines_answer, solve_answer, stream};
 
 use crate::command::{Request, SurveyRequest};
-use crate::converting::convert;
 use crate::files::{entries_of, read_file, read_files};
-use crate::reports::{lines_report, solve_report};
 use crate::stop::Stop;
 use lane_core::{Gate, MOST_GUESSES, OpenGate};
 use puzzle_text::{Format, LONGEST_COLLECTION};
+use reports::{convert, lines_report, solve_report};
 use solve_core::Pick;
 use std::io::{Read, Write};
 use std::rt::Files;

@@ -5,9 +5,9 @@ ghost use Rattle.puzzle_text.specs.Words.{word_text};
 ghost use Rattle.nonograde.specs.Stop.{run_word, stop_of_convert, stop_word};
 ghost use Rattle.nonograde.specs.declared.stop.Stop.TheVariants.{Entry as entry_stop, NoMemory as memory_stop};
 
-use crate::converting::ConvertFault;
 use grid_core::NoMemory;
 use puzzle_text::{EntryFault, FaultWord};
+use reports::ConvertFault;
 use survey_core::RunFault;
 
 /// Why the program stops.

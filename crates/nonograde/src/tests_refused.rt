@@ -2,13 +2,12 @@
 //! refused.
 
 use crate::command::{CommandFault, Request};
-use crate::converting::{ConvertFault, convert};
-use crate::reports::{lines_report, solve_report};
 use crate::tests_running::asked;
 use crate::tests_samples::{DEMO, DEMO_GRID, DEMO_NIN, MEETS, PAIR, TWO, joined, repeated};
 use clap::error::ErrorKind;
 use puzzle_text::{EntryFault, Format, LONGEST_PUZZLE, TextFault};
 use refusals::{Told, is_heeded, refuse, sweep, told_if, was_refused};
+use reports::{ConvertFault, convert, lines_report, solve_report};
 use solve_core::Pick;
 use std::test::Fail;
 use survey_core::Settings;

@@ -1,13 +1,12 @@
 //! What `lines`, `solve` and `convert` print. Each call is made with ample memory, so that a body that always
 //! answers `NoMemory` fails here.
 
-use crate::converting::{ConvertFault, convert};
-use crate::reports::{lines_report, solve_report};
 use crate::tests_samples::{
     CLASH, DEMO, DEMO_GRID, DEMO_NIN, FIT, MEETS, MISSES, ONE, PAIR, SIX, THREE, TWIN, TWO,
     assert_bytes, full_rows, joined, text_or_word, uniform,
 };
 use puzzle_text::{EntryFault, Format, TextFault};
+use reports::{ConvertFault, convert, lines_report, solve_report};
 use solve_core::Pick;
 use std::process::Abort;
 use std::test::Fail;

@@ -1,13 +1,13 @@
 //! Which words ask for what, and what the program says and answers.
 
 use crate::command::{CommandFault, Request};
-use crate::converting::ConvertFault;
 use crate::program::report_stop;
 use crate::stop::Stop;
 use crate::tests_running::{FailingWriter, asked, ended, ended_into};
 use crate::tests_samples::joined;
 use grid_core::NoMemory;
 use puzzle_text::{CollectionFault, EntryFault, Format, TextFault};
+use reports::ConvertFault;
 use solve_core::Pick;
 use std::alloc::{AllocError, Global};
 use std::io::{Read, Write};

@@ -1,5 +1,5 @@
 -- `close_file`: the text went out, or the file's text was refused.
-use Rattle.nonograde.specs.Reports.{lines_text}
+use Rattle.reports.specs.Reports.{lines_text}
 use Rattle.nonograde.proofs.PrintingLemmas.{report_printed, refused_of}
 use Rattle.nonograde.proofs.performing.close_file.Goals as goal
 

@@ -1,5 +1,5 @@
 -- `solve_file`: the text went out, or the file's text was refused.
-use Rattle.nonograde.specs.Reports.{solve_text}
+use Rattle.reports.specs.Reports.{solve_text}
 use Rattle.nonograde.proofs.PrintingLemmas.{report_printed, refused_of}
 use Rattle.nonograde.proofs.performing.solve_file.Goals as goal
 

@@ -1,6 +1,6 @@
 -- `solve_text`: the text of the answer to the puzzle's job is that of the puzzle.
-use Rattle.nonograde.proofs.FoundLemmas.{answer_printed}
-use Rattle.nonograde.proofs.reports.solve_text.Goals as goal
+use Rattle.reports.proofs.FoundLemmas.{answer_printed}
+use Rattle.reports.proofs.reports.solve_text.Goals as goal
 
 pub returns : goal.returns
 returns c = answer_printed c.args.name.now c.args.puzzle c.args.guesses c.args.pick _ _ c.print_graded.result c.new.ensures.puzzle

@@ -1,7 +1,7 @@
 -- `lines_text`: what is printed of the puzzle's closed grid is what is printed of the puzzle.
 use Rattle.std.proofs.Common.{◌∙◌, ap, ◌++◌}
-use Rattle.nonograde.specs.Reports.{closed_text}
-use Rattle.nonograde.proofs.reports.lines_text.Goals as goal
+use Rattle.reports.specs.Reports.{closed_text}
+use Rattle.reports.proofs.reports.lines_text.Goals as goal
 
 pub returns : goal.returns
 returns c =

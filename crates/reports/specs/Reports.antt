@@ -1,5 +1,6 @@
--- The texts that the commands on one puzzle print.
-use Rattle.std.specs.Prelude.{ℕ, true, List, ◌++◌, codes, decimal, count_by, if◌then◌else◌, Option, Some, None, Result, Ok, Err}
+-- The texts that the calls on one puzzle give.
+use Rattle.std.specs.Prelude.{◌≡◌, ℕ, true, List, ◌++◌, codes, decimal, count_by, if◌then◌else◌, Option, Some, None, Result, Ok, Err, Vec}
+use Rattle.std.specs.declared.alloc.Global.{Global}
 use Rattle.std.specs.List.{list_all}
 use Rattle.grid_core.specs.declared.limits.TheConstants.{LONGEST_SIDE}
 use Rattle.grid_core.specs.Cells.{is_known}
@@ -9,6 +10,8 @@ use Rattle.solve_core.specs.Report.{line_grid}
 use Rattle.solve_core.specs.declared.picks.Pick.{Pick}
 use Rattle.puzzle_text.specs.Formats.{read_entry}
 use Rattle.puzzle_text.specs.declared.faults.EntryFault.{EntryFault}
+use Rattle.puzzle_text.specs.declared.faults.EntryFault.TheVariants.{Text}
+use Rattle.puzzle_text.specs.declared.faults.TextFault.TheVariants.{NoMemory}
 use Rattle.survey_core.specs.Entries.{entry_text}
 use Rattle.survey_core.specs.Grids.{grid_text}
 use Rattle.survey_core.specs.Survey.{reported}
@@ -43,3 +46,9 @@ said name body = read_entry LONGEST_SIDE (record { name = name; body = body })
 abbrev pub text_or_fault : (Nonogram → List ℕ) → Result Nonogram EntryFault → Result (List ℕ) EntryFault
 text_or_fault text (Ok p) = Ok (text p)
 text_or_fault text (Err fault) = Err fault
+
+-- What a call answered is this answer. Want of memory may stand in place of any answer.
+abbrev pub GivesText : Result (Vec ℕ Global) EntryFault → Result (List ℕ) EntryFault → Type 0
+GivesText (Ok text) answer = answer ≡ Ok text.items
+GivesText (Err (Text NoMemory)) answer = Unit {0}
+GivesText (Err fault) answer = answer ≡ Err fault

@@ -13,7 +13,7 @@ use Rattle.solve_core.specs.declared.picks.Pick.{Pick}
 use Rattle.puzzle_text.specs.declared.faults.EntryFault.{EntryFault}
 use Rattle.survey_core.proofs.ReadingLemmas.{found_is}
 use Rattle.survey_core.specs.Entries.{entry_text, found_of}
-use Rattle.nonograde.specs.Reports.{solve_text}
+use Rattle.reports.specs.Reports.{solve_text}
 
 -- the text of an answer that has a report is that of its job's puzzle
 pub answer_printed : (name : List ℕ) (p : Nonogram) (limit : ℕ) (pick : Pick) (job : Job) (answer : Answer)

@@ -1,8 +1,8 @@
 -- `is_full`: there is no first unknown cell exactly if all cells are known.
 use Rattle.std.proofs.Common.{ap, ◌∙◌, is_none, position}
 use Rattle.grid_core.specs.Cells.{is_unknown}
-use Rattle.nonograde.proofs.FullLemmas.{none_unknown, is_none-from, is_none-option_map}
-use Rattle.nonograde.proofs.reports.is_full.Goals as goal
+use Rattle.reports.proofs.FullLemmas.{none_unknown, is_none-from, is_none-option_map}
+use Rattle.reports.proofs.reports.is_full.Goals as goal
 
 pub returns : goal.returns
 returns c =

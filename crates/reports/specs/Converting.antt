@@ -1,14 +1,16 @@
 -- A puzzle's text in another format.
-use Rattle.std.specs.Prelude.{ℕ, List, Result, Ok, Err}
+use Rattle.std.specs.Prelude.{◌≡◌, ℕ, List, Result, Ok, Err, IsOk, Vec}
+use Rattle.std.specs.declared.alloc.Global.{Global}
 use Rattle.grid_core.specs.Nonogram.{Nonogram}
 use Rattle.puzzle_text.specs.Formats.{text_as}
 use Rattle.puzzle_text.specs.declared.faults.EntryFault.{EntryFault}
+use Rattle.puzzle_text.specs.declared.faults.EntryFault.TheVariants.{Text}
 use Rattle.puzzle_text.specs.declared.faults.TextFault.TheVariants as text
 use Rattle.puzzle_text.specs.declared.faults.WriteFault.{WriteFault}
 use Rattle.puzzle_text.specs.declared.faults.WriteFault.TheVariants as written
 use Rattle.puzzle_text.specs.declared.formats.Format.{Format}
-use Rattle.nonograde.specs.declared.converting.ConvertFault.{ConvertFault}
-use Rattle.nonograde.specs.declared.converting.ConvertFault.TheVariants.{Entry, Ambiguous, NoMemory}
+use Rattle.reports.specs.declared.converting.ConvertFault.{ConvertFault}
+use Rattle.reports.specs.declared.converting.ConvertFault.TheVariants.{Entry, Ambiguous, NoMemory}
 
 -- a writer's answer as that of a conversion
 abbrev pub in_conversion : Result (List ℕ) WriteFault → Result (List ℕ) ConvertFault
@@ -24,3 +26,11 @@ text_in format p = in_conversion (text_as format p)
 abbrev pub converted : Format → Result Nonogram EntryFault → Result (List ℕ) ConvertFault
 converted format (Ok p) = text_in format p
 converted format (Err fault) = Err (Entry fault)
+
+-- What a call answered is this answer. Want of memory in reading may stand in place of any answer, and want
+-- of memory in writing in place of a text.
+abbrev pub GivesConverted : Result (Vec ℕ Global) ConvertFault → Result (List ℕ) ConvertFault → Type 0
+GivesConverted (Ok text) answer = answer ≡ Ok text.items
+GivesConverted (Err (Entry (Text text.NoMemory))) answer = Unit {0}
+GivesConverted (Err NoMemory) answer = IsOk answer
+GivesConverted (Err fault) answer = answer ≡ Err fault

@@ -2,9 +2,8 @@
 
 ghost use Rattle.std.specs.Prelude.{◌≡◌, ◌<◌, ◌↔◌, true, false, length, Err, MatchResult, Ok};
 ghost use Rattle.puzzle_text.specs.Formats.{is_known};
-ghost use Rattle.nonograde.specs.Converting.{converted, text_in};
-ghost use Rattle.nonograde.specs.steps.Converting.{GivesConverted};
-ghost use Rattle.nonograde.specs.Reports.{said};
+ghost use Rattle.reports.specs.Converting.{GivesConverted, converted, text_in};
+ghost use Rattle.reports.specs.Reports.{said};
 
 use grid_core::Puzzle;
 use puzzle_text::{Entry, EntryFault, Format, LONGEST_PUZZLE, TextFault, WriteFault, read_entry};

@@ -1,11 +1,10 @@
-//! What the commands on one puzzle print.
+//! What is printed of one puzzle.
 
 ghost use Rattle.std.specs.Prelude.{◌≡◌, ◌≤◌, ◌<◌, ◌↔◌, ◌++◌, true, false, length, Ok, Err, IfErr, IfOk, OnOk, MatchResult};
 ghost use Rattle.std.specs.List.{list_all};
 ghost use Rattle.grid_core.specs.Cells.{is_known};
 ghost use Rattle.puzzle_text.specs.Formats.{is_known as is_known_format};
-ghost use Rattle.nonograde.specs.Reports.{closed_text, closed_word, grid_report, lines_text, said, solve_text, text_or_fault};
-ghost use Rattle.nonograde.specs.steps.Reports.{GivesText};
+ghost use Rattle.reports.specs.Reports.{GivesText, closed_text, closed_word, grid_report, lines_text, said, solve_text, text_or_fault};
 
 use grid_core::{Grid, NoMemory, Puzzle};
 use lane_core::{Job, MOST_GUESSES, grade};

@@ -1,0 +1,81 @@
+//! The answers of calls, before they are left in a room.
+
+ghost use Rattle.std.specs.Prelude.{◌≡◌, ◌<◌, true, false, length, Err, IsSome};
+ghost use Rattle.puzzle_text.specs.Formats.{is_known};
+ghost use Rattle.nonograde_c.specs.Calls.{Gives, convert_answer, fault_of_convert, format_numbered, lines_answer, pick_within, solve_answer};
+ghost use Rattle.nonograde_c.specs.steps.Answers.{shown};
+
+use crate::faults::Fault;
+use crate::settings::{format_numbered, pick_within};
+use puzzle_text::{EntryFault, LONGEST_PUZZLE, TextFault};
+use reports::{ConvertFault, convert, lines_report, solve_report};
+use std::alloc::Global;
+
+/// The grid of a puzzle's text closed by lines.
+pub fn lines_answer(alloc: Global, name: &[u8], text: &[u8]) -> Result<Vec<u8>, Fault>
+    ensures answer { Gives (shown result) (lines_answer name.now text.now) }
+    ensures unknown { is_known name.now ≡ false → result ≡ Err (Fault.Entry EntryFault.UnknownFormat) }
+    ensures too_long { is_known name.now ≡ true → LONGEST_PUZZLE < length text.now →
+        result ≡ Err (Fault.Entry (EntryFault.Text TextFault.TooLong)) }
+{
+    match lines_report(alloc, name, text) {
+        Ok(report) => Ok(report),
+        Err(fault) => Err(Fault::Entry(fault)),
+    }
+}
+
+/// The line of a puzzle's text in a survey and its solutions, by settings as numbers.
+pub fn solve_answer(
+    alloc: Global,
+    name: &[u8],
+    text: &[u8],
+    guesses: u32,
+    pick: u32,
+) -> Result<Vec<u8>, Fault>
+    ensures answer { Gives (shown result) (solve_answer guesses pick name.now text.now) }
+    ensures unknown { IsSome (pick_within guesses pick) → is_known name.now ≡ false →
+        result ≡ Err (Fault.Entry EntryFault.UnknownFormat) }
+    ensures too_long { IsSome (pick_within guesses pick) → is_known name.now ≡ true → LONGEST_PUZZLE < length text.now →
+        result ≡ Err (Fault.Entry (EntryFault.Text TextFault.TooLong)) }
+{
+    let Some(pick) = pick_within(guesses, pick) else {
+        return Err(Fault::Setting);
+    };
+    match solve_report(alloc, name, text, guesses, pick) {
+        Ok(report) => Ok(report),
+        Err(fault) => Err(Fault::Entry(fault)),
+    }
+}
+
+/// Why a call gives no text if a puzzle is not converted.
+fn fault_of_convert(fault: ConvertFault) -> Fault
+    ensures { result ≡ fault_of_convert fault }
+{
+    match fault {
+        ConvertFault::Entry(fault) => Fault::Entry(fault),
+        ConvertFault::Ambiguous => Fault::Ambiguous,
+        ConvertFault::NoMemory => Fault::Entry(EntryFault::Text(TextFault::NoMemory)),
+    }
+}
+
+/// A puzzle's text in the format of a number.
+pub fn convert_answer(
+    alloc: Global,
+    name: &[u8],
+    text: &[u8],
+    format: u32,
+) -> Result<Vec<u8>, Fault>
+    ensures answer { Gives (shown result) (convert_answer format name.now text.now) }
+    ensures unknown { IsSome (format_numbered format) → is_known name.now ≡ false →
+        result ≡ Err (Fault.Entry EntryFault.UnknownFormat) }
+    ensures too_long { IsSome (format_numbered format) → is_known name.now ≡ true → LONGEST_PUZZLE < length text.now →
+        result ≡ Err (Fault.Entry (EntryFault.Text TextFault.TooLong)) }
+{
+    let Some(format) = format_numbered(format) else {
+        return Err(Fault::Setting);
+    };
+    match convert(alloc, name, text, format) {
+        Ok(converted) => Ok(converted),
+        Err(fault) => Err(fault_of_convert(fault)),
+    }
+}

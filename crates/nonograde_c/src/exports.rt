@@ -1,0 +1,78 @@
+//! The calls that C sees. `include/nonograde.h` says of each what it takes, gives and leaves.
+
+ghost use Rattle.std.specs.Prelude.{◌≡◌, ◌<◌, true, false, length, Err, IsSome, Ok};
+ghost use Rattle.puzzle_text.specs.Formats.{is_known};
+ghost use Rattle.nonograde_c.specs.Calls.{Answers, Leaves, convert_answer, format_numbered, lines_answer, pick_within, solve_answer};
+
+use crate::answers::{convert_answer, lines_answer, solve_answer};
+use crate::faults::Fault;
+use crate::replies::{Reply, leave_answer, leave_text};
+use puzzle_text::{EntryFault, LONGEST_PUZZLE, TextFault};
+use reports::VERSION;
+use std::alloc::Global;
+
+/// The line of a puzzle's text in a survey, numbered 1, and its solutions, each followed by an empty line. The name's
+/// ending says the format. The search spends at most `guesses` guesses, from 0 to 1,000,000, each by the rule `pick`:
+/// 0 is the first unknown cell, 1 the one with the most known neighbours.
+#[unsafe(no_mangle)]
+pub extern "C" fn nonograde_solve(
+    alloc: Global,
+    name: &[u8],
+    text: &[u8],
+    guesses: u32,
+    pick: u32,
+    room: &mut [u8],
+) -> Reply
+    ensures answer { Answers (solve_answer guesses pick name.now text.now) result room.old room.new }
+    // Want of memory never stands in place of these faults.
+    ensures unknown { IsSome (pick_within guesses pick) → is_known name.now ≡ false →
+        Leaves (Err (Fault.Entry EntryFault.UnknownFormat)) result room.old room.new }
+    ensures too_long { IsSome (pick_within guesses pick) → is_known name.now ≡ true → LONGEST_PUZZLE < length text.now →
+        Leaves (Err (Fault.Entry (EntryFault.Text TextFault.TooLong))) result room.old room.new }
+{
+    let answer = solve_answer(alloc, name, text, guesses, pick);
+    leave_answer(room, &answer)
+}
+
+/// The grid of a puzzle's text closed by line logic: `one K` if it is full, or `open K`, with K the number of known
+/// cells, and its rows; `none 0` if it is dead. The name's ending says the format.
+#[unsafe(no_mangle)]
+pub extern "C" fn nonograde_lines(alloc: Global, name: &[u8], text: &[u8], room: &mut [u8]) -> Reply
+    ensures answer { Answers (lines_answer name.now text.now) result room.old room.new }
+    // Want of memory never stands in place of these faults.
+    ensures unknown { is_known name.now ≡ false → Leaves (Err (Fault.Entry EntryFault.UnknownFormat)) result room.old room.new }
+    ensures too_long { is_known name.now ≡ true → LONGEST_PUZZLE < length text.now →
+        Leaves (Err (Fault.Entry (EntryFault.Text TextFault.TooLong))) result room.old room.new }
+{
+    let answer = lines_answer(alloc, name, text);
+    leave_answer(room, &answer)
+}
+
+/// A puzzle's text in another format: 0 is `.non`, 1 `.mk`, 2 `.nin`. The name's ending says the format of the text that
+/// is read.
+#[unsafe(no_mangle)]
+pub extern "C" fn nonograde_convert(
+    alloc: Global,
+    name: &[u8],
+    text: &[u8],
+    format: u32,
+    room: &mut [u8],
+) -> Reply
+    ensures answer { Answers (convert_answer format name.now text.now) result room.old room.new }
+    // Want of memory never stands in place of these faults.
+    ensures unknown { IsSome (format_numbered format) → is_known name.now ≡ false →
+        Leaves (Err (Fault.Entry EntryFault.UnknownFormat)) result room.old room.new }
+    ensures too_long { IsSome (format_numbered format) → is_known name.now ≡ true → LONGEST_PUZZLE < length text.now →
+        Leaves (Err (Fault.Entry (EntryFault.Text TextFault.TooLong))) result room.old room.new }
+{
+    let answer = convert_answer(alloc, name, text, format);
+    leave_answer(room, &answer)
+}
+
+/// The version, as the program tells it.
+#[unsafe(no_mangle)]
+pub extern "C" fn nonograde_version(room: &mut [u8]) -> Reply
+    ensures { Leaves (Ok VERSION.now) result room.old room.new }
+{
+    leave_text(room, VERSION.as_bytes())
+}

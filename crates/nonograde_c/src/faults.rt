@@ -1,0 +1,105 @@
+//! Why a call gives no text, and the numbers that tell it.
+
+ghost use Rattle.std.specs.Prelude.{◌≡◌};
+ghost use Rattle.puzzle_text.specs.Words.{word_text};
+ghost use Rattle.nonograde_c.specs.Calls.{fault_word, number_of, status_of, status_of_text};
+
+use puzzle_text::{EntryFault, FaultWord, TextFault};
+
+/// What a call says of its answer. Its number is the place here, from 0.
+#[derive(Clone, Copy, Debug, PartialEq, Eq)]
+pub enum Status {
+    /// The answer is the text.
+    Answered,
+    /// The answer has more bytes than the room.
+    RoomTooSmall,
+    /// A setting is out of its range.
+    BadSetting,
+    /// The name's ending tells no format.
+    UnknownFormat,
+    /// The text has more than 1,048,576 bytes.
+    TooLong,
+    /// The size is missing.
+    NoSize,
+    /// A side is no number from 1 to 256.
+    BadSize,
+    /// A section is missing.
+    NoSection,
+    /// A line belongs nowhere or is too long.
+    BadLine,
+    /// A line repeats a keyword.
+    Twice,
+    /// The number of clue lines doesn't fit the size.
+    BadCount,
+    /// A line is no clue.
+    BadNumber,
+    /// The goal doesn't fit the size.
+    BadGoal,
+    /// In `.nin` the text would be read with the sizes the other way round.
+    Ambiguous,
+    /// A growth of memory was refused.
+    NoMemory,
+}
+
+impl Status {
+    /// The number of a status.
+    pub fn number(self) -> u32
+        ensures { result ≡ number_of self }
+    {
+        self as u32
+    }
+}
+
+/// Why a call gives no text: the first of these, in this order.
+#[derive(Clone, Copy, Debug, PartialEq, Eq)]
+pub enum Fault {
+    /// A setting is out of its range.
+    Setting,
+    /// The text is refused, or a growth of memory was.
+    Entry(EntryFault),
+    /// In `.nin` the text would be read with the sizes the other way round.
+    Ambiguous,
+}
+
+/// The status at a fault of a puzzle's text.
+fn status_of_text(fault: TextFault) -> Status
+    ensures { result ≡ status_of_text fault }
+{
+    match fault {
+        TextFault::TooLong => Status::TooLong,
+        TextFault::NoSize => Status::NoSize,
+        TextFault::BadSize => Status::BadSize,
+        TextFault::NoSection => Status::NoSection,
+        TextFault::BadLine(_) => Status::BadLine,
+        TextFault::Twice(_) => Status::Twice,
+        TextFault::BadCount => Status::BadCount,
+        TextFault::BadNumber(_) => Status::BadNumber,
+        TextFault::BadGoal(_) => Status::BadGoal,
+        TextFault::NoMemory => Status::NoMemory,
+    }
+}
+
+impl Fault {
+    /// The status at a fault.
+    pub fn status(self) -> Status
+        ensures { result ≡ status_of self }
+    {
+        match self {
+            Fault::Setting => Status::BadSetting,
+            Fault::Entry(EntryFault::UnknownFormat) => Status::UnknownFormat,
+            Fault::Entry(EntryFault::Text(fault)) => status_of_text(fault),
+            Fault::Ambiguous => Status::Ambiguous,
+        }
+    }
+
+    /// The fault's word.
+    pub fn word(self) -> FaultWord
+        ensures { word_text result ≡ fault_word self }
+    {
+        match self {
+            Fault::Setting => FaultWord::alone("BadSetting"),
+            Fault::Entry(fault) => fault.word(),
+            Fault::Ambiguous => FaultWord::alone("Ambiguous"),
+        }
+    }
+}

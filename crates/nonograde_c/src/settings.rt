@@ -1,0 +1,43 @@
+//! Settings that come as numbers.
+
+ghost use Rattle.std.specs.Prelude.{◌≡◌, ◌≤◌, IfSome};
+ghost use Rattle.nonograde_c.specs.Calls.{format_numbered, pick_numbered, pick_within};
+
+use lane_core::MOST_GUESSES;
+use puzzle_text::Format;
+use solve_core::Pick;
+
+/// The rule for guesses of a number, if there is one.
+fn pick_numbered(number: u32) -> Option<Pick>
+    ensures { result ≡ pick_numbered number }
+{
+    match number {
+        0 => Some(Pick::First),
+        1 => Some(Pick::Most),
+        _ => None,
+    }
+}
+
+/// The same, if a number of guesses is in its range.
+pub fn pick_within(guesses: u32, number: u32) -> Option<Pick>
+    ensures rule { result ≡ pick_within guesses number }
+    ensures within { IfSome result (λ _. guesses ≤ MOST_GUESSES) }
+{
+    if guesses <= MOST_GUESSES {
+        pick_numbered(number)
+    } else {
+        None
+    }
+}
+
+/// The format of a number, if there is one.
+pub fn format_numbered(number: u32) -> Option<Format>
+    ensures { result ≡ format_numbered number }
+{
+    match number {
+        0 => Some(Format::Non),
+        1 => Some(Format::Mk),
+        2 => Some(Format::Nin),
+        _ => None,
+    }
+}

@@ -1,0 +1,3 @@
+-- Lemmas on what is printed of a puzzle.
+mod FoundLemmas
+mod FullLemmas

@@ -1,0 +1,3 @@
+-- The definitions that public contracts rest on.
+pub mod Reports
+pub mod Converting

@@ -1,0 +1,55 @@
+#!/usr/bin/env bash
+# Makes the library for other programs, and tests it.
+#
+# Usage: library.sh [FOLDER]
+#
+# Makes libnonograde.a, libnonograde.so, nonograde.h and nonograde.py in FOLDER, out/library if none is named. Then
+# calls them as programs in C and in Python do, and compares what they give with what the program prints. Its last
+# line is `N passed, M failed`.
+# shellcheck source-path=SCRIPTDIR source=common.sh
+. "$(dirname "$0")/common.sh"
+[ "${1-}" = --help ] && { print_head; exit; }
+[ $# -le 1 ] || refuse 'it takes one FOLDER at most'
+top=$(realpath "$tools/..")
+folder=$(realpath -m "${1-$top/out/library}")
+mkdir -p "$folder" || stop Write
+kit=$(dirname "$(rt doc)")
+open_room
+cd "$room" || stop Write
+
+# Makes the two libraries. The calls to malloc are the kit's own small file of C.
+(cd "$top/crates/nonograde_c" && rt lib) >made 2>&1 || { tail -n 5 made; stop Library; }
+cp "$kit/c/liblibc_c.a" libnonograde.a
+mkdir objects && (cd objects && ar x "$top/crates/nonograde_c/out/libnonograde_c.a")
+ar qs libnonograde.a objects/* || stop Library
+cc -shared -o libnonograde.so -Wl,--whole-archive libnonograde.a -Wl,--no-whole-archive || stop Library
+cp libnonograde.a libnonograde.so "$top/include/nonograde.h" "$top/python/nonograde.py" "$folder" || stop Write
+
+# Counts what a program's last line counts.
+add() {
+    local name=$1 counts
+    shift
+    "$@" >told 2>&1
+    counts=$(tail -n 1 told)
+    if [[ $counts =~ ^([0-9]+)\ passed,\ ([0-9]+)\ failed$ ]]; then
+        passed=$((passed + BASH_REMATCH[1]))
+        failed=$((failed + BASH_REMATCH[2]))
+        grep '^FAILED' told
+    else
+        count "$name" "$(tail -n 5 told)"
+    fi
+}
+
+# Builds the program in C with further words, and runs it.
+call_from_c() {
+    cc -std=c11 -Wall -Wextra -Werror -O1 "$@" -Wl,--wrap=malloc,--wrap=realloc -I "$folder" -o calls \
+        "$top/tests/c/calls.c" "$folder/libnonograde.a" -lpthread && ./calls
+}
+
+add 'calls from C' call_from_c
+if echo 'int main(void) { return 0; }' | cc -x c -fsanitize=address -o sanitized - 2>/dev/null; then
+    add 'calls from C, sanitized' call_from_c -fsanitize=address
+fi
+NONOGRADE_LIBRARY=$folder PYTHONPATH=$folder add 'Python' python3 "$top/tests/library.py" "$program" "$top/puzzles"
+echo "$passed passed, $failed failed"
+[ "$failed" = 0 ]
