@@ -22,7 +22,7 @@ HEADLINE = (
 DEFINITION = re.compile(r"(?:(?:abbrev|unfoldable|foldable) )*(?:pub )?(?:(?:record|data) )?(?:pub )?([^\s(){}]+) ")
 IMPORT = re.compile(r"\buse ([\w.]+)\.\{([^}]*)\}")
 NAME = re.compile(r"[^\s(){}\[\],;.λ]+")
-CALL = re.compile(r"^( *)(pub )?fn (\w+)", re.M)
+CALL = re.compile(r'^( *)(pub (?:extern "C" )?)?fn (\w+)', re.M)
 ITEM = re.compile(r"^(?:pub )?(struct|enum|trait|impl)\b(?:<.*?>)? (?:(\w+)(?:<.*?>)? for )?(\w+)", re.M)
 
 
