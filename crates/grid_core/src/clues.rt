@@ -1,6 +1,6 @@
 //! Clues.
 
-ghost use Rattle.std.specs.Prelude.{◌≡◌, ℕ, List, true, false, IfOk, OnOk, IsErrOf, ◌↔◌};
+ghost use Rattle.std.specs.Prelude.{◌≡◌, ℕ, List, [], ◌∷◌, ◌++◌, true, false, IfOk, OnErr, OnOk, IsErrOf, ◌↔◌};
 ghost use Rattle.std.specs.List.{list_all};
 ghost use Rattle.grid_core.specs.Clues.{is_clue, is_run};
 
@@ -54,6 +54,36 @@ impl Clue {
         }
         match SmallVec::from_slice(alloc, numbers) {
             Ok(numbers) => Ok(Clue { numbers }),
+            Err(_) => Err(ClueFault::NoMemory),
+        }
+    }
+
+    /// The clue of no number.
+    pub fn empty(alloc: Global) -> Clue
+        ensures { result ≡ [] }
+    {
+        Clue {
+            numbers: SmallVec::new(alloc),
+        }
+    }
+
+    /// Adds a number at the end. `BadNumber` if there are 128 already, or it is 0 or over 256; else perhaps
+    /// `NoMemory`: then the clue is as it was. The first growth makes room for all numbers that a clue can have.
+    pub fn push(&mut self, number: u16) -> Result<(), ClueFault>
+        ensures ok { OnOk result (self.new ≡ self.old ++ number ∷ []) }
+        ensures err { OnErr result (self.new ≡ self.old) }
+        ensures clue { OnOk result (is_clue LONGEST_SIDE (self.old ++ number ∷ []) ≡ true) }
+        ensures bad_number { IsErrOf result ClueFault.BadNumber ↔ (is_clue LONGEST_SIDE (self.old ++ number ∷ []) ≡ false) }
+    {
+        let count = self.numbers.len();
+        if count == MOST_RUNS || !is_run(number) {
+            return Err(ClueFault::BadNumber);
+        }
+        if count == self.numbers.inline_size() && self.numbers.reserve(MOST_RUNS).is_err() {
+            return Err(ClueFault::NoMemory);
+        }
+        match self.numbers.push(number) {
+            Ok(()) => Ok(()),
             Err(_) => Err(ClueFault::NoMemory),
         }
     }
