@@ -8,8 +8,8 @@
 # output, and its words.
 #   - It says `-`, nothing, and ends with status 0; or a fault's word, as `nonograde: WORD`, and ends with
 #     status 1; or `refused`, some text on the words, and ends with status 2; or `unsaid`, nothing, since
-#     standard error takes nothing, and ends with status 1; or a text `told_..`, the progress, and ends with
-#     status 0; or `WORD:told_..`, the progress and then the fault's word, and ends with status 1.
+#     standard error takes nothing, and ends with status 1; or a text `told_..`, the last line of the progress,
+#     and ends with status 0; or `WORD:told_..`, that line and then the fault's word, and ends with status 1.
 #   - It prints `-`, nothing; or one of the texts that make_texts makes; or `TEXT:K`, its first K bytes.
 # A case fails too if the program ends by a signal or runs for ten seconds.
 # shellcheck disable=SC2016,SC2046,SC2086 # A shell within expands its words; `words` and `lines` are some.
@@ -69,14 +69,6 @@ hearts() {
     totals "$1"
 }
 
-# The progress of a survey: its numbers, and what stands behind each.
-progress() {
-    local of=$1
-    shift
-    printf "\\rgraded %d$of" "$@"
-    echo
-}
-
 # A library under which writes to standard error are slow, and the first FAILING of them fail.
 make_writes() {
     cc -O2 -shared -fPIC -x c -o writes.so - <<'END'
@@ -128,13 +120,14 @@ make_texts() {
     printf '%s\n' "$(heart_line fifo.non)" "$picture" '' >solved_fifo
     printf '%s\n' "$(heart_line "$far")" "$picture" '' >solved_far
     printf '%s\n' "$(heart_line 'two?lines.non')" "$picture" '' >solved_two_lines
-    for number in 1 10 256 300; do
+    for number in 1 2 10 256 300; do
         hearts $number >surveyed_$number
     done
-    progress '' 1 >told_input
-    progress ' of 1' 1 >told_1
-    progress ' of 10' 1 2 5 10 >told_10
-    progress ' of 300' 300 >told_300
+    printf '\rentries begun 1\n' >told_input
+    printf '\n' >told_nothing
+    for number in 1 2 10 300; do
+        printf '\rentries begun %d of %d files\n' $number $number >told_$number
+    done
     printf '%s\n' "$(heart_line "$far")" "$(totals 1)" >surveyed_far
     printf '%s\n' "$(heart_line 'two?lines.non')" "$(totals 1)" >surveyed_two_lines
     printf '%s\n' '1 refused TooLong zeros.non' '2 refused UnknownFormat zeros' \
@@ -223,6 +216,27 @@ input_slow() {
     done <collection | run "$@" >printed
 }
 
+# Standard error is a full pipe. It is read only once the survey is printed, for which the program has a second.
+errors_stopped() {
+    local status=1 pid
+    mkfifo stopped
+    exec 8<>stopped
+    dd if=/dev/zero of=stopped oflag=nonblock bs=65536 count=2 status=none 2>dd_said
+    bounded "$@" <collection >printed 2>&8 8>&- &
+    pid=$!
+    for _ in {1..20}; do
+        sleep 0.05
+        cmp -s printed surveyed_2 && status=0 && break
+    done
+    tr -d '\0' <stopped >said 8>&- &
+    wait $pid && [ $status = 0 ]
+    status=$?
+    exec 8>&-
+    wait
+    rm stopped
+    return $status
+}
+
 # A file's bytes are written to fifo.non by a writer that comes after a while, and goes.
 fifo_from() {
     local status
@@ -273,13 +287,18 @@ wrong_print() {
     head -c "${count:-1000000}" "$text" | cmp -s - printed || echo "it printed $(wc -c <printed) bytes, and not $1; "
 }
 
+# What the program said, of the line that is written over itself the last.
+last_told() {
+    sed 's/.*\r/\r/' said
+}
+
 # What is wrong with what the program said: what is wanted.
 wrong_word() {
     case "$1" in
         - | unsaid) [ ! -s said ] ;;
         refused) [ -s said ] ;;
-        told_*) cmp -s "$1" said ;;
-        *:told_*) cmp -s - said <<<"$(<"${1#*:}")"$'\n'"nonograde: ${1%:*}" ;;
+        told_*) last_told | cmp -s "$1" ;;
+        *:told_*) last_told | cmp -s <(cat "${1#*:}"; echo "nonograde: ${1%:*}") ;;
         *) cmp -s - said <<<"nonograde: $1" ;;
     esac || echo "it said $(head -c 100 said); "
 }
@@ -405,7 +424,10 @@ try ordinary told_1 surveyed_1 survey --progress heart.non
 try ordinary told_1 surveyed_1 survey --progress --guesses 0 heart.non
 try output_full Write:told_input - survey --progress
 try errors_slow:0 told_10 surveyed_10 survey --progress $(lines 10 heart.non)
-try errors_slow:8 told_300 surveyed_300 survey --progress $(lines 300 heart.non)
+try errors_slow:0 told_300 surveyed_300 survey --progress $(lines 300 heart.non)
+try errors_slow:1 told_nothing surveyed_10 survey --progress $(lines 10 heart.non)
+try errors_slow:2 - surveyed_300 survey --progress $(lines 300 heart.non)
+try errors_stopped told_2 surveyed_2 survey --progress heart.non heart.non
 
 # Files. One that can't be read is told before anything is printed.
 for words in survey 'survey heart.non' lines solve 'convert --to mk'; do

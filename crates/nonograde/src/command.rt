@@ -77,7 +77,7 @@ Exit status: 0 if the grid is printed, 1 at a fault, 2 if the words are refused.
 pub struct SurveyRequest {
     /// How the entries are graded, and on how many lanes.
     pub settings: Settings,
-    /// Whether the number of graded entries is told on the stream for faults.
+    /// Whether the number of begun entries is told on the stream for faults.
     pub progress: bool,
     /// The names of the files, in order.
     pub files: Vec<String>,
@@ -200,7 +200,7 @@ fn progress_option<'a>(alloc: Global) -> Arg<'a>
 {
     Arg::new(alloc, "progress")
         .long("progress")
-        .help("Tell on standard error how many puzzles are graded")
+        .help("Tell on standard error how many entries are begun")
         .action(ArgAction::SetTrue)
 }
 

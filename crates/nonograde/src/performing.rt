@@ -19,7 +19,9 @@ use std::io::{Read, Write};
 use std::rt::Files;
 use std::sync::Wait;
 use std::thread::Threads;
-use survey_core::{Counted, ProgressGate, Settings, run_survey, survey_entries, write_text};
+use survey_core::{
+    Counted, Progress, ProgressGate, Settings, run_survey, survey_entries, write_text,
+};
 
 /// Prints a text and flushes.
 pub fn print_text<W: Write>(writer: &mut Counted<W>, text: &[u8]) -> Result<(), Stop>
@@ -106,8 +108,8 @@ where
     }
 }
 
-/// How many entries a survey has, if that is known before: the number of its files.
-fn total_of(survey: &SurveyRequest) -> Option<u32> {
+/// How many files are surveyed, if it is files.
+fn files_of(survey: &SurveyRequest) -> Option<u32> {
     if survey.files.is_empty() {
         return None;
     }
@@ -136,10 +138,16 @@ where
     if !survey.progress {
         return survey_through(rt, survey, input, output, &OpenGate);
     }
-    let gate = ProgressGate::new(rt, rt.alloc(), progress, total_of(survey))?;
-    let done = survey_through(rt, survey, input, output, &gate);
-    gate.finish();
-    done
+    let gate = ProgressGate::new();
+    let progress = Progress::new(rt.alloc(), progress, files_of(survey))?;
+    progress.tell_while(
+        rt,
+        &gate,
+        &mut ||
+            requires reading { fault_count input.now < 2 ^ 32 - 1 }
+            requires writing { fault_count output.now < 2 ^ 32 - 1 }
+        { survey_through(rt, survey, input, output, &gate) },
+    )
 }
 
 /// Prints the entry of a file with its solutions.

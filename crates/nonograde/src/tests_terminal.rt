@@ -86,23 +86,20 @@ fn progress_is_told_if_asked_for(rt: HostRuntime) -> Result<(), Fail> {
     fs::write(&rt, "told-two.mk", TWO).ok().ok_or("write")?;
     let table: [(&str, &[u8], &[u8]); 5] = [
         ("survey", PAIR, b""),
-        (
-            "survey --lanes 1 --progress",
-            PAIR,
-            b"\rgraded 1\rgraded 2\n",
-        ),
+        ("survey --lanes 1 --progress", PAIR, b"\rentries begun 2\n"),
         ("survey --lanes 1 --progress", b"", b""),
         (
             "survey --lanes 1 --progress told-one.mk told-two.mk",
             b"",
-            b"\rgraded 1 of 2\rgraded 2 of 2\n",
+            b"\rentries begun 2 of 2 files\n",
         ),
         ("survey told-one.mk told-two.mk", b"", b""),
     ];
     for (words, input, told) in table {
         let ending = ended(&rt, words, input)?;
         assert_eq!(rt; ending.status, 0, "{words}");
-        assert!(rt; ending.told.as_slice() == told, "{words}");
+        assert!(rt; ending.told.ends_with(told), "{words}");
+        assert_eq!(rt; ending.told.is_empty(), told.is_empty(), "{words}");
         assert!(rt; ending.said.is_empty(), "{words}");
     }
     remove_file(&rt, "told-one.mk").ok().ok_or("remove")?;

@@ -9,4 +9,5 @@ pub mod Survey
 pub mod Reading
 pub mod Leaving
 pub mod Faults
+pub mod Progress
 pub mod steps

@@ -4,7 +4,6 @@ pub mod Dealt
 pub mod Entries
 pub mod Goals
 pub mod Graded
-pub mod Progress
 pub mod Readings
 pub mod SurveyTexts
 pub mod Tallies

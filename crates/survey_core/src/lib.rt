@@ -37,6 +37,7 @@ pub use faults::RunFault;
 pub use outcomes::Outcome;
 pub use pictures::push_grid;
 pub use printing::print_survey;
+pub use progress::Progress;
 pub use progress_gate::ProgressGate;
 pub use settings::{
     DEFAULT_GUESSES, DEFAULT_LANES, DEFAULT_RING, LARGEST_RING, MOST_LANES, Settings,

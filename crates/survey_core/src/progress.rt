@@ -1,8 +1,8 @@
-//! The numbers of graded entries that are told, and their line.
+//! The numbers of begun entries that are told, and their line.
 
-ghost use Rattle.std.specs.Prelude.{◌≡◌, ℕ, ◌+◌, ◌-◌, ◌^◌, min, List, ◌++◌, Option, IfOk, OnOk, OnErr, IsTrue};
+ghost use Rattle.std.specs.Prelude.{◌≡◌, ℕ, List, [], ◌∷◌, ◌++◌, Option, IfOk, OnOk};
 ghost use Rattle.std.specs.Io.KnownBytes.{Appends};
-ghost use Rattle.survey_core.specs.steps.Progress.{HasPrinted, is_due, line_unless, progress_line, progress_text};
+ghost use Rattle.survey_core.specs.Progress.{HasTold, files_text, progress_line, progress_text};
 
 use crate::Counted;
 use crate::streams::write_text;
@@ -11,27 +11,28 @@ use puzzle_text::{push_bytes, push_number};
 use std::alloc::Global;
 use std::io::Write;
 
-/// The bytes of the longest line: CR, two words with their spaces, and two numbers.
-const LONGEST_LINE: usize = 32;
+/// The bytes of the longest line: CR, four words with their spaces, and two numbers.
+const LONGEST_LINE: usize = 48;
 
-/// Returns whether a number of entries is told: 1, 2, 5, 10, 20, 50, and each multiple of 100 but 0.
-fn is_due(count: u32) -> bool
-    ensures { result ≡ is_due count }
+/// Adds the line that tells the number, and how many files there are if that is known.
+fn push_line(text: &mut Vec<u8>, begun: u32, files: Option<u32>) -> Result<(), NoMemory>
+    ensures { OnOk result (text.new.items ≡ text.old.items ++ progress_line begun files) }
 {
-    matches!(count, 1 | 2 | 5 | 10 | 20 | 50) || (count > 0 && count % 100 == 0)
+    push_bytes(text, b"\rentries begun ")?;
+    push_number(text, u64::from(begun))?;
+    push_files(text, files)
 }
 
-/// Adds the line that tells the number, and the total if it is known.
-fn push_line(text: &mut Vec<u8>, count: u32, total: Option<u32>) -> Result<(), NoMemory>
-    ensures { OnOk result (text.new.items ≡ text.old.items ++ progress_line count total) }
+/// Adds how many files there are, if that is known.
+fn push_files(text: &mut Vec<u8>, files: Option<u32>) -> Result<(), NoMemory>
+    ensures { OnOk result (text.new.items ≡ text.old.items ++ files_text files) }
 {
-    push_bytes(text, b"\rgraded ")?;
-    push_number(text, u64::from(count))?;
-    let Some(total) = total else {
+    let Some(files) = files else {
         return Ok(());
     };
     push_bytes(text, b" of ")?;
-    push_number(text, u64::from(total))
+    push_number(text, u64::from(files))?;
+    push_bytes(text, b" files")
 }
 
 /// A text that didn't go out whole.
@@ -57,88 +58,70 @@ fn print<E: Write>(writer: &mut Counted<E>, text: &[u8]) -> Result<(), Unprinted
     }
 }
 
-/// How many entries were counted, and what is told of that, in a line that is written over itself.
+/// What is told of a survey's progress, in a line that is written over itself: CR, `entries begun 200`, and
+/// of a survey of files ` of 5000 files`. An entry is begun as its grading begins, so a refused one never is.
 #[derive(Drop)]
-pub(crate) struct Progress<E> {
+pub struct Progress<E> {
     writer: Counted<E>,
-    total: Option<u32>,
+    files: Option<u32>,
     line: Vec<u8>,
-    count: u32,
-    /// Whether the line that stands there has this count.
-    is_shown: bool,
+    /// The number in the line that stands there, 0 if none stands.
+    told: u32,
 }
 
 impl<E: Write + Drop> Progress<E> {
-    /// The progress of a survey that begins, of `total` entries if their number is known.
-    pub fn new(alloc: Global, writer: E, total: Option<u32>) -> Result<Progress<E>, NoMemory>
-        ensures total { IfOk result (λ progress. progress.total ≡ total) }
-        ensures none { IfOk result (λ progress. progress.count ≡ 0) }
-        ensures printed { IfOk result (HasPrinted E.contents (E.contents writer)) }
+    /// The progress of a survey that begins, of so many files if it is one of files. All its memory is taken
+    /// here.
+    pub fn new(alloc: Global, writer: E, files: Option<u32>) -> Result<Progress<E>, NoMemory>
+        ensures files { IfOk result (λ progress. progress.files ≡ files) }
+        ensures nothing { IfOk result (HasTold E.contents (E.contents writer) []) }
     {
         let line = Vec::with_capacity(alloc, LONGEST_LINE)?;
         Ok(Progress {
             writer: Counted::new(writer),
-            total,
+            files,
             line,
-            count: 0,
-            is_shown: false,
+            told: 0,
         })
     }
 
-    /// Prints the line of the count.
-    fn print_line(&mut self) -> Result<(), Unprinted>
+    /// Prints the line of a number.
+    fn print_line(&mut self, begun: u32) -> Result<(), Unprinted>
+        ensures files { self.new.files ≡ self.old.files }
+        ensures told { self.new.told ≡ self.old.told }
         ensures printed { OnOk result (Appends (E.contents self.old.writer.inner) (E.contents self.new.writer.inner)
-            (progress_line self.old.count self.old.total)) }
-        ensures total { self.new.total ≡ self.old.total }
-        ensures count { self.new.count ≡ self.old.count }
+            (progress_line begun self.old.files)) }
     {
         self.line.clear();
-        push_line(&mut self.line, self.count, self.total)?;
+        push_line(&mut self.line, begun, self.files)?;
         print(&mut self.writer, &self.line)
     }
 
-    /// Counts an entry, and prints the line if the count is due. An `Err` says that the line didn't go out
-    /// whole; nothing keeps a later one from being printed.
-    pub fn count(&mut self) -> Result<(), Unprinted>
-        ensures count { self.new.count ≡ min (self.old.count + 1) (2 ^ 32 - 1) }
-        ensures total { self.new.total ≡ self.old.total }
-        ensures printed { (before : Option (List ℕ)) → HasPrinted E.contents before self.old
-            → OnOk result (HasPrinted E.contents before self.new) }
-        ensures err { OnErr result (IsTrue (is_due self.new.count)) }
+    /// Tells how many entries are begun, if they are more than the line says. An `Err` says that the line
+    /// didn't go out whole; nothing keeps a later one from being told.
+    pub(crate) fn tell(&mut self, begun: u32) -> Result<(), Unprinted>
+        ensures files { self.new.files ≡ self.old.files }
+        ensures told { (before : Option (List ℕ)) (looks : List ℕ) → HasTold E.contents before looks self.old
+            → OnOk result (HasTold E.contents before (looks ++ begun ∷ []) self.new) }
     {
-        if self.count == u32::MAX {
+        if begun <= self.told {
             return Ok(());
         }
-        self.count += 1;
-        self.is_shown = false;
-        if is_due(self.count) {
-            self.print_line()?;
-            self.is_shown = true;
-        }
+        self.print_line(begun)?;
+        self.told = begun;
         Ok(())
     }
 
-    /// Prints the line of the count, unless it stands there.
-    fn print_last(&mut self) -> Result<(), Unprinted>
-        ensures { OnOk result (Appends (E.contents self.old.writer.inner) (E.contents self.new.writer.inner)
-            (line_unless self.old.is_shown self.old.count self.old.total)) }
+    /// Tells the last number, and ends the line, also if the number didn't go out. Prints nothing if no entry
+    /// was begun.
+    pub(crate) fn end(&mut self, begun: u32) -> Result<(), Unprinted>
+        ensures { (before : Option (List ℕ)) (looks : List ℕ) → HasTold E.contents before looks self.old
+            → OnOk result (Appends before (E.contents self.new.writer.inner) (progress_text self.old.files looks begun)) }
     {
-        if self.is_shown {
-            return Ok(());
+        let told = self.tell(begun);
+        if begun == 0 {
+            return told;
         }
-        self.print_line()
-    }
-
-    /// Prints the last count, unless it stands there, and ends the line, also if the count didn't go out.
-    /// Prints nothing if no entry came.
-    pub fn end(&mut self) -> Result<(), Unprinted>
-        ensures { (before : Option (List ℕ)) → HasPrinted E.contents before self.old
-            → OnOk result (Appends before (E.contents self.new.writer.inner) (progress_text self.old.total self.old.count)) }
-    {
-        if self.count == 0 {
-            return Ok(());
-        }
-        let told = self.print_last();
         print(&mut self.writer, b"\n")?;
         told
     }

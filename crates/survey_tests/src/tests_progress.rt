@@ -1,71 +1,122 @@
-//! What is told of the progress, over one lane and over more: no contract follows a value through a lock.
+//! What is told of the progress, over one lane and over more: no contract follows a value into a thread.
 
-use crate::tests_collect::jobs_numbered;
 use crate::tests_samples::{DEMO, TEN, TEN_SURVEY, settings};
 use lane_core::Gate;
 use solve_core::Pick;
 use std::alloc::Global;
-use std::io;
 use std::io::{ErrorKind, Write};
 use std::process::Abort;
 use std::sync::Wait;
-use std::sync::atomic::{AtomicU32, Ordering};
+use std::sync::atomic::{AtomicBool, Ordering};
 use std::test::Fail;
 use std::thread::Threads;
-use survey_core::{Counted, MOST_JOBS, ProgressGate, Settings, collect, run_survey};
+use std::time::{Duration, Instant};
+use std::{io, thread};
+use survey_core::{Counted, Progress, ProgressGate, Settings, run_survey};
 
-const OF_ONE: &str = "\rgraded 1\n";
-
-const OF_THREE: &str = "\rgraded 1\rgraded 2\rgraded 3\n";
-
-const OF_TEN: &str = "\rgraded 1\rgraded 2\rgraded 5\rgraded 10\n";
-
-const OF_EIGHT_OF_TEN: &str = "\rgraded 1 of 10\rgraded 2 of 10\rgraded 5 of 10\rgraded 8 of 10\n";
-
-const OF_THOUSAND: &str = "\rgraded 1\rgraded 2\rgraded 5\rgraded 10\rgraded 20\rgraded 50\
-    \rgraded 100\rgraded 200\rgraded 300\rgraded 400\rgraded 500\
-    \rgraded 600\rgraded 700\rgraded 800\rgraded 900\rgraded 1000\n";
-
-/// What a gate prints if `count` jobs enter it, one after another.
-fn told<R: Wait + AllocGlobal>(rt: &R, count: u32, total: Option<u32>) -> Result<Vec<u8>, Fail> {
-    let mut text = Vec::new(rt.alloc());
-    let gate = ProgressGate::new(rt, rt.alloc(), &mut text, total)?;
+/// Lets jobs enter, one after another.
+fn enter(gate: &ProgressGate, count: u32) {
     for number in 0..count {
         gate.enter(number);
     }
-    gate.finish();
+}
+
+/// What is told while `count` jobs enter.
+fn told<R: Threads + Wait + Sync + AllocGlobal>(
+    rt: &R,
+    count: u32,
+    files: Option<u32>,
+) -> Result<Vec<u8>, Fail> {
+    let mut text = Vec::new(rt.alloc());
+    let gate = ProgressGate::new();
+    let progress = Progress::new(rt.alloc(), &mut text, files)?;
+    progress.tell_while(rt, &gate, &mut || enter(&gate, count));
     Ok(text)
 }
 
-#[test]
-fn due_numbers_are_told(rt: HostRuntime) -> Result<(), Fail> {
-    for (count, total, wanted) in [
-        (0, None, ""),
-        (0, Some(5), ""),
-        (1, None, OF_ONE),
-        (3, None, OF_THREE),
-        (8, Some(10), OF_EIGHT_OF_TEN),
-        (10, None, OF_TEN),
-        (1000, None, OF_THOUSAND),
-    ] {
-        let text = told(&rt, count, total)?;
-        assert_eq!(rt; text.as_slice(), wanted.as_bytes(), "{count} jobs");
+/// The number that these digits write.
+fn number_of(digits: &[u8]) -> u32 {
+    let mut number = 0u32;
+    for digit in digits {
+        number = number
+            .wrapping_mul(10)
+            .wrapping_add(u32::from(digit.wrapping_sub(b'0')));
     }
+    number
+}
+
+/// The numbers of the lines that are told of entries.
+fn numbers_of(alloc: Global, text: &[u8]) -> Result<Vec<u32>, Fail> {
+    let mut numbers = Vec::new(alloc);
+    let lines = text.strip_suffix(b"\n").ok_or("no LF")?;
+    for line in lines.split(|byte| *byte == b'\r').skip(1) {
+        let digits = line.strip_prefix(b"entries begun ").ok_or("no line")?;
+        numbers.push(number_of(digits))?;
+    }
+    Ok(numbers)
+}
+
+#[test]
+fn last_number_is_told(rt: HostRuntime) -> Result<(), Fail> {
+    for (count, files, wanted) in [
+        (1u32, None, "\rentries begun 1\n"),
+        (8, Some(10u32), "\rentries begun 8 of 10 files\n"),
+        (10_000, None, "\rentries begun 10000\n"),
+    ] {
+        let text = told(&rt, count, files)?;
+        assert!(rt; text.ends_with(wanted.as_bytes()), "{count} jobs");
+    }
+    assert!(rt; told(&rt, 0, None)?.is_empty());
+    assert!(rt; told(&rt, 0, Some(5))?.is_empty());
     Ok(())
 }
 
-/// Takes bytes, slowly, so that jobs come to the gate meanwhile.
-#[derive(Drop)]
-struct SlowErrors {
-    taken: Vec<u8>,
-    turns: AtomicU32,
+#[test]
+fn ten_rising_numbers_are_told_in_a_second(rt: HostRuntime) -> Result<(), Fail> {
+    let mut text = Vec::new(rt.alloc());
+    let gate = ProgressGate::new();
+    let progress = Progress::new(rt.alloc(), &mut text, None)?;
+    let start = Instant::now(&rt)?;
+    progress.tell_while(
+        &rt,
+        &gate,
+        &mut || {
+            for _ in 0..50u32 {
+                enter(&gate, 20);
+                thread::sleep(&rt, Duration::from_millis(10));
+            }
+        },
+    );
+    let most = start.elapsed(&rt)?.as_millis() / 100 + 1;
+    let numbers = numbers_of(rt.alloc(), &text)?;
+    assert!(rt; numbers.len() >= 2 && numbers.len() as u128 <= most);
+    assert!(rt; numbers.is_sorted_by(|low, high| low < high));
+    assert_eq!(rt; numbers.last().copied(), Some(1000));
+    Ok(())
 }
 
-impl Write for SlowErrors {
-    fn write(&mut self, bytes: &[u8]) -> io::Result<usize> {
-        for _ in 0..1_000_000u32 {
-            self.turns.fetch_add(1, Ordering::SeqCst);
+/// Takes bytes once it is let go.
+#[derive(Drop)]
+struct HeldErrors<'a> {
+    taken: &'a mut Vec<u8>,
+    is_held: &'a AtomicBool,
+    is_let_go: &'a AtomicBool,
+}
+
+/// Waits until it is so.
+fn wait_for(it: &AtomicBool) {
+    for _ in 0..u64::MAX {
+        if it.load(Ordering::SeqCst) {
+            return;
         }
+        thread::yield_now();
+    }
+}
+
+impl Write for HeldErrors<'_> {
+    fn write(&mut self, bytes: &[u8]) -> io::Result<usize> {
+        self.is_held.store(true, Ordering::SeqCst);
+        wait_for(self.is_let_go);
         self.taken.extend_from_slice(bytes)?;
         Ok(bytes.len())
     }
@@ -76,54 +127,44 @@ impl Write for SlowErrors {
 }
 
 #[test]
-fn lanes_tell_each_number_once(rt: HostRuntime) -> Result<(), Fail> {
-    for lanes in [1u16, 4] {
-        let jobs = jobs_numbered(rt.alloc(), 1000)?;
-        assert!(rt; jobs.len() <= MOST_JOBS);
-        let mut errors = SlowErrors {
-            taken: Vec::new(rt.alloc()),
-            turns: AtomicU32::new(0),
-        };
-        let gate = ProgressGate::new(&rt, rt.alloc(), &mut errors, None)?;
-        let answers = collect(&rt, rt.alloc(), jobs, lanes, 8, &gate)?;
-        gate.finish();
-        assert_eq!(rt; answers.len(), 1000);
-        assert_eq!(rt;
-            errors.taken.as_slice(),
-            OF_THOUSAND.as_bytes(),
-            "{lanes} lanes"
-        );
-    }
+fn jobs_enter_while_the_writer_is_held(rt: HostRuntime) -> Result<(), Fail> {
+    let mut taken = Vec::new(rt.alloc());
+    let is_held = AtomicBool::new(false);
+    let is_let_go = AtomicBool::new(false);
+    let errors = HeldErrors {
+        taken: &mut taken,
+        is_held: &is_held,
+        is_let_go: &is_let_go,
+    };
+    let gate = ProgressGate::new();
+    let progress = Progress::new(rt.alloc(), errors, None)?;
+    progress.tell_while(
+        &rt,
+        &gate,
+        &mut || {
+            enter(&gate, 1);
+            wait_for(&is_held);
+            enter(&gate, 999);
+            is_let_go.store(true, Ordering::SeqCst);
+        },
+    );
+    let wanted = "\rentries begun 1\rentries begun 1000\n";
+    assert_eq!(rt; taken.as_slice(), wanted.as_bytes());
     Ok(())
 }
 
-/// Takes bytes, and fails at some of its calls, numbered from 0.
+/// Takes bytes, and fails at its first calls.
 #[derive(Drop)]
 struct FailingErrors {
     taken: Vec<u8>,
-    calls: u32,
-    first_failing: u32,
-    last_failing: u32,
+    failing: u32,
     kind: ErrorKind,
-}
-
-impl FailingErrors {
-    fn new(alloc: Global, first_failing: u32, last_failing: u32, kind: ErrorKind) -> FailingErrors {
-        FailingErrors {
-            taken: Vec::new(alloc),
-            calls: 0,
-            first_failing,
-            last_failing,
-            kind,
-        }
-    }
 }
 
 impl Write for FailingErrors {
     fn write(&mut self, bytes: &[u8]) -> io::Result<usize> {
-        let call = self.calls;
-        self.calls = call.saturating_add(1);
-        if self.first_failing <= call && call <= self.last_failing {
+        if self.failing > 0 {
+            self.failing -= 1;
             return Err(io::Error::from(self.kind));
         }
         self.taken.extend_from_slice(bytes)?;
@@ -135,18 +176,23 @@ impl Write for FailingErrors {
     }
 }
 
-/// That the survey of ten entries, two of them refused, is the same over this standard error.
+/// That the survey of ten entries, two of them refused, is the same while its progress is told to this writer.
 fn assert_survey<R: Threads + Wait + Sync + Abort + AllocGlobal, E: Write + Drop + Send>(
     rt: &R,
     lanes: u16,
     errors: E,
 ) -> Result<(), Fail> {
+    let alloc = rt.alloc();
     let mut reader = Counted::new(TEN.as_bytes());
-    let mut output = Counted::new(Vec::new(rt.alloc()));
+    let mut output = Counted::new(Vec::new(alloc));
     let settings = settings(lanes, 2, false);
-    let gate = ProgressGate::new(rt, rt.alloc(), errors, Some(10))?;
-    run_survey(rt, rt.alloc(), &mut reader, &mut output, &settings, &gate)?;
-    gate.finish();
+    let gate = ProgressGate::new();
+    let progress = Progress::new(alloc, errors, Some(10))?;
+    progress.tell_while(
+        rt,
+        &gate,
+        &mut || { run_survey(rt, alloc, &mut reader, &mut output, &settings, &gate) },
+    )?;
     assert_eq!(rt; output.inner.as_slice(), TEN_SURVEY.as_bytes());
     Ok(())
 }
@@ -156,13 +202,14 @@ fn survey_is_the_same_with_progress(rt: HostRuntime) -> Result<(), Fail> {
     for lanes in [1u16, 4] {
         let mut errors = Vec::new(rt.alloc());
         assert_survey(&rt, lanes, &mut errors)?;
-        assert_eq!(rt; errors.as_slice(), OF_EIGHT_OF_TEN.as_bytes());
+        assert!(rt; errors.ends_with(b"\rentries begun 8 of 10 files\n"));
     }
     Ok(())
 }
 
 #[test]
 fn progress_is_told_without_guesses(rt: HostRuntime) -> Result<(), Fail> {
+    let alloc = rt.alloc();
     let settings = Settings {
         lanes: 1,
         ring: 1,
@@ -171,12 +218,16 @@ fn progress_is_told_without_guesses(rt: HostRuntime) -> Result<(), Fail> {
         show: false,
     };
     let mut reader = Counted::new(DEMO.as_bytes());
-    let mut output = Counted::new(Vec::new(rt.alloc()));
-    let mut errors = Vec::new(rt.alloc());
-    let gate = ProgressGate::new(&rt, rt.alloc(), &mut errors, None)?;
-    run_survey(&rt, rt.alloc(), &mut reader, &mut output, &settings, &gate)?;
-    gate.finish();
-    assert_eq!(rt; errors.as_slice(), OF_ONE.as_bytes());
+    let mut output = Counted::new(Vec::new(alloc));
+    let mut errors = Vec::new(alloc);
+    let gate = ProgressGate::new();
+    let progress = Progress::new(alloc, &mut errors, None)?;
+    progress.tell_while(
+        &rt,
+        &gate,
+        &mut || { run_survey(&rt, alloc, &mut reader, &mut output, &settings, &gate) },
+    )?;
+    assert!(rt; errors.ends_with(b"\rentries begun 1\n"));
     Ok(())
 }
 
@@ -184,47 +235,26 @@ fn progress_is_told_without_guesses(rt: HostRuntime) -> Result<(), Fail> {
 fn failed_errors_change_nothing(rt: HostRuntime) -> Result<(), Fail> {
     for kind in [ErrorKind::BrokenPipe, ErrorKind::Interrupted] {
         for lanes in [1u16, 4] {
-            let mut errors = FailingErrors::new(rt.alloc(), 0, u32::MAX, kind);
+            let mut errors = FailingErrors {
+                taken: Vec::new(rt.alloc()),
+                failing: u32::MAX,
+                kind,
+            };
             assert_survey(&rt, lanes, &mut errors)?;
-            assert_eq!(rt; (errors.calls, errors.taken.len()), (5, 0));
+            assert!(rt; errors.failing < u32::MAX && errors.taken.is_empty());
         }
     }
     Ok(())
 }
 
-/// What stands there if one write fails: at 1, at 2, at 5, at the last number, at LF.
-const LEFT_OUT: [&str; 5] = [
-    "\rgraded 2 of 10\rgraded 5 of 10\rgraded 8 of 10\n",
-    "\rgraded 1 of 10\rgraded 5 of 10\rgraded 8 of 10\n",
-    "\rgraded 1 of 10\rgraded 2 of 10\rgraded 8 of 10\n",
-    "\rgraded 1 of 10\rgraded 2 of 10\rgraded 5 of 10\n",
-    "\rgraded 1 of 10\rgraded 2 of 10\rgraded 5 of 10\rgraded 8 of 10",
-];
-
 #[test]
-fn progress_goes_on_after_a_failure(rt: HostRuntime) -> Result<(), Fail> {
-    for (wanted, call) in LEFT_OUT.into_iter().zip(0u32..) {
-        let mut errors = FailingErrors::new(rt.alloc(), call, call, ErrorKind::WouldBlock);
-        assert_survey(&rt, 3, &mut errors)?;
-        assert_eq!(rt; errors.taken.as_slice(), wanted.as_bytes(), "call {call}");
-    }
-    Ok(())
-}
-
-#[test]
-fn failed_numbers_are_left_out(rt: HostRuntime) -> Result<(), Fail> {
-    // jobs, the first and the last call that fails, and what went out
-    for (count, first, last, wanted) in [
-        (5u32, 2u32, 2u32, "\rgraded 1\rgraded 2\rgraded 5\n"),
-        (1000, 0, 14, "\rgraded 1000\n"),
-    ] {
-        let mut errors = FailingErrors::new(rt.alloc(), first, last, ErrorKind::WouldBlock);
-        let gate = ProgressGate::new(&rt, rt.alloc(), &mut errors, None)?;
-        for number in 0..count {
-            gate.enter(number);
-        }
-        gate.finish();
-        assert_eq!(rt; errors.taken.as_slice(), wanted.as_bytes(), "{count} jobs");
-    }
+fn line_is_ended_behind_a_failed_number(rt: HostRuntime) -> Result<(), Fail> {
+    let mut errors = FailingErrors {
+        taken: Vec::new(rt.alloc()),
+        failing: 1,
+        kind: ErrorKind::WouldBlock,
+    };
+    assert_survey(&rt, 3, &mut errors)?;
+    assert!(rt; errors.taken.ends_with(b"\n"));
     Ok(())
 }

@@ -9,7 +9,7 @@ use std::sync::Wait;
 use std::sync::atomic::{AtomicU32, Ordering};
 use std::test::Fail;
 use std::thread::Threads;
-use survey_core::{Counted, MOST_JOBS, ProgressGate, RunFault, collect, run_survey};
+use survey_core::{Counted, MOST_JOBS, Progress, ProgressGate, RunFault, collect, run_survey};
 
 /// More growths than any call here makes.
 const MOST_GROWTHS: usize = 3000;
@@ -99,23 +99,32 @@ fn surveys_are_written_or_refused(rt: HostRuntime) -> Result<(), Fail> {
     Ok(())
 }
 
-/// The gate takes all its memory as it is made, in one growth: room for the line of each of the most jobs.
+/// What was told of the most jobs of the most files: all, or nothing if room for the line or the thread was
+/// refused.
 #[test]
-fn progress_gates_are_made_or_refused(rt: HostRuntime) -> Result<(), Fail> {
+fn progress_is_told_or_refused(rt: HostRuntime) -> Result<(), Fail> {
     let alloc = rt.alloc();
-    for growth in [1usize, 2] {
+    for growth in 1..MOST_GROWTHS {
         let mut text = Vec::with_capacity(alloc, 3000)?;
+        let gate = ProgressGate::new();
         refuse(alloc, growth);
-        if let Ok(gate) = ProgressGate::new(&rt, alloc, &mut text, Some(u32::MAX)) {
-            for number in 0..MOST_JOBS as u32 {
-                gate.enter(number);
-            }
-            gate.finish();
+        if let Ok(progress) = Progress::new(alloc, &mut text, Some(u32::MAX)) {
+            progress.tell_while(
+                &rt,
+                &gate,
+                &mut || {
+                    for number in 0..MOST_JOBS as u32 {
+                        gate.enter(number);
+                    }
+                },
+            );
         }
-        let refused = was_refused(alloc);
-        let told = 3 * 23 + 3 * 24 + 9 * 25 + 90 * 26 + 27 + 1;
-        assert_eq!(rt; text.len(), if refused { 0 } else { told });
-        assert!(rt; growth == 1 || !refused);
+        if !was_refused(alloc) {
+            assert!(rt; text.ends_with(b"\rentries begun 10000 of 4294967295 files\n"));
+            return Ok(());
+        }
+        assert!(rt; text.is_empty(), "growth {growth}");
     }
+    assert!(rt; false, "growths without end");
     Ok(())
 }
