@@ -1,12 +1,7 @@
 //! The program: solves and grades nonograms.
 #![tactic(auto)]
 
-mod command;
-mod files;
-mod performing;
-mod program;
-mod stop;
-
+use program::{refuse_words, run, words_of};
 use std::process::ExitCode;
 use survey_core::Counted;
 
@@ -14,8 +9,8 @@ fn main(rt: HostRuntime) -> ExitCode {
     let mut input = Counted::new(rt.stdin());
     let mut output = Counted::new(rt.stdout());
     let mut errors = Counted::new(rt.stderr());
-    let status = match program::words_of(&rt) {
-        Ok(words) => program::run(
+    let status = match words_of(&rt) {
+        Ok(words) => run(
             &rt,
             words,
             &mut input,
@@ -23,24 +18,7 @@ fn main(rt: HostRuntime) -> ExitCode {
             &mut errors,
             rt.stderr(),
         ),
-        Err(error) => program::refuse_words(&mut errors, &error),
+        Err(error) => refuse_words(&mut errors, &error),
     };
     ExitCode::from(status)
 }
-
-#[cfg(test)]
-mod tests_edge;
-#[cfg(test)]
-mod tests_files;
-#[cfg(test)]
-mod tests_refused;
-#[cfg(test)]
-mod tests_reports;
-#[cfg(test)]
-mod tests_running;
-#[cfg(test)]
-mod tests_samples;
-#[cfg(test)]
-mod tests_terminal;
-#[cfg(test)]
-mod tests_words;

@@ -1,0 +1,2 @@
+-- Lemmas on the words of a command line.
+mod WordLemmas

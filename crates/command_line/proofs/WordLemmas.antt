@@ -1,0 +1,96 @@
+-- What the entries of a command line say.
+use Rattle.std.proofs.Common.{◌≡◌, ◌∙◌, ◌≤◌, ◌<◌, ◌^◌, ℕ, Bool, List, [], Option, Some, None, Result, refl, ap, arith, option_map, codes, true}
+use Rattle.std.specs.Prelude.{unwrap_or}
+use Rattle.std.specs.Borrow.{Bor}
+use Rattle.std.specs.Str.{bytes_eq}
+use Rattle.std.specs.Str.Parse.{ExplainsUnsignedError, HasUnsignedDigitsIfOk, ParsesUnsigned, digits_value, without_leading_plus}
+use Rattle.std.specs.declared.num.ParseIntError.{ParseIntError}
+use Rattle.std.proofs.lemmas.Slice.Eq.{bytes_eq-Decides}
+use Rattle.std.proofs.Common.{inl, inr, length, map, max, min, take}
+use Rattle.std.proofs.Math.Seq.{take-length}
+use Rattle.std.proofs.lemmas.Bool.{cases_Bool}
+use Rattle.clap.specs.Matches.{ReadsOne, first_value, matched_of, one_text, raw_values}
+use Rattle.clap.specs.Walk.{Text, one_of, rows_of}
+use Rattle.clap.specs.Simple.{App, HasMatchesOf, app_of, is_simple, subcommand_of, subcommand_rows_of}
+use Rattle.clap.specs.declared.builder.command.Command.{Command}
+use Rattle.clap.specs.declared.parser.matches.ArgMatches.{ArgMatches}
+use Rattle.clap.specs.declared.parser.matches.Found.{Found}
+use Rattle.clap.proofs.WalkLemmas.{first_value-rows, one_text-rows, raw_values-rows}
+use Rattle.command_line.specs.Words.{AsksIn, Choices, IsNumberIn, pick_of_word, program_app, text_in, texts_in}
+use Rattle.command_line.specs.declared.command.Request.{Request}
+use Rattle.solve_core.specs.declared.picks.Pick.TheVariants.{First, Most}
+
+-- what an unsigned number's `from_str` gives
+abbrev Gives : ℕ → Text → Result ℕ ParseIntError → Type 0
+Gives bits text r = ParsesUnsigned bits 10 text r × ExplainsUnsignedError 10 text r × HasUnsignedDigitsIfOk text r
+
+-- what a typed getter read, as a caller takes it
+number_of_text : (bits least most n : ℕ) (text : Option Text) (given : Option ℕ) →
+    ((t : Text) → text ≡ Some t → ReadsOne (Gives bits) t given) → most < 2 ^ bits
+    → ((v : ℕ) → given ≡ Some v → least ≤ v → v ≤ most → n ≡ v) → IsNumberIn least most text n
+number_of_text bits least most n None given reads small kept = tt
+number_of_text bits least most n (Some t) None reads small kept = λ numeral low high. absurd ((reads t refl).1.0 (numeral, omega arith))
+number_of_text bits least most n (Some t) (Some v) reads small kept = λ numeral low high.
+    let is : v ≡ digits_value 10 (without_leading_plus t) = (reads t refl).0.1 in
+    kept v refl (omega arith) (omega arith) ∙ is
+
+-- if a typed getter read a number of the entry, and n is that number in its range, n is what the entry writes
+pub number_of_entry : (bits least most n : ℕ) (f : Found) (id : Text) (given : Option ℕ) →
+    ((t : Text) → one_text f id ≡ Some t → ReadsOne (Gives bits) t given)
+    → most < 2 ^ bits → ((v : ℕ) → given ≡ Some v → least ≤ v → v ≤ most → n ≡ v) → IsNumberIn least most (one_of id (rows_of f)) n
+number_of_entry bits least most n f id given reads small kept =
+    number_of_text bits least most n (one_of id (rows_of f)) given (λ t is. reads t (one_text-rows f id ∙ is)) small kept
+
+-- bounding the number given changes nothing if it is at most `most`
+pub kept_below : (n v most other : ℕ) (given : Option ℕ) → n ≡ min (unwrap_or given other) most → given ≡ Some v → v ≤ most → n ≡ v
+kept_below n v most other None is same below = cc
+kept_below n v most other (Some w) is same below =
+    let e : w ≡ v = cc in
+    omega arith
+
+-- clamping the number given changes nothing if it is from `least` to `most`
+pub kept_within : (n v least most other : ℕ) (given : Option ℕ) → n ≡ max least (min (unwrap_or given other) most) → given ≡ Some v →
+    least ≤ v → v ≤ most → n ≡ v
+kept_within n v least most other None is same above below = cc
+kept_within n v least most other (Some w) is same above below =
+    let e : w ≡ v = cc in
+    omega arith
+
+-- the text that a getter read, or else the empty one, is that of the entry
+pub text_of_entry : (f : Found) (id : Text) (given : Option (Bor Text)) (d : Bor Text) →
+    option_map (λ s. s.now) given ≡ first_value f id → d.now ≡ []
+    → (unwrap_or given d).now ≡ text_in id (rows_of f)
+text_of_entry f id None d reads empty = empty ∙ ap (λ o. unwrap_or o []) (reads ∙ first_value-rows f id)
+text_of_entry f id (Some x) d reads empty = ap (λ o. unwrap_or o []) (reads ∙ first_value-rows f id)
+
+-- the texts that a getter read, or else none, are those of the entry
+pub texts_of_entry : (f : Found) (id : Text) (given : Option (Bor (List (Bor Text)))) (d : Bor (List (Bor Text)))
+    → option_map (λ s. map (λ v. v.now) s.now) given ≡ option_map raw_values (matched_of f id) → d.now ≡ []
+    → map (λ v. v.now) (unwrap_or given d).now ≡ texts_in id (rows_of f)
+texts_of_entry f id None d reads empty = ap (map (λ v. v.now)) empty ∙ ap (λ o. unwrap_or o []) (reads ∙ raw_values-rows f id)
+texts_of_entry f id (Some x) d reads empty = ap (λ o. unwrap_or o []) (reads ∙ raw_values-rows f id)
+
+-- if a flag has a value for a word, and the entry has this word, the flag has that value
+pub flag_of_entry : (f : Found) (id word : Text) (flag value : Bool) → (one_text f id ≡ Some word → flag ≡ value) →
+    one_of id (rows_of f) ≡ Some word → flag ≡ value
+flag_of_entry f id word flag value reads is = reads (one_text-rows f id ∙ is)
+
+-- the first n elements of a list of n elements are all of it
+pub take_end : (n : ℕ) (xs : List (Bor Text)) → length xs ≤ n → n ≤ length xs → take n xs ≡ xs
+take_end n xs past within =
+    let e : n ≡ length xs = omega arith in
+    rw e (take-length xs)
+
+-- `clap` reads the program's words by its definition
+program_is_simple : (formats picks : Choices) → is_simple (program_app formats picks) ≡ true
+program_is_simple formats picks = refl
+
+-- if the entered command asks for a request, the words do
+pub asked_of : (formats picks : Choices) (program : Command) (words given : List Text) (m : ArgMatches) (request : Request)
+    → app_of program ≡ program_app formats picks → given ≡ words → HasMatchesOf (app_of program) given m
+    → AsksIn (subcommand_rows_of m) request → AsksIn (subcommand_of (program_app formats picks) words) request
+asked_of formats picks program words given m request shape same has asks =
+    let simple : is_simple (app_of program) ≡ true = ap is_simple shape ∙ program_is_simple formats picks in
+    let entered : subcommand_rows_of m ≡ subcommand_of (program_app formats picks) words =
+    (has simple).1 ∙ ap (λ (a : App). subcommand_of a given) shape ∙ ap (subcommand_of (program_app formats picks)) same in
+    rw entered at asks

@@ -1,0 +1,2 @@
+-- The definitions that only private calls need.
+pub mod Words

@@ -1,0 +1,463 @@
+//! The command line: its words, and what they ask for.
+
+ghost use Rattle.std.specs.Prelude.{◌≡◌, ◌≢◌, ◌≤◌, IfOk, IfSome, map, string_bytes, codes};
+ghost use Rattle.clap.specs.Walk.{one_of, rows_of};
+ghost use Rattle.clap.specs.Words.{found_of, kind_of, subcommand_rows_of};
+ghost use Rattle.clap.specs.declared.error.kind.ErrorKind.TheVariants.{OutOfMemory};
+ghost use Rattle.command_line.specs.declared.command.CommandFault.TheVariants.{NoMemory as command_memory, Words as refused_words};
+ghost use Rattle.command_line.specs.Ranges.{HasSettingsInRange};
+ghost use Rattle.command_line.specs.Words.{AreSettingsIn, Asks, AsksIn, AsksSurvey, IsNumberIn, WordsAsk, command_app, convert_app, converting_app, file_rule, files_rule, grading_app, grading_rules, guesses_rule, lanes_rule, lines_app, pick_of_word, pick_rule, program_app, progress_rule, ring_rule, show_rule, solve_app, survey_app, text_in, texts_in, to_rule};
+ghost use Rattle.command_line.specs.steps.Words.{IsArgument, IsCommand};
+
+use clap::error::ErrorKind;
+use clap::{Arg, ArgAction, ArgMatches, Command, Error, value_parser};
+use grid_core::NoMemory;
+use lane_core::MOST_GUESSES;
+use puzzle_text::Format;
+use reports::VERSION;
+use solve_core::Pick;
+use std::alloc::{AllocError, Global};
+use survey_core::{
+    DEFAULT_GUESSES, DEFAULT_LANES, DEFAULT_RING, LARGEST_RING, MOST_LANES, Settings,
+};
+
+/// What the help of a command that grades ends with: what it prints, and further lines.
+macro_rules! grading_help {
+    ($prints:literal, $further:literal) => {
+        concat!(
+            $prints,
+            "
+Each line is N WxH VERDICT GRADE LINE TRIALS GUESSES GOAL NAME, or N refused WORD NAME.
+VERDICT: none, one or several solutions; or unsettled, if the guesses allowed are too few.
+GRADE: what it takes, line (logic), trials (of a colour, until it contradicts) or search (guesses).
+LINE, TRIALS: cells known after each. GOAL: absent, or it meets or misses the clues.
+If unsettled, try --guesses 1000000 (mostly still in a fraction of a second), or the other --pick.
+
+",
+            $further
+        )
+    };
+}
+
+/// What the help of `survey` ends with.
+const SURVEY_HELP: &str = grading_help!(
+    "It prints a line for each puzzle, and a line of totals.",
+    "A collection is one text, each puzzle below a line \"@ NAME\". As FILE it is refused; give it on standard input:
+nonograde survey < puzzles/collection.txt
+
+Example: nonograde survey --lanes 8 --show puzzles/heart.non puzzles/cat.mk
+
+Exit status: 0 if the survey is printed, 1 at a fault, 2 if the words are refused."
+);
+
+/// What the help of `solve` ends with.
+const SOLVE_HELP: &str = grading_help!(
+    "It prints the puzzle's line, and its solutions: none, one or two of them.",
+    "Example: nonograde solve puzzles/heart.non
+
+Exit status: 0 if the line is printed, 1 at a fault, 2 if the words are refused."
+);
+
+/// What the help of `convert` ends with.
+const CONVERT_HELP: &str = "It prints the puzzle's text in the format.
+
+Example: nonograde convert --to mk puzzles/heart.non
+
+Exit status: 0 if the text is printed, 1 at a fault, 2 if the words are refused.";
+
+/// What the help of `lines` ends with.
+const LINES_HELP: &str = "It prints one, open or none, the number of known cells, and the grid.
+
+Example: nonograde lines puzzles/heart.non
+
+Exit status: 0 if the grid is printed, 1 at a fault, 2 if the words are refused.";
+
+/// A survey of these files, or of the collection on standard input if there is none.
+#[derive(Debug, Drop)]
+pub struct SurveyRequest {
+    /// How the entries are graded, and on how many lanes.
+    pub settings: Settings,
+    /// Whether the number of begun entries is told on the stream for faults.
+    pub progress: bool,
+    /// The names of the files, in order.
+    pub files: Vec<String>,
+}
+
+/// What a command line asks for.
+#[derive(Debug, Drop)]
+pub enum Request {
+    /// A survey.
+    Survey(SurveyRequest),
+    /// The solutions of a file's puzzle: the most guesses, and the rule for each.
+    Solve(u32, Pick, String),
+    /// A file's puzzle in another format.
+    Convert(Format, String),
+    /// The grid of a file's puzzle as far as line logic gets.
+    Lines(String),
+}
+
+/// Why a command line gives no request.
+#[derive(Debug, Drop)]
+pub enum CommandFault {
+    /// The words are refused, or ask for help: the text and the status are the error's.
+    Words(Error),
+    /// A growth of memory was refused.
+    NoMemory,
+}
+
+impl From<Error> for CommandFault {
+    ghost from_gives = { λ error fault. (kind_of error ≡ OutOfMemory → fault ≡ command_memory) ×
+        (kind_of error ≢ OutOfMemory → fault ≡ refused_words error) };
+
+    fn from(error: Error) -> CommandFault {
+        if error.kind() == ErrorKind::OutOfMemory {
+            CommandFault::NoMemory
+        } else {
+            CommandFault::Words(error)
+        }
+    }
+}
+
+impl From<NoMemory> for CommandFault {
+    ghost from_gives = { λ _ fault. fault ≡ command_memory };
+
+    fn from(_error: NoMemory) -> CommandFault {
+        CommandFault::NoMemory
+    }
+}
+
+/// The option `--guesses`.
+fn guesses_option<'a>(alloc: Global) -> Arg<'a>
+    ensures { IsArgument guesses_rule result }
+{
+    Arg::new(alloc, "guesses")
+        .long("guesses")
+        .value_name("N")
+        .help("The most guesses for a puzzle, 0 to 1000000")
+        .value_parser(value_parser!(u32).range(0..=i64::from(MOST_GUESSES)))
+        .default_value("1000")
+}
+
+/// The option `--pick`, with the words of the rules.
+fn pick_option<'a>(alloc: Global, picks: &'a [&'a str]) -> Arg<'a>
+    ensures { IsArgument (pick_rule picks.entry) result }
+{
+    Arg::new(alloc, "pick")
+        .long("pick")
+        .value_name("RULE")
+        .help("Guess the first unknown cell, or the one with the most known neighbours")
+        .value_parser(picks)
+        .default_value("first")
+}
+
+/// The word that names a file.
+fn file_word<'a>(alloc: Global) -> Arg<'a>
+    ensures { IsArgument file_rule result }
+{
+    Arg::new(alloc, "file")
+        .value_name("FILE")
+        .help("A puzzle: its name ends in .non, .mk or .nin")
+        .required(true)
+}
+
+/// The option `--lanes`.
+fn lanes_option<'a>(alloc: Global) -> Arg<'a>
+    ensures { IsArgument lanes_rule result }
+{
+    Arg::new(alloc, "lanes")
+        .long("lanes")
+        .value_name("N")
+        .help("The number of lanes, 1 to 16")
+        .value_parser(value_parser!(u16).range(1..=i64::from(MOST_LANES)))
+        .default_value("4")
+}
+
+/// The option `--ring`.
+fn ring_option<'a>(alloc: Global) -> Arg<'a>
+    ensures { IsArgument ring_rule result }
+{
+    Arg::new(alloc, "ring")
+        .long("ring")
+        .value_name("N")
+        .help("The capacity of a lane's rings, 1 to 64")
+        .value_parser(value_parser!(u16).range(1..=i64::from(LARGEST_RING)))
+        .default_value("8")
+}
+
+/// The option `--show`.
+fn show_option<'a>(alloc: Global) -> Arg<'a>
+    ensures { IsArgument show_rule result }
+{
+    Arg::new(alloc, "show")
+        .long("show")
+        .help("Show the solutions")
+        .action(ArgAction::SetTrue)
+}
+
+/// The option `--progress`.
+fn progress_option<'a>(alloc: Global) -> Arg<'a>
+    ensures { IsArgument progress_rule result }
+{
+    Arg::new(alloc, "progress")
+        .long("progress")
+        .help("Tell on standard error how many entries are begun")
+        .action(ArgAction::SetTrue)
+}
+
+/// The option `--to`, with the words of the formats.
+fn to_option<'a>(alloc: Global, formats: &'a [&'a str]) -> Arg<'a>
+    ensures { IsArgument (to_rule formats.entry) result }
+{
+    Arg::new(alloc, "to")
+        .long("to")
+        .value_name("FORMAT")
+        .help("The format")
+        .value_parser(formats)
+        .required(true)
+}
+
+/// The words that name files.
+fn file_words<'a>(alloc: Global) -> Arg<'a>
+    ensures { IsArgument files_rule result }
+{
+    Arg::new(alloc, "file")
+        .value_name("FILE")
+        .help("A puzzle each: .non, .mk or .nin. Without FILE, a collection on standard input")
+        .num_args(0..)
+        .action(ArgAction::Append)
+}
+
+/// The command `survey` with the options that say how entries are graded, with the words of the rules for
+/// guesses.
+fn grading_command<'a>(alloc: Global, picks: &'a [&'a str]) -> Result<Command<'a>, AllocError>
+    ensures { IfOk result (IsCommand (command_app (codes "survey") (grading_rules picks.entry))) }
+{
+    Command::new(alloc, "survey")
+        .arg(lanes_option(alloc))?
+        .arg(ring_option(alloc))?
+        .arg(guesses_option(alloc))?
+        .arg(pick_option(alloc, picks))
+}
+
+/// The command `survey`, with the words of the rules for guesses.
+fn survey_command<'a>(alloc: Global, picks: &'a [&'a str]) -> Result<Command<'a>, AllocError>
+    ensures { IfOk result (IsCommand (survey_app picks.entry)) }
+{
+    grading_command(alloc, picks)?
+        .about("Grade the puzzles of a collection")
+        .after_help(SURVEY_HELP)
+        .override_usage("nonograde survey [OPTIONS] [FILE]...")
+        .arg(show_option(alloc))?
+        .arg(progress_option(alloc))?
+        .arg(file_words(alloc))
+}
+
+/// The command `solve`, with the words of the rules for guesses.
+fn solve_command<'a>(alloc: Global, picks: &'a [&'a str]) -> Result<Command<'a>, AllocError>
+    ensures { IfOk result (IsCommand (solve_app picks.entry)) }
+{
+    Command::new(alloc, "solve")
+        .about("Solve a puzzle")
+        .after_help(SOLVE_HELP)
+        .override_usage("nonograde solve [OPTIONS] <FILE>")
+        .arg(guesses_option(alloc))?
+        .arg(pick_option(alloc, picks))?
+        .arg(file_word(alloc))
+}
+
+/// The command `convert`, with the words of the formats.
+fn convert_command<'a>(alloc: Global, formats: &'a [&'a str]) -> Result<Command<'a>, AllocError>
+    ensures { IfOk result (IsCommand (convert_app formats.entry)) }
+{
+    Command::new(alloc, "convert")
+        .about("Write a puzzle in another format")
+        .after_help(CONVERT_HELP)
+        .override_usage("nonograde convert --to <FORMAT> <FILE>")
+        .arg(to_option(alloc, formats))?
+        .arg(file_word(alloc))
+}
+
+/// The command `lines`.
+fn lines_command<'a>(alloc: Global) -> Result<Command<'a>, AllocError>
+    ensures { IfOk result (IsCommand lines_app) }
+{
+    Command::new(alloc, "lines")
+        .about("Close a puzzle by line logic")
+        .after_help(LINES_HELP)
+        .override_usage("nonograde lines <FILE>")
+        .arg(file_word(alloc))
+}
+
+/// The program with the commands that grade puzzles, with the words of the rules for guesses.
+fn grading_program<'a>(alloc: Global, picks: &'a [&'a str]) -> Result<Command<'a>, AllocError>
+    ensures { IfOk result (IsCommand (grading_app picks.entry)) }
+{
+    Command::new(alloc, "nonograde")
+        .about("Solves and grades nonograms")
+        .version(VERSION)
+        .no_binary_name(true)
+        .arg_required_else_help(true)
+        .subcommand_required(true)
+        .subcommand(survey_command(alloc, picks)?)?
+        .subcommand(solve_command(alloc, picks)?)
+}
+
+/// The same with the command `convert`, with the words of the formats.
+fn converting_program<'a>(
+    alloc: Global,
+    formats: &'a [&'a str],
+    picks: &'a [&'a str],
+) -> Result<Command<'a>, AllocError>
+    ensures { IfOk result (IsCommand (converting_app formats.entry picks.entry)) }
+{
+    grading_program(alloc, picks)?.subcommand(convert_command(alloc, formats)?)
+}
+
+/// The program with all commands, with the words of the formats and those of the rules for guesses.
+fn whole_program<'a>(
+    alloc: Global,
+    formats: &'a [&'a str],
+    picks: &'a [&'a str],
+) -> Result<Command<'a>, NoMemory>
+    ensures { IfOk result (IsCommand (program_app formats.entry picks.entry)) }
+{
+    let program = converting_program(alloc, formats, picks)?;
+    Ok(program.subcommand(lines_command(alloc)?)?)
+}
+
+/// The text of an argument, or the empty one if it has none.
+fn word_of<'a>(matches: &ArgMatches<'a>, id: &str) -> &'a str
+    ensures { result.now ≡ text_in id.now (rows_of (found_of matches.now)) }
+{
+    matches.get_str(id).unwrap_or("")
+}
+
+/// The same, as a value of its own.
+fn text_of(alloc: Global, matches: &ArgMatches<'_>, id: &str) -> Result<String, NoMemory>
+    ensures { IfOk result (λ text. string_bytes text ≡ text_in id.now (rows_of (found_of matches.now))) }
+{
+    Ok(String::from_str(alloc, word_of(matches, id))?)
+}
+
+/// The files that are named.
+fn files_of(alloc: Global, matches: &ArgMatches<'_>) -> Result<Vec<String>, NoMemory>
+    ensures { IfOk result (λ files. map string_bytes files.items ≡ texts_in (codes "file") (rows_of (found_of matches.now))) }
+{
+    let mut files = Vec::new(alloc);
+    for word in matches.get_strs("file").unwrap_or(&[]) {
+        files.push(String::from_str(alloc, word)?)?;
+    }
+    Ok(files)
+}
+
+/// The guesses that are asked for. `clap` has refused those out of range.
+fn guesses_of(matches: &ArgMatches<'_>) -> u32
+    ensures range { result ≤ MOST_GUESSES }
+    ensures asked { IsNumberIn 0 MOST_GUESSES (one_of (codes "guesses") (rows_of (found_of matches.now))) result }
+{
+    matches
+        .get_one::<u32>("guesses")
+        .unwrap_or(DEFAULT_GUESSES)
+        .min(MOST_GUESSES)
+}
+
+/// The rule for guesses that is asked for. `clap` has refused other words.
+fn pick_of(matches: &ArgMatches<'_>) -> Pick
+    ensures { result ≡ pick_of_word (text_in (codes "pick") (rows_of (found_of matches.now))) }
+{
+    match word_of(matches, "pick") {
+        "most" => Pick::Most,
+        _ => Pick::First,
+    }
+}
+
+/// The settings of a survey. `clap` has refused those out of range.
+fn settings_of(matches: &ArgMatches<'_>) -> Settings
+    ensures { AreSettingsIn (rows_of (found_of matches.now)) result }
+{
+    let lanes = matches.get_one::<u16>("lanes").unwrap_or(DEFAULT_LANES);
+    let ring = matches.get_one::<u16>("ring").unwrap_or(DEFAULT_RING);
+    Settings {
+        lanes: lanes.clamp(1, MOST_LANES),
+        ring: ring.clamp(1, LARGEST_RING),
+        guesses: guesses_of(matches),
+        pick: pick_of(matches),
+        show: matches.get_flag("show"),
+    }
+}
+
+/// The survey that is asked for.
+fn survey_of(alloc: Global, matches: &ArgMatches<'_>) -> Result<SurveyRequest, NoMemory>
+    ensures { IfOk result (AsksSurvey (rows_of (found_of matches.now))) }
+{
+    Ok(SurveyRequest {
+        settings: settings_of(matches),
+        progress: matches.get_flag("progress"),
+        files: files_of(alloc, matches)?,
+    })
+}
+
+/// The conversion that is asked for. `clap` has refused words that name no format.
+fn conversion_of(alloc: Global, matches: &ArgMatches<'_>) -> Result<Option<Request>, CommandFault>
+    ensures range { IfOk result (λ asked. IfSome asked HasSettingsInRange) }
+    ensures asked { IfOk result (λ asked. IfSome asked (Asks (codes "convert") (rows_of (found_of matches.now)))) }
+{
+    let Some(format) = Format::of_word(word_of(matches, "to")) else {
+        return Ok(None);
+    };
+    Ok(Some(Request::Convert(format, text_of(alloc, matches, "file")?)))
+}
+
+/// What a command and its words ask for, if the command is known.
+fn request_of(
+    alloc: Global,
+    name: &str,
+    matches: &ArgMatches<'_>,
+) -> Result<Option<Request>, CommandFault>
+    ensures range { IfOk result (λ asked. IfSome asked HasSettingsInRange) }
+    ensures asked { IfOk result (λ asked. IfSome asked (Asks name.now (rows_of (found_of matches.now)))) }
+{
+    let request = match name {
+        "survey" => Request::Survey(survey_of(alloc, matches)?),
+        "solve" => {
+            let file = text_of(alloc, matches, "file")?;
+            Request::Solve(guesses_of(matches), pick_of(matches), file)
+        }
+        "convert" => return conversion_of(alloc, matches),
+        "lines" => Request::Lines(text_of(alloc, matches, "file")?),
+        _ => return Ok(None),
+    };
+    Ok(Some(request))
+}
+
+/// The fault of words that name no command.
+fn missing_command(command: &mut Command<'_>) -> Result<CommandFault, NoMemory> {
+    let error = command.error(ErrorKind::MissingSubcommand, "a command is missing")?;
+    Ok(CommandFault::from(error))
+}
+
+/// What the command that `clap` entered asks for, if it is known.
+fn request_in(alloc: Global, matches: &ArgMatches<'_>) -> Result<Option<Request>, CommandFault>
+    ensures range { IfOk result (λ asked. IfSome asked HasSettingsInRange) }
+    ensures asked { IfOk result (λ asked. IfSome asked (AsksIn (subcommand_rows_of matches.now))) }
+{
+    match matches.subcommand() {
+        Some((name, found)) => request_of(alloc, name, found),
+        None => Ok(None),
+    }
+}
+
+/// What the words after the program's name ask for.
+pub fn parse_words(alloc: Global, words: Vec<String>) -> Result<Request, CommandFault>
+    ensures range { IfOk result HasSettingsInRange }
+    ensures asked { IfOk result (WordsAsk (map string_bytes words.items)) }
+{
+    let formats = Format::words();
+    let picks = ["first", "most"];
+    let mut program = whole_program(alloc, &formats, &picks)?;
+    let matches = program.try_get_matches_from_mut(words.as_slice())?;
+    match request_in(alloc, &matches)? {
+        Some(request) => Ok(request),
+        None => Err(missing_command(&mut program)?),
+    }
+}

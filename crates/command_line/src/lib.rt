@@ -1,0 +1,6 @@
+//! The command line of the program: its words, its help, and what is asked for.
+#![tactic(auto)]
+
+mod command;
+
+pub use command::{CommandFault, Request, SurveyRequest, parse_words};

@@ -1,6 +1,0 @@
--- `print_shown`: if there is no room for the text, nothing is printed.
-use Rattle.nonograde.proofs.PrintingLemmas.{unprinted}
-use Rattle.nonograde.proofs.program.print_shown.Goals as goal
-
-pub returns-in-Err-clause-answer : goal.returns-in-Err-clause-answer
-returns-in-Err-clause-answer g c = unprinted _ _

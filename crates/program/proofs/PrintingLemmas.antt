@@ -1,0 +1,143 @@
+-- What is left in the output after a command, from what its parts give and leave.
+use Rattle.std.proofs.Common.{◌≡◌, ◌≤◌, ℕ, List, Option, Some, None, Result, Ok, Err, [], codes, length, take, refl, sym, ap, ◌∙◌}
+use Rattle.std.specs.Prelude.{IfErr, IfSome, IsErrAnd, OnErr, OnOk}
+use Rattle.std.specs.Io.KnownBytes.{Appends, Keeps}
+use Rattle.std.proofs.KnownBytes.{Appends-trans}
+use Rattle.grid_core.specs.Nonogram.{Nonogram}
+use Rattle.puzzle_text.specs.Collections.{Entry as NamedText}
+use Rattle.puzzle_text.specs.declared.faults.EntryFault.{EntryFault}
+use Rattle.puzzle_text.specs.declared.faults.EntryFault.TheVariants.{Text, UnknownFormat}
+use Rattle.puzzle_text.specs.declared.faults.TextFault.TheVariants.{TooLong, NoSize, BadSize, NoSection, BadLine, Twice, BadCount, BadNumber, BadGoal, NoMemory}
+use Rattle.puzzle_text.specs.declared.formats.Format.{Format}
+use Rattle.survey_core.specs.Guessing.{guessing}
+use Rattle.survey_core.specs.Leaving.{LeavesAt, WritesSurvey}
+use Rattle.survey_core.specs.Survey.{survey_of_entries}
+use Rattle.survey_core.specs.declared.faults.RunFault.{RunFault}
+use Rattle.survey_core.specs.declared.settings.Settings.{Settings}
+use Rattle.reports.specs.Converting.{GivesConverted, converted}
+use Rattle.program.specs.Printing.{Prints, PrintsFile, PrintsFiles, convert_answer, named_texts, or_stop}
+use Rattle.reports.specs.Reports.{GivesText, said, text_or_fault}
+use Rattle.program.specs.Stop.{stop_line, stop_of_convert, stop_word}
+use Rattle.reports.specs.declared.converting.ConvertFault.{ConvertFault}
+use Rattle.reports.specs.declared.converting.ConvertFault.TheVariants as convert
+use Rattle.program.specs.declared.stop.Stop.{Stop}
+use Rattle.program.specs.declared.stop.Stop.TheVariants.{Entry, Run, Write, NoMemory as memory_stop}
+
+-- if nothing is written, the bytes stay
+pub keeps : (known : Option (List ℕ)) → Keeps known known
+keeps None = tt
+keeps (Some bytes) = refl
+
+-- a result that is an error, and this one
+pub is_stop : (r : Result (Unit {0}) Stop) (stop : Stop) → IsErrAnd r (λ given. given ≡ stop) → r ≡ Err stop
+is_stop (Ok _) stop is = absurd is
+is_stop (Err given) stop is = ap (λ (s : Stop). Err s) is
+
+-- if there is no room for a text, nothing is printed
+pub unprinted : (shown known : Option (List ℕ)) →
+    (text : List ℕ) × IfSome shown (λ bytes. text ≡ bytes) × Prints {U = Unit {0}} (Ok text) (Err memory_stop) known known
+unprinted None known = ([], tt, keeps known)
+unprinted (Some text) known = (text, refl, keeps known)
+
+-- if the last piece of a stop's line goes out behind the others, the line went out
+pub stop_printed : (stop : Stop) (word : List ℕ) (r : Result (Unit {0}) Stop) (first second third last : Option (List ℕ))
+    → Appends first second (codes "nonograde: ") → Appends second third word → word ≡ stop_word stop
+    → OnOk r (Appends third last (codes "\n")) → OnOk r (Appends first last (stop_line stop))
+stop_printed stop word (Ok _) first second third last begun told is ended =
+    Appends-trans first second last _ _ begun (Appends-trans second third last _ _ (rw is at told) ended)
+stop_printed stop word (Err _) first second third last begun told is ended = tt
+
+-- if a text is that of a file's bytes, and it goes out whole or its front does, the file is printed
+printed_of : (answer : List ℕ → Result (List ℕ) Stop) (body text : List ℕ) (r : Result (Unit {0}) Stop) (old new : Option (List ℕ))
+    → answer body ≡ Ok text → OnOk r (Appends old new text)
+    → OnErr r ((sent : ℕ) × (sent ≤ length text) × Appends old new (take sent text)) → IfErr r (λ stop. stop ≡ Write)
+    → PrintsFile answer r old new
+printed_of answer body text (Ok _) old new is whole front write = (body, (text, is, whole))
+printed_of answer body text (Err stop) old new is whole front write = rw write (body, (text, is, front))
+
+-- if a report is that of a file's bytes under its name, the file is printed
+pub report_printed : (report : List ℕ → Nonogram → List ℕ) (name given body items text : List ℕ) (r : Result (Unit {0}) Stop)
+    (old new : Option (List ℕ))
+    → given ≡ name → text ≡ items → text_or_fault (report given) (said given body) ≡ Ok items → OnOk r (Appends old new text)
+    → OnErr r ((sent : ℕ) × (sent ≤ length text) × Appends old new (take sent text)) → IfErr r (λ stop. stop ≡ Write)
+    → PrintsFile (λ bytes. or_stop Entry (text_or_fault (report name) (said name bytes))) r old new
+report_printed report name given body items text r old new named same is whole front write =
+    printed_of (λ bytes. or_stop Entry (text_or_fault (report name) (said name bytes))) body text r old new
+    (ap (or_stop Entry) (ap (λ (n : List ℕ). text_or_fault (report n) (said n body)) (sym named) ∙ is ∙
+    ap (λ (t : List ℕ). Ok t) (sym same))) whole front write
+
+-- if a text is what a file's puzzle is converted to, the file is printed
+pub conversion_printed : (format : Format) (name given body items text : List ℕ) (r : Result (Unit {0}) Stop) (old new : Option (List ℕ))
+    → given ≡ name → text ≡ items → converted format (said given body) ≡ Ok items → OnOk r (Appends old new text)
+    → OnErr r ((sent : ℕ) × (sent ≤ length text) × Appends old new (take sent text)) → IfErr r (λ stop. stop ≡ Write)
+    → PrintsFile (convert_answer format name) r old new
+conversion_printed format name given body items text r old new named same is whole front write =
+    printed_of (convert_answer format name) body text r old new
+    (ap (or_stop stop_of_convert) (ap (λ (n : List ℕ). converted format (said n body)) (sym named) ∙ is ∙
+    ap (λ (t : List ℕ). Ok t) (sym same))) whole front write
+
+-- if a file's text is refused, nothing is printed, and the program stops at that fault
+refused_entry : (text : Nonogram → List ℕ) (read : List ℕ → Result Nonogram EntryFault) (body : List ℕ) (fault : EntryFault)
+    (known : Option (List ℕ))
+    → GivesText (Err fault) (text_or_fault text (read body))
+    → PrintsFile {U = Unit {0}} (λ bytes. or_stop Entry (text_or_fault text (read bytes))) (Err (Entry fault)) known known
+refused_entry text read body UnknownFormat known gives = (body, (rw gives refl, keeps known))
+refused_entry text read body (Text NoMemory) known gives = (body, keeps known)
+refused_entry text read body (Text TooLong) known gives = (body, (rw gives refl, keeps known))
+refused_entry text read body (Text NoSize) known gives = (body, (rw gives refl, keeps known))
+refused_entry text read body (Text BadSize) known gives = (body, (rw gives refl, keeps known))
+refused_entry text read body (Text NoSection) known gives = (body, (rw gives refl, keeps known))
+refused_entry text read body (Text (BadLine i)) known gives = (body, (rw gives refl, keeps known))
+refused_entry text read body (Text (Twice i)) known gives = (body, (rw gives refl, keeps known))
+refused_entry text read body (Text BadCount) known gives = (body, (rw gives refl, keeps known))
+refused_entry text read body (Text (BadNumber i)) known gives = (body, (rw gives refl, keeps known))
+refused_entry text read body (Text (BadGoal i)) known gives = (body, (rw gives refl, keeps known))
+
+-- if a file's text is refused, and the answer is that fault, nothing is printed
+pub refused_of : (report : List ℕ → Nonogram → List ℕ) (name given body : List ℕ) (fault : EntryFault) (r : Result (Unit {0}) Stop)
+    (known : Option (List ℕ)) → given ≡ name → GivesText (Err fault) (text_or_fault (report given) (said given body)) →
+    IsErrAnd r (λ stop. stop ≡ Entry fault)
+    → PrintsFile (λ bytes. or_stop Entry (text_or_fault (report name) (said name bytes))) r known known
+refused_of report name given body fault r known named gives is =
+    rw (is_stop r _ is) (refused_entry (report name) (said name) body fault known (rw named at gives))
+
+-- if a file's puzzle is not converted, nothing is printed, and the program stops at that fault
+unconverted : (format : Format) (name body : List ℕ) (fault : ConvertFault) (known : Option (List ℕ))
+    → GivesConverted (Err fault) (converted format (said name body))
+    → PrintsFile {U = Unit {0}} (convert_answer format name) (Err (stop_of_convert fault)) known known
+unconverted format name body convert.Ambiguous known gives = (body, (rw gives refl, keeps known))
+unconverted format name body convert.NoMemory known gives = (body, keeps known)
+unconverted format name body (convert.Entry UnknownFormat) known gives = (body, (rw gives refl, keeps known))
+unconverted format name body (convert.Entry (Text NoMemory)) known gives = (body, keeps known)
+unconverted format name body (convert.Entry (Text TooLong)) known gives = (body, (rw gives refl, keeps known))
+unconverted format name body (convert.Entry (Text NoSize)) known gives = (body, (rw gives refl, keeps known))
+unconverted format name body (convert.Entry (Text BadSize)) known gives = (body, (rw gives refl, keeps known))
+unconverted format name body (convert.Entry (Text NoSection)) known gives = (body, (rw gives refl, keeps known))
+unconverted format name body (convert.Entry (Text (BadLine i))) known gives = (body, (rw gives refl, keeps known))
+unconverted format name body (convert.Entry (Text (Twice i))) known gives = (body, (rw gives refl, keeps known))
+unconverted format name body (convert.Entry (Text BadCount)) known gives = (body, (rw gives refl, keeps known))
+unconverted format name body (convert.Entry (Text (BadNumber i))) known gives = (body, (rw gives refl, keeps known))
+unconverted format name body (convert.Entry (Text (BadGoal i))) known gives = (body, (rw gives refl, keeps known))
+
+-- if a file's puzzle is not converted, and the answer is that fault, nothing is printed
+pub unconverted_of : (format : Format) (name given body : List ℕ) (fault : ConvertFault) (r : Result (Unit {0}) Stop)
+    (known : Option (List ℕ))
+    → given ≡ name → GivesConverted (Err fault) (converted format (said given body)) → IsErrAnd r (λ stop. stop ≡ stop_of_convert fault)
+    → PrintsFile (convert_answer format name) r known known
+unconverted_of format name given body fault r known named gives is =
+    rw (is_stop r _ is) (unconverted format name body fault known (rw named at gives))
+
+-- if entries are those of files, their whole survey is that of the files
+pub files_written : (settings : Settings) (names texts : List (List ℕ)) (entries : List NamedText) (old new : Option (List ℕ))
+    → length texts ≡ length names → entries ≡ named_texts names texts
+    → WritesSurvey (survey_of_entries (guessing settings) settings.show entries) old new →
+    PrintsFiles {U = Unit {0}} settings names (Ok (tt {0})) old new
+files_written settings names texts entries old new same is written = (texts, same, rw is at written)
+
+-- if entries are those of files, what is left of their survey at a fault is what is left of the files'
+pub files_left : (settings : Settings) (names texts : List (List ℕ)) (entries : List NamedText) (fault : RunFault)
+    (old new : Option (List ℕ))
+    → length texts ≡ length names → entries ≡ named_texts names texts
+    → LeavesAt (survey_of_entries (guessing settings) settings.show entries) fault old new
+    → PrintsFiles {U = Unit {0}} settings names (Err (Run fault)) old new
+files_left settings names texts entries fault old new same is left = (texts, same, rw is at left)

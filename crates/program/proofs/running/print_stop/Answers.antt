@@ -1,0 +1,7 @@
+-- `print_stop`: the line is its pieces, one behind another.
+use Rattle.program.proofs.PrintingLemmas.{stop_printed}
+use Rattle.program.proofs.running.print_stop.Goals as goal
+
+pub returns-clause-said : goal.returns-clause-said
+returns-clause-said g c =
+    stop_printed _ _ _ _ _ _ _ c.in_ok-print_text.ensures.ok c.in_ok-print_word.ensures.said c.word_of.ensures c.print_text-2.ensures.ok

@@ -1,0 +1,230 @@
+//! Performing what a command line asks for: what is printed of files and of standard input.
+
+ghost use Rattle.std.specs.Prelude.{◌≡◌, ◌+◌, ◌-◌, ◌^◌, ◌<◌, ◌≤◌, ◌↔◌, ℕ, Err, IfErr, IsErr, IsErrOf, OnErr, OnOk, length, map, string_bytes, take};
+ghost use Rattle.std.specs.Io.KnownBytes.{Appends};
+ghost use Rattle.survey_core.specs.Counted.{fault_count};
+ghost use Rattle.survey_core.specs.declared.faults.RunFault.TheVariants.{Read as reader_failed};
+ghost use Rattle.survey_core.specs.Reading.{ReadsWithin};
+ghost use Rattle.command_line.specs.Ranges.{HasSettingsInRange};
+ghost use Rattle.program.specs.Printing.{IsUnwritten, Performs, PrintsFile, PrintsFiles, PrintsInput, PrintsSurveyOf, convert_answer, lines_answer, solve_answer, stream};
+
+use crate::files::{entries_of, read_file, read_files};
+use crate::stop::Stop;
+use command_line::{Request, SurveyRequest};
+use lane_core::{Gate, MOST_GUESSES, OpenGate};
+use puzzle_text::{Format, LONGEST_COLLECTION};
+use reports::{convert, lines_report, solve_report};
+use solve_core::Pick;
+use std::io::{Read, Write};
+use std::rt::Files;
+use std::sync::Wait;
+use std::thread::Threads;
+use survey_core::{
+    Counted, Progress, ProgressGate, Settings, run_survey, survey_entries, write_text,
+};
+
+/// Prints a text and flushes.
+pub fn print_text<W: Write>(writer: &mut Counted<W>, text: &[u8]) -> Result<(), Stop>
+    requires { fault_count writer.old < 2 ^ 32 - 1 }
+    ensures ok { OnOk result (Appends (W.contents writer.old.inner) (W.contents writer.new.inner) text.now) }
+    ensures front { OnErr result ((sent : ℕ) × (sent ≤ length text.now) ×
+        Appends (W.contents writer.old.inner) (W.contents writer.new.inner) (take sent text.now)) }
+    ensures write { IfErr result (λ stop. stop ≡ Stop.Write) }
+    ensures failed { IsErr result ↔ (fault_count writer.old < fault_count writer.new) }
+    ensures sound { OnOk result (fault_count writer.new ≡ fault_count writer.old) }
+{
+    match write_text(writer, text) {
+        Ok(()) => Ok(()),
+        Err(_) => Err(Stop::Write),
+    }
+}
+
+/// Prints the survey of a collection. The gate is entered once for each entry, before it is graded.
+fn survey_input<R: Threads + Wait + Sync + AllocGlobal, I: Read, O: Write, G: Gate + Sync>(
+    rt: &R,
+    settings: &Settings,
+    input: &mut Counted<I>,
+    output: &mut Counted<O>,
+    gate: &G,
+) -> Result<(), Stop>
+    requires reading { fault_count input.old < 2 ^ 32 - 1 }
+    requires writing { fault_count output.old < 2 ^ 32 - 1 }
+    ensures answer { PrintsInput settings.now (stream I.remaining input.old input.new) result (O.contents output.old.inner)
+        (O.contents output.new.inner) }
+    ensures bound { ReadsWithin (LONGEST_COLLECTION + 1) (I.remaining input.old.inner) (I.remaining input.new.inner) }
+    ensures read { IsErrOf result (Stop.Run reader_failed) ↔ (fault_count input.old < fault_count input.new) }
+    ensures write { IsUnwritten result ↔ (fault_count output.old < fault_count output.new) }
+{
+    match run_survey(rt, rt.alloc(), input, output, settings, gate) {
+        Ok(()) => Ok(()),
+        Err(fault) => Err(Stop::Run(fault)),
+    }
+}
+
+/// Prints the survey of files. The gate is entered once for each file, before it is graded.
+fn survey_files<R: Files + Threads + Wait + Sync + AllocGlobal, O: Write, G: Gate + Sync>(
+    rt: &R,
+    settings: &Settings,
+    paths: &[String],
+    output: &mut Counted<O>,
+    gate: &G,
+) -> Result<(), Stop>
+    requires { fault_count output.old < 2 ^ 32 - 1 }
+    ensures answer { PrintsFiles settings.now (map string_bytes paths.now) result (O.contents output.old.inner)
+        (O.contents output.new.inner) }
+    ensures write { IsUnwritten result ↔ (fault_count output.old < fault_count output.new) }
+{
+    let bodies = read_files(rt, paths)?;
+    let entries = entries_of(rt.alloc(), paths, &bodies)?;
+    match survey_entries(rt, rt.alloc(), &entries, output, settings, gate) {
+        Ok(()) => Ok(()),
+        Err(fault) => Err(Stop::Run(fault)),
+    }
+}
+
+/// Prints the survey of the files that are named, or of standard input if none is.
+fn survey_through<R, I, O, G>(
+    rt: &R,
+    survey: &SurveyRequest,
+    input: &mut Counted<I>,
+    output: &mut Counted<O>,
+    gate: &G,
+) -> Result<(), Stop>
+where
+    R: Files + Threads + Wait + Sync + AllocGlobal,
+    I: Read,
+    O: Write,
+    G: Gate + Sync,
+    requires reading { fault_count input.old < 2 ^ 32 - 1 }
+    requires writing { fault_count output.old < 2 ^ 32 - 1 }
+    ensures answer { PrintsSurveyOf survey.now.settings (map string_bytes survey.now.files.items)
+        (stream I.remaining input.old input.new) result (O.contents output.old.inner) (O.contents output.new.inner) }
+    ensures write { IsUnwritten result ↔ (fault_count output.old < fault_count output.new) }
+{
+    if survey.files.is_empty() {
+        survey_input(rt, &survey.settings, input, output, gate)
+    } else {
+        survey_files(rt, &survey.settings, &survey.files, output, gate)
+    }
+}
+
+/// How many files are surveyed, if it is files.
+fn files_of(survey: &SurveyRequest) -> Option<u32> {
+    if survey.files.is_empty() {
+        return None;
+    }
+    u32::try_from(survey.files.len()).ok()
+}
+
+/// Prints a survey, and tells its progress if that is asked for.
+fn survey<R, I, O, P>(
+    rt: &R,
+    survey: &SurveyRequest,
+    input: &mut Counted<I>,
+    output: &mut Counted<O>,
+    progress: P,
+) -> Result<(), Stop>
+where
+    R: Files + Threads + Wait + Sync + AllocGlobal,
+    I: Read,
+    O: Write,
+    P: Write + Drop + Send,
+    requires reading { fault_count input.old < 2 ^ 32 - 1 }
+    requires writing { fault_count output.old < 2 ^ 32 - 1 }
+    ensures answer { PrintsSurveyOf survey.now.settings (map string_bytes survey.now.files.items)
+        (stream I.remaining input.old input.new) result (O.contents output.old.inner) (O.contents output.new.inner) }
+    ensures write { IsUnwritten result ↔ (fault_count output.old < fault_count output.new) }
+{
+    if !survey.progress {
+        return survey_through(rt, survey, input, output, &OpenGate);
+    }
+    let gate = ProgressGate::new();
+    let progress = Progress::new(rt.alloc(), progress, files_of(survey))?;
+    progress.tell_while(
+        rt,
+        &gate,
+        &mut ||
+            requires reading { fault_count input.now < 2 ^ 32 - 1 }
+            requires writing { fault_count output.now < 2 ^ 32 - 1 }
+        { survey_through(rt, survey, input, output, &gate) },
+    )
+}
+
+/// Prints the entry of a file with its solutions.
+fn solve_file<R: Files + AllocGlobal, O: Write>(
+    rt: &R,
+    guesses: u32,
+    pick: Pick,
+    path: &str,
+    output: &mut Counted<O>,
+) -> Result<(), Stop>
+    requires guesses { guesses ≤ MOST_GUESSES }
+    requires writing { fault_count output.old < 2 ^ 32 - 1 }
+    ensures answer { PrintsFile (solve_answer guesses pick path.now) result (O.contents output.old.inner) (O.contents output.new.inner) }
+    ensures write { IsUnwritten result ↔ (fault_count output.old < fault_count output.new) }
+{
+    let body = read_file(rt, path)?;
+    let report = solve_report(rt.alloc(), path.as_bytes(), &body, guesses, pick)?;
+    print_text(output, &report)
+}
+
+/// Prints a file's puzzle in another format.
+fn convert_file<R: Files + AllocGlobal, O: Write>(
+    rt: &R,
+    format: Format,
+    path: &str,
+    output: &mut Counted<O>,
+) -> Result<(), Stop>
+    requires { fault_count output.old < 2 ^ 32 - 1 }
+    ensures answer { PrintsFile (convert_answer format path.now) result (O.contents output.old.inner) (O.contents output.new.inner) }
+    ensures write { IsUnwritten result ↔ (fault_count output.old < fault_count output.new) }
+{
+    let body = read_file(rt, path)?;
+    let text = convert(rt.alloc(), path.as_bytes(), &body, format)?;
+    print_text(output, &text)
+}
+
+/// Prints the grid of a file's puzzle as far as line logic gets.
+fn close_file<R: Files + AllocGlobal, O: Write>(
+    rt: &R,
+    path: &str,
+    output: &mut Counted<O>,
+) -> Result<(), Stop>
+    requires { fault_count output.old < 2 ^ 32 - 1 }
+    ensures answer { PrintsFile (lines_answer path.now) result (O.contents output.old.inner) (O.contents output.new.inner) }
+    ensures write { IsUnwritten result ↔ (fault_count output.old < fault_count output.new) }
+{
+    let body = read_file(rt, path)?;
+    let report = lines_report(rt.alloc(), path.as_bytes(), &body)?;
+    print_text(output, &report)
+}
+
+/// Prints what is asked for. A survey's progress is told on `progress`.
+pub fn perform<R, I, O, P>(
+    rt: &R,
+    request: &Request,
+    input: &mut Counted<I>,
+    output: &mut Counted<O>,
+    progress: P,
+) -> Result<(), Stop>
+where
+    R: Files + Threads + Wait + Sync + AllocGlobal,
+    I: Read,
+    O: Write,
+    P: Write + Drop + Send,
+    requires range { HasSettingsInRange request.now }
+    requires reading { fault_count input.old < 2 ^ 32 - 1 }
+    requires writing { fault_count output.old < 2 ^ 32 - 1 }
+    ensures answer { Performs request.now (stream I.remaining input.old input.new) result (O.contents output.old.inner)
+        (O.contents output.new.inner) }
+    ensures write { IsUnwritten result ↔ (fault_count output.old < fault_count output.new) }
+{
+    match request {
+        Request::Survey(asked) => survey(rt, asked, input, output, progress),
+        Request::Solve(guesses, pick, path) => {
+            solve_file(rt, *guesses, *pick, path.as_str(), output)
+        }
+        Request::Convert(format, path) => convert_file(rt, *format, path.as_str(), output),
+        Request::Lines(path) => close_file(rt, path.as_str(), output),
+    }
+}

@@ -1,0 +1,200 @@
+//! What the program does with its words and its standard streams, and how it ends.
+
+ghost use Rattle.std.specs.Prelude.{◌≡◌, ◌≢◌, ◌-◌, ◌^◌, ◌<◌, ◌≤◌, ◌↔◌, ℕ, List, IfOk, IfSome, OnErr, OnOk, Ok, Result, map, string_bytes};
+ghost use Rattle.std.specs.IoError.{error_kind};
+ghost use Rattle.std.specs.Io.KnownBytes.{Appends};
+ghost use Rattle.clap.specs.Words.{kind_of};
+ghost use Rattle.puzzle_text.specs.Words.{word_text};
+ghost use Rattle.survey_core.specs.Counted.{fault_count};
+ghost use Rattle.command_line.specs.Ranges.{HasSettingsInRange};
+ghost use Rattle.program.specs.Printing.{IsUnwritten, Prints, stream};
+ghost use Rattle.program.specs.Stop.{stop_line};
+ghost use Rattle.command_line.specs.Words.{WordsAsk};
+ghost use Rattle.program.specs.Ending.{EndsAfter, EndsBy, EndsByWords, Stops, refused_line};
+
+use crate::performing::{perform, print_text};
+use crate::stop::{Stop, word_of};
+use clap::Error;
+use command_line::{CommandFault, Request, parse_words};
+use itoa::Buffer;
+use puzzle_text::FaultWord;
+use std::alloc::Global;
+use std::fmt::Display;
+use std::io::{ErrorKind, Read, Write};
+use std::rt::{Env, Files};
+use std::sync::Wait;
+use std::thread::Threads;
+use std::{env, io};
+use survey_core::Counted;
+
+/// What the program prints if its words can't be read.
+const NO_TEXT: &[u8] = b"error: a word of the command line is no text\n";
+
+/// The words after the program's name.
+pub fn words_of<R: Env + AllocGlobal>(rt: &R) -> io::Result<Vec<String>> {
+    Ok(env::args(rt)?.skip(1).collect(rt.alloc())?)
+}
+
+/// Prints the word of a fault, and after a colon the number of its line, if it has one.
+fn print_word<E: Write>(errors: &mut Counted<E>, word: FaultWord) -> Result<(), Stop>
+    requires { fault_count errors.old < 2 ^ 32 - 1 }
+    ensures said { OnOk result (Appends (E.contents errors.old.inner) (E.contents errors.new.inner) (word_text word)) }
+    ensures failed { OnErr result (fault_count errors.old < fault_count errors.new) }
+    ensures sound { OnOk result (fault_count errors.new ≡ fault_count errors.old) }
+{
+    print_text(errors, word.name.as_bytes())?;
+    let Some(line) = word.line else {
+        return Ok(());
+    };
+    print_text(errors, b":")?;
+    print_text(errors, Buffer::new().format(line).as_bytes())
+}
+
+/// Prints why the program stops: `nonograde: `, the fault's word, and a line feed. It takes no memory, so the
+/// line goes out in pieces.
+fn print_stop<E: Write>(errors: &mut Counted<E>, stop: &Stop) -> Result<(), Stop>
+    requires { fault_count errors.old < 2 ^ 32 - 1 }
+    ensures said { OnOk result (Appends (E.contents errors.old.inner) (E.contents errors.new.inner) (stop_line stop.now)) }
+    ensures failed { OnErr result (fault_count errors.old < fault_count errors.new) }
+{
+    print_text(errors, b"nonograde: ")?;
+    print_word(errors, word_of(*stop))?;
+    print_text(errors, b"\n")
+}
+
+/// Prints why the program stops, and gives its status, 1.
+pub fn report_stop<E: Write>(errors: &mut Counted<E>, stop: &Stop) -> u8
+    requires { fault_count errors.old < 2 ^ 32 - 1 }
+    ensures { Stops stop.now result (stream E.contents errors.old errors.new) }
+{
+    let _ = print_stop(errors, stop);
+    1
+}
+
+/// Says that the words can't be read, and gives the program's status: 1 if a growth was refused, else 2.
+pub fn refuse_words<E: Write>(errors: &mut Counted<E>, error: &io::Error) -> u8
+    requires { fault_count errors.old < 2 ^ 32 - 1 }
+    ensures memory { error_kind error.now ≡ ErrorKind.OutOfMemory → result ≡ 1 }
+    ensures other { error_kind error.now ≢ ErrorKind.OutOfMemory → result ≡ 2 }
+    ensures said { fault_count errors.new ≡ fault_count errors.old
+        → Appends (E.contents errors.old.inner) (E.contents errors.new.inner) (refused_line result) }
+{
+    if error.kind() == ErrorKind::OutOfMemory {
+        return report_stop(errors, &Stop::NoMemory);
+    }
+    let _ = print_text(errors, NO_TEXT);
+    2
+}
+
+/// Prints what is displayed of a value, and flushes.
+fn print_shown<T: Display, O: Write>(
+    alloc: Global,
+    shown: &T,
+    output: &mut Counted<O>,
+) -> Result<(), Stop>
+    requires { fault_count output.old < 2 ^ 32 - 1 }
+    ensures answer { (text : List ℕ) × IfSome (T.output shown.now) (λ known. text ≡ known)
+        × Prints (Ok text) result (O.contents output.old.inner) (O.contents output.new.inner) }
+    ensures write { IsUnwritten result ↔ (fault_count output.old < fault_count output.new) }
+{
+    match shown.to_string(alloc) {
+        Ok(text) => print_text(output, text.as_bytes()),
+        Err(_) => Err(Stop::NoMemory),
+    }
+}
+
+/// Ends the program with status 0, or at a stop, which it reports.
+fn end_after<E: Write>(errors: &mut Counted<E>, done: Result<(), Stop>) -> u8
+    requires { fault_count errors.old < 2 ^ 32 - 1 }
+    ensures { EndsAfter done result (stream E.contents errors.old errors.new) }
+{
+    match done {
+        Ok(()) => 0,
+        Err(stop) => report_stop(errors, &stop),
+    }
+}
+
+/// Prints what `clap` says of the words, help and the version on the output and all else on the stream for
+/// faults, and gives the program's status.
+fn tell_words<O: Write, E: Write>(
+    alloc: Global,
+    error: &Error,
+    output: &mut Counted<O>,
+    errors: &mut Counted<E>,
+) -> u8
+    requires writing { fault_count output.old < 2 ^ 32 - 1 }
+    requires telling { fault_count errors.old < 2 ^ 32 - 1 }
+    ensures status { result ≤ 2 }
+    ensures ends { EndsByWords (kind_of error.now) result (stream O.contents output.old output.new)
+        (stream E.contents errors.old errors.new) }
+{
+    if error.use_stderr() {
+        let _ = write!(errors.inner, "{error}");
+        return 2;
+    }
+    let done = print_shown(alloc, error, output);
+    end_after(errors, done)
+}
+
+/// Performs what is asked for, or tells why the words are refused, and gives the program's status.
+fn finish<R, I, O, E, P>(
+    rt: &R,
+    asked: Result<Request, CommandFault>,
+    input: &mut Counted<I>,
+    output: &mut Counted<O>,
+    errors: &mut Counted<E>,
+    progress: P,
+) -> u8
+where
+    R: Files + Threads + Wait + Sync + AllocGlobal,
+    I: Read,
+    O: Write,
+    E: Write,
+    P: Write + Drop + Send,
+    requires range { IfOk asked HasSettingsInRange }
+    requires reading { fault_count input.old < 2 ^ 32 - 1 }
+    requires writing { fault_count output.old < 2 ^ 32 - 1 }
+    requires telling { fault_count errors.old < 2 ^ 32 - 1 }
+    ensures status { result ≤ 2 }
+    ensures ends { EndsBy asked (stream I.remaining input.old input.new) result (stream O.contents output.old output.new)
+        (stream E.contents errors.old errors.new) }
+{
+    match asked {
+        Ok(request) => {
+            let done = perform(rt, &request, input, output, progress);
+            end_after(errors, done)
+        }
+        Err(CommandFault::NoMemory) => report_stop(errors, &Stop::NoMemory),
+        Err(CommandFault::Words(error)) => tell_words(rt.alloc(), &error, output, errors),
+    }
+}
+
+/// Runs the words that follow the program's name, and gives the program's status: 0 if it printed what was
+/// asked for, 1 at a fault, 2 if the words are refused.
+///
+/// A survey's progress is told on `progress`, if that is asked for: a second handle of the stream for faults.
+pub fn run<R, I, O, E, P>(
+    rt: &R,
+    words: Vec<String>,
+    input: &mut Counted<I>,
+    output: &mut Counted<O>,
+    errors: &mut Counted<E>,
+    progress: P,
+) -> u8
+where
+    R: Files + Threads + Wait + Sync + AllocGlobal,
+    I: Read,
+    O: Write,
+    E: Write,
+    P: Write + Drop + Send,
+    requires reading { fault_count input.old < 2 ^ 32 - 1 }
+    requires writing { fault_count output.old < 2 ^ 32 - 1 }
+    requires telling { fault_count errors.old < 2 ^ 32 - 1 }
+    ensures status { result ≤ 2 }
+    ensures ends { (asked : Result Request CommandFault) × IfOk asked (WordsAsk (map string_bytes words.items))
+        × EndsBy asked (stream I.remaining input.old input.new) result (stream O.contents output.old output.new)
+        (stream E.contents errors.old errors.new) }
+{
+    let asked = parse_words(rt.alloc(), words);
+    finish(rt, asked, input, output, errors, progress)
+}

@@ -1,0 +1,84 @@
+//! What the program says if it stops at a fault.
+
+ghost use Rattle.std.specs.Prelude.{◌≡◌};
+ghost use Rattle.puzzle_text.specs.Words.{word_text};
+ghost use Rattle.program.specs.Stop.{run_word, stop_of_convert, stop_word};
+ghost use Rattle.program.specs.declared.stop.Stop.TheVariants.{Entry as entry_stop, NoMemory as memory_stop};
+
+use grid_core::NoMemory;
+use puzzle_text::{EntryFault, FaultWord};
+use reports::ConvertFault;
+use survey_core::RunFault;
+
+/// Why the program stops.
+#[derive(Clone, Copy, Debug, PartialEq, Eq)]
+pub enum Stop {
+    /// A puzzle's text is refused.
+    Entry(EntryFault),
+    /// A survey is not written, or not written whole.
+    Run(RunFault),
+    /// A puzzle's text in `.nin` would be read with the sizes the other way round.
+    Ambiguous,
+    /// A file can't be read.
+    Read,
+    /// Standard output can't be written.
+    Write,
+    /// A growth of memory was refused.
+    NoMemory,
+}
+
+impl From<NoMemory> for Stop {
+    ghost from_gives = { λ _ stop. stop ≡ memory_stop };
+
+    fn from(_refused: NoMemory) -> Stop {
+        Stop::NoMemory
+    }
+}
+
+impl From<EntryFault> for Stop {
+    ghost from_gives = { λ fault stop. stop ≡ entry_stop fault };
+
+    fn from(fault: EntryFault) -> Stop {
+        Stop::Entry(fault)
+    }
+}
+
+impl From<ConvertFault> for Stop {
+    ghost from_gives = { λ fault stop. stop ≡ stop_of_convert fault };
+
+    fn from(fault: ConvertFault) -> Stop {
+        match fault {
+            ConvertFault::Entry(fault) => Stop::Entry(fault),
+            ConvertFault::Ambiguous => Stop::Ambiguous,
+            ConvertFault::NoMemory => Stop::NoMemory,
+        }
+    }
+}
+
+/// The word of a survey's fault: that of the collection's fault, if it is one. A failed writing has no
+/// number.
+fn word_of_run(fault: RunFault) -> FaultWord
+    ensures { word_text result ≡ run_word fault }
+{
+    match fault {
+        RunFault::Read => FaultWord::alone("Read"),
+        RunFault::Collection(inner) => inner.word(),
+        RunFault::Thread => FaultWord::alone("Thread"),
+        RunFault::NoMemory => FaultWord::alone("NoMemory"),
+        RunFault::Write(_) => FaultWord::alone("Write"),
+    }
+}
+
+/// The word of a fault.
+pub fn word_of(stop: Stop) -> FaultWord
+    ensures { word_text result ≡ stop_word stop }
+{
+    match stop {
+        Stop::Entry(fault) => fault.word(),
+        Stop::Run(fault) => word_of_run(fault),
+        Stop::Ambiguous => FaultWord::alone("Ambiguous"),
+        Stop::Read => FaultWord::alone("Read"),
+        Stop::Write => FaultWord::alone("Write"),
+        Stop::NoMemory => FaultWord::alone("NoMemory"),
+    }
+}
