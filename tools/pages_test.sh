@@ -114,8 +114,13 @@ ask_for_examples() {
     count "the table $2" "$([ $asked -gt 3 ] || echo "it has $asked examples")"
 }
 
-# Compares the longer examples of docs/formats.md with a puzzle, and with what the program prints.
+# Compares the longer examples of docs/formats.md with a puzzle, and with what the program prints,
+# and each puzzle with what is written of it.
 compare_examples() {
+    local puzzle
+    for puzzle in puzzles/*.{non,mk,nin}; do
+        same "$puzzle as it is written" "$(cat "$puzzle")" "$(nonograde convert --to "${puzzle##*.}" "$puzzle")"
+    done
     same 'the .non of formats.md' "$(cat puzzles/demo.non)" \
         "$(sed -n '/^    # a comment/,/^    goal/p' docs/formats.md | sed '1d; s/^    //')"
     same 'the collection of formats.md' "$(sed -n 's/^    \([12] 1x1\|entries 2\)/\1/p' docs/formats.md)" \

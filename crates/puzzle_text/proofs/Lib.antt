@@ -23,3 +23,6 @@ pub mod PlacedWalk
 pub mod SectionsWalk
 pub mod StrayWalk
 pub mod FieldsLemmas
+pub mod UsualLines
+pub mod UsualParts
+pub mod UsualReads

@@ -56,7 +56,7 @@ none_before text i h before k d lt =
     let low : k < i = omega (arith, length-take-le i text) in
     ap is_separator (get_or_default (take i text) k d 0 lt ∙ get_or-take i text k 0 low) ∙ before k low
 
-keeps_piece : (piece : List ℕ) (parts : List (List ℕ)) → 0 < length piece
+pub keeps_piece : (piece : List ℕ) (parts : List (List ℕ)) → 0 < length piece
     → filter (λ part. not (is_empty part)) (piece ∷ parts) ≡ piece ∷ filter (λ part. not (is_empty part)) parts
 keeps_piece piece parts h =
     let others = filter (λ part. not (is_empty part)) parts in
@@ -116,7 +116,7 @@ clear_within text i within clear = elim (cases_Bool (ltb (end_of text) i)) [
   | inr at ↦ omega (arith, ltb-false _ _ at)
 ]
 
-digit_clear : (byte : ℕ) → is_ascii_digit byte ≡ true → is_separator byte ≡ false
+pub digit_clear : (byte : ℕ) → is_ascii_digit byte ≡ true → is_separator byte ≡ false
 digit_clear byte digit = grind (arith, nat_tests)
 
 digits_clear : (text : List ℕ) (i : ℕ) → i ≤ length text → list_all is_ascii_digit (take i text) ≡ true → Clear text i
@@ -125,7 +125,7 @@ digits_clear text i within digits k low =
     digit_clear (get_or text k 0)
     (ap is_ascii_digit (sym (get_or-take i text k 0 low)) ∙ AllPass-from_list_all is_ascii_digit (take i text) digits k 0 at)
 
-number_is : (limit : ℕ) (piece : List ℕ) → 0 < length piece → list_all is_ascii_digit piece ≡ true → digits_value 10 piece ≤ limit
+pub number_is : (limit : ℕ) (piece : List ℕ) → 0 < length piece → list_all is_ascii_digit piece ≡ true → digits_value 10 piece ≤ limit
     → number_within limit piece ≡ Some (digits_value 10 piece)
 number_is limit piece some digits low =
     let full : is_empty piece ≡ false = ne_eqb (length piece) 0 (λ e. omega arith) in

@@ -30,7 +30,7 @@ raw_lines-feed (byte ∷ bytes) rest inked =
     cond-false (eqb byte 10) ((byte ∷ []) ∷ later) (onto_first byte later) inked.0 in
     one ∙ ap (onto_first byte) (raw_lines-feed bytes rest inked.1)
 
-strip_last_is : (byte : ℕ) (text : List ℕ) → strip_last byte (text ++ byte ∷ []) ≡ text
+pub strip_last_is : (byte : ℕ) (text : List ℕ) → strip_last byte (text ++ byte ∷ []) ≡ text
 strip_last_is byte text =
     let n : length text ≡ length (text ++ byte ∷ []) - 1 = omega (arith, length-append text (byte ∷ [])) in
     rw (
@@ -39,7 +39,7 @@ strip_last_is byte text =
       take_at text (byte ∷ []) (length (text ++ byte ∷ []) - 1) n,
     ) refl
 
-strip_last_other : (byte : ℕ) (text : List ℕ) → byte < 33 → 33 ≤ get_or text (length text - 1) 0 → strip_last byte text ≡ text
+pub strip_last_other : (byte : ℕ) (text : List ℕ) → byte < 33 → 33 ≤ get_or text (length text - 1) 0 → strip_last byte text ≡ text
 strip_last_other byte text low last = rw (ne_eqb (get_or text (length text - 1) 0) byte (λ e. omega arith)) refl
 
 is_blank_false : (byte : ℕ) → 33 ≤ byte → is_blank byte ≡ false
@@ -57,7 +57,7 @@ trim_end_is text some h =
     let high : 33 ≤ get_or (reverse text) 0 0 = rw last h in
     ap reverse (trim_start_is (reverse text) high) ∙ reverse-reverse text
 
-some_byte : (text : List ℕ) → 33 ≤ get_or text 0 0 → 0 < length text
+pub some_byte : (text : List ℕ) → 33 ≤ get_or text 0 0 → 0 < length text
 some_byte [] h = absurd (omega arith)
 some_byte (byte ∷ bytes) h = omega arith
 
@@ -82,7 +82,7 @@ kept_all : (texts : List (List ℕ)) → AllByRecursion IsTidy texts → AllByRe
 kept_all [] h = tt
 kept_all (text ∷ texts) h = (kept_tidy text h.0, kept_all texts h.1)
 
-line_kept : (text : List ℕ) → IsKept text → trim (without_ending (with_feed text)) ≡ text
+pub line_kept : (text : List ℕ) → IsKept text → trim (without_ending (with_feed text)) ≡ text
 line_kept text kept = ap (λ (t : List ℕ). trim (strip_last 13 t)) (strip_last_is 10 text) ∙ ap trim kept.no_return ∙ kept.trimmed
 
 -- texts as lines, numbered from here

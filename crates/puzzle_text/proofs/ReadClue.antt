@@ -110,7 +110,7 @@ pub words : (limit : ℕ) (ns : List ℕ) → limit < 2 ^ 64 → AllByRecursion 
 words limit [] wide h = tt
 words limit (n ∷ ns) wide h = (omega (arith, h.0), words limit ns wide h.1)
 
-clue_is : (limit : ℕ) (ns : List ℕ) → is_clue limit ns ≡ true → clue_of_numbers limit ns ≡ Some ns
+pub clue_is : (limit : ℕ) (ns : List ℕ) → is_clue limit ns ≡ true → clue_of_numbers limit ns ≡ Some ns
 clue_is limit [] h = refl
 clue_is limit (zero ∷ []) h = absurd cc
 clue_is limit (zero ∷ m ∷ ns) h = cond-true (is_clue limit (zero ∷ m ∷ ns)) (Some (zero ∷ m ∷ ns)) None h

@@ -102,7 +102,7 @@ pub reading_again : (p : Nonogram) (limit : ℕ) → IsNonogramWithin limit p
     → reading p.width p.height (p.rows ++ p.columns) ≡ plain p.width p.height p.rows p.columns
 reading_again p limit lawful = rw (take_at p.rows p.columns p.height lawful.clues.0, drop_at p.rows p.columns p.height lawful.clues.0) refl
 
-abbrev after_parts : ℕ → ℕ × ℕ → List Line × List Line → Result Nonogram TextFault
+abbrev pub after_parts : ℕ → ℕ × ℕ → List Line × List Line → Result Nonogram TextFault
 after_parts limit sizes parts =
     or_fault BadCount
     (or_else (layout sizes.1 sizes.0 parts.0 (before_hash parts.1)) (layout sizes.0 sizes.1 parts.0 (before_hash parts.1)))

@@ -36,7 +36,7 @@ use Rattle.puzzle_text.proofs.GreaterLimit.{with_goal, with_clues, with_columns,
 use Rattle.puzzle_text.proofs.NonText.{field_line, negated, one, size_text, goal_text, goal_gap, part, fields, row_part, column_part, goal_part, after_rows, after_fields, texts_non, lines_non, length_non}
 
 -- the keyword that a line's text begins with, and what follows it
-abbrev word_at : List ℕ → List ℕ
+abbrev pub word_at : List ℕ → List ℕ
 word_at text = str_to_ascii_lowercase (take_while is_ascii_alphabetic text)
 
 abbrev rest_of : List ℕ → List ℕ
@@ -47,9 +47,9 @@ texts_with word texts = filter (λ text. bytes_eq (word_at text) word) texts
 
 -- ---- lines that are neither keyword lines nor comments
 
-record IsContent (text : List ℕ) : Type 0 where
-  word : word_at text ≡ []
-  hash : eqb (get_or text 0 0) 35 ≡ false
+pub record IsContent (text : List ℕ) : Type 0 where
+  pub word : word_at text ≡ []
+  pub hash : eqb (get_or text 0 0) 35 ≡ false
 
 content_blank : IsContent []
 content_blank = record { word = refl; hash = refl }
@@ -57,7 +57,7 @@ content_blank = record { word = refl; hash = refl }
 not_letter : (c : ℕ) → 48 ≤ c → c ≤ 57 → is_ascii_alphabetic c ≡ false
 not_letter c low high = grind (arith, nat_tests)
 
-content_digit : (text : List ℕ) → 48 ≤ get_or text 0 0 → get_or text 0 0 ≤ 57 → IsContent text
+pub content_digit : (text : List ℕ) → 48 ≤ get_or text 0 0 → get_or text 0 0 ≤ 57 → IsContent text
 content_digit [] low high = content_blank
 content_digit (c ∷ cs) low high = record {
   word = ap (λ (n : ℕ). str_to_ascii_lowercase (take n (c ∷ cs)))
@@ -521,13 +521,13 @@ goal_again count (Some cells) lines is lawful =
 abbrev sized : ℕ → ℕ → Result (ℕ × ℕ) TextFault
 sized width height = Ok (width, height)
 
-abbrev clued : List (List ℕ) → List (List ℕ) → Result (List (List ℕ) × List (List ℕ)) TextFault
+abbrev pub clued : List (List ℕ) → List (List ℕ) → Result (List (List ℕ) × List (List ℕ)) TextFault
 clued rows columns = Ok (rows, columns)
 
 abbrev after_columns : List (List ℕ) → List (List ℕ) → Result (List (List ℕ) × List (List ℕ)) TextFault
 after_columns columns rows = Ok (rows, columns)
 
-both_said : (limit : ℕ) (order : Bool) (a b : List Line) (x y : List (List ℕ)) → clues_of limit a ≡ Ok x → clues_of limit b ≡ Ok y
+pub both_said : (limit : ℕ) (order : Bool) (a b : List Line) (x y : List (List ℕ)) → clues_of limit a ≡ Ok x → clues_of limit b ≡ Ok y
     → both_clues limit order a b ≡ clued x y
 both_said limit true a b x y e f =
     ap (λ (r : Result (List (List ℕ)) TextFault). r >>= λ rows. clues_of limit b >>= clued rows) e

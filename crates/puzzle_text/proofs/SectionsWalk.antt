@@ -126,7 +126,8 @@ shown_from : (lines : List KeptLine) (i : ℕ) (d : KeptLine) → i < length lin
     → map shown_line (drop i lines) ≡ shown_line (get_or lines i d) ∷ map shown_line (drop (i + 1) lines)
 shown_from lines i d h = ap (map shown_line) (drop_more lines i d h)
 
-none_is : (own word : List ℕ) (b : Bool) → str_to_ascii_lowercase own ≡ word → eqb (length own) 0 ≡ b → is_empty word ≡ b
+-- whether a keyword has no letters is told by the letters as they stand
+pub none_is : (own word : List ℕ) (b : Bool) → str_to_ascii_lowercase own ≡ word → eqb (length own) 0 ≡ b → is_empty word ≡ b
 none_is own word b e none = ap is_empty (sym e) ∙ ap (λ (n : ℕ). eqb n 0) (length-map own to_ascii_lowercase) ∙ none
 
 module _ (lines : List KeptLine) (i : ℕ) (d : KeptLine) (word own : List ℕ) (above whole : Sections) (h : i < length lines)

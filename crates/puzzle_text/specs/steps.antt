@@ -6,3 +6,4 @@ pub mod Non
 pub mod Places
 pub mod Sections
 pub mod Shown
+pub mod Usual

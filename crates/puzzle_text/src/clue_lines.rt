@@ -58,7 +58,7 @@ fn clue_of(alloc: Global, text: &[u8], numbers: &mut Vec<u16>) -> Result<Option<
 }
 
 /// An empty list with room for `count` clues.
-fn room_for(alloc: Global, count: usize) -> Result<Vec<Clue>, NoMemory>
+pub(crate) fn room_for(alloc: Global, count: usize) -> Result<Vec<Clue>, NoMemory>
     ensures items { IfOk result (λ clues. clues.items ≡ []) }
     ensures len { IfOk result (λ clues. vec_len clues ≡ 0) }
     ensures capacity { IfOk result (λ clues. vec_capacity clues ≡ count) }

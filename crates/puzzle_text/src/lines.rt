@@ -94,7 +94,7 @@ pub(crate) fn without_ending(raw: &[u8]) -> &[u8]
 }
 
 /// The first line of a text, without its ending, and what follows.
-fn next_line(bytes: &[u8]) -> (&[u8], &[u8])
+pub(crate) fn next_line(bytes: &[u8]) -> (&[u8], &[u8])
     requires { 0 < length bytes.now }
     ensures first { (number : ℕ) → numbered_from number (raw_lines bytes.now)
         ≡ record { number = number; text = trim result.0.now } ∷ numbered_from (number + 1) (raw_lines result.1.now) }

@@ -118,10 +118,8 @@ fn mk_of(alloc: Global, lines: &[Line<'_>]) -> Result<Puzzle, TextFault>
     Err(TextFault::BadCount)
 }
 
-/// Reads a puzzle in the format .mk: a line with the two sizes, the clue lines of the rows,
-/// a line that begins with `#`, those of the columns. The first size is the height,
-/// unless only the other order has clue lines in both sections.
-pub fn read_mk(alloc: Global, bytes: &[u8]) -> Result<Puzzle, TextFault>
+/// What `read_mk` reads, line by line, whatever form the text has.
+pub fn plain_mk(alloc: Global, bytes: &[u8]) -> Result<Puzzle, TextFault>
     ensures answer { Gives (λ p. p) result (read_mk LONGEST_SIDE bytes.now) }
     // Want of memory never stands in place of this fault.
     ensures too_long { LONGEST_PUZZLE < length bytes.now → result ≡ Err TextFault.TooLong }

@@ -27,10 +27,8 @@ fn nin_of(alloc: Global, lines: &[Line<'_>]) -> Result<Puzzle, TextFault>
     Ok(likelier(a, b, clues)?)
 }
 
-/// Reads a puzzle in the format .nin: a line with the two sizes, then the clue lines of the rows and
-/// of the columns. The first size is the width, unless only the other order lets each clue fit its line
-/// and gives rows and columns the same sum.
-pub fn read_nin(alloc: Global, bytes: &[u8]) -> Result<Puzzle, TextFault>
+/// What `read_nin` reads, line by line, whatever form the text has.
+pub fn plain_nin(alloc: Global, bytes: &[u8]) -> Result<Puzzle, TextFault>
     ensures answer { Gives (λ p. p) result (read_nin LONGEST_SIDE bytes.now) }
     // Want of memory never stands in place of this fault.
     ensures too_long { LONGEST_PUZZLE < length bytes.now → result ≡ Err TextFault.TooLong }

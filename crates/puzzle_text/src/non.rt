@@ -78,7 +78,10 @@ fn repeated(lines: &[KeywordLine<'_>]) -> Option<u32>
 
 /// Checks that no line is out of place, no text is too long, and no keyword that may stand once only is
 /// repeated.
-fn check_lines(keyword_lines: &[KeywordLine<'_>], stray: Option<u32>) -> Result<(), TextFault>
+pub(crate) fn check_lines(
+    keyword_lines: &[KeywordLine<'_>],
+    stray: Option<u32>,
+) -> Result<(), TextFault>
     requires { HaveNoFeed (map shown_keyword keyword_lines.now) }
     ensures answer { Gives (λ done. done) result (check_lines stray (map shown_keyword keyword_lines.now)) }
     ensures texts { OnOk result (IsDescription (texts_of (map shown_keyword keyword_lines.now))) }
@@ -93,7 +96,7 @@ fn check_lines(keyword_lines: &[KeywordLine<'_>], stray: Option<u32>) -> Result<
 }
 
 /// The width and the height.
-fn sizes_of(lines: &[KeywordLine<'_>]) -> Result<(u16, u16), TextFault>
+pub(crate) fn sizes_of(lines: &[KeywordLine<'_>]) -> Result<(u16, u16), TextFault>
     ensures sizes { Gives (λ sizes. sizes) result (sizes_of LONGEST_SIDE (map shown_keyword lines.now)) }
     ensures range { IfOk result (λ sizes. IsSize sizes.0 sizes.1) }
 {
@@ -107,7 +110,7 @@ fn sizes_of(lines: &[KeywordLine<'_>]) -> Result<(u16, u16), TextFault>
 }
 
 /// Whether the rows section stands before the columns section.
-fn rows_first(lines: &[KeywordLine<'_>]) -> Result<bool, TextFault>
+pub(crate) fn rows_first(lines: &[KeywordLine<'_>]) -> Result<bool, TextFault>
     ensures { Gives (λ first. first) result (rows_first (map shown_keyword lines.now)) }
 {
     let Some(rows) = nth_with(b"rows", 0, lines) else {
@@ -149,9 +152,8 @@ fn non_of(alloc: Global, lines: &[Line<'_>]) -> Result<Puzzle, TextFault>
     puzzle_said(alloc, &keyword_lines, &sections)
 }
 
-/// Reads a puzzle in the format .non: keyword lines for the texts, the sizes and the goal,
-/// and a section of clue lines each under `rows` and `columns`.
-pub fn read_non(alloc: Global, bytes: &[u8]) -> Result<Puzzle, TextFault>
+/// What `read_non` reads, line by line, whatever form the text has.
+pub fn plain_non(alloc: Global, bytes: &[u8]) -> Result<Puzzle, TextFault>
     ensures answer { Gives (λ p. p) result (read_non LONGEST_SIDE bytes.now) }
     // Want of memory never stands in place of this fault.
     ensures too_long { LONGEST_PUZZLE < length bytes.now → result ≡ Err TextFault.TooLong }

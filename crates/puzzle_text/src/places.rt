@@ -33,7 +33,7 @@ pub(crate) struct Sections<'a> {
 }
 
 /// Which section a keyword opens.
-fn opened_by(word: &[u8]) -> Under
+pub(crate) fn opened_by(word: &[u8]) -> Under
     ensures { IsUnder (str_to_ascii_lowercase word.now) result }
 {
     if same_word(word, b"rows") {

@@ -99,6 +99,26 @@ fn nin_is_read_or_refused(rt: HostRuntime) -> Result<(), Fail> {
     Ok(())
 }
 
+/// Texts in their usual form, each with a clue of more than eight numbers.
+const USUAL_NON: &[u8] =
+    b"title \"a\"\nby \"b\"\nwidth 2\nheight 2\n\nrows\n1\n1,1,1,1,1,1,1,1,1,1\n\ncolumns\n2\n1\n\ngoal \"1010\"\n";
+
+const USUAL_MK: &[u8] = b"2 1\n1\n1 1 1 1 1 1 1 1 1 1 1 1 1 1 1 1 1 1\n#\n2\n";
+
+const USUAL_NIN: &[u8] = b"2 1\n1\n1 2 3 4 5 6 7 8 9\n1\n";
+
+/// A growth for each list: the clues of the rows and of the columns, those of .nin first in one, the numbers of
+/// the long clue, and in .non the keyword lines, two texts and the goal.
+#[test]
+fn usual_texts_grow_by_lists(rt: HostRuntime) -> Result<(), Fail> {
+    let alloc = rt.alloc();
+    let non = sweep_non(alloc, USUAL_NON)?;
+    let mk = sweep_mk(alloc, USUAL_MK)?;
+    let nin = sweep_nin(alloc, USUAL_NIN)?;
+    assert!(rt; (non, mk, nin) == (0, 0, 0) || (non, mk, nin) == (7, 3, 3));
+    Ok(())
+}
+
 /// What `read_entry` told, of an entry in .mk.
 fn told_of_entry(answer: Result<Puzzle, EntryFault>, slow: &Result<Said<'_>, TextFault>) -> Told {
     match answer {

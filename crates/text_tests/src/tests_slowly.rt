@@ -1,12 +1,13 @@
-//! Each reader's answer is that of its slow reader: on the fronts of five texts, on these with one byte
-//! replaced by each other one or with one put in, on a front of one with an end of one, and on random texts.
+//! Each reader's answer, and that of the plain one, is that of its slow reader: on the fronts of five texts, on
+//! these with one byte replaced by each other one or with one put in, on a front of one with an end of one, and
+//! on random texts.
 
 use crate::tests::DEMO;
 use crate::tests_slow::agree;
 use crate::tests_slow_mk::slow_mk;
 use crate::tests_slow_nin::slow_nin;
 use crate::tests_slow_non::slow_non;
-use puzzle_text::{read_mk, read_nin, read_non};
+use puzzle_text::*;
 use std::alloc::{AllocError, Global};
 use std::process::Abort;
 use std::test::Fail;
@@ -21,14 +22,21 @@ const TEXTS: [&[u8]; 5] = [
     b"2 1\n1\n1\n2\n",
 ];
 
-/// Whether the three readers answer what the slow ones answer.
+/// Whether the readers of the three formats answer what the slow ones answer, and the plain ones too: also of a
+/// text that a quick one takes, so that its reader doesn't ask the plain one.
 fn all_agree(alloc: Global, text: &[u8]) -> bool {
-    agree(&read_non(alloc, text), &slow_non(alloc, text))
-        && agree(&read_mk(alloc, text), &slow_mk(alloc, text))
-        && agree(&read_nin(alloc, text), &slow_nin(alloc, text))
+    let non = slow_non(alloc, text);
+    let mk = slow_mk(alloc, text);
+    let nin = slow_nin(alloc, text);
+    agree(&read_non(alloc, text), &non)
+        && agree(&read_mk(alloc, text), &mk)
+        && agree(&read_nin(alloc, text), &nin)
+        && (quick_non(alloc, text).is_none() || agree(&plain_non(alloc, text), &non))
+        && (quick_mk(alloc, text).is_none() || agree(&plain_mk(alloc, text), &mk))
+        && (quick_nin(alloc, text).is_none() || agree(&plain_nin(alloc, text), &nin))
 }
 
-/// Asserts that the three readers answer what the slow ones answer.
+/// Asserts that they do.
 fn assert_agree(rt: &impl Abort, alloc: Global, text: &[u8]) {
     assert!(rt; all_agree(alloc, text), "on {text:?}");
 }
@@ -142,9 +150,14 @@ const BYTES: [u8; 24] = *b"012359 \t,\r\n\n#\"@-wrcgRx\0\xff";
 
 /// A generator of pseudorandom numbers.
 #[derive(Drop)]
-struct Draws(u64);
+pub(crate) struct Draws(pub(crate) u64);
 
 impl Draws {
+    /// A number below `bound`, or 0.
+    pub(crate) fn draw_below(&mut self, bound: u16) -> u16 {
+        (self.draw() % u64::from(bound.max(1))) as u16
+    }
+
     fn draw(&mut self) -> u64 {
         self.0 = self
             .0

@@ -1,0 +1,27 @@
+-- `quick_non`: what the parts of the text say, the text says.
+use Rattle.std.proofs.Common.{Ok, arith, map, subst, sym, ◌≡◌}
+use Rattle.std.specs.Prelude.{IfSome}
+use Rattle.grid_core.specs.declared.limits.TheConstants.{LONGEST_SIDE}
+use Rattle.grid_core.specs.Nonogram.{Nonogram}
+use Rattle.puzzle_text.specs.Lines.{lines}
+use Rattle.puzzle_text.specs.Non.{Sections, placed, puzzle_said, read_non, sections_of}
+use Rattle.puzzle_text.specs.steps.Shown.{shown_keyword}
+use Rattle.puzzle_text.specs.steps.Usual.{HaveClues}
+use Rattle.puzzle_text.proofs.UsualReads.{kept_clean, non_said, some_of_ok}
+use Rattle.puzzle_text.proofs.quick.quick_non.Goals as goal
+
+pub puzzle_said-requires : goal.puzzle_said-requires
+puzzle_said-requires c =
+    kept_clean c.args.bytes.now (map shown_keyword c.in_ok-parts_of.field-0.keyword_lines.items) (omega arith) c.in_ok-parts_of.ensures.keywords
+
+pub returns-clause-answer : goal.returns-clause-answer
+returns-clause-answer c =
+    let bytes = c.args.bytes.now in
+    let parts = c.in_ok-parts_of.field-0 in
+    let kept = map shown_keyword parts.keyword_lines.items in
+    let is = λ (p : Nonogram). read_non LONGEST_SIDE bytes ≡ Ok p in
+    subst (λ o. IfSome o is) (sym c.ok.ensures.value)
+    (some_of_ok (λ p. (sections : Sections) → HaveClues sections parts.rows.items parts.columns.items
+    → puzzle_said LONGEST_SIDE sections kept ≡ Ok p) is c.puzzle_said.result c.puzzle_said.ensures
+    (λ p said. non_said bytes kept p (omega arith) c.in_ok-parts_of.ensures.keywords
+    (said (sections_of (placed (lines bytes))) c.in_ok-parts_of.ensures.sections)))

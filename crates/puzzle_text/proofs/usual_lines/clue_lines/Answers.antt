@@ -1,0 +1,22 @@
+-- `clue_lines`: one line more says one clue more.
+use Rattle.std.proofs.Common.{[], ◌∷◌, ap, arith, length, rules}
+use Rattle.std.proofs.lemmas.List.{length-append}
+use Rattle.puzzle_text.proofs.UsualParts.{one_said}
+use Rattle.puzzle_text.proofs.usual_lines.clue_lines.Goals as goal
+
+pub lines-preserved : goal.lines-preserved
+lines-preserved c = record {
+  said =
+      one_said c.args.text.now c.lines.rest.now c.in_ok-clue.after.now c.in_ok-clue.clue c.lines.clues.items c.push_reserved.new.self.items
+      c.lines.invariant.said c.in_ok-clue.ensures.clue c.push_reserved.ensures.items;
+  capacity = search rules;
+  count = search rules;
+  room =
+      omega (
+        arith,
+        ap length c.push_reserved.ensures.items,
+        length-append c.lines.clues.items (c.in_ok-clue.clue ∷ []),
+        c.in_ok-clue.ensures.shorter,
+        c.lines.invariant.room,
+      );
+}

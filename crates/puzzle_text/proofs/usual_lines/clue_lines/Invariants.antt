@@ -1,0 +1,15 @@
+-- What the loop of `clue_lines` keeps: the lines passed say the clues so far.
+use Rattle.std.proofs.Common.{◌≡◌, ◌+◌, ◌-◌, ◌≤◌, length, vec_capacity, vec_len}
+use Rattle.puzzle_text.specs.steps.Usual.{SayClues}
+use Rattle.puzzle_text.proofs.usual_lines.clue_lines.Given as goal
+
+abbrev pub invariant-lines : goal.invariant-lines
+invariant-lines l = record {
+  said : SayClues l.text l.clues.items l.rest;
+  capacity : vec_capacity l.clues ≡ l.count;
+  count : vec_len l.clues ≤ l.count;
+  room : length l.clues.items + length l.rest ≤ length l.text;
+}
+
+abbrev pub decreases-lines : goal.decreases-lines
+decreases-lines l = l.count - vec_len l.clues

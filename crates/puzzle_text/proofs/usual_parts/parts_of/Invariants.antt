@@ -1,0 +1,19 @@
+-- What the loop of `parts_of` keeps: the parts so far, and then those of the lines to come, are those of the text.
+use Rattle.std.proofs.Common.{◌≡◌, ◌+◌, ◌++◌, ◌≤◌, filter, length, map}
+use Rattle.puzzle_text.specs.declared.places.Under.{Under}
+use Rattle.puzzle_text.specs.Keywords.{is_keyword_line}
+use Rattle.puzzle_text.specs.Lines.{lines, numbered_from, raw_lines}
+use Rattle.puzzle_text.specs.steps.Shown.{shown_keyword}
+use Rattle.puzzle_text.proofs.UsualParts.{IsAbove}
+use Rattle.puzzle_text.proofs.usual_parts.parts_of.Given as goal
+
+abbrev pub invariant-lines : goal.invariant-lines
+invariant-lines l = record {
+  room : l.number + length l.below ≤ length l.text;
+  keywords : map shown_keyword l.keyword_lines.items ++ filter is_keyword_line (numbered_from (l.number + 1) (raw_lines l.below))
+      ≡ filter is_keyword_line (lines l.text);
+  walk : (under : Under) × IsAbove under (lines l.text) (numbered_from (l.number + 1) (raw_lines l.below)) l.rows.items l.columns.items;
+}
+
+abbrev pub decreases-lines : goal.decreases-lines
+decreases-lines l = length l.below

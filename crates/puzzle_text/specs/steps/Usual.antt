@@ -1,0 +1,77 @@
+-- Lines in their usual form, as the quick readers take them.
+use Rattle.std.specs.Prelude.{◌≡◌, ℕ, ◌+◌, ◌-◌, ◌≤◌, ◌⊎◌, true, List, [], ◌∷◌, ◌++◌, length, slice_index, filter, Option, Some, None, Ok}
+use Rattle.std.specs.List.{list_all}
+use Rattle.std.specs.Char.{is_ascii_digit}
+use Rattle.std.specs.Str.Parse.{digits_value}
+use Rattle.grid_core.specs.declared.limits.TheConstants.{LONGEST_SIDE}
+use Rattle.puzzle_text.specs.ClueLines.{clue_of}
+use Rattle.puzzle_text.specs.Lines.{Line, is_full, lines, numbered_from, raw_lines}
+use Rattle.puzzle_text.specs.Non.{Sections, placed, sections_of}
+use Rattle.puzzle_text.specs.Keywords.{is_keyword_line}
+use Rattle.puzzle_text.specs.Numbers.{is_separator, pieces}
+use Rattle.puzzle_text.specs.Sizes.{two_sizes}
+
+-- the bytes begin with a digit of this value, and `rest` follows it
+abbrev pub BeginsWithDigit : List ℕ → ℕ → List ℕ → Type 0
+BeginsWithDigit bytes value rest = (byte : ℕ) × (bytes ≡ byte ∷ rest) × (is_ascii_digit byte ≡ true) × (value ≡ byte - 48)
+
+-- these bytes are the digits of a number from 1 to the limit
+pub record IsNumeral (piece : List ℕ) (number : ℕ) : Type 0 where
+  pub digits : list_all is_ascii_digit piece ≡ true
+  pub value : number ≡ digits_value 10 piece
+  pub positive : 1 ≤ number
+  pub within : number ≤ LONGEST_SIDE
+
+-- the bytes begin with a number, and `rest` follows its digits
+abbrev pub BeginsWithNumber : List ℕ → ℕ → List ℕ → Type 0
+BeginsWithNumber bytes number rest = (piece : List ℕ) × (bytes ≡ piece ++ rest) × IsNumeral piece number
+
+-- the bytes begin with a comma or a space, and `rest` follows it
+abbrev pub IsSeparated : List ℕ → List ℕ → Type 0
+IsSeparated bytes rest = (bytes ≡ 44 ∷ rest) ⊎ (bytes ≡ 32 ∷ rest)
+
+-- the bytes begin with the ending of a line, and `rest` follows it, or there are none
+abbrev pub EndsLine : List ℕ → List ℕ → Type 0
+EndsLine bytes rest = (bytes ≡ 10 ∷ rest) ⊎ ((bytes ≡ 13 ∷ 10 ∷ rest) ⊎ ((bytes ≡ []) × (rest ≡ [])))
+
+-- the first line has this text, and `rest` has the lines below it
+abbrev pub BeginsWith : List ℕ → List ℕ → List ℕ → Type 0
+BeginsWith bytes text rest = (number : ℕ)
+    → numbered_from number (raw_lines bytes) ≡ record { number = number; text = text } ∷ numbered_from (number + 1) (raw_lines rest)
+
+-- the text of a line says this clue, and begins with a digit
+abbrev pub IsClueText : List ℕ → List ℕ → Type 0
+IsClueText text clue = (clue_of LONGEST_SIDE text ≡ Some clue) × (is_ascii_digit (slice_index text 0) ≡ true)
+
+-- the first line says this clue, and `rest` has the lines below it
+abbrev pub SaysClue : List ℕ → List ℕ → List ℕ → Type 0
+SaysClue bytes clue rest = (text : List ℕ) × BeginsWith bytes text rest × IsClueText text clue
+
+-- each of these lines says its clue, and begins with a digit
+abbrev pub AreClueLines : List Line → List (List ℕ) → Type 0
+AreClueLines [] [] = Unit {0}
+AreClueLines [] (clue ∷ clues) = ⊥
+AreClueLines (line ∷ found) [] = ⊥
+AreClueLines (line ∷ found) (clue ∷ clues) = IsClueText line.text clue × AreClueLines found clues
+
+-- the first lines say these clues, and `rest` has the lines below them
+abbrev pub SayClues : List ℕ → List (List ℕ) → List ℕ → Type 0
+SayClues bytes clues rest = (number : ℕ) → (found : List Line)
+    × (numbered_from number (raw_lines bytes) ≡ found ++ numbered_from (number + length clues) (raw_lines rest))
+    × AreClueLines found clues
+
+-- the first line says these sizes, and `rest` has the lines below it
+abbrev pub SaysSizes : List ℕ → ℕ × ℕ → List ℕ → Type 0
+SaysSizes bytes sizes rest = (text : List ℕ) × BeginsWith bytes text rest × (two_sizes LONGEST_SIDE (pieces text) ≡ Ok sizes)
+    × (is_ascii_digit (slice_index text 0) ≡ true)
+
+-- no line is stray, and the lines of both sections that aren't blank say these clues
+pub record HaveClues (sections : Sections) (rows : List (List ℕ)) (columns : List (List ℕ)) : Type 0 where
+  pub stray : sections.stray ≡ None
+  pub rows_said : AreClueLines (filter is_full sections.rows) rows
+  pub columns_said : AreClueLines (filter is_full sections.columns) columns
+
+-- the keyword lines of a text, and the clues of its sections
+pub record HasParts (bytes : List ℕ) (kept : List Line) (rows : List (List ℕ)) (columns : List (List ℕ)) : Type 0 where
+  pub keywords : kept ≡ filter is_keyword_line (lines bytes)
+  pub sections : HaveClues (sections_of (placed (lines bytes))) rows columns
