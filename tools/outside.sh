@@ -472,6 +472,8 @@ if [ ${#another[@]} -gt 0 ]; then
         try threads:$most Thread - survey --lanes 4
     done
     try threads:5 - survey survey --lanes 4
+    try threads:2 Thread - survey --lanes 4 $(lines 300 heart.non)
+    try threads:5 - surveyed_300 survey --lanes 4 $(lines 300 heart.non)
 else
     echo "left out: threads of which only some are refused"
 fi

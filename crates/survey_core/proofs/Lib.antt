@@ -1,5 +1,6 @@
 -- Lemmas on surveys: entries read, jobs dealt and answered lane by lane, goals, totals, and texts.
 pub mod Front
+pub mod PartsLemmas
 pub mod NumberedLemmas
 pub mod PrintedLemmas
 pub mod ProgressLemmas

@@ -1,7 +1,7 @@
 -- Entries that are read, and the answers beside them.
-use Rattle.std.proofs.Common.{◌≡◌, false, true, ℕ, ◌+◌, ◌-◌, ◌<◌, ◌≤◌, List, [], ◌∷◌, ◌++◌, length, map, take, drop, get_or, Option, None, Some, Result, Ok, Err, IsOk, sym, ap, subst, ◌∙◌, add-one, arith}
+use Rattle.std.proofs.Common.{◌≡◌, false, true, ℕ, ◌+◌, ◌-◌, ◌<◌, ◌≤◌, List, [], ◌∷◌, ◌++◌, length, map, take, drop, get_or, vec_len, Option, None, Some, Result, Ok, Err, IsOk, sym, ap, subst, ◌∙◌, add-one, arith}
 use Rattle.std.proofs.Math.Seq.{drop-cons}
-use Rattle.std.proofs.lemmas.List.{get_or-map, length-map, map-append, map_more}
+use Rattle.std.proofs.lemmas.List.{get_or-map, length-append, length-map, map-append, map_more}
 use Rattle.grid_core.specs.Nonogram.{Nonogram}
 use Rattle.grid_core.specs.declared.memory.NoMemory.{NoMemory}
 use Rattle.solve_core.specs.Report.{report_of}
@@ -16,19 +16,42 @@ use Rattle.lane_core.specs.Outcome.{IsOutcome}
 use Rattle.lane_core.specs.declared.answers.Answer.{Answer}
 use Rattle.lane_core.specs.declared.jobs.Job.{Job}
 use Rattle.survey_core.proofs.Front.{rest_of}
-use Rattle.survey_core.proofs.NumberedLemmas.{made-more}
+use Rattle.survey_core.proofs.NumberedLemmas.{made-more, numbered-append}
 use Rattle.survey_core.specs.Entries.{GradedEntry, found_of}
 use Rattle.survey_core.specs.steps.Graded.{AreGraded}
 use Rattle.survey_core.specs.Guessing.{Guessing}
-use Rattle.survey_core.specs.steps.Readings.{NumberedPuzzle, TakesAnswer, fault_of, job_of, jobs_from, jobs_of, reading, readings, shown_job}
+use Rattle.survey_core.specs.steps.Readings.{IsReadingOf, NumberedPuzzle, TakesAnswer, fault_of, job_of, jobs_from, reading, readings, shown_job}
+use Rattle.survey_core.specs.declared.readings.Readings.{Readings}
 use Rattle.survey_core.specs.Survey.{graded, reported}
 
 -- one more entry adds its job, if it is a puzzle
-pub jobs_of-more : (guesses : Guessing) (entries : List Entry) (i : ℕ) (d : Entry) → i < length entries
-    → jobs_of guesses (readings (take (i + 1) entries)) ≡ jobs_of guesses (readings (take i entries)) ++
-    job_of guesses (i + 1) (reading (get_or entries i d))
-jobs_of-more guesses entries i d h =
-    made-more (λ (numbered : ℕ × Result Nonogram EntryFault). job_of guesses numbered.0 numbered.1) reading entries i d h
+pub jobs_from-more : (guesses : Guessing) (first : ℕ) (entries : List Entry) (i : ℕ) (d : Entry) → i < length entries
+    → jobs_from guesses first (readings (take (i + 1) entries)) ≡ jobs_from guesses first (readings (take i entries)) ++
+    job_of guesses (first + i) (reading (get_or entries i d))
+jobs_from-more guesses first entries i d h =
+    made-more (λ (numbered : ℕ × Result Nonogram EntryFault). job_of guesses numbered.0 numbered.1) reading first entries i d h
+
+-- what was read of entries, and of those behind them, is what was read of all
+pub both_read : (guesses : Guessing) (first : ℕ) (entries behind : List Entry) (old new read : Readings)
+    → IsReadingOf guesses first entries old → IsReadingOf guesses (first + length entries) behind new
+    → read.jobs.items ≡ old.jobs.items ++ new.jobs.items → vec_len read.jobs ≡ vec_len old.jobs + vec_len new.jobs
+    → read.faults.items ≡ old.faults.items ++ new.faults.items → IsReadingOf guesses first (entries ++ behind) read
+both_read guesses first entries behind old new read is_old is_new jobs count faults =
+    let apart : readings (entries ++ behind) ≡ readings entries ++ readings behind = map-append reading entries behind in
+    record {
+      jobs = ap (map shown_job) jobs ∙ map-append shown_job old.jobs.items new.jobs.items
+          ∙ ap (λ (these : List NumberedPuzzle). these ++ map shown_job new.jobs.items) is_old.jobs
+          ∙ ap (λ (those : List NumberedPuzzle). jobs_from guesses first (readings entries) ++ those) is_new.jobs
+          ∙ sym (ap (jobs_from guesses first) apart
+          ∙ numbered-append (λ (numbered : ℕ × Result Nonogram EntryFault). job_of guesses numbered.0 numbered.1) first (readings entries)
+          (readings behind)
+          ∙ ap (λ (n : ℕ). jobs_from guesses first (readings entries) ++ jobs_from guesses (first + n) (readings behind))
+          (length-map entries reading));
+      few = omega (arith, is_old.few, is_new.few, count, length-append entries behind);
+      faults = faults ∙ ap (λ (these : List (Option EntryFault)). these ++ new.faults.items) is_old.faults
+          ∙ ap (λ (those : List (Option EntryFault)). map fault_of (readings entries) ++ those) is_new.faults
+          ∙ sym (ap (map fault_of) apart ∙ map-append fault_of (readings entries) (readings behind));
+    }
 
 -- answers to the jobs of entries are those to the puzzles that were read
 pub are_graded : (guesses : Guessing) (first : ℕ) (read : List (Result Nonogram EntryFault)) (jobs : List Job) (answers : List Answer)

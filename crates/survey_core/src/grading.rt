@@ -12,6 +12,7 @@ ghost use Rattle.survey_core.specs.Survey.{survey_of_list};
 use crate::Settings;
 use crate::collecting::{CollectFault, collect};
 use crate::listed::ListedEntry;
+use crate::parts::parts_of;
 use crate::printing::SurveyText;
 use crate::readings::{Readings, read_entries};
 use grid_core::NoMemory;
@@ -77,7 +78,8 @@ pub(crate) fn survey_text<H: Threads + Wait + Sync, G: Gate + Sync>(
     requires { length entries.now ≤ MOST_ENTRIES }
     ensures { IfOk result (λ text. text.items ≡ survey_of_list (guessing settings.now) settings.now.show (map shown_entry entries.now)) }
 {
-    let Readings { jobs, faults } = read_entries(alloc, entries, settings)?;
+    let parts = parts_of(entries.len(), settings.lanes);
+    let Readings { jobs, faults } = read_entries(rt, alloc, entries, settings, parts)?;
     let answers = collect(rt, alloc, jobs, settings.lanes, settings.ring, gate)?;
     Ok(print_answers(alloc, entries, &faults, &answers, settings)?)
 }

@@ -17,6 +17,7 @@ mod listed;
 mod lists;
 mod names;
 mod outcomes;
+mod parts;
 mod pictures;
 mod printing;
 mod progress;

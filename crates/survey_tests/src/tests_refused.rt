@@ -1,8 +1,10 @@
 //! Growths of memory and starts of threads that are refused, each in turn.
 
+use crate::tests::{one_thread_survey, repeated};
 use crate::tests_answers::{EIGHT, eight_jobs};
 use crate::tests_samples::{TEN, TEN_SURVEY, settings};
 use lane_core::{Answer, Gate, OpenGate};
+use puzzle_text::entries;
 use refusals::{Told, refuse, sweep, told_if, was_refused};
 use std::process::Abort;
 use std::sync::Wait;
@@ -70,11 +72,17 @@ fn answers_are_collected_or_refused(rt: HostRuntime) -> Result<(), Fail> {
     Ok(())
 }
 
-/// What a survey of ten entries told, into a text that has its room.
-fn told_of_survey<R: Threads + Wait + Sync + AllocGlobal>(rt: &R, text: Vec<u8>) -> Told {
-    let mut reader = Counted::new(TEN.as_bytes());
+/// What a survey told, into a text that has its room.
+fn told_of_survey<R: Threads + Wait + Sync + AllocGlobal>(
+    rt: &R,
+    collection: &[u8],
+    lanes: u16,
+    text: Vec<u8>,
+    wanted: &[u8],
+) -> Told {
+    let mut reader = Counted::new(collection);
     let mut output = Counted::new(text);
-    let settings = settings(3, 1, false);
+    let settings = settings(lanes, 1, false);
     match run_survey(
         rt,
         rt.alloc(),
@@ -83,7 +91,7 @@ fn told_of_survey<R: Threads + Wait + Sync + AllocGlobal>(rt: &R, text: Vec<u8>)
         &settings,
         &OpenGate,
     ) {
-        Ok(()) => told_if(output.inner.as_slice() == TEN_SURVEY.as_bytes()),
+        Ok(()) => told_if(output.inner.as_slice() == wanted),
         Err(RunFault::NoMemory | RunFault::Thread) if output.inner.is_empty() => Told::NoMemory,
         Err(_) => Told::Other,
     }
@@ -93,7 +101,22 @@ fn told_of_survey<R: Threads + Wait + Sync + AllocGlobal>(rt: &R, text: Vec<u8>)
 fn surveys_are_written_or_refused(rt: HostRuntime) -> Result<(), Fail> {
     let alloc = rt.alloc();
     sweep(alloc, || match Vec::with_capacity(alloc, 1000) {
-        Ok(text) => told_of_survey(&rt, text),
+        Ok(text) => told_of_survey(&rt, TEN.as_bytes(), 3, text, TEN_SURVEY.as_bytes()),
+        Err(_) => Told::NoMemory,
+    })?;
+    Ok(())
+}
+
+/// A survey in three parts, most of whose entries are refused.
+#[test]
+fn surveys_in_parts_are_written_or_refused(rt: HostRuntime) -> Result<(), Fail> {
+    let alloc = rt.alloc();
+    let mut collection = repeated(alloc, b"@ what.txt\n", 90)?;
+    collection.extend_from_slice(TEN.as_bytes())?;
+    let found = entries(alloc, &collection)?;
+    let wanted = one_thread_survey(alloc, &found, false)?;
+    sweep(alloc, || match Vec::with_capacity(alloc, 5000) {
+        Ok(text) => told_of_survey(&rt, &collection, 3, text, &wanted),
         Err(_) => Told::NoMemory,
     })?;
     Ok(())

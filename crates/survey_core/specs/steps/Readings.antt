@@ -1,5 +1,5 @@
 -- What reading entries gives, and the answers beside them.
-use Rattle.std.specs.Prelude.{◌≡◌, ℕ, List, [], ◌∷◌, map, Option, Some, None, Result, Ok, Err, IsOk}
+use Rattle.std.specs.Prelude.{◌≡◌, ◌≤◌, ℕ, List, [], ◌∷◌, length, map, vec_len, Option, Some, None, Result, Ok, Err, IsOk}
 use Rattle.std.specs.List.{enumerate_from, flat_map}
 use Rattle.grid_core.specs.Nonogram.{Nonogram}
 use Rattle.grid_core.specs.declared.limits.TheConstants.{LONGEST_SIDE}
@@ -13,6 +13,7 @@ use Rattle.solve_core.specs.declared.findings.Findings.{Findings}
 use Rattle.solve_core.specs.declared.picks.Pick.{Pick}
 use Rattle.survey_core.specs.Entries.{found_of}
 use Rattle.survey_core.specs.Guessing.{Guessing}
+use Rattle.survey_core.specs.declared.readings.Readings.{Readings}
 
 -- what an entry says
 abbrev pub reading : Entry → Result Nonogram EntryFault
@@ -47,9 +48,11 @@ job_of guesses number (Err fault) = []
 abbrev pub jobs_from : Guessing → ℕ → List (Result Nonogram EntryFault) → List NumberedPuzzle
 jobs_from guesses first readings = flat_map (λ numbered. job_of guesses numbered.0 numbered.1) (enumerate_from first readings)
 
--- the jobs of entries, numbered from 1
-abbrev pub jobs_of : Guessing → List (Result Nonogram EntryFault) → List NumberedPuzzle
-jobs_of guesses readings = jobs_from guesses 1 readings
+-- what reading these entries gives, the first of which has this number
+pub record IsReadingOf (guesses : Guessing) (first : ℕ) (entries : List Entry) (read : Readings) : Type 0 where
+  pub jobs : map shown_job read.jobs.items ≡ jobs_from guesses first (readings entries)
+  pub few : vec_len read.jobs ≤ length entries
+  pub faults : read.faults.items ≡ map fault_of (readings entries)
 
 -- the fault, or else what the first of the answers found, which is a report
 abbrev pub TakesAnswer : Option EntryFault → List Answer → List Answer → Result (Nonogram × Findings) EntryFault → Type 0

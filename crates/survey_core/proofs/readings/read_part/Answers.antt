@@ -1,10 +1,11 @@
--- `read_entries`: one more entry adds its job if it is a puzzle, and its fault if it has one.
+-- `read_part`: one more entry adds its job if it is a puzzle, and its fault if it has one.
 use Rattle.std.proofs.Common.{◌+◌, ◌++◌, ◌∷◌, [], List, Option, get_or, ap, sym, ◌∙◌, arith}
+use Rattle.std.proofs.lemmas.List.{length-take}
 use Rattle.puzzle_text.specs.declared.faults.EntryFault.{EntryFault}
 use Rattle.survey_core.specs.Guessing.{guessing}
 use Rattle.survey_core.specs.steps.Readings.{NumberedPuzzle, fault_of, job_of, reading}
-use Rattle.survey_core.proofs.ReadingLemmas.{faults-more, jobs_of-more, no_entry}
-use Rattle.survey_core.proofs.readings.read_entries.Goals as goal
+use Rattle.survey_core.proofs.ReadingLemmas.{faults-more, jobs_from-more, no_entry}
+use Rattle.survey_core.proofs.readings.read_part.Goals as goal
 
 pub loop-place-preserved : goal.loop-place-preserved
 loop-place-preserved c =
@@ -16,9 +17,9 @@ loop-place-preserved c =
     let added = c.in_ok-add.ensures in
     let so_far = c.loop-place.invariant in
     record {
-      jobs = added.jobs ∙ ap (λ (front : List NumberedPuzzle). front ++ job_of guesses (place + 1) read) so_far.jobs ∙
-          sym (jobs_of-more guesses entries place no_entry within);
-      few = omega (arith, added.few, so_far.few);
+      jobs = added.jobs ∙ ap (λ (front : List NumberedPuzzle). front ++ job_of guesses (c.args.first + place) read) so_far.jobs ∙
+          sym (jobs_from-more guesses c.args.first entries place no_entry within);
+      few = omega (arith, added.few, so_far.few, length-take place entries, length-take (place + 1) entries);
       faults = added.faults ∙ ap (λ (front : List (Option EntryFault)). front ++ fault_of read ∷ []) so_far.faults ∙
           sym (faults-more entries place no_entry within);
     }
