@@ -1,5 +1,5 @@
 -- Lines in their usual form: digits, separators and endings.
-use Rattle.std.proofs.Common.{◌≡◌, ℕ, ◌+◌, ◌-◌, ◌*◌, ◌<◌, ◌≤◌, true, false, cond, drop, not, eqb, leb, List, [], ◌∷◌, ◌++◌, length, take, filter, get_or, All, refl, sym, ap, subst, ◌∙◌, append_assoc, arith, inl, inr, ◌⊎◌, Option, Some, None, Result, Ok}
+use Rattle.std.proofs.Common.{◌≡◌, ℕ, ◌+◌, ◌-◌, ◌*◌, ◌<◌, ◌≤◌, true, false, cond, drop, not, eqb, leb, List, [], ◌∷◌, ◌++◌, length, take, filter, get_or, All, refl, sym, ap, subst, ◌∙◌, append_assoc, arith, inl, inr, Option, Some, None, Result, Ok}
 use Rattle.std.specs.Prelude.{option_and_then}
 use Rattle.std.specs.Option.{option_map}
 use Rattle.std.specs.List.{list_all, onto_first, slice_split, AllByRecursion}
@@ -16,13 +16,13 @@ use Rattle.grid_core.specs.Clues.{is_clue}
 use Rattle.puzzle_text.specs.declared.faults.TextFault.{TextFault}
 use Rattle.puzzle_text.specs.declared.faults.TextFault.TheVariants.{BadSize}
 use Rattle.puzzle_text.specs.Answers.{◌>>=◌, or_fault}
-use Rattle.puzzle_text.specs.ClueLines.{clue_of, clue_of_numbers, numbers_within}
+use Rattle.puzzle_text.specs.ClueLines.{clue_of_numbers, numbers_within}
 use Rattle.puzzle_text.specs.Lines.{Line, is_empty, numbered_from, raw_lines, strip_last, trim}
 use Rattle.puzzle_text.specs.Numbers.{is_separator, number_within, pieces}
 use Rattle.puzzle_text.specs.Sizes.{size_of, two_sizes}
-use Rattle.puzzle_text.specs.steps.Usual.{BeginsWith, BeginsWithDigit, BeginsWithNumber, EndsLine, IsClueText, IsNumeral, IsSeparated, SaysClue, SaysSizes}
+use Rattle.puzzle_text.specs.steps.Usual.{BeginsWith, BeginsWithDigit, BeginsWithNumber, EndsLine, IsNumeral, IsSeparated, SaysClue, SaysSizes}
 use Rattle.puzzle_text.proofs.NumbersLemmas.{digit_clear, keeps_piece, number_is, value_more}
-use Rattle.puzzle_text.proofs.ReadBack.{IsKept, IsTidy, kept_tidy, line_kept, raw_lines-feed, some_byte, strip_last_is, strip_last_other, with_feed}
+use Rattle.puzzle_text.proofs.ReadBack.{IsKept, IsTidy, kept_tidy, line_kept, raw_lines-feed, some_byte, strip_last_is, strip_last_other}
 use Rattle.puzzle_text.proofs.ReadClue.{IsSpacing, clue_is, comma, space}
 use Rattle.puzzle_text.proofs.ReadClues.{all-append, tidy-join}
 
@@ -161,10 +161,6 @@ abbrev pub PassesNumbers : List ℕ → List ℕ → List ℕ → Type 0
 PassesNumbers text rest numbers = (front : List ℕ) × (text ≡ front ++ rest)
     × ((more others : List ℕ) → SaysNumbers more others → SaysNumbers (front ++ more) (numbers ++ others))
 
--- at the start of a line
-pub none_passed : (text numbers : List ℕ) → numbers ≡ [] → PassesNumbers text text numbers
-none_passed text numbers none = ([], refl, λ more others said. rw none said)
-
 spaced : (after others : List ℕ) → IsSeparated after others → (s : ℕ) × IsSpacing s × (after ≡ s ∷ others)
 spaced after others e = elim e [ inl is ↦ (44, comma, is) | inr is ↦ (32, space, is) ]
 
@@ -296,10 +292,3 @@ sizes_end text after second next rest a b one separated two ends =
           ∙ ap (λ (r : Result ℕ TextFault). r >>= λ second. Ok (a, second)) (size_said two.0 b two.2),
       said.digit,
     )
-
--- a line of # alone
-pub hash_ends : (text after next : List ℕ) → text ≡ 35 ∷ after → EndsLine after next → BeginsWith text (35 ∷ []) next
-hash_ends text after next whole ends =
-    let line : List ℕ = 35 ∷ [] in
-    let tidy : IsTidy line = record { inked = (omega arith, tt); first = omega arith; last = omega arith } in
-    subst (λ (t : List ℕ). BeginsWith t line next) (sym whole) (line_ends line after next tidy ends)

@@ -1,6 +1,6 @@
 -- The parts of a usual .non text, found on one walk from the top.
-use Rattle.std.proofs.Common.{◌≡◌, ℕ, ◌+◌, ◌≤◌, Bool, true, false, cond, not, eqb, List, [], ◌∷◌, ◌++◌, length, filter, get_or, codes, refl, sym, ap, subst, ◌∙◌, append_assoc, arith, inl, inr, Option, Some, None}
-use Rattle.std.proofs.lemmas.Bool.{cond-false, cond-true, eq-eqb, eqb-true, ne_eqb}
+use Rattle.std.proofs.Common.{◌≡◌, ℕ, ◌+◌, true, false, not, eqb, List, [], ◌∷◌, ◌++◌, length, filter, get_or, codes, refl, sym, ap, subst, ◌∙◌, append_assoc, arith, None}
+use Rattle.std.proofs.lemmas.Bool.{cond-false, cond-true, eqb-true}
 use Rattle.std.proofs.lemmas.List.{append-nil, length-append}
 use Rattle.std.proofs.lemmas.List.Elements.{filter-append}
 use Rattle.puzzle_text.specs.declared.places.Under.{Under}
@@ -9,7 +9,7 @@ use Rattle.puzzle_text.specs.Lines.{Line, is_empty, is_full, is_hash, numbered_f
 use Rattle.puzzle_text.specs.Keywords.{is_keyword_line, keyword}
 use Rattle.puzzle_text.specs.Non.{Sections, placed, sections_of}
 use Rattle.puzzle_text.specs.steps.Places.{IsUnder, with_line}
-use Rattle.puzzle_text.specs.steps.Usual.{AreClueLines, BeginsWith, HaveClues, IsClueText, SayClues, SaysClue}
+use Rattle.puzzle_text.specs.steps.Usual.{AreClueLines, HaveClues, IsClueText, SayClues, SaysClue}
 use Rattle.puzzle_text.proofs.ReadClues.{some_text}
 use Rattle.puzzle_text.proofs.ReadNon.{content_digit}
 use Rattle.puzzle_text.proofs.SectionsWalk.{below, below_comment, below_content, below_keyword, join, nothing_above}
@@ -65,12 +65,6 @@ said_after [] more [] others said next = next
 said_after [] more (clue ∷ clues) others said next = absurd said
 said_after (line ∷ found) more [] others said next = absurd said
 said_after (line ∷ found) more (clue ∷ clues) others said next = (said.0, said_after found more clues others said.1 next)
-
--- before the first line there is no clue
-pub none_said : (bytes : List ℕ) (clues : List (List ℕ)) → clues ≡ [] → SayClues bytes clues bytes
-none_said bytes clues none = λ number.
-    let count : number ≡ number + length clues = omega (arith, ap length none) in
-    ([], ap (λ (n : ℕ). numbered_from n (raw_lines bytes)) count, subst (AreClueLines []) (sym none) tt)
 
 -- one line more
 pub one_said : (bytes rest next clue : List ℕ) (clues more : List (List ℕ)) → SayClues bytes clues rest → SaysClue rest clue next
@@ -287,21 +281,6 @@ pub kept_none : (kept all todo : List Line) (line : Line) → kept ++ filter is_
 kept_none kept all todo line e none =
     let others = filter is_keyword_line todo in
     ap (λ (lines : List Line). kept ++ lines) (sym (cond-false (is_keyword_line line) (line ∷ others) others (ap not none))) ∙ e
-
--- at the end
-pub at_end : (under : Under) (whole todo : List Line) (rows columns : List (List ℕ)) → IsAbove under whole todo rows columns → todo ≡ []
-    → HaveClues (sections_of (placed whole)) rows columns
-at_end under whole todo rows columns is none =
-    let above = is.above in
-    let joined : join above (below is.word []) ≡ sections_of (placed whole) =
-    sym (ap (λ (lines : List Line). join above (below is.word lines)) none) ∙ is.joined in
-    subst (λ (sections : Sections). HaveClues sections rows columns) joined (record {
-      stray = rw is.clues.stray refl;
-      rows_said =
-          subst (λ (lines : List Line). AreClueLines (filter is_full lines) rows) (sym (append-nil above.rows)) is.clues.rows_said;
-      columns_said =
-          subst (λ (lines : List Line). AreClueLines (filter is_full lines) columns) (sym (append-nil above.columns)) is.clues.columns_said;
-    })
 
 -- no bytes have no lines
 pub no_lines : (rest : List ℕ) (number : ℕ) → length rest ≡ 0 → numbered_from number (raw_lines rest) ≡ []

@@ -1,10 +1,10 @@
 -- What the parts of a usual text say is what the text says.
-use Rattle.std.proofs.Common.{◌≡◌, ℕ, ◌+◌, ◌*◌, ◌≤◌, Bool, true, false, cond, eqb, ltb, List, [], ◌∷◌, ◌++◌, length, filter, codes, refl, sym, ap, subst, ◌∙◌, arith, Option, Some, None, Result, Ok, Err}
+use Rattle.std.proofs.Common.{◌≡◌, ℕ, ◌+◌, ◌*◌, ◌≤◌, Bool, true, false, ltb, List, [], ◌∷◌, ◌++◌, length, filter, codes, refl, sym, ap, subst, ◌∙◌, Option, Some, None, Result, Ok, Err}
 use Rattle.std.specs.Prelude.{IfOk, IfSome, option_and_then}
 use Rattle.std.specs.Result.{result_ok}
 use Rattle.std.specs.List.{AllByRecursion}
 use Rattle.std.proofs.lemmas.Bool.{cond-false, cond-true, eq-eqb, le-ltb}
-use Rattle.std.proofs.lemmas.List.{append-nil, drop_at, length-append, take_at}
+use Rattle.std.proofs.lemmas.List.{append-nil, drop_at, take_at}
 use Rattle.grid_core.specs.declared.limits.TheConstants.{LONGEST_SIDE}
 use Rattle.grid_core.specs.Description.{Description}
 use Rattle.grid_core.specs.Nonogram.{Nonogram, plain}
@@ -22,14 +22,14 @@ use Rattle.puzzle_text.specs.Readings.{likelier, reading}
 use Rattle.puzzle_text.specs.Sections.{choice}
 use Rattle.puzzle_text.specs.Sizes.{first_full, lines_of, size_line, two_sizes}
 use Rattle.puzzle_text.specs.steps.Lines.{HaveNoFeed}
-use Rattle.puzzle_text.specs.steps.Usual.{AreClueLines, BeginsWith, HaveClues, IsClueText, SayClues, SaysSizes}
+use Rattle.puzzle_text.specs.steps.Usual.{AreClueLines, BeginsWith, HaveClues, SayClues, SaysSizes}
 use Rattle.puzzle_text.proofs.FeedsLemmas.{clean_filter, lines_have_no_feed}
 use Rattle.puzzle_text.proofs.KeywordsLemmas.{said_of_kept}
 use Rattle.puzzle_text.proofs.ReadClues.{at_hash_is, before_hash_is, choice_is, some_text}
 use Rattle.puzzle_text.proofs.ReadMk.{after_parts}
 use Rattle.puzzle_text.proofs.ReadNon.{both_said, clued}
 use Rattle.puzzle_text.proofs.UsualLines.{digit_range}
-use Rattle.puzzle_text.proofs.UsualParts.{all_full, as_many, clue_is_plain, no_lines, said_after}
+use Rattle.puzzle_text.proofs.UsualParts.{as_many, clue_is_plain, no_lines, said_after}
 
 -- what is so of a value that a call gives is so of it as an option
 pub some_of_ok : {X E : Type 0} (P Q : X → Type 0) (r : Result X E) → IfOk r P → ((x : X) → P x → Q x) → IfSome (result_ok r) Q

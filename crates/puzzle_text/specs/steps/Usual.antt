@@ -1,5 +1,5 @@
 -- Lines in their usual form, as the quick readers take them.
-use Rattle.std.specs.Prelude.{◌≡◌, ℕ, ◌+◌, ◌-◌, ◌≤◌, ◌⊎◌, true, List, [], ◌∷◌, ◌++◌, length, slice_index, filter, Option, Some, None, Ok}
+use Rattle.std.specs.Prelude.{◌≡◌, ℕ, ◌+◌, ◌-◌, ◌≤◌, ◌⊎◌, true, List, [], ◌∷◌, ◌++◌, length, slice_index, filter, Some, None, Ok}
 use Rattle.std.specs.List.{list_all}
 use Rattle.std.specs.Char.{is_ascii_digit}
 use Rattle.std.specs.Str.Parse.{digits_value}
@@ -8,7 +8,7 @@ use Rattle.puzzle_text.specs.ClueLines.{clue_of}
 use Rattle.puzzle_text.specs.Lines.{Line, is_full, lines, numbered_from, raw_lines}
 use Rattle.puzzle_text.specs.Non.{Sections, placed, sections_of}
 use Rattle.puzzle_text.specs.Keywords.{is_keyword_line}
-use Rattle.puzzle_text.specs.Numbers.{is_separator, pieces}
+use Rattle.puzzle_text.specs.Numbers.{pieces}
 use Rattle.puzzle_text.specs.Sizes.{two_sizes}
 
 -- the bytes begin with a digit of this value, and `rest` follows it

@@ -1,7 +1,6 @@
 -- `puzzle_said`: the parts say the puzzle, if there are as many clues as the sizes say.
-use Rattle.std.proofs.Common.{List, None, Ok, ℕ, ap, refl, arith, map, rules, sym, ◌*◌, ◌≡◌, ◌∙◌, codes, length}
+use Rattle.std.proofs.Common.{List, None, Ok, ℕ, ap, refl, map, rules, sym, ◌*◌, ◌≡◌, ◌∙◌, codes}
 use Rattle.grid_core.specs.declared.limits.TheConstants.{LONGEST_SIDE}
-use Rattle.grid_core.specs.Description.{Description}
 use Rattle.grid_core.specs.Nonogram.{Nonogram, bools_of}
 use Rattle.puzzle_text.specs.declared.keyword_line.KeywordLine.{KeywordLine}
 use Rattle.puzzle_text.specs.Keywords.{first_with}
