@@ -1,28 +1,32 @@
 -- Entries that are read, and the answers beside them.
-use Rattle.std.proofs.Common.{◌≡◌, false, true, ℕ, ◌+◌, ◌-◌, ◌<◌, ◌≤◌, List, [], ◌∷◌, ◌++◌, length, map, take, drop, get_or, vec_len, Option, None, Some, Result, Ok, Err, IsOk, sym, ap, subst, ◌∙◌, add-one, arith}
-use Rattle.std.proofs.Math.Seq.{drop-cons}
-use Rattle.std.proofs.lemmas.List.{get_or-map, length-append, length-map, map-append, map_more}
+use Rattle.std.proofs.Common.{◌≡◌, ℕ, suc, ◌+◌, ◌<◌, ◌≤◌, min, zero, List, [], ◌∷◌, ◌++◌, length, map, take, drop, get_or, cond, is_none, vec_len, IfOk, Option, None, Some, Result, Ok, Err, IsOk, false, true, sym, ap, subst, ◌∙◌, append-nil, append_assoc, arith}
+use Rattle.std.proofs.Math.Seq.{take-add}
+use Rattle.std.proofs.lemmas.List.{drop-drop, drop_all, drop_at, length-append, length-map, map-append, map_more, take_all, take_at}
+use Rattle.std.proofs.lemmas.List.Sums.{sum_by-append}
 use Rattle.grid_core.specs.Nonogram.{Nonogram}
 use Rattle.grid_core.specs.declared.memory.NoMemory.{NoMemory}
-use Rattle.solve_core.specs.Report.{report_of}
 use Rattle.solve_core.specs.Picks.{picked}
-use Rattle.solve_core.specs.declared.picks.Pick.{Pick}
+use Rattle.solve_core.specs.Report.{report_of}
 use Rattle.solve_core.specs.declared.findings.Findings.{Findings}
+use Rattle.solve_core.specs.declared.picks.Pick.{Pick}
 use Rattle.puzzle_text.specs.Shown.{shown_entry}
 use Rattle.puzzle_text.specs.declared.collections.Entry.{Entry}
 use Rattle.puzzle_text.specs.declared.faults.EntryFault.{EntryFault}
+use Rattle.puzzle_text.specs.declared.limits.TheConstants.{MOST_ENTRIES}
 use Rattle.lane_core.specs.Answers.{AreAnswersTo}
 use Rattle.lane_core.specs.Outcome.{IsOutcome}
 use Rattle.lane_core.specs.declared.answers.Answer.{Answer}
 use Rattle.lane_core.specs.declared.jobs.Job.{Job}
-use Rattle.survey_core.proofs.Front.{rest_of}
 use Rattle.survey_core.proofs.NumberedLemmas.{made-more, numbered-append}
+use Rattle.survey_core.proofs.ListingLemmas.{listed_graded}
 use Rattle.survey_core.specs.Entries.{GradedEntry, found_of}
-use Rattle.survey_core.specs.steps.Graded.{AreGraded}
-use Rattle.survey_core.specs.Guessing.{Guessing}
-use Rattle.survey_core.specs.steps.Readings.{IsReadingOf, NumberedPuzzle, TakesAnswer, fault_of, job_of, jobs_from, reading, readings, shown_job}
+use Rattle.survey_core.specs.Guessing.{Guessing, guessing}
+use Rattle.survey_core.specs.steps.Graded.{AreAnswersAt, AreGraded, graded_of, puzzle_count}
+use Rattle.survey_core.specs.steps.Listings.{answered}
+use Rattle.survey_core.specs.Survey.{graded}
+use Rattle.survey_core.specs.steps.Readings.{IsReadingOf, NumberedPuzzle, fault_of, job_of, jobs_from, reading, readings, shown_job}
+use Rattle.survey_core.specs.declared.grading.Printing.{Printing}
 use Rattle.survey_core.specs.declared.readings.Readings.{Readings}
-use Rattle.survey_core.specs.Survey.{graded, reported}
 
 -- one more entry adds its job, if it is a puzzle
 pub jobs_from-more : (guesses : Guessing) (first : ℕ) (entries : List Entry) (i : ℕ) (d : Entry) → i < length entries
@@ -75,66 +79,6 @@ are_graded guesses first (Ok p ∷ read) (job ∷ jobs) (answer ∷ answers) mad
       are_graded guesses (first + 1) read jobs answers others answered.1,
     )
 
--- answers to the entries from i on are answers to entry i and to those behind it
-pub next_graded : (guesses : Guessing) (entries : List Entry) (i : ℕ) (d : Entry) (answers : List Answer) → i < length entries →
-    AreGraded guesses (readings (drop i entries)) answers
-    → AreGraded guesses (reading (get_or entries i d) ∷ readings (drop (i + 1) entries)) answers
-next_graded guesses entries i d answers h graded =
-    let parts : drop i entries ≡ get_or entries i d ∷ drop (i + 1) entries = rw (add-one i) (drop-cons entries i d h) in
-    subst (λ (left : List Entry). AreGraded guesses (readings left) answers) parts graded
-
--- if the first entry is a puzzle, there is an answer
-pub has_answer : (guesses : Guessing) (read : Result Nonogram EntryFault) (others : List (Result Nonogram EntryFault))
-    (answers : List Answer)
-    → AreGraded guesses (read ∷ others) answers → fault_of read ≡ None → 0 < length answers
-has_answer guesses (Err fault) others answers graded e = cc
-has_answer guesses (Ok p) others [] graded e = absurd graded
-has_answer guesses (Ok p) others (answer ∷ answers) graded e = omega arith
-
--- what an answer found is the report on the puzzle, if it is one
-pub found_is : (guesses : Guessing) (p q : Nonogram) (outcome : Result Findings NoMemory) → q ≡ p →
-    IsOutcome p guesses.limit guesses.pick outcome → IsOk outcome
-    → found_of q outcome ≡ Ok (p, report_of (picked guesses.pick p.width) p guesses.limit)
-found_is guesses p q (Err refused) e is_outcome ok = let bad : false ≡ true = ok in cc
-found_is guesses p q (Ok findings) e is_outcome ok =
-    ap (λ (r : Nonogram). found_of r (Ok findings)) e ∙ ap (λ (found : Findings). found_of p (Ok found)) is_outcome
-
--- an entry with no fault takes the first of the answers, if that is a report
-pub taken_first : (fault : Option EntryFault) (answers : List Answer) (answer : Answer)
-    (result : Result (Nonogram × Findings) EntryFault) → fault ≡ None
-    → 1 ≤ length answers → answer ≡ get_or answers 0 answer → result ≡ found_of answer.puzzle answer.outcome → IsOk answer.outcome
-    → TakesAnswer fault answers (take (length answers - 1) (drop 1 answers)) result
-taken_first (Some fault) answers answer result none some at found ok = cc
-taken_first None [] answer result none some at found ok = absurd (omega arith)
-taken_first None (first ∷ answers) answer result none some at found ok = (
-  answer,
-  (
-    ap (λ (x : Answer). x ∷ answers) (sym at) ∙ ap (λ (left : List Answer). answer ∷ left) (sym (rest_of (first ∷ answers) 1)),
-    found,
-    ok,
-  ),
-)
-
--- what is listed of the first entry is its report or its fault, and the answers that are left are those to
--- the other entries
-pub takes_next : (guesses : Guessing) (read : Result Nonogram EntryFault) (others : List (Result Nonogram EntryFault))
-    (old new : List Answer)
-    (result : Result (Nonogram × Findings) EntryFault) → AreGraded guesses (read ∷ others) old → TakesAnswer (fault_of read) old new result
-    → (result ≡ reported guesses read) × AreGraded guesses others new
-takes_next guesses (Err fault) others old new result graded taken = (taken.0, subst (AreGraded guesses others) (sym taken.1) graded)
-takes_next guesses (Ok p) others old new result graded taken =
-    let both = subst (AreGraded guesses (Ok p ∷ others)) taken.1.0 graded in
-    (taken.1.1 ∙ found_is guesses p taken.0.puzzle taken.0.outcome both.0 both.1 taken.1.2, both.2)
-
--- the fault at place i is that of entry i
-pub fault_at : (faults : List (Option EntryFault)) (entries : List Entry) (i : ℕ) (d : Entry) → faults ≡ map fault_of (readings entries) →
-    i < length entries
-    → get_or faults i None ≡ fault_of (reading (get_or entries i d))
-fault_at faults entries i d e h =
-    let long : i < length (readings entries) = rw length-map h in
-    ap (λ (all : List (Option EntryFault)). get_or all i None) e ∙ get_or-map fault_of (readings entries) i (reading d) None long
-    ∙ ap fault_of (get_or-map reading entries i d (reading d) h)
-
 -- what stands for an entry past the end
 abbrev pub no_entry : Entry
 no_entry = record { name = record { ref_ptr = (0, 0); now = [] }; body = record { ref_ptr = (0, 0); now = [] } }
@@ -151,14 +95,138 @@ pub faults-more : (entries : List Entry) (i : ℕ) (d : Entry) → i < length en
     fault_of (reading (get_or entries i d)) ∷ []
 faults-more entries i d h = mapped-more fault_of reading entries i d h
 
--- one more entry adds the graded one, which has its name and its report or fault
-pub graded-more : (guesses : Guessing) (entries : List Entry) (i : ℕ) (d : Entry) (listed : GradedEntry) → i < length entries
-    → listed.name ≡ (get_or entries i d).name.now → listed.result ≡ reported guesses (reading (get_or entries i d))
-    → map (graded guesses) (map shown_entry (take (i + 1) entries)) ≡ map (graded guesses) (map shown_entry (take i entries)) ++ listed ∷ []
-graded-more guesses entries i d listed h name result =
-    let entry = get_or entries i d in
-    let same : listed ≡ graded guesses (shown_entry entry) =
-    ap (λ (name' : List ℕ). record { name = name'; result = listed.result }) name
-    ∙ ap (λ (result' : Result (Nonogram × Findings) EntryFault). record { name = entry.name.now; result = result' }) result in
-    mapped-more (graded guesses) shown_entry entries i d h
-    ∙ ap (λ (last : GradedEntry). map (graded guesses) (map shown_entry (take i entries)) ++ last ∷ []) (sym same)
+-- the answers to the puzzles of two lists are those to the first, as many as these are, and those to the other
+graded_apart : (guesses : Guessing) (read others : List (Result Nonogram EntryFault)) (answers : List Answer)
+    → AreGraded guesses (read ++ others) answers → AreGraded guesses others (drop (puzzle_count (map fault_of read)) answers)
+graded_apart guesses [] others answers graded = graded
+graded_apart guesses (Err fault ∷ read) others answers graded = graded_apart guesses read others answers graded
+graded_apart guesses (Ok p ∷ read) others [] graded = absurd graded
+graded_apart guesses (Ok p ∷ read) others (answer ∷ answers) graded =
+    let one = sum_by-append (λ (fault : Option EntryFault). cond (is_none fault) 1 0) (None ∷ []) (map fault_of read) in
+    let more : puzzle_count (map fault_of (Ok p ∷ read)) ≡ suc (puzzle_count (map fault_of read)) = omega (arith, one) in
+    subst (λ (n : ℕ). AreGraded guesses others (drop n (answer ∷ answers))) (sym more) (graded_apart guesses read others answers graded.2)
+
+-- if there are answers at a place to two lists of entries, there are to the first
+pub answers_in_front : (printing : Printing) (first : ℕ) (xs ys : List Entry) → AreAnswersAt printing first (xs ++ ys)
+    → AreAnswersAt printing first xs
+answers_in_front printing first xs ys are =
+    let apart : (xs ++ ys) ++ are.behind ≡ xs ++ (ys ++ are.behind) = append_assoc xs ys are.behind in
+    record {
+      behind = ys ++ are.behind;
+      few = omega (arith, are.few, length-append xs ys);
+      faults = are.faults ∙ ap (λ (all : List Entry). map fault_of (readings all)) apart;
+      answers = subst (λ (all : List Entry). AreGraded (guessing printing.settings.now) (readings all)
+          (drop (puzzle_count (take first printing.faults.now)) printing.answers.now)) apart are.answers;
+    }
+
+-- and to the other, behind these
+pub answers_behind : (printing : Printing) (first : ℕ) (xs ys : List Entry) → AreAnswersAt printing first (xs ++ ys)
+    → AreAnswersAt printing (first + length xs) ys
+unfolding answers_in_front
+answers_behind printing first xs ys are =
+    let guesses = guessing printing.settings.now in
+    let faults = printing.faults.now in
+    let answers = printing.answers.now in
+    let front = answers_in_front printing first xs ys are in
+    let read : readings (xs ++ (ys ++ are.behind)) ≡ readings xs ++ readings (ys ++ are.behind) = map-append reading xs (ys ++ are.behind) in
+    let here : drop first faults ≡ map fault_of (readings xs) ++ map fault_of (readings (ys ++ are.behind)) =
+    front.faults ∙ ap (map fault_of) read ∙ map-append fault_of (readings xs) (readings (ys ++ are.behind)) in
+    let count : length (map fault_of (readings xs)) ≡ length xs = length-map (readings xs) fault_of ∙ length-map xs reading in
+    let passed : take (length xs) (drop first faults) ≡ map fault_of (readings xs) =
+    ap (take (length xs)) here ∙ take_at (map fault_of (readings xs)) (map fault_of (readings (ys ++ are.behind))) (length xs) count in
+    let counted : puzzle_count (take (first + length xs) faults) ≡ puzzle_count (take first faults) + puzzle_count (map fault_of (readings xs)) =
+    ap puzzle_count (take-add first (length xs) faults)
+    ∙ sum_by-append (λ (fault : Option EntryFault). cond (is_none fault) 1 0) (take first faults) (take (length xs) (drop first faults))
+    ∙ ap (λ (fs : List (Option EntryFault)). puzzle_count (take first faults) + puzzle_count fs) passed in
+    record {
+      behind = are.behind;
+      few = omega (arith, are.few, length-append xs ys);
+      faults = sym (drop-drop (length xs) first faults) ∙ ap (drop (length xs)) here
+          ∙ drop_at (map fault_of (readings xs)) (map fault_of (readings (ys ++ are.behind))) (length xs) count;
+      answers = subst (λ (left : List Answer). AreGraded guesses (readings (ys ++ are.behind)) left)
+          (drop-drop (puzzle_count (map fault_of (readings xs))) (puzzle_count (take first faults)) answers
+          ∙ ap (λ (n : ℕ). drop n answers) (sym counted))
+          (graded_apart guesses (readings xs) (readings (ys ++ are.behind)) (drop (puzzle_count (take first faults)) answers)
+          (subst (λ (rs : List (Result Nonogram EntryFault)). AreGraded guesses rs (drop (puzzle_count (take first faults)) answers)) read
+          front.answers));
+    }
+
+-- a place past the end drops all that the end does
+drop_min : {X : Type 0} (k : ℕ) (xs : List X) → drop (min k (length xs)) xs ≡ drop k xs
+drop_min {X = X} k [] =
+    let e : min k 0 ≡ 0 = omega arith in
+    let none : List X = [] in
+    ap (λ (n : ℕ). drop n none) e ∙ sym (drop_all k none (omega arith))
+drop_min zero (x ∷ xs) =
+    let e : min zero (length (x ∷ xs)) ≡ zero = omega arith in
+    ap (λ (n : ℕ). drop n (x ∷ xs)) e
+drop_min (suc k) (x ∷ xs) =
+    let e : min (suc k) (length (x ∷ xs)) ≡ suc (min k (length xs)) = omega arith in
+    ap (λ (n : ℕ). drop n (x ∷ xs)) e ∙ drop_min k xs
+
+-- and takes all that the end does
+take_min : {X : Type 0} (k : ℕ) (xs : List X) → take (min k (length xs)) xs ≡ take k xs
+take_min {X = X} k [] =
+    let e : min k 0 ≡ 0 = omega arith in
+    let none : List X = [] in
+    ap (λ (n : ℕ). take n none) e ∙ sym (take_all k none (omega arith))
+take_min zero (x ∷ xs) =
+    let e : min zero (length (x ∷ xs)) ≡ zero = omega arith in
+    ap (λ (n : ℕ). take n (x ∷ xs)) e
+take_min (suc k) (x ∷ xs) =
+    let e : min (suc k) (length (x ∷ xs)) ≡ suc (min k (length xs)) = omega arith in
+    ap (λ (n : ℕ). take n (x ∷ xs)) e ∙ ap (λ (ys : List _). x ∷ ys) (take_min k xs)
+
+-- what a part lists, if all that it has is listed, are its entries, graded
+pub part_graded : (printing : Printing) (first : ℕ) (entries : List Entry) (before faults : List (Option EntryFault))
+    (answers : List Answer) (all : List GradedEntry) → AreAnswersAt printing first entries
+    → before ≡ take (min first (length printing.faults.now)) printing.faults.now
+    → faults ≡ drop (min first (length printing.faults.now)) printing.faults.now
+    → answers ≡ drop (min (puzzle_count before) (length printing.answers.now)) printing.answers.now
+    → answered entries faults answers ≡ map Some all → all ≡ graded_of printing entries
+part_graded printing first entries before faults answers all are passed here left listed =
+    let guesses = guessing printing.settings.now in
+    let read = readings (entries ++ are.behind) in
+    let same : faults ≡ map fault_of read = here ∙ drop_min first printing.faults.now ∙ are.faults in
+    let from : answers ≡ drop (puzzle_count (take first printing.faults.now)) printing.answers.now =
+    left ∙ drop_min (puzzle_count before) printing.answers.now
+    ∙ ap (λ (fs : List (Option EntryFault)). drop (puzzle_count fs) printing.answers.now) (passed ∙ take_min first printing.faults.now) in
+    listed_graded guesses entries read (readings are.behind) answers all (map-append reading entries are.behind)
+    (subst (AreGraded guesses read) (sym from) are.answers)
+    (ap (λ (fs : List (Option EntryFault)). answered entries fs answers) (sym same) ∙ listed)
+
+-- the graded entries of two lists, and how many they are
+pub graded_both : (printing : Printing) (xs ys : List Entry) → graded_of printing (xs ++ ys) ≡ graded_of printing xs ++ graded_of printing ys
+graded_both printing xs ys =
+    ap (map (graded (guessing printing.settings.now))) (map-append shown_entry xs ys)
+    ∙ map-append (graded (guessing printing.settings.now)) (map shown_entry xs) (map shown_entry ys)
+
+pub graded_count : (printing : Printing) (xs : List Entry) → length (graded_of printing xs) ≡ length xs
+graded_count printing xs = length-map (map shown_entry xs) (graded (guessing printing.settings.now)) ∙ length-map xs shown_entry
+
+-- a fact that rests on another
+pub when_ok : {X E : Type 0} (A : Type 0) (P : X → Type 0) (r : Result X E) → (A → IfOk r P) → IfOk r (λ x. A → P x)
+when_ok A P (Ok x) h = h
+when_ok A P (Err e) h = tt
+
+-- if all is answered, it is so from the first place on
+pub all_answered : (printing : Printing) (entries : List Entry) → length entries ≤ MOST_ENTRIES
+    → printing.faults.now ≡ map fault_of (readings entries)
+    → AreGraded (guessing printing.settings.now) (readings entries) printing.answers.now → AreAnswersAt printing 0 entries
+all_answered printing entries few faults graded_so =
+    let whole : entries ++ [] ≡ entries = append-nil entries in
+    record {
+      behind = [];
+      few = omega (arith, few);
+      faults = faults ∙ ap (λ (all : List Entry). map fault_of (readings all)) (sym whole);
+      answers = subst (λ (all : List Entry). AreGraded (guessing printing.settings.now) (readings all) printing.answers.now) (sym whole)
+          graded_so;
+    }
+
+-- what an answer found is the report on the puzzle, if it is one
+pub found_is : (guesses : Guessing) (p q : Nonogram) (outcome : Result Findings NoMemory) → q ≡ p →
+    IsOutcome p guesses.limit guesses.pick outcome → IsOk outcome
+    → found_of q outcome ≡ Ok (p, report_of (picked guesses.pick p.width) p guesses.limit)
+found_is guesses p q (Err refused) e is_outcome ok = let bad : false ≡ true = ok in cc
+found_is guesses p q (Ok findings) e is_outcome ok =
+    ap (λ (r : Nonogram). found_of r (Ok findings)) e ∙ ap (λ (found : Findings). found_of p (Ok found)) is_outcome

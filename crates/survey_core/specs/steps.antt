@@ -4,6 +4,8 @@ pub mod Dealt
 pub mod Entries
 pub mod Goals
 pub mod Graded
+pub mod Listings
 pub mod Readings
 pub mod SurveyTexts
 pub mod Tallies
+pub mod Writing

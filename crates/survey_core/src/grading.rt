@@ -1,20 +1,21 @@
 //! Grading entries: reading them, collecting the answers to their puzzles, and printing these beside the
 //! entries.
 
-ghost use Rattle.std.specs.Prelude.{◌≡◌, ◌≤◌, ◌<◌, None, length, map, IfOk};
+ghost use Rattle.std.specs.Prelude.{◌≡◌, ◌≤◌, ◌+◌, ◌++◌, ℕ, List, length, map, IfOk};
 ghost use Rattle.puzzle_text.specs.Shown.{shown_entry};
+ghost use Rattle.puzzle_text.specs.declared.collections.Entry.{Entry};
 ghost use Rattle.survey_core.specs.Guessing.{guessing};
-ghost use Rattle.survey_core.specs.steps.Entries.{shown_listed};
-ghost use Rattle.survey_core.specs.steps.Graded.{AreGraded};
-ghost use Rattle.survey_core.specs.steps.Readings.{TakesAnswer, fault_of, readings};
+ghost use Rattle.survey_core.specs.steps.Graded.{AreAnswersAt, graded_of, puzzle_count};
+ghost use Rattle.survey_core.specs.steps.SurveyTexts.{AreParts, text_of};
 ghost use Rattle.survey_core.specs.Survey.{survey_of_list};
 
 use crate::Settings;
 use crate::collecting::{CollectFault, collect};
-use crate::listed::ListedEntry;
-use crate::parts::parts_of;
-use crate::printing::SurveyText;
+use crate::listings::AnswerListing;
+use crate::parts::{Work, in_parts, parts_of};
+use crate::printing::Part;
 use crate::readings::{Readings, read_entries};
+use crate::texts::{Parts, SurveyText};
 use grid_core::NoMemory;
 use lane_core::{Answer, Gate};
 use puzzle_text::{Entry, EntryFault, MOST_ENTRIES};
@@ -22,49 +23,59 @@ use std::alloc::Global;
 use std::sync::Wait;
 use std::thread::Threads;
 
-/// An entry with its fault, or else with the first of the answers, and the answers that are left. `NoMemory`
-/// if that answer says so.
-fn list_entry<'a>(
-    name: &'a [u8],
-    fault: Option<EntryFault>,
-    answers: &'a [Answer],
-) -> Result<(ListedEntry<'a>, &'a [Answer]), NoMemory>
-    requires { fault ≡ None → 0 < length answers.now }
-    ensures name { IfOk result (λ listed. (shown_listed listed.0).name ≡ name.now) }
-    ensures result { IfOk result (λ listed. TakesAnswer fault answers.now listed.1.now (shown_listed listed.0).result) }
-{
-    if let Some(fault) = fault {
-        return Ok((ListedEntry::refused(name, fault), answers));
-    }
-    let [answer, others @ ..] = answers else {
-        unreachable!()
-    };
-    let listed = ListedEntry::graded(name, answer)?;
-    Ok((listed, others))
+/// The printing of entries that were read, with the answers to the puzzles among them.
+#[derive(Drop)]
+struct Printing<'s> {
+    alloc: Global,
+    settings: &'s Settings,
+    /// Each entry's fault, if it has one.
+    faults: &'s [Option<EntryFault>],
+    /// The answers to those without.
+    answers: &'s [Answer],
 }
 
-/// The survey of entries that were read, with the answers to the puzzles among them. `NoMemory` also if an
-/// answer says so.
-fn print_answers(
-    alloc: Global,
-    entries: &[Entry<'_>],
-    faults: &[Option<EntryFault>],
-    answers: &[Answer],
-    settings: &Settings,
-) -> Result<Vec<u8>, NoMemory>
-    requires few { length entries.now ≤ MOST_ENTRIES }
-    requires faults { faults.now ≡ map fault_of (readings entries.now) }
-    requires answers { AreGraded (guessing settings.now) (readings entries.now) answers.now }
-    ensures { IfOk result (λ text. text.items ≡ survey_of_list (guessing settings.now) settings.now.show (map shown_entry entries.now)) }
-{
-    let mut survey = SurveyText::new(alloc, settings.show);
-    let mut left = answers;
-    for (place, entry) in entries.iter().enumerate() {
-        let (listed, others) = list_entry(entry.name, faults[place], left)?;
-        survey.add(&listed)?;
-        left = others;
+impl<'s, 'e> Work<Entry<'e>> for Printing<'s> {
+    type Output = Parts;
+
+    ghost gives = { λ printing first entries parts. AreAnswersAt printing first entries
+        → AreParts printing.settings.now.show (first + 1) parts (graded_of printing entries) };
+
+    fn part(&self, first: usize, entries: &[Entry<'e>]) -> Result<Parts, NoMemory> {
+        let (before, faults) = self.faults.split_at(first.min(self.faults.len()));
+        let answered = puzzles_among(before).min(self.answers.len());
+        let (_, answers) = self.answers.split_at(answered);
+        let listing = AnswerListing {
+            entries,
+            faults,
+            answers,
+        };
+        let part = Part::of(self.alloc, first as u32 + 1, listing, self.settings.show)?;
+        Ok(Parts::of(self.alloc, part))
     }
-    survey.finish()
+
+    fn both(&self, front: Parts, behind: Parts) -> Result<Parts, NoMemory>
+        ensures { (first : ℕ) (xs ys : List Entry)
+            → (AreAnswersAt self.now first xs → AreParts self.now.settings.now.show (first + 1) front (graded_of self.now xs))
+            → (AreAnswersAt self.now (first + length xs) ys
+            → AreParts self.now.settings.now.show (first + length xs + 1) behind (graded_of self.now ys))
+            → IfOk result (λ parts. AreAnswersAt self.now first (xs ++ ys)
+            → AreParts self.now.settings.now.show (first + 1) parts (graded_of self.now (xs ++ ys))) }
+    {
+        front.followed_by(behind)
+    }
+}
+
+/// How many entries have no fault.
+fn puzzles_among(faults: &[Option<EntryFault>]) -> usize
+    ensures { result ≡ puzzle_count faults.now }
+{
+    let mut count = 0;
+    for fault in faults {
+        if fault.is_none() {
+            count += 1;
+        }
+    }
+    count
 }
 
 /// The survey of entries, graded over lanes.
@@ -74,12 +85,18 @@ pub(crate) fn survey_text<H: Threads + Wait + Sync, G: Gate + Sync>(
     entries: &[Entry<'_>],
     settings: &Settings,
     gate: &G,
-) -> Result<Vec<u8>, CollectFault>
+) -> Result<SurveyText, CollectFault>
     requires { length entries.now ≤ MOST_ENTRIES }
-    ensures { IfOk result (λ text. text.items ≡ survey_of_list (guessing settings.now) settings.now.show (map shown_entry entries.now)) }
+    ensures { IfOk result (λ survey. text_of survey ≡ survey_of_list (guessing settings.now) settings.now.show (map shown_entry entries.now)) }
 {
     let parts = parts_of(entries.len(), settings.lanes);
     let Readings { jobs, faults } = read_entries(rt, alloc, entries, settings, parts)?;
     let answers = collect(rt, alloc, jobs, settings.lanes, settings.ring, gate)?;
-    Ok(print_answers(alloc, entries, &faults, &answers, settings)?)
+    let printing = Printing {
+        alloc,
+        settings,
+        faults: &faults,
+        answers: &answers,
+    };
+    Ok(in_parts(rt, &printing, entries, parts)?.finish()?)
 }

@@ -14,6 +14,7 @@ mod job_order;
 mod lanes;
 pub mod laws;
 mod listed;
+mod listings;
 mod lists;
 mod names;
 mod outcomes;
@@ -27,6 +28,7 @@ mod settings;
 mod shared;
 mod streams;
 mod surveys;
+mod texts;
 mod totals;
 mod workers;
 

@@ -1,56 +1,70 @@
-//! The text of a survey.
+//! The text of a survey, or of a part of it.
 
-ghost use Rattle.std.specs.Prelude.{◌≡◌, ◌++◌, ◌∷◌, ◌≤◌, [], List, Bool, length, IfOk, OnOk, map};
+ghost use Rattle.std.specs.Prelude.{◌≡◌, ◌++◌, ◌∷◌, ◌+◌, ◌<◌, ◌≤◌, ◌^◌, [], List, Bool, Some, length, IfOk, OnOk, map};
 ghost use Rattle.survey_core.specs.Entries.{GradedEntry, shown_outcome};
 ghost use Rattle.survey_core.specs.steps.Entries.{shown_listed};
 ghost use Rattle.survey_core.specs.Survey.{survey_text};
-ghost use Rattle.survey_core.specs.steps.SurveyTexts.{IsSurveyText};
+ghost use Rattle.survey_core.specs.steps.SurveyTexts.{IsPart};
 ghost use Rattle.survey_core.specs.steps.Tallies.{HasRoom};
 
 use crate::Outcome;
 use crate::entries::push_entry;
 use crate::listed::ListedEntry;
+use crate::listings::{Listing, OutcomeListing};
 use crate::totals::Totals;
 use grid_core::NoMemory;
 use puzzle_text::MOST_ENTRIES;
 use std::alloc::Global;
 
-/// The text of a survey as far as it has come: that of its first entries, numbered from 1, and their totals.
+/// Entries of a survey that follow one another: their text, and their totals.
 #[derive(Drop)]
-pub(crate) struct SurveyText {
-    show: bool,
-    text: Vec<u8>,
-    /// The totals of the entries.
+pub(crate) struct Part {
+    /// Their text.
+    pub text: Vec<u8>,
+    /// Their totals.
     pub totals: Totals,
 }
 
-impl SurveyText {
-    /// The survey of no entry, in which solutions are shown or not.
-    pub fn new(alloc: Global, show: bool) -> SurveyText
-        ensures { IsSurveyText show result [] }
+impl Part {
+    /// The part of the entries of a list, the first of which has this number. `NoMemory` also if an answer
+    /// says so.
+    pub fn of<'a, L: Listing<'a> + Drop>(
+        alloc: Global,
+        first: u32,
+        listing: L,
+        show: bool,
+    ) -> Result<Part, NoMemory>
+        requires numbers { first + length (L.to_come listing) < 2 ^ 32 }
+        requires few { length (L.to_come listing) < 2 ^ 31 }
+        ensures { IfOk result (λ part. (entries : List GradedEntry) × (L.to_come listing ≡ map Some entries) × IsPart show first part entries) }
     {
-        SurveyText {
-            show,
+        let mut listing = listing;
+        let mut part = Part {
             text: Vec::new(alloc),
             totals: Totals::none(),
+        };
+        'listing: while let Some(entry) = listing.next()? {
+            part.add(first, &entry, show)?;
         }
+        Ok(part)
     }
 
-    /// Adds an entry.
-    pub fn add(&mut self, entry: &ListedEntry<'_>) -> Result<(), NoMemory>
-        requires { HasRoom self.old.totals }
-        ensures { (show : Bool) (entries : List GradedEntry) → IsSurveyText show self.old entries
-            → OnOk result (IsSurveyText show self.new (entries ++ shown_listed entry.now ∷ [])) }
+    /// Adds an entry behind those of a part whose first has this number.
+    fn add(&mut self, first: u32, entry: &ListedEntry<'_>, show: bool) -> Result<(), NoMemory>
+        requires room { HasRoom self.old.totals }
+        requires number { first + self.old.totals.entries < 2 ^ 32 }
+        ensures { (entries : List GradedEntry) → IsPart show first self.old entries
+            → OnOk result (IsPart show first self.new (entries ++ shown_listed entry.now ∷ [])) }
     {
-        let number = self.totals.entries as u32 + 1;
-        push_entry(&mut self.text, number, entry, self.show)?;
+        let number = first + self.totals.entries as u32;
+        push_entry(&mut self.text, number, entry, show)?;
         self.totals.count(entry);
         Ok(())
     }
 
     /// The text of the entries and the line of totals.
-    pub fn finish(self) -> Result<Vec<u8>, NoMemory>
-        ensures { (show : Bool) (entries : List GradedEntry) → IsSurveyText show self entries →
+    fn finish(self) -> Result<Vec<u8>, NoMemory>
+        ensures { (show : Bool) (entries : List GradedEntry) → IsPart show 1 self entries →
             IfOk result (λ text. text.items ≡ survey_text show entries) }
     {
         let mut text = self.text;
@@ -65,9 +79,5 @@ pub fn print_survey(alloc: Global, outcomes: &[Outcome], show: bool) -> Result<V
     requires { length outcomes.now ≤ MOST_ENTRIES }
     ensures { IfOk result (λ text. text.items ≡ survey_text show (map shown_outcome outcomes.now)) }
 {
-    let mut survey = SurveyText::new(alloc, show);
-    for outcome in outcomes {
-        survey.add(&outcome.listed())?;
-    }
-    survey.finish()
+    Part::of(alloc, 1, OutcomeListing { outcomes }, show)?.finish()
 }

@@ -1,10 +1,11 @@
 //! Reading a collection whole, and writing a text whole, with the number of bytes that went out before a
 //! fault.
 
-ghost use Rattle.std.specs.Prelude.{◌≡◌, ◌+◌, ◌-◌, ◌^◌, ◌<◌, ◌≤◌, ◌↔◌, length, take, vec_len, IfOk, IfErr, IsErr, OnOk, IsErrOf};
-ghost use Rattle.std.specs.Io.KnownBytes.{Appends, Consumes, IsAtEnd};
+ghost use Rattle.std.specs.Prelude.{◌≡◌, ◌+◌, ◌++◌, ◌-◌, ◌^◌, ◌<◌, ◌≤◌, ◌↔◌, ℕ, length, take, vec_len, IfOk, IfErr, IsErr, OnOk, IsErrOf};
+ghost use Rattle.std.specs.Io.KnownBytes.{Appends, Consumes, IsAtEnd, Keeps};
 ghost use Rattle.survey_core.specs.Counted.{fault_count};
 ghost use Rattle.survey_core.specs.Reading.{ReadsWithin};
+ghost use Rattle.survey_core.specs.steps.Writing.{SendsFront, joined};
 
 use crate::Counted;
 use puzzle_text::LONGEST_COLLECTION;
@@ -62,15 +63,63 @@ pub fn write_text<W: Write>(writer: &mut Counted<W>, text: &[u8]) -> Result<(), 
     ensures failed { IsErr result ↔ (fault_count writer.old < fault_count writer.new) }
     ensures sound { OnOk result (fault_count writer.new ≡ fault_count writer.old) }
 {
+    let sent = write_behind(writer, 0, text)?;
+    flush_behind(writer, sent)
+}
+
+/// Writes texts, one after the other, and flushes once. An `Err` has the number of bytes of all of them that
+/// went out.
+pub(crate) fn write_texts<W: Write>(
+    writer: &mut Counted<W>,
+    front: &[Vec<u8>],
+    last: &[u8],
+) -> Result<(), u64>
+    requires writing { fault_count writer.old < 2 ^ 32 - 1 }
+    requires counted { length (joined front.now ++ last.now) < 2 ^ 64 }
+    ensures ok { OnOk result (Appends (W.contents writer.old.inner) (W.contents writer.new.inner) (joined front.now ++ last.now)) }
+    ensures sent { IfErr result (λ sent. SendsFront (joined front.now ++ last.now) sent (W.contents writer.old.inner)
+        (W.contents writer.new.inner)) }
+    ensures failed { IsErr result ↔ (fault_count writer.old < fault_count writer.new) }
+{
+    let mut sent = 0;
+    for text in front {
+        sent = write_behind(writer, sent, text)?;
+    }
+    sent = write_behind(writer, sent, last)?;
+    flush_behind(writer, sent)
+}
+
+/// Writes a text behind so many bytes: the number of all bytes that went out.
+fn write_behind<W: Write>(writer: &mut Counted<W>, before: u64, text: &[u8]) -> Result<u64, u64>
+    requires writing { fault_count writer.old < 2 ^ 32 - 1 }
+    requires counted { before + length text.now < 2 ^ 64 }
+    ensures ok { IfOk result (λ sent. (sent ≡ before + length text.now) ×
+        Appends (W.contents writer.old.inner) (W.contents writer.new.inner) text.now) }
+    ensures sent { IfErr result (λ sent. (count : ℕ) × (sent ≡ before + count) ×
+        SendsFront text.now count (W.contents writer.old.inner) (W.contents writer.new.inner)) }
+    ensures failed { IsErr result ↔ (fault_count writer.old < fault_count writer.new) }
+    ensures sound { OnOk result (fault_count writer.new ≡ fault_count writer.old) }
+{
     let mut sent = 0;
     while sent < text.len() {
         match writer.write(&text[sent..]) {
-            Err(_) | Ok(0) => return Err(sent as u64),
+            Err(_) | Ok(0) => return Err(before + sent as u64),
             Ok(count) => sent += count,
         }
     }
+    Ok(before + sent as u64)
+}
+
+/// Flushes behind so many bytes that went out.
+fn flush_behind<W: Write>(writer: &mut Counted<W>, sent: u64) -> Result<(), u64>
+    requires { fault_count writer.old < 2 ^ 32 - 1 }
+    ensures bytes { Keeps (W.contents writer.old.inner) (W.contents writer.new.inner) }
+    ensures sent { IfErr result (λ count. count ≡ sent) }
+    ensures failed { IsErr result ↔ (fault_count writer.old < fault_count writer.new) }
+    ensures sound { OnOk result (fault_count writer.new ≡ fault_count writer.old) }
+{
     match writer.flush() {
         Ok(()) => Ok(()),
-        Err(_) => Err(sent as u64),
+        Err(_) => Err(sent),
     }
 }

@@ -10,7 +10,7 @@ ghost use Rattle.survey_core.specs.Leaving.{IsErrWrite, IsWrite, Leaves};
 ghost use Rattle.survey_core.specs.Survey.{survey_of, survey_of_entries, survey_of_list};
 
 use crate::grading::survey_text;
-use crate::streams::{ReadFault, read_collection, write_text};
+use crate::streams::{ReadFault, read_collection};
 use crate::{Counted, RunFault, Settings};
 use lane_core::Gate;
 use puzzle_text::{CollectionFault, Entry, LONGEST_COLLECTION, MOST_ENTRIES, entries};
@@ -36,7 +36,7 @@ fn write_survey<H: Threads + Wait + Sync, W: Write, G: Gate + Sync>(
     ensures no_read { IsErrOf result RunFault.Read → ⊥ }
 {
     match survey_text(rt, alloc, entries, settings, gate) {
-        Ok(text) => write_text(writer, &text).map_err(RunFault::Write),
+        Ok(survey) => survey.write(writer).map_err(RunFault::Write),
         Err(fault) => Err(RunFault::from(fault)),
     }
 }

@@ -1,11 +1,11 @@
 //! The last line of a survey.
 
-ghost use Rattle.std.specs.Prelude.{◌≡◌, ◌+◌, ◌++◌, ◌^◌, ◌<◌, [], OnOk, codes};
+ghost use Rattle.std.specs.Prelude.{◌≡◌, ◌+◌, ◌++◌, ◌^◌, ◌<◌, [], List, length, OnOk, codes};
 ghost use Rattle.std.specs.Str.{bytes_eq};
-ghost use Rattle.survey_core.specs.Entries.{grade_word, verdict_word};
+ghost use Rattle.survey_core.specs.Entries.{GradedEntry, grade_word, verdict_word};
 ghost use Rattle.survey_core.specs.steps.Entries.{shown_listed};
 ghost use Rattle.survey_core.specs.Totals.{count_text, has_grade, has_status};
-ghost use Rattle.survey_core.specs.steps.Tallies.{HasRoom, IsTotals, grades_text, one_more_where, statuses_text, totals_text};
+ghost use Rattle.survey_core.specs.steps.Tallies.{HasGradeRoom, HasRoom, HasVerdictRoom, IsTotals, grades_text, one_more_where, statuses_text, sum_of, totals_text};
 
 use crate::listed::ListedEntry;
 use grid_core::NoMemory;
@@ -24,10 +24,7 @@ pub(crate) struct VerdictTotals {
 impl VerdictTotals {
     /// Counts a verdict.
     fn count(&mut self, verdict: &Verdict)
-        requires none { self.old.none < 2 ^ 63 }
-        requires one { self.old.one < 2 ^ 63 }
-        requires several { self.old.several < 2 ^ 63 }
-        requires unsettled { self.old.unsettled < 2 ^ 63 }
+        requires { HasVerdictRoom self.old }
         ensures none { self.new.none ≡ one_more_where (bytes_eq (verdict_word verdict.now) (codes "none")) self.old.none }
         ensures one { self.new.one ≡ one_more_where (bytes_eq (verdict_word verdict.now) (codes "one")) self.old.one }
         ensures several { self.new.several ≡ one_more_where (bytes_eq (verdict_word verdict.now) (codes "several")) self.old.several }
@@ -40,6 +37,19 @@ impl VerdictTotals {
             Verdict::Several(_, _) => self.several += 1,
             Verdict::Unsettled(_) => self.unsettled += 1,
         }
+    }
+
+    /// Adds the totals of other puzzles.
+    fn add(&mut self, others: &VerdictTotals)
+        ensures none { self.new.none ≡ sum_of self.old.none others.now.none }
+        ensures one { self.new.one ≡ sum_of self.old.one others.now.one }
+        ensures several { self.new.several ≡ sum_of self.old.several others.now.several }
+        ensures unsettled { self.new.unsettled ≡ sum_of self.old.unsettled others.now.unsettled }
+    {
+        self.none = self.none.saturating_add(others.none);
+        self.one = self.one.saturating_add(others.one);
+        self.several = self.several.saturating_add(others.several);
+        self.unsettled = self.unsettled.saturating_add(others.unsettled);
     }
 }
 
@@ -54,9 +64,7 @@ pub(crate) struct GradeTotals {
 impl GradeTotals {
     /// Counts a grade.
     fn count(&mut self, grade: Grade)
-        requires by_lines { self.old.by_lines < 2 ^ 63 }
-        requires by_trials { self.old.by_trials < 2 ^ 63 }
-        requires by_search { self.old.by_search < 2 ^ 63 }
+        requires { HasGradeRoom self.old }
         ensures by_lines { self.new.by_lines ≡ one_more_where (bytes_eq (grade_word grade) (codes "line")) self.old.by_lines }
         ensures by_trials { self.new.by_trials ≡ one_more_where (bytes_eq (grade_word grade) (codes "trials")) self.old.by_trials }
         ensures by_search { self.new.by_search ≡ one_more_where (bytes_eq (grade_word grade) (codes "search")) self.old.by_search }
@@ -66,6 +74,17 @@ impl GradeTotals {
             Grade::Trials => self.by_trials += 1,
             Grade::Search => self.by_search += 1,
         }
+    }
+
+    /// Adds the totals of other puzzles.
+    fn add(&mut self, others: &GradeTotals)
+        ensures by_lines { self.new.by_lines ≡ sum_of self.old.by_lines others.now.by_lines }
+        ensures by_trials { self.new.by_trials ≡ sum_of self.old.by_trials others.now.by_trials }
+        ensures by_search { self.new.by_search ≡ sum_of self.old.by_search others.now.by_search }
+    {
+        self.by_lines = self.by_lines.saturating_add(others.by_lines);
+        self.by_trials = self.by_trials.saturating_add(others.by_trials);
+        self.by_search = self.by_search.saturating_add(others.by_search);
     }
 }
 
@@ -128,6 +147,17 @@ impl Totals {
             }
             Err(_) => self.refused += 1,
         }
+    }
+
+    /// Adds the totals of the entries behind these.
+    pub fn add(&mut self, behind: &Totals)
+        ensures { (entries others : List GradedEntry) → IsTotals self.old entries → IsTotals behind.now others
+            → length (entries ++ others) < 2 ^ 31 → IsTotals self.new (entries ++ others) }
+    {
+        self.entries = self.entries.saturating_add(behind.entries);
+        self.refused = self.refused.saturating_add(behind.refused);
+        self.verdicts.add(&behind.verdicts);
+        self.grades.add(&behind.grades);
     }
 
     /// Adds the counts of the refused entries and of each verdict.

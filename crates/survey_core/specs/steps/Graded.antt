@@ -1,10 +1,17 @@
 -- Answers beside the entries that were read.
-use Rattle.std.specs.Prelude.{◌≡◌, List, [], ◌∷◌, Result, Ok, Err}
+use Rattle.std.specs.Prelude.{◌≡◌, ◌≤◌, ◌+◌, ◌++◌, ℕ, List, [], ◌∷◌, length, map, take, drop, count_by, is_none, Option, Result, Ok, Err}
 use Rattle.grid_core.specs.Nonogram.{Nonogram}
 use Rattle.puzzle_text.specs.declared.faults.EntryFault.{EntryFault}
 use Rattle.lane_core.specs.Outcome.{IsOutcome}
 use Rattle.lane_core.specs.declared.answers.Answer.{Answer}
-use Rattle.survey_core.specs.Guessing.{Guessing}
+use Rattle.puzzle_text.specs.Shown.{shown_entry}
+use Rattle.puzzle_text.specs.declared.collections.Entry.{Entry}
+use Rattle.puzzle_text.specs.declared.limits.TheConstants.{MOST_ENTRIES}
+use Rattle.survey_core.specs.Entries.{GradedEntry}
+use Rattle.survey_core.specs.Guessing.{Guessing, guessing}
+use Rattle.survey_core.specs.Survey.{graded}
+use Rattle.survey_core.specs.steps.Readings.{fault_of, readings}
+use Rattle.survey_core.specs.declared.grading.Printing.{Printing}
 
 -- the answers are those to the puzzles that were read, in order
 abbrev pub AreGraded : Guessing → List (Result Nonogram EntryFault) → List Answer → Type 0
@@ -14,3 +21,20 @@ AreGraded guesses (Err fault ∷ readings) answers = AreGraded guesses readings 
 AreGraded guesses (Ok p ∷ readings) [] = ⊥
 AreGraded guesses (Ok p ∷ readings) (answer ∷ answers) = (answer.puzzle ≡ p) × (IsOutcome p guesses.limit guesses.pick answer.outcome) ×
     (AreGraded guesses readings answers)
+
+-- how many entries have no fault
+abbrev pub puzzle_count : List (Option EntryFault) → ℕ
+puzzle_count faults = count_by is_none faults
+
+-- these entries, graded
+abbrev pub graded_of : Printing → List Entry → List GradedEntry
+graded_of printing entries = map (graded (guessing printing.settings.now)) (map shown_entry entries)
+
+-- the faults from this place on are those of these entries and others behind them, and the answers from there
+-- on are those to the puzzles among them
+pub record AreAnswersAt (printing : Printing) (first : ℕ) (entries : List Entry) : Type 0 where
+  pub behind : List Entry
+  pub few : first + length entries ≤ MOST_ENTRIES
+  pub faults : drop first printing.faults.now ≡ map fault_of (readings (entries ++ behind))
+  pub answers : AreGraded (guessing printing.settings.now) (readings (entries ++ behind))
+      (drop (puzzle_count (take first printing.faults.now)) printing.answers.now)

@@ -1,5 +1,5 @@
--- What reading entries gives, and the answers beside them.
-use Rattle.std.specs.Prelude.{◌≡◌, ◌≤◌, ℕ, List, [], ◌∷◌, length, map, vec_len, Option, Some, None, Result, Ok, Err, IsOk}
+-- What reading entries gives.
+use Rattle.std.specs.Prelude.{◌≡◌, ◌≤◌, ℕ, List, [], ◌∷◌, length, map, vec_len, Option, Some, None, Result, Ok, Err}
 use Rattle.std.specs.List.{enumerate_from, flat_map}
 use Rattle.grid_core.specs.Nonogram.{Nonogram}
 use Rattle.grid_core.specs.declared.limits.TheConstants.{LONGEST_SIDE}
@@ -7,11 +7,8 @@ use Rattle.puzzle_text.specs.Formats.{read_entry}
 use Rattle.puzzle_text.specs.Shown.{shown_entry}
 use Rattle.puzzle_text.specs.declared.collections.Entry.{Entry}
 use Rattle.puzzle_text.specs.declared.faults.EntryFault.{EntryFault}
-use Rattle.lane_core.specs.declared.answers.Answer.{Answer}
 use Rattle.lane_core.specs.declared.jobs.Job.{Job}
-use Rattle.solve_core.specs.declared.findings.Findings.{Findings}
 use Rattle.solve_core.specs.declared.picks.Pick.{Pick}
-use Rattle.survey_core.specs.Entries.{found_of}
 use Rattle.survey_core.specs.Guessing.{Guessing}
 use Rattle.survey_core.specs.declared.readings.Readings.{Readings}
 
@@ -53,9 +50,3 @@ pub record IsReadingOf (guesses : Guessing) (first : ℕ) (entries : List Entry)
   pub jobs : map shown_job read.jobs.items ≡ jobs_from guesses first (readings entries)
   pub few : vec_len read.jobs ≤ length entries
   pub faults : read.faults.items ≡ map fault_of (readings entries)
-
--- the fault, or else what the first of the answers found, which is a report
-abbrev pub TakesAnswer : Option EntryFault → List Answer → List Answer → Result (Nonogram × Findings) EntryFault → Type 0
-TakesAnswer (Some fault) old new result = (result ≡ Err fault) × (new ≡ old)
-TakesAnswer None old new result = (answer : Answer) ×
-    ((old ≡ answer ∷ new) × (result ≡ found_of answer.puzzle answer.outcome) × IsOk answer.outcome)

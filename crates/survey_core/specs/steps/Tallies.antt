@@ -1,25 +1,39 @@
 -- Counts of entries, kept while these are gone through.
-use Rattle.std.specs.Prelude.{◌≡◌, ℕ, ◌+◌, ◌^◌, ◌<◌, Bool, true, false, List, ◌++◌, length, count_by, codes, decimal}
+use Rattle.std.specs.Prelude.{◌≡◌, ℕ, ◌+◌, ◌-◌, ◌^◌, min, ◌<◌, Bool, true, false, List, ◌++◌, length, count_by, codes, decimal}
 use Rattle.survey_core.specs.Entries.{GradedEntry}
 use Rattle.survey_core.specs.Totals.{count_text, has_grade, has_status}
+use Rattle.survey_core.specs.declared.totals.GradeTotals.{GradeTotals}
 use Rattle.survey_core.specs.declared.totals.Totals.{Totals}
+use Rattle.survey_core.specs.declared.totals.VerdictTotals.{VerdictTotals}
 
 -- one more if the test holds
 abbrev pub one_more_where : Bool → ℕ → ℕ
 one_more_where true count = count + 1
 one_more_where false count = count
 
+-- the sum of two totals, up to the greatest number
+abbrev pub sum_of : ℕ → ℕ → ℕ
+sum_of total other = min (total + other) (2 ^ 64 - 1)
+
+-- each number of a verdict can grow
+pub record HasVerdictRoom (verdicts : VerdictTotals) : Type 0 where
+  pub none : verdicts.none < 2 ^ 63
+  pub one : verdicts.one < 2 ^ 63
+  pub several : verdicts.several < 2 ^ 63
+  pub unsettled : verdicts.unsettled < 2 ^ 63
+
+-- each number of a grade can grow
+pub record HasGradeRoom (grades : GradeTotals) : Type 0 where
+  pub by_lines : grades.by_lines < 2 ^ 63
+  pub by_trials : grades.by_trials < 2 ^ 63
+  pub by_search : grades.by_search < 2 ^ 63
+
 -- each total can grow, and the next entry has a number
 pub record HasRoom (totals : Totals) : Type 0 where
   pub all : totals.entries < 2 ^ 31
   pub refused : totals.refused < 2 ^ 63
-  pub none : totals.verdicts.none < 2 ^ 63
-  pub one : totals.verdicts.one < 2 ^ 63
-  pub several : totals.verdicts.several < 2 ^ 63
-  pub unsettled : totals.verdicts.unsettled < 2 ^ 63
-  pub by_lines : totals.grades.by_lines < 2 ^ 63
-  pub by_trials : totals.grades.by_trials < 2 ^ 63
-  pub by_search : totals.grades.by_search < 2 ^ 63
+  pub verdicts : HasVerdictRoom totals.verdicts
+  pub grades : HasGradeRoom totals.grades
 
 -- each total is the number of entries that are counted under its word
 pub record IsTotals (totals : Totals) (entries : List GradedEntry) : Type 0 where

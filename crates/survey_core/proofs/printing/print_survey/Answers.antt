@@ -1,21 +1,12 @@
--- `print_survey`: one more entry is added, for which the totals have room.
-use Rattle.std.proofs.Common.{◌++◌, ◌∷◌, [], List, ap, map, subst, sym, take, ◌∙◌, arith}
-use Rattle.std.proofs.lemmas.List.{map_more}
-use Rattle.survey_core.specs.Entries.{GradedEntry, shown_outcome}
-use Rattle.survey_core.specs.steps.SurveyTexts.{IsSurveyText}
-use Rattle.survey_core.proofs.TotalsLemmas.{few_mapped, has_room}
+-- `print_survey`: the outcomes that were listed are all.
+use Rattle.std.proofs.Common.{◌≡◌, IfOk, List, subst}
+use Rattle.survey_core.specs.Entries.{GradedEntry}
+use Rattle.survey_core.specs.Survey.{survey_text}
+use Rattle.survey_core.proofs.ListingLemmas.{listed_in_hand}
 use Rattle.survey_core.proofs.printing.print_survey.Goals as goal
 
-pub add-requires : goal.add-requires
-add-requires c = has_room _ _ c.loop-outcome.invariant.totals
-    (few_mapped shown_outcome c.args.outcomes.now c.loop-outcome.outcome-index (omega arith))
-
-pub loop-outcome-preserved : goal.loop-outcome-preserved
-loop-outcome-preserved c =
-    let outcomes = c.args.outcomes.now in
-    let place = c.loop-outcome.outcome-index in
-    let so_far = map shown_outcome (take place outcomes) in
-    let more = map_more shown_outcome outcomes place c.outcome-item.result c.loop-outcome-test.true
-    ∙ ap (λ (last : GradedEntry). so_far ++ last ∷ []) (ap shown_outcome (sym c.outcome-item.is) ∙ sym c.listed.ensures) in
-    subst (λ (all : List GradedEntry). IsSurveyText c.args.show c.add.new.self all) (sym more)
-    (c.in_ok-add.ensures c.args.show so_far c.loop-outcome.invariant)
+pub returns : goal.returns
+returns c =
+    let listed = c.in_ok-of.ensures in
+    subst (λ (all : List GradedEntry). IfOk c.finish.result (λ text. text.items ≡ survey_text c.args.show all))
+    (listed_in_hand c.args.outcomes.now listed.0 listed.1) (c.finish.ensures c.args.show listed.0 listed.2)

@@ -1,7 +1,7 @@
--- `write_text`: what one more write takes of the rest goes out behind what went out before.
+-- `write_behind`: what one more write takes of the rest goes out behind what went out before.
 use Rattle.std.proofs.Common.{rules}
 use Rattle.survey_core.proofs.Front.{appends_front}
-use Rattle.survey_core.proofs.streams.write_text.Goals as goal
+use Rattle.survey_core.proofs.streams.write_behind.Goals as goal
 
 pub loop-sent-preserved : goal.loop-sent-preserved
 loop-sent-preserved g c = record {

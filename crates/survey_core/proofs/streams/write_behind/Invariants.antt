@@ -1,8 +1,8 @@
--- What the loop of `write_text` keeps: the first `sent` bytes of the text went out, and no call failed.
+-- What the loop of `write_behind` keeps: the first `sent` bytes of the text went out, and no call failed.
 use Rattle.std.proofs.Common.{◌≡◌, ◌≤◌, ◌-◌, length, take}
 use Rattle.std.specs.Io.KnownBytes.{Appends}
 use Rattle.survey_core.specs.Counted.{fault_count}
-use Rattle.survey_core.proofs.streams.write_text.Given as goal
+use Rattle.survey_core.proofs.streams.write_behind.Given as goal
 
 abbrev pub invariant-loop-sent : goal.invariant-loop-sent
 invariant-loop-sent g l = record {

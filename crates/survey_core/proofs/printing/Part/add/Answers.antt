@@ -1,17 +1,16 @@
--- `SurveyText::add`: the entry's text is added, and it is counted in each total of its words.
+-- `Part::add`: the entry's text is added, and it is counted in each total of its words.
 use Rattle.survey_core.specs.steps.Entries.{shown_listed}
 use Rattle.survey_core.proofs.PrintedLemmas.{added_text}
 use Rattle.survey_core.proofs.TotalsLemmas.{count_more, one_more}
-use Rattle.survey_core.proofs.printing.SurveyText.add.Goals as goal
+use Rattle.survey_core.proofs.printing.Part.add.Goals as goal
 
 pub returns : goal.returns
-returns c = λ show entries so_far.
+returns c = λ entries so_far.
     let entry = shown_listed c.args.entry.now in
     let before = so_far.totals in
     let counts = c.count.ensures in
     record {
-      shows = so_far.shows;
-      text = added_text show _ entries entry _ _ _ so_far.shows so_far.text before.all c.in_ok-push_entry.ensures;
+      text = added_text c.args.show c.args.first entries entry _ _ _ so_far.text before.all c.in_ok-push_entry.ensures;
       totals = record {
         all = one_more entries entry _ _ before.all counts.entries;
         refused = count_more _ entries entry _ _ before.refused counts.refused;

@@ -1,0 +1,89 @@
+-- Entries that are listed one after another, with what was found of them.
+use Rattle.std.proofs.Common.{◌≡◌, ℕ, ◌+◌, ◌≤◌, List, [], ◌∷◌, ◌++◌, length, map, append_assoc, arith, Option, None, Some, Result, Ok, Err, sym, ap, refl, ◌∙◌}
+use Rattle.std.proofs.lemmas.List.{length-append, length-map, map-append}
+use Rattle.grid_core.specs.Nonogram.{Nonogram}
+use Rattle.grid_core.specs.declared.memory.NoMemory.{NoMemory}
+use Rattle.solve_core.specs.declared.findings.Findings.{Findings}
+use Rattle.puzzle_text.specs.Shown.{shown_entry}
+use Rattle.puzzle_text.specs.declared.collections.Entry.{Entry}
+use Rattle.puzzle_text.specs.declared.faults.EntryFault.{EntryFault}
+use Rattle.lane_core.specs.Outcome.{IsOutcome}
+use Rattle.lane_core.specs.declared.answers.Answer.{Answer}
+use Rattle.survey_core.specs.Entries.{GradedEntry, shown_outcome}
+use Rattle.survey_core.specs.declared.outcomes.Outcome.{Outcome}
+use Rattle.survey_core.specs.Guessing.{Guessing}
+use Rattle.survey_core.specs.Survey.{graded, reported}
+use Rattle.survey_core.specs.steps.Graded.{AreGraded}
+use Rattle.survey_core.specs.steps.Listings.{answered, if_graded, in_hand, refused}
+use Rattle.survey_core.specs.steps.Readings.{fault_of, reading, readings}
+
+-- outcomes that were all listed
+pub listed_in_hand : (outcomes : List Outcome) (all : List GradedEntry) → in_hand outcomes ≡ map Some all → all ≡ map shown_outcome outcomes
+listed_in_hand [] [] listed = refl
+listed_in_hand [] (entry ∷ all) listed = cc
+listed_in_hand (outcome ∷ outcomes) [] listed = cc
+listed_in_hand (outcome ∷ outcomes) (entry ∷ all) listed =
+    let head : entry ≡ shown_outcome outcome = cc in
+    let others : in_hand outcomes ≡ map Some all = cc in
+    ap (λ (x : GradedEntry). x ∷ all) head
+    ∙ ap (λ (xs : List GradedEntry). shown_outcome outcome ∷ xs) (listed_in_hand outcomes all others)
+
+-- an answer that was listed is the graded entry
+graded_is : (guesses : Guessing) (name : List ℕ) (p q : Nonogram) (outcome : Result Findings NoMemory) (entry : GradedEntry) → q ≡ p
+    → IsOutcome p guesses.limit guesses.pick outcome → if_graded name q outcome ≡ Some entry
+    → entry ≡ record { name = name; result = reported guesses (Ok p) }
+graded_is guesses name p q (Err refused) entry same is_outcome listed = cc
+graded_is guesses name p q (Ok findings) entry same is_outcome listed =
+    let head : entry ≡ record { name = name; result = Ok (q, findings) } = cc in
+    head ∙ ap (λ (r : Nonogram). record { name = name; result = Ok (r, findings) }) same
+    ∙ ap (λ (found : Findings). record { name = name; result = Ok (p, found) }) is_outcome
+
+-- entries that were all listed with their faults and answers, which others may follow, are the graded ones
+pub listed_graded : (guesses : Guessing) (entries : List Entry) (read others : List (Result Nonogram EntryFault)) (answers : List Answer)
+    (all : List GradedEntry) → read ≡ readings entries ++ others → AreGraded guesses read answers
+    → answered entries (map fault_of read) answers ≡ map Some all → all ≡ map (graded guesses) (map shown_entry entries)
+listed_graded guesses [] read others answers [] same graded_so listed = refl
+listed_graded guesses [] read others answers (last ∷ all) same graded_so listed = cc
+listed_graded guesses (entry ∷ entries) [] others answers all same graded_so listed = cc
+listed_graded guesses (entry ∷ entries) (Err fault ∷ read) others answers [] same graded_so listed = cc
+listed_graded guesses (entry ∷ entries) (Err fault ∷ read) others answers (next ∷ all) same graded_so listed =
+    let here : Err fault ≡ reading entry = cc in
+    let behind : read ≡ readings entries ++ others = cc in
+    let head : next ≡ refused entry.name.now fault = cc in
+    let left : answered entries (map fault_of read) answers ≡ map Some all = cc in
+    ap (λ (x : GradedEntry). x ∷ all)
+    (head ∙ ap (λ (r : Result Nonogram EntryFault). record { name = entry.name.now; result = reported guesses r }) here)
+    ∙ ap (λ (xs : List GradedEntry). graded guesses (shown_entry entry) ∷ xs)
+    (listed_graded guesses entries read others answers all behind graded_so left)
+listed_graded guesses (entry ∷ entries) (Ok p ∷ read) others [] all same graded_so listed = absurd graded_so
+listed_graded guesses (entry ∷ entries) (Ok p ∷ read) others (answer ∷ answers) [] same graded_so listed = cc
+listed_graded guesses (entry ∷ entries) (Ok p ∷ read) others (answer ∷ answers) (next ∷ all) same graded_so listed =
+    let here : Ok p ≡ reading entry = cc in
+    let behind : read ≡ readings entries ++ others = cc in
+    let head : if_graded entry.name.now answer.puzzle answer.outcome ≡ Some next = cc in
+    let left : answered entries (map fault_of read) answers ≡ map Some all = cc in
+    ap (λ (x : GradedEntry). x ∷ all)
+    (graded_is guesses entry.name.now p answer.puzzle answer.outcome next graded_so.0 graded_so.1 head
+    ∙ ap (λ (r : Result Nonogram EntryFault). record { name = entry.name.now; result = reported guesses r }) here)
+    ∙ ap (λ (xs : List GradedEntry). graded guesses (shown_entry entry) ∷ xs)
+    (listed_graded guesses entries read others answers all behind graded_so.2 left)
+
+-- no more are listed than there are entries
+pub few_answered : (entries : List Entry) (faults : List (Option EntryFault)) (answers : List Answer)
+    → length (answered entries faults answers) ≤ length entries
+few_answered [] faults answers = omega arith
+few_answered (entry ∷ entries) [] answers = omega arith
+few_answered (entry ∷ entries) (Some fault ∷ faults) answers = omega (arith, few_answered entries faults answers)
+few_answered (entry ∷ entries) (None ∷ faults) [] = omega arith
+few_answered (entry ∷ entries) (None ∷ faults) (answer ∷ answers) = omega (arith, few_answered entries faults answers)
+
+-- one more entry was listed
+pub listed_more : (before : List GradedEntry) (next : GradedEntry) (all left right : List (Option GradedEntry))
+    → all ≡ map Some before ++ left → left ≡ Some next ∷ right
+    → (all ≡ map Some (before ++ next ∷ []) ++ right) × (length before + 1 ≤ length all)
+listed_more before next all left right so_far more = (
+  so_far ∙ ap (λ (xs : List (Option GradedEntry)). map Some before ++ xs) more
+      ∙ sym (append_assoc (map Some before) (Some next ∷ []) right)
+      ∙ ap (λ (xs : List (Option GradedEntry)). xs ++ right) (sym (map-append Some before (next ∷ []))),
+  omega (arith, ap length so_far, ap length more, length-append (map Some before) left, length-map before Some),
+)
