@@ -68,7 +68,8 @@ impl Clue {
     }
 
     /// Adds a number at the end. `BadNumber` if there are 128 already, or it is 0 or over 256; else perhaps
-    /// `NoMemory`: then the clue is as it was. The first growth makes room for all numbers that a clue can have.
+    /// `NoMemory`: then the clue is as it was. The first growth makes room for all numbers that a clue can
+    /// have.
     pub fn push(&mut self, number: u16) -> Result<(), ClueFault>
         ensures ok { OnOk result (self.new ≡ self.old ++ number ∷ []) }
         ensures err { OnErr result (self.new ≡ self.old) }

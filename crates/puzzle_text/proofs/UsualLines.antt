@@ -288,7 +288,8 @@ sizes_end text after second next rest a b one separated two ends =
       line,
       subst (λ (t : List ℕ). BeginsWith t line rest) (sym whole) (line_ends line next rest said.tidy ends),
       ap (two_sizes LONGEST_SIDE) parts
-          ∙ ap (λ (r : Result ℕ TextFault). r >>= λ first. size_of LONGEST_SIDE two.0 >>= λ second. Ok (first, second)) (size_said one.0 a one.2)
+          ∙ ap (λ (r : Result ℕ TextFault). r >>= λ first. size_of LONGEST_SIDE two.0 >>= λ second. Ok (first, second))
+          (size_said one.0 a one.2)
           ∙ ap (λ (r : Result ℕ TextFault). r >>= λ second. Ok (a, second)) (size_said two.0 b two.2),
       said.digit,
     )

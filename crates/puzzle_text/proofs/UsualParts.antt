@@ -83,8 +83,8 @@ one_said bytes rest next clue clues more said one is = λ number.
 
 -- ---- the walk
 
--- The sections above, under a keyword that opens `under`, and those of the lines to come are those of all lines;
--- and these are the clues of the sections above.
+-- The sections above, under a keyword that opens `under`, and those of the lines to come are those of all
+-- lines; and these are the clues of the sections above.
 pub record IsAbove (under : Under) (whole todo : List Line) (rows columns : List (List ℕ)) : Type 0 where
   pub word : List ℕ
   pub above : Sections
@@ -226,7 +226,8 @@ module _ (under : Under) (whole : List Line) (line : Line) (number place : ℕ) 
       let opened : IsAbove Rows whole (found ++ later) rows columns =
       subst (λ (lines : List Line). IsAbove Rows whole lines rows columns) parts
       (past_keyword under Rows whole (numbered_from number (raw_lines after)) line rows columns above (ap is_empty word) word) in
-      let before = subst (λ (rs : List (List ℕ)). AreClueLines (filter is_full opened.above.rows) rs) (none_of rows none) opened.clues.rows_said in
+      let before =
+      subst (λ (rs : List (List ℕ)). AreClueLines (filter is_full opened.above.rows) rs) (none_of rows none) opened.clues.rows_said in
       record {
         word = opened.word;
         above = with_lines Rows opened.above found;
@@ -248,7 +249,8 @@ module _ (under : Under) (whole : List Line) (line : Line) (number place : ℕ) 
       subst (λ (lines : List Line). IsAbove Columns whole lines rows columns) parts
       (past_keyword under Columns whole (numbered_from number (raw_lines after)) line rows columns above (ap is_empty word) word) in
       let before =
-      subst (λ (cs : List (List ℕ)). AreClueLines (filter is_full opened.above.columns) cs) (none_of columns none) opened.clues.columns_said in
+      subst (λ (cs : List (List ℕ)). AreClueLines (filter is_full opened.above.columns) cs) (none_of columns none)
+      opened.clues.columns_said in
       record {
         word = opened.word;
         above = with_lines Columns opened.above found;

@@ -87,7 +87,8 @@ short_lines bytes short =
     cond-false (ltb 1048576 (length bytes)) (Err TooLong) (Ok (lines bytes)) (le-ltb 1048576 (length bytes) short)
 
 -- no keyword line has a line feed in it
-pub kept_clean : (bytes : List ℕ) (kept : List Line) → length bytes ≤ 1048576 → kept ≡ filter is_keyword_line (lines bytes) → HaveNoFeed kept
+pub kept_clean : (bytes : List ℕ) (kept : List Line) → length bytes ≤ 1048576 → kept ≡ filter is_keyword_line (lines bytes)
+    → HaveNoFeed kept
 kept_clean bytes kept short e =
     subst HaveNoFeed (sym e) (clean_filter is_keyword_line (lines bytes) (lines_have_no_feed bytes (lines bytes) (short_lines bytes short)))
 

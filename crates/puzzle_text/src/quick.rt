@@ -1,5 +1,5 @@
-//! Readers of texts in their usual form, on one walk over the bytes. What they don't take in full, a fault or an
-//! odd line, they leave to the plain readers.
+//! Readers of texts in their usual form, on one walk over the bytes. What they don't take in full, a fault or
+//! an odd line, they leave to the plain readers.
 
 ghost use Rattle.std.specs.Prelude.{◌≡◌, ◌≤◌, length, map, IfOk, IfSome, IsSome, Ok};
 ghost use Rattle.puzzle_text.specs.Mk.{read_mk};
@@ -45,8 +45,8 @@ fn puzzle_said(alloc: Global, parts: Parts<'_>) -> Result<Puzzle, TextFault>
     Ok(puzzle_of(width, height, rows, columns, texts, goal))
 }
 
-/// Reads a .non text in its usual form: all keyword lines but `rows` and `columns` in any order, the sizes above
-/// the sections. Where it answers, the answer is that of `read_non`.
+/// Reads a .non text in its usual form: all keyword lines but `rows` and `columns` in any order, the sizes
+/// above the sections. Where it answers, the answer is that of `read_non`.
 pub fn quick_non(alloc: Global, bytes: &[u8]) -> Option<Puzzle>
     ensures answer { IfSome result (λ p. read_non LONGEST_SIDE bytes.now ≡ Ok p) }
     ensures short { IsSome result → length bytes.now ≤ LONGEST_PUZZLE }
@@ -57,8 +57,8 @@ pub fn quick_non(alloc: Global, bytes: &[u8]) -> Option<Puzzle>
     puzzle_said(alloc, parts_of(alloc, bytes)?).ok()
 }
 
-/// Reads a .mk text in its usual form: the height first, and no blank line. Where it answers, the answer is that
-/// of `read_mk`.
+/// Reads a .mk text in its usual form: the height first, and no blank line. Where it answers, the answer is
+/// that of `read_mk`.
 pub fn quick_mk(alloc: Global, bytes: &[u8]) -> Option<Puzzle>
     ensures answer { IfSome result (λ p. read_mk LONGEST_SIDE bytes.now ≡ Ok p) }
     ensures short { IsSome result → length bytes.now ≤ LONGEST_PUZZLE }

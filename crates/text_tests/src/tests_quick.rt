@@ -90,7 +90,8 @@ fn quick(alloc: Global, format: Format, text: &[u8]) -> Option<Puzzle> {
     }
 }
 
-/// Whether the quick reader takes a written text as it stands, and with CR LF, as the puzzle that is written so.
+/// Whether the quick reader takes a written text as it stands, and with CR LF, as the puzzle that is written
+/// so.
 fn is_taken(alloc: Global, format: Format, text: &[u8]) -> Result<bool, Fail> {
     let Some(puzzle) = quick(alloc, format, text) else {
         return Ok(false);

@@ -107,8 +107,8 @@ const USUAL_MK: &[u8] = b"2 1\n1\n1 1 1 1 1 1 1 1 1 1 1 1 1 1 1 1 1 1\n#\n2\n";
 
 const USUAL_NIN: &[u8] = b"2 1\n1\n1 2 3 4 5 6 7 8 9\n1\n";
 
-/// A growth for each list: the clues of the rows and of the columns, those of .nin first in one, the numbers of
-/// the long clue, and in .non the keyword lines, two texts and the goal.
+/// A growth for each list: the clues of the rows and of the columns, those of .nin first in one, the numbers
+/// of the long clue, and in .non the keyword lines, two texts and the goal.
 #[test]
 fn usual_texts_grow_by_lists(rt: HostRuntime) -> Result<(), Fail> {
     let alloc = rt.alloc();

@@ -1,6 +1,6 @@
-//! Each reader's answer, and that of the plain one, is that of its slow reader: on the fronts of five texts, on
-//! these with one byte replaced by each other one or with one put in, on a front of one with an end of one, and
-//! on random texts.
+//! Each reader's answer, and that of the plain one, is that of its slow reader: on the fronts of five texts,
+//! on these with one byte replaced by each other one or with one put in, on a front of one with an end of
+//! one, and on random texts.
 
 use crate::tests::DEMO;
 use crate::tests_slow::agree;
@@ -22,8 +22,8 @@ const TEXTS: [&[u8]; 5] = [
     b"2 1\n1\n1\n2\n",
 ];
 
-/// Whether the readers of the three formats answer what the slow ones answer, and the plain ones too: also of a
-/// text that a quick one takes, so that its reader doesn't ask the plain one.
+/// Whether the readers of the three formats answer what the slow ones answer, and the plain ones too: also of
+/// a text that a quick one takes, so that its reader doesn't ask the plain one.
 fn all_agree(alloc: Global, text: &[u8]) -> bool {
     let non = slow_non(alloc, text);
     let mk = slow_mk(alloc, text);

@@ -12,7 +12,8 @@ use Rattle.puzzle_text.proofs.quick.quick_non.Goals as goal
 
 pub puzzle_said-requires : goal.puzzle_said-requires
 puzzle_said-requires c =
-    kept_clean c.args.bytes.now (map shown_keyword c.in_ok-parts_of.field-0.keyword_lines.items) (omega arith) c.in_ok-parts_of.ensures.keywords
+    kept_clean c.args.bytes.now (map shown_keyword c.in_ok-parts_of.field-0.keyword_lines.items) (omega arith)
+    c.in_ok-parts_of.ensures.keywords
 
 pub returns-clause-answer : goal.returns-clause-answer
 returns-clause-answer c =

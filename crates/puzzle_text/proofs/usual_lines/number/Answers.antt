@@ -9,7 +9,8 @@ returns-in_default-clause-number c =
     let rest = c.in_ok-first.rest.now in
     let first = c.in_ok-first.first in
     number_passed text rest first
-    (digit_passed text text rest 0 first first (no_digit_passed text) c.in_ok-first.ensures.digit (omega arith)) (omega arith) (omega (arith, c.in_ok-first.ensures.value))
+    (digit_passed text text rest 0 first first (no_digit_passed text) c.in_ok-first.ensures.digit (omega arith))
+    (omega arith) (omega (arith, c.in_ok-first.ensures.value))
 
 pub returns-in_default-digit-clause-number : goal.returns-in_default-digit-clause-number
 returns-in_default-digit-clause-number c =
@@ -36,5 +37,6 @@ returns-clause-number c =
     digit_passed text text rest 0 first first (no_digit_passed text) c.in_ok-first.ensures.digit (omega arith) in
     let both : PassesDigits text more two =
     digit_passed text rest more first c.in-Some.second two one c.in-Some.ensures.digit (omega arith) in
-    number_passed text last three (digit_passed text more last two c.in-Some-digit.third three both c.in-Some-digit.ensures.digit (omega arith))
+    number_passed text last three (digit_passed text more last two c.in-Some-digit.third three both c.in-Some-digit.ensures.digit
+    (omega arith))
     (omega arith) (omega arith)

@@ -11,7 +11,8 @@ returns-in_default-after_separator-clause-clue c =
 pub numbers-preserved : goal.numbers-preserved
 numbers-preserved c = record {
   said =
-      number_and_more c.args.text.now c.numbers.rest.now c.in-Some.after.now c.in-Some-after_separator.others.now c.numbers.clue c.push.new.self
+      number_and_more c.args.text.now c.numbers.rest.now c.in-Some.after.now c.in-Some-after_separator.others.now c.numbers.clue
+      c.push.new.self
       c.in-Some.number c.numbers.invariant.said c.in-Some.ensures.number c.in-Some-after_separator.ensures.separated (search rules);
   within = omega (arith, c.in-Some.ensures.shorter, c.in-Some-after_separator.ensures.shorter, c.numbers.invariant.within);
 }

@@ -17,7 +17,11 @@ lines-init c =
       keywords =
           ap (λ (kept : List Line). kept ++ filter is_keyword_line (lines c.args.text.now))
           (ap (map shown_keyword) none);
-      walk = (Other, above_all (lines c.args.text.now) c.new-rows.result.items c.new-columns.result.items c.new-rows.ensures.items c.new-columns.ensures.items);
+      walk = (
+        Other,
+        above_all (lines c.args.text.now) c.new-rows.result.items c.new-columns.result.items
+            c.new-rows.ensures.items c.new-columns.ensures.items,
+      );
     }
 
 pub lines-preserved-then-is_empty : goal.lines-preserved-then-is_empty
@@ -74,7 +78,8 @@ lines-preserved-in-Rows c =
     record {
       room = omega (arith, c.in_ok-clues-in-Rows.ensures.room, c.next_line.ensures.shorter, c.len.ensures, c.lines.invariant.room);
       keywords =
-          ap (λ (lines : List Line). lines ++ filter is_keyword_line (numbered_from (c.lines.number + 1 + c.len.result + 1) (raw_lines next)))
+          ap (λ (lines : List Line). lines ++ filter is_keyword_line (numbered_from (c.lines.number + 1 + c.len.result + 1)
+          (raw_lines next)))
           c.in_ok-add.ensures
           ∙ kept_one under whole line (number + 1) _ after next clues c.in_ok-clues-in-Rows.ensures.clues place
           (map shown_keyword c.lines.keyword_lines.items) (filter is_keyword_line whole) kept (ap is_empty word);
@@ -105,9 +110,17 @@ lines-preserved-in-Columns c =
     ap (λ (all : List Line). map shown_keyword c.lines.keyword_lines.items ++ filter is_keyword_line all) (sym first)
     ∙ c.lines.invariant.keywords in
     record {
-      room = omega (arith, c.in_ok-clues-in-Columns.ensures.room, c.next_line.ensures.shorter, c.len-in-Columns.ensures, c.lines.invariant.room);
+      room =
+          omega (
+            arith,
+            c.in_ok-clues-in-Columns.ensures.room,
+            c.next_line.ensures.shorter,
+            c.len-in-Columns.ensures,
+            c.lines.invariant.room,
+          );
       keywords =
-          ap (λ (lines : List Line). lines ++ filter is_keyword_line (numbered_from (c.lines.number + 1 + c.len-in-Columns.result + 1) (raw_lines next)))
+          ap (λ (lines : List Line). lines ++ filter is_keyword_line (numbered_from (c.lines.number + 1 + c.len-in-Columns.result + 1)
+          (raw_lines next)))
           c.in_ok-add.ensures
           ∙ kept_one under whole line (number + 1) _ after next clues c.in_ok-clues-in-Columns.ensures.clues place
           (map shown_keyword c.lines.keyword_lines.items) (filter is_keyword_line whole) kept (ap is_empty word);

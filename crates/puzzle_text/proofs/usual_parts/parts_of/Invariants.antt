@@ -1,4 +1,5 @@
--- What the loop of `parts_of` keeps: the parts so far, and then those of the lines to come, are those of the text.
+-- What the loop of `parts_of` keeps: the parts so far, and then those of the lines to come, are those of
+-- the text.
 use Rattle.std.proofs.Common.{◌≡◌, ◌+◌, ◌++◌, ◌≤◌, filter, length, map}
 use Rattle.puzzle_text.specs.declared.places.Under.{Under}
 use Rattle.puzzle_text.specs.Keywords.{is_keyword_line}
