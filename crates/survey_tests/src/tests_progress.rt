@@ -1,5 +1,8 @@
 //! What is told of the progress, over one lane and over more: no contract follows a value into a thread.
 
+ghost use Rattle.std.specs.Prelude.{◌-◌, ◌^◌, ◌<◌};
+ghost use Rattle.survey_core.specs.Counted.{fault_count};
+
 use crate::tests_samples::{DEMO, TEN, TEN_SURVEY, settings};
 use lane_core::Gate;
 use solve_core::Pick;
@@ -10,7 +13,7 @@ use std::sync::Wait;
 use std::sync::atomic::{AtomicBool, Ordering};
 use std::test::Fail;
 use std::thread::Threads;
-use std::time::{Duration, Instant};
+use std::time::{Clock, Duration, Instant};
 use std::{io, thread};
 use survey_core::{Counted, Progress, ProgressGate, Settings, run_survey};
 
@@ -18,6 +21,14 @@ use survey_core::{Counted, Progress, ProgressGate, Settings, run_survey};
 fn enter(gate: &ProgressGate, count: u32) {
     for number in 0..count {
         gate.enter(number);
+    }
+}
+
+/// Lets 1,000 jobs enter in half a second.
+fn enter_slowly(clock: &impl Clock, gate: &ProgressGate) {
+    for _ in 0..50u32 {
+        enter(gate, 20);
+        thread::sleep(clock, Duration::from_millis(10));
     }
 }
 
@@ -77,16 +88,7 @@ fn ten_rising_numbers_are_told_in_a_second(rt: HostRuntime) -> Result<(), Fail> 
     let gate = ProgressGate::new();
     let progress = Progress::new(rt.alloc(), &mut text, None)?;
     let start = Instant::now(&rt)?;
-    progress.tell_while(
-        &rt,
-        &gate,
-        &mut || {
-            for _ in 0..50u32 {
-                enter(&gate, 20);
-                thread::sleep(&rt, Duration::from_millis(10));
-            }
-        },
-    );
+    progress.tell_while(&rt, &gate, &mut || enter_slowly(&rt, &gate));
     let most = start.elapsed(&rt)?.as_millis() / 100 + 1;
     let numbers = numbers_of(rt.alloc(), &text)?;
     assert!(rt; numbers.len() >= 2 && numbers.len() as u128 <= most);
@@ -191,7 +193,10 @@ fn assert_survey<R: Threads + Wait + Sync + Abort + AllocGlobal, E: Write + Drop
     progress.tell_while(
         rt,
         &gate,
-        &mut || { run_survey(rt, alloc, &mut reader, &mut output, &settings, &gate) },
+        &mut ||
+            requires reading { fault_count reader < 2 ^ 32 - 1 }
+            requires writing { fault_count output < 2 ^ 32 - 1 }
+        { run_survey(rt, alloc, &mut reader, &mut output, &settings, &gate) },
     )?;
     assert_eq!(rt; output.inner.as_slice(), TEN_SURVEY.as_bytes());
     Ok(())
@@ -225,7 +230,10 @@ fn progress_is_told_without_guesses(rt: HostRuntime) -> Result<(), Fail> {
     progress.tell_while(
         &rt,
         &gate,
-        &mut || { run_survey(&rt, alloc, &mut reader, &mut output, &settings, &gate) },
+        &mut ||
+            requires reading { fault_count reader < 2 ^ 32 - 1 }
+            requires writing { fault_count output < 2 ^ 32 - 1 }
+        { run_survey(&rt, alloc, &mut reader, &mut output, &settings, &gate) },
     )?;
     assert!(rt; errors.ends_with(b"\rentries begun 1\n"));
     Ok(())
