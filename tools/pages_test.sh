@@ -12,7 +12,8 @@ open_room
 mkdir -p "$room/home" "$room/clone/crates/nonograde/out"
 cd "$tools/.." && cp -r Makefile ./*.md docs man completions puzzles tools "$room/clone" || exit
 cp "$program" "$room/clone/crates/nonograde/out/nonograde"
-words=$(grep -rhoE --exclude-dir=nonograde_c 'FaultWord::(alone|at_line)\("[A-Za-z]+"' crates/*/src | cut -d '"' -f 2 | sort -u)
+words=$(find crates -path '*/src/*.rt' ! -path '*/nonograde_c/*' -exec grep -hoE 'FaultWord::(alone|at_line)\("[A-Za-z]+"' {} + |
+    cut -d '"' -f 2 | sort -u)
 kit=$(realpath "$(command -v rt)" 2>/dev/null)
 kit=${kit%/bin/rt} here=$PWD tick=$'\x60'
 cd "$room/clone" || exit
