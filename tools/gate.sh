@@ -80,12 +80,13 @@ check_promises() {
 # known to be built.
 keep_libraries() {
     python3 - "$(dirname "$(rt doc)")/bin" <<'END'
+import os
 import sys
 
 sys.path.insert(0, sys.argv[1])
 import rtlib
 
-for crate in rtlib.crates_below("."):
+for crate in rtlib.crates_below(os.getcwd()):
     if crate.makes_rlib():
         with open(f"{crate.folder}/out/rlib/stamp", "w") as stamp:
             stamp.write(crate.stamp())
