@@ -15,7 +15,8 @@ use Rattle.grid_core.specs.Lines.{line_cells, is_blank}
 
 -- the cell at a place, by the masks
 pub cell_at : (len filled blank i : ℕ) → i < len → get_or (line_cells len filled blank) i Unknown ≡ cell_of (has filled i) (has blank i)
-cell_at len filled blank i h = get_or-map-range_with_len (λ (k : ℕ). cell_of (has filled k) (has blank k)) 0 len i i Unknown h (zero-add i)
+cell_at len filled blank i h =
+    get_or-map-range_with_len (λ (k : ℕ). cell_of (has filled k) (has blank k)) 0 len i i Unknown h (zero-add i)
 
 -- a line has as many cells as it says
 pub length_line : (len filled blank : ℕ) → length (line_cells len filled blank) ≡ len

@@ -8,7 +8,7 @@ ghost use Rattle.place_sets.specs.Masks.{Has, IsMaskOf, has};
 ghost use Rattle.grid_core.specs.Lines.{IsChanged, IsUnknownCell, IsUnknownFrom, is_blank, line_cells};
 
 use crate::Cell;
-use place_sets::{PlaceSet, Wide, first_from, lacking, places};
+use place_sets::{PlaceSet, Wide, complement_within, first_from, first_places};
 use std::marker::Model;
 
 /// The cells of a line, as many as its sets have places at most, seen as the list of its cells.
@@ -48,8 +48,8 @@ impl<W: PlaceSet> LineOf<W> {
     {
         LineOf {
             len: usize::from(len),
-            filled: W::none(),
-            blank: W::none(),
+            filled: W::empty(),
+            blank: W::empty(),
         }
     }
 
@@ -103,9 +103,9 @@ impl<W: PlaceSet> LineOf<W> {
         requires { i < length self.now }
         ensures { result ≡ slice_index_or self.now i Unknown }
     {
-        if self.filled.has(i) {
+        if self.filled.contains(i) {
             Cell::Filled
-        } else if self.blank.has(i) {
+        } else if self.blank.contains(i) {
             Cell::Blank
         } else {
             Cell::Unknown
@@ -142,7 +142,7 @@ impl<W: PlaceSet> LineOf<W> {
         ensures cells { IsMaskOf (IsUnknownCell self.now) (W.number result) }
         ensures fits { length self.now ≤ W.WIDTH }
     {
-        lacking(self.filled.or(self.blank), self.len as u16)
+        complement_within(self.filled.union(self.blank), self.len as u16)
     }
 
     /// The first cell from a place on of which nothing is known, if there is one.
@@ -175,9 +175,11 @@ impl<W: PlaceSet> LineOf<W> {
         ensures changes { IsMaskOf (IsChanged self.now other.now) (W.number result) }
         ensures fits { length self.now ≤ W.WIDTH }
     {
-        let filled = self.filled.xor(other.filled);
-        let blank = self.blank.xor(other.blank);
-        filled.or(blank).and(places(self.len as u16))
+        let filled = self.filled.symmetric_difference(other.filled);
+        let blank = self.blank.symmetric_difference(other.blank);
+        filled
+            .union(blank)
+            .intersection(first_places(self.len as u16))
     }
 
     /// Whether another line has the same cells.

@@ -2,7 +2,7 @@
 use Rattle.std.proofs.Common.{◌≡◌, ℕ, ◌+◌, ◌-◌, ◌<◌, ◌≤◌, true, false, List, [], ◌∷◌, length, get_or, reverse, sym, subst, arith, add-one, ◌⊎◌, inl, inr}
 use Rattle.std.proofs.lemmas.Bool.{cases_lt}
 use Rattle.grid_core.specs.declared.cells.Cell.{Cell}
-use Rattle.place_sets.specs.Masks.{Has, IsMaskOf, IsMoved, IsFlooded, AllFrom, SomeFrom, SomeLevel, AreLevelsOf}
+use Rattle.place_sets.specs.Masks.{Has, IsMaskOf, IsShifted, IsFlooded, AllFrom, SomeFrom, SomeLevel, AreLevelsOf}
 use Rattle.place_sets.proofs.Steps.{mask_same}
 use Rattle.place_sets.proofs.Uses.{flood_same, meet_of, join_of}
 use Rattle.line_core.specs.steps.Reach.{behind, MayBe, IsGapAfter, IsStartAfter, IsEndAfter, IsGap, IsEnd, IsGapAhead, IsWholeEnd}
@@ -21,17 +21,17 @@ gap_none_is l free m f p =
 -- the mask of the gaps after a run, from that of its ends
 pub gap_next_is : (l : List Cell) (runs : List ℕ) (w n free ends m : ℕ) → length l ≤ w → 0 < n → IsMaskOf (MayBe l false) free
     → IsMaskOf (IsEndAfter l runs n) ends
-    → IsMaskOf (IsFlooded (λ k. IsMoved w (Has ends) 1 k × Has free k) (Has free)) m → IsMaskOf (IsGapAfter l (n ∷ runs)) m
+    → IsMaskOf (IsFlooded (λ k. IsShifted w (Has ends) 1 k × Has free k) (Has free)) m → IsMaskOf (IsGapAfter l (n ∷ runs)) m
 gap_next_is l runs w n free ends m short pos f e p =
     mask_same (IsFlooded (After l n runs) (MayBe l false)) (IsGapAfter l (n ∷ runs)) m
-    (flood_same (λ k. IsMoved w (Has ends) 1 k × Has free k) (Has free) (After l n runs) (MayBe l false) m
+    (flood_same (λ k. IsShifted w (Has ends) 1 k × Has free k) (Has free) (After l n runs) (MayBe l false) m
     (λ i h. (f.to i h.1, h.0.1, e.to (i - 1) h.0.2))
     (λ i h. let within : i < length l = h.0.0 in ((omega arith, h.1, e.from (i - 1) h.2), f.from i h.0)) f.to f.from p)
     (λ i h. gap_after_to l runs n i pos h) (gap_after_from l runs n)
 
 -- the ends of runs of `n` cells that start after a gap or at an opening, and within a window
 abbrev pub EndsAt : ℕ → ℕ → ℕ → ℕ → ℕ → ℕ → Type 0
-EndsAt w gap opening window n = IsMoved w (λ s. (IsMoved w (Has gap) 1 s ⊎ Has opening s) × Has window s) (n - 1)
+EndsAt w gap opening window n = IsShifted w (λ s. (IsShifted w (Has gap) 1 s ⊎ Has opening s) × Has window s) (n - 1)
 
 -- the mask of a run's ends, from that of the gaps before it
 pub ends_are : (l : List Cell) (runs : List ℕ) (w n gap room opening window m : ℕ) → length l ≤ w → 0 < n
@@ -41,13 +41,13 @@ pub ends_are : (l : List Cell) (runs : List ℕ) (w n gap room opening window m 
 ends_are l runs w n gap room opening window m short some g f a v p =
     mask_same (EndsAt w gap opening window n) (IsEndAfter l runs n) m p to from
   where
-    start_to : (s : ℕ) → (IsMoved w (Has gap) 1 s ⊎ Has opening s) × Has window s → IsStartAfter l runs n s
+    start_to : (s : ℕ) → (IsShifted w (Has gap) 1 s ⊎ Has opening s) × Has window s → IsStartAfter l runs n s
     start_to s h = (
       closed_behind_from l runs s (elim h.0 [ inl x ↦ inr (x.1, g.to (s - 1) x.2) | inr x ↦ inl (f.to s x) ]),
       λ z b. a.to (s + z) (v.to s h.1 z b),
     )
 
-    start_from : (s : ℕ) → IsStartAfter l runs n s → (IsMoved w (Has gap) 1 s ⊎ Has opening s) × Has window s
+    start_from : (s : ℕ) → IsStartAfter l runs n s → (IsShifted w (Has gap) 1 s ⊎ Has opening s) × Has window s
     start_from s h =
         let here : s + 0 < length l = (h.1 0 some).0 in (
           elim (closed_behind_to l runs s (omega arith) h.0) [

@@ -5,7 +5,7 @@ use Rattle.std.proofs.lemmas.Nat.Bits.{bit_at-zero}
 use Rattle.grid_core.specs.declared.cells.Cell.{Cell}
 use Rattle.grid_core.specs.Cells.{agrees}
 use Rattle.grid_core.specs.Runs.{runs}
-use Rattle.place_sets.specs.Masks.{Has, has, IsMaskOf, IsMoved, AllFrom, SomeFrom}
+use Rattle.place_sets.specs.Masks.{Has, has, IsMaskOf, IsShifted, AllFrom, SomeFrom}
 use Rattle.place_sets.proofs.HasLemmas.{has_true, true_has}
 use Rattle.place_sets.proofs.Steps.{mask_same}
 use Rattle.line_core.specs.steps.Reach.{MayBe, IsFillable, IsBlankable}
@@ -182,7 +182,7 @@ pub starts_about : (l : List Cell) (w number free room len line filled starts fi
     → IsMaskOf (λ i. i < len) line → IsMaskOf (λ i. Has line i × (has free i ≡ false)) filled → IsMaskOf (AllFrom (Has room) number) starts
     → Has filled first → ((i : ℕ) → Has filled i → first ≤ i) → Has filled last → ((i : ℕ) → Has filled i → i ≤ last) → first < w
     → IsMaskOf (λ i. i < first + 1) before → IsMaskOf (λ i. Has starts i × Has before i) some
-    → IsMaskOf (λ i. i < w) all → IsMaskOf (IsMoved w (Has all) (last + 1 - number)) after → IsMaskOf (λ i. Has some i × Has after i) m
+    → IsMaskOf (λ i. i < w) all → IsMaskOf (IsShifted w (Has all) (last + 1 - number)) after → IsMaskOf (λ i. Has some i × Has after i) m
     → IsMaskOf (IsLoneStart l number) m
 starts_about l w number free room len line filled starts first last before some all after m e pos f r a p s at_first least at_last greatest
     short b q c d t =
@@ -235,7 +235,7 @@ lone_unblankable l clue starts m one s none e = record {
 -- each cell among as many from a start on
 pub lone_fillable : (l : List Cell) (clue : List ℕ) (w starts ends m : ℕ) → ArePositive clue → length clue ≡ 1 → 0 < get_or clue 0 0
     → length l ≤ w → IsMaskOf (IsLoneStart l (get_or clue 0 0)) starts
-    → IsMaskOf (IsMoved w (Has starts) (get_or clue 0 0 - 1)) ends → IsMaskOf (SomeFrom (Has ends) (get_or clue 0 0)) m
+    → IsMaskOf (IsShifted w (Has starts) (get_or clue 0 0 - 1)) ends → IsMaskOf (SomeFrom (Has ends) (get_or clue 0 0)) m
     → IsMaskOf (IsFillable l clue) m
 lone_fillable l clue w starts ends m pos one some short s p q =
     mask_same (SomeFrom (Has ends) (get_or clue 0 0)) (IsFillable l clue) m q to from

@@ -11,7 +11,7 @@ use Rattle.grid_core.specs.declared.cells.Cell.{Cell}
 use Rattle.grid_core.specs.declared.cells.Cell.TheVariants.{Unknown, Filled, Blank}
 use Rattle.grid_core.specs.Cells.{allows, agrees}
 use Rattle.grid_core.specs.Runs.{runs}
-use Rattle.place_sets.specs.Masks.{Has, has, IsMaskOf, IsMoved, AllFrom}
+use Rattle.place_sets.specs.Masks.{Has, has, IsMaskOf, IsShifted, AllFrom}
 use Rattle.place_sets.proofs.HasLemmas.{has_true, true_has}
 use Rattle.place_sets.proofs.Steps.{mask_same}
 use Rattle.line_core.specs.steps.Overlaps.{needed, least_start, IsOverlapBefore, IsOverlap}
@@ -369,15 +369,15 @@ overlaps_fillable l clue slack certain any_cell pos e still c = mask_same (IsOve
 -- ---- the overlaps, run by run
 
 -- one more run's overlap: the cells from its greatest start on that it fills from its least start
-pub overlap_more : (clue : List ℕ) (w slack j start old some moved new : ℕ) → needed clue + slack ≤ w + 1 → j < length clue
+pub overlap_more : (clue : List ℕ) (w slack j start old some shifted new : ℕ) → needed clue + slack ≤ w + 1 → j < length clue
     → slack < get_or clue j 0 → start ≡ least_start clue j + slack
     → IsMaskOf (IsOverlapBefore j clue slack) old → IsMaskOf (λ i. i < get_or clue j 0 - slack) some
-    → IsMaskOf (IsMoved w (Has some) start) moved
-    → IsMaskOf (λ i. Has old i ⊎ Has moved i) new → IsMaskOf (IsOverlapBefore (j + 1) clue slack) new
-overlap_more clue w slack j start old some moved new within h long at o p q r =
-    mask_same (λ i. Has old i ⊎ Has moved i) (IsOverlapBefore (j + 1) clue slack) new r to from
+    → IsMaskOf (IsShifted w (Has some) start) shifted
+    → IsMaskOf (λ i. Has old i ⊎ Has shifted i) new → IsMaskOf (IsOverlapBefore (j + 1) clue slack) new
+overlap_more clue w slack j start old some shifted new within h long at o p q r =
+    mask_same (λ i. Has old i ⊎ Has shifted i) (IsOverlapBefore (j + 1) clue slack) new r to from
   where
-    to : (i : ℕ) → Has old i ⊎ Has moved i → IsOverlapBefore (j + 1) clue slack i
+    to : (i : ℕ) → Has old i ⊎ Has shifted i → IsOverlapBefore (j + 1) clue slack i
     to i (inl x) = let y = o.to i x in (y.0, omega (arith, y.1), y.2, y.3)
     to i (inr x) =
         let y = q.to i x in
@@ -385,7 +385,7 @@ overlap_more clue w slack j start old some moved new within h long at o p q r =
         let few : i - start < get_or clue j 0 - slack = p.to (i - start) y.2 in
         (j, omega arith, omega arith, omega arith)
 
-    from : (i : ℕ) → IsOverlapBefore (j + 1) clue slack i → Has old i ⊎ Has moved i
+    from : (i : ℕ) → IsOverlapBefore (j + 1) clue slack i → Has old i ⊎ Has shifted i
     from i x =
         elim (cases_lt x.0 j) [
           | inl low ↦ inl (o.from i (x.0, low, x.2, x.3))

@@ -17,7 +17,7 @@ use crate::rooms::{Rooms, make_ready};
 use crate::spans::Span;
 use crate::widths::{Width, places_needed};
 use grid_core::{Clue, LONGEST_SIDE, LineOf, MOST_RUNS, NoMemory};
-use place_sets::{LEVELS, PlaceSet, Wide, add_ends, spread_levels, windows_within};
+use place_sets::{LEVELS, PlaceSet, Wide, add_spread, spread_levels, windows_within};
 use std::alloc::Global;
 use std::marker::Model;
 
@@ -33,24 +33,24 @@ fn possible_colours<W: PlaceSet>(span: &Span<W>, clue: &[u16], gaps: &[W; GAPS])
 {
     let windows = windows_within(span.room);
     let mut pass = Pass::new(span);
-    let mut blankable = pass.gap().and(gap_ahead(clue, gaps, 0));
+    let mut blankable = pass.gap().intersection(gap_ahead(clue, gaps, 0));
     if clue.is_empty() {
-        return (W::none(), blankable);
+        return (W::empty(), blankable);
     }
-    let mut spread = [W::none(); LEVELS];
+    let mut spread = [W::empty(); LEVELS];
     let last = clue.len() - 1;
     for j in 0..last {
         let ends = pass.step(&windows, clue[j]);
         let ahead = gap_ahead(clue, gaps, j + 1);
         let whole = inner_ends(clue, j, ends, ahead);
-        add_ends(&mut spread, whole, clue[j]);
-        blankable = blankable.or(pass.gap().and(ahead));
+        add_spread(&mut spread, whole, clue[j]);
+        blankable = blankable.union(pass.gap().intersection(ahead));
     }
     let last_ends = pass.step(&windows, clue[last]);
     let after = gap_ahead(clue, gaps, clue.len());
     let last_whole = whole_ends(span, clue, last, last_ends, after);
-    add_ends(&mut spread, last_whole, clue[last]);
-    blankable = blankable.or(pass.gap().and(after));
+    add_spread(&mut spread, last_whole, clue[last]);
+    blankable = blankable.union(pass.gap().intersection(after));
     (spread_levels(&mut spread), blankable)
 }
 
@@ -80,11 +80,11 @@ fn certain<W: PlaceSet>(len: u16, fillable: W, blankable: W) -> Option<LineOf<W>
     requires { (1 ≤ len) × (len ≤ W.WIDTH) }
     ensures { result ≡ told_by len (W.number fillable) (W.number blankable) }
 {
-    if !fillable.or(blankable).has(0) {
+    if !fillable.union(blankable).contains(0) {
         return None;
     }
-    let filled = fillable.without(blankable);
-    let blank = blankable.without(fillable);
+    let filled = fillable.difference(blankable);
+    let blank = blankable.difference(fillable);
     Some(LineOf::of_sets(len, filled, blank))
 }
 

@@ -8,7 +8,7 @@ ghost use Rattle.line_core.specs.steps.Passes.{IsSpanOf};
 ghost use Rattle.line_core.specs.steps.Reach.{AreLengths, IsFillable, IsBlankable};
 
 use crate::spans::Span;
-use place_sets::{PlaceSet, places, spread, starts_within};
+use place_sets::{PlaceSet, first_places, spread, starts_within};
 
 /// The starts of a run of `number` cells that is alone on its line:
 /// from there on as many cells may be filled, and each cell that is filled is among them.
@@ -19,13 +19,15 @@ fn lone_starts<W: PlaceSet>(span: &Span<W>, number: u16) -> W
     ensures { IsMaskOf (IsLoneStart line number) (W.number result) }
 {
     let starts = starts_within(span.room, number);
-    let filled = places::<W>(span.len).without(span.free);
+    let filled = first_places::<W>(span.len).difference(span.free);
     if filled.is_empty() {
         return starts;
     }
     let least = (filled.last_place() + 1).saturating_sub(number);
     let greatest = filled.first_place();
-    starts.and(places(greatest + 1)).and(W::all().up(least))
+    starts
+        .intersection(first_places(greatest + 1))
+        .intersection(W::full().shifted_up(least))
 }
 
 /// The cells that a run of `number` cells fills from each of its starts, given the least and the greatest.
@@ -36,9 +38,9 @@ fn lone_overlap<W: PlaceSet>(least: u16, greatest: u16, number: u16) -> W
     ensures { IsMaskOf (λ i. (i < W.WIDTH) × (greatest ≤ i) × (i < least + number)) (W.number result) }
 {
     if least + number <= greatest {
-        return W::none();
+        return W::empty();
     }
-    places::<W>(least + number - greatest).up(greatest)
+    first_places::<W>(least + number - greatest).shifted_up(greatest)
 }
 
 /// The cells that are filled in some placing, and those that are blank in some, by a clue of one run.
@@ -53,9 +55,9 @@ pub fn lone_colours<W: PlaceSet>(span: &Span<W>, clue: &[u16]) -> (W, W)
     let number = clue[0];
     let starts = lone_starts(span, number);
     if starts.is_empty() {
-        return (W::none(), W::none());
+        return (W::empty(), W::empty());
     }
     let certain = lone_overlap::<W>(starts.first_place(), starts.last_place(), number);
-    let fillable = spread(starts.up(number - 1), number);
-    (fillable, places::<W>(span.len).without(certain))
+    let fillable = spread(starts.shifted_up(number - 1), number);
+    (fillable, first_places::<W>(span.len).difference(certain))
 }

@@ -11,7 +11,7 @@ ghost use Rattle.line_core.specs.steps.Reach.{AreLengths, IsFillable, IsBlankabl
 
 use crate::spans::Span;
 use grid_core::{LONGEST_SIDE, MOST_RUNS};
-use place_sets::{PlaceSet, places};
+use place_sets::{PlaceSet, first_places};
 
 /// Whether nothing is known of a line: the cells that may be blank are those that may be filled.
 pub fn is_unknown<W: PlaceSet>(span: &Span<W>) -> bool
@@ -19,7 +19,7 @@ pub fn is_unknown<W: PlaceSet>(span: &Span<W>) -> bool
     requires { IsSpanOf W.WIDTH line span.now.len (W.number span.now.free) (W.number span.now.room) }
     ensures { IsTrue result ↔ (line ≡ replicate span.now.len Unknown) }
 {
-    span.free.xor(span.room).is_empty()
+    span.free.symmetric_difference(span.room).is_empty()
 }
 
 /// How many cells the runs of a clue need, each with a blank cell after it.
@@ -42,11 +42,11 @@ fn overlaps<W: PlaceSet>(clue: &[u16], slack: u16) -> W
     requires fits { needed clue.now + slack ≤ W.WIDTH + 1 }
     ensures { IsMaskOf (IsOverlap clue.now slack) (W.number result) }
 {
-    let mut certain = W::none();
+    let mut certain = W::empty();
     let mut greatest_start = slack;
     for number in clue {
         if *number > slack {
-            certain = certain.or(places::<W>(*number - slack).up(greatest_start));
+            certain = certain.union(first_places::<W>(*number - slack).shifted_up(greatest_start));
         }
         greatest_start += *number + 1;
     }
@@ -64,15 +64,15 @@ pub fn unknown_colours<W: PlaceSet>(len: u16, clue: &[u16]) -> (W, W)
 {
     let needed = cells_needed(clue);
     if len + 1 < needed {
-        return (W::none(), W::none());
+        return (W::empty(), W::empty());
     }
     let slack = len + 1 - needed;
     let certain = overlaps::<W>(clue, slack);
-    let line = places::<W>(len);
+    let line = first_places::<W>(len);
     let fillable = if slack == 0 || clue.is_empty() {
         certain
     } else {
         line
     };
-    (fillable, line.without(certain))
+    (fillable, line.difference(certain))
 }

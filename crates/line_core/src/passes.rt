@@ -59,7 +59,7 @@ impl<W: PlaceSet> Pass<W> {
     {
         let window = window_starts(windows, number);
         let ends = run_ends(self.gap, self.opening, window, number);
-        self.opening = W::none();
+        self.opening = W::empty();
         self.gap = gap_after(ends, self.free);
         ends
     }

@@ -10,7 +10,7 @@ ghost use Rattle.line_core.specs.steps.Reach.{AreLengths, AreTurnedGaps, AreTurn
 use crate::passes::Pass;
 use crate::spans::{Span, turned};
 use grid_core::MOST_RUNS;
-use place_sets::{PlaceSet, turn_line, windows_within};
+use place_sets::{PlaceSet, reversed_within, windows_within};
 
 /// How many masks of gaps a clue needs at most: one before each run, and one after the last.
 pub const GAPS: usize = MOST_RUNS + 1;
@@ -42,7 +42,7 @@ fn turn_all<W: PlaceSet>(masks: &mut [W], len: u16)
     ensures { AreTurnedMasks len (map W.number masks.old) (map W.number masks.new) }
 {
     for i in 0..masks.len() {
-        masks[i] = turn_line(masks[i], len);
+        masks[i] = reversed_within(masks[i], len);
     }
 }
 
@@ -75,9 +75,9 @@ fn last_end<W: PlaceSet>(len: u16, last: bool) -> W
     ensures { IsMaskOf (λ i. (i ≡ len - 1) × (last ≡ true)) (W.number result) }
 {
     if last {
-        W::first().up(len - 1)
+        W::first().shifted_up(len - 1)
     } else {
-        W::none()
+        W::empty()
     }
 }
 
@@ -92,7 +92,7 @@ pub fn whole_ends<W: PlaceSet>(span: &Span<W>, clue: &[u16], j: usize, ends: W, 
     ensures { IsMaskOf (IsWholeEnd line clue.now j) (W.number result) }
 {
     let last = last_end(span.len, j + 1 == clue.len());
-    ends.and(ahead.down(1).or(last))
+    ends.intersection(ahead.shifted_down(1).union(last))
 }
 
 /// The ends in whole placings of a run that is not the last one.
@@ -104,5 +104,5 @@ pub fn inner_ends<W: PlaceSet>(clue: &[u16], j: usize, ends: W, ahead: W) -> W
     requires ahead { IsMaskOf (IsGapAhead line clue.now (j + 1)) (W.number ahead) }
     ensures { IsMaskOf (IsWholeEnd line clue.now j) (W.number result) }
 {
-    ends.and(ahead.down(1))
+    ends.intersection(ahead.shifted_down(1))
 }

@@ -39,6 +39,6 @@ pub fn make_ready<W: PlaceSet>(room: &mut Vec<[W; GAPS]>)
     ensures fits { 0 < vec_capacity room.new }
 {
     if room.is_empty() {
-        room.push_reserved([W::none(); GAPS]);
+        room.push_reserved([W::empty(); GAPS]);
     }
 }

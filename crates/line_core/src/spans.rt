@@ -5,7 +5,7 @@ ghost use Rattle.grid_core.specs.declared.cells.Cell.{Cell};
 ghost use Rattle.line_core.specs.steps.Passes.{IsSpanOf};
 
 use grid_core::LineOf;
-use place_sets::{PlaceSet, lacking, turn_line};
+use place_sets::{PlaceSet, complement_within, reversed_within};
 
 /// How many cells a line has, and those of them that may be blank, and that may be filled.
 #[derive(Drop)]
@@ -23,8 +23,8 @@ impl<W: PlaceSet> Span<W> {
         let len = line.len();
         Span {
             len,
-            free: lacking(line.filled(), len),
-            room: lacking(line.blank(), len),
+            free: complement_within(line.filled(), len),
+            room: complement_within(line.blank(), len),
         }
     }
 }
@@ -37,7 +37,7 @@ pub fn turned<W: PlaceSet>(span: &Span<W>) -> Span<W>
 {
     Span {
         len: span.len,
-        free: turn_line(span.free, span.len),
-        room: turn_line(span.room, span.len),
+        free: reversed_within(span.free, span.len),
+        room: reversed_within(span.room, span.len),
     }
 }

@@ -49,8 +49,8 @@ fn may_have_no_run<W: PlaceSet>(span: &Span<W>, clue: &[u16], gaps: &[W; GAPS]) 
     ensures { MatchBool result (HasPlacing line clue.now) (HasPlacing line clue.now → ⊥) }
 {
     let gap = first_gap(span.free);
-    let blankable = gap.and(gap_ahead(clue, gaps, 0));
-    blankable.has(0)
+    let blankable = gap.intersection(gap_ahead(clue, gaps, 0));
+    blankable.contains(0)
 }
 
 /// Writes the start of each run that is furthest to a side among all placings.

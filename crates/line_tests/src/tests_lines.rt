@@ -15,7 +15,7 @@ fn are_changes(line: &LineOf<Wide>, other: &LineOf<Wide>, places: &[u16]) -> boo
         return false;
     }
     let changes = line.changes(other);
-    (0..line.len()).all(|i| changes.has(i) == places.contains(&i))
+    (0..line.len()).all(|i| changes.contains(i) == places.contains(&i))
 }
 
 #[test]

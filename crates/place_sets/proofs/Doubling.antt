@@ -11,25 +11,25 @@ pub pow_next : (k : ℕ) → 2 ^ (k + 1) ≡ 2 ^ k + 2 ^ k
 pow_next k = let e : 2 ^ (k + 1) ≡ 2 ^ k * 2 ^ 1 = pow-add 2 k 1 in omega (arith, e)
 
 -- a table of windows that are right up to a level is right up to the next one, once that is set
-pub windows_more : (cells : ℕ) (table : List ℕ) (level by next : ℕ) → level + 1 < length table → by ≡ 2 ^ level
+pub windows_more : (mask : ℕ) (table : List ℕ) (level by next : ℕ) → level + 1 < length table → by ≡ 2 ^ level
     → IsMaskOf (λ i. Has (get_or table level 0) i × Has (get_or table level 0) (i + by)) next
-    → ((k : ℕ) → k ≤ level → IsMaskOf (AllFrom (Has cells) (2 ^ k)) (get_or table k 0))
-    → (k : ℕ) → k ≤ level + 1 → IsMaskOf (AllFrom (Has cells) (2 ^ k)) (get_or (set table (level + 1) next) k 0)
-windows_more cells table level by next l e h inv k b =
+    → ((k : ℕ) → k ≤ level → IsMaskOf (AllFrom (Has mask) (2 ^ k)) (get_or table k 0))
+    → (k : ℕ) → k ≤ level + 1 → IsMaskOf (AllFrom (Has mask) (2 ^ k)) (get_or (set table (level + 1) next) k 0)
+windows_more mask table level by next l e h inv k b =
     elim (cases_lt k (level + 1)) [
       | inl low ↦
           (let ne : k ≢ level + 1 = omega arith in
-          subst (λ (z : ℕ). IsMaskOf (AllFrom (Has cells) (2 ^ k)) z) (sym (get_or-set_other table (level + 1) k next 0 ne))
+          subst (λ (z : ℕ). IsMaskOf (AllFrom (Has mask) (2 ^ k)) z) (sym (get_or-set_other table (level + 1) k next 0 ne))
           (inv k (omega arith)))
       | inr high ↦
           (let same : level + 1 ≡ k = omega arith in
           let at : get_or (set table (level + 1) next) (level + 1) 0 ≡ next = get_or-set_same table (level + 1) next 0 l in
-          let wide : IsMaskOf (AllFrom (Has cells) (2 ^ level + by)) next =
-          widen (Has cells) (get_or table level 0) (2 ^ level) by next (omega arith) (inv level (omega arith)) h in
+          let wide : IsMaskOf (AllFrom (Has mask) (2 ^ level + by)) next =
+          widen (Has mask) (get_or table level 0) (2 ^ level) by next (omega arith) (inv level (omega arith)) h in
           let twice : 2 ^ level + by ≡ 2 ^ (level + 1) = omega (arith, pow_next level) in
-          subst (λ (z : ℕ). IsMaskOf (AllFrom (Has cells) (2 ^ z)) (get_or (set table (level + 1) next) z 0)) same
-          (subst (λ (z : ℕ). IsMaskOf (AllFrom (Has cells) (2 ^ (level + 1))) z) (sym at)
-          (subst (λ (z : ℕ). IsMaskOf (AllFrom (Has cells) z) next) twice wide)))
+          subst (λ (z : ℕ). IsMaskOf (AllFrom (Has mask) (2 ^ z)) (get_or (set table (level + 1) next) z 0)) same
+          (subst (λ (z : ℕ). IsMaskOf (AllFrom (Has mask) (2 ^ (level + 1))) z) (sym at)
+          (subst (λ (z : ℕ). IsMaskOf (AllFrom (Has mask) z) next) twice wide)))
     ]
 
 -- a level that a number up to a power of two has is no greater than that power's
@@ -60,17 +60,17 @@ one_within width top h e = let two : 2 ^ 1 ≤ 2 ^ top = pow_mono h in omega ari
 pub width_most : (width top : ℕ) → top ≤ 8 → width ≡ 2 ^ top → width ≤ 256
 width_most width top h e = let most : 2 ^ top ≤ 2 ^ 8 = pow_mono h in omega arith
 
--- the windows of one place are the cells themselves
-pub windows_none : (cells : ℕ) (table : List ℕ) → 0 < length table → get_or table 0 0 ≡ cells → (k : ℕ) → k ≤ 0
-    → IsMaskOf (AllFrom (Has cells) (2 ^ k)) (get_or table k 0)
-windows_none cells table l at k h =
+-- the windows of one place are the places themselves
+pub windows_none : (mask : ℕ) (table : List ℕ) → 0 < length table → get_or table 0 0 ≡ mask → (k : ℕ) → k ≤ 0
+    → IsMaskOf (AllFrom (Has mask) (2 ^ k)) (get_or table k 0)
+windows_none mask table l at k h =
     let e : 0 ≡ k = omega arith in
-    subst (λ (z : ℕ). IsMaskOf (AllFrom (Has cells) (2 ^ z)) (get_or table z 0)) e
-    (subst (λ (z : ℕ). IsMaskOf (AllFrom (Has cells) 1) z) (sym at) (window-one cells))
+    subst (λ (z : ℕ). IsMaskOf (AllFrom (Has mask) (2 ^ z)) (get_or table z 0)) e
+    (subst (λ (z : ℕ). IsMaskOf (AllFrom (Has mask) 1) z) (sym at) (window-one mask))
 
--- two windows of a level, the second moved to the end, make a window of the whole length
-pub window_is : (cells : ℕ) (w level rest length : ℕ) (m : ℕ) → 2 ^ level + rest ≡ length → rest < 2 ^ level
-    → IsMaskOf (AllFrom (Has cells) (2 ^ level)) w
-    → IsMaskOf (λ i. Has w i × Has w (i + rest)) m → IsMaskOf (AllFrom (Has cells) length) m
-window_is cells w level rest length m e b p q =
-    subst (λ (n : ℕ). IsMaskOf (AllFrom (Has cells) n) m) e (widen (Has cells) w (2 ^ level) rest m (omega arith) p q)
+-- two windows of a level, the second shifted to the end, make a window of the whole length
+pub window_is : (mask : ℕ) (w level rest length : ℕ) (m : ℕ) → 2 ^ level + rest ≡ length → rest < 2 ^ level
+    → IsMaskOf (AllFrom (Has mask) (2 ^ level)) w
+    → IsMaskOf (λ i. Has w i × Has w (i + rest)) m → IsMaskOf (AllFrom (Has mask) length) m
+window_is mask w level rest length m e b p q =
+    subst (λ (n : ℕ). IsMaskOf (AllFrom (Has mask) n) m) e (widen (Has mask) w (2 ^ level) rest m (omega arith) p q)

@@ -7,7 +7,7 @@ use Rattle.place_sets.proofs.WordSteps.{low_ones, down_is, up_is}
 use Rattle.place_sets.proofs.Steps.{and_is, or_is, has-itself}
 use Rattle.std.proofs.lemmas.Bool.{cases_lt}
 use Rattle.std.proofs.lemmas.Nat.Bits.{bit_at-zero, bit_at_cat_low, bit_at_cat_high}
-use Rattle.place_sets.specs.Masks.{Has, IsMaskOf, IsMoved, IsTurned, IsFlooded, joined}
+use Rattle.place_sets.specs.Masks.{Has, IsMaskOf, IsShifted, IsReversed, IsFlooded, joined}
 use Rattle.place_sets.proofs.Flooding.{has_below}
 
 abbrev Fits : ℕ → Type 0
@@ -74,22 +74,22 @@ wide_below low high i fl fh h = elim (cases_lt i 256) [
       absurd (omega arith))
 ]
 
--- no place moved
-pub still : (n w : ℕ) → ((i : ℕ) → Has n i → i < w) → (by : ℕ) → by ≡ 0 → IsMaskOf (IsMoved w (Has n) by) n
+-- no place shifted
+pub still : (n w : ℕ) → ((i : ℕ) → Has n i → i < w) → (by : ℕ) → by ≡ 0 → IsMaskOf (IsShifted w (Has n) by) n
 still n w within by z = record {
   to = λ i h. let e : i ≡ i - by = omega arith in (within i h, omega arith, subst (Has n) e h);
   from = λ i h. let e : i - by ≡ i = omega arith in subst (Has n) e h.2;
 }
 
--- moved up by less than a half
+-- shifted up by less than a half
 pub up_less : (low high by ul uh over up : ℕ) → Fits low → Fits ul → Fits high → by ≢ 0 → by < 128
-    → IsMaskOf (IsMoved 128 (Has low) by) ul
-    → IsMaskOf (IsMoved 128 (Has high) by) uh
+    → IsMaskOf (IsShifted 128 (Has low) by) ul
+    → IsMaskOf (IsShifted 128 (Has high) by) uh
     → IsMaskOf (λ i. Has low (i + (128 - by))) over
     → IsMaskOf (λ i. Has uh i ⊎ Has over i) up
-    → IsMaskOf (IsMoved 256 (Has (joined low high)) by) (joined ul up)
+    → IsMaskOf (IsShifted 256 (Has (joined low high)) by) (joined ul up)
 up_less low high by ul uh over up fl fu fh nz lt p q r s =
-    halves (IsMoved 256 (Has (joined low high)) by) ul up fu
+    halves (IsShifted 256 (Has (joined low high)) by) ul up fu
     (λ i l h. let m = p.to i h in let far : by ≤ i = m.1 in (omega arith, far, bit_low low high (i - by) (omega arith) ∙ m.2))
     (λ i l h. let far : by ≤ i = h.1 in p.from i (l, far, sym (bit_low low high (i - by) (omega arith)) ∙ h.2))
     (λ i h. elim (s.to i h) [
@@ -118,12 +118,12 @@ up_less low high by ul uh over up fl fu fh nz lt p q r s =
           s.from i (inl (q.from i (omega arith, far, sym (bit_high low high (i - by) fl) ∙ m))))
     ])
 
--- moved up by a half, or more
+-- shifted up by a half, or more
 pub up_more : (low high by up : ℕ) → Fits low → 128 ≤ by → by < 256
-    → IsMaskOf (IsMoved 128 (Has low) (by - 128)) up
-    → IsMaskOf (IsMoved 256 (Has (joined low high)) by) (joined 0 up)
+    → IsMaskOf (IsShifted 128 (Has low) (by - 128)) up
+    → IsMaskOf (IsShifted 256 (Has (joined low high)) by) (joined 0 up)
 up_more low high by up fl big lt p =
-    halves (IsMoved 256 (Has (joined low high)) by) 0 up (omega arith)
+    halves (IsShifted 256 (Has (joined low high)) by) 0 up (omega arith)
     (λ i l h. absurd (omega (arith, bit_at-zero i)))
     (λ i l h. let far : by ≤ i = h.1 in absurd (omega arith))
     (λ i h.
@@ -139,10 +139,10 @@ up_more low high by up fl big lt p =
     let m : Has (joined low high) (i - (by - 128)) = subst (Has (joined low high)) e h.2 in
     p.from i (omega arith, omega arith, sym (bit_low low high (i - (by - 128)) (omega arith)) ∙ m))
 
--- moved down by less than a half
+-- shifted down by less than a half
 pub down_less : (low high by dl over down dh : ℕ) → Fits low → Fits high → Fits down → by ≢ 0 → by < 128
     → IsMaskOf (λ i. Has low (i + by)) dl
-    → IsMaskOf (IsMoved 128 (Has high) (128 - by)) over
+    → IsMaskOf (IsShifted 128 (Has high) (128 - by)) over
     → IsMaskOf (λ i. Has dl i ⊎ Has over i) down
     → IsMaskOf (λ i. Has high (i + by)) dh
     → IsMaskOf (λ i. Has (joined low high) (i + by)) (joined down dh)
@@ -170,7 +170,7 @@ down_less low high by dl over down dh fl fh fd nz lt p q r s =
     let m : Has (joined low high) ((i + by) + 128) = subst (Has (joined low high)) e h in
     s.from i (sym (bit_high low high (i + by) fl) ∙ m))
 
--- moved down by a half, or more
+-- shifted down by a half, or more
 pub down_more : (low high by down : ℕ) → Fits low → Fits high → Fits down → 128 ≤ by
     → IsMaskOf (λ i. Has high (i + (by - 128))) down
     → IsMaskOf (λ i. Has (joined low high) (i + by)) (joined down 0)
@@ -186,12 +186,12 @@ down_more low high by down fl fh fd big p =
     (λ i h. let within : i + 128 + by < 256 = wide_below low high (i + 128 + by) fl fh h in absurd (omega arith))
 
 -- seen from the other end
-pub turned_halves : (low high tl th : ℕ) → Fits low → Fits th
-    → IsMaskOf (IsTurned 128 (Has low)) tl
-    → IsMaskOf (IsTurned 128 (Has high)) th
-    → IsMaskOf (IsTurned 256 (Has (joined low high))) (joined th tl)
-turned_halves low high tl th fl ft p q =
-    halves (IsTurned 256 (Has (joined low high))) th tl ft
+pub reversed_halves : (low high tl th : ℕ) → Fits low → Fits th
+    → IsMaskOf (IsReversed 128 (Has low)) tl
+    → IsMaskOf (IsReversed 128 (Has high)) th
+    → IsMaskOf (IsReversed 256 (Has (joined low high))) (joined th tl)
+reversed_halves low high tl th fl ft p q =
+    halves (IsReversed 256 (Has (joined low high))) th tl ft
     (λ i l h. let e : (127 - i) + 128 ≡ 255 - i = omega arith in
     (omega arith, subst (Has (joined low high)) e (bit_high low high (127 - i) fl ∙ (q.to i h).1)))
     (λ i l h.
@@ -387,21 +387,21 @@ pub narrow_256 : (low high : ℕ) → Fits low → Fits high → IsMaskOf (λ i.
 narrow_256 low high fl fh = record { to = λ i h. (wide_below low high i fl fh h, h); from = λ i h. h.1 }
 
 -- a half word seen from its other end
-half_low : (n m i : ℕ) → IsMaskOf (IsTurned 64 (Has (bit_and n 18446744073709551615))) m → Has m i → (i < 64) × Has n (63 - i)
+half_low : (n m i : ℕ) → IsMaskOf (IsReversed 64 (Has (bit_and n 18446744073709551615))) m → Has m i → (i < 64) × Has n (63 - i)
 half_low n m i p h =
     let two = p.to i h in
     let l : i < 64 = two.0 in
     (l, ((and_is (Has n) (λ k. k < 64) n 18446744073709551615 (has-itself n) (low_ones 64)).to (63 - i) two.1).0)
 
-low_half : (n m i : ℕ) → IsMaskOf (IsTurned 64 (Has (bit_and n 18446744073709551615))) m → i < 64 → Has n (63 - i) → Has m i
+low_half : (n m i : ℕ) → IsMaskOf (IsReversed 64 (Has (bit_and n 18446744073709551615))) m → i < 64 → Has n (63 - i) → Has m i
 low_half n m i p l h =
     p.from i (l, (and_is (Has n) (λ k. k < 64) n 18446744073709551615 (has-itself n) (low_ones 64)).from (63 - i) (h, omega arith))
 
--- a word of 128 places is turned by turning its halves and exchanging them
-pub turned_128 : (n low high : ℕ) → IsMaskOf (IsTurned 64 (Has (bit_and n 18446744073709551615))) low
-    → IsMaskOf (IsTurned 64 (Has (n / 2 ^ 64))) high
-    → IsMaskOf (IsTurned 128 (Has n)) (bit_or (low * 2 ^ 64 % 2 ^ 128) high)
-turned_128 n low high p q = record {
+-- a word of 128 places is reversed by reversing its halves and exchanging them
+pub reversed_128 : (n low high : ℕ) → IsMaskOf (IsReversed 64 (Has (bit_and n 18446744073709551615))) low
+    → IsMaskOf (IsReversed 64 (Has (n / 2 ^ 64))) high
+    → IsMaskOf (IsReversed 128 (Has n)) (bit_or (low * 2 ^ 64 % 2 ^ 128) high)
+reversed_128 n low high p q = record {
   to = λ i h. elim (all.to i h) [
     | inl a ↦
         (let l : i < 128 = a.0 in
@@ -426,5 +426,5 @@ turned_128 n low high p q = record {
       ];
 }
   where
-    all : IsMaskOf (λ i. IsMoved 128 (Has low) 64 i ⊎ Has high i) (bit_or (low * 2 ^ 64 % 2 ^ 128) high)
-    all = or_is (IsMoved 128 (Has low) 64) (Has high) (low * 2 ^ 64 % 2 ^ 128) high (up_is 128 low 64) (has-itself high)
+    all : IsMaskOf (λ i. IsShifted 128 (Has low) 64 i ⊎ Has high i) (bit_or (low * 2 ^ 64 % 2 ^ 128) high)
+    all = or_is (IsShifted 128 (Has low) 64) (Has high) (low * 2 ^ 64 % 2 ^ 128) high (up_is 128 low 64) (has-itself high)

@@ -76,26 +76,26 @@ level_out levels level next new w i b joined x =
     let both : Has new (i + x.0) = joined.from (i + x.0) (inr x.2) in
     (x.0, x.1, subst (λ (m : ℕ). Has m (i + x.0)) (sym (get_or-set_same levels level _ 0 b)) both)
 
--- the ends of a run added to the level of its length
-pub ends_added : (levels : List ℕ) (top level ends rest size next new : ℕ) → level ≤ top → level < length levels → 2 ^ level + rest ≡ size
+-- a mask added to the level of a length
+pub mask_added : (levels : List ℕ) (top level mask rest size next new : ℕ) → level ≤ top → level < length levels → 2 ^ level + rest ≡ size
     → rest < 2 ^ level
-    → IsMaskOf (λ i. Has ends i ⊎ Has ends (i + rest)) next
+    → IsMaskOf (λ i. Has mask i ⊎ Has mask (i + rest)) next
     → IsJoined levels level next new
-    → AreLevelsOf (λ i. SomeLevel top levels i ⊎ SomeFrom (Has ends) size i) top (set levels level new)
-ends_added levels top level ends rest size next new within b e low h joined =
+    → AreLevelsOf (λ i. SomeLevel top levels i ⊎ SomeFrom (Has mask) size i) top (set levels level new)
+mask_added levels top level mask rest size next new within b e low h joined =
     let small : rest ≤ 2 ^ level = omega arith in
     record {
       to = λ i x. elim (level_in levels level next new (2 ^ x.0) x.0 i b joined x.2) [
         | inl old ↦ inl (x.0, x.1, old)
         | inr more ↦
             (let wide : SomeFrom (Has next) (2 ^ level) i = subst (λ (z : ℕ). SomeFrom (Has next) (2 ^ z) i) more.0 more.1 in
-            inr (subst (λ (n : ℕ). SomeFrom (Has ends) n i) e (spread_in ends rest next (2 ^ level) i h wide)))
+            inr (subst (λ (n : ℕ). SomeFrom (Has mask) n i) e (spread_in mask rest next (2 ^ level) i h wide)))
       ];
       from = λ i x. elim x [
         | inl old ↦ (old.0, old.1, level_kept levels level next new (2 ^ old.0) old.0 i b joined old.2)
         | inr more ↦
-            (let wide : SomeFrom (Has ends) (2 ^ level + rest) i = subst (λ (n : ℕ). SomeFrom (Has ends) n i) (sym e) more in
-            (level, within, level_out levels level next new (2 ^ level) i b joined (spread_out ends rest next (2 ^ level) i small h wide)))
+            (let wide : SomeFrom (Has mask) (2 ^ level + rest) i = subst (λ (n : ℕ). SomeFrom (Has mask) n i) (sym e) more in
+            (level, within, level_out levels level next new (2 ^ level) i b joined (spread_out mask rest next (2 ^ level) i small h wide)))
       ];
     }
 

@@ -2,7 +2,7 @@
 pub mod Flooding
 pub mod Steps
 pub mod HasLemmas
-pub mod Turning
+pub mod Reversing
 pub mod WordSteps
 pub mod Halves
 pub mod Doubling

@@ -2,7 +2,7 @@
 use Rattle.std.proofs.Common.{◌≡◌, ℕ, ◌+◌, ◌-◌, ◌*◌, ◌%◌, ◌^◌, ◌<◌, ◌≤◌, ◌⊎◌, inl, inr, Bool, true, false, refl, sym, ◌∙◌, arith, subst, true≢false}
 use Rattle.std.specs.Int.RustNames.{bit_and, bit_or}
 use Rattle.std.proofs.lemmas.Bool.{cases_eq}
-use Rattle.place_sets.specs.Masks.{Has, has, IsMarked, IsMaskOf, IsMoved, joined}
+use Rattle.place_sets.specs.Masks.{Has, has, IsMarked, IsMaskOf, IsShifted, joined}
 use Rattle.place_sets.proofs.HasLemmas.{has_true, true_has}
 use Rattle.place_sets.proofs.Steps.{or_is, shl_is, has-itself, mask_same}
 use Rattle.place_sets.proofs.WordSteps.{one_is, lacks_64, lacks_128}
@@ -11,7 +11,7 @@ use Rattle.place_sets.proofs.Halves.{bit_low, bit_high, halves}
 -- the mask of one place
 place_is : (w p : ℕ) → p < w → IsMaskOf (λ i. i ≡ p) (1 * 2 ^ p % 2 ^ w)
 place_is w p h =
-    mask_same (IsMoved w (λ i. i ≡ 0) p) (λ i. i ≡ p) (1 * 2 ^ p % 2 ^ w) (shl_is w (λ i. i ≡ 0) 1 p one_is)
+    mask_same (IsShifted w (λ i. i ≡ 0) p) (λ i. i ≡ p) (1 * 2 ^ p % 2 ^ w) (shl_is w (λ i. i ≡ 0) 1 p one_is)
     (λ i a. let far : p ≤ i = a.1 in let at : i - p ≡ 0 = a.2 in omega arith) (λ i e. (omega arith, omega arith, omega arith))
 
 -- a wanted place is added

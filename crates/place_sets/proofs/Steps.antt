@@ -1,4 +1,4 @@
--- Masks of what holds of places: both, either, moved up or down, and windows that make longer ones.
+-- Masks of what holds of places: both, either, shifted up or down, and windows that make longer ones.
 use Rattle.std.proofs.Common.{◌≡◌, ℕ, zero, suc, ◌+◌, ◌-◌, ◌*◌, ◌/◌, ◌%◌, ◌^◌, ◌<◌, ◌≤◌, ◌⊎◌, inl, inr, refl, sym, ap, ◌∙◌, arith, subst, min, max}
 use Rattle.std.specs.Int.{bit_at}
 use Rattle.std.specs.Int.RustNames.{bit_and, bit_or}
@@ -6,7 +6,7 @@ use Rattle.std.proofs.lemmas.Bool.{cases_lt}
 use Rattle.std.proofs.lemmas.Nat.Bits.{bit_at_and, bit_at_or, bit_at-lt, bit_at_cat_low, bit_at_cat_high, bit_at-zero}
 use Rattle.std.proofs.lemmas.Nat.{shr-shr, pow_pos}
 use Rattle.std.proofs.Math.Nat.{mod-lt}
-use Rattle.place_sets.specs.Masks.{Has, IsMaskOf, IsMoved, AllFrom}
+use Rattle.place_sets.specs.Masks.{Has, IsMaskOf, IsShifted, AllFrom}
 use Rattle.place_sets.proofs.Flooding.{bit_at_mod, has_below}
 
 -- a mask has the places that it has
@@ -44,7 +44,7 @@ bit_at_shr a s i =
     let e : s + i ≡ i + s = omega arith in
     ap (λ (z : ℕ). z % 2) (shr-shr a s i ∙ ap (λ (z : ℕ). a / 2 ^ z) e)
 
--- the places moved down
+-- the places shifted down
 pub shr_is : (P : ℕ → Type 0) (a s : ℕ) → IsMaskOf P a → IsMaskOf (λ i. P (i + s)) (a / 2 ^ s)
 shr_is P a s p = record {
   to = λ i h. p.to (i + s) (sym (bit_at_shr a s i) ∙ h);
@@ -61,8 +61,8 @@ bit_at_shl_high a s i h =
     let e : a * 2 ^ s + 0 ≡ a * 2 ^ s = omega arith in
     ap (λ (z : ℕ). bit_at z i) (sym e) ∙ bit_at_cat_high a s 0 i (pow_pos s) h
 
--- the places moved up, as far as the width goes
-pub shl_is : (w : ℕ) (P : ℕ → Type 0) (a s : ℕ) → IsMaskOf P a → IsMaskOf (IsMoved w P s) (a * 2 ^ s % 2 ^ w)
+-- the places shifted up, as far as the width goes
+pub shl_is : (w : ℕ) (P : ℕ → Type 0) (a s : ℕ) → IsMaskOf P a → IsMaskOf (IsShifted w P s) (a * 2 ^ s % 2 ^ w)
 shl_is w P a s p = record {
   to = λ i h.
       let l : i < w = has_below w (a * 2 ^ s % 2 ^ w) i (mod_small (a * 2 ^ s)) h in

@@ -1,6 +1,6 @@
--- What a few steps on words come to: a turned line, gaps, the ends of runs.
+-- What a few steps on words come to: floods, parts shared and joined, shifted and reversed places.
 use Rattle.std.proofs.Common.{◌≡◌, ℕ, zero, suc, ◌+◌, ◌-◌, ◌<◌, ◌≤◌, ◌⊎◌, inl, inr, arith, subst}
-use Rattle.place_sets.specs.Masks.{Has, IsMaskOf, IsMoved, IsTurned, IsFlooded}
+use Rattle.place_sets.specs.Masks.{Has, IsMaskOf, IsShifted, IsReversed, IsFlooded}
 use Rattle.place_sets.proofs.Steps.{mask_same}
 
 pub flooded_more : (P Q R S : ℕ → Type 0) → ((i : ℕ) → P i → R i) → ((i : ℕ) → Q i → S i) → (i : ℕ) → IsFlooded P Q i → IsFlooded R S i
@@ -34,32 +34,21 @@ join_of P Q a b m p q r =
     mask_same (λ i. Has a i ⊎ Has b i) (λ i. P i ⊎ Q i) m r (λ i h. elim h [ inl x ↦ inl (p.to i x) | inr y ↦ inr (q.to i y) ])
     (λ i h. elim h [ inl x ↦ inl (p.from i x) | inr y ↦ inr (q.from i y) ])
 
-pub moved_of : (w : ℕ) (P : ℕ → Type 0) (a by m : ℕ) → IsMaskOf P a → IsMaskOf (IsMoved w (Has a) by) m → IsMaskOf (IsMoved w P by) m
-moved_of w P a by m p q =
-    mask_same (IsMoved w (Has a) by) (IsMoved w P by) m q (λ i h. (h.0, h.1, p.to (i - by) h.2)) (λ i h. (h.0, h.1, p.from (i - by) h.2))
+pub shifted_of : (w : ℕ) (P : ℕ → Type 0) (a by m : ℕ) → IsMaskOf P a → IsMaskOf (IsShifted w (Has a) by) m → IsMaskOf (IsShifted w P by) m
+shifted_of w P a by m p q =
+    mask_same (IsShifted w (Has a) by) (IsShifted w P by) m q (λ i h. (h.0, h.1, p.to (i - by) h.2))
+    (λ i h. (h.0, h.1, p.from (i - by) h.2))
 
 -- a mask has the places that it has
 pub has_of : (a : ℕ) → IsMaskOf (Has a) a
 has_of a = record { to = λ i h. h; from = λ i h. h }
 
--- the ends of runs that begin behind a gap or at the opening, and that a window has room for
-pub run_ends_are : (w gap opening window by after starts some ends : ℕ)
-    → IsMaskOf (IsMoved w (Has gap) 1) after
-    → IsMaskOf (λ i. Has after i ⊎ Has opening i) some
-    → IsMaskOf (λ i. Has some i × Has window i) starts
-    → IsMaskOf (IsMoved w (Has starts) by) ends
-    → IsMaskOf (IsMoved w (λ s. (IsMoved w (Has gap) 1 s ⊎ Has opening s) × Has window s) by) ends
-run_ends_are w gap opening window by after starts some ends p q r s =
-    let either = join_of (IsMoved w (Has gap) 1) (Has opening) after opening some p (has_of opening) q in
-    let within = meet_of (λ i. IsMoved w (Has gap) 1 i ⊎ Has opening i) (Has window) some window starts either (has_of window) r in
-    moved_of w (λ i. (IsMoved w (Has gap) 1 i ⊎ Has opening i) × Has window i) starts by ends within s
-
--- a line turned in its word and moved down to the first place is the line seen from its other end
-pub turned_line : (w mask turned len m : ℕ) → len ≤ w → IsMaskOf (IsTurned w (Has mask)) turned
-    → IsMaskOf (λ i. Has turned (i + (w - len))) m
+-- the first places, reversed in their word and shifted down to the first one, are seen from their other end
+pub reversed_first : (w mask reversed len m : ℕ) → len ≤ w → IsMaskOf (IsReversed w (Has mask)) reversed
+    → IsMaskOf (λ i. Has reversed (i + (w - len))) m
     → IsMaskOf (λ i. (i < len) × Has mask (len - 1 - i)) m
-turned_line w mask turned len m h p q =
-    mask_same (λ i. Has turned (i + (w - len))) (λ i. (i < len) × Has mask (len - 1 - i)) m q
+reversed_first w mask reversed len m h p q =
+    mask_same (λ i. Has reversed (i + (w - len))) (λ i. (i < len) × Has mask (len - 1 - i)) m q
     (λ i x. let a = p.to (i + (w - len)) x in
     let l : i + (w - len) < w = a.0 in
     let e : w - 1 - (i + (w - len)) ≡ len - 1 - i = omega arith in

@@ -6,7 +6,7 @@ use Rattle.std.specs.Int.RustNames.{bit_and, bit_or}
 use Rattle.std.proofs.lemmas.Bool.{cases_lt}
 use Rattle.std.proofs.lemmas.Nat.Bits.{bit_at_xor, bit_at_not, bit_at-lt, bit_at-zero, bit_at_ones, bit_at_ones_above, bit_at_cat_high}
 use Rattle.std.proofs.lemmas.Nat.{pow-add}
-use Rattle.place_sets.specs.Masks.{Has, has, IsMaskOf, IsMoved}
+use Rattle.place_sets.specs.Masks.{Has, has, IsMaskOf, IsShifted}
 use Rattle.place_sets.proofs.Flooding.{has_below}
 use Rattle.place_sets.proofs.HasLemmas.{true_has, has_false, false_has}
 use Rattle.place_sets.proofs.Steps.{and_is, or_is, shr_is, shl_is, has-itself, mask_same}
@@ -36,12 +36,12 @@ meet_is a b = and_is (Has a) (Has b) a b (has-itself a) (has-itself b)
 pub join_is : (a b : ℕ) → IsMaskOf (λ i. Has a i ⊎ Has b i) (bit_or a b)
 join_is a b = or_is (Has a) (Has b) a b (has-itself a) (has-itself b)
 
--- the places moved down
+-- the places shifted down
 pub down_is : (a s : ℕ) → IsMaskOf (λ i. Has a (i + s)) (a / 2 ^ s)
 down_is a s = shr_is (Has a) a s (has-itself a)
 
--- the places moved up
-pub up_is : (w a s : ℕ) → IsMaskOf (IsMoved w (Has a) s) (a * 2 ^ s % 2 ^ w)
+-- the places shifted up
+pub up_is : (w a s : ℕ) → IsMaskOf (IsShifted w (Has a) s) (a * 2 ^ s % 2 ^ w)
 up_is w a s = shl_is w (Has a) a s (has-itself a)
 
 -- the places in one of them only

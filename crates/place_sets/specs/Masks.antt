@@ -25,13 +25,13 @@ AllFrom P count i = (z : ℕ) → z < count → P (i + z)
 abbrev pub SomeFrom : (ℕ → Type 0) → ℕ → ℕ → Type 0
 SomeFrom P count i = (z : ℕ) × (z < count) × P (i + z)
 
--- a place moved up by `by`, within a mask of `width` places
-abbrev pub IsMoved : ℕ → (ℕ → Type 0) → ℕ → ℕ → Type 0
-IsMoved width P by i = (i < width) × (by ≤ i) × P (i - by)
+-- a place shifted up by `by`, within a mask of `width` places
+abbrev pub IsShifted : ℕ → (ℕ → Type 0) → ℕ → ℕ → Type 0
+IsShifted width P by i = (i < width) × (by ≤ i) × P (i - by)
 
 -- a place seen from the other end of a mask of `width` places
-abbrev pub IsTurned : ℕ → (ℕ → Type 0) → ℕ → Type 0
-IsTurned width P i = (i < width) × P (width - 1 - i)
+abbrev pub IsReversed : ℕ → (ℕ → Type 0) → ℕ → Type 0
+IsReversed width P i = (i < width) × P (width - 1 - i)
 
 -- whether a mask has a place, as a test
 abbrev pub has : ℕ → ℕ → Bool
@@ -41,9 +41,9 @@ has mask i = nat_eq (bit_at mask i) 1
 abbrev pub IsMarked : (ℕ → Type 0) → ℕ → Bool → ℕ → Type 0
 IsMarked P place wanted i = (P i × (i ≢ place)) ⊎ ((i ≡ place) × (wanted ≡ true))
 
--- a table of the starts of windows of 1, 2, 4 and so on cells, up to a top level
-pub record AreWindows (cells top : ℕ) (table : List ℕ) : Type 0 where
-  pub each : (level : ℕ) → level ≤ top → IsMaskOf (AllFrom (Has cells) (2 ^ level)) (slice_index_or table level 0)
+-- a table of the starts of windows of 1, 2, 4 and so on places, up to a top level
+pub record AreWindows (mask top : ℕ) (table : List ℕ) : Type 0 where
+  pub each : (level : ℕ) → level ≤ top → IsMaskOf (AllFrom (Has mask) (2 ^ level)) (slice_index_or table level 0)
 
 -- for some level up to the top one, one of the 2 to the level places from `i` on is in that level's mask
 abbrev pub SomeLevel : ℕ → List ℕ → ℕ → Type 0

@@ -11,18 +11,18 @@ pub fn either<W: PlaceSet>(mask: W, by: u16) -> W
     requires { by < W.WIDTH }
     ensures { IsMaskOf (λ i. Has (W.number mask) i ⊎ Has (W.number mask) (i + by)) (W.number result) }
 {
-    mask.or(mask.down(by))
+    mask.union(mask.shifted_down(by))
 }
 
-/// Adds the ends of a run to the level of its length, to be spread with all others of that level. The level
-/// spreads over 2 to the level places; the rest of the length is spread here.
-pub fn add_ends<W: PlaceSet>(levels: &mut [W; LEVELS], ends: W, length: u16)
+/// Adds a mask to the level of a length, to be spread with all others of that level. The level spreads over
+/// 2 to the level places; the rest of the length is spread here.
+pub fn add_spread<W: PlaceSet>(levels: &mut [W; LEVELS], mask: W, length: u16)
     requires { (0 < length) × (length ≤ W.WIDTH) }
-    ensures { AreLevelsOf (λ i. SomeLevel W.TOP (map W.number levels.old) i ⊎ SomeFrom (Has (W.number ends)) length i) W.TOP
+    ensures { AreLevelsOf (λ i. SomeLevel W.TOP (map W.number levels.old) i ⊎ SomeFrom (Has (W.number mask)) length i) W.TOP
         (map W.number levels.new) }
 {
     let (level, rest) = level_of(length);
-    levels[level] = levels[level].or(either(ends, rest));
+    levels[level] = levels[level].union(either(mask, rest));
 }
 
 /// Spreads the level above by half of its places, into a level.
@@ -30,7 +30,7 @@ fn spread_into<W: PlaceSet>(levels: &mut [W; LEVELS], level: usize)
     requires { level < W.TOP }
     ensures { AreLevelsOf (SomeLevel (level + 1) (map W.number levels.old)) level (map W.number levels.new) }
 {
-    levels[level] = levels[level].or(either(levels[level + 1], 1 << level));
+    levels[level] = levels[level].union(either(levels[level + 1], 1 << level));
 }
 
 /// The places that have, for some level, one in its mask among the 2 to the level places from there on.

@@ -9,8 +9,8 @@ mod sets;
 mod wide;
 mod windows;
 
-pub use levels::{add_ends, spread, spread_levels};
-pub use prefixes::{lacking, places, turn_line};
+pub use levels::{add_spread, spread, spread_levels};
+pub use prefixes::{complement_within, first_places, reversed_within};
 pub use searching::first_from;
 pub use sets::PlaceSet;
 pub use wide::Wide;

@@ -27,7 +27,7 @@ impl PlaceSet for u64 {
 
     const TOP: usize = 6;
 
-    fn none() -> u64 {
+    fn empty() -> u64 {
         0
     }
 
@@ -35,7 +35,7 @@ impl PlaceSet for u64 {
         1
     }
 
-    fn all() -> u64 {
+    fn full() -> u64 {
         u64::MAX
     }
 
@@ -43,7 +43,7 @@ impl PlaceSet for u64 {
         self == 0
     }
 
-    fn has(self, place: u16) -> bool {
+    fn contains(self, place: u16) -> bool {
         (self >> place) & 1 == 1
     }
 
@@ -55,27 +55,27 @@ impl PlaceSet for u64 {
         }
     }
 
-    fn and(self, other: u64) -> u64 {
+    fn intersection(self, other: u64) -> u64 {
         self & other
     }
 
-    fn or(self, other: u64) -> u64 {
+    fn union(self, other: u64) -> u64 {
         self | other
     }
 
-    fn xor(self, other: u64) -> u64 {
+    fn symmetric_difference(self, other: u64) -> u64 {
         self ^ other
     }
 
-    fn without(self, other: u64) -> u64 {
+    fn difference(self, other: u64) -> u64 {
         self & !other
     }
 
-    fn up(self, by: u16) -> u64 {
+    fn shifted_up(self, by: u16) -> u64 {
         self << by
     }
 
-    fn down(self, by: u16) -> u64 {
+    fn shifted_down(self, by: u16) -> u64 {
         self >> by
     }
 
@@ -83,7 +83,7 @@ impl PlaceSet for u64 {
         ((free.wrapping_add(sources) ^ free) & free) | sources
     }
 
-    fn turn(self) -> u64 {
+    fn reversed(self) -> u64 {
         let ones = swap_pairs(self, 0x5555555555555555, 1);
         let twos = swap_pairs(ones, 0x3333333333333333, 2);
         let fours = swap_pairs(twos, 0x0f0f0f0f0f0f0f0f, 4);
@@ -131,7 +131,7 @@ impl PlaceSet for u128 {
 
     const TOP: usize = 7;
 
-    fn none() -> u128 {
+    fn empty() -> u128 {
         0
     }
 
@@ -139,7 +139,7 @@ impl PlaceSet for u128 {
         1
     }
 
-    fn all() -> u128 {
+    fn full() -> u128 {
         u128::MAX
     }
 
@@ -147,7 +147,7 @@ impl PlaceSet for u128 {
         self == 0
     }
 
-    fn has(self, place: u16) -> bool {
+    fn contains(self, place: u16) -> bool {
         (self >> place) & 1 == 1
     }
 
@@ -159,27 +159,27 @@ impl PlaceSet for u128 {
         }
     }
 
-    fn and(self, other: u128) -> u128 {
+    fn intersection(self, other: u128) -> u128 {
         self & other
     }
 
-    fn or(self, other: u128) -> u128 {
+    fn union(self, other: u128) -> u128 {
         self | other
     }
 
-    fn xor(self, other: u128) -> u128 {
+    fn symmetric_difference(self, other: u128) -> u128 {
         self ^ other
     }
 
-    fn without(self, other: u128) -> u128 {
+    fn difference(self, other: u128) -> u128 {
         self & !other
     }
 
-    fn up(self, by: u16) -> u128 {
+    fn shifted_up(self, by: u16) -> u128 {
         self << by
     }
 
-    fn down(self, by: u16) -> u128 {
+    fn shifted_down(self, by: u16) -> u128 {
         self >> by
     }
 
@@ -187,9 +187,9 @@ impl PlaceSet for u128 {
         ((free.wrapping_add(sources) ^ free) & free) | sources
     }
 
-    fn turn(self) -> u128 {
-        let low = ((self & 0xffffffffffffffff) as u64).turn();
-        let high = ((self >> 64) as u64).turn();
+    fn reversed(self) -> u128 {
+        let low = ((self & 0xffffffffffffffff) as u64).reversed();
+        let high = ((self >> 64) as u64).reversed();
         ((low as u128) << 64) | high as u128
     }
 

@@ -13,7 +13,7 @@ pub fn first_from<W: PlaceSet>(set: W, from: u16) -> Option<u16>
     if from == W::WIDTH {
         return None;
     }
-    let later = set.and(W::all().up(from));
+    let later = set.intersection(W::full().shifted_up(from));
     if later.is_empty() {
         return None;
     }

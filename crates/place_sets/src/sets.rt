@@ -2,7 +2,7 @@
 
 ghost use Rattle.std.specs.Prelude.{◌≡◌, ◌≢◌, ◌+◌, ◌*◌, ◌^◌, ◌<◌, ◌≤◌, ◌==◌, ◌⊎◌, ℕ, false, refl};
 ghost use Rattle.std.proofs.Common.{arith};
-ghost use Rattle.place_sets.specs.Masks.{Has, has, IsFlooded, IsMarked, IsMaskOf, IsMoved, IsTurned, number_of};
+ghost use Rattle.place_sets.specs.Masks.{Has, has, IsFlooded, IsMarked, IsMaskOf, IsShifted, IsReversed, number_of};
 
 use crate::Wide;
 
@@ -24,7 +24,7 @@ pub trait PlaceSet: Copy {
     const TOP: usize;
 
     /// No place.
-    fn none() -> Self
+    fn empty() -> Self
         ensures { number result ≡ 0 };
 
     /// The first place alone.
@@ -32,7 +32,7 @@ pub trait PlaceSet: Copy {
         ensures { IsMaskOf (λ i. i ≡ 0) (number result) };
 
     /// All places.
-    fn all() -> Self
+    fn full() -> Self
         ensures { IsMaskOf (λ i. i < WIDTH) (number result) };
 
     /// Whether there is no place in it.
@@ -40,7 +40,7 @@ pub trait PlaceSet: Copy {
         ensures { result ≡ (number self == 0) };
 
     /// Whether a place is in it.
-    fn has(self, place: u16) -> bool
+    fn contains(self, place: u16) -> bool
         requires { place < WIDTH }
         ensures { result ≡ has (number self) place };
 
@@ -50,28 +50,28 @@ pub trait PlaceSet: Copy {
         ensures { IsMaskOf (IsMarked (Has (number self)) place wanted) (number result) };
 
     /// The places in both.
-    fn and(self, other: Self) -> Self
+    fn intersection(self, other: Self) -> Self
         ensures { IsMaskOf (λ i. Has (number self) i × Has (number other) i) (number result) };
 
     /// The places in either.
-    fn or(self, other: Self) -> Self
+    fn union(self, other: Self) -> Self
         ensures { IsMaskOf (λ i. Has (number self) i ⊎ Has (number other) i) (number result) };
 
     /// The places in one of them only.
-    fn xor(self, other: Self) -> Self
+    fn symmetric_difference(self, other: Self) -> Self
         ensures { IsMaskOf (λ i. has (number self) i ≢ has (number other) i) (number result) };
 
     /// The places that another lacks.
-    fn without(self, other: Self) -> Self
+    fn difference(self, other: Self) -> Self
         ensures { IsMaskOf (λ i. Has (number self) i × (has (number other) i ≡ false)) (number result) };
 
-    /// The places moved up; those that leave the width are dropped.
-    fn up(self, by: u16) -> Self
+    /// The places shifted up; those that leave the width are dropped.
+    fn shifted_up(self, by: u16) -> Self
         requires { by < WIDTH }
-        ensures { IsMaskOf (IsMoved WIDTH (Has (number self)) by) (number result) };
+        ensures { IsMaskOf (IsShifted WIDTH (Has (number self)) by) (number result) };
 
-    /// The places moved down; those that leave the width are dropped.
-    fn down(self, by: u16) -> Self
+    /// The places shifted down; those that leave the width are dropped.
+    fn shifted_down(self, by: u16) -> Self
         requires { by < WIDTH }
         ensures { IsMaskOf (λ i. Has (number self) (i + by)) (number result) };
 
@@ -81,8 +81,8 @@ pub trait PlaceSet: Copy {
         ensures { IsMaskOf (IsFlooded (Has (number sources)) (Has (number free))) (number result) };
 
     /// The places seen from the other end.
-    fn turn(self) -> Self
-        ensures { IsMaskOf (IsTurned WIDTH (Has (number self))) (number result) };
+    fn reversed(self) -> Self
+        ensures { IsMaskOf (IsReversed WIDTH (Has (number self))) (number result) };
 
     /// The least place of a set that has one.
     fn first_place(self) -> u16

@@ -24,7 +24,7 @@ impl PlaceSet for Wide {
 
     const TOP: usize = 8;
 
-    fn none() -> Wide {
+    fn empty() -> Wide {
         Wide { low: 0, high: 0 }
     }
 
@@ -32,7 +32,7 @@ impl PlaceSet for Wide {
         Wide { low: 1, high: 0 }
     }
 
-    fn all() -> Wide {
+    fn full() -> Wide {
         Wide {
             low: u128::MAX,
             high: u128::MAX,
@@ -43,11 +43,11 @@ impl PlaceSet for Wide {
         (self.low | self.high) == 0
     }
 
-    fn has(self, place: u16) -> bool {
+    fn contains(self, place: u16) -> bool {
         if place < 128 {
-            self.low.has(place)
+            self.low.contains(place)
         } else {
-            self.high.has(place - 128)
+            self.high.contains(place - 128)
         }
     }
 
@@ -65,61 +65,63 @@ impl PlaceSet for Wide {
         }
     }
 
-    fn and(self, other: Wide) -> Wide {
+    fn intersection(self, other: Wide) -> Wide {
         Wide {
-            low: self.low.and(other.low),
-            high: self.high.and(other.high),
+            low: self.low.intersection(other.low),
+            high: self.high.intersection(other.high),
         }
     }
 
-    fn or(self, other: Wide) -> Wide {
+    fn union(self, other: Wide) -> Wide {
         Wide {
-            low: self.low.or(other.low),
-            high: self.high.or(other.high),
+            low: self.low.union(other.low),
+            high: self.high.union(other.high),
         }
     }
 
-    fn xor(self, other: Wide) -> Wide {
+    fn symmetric_difference(self, other: Wide) -> Wide {
         Wide {
-            low: self.low.xor(other.low),
-            high: self.high.xor(other.high),
+            low: self.low.symmetric_difference(other.low),
+            high: self.high.symmetric_difference(other.high),
         }
     }
 
-    fn without(self, other: Wide) -> Wide {
+    fn difference(self, other: Wide) -> Wide {
         Wide {
-            low: self.low.without(other.low),
-            high: self.high.without(other.high),
+            low: self.low.difference(other.low),
+            high: self.high.difference(other.high),
         }
     }
 
-    fn up(self, by: u16) -> Wide {
+    fn shifted_up(self, by: u16) -> Wide {
         if by == 0 {
             self
         } else if by < 128 {
+            let over = self.low.shifted_down(128 - by);
             Wide {
-                low: self.low.up(by),
-                high: self.high.up(by).or(self.low.down(128 - by)),
+                low: self.low.shifted_up(by),
+                high: self.high.shifted_up(by).union(over),
             }
         } else {
             Wide {
                 low: 0,
-                high: self.low.up(by - 128),
+                high: self.low.shifted_up(by - 128),
             }
         }
     }
 
-    fn down(self, by: u16) -> Wide {
+    fn shifted_down(self, by: u16) -> Wide {
         if by == 0 {
             self
         } else if by < 128 {
+            let over = self.high.shifted_up(128 - by);
             Wide {
-                low: self.low.down(by).or(self.high.up(128 - by)),
-                high: self.high.down(by),
+                low: self.low.shifted_down(by).union(over),
+                high: self.high.shifted_down(by),
             }
         } else {
             Wide {
-                low: self.high.down(by - 128),
+                low: self.high.shifted_down(by - 128),
                 high: 0,
             }
         }
@@ -127,17 +129,17 @@ impl PlaceSet for Wide {
 
     fn flood(sources: Wide, free: Wide) -> Wide {
         let low = u128::flood(sources.low, free.low);
-        let over = low.down(127).and(free.high);
+        let over = low.shifted_down(127).intersection(free.high);
         Wide {
             low,
-            high: u128::flood(sources.high.or(over), free.high),
+            high: u128::flood(sources.high.union(over), free.high),
         }
     }
 
-    fn turn(self) -> Wide {
+    fn reversed(self) -> Wide {
         Wide {
-            low: self.high.turn(),
-            high: self.low.turn(),
+            low: self.high.reversed(),
+            high: self.low.reversed(),
         }
     }
 

@@ -14,7 +14,7 @@ pub fn both<W: PlaceSet>(mask: W, by: u16) -> W
     requires { by < W.WIDTH }
     ensures { IsMaskOf (λ i. Has (W.number mask) i × Has (W.number mask) (i + by)) (W.number result) }
 {
-    mask.and(mask.down(by))
+    mask.intersection(mask.shifted_down(by))
 }
 
 /// The level of a length, the exponent of the greatest power of two in it, and how many places are left.

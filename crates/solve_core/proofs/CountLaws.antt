@@ -4,7 +4,7 @@ use Rattle.std.proofs.lemmas.Bool.{eqb-true, eq-eqb}
 use Rattle.grid_core.specs.declared.cells.Cell.{Cell}
 use Rattle.grid_core.specs.declared.cells.Cell.TheVariants.{Unknown}
 use Rattle.grid_core.specs.Cells.{is_known}
-use Rattle.place_sets.specs.Masks.{Has, has, IsMaskOf, IsMoved}
+use Rattle.place_sets.specs.Masks.{Has, has, IsMaskOf, IsShifted}
 use Rattle.place_sets.proofs.HasLemmas.{true_has, has_true}
 use Rattle.grid_core.specs.Lines.{IsUnknownCell}
 use Rattle.grid_core.proofs.LineCells.{has_by}
@@ -73,14 +73,14 @@ by_sure false c h = inr h
 
 -- the cells with a known cell to their left, and the first one
 pub left_is : (row : List Cell) (w known up first left : ℕ) → length row ≤ w → IsMaskOf (IsKnownCell row) known →
-    IsMaskOf (IsMoved w (Has known) 1) up → IsMaskOf (λ i. i ≡ 0) first
+    IsMaskOf (IsShifted w (Has known) 1) up → IsMaskOf (λ i. i ≡ 0) first
     → IsMaskOf (λ i. Has up i ⊎ Has first i) left → (x : ℕ) → x < length row →
     has left x ≡ is_sure (nat_eq x 0) (get_or row (x - 1) Unknown)
 left_is row w known up first left fits k u f l x h = has_by left x (is_sure (nat_eq x 0) (get_or row (x - 1) Unknown)) to from
   where
     to : Has left x → is_sure (nat_eq x 0) (get_or row (x - 1) Unknown) ≡ true
     to y = elim (l.to x y) [
-      | inl moved ↦ sure_by (nat_eq x 0) (get_or row (x - 1) Unknown) (inr (k.to (x - 1) (u.to x moved).2).1)
+      | inl shifted ↦ sure_by (nat_eq x 0) (get_or row (x - 1) Unknown) (inr (k.to (x - 1) (u.to x shifted).2).1)
       | inr start ↦ sure_by (nat_eq x 0) (get_or row (x - 1) Unknown) (inl (eq-eqb x 0 (f.to x start)))
     ]
 
@@ -96,14 +96,14 @@ left_is row w known up first left fits k u f l x h = has_by left x (is_sure (nat
 -- the cells with a known cell to their right, and the last one
 pub right_is : (row : List Cell) (w known down first last right : ℕ) → length row ≤ w → 1 ≤ length row →
     IsMaskOf (IsKnownCell row) known → IsMaskOf (λ i. Has known (i + 1)) down
-    → IsMaskOf (λ i. i ≡ 0) first → IsMaskOf (IsMoved w (Has first) (length row - 1)) last → IsMaskOf (λ i. Has down i ⊎ Has last i) right
+    → IsMaskOf (λ i. i ≡ 0) first → IsMaskOf (IsShifted w (Has first) (length row - 1)) last → IsMaskOf (λ i. Has down i ⊎ Has last i) right
     → (x : ℕ) → x < length row → has right x ≡ is_sure (nat_eq (x + 1) (length row)) (get_or row (x + 1) Unknown)
 right_is row w known down first last right fits some k d f m r x h =
     has_by right x (is_sure (nat_eq (x + 1) (length row)) (get_or row (x + 1) Unknown)) to from
   where
     to : Has right x → is_sure (nat_eq (x + 1) (length row)) (get_or row (x + 1) Unknown) ≡ true
     to y = elim (r.to x y) [
-      | inl moved ↦ sure_by (nat_eq (x + 1) (length row)) (get_or row (x + 1) Unknown) (inr (k.to (x + 1) (d.to x moved)).1)
+      | inl shifted ↦ sure_by (nat_eq (x + 1) (length row)) (get_or row (x + 1) Unknown) (inr (k.to (x + 1) (d.to x shifted)).1)
       | inr end ↦
           (let at = m.to x end in
           let start : x - (length row - 1) ≡ 0 = f.to (x - (length row - 1)) at.2 in

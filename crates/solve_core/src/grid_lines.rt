@@ -15,7 +15,7 @@ ghost use Rattle.solve_core.specs.Picks.{most_known};
 use crate::picks::{known_cells, most_in_row};
 use grid_core::{Cell, Grid, NoMemory, Side};
 use line_core::{LineOf, LineSet};
-use place_sets::places;
+use place_sets::first_places;
 use std::alloc::Global;
 use std::marker::Model;
 
@@ -168,7 +168,7 @@ fn sure_above<W: LineSet>(rows: &[LineOf<W>], y: usize) -> W
         has (W.number result) x ≡ is_sure (nat_eq y 0) (slice_index_or (slice_index_or rows.now (y - 1) []) x Unknown) }
 {
     if y == 0 {
-        places(rows[y].len())
+        first_places(rows[y].len())
     } else {
         known_cells(&rows[y - 1])
     }
@@ -181,7 +181,7 @@ fn sure_below<W: LineSet>(rows: &[LineOf<W>], y: usize) -> W
         is_sure (nat_eq (y + 1) (length rows.now)) (slice_index_or (slice_index_or rows.now (y + 1) []) x Unknown) }
 {
     if y + 1 == rows.len() {
-        places(rows[y].len())
+        first_places(rows[y].len())
     } else {
         known_cells(&rows[y + 1])
     }

@@ -8,7 +8,7 @@ ghost use Rattle.solve_core.specs.steps.LineMarks.{marks_on, AreUnmarked, IsMark
 
 use grid_core::Side;
 use line_core::LineSet;
-use place_sets::{first_from, places};
+use place_sets::{first_from, first_places};
 use std::marker::Model;
 
 /// A mark for each line of a grid: those of the rows in one set, and those of the columns in another.
@@ -32,8 +32,8 @@ impl<W: LineSet> Marks<W> {
         ensures { AreUnmarked result }
     {
         Marks {
-            rows: W::none(),
-            columns: W::none(),
+            rows: W::empty(),
+            columns: W::empty(),
         }
     }
 
@@ -43,8 +43,8 @@ impl<W: LineSet> Marks<W> {
         requires height { (1 ≤ height) × (height ≤ W.WIDTH) }
         ensures { (side : SideValue) (i : ℕ) → IsMarkedOn self.new side i ↔ (i < count_on side width height) }
     {
-        self.rows = places(height);
-        self.columns = places(width);
+        self.rows = first_places(height);
+        self.columns = first_places(width);
     }
 
     /// Marks line i of a side if that is wanted, and else takes its mark back.
@@ -65,8 +65,8 @@ impl<W: LineSet> Marks<W> {
         ensures other { marks_on (crossing side) self.new ≡ marks_on (crossing side) self.old }
     {
         match side {
-            Side::Rows => self.rows = self.rows.or(lines),
-            Side::Columns => self.columns = self.columns.or(lines),
+            Side::Rows => self.rows = self.rows.union(lines),
+            Side::Columns => self.columns = self.columns.union(lines),
         }
     }
 

@@ -5,7 +5,7 @@ ghost use Rattle.place_sets.specs.Masks.{Has, has, IsMaskOf};
 ghost use Rattle.solve_core.specs.steps.Counts.{AreCounts, IsKnownCell, IsMostInRow, two_of};
 
 use line_core::LineOf;
-use place_sets::{PlaceSet, lacking};
+use place_sets::{PlaceSet, complement_within};
 
 /// Which unknown cell is guessed next.
 #[derive(Clone, Copy, Debug, PartialEq, Eq)]
@@ -30,8 +30,8 @@ impl<W: PlaceSet> Two<W> {
         ensures { AreCounts (λ i. two_of (has (W.number set) i) (has (W.number other) i)) (W.number result.either) (W.number result.both) }
     {
         Two {
-            either: set.or(other),
-            both: set.and(other),
+            either: set.union(other),
+            both: set.intersection(other),
         }
     }
 }
@@ -46,20 +46,20 @@ fn in_so_many<W: PlaceSet>(places: W, first: &Two<W>, second: &Two<W>, count: us
 {
     match count {
         0 => places,
-        1 => places.and(first.either.or(second.either)),
-        2 => places.and(
+        1 => places.intersection(first.either.union(second.either)),
+        2 => places.intersection(
             first
                 .both
-                .or(second.both)
-                .or(first.either.and(second.either)),
+                .union(second.both)
+                .union(first.either.intersection(second.either)),
         ),
-        3 => places.and(
+        3 => places.intersection(
             first
                 .both
-                .and(second.either)
-                .or(first.either.and(second.both)),
+                .intersection(second.either)
+                .union(first.either.intersection(second.both)),
         ),
-        _ => places.and(first.both.and(second.both)),
+        _ => places.intersection(first.both.intersection(second.both)),
     }
 }
 
@@ -95,7 +95,7 @@ pub fn first_in_most<W: PlaceSet>(
 pub fn known_cells<W: PlaceSet>(line: &LineOf<W>) -> W
     ensures { IsMaskOf (IsKnownCell line.now) (W.number result) }
 {
-    lacking(line.unknown_cells(), line.len())
+    complement_within(line.unknown_cells(), line.len())
 }
 
 /// The first of a row's unknown cells of whose neighbours the most are known or outside the grid, and of how
@@ -110,8 +110,10 @@ pub fn most_in_row<W: PlaceSet>(
 {
     let unknown = row.unknown_cells();
     let known = known_cells(row);
-    let left = known.up(1).or(W::first());
-    let right = known.down(1).or(W::first().up(row.len() - 1));
+    let left = known.shifted_up(1).union(W::first());
+    let right = known
+        .shifted_down(1)
+        .union(W::first().shifted_up(row.len() - 1));
     let beside = Two::of(left, right);
     let across = Two::of(above, below);
     first_in_most(unknown, &beside, &across, least)

@@ -57,7 +57,8 @@ impl Crossed {
     fn shares_no_line(&self, other: &Crossed) -> bool
         ensures { IsTrue result → ShareNoLine self.now other.now }
     {
-        self.rows.and(other.rows).is_empty() && self.columns.and(other.columns).is_empty()
+        self.rows.intersection(other.rows).is_empty()
+            && self.columns.intersection(other.columns).is_empty()
     }
 }
 

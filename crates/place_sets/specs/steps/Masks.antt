@@ -1,4 +1,4 @@
--- How a word is turned: by swaps of the halves of ever larger groups of places.
+-- How a word is reversed: by swaps of the halves of ever larger groups of places.
 use Rattle.std.specs.Prelude.{◌≡◌, ℕ, zero, suc, ◌+◌, ◌-◌, Bool, true, not, ◌&&◌, nat_lt, nat_le, if◌then◌else◌}
 use Rattle.place_sets.specs.Masks.{has}
 
@@ -7,7 +7,7 @@ abbrev pub all_below : ℕ → (ℕ → Bool) → Bool
 all_below zero p = true
 all_below (suc n) p = p n && all_below n p
 
--- the place that a step of a turn brings to a place: the low half of each pair is in the mask
+-- the place that a step of a reversal brings to a place: the low half of each pair is in the mask
 abbrev pub swapped_place : ℕ → ℕ → ℕ → ℕ
 swapped_place low by i = if has low i then i + by else (i - by)
 

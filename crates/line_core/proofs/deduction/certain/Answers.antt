@@ -4,22 +4,22 @@ use Rattle.grid_core.specs.declared.cells.Cell.{Cell}
 use Rattle.line_core.proofs.Telling.{told_dead, told_some, told_apart}
 use Rattle.line_core.proofs.deduction.certain.Goals as goal
 
-pub returns-then-not-has : goal.returns-then-not-has
-returns-then-not-has g c =
+pub returns-then-not-contains : goal.returns-then-not-contains
+returns-then-not-contains g c =
     let number = g.W.PlaceSet.number in
-    told_dead c.args.len (number c.args.fillable) (number c.args.blankable) (number c.or.result) c.or.ensures
-    (sym c.has.ensures ∙ c.if-not-has.true)
+    told_dead c.args.len (number c.args.fillable) (number c.args.blankable) (number c.union.result) c.union.ensures
+    (sym c.contains.ensures ∙ c.if-not-contains.true)
 
 pub of_sets-requires-clause-apart : goal.of_sets-requires-clause-apart
 of_sets-requires-clause-apart g c = λ i x y.
     let number = g.W.PlaceSet.number in
-    told_apart (number c.args.fillable) (number c.args.blankable) (number c.without-filled.result) (number c.without-blank.result) i
-    c.without-filled.ensures c.without-blank.ensures x y
+    told_apart (number c.args.fillable) (number c.args.blankable) (number c.difference-filled.result) (number c.difference-blank.result) i
+    c.difference-filled.ensures c.difference-blank.ensures x y
 
 pub returns : goal.returns
 returns g c =
     let number = g.W.PlaceSet.number in
     ap (λ (line : List Cell). Some line) c.of_sets.ensures
-    ∙ told_some c.args.len (number c.args.fillable) (number c.args.blankable) (number c.or.result) (number c.without-filled.result)
-    (number c.without-blank.result) c.or.ensures (sym c.has.ensures ∙ c.if-not-has.false) c.without-filled.ensures
-    c.without-blank.ensures
+    ∙ told_some c.args.len (number c.args.fillable) (number c.args.blankable) (number c.union.result) (number c.difference-filled.result)
+    (number c.difference-blank.result) c.union.ensures (sym c.contains.ensures ∙ c.if-not-contains.false) c.difference-filled.ensures
+    c.difference-blank.ensures

@@ -21,10 +21,10 @@ loop-j-init g c =
     record {
       pass = pass;
       blank = blank_first line clue (number c.gap.result) (number c.gap_ahead.result)
-          (number c.and-blankable.result) gap c.gap_ahead.ensures c.and-blankable.ensures;
+          (number c.intersection-blankable.result) gap c.gap_ahead.ensures c.intersection-blankable.ensures;
       filled =
           levels_none (λ i. (q : ℕ) × (q < 0) × SomeFrom (IsWholeEnd line clue q) (get_or clue q 0) i) g.W.PlaceSet.TOP _
-          (none_at number c.none-spread.result c.none-spread.ensures 9) (λ i h. let b : h.0 < 0 = h.1 in absurd (omega arith));
+          (none_at number c.empty-spread.result c.empty-spread.ensures 9) (λ i h. let b : h.0 < 0 = h.1 in absurd (omega arith));
     }
 
 pub step-ends-requires : goal.step-ends-requires
@@ -66,11 +66,11 @@ loop-j-preserved g c =
     record {
       pass = pass;
       blank = blank_more line clue j (number c.gap-in-loop-j.result) (number c.gap_ahead-ahead.result) (number c.loop-j.blankable)
-          (number c.and.result)
-          (number c.or-blankable.result) gap c.gap_ahead-ahead.ensures invariant.blank c.and.ensures c.or-blankable.ensures;
+          (number c.intersection.result)
+          (number c.union-blankable.result) gap c.gap_ahead-ahead.ensures invariant.blank c.intersection.ensures c.union-blankable.ensures;
       filled =
           fill_more line clue g.W.PlaceSet.TOP j (number c.inner_ends-whole.result) (map number c.loop-j.spread)
-          (map number c.add_ends.new.levels) c.inner_ends-whole.ensures c.add_ends.ensures invariant.filled;
+          (map number c.add_spread.new.levels) c.inner_ends-whole.ensures c.add_spread.ensures invariant.filled;
     }
 
 -- the pass has come to the last run
@@ -118,9 +118,9 @@ returns-then-is_empty-clause-blank g c =
     subst (λ m. IsMaskOf (IsGap line clue 0) (number m)) (sym c.gap.ensures) pass.gap_is in
     let first =
     blank_first line clue (number c.gap.result) (number c.gap_ahead.result)
-    (number c.and-blankable.result) gap c.gap_ahead.ensures c.and-blankable.ensures in
+    (number c.intersection-blankable.result) gap c.gap_ahead.ensures c.intersection-blankable.ensures in
     mask_same (λ i. (q : ℕ) × (q ≤ 0) × IsGap line clue q i × IsGapAhead line clue q i) (IsBlankable line clue)
-    (number c.and-blankable.result) first
+    (number c.intersection-blankable.result) first
     (λ i h. let b : h.0 ≤ 0 = h.1 in (h.0, omega arith, h.2, h.3)) (λ i h. let b : h.0 ≤ length clue = h.1 in (h.0, omega arith, h.2, h.3))
 
 pub returns-clause-filled : goal.returns-clause-filled
@@ -137,8 +137,8 @@ returns-clause-filled g c =
     (map number c.loop-j.spread)) c.loop-j.j last e c.loop-j.invariant.filled in
     let filled =
     fill_more line clue g.W.PlaceSet.TOP last (number c.whole_ends-last_whole.result) (map number c.loop-j.spread)
-    (map number c.add_ends-2.new.levels) c.whole_ends-last_whole.ensures c.add_ends-2.ensures before in
-    mask_same (SomeLevel g.W.PlaceSet.TOP (map number c.add_ends-2.new.levels)) (IsFillable line clue)
+    (map number c.add_spread-2.new.levels) c.whole_ends-last_whole.ensures c.add_spread-2.ensures before in
+    mask_same (SomeLevel g.W.PlaceSet.TOP (map number c.add_spread-2.new.levels)) (IsFillable line clue)
     (number c.spread_levels.result) c.spread_levels.ensures
     (λ i x. let h = filled.to i x in let b : h.0 < last + 1 = h.1 in (h.0, omega arith, h.2))
     (λ i h. let b : h.0 < length clue = h.1 in filled.from i (h.0, omega arith, h.2))
@@ -172,8 +172,8 @@ returns-clause-blank g c =
     (λ n. IsMaskOf (λ i. (q : ℕ) × (q ≤ n) × IsGap line clue q i × IsGapAhead line clue q i) (number c.loop-j.blankable)) c.loop-j.j last e
     c.loop-j.invariant.blank in
     mask_same (λ i. (q : ℕ) × (q ≤ last + 1) × IsGap line clue q i × IsGapAhead line clue q i) (IsBlankable line clue)
-    (number c.or-blankable-2.result)
-    (blank_more line clue last (number c.gap-2.result) (number c.gap_ahead-after.result) (number c.loop-j.blankable) (number c.and-2.result)
-    (number c.or-blankable-2.result) gap ahead before c.and-2.ensures c.or-blankable-2.ensures)
+    (number c.union-blankable-2.result)
+    (blank_more line clue last (number c.gap-2.result) (number c.gap_ahead-after.result) (number c.loop-j.blankable)
+    (number c.intersection-2.result) (number c.union-blankable-2.result) gap ahead before c.intersection-2.ensures c.union-blankable-2.ensures)
     (λ i h. let b : h.0 ≤ last + 1 = h.1 in (h.0, omega arith, h.2, h.3))
     (λ i h. let b : h.0 ≤ length clue = h.1 in (h.0, omega arith, h.2, h.3))

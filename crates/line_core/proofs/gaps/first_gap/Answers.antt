@@ -5,12 +5,12 @@ use Rattle.place_sets.proofs.Uses.{flood_from, meet_of, has_of}
 use Rattle.line_core.proofs.gaps.first_gap.Goals as goal
 
 pub flood-requires : goal.flood-requires
-flood-requires g c = λ i h. (c.and.ensures.to i h).0
+flood-requires g c = λ i h. (c.intersection.ensures.to i h).0
 
 pub returns : goal.returns
 returns g c =
     let number = g.W.PlaceSet.number in
     let free = number c.args.free in
-    flood_from (λ k. Has free k × (k ≡ 0)) (Has free) (number c.and.result) (number c.flood.result)
-    (meet_of (Has free) (λ k. k ≡ 0) free (number c.first.result) (number c.and.result) (has_of free) c.first.ensures c.and.ensures)
-    c.flood.ensures
+    flood_from (λ k. Has free k × (k ≡ 0)) (Has free) (number c.intersection.result) (number c.flood.result)
+    (meet_of (Has free) (λ k. k ≡ 0) free (number c.first.result) (number c.intersection.result) (has_of free) c.first.ensures
+    c.intersection.ensures) c.flood.ensures

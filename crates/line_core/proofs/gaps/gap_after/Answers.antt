@@ -1,19 +1,20 @@
 -- `gap_after`: a flood over the free places from those after the ends.
-use Rattle.place_sets.specs.Masks.{Has, IsMoved}
+use Rattle.place_sets.specs.Masks.{Has, IsShifted}
 use Rattle.place_sets.proofs.Uses.{flood_from, meet_of, has_of}
 use Rattle.place_sets.proofs.Doubling.{one_within}
 use Rattle.line_core.proofs.gaps.gap_after.Goals as goal
 
-pub up-requires : goal.up-requires
-up-requires g c = one_within g.W.PlaceSet.WIDTH g.W.PlaceSet.TOP g.met.W.PlaceSet.top_is.0 g.met.W.PlaceSet.width_is
+pub shifted_up-requires : goal.shifted_up-requires
+shifted_up-requires g c = one_within g.W.PlaceSet.WIDTH g.W.PlaceSet.TOP g.met.W.PlaceSet.top_is.0 g.met.W.PlaceSet.width_is
 
 pub flood-requires : goal.flood-requires
-flood-requires g c = λ i h. (c.and.ensures.to i h).1
+flood-requires g c = λ i h. (c.intersection.ensures.to i h).1
 
 pub returns : goal.returns
 returns g c =
     let number = g.W.PlaceSet.number in
     let free = number c.args.free in
-    let After = IsMoved g.W.PlaceSet.WIDTH (Has (number c.args.ends)) 1 in
-    flood_from (λ k. After k × Has free k) (Has free) (number c.and.result) (number c.flood.result)
-    (meet_of After (Has free) (number c.up.result) free (number c.and.result) c.up.ensures (has_of free) c.and.ensures) c.flood.ensures
+    let After = IsShifted g.W.PlaceSet.WIDTH (Has (number c.args.ends)) 1 in
+    flood_from (λ k. After k × Has free k) (Has free) (number c.intersection.result) (number c.flood.result)
+    (meet_of After (Has free) (number c.shifted_up.result) free (number c.intersection.result) c.shifted_up.ensures (has_of free)
+    c.intersection.ensures) c.flood.ensures

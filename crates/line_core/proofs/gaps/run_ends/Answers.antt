@@ -1,15 +1,28 @@
--- `run_ends`: the starts after a gap or at the opening, within the window, moved to their ends.
-use Rattle.std.proofs.Common.{◌-◌}
-use Rattle.place_sets.proofs.Uses.{run_ends_are}
+-- `run_ends`: the starts after a gap or at the opening, within the window, shifted to their ends.
+use Rattle.std.proofs.Common.{ℕ, ◌-◌, ◌⊎◌}
+use Rattle.place_sets.specs.Masks.{Has, IsMaskOf, IsShifted}
+use Rattle.place_sets.proofs.Uses.{meet_of, join_of, shifted_of, has_of}
 use Rattle.place_sets.proofs.Doubling.{one_within}
 use Rattle.line_core.proofs.gaps.run_ends.Goals as goal
 
-pub up-requires : goal.up-requires
-up-requires g c = one_within g.W.PlaceSet.WIDTH g.W.PlaceSet.TOP g.met.W.PlaceSet.top_is.0 g.met.W.PlaceSet.width_is
+-- the ends of runs that begin behind a gap or at the opening, and that a window has room for
+run_ends_are : (w gap opening window by after starts some ends : ℕ)
+    → IsMaskOf (IsShifted w (Has gap) 1) after
+    → IsMaskOf (λ i. Has after i ⊎ Has opening i) some
+    → IsMaskOf (λ i. Has some i × Has window i) starts
+    → IsMaskOf (IsShifted w (Has starts) by) ends
+    → IsMaskOf (IsShifted w (λ s. (IsShifted w (Has gap) 1 s ⊎ Has opening s) × Has window s) by) ends
+run_ends_are w gap opening window by after starts some ends p q r s =
+    let either = join_of (IsShifted w (Has gap) 1) (Has opening) after opening some p (has_of opening) q in
+    let within = meet_of (λ i. IsShifted w (Has gap) 1 i ⊎ Has opening i) (Has window) some window starts either (has_of window) r in
+    shifted_of w (λ i. (IsShifted w (Has gap) 1 i ⊎ Has opening i) × Has window i) starts by ends within s
+
+pub shifted_up-requires : goal.shifted_up-requires
+shifted_up-requires g c = one_within g.W.PlaceSet.WIDTH g.W.PlaceSet.TOP g.met.W.PlaceSet.top_is.0 g.met.W.PlaceSet.width_is
 
 pub returns : goal.returns
 returns g c =
     let number = g.W.PlaceSet.number in
     run_ends_are g.W.PlaceSet.WIDTH (number c.args.gap) (number c.args.opening) (number c.args.window) (c.args.length - 1)
-    (number c.up.result) (number c.and-starts.result) (number c.or.result) (number c.up-2.result)
-    c.up.ensures c.or.ensures c.and-starts.ensures c.up-2.ensures
+    (number c.shifted_up.result) (number c.intersection-starts.result) (number c.union.result) (number c.shifted_up-2.result)
+    c.shifted_up.ensures c.union.ensures c.intersection-starts.ensures c.shifted_up-2.ensures

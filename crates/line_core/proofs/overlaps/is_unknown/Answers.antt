@@ -9,10 +9,11 @@ returns g c =
     let number = g.W.PlaceSet.number in
     let span = c.args.span.now in
     let are = c.requires.1 in
-    let known = number c.xor.result in (
-      (λ t. unknown_to g.line span.len (number span.free) (number span.room) known are.len_is are.free_is are.room_is c.xor.ensures
-          (eqb-true known 0 (sym c.is_empty.ensures ∙ t))),
+    let known = number c.symmetric_difference.result in (
+      (λ t. unknown_to g.line span.len (number span.free) (number span.room) known are.len_is are.free_is are.room_is
+          c.symmetric_difference.ensures (eqb-true known 0 (sym c.is_empty.ensures ∙ t))),
       (λ e. c.is_empty.ensures
           ∙ eq-eqb known 0
-          (unknown_from g.line span.len (number span.free) (number span.room) known are.free_is are.room_is c.xor.ensures e)),
+          (unknown_from g.line span.len (number span.free) (number span.room) known are.free_is are.room_is
+          c.symmetric_difference.ensures e)),
     )

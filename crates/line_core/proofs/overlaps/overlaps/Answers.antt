@@ -7,8 +7,8 @@ use Rattle.line_core.proofs.Packing.{start_next, start_within, overlap_more, ove
 use Rattle.line_core.proofs.overlaps.overlaps.Goals as goal
 use Rattle.line_core.proofs.overlaps.overlaps.Goals.{then-number-slack, else-number-slack}
 
-pub up-requires : goal.up-requires
-up-requires g c =
+pub shifted_up-requires : goal.shifted_up-requires
+shifted_up-requires g c =
     let clue = c.args.clue.now in
     let j = c.loop-number.number-index in
     let next = start_next clue j c.loop-number-test.true in
@@ -39,9 +39,9 @@ loop-number-preserved g c =
         | then-number-slack w ↦
             subst (λ m. IsMaskOf (IsOverlapBefore (j + 1) clue slack) (number m)) (sym w.certain-is)
             (overlap_more clue g.W.PlaceSet.WIDTH slack j c.loop-number.greatest_start (number c.loop-number.certain)
-            (number w.places.result) (number w.up.result) (number w.or-certain.result)
-            c.requires.fits c.loop-number-test.true w.if-number-slack.true invariant.start invariant.found w.places.ensures w.up.ensures
-            w.or-certain.ensures)
+            (number w.first_places.result) (number w.shifted_up.result) (number w.union-certain.result)
+            c.requires.fits c.loop-number-test.true w.if-number-slack.true invariant.start invariant.found w.first_places.ensures
+            w.shifted_up.ensures w.union-certain.ensures)
         | else-number-slack w ↦
             subst (λ m. IsMaskOf (IsOverlapBefore (j + 1) clue slack) (number m)) (sym w.certain-is)
             (overlap_same clue slack j (number c.loop-number.certain) w.if-number-slack.false invariant.found)

@@ -18,7 +18,7 @@ returns-then-len-needed-clause-filled g c =
     let clue = c.args.clue.now in
     let long = length-replicate c.args.len Unknown in
     let pos : ArePositive clue = recursion_from_All (λ (n : ℕ). 0 < n) clue c.requires.clue.positive in
-    unfit_fillable line clue (g.W.PlaceSet.number c.none.result) pos (omega (arith, c.cells_needed-needed.ensures)) c.none.ensures
+    unfit_fillable line clue (g.W.PlaceSet.number c.empty.result) pos (omega (arith, c.cells_needed-needed.ensures)) c.empty.ensures
 
 pub returns-then-len-needed-clause-blank : goal.returns-then-len-needed-clause-blank
 returns-then-len-needed-clause-blank g c =
@@ -26,8 +26,8 @@ returns-then-len-needed-clause-blank g c =
     let clue = c.args.clue.now in
     let long = length-replicate c.args.len Unknown in
     let pos : ArePositive clue = recursion_from_All (λ (n : ℕ). 0 < n) clue c.requires.clue.positive in
-    unfit_blankable line clue (g.W.PlaceSet.number c.none-then-len-needed.result) pos
-    (omega (arith, c.cells_needed-needed.ensures)) c.none-then-len-needed.ensures
+    unfit_blankable line clue (g.W.PlaceSet.number c.empty-then-len-needed.result) pos
+    (omega (arith, c.cells_needed-needed.ensures)) c.empty-then-len-needed.ensures
 
 pub returns-clause-filled : goal.returns-clause-filled
 returns-clause-filled g c =
@@ -58,10 +58,10 @@ returns-clause-filled g c =
                 let some = v.if-slack-eq0.false in
                 (omega arith, omega arith))
           ] in
-          let cells : IsMaskOf (λ i. i < length line) (number c.places-line.result) =
-          subst (λ (n : ℕ). IsMaskOf (λ i. i < n) (number c.places-line.result)) (sym long) c.places-line.ensures in
+          let cells : IsMaskOf (λ i. i < length line) (number c.first_places-line.result) =
+          subst (λ (n : ℕ). IsMaskOf (λ i. i < n) (number c.first_places-line.result)) (sym long) c.first_places-line.ensures in
           subst (λ m. IsMaskOf (IsFillable line clue) (number m)) (sym w.fillable-is)
-          (all_fillable line clue slack (number c.places-line.result) (unknown_any len) pos fits moves.0 moves.1 cells))
+          (all_fillable line clue slack (number c.first_places-line.result) (unknown_any len) pos fits moves.0 moves.1 cells))
     ]
 
 pub returns-clause-blank : goal.returns-clause-blank
@@ -74,7 +74,7 @@ returns-clause-blank g c =
     let slack = len + 1 - c.cells_needed-needed.result in
     let pos : ArePositive clue = recursion_from_All (λ (n : ℕ). 0 < n) clue c.requires.clue.positive in
     let fits : needed clue + slack ≡ length line + 1 = omega (arith, c.cells_needed-needed.ensures) in
-    let cells : IsMaskOf (λ i. i < length line) (number c.places-line.result) =
-    subst (λ (n : ℕ). IsMaskOf (λ i. i < n) (number c.places-line.result)) (sym long) c.places-line.ensures in
-    blankable_is line clue slack (number c.overlaps-certain.result) (number c.places-line.result) (number c.without.result)
-    (unknown_any len) pos fits c.overlaps-certain.ensures cells c.without.ensures
+    let cells : IsMaskOf (λ i. i < length line) (number c.first_places-line.result) =
+    subst (λ (n : ℕ). IsMaskOf (λ i. i < n) (number c.first_places-line.result)) (sym long) c.first_places-line.ensures in
+    blankable_is line clue slack (number c.overlaps-certain.result) (number c.first_places-line.result) (number c.difference.result)
+    (unknown_any len) pos fits c.overlaps-certain.ensures cells c.difference.ensures

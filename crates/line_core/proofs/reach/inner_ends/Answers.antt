@@ -11,8 +11,8 @@ use Rattle.place_sets.proofs.Uses.{meet_of, has_of}
 use Rattle.place_sets.proofs.Doubling.{one_within}
 use Rattle.line_core.proofs.reach.inner_ends.Goals as goal
 
-pub down-requires : goal.down-requires
-down-requires g c = one_within g.W.PlaceSet.WIDTH g.W.PlaceSet.TOP g.met.W.PlaceSet.top_is.0 g.met.W.PlaceSet.width_is
+pub shifted_down-requires : goal.shifted_down-requires
+shifted_down-requires g c = one_within g.W.PlaceSet.WIDTH g.W.PlaceSet.TOP g.met.W.PlaceSet.top_is.0 g.met.W.PlaceSet.width_is
 
 pub returns : goal.returns
 returns g c =
@@ -26,9 +26,9 @@ returns g c =
     let pos : ArePositive clue = recursion_from_All (λ (n : ℕ). 0 < n) clue c.requires.1.0.positive in
     let none : IsMaskOf (λ i. (i ≡ length line - 1) × (j + 1 ≡ length clue)) 0 =
     record { to = λ i h. absurd (omega (arith, bit_at-zero i)); from = λ i h. let e : j + 1 ≡ length clue = h.1 in absurd (omega arith) } in
-    whole_is line clue j ends ahead 0 (number c.and.result) (omega arith)
+    whole_is line clue j ends ahead 0 (number c.intersection.result) (omega arith)
     (positive_at clue pos j (omega arith)) c.requires.1.1.1.0 c.requires.1.1.1.1 none
-    (mask_same (λ i. Has ends i × Has ahead (i + 1)) (λ i. Has ends i × (Has ahead (i + 1) ⊎ Has 0 i)) (number c.and.result)
-    (meet_of (Has ends) (λ i. Has ahead (i + 1)) ends (number c.down.result) (number c.and.result)
-    (has_of ends) c.down.ensures c.and.ensures)
+    (mask_same (λ i. Has ends i × Has ahead (i + 1)) (λ i. Has ends i × (Has ahead (i + 1) ⊎ Has 0 i)) (number c.intersection.result)
+    (meet_of (Has ends) (λ i. Has ahead (i + 1)) ends (number c.shifted_down.result) (number c.intersection.result)
+    (has_of ends) c.shifted_down.ensures c.intersection.ensures)
     (λ i h. (h.0, inl h.1)) (λ i h. (h.0, elim h.1 [ inl x ↦ x | inr z ↦ absurd (omega (arith, bit_at-zero i)) ])))

@@ -11,8 +11,8 @@ use Rattle.place_sets.proofs.Uses.{meet_of, join_of, has_of}
 use Rattle.place_sets.proofs.Doubling.{one_within}
 use Rattle.line_core.proofs.reach.whole_ends.Goals as goal
 
-pub down-requires : goal.down-requires
-down-requires g c = one_within g.W.PlaceSet.WIDTH g.W.PlaceSet.TOP g.met.W.PlaceSet.top_is.0 g.met.W.PlaceSet.width_is
+pub shifted_down-requires : goal.shifted_down-requires
+shifted_down-requires g c = one_within g.W.PlaceSet.WIDTH g.W.PlaceSet.TOP g.met.W.PlaceSet.top_is.0 g.met.W.PlaceSet.width_is
 
 pub returns : goal.returns
 returns g c =
@@ -32,8 +32,8 @@ returns g c =
     (λ i. (i ≡ length line - 1) × (j + 1 ≡ length clue)) end c.last_end-last.ensures
     (λ i h. let e : i ≡ len - 1 = h.0 in (omega arith, eqb-true (j + 1) (length clue) h.1))
     (λ i h. let e : i ≡ length line - 1 = h.0 in (omega arith, eq-eqb (j + 1) (length clue) h.1)) in
-    whole_is line clue j ends ahead end (number c.and.result) c.requires.1.1.1.0
+    whole_is line clue j ends ahead end (number c.intersection.result) c.requires.1.1.1.0
     (positive_at clue pos j c.requires.1.1.1.0) c.requires.1.1.1.1.0 c.requires.1.1.1.1.1 last
-    (meet_of (Has ends) (λ i. Has ahead (i + 1) ⊎ Has end i) ends (number c.or.result) (number c.and.result) (has_of ends)
-    (join_of (λ i. Has ahead (i + 1)) (Has end) (number c.down.result) end (number c.or.result) c.down.ensures (has_of end) c.or.ensures)
-    c.and.ensures)
+    (meet_of (Has ends) (λ i. Has ahead (i + 1) ⊎ Has end i) ends (number c.union.result) (number c.intersection.result) (has_of ends)
+    (join_of (λ i. Has ahead (i + 1)) (Has end) (number c.shifted_down.result) end (number c.union.result) c.shifted_down.ensures
+    (has_of end) c.union.ensures) c.intersection.ensures)

@@ -18,9 +18,9 @@ returns g c =
     let clue = c.args.clue.now in
     let first = number c.first_gap-gap.result in
     let ahead = number c.gap_ahead.result in
-    let blankable = number c.and-blankable.result in
+    let blankable = number c.intersection-blankable.result in
     let span = c.requires.1.1.0 in
     let gap = gap_none_is line (number c.args.span.now.free) first span.free_is c.first_gap-gap.ensures in
-    told c.has.result blankable (HasPlacing line clue) c.has.ensures
-    (no_run_to line clue first ahead blankable gap c.gap_ahead.ensures c.and-blankable.ensures)
-    (no_run_from line clue first ahead blankable c.requires.1.1.1.0 span.some gap c.gap_ahead.ensures c.and-blankable.ensures)
+    told c.contains.result blankable (HasPlacing line clue) c.contains.ensures
+    (no_run_to line clue first ahead blankable gap c.gap_ahead.ensures c.intersection-blankable.ensures)
+    (no_run_from line clue first ahead blankable c.requires.1.1.1.0 span.some gap c.gap_ahead.ensures c.intersection-blankable.ensures)

@@ -23,7 +23,7 @@ returns g c =
     let of = number_at number levels (level + 1) c.index-levels-level-2.result above in
     let one = one_shl level 16 (omega (arith, c.requires, top)) in
     subst (λ (table : List ℕ). AreLevelsOf (SomeLevel (level + 1) (map number levels)) level table)
-    (sym (map-set number levels level c.or.result))
-    (level_lowered (map number levels) level _ (number c.either.result) (number c.or.result) there_too one
+    (sym (map-set number levels level c.union.result))
+    (level_lowered (map number levels) level _ (number c.either.result) (number c.union.result) there_too one
     (subst (λ (m : ℕ). IsMaskOf (λ i. Has m i ⊎ Has m (i + (1 * 2 ^ level % 65536))) (number c.either.result)) of c.either.ensures)
-    (joined_at number levels level c.index-levels-level.result c.or.result (number c.either.result) there c.or.ensures))
+    (joined_at number levels level c.index-levels-level.result c.union.result (number c.either.result) there c.union.ensures))

@@ -1,5 +1,5 @@
 -- `swap_pairs`: the low half of each pair comes from the high one, and the high half from the low one.
-use Rattle.place_sets.proofs.Turning.{pairs_swapped}
+use Rattle.place_sets.proofs.Reversing.{pairs_swapped}
 use Rattle.place_sets.proofs.narrow.swap_pairs.Goals as goal
 
 pub returns : goal.returns

@@ -1,4 +1,4 @@
--- `window_starts`: two windows of the length's level, the second moved to the end, make the window.
+-- `window_starts`: two windows of the length's level, the second shifted to the end, make the window.
 use Rattle.std.proofs.Common.{ℕ, ◌+◌, ◌≤◌, ◌<◌, length, map, get_or, subst, arith}
 use Rattle.place_sets.specs.Masks.{Has, IsMaskOf}
 use Rattle.place_sets.proofs.Doubling.{level_within, window_is}

@@ -8,7 +8,7 @@ returns-clause-changes g c =
     let line = c.self.inside in
     let other = c.other.inside in
     changed_is line.len (number line.filled) (number line.blank) other.len (number other.filled) (number other.blank)
-    (number c.xor-filled.result) (number c.xor-blank.result) (number c.or.result) (number c.places.result)
-    (number c.and.result) c.args.self.now c.args.other.now
-    c.self.view_is c.other.view_is c.requires c.self.invariant.apart c.other.invariant.apart c.xor-filled.ensures c.xor-blank.ensures
-    c.or.ensures c.places.ensures c.and.ensures
+    (number c.symmetric_difference-filled.result) (number c.symmetric_difference-blank.result) (number c.union.result)
+    (number c.first_places.result) (number c.intersection.result) c.args.self.now c.args.other.now c.self.view_is c.other.view_is c.requires
+    c.self.invariant.apart c.other.invariant.apart c.symmetric_difference-filled.ensures c.symmetric_difference-blank.ensures
+    c.union.ensures c.first_places.ensures c.intersection.ensures

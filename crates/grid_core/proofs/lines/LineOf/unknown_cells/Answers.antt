@@ -10,6 +10,6 @@ pub returns-clause-cells : goal.returns-clause-cells
 returns-clause-cells g c =
     let number = g.W.PlaceSet.number in
     let line = c.self.inside in
-    subst (λ (l : List Cell). IsMaskOf (IsUnknownCell l) (number c.lacking.result)) c.self.view_is
-    (unknown_cells line.len (number line.filled) (number line.blank) (number c.or.result)
-    (number c.lacking.result) c.or.ensures c.lacking.ensures)
+    subst (λ (l : List Cell). IsMaskOf (IsUnknownCell l) (number c.complement_within.result)) c.self.view_is
+    (unknown_cells line.len (number line.filled) (number line.blank) (number c.union.result)
+    (number c.complement_within.result) c.union.ensures c.complement_within.ensures)

@@ -26,7 +26,7 @@ returns-clause-passed g c = λ line runs h.
       room_is = h.room_is;
       windows_are = h.windows_are;
       opening_is = record {
-        to = λ i x. absurd (omega (arith, x, bit_at-zero i, ap (λ (m : ℕ). bit_at m i) c.none-self.ensures));
+        to = λ i x. absurd (omega (arith, x, bit_at-zero i, ap (λ (m : ℕ). bit_at m i) c.empty-self.ensures));
         from = λ i x. absurd (omega (arith, x.1));
       };
       gap_is =

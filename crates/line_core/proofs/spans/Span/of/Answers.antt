@@ -10,8 +10,8 @@ returns g c =
       some = c.len-len.ensures.some;
       short = c.len-len.ensures.fits;
       len_is = c.len-len.ensures.len;
-      free_is = free_is line (number c.filled.result) (number c.lacking.result) c.filled.ensures
-          (rw c.len-len.ensures.len at c.lacking.ensures);
-      room_is = open_is line (number c.blank.result) (number c.lacking-2.result) c.blank.ensures
-          (rw c.len-len.ensures.len at c.lacking-2.ensures);
+      free_is = free_is line (number c.filled.result) (number c.complement_within.result) c.filled.ensures
+          (rw c.len-len.ensures.len at c.complement_within.ensures);
+      room_is = open_is line (number c.blank.result) (number c.complement_within-2.result) c.blank.ensures
+          (rw c.len-len.ensures.len at c.complement_within-2.ensures);
     }

@@ -17,7 +17,8 @@ flood-requires c =
     let f = c.args.free in
     let fs : s.low < 340282366920938463463374607431768211456 = search rules in
     let ff : f.low < 340282366920938463463374607431768211456 = search rules in
-    sources_high s.low s.high f.low f.high c.down.result c.and-over.result c.or.result fs ff c.requires c.and-over.ensures c.or.ensures
+    sources_high s.low s.high f.low f.high c.shifted_down.result c.intersection-over.result c.union.result fs ff c.requires
+    c.intersection-over.ensures c.union.ensures
 
 pub returns : goal.returns
 returns c =
@@ -26,7 +27,7 @@ returns c =
     let fs : s.low < 340282366920938463463374607431768211456 = search rules in
     let ff : f.low < 340282366920938463463374607431768211456 = search rules in
     let over =
-    over_is s.low f.low f.high c.flood-low.result c.down.result c.and-over.result c.flood-low.type_inv c.flood-low.ensures c.down.ensures
-    c.and-over.ensures in
-    flooded_halves s.low s.high f.low f.high c.flood-low.result c.and-over.result c.or.result c.flood.result fs ff c.flood-low.type_inv
-    c.flood-low.ensures over c.or.ensures c.flood.ensures
+    over_is s.low f.low f.high c.flood-low.result c.shifted_down.result c.intersection-over.result c.flood-low.type_inv c.flood-low.ensures
+    c.shifted_down.ensures c.intersection-over.ensures in
+    flooded_halves s.low s.high f.low f.high c.flood-low.result c.intersection-over.result c.union.result c.flood.result fs ff
+    c.flood-low.type_inv c.flood-low.ensures over c.union.ensures c.flood.ensures

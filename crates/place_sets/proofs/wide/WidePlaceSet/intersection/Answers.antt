@@ -1,0 +1,14 @@
+-- `Wide::intersection` gives what its contract says.
+use Rattle.std.proofs.Common.{◌≡◌, ◌<◌, rules}
+use Rattle.place_sets.proofs.Halves.{halves_meet}
+use Rattle.place_sets.proofs.wide.WidePlaceSet.intersection.Goals as goal
+
+pub returns : goal.returns
+returns c =
+    let a = c.args.self in
+    let b = c.args.other in
+    let fa : a.low < 340282366920938463463374607431768211456 = search rules in
+    let fb : b.low < 340282366920938463463374607431768211456 = search rules in
+    halves_meet
+    (λ x y. (x ≡ 1) × (y ≡ 1)) a.low a.high b.low b.high c.intersection.result c.intersection-2.result fa fb c.intersection.type_inv
+    c.intersection.ensures c.intersection-2.ensures
