@@ -7,7 +7,7 @@ use Rattle.place_sets.proofs.Steps.{mask_same}
 use Rattle.place_sets.proofs.Uses.{flood_same, meet_of, join_of}
 use Rattle.line_core.specs.steps.Reach.{behind, MayBe, IsGapAfter, IsStartAfter, IsEndAfter, IsGap, IsEnd, IsGapAhead, IsWholeEnd}
 use Rattle.line_core.proofs.Reaching.{After, first_gap_to, first_gap_from, gap_after_to, gap_after_from}
-use Rattle.line_core.proofs.Joining.{closed_behind_to, closed_behind_from, closed_ahead_to, closed_ahead_from, turned_gap_to, turned_gap_from}
+use Rattle.line_core.proofs.Joining.{closed_behind_to, closed_behind_from, closed_ahead_to, closed_ahead_from, reversed_gap_to, reversed_gap_from}
 
 -- the mask of the first gaps
 pub gap_none_is : (l : List Cell) (free m : ℕ) → IsMaskOf (MayBe l false) free
@@ -70,14 +70,14 @@ ends_are l runs w n gap room opening window m short some g f a v p =
         let last : e + 1 - n + (n - 1) < length l = (h.1.1 (n - 1) (omega arith)).0 in
         (omega arith, omega arith, start_from (e - (n - 1)) (subst (IsStartAfter l runs n) same h.1))
 
--- the mask of the gaps ahead of a run, from that of the turned line
+-- the mask of the gaps ahead of a run, from that of the reversed line
 pub ahead_is : (l : List Cell) (clue : List ℕ) (j gap m : ℕ) → j ≤ length clue
     → IsMaskOf (IsGap (reverse l) (reverse clue) (length clue - j)) gap
     → IsMaskOf (λ i. (i < length l) × Has gap (length l - 1 - i)) m → IsMaskOf (IsGapAhead l clue j) m
 ahead_is l clue j gap m jl g p =
     mask_same (λ i. (i < length l) × Has gap (length l - 1 - i)) (IsGapAhead l clue j) m p
-    (λ i h. turned_gap_to l clue j i jl h.0 (g.to (length l - 1 - i) h.1))
-    (λ i h. let within : i < length l = h.0.0 in (within, g.from (length l - 1 - i) (turned_gap_from l clue j i jl within h)))
+    (λ i h. reversed_gap_to l clue j i jl h.0 (g.to (length l - 1 - i) h.1))
+    (λ i h. let within : i < length l = h.0.0 in (within, g.from (length l - 1 - i) (reversed_gap_from l clue j i jl within h)))
 
 -- the mask of the ends of a run in whole placings
 pub whole_is : (l : List Cell) (clue : List ℕ) (j ends ahead last m : ℕ) → j < length clue → 0 < get_or clue j 0
@@ -180,16 +180,16 @@ blank_more l clue j gap ahead blank part m g a b p r =
               inr (subst (λ (q : ℕ). IsGap l clue q i × IsGapAhead l clue q i) e (x.2, x.3)))
         ]
 
--- the gaps ahead, from the turned line's gaps
-pub ahead_of : (l : List Cell) (clue : List ℕ) (j p : ℕ) (turned : List ℕ) (len m : ℕ) → length l ≡ len → p + j ≡ length clue
+-- the gaps ahead, from the reversed line's gaps
+pub ahead_of : (l : List Cell) (clue : List ℕ) (j p : ℕ) (reversed : List ℕ) (len m : ℕ) → length l ≡ len → p + j ≡ length clue
     → j ≤ length clue
-    → ((k : ℕ) → k ≤ length clue → IsMaskOf (IsGap (reverse l) (reverse clue) k) (get_or turned k 0))
-    → IsMaskOf (λ i. (i < len) × Has (get_or turned p 0) (len - 1 - i)) m → IsMaskOf (IsGapAhead l clue j) m
-ahead_of l clue j p turned len m e s jl g h =
+    → ((k : ℕ) → k ≤ length clue → IsMaskOf (IsGap (reverse l) (reverse clue) k) (get_or reversed k 0))
+    → IsMaskOf (λ i. (i < len) × Has (get_or reversed p 0) (len - 1 - i)) m → IsMaskOf (IsGapAhead l clue j) m
+ahead_of l clue j p reversed len m e s jl g h =
     let same : length clue - j ≡ p = omega arith in
-    ahead_is l clue j (get_or turned p 0) m jl
-    (subst (λ (k : ℕ). IsMaskOf (IsGap (reverse l) (reverse clue) k) (get_or turned p 0)) (sym same) (g p (omega arith)))
-    (subst (λ (n : ℕ). IsMaskOf (λ i. (i < n) × Has (get_or turned p 0) (n - 1 - i)) m) (sym e) h)
+    ahead_is l clue j (get_or reversed p 0) m jl
+    (subst (λ (k : ℕ). IsMaskOf (IsGap (reverse l) (reverse clue) k) (get_or reversed p 0)) (sym same) (g p (omega arith)))
+    (subst (λ (n : ℕ). IsMaskOf (λ i. (i < n) × Has (get_or reversed p 0) (n - 1 - i)) m) (sym e) h)
 
 -- one more run of a clue behind
 pub runs_more : (P : List ℕ → Type 0) (clue : List ℕ) (j n : ℕ) → n ≡ get_or clue j 0 → P (n ∷ behind 0 clue j) → P (behind 0 clue (j + 1))

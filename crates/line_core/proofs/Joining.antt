@@ -19,9 +19,9 @@ length-agrees [] (b ∷ x) h = cc
 length-agrees (c ∷ l) [] h = cc
 length-agrees (c ∷ l) (b ∷ x) h = ap suc (length-agrees l x (and_parts (allows c b) (agrees l x) h).1)
 
--- ---- a list turned round in front of another
+-- ---- a list reversed in front of another
 
--- a list turned round in front of another
+-- a list reversed in front of another
 abbrev pub onto : {A : Type 0} → List A → List A → List A
 onto [] after = after
 onto (x ∷ before) after = onto before (x ∷ after)
@@ -31,7 +31,7 @@ pub length_behind : {A : Type 0} (d : A) (xs : List A) (i : ℕ) → length (beh
 length_behind d xs zero = refl
 length_behind d xs (suc i) = ap suc (length_behind d xs i)
 
--- what is behind a place, turned round in front of the rest, is the list
+-- what is behind a place, reversed in front of the rest, is the list
 pub onto_behind : {A : Type 0} (d : A) (xs : List A) (i : ℕ) → i ≤ length xs → onto (behind d xs i) (drop i xs) ≡ xs
 onto_behind d xs zero h = refl
 onto_behind d xs (suc i) h =
@@ -394,40 +394,40 @@ closed_behind_from l runs (suc s) (inr h) =
 
 -- ---- a line and a clue seen from the other end
 
-behind_turned : {A : Type 0} (d : A) (xs : List A) (p m : ℕ) → p + m ≡ length xs → behind d (reverse xs) p ≡ drop m xs
-behind_turned {A = A} d xs zero m e = sym (drop_of_length-le xs {i = m} (omega arith))
-behind_turned {A = A} d xs (suc p) m e =
+behind_reversed : {A : Type 0} (d : A) (xs : List A) (p m : ℕ) → p + m ≡ length xs → behind d (reverse xs) p ≡ drop m xs
+behind_reversed {A = A} d xs zero m e = sym (drop_of_length-le xs {i = m} (omega arith))
+behind_reversed {A = A} d xs (suc p) m e =
     let within : m < length xs = omega arith in
     let at : get_or (reverse xs) p d ≡ get_or xs m d =
     (let f : length xs - 1 - p ≡ m = omega arith in get_or-reverse xs p d (omega arith) ∙ ap (λ (k : ℕ). get_or xs k d) f) in
-    ap (λ (z : List A). get_or (reverse xs) p d ∷ z) (behind_turned d xs p (suc m) (omega arith)) ∙ ap (λ (z : A). z ∷ drop (suc m) xs) at
+    ap (λ (z : List A). get_or (reverse xs) p d ∷ z) (behind_reversed d xs p (suc m) (omega arith)) ∙ ap (λ (z : A). z ∷ drop (suc m) xs) at
     ∙ sym (drop-cons xs m d within)
 
--- a gap of the turned line is a gap ahead
-pub turned_gap_to : (l : List Cell) (clue : List ℕ) (j i : ℕ) → j ≤ length clue → i < length l
+-- a gap of the reversed line is a gap ahead
+pub reversed_gap_to : (l : List Cell) (clue : List ℕ) (j i : ℕ) → j ≤ length clue → i < length l
     → IsGap (reverse l) (reverse clue) (length clue - j) (length l - 1 - i) → IsGapAhead l clue j i
-turned_gap_to l clue j i jl il g =
+reversed_gap_to l clue j i jl il g =
     let p = length l - 1 - i in
     let back : length l - 1 - p ≡ i = omega arith in
     let cell : get_or (reverse l) p Unknown ≡ get_or l i Unknown =
     get_or-reverse l p Unknown (omega arith) ∙ ap (λ (k : ℕ). get_or l k Unknown) back in
-    let cells : behind Unknown (reverse l) p ≡ drop (i + 1) l = behind_turned Unknown l p (i + 1) (omega arith) in
-    let runs : behind 0 (reverse clue) (length clue - j) ≡ drop j clue = behind_turned 0 clue (length clue - j) j (omega arith) in (
+    let cells : behind Unknown (reverse l) p ≡ drop (i + 1) l = behind_reversed Unknown l p (i + 1) (omega arith) in
+    let runs : behind 0 (reverse clue) (length clue - j) ≡ drop j clue = behind_reversed 0 clue (length clue - j) j (omega arith) in (
       (il, subst (λ (c : Cell). allows c false ≡ true) cell g.0.1),
       subst (λ (cs : List ℕ). HasPlacing (drop (i + 1) l) cs) runs
           (subst (λ (t : List Cell). HasPlacing t (behind 0 (reverse clue) (length clue - j))) cells g.1),
     )
 
--- and a gap ahead is a gap of the turned line
-pub turned_gap_from : (l : List Cell) (clue : List ℕ) (j i : ℕ) → j ≤ length clue → i < length l → IsGapAhead l clue j i
+-- and a gap ahead is a gap of the reversed line
+pub reversed_gap_from : (l : List Cell) (clue : List ℕ) (j i : ℕ) → j ≤ length clue → i < length l → IsGapAhead l clue j i
     → IsGap (reverse l) (reverse clue) (length clue - j) (length l - 1 - i)
-turned_gap_from l clue j i jl il g =
+reversed_gap_from l clue j i jl il g =
     let p = length l - 1 - i in
     let back : length l - 1 - p ≡ i = omega arith in
     let cell : get_or (reverse l) p Unknown ≡ get_or l i Unknown =
     get_or-reverse l p Unknown (omega arith) ∙ ap (λ (k : ℕ). get_or l k Unknown) back in
-    let cells : behind Unknown (reverse l) p ≡ drop (i + 1) l = behind_turned Unknown l p (i + 1) (omega arith) in
-    let runs : behind 0 (reverse clue) (length clue - j) ≡ drop j clue = behind_turned 0 clue (length clue - j) j (omega arith) in
+    let cells : behind Unknown (reverse l) p ≡ drop (i + 1) l = behind_reversed Unknown l p (i + 1) (omega arith) in
+    let runs : behind 0 (reverse clue) (length clue - j) ≡ drop j clue = behind_reversed 0 clue (length clue - j) j (omega arith) in
     let within : p < length (reverse l) = omega (arith, length-reverse l) in (
       (within, subst (λ (c : Cell). allows c false ≡ true) (sym cell) g.0.1),
       subst (λ (t : List Cell). HasPlacing t (behind 0 (reverse clue) (length clue - j))) (sym cells)

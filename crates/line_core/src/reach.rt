@@ -5,10 +5,10 @@ ghost use Rattle.grid_core.specs.declared.cells.Cell.{Cell};
 ghost use Rattle.place_sets.specs.Masks.{IsMaskOf};
 ghost use Rattle.line_core.specs.steps.Passes.{IsSpanOf};
 ghost use Rattle.line_core.specs.declared.reach.TheConstants.{GAPS};
-ghost use Rattle.line_core.specs.steps.Reach.{AreLengths, AreTurnedGaps, AreTurnedMasks, AreGapsAhead, IsEnd, IsGapAhead, IsWholeEnd};
+ghost use Rattle.line_core.specs.steps.Reach.{AreLengths, AreReversedGaps, AreReversedMasks, AreGapsAhead, IsEnd, IsGapAhead, IsWholeEnd};
 
 use crate::passes::Pass;
-use crate::spans::{Span, turned};
+use crate::spans::{Span, reversed};
 use grid_core::MOST_RUNS;
 use place_sets::{PlaceSet, reversed_within, windows_within};
 
@@ -17,17 +17,17 @@ pub const GAPS: usize = MOST_RUNS + 1;
 
 /// Writes the gaps before each run and after the last one, as the cells before allow them,
 /// of a line and a clue that are both seen from their other end.
-fn write_turned_gaps<W: PlaceSet>(span: &Span<W>, clue: &[u16], gaps: &mut [W; GAPS])
+fn write_reversed_gaps<W: PlaceSet>(span: &Span<W>, clue: &[u16], gaps: &mut [W; GAPS])
     ghost line: { List Cell }
     requires span { IsSpanOf W.WIDTH line span.now.len (W.number span.now.free) (W.number span.now.room) }
     requires clue { AreLengths W.WIDTH clue.now }
     requires count { length clue.now ≤ MOST_RUNS }
-    ensures gaps { AreTurnedGaps line clue.now (map W.number gaps.new) }
+    ensures gaps { AreReversedGaps line clue.now (map W.number gaps.new) }
     ensures count { length gaps.new ≡ GAPS }
 {
-    let turned = turned(span);
-    let windows = windows_within(turned.room);
-    let mut pass = Pass::new(&turned);
+    let reversed = reversed(span);
+    let windows = windows_within(reversed.room);
+    let mut pass = Pass::new(&reversed);
     gaps[0] = pass.gap();
     let count = clue.len();
     for j in 0..count {
@@ -37,9 +37,9 @@ fn write_turned_gaps<W: PlaceSet>(span: &Span<W>, clue: &[u16], gaps: &mut [W; G
 }
 
 /// Sees each of the masks from a line's other end.
-fn turn_all<W: PlaceSet>(masks: &mut [W], len: u16)
+fn reverse_all<W: PlaceSet>(masks: &mut [W], len: u16)
     requires { (0 < len) × (len ≤ W.WIDTH) }
-    ensures { AreTurnedMasks len (map W.number masks.old) (map W.number masks.new) }
+    ensures { AreReversedMasks len (map W.number masks.old) (map W.number masks.new) }
 {
     for i in 0..masks.len() {
         masks[i] = reversed_within(masks[i], len);
@@ -54,8 +54,8 @@ pub fn write_gaps_ahead<W: PlaceSet>(span: &Span<W>, clue: &[u16], gaps: &mut [W
     requires count { length clue.now ≤ MOST_RUNS }
     ensures { AreGapsAhead line clue.now (map W.number gaps.new) }
 {
-    write_turned_gaps(span, clue, gaps);
-    turn_all(&mut gaps[..clue.len() + 1], span.len);
+    write_reversed_gaps(span, clue, gaps);
+    reverse_all(&mut gaps[..clue.len() + 1], span.len);
 }
 
 /// The gaps before run j, or after the last one, as the cells after allow them.

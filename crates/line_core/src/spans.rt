@@ -30,7 +30,7 @@ impl<W: PlaceSet> Span<W> {
 }
 
 /// The line seen from its other end.
-pub fn turned<W: PlaceSet>(span: &Span<W>) -> Span<W>
+pub fn reversed<W: PlaceSet>(span: &Span<W>) -> Span<W>
     ghost line: { List Cell }
     requires { IsSpanOf W.WIDTH line span.now.len (W.number span.now.free) (W.number span.now.room) }
     ensures { IsSpanOf W.WIDTH (reverse line) result.len (W.number result.free) (W.number result.room) }

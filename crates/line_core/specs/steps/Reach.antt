@@ -47,12 +47,12 @@ IsGap line clue j i = IsGapAfter line (behind 0 clue j) i
 
 -- masks of the gaps before each run and after the last one,
 -- of a line and a clue that are both seen from their other end
-abbrev pub AreTurnedGaps : List Cell → List ℕ → List ℕ → Type 0
-AreTurnedGaps line clue gaps = (j : ℕ) → j ≤ length clue → IsMaskOf (IsGap (reverse line) (reverse clue) j) (slice_index gaps j)
+abbrev pub AreReversedGaps : List Cell → List ℕ → List ℕ → Type 0
+AreReversedGaps line clue gaps = (j : ℕ) → j ≤ length clue → IsMaskOf (IsGap (reverse line) (reverse clue) j) (slice_index gaps j)
 
 -- masks that are others seen from the other end of a line of `len` cells
-abbrev pub AreTurnedMasks : ℕ → List ℕ → List ℕ → Type 0
-AreTurnedMasks len old new =
+abbrev pub AreReversedMasks : ℕ → List ℕ → List ℕ → Type 0
+AreReversedMasks len old new =
     (length new ≡ length old)
     × ((k : ℕ) → k < length old → IsMaskOf (λ i. (i < len) × Has (slice_index old k) (len - 1 - i)) (slice_index new k))
 

@@ -1,4 +1,4 @@
--- `write_gaps_ahead`: the gaps of the turned line, turned back, are the gaps ahead.
+-- `write_gaps_ahead`: the gaps of the reversed line, reversed again, are the gaps ahead.
 use Rattle.std.proofs.Common.{◌≡◌, ℕ, ◌+◌, ◌-◌, ◌<◌, ◌∙◌, ◌++◌, List, length, map, take, drop, get_or, ap, sym, subst, arith}
 use Rattle.std.proofs.lemmas.List.{map-append, length-map, get_or_append_left, get_or-take, length-take-le}
 use Rattle.place_sets.specs.Masks.{Has, IsMaskOf}
@@ -13,26 +13,26 @@ returns g c = λ j h.
     let count = length clue in
     let len = c.args.span.now.len in
     let free = c.args.span.now.free in
-    let gaps = c.write_turned_gaps.new.gaps in
-    let turned = c.turn_all.new.masks in
+    let gaps = c.write_reversed_gaps.new.gaps in
+    let reversed = c.reverse_all.new.masks in
     let first = take (count + 1) gaps in
     let rest = drop (count + 1) gaps in
     let p = count - j in
     let few = c.requires.1.1.1.1 in
-    let long : length gaps ≡ 129 = c.write_turned_gaps.ensures.count in
+    let long : length gaps ≡ 129 = c.write_reversed_gaps.ensures.count in
     let short : length first ≡ count + 1 = length-take-le (count + 1) gaps (omega arith) in
-    let same : length turned ≡ length first = sym (length-map turned number) ∙ c.turn_all.ensures.0 ∙ length-map first number in
+    let same : length reversed ≡ length first = sym (length-map reversed number) ∙ c.reverse_all.ensures.0 ∙ length-map first number in
     let there : p < length gaps = omega arith in
     let within : p < length first = omega (arith, short) in
     let old : get_or (map number first) p 0 ≡ get_or (map number gaps) p 0 =
     sym (number_at number first p free within) ∙ ap number (get_or-take (count + 1) gaps p free (omega arith))
     ∙ number_at number gaps p free there in
-    let new : get_or (map number turned) p 0 ≡ get_or (map number (turned ++ rest)) p 0 =
-    sym (get_or_append_left (map number turned) (map number rest) 0 p (omega (arith, length-map turned number, same, within)))
-    ∙ ap (λ (l : List ℕ). get_or l p 0) (sym (map-append number turned rest)) in
-    let at : IsMaskOf (λ i. (i < len) × Has (get_or (map number gaps) p 0) (len - 1 - i)) (get_or (map number turned) p 0) =
-    subst (λ (m : ℕ). IsMaskOf (λ i. (i < len) × Has m (len - 1 - i)) (get_or (map number turned) p 0)) old
-    (c.turn_all.ensures.1 p (omega (arith, length-map first number, within))) in
-    ahead_of g.line clue j p (map number gaps) len (get_or (map number (turned ++ rest)) p 0) (sym c.requires.1.1.0.len_is)
-    (omega arith) h c.write_turned_gaps.ensures.gaps
+    let new : get_or (map number reversed) p 0 ≡ get_or (map number (reversed ++ rest)) p 0 =
+    sym (get_or_append_left (map number reversed) (map number rest) 0 p (omega (arith, length-map reversed number, same, within)))
+    ∙ ap (λ (l : List ℕ). get_or l p 0) (sym (map-append number reversed rest)) in
+    let at : IsMaskOf (λ i. (i < len) × Has (get_or (map number gaps) p 0) (len - 1 - i)) (get_or (map number reversed) p 0) =
+    subst (λ (m : ℕ). IsMaskOf (λ i. (i < len) × Has m (len - 1 - i)) (get_or (map number reversed) p 0)) old
+    (c.reverse_all.ensures.1 p (omega (arith, length-map first number, within))) in
+    ahead_of g.line clue j p (map number gaps) len (get_or (map number (reversed ++ rest)) p 0) (sym c.requires.1.1.0.len_is)
+    (omega arith) h c.write_reversed_gaps.ensures.gaps
     (subst (IsMaskOf (λ i. (i < len) × Has (get_or (map number gaps) p 0) (len - 1 - i))) new at)

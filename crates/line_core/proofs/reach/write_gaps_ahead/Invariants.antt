@@ -1,5 +1,5 @@
--- The line that `write_gaps_ahead` is about, as it is told to `write_turned_gaps`.
+-- The line that `write_gaps_ahead` is about, as it is told to `write_reversed_gaps`.
 use Rattle.line_core.proofs.reach.write_gaps_ahead.Given as goal
 
-abbrev pub ghost-write_turned_gaps : goal.ghost-write_turned_gaps
-ghost-write_turned_gaps g a = g.line
+abbrev pub ghost-write_reversed_gaps : goal.ghost-write_reversed_gaps
+ghost-write_reversed_gaps g a = g.line

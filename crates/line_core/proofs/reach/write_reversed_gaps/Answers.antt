@@ -1,4 +1,4 @@
--- `write_turned_gaps`: run by run the pass over the turned line gives the next gap.
+-- `write_reversed_gaps`: run by run the pass over the reversed line gives the next gap.
 use Rattle.std.proofs.Common.{ℕ, ◌+◌, ◌-◌, ◌<◌, ◌∙◌, List, length, map, reverse, get_or, sym, subst, arith}
 use Rattle.std.proofs.Math.ListN.{length-set}
 use Rattle.std.proofs.lemmas.List.{map-set, length-map, get_or-reverse}
@@ -7,7 +7,7 @@ use Rattle.line_core.specs.steps.Reach.{behind, IsGap}
 use Rattle.line_core.specs.steps.Passes.{IsPassOver}
 use Rattle.line_core.proofs.LineCells.{written_more, length_at}
 use Rattle.line_core.proofs.Composing.{runs_more}
-use Rattle.line_core.proofs.reach.write_turned_gaps.Goals as goal
+use Rattle.line_core.proofs.reach.write_reversed_gaps.Goals as goal
 
 pub loop-j-init : goal.loop-j-init
 loop-j-init g c =
@@ -16,7 +16,7 @@ loop-j-init g c =
     let clue = reverse c.args.clue.now in
     let gaps = c.args.gaps.now in
     let pass =
-    c.new-pass.ensures line (map number c.windows_within-windows.result) c.turned-turned.ensures c.windows_within-windows.ensures in
+    c.new-pass.ensures line (map number c.windows_within-windows.result) c.reversed-reversed.ensures c.windows_within-windows.ensures in
     let gap : IsMaskOf (IsGap line clue 0) (number c.gap.result) =
     subst (λ m. IsMaskOf (IsGap line clue 0) (number m)) (sym c.gap.ensures) pass.gap_is in
     let some : 0 < length (map number gaps) = omega (arith, length-map gaps number, c.told-gaps) in

@@ -1,12 +1,12 @@
--- What the loop of `write_turned_gaps` keeps: the pass over the turned line, and the gaps so far.
+-- What the loop of `write_reversed_gaps` keeps: the pass over the reversed line, and the gaps so far.
 use Rattle.std.proofs.Common.{◌≡◌, ℕ, ◌≤◌, length, get_or, reverse, map}
 use Rattle.place_sets.specs.Masks.{IsMaskOf}
 use Rattle.line_core.specs.steps.Reach.{behind, IsGap}
 use Rattle.line_core.specs.steps.Passes.{IsPassOver}
-use Rattle.line_core.proofs.reach.write_turned_gaps.Given as goal
+use Rattle.line_core.proofs.reach.write_reversed_gaps.Given as goal
 
-abbrev pub ghost-turned : goal.ghost-turned
-ghost-turned g a = g.line
+abbrev pub ghost-reversed : goal.ghost-reversed
+ghost-reversed g a = g.line
 
 abbrev pub invariant-loop-j : goal.invariant-loop-j
 invariant-loop-j g l = record {

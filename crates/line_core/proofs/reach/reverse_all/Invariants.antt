@@ -1,12 +1,12 @@
--- What the loop of `turn_all` keeps: the masks passed are turned, the others as they were.
+-- What the loop of `reverse_all` keeps: the masks passed are reversed, the others as they were.
 use Rattle.std.proofs.Common.{◌≡◌, ◌-◌, ℕ, ◌<◌, ◌≤◌, length, get_or, map}
 use Rattle.place_sets.specs.Masks.{Has, IsMaskOf}
-use Rattle.line_core.proofs.reach.turn_all.Given as goal
+use Rattle.line_core.proofs.reach.reverse_all.Given as goal
 
 abbrev pub invariant-loop-i : goal.invariant-loop-i
 invariant-loop-i g l = record {
   size : length l.masks ≡ length l.fn.masks;
-  turned : (k : ℕ) → k < l.i
+  reversed : (k : ℕ) → k < l.i
       → IsMaskOf (λ i. (i < l.len) × Has (get_or (map g.W.PlaceSet.number l.fn.masks) k 0) (l.len - 1 - i))
       (get_or (map g.W.PlaceSet.number l.masks) k 0);
   left : (k : ℕ) → l.i ≤ k → get_or (map g.W.PlaceSet.number l.masks) k 0 ≡ get_or (map g.W.PlaceSet.number l.fn.masks) k 0;

@@ -1,11 +1,11 @@
--- `turn_all`: one more mask is turned.
+-- `reverse_all`: one more mask is reversed.
 use Rattle.std.proofs.Common.{◌≡◌, ◌-◌, ◌∙◌, ℕ, ◌<◌, List, length, get_or, map, ap, sym, subst, arith, get_or-set_other}
 use Rattle.std.proofs.Math.ListN.{length-set}
 use Rattle.std.proofs.lemmas.List.{map-set, length-map}
 use Rattle.place_sets.specs.Masks.{Has, IsMaskOf}
 use Rattle.place_sets.proofs.LevelSteps.{number_at}
 use Rattle.line_core.proofs.LineCells.{written_more}
-use Rattle.line_core.proofs.reach.turn_all.Goals as goal
+use Rattle.line_core.proofs.reach.reverse_all.Goals as goal
 
 pub loop-i-preserved : goal.loop-i-preserved
 loop-i-preserved g c =
@@ -23,11 +23,11 @@ loop-i-preserved g c =
     (ap number c.index-masks-i.is ∙ number_at number masks i _ there ∙ before.left i (omega arith)) c.reversed_within.ensures in
     record {
       size = length-set masks i _ ∙ before.size;
-      turned = λ k h.
+      reversed = λ k h.
           subst (λ (t : List ℕ). IsMaskOf (λ z. (z < len) × Has (get_or old k 0) (len - 1 - z)) (get_or t k 0))
           (sym (map-set number masks i c.reversed_within.result))
           (written_more (λ k m. IsMaskOf (λ z. (z < len) × Has (get_or old k 0) (len - 1 - z)) m)
-          (map number masks) i new some here before.turned k h);
+          (map number masks) i new some here before.reversed k h);
       left = λ k h.
           subst (λ (t : List ℕ). get_or t k 0 ≡ get_or old k 0) (sym (map-set number masks i c.reversed_within.result))
           (get_or-set_other (map number masks) i k new 0 (omega arith) ∙ before.left k (omega arith));
