@@ -9,7 +9,7 @@ use Rattle.grid_core.specs.Cells.{is_filled}
 use Rattle.place_sets.specs.Masks.{Has, has, IsMaskOf}
 use Rattle.place_sets.proofs.HasLemmas.{true_has}
 use Rattle.place_sets.proofs.WordSteps.{some_place}
-use Rattle.grid_core.specs.Lines.{cell_of}
+use Rattle.grid_core.specs.Lines.{cell_with}
 use Rattle.grid_core.specs.Lines.{line_cells, is_blank, IsChanged}
 use Rattle.grid_core.proofs.LineCells.{cell_at, cell_itself, length_seen}
 
@@ -24,29 +24,29 @@ same_or_not false true = inr (λ e. true≢false (sym e))
 same_or_not false false = inl refl
 
 -- whether a cell is filled, of one that two tests tell
-pub filled_told : (f b : Bool) → is_filled (cell_of f b) ≡ f
+pub filled_told : (f b : Bool) → is_filled (cell_with f b) ≡ f
 filled_told true b = refl
 filled_told false true = refl
 filled_told false false = refl
 
 -- and whether it is blank
-pub blank_told : (f b : Bool) → (f ≡ true → b ≡ true → ⊥) → is_blank (cell_of f b) ≡ b
+pub blank_told : (f b : Bool) → (f ≡ true → b ≡ true → ⊥) → is_blank (cell_with f b) ≡ b
 blank_told true true n = absurd (n refl refl)
 blank_told true false n = refl
 blank_told false true n = refl
 blank_told false false n = refl
 
 -- the cell of a line that is seen as a list
-pub seen_at : (len f b i : ℕ) (l : List Cell) → line_cells len f b ≡ l → i < length l → get_or l i Unknown ≡ cell_of (has f i) (has b i)
+pub seen_at : (len f b i : ℕ) (l : List Cell) → line_cells len f b ≡ l → i < length l → get_or l i Unknown ≡ cell_with (has f i) (has b i)
 seen_at len f b i l e h =
     let long = length_seen len f b l e in
     ap (λ (z : List Cell). get_or z i Unknown) (sym e) ∙ cell_at len f b i (omega arith)
 
-same_cell : (f g b d i : ℕ) → IsSameAt f g b d i → cell_of (has g i) (has d i) ≡ cell_of (has f i) (has b i)
-same_cell f g b d i s = ap (λ (v : Bool). cell_of v (has d i)) (sym s.0) ∙ ap (cell_of (has f i)) (sym s.1)
+same_cell : (f g b d i : ℕ) → IsSameAt f g b d i → cell_with (has g i) (has d i) ≡ cell_with (has f i) (has b i)
+same_cell f g b d i s = ap (λ (v : Bool). cell_with v (has d i)) (sym s.0) ∙ ap (cell_with (has f i)) (sym s.1)
 
 cell_same : (f g b d i : ℕ) → ((k : ℕ) → Has f k → Has b k → ⊥) → ((k : ℕ) → Has g k → Has d k → ⊥)
-    → cell_of (has g i) (has d i) ≡ cell_of (has f i) (has b i) → IsSameAt f g b d i
+    → cell_with (has g i) (has d i) ≡ cell_with (has f i) (has b i) → IsSameAt f g b d i
 cell_same f g b d i apart far e = (
   sym (filled_told (has f i) (has b i)) ∙ sym (ap is_filled e) ∙ filled_told (has g i) (has d i),
   sym (blank_told (has f i) (has b i) (λ u v. apart i (true_has f i u) (true_has b i v))) ∙ sym (ap is_blank e)
@@ -91,7 +91,7 @@ same_cells c d n = elim (same_or_not (is_filled d) (is_filled c)) [
   | inr x ↦ absurd (n (λ e. x (ap is_filled e)))
   | inl x ↦ elim (same_or_not (is_blank d) (is_blank c)) [
     | inr y ↦ absurd (n (λ e. y (ap is_blank e)))
-    | inl y ↦ sym (cell_itself d) ∙ ap (λ (v : Bool). cell_of v (is_blank d)) x ∙ ap (cell_of (is_filled c)) y ∙ cell_itself c
+    | inl y ↦ sym (cell_itself d) ∙ ap (λ (v : Bool). cell_with v (is_blank d)) x ∙ ap (cell_with (is_filled c)) y ∙ cell_itself c
   ]
 ]
 

@@ -10,17 +10,17 @@ use Rattle.grid_core.specs.declared.cells.Cell.TheVariants.{Unknown, Filled, Bla
 use Rattle.grid_core.specs.Cells.{is_filled, is_known}
 use Rattle.place_sets.specs.Masks.{Has, has, IsMarked, IsMaskOf}
 use Rattle.place_sets.proofs.HasLemmas.{has_true, true_has, has_false}
-use Rattle.grid_core.specs.Lines.{cell_of}
+use Rattle.grid_core.specs.Lines.{cell_with}
 use Rattle.grid_core.specs.Lines.{line_cells, is_blank}
 
 -- the cell at a place, by the masks
-pub cell_at : (len filled blank i : ℕ) → i < len → get_or (line_cells len filled blank) i Unknown ≡ cell_of (has filled i) (has blank i)
+pub cell_at : (len filled blank i : ℕ) → i < len → get_or (line_cells len filled blank) i Unknown ≡ cell_with (has filled i) (has blank i)
 cell_at len filled blank i h =
-    get_or-map-range_with_len (λ (k : ℕ). cell_of (has filled k) (has blank k)) 0 len i i Unknown h (zero-add i)
+    get_or-map-range_with_len (λ (k : ℕ). cell_with (has filled k) (has blank k)) 0 len i i Unknown h (zero-add i)
 
 -- a line has as many cells as it says
 pub length_line : (len filled blank : ℕ) → length (line_cells len filled blank) ≡ len
-length_line len filled blank = length-map-range_with_len (λ (k : ℕ). cell_of (has filled k) (has blank k)) 0 len
+length_line len filled blank = length-map-range_with_len (λ (k : ℕ). cell_with (has filled k) (has blank k)) 0 len
 
 -- the length of a line that is seen as a list
 pub length_seen : (len filled blank : ℕ) (l : List Cell) → line_cells len filled blank ≡ l → length l ≡ len
@@ -52,7 +52,7 @@ marked_elsewhere m n p i wanted h ne = has_by n i (has m i) to (λ w. h.from i (
     to x = elim (h.to i x) [ inl y ↦ has_true m i y.0 | inr y ↦ absurd (ne y.0) ]
 
 -- a cell is told by whether it is filled and whether it is blank
-pub cell_itself : (c : Cell) → cell_of (is_filled c) (is_blank c) ≡ c
+pub cell_itself : (c : Cell) → cell_with (is_filled c) (is_blank c) ≡ c
 cell_itself Unknown = refl
 cell_itself Filled = refl
 cell_itself Blank = refl
@@ -66,16 +66,16 @@ cells-set len f b nf nb p c h mf mb =
     let long = length_line len f b in
     ext_get_or Unknown (line_cells len nf nb) (set old p c) (length_line len nf nb ∙ sym (length-set old p c ∙ long)) (λ k l.
     let within : k < len = omega (arith, length_line len nf nb) in
-    cell_at len nf nb k within ∙ elim (cases_eq k p) as (λ z. cell_of (has nf k) (has nb k) ≡ get_or (set old p c) k Unknown) [
+    cell_at len nf nb k within ∙ elim (cases_eq k p) as (λ z. cell_with (has nf k) (has nb k) ≡ get_or (set old p c) k Unknown) [
       | inl e ↦
-          (let at : cell_of (has nf p) (has nb p) ≡ c =
-          ap (λ (v : Bool). cell_of v (has nb p)) (marked_at f nf p (is_filled c) mf)
-          ∙ ap (cell_of (is_filled c)) (marked_at b nb p (is_blank c) mb) ∙ cell_itself c in
-          subst (λ (z : ℕ). cell_of (has nf z) (has nb z) ≡ get_or (set old p c) z Unknown) (sym e)
+          (let at : cell_with (has nf p) (has nb p) ≡ c =
+          ap (λ (v : Bool). cell_with v (has nb p)) (marked_at f nf p (is_filled c) mf)
+          ∙ ap (cell_with (is_filled c)) (marked_at b nb p (is_blank c) mb) ∙ cell_itself c in
+          subst (λ (z : ℕ). cell_with (has nf z) (has nb z) ≡ get_or (set old p c) z Unknown) (sym e)
           (at ∙ sym (get_or-set_same old p c Unknown (omega arith))))
       | inr ne ↦
-          ap (λ (v : Bool). cell_of v (has nb k)) (marked_elsewhere f nf p k (is_filled c) mf ne)
-          ∙ ap (cell_of (has f k)) (marked_elsewhere b nb p k (is_blank c) mb ne)
+          ap (λ (v : Bool). cell_with v (has nb k)) (marked_elsewhere f nf p k (is_filled c) mf ne)
+          ∙ ap (cell_with (has f k)) (marked_elsewhere b nb p k (is_blank c) mb ne)
           ∙ sym (cell_at len f b k within) ∙ sym (get_or-set_other old p k c Unknown ne)
     ])
 
@@ -103,7 +103,7 @@ unmarked m p wanted lacks un = record {
 }
 
 -- if a cell is unknown, neither test passes
-pub neither : (f b : Bool) → cell_of f b ≡ Unknown → (f ≡ false) × (b ≡ false)
+pub neither : (f b : Bool) → cell_with f b ≡ Unknown → (f ≡ false) × (b ≡ false)
 neither true b e = absurd (true≢false (ap is_filled e))
 neither false true e = absurd (true≢false (ap is_blank e))
 neither false false e = (refl, refl)
@@ -132,8 +132,8 @@ pub cells-none : (len : ℕ) → line_cells len 0 0 ≡ replicate len Unknown
 cells-none len =
     ext_get_or Unknown (line_cells len 0 0) (replicate len Unknown) (length_line len 0 0 ∙ sym (length-replicate len Unknown)) (λ k l.
     let within : k < len = omega (arith, length_line len 0 0) in
-    cell_at len 0 0 k within ∙ ap (λ (v : Bool). cell_of v (has 0 k)) (has_false 0 k (bit_at-zero k))
-    ∙ ap (cell_of false) (has_false 0 k (bit_at-zero k)) ∙ sym (get_or-replicate len k Unknown Unknown within))
+    cell_at len 0 0 k within ∙ ap (λ (v : Bool). cell_with v (has 0 k)) (has_false 0 k (bit_at-zero k))
+    ∙ ap (cell_with false) (has_false 0 k (bit_at-zero k)) ∙ sym (get_or-replicate len k Unknown Unknown within))
 
 -- the same cells by masks of another width
 pub cells-resized : (width len f b wf wb nf nb : ℕ) → len ≤ width → wf ≡ f → wb ≡ b → IsMaskOf (λ i. (i < width) × Has wf i) nf
@@ -142,8 +142,8 @@ pub cells-resized : (width len f b wf wb nf nb : ℕ) → len ≤ width → wf �
 cells-resized width len f b wf wb nf nb fits ef eb pf pb =
     ext_get_or Unknown (line_cells len nf nb) (line_cells len f b) (length_line len nf nb ∙ sym (length_line len f b)) (λ k l.
     let within : k < len = omega (arith, length_line len nf nb) in
-    cell_at len nf nb k within ∙ ap (λ (v : Bool). cell_of v (has nb k)) (same wf f nf k (omega arith) ef pf)
-    ∙ ap (cell_of (has f k)) (same wb b nb k (omega arith) eb pb) ∙ sym (cell_at len f b k within))
+    cell_at len nf nb k within ∙ ap (λ (v : Bool). cell_with v (has nb k)) (same wf f nf k (omega arith) ef pf)
+    ∙ ap (cell_with (has f k)) (same wb b nb k (omega arith) eb pb) ∙ sym (cell_at len f b k within))
   where
     same : (w m n i : ℕ) → i < width → w ≡ m → IsMaskOf (λ i. (i < width) × Has w i) n → has n i ≡ has m i
     same w m n i l e p =

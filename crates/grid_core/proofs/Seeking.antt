@@ -2,7 +2,7 @@
 use Rattle.std.proofs.Common.{◌≡◌, ℕ, ◌<◌, ◌≤◌, ◌⊎◌, inl, inr, Bool, true, false, List, length, get_or, Option, Some, None, refl, sym, ◌∙◌, arith, true≢false}
 use Rattle.grid_core.specs.declared.cells.Cell.{Cell}
 use Rattle.grid_core.specs.declared.cells.Cell.TheVariants.{Unknown, Filled, Blank}
-use Rattle.grid_core.specs.Lines.{cell_of}
+use Rattle.grid_core.specs.Lines.{cell_with}
 use Rattle.grid_core.specs.Cells.{is_unknown}
 use Rattle.place_sets.specs.Masks.{Has, has, IsMaskOf, IsFirstFrom}
 use Rattle.place_sets.proofs.HasLemmas.{has_true, true_has}
@@ -10,7 +10,7 @@ use Rattle.grid_core.specs.Lines.{IsUnknownCell, IsUnknownFrom, line_cells}
 use Rattle.grid_core.proofs.LineCells.{cell_at, has_by, length_line, neither}
 
 -- a cell is unknown if neither mask has it
-unknown_by : (f b : Bool) → (f ≡ true → ⊥) → (b ≡ true → ⊥) → cell_of f b ≡ Unknown
+unknown_by : (f b : Bool) → (f ≡ true → ⊥) → (b ≡ true → ⊥) → cell_with f b ≡ Unknown
 unknown_by true b nf nb = absurd (nf refl)
 unknown_by false true nf nb = absurd (nb refl)
 unknown_by false false nf nb = refl

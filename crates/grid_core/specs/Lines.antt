@@ -13,14 +13,14 @@ is_blank Filled = false
 is_blank Blank = true
 
 -- the cell that two tests tell, whether it is filled and whether it is blank
-abbrev pub cell_of : Bool → Bool → Cell
-cell_of true blank = Filled
-cell_of false true = Blank
-cell_of false false = Unknown
+abbrev pub cell_with : Bool → Bool → Cell
+cell_with true blank = Filled
+cell_with false true = Blank
+cell_with false false = Unknown
 
 -- the cells of a line that is kept as two sets, of the filled and of the blank ones
 abbrev pub line_cells : ℕ → ℕ → ℕ → List Cell
-line_cells len filled blank = map (λ place. cell_of (has filled place) (has blank place)) (range_with_len 0 len)
+line_cells len filled blank = map (λ place. cell_with (has filled place) (has blank place)) (range_with_len 0 len)
 
 -- a line has a cell at least, no more of them than there are places, and none of them is filled and blank
 pub record IsLine (width len filled blank : ℕ) : Type 0 where

@@ -7,7 +7,7 @@ use Rattle.grid_core.specs.declared.cells.Cell.TheVariants.{Unknown}
 use Rattle.place_sets.specs.Masks.{Has, has, IsMaskOf}
 use Rattle.place_sets.proofs.HasLemmas.{has_true, true_has}
 use Rattle.line_core.specs.Deduction.{deduced}
-use Rattle.grid_core.specs.Lines.{cell_of}
+use Rattle.grid_core.specs.Lines.{cell_with}
 use Rattle.grid_core.specs.Lines.{line_cells}
 use Rattle.line_core.specs.steps.Told.{certain_by, told_by}
 use Rattle.line_core.specs.steps.Reach.{IsFillable, IsBlankable}
@@ -43,7 +43,7 @@ without_at f b n i p = by (has f i) (has b i) refl refl
     by true false u v = has_true n i (p.from i (true_has f i u, v))
     by false y u v = has_by n i false (λ h. absurd (true≢false (sym (has_true f i (p.to i h).0) ∙ u))) (λ e. absurd (true≢false (sym e)))
 
-told_cell : (x y : Bool) → cell_of (x && not y) (y && not x) ≡ certain_by x y
+told_cell : (x y : Bool) → cell_with (x && not y) (y && not x) ≡ certain_by x y
 told_cell true true = refl
 told_cell true false = refl
 told_cell false true = refl
@@ -59,8 +59,8 @@ told_some len f b m nf nb p some pf pb =
     ext_get_or Unknown (line_cells len nf nb) all
     (length_line len nf nb ∙ sym (length-map-range_with_len (λ (i : ℕ). certain_by (has f i) (has b i)) 0 len)) (λ k i.
     let within : k < len = omega (arith, length_line len nf nb) in
-    cell_at len nf nb k within ∙ ap (λ (z : Bool). cell_of z (has nb k)) (without_at f b nf k pf)
-    ∙ ap (cell_of (has f k && not (has b k))) (without_at b f nb k pb)
+    cell_at len nf nb k within ∙ ap (λ (z : Bool). cell_with z (has nb k)) (without_at f b nf k pf)
+    ∙ ap (cell_with (has f k && not (has b k))) (without_at b f nb k pb)
     ∙ told_cell (has f k) (has b k)
     ∙ sym (get_or-map-range_with_len (λ (i : ℕ). certain_by (has f i) (has b i)) 0 len k k Unknown within (zero-add k))) in
     ap (λ (cells : List Cell). Some cells) same ∙ ap (λ (t : Bool). cond t (Some all) None) (sym (either_first f b m p ∙ some))
