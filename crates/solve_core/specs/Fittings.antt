@@ -4,7 +4,7 @@ use Rattle.solve_core.specs.declared.solver.Fitting.{Fitting}
 use Rattle.solve_core.specs.declared.solver.Fitting.TheVariants.{Narrow, Middle, Wide}
 
 -- the puzzle of a workspace
-abbrev pub puzzle_of : Fitting → Nonogram
-puzzle_of (Narrow workspace) = workspace
-puzzle_of (Middle workspace) = workspace
-puzzle_of (Wide workspace) = workspace
+abbrev pub fitted_puzzle : Fitting → Nonogram
+fitted_puzzle (Narrow workspace) = workspace
+fitted_puzzle (Middle workspace) = workspace
+fitted_puzzle (Wide workspace) = workspace

@@ -36,11 +36,11 @@ impl Drop for Solver<'_> {
 
 impl<'p> Model for Solver<'p> {
     ghost use Rattle.grid_core.specs.Nonogram.{Nonogram};
-    ghost use Rattle.solve_core.specs.Fittings.{puzzle_of};
+    ghost use Rattle.solve_core.specs.Fittings.{fitted_puzzle};
 
     ghost Value = { Nonogram };
 
-    ghost view = { λ s. puzzle_of s.workspace };
+    ghost view = { λ s. fitted_puzzle s.workspace };
 }
 
 impl<'p> Solver<'p> {
