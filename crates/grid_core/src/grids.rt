@@ -13,10 +13,17 @@ use std::alloc::Global;
 use std::marker::Model;
 
 /// A partly known grid: a width and a height from 1 to 256, and what is known of each cell, row by row.
-#[derive(Debug, Drop)]
+#[derive(Debug)]
 pub struct Grid {
     width: u16,
     rows: Vec<Row>,
+}
+
+/// A call of its own, so that a proof takes it as one step.
+impl Drop for Grid {
+    fn drop(self) {
+        let Grid { width: _, rows: _ } = self;
+    }
 }
 
 impl Model for Grid {
