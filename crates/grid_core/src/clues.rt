@@ -83,17 +83,17 @@ impl Clue {
         ensures clue { OnOk result (is_clue LONGEST_SIDE (self.old ++ number ∷ []) ≡ true) }
         ensures bad_number { IsErrOf result ClueFault.BadNumber ↔ (is_clue LONGEST_SIDE (self.old ++ number ∷ []) ≡ false) }
     {
-        let count = self.numbers.len();
-        if count == MOST_RUNS || !is_run(number) {
+        let full = self.numbers.spilled() && self.numbers.len() == MOST_RUNS;
+        if full || !is_run(number) {
             return Err(ClueFault::BadNumber);
         }
-        if count == self.numbers.inline_size() && self.numbers.reserve(MOST_RUNS).is_err() {
+        if self.numbers.len() == self.numbers.capacity()
+            && self.numbers.reserve(MOST_RUNS).is_err()
+        {
             return Err(ClueFault::NoMemory);
         }
-        match self.numbers.push(number) {
-            Ok(()) => Ok(()),
-            Err(_) => Err(ClueFault::NoMemory),
-        }
+        self.numbers.push_reserved(number);
+        Ok(())
     }
 
     /// The numbers, in order.
