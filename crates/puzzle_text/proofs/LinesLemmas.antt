@@ -1,10 +1,11 @@
 -- Lemmas on lines.
-use Rattle.std.proofs.Common.{◌≡◌, ℕ, suc, ◌+◌, ◌-◌, ◌<◌, ◌≤◌, Bool, true, false, cond, eqb, ltb, List, [], ◌∷◌, length, take, drop, get_or, refl, sym, ap, ◌∙◌, arith, inl, inr, Some, None}
+use Rattle.std.proofs.Common.{◌≡◌, ℕ, suc, ◌+◌, ◌-◌, ◌<◌, ◌≤◌, Bool, true, false, cond, eqb, ltb, List, [], ◌∷◌, length, take, drop, get_or, refl, sym, ap, ◌∙◌, arith, inl, inr, Option, Some, None}
 use Rattle.std.specs.List.{position_or_len, position, onto_first}
-use Rattle.std.proofs.lemmas.Bool.{cases_Bool, cond-false, le-ltb, lt-ltb, ltb-true, ltb-false}
+use Rattle.std.proofs.lemmas.Bool.{cases_Bool, cond-false, false_from_ne_true, le-ltb, lt-ltb, ltb-true, ltb-false}
 use Rattle.std.proofs.lemmas.List.{take_all, drop_all, get_or-take, length-take-le, take-take}
 use Rattle.std.proofs.lemmas.List.Sums.{fails_before_first, position_or_len_is}
 use Rattle.std.proofs.lemmas.List.Quantifiers.{position-Some}
+use Rattle.memchr.specs.Find.{IsFirstByte, is_byte}
 use Rattle.puzzle_text.specs.Lines.{Line, numbered_from, raw_lines, strip_last, trim}
 
 abbrev pub first_end : List ℕ → ℕ
@@ -68,18 +69,24 @@ abbrev NoFeedBefore : List ℕ → ℕ → Type 0
 NoFeedBefore bytes i = (k : ℕ) → k < i → eqb (get_or bytes k 0) 10 ≡ false
 
 -- a line feed with none before it is the first
-pub feed_at : (bytes : List ℕ) (i : ℕ) → i < length bytes → NoFeedBefore bytes i → eqb (get_or bytes i 0) 10 ≡ true
+feed_at : (bytes : List ℕ) (i : ℕ) → i < length bytes → NoFeedBefore bytes i → eqb (get_or bytes i 0) 10 ≡ true
     → position (λ byte. eqb byte 10) bytes ≡ Some i
 feed_at bytes i h before at =
     let end : first_end bytes ≡ i = position_or_len_is (λ byte. eqb byte 10) bytes i 0 (omega arith) before (λ _. at) in
     rw (end, lt-ltb i (length bytes) h) refl
 
 -- without a line feed there is no first one
-pub no_feed : (bytes : List ℕ) → NoFeedBefore bytes (length bytes) → position (λ byte. eqb byte 10) bytes ≡ None
+no_feed : (bytes : List ℕ) → NoFeedBefore bytes (length bytes) → position (λ byte. eqb byte 10) bytes ≡ None
 no_feed bytes before =
     let end : first_end bytes ≡ length bytes =
     position_or_len_is (λ byte. eqb byte 10) bytes (length bytes) 0 (omega arith) before (λ h. absurd (omega arith)) in
     rw (end, le-ltb (length bytes) (length bytes) (omega arith)) refl
+
+-- what a search for a line feed gives
+pub feed_found : (bytes : List ℕ) (found : Option ℕ) → IsFirstByte (is_byte 10) bytes found → found ≡ position (λ byte. eqb byte 10) bytes
+feed_found bytes None none = sym (no_feed bytes (λ k low. false_from_ne_true _ (none k (omega arith) low)))
+feed_found bytes (Some i) at =
+    sym (feed_at bytes i at.0.high (λ k low. false_from_ne_true _ (at.0.before k (omega arith) low)) at.1)
 
 -- ---- the first line without its ending
 

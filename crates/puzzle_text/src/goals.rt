@@ -1,7 +1,7 @@
 //! Goals in .non texts.
 
 ghost use Rattle.std.specs.Prelude.{◌≡◌, ◌==◌, [], true, length, vec_capacity, vec_len, IfOk, IfSome};
-ghost use Rattle.std.specs.Option.{option_map};
+ghost use Rattle.std.specs.Option.{is_some, option_map};
 ghost use Rattle.grid_core.specs.Nonogram.{bools_of, is_goal};
 ghost use Rattle.puzzle_text.specs.Answers.{Gives};
 ghost use Rattle.puzzle_text.specs.Non.{cell_of, goal_cells, goal_of};
@@ -13,14 +13,11 @@ use crate::keywords::quoted_text;
 use grid_core::NoMemory;
 use std::alloc::Global;
 
-fn cell_of(byte: u8) -> Option<bool>
-    ensures { result ≡ cell_of byte }
+/// Whether a byte says a colour.
+fn is_colour(byte: u8) -> bool
+    ensures { result ≡ is_some (cell_of byte) }
 {
-    match byte {
-        b'0' => Some(false),
-        b'1' => Some(true),
-        _ => None,
-    }
+    byte == b'0' || byte == b'1'
 }
 
 /// An empty list with room for `count` cells.
@@ -32,7 +29,7 @@ fn room_for(alloc: Global, count: usize) -> Result<Vec<bool>, NoMemory>
     Ok(Vec::with_capacity(alloc, count)?)
 }
 
-/// The cells of a goal of `count` cells.
+/// The cells of a goal of `count` cells. All bytes are looked at in any case, many at a time.
 fn goal_cells(alloc: Global, count: usize, text: &[u8]) -> Result<Option<Vec<bool>>, NoMemory>
     ensures cells { IfOk result (λ found. option_map (λ cells. cells.items) found ≡ goal_cells count text.now) }
     ensures count { IfOk result (λ found. IfSome found (λ cells. length cells.items ≡ count)) }
@@ -41,13 +38,12 @@ fn goal_cells(alloc: Global, count: usize, text: &[u8]) -> Result<Option<Vec<boo
         return Ok(None);
     }
     let mut cells = room_for(alloc, count)?;
+    let mut all = true;
     for byte in text {
-        let Some(cell) = cell_of(*byte) else {
-            return Ok(None);
-        };
-        cells.push_reserved(cell);
+        all &= is_colour(*byte);
+        cells.push_reserved(*byte == b'1');
     }
-    Ok(Some(cells))
+    Ok(if all { Some(cells) } else { None })
 }
 
 /// The goal that a line says, if there is one.

@@ -6,6 +6,7 @@ ghost use Rattle.puzzle_text.specs.Lines.{is_blank, is_hash, lines, numbered_fro
 ghost use Rattle.puzzle_text.specs.steps.Shown.{shown_line};
 
 use grid_core::NoMemory;
+use memchr::memchr;
 use std::alloc::Global;
 
 /// A line: its number in the text, from 1, and its bytes without spaces and tabs at both ends.
@@ -18,12 +19,7 @@ pub(crate) struct Line<'a> {
 fn first_line_feed(bytes: &[u8]) -> Option<usize>
     ensures { result ≡ position (λ byte. byte == 10) bytes.now }
 {
-    for (place, byte) in bytes.iter().enumerate() {
-        if *byte == b'\n' {
-            return Some(place);
-        }
-    }
-    None
+    memchr(b'\n', bytes)
 }
 
 /// The first line of a text, with its line feed, and what follows.

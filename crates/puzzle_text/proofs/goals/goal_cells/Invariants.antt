@@ -1,6 +1,6 @@
 -- What the loop of `goal_cells` keeps: the cells so far, and then those of the bytes to come,
 -- are those of the text.
-use Rattle.std.proofs.Common.{◌≡◌, drop, length, vec_capacity, vec_len}
+use Rattle.std.proofs.Common.{◌≡◌, None, cond, drop, length, vec_capacity, vec_len}
 use Rattle.puzzle_text.specs.Answers.{each_some}
 use Rattle.puzzle_text.specs.Non.{cell_of}
 use Rattle.puzzle_text.proofs.EachLemmas.{some_with_front}
@@ -10,5 +10,6 @@ abbrev pub invariant-loop-byte : goal.invariant-loop-byte
 invariant-loop-byte l = record {
   count : vec_len l.cells ≡ l.byte-index;
   room : vec_capacity l.cells ≡ length l.text;
-  so_far : some_with_front l.cells.items (each_some cell_of (drop l.byte-index l.text)) ≡ each_some cell_of l.text;
+  so_far :
+      cond l.all (some_with_front l.cells.items (each_some cell_of (drop l.byte-index l.text))) None ≡ each_some cell_of l.text;
 }
