@@ -7,7 +7,7 @@ use Rattle.solve_core.specs.declared.picks.Pick.{Pick}
 use Rattle.solve_core.specs.Report.{report_of}
 use Rattle.solve_core.specs.declared.findings.Findings.{Findings}
 
--- the puzzle's report under this limit on guesses and by this rule for them, or want of memory
+-- the puzzle's report under this limit on guesses and by this rule for them, or out of memory
 abbrev pub IsOutcome : Nonogram → ℕ → Pick → Result Findings NoMemory → Type 0
 IsOutcome puzzle guesses pick (Ok found) = found ≡ report_of (picked pick puzzle.width) puzzle guesses
 IsOutcome puzzle guesses pick (Err refused) = Unit {0}

@@ -11,7 +11,7 @@ use grid_core::{NoMemory, Puzzle};
 use solve_core::{Findings, Pick};
 
 /// A graded job, with its number, its puzzle, its limit on guesses and its rule for them.
-/// The outcome is the report of this puzzle under this limit and by this rule, or want of memory.
+/// The outcome is the report of this puzzle under this limit and by this rule, or out of memory.
 pub struct Answer {
     number: u32,
     puzzle: Puzzle,
@@ -36,7 +36,7 @@ impl Drop for Answer {
 
 impl Answer {
     /// The answer with these parts, whose outcome is the report of this puzzle under this limit and
-    /// by this rule, or want of memory.
+    /// by this rule, or out of memory.
     pub(crate) fn new(
         number: u32,
         puzzle: Puzzle,

@@ -10,7 +10,7 @@ use Rattle.reports.specs.declared.converting.ConvertFault.TheVariants as convert
 use Rattle.nonograde_c.specs.Calls.{Gives, MayLackMemory, fault_of_convert, of_conversion, of_entry}
 use Rattle.nonograde_c.specs.declared.faults.Fault.TheVariants.{Entry}
 
--- want of memory may stand in place of what an entry gives
+-- `NoMemory` may stand in place of what an entry gives
 entry_may : (answer : Result (List ℕ) EntryFault) → MayLackMemory (of_entry answer)
 entry_may (Ok text) = tt
 entry_may (Err fault) = tt
@@ -30,7 +30,7 @@ entry_refused (Text BadCount) answer gives = ap of_entry gives
 entry_refused (Text (BadNumber i)) answer gives = ap of_entry gives
 entry_refused (Text (BadGoal i)) answer gives = ap of_entry gives
 
--- want of memory may stand in place of what a conversion gives
+-- `NoMemory` may stand in place of what a conversion gives
 conversion_may : (answer : Result (List ℕ) ConvertFault) → MayLackMemory (of_conversion answer)
 conversion_may (Ok text) = tt
 conversion_may (Err (convert.Entry fault)) = tt

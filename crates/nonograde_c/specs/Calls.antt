@@ -119,14 +119,14 @@ convert_to (Some format) name body = of_conversion (converted format (said name 
 abbrev pub convert_answer : ℕ → List ℕ → List ℕ → Result (List ℕ) Fault
 convert_answer format name body = convert_to (format_numbered format) name body
 
--- Want of memory may stand in place of this answer: of any but a bad setting.
+-- `NoMemory` may stand in place of this answer: of any but a bad setting.
 abbrev pub MayLackMemory : Result (List ℕ) Fault → Type 0
 MayLackMemory (Ok _) = Unit {0}
 MayLackMemory (Err Setting) = ⊥
 MayLackMemory (Err (Entry _)) = Unit {0}
 MayLackMemory (Err Ambiguous) = Unit {0}
 
--- What a call answered is this answer, or want of memory in its place.
+-- What a call answered is this answer, or `NoMemory` in its place.
 abbrev pub Gives : Result (List ℕ) Fault → Result (List ℕ) Fault → Type 0
 Gives (Err (Entry (entry.Text text.NoMemory))) answer = MayLackMemory answer
 Gives given answer = answer ≡ given

@@ -24,7 +24,7 @@ pub extern "C" fn nonograde_solve(
     room: &mut [u8],
 ) -> Reply
     ensures answer { Answers (solve_answer guesses pick name.now text.now) result room.old room.new }
-    // Want of memory never stands in place of these faults.
+    // `NoMemory` never stands in place of these faults.
     ensures unknown { IsSome (pick_within guesses pick) → is_known name.now ≡ false →
         Leaves (Err (Fault.Entry EntryFault.UnknownFormat)) result room.old room.new }
     ensures too_long { IsSome (pick_within guesses pick) → is_known name.now ≡ true → LONGEST_PUZZLE < length text.now →
@@ -39,7 +39,7 @@ pub extern "C" fn nonograde_solve(
 #[unsafe(no_mangle)]
 pub extern "C" fn nonograde_lines(alloc: Global, name: &[u8], text: &[u8], room: &mut [u8]) -> Reply
     ensures answer { Answers (lines_answer name.now text.now) result room.old room.new }
-    // Want of memory never stands in place of these faults.
+    // `NoMemory` never stands in place of these faults.
     ensures unknown { is_known name.now ≡ false → Leaves (Err (Fault.Entry EntryFault.UnknownFormat)) result room.old room.new }
     ensures too_long { is_known name.now ≡ true → LONGEST_PUZZLE < length text.now →
         Leaves (Err (Fault.Entry (EntryFault.Text TextFault.TooLong))) result room.old room.new }
@@ -59,7 +59,7 @@ pub extern "C" fn nonograde_convert(
     room: &mut [u8],
 ) -> Reply
     ensures answer { Answers (convert_answer format name.now text.now) result room.old room.new }
-    // Want of memory never stands in place of these faults.
+    // `NoMemory` never stands in place of these faults.
     ensures unknown { IsSome (format_numbered format) → is_known name.now ≡ false →
         Leaves (Err (Fault.Entry EntryFault.UnknownFormat)) result room.old room.new }
     ensures too_long { IsSome (format_numbered format) → is_known name.now ≡ true → LONGEST_PUZZLE < length text.now →

@@ -63,7 +63,7 @@ abbrev pub PrintsFront : Result (List ℕ) Stop → Option (List ℕ) → Option
 PrintsFront answer old new = (text : List ℕ) × (answer ≡ Ok text) × ((sent : ℕ) × (sent ≤ length text) × Appends old new (take sent text))
 
 -- What is left if an answer is printed: the whole text; a front of it if the output failed; nothing if the
--- program stops at the answer's own fault. Want of memory may stand in place of any answer.
+-- program stops at the answer's own fault. `NoMemory` may stand in place of any answer.
 abbrev pub Prints : {U : Type 0} → Result (List ℕ) Stop → Result U Stop → Option (List ℕ) → Option (List ℕ) → Type 0
 Prints answer (Ok _) old new = PrintsWhole answer old new
 Prints answer (Err Write) old new = PrintsFront answer old new
