@@ -1,4 +1,4 @@
-//! Tests of `grid_core`.
+//! Tests of `grid_core`, and of `refusals`.
 #![tactic(auto)]
 
 #[cfg(test)]
@@ -7,3 +7,5 @@ mod tests;
 mod tests_refused;
 #[cfg(test)]
 mod tests_rows;
+#[cfg(test)]
+mod tests_sweeps;

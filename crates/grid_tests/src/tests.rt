@@ -1,8 +1,8 @@
 //! Tests of what no contract says: that each call succeeds with ample memory, with values worked out by hand.
 
 ghost use Rattle.std.specs.Prelude.{◌≡◌, IfOk, IfSome};
-ghost use Rattle.grid_core.specs.PartialGrid.{IsSize};
 
+use crate::tests_rows::have_same_cells;
 use grid_core::*;
 use std::alloc::Global;
 use std::fmt::Display;
@@ -12,7 +12,7 @@ const WIDTH: u16 = 5;
 
 const HEIGHT: u16 = 10;
 
-pub(crate) static ROWS: [&[u16]; 10] = [
+static ROWS: [&[u16]; 10] = [
     &[2],
     &[2, 1],
     &[1, 1],
@@ -25,9 +25,9 @@ pub(crate) static ROWS: [&[u16]; 10] = [
     &[2],
 ];
 
-pub(crate) static COLUMNS: [&[u16]; 5] = [&[2, 1], &[2, 1, 3], &[7], &[1, 3], &[2, 1]];
+static COLUMNS: [&[u16]; 5] = [&[2, 1], &[2, 1, 3], &[7], &[1, 3], &[2, 1]];
 
-pub(crate) static GOAL: &str = "01100011010010101110101001010000110010100101111000";
+pub(crate) static GOAL: &[u8] = b"01100011010010101110101001010000110010100101111000";
 
 pub(crate) fn clues_of(alloc: Global, lists: &[&[u16]]) -> Option<Vec<Clue>> {
     let mut clues = Vec::new(alloc);
@@ -37,22 +37,26 @@ pub(crate) fn clues_of(alloc: Global, lists: &[&[u16]]) -> Option<Vec<Clue>> {
     Some(clues)
 }
 
-pub(crate) fn goal_of(alloc: Global, digits: &str) -> Option<Vec<bool>> {
+pub(crate) fn goal_of(alloc: Global, digits: &[u8]) -> Option<Vec<bool>> {
     let mut goal = Vec::new(alloc);
-    for digit in digits.as_bytes() {
+    for digit in digits {
         goal.push(*digit == b'1').ok()?;
     }
     Some(goal)
 }
 
-// The demonstration puzzle, with a title and this goal.
-pub(crate) fn demonstration(alloc: Global, goal: Option<Vec<bool>>) -> Option<Puzzle>
-    ensures { IfSome result (λ p. (p.width ≡ WIDTH) × (p.height ≡ HEIGHT)) }
-{
+// The clues of the rows and of the columns of the demonstration puzzle, and a title.
+pub(crate) fn parts(alloc: Global) -> Option<(Vec<Clue>, Vec<Clue>, Texts)> {
     let rows = clues_of(alloc, &ROWS)?;
     let columns = clues_of(alloc, &COLUMNS)?;
     let mut texts = Texts::none();
     texts.set(alloc, Field::Title, b"Demo").ok()?;
+    Some((rows, columns, texts))
+}
+
+// The demonstration puzzle, with a title and this goal.
+pub(crate) fn demonstration(alloc: Global, goal: Option<Vec<bool>>) -> Option<Puzzle> {
+    let (rows, columns, texts) = parts(alloc)?;
     Puzzle::new(WIDTH, HEIGHT, rows, columns, texts, goal).ok()
 }
 
@@ -91,57 +95,68 @@ fn are_same_with_goal(some: &Puzzle, others: &Puzzle) -> bool {
     some.goal().is_some() && are_same(some, others)
 }
 
+// Whether a puzzle has the sizes, two of the clues, and the title of the demonstration puzzle.
+pub(crate) fn is_demonstration(puzzle: &Puzzle) -> bool {
+    puzzle.width() == WIDTH
+        && puzzle.height() == HEIGHT
+        && puzzle.row_clue(1).numbers() == [2, 1].as_slice()
+        && puzzle.col_clue(2).numbers() == [7].as_slice()
+        && puzzle.texts().get(Field::Title) == Some(b"Demo".as_slice())
+}
+
+// Whether each clue equals its copy.
+fn are_copied(alloc: Global, clues: &[Clue]) -> Result<bool, NoMemory> {
+    for clue in clues {
+        let copy = clue.copy(alloc)?;
+        if copy.numbers() != clue.numbers() {
+            return Ok(false);
+        }
+    }
+    Ok(true)
+}
+
 #[test]
 fn copies_equal_their_sources(rt: HostRuntime) -> Result<(), Fail> {
     let alloc = rt.alloc();
-    let Some(puzzle) = demonstration(alloc, goal_of(alloc, GOAL)) else {
-        assert!(rt; false, "the demonstration puzzle");
-        return Ok(());
-    };
+    let puzzle = demonstration(alloc, goal_of(alloc, GOAL)).ok_or("puzzle")?;
     let copy = puzzle.copy(alloc)?;
-    assert!(rt; copy.width() == 5 && copy.height() == 10, "sizes");
+    assert!(rt; is_demonstration(&copy), "sizes, clues and title");
     assert!(rt; are_same_with_goal(&copy, &puzzle), "clues, goal and title");
-    assert!(rt;
-        copy.texts().get(Field::Title) == Some(b"Demo".as_slice()),
-        "title"
-    );
-    for clue in puzzle.rows() {
-        assert!(rt;
-            clue.copy(alloc)?.numbers() == clue.numbers(),
-            "a row's clue"
-        );
-    }
-    for clue in puzzle.columns() {
-        assert!(rt;
-            clue.copy(alloc)?.numbers() == clue.numbers(),
-            "a column's clue"
-        );
-    }
-    let clue = puzzle.row_clue(1).copy(alloc)?;
-    assert!(rt; clue.numbers() == [2, 1].as_slice(), "a clue");
-    assert!(rt;
-        puzzle.col_clue(2).numbers() == [7].as_slice(),
-        "a column's clue"
-    );
+    assert!(rt; are_copied(alloc, puzzle.rows())?, "the rows' clues");
+    assert!(rt; are_copied(alloc, puzzle.columns())?, "the columns' clues");
     Ok(())
+}
+
+/// The longest clue.
+static ONES: [u16; 128] = [1; 128];
+
+fn long_text(alloc: Global, len: usize) -> Result<Vec<u8>, Fail> {
+    Ok(vec![in alloc; b'x'; len]?)
+}
+
+fn author(alloc: Global, name: &[u8]) -> Result<Texts, TextsFault> {
+    let mut texts = Texts::none();
+    texts.set(alloc, Field::By, name)?;
+    Ok(texts)
+}
+
+// The puzzle of the most cells, with a goal, the longest clues, and a text of the most bytes.
+fn greatest_puzzle(alloc: Global) -> Result<Puzzle, Fail> {
+    let lists: [&[u16]; 256] = [&ONES; 256];
+    let rows = clues_of(alloc, &lists).ok_or("rows")?;
+    let columns = clues_of(alloc, &lists).ok_or("columns")?;
+    let goal = vec![in alloc; true; 65_536]?;
+    let texts = author(alloc, &long_text(alloc, 65_536)?)?;
+    Ok(Puzzle::new(256, 256, rows, columns, texts, Some(goal))?)
 }
 
 #[test]
 fn the_greatest_puzzle_is_copied(rt: HostRuntime) -> Result<(), Fail> {
     let alloc = rt.alloc();
-    let ones: &[u16] = &[1; 128];
-    let lists = [ones; 256];
-    let rows = clues_of(alloc, &lists).ok_or("rows")?;
-    let columns = clues_of(alloc, &lists).ok_or("columns")?;
-    let mut texts = Texts::none();
-    texts.set(alloc, Field::By, &vec![in alloc; b'x'; 65_536]?)?;
-    let goal = vec![in alloc; true; 65_536]?;
-    let puzzle = Puzzle::new(256, 256, rows, columns, texts, Some(goal))?;
+    let puzzle = greatest_puzzle(alloc)?;
     let copy = puzzle.copy(alloc)?;
     assert!(rt; are_same_with_goal(&copy, &puzzle));
-    for clue in copy.rows() {
-        assert!(rt; clue.copy(alloc)?.numbers() == ones);
-    }
+    assert!(rt; are_copied(alloc, copy.rows())?);
     Ok(())
 }
 
@@ -165,40 +180,49 @@ pub(crate) fn drawn(alloc: Global, digits: &[u8]) -> Result<Option<Grid>, NoMemo
     Ok(Some(grid))
 }
 
+// Whether a grid solves a puzzle once one of its cells is set.
+fn is_solved_with(puzzle: &Puzzle, grid: &mut Grid, (x, y): (u16, u16), cell: Cell) -> bool {
+    if x < grid.width() && y < grid.height() {
+        grid.set(x, y, cell);
+    }
+    puzzle.solved_by(grid)
+}
+
 #[test]
 fn the_goal_is_the_solution(rt: HostRuntime) -> Result<(), Fail> {
     let alloc = rt.alloc();
-    let Some(puzzle) = demonstration(alloc, None) else {
-        assert!(rt; false, "the demonstration puzzle");
-        return Ok(());
-    };
-    let Some(mut grid) = drawn(alloc, GOAL.as_bytes())? else {
-        assert!(rt; false, "its solution");
-        return Ok(());
-    };
+    let puzzle = demonstration(alloc, None).ok_or("puzzle")?;
+    let mut grid = drawn(alloc, GOAL)?.ok_or("grid")?;
     assert!(rt; puzzle.solved_by(&grid), "the goal solves it");
     assert!(rt;
         grid.known() == 50 && grid.first_unknown().is_none(),
         "full"
     );
+    assert!(rt;
+        !is_solved_with(&puzzle, &mut grid, (0, 0), Cell::Filled),
+        "one cell more"
+    );
+    assert!(rt;
+        !is_solved_with(&puzzle, &mut grid, (4, 9), Cell::Unknown),
+        "not full"
+    );
+    assert!(rt;
+        grid.first_unknown() == Some((4, 9)),
+        "the one that is missing"
+    );
+    Ok(())
+}
+
+#[test]
+fn grids_equal_their_copies(rt: HostRuntime) -> Result<(), Fail> {
+    let alloc = rt.alloc();
+    let grid = drawn(alloc, GOAL)?.ok_or("grid")?;
     let copy = grid.copy(alloc)?;
     assert!(rt;
         copy.get(1, 0) == Cell::Filled && copy.get(0, 0) == Cell::Blank,
-        "the copy"
+        "the first two cells"
     );
-    for y in 0..HEIGHT {
-        for x in 0..WIDTH {
-            assert!(rt; copy.get(x, y) == grid.get(x, y), "each cell of the copy");
-        }
-    }
-    assert!(rt; puzzle.solved_by(&copy), "the copy solves it");
-    grid.set(0, 0, Cell::Filled);
-    assert!(rt; !puzzle.solved_by(&grid), "one cell more");
-    grid.set(4, 9, Cell::Unknown);
-    assert!(rt;
-        grid.first_unknown() == Some((4, 9)) && !puzzle.solved_by(&grid),
-        "not full"
-    );
+    assert!(rt; have_same_cells(&copy, &grid), "each cell");
     Ok(())
 }
 
@@ -254,20 +278,22 @@ fn is_filled_by_threes(grid: &Grid) -> bool {
 }
 
 // Whether a grid of this size is read as it was set.
-fn keeps_its_cells(alloc: Global, width: u16, height: u16) -> Result<bool, NoMemory>
-    requires { IsSize width height }
-{
+fn keeps_its_cells(alloc: Global, width: u16, height: u16) -> Result<bool, NoMemory> {
+    if width == 0 || height == 0 || width > 256 || height > 256 {
+        return Ok(false);
+    }
     let mut grid = Grid::unknown(alloc, width, height)?;
     Ok(fills(&mut grid) && is_filled_by_threes(&grid))
 }
 
 #[test]
 fn rows_that_end_within_a_block(rt: HostRuntime) -> Result<(), Fail> {
-    assert!(rt; keeps_its_cells(rt.alloc(), 64, 2)?);
-    assert!(rt; keeps_its_cells(rt.alloc(), 65, 3)?);
-    assert!(rt; keeps_its_cells(rt.alloc(), 13, 9)?);
-    assert!(rt; keeps_its_cells(rt.alloc(), 1, 256)?);
-    assert!(rt; keeps_its_cells(rt.alloc(), 1, 1)?);
+    for (width, height) in [(64, 2), (65, 3), (13, 9), (1, 256), (1, 1)] {
+        assert!(rt;
+            keeps_its_cells(rt.alloc(), width, height)?,
+            "{width} by {height}"
+        );
+    }
     Ok(())
 }
 
@@ -284,30 +310,32 @@ fn the_greatest_grid(rt: HostRuntime) -> Result<(), Fail> {
     Ok(())
 }
 
-#[test]
-fn goal_words(rt: HostRuntime) -> Result<(), Fail> {
-    let alloc = rt.alloc();
-    let missed = "01100011010010101110101001010000110010100101111001";
-    for (digits, word) in [
-        (Some(GOAL), GoalWord::Meets),
-        (Some(missed), GoalWord::Misses),
-        (None, GoalWord::Absent),
-    ] {
-        let goal = match digits {
-            Some(digits) => goal_of(alloc, digits),
-            None => None,
-        };
-        let Some(puzzle) = demonstration(alloc, goal) else {
-            assert!(rt; false, "the demonstration puzzle");
-            return Ok(());
-        };
-        assert_eq!(rt; puzzle.goal_word(), word);
-    }
-    Ok(())
+// The word for this goal of the demonstration puzzle.
+fn goal_word_of(alloc: Global, goal: Option<Vec<bool>>) -> Option<GoalWord> {
+    let puzzle = demonstration(alloc, goal)?;
+    Some(puzzle.goal_word())
 }
 
 #[test]
-fn clues_have_limits(rt: HostRuntime) -> Result<(), Fail> {
+fn goal_words(rt: HostRuntime) {
+    let alloc = rt.alloc();
+    let met = goal_of(alloc, GOAL);
+    assert!(rt; goal_word_of(alloc, met) == Some(GoalWord::Meets));
+    let missed = goal_of(alloc, b"01100011010010101110101001010000110010100101111001");
+    assert!(rt; goal_word_of(alloc, missed) == Some(GoalWord::Misses));
+    assert!(rt; goal_word_of(alloc, None) == Some(GoalWord::Absent));
+}
+
+// Whether a clue has these numbers, if they fit, and is refused otherwise.
+fn is_made_if_fit(made: Result<Clue, ClueFault>, numbers: &[u16], fit: bool) -> bool {
+    match made {
+        Ok(clue) => fit && clue.numbers() == numbers,
+        Err(fault) => !fit && fault == ClueFault::BadNumber,
+    }
+}
+
+#[test]
+fn clues_have_limits(rt: HostRuntime) {
     let alloc = rt.alloc();
     let ones = [1; 129];
     let lists: [(&[u16], bool); 8] = [
@@ -320,68 +348,85 @@ fn clues_have_limits(rt: HostRuntime) -> Result<(), Fail> {
         (&ones[..128], true),
         (&ones, false),
     ];
-    for (numbers, fits) in lists {
-        match Clue::from_numbers(alloc, numbers) {
-            Ok(clue) => assert!(rt; fits && clue.numbers() == numbers),
-            Err(fault) => assert!(rt; !fits && fault == ClueFault::BadNumber),
-        }
+    for (numbers, fit) in lists {
+        assert!(rt; is_made_if_fit(Clue::from_numbers(alloc, numbers), numbers, fit));
     }
-    Ok(())
+}
+
+fn empty_clues(alloc: Global, count: u32) -> Result<Vec<Clue>, Fail> {
+    let mut clues = Vec::new(alloc);
+    for _ in 0..count {
+        clues.push(Clue::from_numbers(alloc, &[])?)?;
+    }
+    Ok(clues)
+}
+
+// A puzzle of these sizes, with as many empty clues of rows and of columns, and a goal of as many values.
+fn sized_puzzle(
+    alloc: Global,
+    (width, height): (u16, u16),
+    (rows, columns): (u32, u32),
+    values: Option<usize>,
+) -> Result<Result<Puzzle, PuzzleFault>, Fail> {
+    let rows = empty_clues(alloc, rows)?;
+    let columns = empty_clues(alloc, columns)?;
+    let goal = match values {
+        Some(count) => Some(vec![in alloc; false; count]?),
+        None => None,
+    };
+    Ok(Puzzle::new(width, height, rows, columns, Texts::none(), goal))
 }
 
 #[test]
 fn puzzles_are_refused_in_order(rt: HostRuntime) -> Result<(), Fail> {
-    let alloc = rt.alloc();
-    let none: &[u16] = &[];
-    let lists = [none; 257];
     // sizes, counts of clues, the goal's values, and the refusal
     let cases = [
-        (0, 1, 3, 2, Some(9), Some(PuzzleFault::BadSize)),
-        (1, 0, 0, 1, None, Some(PuzzleFault::BadSize)),
-        (1, 257, 257, 1, None, Some(PuzzleFault::BadSize)),
-        (257, 1, 1, 257, None, Some(PuzzleFault::BadSize)),
-        (2, 1, 2, 1, Some(9), Some(PuzzleFault::BadCount)),
-        (2, 1, 1, 1, None, Some(PuzzleFault::BadCount)),
-        (2, 1, 1, 2, Some(3), Some(PuzzleFault::BadGoal)),
-        (2, 1, 1, 2, Some(2), None),
-        (256, 256, 256, 256, Some(65_536), None),
+        ((0, 1), (3, 2), Some(9), Some(PuzzleFault::BadSize)),
+        ((1, 0), (0, 1), None, Some(PuzzleFault::BadSize)),
+        ((1, 257), (257, 1), None, Some(PuzzleFault::BadSize)),
+        ((257, 1), (1, 257), None, Some(PuzzleFault::BadSize)),
+        ((2, 1), (2, 1), Some(9), Some(PuzzleFault::BadCount)),
+        ((2, 1), (1, 1), None, Some(PuzzleFault::BadCount)),
+        ((2, 1), (1, 2), Some(3), Some(PuzzleFault::BadGoal)),
+        ((2, 1), (1, 2), Some(2), None),
+        ((256, 256), (256, 256), Some(65_536), None),
     ];
-    for (width, height, rows, columns, values, refusal) in cases {
-        let (Some(rows), Some(columns)) = (
-            clues_of(alloc, &lists[..rows]),
-            clues_of(alloc, &lists[..columns]),
-        ) else {
-            assert!(rt; false, "clues");
-            return Ok(());
-        };
-        let goal = match values {
-            Some(count) => Some(vec![in alloc; false; count]?),
-            None => None,
-        };
-        let fault = Puzzle::new(width, height, rows, columns, Texts::none(), goal).err();
-        assert!(rt; fault == refusal, "{width} by {height}");
+    for (sizes, counts, values, refusal) in cases {
+        let puzzle = sized_puzzle(rt.alloc(), sizes, counts, values)?;
+        assert!(rt; puzzle.err() == refusal);
     }
     Ok(())
+}
+
+// Whether a licence of these bytes is refused.
+fn is_bad(alloc: Global, texts: &mut Texts, licence: &[u8]) -> bool {
+    texts.set(alloc, Field::License, licence) == Err(TextsFault::BadText)
+}
+
+fn has_licence(texts: &Texts, licence: &[u8]) -> bool {
+    texts.get(Field::License) == Some(licence)
+}
+
+// Whether there is no text but a licence.
+fn has_licence_alone(texts: &Texts) -> bool {
+    texts.get(Field::Catalogue).is_none()
+        && texts.get(Field::Title).is_none()
+        && texts.get(Field::By).is_none()
+        && texts.get(Field::Copyright).is_none()
 }
 
 #[test]
 fn texts_have_limits(rt: HostRuntime) -> Result<(), Fail> {
     let alloc = rt.alloc();
-    let long = vec![in alloc; b'x'; 65537]?;
-    let fitting = &long[..65536];
+    let fitting = long_text(alloc, 65_536)?;
+    let long = long_text(alloc, 65_537)?;
     let mut texts = Texts::none();
-    texts.set(alloc, Field::License, fitting)?;
-    assert!(rt; texts.set(alloc, Field::License, &long) == Err(TextsFault::BadText));
-    assert!(rt; texts.set(alloc, Field::License, b"a\nb") == Err(TextsFault::BadText));
-    assert!(rt; texts.get(Field::License) == Some(fitting), "as it was");
+    texts.set(alloc, Field::License, &fitting)?;
+    assert!(rt; is_bad(alloc, &mut texts, &long) && is_bad(alloc, &mut texts, b"a\nb"));
+    assert!(rt; has_licence(&texts, &fitting), "as it was");
     texts.set(alloc, Field::License, b"")?;
-    assert!(rt;
-        texts.get(Field::License) == Some(b"".as_slice()),
-        "there and empty"
-    );
-    for field in [Field::Catalogue, Field::Title, Field::By, Field::Copyright] {
-        assert!(rt; texts.get(field).is_none());
-    }
+    assert!(rt; has_licence(&texts, b""), "there and empty");
+    assert!(rt; has_licence_alone(&texts));
     Ok(())
 }
 
@@ -411,4 +456,12 @@ fn faults_in_sentences(rt: HostRuntime) {
     assert!(rt; is_told(alloc, &NoMemory, refused));
     assert!(rt; is_told(alloc, &ClueFault::NoMemory, refused));
     assert!(rt; is_told(alloc, &TextsFault::NoMemory, refused));
+}
+
+#[test]
+fn sides_cross_each_other(rt: HostRuntime) {
+    for (side, other) in [(Side::Rows, Side::Columns), (Side::Columns, Side::Rows)] {
+        assert!(rt; side.crossing() == other);
+        assert!(rt; side.crossing().crossing() == side);
+    }
 }

@@ -1,7 +1,9 @@
 //! Calls whose growths of memory are refused, each in turn, and calls that take no memory with every growth
 //! refused.
 
-use crate::tests::{COLUMNS, GOAL, ROWS, are_same, clues_of, demonstration, drawn, goal_of};
+use crate::tests::{
+    GOAL, are_same, clues_of, demonstration, drawn, goal_of, is_demonstration, parts,
+};
 use grid_core::*;
 use refusals::{Told, is_heeded, refuse, sweep, told_if, was_refused};
 use std::alloc::Global;
@@ -54,11 +56,14 @@ fn clues_are_copied_or_refused(rt: HostRuntime) -> Result<(), Fail> {
 /// Whether a field's text is what was there before, or what was set, as the answer says.
 fn told_of_set(texts: &Texts, answer: Result<(), TextsFault>) -> Told {
     match answer {
-        Ok(()) => told_if(texts.get(Field::Title) == Some(b"after".as_slice())),
-        Err(TextsFault::NoMemory) if texts.get(Field::Title) == Some(b"before".as_slice()) =>
-            Told::NoMemory,
+        Ok(()) => told_if(has_title(texts, b"after")),
+        Err(TextsFault::NoMemory) if has_title(texts, b"before") => Told::NoMemory,
         Err(_) => Told::Other,
     }
+}
+
+fn has_title(texts: &Texts, title: &[u8]) -> bool {
+    texts.get(Field::Title) == Some(title)
 }
 
 fn assert_set(rt: &impl Abort, alloc: Global, growth: usize) -> Result<bool, Fail> {
@@ -78,10 +83,7 @@ fn assert_set(rt: &impl Abort, alloc: Global, growth: usize) -> Result<bool, Fai
         "another text"
     );
     texts.set(alloc, Field::Title, b"after")?;
-    assert!(rt;
-        texts.get(Field::Title) == Some(b"after".as_slice()),
-        "the next call"
-    );
+    assert!(rt; has_title(&texts, b"after"), "the next call");
     Ok(refused)
 }
 
@@ -141,17 +143,20 @@ fn told_of_unknown(answer: Result<Grid, NoMemory>) -> Told {
 fn grids_are_made_or_refused(rt: HostRuntime) -> Result<(), Fail> {
     let alloc = rt.alloc();
     sweep(alloc, || told_of_unknown(Grid::unknown(alloc, 256, 255)))?;
+    Ok(())
+}
+
+#[test]
+fn grids_are_copied_or_refused(rt: HostRuntime) -> Result<(), Fail> {
+    let alloc = rt.alloc();
     let puzzle = demonstration(alloc, None).ok_or("puzzle")?;
-    let grid = drawn(alloc, GOAL.as_bytes())?.ok_or("grid")?;
+    let grid = drawn(alloc, GOAL)?.ok_or("grid")?;
     sweep(alloc, || told_of_grid(&puzzle, grid.copy(alloc)))?;
     Ok(())
 }
 
 /// Whether a puzzle and its solution, which is set once more cell by cell, tell what they should.
 fn are_well(puzzle: &Puzzle, grid: &mut Grid) -> bool {
-    if puzzle.width() != 5 || puzzle.height() != 10 {
-        return false;
-    }
     if grid.width() != 5 || grid.height() != 10 {
         return false;
     }
@@ -164,27 +169,26 @@ fn are_well(puzzle: &Puzzle, grid: &mut Grid) -> bool {
         && grid.known() == 50
         && puzzle.solved_by(grid)
         && puzzle.goal_word() == GoalWord::Meets
-        && puzzle.row_clue(1).numbers() == [2, 1].as_slice()
-        && puzzle.col_clue(2).numbers() == [7].as_slice()
-        && puzzle.texts().get(Field::Title) == Some(b"Demo".as_slice())
+        && is_demonstration(puzzle)
+}
+
+/// Whether a puzzle of these parts, and its solution, tell what they should.
+fn is_made_well(answer: Result<Puzzle, PuzzleFault>, grid: &mut Grid) -> bool {
+    match answer {
+        Ok(puzzle) => are_well(&puzzle, grid),
+        Err(_) => false,
+    }
 }
 
 #[test]
 fn looks_take_no_memory(rt: HostRuntime) -> Result<(), Fail> {
     let alloc = rt.alloc();
-    let rows = clues_of(alloc, &ROWS).ok_or("rows")?;
-    let columns = clues_of(alloc, &COLUMNS).ok_or("columns")?;
-    let mut texts = Texts::none();
-    texts.set(alloc, Field::Title, b"Demo")?;
+    let (rows, columns, texts) = parts(alloc).ok_or("parts")?;
     let goal = goal_of(alloc, GOAL);
-    let mut grid = drawn(alloc, GOAL.as_bytes())?.ok_or("grid")?;
+    let mut grid = drawn(alloc, GOAL)?.ok_or("grid")?;
     refuse(alloc, 0);
     let is_none = Texts::none().get(Field::Title).is_none();
-    let puzzle = Puzzle::new(5, 10, rows, columns, texts, goal);
-    let well = match &puzzle {
-        Ok(puzzle) => are_well(puzzle, &mut grid),
-        Err(_) => false,
-    };
+    let well = is_made_well(Puzzle::new(5, 10, rows, columns, texts, goal), &mut grid);
     assert!(rt; !was_refused(alloc), "no growth");
     assert!(rt; well && is_none);
     assert!(rt; is_heeded(alloc));

@@ -1,8 +1,6 @@
 //! Tests of rows that are written and read whole: against values worked out by hand, and against rows that
 //! are set cell by cell.
 
-ghost use Rattle.grid_core.specs.PartialGrid.{IsSize};
-
 use grid_core::*;
 use place_sets::Wide;
 use std::alloc::Global;
@@ -54,7 +52,7 @@ fn write_whole(grid: &mut Grid, y: u16) {
 }
 
 // Whether two grids have the same cells, and know as many.
-fn are_same(grid: &Grid, other: &Grid) -> bool {
+pub(crate) fn have_same_cells(grid: &Grid, other: &Grid) -> bool {
     for y in 0..grid.height() {
         for x in 0..grid.width() {
             if x >= other.width() || y >= other.height() || grid.get(x, y) != other.get(x, y) {
@@ -66,9 +64,10 @@ fn are_same(grid: &Grid, other: &Grid) -> bool {
 }
 
 // Whether each row of a grid that knew other things is written as it is set.
-fn writes_as_it_sets(alloc: Global, width: u16) -> Result<bool, NoMemory>
-    requires { IsSize width HEIGHT }
-{
+fn writes_as_it_sets(alloc: Global, width: u16) -> Result<bool, NoMemory> {
+    if width == 0 || width > 256 {
+        return Ok(false);
+    }
     let mut written = Grid::unknown(alloc, width, HEIGHT)?;
     let mut set = Grid::unknown(alloc, width, HEIGHT)?;
     stripe(&mut written);
@@ -76,53 +75,90 @@ fn writes_as_it_sets(alloc: Global, width: u16) -> Result<bool, NoMemory>
     for y in 0..HEIGHT {
         write_whole(&mut written, y);
         set_by_cells(&mut set, y);
-        if !are_same(&written, &set) {
+        if !have_same_cells(&written, &set) {
             return Ok(false);
         }
     }
     Ok(true)
 }
 
+// Widths with ends at, before and behind those of blocks of bits.
+static WIDTHS: [u16; 8] = [1, 5, 63, 64, 65, 128, 129, 256];
+
 #[test]
 fn rows_are_written_as_they_are_set(rt: HostRuntime) -> Result<(), Fail> {
-    assert!(rt; writes_as_it_sets(rt.alloc(), 1)?, "1 cell");
-    assert!(rt; writes_as_it_sets(rt.alloc(), 5)?, "5 cells");
-    assert!(rt; writes_as_it_sets(rt.alloc(), 63)?, "63 cells");
-    assert!(rt; writes_as_it_sets(rt.alloc(), 64)?, "64 cells");
-    assert!(rt; writes_as_it_sets(rt.alloc(), 65)?, "65 cells");
-    assert!(rt; writes_as_it_sets(rt.alloc(), 128)?, "128 cells");
-    assert!(rt; writes_as_it_sets(rt.alloc(), 129)?, "129 cells");
-    assert!(rt; writes_as_it_sets(rt.alloc(), 256)?, "256 cells");
+    for width in WIDTHS {
+        assert!(rt; writes_as_it_sets(rt.alloc(), width)?, "{width} cells");
+    }
     Ok(())
+}
+
+// Sets cells, each given by its column, its row, and what is known of it.
+fn set_all(grid: &mut Grid, cells: &[(u16, u16, Cell)]) {
+    for (x, y, cell) in cells {
+        if *x < grid.width() && *y < grid.height() {
+            grid.set(*x, *y, *cell);
+        }
+    }
+}
+
+// Whether these cells are known, and no others.
+fn knows(grid: &Grid, cells: &[(u16, u16, Cell)]) -> bool {
+    for (x, y, cell) in cells {
+        if *x >= grid.width() || *y >= grid.height() || grid.get(*x, *y) != *cell {
+            return false;
+        }
+    }
+    grid.known() as usize == cells.len()
+}
+
+fn line_of(cells: [Cell; 5]) -> LineOf<u64> {
+    let mut line = LineOf::<u64>::unknown(5);
+    for x in 0..5 {
+        if x < line.len() {
+            line.set(x, cells[usize::from(x)]);
+        }
+    }
+    line
+}
+
+// Writes a line as the second row.
+fn write_second(grid: &mut Grid, line: &LineOf<u64>) {
+    if grid.height() > 1 && line.len() == grid.width() {
+        grid.write_row(1, line);
+    }
 }
 
 #[test]
 fn a_row_in_the_middle_of_a_grid(rt: HostRuntime) -> Result<(), Fail> {
     let mut grid = Grid::unknown(rt.alloc(), 5, 3)?;
-    grid.set(4, 0, Cell::Filled);
-    grid.set(1, 1, Cell::Filled);
-    grid.set(2, 1, Cell::Blank);
-    grid.set(0, 2, Cell::Blank);
-    // The line `#??#.`.
-    let mut line = LineOf::<u64>::unknown(5);
-    line.set(0, Cell::Filled);
-    line.set(3, Cell::Filled);
-    line.set(4, Cell::Blank);
-    grid.write_row(1, &line);
-    assert!(rt;
-        grid.get(0, 1) == Cell::Filled && grid.get(1, 1) == Cell::Unknown,
-        "its first two cells"
+    set_all(
+        &mut grid,
+        &[
+            (4, 0, Cell::Filled),
+            (1, 1, Cell::Filled),
+            (2, 1, Cell::Blank),
+            (0, 2, Cell::Blank),
+        ],
     );
-    assert!(rt;
-        grid.get(2, 1) == Cell::Unknown
-            && grid.get(3, 1) == Cell::Filled
-            && grid.get(4, 1) == Cell::Blank,
-        "its other cells"
-    );
-    assert!(rt;
-        grid.get(4, 0) == Cell::Filled && grid.get(0, 2) == Cell::Blank && grid.known() == 5,
-        "the other rows"
-    );
+    // The row `?#.??` becomes the line `#?##.`.
+    let line = line_of([
+        Cell::Filled,
+        Cell::Unknown,
+        Cell::Filled,
+        Cell::Filled,
+        Cell::Blank,
+    ]);
+    write_second(&mut grid, &line);
+    let written = [
+        (4, 0, Cell::Filled),
+        (0, 1, Cell::Filled),
+        (2, 1, Cell::Filled),
+        (3, 1, Cell::Filled),
+        (4, 1, Cell::Blank),
+        (0, 2, Cell::Blank),
+    ];
+    assert!(rt; knows(&grid, &written));
     Ok(())
 }
 
@@ -141,9 +177,10 @@ fn is_read(grid: &Grid, y: u16) -> bool {
 }
 
 // Whether each row of a grid that has the pattern is read as it was set.
-fn reads_as_it_sets(alloc: Global, width: u16) -> Result<bool, NoMemory>
-    requires { IsSize width HEIGHT }
-{
+fn reads_as_it_sets(alloc: Global, width: u16) -> Result<bool, NoMemory> {
+    if width == 0 || width > 256 {
+        return Ok(false);
+    }
     let mut grid = Grid::unknown(alloc, width, HEIGHT)?;
     for y in 0..HEIGHT {
         set_by_cells(&mut grid, y);
@@ -158,37 +195,58 @@ fn reads_as_it_sets(alloc: Global, width: u16) -> Result<bool, NoMemory>
 
 #[test]
 fn rows_are_read_as_they_are_set(rt: HostRuntime) -> Result<(), Fail> {
-    assert!(rt; reads_as_it_sets(rt.alloc(), 1)?, "1 cell");
-    assert!(rt; reads_as_it_sets(rt.alloc(), 5)?, "5 cells");
-    assert!(rt; reads_as_it_sets(rt.alloc(), 63)?, "63 cells");
-    assert!(rt; reads_as_it_sets(rt.alloc(), 64)?, "64 cells");
-    assert!(rt; reads_as_it_sets(rt.alloc(), 65)?, "65 cells");
-    assert!(rt; reads_as_it_sets(rt.alloc(), 128)?, "128 cells");
-    assert!(rt; reads_as_it_sets(rt.alloc(), 129)?, "129 cells");
-    assert!(rt; reads_as_it_sets(rt.alloc(), 256)?, "256 cells");
+    for width in WIDTHS {
+        assert!(rt; reads_as_it_sets(rt.alloc(), width)?, "{width} cells");
+    }
     Ok(())
+}
+
+// Reads the second row into a line.
+fn read_second(grid: &Grid, line: &mut LineOf<u64>) {
+    if grid.height() > 1 && line.len() == grid.width() {
+        grid.read_row(1, line);
+    }
+}
+
+// Whether a line has these cells.
+fn has_cells(line: &LineOf<u64>, cells: [Cell; 5]) -> bool {
+    for x in 0..5 {
+        if x >= line.len() || line.get(x) != cells[usize::from(x)] {
+            return false;
+        }
+    }
+    line.len() == 5
 }
 
 #[test]
 fn a_row_is_read_from_the_middle_of_a_grid(rt: HostRuntime) -> Result<(), Fail> {
     let mut grid = Grid::unknown(rt.alloc(), 5, 3)?;
-    grid.set(4, 0, Cell::Filled);
-    grid.set(0, 1, Cell::Filled);
-    grid.set(2, 1, Cell::Blank);
-    grid.set(4, 1, Cell::Filled);
-    grid.set(0, 2, Cell::Blank);
-    // The line `?..??`, which becomes `#?.?#`.
-    let mut line = LineOf::<u64>::unknown(5);
-    line.set(1, Cell::Blank);
-    line.set(2, Cell::Blank);
-    grid.read_row(1, &mut line);
-    assert!(rt; line.get(0) == Cell::Filled, "its first cell");
-    assert!(rt; line.get(1) == Cell::Unknown, "its second cell");
-    assert!(rt; line.get(2) == Cell::Blank, "its third cell");
-    assert!(rt; line.get(3) == Cell::Unknown, "its fourth cell");
-    assert!(rt;
-        line.get(4) == Cell::Filled && line.len() == 5,
-        "its last cell"
+    set_all(
+        &mut grid,
+        &[
+            (4, 0, Cell::Filled),
+            (0, 1, Cell::Filled),
+            (2, 1, Cell::Blank),
+            (4, 1, Cell::Filled),
+            (0, 2, Cell::Blank),
+        ],
     );
+    // The line `?.#??` becomes the row `#?.?#`.
+    let mut line = line_of([
+        Cell::Unknown,
+        Cell::Blank,
+        Cell::Filled,
+        Cell::Unknown,
+        Cell::Unknown,
+    ]);
+    read_second(&grid, &mut line);
+    let row = [
+        Cell::Filled,
+        Cell::Unknown,
+        Cell::Blank,
+        Cell::Unknown,
+        Cell::Filled,
+    ];
+    assert!(rt; has_cells(&line, row));
     Ok(())
 }

@@ -1,5 +1,0 @@
-//! Tests of `refusals`.
-#![tactic(auto)]
-
-#[cfg(test)]
-mod tests;
