@@ -8,7 +8,10 @@ use std::alloc::{AllocError, Global};
 pub type Cells = Vec<Cell>;
 
 fn with_one_more(cells: &[Cell], cell: Cell, alloc: Global) -> Result<Cells, AllocError> {
-    let mut longer = cells.to_vec(alloc)?;
+    let mut longer = Vec::new(alloc);
+    for known in cells {
+        longer.push(*known)?;
+    }
     longer.push(cell)?;
     Ok(longer)
 }
@@ -55,9 +58,12 @@ pub fn lines_of_clue(
 
 /// Whether a full line has a line's colour wherever the line is known.
 fn agrees(full: &[Cell], line: &[Cell]) -> bool {
-    full.iter()
-        .zip(line)
-        .all(|(colour, cell)| cell.is_unknown() || cell == colour)
+    for (colour, cell) in full.iter().zip(line) {
+        if !cell.is_unknown() && cell != colour {
+            return false;
+        }
+    }
+    true
 }
 
 /// What is certain of the cell at a place: its colour, if all placings give it the same.
@@ -75,23 +81,34 @@ fn certain_cell(placings: &[&[Cell]], place: usize) -> Cell {
     }
 }
 
-/// The deduced line: what all placings share, which are those of the clue's full lines that agree with the
-/// line. `None` if there is none.
+/// The placings of a line: those of its clue's full lines that agree with it.
+fn placings<'a>(
+    alloc: Global,
+    line: &[Cell],
+    lines_of_clue: &'a [Cells],
+) -> Result<Vec<&'a [Cell]>, AllocError> {
+    let mut placings = Vec::new(alloc);
+    for full in lines_of_clue {
+        if agrees(full, line) {
+            placings.push(full.as_slice())?;
+        }
+    }
+    Ok(placings)
+}
+
+/// The deduced line: what all placings share. `None` if there is none.
 pub fn deduced(
     alloc: Global,
     line: &[Cell],
     lines_of_clue: &[Cells],
 ) -> Result<Option<Cells>, AllocError> {
-    let placings: Vec<&[Cell]> = lines_of_clue
-        .iter()
-        .map(|full| full.as_slice())
-        .filter(|full| agrees(full, line))
-        .collect(alloc)?;
+    let placings = placings(alloc, line, lines_of_clue)?;
     if placings.is_empty() {
         return Ok(None);
     }
-    let certain = (0..line.len())
-        .map(|place| certain_cell(&placings, place))
-        .collect(alloc)?;
+    let mut certain = Vec::new(alloc);
+    for place in 0..line.len() {
+        certain.push(certain_cell(&placings, place))?;
+    }
     Ok(Some(certain))
 }

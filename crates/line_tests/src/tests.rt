@@ -2,6 +2,7 @@
 
 ghost use Rattle.std.specs.Prelude.{◌≡◌, ◌+◌, ◌<◌, ◌≤◌, All, length, IfSome};
 
+use crate::tests_overlaps::{deduced, is_filled};
 use grid_core::{Cell, Clue, LONGEST_SIDE};
 use line_core::*;
 use place_sets::{PlaceSet, Wide};
@@ -10,81 +11,81 @@ use std::test::Fail;
 
 /// A line, a clue, and what is to come out: no cells if there is no placing.
 struct Row {
-    line: &'static str,
+    line: &'static [u8],
     clue: &'static [u16],
-    deduced: &'static str,
+    deduced: &'static [u8],
 }
 
 static ROWS: [Row; 14] = [
     Row {
-        line: "?????",
+        line: b"?????",
         clue: &[3],
-        deduced: "??#??",
+        deduced: b"??#??",
     },
     Row {
-        line: "?#???",
+        line: b"?#???",
         clue: &[3],
-        deduced: "?##?.",
+        deduced: b"?##?.",
     },
     Row {
-        line: "??.???",
+        line: b"??.???",
         clue: &[3],
-        deduced: "...###",
+        deduced: b"...###",
     },
     Row {
-        line: "#???#",
+        line: b"#???#",
         clue: &[3],
-        deduced: "",
+        deduced: b"",
     },
     Row {
-        line: "??#??",
+        line: b"??#??",
         clue: &[1, 1],
-        deduced: "?.#.?",
+        deduced: b"?.#.?",
     },
     Row {
-        line: "???",
+        line: b"???",
         clue: &[2, 2],
-        deduced: "",
+        deduced: b"",
     },
     Row {
-        line: "???",
+        line: b"???",
         clue: &[],
-        deduced: "...",
+        deduced: b"...",
     },
     Row {
-        line: "?#?",
+        line: b"?#?",
         clue: &[],
-        deduced: "",
+        deduced: b"",
     },
     Row {
-        line: "?.?#??.",
+        line: b"?.?#??.",
         clue: &[1, 2],
-        deduced: "#.?#?..",
+        deduced: b"#.?#?..",
     },
     Row {
-        line: "#",
+        line: b"#",
         clue: &[1],
-        deduced: "#",
+        deduced: b"#",
     },
     Row {
-        line: "??????????",
+        line: b"??????????",
         clue: &[3, 4],
-        deduced: "??#???##??",
+        deduced: b"??#???##??",
     },
     Row {
-        line: "??????????",
+        line: b"??????????",
         clue: &[65],
-        deduced: "",
+        deduced: b"",
     },
     Row {
-        line: "??????????",
+        line: b"??????????",
         clue: &[1, 129],
-        deduced: "",
+        deduced: b"",
     },
     Row {
-        line: "??????????",
+        line: b"??????????",
         clue: &[256],
-        deduced: "",
+        deduced: b"",
     },
 ];
 
@@ -98,28 +99,26 @@ fn cell_of(byte: u8) -> Cell {
 }
 
 /// The line that a text stands for, a character a cell: none if it has no character, or more than 256.
-pub fn line_of(text: &str) -> Option<Line>
+pub fn line_of(text: &[u8]) -> Option<Line>
     ensures { IfSome result (λ line. length line ≤ 256) }
 {
-    let bytes = text.as_bytes();
-    if bytes.is_empty() || 256 < bytes.len() {
+    if text.is_empty() || 256 < text.len() {
         return None;
     }
-    let mut line = Line::unknown(bytes.len() as u16);
+    let mut line = Line::unknown(text.len() as u16);
     for i in 0..line.len() {
-        line.set(i, cell_of(bytes[i as usize]));
+        line.set(i, cell_of(text[i as usize]));
     }
     Some(line)
 }
 
 /// Whether a line has the cells that a text stands for.
-pub(crate) fn is_line(line: &Line, text: &str) -> bool {
-    let bytes = text.as_bytes();
-    if bytes.len() != line.len() as usize {
+pub(crate) fn is_line(line: &Line, text: &[u8]) -> bool {
+    if text.len() != line.len() as usize {
         return false;
     }
     for i in 0..line.len() {
-        if line.get(i) != cell_of(bytes[i as usize]) {
+        if line.get(i) != cell_of(text[i as usize]) {
             return false;
         }
     }
@@ -180,48 +179,34 @@ pub(crate) fn numbered_clue(alloc: Global, len: u16, code: u64) -> Result<Clue, 
     Ok(Clue::from_numbers(alloc, &numbers)?)
 }
 
-/// The cell that is wanted at a place of a line.
-fn wanted_cell(filled: bool) -> Cell {
-    if filled { Cell::Filled } else { Cell::Blank }
-}
-
-/// Whether two runs that leave one blank cell on an unknown line are deduced.
-fn fills_line(alloc: Global, len: u16, first: u16) -> Result<bool, Fail>
-    requires { (0 < first) × (first + 1 < len) × (len ≤ 256) }
+/// Whether two runs that leave one blank cell on an unknown line are deduced, wherever that is.
+fn is_filled_but_one(alloc: Global, len: u16) -> Result<bool, Fail>
+    requires { 2 ≤ len }
 {
-    let mut tables = Tables::new(alloc, len)?;
-    let clue = Clue::from_numbers(alloc, &[first, len - 1 - first])?;
-    let Some(answer) = deduce(&mut tables, &Line::unknown(len), &clue) else {
-        return Ok(false);
-    };
-    for i in 0..answer.len() {
-        if answer.get(i) != wanted_cell(i != first) {
+    for blank in 1..len - 1 {
+        let answer = deduced(alloc, len, &[blank, len - 1 - blank])?;
+        if !is_filled(&answer, &[(0, blank), (blank + 1, len)], Cell::Blank) {
             return Ok(false);
         }
     }
     Ok(true)
 }
 
-/// Whether one run as long as an unknown line fills it, and one a cell longer, if a clue may have it,
-/// is dead.
-fn is_filled_whole(alloc: Global, len: u16) -> Result<bool, Fail>
+/// Whether one run as long as an unknown line fills it.
+fn is_filled_whole(alloc: Global, len: u16) -> Result<bool, Fail> {
+    let answer = deduced(alloc, len, &[len])?;
+    Ok(is_filled(&answer, &[(0, len)], Cell::Blank))
+}
+
+/// A line whose first and last cells are filled, and of which nothing else is known.
+fn held_at_both_ends(len: u16) -> Line
     requires { (1 ≤ len) × (len ≤ 256) }
+    ensures { length result ≡ len }
 {
-    let mut tables = Tables::new(alloc, len)?;
-    let clue = Clue::from_numbers(alloc, &[len])?;
-    let Some(answer) = deduce(&mut tables, &Line::unknown(len), &clue) else {
-        return Ok(false);
-    };
-    for i in 0..answer.len() {
-        if answer.get(i) != Cell::Filled {
-            return Ok(false);
-        }
-    }
-    if len == 256 {
-        return Ok(true);
-    }
-    let longer = Clue::from_numbers(alloc, &[len + 1])?;
-    Ok(deduce(&mut tables, &Line::unknown(len), &longer).is_none())
+    let mut line = Line::unknown(len);
+    line.set(0, Cell::Filled);
+    line.set(len - 1, Cell::Filled);
+    line
 }
 
 /// Whether two runs of two cells are deduced once the first and last cells are filled.
@@ -230,60 +215,35 @@ fn holds_both_ends(alloc: Global, len: u16) -> Result<bool, Fail>
 {
     let mut tables = Tables::new(alloc, len)?;
     let clue = Clue::from_numbers(alloc, &[2, 2])?;
-    let mut line = Line::unknown(len);
-    line.set(0, Cell::Filled);
-    line.set(len - 1, Cell::Filled);
-    let Some(answer) = deduce(&mut tables, &line, &clue) else {
-        return Ok(false);
-    };
-    for i in 0..answer.len() {
-        if answer.get(i) != wanted_cell(i < 2 || len - 2 <= i) {
-            return Ok(false);
-        }
-    }
-    Ok(true)
+    let answer = deduce(&mut tables, &held_at_both_ends(len), &clue);
+    Ok(is_filled(&answer, &[(0, 2), (len - 2, len)], Cell::Blank))
 }
 
-/// A clue of `count` runs of one cell.
-fn ones(alloc: Global, count: u16) -> Result<Clue, Fail> {
-    let mut numbers = Vec::new(alloc);
-    for _ in 0..count {
-        numbers.push(1u16)?;
-    }
-    Ok(Clue::from_numbers(alloc, &numbers)?)
-}
-
-/// Whether as many runs of one cell as there is room for are deduced on an unknown line:
-/// each second cell of an odd length, and nothing of an even one, on which each run may be at either
-/// of two cells.
-fn holds_ones(alloc: Global, len: u16) -> Result<bool, Fail>
-    requires { (1 ≤ len) × (len ≤ 256) }
-{
-    let mut tables = Tables::new(alloc, len)?;
-    let clue = ones(alloc, len.div_ceil(2))?;
-    let Some(answer) = deduce(&mut tables, &Line::unknown(len), &clue) else {
-        return Ok(false);
-    };
-    for i in 0..answer.len() {
-        let wanted = if len % 2 == 0 {
+/// Whether each second cell of a line of an odd length is filled, from its first to its last, and the others
+/// are blank; whether nothing is known of one of an even length.
+fn is_ones(line: &Line) -> bool {
+    let is_even = line.len() % 2 == 0;
+    for i in 0..line.len() {
+        let wanted = if is_even {
             Cell::Unknown
         } else {
-            wanted_cell(i % 2 == 0)
+            Cell::of_colour(i % 2 == 0)
         };
-        if answer.get(i) != wanted {
-            return Ok(false);
+        if line.get(i) != wanted {
+            return false;
         }
     }
-    Ok(true)
+    true
 }
 
-/// Whether two runs that need a cell or two more than an unknown line has are dead.
-fn refuses_long_runs(alloc: Global, len: u16) -> Result<bool, Fail>
-    requires { (2 ≤ len) × (len ≤ 256) }
-{
-    let mut tables = Tables::new(alloc, len)?;
-    let clue = Clue::from_numbers(alloc, &[len / 2, len / 2 + 1])?;
-    Ok(deduce(&mut tables, &Line::unknown(len), &clue).is_none())
+/// Whether as many runs of one cell as there is room for are deduced on an unknown line: on one of an even
+/// length each may be at either of two cells.
+fn holds_ones(alloc: Global, len: u16) -> Result<bool, Fail> {
+    let ones = vec![in alloc; 1u16; usize::from(len.div_ceil(2))]?;
+    Ok(match deduced(alloc, len, &ones)? {
+        Some(line) => is_ones(&line),
+        None => false,
+    })
 }
 
 #[test]
@@ -293,43 +253,7 @@ fn lengths_at_word_ends_come_out(rt: HostRuntime) -> Result<(), Fail> {
         assert!(rt; is_filled_whole(alloc, len)?, "all of {len}");
         assert!(rt; holds_both_ends(alloc, len)?, "both ends of {len}");
         assert!(rt; holds_ones(alloc, len)?, "ones on {len}");
-        assert!(rt; refuses_long_runs(alloc, len)?, "too much for {len}");
-        for first in 1..len - 1 {
-            assert!(rt; fills_line(alloc, len, first)?, "{len} {first}");
-        }
-    }
-    Ok(())
-}
-
-#[test]
-fn one_run_fills_the_middle_of_the_longest_line(rt: HostRuntime) -> Result<(), Fail> {
-    let alloc = rt.alloc();
-    let mut tables = Tables::new(alloc, 256)?;
-    let clue = Clue::from_numbers(alloc, &[129])?;
-    let Some(answer) = deduce(&mut tables, &Line::unknown(256), &clue) else {
-        return Err(Fail::new("a placing"));
-    };
-    for i in 0..answer.len() {
-        let wanted = if i == 127 || i == 128 {
-            Cell::Filled
-        } else {
-            Cell::Unknown
-        };
-        assert!(rt; answer.get(i) == wanted, "{i}");
-    }
-    Ok(())
-}
-
-#[test]
-fn runs_longer_than_the_line_are_dead(rt: HostRuntime) -> Result<(), Fail> {
-    let alloc = rt.alloc();
-    for number in [101u16, 127, 128, 129, 255, 256] {
-        let mut tables = Tables::new(alloc, 100)?;
-        let clue = Clue::from_numbers(alloc, &[number])?;
-        assert!(rt;
-            deduce(&mut tables, &Line::unknown(100), &clue).is_none(),
-            "{number}"
-        );
+        assert!(rt; is_filled_but_one(alloc, len)?, "all but one of {len}");
     }
     Ok(())
 }
@@ -342,6 +266,15 @@ pub(crate) fn next_random(state: &mut u64) -> u64 {
     *state >> 33
 }
 
+/// A cell that a number draws: it is known `known` times in 64, nearly always filled or blank as told.
+pub(crate) fn drawn_cell(filled: bool, number: u64, known: u64) -> Cell {
+    match number % 64 {
+        0 => Cell::of_colour(!filled),
+        draw if draw < known => Cell::of_colour(filled),
+        _ => Cell::Unknown,
+    }
+}
+
 /// A line of which some cells are known, nearly all of them as in the full line whose filled cells are the
 /// bits of `full`.
 fn partly_known_line(len: u16, full: u64, state: &mut u64) -> Line
@@ -351,18 +284,14 @@ fn partly_known_line(len: u16, full: u64, state: &mut u64) -> Line
     let mut line = Line::unknown(len);
     for i in 0..len {
         let filled = (full >> i) & 1 == 1;
-        let cell = match next_random(state) % 64 {
-            0 => wanted_cell(!filled),
-            1..24 => wanted_cell(filled),
-            _ => Cell::Unknown,
-        };
+        let cell = drawn_cell(filled, next_random(state), 24);
         line.set(i, cell);
     }
     line
 }
 
 /// The cells of a line in sets of one width.
-fn line_at<W: PlaceSet>(line: &Line) -> LineOf<W>
+pub(crate) fn line_at<W: PlaceSet>(line: &Line) -> LineOf<W>
     requires { length line.now ≤ W.WIDTH }
 {
     let mut copy = LineOf::unknown(line.len());

@@ -1,9 +1,9 @@
-//! Tests of single lines: of their cells, what differs between two, and a row of a grid.
+//! Tests of single lines: of their cells, and of what differs between two.
 
-ghost use Rattle.std.specs.Prelude.{◌<◌, ◌≤◌};
+ghost use Rattle.std.specs.Prelude.{◌≤◌};
 
-use crate::tests::{is_line, next_random};
-use grid_core::{Cell, Clue, Grid};
+use crate::tests::{is_line, line_at, line_of, next_random};
+use grid_core::{Cell, Clue};
 use line_core::{Line, LineOf, LineSet, Tables};
 use place_sets::{PlaceSet, Wide, spread, starts_within};
 use std::alloc::Global;
@@ -36,18 +36,25 @@ fn changes_are_found(rt: HostRuntime) -> Result<(), Fail> {
     Ok(())
 }
 
+/// Whether a line, which another is not, becomes that, and their hashes are one.
+fn becomes(line: &mut LineOf<u128>, other: &LineOf<u128>) -> bool {
+    if line.len() != other.len() || line.is_same(other) {
+        return false;
+    }
+    line.copy_from(other);
+    line.is_same(other) && line.hash() == other.hash()
+}
+
 #[test]
 fn a_line_becomes_another(rt: HostRuntime) -> Result<(), Fail> {
-    let mut other = LineOf::<u128>::unknown(100);
-    other.set(99, Cell::Blank);
     let mut line = LineOf::<u128>::unknown(100);
-    line.set(0, Cell::Filled);
-    assert!(rt; !other.is_same(&line), "two lines");
-    other.copy_from(&line);
-    assert!(rt; other.is_same(&line), "the same");
-    assert!(rt; other.hash() == line.hash(), "one hash");
+    line.set(99, Cell::Blank);
+    let mut other = LineOf::<u128>::unknown(100);
+    other.set(0, Cell::Filled);
+    assert!(rt; becomes(&mut line, &other));
+    assert!(rt; line.len() == 100, "its length");
     assert!(rt;
-        other.get(0) == Cell::Filled && other.get(99) == Cell::Unknown,
+        line.get(0) == Cell::Filled && line.get(99) == Cell::Unknown,
         "its cells"
     );
     Ok(())
@@ -108,16 +115,22 @@ fn unknown_cells_are_settled(rt: HostRuntime) -> Result<(), Fail> {
     Ok(())
 }
 
+/// Whether this is a line of five cells of which the middle one is filled, and nothing else is known.
+fn is_middle_filled(answer: Option<LineOf<u64>>) -> bool {
+    let mut wanted = LineOf::unknown(5);
+    wanted.set(2, Cell::Filled);
+    match answer {
+        Some(line) => line.len() == 5 && line.is_same(&wanted),
+        None => false,
+    }
+}
+
 #[test]
 fn a_line_is_deduced_in_its_own_sets(rt: HostRuntime) -> Result<(), Fail> {
-    let alloc = rt.alloc();
-    let mut tables = Tables::new(alloc, 64)?;
-    let clue = Clue::from_numbers(alloc, &[3])?;
-    let mut wanted = LineOf::<u64>::unknown(5);
-    let line = wanted.copy();
-    wanted.set(2, Cell::Filled);
-    let deduced = u64::deduce(&mut tables, &line, &clue).ok_or("no placing")?;
-    assert!(rt; deduced.is_same(&wanted));
+    let mut tables = Tables::new(rt.alloc(), 64)?;
+    let clue = Clue::from_numbers(rt.alloc(), &[3])?;
+    let answer = u64::deduce(&mut tables, &LineOf::unknown(5), &clue);
+    assert!(rt; is_middle_filled(answer));
     Ok(())
 }
 
@@ -126,10 +139,10 @@ fn cells_become_unknown_again(rt: HostRuntime) -> Result<(), Fail> {
     let mut line = Line::unknown(3);
     line.set(0, Cell::Filled);
     line.set(1, Cell::Blank);
-    assert!(rt; is_line(&line, "#.?"), "known");
+    assert!(rt; is_line(&line, b"#.?"), "known");
     line.set(0, Cell::Unknown);
     line.set(1, Cell::Unknown);
-    assert!(rt; is_line(&line, "???"), "unknown again");
+    assert!(rt; is_line(&line, b"???"), "unknown again");
     Ok(())
 }
 
@@ -151,70 +164,24 @@ fn cells_of_both_halves_are_kept_apart(rt: HostRuntime) -> Result<(), Fail> {
     Ok(())
 }
 
-#[test]
-fn unknown_cells_are_found(rt: HostRuntime) -> Result<(), Fail> {
-    // The line `#.?#?`.
-    let mut line = LineOf::<u64>::unknown(5);
-    line.set(0, Cell::Filled);
-    line.set(1, Cell::Blank);
-    line.set(3, Cell::Filled);
-    assert!(rt; line.first_unknown(0) == Some(2), "from the first");
-    assert!(rt; line.first_unknown(2) == Some(2), "from itself");
-    assert!(rt; line.first_unknown(3) == Some(4), "behind the first");
-    assert!(rt; line.first_unknown(5).is_none(), "from the length");
-    line.settle(4, Cell::Blank);
-    assert!(rt; line.first_unknown(3).is_none(), "none behind");
-    line.settle(2, Cell::Filled);
-    assert!(rt; line.first_unknown(0).is_none(), "none left");
-    Ok(())
-}
-
-/// Whether the cells of a row are these.
-fn is_row(grid: &Grid, y: u16, cells: [Cell; 3]) -> bool
-    requires { y < grid.now.height }
-{
-    grid.width() == 3
-        && grid.get(0, y) == cells[0]
-        && grid.get(1, y) == cells[1]
-        && grid.get(2, y) == cells[2]
+/// Whether this is the first unknown cell of a line from some place on, in sets of 64 places.
+fn is_found(text: &[u8], from: u16, found: Option<u16>) -> bool {
+    let Some(line) = line_of(text) else {
+        return false;
+    };
+    if line.len() > 64 {
+        return false;
+    }
+    let line = line_at::<u64>(&line);
+    from <= line.len() && line.first_unknown(from) == found
 }
 
 #[test]
-fn a_line_is_written_into_a_row(rt: HostRuntime) -> Result<(), Fail> {
-    // The rows `#.?` and `#?.`.
-    let mut grid = Grid::unknown(rt.alloc(), 3, 2)?;
-    grid.set(0, 0, Cell::Filled);
-    grid.set(1, 0, Cell::Blank);
-    grid.set(0, 1, Cell::Filled);
-    grid.set(2, 1, Cell::Blank);
-    // The line `?.#`.
-    let mut line = LineOf::<u64>::unknown(3);
-    line.set(1, Cell::Blank);
-    line.set(2, Cell::Filled);
-    grid.write_row(1, &line);
-    let first = [Cell::Filled, Cell::Blank, Cell::Unknown];
-    assert!(rt; is_row(&grid, 0, first), "the other row");
-    let second = [Cell::Unknown, Cell::Blank, Cell::Filled];
-    assert!(rt; is_row(&grid, 1, second), "the row");
-    Ok(())
-}
-
-#[test]
-fn a_line_takes_over_a_row(rt: HostRuntime) -> Result<(), Fail> {
-    // The rows `#.?` and `?.#`.
-    let mut grid = Grid::unknown(rt.alloc(), 3, 2)?;
-    grid.set(0, 0, Cell::Filled);
-    grid.set(1, 0, Cell::Blank);
-    grid.set(1, 1, Cell::Blank);
-    grid.set(2, 1, Cell::Filled);
-    // The line `#?.`.
-    let mut line = LineOf::<u64>::unknown(3);
-    line.set(0, Cell::Filled);
-    line.set(2, Cell::Blank);
-    grid.read_row(1, &mut line);
-    assert!(rt; line.get(0) == Cell::Unknown, "its first cell");
-    assert!(rt; line.get(1) == Cell::Blank, "its second cell");
-    assert!(rt; line.get(2) == Cell::Filled, "its last cell");
-    assert!(rt; line.len() == 3, "its length");
-    Ok(())
+fn unknown_cells_are_found(rt: HostRuntime) {
+    assert!(rt; is_found(b"#.?#?", 0, Some(2)), "from the first");
+    assert!(rt; is_found(b"#.?#?", 2, Some(2)), "from itself");
+    assert!(rt; is_found(b"#.?#?", 3, Some(4)), "behind the first");
+    assert!(rt; is_found(b"#.?#?", 5, None), "from the length");
+    assert!(rt; is_found(b"#.?#.", 3, None), "none behind");
+    assert!(rt; is_found(b"#.##.", 0, None), "none left");
 }

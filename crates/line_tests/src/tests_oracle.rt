@@ -3,7 +3,7 @@
 ghost use Rattle.std.specs.Prelude.{◌≡◌, ◌≤◌, length};
 
 use crate::oracle_lines::{Cells, deduced, full_lines, lines_of_clue};
-use crate::tests::{next_random, numbered_clue};
+use crate::tests::{drawn_cell, next_random, numbered_clue};
 use grid_core::{Cell, Clue};
 use line_core::{Line, Tables, deduce};
 use std::alloc::{AllocError, Global};
@@ -64,16 +64,20 @@ fn is_deduced_alike(
     Ok(is_deduced(alloc, &answer, &wanted)?)
 }
 
+fn cell_of_digit(digit: u32) -> Cell {
+    match digit {
+        0 => Cell::Unknown,
+        1 => Cell::Filled,
+        _ => Cell::Blank,
+    }
+}
+
 /// Cells that are the digits of a number, base 3.
 fn numbered_cells(alloc: Global, count: u16, number: u32) -> Result<Cells, AllocError> {
     let mut cells = Vec::new(alloc);
     let mut rest = number;
     for _ in 0..count {
-        cells.push(match rest % 3 {
-            0 => Cell::Unknown,
-            1 => Cell::Filled,
-            _ => Cell::Blank,
-        })?;
+        cells.push(cell_of_digit(rest % 3))?;
         rest /= 3;
     }
     Ok(cells)
@@ -101,19 +105,24 @@ fn clue_is_deduced_alike(
 /// Lengths, and how many lines there are.
 const LENGTHS: [(u16, u32); 6] = [(1, 3), (2, 9), (3, 27), (4, 81), (5, 243), (6, 729)];
 
-/// The clues of all lines of up to two cells more: those that fit, and those that don't.
+/// Whether the clues of all lines of two cells more are deduced alike: those that fit, and those that don't.
+fn clues_are_deduced_alike(alloc: Global, len: u16, lines: u32) -> Result<bool, Fail>
+    requires { len ≤ 6 }
+{
+    let full_lines = full_lines(alloc, usize::from(len))?;
+    for bits in 0..(1u64 << (len + 2)) {
+        let clue = numbered_clue(alloc, len + 2, bits)?;
+        if !clue_is_deduced_alike(alloc, len, &clue, &full_lines, lines)? {
+            return Ok(false);
+        }
+    }
+    Ok(true)
+}
+
 #[test]
 fn short_lines_are_deduced_alike(rt: HostRuntime) -> Result<(), Fail> {
-    let alloc = rt.alloc();
     for (len, lines) in LENGTHS {
-        let full_lines = full_lines(alloc, usize::from(len))?;
-        for bits in 0..(1u64 << (len + 2)) {
-            let clue = numbered_clue(alloc, len + 2, bits)?;
-            assert!(rt;
-                clue_is_deduced_alike(alloc, len, &clue, &full_lines, lines)?,
-                "{len}: {bits}"
-            );
-        }
+        assert!(rt; clues_are_deduced_alike(rt.alloc(), len, lines)?, "{len}");
     }
     Ok(())
 }
@@ -130,11 +139,7 @@ fn partly_known_cells(
     let mut rest = bits;
     for _ in 0..len {
         let filled = rest % 2 == 1;
-        cells.push(match next_random(state) % 64 {
-            0 => Cell::of_colour(!filled),
-            1..32 => Cell::of_colour(filled),
-            _ => Cell::Unknown,
-        })?;
+        cells.push(drawn_cell(filled, next_random(state), 32))?;
         rest /= 2;
     }
     Ok(cells)

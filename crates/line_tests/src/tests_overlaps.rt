@@ -15,7 +15,7 @@ struct Row {
     other: Cell,
 }
 
-static ROWS: [Row; 10] = [
+static ROWS: [Row; 11] = [
     Row {
         len: 63,
         clue: &[30, 32],
@@ -60,6 +60,12 @@ static ROWS: [Row; 10] = [
     },
     Row {
         len: 256,
+        clue: &[129],
+        filled: &[(127, 129)],
+        other: Cell::Unknown,
+    },
+    Row {
+        len: 256,
         clue: &[127, 127],
         filled: &[(1, 127), (129, 255)],
         other: Cell::Unknown,
@@ -80,50 +86,97 @@ static ROWS: [Row; 10] = [
 
 /// Whether a cell is in one of some stretches.
 fn is_within(i: u16, stretches: &[(u16, u16)]) -> bool {
-    stretches.iter().any(|(from, to)| *from <= i && i < *to)
-}
-
-/// Whether the deduction of a row is what was worked out.
-fn comes_out(alloc: Global, row: &Row) -> Result<bool, Fail> {
-    if row.len == 0 || row.len > 256 {
-        return Ok(false);
-    }
-    let mut tables = Tables::new(alloc, 256)?;
-    let clue = Clue::from_numbers(alloc, row.clue)?;
-    let Some(answer) = deduce(&mut tables, &Line::unknown(row.len), &clue) else {
-        return Ok(false);
-    };
-    for i in 0..answer.len() {
-        let wanted = if is_within(i, row.filled) {
-            Cell::Filled
-        } else {
-            row.other
-        };
-        if answer.get(i) != wanted {
-            return Ok(false);
+    for (from, to) in stretches {
+        if *from <= i && i < *to {
+            return true;
         }
     }
-    Ok(answer.len() == row.len)
+    false
+}
+
+/// What is deduced of an unknown line by tables for lines of its length.
+pub(crate) fn deduced(alloc: Global, len: u16, numbers: &[u16]) -> Result<Option<Line>, Fail> {
+    if len == 0 || len > 256 {
+        return Err(Fail::new("a length"));
+    }
+    let mut tables = Tables::new(alloc, len)?;
+    let clue = Clue::from_numbers(alloc, numbers)?;
+    Ok(deduce(&mut tables, &Line::unknown(len), &clue))
+}
+
+/// Whether the cells of some stretches of a line are filled, and of the others the same is known.
+fn has_filled(line: &Line, stretches: &[(u16, u16)], other: Cell) -> bool {
+    for i in 0..line.len() {
+        let wanted = if is_within(i, stretches) {
+            Cell::Filled
+        } else {
+            other
+        };
+        if line.get(i) != wanted {
+            return false;
+        }
+    }
+    true
+}
+
+/// Whether there is a line, of which some stretches are filled, and of the other cells the same is known.
+pub(crate) fn is_filled(answer: &Option<Line>, stretches: &[(u16, u16)], other: Cell) -> bool {
+    match answer {
+        Some(line) => has_filled(line, stretches, other),
+        None => false,
+    }
+}
+
+fn has_length(answer: &Option<Line>, len: u16) -> bool {
+    match answer {
+        Some(line) => line.len() == len,
+        None => false,
+    }
 }
 
 #[test]
 fn overlaps_come_out(rt: HostRuntime) -> Result<(), Fail> {
     for row in &ROWS {
-        assert!(rt; comes_out(rt.alloc(), row)?, "{}", row.len);
+        let answer = deduced(rt.alloc(), row.len, row.clue)?;
+        assert!(rt; has_length(&answer, row.len), "{}", row.len);
+        assert!(rt; is_filled(&answer, row.filled, row.other), "{}", row.len);
     }
     Ok(())
 }
 
+/// Lengths of lines, and runs that one of them has no room for.
+static TOO_LONG: [(u16, &[u16]); 25] = [
+    (63, &[64]),
+    (64, &[65]),
+    (65, &[66]),
+    (127, &[128]),
+    (128, &[129]),
+    (129, &[130]),
+    (255, &[256]),
+    (100, &[101]),
+    (100, &[127]),
+    (100, &[128]),
+    (100, &[129]),
+    (100, &[255]),
+    (100, &[256]),
+    (63, &[31, 32]),
+    (64, &[32, 33]),
+    (65, &[32, 33]),
+    (127, &[63, 64]),
+    (128, &[64, 65]),
+    (129, &[64, 65]),
+    (255, &[127, 128]),
+    (256, &[128, 129]),
+    (63, &[32, 32]),
+    (64, &[32, 32]),
+    (128, &[64, 64]),
+    (256, &[128, 128]),
+];
+
 #[test]
 fn runs_that_do_not_fit_leave_nothing(rt: HostRuntime) -> Result<(), Fail> {
-    let alloc = rt.alloc();
-    for (len, number) in [(63u16, 32u16), (64, 32), (128, 64), (256, 128)] {
-        let mut tables = Tables::new(alloc, 256)?;
-        let clue = Clue::from_numbers(alloc, &[number, number])?;
-        assert!(rt;
-            deduce(&mut tables, &Line::unknown(len), &clue).is_none(),
-            "{len}"
-        );
+    for (len, numbers) in &TOO_LONG {
+        assert!(rt; deduced(rt.alloc(), *len, numbers)?.is_none(), "{len}");
     }
     Ok(())
 }

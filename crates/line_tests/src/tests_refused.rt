@@ -1,6 +1,8 @@
 //! Calls whose growths of memory are refused, each in turn, and calls that take no memory
 //! with every growth refused.
 
+ghost use Rattle.std.specs.Prelude.{◌≤◌};
+
 use crate::tests::{is_same_line, line_of};
 use grid_core::{Cell, Clue, NoMemory};
 use line_core::*;
@@ -14,7 +16,7 @@ fn deduced(alloc: Global, clue: &Clue) -> Result<Option<Line>, NoMemory> {
     Ok(deduce(&mut tables, &Line::unknown(10), clue))
 }
 
-fn is_shown(line: &Line, text: &str) -> bool {
+fn is_shown(line: &Line, text: &[u8]) -> bool {
     match line_of(text) {
         Some(shown) => is_same_line(line, &shown),
         None => false,
@@ -23,7 +25,7 @@ fn is_shown(line: &Line, text: &str) -> bool {
 
 fn told_of_deduced(answer: Result<Option<Line>, NoMemory>) -> Told {
     match answer {
-        Ok(Some(line)) => told_if(is_shown(&line, "??######??")),
+        Ok(Some(line)) => told_if(is_shown(&line, b"??######??")),
         Ok(None) => Told::Other,
         Err(NoMemory) => Told::NoMemory,
     }
@@ -67,21 +69,34 @@ fn are_lines_well() -> bool {
     changed && line.is_same(&copy) && line.hash() == copy.hash()
 }
 
+/// Whether a run of eight cells is deduced on ten unknown ones as it should be.
+fn is_deduced_well(tables: &mut Tables, clue: &Clue) -> bool
+    requires { 10 ≤ tables.old }
+{
+    let answer = deduce(tables, &Line::unknown(10), clue);
+    told_of_deduced(Ok(answer)) == Told::Wanted
+}
+
+/// Whether its outermost starts there are as they should be.
+fn are_starts_well(starts: &mut Starts, clue: &Clue) -> bool {
+    let line = Line::unknown(10);
+    let left = leftmost(&line, clue, starts) && starts.list() == [0].as_slice();
+    let right = rightmost(&line, clue, starts) && starts.list() == [2].as_slice();
+    left && right
+}
+
 #[test]
 fn lines_and_deductions_take_no_memory(rt: HostRuntime) -> Result<(), Fail> {
     let alloc = rt.alloc();
     let clue = Clue::from_numbers(alloc, &[8])?;
     let mut tables = Tables::new(alloc, 256)?;
     let mut starts = Starts::new(alloc)?;
-    let line = Line::unknown(10);
     refuse(alloc, 0);
-    let answer = deduce(&mut tables, &line, &clue);
-    let left = leftmost(&line, &clue, &mut starts) && starts.list() == [0].as_slice();
-    let right = rightmost(&line, &clue, &mut starts) && starts.list() == [2].as_slice();
+    let deduced = is_deduced_well(&mut tables, &clue);
+    let started = are_starts_well(&mut starts, &clue);
     let well = are_lines_well();
     assert!(rt; !was_refused(alloc), "no growth");
-    assert!(rt; told_of_deduced(Ok(answer)) == Told::Wanted);
-    assert!(rt; left && right && well);
+    assert!(rt; deduced && started && well);
     assert!(rt; is_heeded(alloc));
     Ok(())
 }

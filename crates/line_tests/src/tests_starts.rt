@@ -25,7 +25,7 @@ fn is_dead(line: &Line, clue: &Clue, starts: &mut Starts) -> bool {
 /// A line, a clue, whether there is a placing, and the starts that are to come out:
 /// none if there is no placing.
 struct Row {
-    line: &'static str,
+    line: &'static [u8],
     clue: &'static [u16],
     alive: bool,
     left: &'static [u16],
@@ -34,56 +34,56 @@ struct Row {
 
 static ROWS: [Row; 8] = [
     Row {
-        line: "?????",
+        line: b"?????",
         clue: &[3],
         alive: true,
         left: &[0],
         right: &[2],
     },
     Row {
-        line: "??#??",
+        line: b"??#??",
         clue: &[1, 1],
         alive: true,
         left: &[0, 2],
         right: &[2, 4],
     },
     Row {
-        line: "???",
+        line: b"???",
         clue: &[2, 2],
         alive: false,
         left: &[],
         right: &[],
     },
     Row {
-        line: "???",
+        line: b"???",
         clue: &[],
         alive: true,
         left: &[],
         right: &[],
     },
     Row {
-        line: "?#?",
+        line: b"?#?",
         clue: &[],
         alive: false,
         left: &[],
         right: &[],
     },
     Row {
-        line: "?.?#??.",
+        line: b"?.?#??.",
         clue: &[1, 2],
         alive: true,
         left: &[0, 2],
         right: &[0, 3],
     },
     Row {
-        line: "#",
+        line: b"#",
         clue: &[1],
         alive: true,
         left: &[0],
         right: &[0],
     },
     Row {
-        line: "??????????",
+        line: b"??????????",
         clue: &[3, 4],
         alive: true,
         left: &[0, 4],
@@ -108,11 +108,7 @@ fn row_comes_out(alloc: Global, row: &Row, starts: &mut Starts) -> Result<bool, 
 fn starts_of_short_lines_come_out(rt: HostRuntime) -> Result<(), Fail> {
     let mut starts = Starts::new(rt.alloc())?;
     for row in &ROWS {
-        assert!(rt;
-            row_comes_out(rt.alloc(), row, &mut starts)?,
-            "{}",
-            row.line
-        );
+        assert!(rt; row_comes_out(rt.alloc(), row, &mut starts)?, "a row");
     }
     Ok(())
 }
