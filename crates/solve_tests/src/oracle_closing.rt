@@ -44,17 +44,21 @@ impl PlainLine {
 
     /// What a grid knows of the line.
     fn read(&self, alloc: Global, cells: &[Cell]) -> Result<Cells, AllocError> {
-        self.places
-            .iter()
-            .map(|place| cells.get(*place).copied().unwrap_or(Cell::Unknown))
-            .collect(alloc)
+        let mut known = Vec::new(alloc);
+        for place in &self.places {
+            known.push(cells.get(*place).copied().unwrap_or(Cell::Unknown))?;
+        }
+        Ok(known)
     }
 
     /// Whether the runs of the line are its clue in a full grid.
     fn is_met(&self, full: &[Cell]) -> bool {
-        self.lines_of_clue
-            .iter()
-            .any(|line| are_at(full, &self.places, line))
+        for line in &self.lines_of_clue {
+            if are_at(full, &self.places, line) {
+                return true;
+            }
+        }
+        false
     }
 
     /// Writes what is certain of the line into a grid. False if one of its cells has the other colour there.
@@ -70,10 +74,12 @@ impl PlainLine {
 
 /// Whether these are the cells at some places of a grid.
 fn are_at(cells: &[Cell], places: &[usize], line: &[Cell]) -> bool {
-    places
-        .iter()
-        .zip(line)
-        .all(|(place, colour)| cells.get(*place) == Some(colour))
+    for (place, colour) in places.iter().zip(line) {
+        if cells.get(*place) != Some(colour) {
+            return false;
+        }
+    }
+    true
 }
 
 /// Gives the cell at a place a colour, if one is certain. False if it has the other one.
@@ -121,12 +127,16 @@ impl PlainPuzzle {
         Ok(plain)
     }
 
+    fn push_line(&mut self, line: PlainLine) -> Result<(), AllocError> {
+        self.lines.push(line)?;
+        Ok(())
+    }
+
     fn push_rows(&mut self, alloc: Global, clues: &[Clue]) -> Result<(), AllocError> {
         let full_lines = full_lines(alloc, self.width)?;
         for (y, clue) in clues.iter().enumerate() {
             let places = places_from(alloc, y.wrapping_mul(self.width), 1, self.width)?;
-            self.lines
-                .push(PlainLine::new(alloc, places, clue, &full_lines)?)?;
+            self.push_line(PlainLine::new(alloc, places, clue, &full_lines)?)?;
         }
         Ok(())
     }
@@ -135,8 +145,7 @@ impl PlainPuzzle {
         let full_lines = full_lines(alloc, self.height)?;
         for (x, clue) in clues.iter().enumerate() {
             let places = places_from(alloc, x, self.width, self.height)?;
-            self.lines
-                .push(PlainLine::new(alloc, places, clue, &full_lines)?)?;
+            self.push_line(PlainLine::new(alloc, places, clue, &full_lines)?)?;
         }
         Ok(())
     }
@@ -238,6 +247,11 @@ impl PlainPuzzle {
 
     /// Whether a full grid meets the puzzle: the runs along each line are its clue.
     pub fn is_met(&self, full: &[Cell]) -> bool {
-        self.lines.iter().all(|line| line.is_met(full))
+        for line in &self.lines {
+            if !line.is_met(full) {
+                return false;
+            }
+        }
+        true
     }
 }

@@ -98,6 +98,11 @@ struct PlainSearch<'p> {
 }
 
 impl PlainSearch<'_> {
+    fn push_guess(&mut self, guessed: Cells) -> Result<(), AllocError> {
+        self.ahead.push(guessed)?;
+        Ok(())
+    }
+
     /// Goes on from a closed grid: a full one is a solution, and in any other a cell is guessed, filled first
     /// and then blank.
     fn go_on(&mut self, alloc: Global, cells: Cells) -> Result<(), AllocError> {
@@ -109,10 +114,8 @@ impl PlainSearch<'_> {
             &cells,
         )? {
             Some(place) => {
-                self.ahead
-                    .push(with_cell(alloc, &cells, place, Cell::Blank)?)?;
-                self.ahead
-                    .push(with_cell(alloc, &cells, place, Cell::Filled)?)?;
+                self.push_guess(with_cell(alloc, &cells, place, Cell::Blank)?)?;
+                self.push_guess(with_cell(alloc, &cells, place, Cell::Filled)?)?;
             }
             None => self.events.push(Event::Solution(cells))?,
         }

@@ -50,6 +50,24 @@ fn clue_of(alloc: Global, len: usize, bits: u64) -> Result<Clue, Fail> {
     Ok(Clue::from_numbers(alloc, &numbers)?)
 }
 
+/// A row of cells, a bit each, of two rows each cell of which is filled with a chance of a half.
+fn drawn_row(chance: u64, some: u64, other: u64) -> u64 {
+    match chance {
+        0 => some & other,
+        1 => some,
+        _ => some | other,
+    }
+}
+
+/// A cell that a number draws: known 26 times in 64, once of them as the other colour.
+fn drawn_cell(filled: bool, number: u64) -> Cell {
+    match number % 64 {
+        0 => Cell::of_colour(!filled),
+        1..26 => Cell::of_colour(filled),
+        _ => Cell::Unknown,
+    }
+}
+
 impl Picture {
     /// A picture of up to 6 by 6 cells.
     pub fn drawn(alloc: Global, draws: &mut Draws) -> Result<Picture, AllocError> {
@@ -69,11 +87,7 @@ impl Picture {
         let mut rows = Vec::new(alloc);
         for _ in 0..height {
             let (some, other) = (draws.draw(), draws.draw());
-            rows.push(match chance {
-                0 => some & other,
-                1 => some,
-                _ => some | other,
-            })?;
+            rows.push(drawn_row(chance, some, other))?;
         }
         Ok(Picture { width, rows })
     }
@@ -129,11 +143,7 @@ impl Picture {
         for row in &self.rows {
             for x in 0..self.width {
                 let filled = self.is_filled(x, *row);
-                cells.push(match draws.draw() % 64 {
-                    0 => Cell::of_colour(!filled),
-                    1..26 => Cell::of_colour(filled),
-                    _ => Cell::Unknown,
-                })?;
+                cells.push(drawn_cell(filled, draws.draw()))?;
             }
         }
         Ok(cells)

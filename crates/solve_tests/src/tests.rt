@@ -71,21 +71,28 @@ fn line_picture(alloc: Global, puzzle: &Puzzle) -> Option<Picture> {
     Some(grid.as_ref().and_then(|grid| picture(true, grid)))
 }
 
-/// What one solver makes of unknown grids: by lines, by trials, and again by lines and by trials.
-fn pictures_by(alloc: Global, puzzle: &Puzzle, solver: &mut Solver) -> Option<[Picture; 4]>
+/// What a solver makes of two unknown grids, by lines and by trials.
+fn pictures_by(alloc: Global, puzzle: &Puzzle, solver: &mut Solver) -> Option<[Picture; 2]>
     requires { solver.old ≡ puzzle.now }
+    ensures { solver.new ≡ puzzle.now }
 {
     let lines = after_lines(alloc, puzzle, solver)?;
     let trials = after_trials(alloc, puzzle, solver)?;
-    let lines_again = after_lines(alloc, puzzle, solver)?;
-    let trials_again = after_trials(alloc, puzzle, solver)?;
-    Some([lines, trials, lines_again, trials_again])
+    Some([lines, trials])
 }
 
-/// The same of a new solver.
-fn solver_pictures(alloc: Global, puzzle: &Puzzle) -> Option<[Picture; 4]> {
+/// What a new solver makes of them, and of two more. `None` if the second time it makes something else.
+fn solver_pictures(alloc: Global, puzzle: &Puzzle) -> Option<[Picture; 2]> {
     let mut solver = Solver::new(alloc, puzzle).ok()?;
-    pictures_by(alloc, puzzle, &mut solver)
+    let once = pictures_by(alloc, puzzle, &mut solver)?;
+    let again = pictures_by(alloc, puzzle, &mut solver)?;
+    if once == again { Some(once) } else { None }
+}
+
+/// The same of the puzzle with these clues of its rows and of its columns.
+fn pictures_of(alloc: Global, rows: &[&[u16]], columns: &[&[u16]]) -> Option<[Picture; 2]> {
+    let puzzle = puzzle_of(alloc, rows, columns)?;
+    solver_pictures(alloc, &puzzle)
 }
 
 const ONE: &[u16] = &[1];
@@ -95,28 +102,17 @@ const TWO: &[u16] = &[2];
 const PAIR: &[u16] = &[1, 1];
 
 #[test]
-fn trials_settle_what_lines_leave(rt: HostRuntime) -> Result<(), Fail> {
-    let alloc = rt.alloc();
-    let puzzle = puzzle_of(alloc, &[TWO, PAIR], &[ONE, ONE, ONE, ONE]);
-    let found = puzzle
-        .as_ref()
-        .and_then(|puzzle| solver_pictures(alloc, puzzle));
+fn trials_settle_what_lines_leave(rt: HostRuntime) {
+    let found = pictures_of(rt.alloc(), &[TWO, PAIR], &[ONE, ONE, ONE, ONE]);
     // Nothing by lines; then `.##.` over `#..#`, which is 21121221 to the base 3.
-    let wanted = Some([Some((0, 0)), Some((8, 5560)), Some((0, 0)), Some((8, 5560))]);
-    assert!(rt; found == wanted);
-    Ok(())
+    assert!(rt; found == Some([Some((0, 0)), Some((8, 5560))]));
 }
 
 #[test]
-fn trials_find_a_contradiction(rt: HostRuntime) -> Result<(), Fail> {
-    let alloc = rt.alloc();
-    let puzzle = puzzle_of(alloc, &[&[1, 1, 1], &[3]], &[ONE, ONE, ONE, ONE, ONE, ONE]);
-    let found = puzzle
-        .as_ref()
-        .and_then(|puzzle| solver_pictures(alloc, puzzle));
-    let wanted = Some([Some((0, 0)), None, Some((0, 0)), None]);
-    assert!(rt; found == wanted);
-    Ok(())
+fn trials_find_a_contradiction(rt: HostRuntime) {
+    let columns = [ONE, ONE, ONE, ONE, ONE, ONE];
+    let found = pictures_of(rt.alloc(), &[&[1, 1, 1], &[3]], &columns);
+    assert!(rt; found == Some([Some((0, 0)), None]));
 }
 
 /// What lines make of the demonstration puzzle, without a solver and by one.
@@ -160,24 +156,31 @@ fn a_contradiction_leaves_no_grid(rt: HostRuntime) -> Result<(), Fail> {
     Ok(())
 }
 
+/// Fills a cell of the first row, if it is there.
+fn fill(grid: &mut Grid, x: u16)
+    ensures width { grid.new.width ≡ grid.old.width }
+    ensures height { grid.new.height ≡ grid.old.height }
+{
+    if x < grid.width() && 0 < grid.height() {
+        grid.set(x, 0, Cell::Filled);
+    }
+}
+
 /// Fills a cell of the first row and closes the grid.
 fn after_filling(puzzle: &Puzzle, solver: &mut Solver, grid: &mut Grid, x: u16) -> Picture
     requires solver { solver.old ≡ puzzle.now }
     requires size { HasSizeOf puzzle.now grid.old }
-    requires x { x < puzzle.now.width }
     ensures solver { solver.new ≡ puzzle.now }
     ensures size { HasSizeOf puzzle.now grid.new }
 {
-    puzzle.width();
-    grid.set(x, 0, Cell::Filled);
+    fill(grid, x);
     let alive = solver.close_lines(grid);
     picture(alive, grid)
 }
 
 /// What a solver makes of a puzzle: by trials, then with a cell filled, then with its neighbour filled too.
 fn closed_by(alloc: Global, puzzle: &Puzzle, solver: &mut Solver) -> Option<[Picture; 3]>
-    requires solver { solver.old ≡ puzzle.now }
-    requires width { 2 ≤ puzzle.now.width }
+    requires { solver.old ≡ puzzle.now }
 {
     let open = after_trials(alloc, puzzle, solver)?;
     let mut grid = unknown_grid(alloc, puzzle)?;
@@ -189,9 +192,6 @@ fn closed_by(alloc: Global, puzzle: &Puzzle, solver: &mut Solver) -> Option<[Pic
 /// What a solver makes so of the 2 by 2 puzzle with a 1 for each line.
 fn closed_again(alloc: Global) -> Option<[Picture; 3]> {
     let puzzle = puzzle_of(alloc, &[ONE, ONE], &[ONE, ONE])?;
-    if puzzle.width() < 2 {
-        return None;
-    }
     let mut solver = Solver::new(alloc, &puzzle).ok()?;
     closed_by(alloc, &puzzle, &mut solver)
 }

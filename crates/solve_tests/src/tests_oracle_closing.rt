@@ -25,7 +25,41 @@ fn is_closed(
     }
 }
 
-/// Whether a solver closes a grid as the oracle does.
+/// Whether a solver closes a grid by lines as the oracle does.
+fn closes_lines_alike(
+    alloc: Global,
+    puzzle: &Puzzle,
+    plain: &PlainPuzzle,
+    solver: &mut Solver,
+    cells: &[Cell],
+) -> Result<bool, Fail>
+    requires { solver.old ≡ puzzle.now }
+    ensures { solver.new ≡ puzzle.now }
+{
+    let mut grid = grid_of(alloc, puzzle.width(), puzzle.height(), cells)?;
+    let alive = solver.close_lines(&mut grid);
+    let wanted = plain.closure(alloc, cells)?;
+    Ok(is_closed(alloc, alive, &grid, &wanted)?)
+}
+
+/// Whether a solver closes a grid under trials as the oracle does.
+fn closes_trials_alike(
+    alloc: Global,
+    puzzle: &Puzzle,
+    plain: &PlainPuzzle,
+    solver: &mut Solver,
+    cells: &[Cell],
+) -> Result<bool, Fail>
+    requires { solver.old ≡ puzzle.now }
+    ensures { solver.new ≡ puzzle.now }
+{
+    let mut grid = grid_of(alloc, puzzle.width(), puzzle.height(), cells)?;
+    let alive = solver.close_trials(&mut grid);
+    let wanted = plain.trials(alloc, cells)?;
+    Ok(is_closed(alloc, alive, &grid, &wanted)?)
+}
+
+/// Whether a solver closes a grid as the oracle does, by lines and under trials.
 fn closes_alike(
     alloc: Global,
     puzzle: &Puzzle,
@@ -36,13 +70,9 @@ fn closes_alike(
     requires { solver.old ≡ puzzle.now }
     ensures { solver.new ≡ puzzle.now }
 {
-    let mut lined = grid_of(alloc, puzzle.width(), puzzle.height(), cells)?;
-    let mut tried = grid_of(alloc, puzzle.width(), puzzle.height(), cells)?;
-    let by_lines = solver.close_lines(&mut lined);
-    let by_trials = solver.close_trials(&mut tried);
-    let is_lined = is_closed(alloc, by_lines, &lined, &plain.closure(alloc, cells)?)?;
-    let is_tried = is_closed(alloc, by_trials, &tried, &plain.trials(alloc, cells)?)?;
-    Ok(is_lined && is_tried)
+    let by_lines = closes_lines_alike(alloc, puzzle, plain, solver, cells)?;
+    let by_trials = closes_trials_alike(alloc, puzzle, plain, solver, cells)?;
+    Ok(by_lines && by_trials)
 }
 
 /// Whether the grid of which nothing is known is closed by lines as the oracle does, without a solver.
@@ -52,10 +82,10 @@ fn line_grid_is_alike(
     plain: &PlainPuzzle,
     unknown: &[Cell],
 ) -> Result<bool, Fail> {
-    match (line_grid(alloc, puzzle)?, plain.closure(alloc, unknown)?) {
-        (Some(grid), Some(cells)) => Ok(cells_of(alloc, &grid)? == cells),
-        (None, None) => Ok(true),
-        _ => Ok(false),
+    let wanted = plain.closure(alloc, unknown)?;
+    match line_grid(alloc, puzzle)? {
+        Some(grid) => Ok(is_closed(alloc, true, &grid, &wanted)?),
+        None => Ok(wanted.is_none()),
     }
 }
 
@@ -71,15 +101,19 @@ fn are_closed_alike(alloc: Global, puzzle: &Puzzle, cells: &[Cell]) -> Result<bo
     )
 }
 
+fn drawn_cell(number: u64) -> Cell {
+    match number % 10 {
+        0..2 => Cell::Filled,
+        2..4 => Cell::Blank,
+        _ => Cell::Unknown,
+    }
+}
+
 /// Cells of which about six of ten are unknown.
 fn drawn_cells(alloc: Global, count: usize, draws: &mut Draws) -> Result<Cells, AllocError> {
     let mut cells = Vec::new(alloc);
     for _ in 0..count {
-        cells.push(match draws.draw() % 10 {
-            0..2 => Cell::Filled,
-            2..4 => Cell::Blank,
-            _ => Cell::Unknown,
-        })?;
+        cells.push(drawn_cell(draws.draw()))?;
     }
     Ok(cells)
 }
@@ -103,6 +137,17 @@ fn small_puzzles_are_closed_alike(rt: HostRuntime) -> Result<(), Fail> {
     Ok(())
 }
 
+/// Whether grids of the puzzle with the clues of two pictures, unknown and with these cells, are closed alike.
+fn pictures_are_closed_alike(
+    alloc: Global,
+    rows: &Picture,
+    columns: &Picture,
+    cells: &[Cell],
+) -> Result<bool, Fail> {
+    let puzzle = drawn_puzzle(alloc, rows, columns)?;
+    are_closed_alike(alloc, &puzzle, cells)
+}
+
 #[test]
 fn drawn_puzzles_are_closed_alike(rt: HostRuntime) -> Result<(), Fail> {
     let alloc = rt.alloc();
@@ -111,10 +156,14 @@ fn drawn_puzzles_are_closed_alike(rt: HostRuntime) -> Result<(), Fail> {
         let picture = Picture::drawn(alloc, &mut draws)?;
         let other = picture.with_drawn_row(&mut draws)?;
         let cells = picture.partly_known(alloc, &mut draws)?;
-        let puzzle = drawn_puzzle(alloc, &picture, &picture)?;
-        let odd = drawn_puzzle(alloc, &picture, &other)?;
-        assert!(rt; are_closed_alike(alloc, &puzzle, &cells)?, "{round}");
-        assert!(rt; are_closed_alike(alloc, &odd, &cells)?, "{round}, changed");
+        assert!(rt;
+            pictures_are_closed_alike(alloc, &picture, &picture, &cells)?,
+            "{round}"
+        );
+        assert!(rt;
+            pictures_are_closed_alike(alloc, &picture, &other, &cells)?,
+            "{round}, changed"
+        );
     }
     Ok(())
 }

@@ -20,16 +20,38 @@ fn is_grid(alloc: Global, grid: &Grid, cells: &Cells) -> Result<bool, AllocError
     Ok(cells_of(alloc, grid)? == *cells)
 }
 
+/// Whether a grid is the only one of some.
+fn is_only(alloc: Global, grid: &Grid, found: &[&Cells]) -> Result<bool, AllocError> {
+    if found.len() != 1 {
+        return Ok(false);
+    }
+    is_grid(alloc, grid, found[0])
+}
+
+/// Whether two grids are these, in this order.
+fn are_two(
+    alloc: Global,
+    first: &Grid,
+    second: &Grid,
+    found: &[&Cells],
+) -> Result<bool, AllocError> {
+    if found.len() != 2 {
+        return Ok(false);
+    }
+    Ok(is_grid(alloc, first, found[0])? && is_grid(alloc, second, found[1])?)
+}
+
 /// Whether a verdict is that of a search with this course.
 fn is_verdict(alloc: Global, verdict: &Verdict, course: &Course) -> Result<bool, AllocError> {
-    match (verdict, course.is_cut, course.found.as_slice()) {
-        (Verdict::Nothing, false, []) | (Verdict::Unsettled(None), true, []) => Ok(true),
-        (Verdict::One(grid), false, [only]) => is_grid(alloc, grid, only),
-        (Verdict::Unsettled(Some(grid)), true, [only]) => is_grid(alloc, grid, only),
-        (Verdict::Several(first, second), false, [one, other]) => {
-            Ok(is_grid(alloc, first, one)? && is_grid(alloc, second, other)?)
-        }
-        _ => Ok(false),
+    let found = course.found.as_slice();
+    match verdict {
+        Verdict::Nothing => Ok(!course.is_cut && found.is_empty()),
+        Verdict::One(grid) => Ok(!course.is_cut && is_only(alloc, grid, found)?),
+        Verdict::Several(first, second) => Ok(
+            !course.is_cut && are_two(alloc, first, second, found)?,
+        ),
+        Verdict::Unsettled(None) => Ok(course.is_cut && found.is_empty()),
+        Verdict::Unsettled(Some(grid)) => Ok(course.is_cut && is_only(alloc, grid, found)?),
     }
 }
 
@@ -117,6 +139,12 @@ fn small_puzzles_are_reported_alike(rt: HostRuntime) -> Result<(), Fail> {
     Ok(())
 }
 
+/// The same of the puzzle with the clues of two pictures.
+fn pictures_are_alike(alloc: Global, rows: &Picture, columns: &Picture) -> Result<bool, Fail> {
+    let puzzle = drawn_puzzle(alloc, rows, columns)?;
+    reports_are_alike(alloc, &puzzle)
+}
+
 #[test]
 fn drawn_puzzles_are_reported_alike(rt: HostRuntime) -> Result<(), Fail> {
     let alloc = rt.alloc();
@@ -124,10 +152,11 @@ fn drawn_puzzles_are_reported_alike(rt: HostRuntime) -> Result<(), Fail> {
     for round in 0..1_000u32 {
         let picture = Picture::drawn(alloc, &mut draws)?;
         let other = picture.with_drawn_row(&mut draws)?;
-        let puzzle = drawn_puzzle(alloc, &picture, &picture)?;
-        let odd = drawn_puzzle(alloc, &picture, &other)?;
-        assert!(rt; reports_are_alike(alloc, &puzzle)?, "{round}");
-        assert!(rt; reports_are_alike(alloc, &odd)?, "{round}, changed");
+        assert!(rt; pictures_are_alike(alloc, &picture, &picture)?, "{round}");
+        assert!(rt;
+            pictures_are_alike(alloc, &picture, &other)?,
+            "{round}, changed"
+        );
     }
     Ok(())
 }
@@ -147,17 +176,25 @@ fn solutions<'g>(
     Ok(solutions)
 }
 
+/// Whether two grids are different ones of these.
+fn are_among(
+    alloc: Global,
+    first: &Grid,
+    second: &Grid,
+    solutions: &[&Cells],
+) -> Result<bool, AllocError> {
+    let first = cells_of(alloc, first)?;
+    let second = cells_of(alloc, second)?;
+    Ok(first != second && solutions.contains(&&first) && solutions.contains(&&second))
+}
+
 /// Whether a verdict holds if these are all the full grids that meet the puzzle.
 fn holds(alloc: Global, verdict: &Verdict, solutions: &[&Cells]) -> Result<bool, AllocError> {
-    match (verdict, solutions) {
-        (Verdict::Nothing, []) => Ok(true),
-        (Verdict::One(grid), [only]) => is_grid(alloc, grid, only),
-        (Verdict::Several(first, second), [_, _, ..]) => {
-            let first = cells_of(alloc, first)?;
-            let second = cells_of(alloc, second)?;
-            Ok(first != second && solutions.contains(&&first) && solutions.contains(&&second))
-        }
-        _ => Ok(false),
+    match verdict {
+        Verdict::Nothing => Ok(solutions.is_empty()),
+        Verdict::One(grid) => is_only(alloc, grid, solutions),
+        Verdict::Several(first, second) => are_among(alloc, first, second, solutions),
+        Verdict::Unsettled(_) => Ok(false),
     }
 }
 
@@ -187,6 +224,17 @@ fn verdicts_on_small_puzzles_hold_of_all_grids(rt: HostRuntime) -> Result<(), Fa
     Ok(())
 }
 
+/// The same of the puzzle with the clues of two pictures.
+fn drawn_verdict_holds(
+    alloc: Global,
+    rows: &Picture,
+    columns: &Picture,
+    full_grids: &[Cells],
+) -> Result<bool, Fail> {
+    let puzzle = drawn_puzzle(alloc, rows, columns)?;
+    verdict_holds(alloc, &puzzle, full_grids)
+}
+
 #[test]
 fn verdicts_on_drawn_puzzles_hold_of_all_grids(rt: HostRuntime) -> Result<(), Fail> {
     let alloc = rt.alloc();
@@ -195,11 +243,12 @@ fn verdicts_on_drawn_puzzles_hold_of_all_grids(rt: HostRuntime) -> Result<(), Fa
     for round in 0..50u32 {
         let picture = Picture::drawn_of(alloc, 4, 4, &mut draws)?;
         let other = picture.with_drawn_row(&mut draws)?;
-        let puzzle = drawn_puzzle(alloc, &picture, &picture)?;
-        let odd = drawn_puzzle(alloc, &picture, &other)?;
-        assert!(rt; verdict_holds(alloc, &puzzle, &full_grids)?, "{round}");
         assert!(rt;
-            verdict_holds(alloc, &odd, &full_grids)?,
+            drawn_verdict_holds(alloc, &picture, &picture, &full_grids)?,
+            "{round}"
+        );
+        assert!(rt;
+            drawn_verdict_holds(alloc, &picture, &other, &full_grids)?,
             "{round}, changed"
         );
     }
@@ -214,10 +263,14 @@ fn guesses_are_alike(alloc: Global, width: u16, height: u16, cells: &[Cell]) -> 
     let grid = grid_of(alloc, width, height, cells)?;
     let (columns, rows) = (usize::from(width), usize::from(height));
     for pick in PICKS {
-        let guess = next_guess(&grid, pick);
-        let place = guess.map(|(x, y)| usize::from(y)
-            .wrapping_mul(columns)
-            .wrapping_add(usize::from(x)));
+        let place = match next_guess(&grid, pick) {
+            Some((x, y)) => Some(
+                usize::from(y)
+                    .wrapping_mul(columns)
+                    .wrapping_add(usize::from(x)),
+            ),
+            None => None,
+        };
         if place != picked(alloc, pick, columns, rows, cells)? {
             return Ok(false);
         }
@@ -225,16 +278,20 @@ fn guesses_are_alike(alloc: Global, width: u16, height: u16, cells: &[Cell]) -> 
     Ok(true)
 }
 
+fn cell_of_digit(digit: u32) -> Cell {
+    match digit {
+        0 => Cell::Unknown,
+        1 => Cell::Filled,
+        _ => Cell::Blank,
+    }
+}
+
 /// Cells that are the digits of a number, base 3.
 fn numbered_cells(alloc: Global, count: usize, number: u32) -> Result<Cells, AllocError> {
     let mut cells = Vec::new(alloc);
     let mut rest = number;
     for _ in 0..count {
-        cells.push(match rest % 3 {
-            0 => Cell::Unknown,
-            1 => Cell::Filled,
-            _ => Cell::Blank,
-        })?;
+        cells.push(cell_of_digit(rest % 3))?;
         rest /= 3;
     }
     Ok(cells)

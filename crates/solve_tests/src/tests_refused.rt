@@ -45,7 +45,8 @@ fn solvers_are_made_or_refused(rt: HostRuntime) -> Result<(), Fail> {
 
 fn told_of_grid(answer: Result<Option<Grid>, NoMemory>, wanted: u32) -> Told {
     match answer {
-        Ok(grid) => told_if(grid.as_ref().map(|grid| grid.known()) == Some(wanted)),
+        Ok(Some(grid)) => told_if(grid.known() == wanted),
+        Ok(None) => Told::Other,
         Err(NoMemory) => Told::NoMemory,
     }
 }
@@ -58,21 +59,29 @@ fn line_grids_are_made_or_refused(rt: HostRuntime) -> Result<(), Fail> {
     Ok(())
 }
 
-/// Whether a report on the puzzle with the clue 1 in each of three rows and columns is the one with this
-/// limit on guesses.
-fn told_of_report(answer: Result<Findings, NoMemory>, puzzle: &Puzzle, guesses: u32) -> Told {
-    let Ok(findings) = answer else {
-        return Told::NoMemory;
-    };
-    let is_found = match &findings.verdict {
+/// Whether a verdict on the puzzle with the clue 1 in each of three rows and columns is that with this limit on
+/// guesses.
+fn is_found(verdict: &Verdict, puzzle: &Puzzle, guesses: u32) -> bool {
+    match verdict {
         Verdict::Unsettled(None) => guesses == 0,
         Verdict::Unsettled(Some(grid)) => guesses == 2 && puzzle.solved_by(grid),
         Verdict::Several(first, second) => {
             guesses == 3 && puzzle.solved_by(first) && puzzle.solved_by(second)
         }
         _ => false,
-    };
-    told_if(is_found && findings.spent == guesses && findings.grade == Grade::Search)
+    }
+}
+
+/// Whether a report on it is the one with this limit.
+fn told_of_report(answer: Result<Findings, NoMemory>, puzzle: &Puzzle, guesses: u32) -> Told {
+    match answer {
+        Ok(findings) => told_if(
+            is_found(&findings.verdict, puzzle, guesses)
+                && findings.spent == guesses
+                && findings.grade == Grade::Search,
+        ),
+        Err(NoMemory) => Told::NoMemory,
+    }
 }
 
 /// How many growths of a report with this limit on guesses are refused.

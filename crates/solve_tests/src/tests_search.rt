@@ -7,11 +7,20 @@ use std::alloc::{AllocError, Global};
 use std::process::Abort;
 use std::test::Fail;
 
-// The puzzle with the clue 1 for each of three rows and three columns: its solutions are the six
-// permutations.
-fn permutations(alloc: Global) -> Option<Puzzle> {
-    let one: &[u16] = &[1];
-    puzzle_of(alloc, &[one, one, one], &[one, one, one])
+const NONE: &[u16] = &[];
+
+const ONE: &[u16] = &[1];
+
+const PAIR: &[u16] = &[1, 1];
+
+const TRIPLE: &[u16] = &[1, 1, 1];
+
+fn character_of(cell: Cell) -> char {
+    match cell {
+        Cell::Filled => '#',
+        Cell::Blank => '.',
+        Cell::Unknown => '?',
+    }
 }
 
 // Writes a grid row by row, `#` for a filled cell, `.` for a blank one and `?` for an unknown one.
@@ -19,14 +28,7 @@ fn push_grid(text: &mut String, grid: &Grid) -> Result<(), AllocError> {
     for y in 0..grid.height() {
         text.push(' ')?;
         for x in 0..grid.width() {
-            let cell = grid.get(x, y);
-            text.push(if cell.is_filled() {
-                '#'
-            } else if cell.is_known() {
-                '.'
-            } else {
-                '?'
-            })?;
+            text.push(character_of(grid.get(x, y)))?;
         }
     }
     Ok(())
@@ -53,19 +55,33 @@ fn push_verdict(text: &mut String, verdict: &Verdict) -> Result<(), AllocError> 
     Ok(())
 }
 
+fn push_grade(text: &mut String, grade: &Grade) -> Result<(), AllocError> {
+    match grade {
+        Grade::Lines => text.push_str("lines")?,
+        Grade::Trials => text.push_str("trials")?,
+        Grade::Search => text.push_str("search")?,
+    }
+    Ok(())
+}
+
 // The grade, the two counts, the guesses, the verdict and its grids.
 fn text_of(alloc: Global, findings: &Findings) -> Result<String, AllocError> {
-    let grade = match findings.grade {
-        Grade::Lines => "lines",
-        Grade::Trials => "trials",
-        Grade::Search => "search",
-    };
-    let mut text = format!(in alloc;
-        "{grade} {} {} {}",
+    let counts = format!(in alloc;
+        " {} {} {}",
         findings.line_known, findings.trial_known, findings.spent
     )?;
+    let mut text = String::new(alloc);
+    push_grade(&mut text, &findings.grade)?;
+    text.push_str(&counts)?;
     push_verdict(&mut text, &findings.verdict)?;
     Ok(text)
+}
+
+fn is_told(alloc: Global, findings: &Findings, expected: &str) -> bool {
+    match text_of(alloc, findings) {
+        Ok(text) => text.as_str() == expected,
+        Err(_) => false,
+    }
 }
 
 fn assert_report_by(
@@ -77,120 +93,81 @@ fn assert_report_by(
 ) {
     let alloc = rt.alloc();
     match report(alloc, puzzle, guesses, pick) {
-        Ok(findings) => match text_of(alloc, &findings) {
-            Ok(text) => assert_eq!(rt; text.as_str(), expected),
-            Err(_) => assert!(rt; false),
-        },
+        Ok(findings) => assert!(rt; is_told(alloc, &findings, expected)),
         Err(_) => assert!(rt; false),
     }
 }
 
 // Both rules give the report.
 fn assert_report(rt: &(impl Abort + AllocGlobal), puzzle: &Puzzle, guesses: u32, expected: &str) {
-    for pick in [Pick::First, Pick::Most] {
-        assert_report_by(rt, puzzle, guesses, pick, expected);
+    assert_report_by(rt, puzzle, guesses, Pick::First, expected);
+    assert_report_by(rt, puzzle, guesses, Pick::Most, expected);
+}
+
+// Both rules give the reports on the puzzle with these clues of its rows and of its columns, each with a limit
+// on guesses.
+fn assert_reports(
+    rt: &(impl Abort + AllocGlobal),
+    rows: &[&[u16]],
+    columns: &[&[u16]],
+    reports: &[(u32, &str)],
+) -> Result<(), Fail> {
+    let puzzle = puzzle_of(rt.alloc(), rows, columns).ok_or("puzzle")?;
+    for (guesses, expected) in reports {
+        assert_report(rt, &puzzle, *guesses, expected);
     }
+    Ok(())
 }
 
 #[test]
 fn switch_is_cut_short_or_has_two_solutions(rt: HostRuntime) -> Result<(), Fail> {
-    let one: &[u16] = &[1];
-    let Some(puzzle) = puzzle_of(rt.alloc(), &[one, one], &[one, one]) else {
-        assert!(rt; false);
-        return Ok(());
-    };
-    for (guesses, expected) in [
+    let reports = [
         (0, "search 0 0 0 unsettled"),
         (1, "search 0 0 1 unsettled #. .#"),
         (2, "search 0 0 2 several #. .# .# #."),
         (1000, "search 0 0 2 several #. .# .# #."),
-    ] {
-        assert_report(&rt, &puzzle, guesses, expected);
-    }
-    Ok(())
+    ];
+    assert_reports(&rt, &[ONE, ONE], &[ONE, ONE], &reports)
 }
 
+// The solutions are the six permutations.
 #[test]
 fn permutations_are_cut_short_or_have_two_solutions(rt: HostRuntime) -> Result<(), Fail> {
-    let Some(puzzle) = permutations(rt.alloc()) else {
-        assert!(rt; false);
-        return Ok(());
-    };
-    for (guesses, expected) in [
+    let reports = [
         (1, "search 0 0 1 unsettled"),
         (2, "search 0 0 2 unsettled #.. .#. ..#"),
         (3, "search 0 0 3 several #.. .#. ..# #.. ..# .#."),
-    ] {
-        assert_report(&rt, &puzzle, guesses, expected);
-    }
-    Ok(())
+    ];
+    assert_reports(&rt, &[ONE, ONE, ONE], &[ONE, ONE, ONE], &reports)
 }
 
 #[test]
 fn trials_settle_two_puzzles(rt: HostRuntime) -> Result<(), Fail> {
-    let one: &[u16] = &[1];
-    let two: &[u16] = &[2];
-    let three: &[u16] = &[3];
-    let pair: &[u16] = &[1, 1];
-    let triple: &[u16] = &[1, 1, 1];
-    let Some(alive) = puzzle_of(rt.alloc(), &[two, pair], &[one, one, one, one]) else {
-        assert!(rt; false);
-        return Ok(());
-    };
-    assert_report(&rt, &alive, 0, "trials 0 8 0 one .##. #..#");
-    let Some(dead) = puzzle_of(
-        rt.alloc(),
-        &[triple, three],
-        &[one, one, one, one, one, one],
-    ) else {
-        assert!(rt; false);
-        return Ok(());
-    };
-    assert_report(&rt, &dead, 1000, "trials 0 0 0 none");
-    Ok(())
+    let alive = [(0, "trials 0 8 0 one .##. #..#")];
+    assert_reports(&rt, &[&[2], PAIR], &[ONE, ONE, ONE, ONE], &alive)?;
+    let dead = [(1000, "trials 0 0 0 none")];
+    assert_reports(&rt, &[TRIPLE, &[3]], &[ONE, ONE, ONE, ONE, ONE, ONE], &dead)
 }
 
 // A row that fills its cell, and a column that blanks it.
 #[test]
 fn lines_settle_two_puzzles(rt: HostRuntime) -> Result<(), Fail> {
-    let none: &[u16] = &[];
-    let one: &[u16] = &[1];
-    let Some(empty) = puzzle_of(rt.alloc(), &[none], &[none]) else {
-        assert!(rt; false);
-        return Ok(());
-    };
-    assert_report(&rt, &empty, 0, "lines 1 1 0 one .");
-    let Some(clash) = puzzle_of(rt.alloc(), &[one], &[none]) else {
-        assert!(rt; false);
-        return Ok(());
-    };
-    assert_report(&rt, &clash, 0, "lines 0 0 0 none");
-    Ok(())
+    assert_reports(&rt, &[NONE], &[NONE], &[(0, "lines 1 1 0 one .")])?;
+    assert_reports(&rt, &[ONE], &[NONE], &[(0, "lines 0 0 0 none")])
 }
 
 // The second row is blank, and so each column fills its first cell.
 #[test]
 fn lines_settle_each_cell(rt: HostRuntime) -> Result<(), Fail> {
-    let none: &[u16] = &[];
-    let one: &[u16] = &[1];
-    let Some(puzzle) = puzzle_of(rt.alloc(), &[&[2], none], &[one, one]) else {
-        assert!(rt; false);
-        return Ok(());
-    };
-    assert_report(&rt, &puzzle, 0, "lines 4 4 0 one ## ..");
-    Ok(())
+    let reports = [(0, "lines 4 4 0 one ## ..")];
+    assert_reports(&rt, &[&[2], NONE], &[ONE, ONE], &reports)
 }
 
 // By lines the last row is blank, and no more.
 #[test]
 fn trials_settle_the_cells_that_lines_leave(rt: HostRuntime) -> Result<(), Fail> {
-    let one: &[u16] = &[1];
-    let Some(puzzle) = puzzle_of(rt.alloc(), &[&[2], &[1, 1], &[]], &[one, one, one, one]) else {
-        assert!(rt; false);
-        return Ok(());
-    };
-    assert_report(&rt, &puzzle, 0, "trials 4 12 0 one .##. #..# ....");
-    Ok(())
+    let reports = [(0, "trials 4 12 0 one .##. #..# ....")];
+    assert_reports(&rt, &[&[2], PAIR, NONE], &[ONE, ONE, ONE, ONE], &reports)
 }
 
 // By lines the last column fills its middle cell, and so the cell left of it is blank. If a trial fills one
@@ -198,30 +175,21 @@ fn trials_settle_the_cells_that_lines_leave(rt: HostRuntime) -> Result<(), Fail>
 // single 1. The guesses are the third cell of the first row, and then the first cell of the second row.
 #[test]
 fn a_search_goes_on_from_lines_and_trials(rt: HostRuntime) -> Result<(), Fail> {
-    let one: &[u16] = &[1];
-    let pair: &[u16] = &[1, 1];
-    let Some(puzzle) = puzzle_of(rt.alloc(), &[one, pair, pair], &[one, one, one, &[2]]) else {
-        assert!(rt; false);
-        return Ok(());
-    };
-    for (guesses, expected) in [
+    let reports = [
         (0, "search 2 4 0 unsettled"),
         (1, "search 2 4 1 unsettled"),
         (2, "search 2 4 2 unsettled ..#. #..# .#.#"),
         (3, "search 2 4 3 several ..#. #..# .#.# ..#. .#.# #..#"),
-    ] {
-        assert_report(&rt, &puzzle, guesses, expected);
-    }
-    Ok(())
+    ];
+    assert_reports(&rt, &[ONE, PAIR, PAIR], &[ONE, ONE, ONE, &[2]], &reports)
 }
 
 // One solution, though no line or trial settles a cell. By the first unknown cell the last guess finds it,
 // and by the most known neighbours it is found before.
 #[test]
 fn a_limit_exactly_met_leaves_one_solution(rt: HostRuntime) -> Result<(), Fail> {
-    let triple: &[u16] = &[1, 1, 1];
-    let rows: [&[u16]; 7] = [&[1, 1], &[2, 1], &[1, 2], &[2, 1], triple, triple, &[1, 1]];
-    let columns: [&[u16]; 7] = [&[2], &[2, 1], triple, &[2, 1], triple, &[1, 2], &[2]];
+    let rows: [&[u16]; 7] = [PAIR, &[2, 1], &[1, 2], &[2, 1], TRIPLE, TRIPLE, PAIR];
+    let columns: [&[u16]; 7] = [&[2], &[2, 1], TRIPLE, &[2, 1], TRIPLE, &[1, 2], &[2]];
     let puzzle = puzzle_of(rt.alloc(), &rows, &columns).ok_or("puzzle")?;
     for (guesses, pick, expected) in [
         (35, Pick::First, "search 0 0 35 unsettled"),
@@ -252,20 +220,14 @@ fn a_limit_exactly_met_leaves_one_solution(rt: HostRuntime) -> Result<(), Fail> 
 // the first row's last cell: 3 + 1 + 3 + 1 + 2 guesses.
 #[test]
 fn a_limit_exactly_met_leaves_no_solution(rt: HostRuntime) -> Result<(), Fail> {
-    let one: &[u16] = &[1];
-    let puzzle = puzzle_of(rt.alloc(), &[one, one, one, one], &[one, one, one]).ok_or("puzzle")?;
-    assert_report(&rt, &puzzle, 9, "search 0 0 9 unsettled");
-    assert_report(&rt, &puzzle, 10, "search 0 0 10 none");
-    Ok(())
+    let reports = [(9, "search 0 0 9 unsettled"), (10, "search 0 0 10 none")];
+    assert_reports(&rt, &[ONE, ONE, ONE, ONE], &[ONE, ONE, ONE], &reports)
 }
 
 // Two switches, one in the corner above and one a cell above and left of the corner below: the rows and
 // columns between them are settled by lines.
 fn twin(alloc: Global) -> Option<Puzzle> {
-    let none: &[u16] = &[];
-    let one: &[u16] = &[1];
-    let five: &[u16] = &[5];
-    let rows: [&[u16]; 8] = [one, one, none, five, five, none, one, one];
+    let rows: [&[u16]; 8] = [ONE, ONE, NONE, &[5], &[5], NONE, ONE, ONE];
     let columns: [&[u16]; 5] = [&[1, 2], &[1, 2], &[2, 1], &[2], &[2, 1]];
     puzzle_of(alloc, &rows, &columns)
 }
@@ -275,10 +237,7 @@ fn twin(alloc: Global) -> Option<Puzzle> {
 // cells beside it, the first of the lower one.
 #[test]
 fn rules_guess_different_cells(rt: HostRuntime) -> Result<(), Fail> {
-    let Some(puzzle) = twin(rt.alloc()) else {
-        assert!(rt; false);
-        return Ok(());
-    };
+    let puzzle = twin(rt.alloc()).ok_or("puzzle")?;
     let cut = "search 32 32 2 unsettled #.... .#... ..... ##### ##### ..... ..#.. ....#";
     let lower =
         "search 32 32 3 several #.... .#... ..... ##### ##### ..... ..#.. ....# #.... .#... ..... ##### ##### ..... ....# ..#..";
