@@ -5,12 +5,20 @@ ghost use Rattle.lane_core.specs.Ends.{AreOneLane};
 
 use grid_core::{Clue, NoMemory, Puzzle, Texts};
 use lane_core::*;
-use solve_core::{Grade, Pick, Verdict};
+use solve_core::{Findings, Grade, Pick, Verdict};
 use std::alloc::Global;
 use std::collections::VecDeque;
 use std::process::Abort;
 use std::sync::atomic::{AtomicU32, Ordering};
 use std::test::Fail;
+
+fn clues(alloc: Global, count: u16, numbers: &[u16]) -> Result<Vec<Clue>, Fail> {
+    let mut clues = Vec::new(alloc);
+    for _ in 0..count {
+        clues.push(Clue::from_numbers(alloc, numbers)?)?;
+    }
+    Ok(clues)
+}
 
 /// The puzzle with one clue for all rows and one for all columns.
 pub(crate) fn puzzle_of(
@@ -20,14 +28,8 @@ pub(crate) fn puzzle_of(
     row: &[u16],
     column: &[u16],
 ) -> Result<Puzzle, Fail> {
-    let mut rows = Vec::new(alloc);
-    for _ in 0..height {
-        rows.push(Clue::from_numbers(alloc, row)?)?;
-    }
-    let mut columns = Vec::new(alloc);
-    for _ in 0..width {
-        columns.push(Clue::from_numbers(alloc, column)?)?;
-    }
+    let rows = clues(alloc, height, row)?;
+    let columns = clues(alloc, width, column)?;
     Ok(Puzzle::new(width, height, rows, columns, Texts::none(), None)?)
 }
 
@@ -43,11 +45,16 @@ pub(crate) fn job(alloc: Global, number: u32) -> Result<Job, Fail> {
     Ok(Job::new(number, puzzle, 1000, Pick::First))
 }
 
+fn push_job(jobs: &mut VecDeque<Job, Global>, job: Job) -> Result<(), Fail> {
+    jobs.push_back(job).ok().ok_or("memory")?;
+    Ok(())
+}
+
 /// Jobs with the numbers from `first` on, `count` of them, in the order of their numbers.
 pub(crate) fn jobs(alloc: Global, first: u32, count: u32) -> Result<VecDeque<Job, Global>, Fail> {
     let mut jobs = VecDeque::new(alloc);
     for index in 0..count {
-        jobs.push_back(job(alloc, first.wrapping_add(index))?)?;
+        push_job(&mut jobs, job(alloc, first.wrapping_add(index))?)?;
     }
     Ok(jobs)
 }
@@ -87,7 +94,7 @@ pub(crate) fn jobs_of(
     let mut jobs = VecDeque::new(alloc);
     for (call, _) in script {
         if let Call::Send(number) = call {
-            jobs.push_back(job(alloc, *number)?)?;
+            push_job(&mut jobs, job(alloc, *number)?)?;
         }
     }
     Ok(jobs)
@@ -154,6 +161,18 @@ impl Both {
         Ok(Both { front, back })
     }
 
+    pub(crate) fn step(&mut self, alloc: Global) -> Step {
+        self.back.step(alloc, &OpenGate)
+    }
+
+    fn dealt(
+        &mut self,
+        waiting: &mut VecDeque<Job, Global>,
+        got: &mut Vec<Answer>,
+    ) -> (bool, usize, usize) {
+        dealt(&mut self.front, waiting, got)
+    }
+
     pub(crate) fn settle(self) -> Result<(), (SettleFault, Both)> {
         let Both { front, back } = self;
         match settle(front, back) {
@@ -172,15 +191,21 @@ impl Called for Both {
             },
             Call::Finish => finished(self.front.finish()),
             Call::Take => taken(self.front.take()),
-            Call::Work => Reply::Stepped(self.back.step(alloc, &OpenGate)),
+            Call::Work => Reply::Stepped(self.step(alloc)),
         }
     }
+}
+
+/// Has a batch lane's worker work.
+fn worked(alloc: Global, lane: &mut BatchLane) -> Reply {
+    lane.work(alloc, &OpenGate);
+    Reply::Worked
 }
 
 /// A lane of batches.
 #[derive(Drop)]
 pub(crate) struct Batch {
-    lane: BatchLane,
+    pub(crate) lane: BatchLane,
 }
 
 impl Batch {
@@ -191,6 +216,14 @@ impl Batch {
         Ok(Batch {
             lane: BatchLane::new(alloc, capacity)?,
         })
+    }
+
+    pub(crate) fn dealt(
+        &mut self,
+        waiting: &mut VecDeque<Job, Global>,
+        got: &mut Vec<Answer>,
+    ) -> (bool, usize, usize) {
+        dealt(&mut self.lane, waiting, got)
     }
 
     pub(crate) fn close(self) -> Result<(), (SettleFault, Batch)> {
@@ -211,28 +244,35 @@ impl Called for Batch {
             },
             Call::Finish => finished(self.lane.finish()),
             Call::Take => taken(self.lane.take()),
-            Call::Work => {
-                self.lane.work(alloc, &OpenGate);
-                Reply::Worked
-            }
+            Call::Work => worked(alloc, &mut self.lane),
         }
     }
+}
+
+/// What comes of a turn at a lane: whether something moved, how many jobs then wait, and how many answers are
+/// there.
+fn dealt<L: Lane>(
+    lane: &mut L,
+    waiting: &mut VecDeque<Job, Global>,
+    got: &mut Vec<Answer>,
+) -> (bool, usize, usize)
+    ensures { L.same_lane lane.old lane.new }
+{
+    let moved = deal(lane, waiting, got);
+    (moved, waiting.len(), got.len())
 }
 
 #[test]
 fn dealing_with_little_room(rt: HostRuntime) -> Result<(), Fail> {
     let alloc = rt.alloc();
     let mut waiting = jobs(alloc, 1, 2)?;
-    let mut lane = BatchLane::new(alloc, 2).ok().ok_or("memory")?;
+    let mut lane = Batch::open(alloc, 2).ok().ok_or("memory")?;
     let mut got = Vec::with_capacity(alloc, 1)?;
-    assert!(rt; deal(&mut lane, &mut waiting, &mut got));
-    lane.work(alloc, &OpenGate);
-    assert!(rt; deal(&mut lane, &mut waiting, &mut got));
-    assert_eq!(rt; (waiting.len(), got.len()), (0, 1));
-    assert!(rt; !deal(&mut lane, &mut waiting, &mut got));
-    assert_eq!(rt; got.len(), 1);
-    let left = lane.take().ok_or("no answer")?;
-    assert_eq!(rt; left.number(), 2);
+    assert_eq!(rt; lane.dealt(&mut waiting, &mut got), (true, 0, 0));
+    worked(alloc, &mut lane.lane);
+    assert_eq!(rt; lane.dealt(&mut waiting, &mut got), (true, 0, 1));
+    assert_eq!(rt; lane.dealt(&mut waiting, &mut got), (false, 0, 1));
+    assert_eq!(rt; taken(lane.lane.take()), Reply::Answered(2));
     Ok(())
 }
 
@@ -242,18 +282,28 @@ fn dealing_at_a_front(rt: HostRuntime) -> Result<(), Fail> {
     let mut waiting = jobs(alloc, 1, 2)?;
     let mut lane = Both::open(alloc, 1).ok().ok_or("memory")?;
     let mut got = Vec::with_capacity(alloc, 2)?;
-    assert!(rt; deal(&mut lane.front, &mut waiting, &mut got));
-    assert!(rt; !deal(&mut lane.front, &mut waiting, &mut got));
-    assert_eq!(rt; (waiting.len(), got.len()), (1, 0));
-    assert_eq!(rt; lane.back.step(alloc, &OpenGate), Step::Graded);
-    assert!(rt; deal(&mut lane.front, &mut waiting, &mut got));
-    assert_eq!(rt; (waiting.len(), got.len()), (0, 1));
-    assert_eq!(rt; lane.back.step(alloc, &OpenGate), Step::Graded);
-    assert!(rt; deal(&mut lane.front, &mut waiting, &mut got));
-    assert_eq!(rt; lane.back.step(alloc, &OpenGate), Step::Done);
-    assert_eq!(rt; got.len(), 2);
+    assert_eq!(rt; lane.dealt(&mut waiting, &mut got), (true, 1, 0));
+    assert_eq!(rt; lane.dealt(&mut waiting, &mut got), (false, 1, 0));
+    assert_eq!(rt; lane.step(alloc), Step::Graded);
+    assert_eq!(rt; lane.dealt(&mut waiting, &mut got), (true, 0, 1));
+    assert_eq!(rt; lane.step(alloc), Step::Graded);
+    assert_eq!(rt; lane.dealt(&mut waiting, &mut got), (true, 0, 2));
+    assert_eq!(rt; lane.step(alloc), Step::Done);
     assert!(rt; lane.settle().is_ok());
     Ok(())
+}
+
+/// Whether lines settle a puzzle of one cell, which is known.
+fn is_one_cell(found: &Findings) -> bool {
+    let is_known = match &found.verdict {
+        Verdict::One(grid) => grid.width() == 1 && grid.height() == 1 && grid.known() == 1,
+        _ => false,
+    };
+    is_known
+        && found.grade == Grade::Lines
+        && found.line_known == 1
+        && found.trial_known == 1
+        && found.spent == 0
 }
 
 #[test]
@@ -262,15 +312,7 @@ fn grades_a_job(rt: HostRuntime) -> Result<(), Fail> {
     let answer = grade(alloc, job(alloc, 9)?);
     assert_eq!(rt; (answer.number(), answer.guesses()), (9, 1000));
     let found = answer.outcome().ok().ok_or("no report")?;
-    let Verdict::One(grid) = &found.verdict else {
-        return Err(Fail::from("not one solution"));
-    };
-    assert_eq!(rt; (grid.width(), grid.height(), grid.known()), (1, 1, 1));
-    assert_eq!(rt; found.grade, Grade::Lines);
-    assert_eq!(rt;
-        (found.line_known, found.trial_known, found.spent),
-        (1, 1, 0)
-    );
+    assert!(rt; is_one_cell(found));
     Ok(())
 }
 
@@ -318,19 +360,35 @@ impl Gate for LastEntry {
     }
 }
 
+/// The ends of a lane of capacity 64.
+pub(crate) fn ends(alloc: Global) -> Result<(LaneFront, LaneBack), Fail> {
+    Ok(open_lane(alloc, 64).ok().ok_or("memory")?)
+}
+
+/// Whether this is the answer to the job 7.
+fn is_seventh(answer: Option<Answer>) -> bool {
+    match answer {
+        Some(answer) => {
+            answer.number() == 7
+                && answer.guesses() == 1000
+                && answer.puzzle().width() == 8
+                && answer.puzzle().height() == 1
+        }
+        None => false,
+    }
+}
+
 #[test]
 fn jobs_enter_the_gate(rt: HostRuntime) -> Result<(), Fail> {
     let alloc = rt.alloc();
     let gate = LastEntry {
         number: AtomicU32::new(0),
     };
-    let (mut front, mut back) = open_lane(alloc, 64).ok().ok_or("memory")?;
-    assert!(rt; front.send(job(alloc, 7)?).is_ok());
+    let (mut front, mut back) = ends(alloc)?;
+    assert_eq!(rt; sent(front.send(job(alloc, 7)?)), Reply::Accepted);
     assert_eq!(rt; back.step(alloc, &gate), Step::Graded);
     assert_eq!(rt; gate.number.load(Ordering::SeqCst), 7);
-    let answer = front.take().ok_or("no answer")?;
-    assert_eq!(rt; (answer.number(), answer.guesses()), (7, 1000));
-    assert_eq!(rt; (answer.puzzle().width(), answer.puzzle().height()), (8, 1));
+    assert!(rt; is_seventh(front.take()));
     Ok(())
 }
 
@@ -361,8 +419,8 @@ fn back_alone(alloc: Global) -> Result<LaneBack, Fail> {
 fn back_without_its_front(rt: HostRuntime) -> Result<(), Fail> {
     let alloc = rt.alloc();
     let mut back = back_alone(alloc)?;
-    assert_eq!(rt; back.step(alloc, &OpenGate), Step::Graded);
-    assert_eq!(rt; back.step(alloc, &OpenGate), Step::Idle);
-    assert_eq!(rt; back.step(alloc, &OpenGate), Step::Idle);
+    for wanted in [Step::Graded, Step::Idle, Step::Idle] {
+        assert_eq!(rt; back.step(alloc, &OpenGate), wanted);
+    }
     Ok(())
 }

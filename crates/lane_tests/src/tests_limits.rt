@@ -1,6 +1,6 @@
 //! Tests of the limits, with their numbers written out.
 
-use crate::tests::{job, jobs, puzzle_of};
+use crate::tests::{Batch, Call, Called, ends, job, jobs, puzzle_of};
 use lane_core::*;
 use solve_core::Pick;
 use std::alloc::Global;
@@ -21,21 +21,19 @@ fn accepted<L: Lane>(lane: &mut L, alloc: Global, count: u32) -> Result<u32, Fai
 fn one_turn_takes_64_answers(rt: HostRuntime) -> Result<(), Fail> {
     let alloc = rt.alloc();
     let mut waiting = jobs(alloc, 0, 65)?;
-    let mut lane = BatchLane::new(alloc, 66).ok().ok_or("memory")?;
+    let mut lane = Batch::open(alloc, 66).ok().ok_or("memory")?;
     let mut got = Vec::with_capacity(alloc, 65)?;
-    assert!(rt; deal(&mut lane, &mut waiting, &mut got));
-    lane.work(alloc, &OpenGate);
-    assert!(rt; deal(&mut lane, &mut waiting, &mut got));
-    assert_eq!(rt; got.len(), 64);
-    assert!(rt; deal(&mut lane, &mut waiting, &mut got));
-    assert_eq!(rt; got.len(), 65);
+    assert_eq!(rt; lane.dealt(&mut waiting, &mut got), (true, 0, 0));
+    lane.call(alloc, Call::Work, &mut waiting);
+    assert_eq!(rt; lane.dealt(&mut waiting, &mut got), (true, 0, 64));
+    assert_eq!(rt; lane.dealt(&mut waiting, &mut got), (true, 0, 65));
     Ok(())
 }
 
 #[test]
 fn the_largest_ring_holds_64_messages(rt: HostRuntime) -> Result<(), Fail> {
     let alloc = rt.alloc();
-    let (mut front, _back) = open_lane(alloc, 64).ok().ok_or("memory")?;
+    let (mut front, _back) = ends(alloc)?;
     assert_eq!(rt; accepted(&mut front, alloc, 64)?, 64);
     assert!(rt; matches!(front.send(job(alloc, 64)?), Err(SendFault::Full(_))));
     Ok(())
@@ -44,9 +42,9 @@ fn the_largest_ring_holds_64_messages(rt: HostRuntime) -> Result<(), Fail> {
 #[test]
 fn the_largest_batch_holds_10001_messages(rt: HostRuntime) -> Result<(), Fail> {
     let alloc = rt.alloc();
-    let mut lane = BatchLane::new(alloc, 10_001).ok().ok_or("memory")?;
-    assert_eq!(rt; accepted(&mut lane, alloc, 10_001)?, 10_001);
-    assert_eq!(rt; lane.finish(), Err(FinishFault::Full));
+    let mut batch = Batch::open(alloc, 10_001).ok().ok_or("memory")?;
+    assert_eq!(rt; accepted(&mut batch.lane, alloc, 10_001)?, 10_001);
+    assert_eq!(rt; batch.lane.finish(), Err(FinishFault::Full));
     Ok(())
 }
 

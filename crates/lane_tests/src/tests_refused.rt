@@ -1,7 +1,7 @@
 //! Calls whose growths of memory are refused, each in turn, and calls that take no memory
 //! with every growth refused.
 
-use crate::tests::{job, jobs, puzzle_of};
+use crate::tests::{Batch, Call, Called, job, jobs, puzzle_of};
 use grid_core::NoMemory;
 use lane_core::*;
 use refusals::{Told, is_heeded, refuse, sweep, told_if, was_refused};
@@ -50,26 +50,34 @@ fn jobs_are_graded_or_refused(rt: HostRuntime) -> Result<(), Fail> {
     Ok(())
 }
 
+/// Whether this is the answer to the second job.
+fn is_second(answer: Option<Answer>) -> bool {
+    match answer {
+        Some(answer) => answer.number() == 2 && answer.outcome().is_ok(),
+        None => false,
+    }
+}
+
 #[test]
 fn lanes_take_no_memory(rt: HostRuntime) -> Result<(), Fail> {
     let alloc = rt.alloc();
     let first = job(alloc, 1)?;
     let mut waiting = jobs(alloc, 2, 1)?;
-    let mut lane = BatchLane::new(alloc, 3).ok().ok_or("memory")?;
+    let mut batch = Batch::open(alloc, 3).ok().ok_or("memory")?;
     let mut got = Vec::with_capacity(alloc, 1)?;
     refuse(alloc, 0);
-    let sent = lane.send(first).is_ok() && deal(&mut lane, &mut waiting, &mut got);
+    let sent = batch.lane.send(first).is_ok();
+    let dealing = batch.dealt(&mut waiting, &mut got);
     assert!(rt; !was_refused(alloc), "no growth");
-    assert!(rt; sent && waiting.is_empty());
-    lane.work(alloc, &OpenGate);
+    assert!(rt; sent && dealing == (true, 0, 0));
+    batch.call(alloc, Call::Work, &mut waiting);
     refuse(alloc, 0);
-    let taken = deal(&mut lane, &mut waiting, &mut got);
-    let last = lane.take();
-    let closed = lane.close().is_ok();
+    let taking = batch.dealt(&mut waiting, &mut got);
+    let last = batch.lane.take();
+    let closed = batch.close().is_ok();
     assert!(rt; !was_refused(alloc), "no growth");
-    assert!(rt; taken && closed && got.len() == 1);
-    let last = last.ok_or("no answer")?;
-    assert!(rt; last.number() == 2 && last.outcome().is_ok());
+    assert!(rt; closed && taking == (true, 0, 1));
+    assert!(rt; is_second(last));
     assert!(rt; is_heeded(alloc));
     Ok(())
 }

@@ -134,30 +134,32 @@ fn follow_batch(
     Ok(begun && finished && drained)
 }
 
+/// Whether these are the answers to the jobs from 1 on, and no answer's memory was refused.
+fn are_answers(rt: &impl Abort, answers: &[Answer]) -> bool {
+    let mut all = true;
+    for (answer, number) in answers.iter().zip(1..4u32) {
+        if !is_told(rt, told_of(answer), Reply::Answered(number)) {
+            all = false;
+        }
+    }
+    all
+}
+
 fn deal_batch(
     rt: &impl Abort,
     alloc: Global,
     waiting: &mut VecDeque<Job, Global>,
 ) -> Result<bool, NoMemory> {
-    let mut lane = BatchLane::new(alloc, 2)?;
+    let mut lane = Batch::open(alloc, 2)?;
     let mut got = Vec::with_capacity(alloc, 64)?;
-    assert!(rt; deal(&mut lane, waiting, &mut got));
-    assert_eq!(rt; (waiting.len(), got.len()), (1, 0));
-    lane.work(alloc, &OpenGate);
-    assert!(rt; deal(&mut lane, waiting, &mut got));
-    assert_eq!(rt; (waiting.len(), got.len()), (0, 2));
-    lane.work(alloc, &OpenGate);
-    assert!(rt; deal(&mut lane, waiting, &mut got));
-    assert!(rt; !deal(&mut lane, waiting, &mut got));
-    assert_eq!(rt; got.len(), 3);
+    assert_eq!(rt; lane.dealt(waiting, &mut got), (true, 1, 0));
+    lane.call(alloc, Call::Work, waiting);
+    assert_eq!(rt; lane.dealt(waiting, &mut got), (true, 0, 2));
+    lane.call(alloc, Call::Work, waiting);
+    assert_eq!(rt; lane.dealt(waiting, &mut got), (true, 0, 3));
+    assert_eq!(rt; lane.dealt(waiting, &mut got), (false, 0, 3));
     assert!(rt; lane.close().is_ok());
-    let mut all = true;
-    for (answer, number) in got.iter().zip(1..4u32) {
-        if !is_told(rt, told_of(answer), Reply::Answered(number)) {
-            all = false;
-        }
-    }
-    Ok(all)
+    Ok(are_answers(rt, &got))
 }
 
 /// Follows a scene with each growth of memory refused in turn, and then with none. Each call answers as ever,
