@@ -1,8 +1,10 @@
 //! Tests of what no contract says: that each call succeeds with ample memory,
 //! and that the definitions say what the formats mean, by texts whose answers were worked out by hand.
 
+use crate::tests_refused::{told_of_text, told_of_written};
 use grid_core::NoMemory;
 use puzzle_text::*;
+use refusals::Told;
 use std::alloc::Global;
 use std::fmt::Display;
 use std::test::*;
@@ -251,87 +253,143 @@ fn square(alloc: Global, parts: [&[u8]; 3], side: usize) -> Result<Vec<u8>, Fail
     Ok(text)
 }
 
+/// Whether a text of these parts, with as many clues of each side, says what is expected.
+fn is_square_said(
+    alloc: Global,
+    name: &[u8],
+    (parts, side): ([&[u8]; 3], usize),
+    expected: &[u8],
+) -> Result<bool, Fail> {
+    let text = square(alloc, parts, side)?;
+    Ok(all_said(alloc, &[(name, &text, expected)]))
+}
+
+const MK: [&[u8]; 3] = [b"256 256\n", b"#\n", b""];
+
+const NIN: [&[u8]; 3] = [b"256 256\n", b"", b""];
+
+const NON: [&[u8]; 3] = [b"width 256\nheight 256\n\nrows\n", b"\ncolumns\n", b""];
+
+const NON_WITH_GOAL: [&[u8]; 3] = [
+    b"width 256\nheight 256\n\nrows\n",
+    b"\ncolumns\n",
+    b"\ngoal \"",
+];
+
 #[test]
 fn sides_up_to_256(rt: HostRuntime) -> Result<(), Fail> {
-    let wide = square(rt.alloc(), [b"129 128\n", b"#\n", b""], 128)?;
-    let over = square(rt.alloc(), [b"256 257\n", b"#\n", b""], 256)?;
-    let mk = square(rt.alloc(), [b"256 256\n", b"#\n", b""], 256)?;
-    let nin = square(rt.alloc(), [b"256 256\n", b"", b""], 256)?;
-    let sizes = b"width 256\nheight 256\n\nrows\n";
-    let non = square(rt.alloc(), [sizes, b"\ncolumns\n", b""], 256)?;
-    let front = square(rt.alloc(), [sizes, b"\ncolumns\n", b"\ngoal \""], 256)?;
-    let mut goal = repeated(rt.alloc(), &front, b"1", 65_536)?;
-    goal.extend_from_slice(b"\"\n").ok().ok_or("memory")?;
-    let rows: [(&[u8], &[u8], &[u8]); 5] = [
-        (b"a.mk", &wide, b"BadCount"),
-        (b"a.mk", &over, b"BadSize"),
-        (b"a.mk", &mk, &non),
-        (b"a.nin", &nin, &non),
-        (b"a.non", &goal, &goal),
-    ];
-    assert!(rt; all_said(rt.alloc(), &rows));
-    let puzzle = read_non(rt.alloc(), &goal).ok().ok_or("a puzzle")?;
-    let again = write_mk(rt.alloc(), &puzzle).ok().ok_or("memory")?;
-    assert_eq!(rt; again.as_slice(), mk.as_slice());
-    let again = write_nin(rt.alloc(), &puzzle).ok().ok_or("memory")?;
-    assert_eq!(rt; again.as_slice(), nin.as_slice());
+    let alloc = rt.alloc();
+    let wide: [&[u8]; 3] = [b"129 128\n", b"#\n", b""];
+    assert!(rt; is_square_said(alloc, b"a.mk", (wide, 128), b"BadCount")?);
+    let over: [&[u8]; 3] = [b"256 257\n", b"#\n", b""];
+    assert!(rt; is_square_said(alloc, b"a.mk", (over, 256), b"BadSize")?);
+    let non = square(alloc, NON, 256)?;
+    assert!(rt; is_square_said(alloc, b"a.mk", (MK, 256), &non)?);
+    assert!(rt; is_square_said(alloc, b"a.nin", (NIN, 256), &non)?);
     Ok(())
+}
+
+/// The text in .non of a puzzle of 256 by 256, with a goal.
+fn largest_non(alloc: Global) -> Result<Vec<u8>, Fail> {
+    let front = square(alloc, NON_WITH_GOAL, 256)?;
+    let mut text = repeated(alloc, &front, b"1", 65_536)?;
+    text.extend_from_slice(b"\"\n").ok().ok_or("memory")?;
+    Ok(text)
+}
+
+#[test]
+fn the_largest_puzzle_is_written(rt: HostRuntime) -> Result<(), Fail> {
+    let alloc = rt.alloc();
+    let non = largest_non(alloc)?;
+    let puzzle = read_non(alloc, &non)?;
+    assert!(rt; told_of_text(write_non(alloc, &puzzle), &non) == Told::Wanted);
+    let mk = square(alloc, MK, 256)?;
+    assert!(rt; told_of_text(write_mk(alloc, &puzzle), &mk) == Told::Wanted);
+    let nin = square(alloc, NIN, 256)?;
+    assert!(rt; told_of_written(write_nin(alloc, &puzzle), Some(&nin)) == Told::Wanted);
+    Ok(())
+}
+
+/// Whether a text and then as many pieces say what is expected.
+fn is_long_said(
+    alloc: Global,
+    name: &[u8],
+    (front, piece, count): (&[u8], &[u8], usize),
+    expected: &[u8],
+) -> Result<bool, Fail> {
+    let text = repeated(alloc, front, piece, count)?;
+    Ok(all_said(alloc, &[(name, &text, expected)]))
 }
 
 #[test]
 fn texts_up_to_1048576_bytes(rt: HostRuntime) -> Result<(), Fail> {
-    let feeds = repeated(rt.alloc(), b"", b"\n", 1_048_576)?;
-    let more = repeated(rt.alloc(), b"", b"\n", 1_048_577)?;
+    let alloc = rt.alloc();
+    for name in [b".non".as_slice(), b".mk", b".nin"] {
+        assert!(rt; is_long_said(alloc, name, (b"", b"\n", 1_048_576), b"NoSize")?);
+        assert!(rt; is_long_said(alloc, name, (b"", b"\n", 1_048_577), b"TooLong")?);
+    }
     let front = b"1 1\n1\n#\n1\n";
-    let most = repeated(rt.alloc(), front, b" ", 1_048_566)?;
-    let over = repeated(rt.alloc(), front, b" ", 1_048_567)?;
-    let rows: [(&[u8], &[u8], &[u8]); 8] = [
-        (b".non", &more, b"TooLong"),
-        (b".mk", &more, b"TooLong"),
-        (b".nin", &more, b"TooLong"),
-        (b".non", &feeds, b"NoSize"),
-        (b".mk", &feeds, b"NoSize"),
-        (b".nin", &feeds, b"NoSize"),
-        (b".mk", &most, ONE),
-        (b".mk", &over, b"TooLong"),
-    ];
-    assert!(rt; all_said(rt.alloc(), &rows));
+    assert!(rt; is_long_said(alloc, b".mk", (front, b" ", 1_048_566), ONE)?);
+    assert!(rt; is_long_said(alloc, b".mk", (front, b" ", 1_048_567), b"TooLong")?);
     Ok(())
+}
+
+/// The text in .non of the puzzle of one cell with a title of as many letters.
+fn long_title(alloc: Global, count: usize) -> Result<Vec<u8>, Fail> {
+    let mut text = repeated(alloc, b"title \"", b"a", count)?;
+    text.extend_from_slice(b"\"\n").ok().ok_or("memory")?;
+    text.extend_from_slice(ONE).ok().ok_or("memory")?;
+    Ok(text)
 }
 
 #[test]
 fn long_texts(rt: HostRuntime) -> Result<(), Fail> {
-    let front = b"width 1\nheight 1\nrows\n1\ncolumns\n1\ntitle ";
-    let fits = repeated(rt.alloc(), front, b"a", 65_536)?;
-    let title = repeated(rt.alloc(), front, b"a", 65_537)?;
-    let mut written = repeated(rt.alloc(), b"title \"", b"a", 65_536)?;
-    written.extend_from_slice(b"\"\n").ok().ok_or("memory")?;
-    written.extend_from_slice(ONE).ok().ok_or("memory")?;
-    let front = b"width 1\nheight 1\nrows\n1\ncolumns\n1\ngoal ";
-    let goal = repeated(rt.alloc(), front, b"1", 65_537)?;
-    let rows: [(&[u8], &[u8], &[u8]); 3] = [
-        (b".non", &fits, &written),
-        (b".non", &title, b"BadLine:7"),
-        (b".non", &goal, b"BadGoal:7"),
-    ];
-    assert!(rt; all_said(rt.alloc(), &rows));
+    let alloc = rt.alloc();
+    let title = b"width 1\nheight 1\nrows\n1\ncolumns\n1\ntitle ";
+    let written = long_title(alloc, 65_536)?;
+    assert!(rt; is_long_said(alloc, b".non", (title, b"a", 65_536), &written)?);
+    assert!(rt; is_long_said(alloc, b".non", (title, b"a", 65_537), b"BadLine:7")?);
+    let goal = b"width 1\nheight 1\nrows\n1\ncolumns\n1\ngoal ";
+    assert!(rt; is_long_said(alloc, b".non", (goal, b"1", 65_537), b"BadGoal:7")?);
     Ok(())
 }
 
 #[test]
 fn written_texts(rt: HostRuntime) -> Result<(), Fail> {
-    let fit = read_non(rt.alloc(), FIT).ok().ok_or("a puzzle")?;
-    let mk = write_mk(rt.alloc(), &fit).ok().ok_or("memory")?;
-    assert_eq!(rt; mk.as_slice(), b"2 4\n2\n1 1\n#\n1\n1\n1\n1\n".as_slice());
-    let nin = write_nin(rt.alloc(), &fit).ok().ok_or("memory")?;
-    assert_eq!(rt; nin.as_slice(), b"4 2\n2\n1 1\n1\n1\n1\n1\n".as_slice());
-    let flat = read_mk(rt.alloc(), b"1 2\n1\n#\n1\n2\n")
-        .ok()
-        .ok_or("a puzzle")?;
-    assert!(rt; matches!(write_nin(rt.alloc(), &flat), Err(WriteFault::Ambiguous)));
-    let mk = write_mk(rt.alloc(), &flat).ok().ok_or("memory")?;
-    assert_eq!(rt; mk.as_slice(), b"1 2\n1\n#\n1\n2\n".as_slice());
+    let alloc = rt.alloc();
+    let fit = read_non(alloc, FIT)?;
+    let mk = b"2 4\n2\n1 1\n#\n1\n1\n1\n1\n";
+    assert!(rt; told_of_text(write_mk(alloc, &fit), mk) == Told::Wanted);
+    let nin = b"4 2\n2\n1 1\n1\n1\n1\n1\n".as_slice();
+    assert!(rt; told_of_written(write_nin(alloc, &fit), Some(nin)) == Told::Wanted);
     Ok(())
+}
+
+#[test]
+fn ambiguous_texts_are_not_written(rt: HostRuntime) -> Result<(), Fail> {
+    let alloc = rt.alloc();
+    let mk = b"1 2\n1\n#\n1\n2\n";
+    let flat = read_mk(alloc, mk)?;
+    assert!(rt; told_of_written(write_nin(alloc, &flat), None) == Told::Wanted);
+    assert!(rt; told_of_text(write_mk(alloc, &flat), mk) == Told::Wanted);
+    Ok(())
+}
+
+/// Whether there are two entries, with these names and bodies.
+pub(crate) fn are_two(
+    found: &[Entry<'_>],
+    (name, body): (&[u8], &[u8]),
+    (other_name, other_body): (&[u8], &[u8]),
+) -> bool {
+    match found {
+        [first, second] => {
+            first.name == name
+                && first.body == body
+                && second.name == other_name
+                && second.body == other_body
+        }
+        _ => false,
+    }
 }
 
 #[test]
@@ -339,21 +397,35 @@ fn collections(rt: HostRuntime) -> Result<(), Fail> {
     let found = entries(rt.alloc(), b"\n@ a.mk \r\n1 1\n@b\n\n@\tb.nin")
         .ok()
         .ok_or("entries")?;
-    assert_eq!(rt; found.len(), 2);
-    assert_eq!(rt; found[0].name, b"a.mk".as_slice());
-    assert_eq!(rt; found[0].body, b"1 1\n@b\n\n".as_slice());
-    assert_eq!(rt; found[1].name, b"b.nin".as_slice());
-    assert_eq!(rt; found[1].body, b"".as_slice());
+    assert!(rt; are_two(&found, (b"a.mk", b"1 1\n@b\n\n"), (b"b.nin", b"")));
+    Ok(())
+}
+
+/// The fault of a collection of as many pieces.
+fn fault_of(alloc: Global, piece: &[u8], count: usize) -> Result<Option<CollectionFault>, Fail> {
+    let text = repeated(alloc, b"", piece, count)?;
+    Ok(entries(alloc, &text).err())
+}
+
+#[test]
+fn large_collections(rt: HostRuntime) -> Result<(), Fail> {
+    let alloc = rt.alloc();
+    assert_eq!(rt; fault_of(alloc, b"@ a.mk\n", 10_000)?, None);
+    assert_eq!(rt;
+        fault_of(alloc, b"@ a.mk\n", 10_001)?,
+        Some(CollectionFault::TooMany)
+    );
+    assert_eq!(rt; fault_of(alloc, b"\n", 16_777_216)?, None);
+    assert_eq!(rt;
+        fault_of(alloc, b"\n", 16_777_217)?,
+        Some(CollectionFault::TooLong)
+    );
     Ok(())
 }
 
 #[test]
-fn refused_collections(rt: HostRuntime) -> Result<(), Fail> {
-    let most = repeated(rt.alloc(), b"", b"@ a.mk\n", 10_000)?;
-    let more = repeated(rt.alloc(), b"", b"@ a.mk\n", 10_001)?;
-    let feeds = repeated(rt.alloc(), b"", b"\n", 16_777_216)?;
-    let longer = repeated(rt.alloc(), b"", b"\n", 16_777_217)?;
-    let rows: [(&[u8], Option<CollectionFault>); 11] = [
+fn refused_collections(rt: HostRuntime) {
+    let rows: [(&[u8], Option<CollectionFault>); 7] = [
         (b"", None),
         (b"x\n", Some(CollectionFault::Stray(1))),
         (b"x\n@ a.mk\n", Some(CollectionFault::Stray(1))),
@@ -361,15 +433,10 @@ fn refused_collections(rt: HostRuntime) -> Result<(), Fail> {
         (b"@ a.mk\n@\r\n", Some(CollectionFault::Stray(2))),
         (b"@ a.mk\n@\r", Some(CollectionFault::Stray(2))),
         (b"@ a.mk\n@\rb\n", None),
-        (&most, None),
-        (&more, Some(CollectionFault::TooMany)),
-        (&feeds, None),
-        (&longer, Some(CollectionFault::TooLong)),
     ];
-    for (text, fault) in &rows {
-        assert_eq!(rt; entries(rt.alloc(), text).err(), *fault);
+    for (text, fault) in rows {
+        assert_eq!(rt; entries(rt.alloc(), text).err(), fault);
     }
-    Ok(())
 }
 
 /// Whether a fault is told by this sentence.

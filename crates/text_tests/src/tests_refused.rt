@@ -1,7 +1,7 @@
 //! Calls whose growths of memory are refused, each in turn, and calls that take no memory
 //! with every growth refused.
 
-use crate::tests::repeated;
+use crate::tests::{are_two, repeated};
 use crate::tests_slow::{Said, agree};
 use crate::tests_slow_mk::slow_mk;
 use crate::tests_slow_nin::slow_nin;
@@ -140,14 +140,14 @@ fn entries_are_read_or_refused(rt: HostRuntime) -> Result<(), Fail> {
     Ok(())
 }
 
-fn told_of_text(answer: Result<Vec<u8>, NoMemory>, wanted: &[u8]) -> Told {
+pub(crate) fn told_of_text(answer: Result<Vec<u8>, NoMemory>, wanted: &[u8]) -> Told {
     match answer {
         Ok(text) => told_if(text.as_slice() == wanted),
         Err(NoMemory) => Told::NoMemory,
     }
 }
 
-fn told_of_written(answer: Result<Vec<u8>, WriteFault>, wanted: Option<&[u8]>) -> Told {
+pub(crate) fn told_of_written(answer: Result<Vec<u8>, WriteFault>, wanted: Option<&[u8]>) -> Told {
     match answer {
         Ok(text) => told_if(wanted == Some(text.as_slice())),
         Err(WriteFault::NoMemory) => Told::NoMemory,
@@ -227,15 +227,7 @@ fn ambiguous_puzzles_are_ambiguous_or_refused(rt: HostRuntime) -> Result<(), Fai
 /// What `entries` told of two entries.
 fn told_of_entries(answer: Result<Vec<Entry<'_>>, CollectionFault>) -> Told {
     match answer {
-        Ok(found) => match found.as_slice() {
-            [first, second] => told_if(
-                first.name == b"a".as_slice()
-                    && first.body == b"1\n".as_slice()
-                    && second.name == b"b".as_slice()
-                    && second.body.is_empty(),
-            ),
-            _ => Told::Other,
-        },
+        Ok(found) => told_if(are_two(&found, (b"a", b"1\n"), (b"b", b""))),
         Err(CollectionFault::NoMemory) => Told::NoMemory,
         Err(_) => Told::Other,
     }
