@@ -137,7 +137,7 @@ fn small_puzzles_are_closed_alike(rt: HostRuntime) -> Result<(), Fail> {
     Ok(())
 }
 
-/// Whether grids of the puzzle with the clues of two pictures, unknown and with these cells, are closed alike.
+/// Whether grids of the puzzle with the clues of two pictures are closed alike: the unknown one, and another.
 fn pictures_are_closed_alike(
     alloc: Global,
     rows: &Picture,

@@ -59,8 +59,8 @@ fn line_grids_are_made_or_refused(rt: HostRuntime) -> Result<(), Fail> {
     Ok(())
 }
 
-/// Whether a verdict on the puzzle with the clue 1 in each of three rows and columns is that with this limit on
-/// guesses.
+/// Whether a verdict on the puzzle with the clue 1 in each of three rows and columns is that with this limit
+/// on guesses.
 fn is_found(verdict: &Verdict, puzzle: &Puzzle, guesses: u32) -> bool {
     match verdict {
         Verdict::Unsettled(None) => guesses == 0,

@@ -104,8 +104,8 @@ fn assert_report(rt: &(impl Abort + AllocGlobal), puzzle: &Puzzle, guesses: u32,
     assert_report_by(rt, puzzle, guesses, Pick::Most, expected);
 }
 
-// Both rules give the reports on the puzzle with these clues of its rows and of its columns, each with a limit
-// on guesses.
+// Both rules give the reports on the puzzle with these clues of its rows and of its columns, each with a
+// limit on guesses.
 fn assert_reports(
     rt: &(impl Abort + AllocGlobal),
     rows: &[&[u16]],
