@@ -1,13 +1,14 @@
 #!/usr/bin/env bash
 # Passes all tests: ShellCheck over the scripts, what public contracts rest on, `rt ci` (every proof from nothing,
-# the must-fail edits, the tests and the stored run), and the scripts over what that leaves. It installs what it
-# needs and doesn't find, and stops at the first step that fails. Its last line is `N passed, M failed` over all
-# steps.
+# the must-fail edits, the tests and the stored run), and the scripts over what that leaves, those that measure no
+# time side by side. It installs what it needs and doesn't find, and stops at the first step that fails. Its last
+# line is `N passed, M failed` over all steps.
 set -u
 cd "$(dirname "$0")/.." || exit
 PATH=$PATH:/usr/sbin
-log=$(mktemp)
-trap 'rm -f "$log"' EXIT
+room=$(mktemp -d)
+log=$room/log
+trap 'rm -r "$room"' EXIT
 passed=0 failed=0
 
 # Prints the counts of all steps so far, and ends.
@@ -112,6 +113,28 @@ step() {
     finish 1
 }
 
+# Gives what a script that ran beside others said, and its status.
+# shellcheck disable=SC2317 # `step` calls it.
+ended() {
+    cat "$room/${1##*/}"
+    return "$(<"$room/${1##*/}.status")"
+}
+
+# Runs scripts side by side, and takes each as a step.
+steps_beside() {
+    local script
+    for script; do
+        {
+            "$script" >"$room/${script##*/}" 2>&1
+            echo $? >"$room/${script##*/}.status"
+        } &
+    done
+    wait
+    for script; do
+        step ended "$script"
+    done
+}
+
 need compiles gcc libc6-dev
 need spreads parallel
 need 'hash sshd ssh rsync gawk shellcheck' openssh-server openssh-client rsync gawk shellcheck
@@ -123,12 +146,7 @@ step check_scripts
 step check_promises
 step rt ci
 tools/edits.sh <"$log" || { failed=1; finish 1; }
-step tools/sweep.sh
-step tools/outside.sh
-step tools/shards_test.sh
-step tools/machines_test.sh
-step tools/pack_test.sh
-step tools/pages_test.sh
 keep_libraries
-step tools/library.sh
+step tools/outside.sh
+steps_beside tools/library.sh tools/sweep.sh tools/shards_test.sh tools/machines_test.sh tools/pack_test.sh tools/pages_test.sh
 finish 0
