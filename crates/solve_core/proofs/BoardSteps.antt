@@ -1,18 +1,19 @@
 -- What settling a cell and going back do to a board.
-use Rattle.std.proofs.Common.{◌≡◌, ℕ, ◌*◌, ◌<◌, ◌≤◌, true, List, [], ◌∷◌, ◌++◌, length, get_or, set, sym, ap, ◌∙◌, arith, length-append, length-set, replicate}
+use Rattle.std.proofs.Common.{◌≡◌, ℕ, ◌+◌, ◌*◌, ◌<◌, ◌≤◌, true, List, [], ◌∷◌, ◌++◌, length, get_or, set, sym, ap, ◌∙◌, arith, length-append, length-set, replicate}
 use Rattle.std.proofs.lemmas.List.{length-replicate}
 use Rattle.grid_core.specs.declared.cells.Cell.{Cell}
 use Rattle.grid_core.specs.declared.cells.Cell.TheVariants.{Unknown}
 use Rattle.grid_core.specs.Cells.{is_known}
+use Rattle.grid_core.specs.declared.limits.TheConstants.{LONGEST_SIDE}
 use Rattle.grid_core.specs.declared.sides.Side.{Side}
 use Rattle.grid_core.specs.Nonogram.{crossing}
 use Rattle.grid_core.specs.steps.Sides.{count_on, place_on}
 use Rattle.grid_core.specs.PartialGrid.{PartialGrid, IsSize}
 use Rattle.solve_core.specs.steps.Boards.{IsBoard}
-use Rattle.solve_core.specs.steps.Trails.{TrailedGrid}
+use Rattle.solve_core.specs.steps.Trails.{IsTrailed, TrailedGrid}
 use Rattle.solve_core.proofs.SideLines.{cell_within}
 use Rattle.solve_core.proofs.Closing.{unknown_count-le}
-use Rattle.solve_core.proofs.TrailSteps.{count-settled}
+use Rattle.solve_core.proofs.TrailSteps.{count-settled, length-cleared}
 use Rattle.solve_core.proofs.BranchLaws.{unknown_count-cleared_one, all_append, all_split}
 
 -- a grid with a trail
@@ -48,6 +49,21 @@ board-settled g old more room left k c b h u n e m s =
       room_is = omega (arith, long, b.room_is);
     })
 
+-- a board that learned cells of a line
+pub board-learned : (g : PartialGrid) (old : TrailedGrid) (more : List ℕ) (room left : ℕ) → IsBoard old room → g.width ≡ old.width →
+    g.height ≡ old.height → IsTrailed old (record old { cells = g.cells; trail = more }) → left ≡ room → IsBoard (trailed g more) left
+board-learned g old more room left b w h t s =
+    let long : length g.cells ≡ length old.cells = sym (length-cleared g.cells t.added) ∙ ap length t.undo in
+    record {
+      size = rw (w, h) b.size;
+      count = long ∙ b.count ∙ (λ i. sym w i * sym h i);
+      grid = record {
+        inside = rw (t.kept, long) (all_append (λ j. j < length old.cells) old.trail t.added b.grid.inside (rw long at t.within));
+        settled = omega (arith, long, ap length t.kept, length-append old.trail t.added, t.count, b.grid.settled);
+      };
+      room_is = omega (arith, long, b.room_is);
+    }
+
 -- a board in which the last settled cell is unknown again
 pub board-undone : (g : PartialGrid) (old : TrailedGrid) (less : List ℕ) (room left k : ℕ) → IsBoard old room → old.trail ≡ less ++ k ∷ []
     → g ≡ record { width = old.width; height = old.height; cells = set old.cells k Unknown } → left ≡ room → IsBoard (trailed g less) left
@@ -66,7 +82,7 @@ board-undone g old less room left k b t e s =
 
 -- a board of which nothing is known
 pub board-unknown : (w h room : ℕ) (g : PartialGrid) (trail : List ℕ) → IsSize w h →
-    g ≡ record { width = w; height = h; cells = replicate (w * h) Unknown } → trail ≡ [] → length g.cells ≤ room
+    g ≡ record { width = w; height = h; cells = replicate (w * h) Unknown } → trail ≡ [] → length g.cells + LONGEST_SIDE ≤ room
     → IsBoard (trailed g trail) room
 board-unknown w h room g trail size e t fits = record {
   size = rw e size;

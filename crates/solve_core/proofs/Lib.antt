@@ -6,6 +6,7 @@ pub mod ClosureLaws
 pub mod TrialLaws
 pub mod StepLaws
 pub mod LineSteps
+pub mod LearnedLines
 pub mod SideLines
 pub mod GridSteps
 pub mod GridLineSteps

@@ -8,6 +8,7 @@ pub mod Endings
 pub mod FoundGrids
 pub mod GridLines
 pub mod Guesses
+pub mod Learning
 pub mod LineMarks
 pub mod Marks
 pub mod Overlaid

@@ -1,7 +1,10 @@
 //! A grid as its rows and its columns, with the way back.
 ghost use Rattle.std.specs.Prelude.{◌≡◌, ◌+◌, ◌-◌, ◌*◌, ◌<◌, ◌≤◌, [], length, take, slice_index_or, slice_set, true, IfOk};
-ghost use Rattle.grid_core.specs.Cells.{is_known};
-ghost use Rattle.grid_core.specs.Nonogram.{crossing};
+ghost use Rattle.grid_core.specs.Cells.{Extends, is_known};
+ghost use Rattle.grid_core.specs.Nonogram.{crossing, places_on};
+ghost use Rattle.grid_core.specs.Lines.{IsChanged};
+ghost use Rattle.place_sets.specs.Masks.{IsMaskOf};
+ghost use Rattle.solve_core.specs.Closure.{with_cells};
 ghost use Rattle.grid_core.specs.steps.Sides.{count_on, place_on};
 ghost use Rattle.grid_core.specs.PartialGrid.{IsSize};
 ghost use Rattle.grid_core.specs.declared.cells.Cell.TheVariants.{Unknown};
@@ -10,7 +13,7 @@ ghost use Rattle.solve_core.specs.steps.Branches.{cells_before};
 ghost use Rattle.solve_core.specs.steps.Trails.{IsTrailed, IsTrailedGrid};
 
 use crate::grid_lines::GridLines;
-use grid_core::{Cell, Grid, NoMemory, Side};
+use grid_core::{Cell, Grid, LONGEST_SIDE, NoMemory, Side};
 use line_core::{LineOf, LineSet};
 use std::alloc::Global;
 use std::marker::Model;
@@ -47,14 +50,30 @@ impl<W: LineSet> Model for Board<W> {
 }
 
 impl<W: LineSet> Board<W> {
-    /// A board of which nothing is known.
-    pub fn unknown(alloc: Global, width: u16, height: u16) -> Result<Board<W>, NoMemory>
+    /// Its lines and its trail.
+    fn into_parts(self) -> (Option<GridLines<W>>, Vec<u16>) {
+        let Board { lines, trail } = self;
+        (Some(lines), trail)
+    }
+
+    /// A board of which nothing is known, in the room of another one, if there is one.
+    pub fn unknown(
+        alloc: Global,
+        other: Option<Board<W>>,
+        width: u16,
+        height: u16,
+    ) -> Result<Board<W>, NoMemory>
         requires size { IsSize width height }
         requires fits { (width ≤ W.WIDTH) × (height ≤ W.WIDTH) }
         ensures { IfOk result (λ board. board ≡ unknown_board width height) }
     {
-        let lines = GridLines::unknown(alloc, width, height)?;
-        let trail = Vec::with_capacity(alloc, lines.count())?;
+        let (lines, mut trail) = match other {
+            Some(other) => other.into_parts(),
+            None => (None, Vec::new(alloc)),
+        };
+        let lines = GridLines::unknown(alloc, lines, width, height)?;
+        trail.clear();
+        trail.reserve(lines.count() + usize::from(LONGEST_SIDE))?;
         Ok(Board { lines, trail })
     }
 
@@ -112,6 +131,17 @@ impl<W: LineSet> Board<W> {
             Side::Rows => self.settle_at(usize::from(k), usize::from(i), cell),
             Side::Columns => self.settle_at(usize::from(i), usize::from(k), cell),
         }
+    }
+
+    /// Writes the cells of line i of a side, some of which change from unknown ones.
+    pub fn learn(&mut self, side: Side, i: u16, new: &LineOf<W>, changes: W)
+        requires i { i < count_on side self.old.width self.old.height }
+        requires more { Extends (cells_along self.old side i) new.now }
+        requires changes { IsMaskOf (IsChanged (cells_along self.old side i) new.now) (W.number changes) }
+        ensures cells { self.new.cells ≡ with_cells self.old.cells (places_on side self.old.width self.old.height i) new.now }
+        ensures trail { IsTrailed self.old self.new }
+    {
+        self.lines.learn(&mut self.trail, side, i, new, changes);
     }
 
     /// Makes the cell unknown that was settled last.

@@ -18,7 +18,6 @@ ghost use Rattle.solve_core.specs.declared.closures.Progress.TheVariants.{Dead, 
 use crate::boards::Board;
 use crate::deductions::Deductions;
 use crate::marks::Marks;
-use crate::places::write_line;
 use grid_core::{Cell, Puzzle, Side};
 use line_core::LineSet;
 use std::marker::Model;
@@ -86,7 +85,7 @@ fn learn_line<W: LineSet>(
         return Progress::Same;
     }
     marks.add(side.crossing(), changes);
-    write_line(board, side, i, &new, changes);
+    board.learn(side, i, &new, changes);
     Progress::Changed
 }
 
@@ -99,6 +98,11 @@ impl<W: LineSet> Closer<W> {
             deductions,
             marks: Marks::none(),
         }
+    }
+
+    /// Its deductions.
+    pub fn into_deductions(self) -> Deductions<W> {
+        self.deductions
     }
 
     /// Deduces line i of a side.

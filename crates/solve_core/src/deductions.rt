@@ -173,26 +173,57 @@ impl<W: LineSet> Model for Deductions<W> {
 }
 
 impl<W: LineSet> Deductions<W> {
-    /// Makes all the room that it takes, in proportion to the puzzle. Nothing is remembered before it is
-    /// opened.
-    pub fn new(alloc: Global, puzzle: &Puzzle) -> Result<Deductions<W>, NoMemory>
+    /// Its tables, its slots and what it keeps.
+    fn into_parts(self) -> (Tables, Vec<[u16; GROUP]>, Vec<Deduction<W>>) {
+        let Deductions {
+            tables,
+            room: _,
+            slots,
+            kept,
+        } = self;
+        (tables, slots, kept)
+    }
+
+    /// Makes all the room that it takes, in proportion to the puzzle, of that of others, if there are any.
+    /// Nothing is remembered before it is opened.
+    pub fn new(
+        alloc: Global,
+        others: Option<Deductions<W>>,
+        puzzle: &Puzzle,
+    ) -> Result<Deductions<W>, NoMemory>
         requires { FitsIn W.WIDTH puzzle.now }
         ensures { IfOk result (λ deductions. AreRight W.WIDTH puzzle.now deductions) }
     {
         let cells = usize::from(puzzle.width()) * usize::from(puzzle.height());
-        Deductions::with_room(alloc, room_for::<W>(cells))
+        Deductions::with_room(alloc, others, room_for::<W>(cells))
     }
 
-    /// Makes the room for `room` deductions, 1 to 16,384.
-    pub fn with_room(alloc: Global, room: usize) -> Result<Deductions<W>, NoMemory>
+    /// Makes the room for `room` deductions, 1 to 16,384, of that of others, if there are any.
+    pub fn with_room(
+        alloc: Global,
+        others: Option<Deductions<W>>,
+        room: usize,
+    ) -> Result<Deductions<W>, NoMemory>
         requires { (1 ≤ room) × (room ≤ MOST_REMEMBERED) }
         ensures { IfOk result (λ deductions. deductions ≡ []) }
     {
+        let (tables, mut slots, mut kept) = match others {
+            Some(others) => others.into_parts(),
+            None => (
+                Tables::new(alloc, LONGEST_SIDE)?,
+                Vec::new(alloc),
+                Vec::new(alloc),
+            ),
+        };
+        slots.clear();
+        slots.reserve(room.div_ceil(GROUP))?;
+        kept.clear();
+        kept.reserve(room)?;
         Ok(Deductions {
-            tables: Tables::new(alloc, LONGEST_SIDE)?,
+            tables,
             room,
-            slots: Vec::with_capacity(alloc, room.div_ceil(GROUP))?,
-            kept: Vec::with_capacity(alloc, room)?,
+            slots,
+            kept,
         })
     }
 

@@ -1,14 +1,20 @@
 //! A grid as its rows and its columns.
-ghost use Rattle.std.specs.Prelude.{◌≡◌, ◌+◌, ◌-◌, ◌*◌, ◌<◌, ◌≤◌, ℕ, nat_eq, [], length, replicate, slice_index_or, slice_set, true, IfOk};
-ghost use Rattle.grid_core.specs.Cells.{is_known};
+ghost use Rattle.std.specs.Prelude.{◌≡◌, ◌+◌, ◌-◌, ◌*◌, ◌<◌, ◌≤◌, ℕ, nat_eq, [], length, replicate, slice_index_or, slice_set, true, vec_capacity, IfOk};
+ghost use Rattle.grid_core.specs.Cells.{Extends, is_known};
 ghost use Rattle.grid_core.specs.Nonogram.{cells_at, places_on};
 ghost use Rattle.grid_core.specs.steps.Sides.{count_on};
 ghost use Rattle.grid_core.specs.PartialGrid.{IsSize};
 ghost use Rattle.grid_core.specs.Rows.{cells_of_rows, row_of};
 ghost use Rattle.grid_core.specs.declared.cells.Cell.TheVariants.{Unknown};
-ghost use Rattle.grid_core.specs.Lines.{IsUnknownFrom};
+ghost use Rattle.grid_core.specs.declared.sides.Side.TheVariants.{Rows, Columns};
+ghost use Rattle.grid_core.specs.Lines.{IsChanged, IsUnknownFrom};
+ghost use Rattle.grid_core.specs.declared.limits.TheConstants.{LONGEST_SIDE};
 ghost use Rattle.solve_core.specs.steps.GridLines.{AreLinesOf};
-ghost use Rattle.place_sets.specs.Masks.{has};
+ghost use Rattle.place_sets.specs.Masks.{Has, has, IsMaskOf};
+ghost use Rattle.solve_core.specs.Closure.{with_cells};
+ghost use Rattle.solve_core.specs.steps.Boards.{grid_of_board};
+ghost use Rattle.solve_core.specs.steps.Learning.{CanLearn, LeadsBack};
+ghost use Rattle.solve_core.specs.steps.Trails.{IsTrailed, TrailedGrid};
 ghost use Rattle.solve_core.specs.Picks.{is_sure};
 ghost use Rattle.solve_core.specs.Picks.{most_known};
 
@@ -49,16 +55,18 @@ impl<W: LineSet> Model for GridLines<W> {
     ghost invariant = { λ g. AreLinesOf (cells_of_rows g.rows.items) g.rows.items g.columns.items };
 }
 
-/// `count` lines of `len` cells each, of which nothing is known.
+/// `count` lines of `len` cells each, of which nothing is known, in the room of others.
 fn unknown_lines<W: LineSet>(
-    alloc: Global,
+    others: Vec<LineOf<W>>,
     len: u16,
     count: u16,
 ) -> Result<Vec<LineOf<W>>, NoMemory>
     requires { (1 ≤ len) × (len ≤ W.WIDTH) }
     ensures { IfOk result (λ lines. lines.items ≡ replicate count (replicate len Unknown)) }
 {
-    let mut lines = Vec::with_capacity(alloc, usize::from(count))?;
+    let mut lines = others;
+    lines.clear();
+    lines.reserve(usize::from(count))?;
     for _ in 0..count {
         lines.push_reserved(LineOf::unknown(len));
     }
@@ -101,6 +109,92 @@ fn settle_cell<W: LineSet>(
 {
     rows[y].settle(x as u16, cell);
     columns[x].settle(y as u16, cell);
+}
+
+/// Settles cell `i` of each line at a change as `new` has the change, and puts its place on the trail: cell k of
+/// `new` is `first` and k steps.
+fn settle_across<W: LineSet>(
+    lines: &mut [LineOf<W>],
+    trail: &mut Vec<u16>,
+    i: u16,
+    first: usize,
+    step: usize,
+    new: &LineOf<W>,
+    changes: W,
+)
+    requires changes { (k : ℕ) → Has (W.number changes) k → CanLearn lines.old i new.now k }
+    requires places { (k : ℕ) → Has (W.number changes) k → first + k * step ≤ 65535 }
+    requires room { length trail.old.items + LONGEST_SIDE ≤ vec_capacity trail.old }
+    ensures changed { (k : ℕ) → Has (W.number changes) k → slice_index_or lines.new k []
+        ≡ slice_set (slice_index_or lines.old k []) i (slice_index_or new.now k Unknown) }
+    ensures others { (k : ℕ) → (Has (W.number changes) k → ⊥) → slice_index_or lines.new k [] ≡ slice_index_or lines.old k [] }
+    ensures len { length lines.new ≡ length lines.old }
+    ensures trail { LeadsBack first step (W.number changes) new.now trail.old.items trail.new.items }
+    ensures capacity { vec_capacity trail.new ≡ vec_capacity trail.old }
+{
+    let mut left = changes;
+    while !left.is_empty() {
+        let k = left.first_place();
+        left = left.marked(k, false);
+        lines[usize::from(k)].settle(i, new.get(k));
+        trail.push_reserved((first + usize::from(k) * step) as u16);
+    }
+}
+
+/// Writes row i, of which some cells change from unknown ones, and puts the places of these on the trail.
+fn learn_row<W: LineSet>(
+    rows: &mut [LineOf<W>],
+    columns: &mut [LineOf<W>],
+    trail: &mut Vec<u16>,
+    i: u16,
+    new: &LineOf<W>,
+    changes: W,
+)
+    requires lines { AreLinesOf (cells_of_rows rows.old) rows.old columns.old }
+    requires i { i < length rows.old }
+    requires more { Extends (cells_at Unknown (cells_of_rows rows.old) (places_on Rows (length columns.old) (length rows.old) i)) new.now }
+    requires changes { IsMaskOf
+        (IsChanged (cells_at Unknown (cells_of_rows rows.old) (places_on Rows (length columns.old) (length rows.old) i)) new.now)
+        (W.number changes) }
+    requires room { length trail.old.items + LONGEST_SIDE ≤ vec_capacity trail.old }
+    ensures lines { (cells_of_rows rows.new
+        ≡ with_cells (cells_of_rows rows.old) (places_on Rows (length columns.old) (length rows.old) i) new.now) ×
+        AreLinesOf (cells_of_rows rows.new) rows.new columns.new }
+    ensures trail { (g : TrailedGrid) → g.cells ≡ cells_of_rows rows.old → trail.old.items ≡ g.trail →
+        IsTrailed g (record g { cells = cells_of_rows rows.new; trail = trail.new.items }) }
+    ensures capacity { vec_capacity trail.new ≡ vec_capacity trail.old }
+{
+    let (place, width) = (usize::from(i), columns.len());
+    rows[place].copy_from(new);
+    settle_across(columns, trail, i, place * width, 1, new, changes);
+}
+
+/// Writes column i, of which some cells change from unknown ones, and puts the places of these on the trail.
+fn learn_column<W: LineSet>(
+    rows: &mut [LineOf<W>],
+    columns: &mut [LineOf<W>],
+    trail: &mut Vec<u16>,
+    i: u16,
+    new: &LineOf<W>,
+    changes: W,
+)
+    requires lines { AreLinesOf (cells_of_rows rows.old) rows.old columns.old }
+    requires i { i < length columns.old }
+    requires more { Extends (cells_at Unknown (cells_of_rows rows.old) (places_on Columns (length columns.old) (length rows.old) i)) new.now }
+    requires changes { IsMaskOf
+        (IsChanged (cells_at Unknown (cells_of_rows rows.old) (places_on Columns (length columns.old) (length rows.old) i)) new.now)
+        (W.number changes) }
+    requires room { length trail.old.items + LONGEST_SIDE ≤ vec_capacity trail.old }
+    ensures lines { (cells_of_rows rows.new
+        ≡ with_cells (cells_of_rows rows.old) (places_on Columns (length columns.old) (length rows.old) i) new.now) ×
+        AreLinesOf (cells_of_rows rows.new) rows.new columns.new }
+    ensures trail { (g : TrailedGrid) → g.cells ≡ cells_of_rows rows.old → trail.old.items ≡ g.trail →
+        IsTrailed g (record g { cells = cells_of_rows rows.new; trail = trail.new.items }) }
+    ensures capacity { vec_capacity trail.new ≡ vec_capacity trail.old }
+{
+    let (place, width) = (usize::from(i), columns.len());
+    columns[place].copy_from(new);
+    settle_across(rows, trail, i, place, width, new, changes);
 }
 
 /// Copies lines over others of the same lengths.
@@ -197,15 +291,30 @@ fn sure_below<W: LineSet>(rows: &[LineOf<W>], y: usize) -> W
 }
 
 impl<W: LineSet> GridLines<W> {
-    /// A grid of this size of which nothing is known.
-    pub fn unknown(alloc: Global, width: u16, height: u16) -> Result<GridLines<W>, NoMemory>
+    /// Its rows and its columns.
+    fn into_lists(self) -> (Vec<LineOf<W>>, Vec<LineOf<W>>) {
+        let GridLines { rows, columns } = self;
+        (rows, columns)
+    }
+
+    /// A grid of this size of which nothing is known, in the room of another one, if there is one.
+    pub fn unknown(
+        alloc: Global,
+        other: Option<GridLines<W>>,
+        width: u16,
+        height: u16,
+    ) -> Result<GridLines<W>, NoMemory>
         requires size { IsSize width height }
         requires fits { (width ≤ W.WIDTH) × (height ≤ W.WIDTH) }
         ensures { IfOk result (λ g. g ≡ record { width = width; height = height; cells = replicate (width * height) Unknown }) }
     {
+        let (rows, columns) = match other {
+            Some(other) => other.into_lists(),
+            None => (Vec::new(alloc), Vec::new(alloc)),
+        };
         Ok(GridLines {
-            rows: unknown_lines(alloc, width, height)?,
-            columns: unknown_lines(alloc, height, width)?,
+            rows: unknown_lines(rows, width, height)?,
+            columns: unknown_lines(columns, height, width)?,
         })
     }
 
@@ -307,6 +416,30 @@ impl<W: LineSet> GridLines<W> {
         ensures { self.new ≡ record self.old { cells = slice_set self.old.cells (y * self.old.width + x) cell } }
     {
         settle_cell(&mut self.rows, &mut self.columns, x, y, cell);
+    }
+
+    /// Writes the cells of line i of a side, some of which change from unknown ones, and puts the places of
+    /// these on the trail.
+    pub fn learn(&mut self, trail: &mut Vec<u16>, side: Side, i: u16, new: &LineOf<W>, changes: W)
+        requires i { i < count_on side self.old.width self.old.height }
+        requires more { Extends (cells_at Unknown self.old.cells (places_on side self.old.width self.old.height i)) new.now }
+        requires changes { IsMaskOf
+            (IsChanged (cells_at Unknown self.old.cells (places_on side self.old.width self.old.height i)) new.now)
+            (W.number changes) }
+        requires room { length trail.old.items + LONGEST_SIDE ≤ vec_capacity trail.old }
+        ensures cells { self.new ≡ record self.old {
+          cells = with_cells self.old.cells (places_on side self.old.width self.old.height i) new.now;
+        } }
+        ensures trail { (g : TrailedGrid) → grid_of_board g ≡ self.old → trail.old.items ≡ g.trail →
+            IsTrailed g (record g { cells = self.new.cells; trail = trail.new.items }) }
+        ensures capacity { vec_capacity trail.new ≡ vec_capacity trail.old }
+    {
+        match side {
+            Side::Rows => learn_row(&mut self.rows, &mut self.columns, trail, i, new, changes),
+            Side::Columns => {
+                learn_column(&mut self.rows, &mut self.columns, trail, i, new, changes);
+            }
+        }
     }
 
     /// Becomes the same as another grid of its size, in place.

@@ -26,5 +26,5 @@ pub use findings::{Findings, Grade, Verdict};
 pub use guessing::next_guess;
 pub use line_grids::line_grid;
 pub use picks::Pick;
-pub use reports::report;
+pub use reports::{Reporter, report};
 pub use solver::Solver;

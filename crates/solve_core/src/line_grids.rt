@@ -45,8 +45,8 @@ fn line_grid_within<W: LineSet>(alloc: Global, puzzle: &Puzzle) -> Result<Option
     let width = puzzle.width();
     let height = puzzle.height();
     let grid = Grid::unknown(alloc, width, height)?;
-    let mut board = Board::<W>::unknown(alloc, width, height)?;
-    let deductions = Deductions::with_room(alloc, 1)?;
+    let mut board = Board::<W>::unknown(alloc, None, width, height)?;
+    let deductions = Deductions::with_room(alloc, None, 1)?;
     let mut closer = Closer::<W>::new(deductions);
     Ok(closed_grid(&mut closer, puzzle, &mut board, grid))
 }

@@ -157,8 +157,18 @@ fn findings<W: LineSet>(
     }
 }
 
-/// The report on a puzzle, by sets of a width that has room for its lines and the numbers of its clues.
+/// What a report works in.
+#[derive(Drop)]
+struct Room<W: LineSet> {
+    trials: Trials<W>,
+    board: Board<W>,
+    branches: Vec<Branch>,
+}
+
+/// The report on a puzzle, by sets of a width that has room for its lines and the numbers of its clues, in what
+/// is kept, which it leaves for the next puzzle.
 fn report_within<W: LineSet>(
+    kept: &mut Option<Room<W>>,
     alloc: Global,
     puzzle: &Puzzle,
     guesses: u32,
@@ -169,13 +179,23 @@ fn report_within<W: LineSet>(
     ensures holds { IfOk result (λ findings. Holds (picked pick puzzle.now.width) puzzle.now guesses findings.verdict) }
     ensures spent { IfOk result (λ findings. findings.spent ≤ guesses) }
 {
-    let width = puzzle.width();
-    let height = puzzle.height();
-    let mut trials = Trials::<W>::new(alloc, puzzle)?;
-    let mut board = Board::<W>::unknown(alloc, width, height)?;
-    let mut branches = Vec::with_capacity(alloc, board.lines().count())?;
+    let (trials, board, mut branches) = match kept.take() {
+        Some(
+            Room {
+                trials,
+                board,
+                branches,
+            },
+        ) => (Some(trials), Some(board), branches),
+        None => (None, None, Vec::new(alloc)),
+    };
+    let (width, height) = (puzzle.width(), puzzle.height());
+    let mut trials = Trials::<W>::new(alloc, trials, puzzle)?;
+    let mut board = Board::<W>::unknown(alloc, board, width, height)?;
+    branches.clear();
+    branches.reserve(board.lines().count())?;
     let solutions = Solutions::new(alloc, width, height)?;
-    Ok(findings(
+    let findings = findings(
         &mut trials,
         puzzle,
         &mut board,
@@ -183,7 +203,51 @@ fn report_within<W: LineSet>(
         solutions,
         guesses,
         pick,
-    ))
+    );
+    *kept = Some(Room {
+        trials,
+        board,
+        branches,
+    });
+    Ok(findings)
+}
+
+/// What reports on puzzles, one after another, in room that it keeps.
+#[derive(Drop)]
+pub struct Reporter {
+    narrow: Option<Room<u64>>,
+    middle: Option<Room<u128>>,
+    wide: Option<Room<Wide>>,
+}
+
+impl Reporter {
+    /// It has no room yet.
+    pub fn new() -> Reporter {
+        Reporter {
+            narrow: None,
+            middle: None,
+            wide: None,
+        }
+    }
+
+    /// The report on a puzzle, as `report` gives it. The room that it takes is kept for the next one.
+    pub fn report(
+        &mut self,
+        alloc: Global,
+        puzzle: &Puzzle,
+        guesses: u32,
+        pick: Pick,
+    ) -> Result<Findings, NoMemory>
+        ensures findings { IfOk result (λ findings. findings ≡ report_of (picked pick puzzle.now.width) puzzle.now guesses) }
+        ensures holds { IfOk result (λ findings. Holds (picked pick puzzle.now.width) puzzle.now guesses findings.verdict) }
+        ensures spent { IfOk result (λ findings. findings.spent ≤ guesses) }
+    {
+        match width_for(puzzle) {
+            Width::Narrow => report_within(&mut self.narrow, alloc, puzzle, guesses, pick),
+            Width::Middle => report_within(&mut self.middle, alloc, puzzle, guesses, pick),
+            Width::Wide => report_within(&mut self.wide, alloc, puzzle, guesses, pick),
+        }
+    }
 }
 
 /// The report on a puzzle: what lines and trials settle, and then a search with at most `guesses` guesses.
@@ -198,9 +262,5 @@ pub fn report(
     ensures holds { IfOk result (λ findings. Holds (picked pick puzzle.now.width) puzzle.now guesses findings.verdict) }
     ensures spent { IfOk result (λ findings. findings.spent ≤ guesses) }
 {
-    match width_for(puzzle) {
-        Width::Narrow => report_within::<u64>(alloc, puzzle, guesses, pick),
-        Width::Middle => report_within::<u128>(alloc, puzzle, guesses, pick),
-        Width::Wide => report_within::<Wide>(alloc, puzzle, guesses, pick),
-    }
+    Reporter::new().report(alloc, puzzle, guesses, pick)
 }

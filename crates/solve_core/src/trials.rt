@@ -118,18 +118,48 @@ impl<W: LineSet> Model for Trials<W> {
 }
 
 impl<W: LineSet> Trials<W> {
-    /// Makes the room that closing and trials take.
-    pub fn new(alloc: Global, puzzle: &Puzzle) -> Result<Trials<W>, NoMemory>
+    /// What it works with: deductions, a board for the trials of each colour, and witnesses.
+    fn into_parts(
+        self,
+    ) -> (
+        Option<Deductions<W>>,
+        Option<Board<W>>,
+        Option<Board<W>>,
+        Option<Witnesses>,
+    ) {
+        let Trials {
+            closer,
+            filled_trial,
+            blank_trial,
+            witnesses,
+        } = self;
+        (
+            Some(closer.into_deductions()),
+            Some(filled_trial),
+            Some(blank_trial),
+            Some(witnesses),
+        )
+    }
+
+    /// Makes the room that closing and trials take, of that of others, if there are any.
+    pub fn new(
+        alloc: Global,
+        others: Option<Trials<W>>,
+        puzzle: &Puzzle,
+    ) -> Result<Trials<W>, NoMemory>
         requires { FitsIn W.WIDTH puzzle.now }
         ensures { IfOk result (λ trials. HasRoomFor puzzle.now trials) }
     {
-        let width = puzzle.width();
-        let height = puzzle.height();
+        let (deductions, filled, blank, witnesses) = match others {
+            Some(others) => others.into_parts(),
+            None => (None, None, None, None),
+        };
+        let (width, height) = (puzzle.width(), puzzle.height());
         Ok(Trials {
-            closer: Closer::new(Deductions::new(alloc, puzzle)?),
-            filled_trial: Board::unknown(alloc, width, height)?,
-            blank_trial: Board::unknown(alloc, width, height)?,
-            witnesses: Witnesses::new(alloc, puzzle)?,
+            closer: Closer::new(Deductions::new(alloc, deductions, puzzle)?),
+            filled_trial: Board::unknown(alloc, filled, width, height)?,
+            blank_trial: Board::unknown(alloc, blank, width, height)?,
+            witnesses: Witnesses::new(alloc, witnesses, puzzle)?,
         })
     }
 

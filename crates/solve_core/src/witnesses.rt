@@ -144,18 +144,40 @@ impl Model for Witnesses {
 }
 
 impl Witnesses {
-    /// Makes the room, in proportion to the puzzle. There is no witness.
-    pub fn new(alloc: Global, puzzle: &Puzzle) -> Result<Witnesses, NoMemory>
+    /// Its lists.
+    fn into_lists(self) -> (Vec<Witness>, Vec<u16>, Vec<u16>) {
+        let Witnesses {
+            witnesses,
+            fillable,
+            blankable,
+        } = self;
+        (witnesses, fillable, blankable)
+    }
+
+    /// Makes the room, in proportion to the puzzle, of that of others, if there are any. There is no witness.
+    pub fn new(
+        alloc: Global,
+        others: Option<Witnesses>,
+        puzzle: &Puzzle,
+    ) -> Result<Witnesses, NoMemory>
         ensures { IfOk result (λ made. length made.fillable ≡ puzzle.now.width * puzzle.now.height) }
     {
         let cells = usize::from(puzzle.width()) * usize::from(puzzle.height());
-        let room = (cells * WITNESSES_PER_CELL).min(MOST_WITNESSES);
-        let mut witnesses = Vec::with_capacity(alloc, room)?;
+        let (mut witnesses, mut fillable, mut blankable) = match others {
+            Some(others) => others.into_lists(),
+            None => (Vec::new(alloc), Vec::new(alloc), Vec::new(alloc)),
+        };
+        witnesses.clear();
+        witnesses.reserve((cells * WITNESSES_PER_CELL).min(MOST_WITNESSES))?;
         witnesses.push_reserved(Witness::none());
+        fillable.clear();
+        fillable.resize(cells, 0)?;
+        blankable.clear();
+        blankable.resize(cells, 0)?;
         Ok(Witnesses {
             witnesses,
-            fillable: vec![in alloc; 0; cells]?,
-            blankable: vec![in alloc; 0; cells]?,
+            fillable,
+            blankable,
         })
     }
 

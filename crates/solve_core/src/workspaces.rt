@@ -43,8 +43,8 @@ impl<'p, W: LineSet> Workspace<'p, W> {
     {
         Ok(Workspace {
             puzzle,
-            trials: Trials::new(alloc, puzzle)?,
-            board: Board::unknown(alloc, puzzle.width(), puzzle.height())?,
+            trials: Trials::new(alloc, None, puzzle)?,
+            board: Board::unknown(alloc, None, puzzle.width(), puzzle.height())?,
         })
     }
 

@@ -1,7 +1,8 @@
 -- Boards: a grid with the way back.
-use Rattle.std.specs.Prelude.{◌≡◌, ℕ, ◌*◌, ◌≤◌, List, [], length, replicate}
+use Rattle.std.specs.Prelude.{◌≡◌, ℕ, ◌+◌, ◌*◌, ◌≤◌, List, [], length, replicate}
 use Rattle.grid_core.specs.declared.cells.Cell.{Cell}
 use Rattle.grid_core.specs.declared.cells.Cell.TheVariants.{Unknown}
+use Rattle.grid_core.specs.declared.limits.TheConstants.{LONGEST_SIDE}
 use Rattle.grid_core.specs.declared.sides.Side.{Side}
 use Rattle.grid_core.specs.Nonogram.{Nonogram, cells_at, places_on}
 use Rattle.grid_core.specs.PartialGrid.{PartialGrid, IsSize}
@@ -19,12 +20,12 @@ fresh_board g = record { width = g.width; height = g.height; cells = g.cells; tr
 abbrev pub grid_of_board : TrailedGrid → PartialGrid
 grid_of_board g = record { width = g.width; height = g.height; cells = g.cells }
 
--- what each board keeps, with room for the trail
+-- what each board keeps, with room for the trail and one more line
 pub record IsBoard (g : TrailedGrid) (room : ℕ) : Type 0 where
   pub size : IsSize g.width g.height
   pub count : length g.cells ≡ g.width * g.height
   pub grid : IsTrailedGrid g
-  pub room_is : length g.cells ≤ room
+  pub room_is : length g.cells + LONGEST_SIDE ≤ room
 
 -- the board has the puzzle's size
 abbrev pub IsBoardOf : Nonogram → TrailedGrid → Type 0

@@ -34,17 +34,17 @@ pub changes-changes-requires : goal.changes-changes-requires
 changes-changes-requires g c = length-deduced c.line-old.result.now c.in-Some.new (line_on c.args.side c.args.puzzle.now c.args.i).clue
     (sym c.in-Some.is ∙ c.deduce.ensures.answer)
 
-pub write_line-requires-clause-i : goal.write_line-requires-clause-i
-write_line-requires-clause-i g c = rw (c.requires.board.0, c.requires.board.1) c.requires.i
+pub learn-requires-clause-i : goal.learn-requires-clause-i
+learn-requires-clause-i g c = rw (c.requires.board.0, c.requires.board.1) c.requires.i
 
-pub write_line-requires-clause-more : goal.write_line-requires-clause-more
-write_line-requires-clause-more g c =
+pub learn-requires-clause-more : goal.learn-requires-clause-more
+learn-requires-clause-more g c =
     subst (λ (r : List Cell). Extends r c.in-Some.new) c.line-old.ensures.cells
     (rw (sym c.deduce.ensures.answer ∙ c.in-Some.is) at
     (deduced-above c.line-old.result.now (line_on c.args.side c.args.puzzle.now c.args.i).clue))
 
-pub write_line-requires-clause-changes : goal.write_line-requires-clause-changes
-write_line-requires-clause-changes g c =
+pub learn-requires-clause-changes : goal.learn-requires-clause-changes
+learn-requires-clause-changes g c =
     subst (λ (r : List Cell). IsMaskOf (IsChanged r c.in-Some.new) (g.W.PlaceSet.number c.changes-changes.result)) c.line-old.ensures.cells
     c.changes-changes.ensures.changes
 
@@ -95,7 +95,7 @@ returns-clause-learned g c =
     let b = c.args.board.now in
     let side = c.args.side in
     let line = line_on side p c.args.i in
-    let new = c.write_line.new.board.cells in
+    let new = c.learn.new.self.cells in
     let read = c.line-old.ensures.cells ∙ seen p b side c.args.i c.requires.board in
     let same = same_without_change c.line-old.result.now c.in-Some.new (g.W.PlaceSet.number c.changes-changes.result)
     (length-deduced c.line-old.result.now c.in-Some.new line.clue (sym c.in-Some.is ∙ c.deduce.ensures.answer))
@@ -103,7 +103,7 @@ returns-clause-learned g c =
     let w : IsWritten line b.cells new = record {
       certain = c.in-Some.new;
       is_certain = ap (λ (r : List Cell). deduced r line.clue) (sym read) ∙ sym c.deduce.ensures.answer ∙ c.in-Some.is;
-      written = c.write_line.ensures.cells ∙ (λ j. with_cells b.cells
+      written = c.learn.ensures.cells ∙ (λ j. with_cells b.cells
           (places_on side (c.requires.board.0 j) (c.requires.board.1 j) c.args.i) c.in-Some.new);
     } in
     let size : IsSize p.width p.height = rw (← c.requires.board.0, ← c.requires.board.1) c.line-old.ensures.whole.0 in (
@@ -121,14 +121,14 @@ returns-clause-marks g c =
     let i = c.args.i in
     let line = line_on side p i in
     let m = g.W.PlaceSet.number c.changes-changes.result in
-    let new = c.write_line.new.board.cells in
+    let new = c.learn.new.self.cells in
     let before = c.args.marks.now in
     let after = c.add.new.self in
     let read = c.line-old.ensures.cells ∙ seen p b side i c.requires.board in
     let w : IsWritten line b.cells new = record {
       certain = c.in-Some.new;
       is_certain = ap (λ (r : List Cell). deduced r line.clue) (sym read) ∙ sym c.deduce.ensures.answer ∙ c.in-Some.is;
-      written = c.write_line.ensures.cells ∙ (λ j. with_cells b.cells
+      written = c.learn.ensures.cells ∙ (λ j. with_cells b.cells
           (places_on side (c.requires.board.0 j) (c.requires.board.1 j) i) c.in-Some.new);
     } in
     let size : IsSize p.width p.height = rw (← c.requires.board.0, ← c.requires.board.1) c.line-old.ensures.whole.0 in

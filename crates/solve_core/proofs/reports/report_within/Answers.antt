@@ -9,18 +9,18 @@ use Rattle.solve_core.proofs.AnswerLaws.{verdict-Holds, guesses-within}
 use Rattle.solve_core.proofs.reports.report_within.Goals as goal
 
 pub returns-clause-findings : goal.returns-clause-findings
-returns-clause-findings g c = c.findings.ensures
+returns-clause-findings g c = c.findings-findings.ensures
 
 pub returns-clause-holds : goal.returns-clause-holds
 returns-clause-holds g c =
     let p = c.args.puzzle.now in
     subst (λ (f : Findings). Holds (picked c.args.pick c.args.puzzle.now.width) p c.args.guesses f.verdict)
-    (sym c.findings.ensures)
+    (sym c.findings-findings.ensures)
     (verdict-Holds (picked c.args.pick c.args.puzzle.now.width) (picked-IsPick c.args.pick c.args.puzzle.now.width) p
     c.width-width.ensures.puzzle c.args.guesses)
 
 pub returns-clause-spent : goal.returns-clause-spent
 returns-clause-spent g c =
     subst (λ (f : Findings). f.spent ≤ c.args.guesses)
-    (sym c.findings.ensures)
+    (sym c.findings-findings.ensures)
     (guesses-within c.args.guesses (search_of (picked c.args.pick c.args.puzzle.now.width) c.args.puzzle.now))

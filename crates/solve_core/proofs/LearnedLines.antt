@@ -1,0 +1,229 @@
+-- The lines of a grid after one of them was written whole, and each that crosses it where it changes.
+use Rattle.std.proofs.Common.{◌≡◌, ◌≢◌, ◌∙◌, refl, ℕ, ◌*◌, ◌<◌, ◌≤◌, inl, inr, List, [], length, get_or, set, sym, ap, subst, arith, length-set, get_or-set_same, get_or-set_other, ext_get_or}
+use Rattle.std.specs.Int.{bit_at}
+use Rattle.std.proofs.lemmas.Bool.{cases_eq}
+use Rattle.grid_core.specs.declared.cells.Cell.{Cell}
+use Rattle.grid_core.specs.declared.cells.Cell.TheVariants.{Unknown}
+use Rattle.grid_core.specs.declared.sides.Side.{Side}
+use Rattle.grid_core.specs.declared.sides.Side.TheVariants.{Rows, Columns}
+use Rattle.grid_core.specs.Cells.{Extends}
+use Rattle.grid_core.specs.Lines.{IsChanged}
+use Rattle.grid_core.specs.Nonogram.{cells_at, crossing, places_on}
+use Rattle.grid_core.specs.PartialGrid.{IsSize}
+use Rattle.grid_core.specs.Rows.{cells_of_rows}
+use Rattle.grid_core.specs.steps.Sides.{count_on, place_on}
+use Rattle.grid_core.proofs.Changing.{same_cells}
+use Rattle.grid_core.proofs.LineLaws.{get_or-cells_at, length-cells_at, length-places_on, get_or-places_on}
+use Rattle.line_core.proofs.DeductionLaws.{Extends-at}
+use Rattle.place_sets.specs.Masks.{Has, IsMaskOf}
+use Rattle.solve_core.specs.Closure.{with_cells}
+use Rattle.solve_core.specs.steps.GridLines.{AreLinesOf}
+use Rattle.solve_core.specs.steps.Learning.{CanLearn}
+use Rattle.solve_core.proofs.ClosureLaws.{length-with_cells}
+use Rattle.solve_core.proofs.GridLineSteps.{lines-cells}
+use Rattle.solve_core.proofs.LineSteps.{cells_at-same, cells_at-with_cells, get_or-with_cells, learned_cell}
+use Rattle.solve_core.proofs.Order.{length-Extends}
+use Rattle.solve_core.proofs.SideLines.{across, along, below_places, cell_within, crossing_twice, distinct_places, longest_sides_fit, same_place}
+
+-- line i of a side gets these cells, of which some change
+pub record Learns (side : Side) (w h i m : ℕ) (cells new : List Cell) : Type 0 where
+  pub some : 0 < w
+  pub line : i < count_on side w h
+  pub count : length cells ≡ w * h
+  pub more : Extends (cells_at Unknown cells (places_on side w h i)) new
+  pub changes : IsMaskOf (IsChanged (cells_at Unknown cells (places_on side w h i)) new) m
+
+-- the lines of a side have the cells of a grid
+abbrev pub AreOn : Side → ℕ → ℕ → List Cell → List (List Cell) → Type 0
+AreOn side w h cells lines = (length lines ≡ count_on side w h) ×
+    ((k : ℕ) → k < length lines → get_or lines k [] ≡ cells_at Unknown cells (places_on side w h k))
+
+abbrev after : Side → ℕ → ℕ → ℕ → List Cell → List Cell → List Cell
+after side w h i cells new = with_cells cells (places_on side w h i) new
+
+long_new : (side : Side) (w h i m : ℕ) (cells new : List Cell) → Learns side w h i m cells new →
+    length new ≡ length (places_on side w h i)
+long_new side w h i m cells new is =
+    sym (length-Extends (cells_at Unknown cells (places_on side w h i)) new is.more) ∙
+    length-cells_at Unknown cells (places_on side w h i)
+
+-- the cells of the line are the new ones
+own_read : (side : Side) (w h i m : ℕ) (cells new : List Cell) → Learns side w h i m cells new →
+    cells_at Unknown (after side w h i cells new) (places_on side w h i) ≡ new
+own_read side w h i m cells new is =
+    cells_at-with_cells cells (places_on side w h i) new (distinct_places side w h i is.some)
+    (rw is.count (below_places side w h i is.line)) (long_new side w h i m cells new is)
+
+-- the cell of the line at k
+at_own : (side : Side) (w h i k : ℕ) (cells : List Cell) → k < count_on (crossing side) w h →
+    get_or (cells_at Unknown cells (places_on side w h i)) k Unknown ≡ get_or cells (place_on side w i k) Unknown
+at_own side w h i k cells l =
+    get_or-cells_at Unknown cells (places_on side w h i) k (omega (arith, l, length-places_on side w h i)) ∙
+    ap (λ (p : ℕ). get_or cells p Unknown) (get_or-places_on side w h i k l)
+
+-- a cell of another line of the side stays
+at_other : (side : Side) (w h i j k m : ℕ) (cells new : List Cell) → Learns side w h i m cells new → j ≢ i → j < count_on side w h →
+    k < count_on (crossing side) w h → get_or (after side w h i cells new) (place_on side w j k) Unknown ≡ get_or cells (place_on side w j k) Unknown
+at_other side w h i j k m cells new is other lj lk =
+    get_or-with_cells cells (places_on side w h i) new (place_on side w j k) (λ t lt e.
+    let there = along side w h i t lt in
+    absurd (other (sym (same_place side w h i t j k is.line there.0 lj lk (sym there.1 ∙ e)).0)))
+
+-- the lines of its side
+own_learned : (side : Side) (w h i m : ℕ) (cells new : List Cell) (own : List (List Cell)) → Learns side w h i m cells new →
+    AreOn side w h cells own → AreOn side w h (after side w h i cells new) (set own i new)
+own_learned side w h i m cells new own is are = (
+  length-set own i new ∙ are.0,
+  λ j lj.
+      let below : j < length own = omega (arith, lj, length-set own i new) in
+      let inside : j < count_on side w h = omega (arith, below, are.0) in
+      elim (cases_eq j i) [
+        | inl same ↦ rw same (get_or-set_same own i new [] (omega (arith, is.line, are.0)) ∙ sym (own_read side w h i m cells new is))
+        | inr other ↦ get_or-set_other own i j new [] other ∙ are.1 j below ∙
+            sym (cells_at-same (after side w h i cells new) cells (places_on side w h j) (λ k lk.
+            let there = along side w h j k lk in
+            rw there.1 (at_other side w h i j k m cells new is other inside there.0)))
+      ],
+)
+
+-- the cell of a line that crosses
+at_across : (side : Side) (w h k t : ℕ) (cells : List Cell) → k < count_on (crossing side) w h → t < count_on side w h →
+    (t < length (cells_at Unknown cells (places_on (crossing side) w h k))) ×
+    (get_or (cells_at Unknown cells (places_on (crossing side) w h k)) t Unknown ≡ get_or cells (place_on side w t k) Unknown)
+at_across side w h k t cells lk lt =
+    let places = places_on (crossing side) w h k in
+    let long : length places ≡ count_on side w h = length-places_on (crossing side) w h k ∙
+    ap (λ (s : Side). count_on s w h) (crossing_twice side) in
+    let here : t < length places = omega (arith, lt, long) in (
+      omega (arith, here, length-cells_at Unknown cells places),
+      get_or-cells_at Unknown cells places t here ∙ ap (λ (p : ℕ). get_or cells p Unknown) (across side w h k t here).1,
+    )
+
+-- what changes can be written into the lines that cross
+pub can_learn : (side : Side) (w h i m : ℕ) (cells new : List Cell) (lines : List (List Cell)) → Learns side w h i m cells new →
+    AreOn (crossing side) w h cells lines → (k : ℕ) → Has m k → CanLearn lines i new k
+can_learn side w h i m cells new lines is are k has =
+    let old = cells_at Unknown cells (places_on side w h i) in
+    let at = is.changes.to k has in
+    let here : k < count_on (crossing side) w h =
+    (along side w h i k (omega (arith, at.0, length-cells_at Unknown cells (places_on side w h i)))).0 in
+    let line : k < length lines = omega (arith, here, are.0) in
+    let learned = learned_cell (get_or old k Unknown) (get_or new k Unknown) (Extends-at old new k is.more) at.1 in
+    let read = at_across side w h k i cells here is.line in
+    record {
+      line = line;
+      within = rw (are.1 k line) read.0;
+      unknown = rw (are.1 k line) (read.1 ∙ sym (at_own side w h i k cells here) ∙ learned.0);
+      cell = omega (arith, at.0, length-Extends old new is.more);
+      known = learned.1;
+    }
+
+-- the lines that cross
+across_learned : (side : Side) (w h i m : ℕ) (cells new : List Cell) (lines more : List (List Cell)) → Learns side w h i m cells new →
+    AreOn (crossing side) w h cells lines → length more ≡ length lines →
+    ((k : ℕ) → Has m k → get_or more k [] ≡ set (get_or lines k []) i (get_or new k Unknown)) →
+    ((k : ℕ) → (Has m k → ⊥) → get_or more k [] ≡ get_or lines k []) →
+    AreOn (crossing side) w h (after side w h i cells new) more
+across_learned side w h i m cells new lines more is are long changed others = (
+  long ∙ are.0,
+  λ k lk.
+      let below : k < length lines = omega (arith, lk, long) in
+      let inside : k < count_on (crossing side) w h = omega (arith, below, are.0) in
+      let old = cells_at Unknown cells (places_on side w h i) in
+      let before = cells_at Unknown cells (places_on (crossing side) w h k) in
+      let then = cells_at Unknown (after side w h i cells new) (places_on (crossing side) w h k) in
+      let line = are.1 k below in
+      let high : length before ≡ length then = length-cells_at Unknown cells (places_on (crossing side) w h k) ∙
+      sym (length-cells_at Unknown (after side w h i cells new) (places_on (crossing side) w h k)) in
+      let tall : length before ≡ count_on side w h = length-cells_at Unknown cells (places_on (crossing side) w h k) ∙
+      length-places_on (crossing side) w h k ∙ ap (λ (s : Side). count_on s w h) (crossing_twice side) in
+      let own : get_or then i Unknown ≡ get_or new k Unknown = (at_across side w h k i (after side w h i cells new) inside is.line).1 ∙
+      sym (at_own side w h i k (after side w h i cells new) inside) ∙
+      ap (λ (r : List Cell). get_or r k Unknown) (own_read side w h i m cells new is) in
+      let kept : (t : ℕ) → t < length before → t ≢ i → get_or before t Unknown ≡ get_or then t Unknown = λ t lt other.
+      let lt2 : t < count_on side w h = omega (arith, lt, tall) in
+      (at_across side w h k t cells inside lt2).1 ∙ sym (at_other side w h i t k m cells new is other lt2 inside) ∙
+      sym (at_across side w h k t (after side w h i cells new) inside lt2).1 in
+      elim (cases_eq (bit_at m k) 1) [
+        | inl has ↦
+            let written : get_or more k [] ≡ set before i (get_or new k Unknown) = changed k has ∙
+            ap (λ (r : List Cell). set r i (get_or new k Unknown)) line in
+            written ∙ ext_get_or Unknown (set before i (get_or new k Unknown)) then (length-set before i (get_or new k Unknown) ∙ high) (λ t lt.
+            let inner : t < length before = omega (arith, lt, length-set before i (get_or new k Unknown)) in
+            elim (cases_eq t i) [
+              | inl same ↦ rw same (get_or-set_same before i (get_or new k Unknown) Unknown (omega (arith, is.line, tall)) ∙ sym own)
+              | inr other ↦ get_or-set_other before i t (get_or new k Unknown) Unknown other ∙ kept t inner other
+            ])
+        | inr none ↦
+            others k none ∙ line ∙ ext_get_or Unknown before then high (λ t lt.
+            elim (cases_eq t i) [
+              | inl same ↦ rw same ((at_across side w h k i cells inside is.line).1 ∙ sym (at_own side w h i k cells inside) ∙
+                  sym (same_cells (get_or old k Unknown) (get_or new k Unknown) (λ d. none (is.changes.from k (
+                    omega (arith, inside, length-cells_at Unknown cells (places_on side w h i), length-places_on side w h i),
+                    d,
+                  )))) ∙ sym own)
+              | inr other ↦ kept t lt other
+            ])
+      ],
+)
+
+-- rows and columns that have the cells of a grid are its lines
+whole : (w h : ℕ) (cells : List Cell) (rows columns : List (List Cell)) → IsSize w h → length cells ≡ w * h → AreOn Rows w h cells rows →
+    AreOn Columns w h cells columns → (cells_of_rows rows ≡ cells) × AreLinesOf (cells_of_rows rows) rows columns
+whole w h cells rows columns size count high wide =
+    let are : AreLinesOf cells rows columns = record {
+      size = rw (wide.0, high.0) size;
+      count = rw (wide.0, high.0) count;
+      rows_are = λ y l. high.1 y l ∙ (λ j. cells_at Unknown cells (places_on Rows (sym wide.0 j) (sym high.0 j) y));
+      columns_are = λ x l. wide.1 x l ∙ (λ j. cells_at Unknown cells (places_on Columns (sym wide.0 j) (sym high.0 j) x));
+    } in
+    let same = lines-cells cells rows columns are in
+    (same, subst (λ (r : List Cell). AreLinesOf r rows columns) (sym same) are)
+
+-- the lines after a row was written
+pub learned_rows : (i m : ℕ) (new : List Cell) (rows columns more : List (List Cell)) → AreLinesOf (cells_of_rows rows) rows columns →
+    Learns Rows (length columns) (length rows) i m (cells_of_rows rows) new → length more ≡ length columns →
+    ((k : ℕ) → Has m k → get_or more k [] ≡ set (get_or columns k []) i (get_or new k Unknown)) →
+    ((k : ℕ) → (Has m k → ⊥) → get_or more k [] ≡ get_or columns k []) →
+    (cells_of_rows (set rows i new) ≡ after Rows (length columns) (length rows) i (cells_of_rows rows) new) ×
+    AreLinesOf (cells_of_rows (set rows i new)) (set rows i new) more
+learned_rows i m new rows columns more a is long changed others =
+    let cells = cells_of_rows rows in
+    let w = length columns in
+    let h = length rows in
+    whole w h (after Rows w h i cells new) (set rows i new) more a.size (length-with_cells cells (places_on Rows w h i) new ∙ is.count)
+    (own_learned Rows w h i m cells new rows is (refl, a.rows_are))
+    (across_learned Rows w h i m cells new columns more is (refl, a.columns_are) long changed others)
+
+-- the lines after a column was written
+pub learned_columns : (i m : ℕ) (new : List Cell) (rows columns more : List (List Cell)) → AreLinesOf (cells_of_rows rows) rows columns →
+    Learns Columns (length columns) (length rows) i m (cells_of_rows rows) new → length more ≡ length rows →
+    ((k : ℕ) → Has m k → get_or more k [] ≡ set (get_or rows k []) i (get_or new k Unknown)) →
+    ((k : ℕ) → (Has m k → ⊥) → get_or more k [] ≡ get_or rows k []) →
+    (cells_of_rows more ≡ after Columns (length columns) (length rows) i (cells_of_rows rows) new) ×
+    AreLinesOf (cells_of_rows more) more (set columns i new)
+learned_columns i m new rows columns more a is long changed others =
+    let cells = cells_of_rows rows in
+    let w = length columns in
+    let h = length rows in
+    whole w h (after Columns w h i cells new) more (set columns i new) a.size
+    (length-with_cells cells (places_on Columns w h i) new ∙ is.count)
+    (across_learned Columns w h i m cells new rows more is (refl, a.rows_are) long changed others)
+    (own_learned Columns w h i m cells new columns is (refl, a.columns_are))
+
+-- what a line of a grid learns, by the lines of the grid
+pub learns_of : (side : Side) (i m : ℕ) (new : List Cell) (rows columns : List (List Cell)) → AreLinesOf (cells_of_rows rows) rows columns →
+    i < count_on side (length columns) (length rows) →
+    Extends (cells_at Unknown (cells_of_rows rows) (places_on side (length columns) (length rows) i)) new →
+    IsMaskOf (IsChanged (cells_at Unknown (cells_of_rows rows) (places_on side (length columns) (length rows) i)) new) m →
+    Learns side (length columns) (length rows) i m (cells_of_rows rows) new
+learns_of side i m new rows columns a line more changes =
+    record { some = omega (arith, a.size.width_from); line = line; count = a.count; more = more; changes = changes }
+
+-- the place of a change fits 16 bits
+pub place_fits : (side : Side) (w h i m : ℕ) (cells new : List Cell) → IsSize w h → Learns side w h i m cells new → (k : ℕ) → Has m k →
+    place_on side w i k ≤ 65535
+place_fits side w h i m cells new size is k has =
+    let at = is.changes.to k has in
+    let here = along side w h i k (omega (arith, at.0, length-cells_at Unknown cells (places_on side w h i))) in
+    omega (arith, cell_within side w h i k is.line here.0, longest_sides_fit w h size)
