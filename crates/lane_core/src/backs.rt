@@ -8,10 +8,11 @@ ghost use Rattle.lane_core.specs.Answers.{AreAnswersTo};
 
 use crate::answers::Answer;
 use crate::gates::Gate;
-use crate::grading::grade;
+use crate::grading::grade_by;
 use crate::messages::Message;
 use crate::steps::Step;
 use rtrb::{Consumer, Producer, PushError};
+use solve_core::Reporter;
 use std::alloc::Global;
 
 /// Puts an answer into the ring, or holds it if the ring is full.
@@ -40,6 +41,7 @@ pub struct LaneBack {
     pub(crate) answers: Producer<Answer>,
     pub(crate) held: Option<Answer>,
     pub(crate) finished: bool,
+    pub(crate) reporter: Reporter,
     pub ghost noted: { finished ≡ has_finish (received messages) },
     pub ghost free: { finished ≡ true → is_none held ≡ true },
     pub ghost answered: { ∥ AreAnswersTo (jobs_of (received messages)) (sent answers ++ option_to_list held) ∥₁ },
@@ -75,7 +77,7 @@ impl LaneBack {
                 }
                 Ok(Message::Work(job)) => {
                     gate.enter(job.number);
-                    let answer = grade(alloc, job);
+                    let answer = grade_by(&mut self.reporter, alloc, job);
                     offer(&mut self.answers, &mut self.held, answer)
                 }
             },

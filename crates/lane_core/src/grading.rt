@@ -4,11 +4,18 @@ ghost use Rattle.lane_core.specs.Answers.{IsAnswerTo};
 
 use crate::answers::Answer;
 use crate::jobs::Job;
-use solve_core::report;
+use solve_core::Reporter;
 use std::alloc::Global;
 
 /// The answer to a job. If a growth is refused, its outcome is `NoMemory`.
 pub fn grade(alloc: Global, job: Job) -> Answer
+    ensures { IsAnswerTo job result }
+{
+    grade_by(&mut Reporter::new(), alloc, job)
+}
+
+/// The answer to a job, by what keeps its room from one job to the next.
+pub fn grade_by(reporter: &mut Reporter, alloc: Global, job: Job) -> Answer
     ensures { IsAnswerTo job result }
 {
     let Job {
@@ -17,6 +24,6 @@ pub fn grade(alloc: Global, job: Job) -> Answer
         guesses,
         pick,
     } = job;
-    let outcome = report(alloc, &puzzle, guesses, pick);
+    let outcome = reporter.report(alloc, &puzzle, guesses, pick);
     Answer::new(number, puzzle, guesses, pick, outcome)
 }

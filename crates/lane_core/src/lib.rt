@@ -24,7 +24,7 @@ pub use dealing::{MOST_TAKEN, deal};
 pub use faults::{FinishFault, SendFault, SettleFault};
 pub use fronts::LaneFront;
 pub use gates::{Gate, OpenGate};
-pub use grading::grade;
+pub use grading::{grade, grade_by};
 pub use jobs::{Job, MOST_GUESSES};
 pub use lanes::Lane;
 pub use messages::Message;

@@ -8,6 +8,7 @@ use crate::backs::LaneBack;
 use crate::fronts::LaneFront;
 use grid_core::NoMemory;
 use rtrb::RingBuffer;
+use solve_core::Reporter;
 use std::alloc::Global;
 
 /// The greatest capacity of a lane between two threads.
@@ -45,6 +46,7 @@ pub(crate) fn open_ends(alloc: Global, capacity: usize) -> Result<(LaneFront, La
         answers: to_front,
         held: None,
         finished: false,
+        reporter: Reporter::new(),
     };
     Ok((front, back))
 }

@@ -4,7 +4,8 @@ ghost use Rattle.std.specs.Prelude.{IfOk};
 ghost use Rattle.lane_core.specs.Answers.{AreAnswersTo};
 
 use grid_core::NoMemory;
-use lane_core::{Answer, Job, grade};
+use lane_core::{Answer, Job, grade_by};
+use solve_core::Reporter;
 use std::alloc::Global;
 use std::collections::VecDeque;
 
@@ -15,8 +16,9 @@ pub fn collect_one(alloc: Global, jobs: Vec<Job>) -> Result<Vec<Answer>, NoMemor
 {
     let mut answers = Vec::with_capacity(alloc, jobs.len())?;
     let mut jobs = VecDeque::from(jobs);
+    let mut reporter = Reporter::new();
     'grading: while let Some(job) = jobs.pop_front() {
-        answers.push_reserved(grade(alloc, job));
+        answers.push_reserved(grade_by(&mut reporter, alloc, job));
     }
     Ok(answers)
 }

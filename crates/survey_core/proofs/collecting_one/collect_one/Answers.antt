@@ -18,7 +18,7 @@ grading-preserved c =
         done,
         append_assoc before.0 (job ∷ []) c.pop_front.new.self.items ∙ ap (λ l. before.0 ++ l) (sym c.in-Some.ensures.items) ∙ before.1,
         subst (λ l. AreAnswersTo done l) (sym c.push_reserved.ensures.items)
-            (AreAnswersTo-push before.0 c.grading.answers.items job c.grade.result before.2 c.grade.ensures),
+            (AreAnswersTo-push before.0 c.grading.answers.items job c.grade_by.result before.2 c.grade_by.ensures),
       );
       room = omega arith;
     }

@@ -38,15 +38,15 @@ invariant_of-self-in-Ok-Work g c =
       free = λ finished. cc;
       answered =
           ∥∥₁_map c.args.self.now.answered
-          (offered_is_answered _ c.in-Ok-Work.job c.grade-answer.result _ (back_lists c.args.self.now) _ _ _
-          (sym c.in-None.ensures.value) taken c.grade-answer.ensures c.offer-in-Ok-Work.ensures.offered);
+          (offered_is_answered _ c.in-Ok-Work.job c.grade_by-answer.result _ (back_lists c.args.self.now) _ _ _
+          (sym c.in-None.ensures.value) taken c.grade_by-answer.ensures c.offer-in-Ok-Work.ensures.offered);
       room = c.offer-in-Ok-Work.ensures.room;
     }
 
 pub returns-in-Ok-Work-clause-lists : goal.returns-in-Ok-Work-clause-lists
 returns-in-Ok-Work-clause-lists g c = inr (
   sym c.args.self.now.noted ∙ c.if-self.false,
-  StepsBeforeFinish-offer_taken _ c.in-Ok-Work.job c.grade-answer.result c.offer-in-Ok-Work.result (back_lists c.args.self.now) _
+  StepsBeforeFinish-offer_taken _ c.in-Ok-Work.job c.grade_by-answer.result c.offer-in-Ok-Work.result (back_lists c.args.self.now) _
       (sym c.in-None.ensures.value)
-      (taken_as _ _ _ _ c.in-Ok-Work.ensures.ok.0 c.in-Ok-Work.field-0-is) c.grade-answer.ensures c.offer-in-Ok-Work.ensures.offered,
+      (taken_as _ _ _ _ c.in-Ok-Work.ensures.ok.0 c.in-Ok-Work.field-0-is) c.grade_by-answer.ensures c.offer-in-Ok-Work.ensures.offered,
 )
