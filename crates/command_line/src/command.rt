@@ -326,7 +326,7 @@ fn whole_program<'a>(
 }
 
 /// The text of an argument, or the empty one if it has none.
-fn word_of<'a>(matches: &ArgMatches<'a>, id: &str) -> &'a str
+fn text_in<'a>(matches: &ArgMatches<'a>, id: &str) -> &'a str
     ensures { result.now ≡ text_in id.now (rows_of (found_of matches.now)) }
 {
     matches.get_str(id).unwrap_or("")
@@ -336,7 +336,7 @@ fn word_of<'a>(matches: &ArgMatches<'a>, id: &str) -> &'a str
 fn text_of(alloc: Global, matches: &ArgMatches<'_>, id: &str) -> Result<String, NoMemory>
     ensures { IfOk result (λ text. string_bytes text ≡ text_in id.now (rows_of (found_of matches.now))) }
 {
-    Ok(String::from_str(alloc, word_of(matches, id))?)
+    Ok(String::from_str(alloc, text_in(matches, id))?)
 }
 
 /// The files that are named.
@@ -365,7 +365,7 @@ fn guesses_of(matches: &ArgMatches<'_>) -> u32
 fn pick_of(matches: &ArgMatches<'_>) -> Pick
     ensures { result ≡ pick_of_word (text_in (codes "pick") (rows_of (found_of matches.now))) }
 {
-    match word_of(matches, "pick") {
+    match text_in(matches, "pick") {
         "most" => Pick::Most,
         _ => Pick::First,
     }
@@ -402,7 +402,7 @@ fn conversion_of(alloc: Global, matches: &ArgMatches<'_>) -> Result<Option<Reque
     ensures range { IfOk result (λ asked. IfSome asked HasSettingsInRange) }
     ensures asked { IfOk result (λ asked. IfSome asked (Asks (codes "convert") (rows_of (found_of matches.now)))) }
 {
-    let Some(format) = Format::of_word(word_of(matches, "to")) else {
+    let Some(format) = Format::of_word(text_in(matches, "to")) else {
         return Ok(None);
     };
     Ok(Some(Request::Convert(format, text_of(alloc, matches, "file")?)))

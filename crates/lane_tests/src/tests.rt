@@ -21,7 +21,7 @@ fn clues(alloc: Global, count: u16, numbers: &[u16]) -> Result<Vec<Clue>, Fail> 
 }
 
 /// The puzzle with one clue for all rows and one for all columns.
-pub(crate) fn puzzle_of(
+pub(crate) fn puzzle_with(
     alloc: Global,
     width: u16,
     height: u16,
@@ -41,7 +41,7 @@ fn width_of(number: u32) -> u16 {
 /// The job of this number, with one row of cells that are all filled.
 pub(crate) fn job(alloc: Global, number: u32) -> Result<Job, Fail> {
     let width = width_of(number);
-    let puzzle = puzzle_of(alloc, width, 1, &[width], &[1])?;
+    let puzzle = puzzle_with(alloc, width, 1, &[width], &[1])?;
     Ok(Job::new(number, puzzle, 1000, Pick::First))
 }
 
@@ -87,7 +87,7 @@ pub(crate) enum Reply {
 }
 
 /// The jobs that a script sends, in its order.
-pub(crate) fn jobs_of(
+pub(crate) fn jobs_for(
     alloc: Global,
     script: &[(Call, Reply)],
 ) -> Result<VecDeque<Job, Global>, Fail> {
@@ -340,7 +340,7 @@ fn answers_keep_the_rule(rt: HostRuntime) -> Result<(), Fail> {
     for pick in [Pick::First, Pick::Most] {
         let answer = grade(
             alloc,
-            Job::new(7, puzzle_of(alloc, 1, 1, &[1], &[1])?, 1000, pick),
+            Job::new(7, puzzle_with(alloc, 1, 1, &[1], &[1])?, 1000, pick),
         );
         assert_eq!(rt; answer.pick(), pick);
         assert!(rt; answer.outcome().is_ok());

@@ -1,6 +1,6 @@
 //! Tests of the limits, with their numbers written out.
 
-use crate::tests::{Batch, Call, Called, ends, job, jobs, puzzle_of};
+use crate::tests::{Batch, Call, Called, ends, job, jobs, puzzle_with};
 use lane_core::*;
 use solve_core::Pick;
 use std::alloc::Global;
@@ -52,7 +52,7 @@ fn the_largest_batch_holds_10001_messages(rt: HostRuntime) -> Result<(), Fail> {
 fn large_jobs_with_the_most_guesses(rt: HostRuntime) -> Result<(), Fail> {
     let alloc = rt.alloc();
     for side in [1, 100, 256] {
-        let puzzle = puzzle_of(alloc, side, side, &[], &[])?;
+        let puzzle = puzzle_with(alloc, side, side, &[], &[])?;
         let answer = grade(alloc, Job::new(1, puzzle, 1_000_000, Pick::Most));
         assert_eq!(rt; answer.guesses(), 1_000_000);
         assert!(rt; answer.outcome().is_ok(), "{side}");

@@ -1,7 +1,7 @@
 //! Calls whose growths of memory are refused, each in turn, and calls that take no memory
 //! with every growth refused.
 
-use crate::tests::{Batch, Call, Called, job, jobs, puzzle_of};
+use crate::tests::{Batch, Call, Called, job, jobs, puzzle_with};
 use grid_core::NoMemory;
 use lane_core::*;
 use refusals::{Told, is_heeded, refuse, sweep, told_if, was_refused};
@@ -42,7 +42,7 @@ fn told_of_answer(answer: &Answer) -> Told {
 #[test]
 fn jobs_are_graded_or_refused(rt: HostRuntime) -> Result<(), Fail> {
     let alloc = rt.alloc();
-    let puzzle = puzzle_of(alloc, 8, 1, &[8], &[1])?;
+    let puzzle = puzzle_with(alloc, 8, 1, &[8], &[1])?;
     sweep(alloc, || match puzzle.copy(alloc) {
         Ok(puzzle) => told_of_answer(&grade(alloc, Job::new(7, puzzle, 1000, Pick::First))),
         Err(NoMemory) => Told::NoMemory,

@@ -1,7 +1,7 @@
 //! Scripts of calls on one thread, with each growth of memory refused in turn. Whether a ring is full or
 //! empty as an end sees it, no contract says.
 
-use crate::tests::{Batch, Both, Call, Called, Reply, jobs, jobs_of, told_of};
+use crate::tests::{Batch, Both, Call, Called, Reply, jobs, jobs_for, told_of};
 use grid_core::NoMemory;
 use lane_core::*;
 use refusals::{refuse, was_refused};
@@ -167,8 +167,8 @@ fn deal_batch(
 fn follow_all(rt: &impl Abort, alloc: Global, scene: Scene) -> Result<(), Fail> {
     for growth in 1..MOST_GROWTHS {
         let mut jobs = match scene {
-            Scene::Lane => jobs_of(alloc, &BEFORE_THE_FINISH)?,
-            Scene::Batch => jobs_of(alloc, &BATCH)?,
+            Scene::Lane => jobs_for(alloc, &BEFORE_THE_FINISH)?,
+            Scene::Batch => jobs_for(alloc, &BATCH)?,
             Scene::Deal => jobs(alloc, 1, 3)?,
         };
         refuse(alloc, growth);

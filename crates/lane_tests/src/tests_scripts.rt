@@ -3,7 +3,7 @@
 
 ghost use Rattle.std.specs.Prelude.{◌≤◌};
 
-use crate::tests::{Both, Call, Called, Reply, jobs_of};
+use crate::tests::{Both, Call, Called, Reply, jobs_for};
 use lane_core::*;
 use std::alloc::Global;
 use std::process::Abort;
@@ -143,7 +143,7 @@ impl Script {
 
     fn call(&mut self, rt: &impl Abort, alloc: Global, call: Call) -> Result<(), Fail> {
         let told = self.counts.reply(call);
-        let mut jobs = jobs_of(alloc, &[(call, told)])?;
+        let mut jobs = jobs_for(alloc, &[(call, told)])?;
         assert_eq!(rt; self.lane.call(alloc, call, &mut jobs), told);
         Ok(())
     }

@@ -90,7 +90,7 @@ static ROWS: [Row; 14] = [
 ];
 
 /// The cell that a character stands for: `#` filled, `.` blank, any other unknown.
-fn cell_of(byte: u8) -> Cell {
+fn cell_drawn(byte: u8) -> Cell {
     match byte {
         b'#' => Cell::Filled,
         b'.' => Cell::Blank,
@@ -107,7 +107,7 @@ pub fn line_of(text: &[u8]) -> Option<Line>
     }
     let mut line = Line::unknown(text.len() as u16);
     for i in 0..line.len() {
-        line.set(i, cell_of(text[i as usize]));
+        line.set(i, cell_drawn(text[i as usize]));
     }
     Some(line)
 }
@@ -118,7 +118,7 @@ pub(crate) fn is_line(line: &Line, text: &[u8]) -> bool {
         return false;
     }
     for i in 0..line.len() {
-        if line.get(i) != cell_of(text[i as usize]) {
+        if line.get(i) != cell_drawn(text[i as usize]) {
             return false;
         }
     }

@@ -1,7 +1,7 @@
 //! The answers of calls, before they are left in a room.
 
 ghost use Rattle.std.specs.Prelude.{◌≡◌, ◌<◌, true, false, length, Err, IsSome};
-ghost use Rattle.puzzle_text.specs.Formats.{is_known};
+ghost use Rattle.puzzle_text.specs.Formats.{is_format};
 ghost use Rattle.nonograde_c.specs.Calls.{Gives, convert_answer, fault_of_convert, format_numbered, lines_answer, pick_within, solve_answer};
 ghost use Rattle.nonograde_c.specs.steps.Answers.{shown};
 
@@ -14,8 +14,8 @@ use std::alloc::Global;
 /// The grid of a puzzle's text closed by lines.
 pub fn lines_answer(alloc: Global, name: &[u8], text: &[u8]) -> Result<Vec<u8>, Fault>
     ensures answer { Gives (shown result) (lines_answer name.now text.now) }
-    ensures unknown { is_known name.now ≡ false → result ≡ Err (Fault.Entry EntryFault.UnknownFormat) }
-    ensures too_long { is_known name.now ≡ true → LONGEST_PUZZLE < length text.now →
+    ensures unknown { is_format name.now ≡ false → result ≡ Err (Fault.Entry EntryFault.UnknownFormat) }
+    ensures too_long { is_format name.now ≡ true → LONGEST_PUZZLE < length text.now →
         result ≡ Err (Fault.Entry (EntryFault.Text TextFault.TooLong)) }
 {
     match lines_report(alloc, name, text) {
@@ -33,9 +33,9 @@ pub fn solve_answer(
     pick: u32,
 ) -> Result<Vec<u8>, Fault>
     ensures answer { Gives (shown result) (solve_answer guesses pick name.now text.now) }
-    ensures unknown { IsSome (pick_within guesses pick) → is_known name.now ≡ false →
+    ensures unknown { IsSome (pick_within guesses pick) → is_format name.now ≡ false →
         result ≡ Err (Fault.Entry EntryFault.UnknownFormat) }
-    ensures too_long { IsSome (pick_within guesses pick) → is_known name.now ≡ true → LONGEST_PUZZLE < length text.now →
+    ensures too_long { IsSome (pick_within guesses pick) → is_format name.now ≡ true → LONGEST_PUZZLE < length text.now →
         result ≡ Err (Fault.Entry (EntryFault.Text TextFault.TooLong)) }
 {
     let Some(pick) = pick_within(guesses, pick) else {
@@ -66,9 +66,9 @@ pub fn convert_answer(
     format: u32,
 ) -> Result<Vec<u8>, Fault>
     ensures answer { Gives (shown result) (convert_answer format name.now text.now) }
-    ensures unknown { IsSome (format_numbered format) → is_known name.now ≡ false →
+    ensures unknown { IsSome (format_numbered format) → is_format name.now ≡ false →
         result ≡ Err (Fault.Entry EntryFault.UnknownFormat) }
-    ensures too_long { IsSome (format_numbered format) → is_known name.now ≡ true → LONGEST_PUZZLE < length text.now →
+    ensures too_long { IsSome (format_numbered format) → is_format name.now ≡ true → LONGEST_PUZZLE < length text.now →
         result ≡ Err (Fault.Entry (EntryFault.Text TextFault.TooLong)) }
 {
     let Some(format) = format_numbered(format) else {

@@ -1,7 +1,7 @@
 //! The calls that C sees. `include/nonograde.h` says of each what it takes, gives and leaves.
 
 ghost use Rattle.std.specs.Prelude.{◌≡◌, ◌<◌, true, false, length, Err, IsSome, Ok};
-ghost use Rattle.puzzle_text.specs.Formats.{is_known};
+ghost use Rattle.puzzle_text.specs.Formats.{is_format};
 ghost use Rattle.nonograde_c.specs.Calls.{Answers, Leaves, convert_answer, format_numbered, lines_answer, pick_within, solve_answer};
 
 use crate::answers::{convert_answer, lines_answer, solve_answer};
@@ -25,9 +25,9 @@ pub extern "C" fn nonograde_solve(
 ) -> Reply
     ensures answer { Answers (solve_answer guesses pick name.now text.now) result room.old room.new }
     // `NoMemory` never stands in place of these faults.
-    ensures unknown { IsSome (pick_within guesses pick) → is_known name.now ≡ false →
+    ensures unknown { IsSome (pick_within guesses pick) → is_format name.now ≡ false →
         Leaves (Err (Fault.Entry EntryFault.UnknownFormat)) result room.old room.new }
-    ensures too_long { IsSome (pick_within guesses pick) → is_known name.now ≡ true → LONGEST_PUZZLE < length text.now →
+    ensures too_long { IsSome (pick_within guesses pick) → is_format name.now ≡ true → LONGEST_PUZZLE < length text.now →
         Leaves (Err (Fault.Entry (EntryFault.Text TextFault.TooLong))) result room.old room.new }
 {
     let answer = solve_answer(alloc, name, text, guesses, pick);
@@ -40,8 +40,8 @@ pub extern "C" fn nonograde_solve(
 pub extern "C" fn nonograde_lines(alloc: Global, name: &[u8], text: &[u8], room: &mut [u8]) -> Reply
     ensures answer { Answers (lines_answer name.now text.now) result room.old room.new }
     // `NoMemory` never stands in place of these faults.
-    ensures unknown { is_known name.now ≡ false → Leaves (Err (Fault.Entry EntryFault.UnknownFormat)) result room.old room.new }
-    ensures too_long { is_known name.now ≡ true → LONGEST_PUZZLE < length text.now →
+    ensures unknown { is_format name.now ≡ false → Leaves (Err (Fault.Entry EntryFault.UnknownFormat)) result room.old room.new }
+    ensures too_long { is_format name.now ≡ true → LONGEST_PUZZLE < length text.now →
         Leaves (Err (Fault.Entry (EntryFault.Text TextFault.TooLong))) result room.old room.new }
 {
     let answer = lines_answer(alloc, name, text);
@@ -60,9 +60,9 @@ pub extern "C" fn nonograde_convert(
 ) -> Reply
     ensures answer { Answers (convert_answer format name.now text.now) result room.old room.new }
     // `NoMemory` never stands in place of these faults.
-    ensures unknown { IsSome (format_numbered format) → is_known name.now ≡ false →
+    ensures unknown { IsSome (format_numbered format) → is_format name.now ≡ false →
         Leaves (Err (Fault.Entry EntryFault.UnknownFormat)) result room.old room.new }
-    ensures too_long { IsSome (format_numbered format) → is_known name.now ≡ true → LONGEST_PUZZLE < length text.now →
+    ensures too_long { IsSome (format_numbered format) → is_format name.now ≡ true → LONGEST_PUZZLE < length text.now →
         Leaves (Err (Fault.Entry (EntryFault.Text TextFault.TooLong))) result room.old room.new }
 {
     let answer = convert_answer(alloc, name, text, format);

@@ -13,7 +13,7 @@ ghost use Rattle.command_line.specs.Words.{WordsAsk};
 ghost use Rattle.program.specs.Ending.{EndsAfter, EndsBy, EndsByWords, Stops, refused_line};
 
 use crate::performing::{perform, print_text};
-use crate::stop::{Stop, word_of};
+use crate::stop::{Stop, stop_word};
 use clap::Error;
 use command_line::{CommandFault, Request, parse_words};
 use itoa::Buffer;
@@ -58,7 +58,7 @@ fn print_stop<E: Write>(errors: &mut Counted<E>, stop: &Stop) -> Result<(), Stop
     ensures failed { OnErr result (fault_count errors.old < fault_count errors.new) }
 {
     print_text(errors, b"nonograde: ")?;
-    print_word(errors, word_of(*stop))?;
+    print_word(errors, stop_word(*stop))?;
     print_text(errors, b"\n")
 }
 

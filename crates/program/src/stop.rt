@@ -70,7 +70,7 @@ fn word_of_run(fault: RunFault) -> FaultWord
 }
 
 /// The word of a fault.
-pub fn word_of(stop: Stop) -> FaultWord
+pub fn stop_word(stop: Stop) -> FaultWord
     ensures { word_text result ≡ stop_word stop }
 {
     match stop {

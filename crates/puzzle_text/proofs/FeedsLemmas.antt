@@ -12,7 +12,7 @@ use Rattle.grid_core.specs.Description.{IsDescription, is_field}
 use Rattle.grid_core.specs.declared.limits.TheConstants.{LONGEST_TEXT}
 use Rattle.puzzle_text.specs.declared.faults.TextFault.TheVariants.{TooLong}
 use Rattle.puzzle_text.specs.declared.limits.TheConstants.{LONGEST_PUZZLE}
-use Rattle.puzzle_text.specs.Sizes.{lines_of}
+use Rattle.puzzle_text.specs.Sizes.{text_lines}
 use Rattle.puzzle_text.specs.Lines.{Line, is_blank, lines, numbered_from, raw_lines, strip_last, trim, trim_start, without_ending}
 use Rattle.puzzle_text.specs.steps.Lines.{HaveNoFeed, has_no_feed}
 use Rattle.puzzle_text.specs.Keywords.{after_quote, before_quote, first_with, has_keyword, rest, quoted_text}
@@ -153,7 +153,7 @@ unless_long true all text h e = absurd cc
 unless_long false all text h e = let same : all ≡ text = cc in subst HaveNoFeed same h
 
 -- no line of a text that isn't too long has a line feed
-pub lines_have_no_feed : (bytes : List ℕ) (text : List Line) → lines_of bytes ≡ Ok text → HaveNoFeed text
+pub lines_have_no_feed : (bytes : List ℕ) (text : List Line) → text_lines bytes ≡ Ok text → HaveNoFeed text
 lines_have_no_feed bytes text e = unless_long (ltb LONGEST_PUZZLE (length bytes)) (lines bytes) text (lines_clean bytes) e
 
 -- ---- fields

@@ -13,7 +13,7 @@ use Rattle.puzzle_text.specs.Numbers.{number_of, number_within, pieces}
 use Rattle.puzzle_text.specs.Answers.{◌>>=◌, or_fault, each, each_some}
 use Rattle.puzzle_text.specs.ClueLines.{clue_of_numbers, numbers_within, clue_of, clues_of}
 use Rattle.puzzle_text.specs.Sections.{choice}
-use Rattle.puzzle_text.specs.Sizes.{lines_of, size_of, two_sizes, size_line, first_full}
+use Rattle.puzzle_text.specs.Sizes.{text_lines, size_of, two_sizes, size_line, first_full}
 use Rattle.puzzle_text.specs.Readings.{reading, likelier}
 use Rattle.puzzle_text.specs.Nin.{nin_of, read_nin}
 use Rattle.puzzle_text.specs.Mk.{puzzle_of, at_hash, before_hash, layout, Layout, or_else, mk_of, read_mk}
@@ -275,12 +275,12 @@ module _ (a b : ℕ) (le : a ≤ b) where
 
   -- the reader of .nin keeps its answer
   pub nin_keeps : (bytes : List ℕ) → KeepsAnswer (read_nin a bytes) (read_nin b bytes)
-  nin_keeps bytes = keeps-bind (lines_of bytes) (lines_of bytes) (nin_of a) (nin_of b) (keeps-same (lines_of bytes)) nin_of_keeps
+  nin_keeps bytes = keeps-bind (text_lines bytes) (text_lines bytes) (nin_of a) (nin_of b) (keeps-same (text_lines bytes)) nin_of_keeps
 
   -- the reader of .mk keeps its answer
   pub mk_keeps : (bytes : List ℕ) → KeepsAnswer (read_mk a bytes) (read_mk b bytes)
-  mk_keeps bytes = keeps-bind (lines_of bytes) (lines_of bytes) (mk_of a) (mk_of b) (keeps-same (lines_of bytes)) mk_of_keeps
+  mk_keeps bytes = keeps-bind (text_lines bytes) (text_lines bytes) (mk_of a) (mk_of b) (keeps-same (text_lines bytes)) mk_of_keeps
 
   -- the reader of .non keeps its answer
   pub non_keeps : (bytes : List ℕ) → KeepsAnswer (read_non a bytes) (read_non b bytes)
-  non_keeps bytes = keeps-bind (lines_of bytes) (lines_of bytes) (non_of a) (non_of b) (keeps-same (lines_of bytes)) non_of_keeps
+  non_keeps bytes = keeps-bind (text_lines bytes) (text_lines bytes) (non_of a) (non_of b) (keeps-same (text_lines bytes)) non_of_keeps

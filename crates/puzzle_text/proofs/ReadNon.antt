@@ -26,7 +26,7 @@ use Rattle.puzzle_text.specs.Sections.{choice}
 use Rattle.puzzle_text.specs.Sizes.{size_of}
 use Rattle.puzzle_text.specs.Keywords.{rest, with_keyword, first_with, second_with, after_quote, all_fields, field_word, quoted, quoted_text}
 use Rattle.puzzle_text.proofs.PlacedWalk.{walked, walked-placed}
-use Rattle.puzzle_text.specs.Non.{placed, section, sections_of, is_stray, least, number_of_line, long_text, bad_line, repeated, refuse_at, cell_of, goal_cells, goal_of, both_clues, field_text, texts_of, sizes_of, rows_first, check_lines, clue_lines_of, non_of, read_non}
+use Rattle.puzzle_text.specs.Non.{placed, section, sections_of, is_outside_sections, least, number_of_line, long_text, bad_line, repeated, refuse_at, cell_of, goal_cells, goal_of, both_clues, field_text, texts_of, sizes_of, rows_first, check_lines, clue_lines_of, non_of, read_non}
 use Rattle.puzzle_text.specs.Written.{clue_text, goal_byte, text_non}
 use Rattle.puzzle_text.proofs.SectionsLemmas.{filter-map}
 use Rattle.puzzle_text.proofs.ReadBack.{numbered, kept_tidy}
@@ -466,19 +466,19 @@ and_no : (b : Bool) → (b && false) ≡ false
 and_no true = refl
 and_no false = refl
 
-calm_under : (under : List ℕ) (xs : List Line) → ((line : Line) → is_stray (under, line) ≡ false)
-    → AllByRecursion (λ place. is_stray place ≡ false) (under_all under xs)
+calm_under : (under : List ℕ) (xs : List Line) → ((line : Line) → is_outside_sections (under, line) ≡ false)
+    → AllByRecursion (λ place. is_outside_sections place ≡ false) (under_all under xs)
 calm_under under [] h = tt
 calm_under under (x ∷ xs) h = (h x, calm_under under xs h)
 
-no_stray : (p : Nonogram) (places : List (List ℕ × Line)) → IsLaidOut p places → find is_stray places ≡ None
+no_stray : (p : Nonogram) (places : List (List ℕ × Line)) → IsLaidOut p places → find is_outside_sections places ≡ None
 no_stray p places laid =
     let rows = under_all (codes "rows") (numbered laid.rows_at (row_part p)) in
     let columns = under_all (codes "columns") (numbered laid.columns_at (column_part p)) in
-    ap (find is_stray) laid.are
-    ∙ find_none is_stray ((codes "height", record { number = laid.above; text = [] }) ∷ (rows ++ columns)) (
+    ap (find is_outside_sections) laid.are
+    ∙ find_none is_outside_sections ((codes "height", record { number = laid.above; text = [] }) ∷ (rows ++ columns)) (
       refl,
-      all-append (λ place. is_stray place ≡ false) rows columns
+      all-append (λ place. is_outside_sections place ≡ false) rows columns
           (calm_under (codes "rows") (numbered laid.rows_at (row_part p)) (λ line. and_no (is_full line)))
           (calm_under (codes "columns") (numbered laid.columns_at (column_part p)) (λ line. and_no (is_full line))),
     )
@@ -597,7 +597,7 @@ module _ (limit : ℕ) (p : Nonogram) (wide : limit < 2 ^ 64) (lawful : IsNonogr
 
   none_bad : bad_line (sections_of (placed all_lines)).stray all_lines ≡ None
   none_bad =
-      six_none (option_map (λ (place : List ℕ × Line). place.1.number) (find is_stray (placed all_lines)))
+      six_none (option_map (λ (place : List ℕ × Line). place.1.number) (find is_outside_sections (placed all_lines)))
       (number_of_line (long_text all_lines (codes "catalogue")))
       (number_of_line (long_text all_lines (codes "title")))
       (number_of_line (long_text all_lines (codes "by")))

@@ -11,7 +11,7 @@ use Rattle.puzzle_text.specs.declared.places.Under.TheVariants.{Rows, Columns, O
 use Rattle.puzzle_text.specs.Lines.{Line, is_empty, is_full, is_hash}
 use Rattle.puzzle_text.specs.Keywords.{keyword}
 use Rattle.puzzle_text.specs.Mk.{or_else}
-use Rattle.puzzle_text.specs.Non.{Sections, is_stray, section, placed, sections_of}
+use Rattle.puzzle_text.specs.Non.{Sections, is_outside_sections, section, placed, sections_of}
 use Rattle.puzzle_text.specs.steps.Places.{IsUnder, with_line}
 use Rattle.puzzle_text.specs.steps.Shown.{shown_line}
 use Rattle.puzzle_text.proofs.PlacedWalk.{walked, walked-placed}
@@ -54,7 +54,7 @@ pub one_more : (under : Under) (word : List ℕ) (above : Sections) (line : Line
 one_more Rows word above line others is =
     let rows = section (codes "rows") others in
     let columns = section (codes "columns") others in
-    let found = find is_stray others in
+    let found = find is_outside_sections others in
     subst (λ (w : List ℕ). join above (sections_of ((w, line) ∷ others)) ≡ join (with_line above Rows line) (sections_of others)) (sym is)
     (same_parts (above.rows ++ line ∷ rows) ((above.rows ++ line ∷ []) ++ rows) (above.columns ++ columns) (above.columns ++ columns) _ _
     (sym (append_assoc above.rows (line ∷ []) rows)) refl
@@ -62,14 +62,14 @@ one_more Rows word above line others is =
 one_more Columns word above line others is =
     let rows = section (codes "rows") others in
     let columns = section (codes "columns") others in
-    let found = find is_stray others in
+    let found = find is_outside_sections others in
     subst (λ (w : List ℕ). join above (sections_of ((w, line) ∷ others)) ≡ join (with_line above Columns line) (sections_of others))
     (sym is)
     (same_parts (above.rows ++ rows) (above.rows ++ rows) (above.columns ++ line ∷ columns) ((above.columns ++ line ∷ []) ++ columns) _ _
     refl (sym (append_assoc above.columns (line ∷ []) columns))
     (ap (λ (o : Option (List ℕ × Line)). or_else above.stray (number_at o)) (never (is_full line) (codes "columns", line) found)))
 one_more Other word above line others is =
-    let found = find is_stray others in
+    let found = find is_outside_sections others in
     rw (is.0, is.1)
     (same_parts (above.rows ++ section (codes "rows") others) (above.rows ++ section (codes "rows") others)
     (above.columns ++ section (codes "columns") others) (above.columns ++ section (codes "columns") others) _ _

@@ -20,7 +20,7 @@ use Rattle.puzzle_text.specs.Non.{Sections, both_clues, check_lines, clue_lines_
 use Rattle.puzzle_text.specs.Numbers.{pieces}
 use Rattle.puzzle_text.specs.Readings.{likelier, reading}
 use Rattle.puzzle_text.specs.Sections.{choice}
-use Rattle.puzzle_text.specs.Sizes.{first_full, lines_of, size_line, two_sizes}
+use Rattle.puzzle_text.specs.Sizes.{first_full, text_lines, size_line, two_sizes}
 use Rattle.puzzle_text.specs.steps.Lines.{HaveNoFeed}
 use Rattle.puzzle_text.specs.steps.Usual.{AreClueLines, BeginsWith, HaveClues, SayClues, SaysSizes}
 use Rattle.puzzle_text.proofs.FeedsLemmas.{clean_filter, lines_have_no_feed}
@@ -82,7 +82,7 @@ said_by_parts sections kept width height first rows columns goal clues sizes ord
 
 -- ---- the whole text
 
-pub short_lines : (bytes : List ℕ) → length bytes ≤ 1048576 → lines_of bytes ≡ Ok (lines bytes)
+pub short_lines : (bytes : List ℕ) → length bytes ≤ 1048576 → text_lines bytes ≡ Ok (lines bytes)
 short_lines bytes short =
     cond-false (ltb 1048576 (length bytes)) (Err TooLong) (Ok (lines bytes)) (le-ltb 1048576 (length bytes) short)
 

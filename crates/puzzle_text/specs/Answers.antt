@@ -25,7 +25,7 @@ abbrev pub each_some : {X Y : Type 0} → (X → Option Y) → List X → Option
 each_some step [] = Some []
 each_some step (x ∷ xs) = option_and_then (λ y. option_map (λ ys. y ∷ ys) (each_some step xs)) (step x)
 
--- What a call answered, seen by view, is this answer. Want of memory may stand in place of any answer.
+-- What a call answered, seen by view, is this answer. `NoMemory` may stand in place of any answer.
 abbrev pub Gives : {X Y : Type 0} → (X → Y) → Result X TextFault → Result Y TextFault → Type 0
 Gives view (Ok x) answer = answer ≡ Ok (view x)
 Gives view (Err NoMemory) answer = Unit {0}

@@ -61,7 +61,7 @@ cut bytes = if nat_lt LONGEST_COLLECTION (length bytes) then Err TooLong
     else checked (first_stray (raw_lines bytes)) (entries_of (raw_lines bytes))
 
 -- What a call answered, seen by `view`, is this answer.
--- Want of memory may stand in place of entries, and of no fault.
+-- `NoMemory` may stand in place of entries, and of no fault.
 abbrev pub GivesEntries : {X Y : Type 0} → (X → Y) → Result X CollectionFault → Result Y CollectionFault → Type 0
 GivesEntries view (Ok x) answer = answer ≡ Ok (view x)
 GivesEntries view (Err NoMemory) answer = IsOk answer

@@ -52,8 +52,8 @@ abbrev pub format_of : List ℕ → Option Format
 format_of name = find (λ format. has_ending (ending format) name) formats
 
 -- whether a name ends in the ending of a format
-abbrev pub is_known : List ℕ → Bool
-is_known name = is_some (format_of name)
+abbrev pub is_format : List ℕ → Bool
+is_format name = is_some (format_of name)
 
 -- a reader's answer as that of an entry
 abbrev pub in_entry : Result Nonogram TextFault → Result Nonogram EntryFault
@@ -69,7 +69,7 @@ read_if_known limit (Some format) body = in_entry (read_as format limit body)
 abbrev pub read_entry : ℕ → Entry → Result Nonogram EntryFault
 read_entry limit entry = read_if_known limit (format_of entry.name) entry.body
 
--- What a call answered is this answer. Want of memory may stand in place of any answer.
+-- What a call answered is this answer. `NoMemory` may stand in place of any answer.
 abbrev pub GivesPuzzle : Result Nonogram EntryFault → Result Nonogram EntryFault → Type 0
 GivesPuzzle (Ok x) answer = answer ≡ Ok x
 GivesPuzzle (Err (Text NoMemory)) answer = Unit {0}

@@ -9,7 +9,7 @@ use Rattle.puzzle_text.specs.Lines.{Line, is_hash}
 use Rattle.puzzle_text.specs.Answers.{◌>>=◌, or_fault}
 use Rattle.puzzle_text.specs.ClueLines.{clues_of}
 use Rattle.puzzle_text.specs.Sections.{choice}
-use Rattle.puzzle_text.specs.Sizes.{lines_of, size_line}
+use Rattle.puzzle_text.specs.Sizes.{text_lines, size_line}
 use Rattle.puzzle_text.specs.Readings.{reading}
 
 -- the lines before the first that begins with #, and those after it
@@ -57,4 +57,4 @@ mk_of limit lines = do
 
 -- the puzzle that a text says
 abbrev pub read_mk : ℕ → List ℕ → Result Nonogram TextFault
-read_mk limit bytes = lines_of bytes >>= mk_of limit
+read_mk limit bytes = text_lines bytes >>= mk_of limit

@@ -7,7 +7,7 @@ use Rattle.puzzle_text.specs.Lines.{Line}
 use Rattle.puzzle_text.specs.Answers.{◌>>=◌, or_fault}
 use Rattle.puzzle_text.specs.ClueLines.{clues_of}
 use Rattle.puzzle_text.specs.Sections.{choice}
-use Rattle.puzzle_text.specs.Sizes.{lines_of, size_line}
+use Rattle.puzzle_text.specs.Sizes.{text_lines, size_line}
 use Rattle.puzzle_text.specs.Readings.{likelier}
 
 -- the puzzle that these lines say: all lines after the size line are one section, of rows and then columns
@@ -20,4 +20,4 @@ nin_of limit lines = do
 
 -- the puzzle that a text says
 abbrev pub read_nin : ℕ → List ℕ → Result Nonogram TextFault
-read_nin limit bytes = lines_of bytes >>= nin_of limit
+read_nin limit bytes = text_lines bytes >>= nin_of limit

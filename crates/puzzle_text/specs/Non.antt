@@ -14,7 +14,7 @@ use Rattle.puzzle_text.specs.Lines.{Line, is_empty, is_full, is_hash}
 use Rattle.puzzle_text.specs.Answers.{◌>>=◌, or_fault, each_some}
 use Rattle.puzzle_text.specs.ClueLines.{clues_of}
 use Rattle.puzzle_text.specs.Sections.{choice}
-use Rattle.puzzle_text.specs.Sizes.{lines_of, size_of}
+use Rattle.puzzle_text.specs.Sizes.{text_lines, size_of}
 use Rattle.puzzle_text.specs.Keywords.{all_fields, field_word, keyword, rest, is_keyword_line, first_with, second_with, quoted_text}
 
 -- whether a line is neither a keyword line nor a comment
@@ -36,8 +36,8 @@ abbrev pub section : List ℕ → List (List ℕ × Line) → List Line
 section word places = map (λ place. place.1) (filter (λ place. bytes_eq place.0 word) places)
 
 -- whether a line says something and stands in no section
-abbrev pub is_stray : List ℕ × Line → Bool
-is_stray place = is_full place.1 && not (bytes_eq place.0 (codes "rows") || bytes_eq place.0 (codes "columns"))
+abbrev pub is_outside_sections : List ℕ × Line → Bool
+is_outside_sections place = is_full place.1 && not (bytes_eq place.0 (codes "rows") || bytes_eq place.0 (codes "columns"))
 
 -- the lines of both sections, and the number of the first line that says something and stands in neither
 pub record Sections : Type 0 where
@@ -50,7 +50,7 @@ abbrev pub sections_of : List (List ℕ × Line) → Sections
 sections_of places = record {
   rows = section (codes "rows") places;
   columns = section (codes "columns") places;
-  stray = option_map (λ place. place.1.number) (find is_stray places);
+  stray = option_map (λ place. place.1.number) (find is_outside_sections places);
 }
 
 -- ---- checks
@@ -178,4 +178,4 @@ non_of limit lines = puzzle_said limit (sections_of (placed lines)) lines
 
 -- the puzzle that a text says
 abbrev pub read_non : ℕ → List ℕ → Result Nonogram TextFault
-read_non limit bytes = lines_of bytes >>= non_of limit
+read_non limit bytes = text_lines bytes >>= non_of limit

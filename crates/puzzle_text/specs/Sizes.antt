@@ -8,8 +8,8 @@ use Rattle.puzzle_text.specs.Numbers.{pieces, number_within}
 use Rattle.puzzle_text.specs.Answers.{◌>>=◌, or_fault}
 
 -- the lines of a text that isn't too long
-abbrev pub lines_of : List ℕ → Result (List Line) TextFault
-lines_of bytes = if nat_lt LONGEST_PUZZLE (length bytes) then Err TooLong else Ok (lines bytes)
+abbrev pub text_lines : List ℕ → Result (List Line) TextFault
+text_lines bytes = if nat_lt LONGEST_PUZZLE (length bytes) then Err TooLong else Ok (lines bytes)
 
 -- the first line that isn't blank, and the lines after it
 abbrev pub first_full : List Line → Option (Line × List Line)

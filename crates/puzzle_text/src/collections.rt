@@ -230,7 +230,7 @@ fn checked_count(bytes: &[u8]) -> Result<usize, u32>
 /// its text is the lines after that one up to the next such line or the end.
 pub fn entries<'a>(alloc: Global, bytes: &'a [u8]) -> Result<Vec<Entry<'a>>, CollectionFault>
     ensures answer { GivesEntries (λ found. map shown_entry found.items) result (cut bytes.now) }
-    // Want of memory never stands in place of this fault, nor of another.
+    // `NoMemory` never stands in place of this fault, nor of another.
     ensures too_long { LONGEST_COLLECTION < length bytes.now → result ≡ Err CollectionFault.TooLong }
 {
     if bytes.len() > LONGEST_COLLECTION {

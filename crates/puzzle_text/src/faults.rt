@@ -96,7 +96,7 @@ pub enum EntryFault {
 #[derive(Clone, Copy, Debug, PartialEq, Eq, Error)]
 pub enum WriteFault {
     /// In .nin the puzzle's text would be read with its width and height exchanged.
-    /// Want of memory never stands in its place.
+    /// `NoMemory` never stands in its place.
     #[error("the text would be read with the sizes the other way round")]
     Ambiguous,
     /// A growth of memory was refused.

@@ -4,7 +4,7 @@ ghost use Rattle.std.specs.Prelude.{◌≡◌, ◌↔◌, ◌<◌, false, true, 
 ghost use Rattle.std.specs.List.{find};
 ghost use Rattle.std.specs.Str.{bytes_eq, str_to_ascii_lowercase};
 ghost use Rattle.puzzle_text.specs.Answers.{Gives};
-ghost use Rattle.puzzle_text.specs.Formats.{GivesPuzzle, ending, format_of, formats, has_ending, is_known, read_as, read_entry, text_as, word};
+ghost use Rattle.puzzle_text.specs.Formats.{GivesPuzzle, ending, format_of, formats, has_ending, is_format, read_as, read_entry, text_as, word};
 ghost use Rattle.puzzle_text.specs.Shown.{shown_entry};
 
 use crate::collections::Entry;
@@ -88,7 +88,7 @@ impl Format {
     /// Reads a puzzle in this format: the first fault of the text, in the order of the faults.
     pub fn read(self, alloc: Global, bytes: &[u8]) -> Result<Puzzle, TextFault>
         ensures answer { Gives (λ p. p) result (read_as self LONGEST_SIDE bytes.now) }
-        // Want of memory never stands in place of this fault.
+        // `NoMemory` never stands in place of this fault.
         ensures too_long { LONGEST_PUZZLE < length bytes.now → result ≡ Err TextFault.TooLong }
     {
         match self {
@@ -102,7 +102,7 @@ impl Format {
     /// else perhaps `NoMemory`.
     pub fn write(self, alloc: Global, puzzle: &Puzzle) -> Result<Vec<u8>, WriteFault>
         ensures text { IfOk result (λ text. text_as self puzzle.now ≡ Ok text.items) }
-        // Want of memory never stands in place of this fault.
+        // `NoMemory` never stands in place of this fault.
         ensures ambiguous { result ≡ Err WriteFault.Ambiguous ↔ text_as self puzzle.now ≡ Err WriteFault.Ambiguous }
     {
         match self {
@@ -117,9 +117,9 @@ impl Format {
 /// `.non`, `.mk` or `.nin`, letters in either case.
 pub fn read_entry(alloc: Global, entry: &Entry<'_>) -> Result<Puzzle, EntryFault>
     ensures answer { GivesPuzzle result (read_entry LONGEST_SIDE (shown_entry entry.now)) }
-    // Want of memory never stands in place of these faults.
-    ensures unknown { result ≡ Err EntryFault.UnknownFormat ↔ is_known (shown_entry entry.now).name ≡ false }
-    ensures too_long { is_known (shown_entry entry.now).name ≡ true → LONGEST_PUZZLE < length (shown_entry entry.now).body
+    // `NoMemory` never stands in place of these faults.
+    ensures unknown { result ≡ Err EntryFault.UnknownFormat ↔ is_format (shown_entry entry.now).name ≡ false }
+    ensures too_long { is_format (shown_entry entry.now).name ≡ true → LONGEST_PUZZLE < length (shown_entry entry.now).body
         → result ≡ Err (EntryFault.Text TextFault.TooLong) }
 {
     let Some(format) = Format::of_name(entry.name) else {

@@ -16,7 +16,7 @@ use crate::limits::LONGEST_PUZZLE;
 use crate::lines::{Line, is_hash};
 use crate::parts;
 use crate::sections::{Chosen, choice};
-use crate::sizes::{lines_of, size_line};
+use crate::sizes::{size_line, text_lines};
 use grid_core::{LONGEST_SIDE, NoMemory, Puzzle, Texts};
 use std::alloc::Global;
 
@@ -81,7 +81,7 @@ fn puzzle_with(
     ensures { Gives (λ p. p) result (puzzle_of_both LONGEST_SIDE width height (shown_chosen rows.now) (shown_chosen columns.now)) }
 {
     let (rows, columns) = both_clues(alloc, true, rows, columns)?;
-    let puzzle = parts::puzzle_of(width, height, rows, columns, Texts::none(), None);
+    let puzzle = parts::puzzle_from_parts(width, height, rows, columns, Texts::none(), None);
     Ok(puzzle)
 }
 
@@ -121,9 +121,9 @@ fn mk_of(alloc: Global, lines: &[Line<'_>]) -> Result<Puzzle, TextFault>
 /// What `read_mk` reads, line by line, whatever form the text has.
 pub fn plain_mk(alloc: Global, bytes: &[u8]) -> Result<Puzzle, TextFault>
     ensures answer { Gives (λ p. p) result (read_mk LONGEST_SIDE bytes.now) }
-    // Want of memory never stands in place of this fault.
+    // `NoMemory` never stands in place of this fault.
     ensures too_long { LONGEST_PUZZLE < length bytes.now → result ≡ Err TextFault.TooLong }
 {
-    let lines = lines_of(alloc, bytes)?;
+    let lines = text_lines(alloc, bytes)?;
     mk_of(alloc, &lines)
 }

@@ -11,7 +11,7 @@ use crate::limits::LONGEST_PUZZLE;
 use crate::lines::Line;
 use crate::readings::likelier;
 use crate::sections::choice;
-use crate::sizes::{lines_of, size_line};
+use crate::sizes::{size_line, text_lines};
 use grid_core::{LONGEST_SIDE, Puzzle};
 use std::alloc::Global;
 
@@ -30,9 +30,9 @@ fn nin_of(alloc: Global, lines: &[Line<'_>]) -> Result<Puzzle, TextFault>
 /// What `read_nin` reads, line by line, whatever form the text has.
 pub fn plain_nin(alloc: Global, bytes: &[u8]) -> Result<Puzzle, TextFault>
     ensures answer { Gives (λ p. p) result (read_nin LONGEST_SIDE bytes.now) }
-    // Want of memory never stands in place of this fault.
+    // `NoMemory` never stands in place of this fault.
     ensures too_long { LONGEST_PUZZLE < length bytes.now → result ≡ Err TextFault.TooLong }
 {
-    let lines = lines_of(alloc, bytes)?;
+    let lines = text_lines(alloc, bytes)?;
     nin_of(alloc, &lines)
 }

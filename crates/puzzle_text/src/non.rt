@@ -18,9 +18,9 @@ use crate::keyword_line::KeywordLine;
 use crate::keywords::{FIELDS, keyword_lines, nth_with, rest};
 use crate::limits::LONGEST_PUZZLE;
 use crate::lines::Line;
-use crate::parts::puzzle_of;
-use crate::places::{Sections, clue_lines, sections_of};
-use crate::sizes::{lines_of, size_of};
+use crate::parts::puzzle_from_parts;
+use crate::places::{Sections, clue_lines_of, sections_of};
+use crate::sizes::{size_of, text_lines};
 use grid_core::{LONGEST_SIDE, Puzzle};
 use std::alloc::Global;
 
@@ -134,13 +134,13 @@ fn puzzle_said(
     let (width, height) = sizes_of(keyword_lines)?;
     let rows_first = rows_first(keyword_lines)?;
     check_lines(keyword_lines, sections.stray)?;
-    let rows = clue_lines(alloc, height, &sections.rows)?;
-    let columns = clue_lines(alloc, width, &sections.columns)?;
+    let rows = clue_lines_of(alloc, height, &sections.rows)?;
+    let columns = clue_lines_of(alloc, width, &sections.columns)?;
     let (rows, columns) = both_clues(alloc, rows_first, &rows, &columns)?;
     let count = usize::from(width) * usize::from(height);
     let goal = goal_of(alloc, count, nth_with(b"goal", 0, keyword_lines))?;
     let texts = texts_of(alloc, keyword_lines)?;
-    Ok(puzzle_of(width, height, rows, columns, texts, goal))
+    Ok(puzzle_from_parts(width, height, rows, columns, texts, goal))
 }
 
 fn non_of(alloc: Global, lines: &[Line<'_>]) -> Result<Puzzle, TextFault>
@@ -155,9 +155,9 @@ fn non_of(alloc: Global, lines: &[Line<'_>]) -> Result<Puzzle, TextFault>
 /// What `read_non` reads, line by line, whatever form the text has.
 pub fn plain_non(alloc: Global, bytes: &[u8]) -> Result<Puzzle, TextFault>
     ensures answer { Gives (λ p. p) result (read_non LONGEST_SIDE bytes.now) }
-    // Want of memory never stands in place of this fault.
+    // `NoMemory` never stands in place of this fault.
     ensures too_long { LONGEST_PUZZLE < length bytes.now → result ≡ Err TextFault.TooLong }
 {
-    let lines = lines_of(alloc, bytes)?;
+    let lines = text_lines(alloc, bytes)?;
     non_of(alloc, &lines)
 }

@@ -7,7 +7,7 @@ ghost use Rattle.grid_core.specs.PartialGrid.{IsSize};
 use grid_core::{Clue, Puzzle, Texts};
 
 /// The puzzle of these parts, which no check refuses.
-pub(crate) fn puzzle_of(
+pub(crate) fn puzzle_from_parts(
     width: u16,
     height: u16,
     rows: Vec<Clue>,

@@ -85,7 +85,7 @@ pub(crate) fn sections_of<'a>(alloc: Global, lines: &[Line<'a>]) -> Result<Secti
 }
 
 /// The clue lines of a section.
-pub(crate) fn clue_lines<'a, 'b>(
+pub(crate) fn clue_lines_of<'a, 'b>(
     alloc: Global,
     count: u16,
     section: &'b [Line<'a>],

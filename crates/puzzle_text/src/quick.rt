@@ -15,9 +15,9 @@ use crate::goals::goal_of;
 use crate::keywords::nth_with;
 use crate::limits::LONGEST_PUZZLE;
 use crate::non::{check_lines, rows_first, sizes_of};
-use crate::parts::puzzle_of;
+use crate::parts::puzzle_from_parts;
 use crate::readings::likelier;
-use crate::usual_lines::{clue_lines, hash_line, size_line};
+use crate::usual_lines::{hash_line, read_clue_lines, size_line};
 use crate::usual_parts::{Parts, parts_of};
 use grid_core::{LONGEST_SIDE, Puzzle, Texts};
 use std::alloc::Global;
@@ -42,11 +42,11 @@ fn puzzle_said(alloc: Global, parts: Parts<'_>) -> Result<Puzzle, TextFault>
     let count = usize::from(width) * usize::from(height);
     let goal = goal_of(alloc, count, nth_with(b"goal", 0, &keyword_lines))?;
     let texts = texts_of(alloc, &keyword_lines)?;
-    Ok(puzzle_of(width, height, rows, columns, texts, goal))
+    Ok(puzzle_from_parts(width, height, rows, columns, texts, goal))
 }
 
 /// Reads a .non text in its usual form: all keyword lines but `rows` and `columns` in any order, the sizes
-/// above the sections. Where it answers, the answer is that of `read_non`.
+/// above the sections. If it answers, the answer is that of `read_non`.
 pub fn quick_non(alloc: Global, bytes: &[u8]) -> Option<Puzzle>
     ensures answer { IfSome result (λ p. read_non LONGEST_SIDE bytes.now ≡ Ok p) }
     ensures short { IsSome result → length bytes.now ≤ LONGEST_PUZZLE }
@@ -57,7 +57,7 @@ pub fn quick_non(alloc: Global, bytes: &[u8]) -> Option<Puzzle>
     puzzle_said(alloc, parts_of(alloc, bytes)?).ok()
 }
 
-/// Reads a .mk text in its usual form: the height first, and no blank line. Where it answers, the answer is
+/// Reads a .mk text in its usual form: the height first, and no blank line. If it answers, the answer is
 /// that of `read_mk`.
 pub fn quick_mk(alloc: Global, bytes: &[u8]) -> Option<Puzzle>
     ensures answer { IfSome result (λ p. read_mk LONGEST_SIDE bytes.now ≡ Ok p) }
@@ -67,15 +67,15 @@ pub fn quick_mk(alloc: Global, bytes: &[u8]) -> Option<Puzzle>
         return None;
     }
     let ((height, width), after) = size_line(bytes)?;
-    let (rows, middle) = clue_lines(alloc, height, after)?;
-    let (columns, rest) = clue_lines(alloc, width, hash_line(middle)?)?;
+    let (rows, middle) = read_clue_lines(alloc, height, after)?;
+    let (columns, rest) = read_clue_lines(alloc, width, hash_line(middle)?)?;
     if !rest.is_empty() {
         return None;
     }
-    Some(puzzle_of(width, height, rows, columns, Texts::none(), None))
+    Some(puzzle_from_parts(width, height, rows, columns, Texts::none(), None))
 }
 
-/// Reads a .nin text in its usual form: no blank line. Where it answers, the answer is that of `read_nin`.
+/// Reads a .nin text in its usual form: no blank line. If it answers, the answer is that of `read_nin`.
 pub fn quick_nin(alloc: Global, bytes: &[u8]) -> Option<Puzzle>
     ensures answer { IfSome result (λ p. read_nin LONGEST_SIDE bytes.now ≡ Ok p) }
     ensures short { IsSome result → length bytes.now ≤ LONGEST_PUZZLE }
@@ -84,7 +84,7 @@ pub fn quick_nin(alloc: Global, bytes: &[u8]) -> Option<Puzzle>
         return None;
     }
     let ((a, b), after) = size_line(bytes)?;
-    let (clues, rest) = clue_lines(alloc, a + b, after)?;
+    let (clues, rest) = read_clue_lines(alloc, a + b, after)?;
     if !rest.is_empty() {
         return None;
     }

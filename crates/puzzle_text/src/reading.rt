@@ -19,7 +19,7 @@ use std::alloc::Global;
 /// and a section of clue lines each under `rows` and `columns`.
 pub fn read_non(alloc: Global, bytes: &[u8]) -> Result<Puzzle, TextFault>
     ensures answer { Gives (λ p. p) result (read_non LONGEST_SIDE bytes.now) }
-    // Want of memory never stands in place of this fault.
+    // `NoMemory` never stands in place of this fault.
     ensures too_long { LONGEST_PUZZLE < length bytes.now → result ≡ Err TextFault.TooLong }
 {
     match quick_non(alloc, bytes) {
@@ -33,7 +33,7 @@ pub fn read_non(alloc: Global, bytes: &[u8]) -> Result<Puzzle, TextFault>
 /// unless only the other order has clue lines in both sections.
 pub fn read_mk(alloc: Global, bytes: &[u8]) -> Result<Puzzle, TextFault>
     ensures answer { Gives (λ p. p) result (read_mk LONGEST_SIDE bytes.now) }
-    // Want of memory never stands in place of this fault.
+    // `NoMemory` never stands in place of this fault.
     ensures too_long { LONGEST_PUZZLE < length bytes.now → result ≡ Err TextFault.TooLong }
 {
     match quick_mk(alloc, bytes) {
@@ -47,7 +47,7 @@ pub fn read_mk(alloc: Global, bytes: &[u8]) -> Result<Puzzle, TextFault>
 /// and gives rows and columns the same sum.
 pub fn read_nin(alloc: Global, bytes: &[u8]) -> Result<Puzzle, TextFault>
     ensures answer { Gives (λ p. p) result (read_nin LONGEST_SIDE bytes.now) }
-    // Want of memory never stands in place of this fault.
+    // `NoMemory` never stands in place of this fault.
     ensures too_long { LONGEST_PUZZLE < length bytes.now → result ≡ Err TextFault.TooLong }
 {
     match quick_nin(alloc, bytes) {

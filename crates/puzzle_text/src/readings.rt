@@ -7,7 +7,7 @@ ghost use Rattle.puzzle_text.specs.Readings.{is_admissible, likelier, reading};
 ghost use Rattle.puzzle_text.specs.Written.{is_ambiguous};
 
 use crate::fitting::{both_fit, sum_both, sum_within};
-use crate::parts::puzzle_of;
+use crate::parts::puzzle_from_parts;
 use grid_core::{Clue, NoMemory, Puzzle, Texts};
 
 /// Whether each clue fits its line and the rows have as many filled cells as the columns.
@@ -42,7 +42,7 @@ fn reading(width: u16, height: u16, clues: Vec<Clue>) -> Result<Puzzle, NoMemory
 {
     let mut rows = clues;
     let columns = rows.split_off(usize::from(height))?;
-    Ok(puzzle_of(width, height, rows, columns, Texts::none(), None))
+    Ok(puzzle_from_parts(width, height, rows, columns, Texts::none(), None))
 }
 
 /// The sizes in the order width and height, unless only the other order is admissible.

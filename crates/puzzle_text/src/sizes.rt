@@ -5,7 +5,7 @@ ghost use Rattle.std.specs.Option.{option_map};
 ghost use Rattle.grid_core.specs.PartialGrid.{IsSize};
 ghost use Rattle.puzzle_text.specs.Answers.{Gives};
 ghost use Rattle.puzzle_text.specs.Numbers.{pieces};
-ghost use Rattle.puzzle_text.specs.Sizes.{first_full, lines_of, size_of, size_line, two_sizes};
+ghost use Rattle.puzzle_text.specs.Sizes.{first_full, text_lines, size_of, size_line, two_sizes};
 ghost use Rattle.puzzle_text.specs.steps.Shown.{shown_line};
 
 use crate::faults::TextFault;
@@ -16,9 +16,9 @@ use grid_core::LONGEST_SIDE;
 use std::alloc::Global;
 
 /// The lines of a puzzle's text, if it is not too long.
-pub(crate) fn lines_of(alloc: Global, bytes: &[u8]) -> Result<Vec<Line<'_>>, TextFault>
-    ensures answer { Gives (λ found. map shown_line found.items) result (lines_of bytes.now) }
-    // Want of memory never stands in place of this fault.
+pub(crate) fn text_lines(alloc: Global, bytes: &[u8]) -> Result<Vec<Line<'_>>, TextFault>
+    ensures answer { Gives (λ found. map shown_line found.items) result (text_lines bytes.now) }
+    // `NoMemory` never stands in place of this fault.
     ensures too_long { LONGEST_PUZZLE < length bytes.now → result ≡ Err TextFault.TooLong }
 {
     if bytes.len() > LONGEST_PUZZLE {

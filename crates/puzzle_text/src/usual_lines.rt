@@ -99,7 +99,7 @@ fn clue_line(alloc: Global, text: &[u8]) -> Option<(Clue, &[u8])>
 }
 
 /// The clues that the first `count` lines say, and what follows these lines.
-pub(crate) fn clue_lines(alloc: Global, count: u16, text: &[u8]) -> Option<(Vec<Clue>, &[u8])>
+pub(crate) fn read_clue_lines(alloc: Global, count: u16, text: &[u8]) -> Option<(Vec<Clue>, &[u8])>
     ensures clues { IfSome result (λ found. SayClues text.now found.0.items found.1.now) }
     ensures count { IfSome result (λ found. length found.0.items ≡ count) }
     ensures room { IfSome result (λ found. length found.0.items + length found.1.now ≤ length text.now) }

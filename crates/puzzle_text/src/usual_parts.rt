@@ -9,7 +9,7 @@ use crate::keywords::{keyword, nth_with, rest};
 use crate::lines::{Line, is_hash, next_line, trim};
 use crate::places::{Under, opened_by};
 use crate::sizes::size_of;
-use crate::usual_lines::clue_lines;
+use crate::usual_lines::read_clue_lines;
 use grid_core::Clue;
 use std::alloc::Global;
 
@@ -39,7 +39,7 @@ fn section<'t>(
     ensures room { IfSome result (λ found. length found.0.items + length found.1.now ≤ length text.now) }
 {
     let line = nth_with(word, 0, keyword_lines)?;
-    clue_lines(alloc, size_of(rest(line)).ok()?, text)
+    read_clue_lines(alloc, size_of(rest(line)).ok()?, text)
 }
 
 /// The parts of a text in its usual form: the lines of each section stand together below its keyword, and as

@@ -66,7 +66,7 @@ pub fn write_mk(alloc: Global, puzzle: &Puzzle) -> Result<Vec<u8>, NoMemory>
 /// `Ambiguous` if that text would be read with the sizes exchanged; else perhaps `NoMemory`.
 pub fn write_nin(alloc: Global, puzzle: &Puzzle) -> Result<Vec<u8>, WriteFault>
     ensures text { IfOk result (λ text. text.items ≡ text_nin puzzle.now) }
-    // Want of memory never stands in place of this fault.
+    // `NoMemory` never stands in place of this fault.
     ensures ambiguous { result ≡ Err WriteFault.Ambiguous ↔ is_ambiguous puzzle.now ≡ true }
 {
     if is_ambiguous(puzzle) {

@@ -19,16 +19,16 @@ in_conversion (Err written.Ambiguous) = Err Ambiguous
 in_conversion (Err written.NoMemory) = Err NoMemory
 
 -- the puzzle's text in a format. In .nin there is none if it would be read with the sizes the other way round
-abbrev pub text_in : Format → Nonogram → Result (List ℕ) ConvertFault
-text_in format p = in_conversion (text_as format p)
+abbrev pub text_in_format : Format → Nonogram → Result (List ℕ) ConvertFault
+text_in_format format p = in_conversion (text_as format p)
 
 -- the text in a format of the puzzle that was read, or the fault
 abbrev pub converted : Format → Result Nonogram EntryFault → Result (List ℕ) ConvertFault
-converted format (Ok p) = text_in format p
+converted format (Ok p) = text_in_format format p
 converted format (Err fault) = Err (Entry fault)
 
--- What a call answered is this answer. Want of memory in reading may stand in place of any answer, and want
--- of memory in writing in place of a text.
+-- What a call answered is this answer. `NoMemory` of the reading may stand in place of any answer, and
+-- that of the writing in place of a text.
 abbrev pub GivesConverted : Result (Vec ℕ Global) ConvertFault → Result (List ℕ) ConvertFault → Type 0
 GivesConverted (Ok text) answer = answer ≡ Ok text.items
 GivesConverted (Err (Entry (Text text.NoMemory))) answer = Unit {0}

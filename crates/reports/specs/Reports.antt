@@ -47,7 +47,7 @@ abbrev pub text_or_fault : (Nonogram → List ℕ) → Result Nonogram EntryFaul
 text_or_fault text (Ok p) = Ok (text p)
 text_or_fault text (Err fault) = Err fault
 
--- What a call answered is this answer. Want of memory may stand in place of any answer.
+-- What a call answered is this answer. `NoMemory` may stand in place of any answer.
 abbrev pub GivesText : Result (Vec ℕ Global) EntryFault → Result (List ℕ) EntryFault → Type 0
 GivesText (Ok text) answer = answer ≡ Ok text.items
 GivesText (Err (Text NoMemory)) answer = Unit {0}

@@ -1,8 +1,8 @@
 //! A puzzle's text in another format.
 
 ghost use Rattle.std.specs.Prelude.{◌≡◌, ◌<◌, ◌↔◌, true, false, length, Err, MatchResult, Ok};
-ghost use Rattle.puzzle_text.specs.Formats.{is_known};
-ghost use Rattle.reports.specs.Converting.{GivesConverted, converted, text_in};
+ghost use Rattle.puzzle_text.specs.Formats.{is_format};
+ghost use Rattle.reports.specs.Converting.{GivesConverted, converted, text_in_format};
 ghost use Rattle.reports.specs.Reports.{said};
 
 use grid_core::Puzzle;
@@ -25,8 +25,8 @@ pub enum ConvertFault {
 }
 
 /// The text of a puzzle in a format.
-fn text_in(alloc: Global, puzzle: &Puzzle, format: Format) -> Result<Vec<u8>, ConvertFault>
-    ensures answer { GivesConverted result (text_in format puzzle.now) }
+fn text_in_format(alloc: Global, puzzle: &Puzzle, format: Format) -> Result<Vec<u8>, ConvertFault>
+    ensures answer { GivesConverted result (text_in_format format puzzle.now) }
     ensures writing { (fault : EntryFault) → result ≡ Err (ConvertFault.Entry fault) → ⊥ }
 {
     match format.write(alloc, puzzle) {
@@ -37,8 +37,8 @@ fn text_in(alloc: Global, puzzle: &Puzzle, format: Format) -> Result<Vec<u8>, Co
 }
 
 /// The text of a puzzle's text in another format. `Entry` with the text's fault; else `Ambiguous`, if the new
-/// text, in `.nin`, would be read with the sizes the other way round; else perhaps `NoMemory`. Want of memory
-/// in reading is an `Entry`.
+/// text, in `.nin`, would be read with the sizes the other way round; else perhaps `NoMemory`. That of the
+/// reading is an `Entry`.
 pub fn convert(
     alloc: Global,
     name: &[u8],
@@ -46,13 +46,13 @@ pub fn convert(
     format: Format,
 ) -> Result<Vec<u8>, ConvertFault>
     ensures answer { GivesConverted result (converted format (said name.now body.now)) }
-    // Want of memory never stands in place of these faults.
-    ensures unknown { result ≡ Err (ConvertFault.Entry EntryFault.UnknownFormat) ↔ is_known name.now ≡ false }
-    ensures too_long { is_known name.now ≡ true → LONGEST_PUZZLE < length body.now →
+    // `NoMemory` never stands in place of these faults.
+    ensures unknown { result ≡ Err (ConvertFault.Entry EntryFault.UnknownFormat) ↔ is_format name.now ≡ false }
+    ensures too_long { is_format name.now ≡ true → LONGEST_PUZZLE < length body.now →
         result ≡ Err (ConvertFault.Entry (EntryFault.Text TextFault.TooLong)) }
 {
     match read_entry(alloc, &Entry { name, body }) {
-        Ok(puzzle) => text_in(alloc, &puzzle, format),
+        Ok(puzzle) => text_in_format(alloc, &puzzle, format),
         Err(fault) => Err(ConvertFault::Entry(fault)),
     }
 }

@@ -3,7 +3,7 @@
 ghost use Rattle.std.specs.Prelude.{◌≡◌, ◌≤◌, ◌<◌, ◌↔◌, ◌++◌, true, false, length, Ok, Err, IfErr, IfOk, OnOk, MatchResult};
 ghost use Rattle.std.specs.List.{list_all};
 ghost use Rattle.grid_core.specs.Cells.{is_known};
-ghost use Rattle.puzzle_text.specs.Formats.{is_known as is_known_format};
+ghost use Rattle.puzzle_text.specs.Formats.{is_format};
 ghost use Rattle.reports.specs.Reports.{GivesText, closed_text, closed_word, grid_report, lines_text, said, solve_text, text_or_fault};
 
 use grid_core::{Grid, NoMemory, Puzzle};
@@ -82,9 +82,9 @@ fn lines_answer(alloc: Global, puzzle: &Puzzle) -> Result<Vec<u8>, EntryFault>
 /// known cells, and its rows; `none 0` if it is dead. Else the text's fault, or `NoMemory`.
 pub fn lines_report(alloc: Global, name: &[u8], body: &[u8]) -> Result<Vec<u8>, EntryFault>
     ensures answer { GivesText result (text_or_fault lines_text (said name.now body.now)) }
-    // Want of memory never stands in place of these faults.
-    ensures unknown { result ≡ Err EntryFault.UnknownFormat ↔ is_known_format name.now ≡ false }
-    ensures too_long { is_known_format name.now ≡ true → LONGEST_PUZZLE < length body.now →
+    // `NoMemory` never stands in place of these faults.
+    ensures unknown { result ≡ Err EntryFault.UnknownFormat ↔ is_format name.now ≡ false }
+    ensures too_long { is_format name.now ≡ true → LONGEST_PUZZLE < length body.now →
         result ≡ Err (EntryFault.Text TextFault.TooLong) }
 {
     match read_entry(alloc, &Entry { name, body }) {
@@ -120,9 +120,9 @@ pub fn solve_report(
 ) -> Result<Vec<u8>, EntryFault>
     requires { guesses ≤ MOST_GUESSES }
     ensures answer { GivesText result (text_or_fault (solve_text name.now guesses pick) (said name.now body.now)) }
-    // Want of memory never stands in place of these faults.
-    ensures unknown { result ≡ Err EntryFault.UnknownFormat ↔ is_known_format name.now ≡ false }
-    ensures too_long { is_known_format name.now ≡ true → LONGEST_PUZZLE < length body.now →
+    // `NoMemory` never stands in place of these faults.
+    ensures unknown { result ≡ Err EntryFault.UnknownFormat ↔ is_format name.now ≡ false }
+    ensures too_long { is_format name.now ≡ true → LONGEST_PUZZLE < length body.now →
         result ≡ Err (EntryFault.Text TextFault.TooLong) }
 {
     match read_entry(alloc, &Entry { name, body }) {

@@ -14,7 +14,7 @@ fn clues_of(alloc: Global, lists: &[&[u16]]) -> Option<Vec<Clue>> {
 }
 
 /// The puzzle with these clues of its rows and of its columns, if there is one.
-pub fn puzzle_of(alloc: Global, rows: &[&[u16]], columns: &[&[u16]]) -> Option<Puzzle> {
+pub fn puzzle_with(alloc: Global, rows: &[&[u16]], columns: &[&[u16]]) -> Option<Puzzle> {
     let longest = usize::from(LONGEST_SIDE);
     if rows.len() > longest || columns.len() > longest {
         return None;

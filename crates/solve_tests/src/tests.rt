@@ -2,7 +2,7 @@
 ghost use Rattle.std.specs.Prelude.{◌≡◌, ◌<◌, ◌≤◌, IfSome};
 ghost use Rattle.solve_core.specs.Sizes.{HasSizeOf};
 
-use crate::test_puzzles::puzzle_of;
+use crate::test_puzzles::puzzle_with;
 use grid_core::{Cell, Grid, Puzzle};
 use solve_core::*;
 use std::alloc::Global;
@@ -91,7 +91,7 @@ fn solver_pictures(alloc: Global, puzzle: &Puzzle) -> Option<[Picture; 2]> {
 
 /// The same of the puzzle with these clues of its rows and of its columns.
 fn pictures_of(alloc: Global, rows: &[&[u16]], columns: &[&[u16]]) -> Option<[Picture; 2]> {
-    let puzzle = puzzle_of(alloc, rows, columns)?;
+    let puzzle = puzzle_with(alloc, rows, columns)?;
     solver_pictures(alloc, &puzzle)
 }
 
@@ -130,7 +130,7 @@ fn lines_of_demonstration(alloc: Global) -> Option<[Picture; 2]> {
         TWO,
     ];
     let columns: &[&[u16]] = &[&[2, 1], &[2, 1, 3], &[7], &[1, 3], &[2, 1]];
-    let puzzle = puzzle_of(alloc, rows, columns)?;
+    let puzzle = puzzle_with(alloc, rows, columns)?;
     let grid = line_picture(alloc, &puzzle)?;
     let mut solver = Solver::new(alloc, &puzzle).ok()?;
     let closed = after_lines(alloc, &puzzle, &mut solver)?;
@@ -146,7 +146,7 @@ fn lines_settle_the_demonstration_puzzle(rt: HostRuntime) -> Result<(), Fail> {
 
 /// What lines make of the puzzle of one cell whose row fills it and whose column doesn't.
 fn lines_of_clash(alloc: Global) -> Option<Picture> {
-    let puzzle = puzzle_of(alloc, &[ONE], &[&[]])?;
+    let puzzle = puzzle_with(alloc, &[ONE], &[&[]])?;
     line_picture(alloc, &puzzle)
 }
 
@@ -191,7 +191,7 @@ fn closed_by(alloc: Global, puzzle: &Puzzle, solver: &mut Solver) -> Option<[Pic
 
 /// What a solver makes so of the 2 by 2 puzzle with a 1 for each line.
 fn closed_again(alloc: Global) -> Option<[Picture; 3]> {
-    let puzzle = puzzle_of(alloc, &[ONE, ONE], &[ONE, ONE])?;
+    let puzzle = puzzle_with(alloc, &[ONE, ONE], &[ONE, ONE])?;
     let mut solver = Solver::new(alloc, &puzzle).ok()?;
     closed_by(alloc, &puzzle, &mut solver)
 }

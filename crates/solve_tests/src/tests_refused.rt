@@ -1,7 +1,7 @@
 //! Calls whose growths of memory are refused, each in turn, and calls that take no memory with every growth
 //! refused.
 
-use crate::test_puzzles::puzzle_of;
+use crate::test_puzzles::puzzle_with;
 use grid_core::{Grid, NoMemory, Puzzle};
 use refusals::{Told, Unswept, is_heeded, refuse, sweep, told_if, was_refused};
 use solve_core::*;
@@ -12,12 +12,12 @@ const ONE: &[u16] = &[1];
 
 /// The puzzle whose cells trials settle, all eight of them, and lines none.
 fn knot(alloc: Global) -> Option<Puzzle> {
-    puzzle_of(alloc, &[&[2], &[1, 1]], &[ONE, ONE, ONE, ONE])
+    puzzle_with(alloc, &[&[2], &[1, 1]], &[ONE, ONE, ONE, ONE])
 }
 
 /// The puzzle of two cells that lines settle.
 fn pair(alloc: Global) -> Option<Puzzle> {
-    puzzle_of(alloc, &[&[2]], &[ONE, ONE])
+    puzzle_with(alloc, &[&[2]], &[ONE, ONE])
 }
 
 /// How many cells of a puzzle lines settle, by a solver and on a grid that are made for it.
@@ -95,7 +95,7 @@ fn growths_with(alloc: Global, puzzle: &Puzzle, guesses: u32) -> Result<usize, U
 #[test]
 fn reports_are_made_or_refused(rt: HostRuntime) -> Result<(), Fail> {
     let alloc = rt.alloc();
-    let puzzle = puzzle_of(alloc, &[ONE, ONE, ONE], &[ONE, ONE, ONE]).ok_or("puzzle")?;
+    let puzzle = puzzle_with(alloc, &[ONE, ONE, ONE], &[ONE, ONE, ONE]).ok_or("puzzle")?;
     let growths = growths_with(alloc, &puzzle, 0)?;
     // A report makes all its room before it deduces its first line.
     assert_eq!(rt; growths_with(alloc, &puzzle, 2)?, growths);

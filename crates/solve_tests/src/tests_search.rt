@@ -1,6 +1,6 @@
 //! Tests of reports.
 
-use crate::test_puzzles::puzzle_of;
+use crate::test_puzzles::puzzle_with;
 use grid_core::{Cell, Grid, Puzzle};
 use solve_core::{Findings, Grade, Pick, Verdict, line_grid, next_guess, report};
 use std::alloc::{AllocError, Global};
@@ -112,7 +112,7 @@ fn assert_reports(
     columns: &[&[u16]],
     reports: &[(u32, &str)],
 ) -> Result<(), Fail> {
-    let puzzle = puzzle_of(rt.alloc(), rows, columns).ok_or("puzzle")?;
+    let puzzle = puzzle_with(rt.alloc(), rows, columns).ok_or("puzzle")?;
     for (guesses, expected) in reports {
         assert_report(rt, &puzzle, *guesses, expected);
     }
@@ -190,7 +190,7 @@ fn a_search_goes_on_from_lines_and_trials(rt: HostRuntime) -> Result<(), Fail> {
 fn a_limit_exactly_met_leaves_one_solution(rt: HostRuntime) -> Result<(), Fail> {
     let rows: [&[u16]; 7] = [PAIR, &[2, 1], &[1, 2], &[2, 1], TRIPLE, TRIPLE, PAIR];
     let columns: [&[u16]; 7] = [&[2], &[2, 1], TRIPLE, &[2, 1], TRIPLE, &[1, 2], &[2]];
-    let puzzle = puzzle_of(rt.alloc(), &rows, &columns).ok_or("puzzle")?;
+    let puzzle = puzzle_with(rt.alloc(), &rows, &columns).ok_or("puzzle")?;
     for (guesses, pick, expected) in [
         (35, Pick::First, "search 0 0 35 unsettled"),
         (
@@ -229,7 +229,7 @@ fn a_limit_exactly_met_leaves_no_solution(rt: HostRuntime) -> Result<(), Fail> {
 fn twin(alloc: Global) -> Option<Puzzle> {
     let rows: [&[u16]; 8] = [ONE, ONE, NONE, &[5], &[5], NONE, ONE, ONE];
     let columns: [&[u16]; 5] = [&[1, 2], &[1, 2], &[2, 1], &[2], &[2, 1]];
-    puzzle_of(alloc, &rows, &columns)
+    puzzle_with(alloc, &rows, &columns)
 }
 
 // Each rule guesses three times. The switch that is guessed last is the one that turns: the lower one with

@@ -1,9 +1,9 @@
-//! Tests of lines in puzzles that need sets of each width.
+//! Tests of puzzles that need sets of each width.
 ghost use Rattle.std.specs.Prelude.{◌≤◌};
 
-use crate::test_puzzles::puzzle_of;
+use crate::test_puzzles::puzzle_with;
 use grid_core::Grid;
-use solve_core::{Solver, line_grid};
+use solve_core::{Pick, Reporter, Solver, line_grid};
 use std::alloc::Global;
 use std::test::Fail;
 
@@ -18,7 +18,7 @@ const MANY: [&[u16]; 256] = [NONE; 256];
 fn settled(alloc: Global, width: usize) -> Option<u32>
     requires { width ≤ 256 }
 {
-    let puzzle = puzzle_of(alloc, &[NONE], &MANY[..width])?;
+    let puzzle = puzzle_with(alloc, &[NONE], &MANY[..width])?;
     let grid = line_grid(alloc, &puzzle).ok()?;
     grid.as_ref().map(|grid| grid.known())
 }
@@ -31,9 +31,40 @@ fn lines_settle_rows_of_each_width(rt: HostRuntime) -> Result<(), Fail> {
     Ok(())
 }
 
+/// What a reporter finds with at most two guesses: the cells that lines settle, and trials, and the guesses.
+fn found_by(
+    reporter: &mut Reporter,
+    alloc: Global,
+    rows: &[&[u16]],
+    columns: &[&[u16]],
+) -> Option<(u32, u32, u32)> {
+    let puzzle = puzzle_with(alloc, rows, columns)?;
+    let found = reporter.report(alloc, &puzzle, 2, Pick::First).ok()?;
+    Some((found.line_known, found.trial_known, found.spent))
+}
+
+#[test]
+fn one_reporter_serves_puzzles_of_all_widths_in_turn(rt: HostRuntime) {
+    let mut reporter = Reporter::new();
+    for width in [256usize, 3, 129, 65, 64] {
+        let reporter = &mut reporter;
+        let wide = found_by(reporter, rt.alloc(), &[NONE], &MANY[..width]);
+        assert!(rt; wide == Some((width as u32, width as u32, 0)), "{width}");
+        let tried = found_by(
+            reporter,
+            rt.alloc(),
+            &[&[2], &[1, 1]],
+            &[ONE, ONE, ONE, ONE],
+        );
+        assert!(rt; tried == Some((0, 8, 0)), "trials after {width}");
+        let guessed = found_by(reporter, rt.alloc(), &[ONE, ONE], &[ONE, ONE]);
+        assert!(rt; guessed == Some((0, 0, 2)), "guesses after {width}");
+    }
+}
+
 /// Whether lines contradict the clues of a puzzle of 3 by 3.
 fn is_contradictory(alloc: Global, rows: &[&[u16]], columns: &[&[u16]]) -> Option<bool> {
-    let puzzle = puzzle_of(alloc, rows, columns)?;
+    let puzzle = puzzle_with(alloc, rows, columns)?;
     let grid = line_grid(alloc, &puzzle).ok()?;
     Some(grid.is_none())
 }
@@ -55,7 +86,7 @@ fn a_number_above_the_sides_is_a_contradiction(rt: HostRuntime) -> Result<(), Fa
 #[test]
 fn the_largest_puzzle_is_closed(rt: HostRuntime) -> Result<(), Fail> {
     let alloc = rt.alloc();
-    let puzzle = puzzle_of(alloc, &MANY, &MANY).ok_or("puzzle")?;
+    let puzzle = puzzle_with(alloc, &MANY, &MANY).ok_or("puzzle")?;
     let mut solver = Solver::new(alloc, &puzzle)?;
     let mut grid = Grid::unknown(alloc, puzzle.width(), puzzle.height())?;
     assert!(rt; solver.close_lines(&mut grid) && grid.known() == 65_536);

@@ -86,7 +86,7 @@ shown_solutions false result = []
 abbrev pub entry_text : Bool → ℕ → GradedEntry → List ℕ
 entry_text show number entry = entry_line number entry ++ shown_solutions show entry.result
 
--- a puzzle with what was found of it. Want of memory stands as a fault
+-- a puzzle with what was found of it. `NoMemory` stands as a fault
 abbrev pub found_of : Nonogram → Result Findings NoMemory → Result (Nonogram × Findings) EntryFault
 found_of p (Ok findings) = Ok (p, findings)
 found_of p (Err refused) = Err (Text text.NoMemory)

@@ -8,10 +8,10 @@ ghost use Rattle.survey_core.specs.steps.Collected.{waiting_jobs, dealt_jobs, co
 
 use crate::bells::{answers_before_ringing, worker_bells};
 use crate::job_order::{deal_out, gather, room_for_answers};
+use crate::lane_context::LaneContext;
+use crate::lane_lists::LaneLists;
 use crate::lanes::{CompleteLane, OpenLane, RunningLane};
-use crate::lists::Lists;
 use crate::settings::{LARGEST_RING, MOST_LANES};
-use crate::shared::Shared;
 use crate::workers::NoThread;
 use grid_core::NoMemory;
 use lane_core::{Answer, Gate, Job};
@@ -78,19 +78,19 @@ pub fn collect<R: Threads + Wait + Sync, G: Gate + Sync>(
     }
     let ring = usize::from(ring);
     let bell = Parker::new();
-    let shared = Shared {
+    let context = LaneContext {
         rt,
         alloc,
         gate,
         bell: &bell,
         batch: answers_before_ringing(ring),
     };
-    collect_some(&shared, jobs, usize::from(lanes), ring)
+    collect_some(&context, jobs, usize::from(lanes), ring)
 }
 
 /// The same, over any number of jobs.
 fn collect_some<R: Threads + Wait + Sync, G: Gate + Sync>(
-    shared: &Shared<'_, R, G>,
+    context: &LaneContext<'_, R, G>,
     jobs: Vec<Job>,
     lanes: usize,
     ring: usize,
@@ -99,44 +99,44 @@ fn collect_some<R: Threads + Wait + Sync, G: Gate + Sync>(
     requires ring { (1 ≤ ring) × (ring ≤ LARGEST_RING) }
     ensures { IfOk result (λ answers. AreAnswersTo jobs.items answers.items) }
 {
-    let alloc = shared.alloc;
+    let alloc = context.alloc;
     let all = Snapshot::of(&jobs);
     let count = jobs.len();
     let gathered = room_for_answers(alloc, count)?;
     let bells = worker_bells(alloc, lanes)?;
-    let lists = Lists::new(alloc, deal_out(alloc, jobs, lanes)?, &bells, ring)?;
+    let lists = LaneLists::new(alloc, deal_out(alloc, jobs, lanes)?, &bells, ring)?;
     let queues = thread::scope(
         thread::scope_env(),
-        shared.rt,
+        context.rt,
         move |scope| -> Result<Vec<VecDeque<Answer, Global>>, NoThread>
             ensures { IfOk result (λ queues. EachAnswered (waiting_jobs lists.entry.opened.items) (map (λ q. q.items) queues.items)) }
-        { run_lanes(shared, scope, lists) },
+        { run_lanes(context, scope, lists) },
     )?;
     Ok(gather(&all, count, lanes, queues, gathered))
 }
 
 /// The answers of each lane, once its worker was started, and it was finished, drained and settled.
 fn run_lanes<'s, 'b: 's, E, R: Threads + Wait + Sync, G: Gate + Sync>(
-    shared: &'s Shared<'s, R, G>,
+    context: &'s LaneContext<'s, R, G>,
     scope: &Scope<'s, E>,
-    lists: Lists<'b>,
+    lists: LaneLists<'b>,
 ) -> Result<Vec<VecDeque<Answer, Global>>, NoThread>
     ensures { IfOk result (λ queues. EachAnswered (waiting_jobs lists.entry.opened.items) (map (λ q. q.items) queues.items)) }
 {
-    let Lists {
+    let LaneLists {
         opened,
         running,
         complete,
         settled,
     } = lists;
-    let running = start_all(shared, scope, opened, running)?;
-    let complete = take_turns(shared, running, complete);
-    Ok(settle_all(shared.rt, complete, settled))
+    let running = start_all(context, scope, opened, running)?;
+    let complete = take_turns(context, running, complete);
+    Ok(settle_all(context.rt, complete, settled))
 }
 
 /// Starts the worker of each lane. If one is not started, those before it are stopped.
 pub fn start_all<'s, 'b: 's, E, R: Threads + Wait + Sync, G: Gate + Sync>(
-    shared: &'s Shared<'s, R, G>,
+    context: &'s LaneContext<'s, R, G>,
     scope: &Scope<'s, E>,
     opened: VecDeque<OpenLane<'b>, Global>,
     room: VecDeque<RunningLane<'b>, Global>,
@@ -148,10 +148,10 @@ pub fn start_all<'s, 'b: 's, E, R: Threads + Wait + Sync, G: Gate + Sync>(
     let mut opened = opened;
     let mut running = room;
     while let Some(lane) = opened.pop_front() {
-        match lane.start(shared, scope) {
+        match lane.start(context, scope) {
             Ok(started) => running.push_back_reserved(started),
             Err(refused) => {
-                stop_all(shared.rt, running);
+                stop_all(context.rt, running);
                 return Err(refused);
             }
         }
@@ -170,7 +170,7 @@ pub fn stop_all<R: Threads>(rt: &R, running: VecDeque<RunningLane<'_>, Global>) 
 /// Takes turns at the lanes until each is complete. After a round in which nothing could be done, the
 /// collector sleeps at its bell.
 fn take_turns<'b, R: Wait, G>(
-    shared: &Shared<'_, R, G>,
+    context: &LaneContext<'_, R, G>,
     running: VecDeque<RunningLane<'b>, Global>,
     room: VecDeque<CompleteLane, Global>,
 ) -> VecDeque<CompleteLane, Global>
@@ -180,14 +180,14 @@ fn take_turns<'b, R: Wait, G>(
 {
     let mut running = running;
     let mut complete = room;
-    'rounds: for _ in shared.rt.forever() {
+    'rounds: for _ in context.rt.forever() {
         let moved = take_round(&mut running);
         take_complete(&mut running, &mut complete);
         if running.is_empty() {
             return complete;
         }
         if !moved {
-            shared.bell.park(shared.rt);
+            context.bell.park(context.rt);
         }
     }
     unreachable!()

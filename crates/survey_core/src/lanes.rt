@@ -4,7 +4,7 @@ ghost use Rattle.std.specs.Prelude.{◌≡◌, ◌++◌, [], length, true};
 ghost use Rattle.lane_core.specs.Messages.{has_finish, jobs_of};
 ghost use Rattle.lane_core.specs.Ends.{front_lists, AreOneLane};
 
-use crate::shared::Shared;
+use crate::lane_context::LaneContext;
 use crate::workers::{FinishedBackOf, NoThread, start_worker};
 use grid_core::NoMemory;
 use lane_core::{Answer, Gate, Job, Lane, LaneBack, LaneFront, deal, open_lane, settle};
@@ -57,7 +57,7 @@ impl<'s> OpenLane<'s> {
     /// Starts the worker of the lane.
     pub fn start<'t, E, R: Wait + Sync, G: Gate + Sync>(
         self,
-        shared: &'t Shared<'t, R, G>,
+        context: &'t LaneContext<'t, R, G>,
         scope: &Scope<'t, E>,
     ) -> Result<RunningLane<'s>, NoThread>
     where
@@ -71,7 +71,7 @@ impl<'s> OpenLane<'s> {
             waiting,
             got,
         } = self;
-        let worker = start_worker(shared, scope, back, bell)?;
+        let worker = start_worker(context, scope, back, bell)?;
         let dealt = Snapshot::of(&waiting);
         let total = waiting.len();
         Ok(RunningLane {

@@ -18,7 +18,7 @@ impl Outcome {
     ghost use Rattle.survey_core.specs.Entries.{shown_outcome};
     ghost use Rattle.survey_core.specs.steps.Entries.{shown_listed};
 
-    /// The entry as a survey lists it. Want of memory in an answer stands as a fault.
+    /// The entry as a survey lists it. `NoMemory` in an answer stands as a fault.
     pub(crate) fn listed(&self) -> ListedEntry<'_>
         ensures { shown_listed result ≡ shown_outcome self.now }
     {

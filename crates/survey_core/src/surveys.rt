@@ -94,7 +94,7 @@ pub fn survey_entries<H: Threads + Wait + Sync, W: Write, G: Gate + Sync>(
     requires { fault_count writer.old < 2 ^ 32 - 1 }
     ensures answer { Leaves (survey_of_entries (guessing settings.now) settings.now.show (map shown_entry entries.now)) result
         (W.contents writer.old.inner) (W.contents writer.new.inner) }
-    // Want of memory never stands in place of this fault.
+    // `NoMemory` never stands in place of this fault.
     ensures too_many { MOST_ENTRIES < length entries.now → result ≡ Err (RunFault.Collection CollectionFault.TooMany) }
     ensures write { IsErrWrite result ↔ (fault_count writer.old < fault_count writer.new) }
     ensures no_read { IsErrOf result RunFault.Read → ⊥ }

@@ -5,7 +5,7 @@ ghost use Rattle.lane_core.specs.Lane.{IsFinished};
 ghost use Rattle.lane_core.specs.Ends.{back_lists, SameBack};
 
 use crate::bells::WorkerBells;
-use crate::shared::Shared;
+use crate::lane_context::LaneContext;
 use lane_core::{Gate, LaneBack, Step};
 use std::alloc::Global;
 use std::snapshot::Snapshot;
@@ -53,7 +53,7 @@ pub struct NoThread;
 
 /// Starts the worker of a lane, which sleeps at this bell.
 pub fn start_worker<'s, E, R: Wait + Sync, G: Gate + Sync>(
-    shared: &'s Shared<'s, R, G>,
+    context: &'s LaneContext<'s, R, G>,
     scope: &Scope<'s, E>,
     back: LaneBack,
     bell: &'s Parker,
@@ -61,8 +61,8 @@ pub fn start_worker<'s, E, R: Wait + Sync, G: Gate + Sync>(
     ensures { IfOk result (λ worker. worker.promise.0.value ≡ back) }
 {
     let promise = FinishedBackOf(Snapshot::of(&back));
-    let (rt, alloc, gate) = (shared.rt, shared.alloc, shared.gate);
-    let (collector, batch) = (shared.bell, shared.batch);
+    let (rt, alloc, gate) = (context.rt, context.alloc, context.gate);
+    let (collector, batch) = (context.bell, context.batch);
     match scope.spawn_with(promise, move || {
         let bells = WorkerBells::new(bell, collector, batch);
         run_worker(rt, alloc, gate, back, bells)

@@ -34,7 +34,7 @@ pub(crate) fn eight_jobs(alloc: Global) -> Result<Vec<Job>, Fail> {
     Ok(jobs)
 }
 
-fn word_of(verdict: &Verdict) -> &'static str {
+fn verdict_word(verdict: &Verdict) -> &'static str {
     match verdict {
         Verdict::Nothing => "none",
         Verdict::One(_) => "one",
@@ -51,7 +51,7 @@ fn assert_eight(rt: &impl Abort, answers: &[Answer]) {
         assert_eq!(rt; answer.puzzle().goal_word(), goal, "puzzle {number}");
         match answer.outcome() {
             Ok(findings) => {
-                assert_eq!(rt; word_of(&findings.verdict), verdict, "puzzle {number}");
+                assert_eq!(rt; verdict_word(&findings.verdict), verdict, "puzzle {number}");
                 assert_eq!(rt; findings.grade, grade, "puzzle {number}");
                 assert_eq!(rt; findings.spent, spent, "puzzle {number}");
             }

@@ -163,7 +163,7 @@ fn are_blank(lines: &[SlowLine<'_>]) -> bool {
 
 /// The `count` clue lines of a section, if it has them: its lines that aren't blank, or else its first ones,
 /// if all others are blank.
-pub(crate) fn clue_lines<'a>(
+pub(crate) fn slow_clue_lines<'a>(
     alloc: Global,
     count: u16,
     section: &[SlowLine<'a>],
@@ -215,7 +215,7 @@ fn have_clues(puzzle: &Puzzle, lists: &[Vec<u16>]) -> bool {
 }
 
 /// The text of a field, if it is there.
-fn text_in<'a>(texts: &[(Field, &'a [u8])], field: Field) -> Option<&'a [u8]> {
+fn text_under<'a>(texts: &[(Field, &'a [u8])], field: Field) -> Option<&'a [u8]> {
     for (other, text) in texts {
         if *other == field {
             return Some(*text);
@@ -232,7 +232,7 @@ fn has_texts(puzzle: &Puzzle, texts: &[(Field, &[u8])]) -> bool {
         Field::Copyright,
         Field::License,
     ] {
-        if puzzle.texts().get(field) != text_in(texts, field) {
+        if puzzle.texts().get(field) != text_under(texts, field) {
             return false;
         }
     }
@@ -261,7 +261,7 @@ fn is_said(puzzle: &Puzzle, said: &Said<'_>) -> bool {
         && has_goal(puzzle, said.goal)
 }
 
-/// Whether a reader's answer is what the slow reader answers, which is never want of memory.
+/// Whether a reader's answer is what the slow reader answers, which is never `NoMemory`.
 pub(crate) fn agree(
     answer: &Result<Puzzle, TextFault>,
     slow: &Result<Said<'_>, TextFault>,

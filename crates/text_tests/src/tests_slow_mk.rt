@@ -1,7 +1,7 @@
 //! What `docs/formats.md` says of `.mk`, written a second time, for tests:
 //! the faults are looked for in the order of that page.
 
-use crate::tests_slow::{Said, SlowLine, clue_lines, slow_clues, slow_lines, slow_size_line};
+use crate::tests_slow::{Said, SlowLine, slow_clue_lines, slow_clues, slow_lines, slow_size_line};
 use grid_core::NoMemory;
 use puzzle_text::TextFault;
 use std::alloc::Global;
@@ -20,8 +20,8 @@ fn both<'a>(
     columns: &[SlowLine<'a>],
 ) -> Result<Option<Vec<SlowLine<'a>>>, NoMemory> {
     match (
-        clue_lines(alloc, height, rows)?,
-        clue_lines(alloc, width, columns)?,
+        slow_clue_lines(alloc, height, rows)?,
+        slow_clue_lines(alloc, width, columns)?,
     ) {
         (Some(mut lines), Some(others)) => {
             lines.extend_from_slice(&others)?;

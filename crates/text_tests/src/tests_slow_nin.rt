@@ -1,7 +1,7 @@
 //! What `docs/formats.md` says of `.nin`, written a second time, for tests:
 //! the faults are looked for in the order of that page.
 
-use crate::tests_slow::{Said, clue_lines, slow_clues, slow_lines, slow_size_line};
+use crate::tests_slow::{Said, slow_clue_lines, slow_clues, slow_lines, slow_size_line};
 use puzzle_text::TextFault;
 use std::alloc::Global;
 
@@ -41,7 +41,7 @@ fn is_admissible(width: u16, height: u16, clues: &[Vec<u16>]) -> bool {
 pub(crate) fn slow_nin(alloc: Global, text: &[u8]) -> Result<Said<'_>, TextFault> {
     let lines = slow_lines(alloc, text)?;
     let (first, second, section) = slow_size_line(alloc, &lines)?;
-    let Some(lines) = clue_lines(alloc, first.saturating_add(second), section)? else {
+    let Some(lines) = slow_clue_lines(alloc, first.saturating_add(second), section)? else {
         return Err(TextFault::BadCount);
     };
     let clues = slow_clues(alloc, &lines)?;

@@ -2,7 +2,7 @@
 //! the faults are looked for in the order of that page, each in the whole text before the next one.
 
 use crate::tests_slow::{
-    Said, SlowLine, clue_lines, slow_clues, slow_lines, slow_size, without_blanks,
+    Said, SlowLine, slow_clue_lines, slow_clues, slow_lines, slow_size, without_blanks,
 };
 use grid_core::{Field, NoMemory};
 use puzzle_text::TextFault;
@@ -210,8 +210,8 @@ fn clues_of(
     width: u16,
     height: u16,
 ) -> Result<Vec<Vec<u16>>, TextFault> {
-    let rows = clue_lines(alloc, height, &section(alloc, lines, b"rows")?)?;
-    let columns = clue_lines(alloc, width, &section(alloc, lines, b"columns")?)?;
+    let rows = slow_clue_lines(alloc, height, &section(alloc, lines, b"rows")?)?;
+    let columns = slow_clue_lines(alloc, width, &section(alloc, lines, b"columns")?)?;
     match (rows, columns) {
         (Some(rows), Some(columns)) => both_clues(alloc, &rows, &columns),
         _ => Err(TextFault::BadCount),

@@ -37,4 +37,4 @@ returns c = λ sections clues.
     c.in_ok-texts.ensures ∙ ap (λ (ls : List KeywordLine). texts_of (map shown_keyword ls)) c.deref-5.ensures.value in
     said_by_parts sections kept width height c.in_ok-rows_first.field-0 rows columns goal clues sizes order checked
     (search rules) (search rules) goal_said
-    ∙ ap (λ (p : Nonogram). Ok p) (sym (c.puzzle_of.ensures ∙ ap (of_parts width height rows columns goal) texts))
+    ∙ ap (λ (p : Nonogram). Ok p) (sym (c.puzzle_from_parts.ensures ∙ ap (of_parts width height rows columns goal) texts))

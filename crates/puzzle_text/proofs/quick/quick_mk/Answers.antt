@@ -11,5 +11,5 @@ returns-clause-answer c =
     c.in_ok-height.width c.in_ok-height.height c.in_ok-rows.rows.items c.in_ok-columns.columns.items (omega arith) c.in_ok-height.ensures
     c.in_ok-rows.ensures.clues c.in_ok-hash_line.ensures c.in_ok-columns.ensures.clues (search rules) c.in_ok-rows.ensures.count
     c.in_ok-columns.ensures.count in
-    said ∙ ap (λ (p : Nonogram). Ok p) (sym (c.puzzle_of.ensures ∙ ap (of_parts c.in_ok-height.width c.in_ok-height.height
+    said ∙ ap (λ (p : Nonogram). Ok p) (sym (c.puzzle_from_parts.ensures ∙ ap (of_parts c.in_ok-height.width c.in_ok-height.height
     c.in_ok-rows.rows.items c.in_ok-columns.columns.items None) c.none.ensures))

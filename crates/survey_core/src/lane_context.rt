@@ -5,7 +5,7 @@ use std::thread::Parker;
 
 /// What the collector and its workers share.
 #[derive(Drop)]
-pub struct Shared<'s, R, G> {
+pub struct LaneContext<'s, R, G> {
     /// The runtime.
     pub rt: &'s R,
     /// What grading takes its memory from.

@@ -1,7 +1,7 @@
--- What the loop of `clue_lines` keeps: the lines passed say the clues so far.
+-- What the loop of `read_clue_lines` keeps: the lines passed say the clues so far.
 use Rattle.std.proofs.Common.{◌≡◌, ◌+◌, ◌-◌, ◌≤◌, length, vec_capacity, vec_len}
 use Rattle.puzzle_text.specs.steps.Usual.{SayClues}
-use Rattle.puzzle_text.proofs.usual_lines.clue_lines.Given as goal
+use Rattle.puzzle_text.proofs.usual_lines.read_clue_lines.Given as goal
 
 abbrev pub invariant-lines : goal.invariant-lines
 invariant-lines l = record {

@@ -1,9 +1,9 @@
--- `word_of`: the text that `clap` read, or else the empty one, is that of the entry.
+-- `text_in`: the text that `clap` read, or else the empty one, is that of the entry.
 use Rattle.std.proofs.Common.{ap, ◌∙◌, refl, List, ℕ}
 use Rattle.std.specs.Borrow.{Bor}
 use Rattle.clap.specs.Words.{found_of}
 use Rattle.command_line.proofs.WordLemmas.{text_of_entry}
-use Rattle.command_line.proofs.command.word_of.Goals as goal
+use Rattle.command_line.proofs.command.text_in.Goals as goal
 
 pub returns : goal.returns
 returns c =

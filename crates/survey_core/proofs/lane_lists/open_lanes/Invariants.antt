@@ -3,7 +3,7 @@ use Rattle.std.proofs.Common.{◌≡◌, ◌+◌, ◌++◌, length, map, vec_len
 use Rattle.std.specs.Vec.Iter.{into_iter_items, into_iter_len}
 use Rattle.std.specs.VecDeque.{deque_len}
 use Rattle.survey_core.specs.steps.Collected.{waiting_jobs}
-use Rattle.survey_core.proofs.lists.open_lanes.Given as goal
+use Rattle.survey_core.proofs.lane_lists.open_lanes.Given as goal
 
 abbrev pub invariant-loop-waiting : goal.invariant-loop-waiting
 invariant-loop-waiting l = record {

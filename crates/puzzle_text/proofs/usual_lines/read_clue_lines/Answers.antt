@@ -1,8 +1,8 @@
--- `clue_lines`: one line more says one clue more.
+-- `read_clue_lines`: one line more says one clue more.
 use Rattle.std.proofs.Common.{[], ◌∷◌, ap, arith, length, rules}
 use Rattle.std.proofs.lemmas.List.{length-append}
 use Rattle.puzzle_text.proofs.UsualParts.{one_said}
-use Rattle.puzzle_text.proofs.usual_lines.clue_lines.Goals as goal
+use Rattle.puzzle_text.proofs.usual_lines.read_clue_lines.Goals as goal
 
 pub lines-preserved : goal.lines-preserved
 lines-preserved c = record {

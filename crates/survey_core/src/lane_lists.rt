@@ -14,7 +14,7 @@ use std::thread::Parker;
 
 /// The lanes of a collection, open, and lists with room for each of them in what is left of its life.
 #[derive(Drop)]
-pub struct Lists<'s> {
+pub struct LaneLists<'s> {
     /// The lanes, open.
     pub opened: VecDeque<OpenLane<'s>, Global>,
     /// Room for the lanes whose workers run.
@@ -28,7 +28,7 @@ pub struct Lists<'s> {
     pub ghost none_settled: { (settled.items ≡ []) × (deque_len opened ≤ vec_capacity settled) },
 }
 
-impl<'s> Lists<'s> {
+impl<'s> LaneLists<'s> {
     ghost use Rattle.std.specs.Prelude.{◌≡◌, ◌≤◌, IfOk, length, map, vec_len};
     ghost use Rattle.lane_core.specs.declared.opening.TheConstants.{LARGEST_RING};
     ghost use Rattle.survey_core.specs.steps.Collected.{waiting_jobs};
@@ -40,7 +40,7 @@ impl<'s> Lists<'s> {
         queues: Vec<VecDeque<Job, Global>>,
         bells: &'s [Parker],
         ring: usize,
-    ) -> Result<Lists<'s>, NoMemory>
+    ) -> Result<LaneLists<'s>, NoMemory>
         requires bells { vec_len queues ≤ length bells.now }
         requires least { 1 ≤ ring }
         requires most { ring ≤ LARGEST_RING }
@@ -51,7 +51,7 @@ impl<'s> Lists<'s> {
         let running = VecDeque::with_capacity(alloc, lanes)?;
         let complete = VecDeque::with_capacity(alloc, lanes)?;
         let settled = Vec::with_capacity(alloc, lanes)?;
-        Ok(Lists {
+        Ok(LaneLists {
             opened,
             running,
             complete,
