@@ -57,7 +57,7 @@ cat >"\$shard"
 [ ! -s "\$shard" ] || echo shard >>'$room/surveyed'
 if [ -e '$room/mortal' ] && grep -q '^@ 12345_' "\$shard"; then
     $1
-    '$program' "\$@" <"\$shard" | head -n 3
+    '$program' "\$@" <"\$shard" | sed -n 1,3p
     kill -KILL \$\$
 fi
 exec '$program' "\$@" <"\$shard"
