@@ -11,6 +11,5 @@ pub mod Painting
 pub mod Outermost
 pub mod EndLaws
 pub mod Telling
-pub mod Examples
 pub mod Packing
 pub mod LoneRuns

@@ -10,7 +10,7 @@ use Rattle.grid_core.specs.declared.cells.Cell.TheVariants.{Unknown}
 use Rattle.grid_core.specs.Cells.{agrees}
 use Rattle.grid_core.specs.Runs.{runs}
 use Rattle.line_core.specs.Placings.{placings}
-use Rattle.line_core.specs.Ends.{run_starts, all_starts, leftmost, rightmost}
+use Rattle.line_core.specs.Ends.{run_starts, all_starts}
 use Rattle.line_core.specs.declared.starts.Side.{Side}
 use Rattle.line_core.specs.declared.starts.Side.TheVariants.{Left, Right}
 use Rattle.line_core.specs.steps.Outermost.{outermost, IsAsFar, IsOuterStart}

@@ -53,6 +53,12 @@ fn may_have_no_run<W: PlaceSet>(span: &Span<W>, clue: &[u16], gaps: &[W; GAPS]) 
     blankable.contains(0)
 }
 
+/// Room for the start of each run.
+#[derive(Drop)]
+struct StartList {
+    starts: [u16; MOST_RUNS],
+}
+
 /// Writes the start of each run that is furthest to a side among all placings.
 /// Returns whether there is a placing.
 fn write_starts<W: PlaceSet>(
@@ -60,16 +66,17 @@ fn write_starts<W: PlaceSet>(
     span: &Span<W>,
     clue: &[u16],
     gaps: &[W; GAPS],
-    list: &mut [u16; MOST_RUNS],
+    list: &mut StartList,
 ) -> bool
     ghost line: { List Cell }
     requires span { IsSpanOf W.WIDTH line span.now.len (W.number span.now.free) (W.number span.now.room) }
     requires clue { AreLengths W.WIDTH clue.now }
     requires count { (0 < length clue.now) × (length clue.now ≤ MOST_RUNS) }
     requires ahead { AreGapsAhead line clue.now (map W.number gaps.now) }
-    ensures { MatchBool result
-        ((j : ℕ) → j < length clue.now → IsOuterStart side line clue.now j (slice_index list.new j))
+    ensures starts { MatchBool result
+        ((j : ℕ) → j < length clue.now → IsOuterStart side line clue.now j (slice_index list.new.starts j))
         (HasPlacing line clue.now → ⊥) }
+    ensures len { length list.new.starts ≡ length list.old.starts }
 {
     let windows = windows_within(span.room);
     let mut pass = Pass::new(span);
@@ -80,7 +87,7 @@ fn write_starts<W: PlaceSet>(
         if whole.is_empty() {
             return false;
         }
-        list[j] = outermost_place(side, whole) + 1 - clue[j];
+        list.starts[j] = outermost_place(side, whole) + 1 - clue[j];
     }
     true
 }
@@ -92,7 +99,7 @@ fn find_starts<W: PlaceSet>(
     line: &LineOf<W>,
     clue: &[u16],
     room: &mut Vec<[W; GAPS]>,
-    list: &mut [u16; MOST_RUNS],
+    list: &mut StartList,
 ) -> bool
     ghost cells: { List Cell }
     requires cells { line.now ≡ cells }
@@ -100,7 +107,7 @@ fn find_starts<W: PlaceSet>(
     requires count { length clue.now ≤ MOST_RUNS }
     requires room { 0 < vec_capacity room.old }
     ensures found { MatchBool result
-        (outermost side cells clue.now ≡ Some (take (length clue.now) list.new))
+        (outermost side cells clue.now ≡ Some (take (length clue.now) list.new.starts))
         (outermost side cells clue.now ≡ None) }
     ensures room { 0 < vec_capacity room.new }
 {
@@ -122,12 +129,12 @@ fn find_by_width(
     line: &Line,
     clue: &[u16],
     rooms: &mut Rooms,
-    list: &mut [u16; MOST_RUNS],
+    list: &mut StartList,
 ) -> bool
     requires clue { AreLengths LONGEST_SIDE clue.now }
     requires count { length clue.now ≤ MOST_RUNS }
     ensures { MatchBool result
-        (outermost side line.now clue.now ≡ Some (take (length clue.now) list.new))
+        (outermost side line.now clue.now ≡ Some (take (length clue.now) list.new.starts))
         (outermost side line.now clue.now ≡ None) }
 {
     match Width::of(places_needed(line.len(), clue)) {
@@ -141,7 +148,7 @@ fn find_by_width(
 #[derive(Drop)]
 pub struct Starts {
     count: usize,
-    list: [u16; MOST_RUNS],
+    list: StartList,
     rooms: Rooms,
 }
 
@@ -151,7 +158,7 @@ impl Model for Starts {
 
     ghost Value = { List ℕ };
 
-    ghost view = { λ starts. take starts.count starts.list };
+    ghost view = { λ starts. take starts.count starts.list.starts };
 
     ghost invariant = { λ starts. starts.count ≤ MOST_RUNS };
 }
@@ -163,7 +170,9 @@ impl Starts {
     {
         Ok(Starts {
             count: 0,
-            list: [0; MOST_RUNS],
+            list: StartList {
+                starts: [0; MOST_RUNS],
+            },
             rooms: Rooms::new(alloc)?,
         })
     }
@@ -172,7 +181,7 @@ impl Starts {
     pub fn list(&self) -> &[u16]
         ensures { result.now ≡ self.now }
     {
-        &self.list[..self.count]
+        &self.list.starts[..self.count]
     }
 
     /// The starts of the placing that is furthest to a side.

@@ -1,5 +1,5 @@
 -- A greater limit keeps what a text says.
-use Rattle.std.proofs.Common.{◌≡◌, ℕ, zero, suc, ◌+◌, ◌*◌, ◌≤◌, Bool, true, false, cond, leb, List, [], ◌∷◌, length, codes, refl, ap, ◌∙◌, arith, Option, Some, None, Result, Ok, Err}
+use Rattle.std.proofs.Common.{◌≡◌, ℕ, zero, suc, ◌+◌, ◌≤◌, Bool, true, false, cond, leb, List, [], ◌∷◌, length, codes, refl, ap, ◌∙◌, arith, Option, Some, None, Result, Ok, Err}
 use Rattle.std.specs.Prelude.{option_and_then}
 use Rattle.std.specs.List.{list_all}
 use Rattle.std.specs.Option.{option_map}
@@ -18,7 +18,7 @@ use Rattle.puzzle_text.specs.Readings.{reading, likelier}
 use Rattle.puzzle_text.specs.Nin.{nin_of, read_nin}
 use Rattle.puzzle_text.specs.Mk.{puzzle_of, at_hash, before_hash, layout, Layout, or_else, mk_of, read_mk}
 use Rattle.puzzle_text.specs.Keywords.{first_with, rest}
-use Rattle.puzzle_text.specs.Non.{placed, sections_of, sizes_of, rows_first, check_lines, clue_lines_of, both_clues, goal_of, texts_of, non_of, read_non}
+use Rattle.puzzle_text.specs.Non.{placed, sections_of, sizes_of, rows_first, check_lines, clue_lines_of, both_clues, outline_of, puzzle_of_clues, non_of, read_non}
 use Rattle.puzzle_text.specs.Laws.{KeepsAnswer}
 
 -- ---- options
@@ -91,35 +91,6 @@ swapped y x = Ok (x, y)
 
 abbrev said : Nonogram → Result Nonogram TextFault
 said p = Ok p
-
--- ---- the steps of .non
-
--- what a text says, if its sizes and its clues are known
-abbrev pub with_goal : List Line → ℕ × ℕ → List (List ℕ) × List (List ℕ) → Result Nonogram TextFault
-with_goal text sizes clues =
-    goal_of (sizes.0 * sizes.1) (first_with (codes "goal") text)
-    >>= λ goal. Ok (record { width = sizes.0; height = sizes.1; rows = clues.0; columns = clues.1; texts = texts_of text; goal = goal })
-
--- what a text says, if its sizes, its sections' order and its clue lines are known
-abbrev pub with_clues : ℕ → List Line → ℕ × ℕ → Bool → List Line → List Line → Result Nonogram TextFault
-with_clues limit text sizes order rows columns = both_clues limit order rows columns >>= with_goal text sizes
-
--- what a text says, if the clue lines of its rows are known
-abbrev pub with_columns : ℕ → List Line → ℕ × ℕ → Bool → List Line → Result Nonogram TextFault
-with_columns limit text sizes order rows =
-    clue_lines_of sizes.0 (sections_of (placed text)).columns >>= with_clues limit text sizes order rows
-
--- what a text says, if its lines are checked
-abbrev pub with_rows : ℕ → List Line → ℕ × ℕ → Bool → Result Nonogram TextFault
-with_rows limit text sizes order = clue_lines_of sizes.1 (sections_of (placed text)).rows >>= with_columns limit text sizes order
-
--- what a text says, if its sizes and its sections' order are known
-abbrev pub with_order : ℕ → List Line → ℕ × ℕ → Bool → Result Nonogram TextFault
-with_order limit text sizes order = check_lines (sections_of (placed text)).stray text >>= λ checked. with_rows limit text sizes order
-
--- what a text says, if its sizes are known
-abbrev pub with_sizes : ℕ → List Line → ℕ × ℕ → Result Nonogram TextFault
-with_sizes limit text sizes = rows_first text >>= with_order limit text sizes
 
 -- ---- numbers, sizes and clues
 
@@ -258,18 +229,25 @@ module _ (a b : ℕ) (le : a ≤ b) where
   both_keep true p q = in_order p q
   both_keep false p q = out_of_order p q
 
+  outline_keeps : (stray : Option ℕ) (text : List Line) → KeepsAnswer (outline_of a stray text) (outline_of b stray text)
+  outline_keeps stray text =
+      let order = λ (sizes : ℕ × ℕ). rows_first text >>= λ first. check_lines stray text >>= λ checked. Ok (sizes, first) in
+      keeps-bind (sizes_of a text) (sizes_of b text) order order (sizes_keep text) (λ sizes. keeps-same (order sizes))
+
   non_of_keeps : (text : List Line) → KeepsAnswer (non_of a text) (non_of b text)
   non_of_keeps text =
-      keeps-bind (sizes_of a text) (sizes_of b text) (with_sizes a text) (with_sizes b text) (sizes_keep text) (λ sizes.
-      keeps-next (rows_first text) (with_order a text sizes) (with_order b text sizes) (λ order.
-      keeps-next (check_lines (sections_of (placed text)).stray text) (λ checked. with_rows a text sizes order)
-      (λ checked. with_rows b text sizes order) (λ checked.
-      keeps-next (clue_lines_of sizes.1 (sections_of (placed text)).rows) (with_columns a text sizes order)
-      (with_columns b text sizes order) (λ rows.
-      keeps-next (clue_lines_of sizes.0 (sections_of (placed text)).columns) (with_clues a text sizes order rows)
-      (with_clues b text sizes order rows) (λ columns.
-      keeps-bind (both_clues a order rows columns) (both_clues b order rows columns) (with_goal text sizes) (with_goal text sizes)
-      (both_keep order rows columns) (λ clues. keeps-same (with_goal text sizes clues)))))))
+      let sections = sections_of (placed text) in
+      let said = λ (outline : (ℕ × ℕ) × Bool) (clues : List (List ℕ) × List (List ℕ)). puzzle_of_clues outline.0 clues text in
+      let in_both = λ (limit : ℕ) (outline : (ℕ × ℕ) × Bool) (p q : List Line). both_clues limit outline.1 p q >>= said outline in
+      let columns = λ (outline : (ℕ × ℕ) × Bool). clue_lines_of outline.0.0 sections.columns in
+      let in_rows = λ (limit : ℕ) (outline : (ℕ × ℕ) × Bool) (p : List Line). columns outline >>= in_both limit outline p in
+      let rows = λ (outline : (ℕ × ℕ) × Bool). clue_lines_of outline.0.1 sections.rows in
+      keeps-bind (outline_of a sections.stray text) (outline_of b sections.stray text) (λ outline. rows outline >>= in_rows a outline)
+      (λ outline. rows outline >>= in_rows b outline) (outline_keeps sections.stray text) (λ outline.
+      keeps-next (rows outline) (in_rows a outline) (in_rows b outline) (λ p.
+      keeps-next (columns outline) (in_both a outline p) (in_both b outline p) (λ q.
+      keeps-bind (both_clues a outline.1 p q) (both_clues b outline.1 p q) (said outline) (said outline)
+      (both_keep outline.1 p q) (λ clues. keeps-same (said outline clues)))))
 
   -- ---- the readers
 

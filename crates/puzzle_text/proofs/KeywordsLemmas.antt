@@ -1,31 +1,11 @@
 -- Lemmas on lines with a keyword.
-use Rattle.std.proofs.Common.{◌≡◌, ℕ, zero, suc, Bool, true, false, cond, not, List, [], ◌∷◌, codes, length, map, refl, sym, ap, ◌∙◌, arith, inl, inr, Option, Some, None}
-use Rattle.std.specs.Prelude.{slice_get}
+use Rattle.std.proofs.Common.{◌≡◌, ℕ, Bool, true, false, cond, not, List, [], ◌∷◌, codes, length, refl, sym, ap, ◌∙◌, arith, inl, inr}
 use Rattle.std.specs.List.{filter}
-use Rattle.std.specs.Option.{option_map}
 use Rattle.std.specs.Str.{bytes_eq}
 use Rattle.std.proofs.lemmas.Bool.{cases_Bool, cond-false, ne_eqb}
 use Rattle.puzzle_text.specs.Lines.{Line, is_empty}
 use Rattle.puzzle_text.specs.Keywords.{has_keyword, is_keyword_line, keyword, with_keyword}
 use Rattle.puzzle_text.specs.Non.{Sections, puzzle_said}
-use Rattle.puzzle_text.proofs.SectionsLemmas.{filter-map}
-
-pub slice_get-map : {X Y : Type 0} (view : X → Y) (xs : List X) (i : ℕ) → slice_get (map view xs) i ≡ option_map view (slice_get xs i)
-slice_get-map view [] i = refl
-slice_get-map view (x ∷ xs) zero = refl
-slice_get-map view (x ∷ xs) (suc i) = slice_get-map view xs i
-
-option_map-map : {X Y Z : Type 0} (f : X → Y) (g : Y → Z) (o : Option X) → option_map (λ x. g (f x)) o ≡ option_map g (option_map f o)
-option_map-map f g None = refl
-option_map-map f g (Some x) = refl
-
--- the element that a filter keeps at a place, seen by a view
-pub kept_at : {X Y Z : Type 0} (now : X → Y) (view : Y → Z) (p : Z → Bool) (found : Option X) (ys : List Y) (i : ℕ)
-    → option_map now found ≡ slice_get (filter (λ y. p (view y)) ys) i
-    → option_map (λ x. view (now x)) found ≡ slice_get (filter p (map view ys)) i
-kept_at now view p found ys i e =
-    option_map-map now view found ∙ ap (option_map view) e ∙ sym (slice_get-map view (filter (λ y. p (view y)) ys) i)
-    ∙ sym (ap (λ zs. slice_get zs i) (filter-map p view ys))
 
 -- ---- the keyword lines alone
 

@@ -1,5 +1,4 @@
 -- Lemmas on puzzles' texts and on collections.
-mod Rows
 pub mod LinesLemmas
 pub mod NumbersLemmas
 pub mod EachLemmas

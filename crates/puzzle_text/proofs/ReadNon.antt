@@ -26,13 +26,12 @@ use Rattle.puzzle_text.specs.Sections.{choice}
 use Rattle.puzzle_text.specs.Sizes.{size_of}
 use Rattle.puzzle_text.specs.Keywords.{rest, with_keyword, first_with, second_with, after_quote, all_fields, field_word, quoted, quoted_text}
 use Rattle.puzzle_text.proofs.PlacedWalk.{walked, walked-placed}
-use Rattle.puzzle_text.specs.Non.{placed, section, sections_of, is_outside_sections, least, number_of_line, long_text, bad_line, repeated, refuse_at, cell_of, goal_cells, goal_of, both_clues, field_text, texts_of, sizes_of, rows_first, check_lines, clue_lines_of, non_of, read_non}
+use Rattle.puzzle_text.specs.Non.{placed, section, sections_of, is_outside_sections, least, number_of_line, long_text, bad_line, repeated, refuse_at, cell_of, goal_cells, goal_of, both_clues, field_text, texts_of, sizes_of, rows_first, check_lines, clue_lines_of, outline_of, puzzle_of_clues, non_of, read_non}
 use Rattle.puzzle_text.specs.Written.{clue_text, goal_byte, text_non}
 use Rattle.puzzle_text.proofs.SectionsLemmas.{filter-map}
 use Rattle.puzzle_text.proofs.ReadBack.{numbered, kept_tidy}
 use Rattle.puzzle_text.proofs.ReadClue.{IsWord, comma}
 use Rattle.puzzle_text.proofs.ReadClues.{all-append, numbered-append, length-numbered, filter_is, clues_again, word_clue, are_clues, size_again, tidy_decimal}
-use Rattle.puzzle_text.proofs.GreaterLimit.{with_goal, with_clues, with_columns, with_rows, with_order, with_sizes}
 use Rattle.puzzle_text.proofs.NonText.{field_line, negated, one, size_text, goal_text, goal_gap, part, fields, row_part, column_part, goal_part, after_rows, after_fields, texts_non, lines_non, length_non}
 
 -- the keyword that a line's text begins with, and what follows it
@@ -669,19 +668,11 @@ module _ (limit : ℕ) (p : Nonogram) (wide : limit < 2 ^ 64) (lawful : IsNonogr
   non_again : non_of limit all_lines ≡ Ok p
   non_again =
       let size : ℕ × ℕ = (p.width, p.height) in
-      let clues : List (List ℕ) × List (List ℕ) = (p.rows, p.columns) in
-      ap (λ (r : Result (ℕ × ℕ) TextFault). r >>= with_sizes limit all_lines) sizes_read
-      ∙ ap (λ (r : Result Bool TextFault). r >>= with_order limit all_lines size) order_read
-      ∙ ap (λ (r : Result (Unit {0}) TextFault). r >>= λ checked. with_rows limit all_lines size order) lines_checked
-      ∙ ap (λ (r : Result (List Line) TextFault). r >>= with_columns limit all_lines size order) rows_read
-      ∙ ap (λ (r : Result (List Line) TextFault). r >>= with_clues limit all_lines size order row_lines) columns_read
-      ∙ ap (λ (r : Result (List (List ℕ) × List (List ℕ)) TextFault). r >>= with_goal all_lines size) clues_read
-      ∙ ap (λ (r : Result (Option (List Bool)) TextFault). r
-      >>= λ goal.
-      Ok (record { width = p.width; height = p.height; rows = p.rows; columns = p.columns; texts = texts_of all_lines; goal = goal }))
-      goal_read
-      ∙ ap (λ (ts : Description).
-      Ok (record { width = p.width; height = p.height; rows = p.rows; columns = p.columns; texts = ts; goal = p.goal })) texts_read
+      let sections = sections_of (placed all_lines) in
+      let outline : outline_of limit sections.stray all_lines ≡ Ok (size, order) = rw (sizes_read, order_read, lines_checked) refl in
+      ap (λ (r : Result ((ℕ × ℕ) × Bool) TextFault). r >>= λ o. clue_lines_of o.0.1 sections.rows
+      >>= λ p. clue_lines_of o.0.0 sections.columns >>= λ q. both_clues limit o.1 p q >>= λ cs. puzzle_of_clues o.0 cs all_lines) outline
+      ∙ rw (rows_read, columns_read, clues_read, goal_read, texts_read) refl
 
 -- a written puzzle is read again, texts and goal included
 pub non_read_again : (limit : ℕ) (p : Nonogram) → limit ≤ 256 → IsNonogramWithin limit p → read_non limit (text_non p) ≡ Ok p

@@ -1,5 +1,5 @@
 -- The parts of a usual .non text, found on one walk from the top.
-use Rattle.std.proofs.Common.{◌≡◌, ℕ, ◌+◌, true, false, not, eqb, List, [], ◌∷◌, ◌++◌, length, filter, get_or, codes, refl, sym, ap, subst, ◌∙◌, append_assoc, arith, None}
+use Rattle.std.proofs.Common.{◌≡◌, ℕ, ◌+◌, true, false, not, eqb, List, [], ◌∷◌, ◌++◌, length, filter, get_or, refl, sym, ap, subst, ◌∙◌, append_assoc, arith, None}
 use Rattle.std.proofs.lemmas.Bool.{cond-false, cond-true, eqb-true}
 use Rattle.std.proofs.lemmas.List.{append-nil, length-append}
 use Rattle.std.proofs.lemmas.List.Elements.{filter-append}
@@ -9,7 +9,7 @@ use Rattle.puzzle_text.specs.Lines.{Line, is_empty, is_full, is_hash, numbered_f
 use Rattle.puzzle_text.specs.Keywords.{is_keyword_line, keyword}
 use Rattle.puzzle_text.specs.Non.{Sections, placed, sections_of}
 use Rattle.puzzle_text.specs.steps.Places.{IsUnder, with_line}
-use Rattle.puzzle_text.specs.steps.Usual.{AreClueLines, HaveClues, IsClueText, SayClues, SaysClue}
+use Rattle.puzzle_text.specs.steps.Usual.{AreClueLines, HaveClues, IsClueText, KeepsOthers, SayClues, SaysClue, clues_under}
 use Rattle.puzzle_text.proofs.ReadClues.{some_text}
 use Rattle.puzzle_text.proofs.ReadNon.{content_digit}
 use Rattle.puzzle_text.proofs.SectionsWalk.{below, below_comment, below_content, below_keyword, join, nothing_above}
@@ -102,18 +102,6 @@ above_all whole rows columns p q = record {
   clues = record { stray = refl; rows_said = subst (AreClueLines []) (sym p) tt; columns_said = subst (AreClueLines []) (sym q) tt };
 }
 
--- past a keyword line
-pub past_keyword : (under next : Under) (whole todo : List Line) (line : Line) (rows columns : List (List ℕ))
-    → IsAbove under whole (line ∷ todo) rows columns → is_empty (keyword line) ≡ false → IsUnder (keyword line) next
-    → IsAbove next whole todo rows columns
-past_keyword under next whole todo line rows columns is some opens = record {
-  word = keyword line;
-  above = is.above;
-  opens = opens;
-  joined = sym (ap (join is.above) (below_keyword is.word line todo some)) ∙ is.joined;
-  clues = is.clues;
-}
-
 -- past a comment
 pub past_comment : (under : Under) (whole todo : List Line) (line : Line) (rows columns : List (List ℕ))
     → IsAbove under whole (line ∷ todo) rows columns → is_empty (keyword line) ≡ true → is_hash line ≡ true
@@ -185,17 +173,23 @@ one_more Columns above line found full some =
     ap (λ (lines : List Line). record above { columns = lines }) (append_assoc above.columns (line ∷ []) found)
 one_more Other above line found full some = absurd (some refl)
 
-join_lines : (under : Under) (word : List ℕ) (above : Sections) (found todo : List Line) (clues : List (List ℕ)) → (under ≡ Other → ⊥)
-    → IsUnder word under → AreClueLines found clues
+join_lines : (under : Under) (word : List ℕ) (above : Sections) (found todo : List Line) (clues : List (List ℕ))
+    → (under ≡ Other → length clues ≡ 0) → IsUnder word under → AreClueLines found clues
     → join above (below word (found ++ todo)) ≡ join (with_lines under above found) (below word todo)
-join_lines under word above [] todo clues some opens said =
+join_lines under word above [] todo clues none opens said =
     ap (λ (sections : Sections). join sections (below word todo)) (sym (nothing_more under above))
-join_lines under word above (line ∷ found) todo [] some opens said = absurd said
-join_lines under word above (line ∷ found) todo (clue ∷ clues) some opens said =
+join_lines under word above (line ∷ found) todo [] none opens said = absurd said
+join_lines under word above (line ∷ found) todo (clue ∷ clues) none opens said =
     let plain = clue_is_plain line clue said.0 in
+    let some : under ≡ Other → ⊥ = λ e. (let no = none e in absurd (omega arith)) in
     below_content under word above line (found ++ todo) opens plain.word plain.hash
-    ∙ join_lines under word (with_line above under line) found todo clues some opens said.1
+    ∙ join_lines under word (with_line above under line) found todo clues (λ e. absurd (some e)) opens said.1
     ∙ ap (λ (sections : Sections). join sections (below word todo)) (one_more under above line found plain.full some)
+
+no_others : (under : Under) (rows columns : List (List ℕ)) → under ≡ Other → length (clues_under under rows columns) ≡ 0
+no_others Other rows columns e = refl
+no_others Rows rows columns e = absurd cc
+no_others Columns rows columns e = absurd cc
 
 more_said : (lines found : List Line) (clues : List (List ℕ)) → AreClueLines (filter is_full lines) [] → AreClueLines found clues
     → AreClueLines (filter is_full (lines ++ found)) clues
@@ -208,62 +202,58 @@ none_of : (rows : List (List ℕ)) → length rows ≡ 0 → rows ≡ []
 none_of [] e = refl
 none_of (row ∷ rows) e = absurd (omega arith)
 
-module _ (under : Under) (whole : List Line) (line : Line) (number place : ℕ) (after next : List ℕ) (clues : List (List ℕ))
-    (says : SayClues after clues next) (is : place ≡ number + length clues) where
+section_more : (under : Under) (above : Sections) (found : List Line) (old_rows old_columns rows columns : List (List ℕ))
+    → HaveClues above old_rows old_columns → KeepsOthers under old_rows old_columns rows columns
+    → AreClueLines found (clues_under under rows columns) → HaveClues (with_lines under above found) rows columns
+section_more Rows above found old_rows old_columns rows columns clues kept said = record {
+  stray = clues.stray;
+  rows_said =
+      more_said above.rows found rows
+      (subst (λ (rs : List (List ℕ)). AreClueLines (filter is_full above.rows) rs) (none_of old_rows kept.0) clues.rows_said) said;
+  columns_said = subst (AreClueLines (filter is_full above.columns)) (sym kept.1) clues.columns_said;
+}
+section_more Columns above found old_rows old_columns rows columns clues kept said = record {
+  stray = clues.stray;
+  rows_said = subst (AreClueLines (filter is_full above.rows)) (sym kept.1) clues.rows_said;
+  columns_said =
+      more_said above.columns found columns
+      (subst (λ (cs : List (List ℕ)). AreClueLines (filter is_full above.columns) cs) (none_of old_columns kept.0) clues.columns_said)
+      said;
+}
+section_more Other above found old_rows old_columns rows columns clues kept said = record {
+  stray = clues.stray;
+  rows_said = subst (AreClueLines (filter is_full above.rows)) (sym kept.0) clues.rows_said;
+  columns_said = subst (AreClueLines (filter is_full above.columns)) (sym kept.1) clues.columns_said;
+}
+
+module _ (next : Under) (line : Line) (number place : ℕ) (after rest : List ℕ) (rows columns : List (List ℕ))
+    (says : SayClues after (clues_under next rows columns) rest) (counted : place ≡ number + length (clues_under next rows columns)) where
   abbrev found : List Line
   found = (says number).0
 
   abbrev later : List Line
-  later = numbered_from place (raw_lines next)
+  later = numbered_from place (raw_lines rest)
 
   parts : numbered_from number (raw_lines after) ≡ found ++ later
-  parts = (says number).1 ∙ ap (λ (n : ℕ). found ++ numbered_from n (raw_lines next)) (sym is)
+  parts = (says number).1 ∙ ap (λ (n : ℕ). found ++ numbered_from n (raw_lines rest)) (sym counted)
 
-  -- past the line `rows` and the clues below it
-  pub past_rows : (rows columns : List (List ℕ)) → IsAbove under whole (line ∷ numbered_from number (raw_lines after)) rows columns
-      → keyword line ≡ codes "rows" → length rows ≡ 0 → IsAbove Rows whole later clues columns
-  past_rows rows columns above word none =
-      let opened : IsAbove Rows whole (found ++ later) rows columns =
-      subst (λ (lines : List Line). IsAbove Rows whole lines rows columns) parts
-      (past_keyword under Rows whole (numbered_from number (raw_lines after)) line rows columns above (ap is_empty word) word) in
-      let before =
-      subst (λ (rs : List (List ℕ)). AreClueLines (filter is_full opened.above.rows) rs) (none_of rows none) opened.clues.rows_said in
-      record {
-        word = opened.word;
-        above = with_lines Rows opened.above found;
-        opens = opened.opens;
-        joined =
-            sym (join_lines Rows opened.word opened.above found later clues (λ e. absurd cc) opened.opens (says number).2) ∙ opened.joined;
-        clues = record {
-          stray = opened.clues.stray;
-          rows_said = more_said opened.above.rows found clues before (says number).2;
-          columns_said = opened.clues.columns_said;
-        };
-      }
-
-  -- past the line `columns` and the clues below it
-  pub past_columns : (rows columns : List (List ℕ)) → IsAbove under whole (line ∷ numbered_from number (raw_lines after)) rows columns
-      → keyword line ≡ codes "columns" → length columns ≡ 0 → IsAbove Columns whole later rows clues
-  past_columns rows columns above word none =
-      let opened : IsAbove Columns whole (found ++ later) rows columns =
-      subst (λ (lines : List Line). IsAbove Columns whole lines rows columns) parts
-      (past_keyword under Columns whole (numbered_from number (raw_lines after)) line rows columns above (ap is_empty word) word) in
-      let before =
-      subst (λ (cs : List (List ℕ)). AreClueLines (filter is_full opened.above.columns) cs) (none_of columns none)
-      opened.clues.columns_said in
-      record {
-        word = opened.word;
-        above = with_lines Columns opened.above found;
-        opens = opened.opens;
-        joined =
-            sym (join_lines Columns opened.word opened.above found later clues (λ e. absurd cc) opened.opens (says number).2)
-            ∙ opened.joined;
-        clues = record {
-          stray = opened.clues.stray;
-          rows_said = opened.clues.rows_said;
-          columns_said = more_said opened.above.columns found clues before (says number).2;
-        };
-      }
+  -- past a keyword line and the clues below it
+  pub past_section : (under : Under) (whole : List Line) (old_rows old_columns : List (List ℕ))
+      → KeepsOthers next old_rows old_columns rows columns
+      → IsAbove under whole (line ∷ numbered_from number (raw_lines after)) old_rows old_columns → is_empty (keyword line) ≡ false
+      → IsUnder (keyword line) next → IsAbove next whole later rows columns
+  past_section under whole old_rows old_columns kept is some opens = record {
+    word = keyword line;
+    above = with_lines next is.above found;
+    opens = opens;
+    joined =
+        sym (ap (join is.above) (below_keyword is.word line (numbered_from number (raw_lines after)) some)
+        ∙ ap (λ (lines : List Line). join is.above (below (keyword line) lines)) parts
+        ∙ join_lines next (keyword line) is.above found later (clues_under next rows columns) (no_others next rows columns) opens
+        (says number).2)
+        ∙ is.joined;
+    clues = section_more next is.above found old_rows old_columns rows columns is.clues kept (says number).2;
+  }
 
   -- the keyword line is the only one among them
   pub kept_one : (kept all : List Line) → kept ++ filter is_keyword_line (line ∷ numbered_from number (raw_lines after)) ≡ all
@@ -271,7 +261,7 @@ module _ (under : Under) (whole : List Line) (line : Line) (number place : ℕ) 
   kept_one kept all e some =
       let others = filter is_keyword_line (numbered_from number (raw_lines after)) in
       let same : others ≡ filter is_keyword_line later =
-      ap (filter is_keyword_line) parts ∙ no_keywords found later clues (says number).2 in
+      ap (filter is_keyword_line) parts ∙ no_keywords found later (clues_under next rows columns) (says number).2 in
       append_assoc kept (line ∷ []) (filter is_keyword_line later)
       ∙ ap (λ (lines : List Line). kept ++ line ∷ lines) (sym same)
       ∙ ap (λ (lines : List Line). kept ++ lines) (sym (cond-true (is_keyword_line line) (line ∷ others) others (ap not some)))

@@ -1,22 +1,21 @@
 -- What the parts of a usual text say is what the text says.
-use Rattle.std.proofs.Common.{◌≡◌, ℕ, ◌+◌, ◌*◌, ◌≤◌, Bool, true, false, ltb, List, [], ◌∷◌, ◌++◌, length, filter, codes, refl, sym, ap, subst, ◌∙◌, Option, Some, None, Result, Ok, Err}
+use Rattle.std.proofs.Common.{◌≡◌, ℕ, ◌+◌, ◌≤◌, Bool, true, false, ltb, List, [], ◌∷◌, ◌++◌, length, filter, refl, sym, ap, subst, ◌∙◌, Option, Some, None, Result, Ok, Err}
 use Rattle.std.specs.Prelude.{IfOk, IfSome, option_and_then}
 use Rattle.std.specs.Result.{result_ok}
 use Rattle.std.specs.List.{AllByRecursion}
 use Rattle.std.proofs.lemmas.Bool.{cond-false, cond-true, eq-eqb, le-ltb}
 use Rattle.std.proofs.lemmas.List.{append-nil, drop_at, take_at}
 use Rattle.grid_core.specs.declared.limits.TheConstants.{LONGEST_SIDE}
-use Rattle.grid_core.specs.Description.{Description}
 use Rattle.grid_core.specs.Nonogram.{Nonogram, plain}
 use Rattle.puzzle_text.specs.declared.faults.TextFault.{TextFault}
 use Rattle.puzzle_text.specs.declared.faults.TextFault.TheVariants.{BadCount, BadNumber, NoSection, NoSize, TooLong}
-use Rattle.puzzle_text.specs.Answers.{◌>>=◌, or_fault}
+use Rattle.puzzle_text.specs.Answers.{◌>>=◌, Gives, or_fault}
 use Rattle.puzzle_text.specs.ClueLines.{clues_of}
-use Rattle.puzzle_text.specs.Keywords.{first_with, is_keyword_line}
+use Rattle.puzzle_text.specs.Keywords.{is_keyword_line}
 use Rattle.puzzle_text.specs.Lines.{Line, is_full, is_hash, lines, numbered_from, raw_lines}
 use Rattle.puzzle_text.specs.Mk.{at_hash, before_hash, layout, Layout, mk_of, or_else, read_mk}
 use Rattle.puzzle_text.specs.Nin.{nin_of, read_nin}
-use Rattle.puzzle_text.specs.Non.{Sections, both_clues, check_lines, clue_lines_of, goal_of, non_of, placed, puzzle_said, read_non, rows_first, sections_of, sizes_of, texts_of}
+use Rattle.puzzle_text.specs.Non.{Sections, both_clues, clue_lines_of, non_of, outline_of, placed, puzzle_of_clues, puzzle_said, read_non, sections_of}
 use Rattle.puzzle_text.specs.Numbers.{pieces}
 use Rattle.puzzle_text.specs.Readings.{likelier, reading}
 use Rattle.puzzle_text.specs.Sections.{choice}
@@ -35,6 +34,12 @@ use Rattle.puzzle_text.proofs.UsualParts.{as_many, clue_is_plain, no_lines, said
 pub some_of_ok : {X E : Type 0} (P Q : X → Type 0) (r : Result X E) → IfOk r P → ((x : X) → P x → Q x) → IfSome (result_ok r) Q
 some_of_ok P Q (Ok x) h f = f x h
 some_of_ok P Q (Err fault) h f = tt
+
+-- what is so of the answer's value is so of what gives it
+pub ok_of_gives : {X : Type 0} (P : X → Type 0) (r answer : Result X TextFault) → Gives (λ x. x) r answer
+    → ((x : X) → answer ≡ Ok x → P x) → IfOk r P
+ok_of_gives P (Ok x) answer gives f = f x gives
+ok_of_gives P (Err fault) answer gives f = tt
 
 -- ---- clues
 
@@ -57,18 +62,12 @@ chosen count section clues said many =
 
 -- ---- .non
 
--- a puzzle of these parts
-abbrev pub of_parts : ℕ → ℕ → List (List ℕ) → List (List ℕ) → Option (List Bool) → Description → Nonogram
-of_parts width height rows columns goal texts =
-    record { width = width; height = height; rows = rows; columns = columns; texts = texts; goal = goal }
-
 -- the puzzle that keyword lines and the clues of both sections say
 pub said_by_parts : (sections : Sections) (kept : List Line) (width height : ℕ) (first : Bool) (rows columns : List (List ℕ))
-    (goal : Option (List Bool)) → HaveClues sections rows columns → sizes_of LONGEST_SIDE kept ≡ Ok (width, height)
-    → rows_first kept ≡ Ok first → check_lines None kept ≡ Ok tt → length rows ≡ height → length columns ≡ width
-    → goal_of (width * height) (first_with (codes "goal") kept) ≡ Ok goal
-    → puzzle_said LONGEST_SIDE sections kept ≡ Ok (of_parts width height rows columns goal (texts_of kept))
-said_by_parts sections kept width height first rows columns goal clues sizes order checked high wide goal_said =
+    (p : Nonogram) → HaveClues sections rows columns → outline_of LONGEST_SIDE None kept ≡ Ok ((width, height), first)
+    → length rows ≡ height → length columns ≡ width → puzzle_of_clues (width, height) (rows, columns) kept ≡ Ok p
+    → puzzle_said LONGEST_SIDE sections kept ≡ Ok p
+said_by_parts sections kept width height first rows columns p clues outline high wide said =
     let row_lines = filter is_full sections.rows in
     let column_lines = filter is_full sections.columns in
     let row_part : clue_lines_of height sections.rows ≡ Ok row_lines =
@@ -78,7 +77,7 @@ said_by_parts sections kept width height first rows columns goal clues sizes ord
     let both : both_clues LONGEST_SIDE first row_lines column_lines ≡ clued rows columns =
     both_said LONGEST_SIDE first row_lines column_lines rows columns (clues_said row_lines rows clues.rows_said)
     (clues_said column_lines columns clues.columns_said) in
-    rw (sizes, order, clues.stray, checked, row_part, column_part, both, goal_said) refl
+    rw (clues.stray, outline, row_part, column_part, both) said
 
 -- ---- the whole text
 

@@ -160,17 +160,28 @@ texts_of lines = record {
 
 -- ---- the puzzle
 
+-- the sizes, and whether the rows stand first
+abbrev pub outline_of : ℕ → Option ℕ → List Line → Result ((ℕ × ℕ) × Bool) TextFault
+outline_of limit stray lines = do
+  sizes ← sizes_of limit lines
+  first ← rows_first lines
+  checked ← check_lines stray lines
+  Ok (sizes, first)
+
+-- the puzzle of these sizes and clues, with the goal and the texts that these lines say
+abbrev pub puzzle_of_clues : ℕ × ℕ → List (List ℕ) × List (List ℕ) → List Line → Result Nonogram TextFault
+puzzle_of_clues sizes clues lines = do
+  goal ← goal_of (sizes.0 * sizes.1) (first_with (codes "goal") lines)
+  Ok (record { width = sizes.0; height = sizes.1; rows = clues.0; columns = clues.1; texts = texts_of lines; goal = goal })
+
 -- the puzzle that these sections and the keyword lines among these lines say
 abbrev pub puzzle_said : ℕ → Sections → List Line → Result Nonogram TextFault
 puzzle_said limit sections lines = do
-  sizes ← sizes_of limit lines
-  first ← rows_first lines
-  checked ← check_lines sections.stray lines
-  rows ← clue_lines_of sizes.1 sections.rows
-  columns ← clue_lines_of sizes.0 sections.columns
-  clues ← both_clues limit first rows columns
-  goal ← goal_of (sizes.0 * sizes.1) (first_with (codes "goal") lines)
-  Ok (record { width = sizes.0; height = sizes.1; rows = clues.0; columns = clues.1; texts = texts_of lines; goal = goal })
+  outline ← outline_of limit sections.stray lines
+  rows ← clue_lines_of outline.0.1 sections.rows
+  columns ← clue_lines_of outline.0.0 sections.columns
+  clues ← both_clues limit outline.1 rows columns
+  puzzle_of_clues outline.0 clues lines
 
 -- the puzzle that these lines say
 abbrev pub non_of : ℕ → List Line → Result Nonogram TextFault

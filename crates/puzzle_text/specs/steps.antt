@@ -1,7 +1,6 @@
 -- The definitions that only private calls need.
 pub mod Collections
 pub mod Lines
-pub mod Mk
 pub mod Non
 pub mod Places
 pub mod Sections

@@ -6,46 +6,69 @@ ghost use Rattle.puzzle_text.specs.declared.faults.CollectionFault.TheVariants.{
 ghost use Rattle.puzzle_text.specs.declared.faults.WriteFault.TheVariants.{NoMemory as write_memory};
 
 use grid_core::NoMemory;
+use std::{error, fmt};
 use thiserror::Error;
 
 /// Why a puzzle's text is refused: the first of these, in this order, each looked for in the whole text.
 /// A line's number counts from 1.
-#[derive(Clone, Copy, Debug, PartialEq, Eq, Error)]
+#[derive(Clone, Copy, Debug, PartialEq, Eq)]
 pub enum TextFault {
     /// The whole text has more than `LONGEST_PUZZLE` bytes.
-    #[error("the text has more than 1048576 bytes")]
     TooLong,
     /// In .non there is no `width` or no `height` line; in the others there is no size line,
     /// or it hasn't just two pieces.
-    #[error("the size is missing")]
     NoSize,
     /// One of the two sizes is no number from 1 to 256.
-    #[error("a side is from 1 to 256")]
     BadSize,
     /// In .non there is no `rows` or no `columns` line, in .mk no line after the size line begins with `#`.
-    #[error("a section is missing")]
     NoSection,
     /// In .non this line says something and stands in no section, or is the first line of a text field
     /// and its text has more than 65,536 bytes; the least such number.
-    #[error("line {0} belongs nowhere or is too long")]
     BadLine(u32),
     /// In .non this line repeats `width`, `height`, `rows` or `columns`; the least such number.
-    #[error("line {0} repeats a keyword")]
     Twice(u32),
     /// A section hasn't as many clue lines as the size asks; in .mk so in both orders of the sizes.
-    #[error("the number of clue lines does not fit the size")]
     BadCount,
     /// This clue line says no clue: it has a piece that is no number, a 0 beside other numbers,
     /// a number over 256, or more than 128 numbers; the least such number.
-    #[error("line {0} is no clue")]
     BadNumber(u32),
     /// In .non this line is the first `goal` line, and its text isn't one `0` or `1` for each cell.
-    #[error("the goal of line {0} does not fit the size")]
     BadGoal(u32),
     /// A growth of memory was refused. It may stand in place of any answer but `TooLong`.
-    #[error("out of memory")]
     NoMemory,
 }
+
+impl TextFault {
+    /// The printed sentence: what stands before the number of the line that it is about, that number, and
+    /// what stands after it.
+    fn sentence(self) -> (&'static str, Option<u32>, &'static str) {
+        match self {
+            TextFault::TooLong => ("the text has more than 1048576 bytes", None, ""),
+            TextFault::NoSize => ("the size is missing", None, ""),
+            TextFault::BadSize => ("a side is from 1 to 256", None, ""),
+            TextFault::NoSection => ("a section is missing", None, ""),
+            TextFault::BadLine(line) => ("line ", Some(line), " belongs nowhere or is too long"),
+            TextFault::Twice(line) => ("line ", Some(line), " repeats a keyword"),
+            TextFault::BadCount => ("the number of clue lines does not fit the size", None, ""),
+            TextFault::BadNumber(line) => ("line ", Some(line), " is no clue"),
+            TextFault::BadGoal(line) => ("the goal of line ", Some(line), " does not fit the size"),
+            TextFault::NoMemory => ("out of memory", None, ""),
+        }
+    }
+}
+
+impl fmt::Display for TextFault {
+    fn fmt<W: fmt::Write>(&self, f: &mut fmt::Formatter<W>) -> fmt::Result {
+        let (before, line, after) = self.sentence();
+        f.write_str(before)?;
+        if let Some(number) = line {
+            write!(f, "{number}{after}")?;
+        }
+        Ok(())
+    }
+}
+
+impl error::Error for TextFault {}
 
 impl From<NoMemory> for TextFault {
     ghost from_gives = { λ _ e. e ≡ text_memory };

@@ -39,7 +39,8 @@ fn filled_within(len: u16, clue: &Clue) -> Option<u32>
 /// How many cells these clues fill, if each of them fits a line of this length.
 pub(crate) fn sum_within(len: u16, clues: &[Clue]) -> Option<u32>
     requires { length clues.now ≤ 65535 }
-    ensures { result ≡ (if list_all (fits len) clues.now then Some (sum_all clues.now) else None) }
+    ensures sum { result ≡ (if list_all (fits len) clues.now then Some (sum_all clues.now) else None) }
+    ensures within { IfSome result (λ sum. sum < 2 ^ 31) }
 {
     let mut sum = 0;
     for clue in clues {
@@ -51,45 +52,11 @@ pub(crate) fn sum_within(len: u16, clues: &[Clue]) -> Option<u32>
     Some(sum)
 }
 
-/// Whether a clue fits a line of this length.
-fn fits(len: u16, clue: &Clue) -> bool
-    ensures { result ≡ fits len clue.now }
-{
-    filled_within(len, clue).is_some()
-}
-
-/// Whether each clue fits a line of this length.
-fn all_fit(len: u16, clues: &[Clue]) -> bool
-    ensures { result ≡ list_all (fits len) clues.now }
-{
-    clues.iter().all(|clue| fits(len, clue))
-}
-
-/// How many cells these clues fill.
-pub(crate) fn sum_all(clues: &[Clue]) -> u32
-    requires { length clues.now ≤ 65535 }
-    ensures sum { result ≡ sum_all clues.now }
-    ensures within { result < 2 ^ 31 }
-{
-    let mut sum = 0;
-    for clue in clues {
-        sum += filled(clue);
-    }
-    sum
-}
-
-/// Whether all clues of two lists fit a line of this length.
-pub(crate) fn both_fit(len: u16, first: &[Clue], second: &[Clue]) -> bool
-    ensures { result ≡ list_all (fits len) (first.now ++ second.now) }
-{
-    all_fit(len, first) && all_fit(len, second)
-}
-
-/// How many cells the clues of two lists fill.
-pub(crate) fn sum_both(first: &[Clue], second: &[Clue]) -> u32
+/// How many cells the clues of two lists fill, if each of them fits a line of this length.
+pub(crate) fn sum_of_both(len: u16, first: &[Clue], second: &[Clue]) -> Option<u32>
     requires first { length first.now ≤ 65535 }
     requires second { length second.now ≤ 65535 }
-    ensures { result ≡ sum_all (first.now ++ second.now) }
+    ensures { result ≡ (if list_all (fits len) (first.now ++ second.now) then Some (sum_all (first.now ++ second.now)) else None) }
 {
-    sum_all(first) + sum_all(second)
+    Some(sum_within(len, first)? + sum_within(len, second)?)
 }

@@ -4,7 +4,7 @@ ghost use Rattle.std.specs.Prelude.{◌≡◌, ◌↔◌, ◌<◌, false, true, 
 ghost use Rattle.std.specs.List.{find};
 ghost use Rattle.std.specs.Str.{bytes_eq, str_to_ascii_lowercase};
 ghost use Rattle.puzzle_text.specs.Answers.{Gives};
-ghost use Rattle.puzzle_text.specs.Formats.{GivesPuzzle, ending, format_of, formats, has_ending, is_format, read_as, read_entry, text_as, word};
+ghost use Rattle.puzzle_text.specs.Formats.{GivesPuzzle, format_of, formats, has_ending, is_format, read_as, read_entry, text_as, word};
 ghost use Rattle.puzzle_text.specs.Shown.{shown_entry};
 
 use crate::collections::Entry;
@@ -27,9 +27,6 @@ pub enum Format {
     Nin,
 }
 
-/// All formats.
-const FORMATS: [Format; 3] = [Format::Non, Format::Mk, Format::Nin];
-
 /// Whether a name has this ending, letters in either case.
 fn has_ending(name: &[u8], ending: &[u8]) -> bool
     ensures { result ≡ has_ending (str_to_ascii_lowercase ending.now) name.now }
@@ -39,18 +36,6 @@ fn has_ending(name: &[u8], ending: &[u8]) -> bool
 }
 
 impl Format {
-    /// How the name of a text in this format ends, in lower case.
-    fn ending(self) -> &'static [u8]
-        ensures ending { result.now ≡ ending self }
-        ensures lower { str_to_ascii_lowercase result.now ≡ ending self }
-    {
-        match self {
-            Format::Non => b".non",
-            Format::Mk => b".mk",
-            Format::Nin => b".nin",
-        }
-    }
-
     /// The word that names the format: its ending without the dot.
     pub fn word(self) -> &'static str
         ensures { result.now ≡ word self }
@@ -66,23 +51,35 @@ impl Format {
     pub fn words() -> [&'static str; 3]
         ensures { map (λ shown. shown.now) result ≡ map word formats }
     {
-        FORMATS.map(|format| format.word())
+        [Format::Non.word(), Format::Mk.word(), Format::Nin.word()]
     }
 
     /// The format that this word names, if there is one.
     pub fn of_word(name: &str) -> Option<Format>
         ensures { result ≡ find (λ format. bytes_eq (word format) name.now) formats }
     {
-        FORMATS.into_iter().find(|format| format.word() == name)
+        match name {
+            "non" => Some(Format::Non),
+            "mk" => Some(Format::Mk),
+            "nin" => Some(Format::Nin),
+            _ => None,
+        }
     }
 
     /// The format that a name's ending tells, letters in either case, if it tells one.
     pub fn of_name(name: &[u8]) -> Option<Format>
         ensures { result ≡ format_of name.now }
     {
-        FORMATS
-            .into_iter()
-            .find(|format| has_ending(name, format.ending()))
+        if has_ending(name, b".non") {
+            return Some(Format::Non);
+        }
+        if has_ending(name, b".mk") {
+            return Some(Format::Mk);
+        }
+        if has_ending(name, b".nin") {
+            return Some(Format::Nin);
+        }
+        None
     }
 
     /// Reads a puzzle in this format: the first fault of the text, in the order of the faults.

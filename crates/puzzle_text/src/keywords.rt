@@ -79,8 +79,7 @@ pub(crate) fn keyword_lines<'a>(
 pub(crate) fn rest<'a>(found: &KeywordLine<'a>) -> &'a [u8]
     ensures { result.now ≡ rest (shown_keyword found.now) }
 {
-    let text = found.line.text;
-    let (_, rest) = text.split_at(letters(text));
+    let (_, rest) = found.line.text.split_at(found.word.len());
     trim(rest)
 }
 
@@ -94,7 +93,7 @@ pub(crate) fn same_word(word: &[u8], other: &[u8]) -> bool
 fn has_keyword(word: &[u8], line: &KeywordLine<'_>) -> bool
     ensures { result ≡ has_keyword (str_to_ascii_lowercase word.now) (shown_keyword line.now) }
 {
-    same_word(line.word, word)
+    line.word.len() == word.len() && same_word(line.word, word)
 }
 
 /// The line with this keyword at a place, from 0, among those with it.
@@ -106,10 +105,18 @@ pub(crate) fn nth_with<'a, 'b>(
     ensures { option_map (λ line. shown_keyword line.now) result
         ≡ slice_get (with_keyword (str_to_ascii_lowercase word.now) (map shown_keyword lines.now)) place }
 {
-    lines
-        .iter()
-        .filter(|line| has_keyword(word, line))
-        .nth(place)
+    let mut rest = lines;
+    let mut left = place;
+    while let [line, others @ ..] = rest {
+        if has_keyword(word, line) {
+            if left == 0 {
+                return Some(line);
+            }
+            left -= 1;
+        }
+        rest = others;
+    }
+    None
 }
 
 fn after_quote(bytes: &[u8]) -> Option<&[u8]>

@@ -7,14 +7,13 @@ ghost use Rattle.grid_core.specs.PartialGrid.{IsSize};
 ghost use Rattle.puzzle_text.specs.Answers.{Gives};
 ghost use Rattle.puzzle_text.specs.Lines.{is_hash};
 ghost use Rattle.puzzle_text.specs.Mk.{at_hash, before_hash, both_choices, mk_of, puzzle_of, read_mk};
-ghost use Rattle.puzzle_text.specs.steps.Mk.{puzzle_of_both};
 ghost use Rattle.puzzle_text.specs.steps.Shown.{shown_chosen, shown_line};
 
 use crate::clue_lines::both_clues;
 use crate::faults::TextFault;
 use crate::limits::LONGEST_PUZZLE;
 use crate::lines::{Line, is_hash};
-use crate::parts;
+use crate::parts::puzzle_from_parts;
 use crate::sections::{Chosen, choice};
 use crate::sizes::{size_line, text_lines};
 use grid_core::{LONGEST_SIDE, NoMemory, Puzzle, Texts};
@@ -67,24 +66,6 @@ fn both_choices<'a, 'b>(
     Ok(Some((row_lines, column_lines)))
 }
 
-/// The puzzle of the clues that these clue lines say.
-fn puzzle_with(
-    alloc: Global,
-    width: u16,
-    height: u16,
-    rows: &Chosen<'_, '_>,
-    columns: &Chosen<'_, '_>,
-) -> Result<Puzzle, TextFault>
-    requires size { IsSize width height }
-    requires rows { length (shown_chosen rows.now) ≡ height }
-    requires columns { length (shown_chosen columns.now) ≡ width }
-    ensures { Gives (λ p. p) result (puzzle_of_both LONGEST_SIDE width height (shown_chosen rows.now) (shown_chosen columns.now)) }
-{
-    let (rows, columns) = both_clues(alloc, true, rows, columns)?;
-    let puzzle = parts::puzzle_from_parts(width, height, rows, columns, Texts::none(), None);
-    Ok(puzzle)
-}
-
 /// The puzzle that these clue lines say.
 fn puzzle_of(
     alloc: Global,
@@ -98,7 +79,8 @@ fn puzzle_of(
     requires columns { length (shown_chosen columns.now) ≡ width }
     ensures { Gives (λ p. p) result (puzzle_of LONGEST_SIDE width height (shown_chosen rows.now ++ shown_chosen columns.now)) }
 {
-    puzzle_with(alloc, width, height, rows, columns)
+    let (rows, columns) = both_clues(alloc, true, rows, columns)?;
+    Ok(puzzle_from_parts(width, height, rows, columns, Texts::none(), None))
 }
 
 fn mk_of(alloc: Global, lines: &[Line<'_>]) -> Result<Puzzle, TextFault>

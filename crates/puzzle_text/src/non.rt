@@ -1,13 +1,14 @@
 //! The format .non.
 
-ghost use Rattle.std.specs.Prelude.{◌≡◌, ◌<◌, ◌*◌, map, length, Err, IfOk, OnOk};
+ghost use Rattle.std.specs.Prelude.{◌≡◌, ◌<◌, map, length, Err, IfOk, OnOk};
 ghost use Rattle.std.specs.Str.{str_to_ascii_lowercase};
 ghost use Rattle.grid_core.specs.Description.{IsDescription};
+ghost use Rattle.grid_core.specs.Nonogram.{HasClueForEachLine};
 ghost use Rattle.grid_core.specs.PartialGrid.{IsSize};
 ghost use Rattle.puzzle_text.specs.Answers.{Gives};
 ghost use Rattle.puzzle_text.specs.Keywords.{second_with};
 ghost use Rattle.puzzle_text.specs.steps.Lines.{HaveNoFeed};
-ghost use Rattle.puzzle_text.specs.Non.{bad_line, check_lines, least, least_of, non_of, number_of_line, puzzle_said, read_non, repeated, rows_first, sizes_of, texts_of};
+ghost use Rattle.puzzle_text.specs.Non.{bad_line, check_lines, least, least_of, non_of, number_of_line, outline_of, puzzle_of_clues, puzzle_said, read_non, repeated, rows_first, sizes_of, texts_of};
 ghost use Rattle.puzzle_text.specs.steps.Shown.{shown_keyword, shown_line, shown_sections};
 
 use crate::clue_lines::both_clues;
@@ -21,7 +22,7 @@ use crate::lines::Line;
 use crate::parts::puzzle_from_parts;
 use crate::places::{Sections, clue_lines_of, sections_of};
 use crate::sizes::{size_of, text_lines};
-use grid_core::{LONGEST_SIDE, Puzzle};
+use grid_core::{Clue, LONGEST_SIDE, Puzzle};
 use std::alloc::Global;
 
 /// The lesser of two numbers that may be missing.
@@ -78,10 +79,7 @@ fn repeated(lines: &[KeywordLine<'_>]) -> Option<u32>
 
 /// Checks that no line is out of place, no text is too long, and no keyword that may stand once only is
 /// repeated.
-pub(crate) fn check_lines(
-    keyword_lines: &[KeywordLine<'_>],
-    stray: Option<u32>,
-) -> Result<(), TextFault>
+fn check_lines(keyword_lines: &[KeywordLine<'_>], stray: Option<u32>) -> Result<(), TextFault>
     requires { HaveNoFeed (map shown_keyword keyword_lines.now) }
     ensures answer { Gives (λ done. done) result (check_lines stray (map shown_keyword keyword_lines.now)) }
     ensures texts { OnOk result (IsDescription (texts_of (map shown_keyword keyword_lines.now))) }
@@ -96,7 +94,7 @@ pub(crate) fn check_lines(
 }
 
 /// The width and the height.
-pub(crate) fn sizes_of(lines: &[KeywordLine<'_>]) -> Result<(u16, u16), TextFault>
+fn sizes_of(lines: &[KeywordLine<'_>]) -> Result<(u16, u16), TextFault>
     ensures sizes { Gives (λ sizes. sizes) result (sizes_of LONGEST_SIDE (map shown_keyword lines.now)) }
     ensures range { IfOk result (λ sizes. IsSize sizes.0 sizes.1) }
 {
@@ -110,7 +108,7 @@ pub(crate) fn sizes_of(lines: &[KeywordLine<'_>]) -> Result<(u16, u16), TextFaul
 }
 
 /// Whether the rows section stands before the columns section.
-pub(crate) fn rows_first(lines: &[KeywordLine<'_>]) -> Result<bool, TextFault>
+fn rows_first(lines: &[KeywordLine<'_>]) -> Result<bool, TextFault>
     ensures { Gives (λ first. first) result (rows_first (map shown_keyword lines.now)) }
 {
     let Some(rows) = nth_with(b"rows", 0, lines) else {
@@ -122,6 +120,43 @@ pub(crate) fn rows_first(lines: &[KeywordLine<'_>]) -> Result<bool, TextFault>
     Ok(rows.line.number < columns.line.number)
 }
 
+/// The sizes, and whether the rows section stands before the columns section, if no keyword line is at fault.
+pub(crate) fn outline_of(
+    keyword_lines: &[KeywordLine<'_>],
+    stray: Option<u32>,
+) -> Result<((u16, u16), bool), TextFault>
+    requires { HaveNoFeed (map shown_keyword keyword_lines.now) }
+    ensures answer { Gives (λ outline. outline) result (outline_of LONGEST_SIDE stray (map shown_keyword keyword_lines.now)) }
+    ensures range { IfOk result (λ outline. IsSize outline.0.0 outline.0.1) }
+    ensures texts { OnOk result (IsDescription (texts_of (map shown_keyword keyword_lines.now))) }
+{
+    let sizes = sizes_of(keyword_lines)?;
+    let rows_first = rows_first(keyword_lines)?;
+    check_lines(keyword_lines, stray)?;
+    Ok((sizes, rows_first))
+}
+
+/// The puzzle of these clues, with the goal and the texts that the keyword lines say.
+pub(crate) fn puzzle_of_clues(
+    alloc: Global,
+    keyword_lines: &[KeywordLine<'_>],
+    width: u16,
+    height: u16,
+    rows: Vec<Clue>,
+    columns: Vec<Clue>,
+) -> Result<Puzzle, TextFault>
+    requires size { IsSize width height }
+    requires clues { HasClueForEachLine width height rows.items columns.items }
+    requires texts { IsDescription (texts_of (map shown_keyword keyword_lines.now)) }
+    ensures { Gives (λ p. p) result
+        (puzzle_of_clues (width, height) (rows.items, columns.items) (map shown_keyword keyword_lines.now)) }
+{
+    let count = usize::from(width) * usize::from(height);
+    let goal = goal_of(alloc, count, nth_with(b"goal", 0, keyword_lines))?;
+    let texts = texts_of(alloc, keyword_lines)?;
+    Ok(puzzle_from_parts(width, height, rows, columns, texts, goal))
+}
+
 /// The puzzle that a text says by its keyword lines and by its sections.
 fn puzzle_said(
     alloc: Global,
@@ -131,16 +166,11 @@ fn puzzle_said(
     requires { HaveNoFeed (map shown_keyword keyword_lines.now) }
     ensures { Gives (λ p. p) result (puzzle_said LONGEST_SIDE (shown_sections sections.now) (map shown_keyword keyword_lines.now)) }
 {
-    let (width, height) = sizes_of(keyword_lines)?;
-    let rows_first = rows_first(keyword_lines)?;
-    check_lines(keyword_lines, sections.stray)?;
+    let ((width, height), rows_first) = outline_of(keyword_lines, sections.stray)?;
     let rows = clue_lines_of(alloc, height, &sections.rows)?;
     let columns = clue_lines_of(alloc, width, &sections.columns)?;
     let (rows, columns) = both_clues(alloc, rows_first, &rows, &columns)?;
-    let count = usize::from(width) * usize::from(height);
-    let goal = goal_of(alloc, count, nth_with(b"goal", 0, keyword_lines))?;
-    let texts = texts_of(alloc, keyword_lines)?;
-    Ok(puzzle_from_parts(width, height, rows, columns, texts, goal))
+    puzzle_of_clues(alloc, keyword_lines, width, height, rows, columns)
 }
 
 fn non_of(alloc: Global, lines: &[Line<'_>]) -> Result<Puzzle, TextFault>

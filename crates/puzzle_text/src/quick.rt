@@ -9,12 +9,9 @@ ghost use Rattle.puzzle_text.specs.steps.Lines.{HaveNoFeed};
 ghost use Rattle.puzzle_text.specs.steps.Shown.{shown_keyword};
 ghost use Rattle.puzzle_text.specs.steps.Usual.{HaveClues};
 
-use crate::descriptions::texts_of;
 use crate::faults::TextFault;
-use crate::goals::goal_of;
-use crate::keywords::nth_with;
 use crate::limits::LONGEST_PUZZLE;
-use crate::non::{check_lines, rows_first, sizes_of};
+use crate::non::{outline_of, puzzle_of_clues};
 use crate::parts::puzzle_from_parts;
 use crate::readings::likelier;
 use crate::usual_lines::{hash_line, read_clue_lines, size_line};
@@ -33,16 +30,11 @@ fn puzzle_said(alloc: Global, parts: Parts<'_>) -> Result<Puzzle, TextFault>
         rows,
         columns,
     } = parts;
-    let (width, height) = sizes_of(&keyword_lines)?;
-    rows_first(&keyword_lines)?;
-    check_lines(&keyword_lines, None)?;
+    let ((width, height), _) = outline_of(&keyword_lines, None)?;
     if rows.len() != usize::from(height) || columns.len() != usize::from(width) {
         return Err(TextFault::BadCount);
     }
-    let count = usize::from(width) * usize::from(height);
-    let goal = goal_of(alloc, count, nth_with(b"goal", 0, &keyword_lines))?;
-    let texts = texts_of(alloc, &keyword_lines)?;
-    Ok(puzzle_from_parts(width, height, rows, columns, texts, goal))
+    puzzle_of_clues(alloc, &keyword_lines, width, height, rows, columns)
 }
 
 /// Reads a .non text in its usual form: all keyword lines but `rows` and `columns` in any order, the sizes

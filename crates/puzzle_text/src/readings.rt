@@ -6,7 +6,7 @@ ghost use Rattle.grid_core.specs.PartialGrid.{IsSize};
 ghost use Rattle.puzzle_text.specs.Readings.{is_admissible, likelier, reading};
 ghost use Rattle.puzzle_text.specs.Written.{is_ambiguous};
 
-use crate::fitting::{both_fit, sum_both, sum_within};
+use crate::fitting::{sum_of_both, sum_within};
 use crate::parts::puzzle_from_parts;
 use grid_core::{Clue, NoMemory, Puzzle, Texts};
 
@@ -16,13 +16,9 @@ fn are_admissible(width: u16, height: u16, rows: &[Clue], columns: &[Clue]) -> b
     requires columns { length columns.now ≤ 65535 }
     ensures { result ≡ is_admissible (plain width height rows.now columns.now) }
 {
-    let Some(in_rows) = sum_within(width, rows) else {
-        return false;
-    };
-    let Some(in_columns) = sum_within(height, columns) else {
-        return false;
-    };
-    in_rows == in_columns
+    let in_rows = sum_within(width, rows);
+    let in_columns = sum_within(height, columns);
+    in_rows.is_some() && in_rows == in_columns
 }
 
 /// Whether the puzzle of these clues, the first of which are its rows, is admissible.
@@ -66,9 +62,9 @@ fn is_other_admissible(width: u16, height: u16, rows: &[Clue], columns: &[Clue])
 {
     let (first, second) = rows.split_at(usize::from(width.min(height)));
     let (third, fourth) = columns.split_at(usize::from(width.saturating_sub(height)));
-    both_fit(height, first, third)
-        && both_fit(width, second, fourth)
-        && sum_both(first, third) == sum_both(second, fourth)
+    let in_rows = sum_of_both(height, first, third);
+    let in_columns = sum_of_both(width, second, fourth);
+    in_rows.is_some() && in_rows == in_columns
 }
 
 /// Whether the puzzle is admissible with its own sizes.

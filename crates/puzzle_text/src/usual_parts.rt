@@ -2,7 +2,7 @@
 
 ghost use Rattle.std.specs.Prelude.{◌≡◌, ◌+◌, ◌<◌, ◌≤◌, ◌^◌, [], ◌∷◌, ◌++◌, length, map, IfSome, OnSome};
 ghost use Rattle.puzzle_text.specs.steps.Shown.{shown_keyword};
-ghost use Rattle.puzzle_text.specs.steps.Usual.{HasParts, SayClues};
+ghost use Rattle.puzzle_text.specs.steps.Usual.{HasParts, KeepsOthers, SayClues, clues_under};
 
 use crate::keyword_line::KeywordLine;
 use crate::keywords::{keyword, nth_with, rest};
@@ -21,25 +21,70 @@ pub(crate) struct Parts<'t> {
     pub columns: Vec<Clue>,
 }
 
-/// Adds a keyword line at the end, if there is memory for it.
-fn add<'t>(lines: &mut Vec<KeywordLine<'t>>, line: KeywordLine<'t>) -> Option<()>
-    ensures { OnSome result (map shown_keyword lines.new.items ≡ map shown_keyword lines.old.items ++ shown_keyword line.entry ∷ []) }
-{
-    lines.push(line).ok()
-}
-
-/// The clues of the first lines, as many as the keyword line with this word says, and what follows them.
-fn section<'t>(
+/// Reads the clues of the first lines, as many as the keyword line with this word says, into a section that
+/// has none. Returns how many these are, and what follows them.
+fn read_section<'t>(
     alloc: Global,
     word: &[u8],
     keyword_lines: &[KeywordLine<'_>],
+    section: &mut Vec<Clue>,
     text: &'t [u8],
-) -> Option<(Vec<Clue>, &'t [u8])>
-    ensures clues { IfSome result (λ found. SayClues text.now found.0.items found.1.now) }
-    ensures room { IfSome result (λ found. length found.0.items + length found.1.now ≤ length text.now) }
+) -> Option<(u32, &'t [u8])>
+    requires { length text.now < 2 ^ 32 }
+    ensures none { OnSome result (length section.old.items ≡ 0) }
+    ensures clues { IfSome result (λ found. SayClues text.now section.new.items found.1.now) }
+    ensures count { IfSome result (λ found. found.0 ≡ length section.new.items) }
+    ensures room { IfSome result (λ found. found.0 + length found.1.now ≤ length text.now) }
 {
-    let line = nth_with(word, 0, keyword_lines)?;
-    read_clue_lines(alloc, size_of(rest(line)).ok()?, text)
+    if !section.is_empty() {
+        return None;
+    }
+    let size = size_of(rest(nth_with(word, 0, keyword_lines)?)).ok()?;
+    let (clues, after) = read_clue_lines(alloc, size, text)?;
+    let count = clues.len() as u32;
+    *section = clues;
+    Some((count, after))
+}
+
+impl<'t> Parts<'t> {
+    /// Adds a keyword line, and the clues of the section that it opens, if it opens one. Returns how many these
+    /// are, and what follows them.
+    fn add(
+        &mut self,
+        alloc: Global,
+        under: Under,
+        line: KeywordLine<'t>,
+        text: &'t [u8],
+    ) -> Option<(u32, &'t [u8])>
+        requires { length text.now < 2 ^ 32 }
+        ensures line { OnSome result (map shown_keyword self.new.keyword_lines.items
+            ≡ map shown_keyword self.old.keyword_lines.items ++ shown_keyword line.entry ∷ []) }
+        ensures others { OnSome result
+            (KeepsOthers under self.old.rows.items self.old.columns.items self.new.rows.items self.new.columns.items) }
+        ensures clues { IfSome result (λ found.
+            SayClues text.now (clues_under under self.new.rows.items self.new.columns.items) found.1.now) }
+        ensures count { IfSome result (λ found. found.0 ≡ length (clues_under under self.new.rows.items self.new.columns.items)) }
+        ensures room { IfSome result (λ found. found.0 + length found.1.now ≤ length text.now) }
+    {
+        self.keyword_lines.push(line).ok()?;
+        match under {
+            Under::Rows => read_section(
+                alloc,
+                b"height",
+                &self.keyword_lines,
+                &mut self.rows,
+                text,
+            ),
+            Under::Columns => read_section(
+                alloc,
+                b"width",
+                &self.keyword_lines,
+                &mut self.columns,
+                text,
+            ),
+            Under::Other => Some((0, text)),
+        }
+    }
 }
 
 /// The parts of a text in its usual form: the lines of each section stand together below its keyword, and as
@@ -49,9 +94,11 @@ pub(crate) fn parts_of<'t>(alloc: Global, text: &'t [u8]) -> Option<Parts<'t>>
     ensures { IfSome result (λ parts.
         HasParts text.now (map shown_keyword parts.keyword_lines.items) parts.rows.items parts.columns.items) }
 {
-    let mut keyword_lines = Vec::with_capacity(alloc, 16).ok()?;
-    let mut rows = Vec::new(alloc);
-    let mut columns = Vec::new(alloc);
+    let mut parts = Parts {
+        keyword_lines: Vec::with_capacity(alloc, 16).ok()?,
+        rows: Vec::new(alloc),
+        columns: Vec::new(alloc),
+    };
     let mut number = 0u32;
     let mut below = text;
     'lines: while !below.is_empty() {
@@ -63,38 +110,18 @@ pub(crate) fn parts_of<'t>(alloc: Global, text: &'t [u8]) -> Option<Parts<'t>>
             text: trim(line),
         };
         let word = keyword(&line);
-        if word.is_empty() {
-            if !line.text.is_empty() && !is_hash(&line) {
-                return None;
-            }
-            continue;
-        }
-        add(&mut keyword_lines, KeywordLine { word, line })?;
-        match opened_by(word) {
-            Under::Rows => {
-                if !rows.is_empty() {
-                    return None;
-                }
-                let (clues, after) = section(alloc, b"height", &keyword_lines, below)?;
-                number += clues.len() as u32;
-                rows = clues;
-                below = after;
-            }
-            Under::Columns => {
-                if !columns.is_empty() {
-                    return None;
-                }
-                let (clues, after) = section(alloc, b"width", &keyword_lines, below)?;
-                number += clues.len() as u32;
-                columns = clues;
-                below = after;
-            }
-            Under::Other => {}
+        if !word.is_empty() {
+            let (count, after) = parts.add(
+                alloc,
+                opened_by(word),
+                KeywordLine { word, line },
+                below,
+            )?;
+            number += count;
+            below = after;
+        } else if !line.text.is_empty() && !is_hash(&line) {
+            return None;
         }
     }
-    Some(Parts {
-        keyword_lines,
-        rows,
-        columns,
-    })
+    Some(parts)
 }

@@ -1,5 +1,5 @@
 -- A grid as its rows and its columns: its cells, and what changing one of them does.
-use Rattle.std.proofs.Common.{◌≡◌, ℕ, ◌+◌, ◌-◌, ◌*◌, ◌/◌, ◌%◌, ◌<◌, ◌≤◌, inl, inr, false, Some, None, List, [], ◌++◌, length, take, drop, get_or, set, refl, sym, ap, subst, ◌∙◌, arith, length-set, get_or-set_same, get_or-set_other, replicate}
+use Rattle.std.proofs.Common.{◌≡◌, ◌≢◌, ℕ, ◌+◌, ◌-◌, ◌*◌, ◌/◌, ◌%◌, ◌<◌, ◌≤◌, inl, inr, false, Some, None, List, [], ◌++◌, length, take, drop, get_or, set, refl, sym, ap, subst, ◌∙◌, arith, below_more, length-set, get_or-set_same, get_or-set_other, replicate}
 use Rattle.std.proofs.lemmas.List.{ext_get_or, get_or_default, get_or-replicate, length-replicate}
 use Rattle.std.proofs.lemmas.Nat.{div_below}
 use Rattle.grid_core.specs.declared.cells.Cell.{Cell}
@@ -104,6 +104,52 @@ lines-written cells rows columns row column x y c a lx ly er ec =
 pub line_read : (lines : List (List Cell)) (i : ℕ) (line : List Cell) → i < length lines → get_or lines i line ≡ get_or lines i []
 line_read lines i line h = get_or_default lines i line [] h
 
+-- ---- lines that are written one by one
+
+-- the first n lines are written, the others are as they were
+pub record IsWrittenTo (old : List (List Cell)) (new : ℕ → List Cell) (n : ℕ) (lines : List (List Cell)) : Type 0 where
+  pub written : (k : ℕ) → k < n → get_or lines k [] ≡ new k
+  pub left : (k : ℕ) → n ≤ k → get_or lines k [] ≡ get_or old k []
+
+pub none-written : (old : List (List Cell)) (new : ℕ → List Cell) → IsWrittenTo old new 0 old
+none-written old new = record { written = λ k h. absurd {A = get_or old k [] ≡ new k} (omega arith); left = λ k h. refl }
+
+pub one-written : (old : List (List Cell)) (new : ℕ → List Cell) (n : ℕ) (lines : List (List Cell)) (line : List Cell) → n < length lines →
+    line ≡ new n → IsWrittenTo old new n lines → IsWrittenTo old new (n + 1) (set lines n line)
+one-written old new n lines line l e is = record {
+  written = below_more (λ (k : ℕ). get_or (set lines n line) k [] ≡ new k) n
+      (λ k h. let apart : k ≢ n = omega arith in get_or-set_other lines n k line [] apart ∙ is.written k h)
+      (get_or-set_same lines n line [] l ∙ e);
+  left = λ k h. let apart : k ≢ n = omega arith in get_or-set_other lines n k line [] apart ∙ is.left k (omega arith);
+}
+
+pub line-left : (old : List (List Cell)) (new : ℕ → List Cell) (n : ℕ) (lines : List (List Cell)) (line : List Cell) → n < length lines →
+    IsWrittenTo old new n lines → get_or lines n line ≡ get_or old n []
+line-left old new n lines line l is = line_read lines n line l ∙ is.left n (omega arith)
+
+-- the columns have the cells of the rows above row y
+pub record HaveAcross (columns rows : List (List Cell)) (y : ℕ) : Type 0 where
+  pub cells : (x k : ℕ) → x < length columns → k < y → get_or (get_or columns x []) k Unknown ≡ get_or (get_or rows k []) x Unknown
+  pub lengths : (x : ℕ) → x < length columns → length (get_or columns x []) ≡ length rows
+
+-- and after row y was written those of it too
+pub across-more : (columns more rows : List (List Cell)) (y : ℕ) (row : List Cell) → y < length rows → row ≡ get_or rows y [] →
+    length more ≡ length columns →
+    ((x : ℕ) → x < length columns → get_or more x [] ≡ set (get_or columns x []) y (get_or row x Unknown)) →
+    HaveAcross columns rows y → HaveAcross more rows (y + 1)
+across-more columns more rows y row l e long set_at is = record {
+  cells = λ x k lx lk.
+      let below : x < length columns = omega (arith, lx, long) in
+      ap (λ (column : List Cell). get_or column k Unknown) (set_at x below) ∙ elim (cases_eq k y) [
+        | inl here ↦ rw here (get_or-set_same (get_or columns x []) y (get_or row x Unknown) Unknown (omega (arith, l, is.lengths x below)) ∙
+            ap (λ (r : List Cell). get_or r x Unknown) e)
+        | inr other ↦ get_or-set_other (get_or columns x []) y k (get_or row x Unknown) Unknown other ∙ is.cells x k below (omega arith)
+      ];
+  lengths = λ x lx.
+      let below : x < length columns = omega (arith, lx, long) in
+      ap length (set_at x below) ∙ length-set (get_or columns x []) y (get_or row x Unknown) ∙ is.lengths x below;
+}
+
 -- ---- the cells of rows
 
 -- the cells of the rows of a grid are its cells
@@ -123,17 +169,6 @@ lines-cells cells rows columns a =
   where
     wide : (y : ℕ) → y < length rows → length (get_or rows y []) ≡ length columns
     wide y l = ap length (a.rows_are y l) ∙ length-along cells (y * length columns) 1 (length columns)
-
--- the lines of a grid whose cells are those of its rows, after a cell was written in its row and its column
-pub cell-written : (rows columns : List (List Cell)) (row column : List Cell) (x y : ℕ) (c : Cell) →
-    AreLinesOf (cells_of_rows rows) rows columns → x < length columns → y < length rows
-    → row ≡ set (get_or rows y []) x c → column ≡ set (get_or columns x []) y c
-    → (cells_of_rows (set rows y row) ≡ set (cells_of_rows rows) (y * length columns + x) c) ×
-    AreLinesOf (cells_of_rows (set rows y row)) (set rows y row) (set columns x column)
-cell-written rows columns row column x y c a lx ly er ec =
-    let after = lines-written (cells_of_rows rows) rows columns row column x y c a lx ly er ec in
-    let same = lines-cells (set (cells_of_rows rows) (y * length columns + x) c) (set rows y row) (set columns x column) after in
-    (same, subst (λ (cells : List Cell). AreLinesOf cells (set rows y row) (set columns x column)) (sym same) after)
 
 -- a row and a column read at a cell
 pub cell-read : (rows columns : List (List Cell)) (x y : ℕ) → AreLinesOf (cells_of_rows rows) rows columns → x < length columns →
@@ -159,6 +194,40 @@ lines-long rows columns x y a lx ly = (
   ap length (a.rows_are y ly) ∙ length-along (cells_of_rows rows) (y * length columns) 1 (length columns),
   ap length (a.columns_are x lx) ∙ length-along (cells_of_rows rows) x (length columns) (length rows),
 )
+
+-- a row that was taken out has the cell
+pub row-at : (rows columns : List (List Cell)) (row : List Cell) (x y : ℕ) → AreLinesOf (cells_of_rows rows) rows columns → x < length columns →
+    y < length rows → row ≡ get_or rows y row →
+    (x < length row) × (get_or row x Unknown ≡ get_or (cells_of_rows rows) (y * length columns + x) Unknown)
+row-at rows columns row x y a lx ly is =
+    rw (is ∙ line_read rows y row ly) (omega (arith, lx, (lines-long rows columns x y a lx ly).0), (cell-read rows columns x y a lx ly).0)
+
+-- and so has a column
+pub column-at : (rows columns : List (List Cell)) (column : List Cell) (x y : ℕ) → AreLinesOf (cells_of_rows rows) rows columns →
+    x < length columns → y < length rows → column ≡ get_or columns x column →
+    (y < length column) × (get_or column y Unknown ≡ get_or (cells_of_rows rows) (y * length columns + x) Unknown)
+column-at rows columns column x y a lx ly is =
+    rw (is ∙ line_read columns x column lx) (omega (arith, ly, (lines-long rows columns x y a lx ly).1), (cell-read rows columns x y a lx ly).1)
+
+-- the grid that rows and columns are
+abbrev pub grid_of_lines : List (List Cell) → List (List Cell) → PartialGrid
+grid_of_lines rows columns = record { width = length columns; height = length rows; cells = cells_of_rows rows }
+
+-- the lines of a grid after a cell was written in its row and its column, which were taken out
+pub cell-changed : (rows columns : List (List Cell)) (row new_row column new_column : List Cell) (x y : ℕ) (c : Cell) →
+    AreLinesOf (cells_of_rows rows) rows columns → x < length columns → y < length rows →
+    row ≡ get_or rows y row → new_row ≡ set row x c → column ≡ get_or columns x column → new_column ≡ set column y c →
+    AreLinesOf (cells_of_rows (set rows y new_row)) (set rows y new_row) (set columns x new_column)
+    × (grid_of_lines (set rows y new_row) (set columns x new_column)
+    ≡ record (grid_of_lines rows columns) { cells = set (cells_of_rows rows) (y * length columns + x) c })
+cell-changed rows columns row new_row column new_column x y c a lx ly is_row er is_column ec =
+    let after = lines-written (cells_of_rows rows) rows columns new_row new_column x y c a lx ly
+    (er ∙ ap (λ (line : List Cell). set line x c) (is_row ∙ line_read rows y row ly))
+    (ec ∙ ap (λ (line : List Cell). set line y c) (is_column ∙ line_read columns x column lx)) in
+    let same = lines-cells (set (cells_of_rows rows) (y * length columns + x) c) (set rows y new_row) (set columns x new_column) after in (
+      subst (λ (cells : List Cell). AreLinesOf cells (set rows y new_row) (set columns x new_column)) (sym same) after,
+      λ i. record { width = length-set columns x new_column i; height = length-set rows y new_row i; cells = same i },
+    )
 
 -- lines of which nothing is known
 pub lines-unknown : (w h : ℕ) (rows columns : List (List Cell)) → IsSize w h → rows ≡ replicate h (replicate w Unknown) →
@@ -199,6 +268,25 @@ lines-unknown w h rows columns size er el =
           let l : x < w = omega (arith, wide) in
           rw (wide, high) (rw el (get_or-replicate w x (replicate h Unknown) [] l) ∙ along x w h (λ i k. column_within w h x i l k));
     }
+
+-- the rows and the columns of two grids of one size are as many, and as long
+pub lines-alike : (rows columns others beside : List (List Cell)) (g h : PartialGrid) → AreLinesOf (cells_of_rows rows) rows columns →
+    AreLinesOf (cells_of_rows others) others beside → grid_of_lines rows columns ≡ g → grid_of_lines others beside ≡ h →
+    h.width ≡ g.width → h.height ≡ g.height → (length others ≡ length rows) × (length beside ≡ length columns)
+    × ((y : ℕ) → y < length rows → length (get_or others y []) ≡ length (get_or rows y []))
+    × ((x : ℕ) → x < length columns → length (get_or beside x []) ≡ length (get_or columns x []))
+lines-alike rows columns others beside g h a b seen other wide high =
+    let tall : length others ≡ length rows =
+    ap (λ (p : PartialGrid). p.height) other ∙ high ∙ sym (ap (λ (p : PartialGrid). p.height) seen) in
+    let broad : length beside ≡ length columns =
+    ap (λ (p : PartialGrid). p.width) other ∙ wide ∙ sym (ap (λ (p : PartialGrid). p.width) seen) in (
+      tall,
+      broad,
+      λ y l. (lines-long others beside 0 y b b.size.width_from (omega (arith, l, tall))).0 ∙ broad ∙
+          sym (lines-long rows columns 0 y a a.size.width_from l).0,
+      λ x l. (lines-long others beside x 0 b (omega (arith, l, broad)) b.size.height_from).1 ∙ tall ∙
+          sym (lines-long rows columns x 0 a l a.size.height_from).1,
+    )
 
 -- ---- unknown cells
 

@@ -9,7 +9,7 @@ use Rattle.grid_core.specs.declared.sides.Side.TheVariants.{Rows, Columns}
 use Rattle.grid_core.specs.Cells.{Extends}
 use Rattle.grid_core.specs.Lines.{IsChanged}
 use Rattle.grid_core.specs.Nonogram.{cells_at, crossing, places_on}
-use Rattle.grid_core.specs.PartialGrid.{IsSize}
+use Rattle.grid_core.specs.PartialGrid.{IsSize, PartialGrid}
 use Rattle.grid_core.specs.Rows.{cells_of_rows}
 use Rattle.grid_core.specs.steps.Sides.{count_on, place_on}
 use Rattle.grid_core.proofs.Changing.{same_cells}
@@ -18,12 +18,13 @@ use Rattle.line_core.proofs.DeductionLaws.{Extends-at}
 use Rattle.place_sets.specs.Masks.{Has, IsMaskOf}
 use Rattle.solve_core.specs.Closure.{with_cells}
 use Rattle.solve_core.specs.steps.GridLines.{AreLinesOf}
-use Rattle.solve_core.specs.steps.Learning.{CanLearn}
+use Rattle.solve_core.specs.steps.Learning.{CanLearn, IsLearning}
+use Rattle.solve_core.specs.steps.Trails.{TrailedGrid}
 use Rattle.solve_core.proofs.ClosureLaws.{length-with_cells}
-use Rattle.solve_core.proofs.GridLineSteps.{lines-cells}
+use Rattle.solve_core.proofs.GridLineSteps.{grid_of_lines, lines-cells}
 use Rattle.solve_core.proofs.LineSteps.{cells_at-same, cells_at-with_cells, get_or-with_cells, learned_cell}
 use Rattle.solve_core.proofs.Order.{length-Extends}
-use Rattle.solve_core.proofs.SideLines.{across, along, below_places, cell_within, crossing_twice, distinct_places, longest_sides_fit, same_place}
+use Rattle.solve_core.proofs.SideLines.{across, along, below_places, cell_within, column_within, row_within, crossing_twice, distinct_places, longest_sides_fit, same_place}
 
 -- line i of a side gets these cells, of which some change
 pub record Learns (side : Side) (w h i m : ℕ) (cells new : List Cell) : Type 0 where
@@ -32,6 +33,42 @@ pub record Learns (side : Side) (w h i m : ℕ) (cells new : List Cell) : Type 0
   pub count : length cells ≡ w * h
   pub more : Extends (cells_at Unknown cells (places_on side w h i)) new
   pub changes : IsMaskOf (IsChanged (cells_at Unknown cells (places_on side w h i)) new) m
+
+-- what a line of a grid learns, by the lines of the grid
+pub learns_of : (side own : Side) (i m : ℕ) (new : List Cell) (rows columns : List (List Cell)) (g : PartialGrid) →
+    AreLinesOf (cells_of_rows rows) rows columns → grid_of_lines rows columns ≡ g → side ≡ own → i < count_on side g.width g.height →
+    Extends (cells_at Unknown g.cells (places_on side g.width g.height i)) new →
+    IsMaskOf (IsChanged (cells_at Unknown g.cells (places_on side g.width g.height i)) new) m →
+    Learns own (length columns) (length rows) i m (cells_of_rows rows) new
+learns_of side own i m new rows columns g a seen e line more changes =
+    subst (λ (s : Side). Learns s (length columns) (length rows) i m (cells_of_rows rows) new) e
+    (subst (λ (g : PartialGrid). Learns side g.width g.height i m g.cells new) (sym seen) (record {
+      some = rw (← seen) a.size.width_from;
+      line = line;
+      count = rw (← seen) a.count;
+      more = more;
+      changes = changes;
+    }))
+
+-- what a row learns, in a grid with a trail
+pub row_learning : (b : TrailedGrid) (first w h i m : ℕ) (cells new : List Cell) → Learns Rows w h i m cells new → b.cells ≡ cells →
+    first ≡ i * w → IsLearning b first 1 w m new
+row_learning b first w h i m cells new is same e = record {
+  apart = omega arith;
+  within = λ k l. rw (same, e) (omega (arith, row_within w h i k is.line l, is.count));
+  more = rw (same, e) is.more;
+  changed = rw (same, e) is.changes;
+}
+
+-- and what a column does
+pub column_learning : (b : TrailedGrid) (first step w h i m : ℕ) (cells new : List Cell) → Learns Columns w h i m cells new → b.cells ≡ cells →
+    first ≡ i → step ≡ w → IsLearning b first step h m new
+column_learning b first step w h i m cells new is same e s = record {
+  apart = rw s (omega (arith, is.some));
+  within = λ k l. rw (same, e, s) (omega (arith, column_within w h i k is.line l, is.count));
+  more = rw (same, e, s) is.more;
+  changed = rw (same, e, s) is.changes;
+}
 
 -- the lines of a side have the cells of a grid
 abbrev pub AreOn : Side → ℕ → ℕ → List Cell → List (List Cell) → Type 0
@@ -169,7 +206,8 @@ across_learned side w h i m cells new lines more is are long changed others = (
 
 -- rows and columns that have the cells of a grid are its lines
 whole : (w h : ℕ) (cells : List Cell) (rows columns : List (List Cell)) → IsSize w h → length cells ≡ w * h → AreOn Rows w h cells rows →
-    AreOn Columns w h cells columns → (cells_of_rows rows ≡ cells) × AreLinesOf (cells_of_rows rows) rows columns
+    AreOn Columns w h cells columns → (grid_of_lines rows columns ≡ record { width = w; height = h; cells = cells })
+    × AreLinesOf (cells_of_rows rows) rows columns
 whole w h cells rows columns size count high wide =
     let are : AreLinesOf cells rows columns = record {
       size = rw (wide.0, high.0) size;
@@ -178,14 +216,15 @@ whole w h cells rows columns size count high wide =
       columns_are = λ x l. wide.1 x l ∙ (λ j. cells_at Unknown cells (places_on Columns (sym wide.0 j) (sym high.0 j) x));
     } in
     let same = lines-cells cells rows columns are in
-    (same, subst (λ (r : List Cell). AreLinesOf r rows columns) (sym same) are)
+    (λ j. record { width = wide.0 j; height = high.0 j; cells = same j }, subst (λ (r : List Cell). AreLinesOf r rows columns) (sym same) are)
 
 -- the lines after a row was written
 pub learned_rows : (i m : ℕ) (new : List Cell) (rows columns more : List (List Cell)) → AreLinesOf (cells_of_rows rows) rows columns →
     Learns Rows (length columns) (length rows) i m (cells_of_rows rows) new → length more ≡ length columns →
     ((k : ℕ) → Has m k → get_or more k [] ≡ set (get_or columns k []) i (get_or new k Unknown)) →
     ((k : ℕ) → (Has m k → ⊥) → get_or more k [] ≡ get_or columns k []) →
-    (cells_of_rows (set rows i new) ≡ after Rows (length columns) (length rows) i (cells_of_rows rows) new) ×
+    (grid_of_lines (set rows i new) more
+    ≡ record (grid_of_lines rows columns) { cells = after Rows (length columns) (length rows) i (cells_of_rows rows) new }) ×
     AreLinesOf (cells_of_rows (set rows i new)) (set rows i new) more
 learned_rows i m new rows columns more a is long changed others =
     let cells = cells_of_rows rows in
@@ -200,7 +239,8 @@ pub learned_columns : (i m : ℕ) (new : List Cell) (rows columns more : List (L
     Learns Columns (length columns) (length rows) i m (cells_of_rows rows) new → length more ≡ length rows →
     ((k : ℕ) → Has m k → get_or more k [] ≡ set (get_or rows k []) i (get_or new k Unknown)) →
     ((k : ℕ) → (Has m k → ⊥) → get_or more k [] ≡ get_or rows k []) →
-    (cells_of_rows more ≡ after Columns (length columns) (length rows) i (cells_of_rows rows) new) ×
+    (grid_of_lines more (set columns i new)
+    ≡ record (grid_of_lines rows columns) { cells = after Columns (length columns) (length rows) i (cells_of_rows rows) new }) ×
     AreLinesOf (cells_of_rows more) more (set columns i new)
 learned_columns i m new rows columns more a is long changed others =
     let cells = cells_of_rows rows in
@@ -211,14 +251,12 @@ learned_columns i m new rows columns more a is long changed others =
     (across_learned Columns w h i m cells new rows more is (refl, a.rows_are) long changed others)
     (own_learned Columns w h i m cells new columns is (refl, a.columns_are))
 
--- what a line of a grid learns, by the lines of the grid
-pub learns_of : (side : Side) (i m : ℕ) (new : List Cell) (rows columns : List (List Cell)) → AreLinesOf (cells_of_rows rows) rows columns →
-    i < count_on side (length columns) (length rows) →
-    Extends (cells_at Unknown (cells_of_rows rows) (places_on side (length columns) (length rows) i)) new →
-    IsMaskOf (IsChanged (cells_at Unknown (cells_of_rows rows) (places_on side (length columns) (length rows) i)) new) m →
-    Learns side (length columns) (length rows) i m (cells_of_rows rows) new
-learns_of side i m new rows columns a line more changes =
-    record { some = omega (arith, a.size.width_from); line = line; count = a.count; more = more; changes = changes }
+-- the line has as many cells as before
+pub long_line : (side : Side) (w h i m : ℕ) (cells new : List Cell) (own : List (List Cell)) → Learns side w h i m cells new →
+    AreOn side w h cells own → length new ≡ length (get_or own i [])
+long_line side w h i m cells new own is are =
+    sym (length-Extends (cells_at Unknown cells (places_on side w h i)) new is.more) ∙
+    sym (ap length (are.1 i (omega (arith, is.line, are.0))))
 
 -- the place of a change fits 16 bits
 pub place_fits : (side : Side) (w h i m : ℕ) (cells new : List Cell) → IsSize w h → Learns side w h i m cells new → (k : ℕ) → Has m k →

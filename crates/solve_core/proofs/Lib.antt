@@ -19,7 +19,6 @@ pub mod ReportLaws
 pub mod AnswerLaws
 pub mod BranchLaws
 pub mod SearchSteps
-pub mod Examples
 pub mod Fitting
 pub mod Changes
 pub mod Counting

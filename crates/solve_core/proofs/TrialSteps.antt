@@ -177,6 +177,13 @@ trial-refuted Refuted lines g trial k c e h = ap is_none h
 trial-refuted Open lines g trial k c e h = cc
 trial-refuted Closed lines g trial k c e h = cc
 
+-- a trial that came to anything else doesn't
+pub trial-open : (r : Trial) (lines : List GridLine) (g trial : List Cell) (k : ℕ) (c : Cell) → (r ≡ Refuted → ⊥) →
+    IsTrialOf r lines g k c trial → is_refuted lines g k c ≡ false
+trial-open Refuted lines g trial k c n h = absurd (n refl)
+trial-open Open lines g trial k c n h = h
+trial-open Closed lines g trial k c n h = ap is_none h
+
 -- the grid of a trial that came to `Closed` is the closure of the cells with its colour
 pub trial-closed : (r : Trial) (lines : List GridLine) (g trial : List Cell) (k : ℕ) (c : Cell) → r ≡ Closed →
     IsTrialOf r lines g k c trial → closure lines (set g k c) ≡ Some trial

@@ -73,44 +73,6 @@ fn unknown_lines<W: LineSet>(
     Ok(lines)
 }
 
-/// Changes the cell in column x and row y in its row and in its column.
-fn set_cell<W: LineSet>(
-    rows: &mut [LineOf<W>],
-    columns: &mut [LineOf<W>],
-    x: usize,
-    y: usize,
-    cell: Cell,
-)
-    requires lines { AreLinesOf (cells_of_rows rows.old) rows.old columns.old }
-    requires column { x < length columns.old }
-    requires row { y < length rows.old }
-    ensures { (cells_of_rows rows.new ≡ slice_set (cells_of_rows rows.old) (y * length columns.old + x) cell) ×
-        AreLinesOf (cells_of_rows rows.new) rows.new columns.new }
-{
-    rows[y].set(x as u16, cell);
-    columns[x].set(y as u16, cell);
-}
-
-/// Settles the unknown cell in column x and row y in its row and in its column.
-fn settle_cell<W: LineSet>(
-    rows: &mut [LineOf<W>],
-    columns: &mut [LineOf<W>],
-    x: usize,
-    y: usize,
-    cell: Cell,
-)
-    requires lines { AreLinesOf (cells_of_rows rows.old) rows.old columns.old }
-    requires column { x < length columns.old }
-    requires row { y < length rows.old }
-    requires unknown { slice_index_or (cells_of_rows rows.old) (y * length columns.old + x) Unknown ≡ Unknown }
-    requires known { is_known cell ≡ true }
-    ensures { (cells_of_rows rows.new ≡ slice_set (cells_of_rows rows.old) (y * length columns.old + x) cell) ×
-        AreLinesOf (cells_of_rows rows.new) rows.new columns.new }
-{
-    rows[y].settle(x as u16, cell);
-    columns[x].settle(y as u16, cell);
-}
-
 /// Settles cell `i` of each line at a change as `new` has the change, and puts its place on the trail: cell k of
 /// `new` is `first` and k steps.
 fn settle_across<W: LineSet>(
@@ -139,62 +101,6 @@ fn settle_across<W: LineSet>(
         lines[usize::from(k)].settle(i, new.get(k));
         trail.push_reserved((first + usize::from(k) * step) as u16);
     }
-}
-
-/// Writes row i, of which some cells change from unknown ones, and puts the places of these on the trail.
-fn learn_row<W: LineSet>(
-    rows: &mut [LineOf<W>],
-    columns: &mut [LineOf<W>],
-    trail: &mut Vec<u16>,
-    i: u16,
-    new: &LineOf<W>,
-    changes: W,
-)
-    requires lines { AreLinesOf (cells_of_rows rows.old) rows.old columns.old }
-    requires i { i < length rows.old }
-    requires more { Extends (cells_at Unknown (cells_of_rows rows.old) (places_on Rows (length columns.old) (length rows.old) i)) new.now }
-    requires changes { IsMaskOf
-        (IsChanged (cells_at Unknown (cells_of_rows rows.old) (places_on Rows (length columns.old) (length rows.old) i)) new.now)
-        (W.number changes) }
-    requires room { length trail.old.items + LONGEST_SIDE ≤ vec_capacity trail.old }
-    ensures lines { (cells_of_rows rows.new
-        ≡ with_cells (cells_of_rows rows.old) (places_on Rows (length columns.old) (length rows.old) i) new.now) ×
-        AreLinesOf (cells_of_rows rows.new) rows.new columns.new }
-    ensures trail { (g : TrailedGrid) → g.cells ≡ cells_of_rows rows.old → trail.old.items ≡ g.trail →
-        IsTrailed g (record g { cells = cells_of_rows rows.new; trail = trail.new.items }) }
-    ensures capacity { vec_capacity trail.new ≡ vec_capacity trail.old }
-{
-    let (place, width) = (usize::from(i), columns.len());
-    rows[place].copy_from(new);
-    settle_across(columns, trail, i, place * width, 1, new, changes);
-}
-
-/// Writes column i, of which some cells change from unknown ones, and puts the places of these on the trail.
-fn learn_column<W: LineSet>(
-    rows: &mut [LineOf<W>],
-    columns: &mut [LineOf<W>],
-    trail: &mut Vec<u16>,
-    i: u16,
-    new: &LineOf<W>,
-    changes: W,
-)
-    requires lines { AreLinesOf (cells_of_rows rows.old) rows.old columns.old }
-    requires i { i < length columns.old }
-    requires more { Extends (cells_at Unknown (cells_of_rows rows.old) (places_on Columns (length columns.old) (length rows.old) i)) new.now }
-    requires changes { IsMaskOf
-        (IsChanged (cells_at Unknown (cells_of_rows rows.old) (places_on Columns (length columns.old) (length rows.old) i)) new.now)
-        (W.number changes) }
-    requires room { length trail.old.items + LONGEST_SIDE ≤ vec_capacity trail.old }
-    ensures lines { (cells_of_rows rows.new
-        ≡ with_cells (cells_of_rows rows.old) (places_on Columns (length columns.old) (length rows.old) i) new.now) ×
-        AreLinesOf (cells_of_rows rows.new) rows.new columns.new }
-    ensures trail { (g : TrailedGrid) → g.cells ≡ cells_of_rows rows.old → trail.old.items ≡ g.trail →
-        IsTrailed g (record g { cells = cells_of_rows rows.new; trail = trail.new.items }) }
-    ensures capacity { vec_capacity trail.new ≡ vec_capacity trail.old }
-{
-    let (place, width) = (usize::from(i), columns.len());
-    columns[place].copy_from(new);
-    settle_across(rows, trail, i, place, width, new, changes);
 }
 
 /// Copies lines over others of the same lengths.
@@ -404,7 +310,8 @@ impl<W: LineSet> GridLines<W> {
         requires row { y < self.old.height }
         ensures { self.new ≡ record self.old { cells = slice_set self.old.cells (y * self.old.width + x) cell } }
     {
-        set_cell(&mut self.rows, &mut self.columns, x, y, cell);
+        self.rows[y].set(x as u16, cell);
+        self.columns[x].set(y as u16, cell);
     }
 
     /// Settles the unknown cell in column x and row y.
@@ -415,7 +322,8 @@ impl<W: LineSet> GridLines<W> {
         requires known { is_known cell ≡ true }
         ensures { self.new ≡ record self.old { cells = slice_set self.old.cells (y * self.old.width + x) cell } }
     {
-        settle_cell(&mut self.rows, &mut self.columns, x, y, cell);
+        self.rows[y].settle(x as u16, cell);
+        self.columns[x].settle(y as u16, cell);
     }
 
     /// Writes the cells of line i of a side, some of which change from unknown ones, and puts the places of
@@ -434,10 +342,15 @@ impl<W: LineSet> GridLines<W> {
             IsTrailed g (record g { cells = self.new.cells; trail = trail.new.items }) }
         ensures capacity { vec_capacity trail.new ≡ vec_capacity trail.old }
     {
+        let (place, width) = (usize::from(i), self.columns.len());
         match side {
-            Side::Rows => learn_row(&mut self.rows, &mut self.columns, trail, i, new, changes),
+            Side::Rows => {
+                self.rows[place].copy_from(new);
+                settle_across(&mut self.columns, trail, i, place * width, 1, new, changes);
+            }
             Side::Columns => {
-                learn_column(&mut self.rows, &mut self.columns, trail, i, new, changes);
+                self.columns[place].copy_from(new);
+                settle_across(&mut self.rows, trail, i, place, width, new, changes);
             }
         }
     }

@@ -4,6 +4,8 @@ use Rattle.std.specs.List.{list_all}
 use Rattle.std.specs.Char.{is_ascii_digit}
 use Rattle.std.specs.Str.Parse.{digits_value}
 use Rattle.grid_core.specs.declared.limits.TheConstants.{LONGEST_SIDE}
+use Rattle.puzzle_text.specs.declared.places.Under.{Under}
+use Rattle.puzzle_text.specs.declared.places.Under.TheVariants.{Rows, Columns, Other}
 use Rattle.puzzle_text.specs.ClueLines.{clue_of}
 use Rattle.puzzle_text.specs.Lines.{Line, is_full, lines, numbered_from, raw_lines}
 use Rattle.puzzle_text.specs.Non.{Sections, placed, sections_of}
@@ -59,6 +61,18 @@ abbrev pub SayClues : List ℕ → List (List ℕ) → List ℕ → Type 0
 SayClues bytes clues rest = (number : ℕ) → (found : List Line)
     × (numbered_from number (raw_lines bytes) ≡ found ++ numbered_from (number + length clues) (raw_lines rest))
     × AreClueLines found clues
+
+-- the clues of the section that a keyword opens, if it opens one
+abbrev pub clues_under : Under → List (List ℕ) → List (List ℕ) → List (List ℕ)
+clues_under Rows rows columns = rows
+clues_under Columns rows columns = columns
+clues_under Other rows columns = []
+
+-- the section that a keyword opens had no clues, and the others are as they were
+abbrev pub KeepsOthers : Under → List (List ℕ) → List (List ℕ) → List (List ℕ) → List (List ℕ) → Type 0
+KeepsOthers Rows rows columns new_rows new_columns = (length rows ≡ 0) × (new_columns ≡ columns)
+KeepsOthers Columns rows columns new_rows new_columns = (length columns ≡ 0) × (new_rows ≡ rows)
+KeepsOthers Other rows columns new_rows new_columns = (new_rows ≡ rows) × (new_columns ≡ columns)
 
 -- the first line says these sizes, and `rest` has the lines below it
 abbrev pub SaysSizes : List ℕ → ℕ × ℕ → List ℕ → Type 0

@@ -1,5 +1,5 @@
 -- `write_starts`: run by run, the outermost of its ends in whole placings tells its start.
-use Rattle.std.proofs.Common.{◌≡◌, ◌+◌, ◌-◌, ◌<◌, ℕ, List, map, get_or, subst, refl, sym, ◌∙◌, arith}
+use Rattle.std.proofs.Common.{◌≡◌, ◌+◌, ◌-◌, ◌<◌, ℕ, List, map, get_or, length-set, subst, refl, sym, ◌∙◌, arith}
 use Rattle.std.proofs.lemmas.Bool.{eqb-true}
 use Rattle.std.proofs.lemmas.List.Elements.{recursion_from_All}
 use Rattle.std.proofs.lemmas.Nat.Bits.{bit_at-zero}
@@ -17,6 +17,7 @@ loop-j-init g c = record {
   pass = c.new-pass.ensures g.line
       (map g.W.PlaceSet.number c.windows_within-windows.result) c.requires.1.1.0 c.windows_within-windows.ensures;
   starts = λ k h. absurd (omega arith);
+  len = refl;
 }
 
 pub step-ends-requires : goal.step-ends-requires
@@ -60,13 +61,14 @@ loop-j-preserved g c =
           (number new.opening) (number new.gap)) clue j (get_or clue j 0) refl
           (c.step-ends.ensures.passed line (behind 0 clue j) invariant.pass);
       starts =
-          outer_more c.args.side line clue c.loop-j.list j (number c.whole_ends-whole.result) place.result
+          outer_more c.args.side line clue c.loop-j.list.starts j (number c.whole_ends-whole.result) place.result
           (place.result + 1 - get_or clue j 0)
           (omega arith) c.whole_ends-whole.ensures place.ensures.in_mask place.ensures.outermost refl invariant.starts;
+      len = length-set c.loop-j.list.starts j (place.result + 1 - get_or clue j 0) ∙ invariant.len;
     }
 
-pub returns-then-is_empty : goal.returns-then-is_empty
-returns-then-is_empty g c = λ p.
+pub returns-then-is_empty-clause-starts : goal.returns-then-is_empty-clause-starts
+returns-then-is_empty-clause-starts g c = λ p.
     let number = g.W.PlaceSet.number in
     let clue = c.args.clue.now in
     let pos : ArePositive clue = recursion_from_All (λ (n : ℕ). 0 < n) clue c.requires.1.1.1.0.positive in

@@ -1,5 +1,5 @@
 -- What the loop of `write_starts` keeps: the pass over the runs so far, and their outermost starts.
-use Rattle.std.proofs.Common.{ℕ, ◌<◌, get_or, map}
+use Rattle.std.proofs.Common.{◌≡◌, ℕ, ◌<◌, get_or, length, map}
 use Rattle.line_core.specs.steps.Reach.{behind}
 use Rattle.line_core.specs.steps.Passes.{IsPassOver}
 use Rattle.line_core.specs.steps.Outermost.{IsOuterStart}
@@ -15,5 +15,6 @@ abbrev pub invariant-loop-j : goal.invariant-loop-j
 invariant-loop-j g l = record {
   pass : IsPassOver g.W.PlaceSet.WIDTH g.W.PlaceSet.TOP g.line (behind 0 l.clue l.j) (g.W.PlaceSet.number l.pass.free)
       (map g.W.PlaceSet.number l.windows) (g.W.PlaceSet.number l.pass.opening) (g.W.PlaceSet.number l.pass.gap);
-  starts : (k : ℕ) → k < l.j → IsOuterStart l.side g.line l.clue k (get_or l.list k 0);
+  starts : (k : ℕ) → k < l.j → IsOuterStart l.side g.line l.clue k (get_or l.list.starts k 0);
+  len : length l.list.starts ≡ length l.fn.list.starts;
 }

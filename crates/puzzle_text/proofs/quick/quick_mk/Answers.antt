@@ -1,7 +1,7 @@
 -- `quick_mk`: what the size line, the rows, the line `#` and the columns say, the text says.
-use Rattle.std.proofs.Common.{None, Ok, ap, arith, rules, sym, ◌∙◌}
+use Rattle.std.proofs.Common.{Ok, ap, arith, rules, sym, ◌∙◌}
 use Rattle.grid_core.specs.Nonogram.{Nonogram}
-use Rattle.puzzle_text.proofs.UsualReads.{mk_said, of_parts}
+use Rattle.puzzle_text.proofs.UsualReads.{mk_said}
 use Rattle.puzzle_text.proofs.quick.quick_mk.Goals as goal
 
 pub returns-clause-answer : goal.returns-clause-answer
@@ -11,5 +11,4 @@ returns-clause-answer c =
     c.in_ok-height.width c.in_ok-height.height c.in_ok-rows.rows.items c.in_ok-columns.columns.items (omega arith) c.in_ok-height.ensures
     c.in_ok-rows.ensures.clues c.in_ok-hash_line.ensures c.in_ok-columns.ensures.clues (search rules) c.in_ok-rows.ensures.count
     c.in_ok-columns.ensures.count in
-    said ∙ ap (λ (p : Nonogram). Ok p) (sym (c.puzzle_from_parts.ensures ∙ ap (of_parts c.in_ok-height.width c.in_ok-height.height
-    c.in_ok-rows.rows.items c.in_ok-columns.columns.items None) c.none.ensures))
+    said ∙ ap (λ (p : Nonogram). Ok p) (sym (rw c.none.ensures at c.puzzle_from_parts.ensures))

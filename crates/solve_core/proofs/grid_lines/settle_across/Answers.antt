@@ -1,5 +1,5 @@
 -- `settle_across`: a change is met once, so its line was as before; with no change left, the grid has the line.
-use Rattle.std.proofs.Common.{rules, ◌≡◌, ◌≢◌, ◌∙◌, refl, ◌+◌, ◌*◌, ◌<◌, ◌≤◌, ◌++◌, ◌∷◌, ℕ, false, inl, inr, subst, List, [], length, get_or, set, sym, ap, arith, length-append, length-set, get_or-set_same, get_or-set_other, true≢false}
+use Rattle.std.proofs.Common.{rules, ◌≡◌, ◌≢◌, ◌∙◌, refl, ◌+◌, ◌*◌, ◌<◌, ◌≤◌, ◌++◌, ◌∷◌, ℕ, false, inl, inr, subst, List, [], length, get_or, set, sym, ap, arith, length-append, get_or-set_same, get_or-set_other, true≢false}
 use Rattle.std.proofs.lemmas.Bool.{cases_eq, eqb-true}
 use Rattle.grid_core.specs.declared.cells.Cell.{Cell}
 use Rattle.grid_core.specs.declared.cells.Cell.TheVariants.{Unknown}
@@ -56,6 +56,21 @@ goes_on b first step n m left next k new trail more is has marked e before =
           (e ∙ ap (λ (p : ℕ). trail ++ p ∷ []) (sym place))),
     )
 
+-- with no change left the line is written
+ends : (b : TrailedGrid) (first step n m left : ℕ) (new : List Cell) (trail : List ℕ) → IsLearning b first step n m new →
+    ((k : ℕ) → Has left k → ⊥) →
+    (cells : List Cell) × IsPartly (places_from first step n) b.cells cells new left × IsTrailed b (record b { cells = cells; trail = trail })
+    → IsTrailed b (record b { cells = with_cells b.cells (places_from first step n) new; trail = trail })
+ends b first step n m left new trail is none end =
+    let places = places_from first step n in
+    subst (λ (cells : List Cell). IsTrailed b (record b { cells = cells; trail = trail }))
+    (partly-end places b.cells end.0 new left (distinct_from first step n is.apart) (below_from first step n (length b.cells) is.within)
+    (sym (length-Extends (cells_at Unknown b.cells places) new is.more) ∙ length-cells_at Unknown b.cells places) none end.1)
+    end.2
+
+one_more : (trail more : List ℕ) (p : ℕ) → more ≡ trail ++ p ∷ [] → length more ≡ length trail + 1
+one_more trail more p e = ap length e ∙ length-append trail (p ∷ [])
+
 -- what is left when a place was taken away is elsewhere
 stays : (left next k : ℕ) → IsMaskOf (IsMarked (Has left) k false) next → (j : ℕ) → Has next j → Has left j × (j ≢ k)
 stays left next k marked j h = elim (marked.to j h) [ inl kept ↦ kept | inr gone ↦ absurd (true≢false (sym gone.1)) ]
@@ -65,19 +80,14 @@ after_first : (k j : ℕ) → k ≤ j → j ≢ k → k < j
 after_first k j least other = elim (cases_eq j k) [ inl same ↦ absurd (other same) | inr apart ↦ omega (arith, least, apart) ]
 
 pub loop-left-init : goal.loop-left-init
-loop-left-init g c =
-    let m = g.W.PlaceSet.number c.args.changes in
-    record {
-      inside = λ k h. h;
-      as_old = λ k h. refl;
-      as_new = λ k n h. absurd (n h);
-      others = λ k n. refl;
-      len = refl;
-      trail = λ b n is e. begins b c.args.first c.args.step n m c.args.new.now c.args.trail.now.items is e;
-      room = λ k h. omega arith;
-      few = omega arith;
-      capacity = refl;
-    }
+loop-left-init g c = record {
+  inside = λ k h. h;
+  as_old = λ k h. refl;
+  as_new = λ k h n. absurd {A = get_or c.args.lines.now k [] ≡ set (get_or c.args.lines.now k []) c.args.i (get_or c.args.new.now k Unknown)} (n h);
+  trail = λ b n is e. begins b c.args.first c.args.step n (g.W.PlaceSet.number c.args.changes) c.args.new.now c.args.trail.now.items is e;
+  room = λ k h. omega arith;
+  capacity = refl;
+}
 
 pub offset_bounds-lines-from : goal.offset_bounds-lines-from
 offset_bounds-lines-from g c =
@@ -85,6 +95,35 @@ offset_bounds-lines-from g c =
     let line = (c.requires.changes c.first_place-k.result (before.inside c.first_place-k.result c.first_place-k.ensures.in_mask)).line in
     let here : c.from.result < length c.args.lines.now = omega (arith, c.from.ensures, line) in
     search rules
+
+pub get-requires : goal.get-requires
+get-requires g c = (c.requires.changes c.first_place-k.result (c.loop-left.invariant.inside c.first_place-k.result c.first_place-k.ensures.in_mask)).cell
+
+pub settle-requires : goal.settle-requires
+settle-requires g c =
+    let k = c.first_place-k.result in
+    let has = c.first_place-k.ensures.in_mask in
+    let can = c.requires.changes k (c.loop-left.invariant.inside k has) in
+    let within : c.from.result < length c.loop-left.lines = omega (arith, c.from.ensures, can.line, c.loop-left.auto.lines) in
+    let same : get_or c.loop-left.lines c.from.result c.index-lines-from.result ≡ get_or c.args.lines.now k [] =
+    line_read c.loop-left.lines c.from.result c.index-lines-from.result within ∙
+    ap (λ (j : ℕ). get_or c.loop-left.lines j []) c.from.ensures ∙ c.loop-left.invariant.as_old k (λ h. has) in
+    record { i = rw same can.within; unknown = rw same can.unknown; known = rw c.get.ensures can.known }
+
+pub overflow_mul-from : goal.overflow_mul-from
+overflow_mul-from g c =
+    let place = c.requires.places c.first_place-k.result (c.loop-left.invariant.inside c.first_place-k.result c.first_place-k.ensures.in_mask) in
+    rw c.from-in-loop-left.ensures (omega (arith, place))
+
+pub overflow_add-first : goal.overflow_add-first
+overflow_add-first g c =
+    let place = c.requires.places c.first_place-k.result (c.loop-left.invariant.inside c.first_place-k.result c.first_place-k.ensures.in_mask) in
+    rw c.from-in-loop-left.ensures (omega (arith, place))
+
+pub overflow_cast-first : goal.overflow_cast-first
+overflow_cast-first g c =
+    let place = c.requires.places c.first_place-k.result (c.loop-left.invariant.inside c.first_place-k.result c.first_place-k.ensures.in_mask) in
+    rw c.from-in-loop-left.ensures (omega (arith, place))
 
 pub push_reserved-requires : goal.push_reserved-requires
 push_reserved-requires g c =
@@ -108,13 +147,12 @@ loop-left-smaller g c =
       c.loop-left.invariant.room c.first_place-k.result c.first_place-k.ensures.in_mask,
       c.first_place-k.ensures.within,
       most,
-      ap length c.push_reserved.ensures.items,
-      length-append c.loop-left.trail.items ((c.args.first + c.from-in-loop-left.result * c.args.step) ∷ []),
+      one_more c.loop-left.trail.items c.push_reserved.new.self.items (c.args.first + c.from-in-loop-left.result * c.args.step)
+          c.push_reserved.ensures.items,
     )
 
 pub loop-left-preserved : goal.loop-left-preserved
 loop-left-preserved g c =
-    let most = width_most g.W.PlaceSet.WIDTH g.W.PlaceSet.TOP g.met.W.PlaceSet.top_is.1 g.met.W.PlaceSet.width_is in
     let before = c.loop-left.invariant in
     let lines = c.loop-left.lines in
     let left = g.W.PlaceSet.number c.loop-left.left in
@@ -124,26 +162,22 @@ loop-left-preserved g c =
     let has = c.first_place-k.ensures.in_mask in
     let marked = c.marked-left.ensures in
     let line = (c.requires.changes k (before.inside k has)).line in
-    let within : at < length lines = omega (arith, c.from.ensures, line, before.len) in
+    let within : at < length lines = omega (arith, c.from.ensures, line, c.loop-left.auto.lines) in
     let settled = c.settle.new.self in
-    let longer : length c.push_reserved.new.self.items ≡ length c.loop-left.trail.items + 1 =
-    ap length c.push_reserved.ensures.items ∙
-    length-append c.loop-left.trail.items ((c.args.first + c.from-in-loop-left.result * c.args.step) ∷ []) in
-    let here : length c.loop-left.trail.items ≤ length c.args.trail.now.items + k = before.room k has in
+    let longer = one_more c.loop-left.trail.items c.push_reserved.new.self.items (c.args.first + c.from-in-loop-left.result * c.args.step)
+    c.push_reserved.ensures.items in
     let elsewhere = λ (j : ℕ) (other : j ≢ k). get_or-set_other lines at j settled [] (λ e. other (e ∙ c.from.ensures)) in
     record {
       inside = λ j h. before.inside j (stays left next k marked j h).0;
-      as_old = λ j h. elsewhere j (stays left next k marked j h).1 ∙ before.as_old j (stays left next k marked j h).0;
-      as_new = λ j n h. elim (cases_eq j k) [
+      as_old = λ j h. elsewhere j (λ e. (stays left next k marked j (h (rw e (before.inside k has)))).1 e) ∙ before.as_old j (λ l. (stays left next k marked j (h l)).0);
+      as_new = λ j h n. elim (cases_eq j k) [
         | inl own ↦ rw own (
             ap (λ (p : ℕ). get_or (set lines at settled) p []) (sym c.from.ensures) ∙ get_or-set_same lines at settled [] within ∙
             c.settle.ensures ∙ (λ i. set (line_read lines at c.index-lines-from.result within i) c.args.i (c.get.ensures i)) ∙
             ap (λ (p : ℕ). set (get_or lines p []) c.args.i (get_or c.args.new.now k Unknown)) c.from.ensures ∙
-            ap (λ (line : List Cell). set line c.args.i (get_or c.args.new.now k Unknown)) (before.as_old k has))
-        | inr other ↦ elsewhere j other ∙ before.as_new j (λ l. n (marked.from j (inl (l, other)))) h
+            ap (λ (line : List Cell). set line c.args.i (get_or c.args.new.now k Unknown)) (before.as_old k (λ l. has)))
+        | inr other ↦ elsewhere j other ∙ before.as_new j h (λ l. n (marked.from j (inl (l, other))))
       ];
-      others = λ j n. elsewhere j (λ e. n (rw e (before.inside k has))) ∙ before.others j n;
-      len = length-set lines at settled ∙ before.len;
       trail = λ b n is e.
           goes_on b c.args.first c.args.step n (g.W.PlaceSet.number c.args.changes) left next k c.args.new.now c.loop-left.trail.items
           c.push_reserved.new.self.items is has marked
@@ -152,20 +186,20 @@ loop-left-preserved g c =
           (before.trail b n is e);
       room = λ j h.
           let later : k < j = after_first k j (c.first_place-k.ensures.least j (stays left next k marked j h).0) (stays left next k marked j h).1 in
-          omega (arith, longer, here, later);
-      few = omega (arith, longer, here, c.first_place-k.ensures.within, most);
+          omega (arith, longer, before.room k has, later);
       capacity = c.push_reserved.ensures.capacity ∙ before.capacity;
     }
 
-pub returns-clause-trail : goal.returns-clause-trail
-returns-clause-trail g c = λ b n is e.
-    let places = places_from c.args.first c.args.step n in
+pub returns : goal.returns
+returns g c =
     let m = g.W.PlaceSet.number c.loop-left.left in
-    let empty : m ≡ 0 = eqb-true m 0 (sym c.is_empty.ensures ∙ c.loop-left-test.false) in
-    let end = c.loop-left.invariant.trail b n is e in
-    let written : end.0 ≡ with_cells b.cells places c.args.new.now =
-    partly-end places b.cells end.0 c.args.new.now m (distinct_from c.args.first c.args.step n is.apart)
-    (below_from c.args.first c.args.step n (length b.cells) is.within)
-    (sym (length-Extends (cells_at Unknown b.cells places) c.args.new.now is.more) ∙ length-cells_at Unknown b.cells places)
-    (none_in m empty) end.1 in
-    subst (λ (cells : List Cell). IsTrailed b (record b { cells = cells; trail = c.loop-left.trail.items })) written end.2
+    let none = none_in m (eqb-true m 0 (sym c.is_empty.ensures ∙ c.loop-left-test.false)) in
+    let end = c.loop-left.invariant in
+    record {
+      changed = λ k has. end.as_new k has (none k);
+      others = λ k no. end.as_old k (λ h. absurd {A = Has m k} (no h));
+      len = c.loop-left.auto.lines;
+      trail = λ b n is e. ends b c.args.first c.args.step n (g.W.PlaceSet.number c.args.changes) m c.args.new.now c.loop-left.trail.items is none
+          (end.trail b n is e);
+      capacity = end.capacity;
+    }

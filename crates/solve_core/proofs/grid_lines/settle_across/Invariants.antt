@@ -16,16 +16,13 @@ invariant-loop-left g l =
     let left = g.W.PlaceSet.number l.left in
     record {
       inside : (k : ℕ) → Has left k → Has changes k;
-      as_old : (k : ℕ) → Has left k → get_or l.lines k [] ≡ get_or l.fn.lines k [];
-      as_new : (k : ℕ) → (Has left k → ⊥) → Has changes k →
+      as_old : (k : ℕ) → (Has changes k → Has left k) → get_or l.lines k [] ≡ get_or l.fn.lines k [];
+      as_new : (k : ℕ) → Has changes k → (Has left k → ⊥) →
           get_or l.lines k [] ≡ set (get_or l.fn.lines k []) l.i (get_or l.new k Unknown);
-      others : (k : ℕ) → (Has changes k → ⊥) → get_or l.lines k [] ≡ get_or l.fn.lines k [];
-      len : length l.lines ≡ length l.fn.lines;
       trail : (b : TrailedGrid) (n : ℕ) → IsLearning b l.first l.step n changes l.new → l.fn.trail.items ≡ b.trail →
           (cells : List Cell) × IsPartly (places_from l.first l.step n) b.cells cells l.new left ×
           IsTrailed b (record b { cells = cells; trail = l.trail.items });
       room : (k : ℕ) → Has left k → length l.trail.items ≤ length l.fn.trail.items + k;
-      few : length l.trail.items ≤ length l.fn.trail.items + 256;
       capacity : vec_capacity l.trail ≡ vec_capacity l.fn.trail;
     }
 

@@ -1,10 +1,8 @@
 -- What the loop of `write_across` keeps: the columns passed have the row's cell, the others are as they were.
-use Rattle.std.proofs.Common.{◌≡◌, ◌<◌, ◌≤◌, ℕ, [], get_or, set}
+use Rattle.std.proofs.Common.{ℕ, [], get_or, set}
 use Rattle.grid_core.specs.declared.cells.Cell.TheVariants.{Unknown}
+use Rattle.solve_core.proofs.GridLineSteps.{IsWrittenTo}
 use Rattle.solve_core.proofs.grid_lines.write_across.Given as goal
 
 abbrev pub invariant-loop-x : goal.invariant-loop-x
-invariant-loop-x g l = record {
-  written : (k : ℕ) → k < l.x → get_or l.columns k [] ≡ set (get_or l.fn.columns k []) l.y (get_or l.row k Unknown);
-  left : (k : ℕ) → l.x ≤ k → get_or l.columns k [] ≡ get_or l.fn.columns k [];
-}
+invariant-loop-x g l = IsWrittenTo l.fn.columns (λ (k : ℕ). set (get_or l.fn.columns k []) l.y (get_or l.row k Unknown)) l.x l.columns

@@ -1,0 +1,15 @@
+-- What the loop of `nth_with` keeps: the line is among those to come, at the place that is left.
+use Rattle.std.proofs.Common.{◌≡◌, length, map}
+use Rattle.std.specs.Prelude.{slice_get}
+use Rattle.std.specs.Str.{str_to_ascii_lowercase}
+use Rattle.puzzle_text.specs.Keywords.{with_keyword}
+use Rattle.puzzle_text.specs.steps.Shown.{shown_keyword}
+use Rattle.puzzle_text.proofs.keywords.nth_with.Given as goal
+
+abbrev pub invariant-loop-rest : goal.invariant-loop-rest
+invariant-loop-rest l =
+    slice_get (with_keyword (str_to_ascii_lowercase l.word) (map shown_keyword l.rest)) l.left
+    ≡ slice_get (with_keyword (str_to_ascii_lowercase l.word) (map shown_keyword l.lines)) l.place
+
+abbrev pub decreases-loop-rest : goal.decreases-loop-rest
+decreases-loop-rest l = length l.rest
