@@ -2,12 +2,13 @@
 
 ghost use Rattle.std.specs.Prelude.{◌≡◌, ◌≢◌, ◌≤◌, IfOk, IfSome, map, string_bytes, codes};
 ghost use Rattle.clap.specs.Walk.{one_of, rows_of};
+ghost use Rattle.clap.specs.Simple.{App};
 ghost use Rattle.clap.specs.Words.{found_of, kind_of, subcommand_rows_of};
 ghost use Rattle.clap.specs.declared.error.kind.ErrorKind.TheVariants.{OutOfMemory};
 ghost use Rattle.command_line.specs.declared.command.CommandFault.TheVariants.{NoMemory as command_memory, Words as refused_words};
 ghost use Rattle.command_line.specs.Ranges.{HasSettingsInRange};
 ghost use Rattle.command_line.specs.Words.{AreSettingsIn, Asks, AsksIn, AsksSurvey, IsNumberIn, WordsAsk, command_app, convert_app, converting_app, file_rule, files_rule, grading_app, grading_rules, guesses_rule, lanes_rule, lines_app, pick_of_word, pick_rule, program_app, progress_rule, ring_rule, show_rule, solve_app, survey_app, text_in, texts_in, to_rule};
-ghost use Rattle.command_line.specs.steps.Words.{IsArgument, IsCommand};
+ghost use Rattle.command_line.specs.steps.Words.{IsArgument, IsCommand, bare_app};
 
 use clap::error::ErrorKind;
 use clap::{Arg, ArgAction, ArgMatches, Command, Error, value_parser};
@@ -227,6 +228,13 @@ fn file_words<'a>(alloc: Global) -> Arg<'a>
         .action(ArgAction::Append)
 }
 
+/// A command with what its help says of it.
+fn described<'a>(command: Command<'a>, about: &'a str, help: &'a str, usage: &'a str) -> Command<'a>
+    ensures { (app : App) → IsCommand app command.entry → IsCommand app result }
+{
+    command.about(about).after_help(help).override_usage(usage)
+}
+
 /// The command `survey` with the options that say how entries are graded, with the words of the rules for
 /// guesses.
 fn grading_command<'a>(alloc: Global, picks: &'a [&'a str]) -> Result<Command<'a>, AllocError>
@@ -243,10 +251,9 @@ fn grading_command<'a>(alloc: Global, picks: &'a [&'a str]) -> Result<Command<'a
 fn survey_command<'a>(alloc: Global, picks: &'a [&'a str]) -> Result<Command<'a>, AllocError>
     ensures { IfOk result (IsCommand (survey_app picks.entry)) }
 {
-    grading_command(alloc, picks)?
-        .about("Grade the puzzles of a collection")
-        .after_help(SURVEY_HELP)
-        .override_usage("nonograde survey [OPTIONS] [FILE]...")
+    let about = "Grade the puzzles of a collection";
+    let usage = "nonograde survey [OPTIONS] [FILE]...";
+    described(grading_command(alloc, picks)?, about, SURVEY_HELP, usage)
         .arg(show_option(alloc))?
         .arg(progress_option(alloc))?
         .arg(file_words(alloc))
@@ -256,23 +263,25 @@ fn survey_command<'a>(alloc: Global, picks: &'a [&'a str]) -> Result<Command<'a>
 fn solve_command<'a>(alloc: Global, picks: &'a [&'a str]) -> Result<Command<'a>, AllocError>
     ensures { IfOk result (IsCommand (solve_app picks.entry)) }
 {
-    Command::new(alloc, "solve")
-        .about("Solve a puzzle")
-        .after_help(SOLVE_HELP)
-        .override_usage("nonograde solve [OPTIONS] <FILE>")
-        .arg(guesses_option(alloc))?
-        .arg(pick_option(alloc, picks))?
-        .arg(file_word(alloc))
+    let usage = "nonograde solve [OPTIONS] <FILE>";
+    described(
+        Command::new(alloc, "solve"),
+        "Solve a puzzle",
+        SOLVE_HELP,
+        usage,
+    )
+    .arg(guesses_option(alloc))?
+    .arg(pick_option(alloc, picks))?
+    .arg(file_word(alloc))
 }
 
 /// The command `convert`, with the words of the formats.
 fn convert_command<'a>(alloc: Global, formats: &'a [&'a str]) -> Result<Command<'a>, AllocError>
     ensures { IfOk result (IsCommand (convert_app formats.entry)) }
 {
-    Command::new(alloc, "convert")
-        .about("Write a puzzle in another format")
-        .after_help(CONVERT_HELP)
-        .override_usage("nonograde convert --to <FORMAT> <FILE>")
+    let about = "Write a puzzle in another format";
+    let usage = "nonograde convert --to <FORMAT> <FILE>";
+    described(Command::new(alloc, "convert"), about, CONVERT_HELP, usage)
         .arg(to_option(alloc, formats))?
         .arg(file_word(alloc))
 }
@@ -281,16 +290,19 @@ fn convert_command<'a>(alloc: Global, formats: &'a [&'a str]) -> Result<Command<
 fn lines_command<'a>(alloc: Global) -> Result<Command<'a>, AllocError>
     ensures { IfOk result (IsCommand lines_app) }
 {
-    Command::new(alloc, "lines")
-        .about("Close a puzzle by line logic")
-        .after_help(LINES_HELP)
-        .override_usage("nonograde lines <FILE>")
-        .arg(file_word(alloc))
+    let about = "Close a puzzle by line logic";
+    described(
+        Command::new(alloc, "lines"),
+        about,
+        LINES_HELP,
+        "nonograde lines <FILE>",
+    )
+    .arg(file_word(alloc))
 }
 
-/// The program with the commands that grade puzzles, with the words of the rules for guesses.
-fn grading_program<'a>(alloc: Global, picks: &'a [&'a str]) -> Result<Command<'a>, AllocError>
-    ensures { IfOk result (IsCommand (grading_app picks.entry)) }
+/// The program with no command.
+fn bare_program<'a>(alloc: Global) -> Command<'a>
+    ensures { IsCommand bare_app result }
 {
     Command::new(alloc, "nonograde")
         .about("Solves and grades nonograms")
@@ -298,6 +310,13 @@ fn grading_program<'a>(alloc: Global, picks: &'a [&'a str]) -> Result<Command<'a
         .no_binary_name(true)
         .arg_required_else_help(true)
         .subcommand_required(true)
+}
+
+/// The program with the commands that grade puzzles, with the words of the rules for guesses.
+fn grading_program<'a>(alloc: Global, picks: &'a [&'a str]) -> Result<Command<'a>, AllocError>
+    ensures { IfOk result (IsCommand (grading_app picks.entry)) }
+{
+    bare_program(alloc)
         .subcommand(survey_command(alloc, picks)?)?
         .subcommand(solve_command(alloc, picks)?)
 }

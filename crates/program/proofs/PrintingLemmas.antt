@@ -11,7 +11,7 @@ use Rattle.puzzle_text.specs.declared.faults.TextFault.TheVariants.{TooLong, NoS
 use Rattle.puzzle_text.specs.declared.formats.Format.{Format}
 use Rattle.survey_core.specs.Guessing.{guessing}
 use Rattle.survey_core.specs.Leaving.{LeavesAt, WritesSurvey}
-use Rattle.survey_core.specs.Survey.{survey_of_entries}
+use Rattle.survey_text.specs.Survey.{survey_of_entries}
 use Rattle.survey_core.specs.declared.faults.RunFault.{RunFault}
 use Rattle.survey_core.specs.declared.settings.Settings.{Settings}
 use Rattle.reports.specs.Converting.{GivesConverted, converted}

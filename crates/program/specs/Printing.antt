@@ -7,11 +7,11 @@ use Rattle.puzzle_text.specs.declared.faults.EntryFault.TheVariants.{Text}
 use Rattle.puzzle_text.specs.declared.faults.TextFault.TheVariants as text
 use Rattle.puzzle_text.specs.declared.formats.Format.{Format}
 use Rattle.solve_core.specs.declared.picks.Pick.{Pick}
-use Rattle.survey_core.specs.Counted.{fault_count}
+use Rattle.streams.specs.Counted.{fault_count}
 use Rattle.survey_core.specs.Guessing.{guessing}
 use Rattle.survey_core.specs.Leaving.{IsWrite, LeavesAt, WritesSurvey}
-use Rattle.survey_core.specs.Survey.{survey_of, survey_of_entries}
-use Rattle.survey_core.specs.declared.counted.Counted.{Counted}
+use Rattle.survey_text.specs.Survey.{survey_of, survey_of_entries}
+use Rattle.streams.specs.declared.counted.Counted.{Counted}
 use Rattle.survey_core.specs.declared.settings.Settings.{Settings}
 use Rattle.reports.specs.Converting.{converted}
 use Rattle.reports.specs.Reports.{lines_text, said, solve_text, text_or_fault}

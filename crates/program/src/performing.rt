@@ -2,9 +2,9 @@
 
 ghost use Rattle.std.specs.Prelude.{◌≡◌, ◌+◌, ◌-◌, ◌^◌, ◌<◌, ◌≤◌, ◌↔◌, ℕ, Err, IfErr, IsErr, IsErrOf, OnErr, OnOk, length, map, string_bytes, take};
 ghost use Rattle.std.specs.Io.KnownBytes.{Appends};
-ghost use Rattle.survey_core.specs.Counted.{fault_count};
+ghost use Rattle.streams.specs.Counted.{fault_count};
 ghost use Rattle.survey_core.specs.declared.faults.RunFault.TheVariants.{Read as reader_failed};
-ghost use Rattle.survey_core.specs.Reading.{ReadsWithin};
+ghost use Rattle.streams.specs.Reading.{ReadsWithin};
 ghost use Rattle.command_line.specs.Ranges.{HasSettingsInRange};
 ghost use Rattle.program.specs.Printing.{IsUnwritten, Performs, PrintsFile, PrintsFiles, PrintsInput, PrintsSurveyOf, convert_answer, lines_answer, solve_answer, stream};
 

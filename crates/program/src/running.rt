@@ -5,7 +5,7 @@ ghost use Rattle.std.specs.IoError.{error_kind};
 ghost use Rattle.std.specs.Io.KnownBytes.{Appends};
 ghost use Rattle.clap.specs.Words.{kind_of};
 ghost use Rattle.puzzle_text.specs.Words.{word_text};
-ghost use Rattle.survey_core.specs.Counted.{fault_count};
+ghost use Rattle.streams.specs.Counted.{fault_count};
 ghost use Rattle.command_line.specs.Ranges.{HasSettingsInRange};
 ghost use Rattle.program.specs.Printing.{IsUnwritten, Prints, stream};
 ghost use Rattle.program.specs.Stop.{stop_line};

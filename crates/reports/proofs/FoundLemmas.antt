@@ -1,5 +1,5 @@
 -- What is printed of an answer.
-use Rattle.std.proofs.Common.{◌≡◌, ◌∙◌, ℕ, true, List, ap, subst, Result, Ok, Err, IsOk}
+use Rattle.std.proofs.Common.{◌≡◌, ◌∙◌, ℕ, true, false, List, ap, subst, Result, Ok, Err, IsOk}
 use Rattle.std.specs.Prelude.{IfOk, OnOk, Vec}
 use Rattle.std.specs.declared.alloc.Global.{Global}
 use Rattle.grid_core.specs.Nonogram.{Nonogram}
@@ -8,12 +8,21 @@ use Rattle.lane_core.specs.Answers.{IsAnswerTo}
 use Rattle.lane_core.specs.Outcome.{IsOutcome}
 use Rattle.lane_core.specs.declared.answers.Answer.{Answer}
 use Rattle.lane_core.specs.declared.jobs.Job.{Job}
+use Rattle.solve_core.specs.Picks.{picked}
+use Rattle.solve_core.specs.Report.{report_of}
 use Rattle.solve_core.specs.declared.findings.Findings.{Findings}
 use Rattle.solve_core.specs.declared.picks.Pick.{Pick}
 use Rattle.puzzle_text.specs.declared.faults.EntryFault.{EntryFault}
-use Rattle.survey_core.proofs.ReadingLemmas.{found_is}
-use Rattle.survey_core.specs.Entries.{entry_text, found_of}
+use Rattle.survey_text.specs.Entries.{entry_text, found_of}
 use Rattle.reports.specs.Reports.{solve_text}
+
+-- what an answer found is the report on the puzzle, if it is one
+found_is : (limit : ℕ) (pick : Pick) (p q : Nonogram) (outcome : Result Findings NoMemory) → q ≡ p →
+    IsOutcome p limit pick outcome → IsOk outcome
+    → found_of q outcome ≡ Ok (p, report_of (picked pick p.width) p limit)
+found_is limit pick p q (Err refused) e is_outcome ok = let bad : false ≡ true = ok in cc
+found_is limit pick p q (Ok findings) e is_outcome ok =
+    ap (λ (r : Nonogram). found_of r (Ok findings)) e ∙ ap (λ (found : Findings). found_of p (Ok found)) is_outcome
 
 -- the text of an answer that has a report is that of its job's puzzle
 pub answer_printed : (name : List ℕ) (p : Nonogram) (limit : ℕ) (pick : Pick) (job : Job) (answer : Answer)
@@ -26,5 +35,5 @@ answer_printed name p limit pick job answer (Ok made) puzzle guesses rule answer
     let of_puzzle = subst (λ (q : Nonogram). IsOutcome q job.guesses job.pick answer.outcome) puzzle answers.outcome in
     let of_limit = subst (λ (limit' : ℕ). IsOutcome p limit' job.pick answer.outcome) guesses of_puzzle in
     let outcome = subst (λ (pick' : Pick). IsOutcome p limit pick' answer.outcome) rule of_limit in
-    let found = found_is (record { limit = limit; pick = pick }) p answer.puzzle answer.outcome (answers.puzzle ∙ puzzle) outcome ok in
+    let found = found_is limit pick p answer.puzzle answer.outcome (answers.puzzle ∙ puzzle) outcome ok in
     text ∙ ap (λ (found' : Result (Nonogram × Findings) EntryFault). entry_text true 1 (record { name = name; result = found' })) found

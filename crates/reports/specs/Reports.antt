@@ -12,9 +12,9 @@ use Rattle.puzzle_text.specs.Formats.{read_entry}
 use Rattle.puzzle_text.specs.declared.faults.EntryFault.{EntryFault}
 use Rattle.puzzle_text.specs.declared.faults.EntryFault.TheVariants.{Text}
 use Rattle.puzzle_text.specs.declared.faults.TextFault.TheVariants.{NoMemory}
-use Rattle.survey_core.specs.Entries.{entry_text}
-use Rattle.survey_core.specs.Grids.{grid_text}
-use Rattle.survey_core.specs.Survey.{reported}
+use Rattle.survey_text.specs.Entries.{entry_text}
+use Rattle.survey_text.specs.Grids.{grid_text}
+use Rattle.survey_text.specs.Survey.{reported}
 
 -- the word for a grid that is closed by lines and not dead: `one` if it is full, else `open`
 abbrev pub closed_word : PartialGrid → List ℕ

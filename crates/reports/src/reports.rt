@@ -13,7 +13,7 @@ use puzzle_text::{
 };
 use solve_core::{Pick, line_grid};
 use std::alloc::Global;
-use survey_core::{print_graded, push_grid};
+use survey_text::{print_graded, push_grid};
 
 /// Whether each cell of a grid is known.
 fn is_full(grid: &Grid) -> bool

@@ -1,12 +1,6 @@
--- Lemmas on surveys: entries read, jobs dealt and answered lane by lane, goals, totals, and texts.
-pub mod Front
+-- Lemmas on surveys: entries read and graded, jobs dealt and answered lane by lane, and progress.
 pub mod PartsLemmas
-pub mod NumberedLemmas
-pub mod PrintedLemmas
-pub mod PartLemmas
 pub mod ProgressLemmas
-pub mod TotalsLemmas
-pub mod GoalLemmas
 pub mod ReadingLemmas
 pub mod ListingLemmas
 pub mod SurveyLemmas

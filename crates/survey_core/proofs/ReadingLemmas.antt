@@ -1,13 +1,9 @@
 -- Entries that are read, and the answers beside them.
-use Rattle.std.proofs.Common.{◌≡◌, ℕ, suc, ◌+◌, ◌<◌, ◌≤◌, min, zero, List, [], ◌∷◌, ◌++◌, length, map, take, drop, get_or, cond, is_none, vec_len, IfOk, Option, None, Some, Result, Ok, Err, IsOk, false, true, sym, ap, subst, ◌∙◌, append-nil, append_assoc, arith}
+use Rattle.std.proofs.Common.{◌≡◌, ℕ, suc, ◌+◌, ◌<◌, ◌≤◌, min, zero, List, [], ◌∷◌, ◌++◌, length, map, take, drop, get_or, cond, is_none, vec_len, IfOk, Option, None, Some, Result, Ok, Err, sym, ap, subst, ◌∙◌, append-nil, append_assoc, arith}
 use Rattle.std.proofs.Math.Seq.{take-add}
 use Rattle.std.proofs.lemmas.List.{drop-drop, drop_all, drop_at, length-append, length-map, map-append, map_more, take_all, take_at}
 use Rattle.std.proofs.lemmas.List.Sums.{sum_by-append}
 use Rattle.grid_core.specs.Nonogram.{Nonogram}
-use Rattle.grid_core.specs.declared.memory.NoMemory.{NoMemory}
-use Rattle.solve_core.specs.Picks.{picked}
-use Rattle.solve_core.specs.Report.{report_of}
-use Rattle.solve_core.specs.declared.findings.Findings.{Findings}
 use Rattle.solve_core.specs.declared.picks.Pick.{Pick}
 use Rattle.puzzle_text.specs.Shown.{shown_entry}
 use Rattle.puzzle_text.specs.declared.collections.Entry.{Entry}
@@ -17,13 +13,13 @@ use Rattle.lane_core.specs.Answers.{AreAnswersTo}
 use Rattle.lane_core.specs.Outcome.{IsOutcome}
 use Rattle.lane_core.specs.declared.answers.Answer.{Answer}
 use Rattle.lane_core.specs.declared.jobs.Job.{Job}
-use Rattle.survey_core.proofs.NumberedLemmas.{made-more, numbered-append}
+use Rattle.survey_text.proofs.NumberedLemmas.{made-more, numbered-append}
+use Rattle.survey_text.specs.Entries.{GradedEntry}
+use Rattle.survey_text.specs.Listings.{answered}
+use Rattle.survey_text.specs.Survey.{Guessing, graded}
 use Rattle.survey_core.proofs.ListingLemmas.{listed_graded}
-use Rattle.survey_core.specs.Entries.{GradedEntry, found_of}
-use Rattle.survey_core.specs.Guessing.{Guessing, guessing}
+use Rattle.survey_core.specs.Guessing.{guessing}
 use Rattle.survey_core.specs.steps.Graded.{AreAnswersAt, AreGraded, graded_of, puzzle_count}
-use Rattle.survey_core.specs.steps.Listings.{answered}
-use Rattle.survey_core.specs.Survey.{graded}
 use Rattle.survey_core.specs.steps.Readings.{IsReadingOf, NumberedPuzzle, fault_of, job_of, jobs_from, reading, readings, shown_job}
 use Rattle.survey_core.specs.declared.grading.Printing.{Printing}
 use Rattle.survey_core.specs.declared.readings.Readings.{Readings}
@@ -222,11 +218,3 @@ all_answered printing entries few faults graded_so =
       answers = subst (λ (all : List Entry). AreGraded (guessing printing.settings.now) (readings all) printing.answers.now) (sym whole)
           graded_so;
     }
-
--- what an answer found is the report on the puzzle, if it is one
-pub found_is : (guesses : Guessing) (p q : Nonogram) (outcome : Result Findings NoMemory) → q ≡ p →
-    IsOutcome p guesses.limit guesses.pick outcome → IsOk outcome
-    → found_of q outcome ≡ Ok (p, report_of (picked guesses.pick p.width) p guesses.limit)
-found_is guesses p q (Err refused) e is_outcome ok = let bad : false ≡ true = ok in cc
-found_is guesses p q (Ok findings) e is_outcome ok =
-    ap (λ (r : Nonogram). found_of r (Ok findings)) e ∙ ap (λ (found : Findings). found_of p (Ok found)) is_outcome

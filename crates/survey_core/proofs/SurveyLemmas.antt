@@ -5,9 +5,8 @@ use Rattle.std.specs.Io.KnownBytes.{Consumes, IsAtEnd}
 use Rattle.std.proofs.KnownBytes.{Consumes-whole}
 use Rattle.puzzle_text.specs.Collections.{Entry, cut}
 use Rattle.puzzle_text.specs.declared.faults.CollectionFault.{CollectionFault}
-use Rattle.survey_core.specs.Guessing.{Guessing}
+use Rattle.survey_text.specs.Survey.{Guessing, survey_of, survey_of_list, survey_or_fault}
 use Rattle.survey_core.specs.Leaving.{Leaves}
-use Rattle.survey_core.specs.Survey.{survey_of, survey_of_list, survey_or_fault}
 use Rattle.survey_core.specs.declared.faults.RunFault.{RunFault}
 
 -- a number that isn't greater than a limit is at most that limit

@@ -4,24 +4,22 @@
 ghost use Rattle.std.specs.Prelude.{◌≡◌, ◌≤◌, ◌+◌, ◌++◌, ℕ, List, length, map, IfOk};
 ghost use Rattle.puzzle_text.specs.Shown.{shown_entry};
 ghost use Rattle.puzzle_text.specs.declared.collections.Entry.{Entry};
+ghost use Rattle.survey_text.specs.Parts.{AreParts, text_of};
+ghost use Rattle.survey_text.specs.Survey.{survey_of_list};
 ghost use Rattle.survey_core.specs.Guessing.{guessing};
 ghost use Rattle.survey_core.specs.steps.Graded.{AreAnswersAt, graded_of, puzzle_count};
-ghost use Rattle.survey_core.specs.steps.SurveyTexts.{AreParts, text_of};
-ghost use Rattle.survey_core.specs.Survey.{survey_of_list};
 
 use crate::Settings;
 use crate::collecting::{CollectFault, collect};
-use crate::listings::AnswerListing;
 use crate::parts::{Work, in_parts, parts_of};
-use crate::printing::Part;
 use crate::readings::{Readings, read_entries};
-use crate::texts::{Parts, SurveyText};
 use grid_core::NoMemory;
 use lane_core::{Answer, Gate};
 use puzzle_text::{Entry, EntryFault, MOST_ENTRIES};
 use std::alloc::Global;
 use std::sync::Wait;
 use std::thread::Threads;
+use survey_text::{AnswerListing, Parts, SurveyText};
 
 /// The printing of entries that were read, with the answers to the puzzles among them.
 #[derive(Drop)]
@@ -49,8 +47,7 @@ impl<'s, 'e> Work<Entry<'e>> for Printing<'s> {
             faults,
             answers,
         };
-        let part = Part::of(self.alloc, first as u32 + 1, listing, self.settings.show)?;
-        Ok(Parts::of(self.alloc, part))
+        Parts::of(self.alloc, first as u32 + 1, listing, self.settings.show)
     }
 
     fn both(&self, front: Parts, behind: Parts) -> Result<Parts, NoMemory>

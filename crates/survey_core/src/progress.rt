@@ -5,11 +5,11 @@ ghost use Rattle.std.specs.Io.KnownBytes.{Appends};
 ghost use Rattle.survey_core.specs.Progress.{HasTold, files_text, progress_line, progress_text};
 
 use crate::Counted;
-use crate::streams::write_text;
 use grid_core::NoMemory;
 use puzzle_text::{push_bytes, push_number};
 use std::alloc::Global;
 use std::io::Write;
+use streams::write_text;
 
 /// The bytes of the longest line: CR, four words with their spaces, and two numbers.
 const LONGEST_LINE: usize = 48;

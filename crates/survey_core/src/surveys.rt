@@ -4,13 +4,12 @@ ghost use Rattle.std.specs.Prelude.{◌≡◌, ◌+◌, ◌-◌, ◌^◌, ◌<�
 ghost use Rattle.std.specs.Io.KnownBytes.{IsAtEnd, Keeps};
 ghost use Rattle.puzzle_text.specs.Shown.{shown_entry};
 ghost use Rattle.survey_core.specs.Guessing.{guessing};
-ghost use Rattle.survey_core.specs.Counted.{fault_count};
-ghost use Rattle.survey_core.specs.Reading.{ReadsWithin};
+ghost use Rattle.streams.specs.Counted.{fault_count};
+ghost use Rattle.streams.specs.Reading.{ReadsWithin};
+ghost use Rattle.survey_text.specs.Survey.{survey_of, survey_of_entries, survey_of_list};
 ghost use Rattle.survey_core.specs.Leaving.{IsErrWrite, IsWrite, Leaves};
-ghost use Rattle.survey_core.specs.Survey.{survey_of, survey_of_entries, survey_of_list};
 
 use crate::grading::survey_text;
-use crate::streams::{ReadFault, read_collection};
 use crate::{Counted, RunFault, Settings};
 use lane_core::Gate;
 use puzzle_text::{CollectionFault, Entry, LONGEST_COLLECTION, MOST_ENTRIES, entries};
@@ -18,6 +17,7 @@ use std::alloc::Global;
 use std::io::{Read, Write};
 use std::sync::Wait;
 use std::thread::Threads;
+use streams::{ReadFault, read_within};
 
 /// Writes the survey of entries, graded over lanes.
 fn write_survey<H: Threads + Wait + Sync, W: Write, G: Gate + Sync>(
@@ -69,7 +69,7 @@ pub fn run_survey<H: Threads + Wait + Sync, R: Read, W: Write, G: Gate + Sync>(
     ensures write { IsErrWrite result ↔ (fault_count writer.old < fault_count writer.new) }
     ensures unwritten { IfErr result (λ fault. IsWrite fault ⊎ Keeps (W.contents writer.old.inner) (W.contents writer.new.inner)) }
 {
-    let collection = match read_collection(alloc, reader) {
+    let collection = match read_within(alloc, reader, LONGEST_COLLECTION + 1) {
         Ok(collection) => collection,
         Err(ReadFault::Read) => return Err(RunFault::Read),
         Err(ReadFault::NoMemory) => return Err(RunFault::NoMemory),

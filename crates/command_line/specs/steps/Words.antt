@@ -1,7 +1,7 @@
 -- Commands and arguments as `clap` keeps them.
-use Rattle.std.specs.Prelude.{◌≡◌, false}
+use Rattle.std.specs.Prelude.{◌≡◌, false, true, [], codes}
 use Rattle.clap.specs.Walk.{Rule, rule_of}
-use Rattle.clap.specs.Simple.{App, app_of}
+use Rattle.clap.specs.Simple.{App, app_of, new_app}
 use Rattle.clap.specs.declared.builder.arg.Arg.{Arg}
 use Rattle.clap.specs.declared.builder.command.Command.{Command}
 use Rattle.clap.specs.declared.builder.command.Command.TheViews.{out-Command}
@@ -15,3 +15,15 @@ pub record IsCommand (app : App) (command : Command) : Type 0 where
 pub record IsArgument (rule : Rule) (arg : Arg) : Type 0 where
   pub follows : rule_of arg ≡ rule
   pub local : arg.global ≡ false
+
+-- the program with no command
+abbrev pub bare_app : App
+bare_app = record {
+  top = record (new_app (codes "nonograde")).top {
+    no_binary_name = true;
+    has_version = true;
+    arg_required_else_help = true;
+    subcommand_required = true;
+  };
+  subs = [];
+}

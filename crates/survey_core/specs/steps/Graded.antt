@@ -7,9 +7,9 @@ use Rattle.lane_core.specs.declared.answers.Answer.{Answer}
 use Rattle.puzzle_text.specs.Shown.{shown_entry}
 use Rattle.puzzle_text.specs.declared.collections.Entry.{Entry}
 use Rattle.puzzle_text.specs.declared.limits.TheConstants.{MOST_ENTRIES}
-use Rattle.survey_core.specs.Entries.{GradedEntry}
-use Rattle.survey_core.specs.Guessing.{Guessing, guessing}
-use Rattle.survey_core.specs.Survey.{graded}
+use Rattle.survey_text.specs.Entries.{GradedEntry}
+use Rattle.survey_core.specs.Guessing.{guessing}
+use Rattle.survey_text.specs.Survey.{Guessing, graded}
 use Rattle.survey_core.specs.steps.Readings.{fault_of, readings}
 use Rattle.survey_core.specs.declared.grading.Printing.{Printing}
 

@@ -9,7 +9,7 @@ use Rattle.puzzle_text.specs.declared.collections.Entry.{Entry}
 use Rattle.puzzle_text.specs.declared.faults.EntryFault.{EntryFault}
 use Rattle.lane_core.specs.declared.jobs.Job.{Job}
 use Rattle.solve_core.specs.declared.picks.Pick.{Pick}
-use Rattle.survey_core.specs.Guessing.{Guessing}
+use Rattle.survey_text.specs.Survey.{Guessing}
 use Rattle.survey_core.specs.declared.readings.Readings.{Readings}
 
 -- what an entry says

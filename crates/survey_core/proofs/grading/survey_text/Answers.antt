@@ -5,7 +5,7 @@ use Rattle.puzzle_text.specs.Shown.{shown_entry}
 use Rattle.lane_core.specs.Answers.{AreAnswersTo}
 use Rattle.lane_core.specs.declared.answers.Answer.{Answer}
 use Rattle.survey_core.specs.Guessing.{guessing}
-use Rattle.survey_core.specs.Survey.{graded}
+use Rattle.survey_text.specs.Survey.{graded}
 use Rattle.survey_core.specs.steps.Readings.{readings}
 use Rattle.survey_core.proofs.ReadingLemmas.{all_answered, are_graded}
 use Rattle.survey_core.proofs.grading.survey_text.Goals as goal

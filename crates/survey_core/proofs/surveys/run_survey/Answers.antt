@@ -6,7 +6,7 @@ use Rattle.puzzle_text.specs.declared.limits.TheConstants.{LONGEST_COLLECTION}
 use Rattle.puzzle_text.specs.declared.collections.Entry.{Entry}
 use Rattle.survey_core.specs.Guessing.{guessing}
 use Rattle.survey_core.specs.Leaving.{Leaves}
-use Rattle.survey_core.specs.Survey.{survey_of_list}
+use Rattle.survey_text.specs.Survey.{survey_of_list}
 use Rattle.survey_core.proofs.SurveyLemmas.{at_most, survey_of_input}
 use Rattle.survey_core.proofs.surveys.run_survey.Goals as goal
 
@@ -22,8 +22,8 @@ returns-in-Ok-entries-clause-answer g c =
     let leaves = subst (λ (entries : List Entry). Leaves (Ok (survey_of_list guesses show (map shown_entry entries))) c.write_survey.result
     (g.W.Write.contents c.args.writer.now.inner) (g.W.Write.contents c.write_survey.new.writer.inner)) c.deref-in-Ok-entries.ensures.value
     c.write_survey.ensures.answer in
-    survey_of_input guesses show (g.R.Read.remaining c.args.reader.now.inner) (g.R.Read.remaining c.read_collection.new.reader.inner)
+    survey_of_input guesses show (g.R.Read.remaining c.args.reader.now.inner) (g.R.Read.remaining c.read_within.new.reader.inner)
     c.in-Ok.collection.items
     (map shown_entry c.in-Ok-entries.entries.items) c.write_survey.result (g.W.Write.contents c.args.writer.now.inner)
     (g.W.Write.contents c.write_survey.new.writer.inner)
-    c.in-Ok.ensures.bytes (c.in-Ok.ensures.whole short) pieces leaves
+    c.in-Ok.ensures.bytes (c.in-Ok.ensures.whole (omega (arith, short))) pieces leaves

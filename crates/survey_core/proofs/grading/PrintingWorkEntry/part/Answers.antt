@@ -1,29 +1,29 @@
 -- `part` of printing: what is listed are the entries, graded.
-use Rattle.std.proofs.Common.{rules, ◌≡◌, ◌+◌, List, drop, length, min, refl, subst, take, arith}
+use Rattle.std.proofs.Common.{rules, ◌≡◌, ◌+◌, List, drop, length, min, subst, take, arith}
 use Rattle.std.proofs.lemmas.Grind.{common_steps}
-use Rattle.survey_core.specs.Entries.{GradedEntry}
+use Rattle.std.proofs.lemmas.Result.{IfOk-weaker}
+use Rattle.survey_text.specs.Entries.{GradedEntry}
 use Rattle.survey_core.specs.steps.Graded.{puzzle_count}
-use Rattle.survey_core.specs.steps.SurveyTexts.{AreParts}
-use Rattle.survey_core.proofs.ListingLemmas.{few_answered}
+use Rattle.survey_text.specs.Parts.{AreParts}
+use Rattle.survey_text.proofs.ListingLemmas.{few_answered}
 use Rattle.survey_core.proofs.ReadingLemmas.{part_graded}
 use Rattle.survey_core.proofs.grading.PrintingWorkEntry.part.Goals as goal
 
 pub of-requires : goal.of-requires
-of-requires c = λ κs.
+of-requires c =
     let few = few_answered c.args.entries.now c.split_at.result.1.now c.split_at-2.result.1.now in
-    ((refl, tt), (omega (arith, few, c.requires), omega (arith, few, c.requires)))
+    record { numbers = omega (arith, few, c.requires); few = omega (arith, few, c.requires) }
 
 pub returns : goal.returns
-returns c = λ are.
+returns c =
     let printing = c.args.self.now in
-    let listed = c.in_ok-part.ensures in
     let before : c.split_at.result.0.now ≡ take (min c.args.first (length printing.faults.now)) printing.faults.now =
     first_of (search rules, grind (arith, common_steps)) in
     let faults : c.split_at.result.1.now ≡ drop (min c.args.first (length printing.faults.now)) printing.faults.now =
     first_of (search rules, grind (arith, common_steps)) in
     let answers : c.split_at-2.result.1.now ≡ drop (min (puzzle_count c.split_at.result.0.now) (length printing.answers.now)) printing.answers.now =
     first_of (search rules, grind (arith, common_steps)) in
-    subst (λ (all : List GradedEntry). AreParts printing.settings.now.show (c.args.first + 1) c.of-2.result all)
+    IfOk-weaker c.of.result _ _ (λ parts listed are.
+    subst (λ (all : List GradedEntry). AreParts printing.settings.now.show (c.args.first + 1) parts all)
     (part_graded printing c.args.first c.args.entries.now c.split_at.result.0.now c.split_at.result.1.now c.split_at-2.result.1.now listed.0 are
-    before faults answers listed.1)
-    (c.of-2.ensures printing.settings.now.show (c.args.first + 1) listed.0 listed.2)
+    before faults answers listed.1) listed.2) c.of.ensures

@@ -1,0 +1,8 @@
+-- `convert_command`: its rules are those of its arguments, one after the other.
+use Rattle.command_line.proofs.WordLemmas.{added, added_if_ok}
+use Rattle.command_line.proofs.command.convert_command.Goals as goal
+
+pub returns : goal.returns
+returns c =
+    let named = c.described.ensures _ (record { shape = c.new.ensures.app; local = c.new.ensures.local }) in
+    added_if_ok _ _ _ _ _ (added _ _ _ _ _ named c.to_option.ensures c.in_ok-arg.ensures) c.file_word.ensures c.arg-2.ensures

@@ -1,0 +1,87 @@
+-- What several writes of one text left.
+use Rattle.std.proofs.Common.{◌≡◌, ℕ, zero, suc, ◌+◌, ◌-◌, ◌<◌, ◌≤◌, List, [], ◌∷◌, ◌++◌, Vec, take, drop, get_or, length, ap, refl, subst, sym, ◌∙◌, append_assoc, append-nil, arith}
+use Rattle.std.proofs.lemmas.Grind.{common_steps}
+use Rattle.std.proofs.lemmas.List.{drop_at, length-append, take-append-le, take_all, take_at}
+use Rattle.std.proofs.Math.Seq.{take-add}
+use Rattle.std.specs.Prelude.{Option}
+use Rattle.std.specs.Io.KnownBytes.{Appends}
+use Rattle.std.specs.declared.alloc.Global.{Global}
+use Rattle.streams.specs.Writing.{SendsFront, joined}
+use Rattle.std.proofs.KnownBytes.{Appends-trans}
+
+-- the rest of a list from i on, as a range of it
+pub rest_of : {A : Type 0} (all : List A) (i : ℕ) → take (length all - i) (drop i all) ≡ drop i all
+rest_of all i = grind (arith, common_steps)
+
+-- a front, and then a front of the rest, is a front
+pub appends_front : (a b c : Option (List ℕ)) (all : List ℕ) (i n : ℕ) → Appends a b (take i all)
+    → Appends b c (take n (take (length all - i) (drop i all))) → Appends a c (take (i + n) all)
+appends_front a b c all i n first second =
+    let second' = subst (λ rest. Appends b c (take n rest)) (rest_of all i) second in
+    subst (Appends a c) (sym (take-add i n all)) (Appends-trans a b c _ _ first second')
+
+-- a front of a text behind another is a front of both, and of what follows
+pub sends_behind : (a b c : Option (List ℕ)) (before text after : List ℕ) (n : ℕ) → Appends a b before → n ≤ length text
+    → Appends b c (take n text) → Appends a c (take (length before + n) (before ++ (text ++ after)))
+sends_behind a b c before text after n first within second =
+    let all = before ++ (text ++ after) in
+    let front : take (length before + n) all ≡ before ++ take n text = take-add (length before) n all
+    ∙ ap (λ (xs : List ℕ). xs ++ take n (drop (length before) all)) (take_at before (text ++ after) (length before) refl)
+    ∙ ap (λ (xs : List ℕ). before ++ take n xs) (drop_at before (text ++ after) (length before) refl)
+    ∙ ap (λ (xs : List ℕ). before ++ xs) (take-append-le n text after within) in
+    subst (Appends a c) (sym front) (Appends-trans a b c _ _ first second)
+
+-- texts are those before a place, the one at the place, and those behind it
+pub text_among : (texts : List (Vec ℕ Global)) (last : List ℕ) (i : ℕ) (d : Vec ℕ Global) → i < length texts
+    → joined texts ++ last ≡ joined (take i texts) ++ ((get_or texts i d).items ++ (joined (drop (suc i) texts) ++ last))
+text_among [] last i d within = absurd (omega arith)
+text_among (text ∷ texts) last zero d within = append_assoc text.items (joined texts) last
+text_among (text ∷ texts) last (suc i) d within =
+    append_assoc text.items (joined texts) last ∙ ap (λ others. text.items ++ others) (text_among texts last i d (omega arith))
+    ∙ sym (append_assoc text.items (joined (take i texts)) _)
+
+-- a text among others is within all of them
+pub among_within : (texts : List (Vec ℕ Global)) (last : List ℕ) (i : ℕ) (text : Vec ℕ Global) (x : List ℕ) → i < length texts
+    → text ≡ get_or texts i text → x ≡ text.items → length (joined (take i texts)) + length x ≤ length (joined texts ++ last)
+among_within texts last i text x within at same =
+    let all = ap length (text_among texts last i text within) in
+    let here : length x ≡ length (get_or texts i text).items = ap length same ∙ ap (λ (v : Vec ℕ Global). length v.items) at in
+    let behind = joined (drop (suc i) texts) ++ last in
+    omega (
+      arith,
+      all,
+      here,
+      length-append (joined (take i texts)) ((get_or texts i text).items ++ behind),
+      length-append (get_or texts i text).items behind,
+    )
+
+-- a front of a text among others, behind those before it, is a front of all
+pub sent_among : (a b c : Option (List ℕ)) (texts : List (Vec ℕ Global)) (last : List ℕ) (i : ℕ) (text : Vec ℕ Global) (x : List ℕ)
+    (before count sent : ℕ) → i < length texts → text ≡ get_or texts i text → x ≡ text.items → before ≡ length (joined (take i texts))
+    → Appends a b (joined (take i texts)) → sent ≡ before + count → SendsFront x count b c → SendsFront (joined texts ++ last) sent a c
+sent_among a b c texts last i text x before count sent within at same counted wrote number front =
+    let all = text_among texts last i text within in
+    let here : x ≡ (get_or texts i text).items = same ∙ ap (λ (v : Vec ℕ Global). v.items) at in
+    let most = among_within texts last i text x within at same in
+    let number' : length (joined (take i texts)) + count ≡ sent = omega (arith, counted, number) in (
+      omega (arith, number', front.0, most),
+      subst (λ (n : ℕ). Appends a c (take n (joined texts ++ last))) number'
+          (subst (λ (text : List ℕ). Appends a c (take (length (joined (take i texts)) + count) text)) (sym all)
+          (sends_behind a b c (joined (take i texts)) (get_or texts i text).items (joined (drop (suc i) texts) ++ last) count wrote
+          (subst (λ (y : List ℕ). count ≤ length y) here front.0) (subst (λ (y : List ℕ). Appends b c (take count y)) here front.1))),
+    )
+
+-- a front of the last text, behind the others, is a front of all
+pub sent_last : (a b c : Option (List ℕ)) (texts : List (Vec ℕ Global)) (last : List ℕ) (i n count sent : ℕ) → length texts ≤ i
+    → n ≡ length (joined (take i texts)) → Appends a b (joined (take i texts)) → sent ≡ n + count → SendsFront last count b c
+    → SendsFront (joined texts ++ last) sent a c
+sent_last a b c texts last i n count sent passed counted wrote number front =
+    let before = joined (take i texts) in
+    let number' : length before + count ≡ sent = omega (arith, counted, number) in
+    let sends : SendsFront (before ++ last) sent a c = (
+      omega (arith, number', front.0, length-append before last),
+      subst (λ (n : ℕ). Appends a c (take n (before ++ last))) number'
+          (subst (λ (text : List ℕ). Appends a c (take (length before + count) (before ++ text))) (append-nil last)
+          (sends_behind a b c before last [] count wrote front.0 front.1)),
+    ) in
+    subst (λ (all : List (Vec ℕ Global)). SendsFront (joined all ++ last) sent a c) (take_all i texts passed) sends

@@ -1,0 +1,2 @@
+-- Lemmas on texts that are written in several writes.
+pub mod Front

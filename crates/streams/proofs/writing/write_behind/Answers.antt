@@ -1,0 +1,11 @@
+-- `write_behind`: what one more write takes of the rest goes out behind what went out before.
+use Rattle.std.proofs.Common.{rules}
+use Rattle.streams.proofs.Front.{appends_front}
+use Rattle.streams.proofs.writing.write_behind.Goals as goal
+
+pub loop-sent-preserved : goal.loop-sent-preserved
+loop-sent-preserved g c = record {
+  wrote = appends_front _ _ _ _ _ _ c.loop-sent.invariant.wrote c.in-Ok.ensures.bytes;
+  within = search rules;
+  same = search rules;
+}

@@ -1,7 +1,0 @@
--- What the loop of `push_grid` keeps: the rows passed are added.
-use Rattle.std.proofs.Common.{◌≡◌, ◌++◌}
-use Rattle.survey_core.specs.Grids.{rows_text}
-use Rattle.survey_core.proofs.pictures.push_grid.Given as goal
-
-abbrev pub invariant-loop-y : goal.invariant-loop-y
-invariant-loop-y l = l.text.items ≡ l.initial.text.items ++ rows_text l.grid l.y

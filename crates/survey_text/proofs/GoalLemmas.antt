@@ -1,0 +1,137 @@
+-- What is said of a goal, from what `grid_core` promises of it.
+use Rattle.std.proofs.Common.{◌≡◌, ℕ, suc, ◌+◌, ◌*◌, ◌/◌, ◌%◌, ◌<◌, ◌≤◌, Bool, true, false, List, [], ◌∷◌, Option, Some, None, Decides, ◌↔◌, ◌==◌, length, map, get_or, refl, sym, ap, subst, ◌∙◌, if◌then◌else◌, arith}
+use Rattle.std.specs.List.{AllByRecursion, list_all}
+use Rattle.std.proofs.lemmas.Bool.{and_parts, and_from}
+use Rattle.std.proofs.lemmas.Bool.Decides.{Decides-eqb}
+use Rattle.std.proofs.lemmas.List.{get_or-map, length-map}
+use Rattle.std.proofs.lemmas.List.Elements.{recursion_from_All, All-from_recursion}
+use Rattle.std.proofs.Math.Nat.{mod-lt}
+use Rattle.std.proofs.lemmas.Nat.{div-add-mod', mul-add-lt, row-Below}
+use Rattle.std.proofs.lemmas.Slice.Eq.{bytes_eq-Decides}
+use Rattle.grid_core.specs.Cells.{colour, is_filled, is_known}
+use Rattle.grid_core.specs.Nonogram.{GridLine, Nonogram, GivenMeets, Meets, MeetsLine, Solves, lines_of}
+use Rattle.grid_core.specs.PartialGrid.{PartialGrid}
+use Rattle.grid_core.specs.declared.cells.Cell.{Cell}
+use Rattle.grid_core.specs.declared.cells.Cell.TheVariants.{Unknown}
+use Rattle.grid_core.specs.declared.puzzles.GoalWord.{GoalWord}
+use Rattle.grid_core.specs.declared.puzzles.GoalWord.TheVariants as word
+use Rattle.survey_text.specs.Goals.{meets_clues, meets_line, word_of_goal}
+use Rattle.survey_text.specs.steps.Goals.{IsOnlySolution, IsRowShown}
+
+lines_decide : (full : List Bool) (lines : List GridLine) →
+    Decides (list_all (meets_line full) lines) (AllByRecursion (MeetsLine full) lines)
+lines_decide full [] = (λ _. tt, λ _. refl)
+lines_decide full (line ∷ lines) =
+    let here = bytes_eq-Decides _ line.clue in
+    let others = lines_decide full lines in (
+      λ test. let parts = and_parts _ _ test in (here.0 parts.0, others.0 parts.1),
+      λ all. and_from _ _ (here.1 all.0) (others.1 all.1),
+    )
+
+-- the test is true exactly if the grid meets the clues
+meets_decide : (p : Nonogram) (full : List Bool) → Decides (meets_clues p full) (Meets p full)
+meets_decide p full =
+    let lines = lines_decide full (lines_of p) in
+    let size_test = length full == p.width * p.height in
+    let size = Decides-eqb (length full) (p.width * p.height) in
+    let lines_test = list_all (meets_line full) (lines_of p) in (
+      λ test. let parts = and_parts size_test lines_test test in
+          record { size = size.0 parts.0; clues = All-from_recursion _ _ (lines.0 parts.1) },
+      λ meets. and_from size_test lines_test (size.1 meets.size) (lines.1 (recursion_from_All _ _ meets.clues)),
+    )
+
+by_test : (p : Nonogram) (values : List Bool) (test : Bool) (said : GoalWord) → Decides test (Meets p values) → (said ≡ word.Absent → ⊥)
+    → (said ≡ word.Meets) ↔ Meets p values → said ≡ (if test then word.Meets else word.Misses)
+by_test p values true said decides some meets = meets.1 (decides.0 refl)
+by_test p values false word.Absent decides some meets = absurd (some refl)
+by_test p values false word.Meets decides some meets = let bad = decides.1 (meets.0 refl) in cc
+by_test p values false word.Misses decides some meets = refl
+
+-- a word that is Absent exactly without a goal, and Meets exactly if it meets the clues, is the goal's word
+pub word_of_goal_is : (p : Nonogram) (goal : Option (List Bool)) (said : GoalWord) → (said ≡ word.Absent) ↔ (goal ≡ None)
+    → (said ≡ word.Meets) ↔ GivenMeets p goal → said ≡ word_of_goal p goal
+word_of_goal_is p None said absent meets = absent.1 refl
+word_of_goal_is p (Some values) said absent meets =
+    by_test p values (meets_clues p values) said (meets_decide p values) (λ e. let bad = absent.0 e in cc) meets
+
+-- lists that are the same at each place
+same_lists : (xs ys : List Bool) → length xs ≡ length ys → ((i : ℕ) → i < length xs → get_or xs i false ≡ get_or ys i false) → xs ≡ ys
+same_lists [] [] e h = refl
+same_lists [] (y ∷ ys) e h = absurd (omega arith)
+same_lists (x ∷ xs) [] e h = absurd (omega arith)
+same_lists (x ∷ xs) (y ∷ ys) e h =
+    let first : x ≡ y = h 0 (omega arith) in
+    ap (λ (v : Bool). v ∷ xs) first ∙ ap (λ (left : List Bool). y ∷ left)
+    (same_lists xs ys (omega arith) (λ i within. h (suc i) (omega arith)))
+
+filled_at : (cells : List Cell) (i : ℕ) → i < length cells → get_or (map is_filled cells) i false ≡ is_filled (get_or cells i Unknown)
+filled_at cells i h = get_or-map is_filled cells i Unknown false h
+
+-- the place in row order of a column and a row
+at_place : (i w h : ℕ) → 0 < w → i < w * h → (i % w < w) × (i / w < h) × (i / w * w + i % w ≡ i)
+at_place i w h some within = (mod-lt i some, (row-Below i w w h within (omega arith)).1, div-add-mod' i w)
+
+-- values that are the colours of all rows are those of the cells
+shown_values : (grid : PartialGrid) (values : List Bool) → 0 < grid.width → length grid.cells ≡ grid.width * grid.height →
+    length values ≡ grid.width * grid.height
+    → ((y : ℕ) → y < grid.height → IsRowShown grid values y) → map is_filled grid.cells ≡ values
+shown_values grid values some cells size shown =
+    same_lists (map is_filled grid.cells) values (length-map grid.cells is_filled ∙ cells ∙ sym size) (λ i within.
+    let inside : i < length grid.cells = omega (arith, length-map grid.cells is_filled) in
+    let at = at_place i grid.width grid.height some (omega arith) in
+    let same = shown (i / grid.width) at.1 (i % grid.width) at.0 in
+    filled_at grid.cells i inside
+    ∙ sym (subst (λ (k : ℕ). get_or values k false ≡ is_filled (get_or grid.cells k Unknown)) at.2 same))
+
+-- the colours of the cells are those of all rows
+values_shown : (grid : PartialGrid) (values : List Bool) → length grid.cells ≡ grid.width * grid.height → map is_filled grid.cells ≡ values
+    → (y : ℕ) → y < grid.height → IsRowShown grid values y
+values_shown grid values cells same y row = λ x column.
+    let inside : y * grid.width + x < length grid.cells = omega (arith, mul-add-lt y grid.width x grid.height row column) in
+    ap (λ (vs : List Bool). get_or vs (y * grid.width + x) false) (sym same) ∙ filled_at grid.cells (y * grid.width + x) inside
+
+colours_filled : (values : List Bool) → map is_filled (map colour values) ≡ values
+colours_filled [] = refl
+colours_filled (true ∷ values) = ap (λ (left : List Bool). true ∷ left) (colours_filled values)
+colours_filled (false ∷ values) = ap (λ (left : List Bool). false ∷ left) (colours_filled values)
+
+colours_known : (values : List Bool) → list_all is_known (map colour values) ≡ true
+colours_known [] = refl
+colours_known (true ∷ values) = colours_known values
+colours_known (false ∷ values) = colours_known values
+
+-- values that meet the clues are the colours of the only solution
+only_met : (p : Nonogram) (solution : PartialGrid) (values : List Bool) → IsOnlySolution p solution → Meets p values →
+    map is_filled solution.cells ≡ values
+only_met p solution values only meets =
+    let drawn : PartialGrid = record { width = p.width; height = p.height; cells = map colour values } in
+    let solves : Solves p drawn = record {
+      width = refl;
+      height = refl;
+      full = colours_known values;
+      meets = subst (Meets p) (sym (colours_filled values)) meets;
+    } in
+    ap (λ (grid : PartialGrid). map is_filled grid.cells) (sym (only.only drawn solves)) ∙ colours_filled values
+
+-- the values of a goal meet the clues exactly if they are the colours of the only solution
+pub meets_where_shown : (p : Nonogram) (solution : PartialGrid) (values : List Bool) → IsOnlySolution p solution
+    → 1 ≤ solution.width → length solution.cells ≡ solution.width * solution.height → length values ≡ p.width * p.height
+    → ((y : ℕ) → y < solution.height → IsRowShown solution values y) ↔ Meets p values
+meets_where_shown p solution values only wide_enough cells size =
+    let wide = only.solves.width in
+    let high = only.solves.height in
+    let same : length values ≡ solution.width * solution.height =
+    size ∙ ap (λ (w : ℕ). w * p.height) (sym wide) ∙ ap (λ (h : ℕ). solution.width * h) (sym high) in (
+      λ shown. subst (Meets p) (shown_values solution values (omega arith) cells same shown) only.solves.meets,
+      λ meets. values_shown solution values cells (only_met p solution values only meets),
+    )
+
+-- the word for a goal that meets the clues is Meets
+pub meets_said : (p : Nonogram) (values : List Bool) → Meets p values → word.Meets ≡ word_of_goal p (Some values)
+meets_said p values meets =
+    by_test p values (meets_clues p values) word.Meets (meets_decide p values) (λ e. cc) (λ _. meets, λ _. refl)
+
+-- the word for a goal that doesn't meet the clues is Misses
+pub misses_said : (p : Nonogram) (values : List Bool) → (Meets p values → ⊥) → word.Misses ≡ word_of_goal p (Some values)
+misses_said p values misses =
+    by_test p values (meets_clues p values) word.Misses (meets_decide p values) (λ e. cc) (λ e. cc, λ meets. absurd (misses meets))

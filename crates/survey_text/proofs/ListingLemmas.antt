@@ -1,0 +1,41 @@
+-- Entries that are listed one after another.
+use Rattle.std.proofs.Common.{◌≡◌, ◌+◌, ◌≤◌, List, [], ◌∷◌, ◌++◌, length, map, append_assoc, arith, Option, None, Some, sym, ap, refl, ◌∙◌}
+use Rattle.std.proofs.lemmas.List.{length-append, length-map, map-append}
+use Rattle.puzzle_text.specs.declared.collections.Entry.{Entry}
+use Rattle.puzzle_text.specs.declared.faults.EntryFault.{EntryFault}
+use Rattle.lane_core.specs.declared.answers.Answer.{Answer}
+use Rattle.survey_text.specs.Entries.{GradedEntry, shown_outcome}
+use Rattle.survey_text.specs.Listings.{answered}
+use Rattle.survey_text.specs.steps.Listings.{in_hand}
+use Rattle.survey_text.specs.declared.outcomes.Outcome.{Outcome}
+
+-- outcomes that were all listed
+pub listed_in_hand : (outcomes : List Outcome) (all : List GradedEntry) → in_hand outcomes ≡ map Some all → all ≡ map shown_outcome outcomes
+listed_in_hand [] [] listed = refl
+listed_in_hand [] (entry ∷ all) listed = cc
+listed_in_hand (outcome ∷ outcomes) [] listed = cc
+listed_in_hand (outcome ∷ outcomes) (entry ∷ all) listed =
+    let head : entry ≡ shown_outcome outcome = cc in
+    let others : in_hand outcomes ≡ map Some all = cc in
+    ap (λ (x : GradedEntry). x ∷ all) head
+    ∙ ap (λ (xs : List GradedEntry). shown_outcome outcome ∷ xs) (listed_in_hand outcomes all others)
+
+-- no more are listed than there are entries
+pub few_answered : (entries : List Entry) (faults : List (Option EntryFault)) (answers : List Answer)
+    → length (answered entries faults answers) ≤ length entries
+few_answered [] faults answers = omega arith
+few_answered (entry ∷ entries) [] answers = omega arith
+few_answered (entry ∷ entries) (Some fault ∷ faults) answers = omega (arith, few_answered entries faults answers)
+few_answered (entry ∷ entries) (None ∷ faults) [] = omega arith
+few_answered (entry ∷ entries) (None ∷ faults) (answer ∷ answers) = omega (arith, few_answered entries faults answers)
+
+-- one more entry was listed
+pub listed_more : (before : List GradedEntry) (next : GradedEntry) (all left right : List (Option GradedEntry))
+    → all ≡ map Some before ++ left → left ≡ Some next ∷ right
+    → (all ≡ map Some (before ++ next ∷ []) ++ right) × (length before + 1 ≤ length all)
+listed_more before next all left right so_far more = (
+  so_far ∙ ap (λ (xs : List (Option GradedEntry)). map Some before ++ xs) more
+      ∙ sym (append_assoc (map Some before) (Some next ∷ []) right)
+      ∙ ap (λ (xs : List (Option GradedEntry)). xs ++ right) (sym (map-append Some before (next ∷ []))),
+  omega (arith, ap length so_far, ap length more, length-append (map Some before) left, length-map before Some),
+)

@@ -1,0 +1,43 @@
+-- Printed texts, one piece longer.
+use Rattle.std.proofs.Common.{◌≡◌, ℕ, zero, suc, ◌+◌, Bool, List, [], ◌∷◌, ◌++◌, length, ap, sym, ◌∙◌, append-nil, add-one, arith}
+use Rattle.std.specs.List.{flat_map, range_with_len}
+use Rattle.std.proofs.lemmas.Grind.{flat_map-append}
+use Rattle.std.proofs.lemmas.List.FromFn.{map-range_with_len_more}
+use Rattle.grid_core.specs.PartialGrid.{PartialGrid, cell_at}
+use Rattle.survey_text.proofs.NumberedLemmas.{numbered-append, numbered-push}
+use Rattle.survey_text.specs.Entries.{GradedEntry, entry_text}
+use Rattle.survey_text.specs.Grids.{cell_byte, row_front, row_text, rows_text}
+use Rattle.survey_text.specs.Parts.{texts_from}
+
+-- a range with one more number
+range-more : (a n j : ℕ) → a + n ≡ j → range_with_len a (suc n) ≡ range_with_len a n ++ j ∷ []
+range-more a zero j e = let start : a ≡ j = omega arith in ap (λ (k : ℕ). k ∷ []) start
+range-more a (suc n) j e = ap (λ (others : List ℕ). a ∷ others) (range-more (a + 1) n j (omega arith))
+
+-- one more cell adds its byte to the row
+pub row_front-more : (grid : PartialGrid) (y count : ℕ) → row_front grid y (count + 1) ≡ row_front grid y count ++
+    cell_byte (cell_at grid count y) ∷ []
+row_front-more grid y count = map-range_with_len_more (λ x. cell_byte (cell_at grid x y)) 0 count count (omega arith)
+
+-- one more row adds its text
+pub rows_text-more : (grid : PartialGrid) (count : ℕ) → rows_text grid (count + 1) ≡ rows_text grid count ++ row_text grid count
+rows_text-more grid count =
+    ap (flat_map (row_text grid)) (ap (range_with_len 0) (add-one count) ∙ range-more 0 count count (omega arith)) ∙
+    flat_map-append (row_text grid) (range_with_len 0 count) (count ∷ [])
+    ∙ ap (λ (last : List ℕ). rows_text grid count ++ last) (append-nil (row_text grid count))
+
+-- the text of entries, with that of one more entry behind it, is the text of all
+pub added_text : (show : Bool) (first : ℕ) (entries : List GradedEntry) (entry : GradedEntry) (old new : List ℕ) (count : ℕ)
+    → old ≡ texts_from show first entries → count ≡ length entries → new ≡ old ++ entry_text show (first + count) entry
+    → new ≡ texts_from show first (entries ++ entry ∷ [])
+added_text show first entries entry old new count so_far counted more =
+    more
+    ∙ ap (λ (n : ℕ). old ++ entry_text show (first + n) entry) counted
+    ∙ ap (λ (front : List ℕ). front ++ entry_text show (first + length entries) entry) so_far
+    ∙ sym (numbered-push (λ (numbered : ℕ × GradedEntry). entry_text show numbered.0 numbered.1) first entries entry)
+
+-- the texts of entries and of those behind them
+pub texts_from-append : (show : Bool) (first : ℕ) (entries behind : List GradedEntry)
+    → texts_from show first (entries ++ behind) ≡ texts_from show first entries ++ texts_from show (first + length entries) behind
+texts_from-append show first entries behind =
+    numbered-append (λ (numbered : ℕ × GradedEntry). entry_text show numbered.0 numbered.1) first entries behind

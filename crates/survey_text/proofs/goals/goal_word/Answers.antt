@@ -1,0 +1,7 @@
+-- `goal_word`: what `grid_core` says of a goal is what the definition says of it.
+use Rattle.survey_text.proofs.GoalLemmas.{word_of_goal_is}
+use Rattle.survey_text.proofs.goals.goal_word.Goals as goal
+
+pub returns-in_default : goal.returns-in_default
+returns-in_default c =
+    word_of_goal_is c.args.puzzle.now c.args.puzzle.now.goal c.goal_word.result c.goal_word.ensures.absent c.goal_word.ensures.meets

@@ -1,0 +1,201 @@
+//! The text of an entry.
+
+ghost use Rattle.std.specs.Prelude.{◌≡◌, ◌++◌, IfOk, IsOk, OnOk, codes, Ok, Err};
+ghost use Rattle.std.specs.List.{flat_map};
+ghost use Rattle.puzzle_text.specs.Words.{word_of};
+ghost use Rattle.survey_text.specs.Entries.{counts_text, entry_line, entry_text, found_of, grade_word, result_text, shown_outcome, solution_text, solutions_of, solutions_text, verdict_text, verdict_word};
+ghost use Rattle.survey_text.specs.steps.Entries.{shown_listed};
+ghost use Rattle.survey_text.specs.Goals.{goal_text};
+
+use crate::Outcome;
+use crate::listed::{GradedPuzzle, ListedEntry};
+use crate::names::push_name;
+use crate::pictures::push_grid;
+use grid_core::{GoalWord, Grid, NoMemory, Puzzle};
+use lane_core::Answer;
+use puzzle_text::{EntryFault, push_bytes, push_number};
+use solve_core::{Findings, Grade, Verdict};
+use std::alloc::Global;
+
+/// The word of a verdict.
+pub(crate) fn verdict_word(verdict: &Verdict) -> &'static str
+    ensures { result.now ≡ verdict_word verdict.now }
+{
+    match verdict {
+        Verdict::Nothing => "none",
+        Verdict::One(_) => "one",
+        Verdict::Several(_, _) => "several",
+        Verdict::Unsettled(_) => "unsettled",
+    }
+}
+
+/// The word of a grade.
+fn grade_word(grade: Grade) -> &'static str
+    ensures { result.now ≡ grade_word grade }
+{
+    match grade {
+        Grade::Lines => "line",
+        Grade::Trials => "trials",
+        Grade::Search => "search",
+    }
+}
+
+/// The word that is printed for what is said of a goal.
+fn goal_text(word: GoalWord) -> &'static str
+    ensures { result.now ≡ goal_text word }
+{
+    match word {
+        GoalWord::Absent => "absent",
+        GoalWord::Meets => "meets",
+        GoalWord::Misses => "misses",
+    }
+}
+
+/// Adds the sizes, the verdict and the grade.
+fn push_verdict(text: &mut Vec<u8>, puzzle: &Puzzle, findings: &Findings) -> Result<(), NoMemory>
+    ensures { OnOk result (text.new.items ≡ text.old.items ++ verdict_text puzzle.now findings.now) }
+{
+    push_number(text, u64::from(puzzle.width()))?;
+    push_bytes(text, b"x")?;
+    push_number(text, u64::from(puzzle.height()))?;
+    push_bytes(text, b" ")?;
+    push_bytes(text, verdict_word(&findings.verdict).as_bytes())?;
+    push_bytes(text, b" ")?;
+    push_bytes(text, grade_word(findings.grade).as_bytes())
+}
+
+/// Adds the cells known after lines and after trials, the guesses spent, and what is said of the goal.
+fn push_counts(text: &mut Vec<u8>, found: &GradedPuzzle<'_>) -> Result<(), NoMemory>
+    ensures { OnOk result (text.new.items ≡ text.old.items ++ counts_text found.now.puzzle.now found.now.findings.now) }
+{
+    let findings = found.findings;
+    push_number(text, u64::from(findings.line_known))?;
+    push_bytes(text, b" ")?;
+    push_number(text, u64::from(findings.trial_known))?;
+    push_bytes(text, b" ")?;
+    push_number(text, u64::from(findings.spent))?;
+    push_bytes(text, b" ")?;
+    push_bytes(text, goal_text(found.goal).as_bytes())
+}
+
+/// Adds what was found of a puzzle.
+fn push_found(text: &mut Vec<u8>, found: &GradedPuzzle<'_>) -> Result<(), NoMemory>
+    ensures { OnOk result (text.new.items ≡ text.old.items ++ result_text (Ok (found.now.puzzle.now, found.now.findings.now))) }
+{
+    push_verdict(text, found.puzzle, found.findings)?;
+    push_bytes(text, b" ")?;
+    push_counts(text, found)
+}
+
+/// Adds why an entry is refused.
+fn push_refusal(text: &mut Vec<u8>, fault: EntryFault) -> Result<(), NoMemory>
+    ensures { OnOk result (text.new.items ≡ text.old.items ++ codes "refused " ++ word_of fault) }
+{
+    push_bytes(text, b"refused ")?;
+    fault.word().push(text)
+}
+
+/// Adds what was found, or why the entry is refused.
+fn push_result(text: &mut Vec<u8>, entry: &ListedEntry<'_>) -> Result<(), NoMemory>
+    ensures { OnOk result (text.new.items ≡ text.old.items ++ result_text (shown_listed entry.now).result) }
+{
+    match &entry.result {
+        Ok(found) => push_found(text, found),
+        Err(fault) => push_refusal(text, *fault),
+    }
+}
+
+/// Adds the line of an entry.
+fn push_line(text: &mut Vec<u8>, number: u32, entry: &ListedEntry<'_>) -> Result<(), NoMemory>
+    ensures { OnOk result (text.new.items ≡ text.old.items ++ entry_line number (shown_listed entry.now)) }
+{
+    push_number(text, u64::from(number))?;
+    push_bytes(text, b" ")?;
+    push_result(text, entry)?;
+    push_bytes(text, b" ")?;
+    push_name(text, entry.name)?;
+    push_bytes(text, b"\n")
+}
+
+/// Adds a solution, and an empty line.
+fn push_solution(text: &mut Vec<u8>, grid: &Grid) -> Result<(), NoMemory>
+    ensures { OnOk result (text.new.items ≡ text.old.items ++ solution_text grid.now) }
+{
+    push_grid(text, grid)?;
+    push_bytes(text, b"\n")
+}
+
+/// Adds the solutions that a verdict shows.
+fn push_solutions(text: &mut Vec<u8>, verdict: &Verdict) -> Result<(), NoMemory>
+    ensures { OnOk result (text.new.items ≡ text.old.items ++ flat_map solution_text (solutions_of verdict.now)) }
+{
+    match verdict {
+        Verdict::Nothing => Ok(()),
+        Verdict::One(grid) => push_solution(text, grid),
+        Verdict::Several(first, second) => {
+            push_solution(text, first)?;
+            push_solution(text, second)
+        }
+        Verdict::Unsettled(None) => Ok(()),
+        Verdict::Unsettled(Some(grid)) => push_solution(text, grid),
+    }
+}
+
+/// Adds the solutions of an entry, none if it is refused.
+fn push_shown(text: &mut Vec<u8>, entry: &ListedEntry<'_>) -> Result<(), NoMemory>
+    ensures { OnOk result (text.new.items ≡ text.old.items ++ solutions_text (shown_listed entry.now).result) }
+{
+    match &entry.result {
+        Ok(found) => push_solutions(text, &found.findings.verdict),
+        Err(_) => Ok(()),
+    }
+}
+
+/// Adds an entry's line, and its solutions if they are shown.
+pub(crate) fn push_entry(
+    text: &mut Vec<u8>,
+    number: u32,
+    entry: &ListedEntry<'_>,
+    show: bool,
+) -> Result<(), NoMemory>
+    ensures { OnOk result (text.new.items ≡ text.old.items ++ entry_text show number (shown_listed entry.now)) }
+{
+    push_line(text, number, entry)?;
+    if show {
+        push_shown(text, entry)?;
+    }
+    Ok(())
+}
+
+/// The line of an entry, and if they are shown, each of its solutions followed by an empty line. An answer
+/// that says `NoMemory` is printed as a refused entry with that word.
+pub fn print_entry(
+    alloc: Global,
+    number: u32,
+    outcome: &Outcome,
+    show: bool,
+) -> Result<Vec<u8>, NoMemory>
+    ensures { IfOk result (λ text. text.items ≡ entry_text show number (shown_outcome outcome.now)) }
+{
+    let mut text = Vec::new(alloc);
+    push_entry(&mut text, number, &outcome.listed(), show)?;
+    Ok(text)
+}
+
+/// The same of an entry whose puzzle was graded. `NoMemory` also if the answer says so.
+pub fn print_graded(
+    alloc: Global,
+    number: u32,
+    name: &[u8],
+    answer: &Answer,
+    show: bool,
+) -> Result<Vec<u8>, NoMemory>
+    ensures text { IfOk result (λ text. text.items ≡ entry_text show number
+        (record { name = name.now; result = found_of answer.now.puzzle answer.now.outcome })) }
+    ensures report { OnOk result (IsOk answer.now.outcome) }
+{
+    let entry = ListedEntry::graded(name, answer)?;
+    let mut text = Vec::new(alloc);
+    push_entry(&mut text, number, &entry, show)?;
+    Ok(text)
+}

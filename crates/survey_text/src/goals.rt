@@ -1,0 +1,68 @@
+//! What is said of goals.
+
+ghost use Rattle.std.specs.Prelude.{◌≡◌, ◌*◌, ◌<◌, ◌↔◌, ℕ, IsTrue, length};
+ghost use Rattle.survey_text.specs.Goals.{goal_word};
+ghost use Rattle.survey_text.specs.steps.Goals.{IsOnlySolution, IsOnlyWhereOne, IsRowShown};
+
+use grid_core::{GoalWord, Grid, Puzzle};
+use solve_core::Verdict;
+
+/// Whether the values of a goal are the colours of a row.
+fn is_row_shown(grid: &Grid, y: u16, values: &[bool]) -> bool
+    requires row { y < grid.now.height }
+    requires cells { length values.now ≡ grid.now.width * grid.now.height }
+    ensures { IsTrue result ↔ IsRowShown grid.now values.now y }
+{
+    let row = grid.row(y);
+    let first = usize::from(y) * usize::from(grid.width());
+    for x in 0..grid.width() {
+        if values[first + usize::from(x)] != row.get(x).is_filled() {
+            return false;
+        }
+    }
+    true
+}
+
+/// Whether the values of a goal are the colours of a grid.
+fn is_shown(grid: &Grid, values: &[bool]) -> bool
+    requires { length values.now ≡ grid.now.width * grid.now.height }
+    ensures { IsTrue result ↔ ((y : ℕ) → y < grid.now.height → IsRowShown grid.now values.now y) }
+{
+    for y in 0..grid.height() {
+        if !is_row_shown(grid, y, values) {
+            return false;
+        }
+    }
+    true
+}
+
+/// What is said of a puzzle's goal if no grid but this one solves the puzzle: it meets the clues exactly if
+/// it shows that grid.
+fn goal_word_beside(puzzle: &Puzzle, solution: &Grid) -> GoalWord
+    requires { IsOnlySolution puzzle.now solution.now }
+    ensures { result ≡ goal_word puzzle.now }
+{
+    // For what it says of the grid: that its cells are as many as its sides tell.
+    solution.width();
+    match puzzle.goal() {
+        None => GoalWord::Absent,
+        Some(values) => {
+            if is_shown(solution, values) {
+                GoalWord::Meets
+            } else {
+                GoalWord::Misses
+            }
+        }
+    }
+}
+
+/// What is said of a puzzle's goal, beside the verdict on the puzzle.
+pub(crate) fn goal_word(puzzle: &Puzzle, verdict: &Verdict) -> GoalWord
+    requires { IsOnlyWhereOne puzzle.now verdict.now }
+    ensures { result ≡ goal_word puzzle.now }
+{
+    match verdict {
+        Verdict::One(solution) => goal_word_beside(puzzle, solution),
+        _ => puzzle.goal_word(),
+    }
+}

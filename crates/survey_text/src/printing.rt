@@ -1,0 +1,83 @@
+//! The text of a survey, or of a part of it.
+
+ghost use Rattle.std.specs.Prelude.{◌≡◌, ◌++◌, ◌∷◌, ◌+◌, ◌<◌, ◌≤◌, ◌^◌, [], List, Bool, Some, length, IfOk, OnOk, map};
+ghost use Rattle.survey_text.specs.Entries.{GradedEntry, shown_outcome};
+ghost use Rattle.survey_text.specs.steps.Entries.{shown_listed};
+ghost use Rattle.survey_text.specs.Survey.{survey_text};
+ghost use Rattle.survey_text.specs.steps.Parts.{IsPart};
+ghost use Rattle.survey_text.specs.steps.Tallies.{HasRoom};
+
+use crate::Outcome;
+use crate::entries::push_entry;
+use crate::listed::ListedEntry;
+use crate::listings::{Listing, OutcomeListing};
+use crate::totals::Totals;
+use grid_core::NoMemory;
+use puzzle_text::MOST_ENTRIES;
+use std::alloc::Global;
+
+/// Entries of a survey that follow one another: their text, and their totals.
+#[derive(Drop)]
+pub(crate) struct Part {
+    /// Their text.
+    pub text: Vec<u8>,
+    /// Their totals.
+    pub totals: Totals,
+}
+
+impl Part {
+    /// The part of the entries of a list, the first of which has this number. `NoMemory` also if an answer
+    /// says so.
+    pub fn of<'a, L: Listing<'a> + Drop>(
+        alloc: Global,
+        first: u32,
+        listing: L,
+        show: bool,
+    ) -> Result<Part, NoMemory>
+        requires numbers { first + length (L.to_come listing) < 2 ^ 32 }
+        requires few { length (L.to_come listing) < 2 ^ 31 }
+        ensures { IfOk result (λ part. (entries : List GradedEntry) × (L.to_come listing ≡ map Some entries) × IsPart show first part entries) }
+    {
+        let mut listing = listing;
+        let mut part = Part {
+            text: Vec::new(alloc),
+            totals: Totals::none(),
+        };
+        'listing: while let Some(entry) = listing.next()? {
+            part.add(first, &entry, show)?;
+        }
+        Ok(part)
+    }
+
+    /// Adds an entry behind those of a part whose first has this number.
+    fn add(&mut self, first: u32, entry: &ListedEntry<'_>, show: bool) -> Result<(), NoMemory>
+        requires room { HasRoom self.old.totals }
+        requires number { first + self.old.totals.entries < 2 ^ 32 }
+        ensures { (entries : List GradedEntry) → IsPart show first self.old entries
+            → OnOk result (IsPart show first self.new (entries ++ shown_listed entry.now ∷ [])) }
+    {
+        let number = first + self.totals.entries as u32;
+        push_entry(&mut self.text, number, entry, show)?;
+        self.totals.count(entry);
+        Ok(())
+    }
+
+    /// The text of the entries and the line of totals.
+    fn finish(self) -> Result<Vec<u8>, NoMemory>
+        ensures { (show : Bool) (entries : List GradedEntry) → IsPart show 1 self entries →
+            IfOk result (λ text. text.items ≡ survey_text show entries) }
+    {
+        let mut text = self.text;
+        self.totals.push(&mut text)?;
+        Ok(text)
+    }
+}
+
+/// The texts of at most 10,000 entries, numbered from 1, and the line of totals. An answer that says
+/// `NoMemory` is printed as a refused entry with that word.
+pub fn print_survey(alloc: Global, outcomes: &[Outcome], show: bool) -> Result<Vec<u8>, NoMemory>
+    requires { length outcomes.now ≤ MOST_ENTRIES }
+    ensures { IfOk result (λ text. text.items ≡ survey_text show (map shown_outcome outcomes.now)) }
+{
+    Part::of(alloc, 1, OutcomeListing { outcomes }, show)?.finish()
+}
