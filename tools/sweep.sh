@@ -1,5 +1,5 @@
 #!/usr/bin/env bash
-# Refuses growths of memory, each in turn: in the tests `tests_refused` of all crates, and in the program on
+# Refuses growths of memory, each in turn: in the tests `tests_refused*` of all crates, and in the program on
 # some command lines. It builds and proves nothing: it runs what `rt ci` left in crates/NAME/out. It needs a C
 # compiler. Its last line is `N passed, M failed`.
 #

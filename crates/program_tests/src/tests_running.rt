@@ -31,27 +31,6 @@ impl Drop for Ending {
     }
 }
 
-/// Takes `room` bytes, and then fails.
-#[derive(Drop)]
-pub struct FailingWriter {
-    pub room: usize,
-}
-
-impl Write for FailingWriter {
-    fn write(&mut self, bytes: &[u8]) -> io::Result<usize> {
-        if self.room == 0 {
-            return Err(io::Error::from(ErrorKind::BrokenPipe));
-        }
-        let count = self.room.min(bytes.len());
-        self.room -= count;
-        Ok(count)
-    }
-
-    fn flush(&mut self) -> io::Result<()> {
-        Ok(())
-    }
-}
-
 /// Gives `room` bytes, and then fails.
 #[derive(Drop)]
 pub struct FailingReader {
@@ -70,7 +49,7 @@ impl Read for FailingReader {
 }
 
 /// The words of a command line that has no word with a space in it.
-pub(crate) fn words_of(alloc: Global, line: &str) -> Result<Vec<String>, AllocError> {
+fn words_of(alloc: Global, line: &str) -> Result<Vec<String>, AllocError> {
     let mut words = Vec::new(alloc);
     for word in line.split_whitespace() {
         words.push(String::from_str(alloc, word)?)?;
@@ -106,18 +85,25 @@ pub(crate) fn ended<R: Files + Threads + Wait + Sync + AllocGlobal>(
     })
 }
 
-/// How the program ends on a command line if this takes its output: its status, what it says of a fault, and
-/// what became of the output.
+/// Whether the program ended well, and printed this and nothing else.
+pub(crate) fn is_printed(ending: &Ending, wanted: &[u8]) -> bool {
+    ending.status == 0
+        && ending.printed.as_slice() == wanted
+        && ending.said.is_empty()
+        && ending.told.is_empty()
+}
+
+/// How the program ends on a command line if this takes its output: its status, and what became of that.
 pub(crate) fn ended_into<R: Files + Threads + Wait + Sync + AllocGlobal, O: Write + Drop>(
     rt: &R,
     line: &str,
     output: O,
-) -> Result<(u8, Vec<u8>, O), Fail> {
+) -> Result<(u8, O), Fail> {
     let words = words_of(rt.alloc(), line).ok().ok_or("memory")?;
     let mut input = Counted::new(b"".as_slice());
     let mut output = Counted::new(output);
     let mut errors = Counted::new(Vec::new(rt.alloc()));
     let mut told = Vec::new(rt.alloc());
     let status = run(rt, words, &mut input, &mut output, &mut errors, &mut told);
-    Ok((status, errors.inner, output.inner))
+    Ok((status, output.inner))
 }

@@ -1,9 +1,6 @@
-//! Puzzles and collections for the tests, and what compares texts.
+//! Puzzles for the tests, and what makes texts.
 
-use grid_core::NoMemory;
-use puzzle_text::{EntryFault, fault_text};
 use std::alloc::Global;
-use std::process::Abort;
 use std::test::Fail;
 
 /// The demonstration puzzle, up to its goal's last digit.
@@ -11,8 +8,6 @@ pub const DEMO: &[u8] =
     b"title \"Demo\"\nwidth 5\nheight 10\n\nrows\n2\n2,1\n1,1\n3\n1,1\n1,1\n2\n1,1\n1,2\n2\n\ncolumns\n2,1\n2,1,3\n7\n1,3\n2,1\n\ngoal \"0110001101001010111010100101000011001010010111100";
 
 pub const MEETS: &[u8] = b"0\"\n";
-
-pub const MISSES: &[u8] = b"1\"\n";
 
 pub const DEMO_GRID: &[u8] =
     b".##..\n.##.#\n..#.#\n.###.\n#.#..\n#.#..\n..##.\n.#.#.\n.#.##\n##...\n";
@@ -26,11 +21,7 @@ pub const CLASH: &[u8] = b"1 1\n1\n#\n0\n";
 
 pub const PAIR: &[u8] = b"2 4\n2\n1 1\n#\n1\n1\n1\n1\n";
 
-pub const SIX: &[u8] = b"2 6\n1 1 1\n3\n#\n1\n1\n1\n1\n1\n1\n";
-
 pub const TWO: &[u8] = b"2 2\n1\n1\n#\n1\n1\n";
-
-pub const THREE: &[u8] = b"3 3\n1\n1\n1\n#\n1\n1\n1\n";
 
 /// A puzzle whose second solution tells the rule for guesses.
 pub const TWIN: &[u8] = b"8 5\n1\n1\n0\n5\n5\n0\n1\n1\n#\n1 2\n1 2\n2 1\n2\n2 1\n";
@@ -53,39 +44,4 @@ pub fn repeated(alloc: Global, piece: &[u8], count: usize) -> Result<Vec<u8>, Fa
         text.extend_from_slice(piece).ok().ok_or("memory")?;
     }
     Ok(text)
-}
-
-/// A puzzle in `.mk` with these sizes: the same clue for each line, `count` of them above `#`, and below.
-pub fn uniform(alloc: Global, sizes: &[u8], clue: &[u8], count: usize) -> Result<Vec<u8>, Fail> {
-    let clues = repeated(alloc, clue, count)?;
-    joined(alloc, &[sizes, &clues, b"#\n", &clues])
-}
-
-/// The rows of a full grid of `side` by `side` cells.
-pub fn full_rows(alloc: Global, side: usize) -> Result<Vec<u8>, Fail> {
-    let row = repeated(alloc, b"#", side)?;
-    repeated(alloc, &joined(alloc, &[&row, b"\n"])?, side)
-}
-
-/// The text, or the fault's word.
-pub fn text_or_word(
-    alloc: Global,
-    answer: Result<Vec<u8>, EntryFault>,
-) -> Result<Vec<u8>, NoMemory> {
-    match answer {
-        Ok(text) => Ok(text),
-        Err(fault) => fault_text(alloc, &fault),
-    }
-}
-
-pub fn assert_bytes(
-    rt: &impl Abort,
-    found: Result<Vec<u8>, NoMemory>,
-    expected: &[u8],
-    place: usize,
-) {
-    match found {
-        Ok(text) => assert!(rt; text.as_slice() == expected, "row {place}"),
-        Err(_) => assert!(rt; false, "row {place}: NoMemory"),
-    }
 }

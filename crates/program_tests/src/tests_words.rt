@@ -1,6 +1,6 @@
 //! Which words ask for what, and what the program says and answers.
 
-use crate::tests_running::{FailingWriter, asked, ended, ended_into};
+use crate::tests_running::{asked, ended};
 use crate::tests_samples::joined;
 use command_line::{CommandFault, Request};
 use grid_core::NoMemory;
@@ -9,7 +9,6 @@ use puzzle_text::{CollectionFault, EntryFault, Format, TextFault};
 use reports::ConvertFault;
 use solve_core::Pick;
 use std::alloc::{AllocError, Global};
-use std::io::{Read, Write};
 use std::test::Fail;
 use survey_core::{Counted, RunFault, Settings};
 
@@ -78,121 +77,83 @@ fn faults_in_sentences(rt: HostRuntime) -> Result<(), Fail> {
     Ok(())
 }
 
+/// Lanes, ring, guesses, the rule for guesses, whether solutions are shown, and whether progress is told.
+type Asked = (u16, u16, u32, Pick, bool, bool);
+
+/// Whether words ask for a survey with these settings of these files.
+fn is_survey(alloc: Global, line: &str, wanted: Asked, files: &[&str]) -> bool {
+    match &asked(alloc, line) {
+        Ok(Request::Survey(survey)) => {
+            let Settings {
+                lanes,
+                ring,
+                guesses,
+                pick,
+                show,
+            } = survey.settings;
+            (lanes, ring, guesses, pick, show, survey.progress) == wanted
+                && survey.files.len() == files.len()
+                && survey
+                    .files
+                    .iter()
+                    .zip(files)
+                    .all(|(file, wanted)| file.as_str() == *wanted)
+        }
+        _ => false,
+    }
+}
+
 #[test]
 fn words_ignored_by_surveys(rt: HostRuntime) {
-    let three = Settings {
-        lanes: 3,
-        ring: 1,
-        guesses: 1000,
-        pick: Pick::First,
-        show: false,
-    };
-    match &asked(rt.alloc(), "survey --lanes 3 --ring 1") {
-        Ok(Request::Survey(survey)) => {
-            assert_eq!(rt; survey.settings, three);
-            assert!(rt; !survey.progress);
-            assert!(rt; survey.files.is_empty());
-        }
-        _ => assert!(rt; false),
-    }
-    let shown = Settings {
-        lanes: 4,
-        ring: 8,
-        guesses: 7,
-        pick: Pick::First,
-        show: true,
-    };
-    match &asked(
-        rt.alloc(),
-        "survey --show a.mk --guesses 7 --progress b.nin",
-    ) {
-        Ok(Request::Survey(survey)) => {
-            assert_eq!(rt; survey.settings, shown);
-            assert!(rt; survey.progress);
-            assert_eq!(rt; survey.files.len(), 2);
-            assert_eq!(rt; survey.files[0].as_str(), "a.mk");
-            assert_eq!(rt; survey.files[1].as_str(), "b.nin");
-        }
-        _ => assert!(rt; false),
-    }
-}
-
-#[test]
-fn limits_on_settings_are_numbers(rt: HostRuntime) {
-    for (line, lanes, ring, guesses) in [
-        ("survey --lanes 1 --ring 1 --guesses 0", 1, 1, 0),
+    let table: [(&str, Asked, &[&str]); 4] = [
+        ("survey", (4, 8, 1000, Pick::First, false, false), &[]),
         (
-            "survey --lanes 16 --ring 64 --guesses 1000000",
-            16,
-            64,
-            1_000_000,
+            "survey --lanes 1 --ring 1 --guesses 0",
+            (1, 1, 0, Pick::First, false, false),
+            &[],
         ),
-    ] {
-        match &asked(rt.alloc(), line) {
-            Ok(Request::Survey(survey)) => {
-                let settings = survey.settings;
-                assert_eq!(rt;
-                    (settings.lanes, settings.ring, settings.guesses),
-                    (lanes, ring, guesses),
-                    "{line}"
-                );
-            }
-            _ => assert!(rt; false, "{line}"),
-        }
+        (
+            "survey --lanes 16 --ring 64 --guesses 1000000 --pick most",
+            (16, 64, 1_000_000, Pick::Most, false, false),
+            &[],
+        ),
+        (
+            "survey --show a.mk --guesses 7 --progress b.nin",
+            (4, 8, 7, Pick::First, true, true),
+            &["a.mk", "b.nin"],
+        ),
+    ];
+    for (line, wanted, files) in table {
+        assert!(rt; is_survey(rt.alloc(), line, wanted, files), "{line}");
     }
 }
 
-#[test]
-fn rule_for_guesses_ignored(rt: HostRuntime) {
-    let most = Settings {
-        lanes: 4,
-        ring: 8,
-        guesses: 1000,
-        pick: Pick::Most,
-        show: false,
-    };
-    match &asked(rt.alloc(), "survey --pick most") {
-        Ok(Request::Survey(survey)) => {
-            assert_eq!(rt; survey.settings, most);
-            assert!(rt; survey.files.is_empty());
+/// Whether words ask for the solution of this file with this limit and rule.
+fn is_solve(alloc: Global, line: &str, guesses: u32, pick: Pick, file: &str) -> bool {
+    match &asked(alloc, line) {
+        Ok(Request::Solve(limit, rule, name)) => {
+            *limit == guesses && *rule == pick && name.as_str() == file
         }
-        _ => assert!(rt; false),
-    }
-    match &asked(rt.alloc(), "solve --pick most two.mk") {
-        Ok(Request::Solve(guesses, pick, file)) => {
-            assert_eq!(rt;
-                (*guesses, *pick, file.as_str()),
-                (1000, Pick::Most, "two.mk")
-            );
-        }
-        _ => assert!(rt; false),
+        _ => false,
     }
 }
 
 #[test]
 fn words_ignored_on_one_file(rt: HostRuntime) {
+    for (line, guesses, pick) in [
+        ("solve two.mk", 1000, Pick::First),
+        ("solve --guesses 0 two.mk", 0, Pick::First),
+        ("solve --guesses 1000000 two.mk", 1_000_000, Pick::First),
+        ("solve --pick most --guesses 2 two.mk", 2, Pick::Most),
+    ] {
+        assert!(rt;
+            is_solve(rt.alloc(), line, guesses, pick, "two.mk"),
+            "{line}"
+        );
+    }
     match &asked(rt.alloc(), "lines demo.nin") {
         Ok(Request::Lines(file)) => assert_eq!(rt; file.as_str(), "demo.nin"),
         _ => assert!(rt; false),
-    }
-    match &asked(rt.alloc(), "solve --guesses 2 two.mk") {
-        Ok(Request::Solve(guesses, pick, file)) => {
-            assert_eq!(rt;
-                (*guesses, *pick, file.as_str()),
-                (2, Pick::First, "two.mk")
-            );
-        }
-        _ => assert!(rt; false),
-    }
-    for (line, wanted) in [
-        ("solve two.mk", 1000),
-        ("solve --guesses 0 two.mk", 0),
-        ("solve --guesses 1000000 two.mk", 1_000_000),
-    ] {
-        match &asked(rt.alloc(), line) {
-            Ok(Request::Solve(guesses, _pick, _file)) => assert_eq!(rt; *guesses, wanted),
-            _ => assert!(rt; false, "{line}"),
-        }
     }
     match &asked(rt.alloc(), "convert --to nin demo.non") {
         Ok(Request::Convert(format, file)) => {
@@ -243,7 +204,7 @@ fn statuses_and_streams(rt: HostRuntime) -> Result<(), Fail> {
     let none = b"entries 0 refused 0 none 0 one 0 several 0 unsettled 0 line 0 trials 0 search 0\n";
     let one =
         b"1 1x1 one line 1 1 0 absent one.mk\n.\n\nentries 1 refused 0 none 0 one 1 several 0 unsettled 0 line 1 trials 0 search 0\n";
-    let table: [(&str, &[u8], u8, &[u8], &[u8]); 7] = [
+    let table: [(&str, &[u8], u8, &[u8], &[u8]); 3] = [
         ("survey", b"", 0, none, b""),
         (
             "survey --show --lanes 1",
@@ -253,16 +214,6 @@ fn statuses_and_streams(rt: HostRuntime) -> Result<(), Fail> {
             b"",
         ),
         ("survey", b"x\n", 1, b"", b"nonograde: Stray:1\n"),
-        ("survey missing.txt", b"", 1, b"", b"nonograde: Read\n"),
-        ("lines missing.txt", b"", 1, b"", b"nonograde: Read\n"),
-        ("solve missing.txt", b"", 1, b"", b"nonograde: Read\n"),
-        (
-            "convert --to mk missing.nin",
-            b"",
-            1,
-            b"",
-            b"nonograde: Read\n",
-        ),
     ];
     for (line, input, status, printed, said) in table {
         let ending = ended(&rt, line, input)?;
@@ -295,13 +246,5 @@ fn help_and_refused_words(rt: HostRuntime) -> Result<(), Fail> {
         assert!(rt; ending.printed.as_slice() == printed, "{line}");
         assert!(rt; ending.said.as_slice() == said, "{line}");
     }
-    Ok(())
-}
-
-#[test]
-fn full_output_is_a_fault(rt: HostRuntime) -> Result<(), Fail> {
-    let (status, said, _full) = ended_into(&rt, "survey", FailingWriter { room: 3 })?;
-    assert_eq!(rt; status, 1);
-    assert!(rt; said.as_slice() == b"nonograde: Write\n".as_slice());
     Ok(())
 }

@@ -1,10 +1,14 @@
-//! Tests of `solve_core`.
+//! Tests of `line_core` and `solve_core`.
 #![tactic(auto)]
 
 #[cfg(test)]
 mod oracle_closing;
 #[cfg(test)]
+mod oracle_lines;
+#[cfg(test)]
 mod oracle_search;
+#[cfg(test)]
+mod test_draws;
 #[cfg(test)]
 mod test_pictures;
 #[cfg(test)]
@@ -12,14 +16,24 @@ mod test_puzzles;
 #[cfg(test)]
 mod test_small;
 #[cfg(test)]
-mod tests;
+mod tests_deduced;
+#[cfg(test)]
+mod tests_lines;
 #[cfg(test)]
 mod tests_oracle_closing;
 #[cfg(test)]
+mod tests_oracle_lines;
+#[cfg(test)]
 mod tests_oracle_search;
+#[cfg(test)]
+mod tests_overlaps;
 #[cfg(test)]
 mod tests_refused;
 #[cfg(test)]
+mod tests_refused_lines;
+#[cfg(test)]
 mod tests_search;
+#[cfg(test)]
+mod tests_starts;
 #[cfg(test)]
 mod tests_widths;

@@ -1,8 +1,8 @@
 //! What `docs/solving.md` says of closing ("Closure and trials", "What is meant"), written a second time, for
 //! tests, in the plainest way: all rounds. Nothing here is shared with the solver but `Cell` and `Puzzle`.
 
+use crate::oracle_lines::{Cells, deduced, full_lines, lines_of_clue};
 use grid_core::{Cell, Clue, Puzzle};
-use line_tests::oracle_lines::{Cells, deduced, full_lines, lines_of_clue};
 use std::alloc::{AllocError, Global};
 
 /// A row or a column: the places of its cells, and the full lines whose runs are its clue.

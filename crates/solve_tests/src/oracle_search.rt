@@ -3,8 +3,8 @@
 //! Nothing here is shared with the solver but `Cell`, `Grade` and `Pick`.
 
 use crate::oracle_closing::{PlainPuzzle, with_cell};
+use crate::oracle_lines::Cells;
 use grid_core::Cell;
-use line_tests::oracle_lines::Cells;
 use solve_core::{Grade, Pick};
 use std::alloc::{AllocError, Global};
 

@@ -3,51 +3,19 @@
 ghost use Rattle.std.specs.Prelude.{◌≡◌, ◌<◌, IfOk};
 ghost use Rattle.grid_core.specs.PartialGrid.{IsSize};
 
+use crate::oracle_lines::Cells;
+use crate::test_draws::{Draws, numbered_clue, push_partly_known};
 use grid_core::{Cell, Clue, Grid, NoMemory, Puzzle, Texts};
-use line_tests::oracle_lines::Cells;
 use std::alloc::{AllocError, Global};
 use std::test::Fail;
 
-/// A generator of pseudorandom numbers.
-#[derive(Drop)]
-pub struct Draws(pub u64);
-
-impl Draws {
-    pub fn draw(&mut self) -> u64 {
-        self.0 = self
-            .0
-            .wrapping_mul(6_364_136_223_846_793_005)
-            .wrapping_add(1_442_695_040_888_963_407);
-        self.0 >> 33
-    }
-}
-
-/// A full grid of up to 6 by 6 cells: its width, and its rows from the top, each as a number whose bit x says
+/// A full grid of up to 6 by 6 cells: its sizes, and its rows from the top, each as a number whose bit x says
 /// whether the cell in column x is filled.
 #[derive(Drop)]
 pub struct Picture {
     pub width: u16,
-    pub rows: Vec<u64>,
-}
-
-/// The clue of the line whose filled cells are the lowest bits of a number.
-fn clue_of(alloc: Global, len: usize, bits: u64) -> Result<Clue, Fail> {
-    let mut numbers = Vec::new(alloc);
-    let mut number = 0u16;
-    let mut rest = bits;
-    for _ in 0..len {
-        if rest % 2 == 1 {
-            number = number.wrapping_add(1);
-        } else if number > 0 {
-            numbers.push(number)?;
-            number = 0;
-        }
-        rest /= 2;
-    }
-    if number > 0 {
-        numbers.push(number)?;
-    }
-    Ok(Clue::from_numbers(alloc, &numbers)?)
+    pub height: u16,
+    rows: Vec<u64>,
 }
 
 /// A row of cells, a bit each, of two rows each cell of which is filled with a chance of a half.
@@ -56,15 +24,6 @@ fn drawn_row(chance: u64, some: u64, other: u64) -> u64 {
         0 => some & other,
         1 => some,
         _ => some | other,
-    }
-}
-
-/// A cell that a number draws: known 26 times in 64, once of them as the other colour.
-fn drawn_cell(filled: bool, number: u64) -> Cell {
-    match number % 64 {
-        0 => Cell::of_colour(!filled),
-        1..26 => Cell::of_colour(filled),
-        _ => Cell::Unknown,
     }
 }
 
@@ -89,20 +48,19 @@ impl Picture {
             let (some, other) = (draws.draw(), draws.draw());
             rows.push(drawn_row(chance, some, other))?;
         }
-        Ok(Picture { width, rows })
-    }
-
-    /// The same picture with one row drawn again.
-    pub fn with_drawn_row(&self, draws: &mut Draws) -> Result<Picture, AllocError> {
-        let mut rows = self.rows.clone()?;
-        let place = draws.draw() as usize % rows.len().max(1);
-        if let Some(row) = rows.get_mut(place) {
-            *row = draws.draw();
-        }
         Ok(Picture {
-            width: self.width,
+            width,
+            height,
             rows,
         })
+    }
+
+    /// Draws one row again.
+    fn draw_row(&mut self, draws: &mut Draws) {
+        let place = draws.draw() as usize % self.rows.len().max(1);
+        if let Some(row) = self.rows.get_mut(place) {
+            *row = draws.draw();
+        }
     }
 
     fn is_filled(&self, x: u16, row: u64) -> bool {
@@ -120,18 +78,18 @@ impl Picture {
         bits
     }
 
-    pub fn row_clues(&self, alloc: Global) -> Result<Vec<Clue>, Fail> {
+    fn row_clues(&self, alloc: Global) -> Result<Vec<Clue>, Fail> {
         let mut clues = Vec::new(alloc);
         for row in &self.rows {
-            clues.push(clue_of(alloc, usize::from(self.width), *row)?)?;
+            clues.push(numbered_clue(alloc, self.width, *row)?)?;
         }
         Ok(clues)
     }
 
-    pub fn column_clues(&self, alloc: Global) -> Result<Vec<Clue>, Fail> {
+    fn column_clues(&self, alloc: Global) -> Result<Vec<Clue>, Fail> {
         let mut clues = Vec::new(alloc);
         for x in 0..self.width {
-            clues.push(clue_of(alloc, self.rows.len(), self.column(x))?)?;
+            clues.push(numbered_clue(alloc, self.height, self.column(x))?)?;
         }
         Ok(clues)
     }
@@ -141,26 +99,25 @@ impl Picture {
     pub fn partly_known(&self, alloc: Global, draws: &mut Draws) -> Result<Cells, AllocError> {
         let mut cells = Vec::new(alloc);
         for row in &self.rows {
-            for x in 0..self.width {
-                let filled = self.is_filled(x, *row);
-                cells.push(drawn_cell(filled, draws.draw()))?;
-            }
+            push_partly_known(&mut cells, usize::from(self.width), *row, 26, draws)?;
         }
         Ok(cells)
     }
-}
 
-/// The puzzle with the clues of one picture for its rows and those of another for its columns.
-pub fn drawn_puzzle(alloc: Global, rows: &Picture, columns: &Picture) -> Result<Puzzle, Fail> {
-    let height = u16::try_from(rows.rows.len()).ok().ok_or("height")?;
-    Ok(Puzzle::new(
-        rows.width,
-        height,
-        rows.row_clues(alloc)?,
-        columns.column_clues(alloc)?,
-        Texts::none(),
-        None,
-    )?)
+    /// The puzzle with the picture's clues, or with those that its columns have once a row is drawn again.
+    pub fn puzzle(
+        &mut self,
+        alloc: Global,
+        is_changed: bool,
+        draws: &mut Draws,
+    ) -> Result<Puzzle, Fail> {
+        let rows = self.row_clues(alloc)?;
+        if is_changed {
+            self.draw_row(draws);
+        }
+        let columns = self.column_clues(alloc)?;
+        Ok(Puzzle::new(self.width, self.height, rows, columns, Texts::none(), None)?)
+    }
 }
 
 /// Gives the cells of a row those of a list, from a place on.

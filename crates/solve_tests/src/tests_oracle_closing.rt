@@ -1,13 +1,14 @@
-//! Closing by lines and under trials ends as the oracle's rounds do: on all puzzles of up to 3 by 3 cells, and
-//! on pseudorandom ones of up to 6 by 6, of unknown grids and of partly known ones.
+//! Closing by lines and under trials ends as the oracle's rounds do: on all puzzles of up to 3 by 3 cells,
+//! and on pseudorandom ones of up to 6 by 6, of unknown grids and of partly known ones.
 
 ghost use Rattle.std.specs.Prelude.{◌≡◌};
 
 use crate::oracle_closing::PlainPuzzle;
-use crate::test_pictures::{Draws, Picture, cells_of, drawn_puzzle, grid_of};
+use crate::oracle_lines::Cells;
+use crate::test_draws::{Draws, push_partly_known};
+use crate::test_pictures::{Picture, cells_of, grid_of};
 use crate::test_small::{SIZES, numbered_puzzle};
 use grid_core::{Cell, Grid, Puzzle};
-use line_tests::oracle_lines::Cells;
 use solve_core::{Solver, line_grid};
 use std::alloc::{AllocError, Global};
 use std::test::Fail;
@@ -101,23 +102,6 @@ fn are_closed_alike(alloc: Global, puzzle: &Puzzle, cells: &[Cell]) -> Result<bo
     )
 }
 
-fn drawn_cell(number: u64) -> Cell {
-    match number % 10 {
-        0..2 => Cell::Filled,
-        2..4 => Cell::Blank,
-        _ => Cell::Unknown,
-    }
-}
-
-/// Cells of which about six of ten are unknown.
-fn drawn_cells(alloc: Global, count: usize, draws: &mut Draws) -> Result<Cells, AllocError> {
-    let mut cells = Vec::new(alloc);
-    for _ in 0..count {
-        cells.push(drawn_cell(draws.draw()))?;
-    }
-    Ok(cells)
-}
-
 #[test]
 fn small_puzzles_are_closed_alike(rt: HostRuntime) -> Result<(), Fail> {
     let alloc = rt.alloc();
@@ -127,7 +111,10 @@ fn small_puzzles_are_closed_alike(rt: HostRuntime) -> Result<(), Fail> {
             let Some(puzzle) = numbered_puzzle(alloc, width, height, number)? else {
                 continue;
             };
-            let cells = drawn_cells(alloc, usize::from(width) * usize::from(height), &mut draws)?;
+            let count = usize::from(width) * usize::from(height);
+            let bits = draws.draw();
+            let mut cells = Vec::new(alloc);
+            push_partly_known(&mut cells, count, bits, 26, &mut draws)?;
             assert!(rt;
                 are_closed_alike(alloc, &puzzle, &cells)?,
                 "{width} by {height}: {number}"
@@ -137,33 +124,15 @@ fn small_puzzles_are_closed_alike(rt: HostRuntime) -> Result<(), Fail> {
     Ok(())
 }
 
-/// Whether grids of the puzzle with the clues of two pictures are closed alike: the unknown one, and another.
-fn pictures_are_closed_alike(
-    alloc: Global,
-    rows: &Picture,
-    columns: &Picture,
-    cells: &[Cell],
-) -> Result<bool, Fail> {
-    let puzzle = drawn_puzzle(alloc, rows, columns)?;
-    are_closed_alike(alloc, &puzzle, cells)
-}
-
 #[test]
 fn drawn_puzzles_are_closed_alike(rt: HostRuntime) -> Result<(), Fail> {
     let alloc = rt.alloc();
     let mut draws = Draws(1);
-    for round in 0..1_000u32 {
-        let picture = Picture::drawn(alloc, &mut draws)?;
-        let other = picture.with_drawn_row(&mut draws)?;
+    for round in 0..2_000u32 {
+        let mut picture = Picture::drawn(alloc, &mut draws)?;
         let cells = picture.partly_known(alloc, &mut draws)?;
-        assert!(rt;
-            pictures_are_closed_alike(alloc, &picture, &picture, &cells)?,
-            "{round}"
-        );
-        assert!(rt;
-            pictures_are_closed_alike(alloc, &picture, &other, &cells)?,
-            "{round}, changed"
-        );
+        let puzzle = picture.puzzle(alloc, round % 2 == 1, &mut draws)?;
+        assert!(rt; are_closed_alike(alloc, &puzzle, &cells)?, "{round}");
     }
     Ok(())
 }

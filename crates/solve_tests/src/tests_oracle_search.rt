@@ -2,11 +2,12 @@
 //! of up to 3 by 3 cells, and on pseudorandom ones of up to 6 by 6. Verdicts hold of all full grids.
 
 use crate::oracle_closing::PlainPuzzle;
+use crate::oracle_lines::{Cells, full_lines};
 use crate::oracle_search::{Course, Event, Opening, known_count, picked, walk};
-use crate::test_pictures::{Draws, Picture, cells_of, drawn_puzzle, grid_of};
+use crate::test_draws::{Draws, numbered_cells};
+use crate::test_pictures::{Picture, cells_of, grid_of};
 use crate::test_small::{SIZES, numbered_puzzle};
 use grid_core::{Cell, Grid, LONGEST_SIDE, Puzzle};
-use line_tests::oracle_lines::{Cells, full_lines};
 use solve_core::{Pick, Verdict, next_guess, report};
 use std::alloc::{AllocError, Global};
 use std::test::Fail;
@@ -139,24 +140,14 @@ fn small_puzzles_are_reported_alike(rt: HostRuntime) -> Result<(), Fail> {
     Ok(())
 }
 
-/// The same of the puzzle with the clues of two pictures.
-fn pictures_are_alike(alloc: Global, rows: &Picture, columns: &Picture) -> Result<bool, Fail> {
-    let puzzle = drawn_puzzle(alloc, rows, columns)?;
-    reports_are_alike(alloc, &puzzle)
-}
-
 #[test]
 fn drawn_puzzles_are_reported_alike(rt: HostRuntime) -> Result<(), Fail> {
     let alloc = rt.alloc();
     let mut draws = Draws(1);
-    for round in 0..1_000u32 {
-        let picture = Picture::drawn(alloc, &mut draws)?;
-        let other = picture.with_drawn_row(&mut draws)?;
-        assert!(rt; pictures_are_alike(alloc, &picture, &picture)?, "{round}");
-        assert!(rt;
-            pictures_are_alike(alloc, &picture, &other)?,
-            "{round}, changed"
-        );
+    for round in 0..2_000u32 {
+        let mut picture = Picture::drawn(alloc, &mut draws)?;
+        let puzzle = picture.puzzle(alloc, round % 2 == 1, &mut draws)?;
+        assert!(rt; reports_are_alike(alloc, &puzzle)?, "{round}");
     }
     Ok(())
 }
@@ -224,33 +215,15 @@ fn verdicts_on_small_puzzles_hold_of_all_grids(rt: HostRuntime) -> Result<(), Fa
     Ok(())
 }
 
-/// The same of the puzzle with the clues of two pictures.
-fn drawn_verdict_holds(
-    alloc: Global,
-    rows: &Picture,
-    columns: &Picture,
-    full_grids: &[Cells],
-) -> Result<bool, Fail> {
-    let puzzle = drawn_puzzle(alloc, rows, columns)?;
-    verdict_holds(alloc, &puzzle, full_grids)
-}
-
 #[test]
 fn verdicts_on_drawn_puzzles_hold_of_all_grids(rt: HostRuntime) -> Result<(), Fail> {
     let alloc = rt.alloc();
     let full_grids = full_lines(alloc, 16)?;
     let mut draws = Draws(1);
-    for round in 0..50u32 {
-        let picture = Picture::drawn_of(alloc, 4, 4, &mut draws)?;
-        let other = picture.with_drawn_row(&mut draws)?;
-        assert!(rt;
-            drawn_verdict_holds(alloc, &picture, &picture, &full_grids)?,
-            "{round}"
-        );
-        assert!(rt;
-            drawn_verdict_holds(alloc, &picture, &other, &full_grids)?,
-            "{round}, changed"
-        );
+    for round in 0..100u32 {
+        let mut picture = Picture::drawn_of(alloc, 4, 4, &mut draws)?;
+        let puzzle = picture.puzzle(alloc, round % 2 == 1, &mut draws)?;
+        assert!(rt; verdict_holds(alloc, &puzzle, &full_grids)?, "{round}");
     }
     Ok(())
 }
@@ -276,25 +249,6 @@ fn guesses_are_alike(alloc: Global, width: u16, height: u16, cells: &[Cell]) -> 
         }
     }
     Ok(true)
-}
-
-fn cell_of_digit(digit: u32) -> Cell {
-    match digit {
-        0 => Cell::Unknown,
-        1 => Cell::Filled,
-        _ => Cell::Blank,
-    }
-}
-
-/// Cells that are the digits of a number, base 3.
-fn numbered_cells(alloc: Global, count: usize, number: u32) -> Result<Cells, AllocError> {
-    let mut cells = Vec::new(alloc);
-    let mut rest = number;
-    for _ in 0..count {
-        cells.push(cell_of_digit(rest % 3))?;
-        rest /= 3;
-    }
-    Ok(cells)
 }
 
 /// Widths, heights, and how many grids there are.
@@ -334,9 +288,8 @@ fn guesses_in_drawn_grids_are_alike(rt: HostRuntime) -> Result<(), Fail> {
     for round in 0..10_000u32 {
         let picture = Picture::drawn(alloc, &mut draws)?;
         let cells = picture.partly_known(alloc, &mut draws)?;
-        let puzzle = drawn_puzzle(alloc, &picture, &picture)?;
         assert!(rt;
-            guesses_are_alike(alloc, puzzle.width(), puzzle.height(), &cells)?,
+            guesses_are_alike(alloc, picture.width, picture.height, &cells)?,
             "{round}"
         );
     }

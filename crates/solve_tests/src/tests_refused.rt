@@ -111,7 +111,7 @@ fn closing_takes_no_memory(rt: HostRuntime) -> Result<(), Fail> {
     let mut solver = Solver::new(alloc, &puzzle)?;
     refuse(alloc, 0);
     let by_lines = solver.close_lines(&mut grid) && grid.known() == 0;
-    let by_trials = solver.close_trials(&mut grid) && grid.known() == 8;
+    let by_trials = solver.close_trials(&mut grid) && puzzle.solved_by(&grid);
     assert!(rt; !was_refused(alloc), "no growth");
     assert!(rt; by_lines && by_trials);
     assert!(rt; is_heeded(alloc));

@@ -1,5 +1,4 @@
 //! Tests of puzzles that need sets of each width.
-ghost use Rattle.std.specs.Prelude.{◌≤◌};
 
 use crate::test_puzzles::puzzle_with;
 use grid_core::Grid;
@@ -13,23 +12,6 @@ const ONE: &[u16] = &[1];
 
 /// Clues of lines that may lie across one long line.
 const MANY: [&[u16]; 256] = [NONE; 256];
-
-/// How many cells of one row without runs lines settle.
-fn settled(alloc: Global, width: usize) -> Option<u32>
-    requires { width ≤ 256 }
-{
-    let puzzle = puzzle_with(alloc, &[NONE], &MANY[..width])?;
-    let grid = line_grid(alloc, &puzzle).ok()?;
-    grid.as_ref().map(|grid| grid.known())
-}
-
-#[test]
-fn lines_settle_rows_of_each_width(rt: HostRuntime) -> Result<(), Fail> {
-    for width in [1, 64, 65, 128, 129, 256] {
-        assert!(rt; settled(rt.alloc(), width) == Some(width as u32), "{width}");
-    }
-    Ok(())
-}
 
 /// What a reporter finds with at most two guesses: the cells that lines settle, and trials, and the guesses.
 fn found_by(
@@ -90,5 +72,7 @@ fn the_largest_puzzle_is_closed(rt: HostRuntime) -> Result<(), Fail> {
     let mut solver = Solver::new(alloc, &puzzle)?;
     let mut grid = Grid::unknown(alloc, puzzle.width(), puzzle.height())?;
     assert!(rt; solver.close_lines(&mut grid) && grid.known() == 65_536);
+    let grid = line_grid(alloc, &puzzle)?.ok_or("dead")?;
+    assert!(rt; grid.known() == 65_536);
     Ok(())
 }

@@ -1,36 +1,20 @@
 //! That lanes work at the same time, that jobs are dealt in turn, and that a thread can be started, no
 //! contract says.
 
-use grid_core::{Clue, Puzzle, Texts};
+use crate::tests_lanes::job;
 use lane_core::{Gate, Job, OpenGate};
-use solve_core::Pick;
 use std::alloc::Global;
 use std::sync::atomic::{AtomicU32, Ordering};
 use std::test::Fail;
-use survey_core::{MOST_JOBS, MOST_LANES, collect, collect_one};
+use survey_core::{MOST_JOBS, MOST_LANES, collect};
 
 const MOST_TURNS: u32 = 100_000_000;
-
-/// The clue of one line, a single 1.
-fn lone_clue(alloc: Global) -> Result<Vec<Clue>, Fail> {
-    let mut clues = Vec::with_capacity(alloc, 1)?;
-    clues.push(Clue::from_numbers(alloc, &[1]).ok().ok_or("clue")?)?;
-    Ok(clues)
-}
-
-/// The puzzle of one cell, which is filled.
-fn one_cell(alloc: Global) -> Result<Puzzle, Fail> {
-    let rows = lone_clue(alloc)?;
-    let columns = lone_clue(alloc)?;
-    let puzzle = Puzzle::new(1, 1, rows, columns, Texts::none(), None);
-    Ok(puzzle.ok().ok_or("puzzle")?)
-}
 
 /// Jobs with the numbers from 0.
 pub fn jobs_numbered(alloc: Global, count: u32) -> Result<Vec<Job>, Fail> {
     let mut jobs = Vec::new(alloc);
     for number in 0..count {
-        jobs.push(Job::new(number, one_cell(alloc)?, 1000, Pick::First))?;
+        jobs.push(job(alloc, number)?)?;
     }
     Ok(jobs)
 }
@@ -134,18 +118,6 @@ fn answers_stand_in_job_order(rt: HostRuntime) -> Result<(), Fail> {
         for (answer, number) in answers.iter().zip(0..count) {
             assert_eq!(rt; answer.number(), number);
         }
-    }
-    Ok(())
-}
-
-#[test]
-fn one_thread_answers_in_job_order(rt: HostRuntime) -> Result<(), Fail> {
-    let jobs = jobs_numbered(rt.alloc(), 5)?;
-    let answers = collect_one(rt.alloc(), jobs).ok().ok_or("memory")?;
-    assert_eq!(rt; answers.len(), 5);
-    for (answer, number) in answers.iter().zip(0..5u32) {
-        assert_eq!(rt; answer.number(), number);
-        assert_eq!(rt; answer.guesses(), 1000);
     }
     Ok(())
 }

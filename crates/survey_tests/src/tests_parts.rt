@@ -1,5 +1,5 @@
-//! Surveys that are read and printed in parts: that they have the bytes of one thread if threads are there, no
-//! contract says, nor that they flush once.
+//! Surveys that are read and printed in parts: that they have the bytes of one thread if threads are there,
+//! no contract says, nor that they flush once.
 
 use crate::tests::{one_thread_survey, repeated};
 use crate::tests_samples::{TEN, settings};

@@ -1,11 +1,10 @@
 //! What is told of the progress, over one lane and over more: no contract follows a value into a thread.
 
 ghost use Rattle.std.specs.Prelude.{◌-◌, ◌^◌, ◌<◌};
-ghost use Rattle.survey_core.specs.Counted.{fault_count};
+ghost use Rattle.streams.specs.Counted.{fault_count};
 
-use crate::tests_samples::{DEMO, TEN, TEN_SURVEY, settings};
+use crate::tests_samples::{TEN, TEN_SURVEY, settings};
 use lane_core::Gate;
-use solve_core::Pick;
 use std::alloc::Global;
 use std::io::{ErrorKind, Write};
 use std::process::Abort;
@@ -15,7 +14,7 @@ use std::test::Fail;
 use std::thread::Threads;
 use std::time::{Clock, Duration, Instant};
 use std::{io, thread};
-use survey_core::{Counted, Progress, ProgressGate, Settings, run_survey};
+use survey_core::{Counted, Progress, ProgressGate, run_survey};
 
 /// Lets jobs enter, one after another.
 fn enter(gate: &ProgressGate, count: u32) {
@@ -155,22 +154,17 @@ fn jobs_enter_while_the_writer_is_held(rt: HostRuntime) -> Result<(), Fail> {
     Ok(())
 }
 
-/// Takes bytes, and fails at its first calls.
+/// Fails at each write, and counts them.
 #[derive(Drop)]
 struct FailingErrors {
-    taken: Vec<u8>,
-    failing: u32,
+    failed: u32,
     kind: ErrorKind,
 }
 
 impl Write for FailingErrors {
-    fn write(&mut self, bytes: &[u8]) -> io::Result<usize> {
-        if self.failing > 0 {
-            self.failing -= 1;
-            return Err(io::Error::from(self.kind));
-        }
-        self.taken.extend_from_slice(bytes)?;
-        Ok(bytes.len())
+    fn write(&mut self, _bytes: &[u8]) -> io::Result<usize> {
+        self.failed = self.failed.saturating_add(1);
+        Err(io::Error::from(self.kind))
     }
 
     fn flush(&mut self) -> io::Result<()> {
@@ -178,7 +172,7 @@ impl Write for FailingErrors {
     }
 }
 
-/// That the survey of ten entries, two of them refused, is the same while its progress is told to this writer.
+/// That the survey of ten entries, two of them refused, is the same while its progress is told to a writer.
 fn assert_survey<R: Threads + Wait + Sync + Abort + AllocGlobal, E: Write + Drop + Send>(
     rt: &R,
     lanes: u16,
@@ -213,56 +207,13 @@ fn survey_is_the_same_with_progress(rt: HostRuntime) -> Result<(), Fail> {
 }
 
 #[test]
-fn progress_is_told_without_guesses(rt: HostRuntime) -> Result<(), Fail> {
-    let alloc = rt.alloc();
-    let settings = Settings {
-        lanes: 1,
-        ring: 1,
-        guesses: 0,
-        pick: Pick::First,
-        show: false,
-    };
-    let mut reader = Counted::new(DEMO.as_bytes());
-    let mut output = Counted::new(Vec::new(alloc));
-    let mut errors = Vec::new(alloc);
-    let gate = ProgressGate::new();
-    let progress = Progress::new(alloc, &mut errors, None)?;
-    progress.tell_while(
-        &rt,
-        &gate,
-        &mut ||
-            requires reading { fault_count reader < 2 ^ 32 - 1 }
-            requires writing { fault_count output < 2 ^ 32 - 1 }
-        { run_survey(&rt, alloc, &mut reader, &mut output, &settings, &gate) },
-    )?;
-    assert!(rt; errors.ends_with(b"\rentries begun 1\n"));
-    Ok(())
-}
-
-#[test]
 fn failed_errors_change_nothing(rt: HostRuntime) -> Result<(), Fail> {
     for kind in [ErrorKind::BrokenPipe, ErrorKind::Interrupted] {
         for lanes in [1u16, 4] {
-            let mut errors = FailingErrors {
-                taken: Vec::new(rt.alloc()),
-                failing: u32::MAX,
-                kind,
-            };
+            let mut errors = FailingErrors { failed: 0, kind };
             assert_survey(&rt, lanes, &mut errors)?;
-            assert!(rt; errors.failing < u32::MAX && errors.taken.is_empty());
+            assert!(rt; errors.failed > 0);
         }
     }
-    Ok(())
-}
-
-#[test]
-fn line_is_ended_behind_a_failed_number(rt: HostRuntime) -> Result<(), Fail> {
-    let mut errors = FailingErrors {
-        taken: Vec::new(rt.alloc()),
-        failing: 1,
-        kind: ErrorKind::WouldBlock,
-    };
-    assert_survey(&rt, 3, &mut errors)?;
-    assert!(rt; errors.taken.ends_with(b"\n"));
     Ok(())
 }

@@ -1,12 +1,11 @@
 //! Growths of memory and starts of threads that are refused, each in turn.
 
 use crate::tests::{one_thread_survey, repeated};
-use crate::tests_answers::{EIGHT, eight_jobs};
+use crate::tests_answers::{assert_answers, eight_jobs};
 use crate::tests_samples::{TEN, TEN_SURVEY, settings};
-use lane_core::{Answer, Gate, OpenGate};
+use lane_core::{Gate, OpenGate};
 use puzzle_text::entries;
 use refusals::{Told, refuse, sweep, told_if, was_refused};
-use std::process::Abort;
 use std::sync::Wait;
 use std::sync::atomic::{AtomicU32, Ordering};
 use std::test::Fail;
@@ -25,20 +24,6 @@ struct Entries {
 impl Gate for Entries {
     fn enter(&self, _number: u32) {
         self.count.fetch_add(1, Ordering::SeqCst);
-    }
-}
-
-/// Asserts that eight answers stand in job order, each with its report, or without it if a growth was
-/// refused.
-fn assert_answers(rt: &impl Abort, answers: &[Answer], refused: bool) {
-    assert_eq!(rt; answers.len(), 8);
-    for (answer, (number, _, grade, spent, goal)) in answers.iter().zip(EIGHT) {
-        assert_eq!(rt; answer.number(), number);
-        assert_eq!(rt; answer.puzzle().goal_word(), goal, "puzzle {number}");
-        match answer.outcome() {
-            Ok(findings) => assert_eq!(rt; (findings.grade, findings.spent), (grade, spent)),
-            Err(_) => assert!(rt; refused, "puzzle {number}"),
-        }
     }
 }
 

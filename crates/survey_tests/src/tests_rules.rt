@@ -1,7 +1,7 @@
 //! Surveys by both rules for guesses.
 
 use crate::tests::assert_survey;
-use crate::tests_samples::{TEN, TEN_SURVEY, TWIN};
+use crate::tests_samples::TWIN;
 use solve_core::Pick;
 use survey_core::*;
 
@@ -20,13 +20,13 @@ const CUT_SHORT: &str = "1 5x8 unsettled search 32 32 2 absent twin.mk\n\
     entries 1 refused 0 none 0 one 0 several 0 unsettled 1 line 0 trials 0 search 1\n";
 
 /// Settings with rings of 8, the others drawn into their ranges.
-fn settings(lanes: u16, guesses: u32, pick: Pick, show: bool) -> Settings {
+fn settings(lanes: u16, guesses: u32, pick: Pick) -> Settings {
     Settings {
         lanes: lanes.clamp(1, MOST_LANES),
         ring: 8,
         guesses: guesses.min(1000),
         pick,
-        show,
+        show: true,
     }
 }
 
@@ -39,16 +39,8 @@ fn rules_find_different_solutions(rt: HostRuntime) {
             (1000, Pick::First, LOWER_TURNED),
             (1000, Pick::Most, UPPER_TURNED),
         ] {
-            let settings = settings(lanes, guesses, pick, true);
+            let settings = settings(lanes, guesses, pick);
             assert_survey(&rt, TWIN.as_bytes(), &settings, Ok(()), text);
         }
-    }
-}
-
-#[test]
-fn ten_entries_are_alike_by_both_rules(rt: HostRuntime) {
-    for lanes in [1u16, 3] {
-        let settings = settings(lanes, 1000, Pick::Most, false);
-        assert_survey(&rt, TEN.as_bytes(), &settings, Ok(()), TEN_SURVEY);
     }
 }

@@ -1,7 +1,7 @@
 //! Readers and writers that fail in mid-stream.
 
 ghost use Rattle.std.specs.Prelude.{◌≡◌};
-ghost use Rattle.survey_core.specs.Counted.{fault_count};
+ghost use Rattle.streams.specs.Counted.{fault_count};
 
 use crate::tests_samples::{DEMO, DEMO_SURVEY, NOTHING, settings};
 use lane_core::OpenGate;
@@ -138,32 +138,19 @@ fn assert_write_fails(
 }
 
 #[test]
-fn writer_fails_after_some_bytes(rt: HostRuntime) {
-    for takes_nothing in [false, true] {
-        for room in 0..NOTHING.len() {
-            let writer = failing_writer(rt.alloc(), 3, room, takes_nothing);
-            assert_write_fails(&rt, "", 1, writer, &NOTHING.as_bytes()[..room]);
-        }
-    }
-}
-
-#[test]
 fn writer_fails_at_each_call(rt: HostRuntime) {
     assert_eq!(rt; DEMO_SURVEY.len(), 119);
-    for lanes in [1u16, 4] {
-        for room in 0..DEMO_SURVEY.len() {
-            let writer = failing_writer(rt.alloc(), 1, room, false);
-            assert_write_fails(&rt, DEMO, lanes, writer, &DEMO_SURVEY.as_bytes()[..room]);
+    for (collection, survey, lanes, piece, takes_nothing) in [
+        ("", NOTHING, 1u16, 3usize, false),
+        ("", NOTHING, 1, 3, true),
+        (DEMO, DEMO_SURVEY, 1, 1, false),
+        (DEMO, DEMO_SURVEY, 4, 1000, true),
+    ] {
+        for room in 0..survey.len() {
+            let writer = failing_writer(rt.alloc(), piece, room, takes_nothing);
+            let sent = &survey.as_bytes()[..room];
+            assert_write_fails(&rt, collection, lanes, writer, sent);
         }
-    }
-}
-
-#[test]
-fn writer_takes_a_line_and_then_nothing(rt: HostRuntime) {
-    for lanes in [1u16, 4] {
-        let writer = failing_writer(rt.alloc(), 1000, 39, true);
-        let line = b"1 5x10 one line 50 50 0 meets demo.non\n";
-        assert_write_fails(&rt, DEMO, lanes, writer, line);
     }
 }
 

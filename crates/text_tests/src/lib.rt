@@ -1,12 +1,18 @@
-//! Tests of `puzzle_text`.
+//! Tests of `grid_core`, `puzzle_text` and `refusals`.
 #![tactic(auto)]
 
 #[cfg(test)]
 mod tests;
 #[cfg(test)]
+mod tests_grids;
+#[cfg(test)]
 mod tests_quick;
 #[cfg(test)]
 mod tests_refused;
+#[cfg(test)]
+mod tests_refused_grids;
+#[cfg(test)]
+mod tests_rows;
 #[cfg(test)]
 mod tests_slow;
 #[cfg(test)]
@@ -17,3 +23,5 @@ mod tests_slow_nin;
 mod tests_slow_non;
 #[cfg(test)]
 mod tests_slowly;
+#[cfg(test)]
+mod tests_sweeps;

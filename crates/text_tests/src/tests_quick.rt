@@ -1,6 +1,5 @@
 //! The quick readers take what they should: every text that a writer gives, with LF and with CR LF.
 
-use crate::tests::DEMO;
 use crate::tests_slowly::Draws;
 use grid_core::{Clue, Field, LONGEST_SIDE, Puzzle, Texts};
 use puzzle_text::*;
@@ -124,12 +123,6 @@ fn written_texts_are_taken(rt: HostRuntime) -> Result<(), Fail> {
         let puzzle = drawn_puzzle(rt.alloc(), &mut draws)?;
         assert!(rt; are_taken(rt.alloc(), &puzzle)?);
     }
-    Ok(())
-}
-
-#[test]
-fn demonstration_is_taken(rt: HostRuntime) -> Result<(), Fail> {
-    assert!(rt; is_taken(rt.alloc(), Format::Non, DEMO)?);
     Ok(())
 }
 

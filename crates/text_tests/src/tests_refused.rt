@@ -22,31 +22,34 @@ const MK: &[u8] = b"2 1\n\n1\n\n1 1 1 1 1 1 1 1 1 1 1 1 1 1 1 1 1 1\n\n#\n\n2\n"
 
 const NIN: &[u8] = b"2 1\n1\n\n1 2 3 4 5 6 7 8 9\n\n1\n";
 
-/// A text of each fault that is found after a growth.
-const FAULTY_NON: [&[u8]; 8] = [
-    b"",
-    b"width 0\nheight 1\n",
-    b"width 1\nheight 1\n",
-    b"7\nwidth 1\nheight 1\nrows\ncolumns\n",
-    b"width 1\nwidth 1\nheight 1\nrows\ncolumns\n",
-    b"width 1\nheight 1\nrows\ncolumns\n",
-    b"width 1\nheight 1\nrows\n1\ncolumns\n1 1 1 1 1 1 1 1 1 1 0\n",
-    b"by c\nwidth 1\nheight 1\nrows\n1\ncolumns\n1\ngoal x\n",
-];
-
-const FAULTY_MK: [&[u8]; 5] = [
-    b"",
-    b"0 1\n",
-    b"1 1\n1\n",
-    b"1 1\n1\n#\n1\n1\n",
-    b"1 1\n1\n#\n1 1 1 1 1 1 1 1 1 1 0\n",
-];
-
-const FAULTY_NIN: [&[u8]; 4] = [
-    b"",
-    b"0 1\n",
-    b"1 1\n1\n",
-    b"1 1\n1\n1 1 1 1 1 1 1 1 1 1 0\n",
+/// These, and a text of each fault that is found after a growth.
+const READ: [(Format, &[u8]); 20] = [
+    (Format::Non, NON),
+    (Format::Non, b""),
+    (Format::Non, b"width 0\nheight 1\n"),
+    (Format::Non, b"width 1\nheight 1\n"),
+    (Format::Non, b"7\nwidth 1\nheight 1\nrows\ncolumns\n"),
+    (Format::Non, b"width 1\nwidth 1\nheight 1\nrows\ncolumns\n"),
+    (Format::Non, b"width 1\nheight 1\nrows\ncolumns\n"),
+    (
+        Format::Non,
+        b"width 1\nheight 1\nrows\n1\ncolumns\n1 1 1 1 1 1 1 1 1 1 0\n",
+    ),
+    (
+        Format::Non,
+        b"by c\nwidth 1\nheight 1\nrows\n1\ncolumns\n1\ngoal x\n",
+    ),
+    (Format::Mk, MK),
+    (Format::Mk, b""),
+    (Format::Mk, b"0 1\n"),
+    (Format::Mk, b"1 1\n1\n"),
+    (Format::Mk, b"1 1\n1\n#\n1\n1\n"),
+    (Format::Mk, b"1 1\n1\n#\n1 1 1 1 1 1 1 1 1 1 0\n"),
+    (Format::Nin, NIN),
+    (Format::Nin, b""),
+    (Format::Nin, b"0 1\n"),
+    (Format::Nin, b"1 1\n1\n"),
+    (Format::Nin, b"1 1\n1\n1 1 1 1 1 1 1 1 1 1 0\n"),
 ];
 
 /// What a reader told, beside what the slow reader says.
@@ -57,44 +60,24 @@ fn told_of_read(answer: Result<Puzzle, TextFault>, slow: &Result<Said<'_>, TextF
     }
 }
 
-fn sweep_non(alloc: Global, text: &[u8]) -> Result<usize, Unswept> {
-    let slow = slow_non(alloc, text);
-    sweep(alloc, || told_of_read(read_non(alloc, text), &slow))
-}
-
-fn sweep_mk(alloc: Global, text: &[u8]) -> Result<usize, Unswept> {
-    let slow = slow_mk(alloc, text);
-    sweep(alloc, || told_of_read(read_mk(alloc, text), &slow))
-}
-
-fn sweep_nin(alloc: Global, text: &[u8]) -> Result<usize, Unswept> {
-    let slow = slow_nin(alloc, text);
-    sweep(alloc, || told_of_read(read_nin(alloc, text), &slow))
-}
-
-#[test]
-fn non_is_read_or_refused(rt: HostRuntime) -> Result<(), Fail> {
-    sweep_non(rt.alloc(), NON)?;
-    for text in FAULTY_NON {
-        sweep_non(rt.alloc(), text)?;
+/// What the slow reader of a format says.
+fn slow(alloc: Global, format: Format, text: &[u8]) -> Result<Said<'_>, TextFault> {
+    match format {
+        Format::Non => slow_non(alloc, text),
+        Format::Mk => slow_mk(alloc, text),
+        Format::Nin => slow_nin(alloc, text),
     }
-    Ok(())
+}
+
+fn sweep_read(alloc: Global, format: Format, text: &[u8]) -> Result<usize, Unswept> {
+    let slow = slow(alloc, format, text);
+    sweep(alloc, || told_of_read(format.read(alloc, text), &slow))
 }
 
 #[test]
-fn mk_is_read_or_refused(rt: HostRuntime) -> Result<(), Fail> {
-    sweep_mk(rt.alloc(), MK)?;
-    for text in FAULTY_MK {
-        sweep_mk(rt.alloc(), text)?;
-    }
-    Ok(())
-}
-
-#[test]
-fn nin_is_read_or_refused(rt: HostRuntime) -> Result<(), Fail> {
-    sweep_nin(rt.alloc(), NIN)?;
-    for text in FAULTY_NIN {
-        sweep_nin(rt.alloc(), text)?;
+fn texts_are_read_or_refused(rt: HostRuntime) -> Result<(), Fail> {
+    for (format, text) in READ {
+        sweep_read(rt.alloc(), format, text)?;
     }
     Ok(())
 }
@@ -112,9 +95,9 @@ const USUAL_NIN: &[u8] = b"2 1\n1\n1 2 3 4 5 6 7 8 9\n1\n";
 #[test]
 fn usual_texts_grow_by_lists(rt: HostRuntime) -> Result<(), Fail> {
     let alloc = rt.alloc();
-    let non = sweep_non(alloc, USUAL_NON)?;
-    let mk = sweep_mk(alloc, USUAL_MK)?;
-    let nin = sweep_nin(alloc, USUAL_NIN)?;
+    let non = sweep_read(alloc, Format::Non, USUAL_NON)?;
+    let mk = sweep_read(alloc, Format::Mk, USUAL_MK)?;
+    let nin = sweep_read(alloc, Format::Nin, USUAL_NIN)?;
     assert!(rt; (non, mk, nin) == (0, 0, 0) || (non, mk, nin) == (7, 3, 3));
     Ok(())
 }
@@ -162,65 +145,36 @@ const WRITTEN_MK: &[u8] = b"3 2\n1\n0\n1 1 1 1 1 1 1 1 1 1\n#\n2\n1\n";
 
 const WRITTEN_NIN: &[u8] = b"2 3\n1\n0\n1 1 1 1 1 1 1 1 1 1\n2\n1\n";
 
+/// Sweeps the writing of a puzzle in a format, which gives this text, or refuses an ambiguous one.
+fn sweep_written(
+    alloc: Global,
+    puzzle: &Puzzle,
+    format: Format,
+    wanted: Option<&[u8]>,
+) -> Result<usize, Unswept> {
+    sweep(
+        alloc,
+        || told_of_written(format.write(alloc, puzzle), wanted),
+    )
+}
+
 #[test]
 fn puzzles_are_written_or_refused(rt: HostRuntime) -> Result<(), Fail> {
     let alloc = rt.alloc();
     let puzzle = read_non(alloc, NON)?;
-    sweep(
-        alloc,
-        || told_of_text(write_non(alloc, &puzzle), WRITTEN_NON),
-    )?;
-    sweep(alloc, || told_of_text(write_mk(alloc, &puzzle), WRITTEN_MK))?;
-    sweep(
-        alloc,
-        || told_of_written(write_nin(alloc, &puzzle), Some(WRITTEN_NIN)),
-    )?;
-    Ok(())
-}
-
-#[test]
-fn formats_read_or_refuse(rt: HostRuntime) -> Result<(), Fail> {
-    let alloc = rt.alloc();
-    let non = slow_non(alloc, NON);
-    sweep(alloc, || told_of_read(Format::Non.read(alloc, NON), &non))?;
-    let mk = slow_mk(alloc, MK);
-    sweep(alloc, || told_of_read(Format::Mk.read(alloc, MK), &mk))?;
-    let nin = slow_nin(alloc, NIN);
-    sweep(alloc, || told_of_read(Format::Nin.read(alloc, NIN), &nin))?;
-    Ok(())
-}
-
-#[test]
-fn formats_write_or_refuse(rt: HostRuntime) -> Result<(), Fail> {
-    let alloc = rt.alloc();
-    let puzzle = read_non(alloc, NON)?;
-    sweep(
-        alloc,
-        || told_of_written(Format::Non.write(alloc, &puzzle), Some(WRITTEN_NON)),
-    )?;
-    sweep(
-        alloc,
-        || told_of_written(Format::Mk.write(alloc, &puzzle), Some(WRITTEN_MK)),
-    )?;
-    sweep(
-        alloc,
-        || told_of_written(Format::Nin.write(alloc, &puzzle), Some(WRITTEN_NIN)),
-    )?;
+    sweep_written(alloc, &puzzle, Format::Non, Some(WRITTEN_NON))?;
+    sweep_written(alloc, &puzzle, Format::Mk, Some(WRITTEN_MK))?;
+    sweep_written(alloc, &puzzle, Format::Nin, Some(WRITTEN_NIN))?;
     Ok(())
 }
 
 #[test]
 fn ambiguous_puzzles_are_ambiguous_or_refused(rt: HostRuntime) -> Result<(), Fail> {
     let alloc = rt.alloc();
-    let flat = read_mk(alloc, b"1 2\n1\n#\n1\n2\n")?;
-    sweep(
-        alloc,
-        || told_of_written(Format::Nin.write(alloc, &flat), None),
-    )?;
-    sweep(
-        alloc,
-        || told_of_written(Format::Mk.write(alloc, &flat), Some(b"1 2\n1\n#\n1\n2\n")),
-    )?;
+    let mk = b"1 2\n1\n#\n1\n2\n";
+    let flat = read_mk(alloc, mk)?;
+    sweep_written(alloc, &flat, Format::Nin, None)?;
+    sweep_written(alloc, &flat, Format::Mk, Some(mk))?;
     Ok(())
 }
 

@@ -1,7 +1,7 @@
 //! Calls whose growths of memory are refused, each in turn, and calls that take no memory
 //! with every growth refused.
 
-use crate::tests::{Batch, Call, Called, job, jobs, puzzle_with};
+use crate::tests_lanes::{Batch, Call, Called, job, jobs, puzzle_with};
 use grid_core::NoMemory;
 use lane_core::*;
 use refusals::{Told, is_heeded, refuse, sweep, told_if, was_refused};

@@ -2,10 +2,8 @@
 
 ghost use Rattle.std.specs.Prelude.{◌≡◌, IfOk, IfSome};
 
-use crate::tests_rows::have_same_cells;
 use grid_core::*;
 use std::alloc::Global;
-use std::fmt::Display;
 use std::test::Fail;
 
 const WIDTH: u16 = 5;
@@ -104,29 +102,6 @@ pub(crate) fn is_demonstration(puzzle: &Puzzle) -> bool {
         && puzzle.texts().get(Field::Title) == Some(b"Demo".as_slice())
 }
 
-// Whether each clue equals its copy.
-fn are_copied(alloc: Global, clues: &[Clue]) -> Result<bool, NoMemory> {
-    for clue in clues {
-        let copy = clue.copy(alloc)?;
-        if copy.numbers() != clue.numbers() {
-            return Ok(false);
-        }
-    }
-    Ok(true)
-}
-
-#[test]
-fn copies_equal_their_sources(rt: HostRuntime) -> Result<(), Fail> {
-    let alloc = rt.alloc();
-    let puzzle = demonstration(alloc, goal_of(alloc, GOAL)).ok_or("puzzle")?;
-    let copy = puzzle.copy(alloc)?;
-    assert!(rt; is_demonstration(&copy), "sizes, clues and title");
-    assert!(rt; are_same_with_goal(&copy, &puzzle), "clues, goal and title");
-    assert!(rt; are_copied(alloc, puzzle.rows())?, "the rows' clues");
-    assert!(rt; are_copied(alloc, puzzle.columns())?, "the columns' clues");
-    Ok(())
-}
-
 /// The longest clue.
 static ONES: [u16; 128] = [1; 128];
 
@@ -156,7 +131,6 @@ fn the_greatest_puzzle_is_copied(rt: HostRuntime) -> Result<(), Fail> {
     let puzzle = greatest_puzzle(alloc)?;
     let copy = puzzle.copy(alloc)?;
     assert!(rt; are_same_with_goal(&copy, &puzzle));
-    assert!(rt; are_copied(alloc, copy.rows())?);
     Ok(())
 }
 
@@ -210,90 +184,6 @@ fn the_goal_is_the_solution(rt: HostRuntime) -> Result<(), Fail> {
         grid.first_unknown() == Some((4, 9)),
         "the one that is missing"
     );
-    Ok(())
-}
-
-#[test]
-fn grids_equal_their_copies(rt: HostRuntime) -> Result<(), Fail> {
-    let alloc = rt.alloc();
-    let grid = drawn(alloc, GOAL)?.ok_or("grid")?;
-    let copy = grid.copy(alloc)?;
-    assert!(rt;
-        copy.get(1, 0) == Cell::Filled && copy.get(0, 0) == Cell::Blank,
-        "the first two cells"
-    );
-    assert!(rt; have_same_cells(&copy, &grid), "each cell");
-    Ok(())
-}
-
-#[test]
-fn a_new_grid_is_unknown(rt: HostRuntime) -> Result<(), Fail> {
-    let grid = Grid::unknown(rt.alloc(), 2, 2)?;
-    assert!(rt; grid.known() == 0 && grid.first_unknown() == Some((0, 0)));
-    assert!(rt; grid.width() == 2 && grid.height() == 2);
-    Ok(())
-}
-
-#[test]
-fn a_cell_by_its_place_in_row_order(rt: HostRuntime) -> Result<(), Fail> {
-    let mut grid = Grid::unknown(rt.alloc(), 3, 2)?;
-    grid.set_at(4, Cell::Filled);
-    assert!(rt; grid.get(1, 1) == Cell::Filled && grid.known() == 1);
-    grid.set(2, 0, Cell::Blank);
-    assert!(rt;
-        grid.at(2) == Cell::Blank && grid.at(4) == Cell::Filled && grid.at(3) == Cell::Unknown
-    );
-    Ok(())
-}
-
-// Whether each cell can be set in turn, every third filled and the others blank: before each is set it is the
-// first unknown one.
-fn fills(grid: &mut Grid) -> bool {
-    for y in 0..grid.height() {
-        for x in 0..grid.width() {
-            let place = u32::from(y) * u32::from(grid.width()) + u32::from(x);
-            if x >= grid.width() || y >= grid.height() {
-                return false;
-            }
-            if grid.first_unknown() != Some((x, y)) || grid.known() != place {
-                return false;
-            }
-            grid.set(x, y, Cell::of_colour(place % 3 == 0));
-        }
-    }
-    grid.first_unknown().is_none()
-}
-
-// Whether every third cell is filled and the others are blank.
-fn is_filled_by_threes(grid: &Grid) -> bool {
-    for y in 0..grid.height() {
-        for x in 0..grid.width() {
-            let place = u32::from(y) * u32::from(grid.width()) + u32::from(x);
-            if grid.get(x, y) != Cell::of_colour(place % 3 == 0) {
-                return false;
-            }
-        }
-    }
-    true
-}
-
-// Whether a grid of this size is read as it was set.
-fn keeps_its_cells(alloc: Global, width: u16, height: u16) -> Result<bool, NoMemory> {
-    if width == 0 || height == 0 || width > 256 || height > 256 {
-        return Ok(false);
-    }
-    let mut grid = Grid::unknown(alloc, width, height)?;
-    Ok(fills(&mut grid) && is_filled_by_threes(&grid))
-}
-
-#[test]
-fn rows_that_end_within_a_block(rt: HostRuntime) -> Result<(), Fail> {
-    for (width, height) in [(64, 2), (65, 3), (13, 9), (1, 256), (1, 1)] {
-        assert!(rt;
-            keeps_its_cells(rt.alloc(), width, height)?,
-            "{width} by {height}"
-        );
-    }
     Ok(())
 }
 
@@ -407,14 +297,6 @@ fn has_licence(texts: &Texts, licence: &[u8]) -> bool {
     texts.get(Field::License) == Some(licence)
 }
 
-// Whether there is no text but a licence.
-fn has_licence_alone(texts: &Texts) -> bool {
-    texts.get(Field::Catalogue).is_none()
-        && texts.get(Field::Title).is_none()
-        && texts.get(Field::By).is_none()
-        && texts.get(Field::Copyright).is_none()
-}
-
 #[test]
 fn texts_have_limits(rt: HostRuntime) -> Result<(), Fail> {
     let alloc = rt.alloc();
@@ -426,36 +308,7 @@ fn texts_have_limits(rt: HostRuntime) -> Result<(), Fail> {
     assert!(rt; has_licence(&texts, &fitting), "as it was");
     texts.set(alloc, Field::License, b"")?;
     assert!(rt; has_licence(&texts, b""), "there and empty");
-    assert!(rt; has_licence_alone(&texts));
     Ok(())
-}
-
-/// Whether a fault is told by this sentence.
-fn is_told<F: Display>(alloc: Global, fault: &F, sentence: &str) -> bool {
-    match format!(in alloc; "{fault}") {
-        Ok(text) => text.as_str() == sentence,
-        Err(_) => false,
-    }
-}
-
-#[test]
-fn faults_in_sentences(rt: HostRuntime) {
-    let alloc = rt.alloc();
-    let bad_number = "a clue has at most 128 numbers, each from 1 to 256";
-    assert!(rt; is_told(alloc, &ClueFault::BadNumber, bad_number));
-    let bad_text = "a text has at most 65536 bytes and no line feed";
-    assert!(rt; is_told(alloc, &TextsFault::BadText, bad_text));
-    for (fault, sentence) in [
-        (PuzzleFault::BadSize, "a side is from 1 to 256"),
-        (PuzzleFault::BadCount, "there is one clue for each line"),
-        (PuzzleFault::BadGoal, "the goal has one value for each cell"),
-    ] {
-        assert!(rt; is_told(alloc, &fault, sentence), "{fault}");
-    }
-    let refused = "out of memory";
-    assert!(rt; is_told(alloc, &NoMemory, refused));
-    assert!(rt; is_told(alloc, &ClueFault::NoMemory, refused));
-    assert!(rt; is_told(alloc, &TextsFault::NoMemory, refused));
 }
 
 #[test]

@@ -2,7 +2,7 @@
 
 ghost use Rattle.std.specs.Prelude.{◌≤◌};
 
-use crate::tests::{is_line, line_at, line_of, next_random};
+use crate::test_draws::Draws;
 use grid_core::{Cell, Clue};
 use line_core::{Line, LineOf, LineSet, Tables};
 use place_sets::{PlaceSet, Wide, spread, starts_within};
@@ -73,11 +73,11 @@ fn next_cell(cell: Cell) -> Cell {
 fn hashes<W: PlaceSet>(alloc: Global, len: u16) -> Result<usize, Fail>
     requires { (1 ≤ len) × (len ≤ W.WIDTH) }
 {
-    let mut state = 1;
+    let mut draws = Draws(1);
     let mut line = LineOf::<W>::unknown(len);
     let mut hashes = Vec::new(alloc);
     for _ in 0..1000 {
-        let place = (next_random(&mut state) % u64::from(line.len())) as u16;
+        let place = (draws.draw() % u64::from(line.len())) as u16;
         line.set(place, next_cell(line.get(place)));
         let hash = line.hash();
         if !hashes.contains(&hash) {
@@ -135,24 +135,14 @@ fn a_line_is_deduced_in_its_own_sets(rt: HostRuntime) -> Result<(), Fail> {
 }
 
 #[test]
-fn cells_become_unknown_again(rt: HostRuntime) -> Result<(), Fail> {
-    let mut line = Line::unknown(3);
-    line.set(0, Cell::Filled);
-    line.set(1, Cell::Blank);
-    assert!(rt; is_line(&line, b"#.?"), "known");
-    line.set(0, Cell::Unknown);
-    line.set(1, Cell::Unknown);
-    assert!(rt; is_line(&line, b"???"), "unknown again");
-    Ok(())
-}
-
-#[test]
 fn cells_of_both_halves_are_kept_apart(rt: HostRuntime) -> Result<(), Fail> {
     let mut line = Line::unknown(256);
     line.set(0, Cell::Filled);
     line.set(127, Cell::Filled);
     line.set(128, Cell::Blank);
     line.set(255, Cell::Blank);
+    line.set(1, Cell::Filled);
+    line.set(1, Cell::Unknown);
     for i in 0..line.len() {
         let wanted = match i {
             0 | 127 => Cell::Filled,
@@ -164,24 +154,17 @@ fn cells_of_both_halves_are_kept_apart(rt: HostRuntime) -> Result<(), Fail> {
     Ok(())
 }
 
-/// Whether this is the first unknown cell of a line from some place on, in sets of 64 places.
-fn is_found(text: &[u8], from: u16, found: Option<u16>) -> bool {
-    let Some(line) = line_of(text) else {
-        return false;
-    };
-    if line.len() > 64 {
-        return false;
-    }
-    let line = line_at::<u64>(&line);
-    from <= line.len() && line.first_unknown(from) == found
-}
-
 #[test]
 fn unknown_cells_are_found(rt: HostRuntime) {
-    assert!(rt; is_found(b"#.?#?", 0, Some(2)), "from the first");
-    assert!(rt; is_found(b"#.?#?", 2, Some(2)), "from itself");
-    assert!(rt; is_found(b"#.?#?", 3, Some(4)), "behind the first");
-    assert!(rt; is_found(b"#.?#?", 5, None), "from the length");
-    assert!(rt; is_found(b"#.?#.", 3, None), "none behind");
-    assert!(rt; is_found(b"#.##.", 0, None), "none left");
+    // The line `#.?#?`.
+    let mut line = LineOf::<u64>::unknown(5);
+    line.set(0, Cell::Filled);
+    line.set(1, Cell::Blank);
+    line.set(3, Cell::Filled);
+    assert!(rt; line.first_unknown(0) == Some(2), "from the first");
+    assert!(rt; line.first_unknown(2) == Some(2), "from itself");
+    assert!(rt; line.first_unknown(3) == Some(4), "behind the first");
+    assert!(rt; line.first_unknown(5).is_none(), "from the length");
+    line.set(4, Cell::Blank);
+    assert!(rt; line.first_unknown(3).is_none(), "none behind");
 }

@@ -3,7 +3,7 @@
 
 ghost use Rattle.std.specs.Prelude.{◌≤◌};
 
-use crate::tests::{is_same_line, line_of};
+use crate::tests_deduced::is_line;
 use grid_core::{Cell, Clue, NoMemory};
 use line_core::*;
 use refusals::{Told, is_heeded, refuse, sweep, told_if, was_refused};
@@ -16,16 +16,9 @@ fn deduced(alloc: Global, clue: &Clue) -> Result<Option<Line>, NoMemory> {
     Ok(deduce(&mut tables, &Line::unknown(10), clue))
 }
 
-fn is_shown(line: &Line, text: &[u8]) -> bool {
-    match line_of(text) {
-        Some(shown) => is_same_line(line, &shown),
-        None => false,
-    }
-}
-
 fn told_of_deduced(answer: Result<Option<Line>, NoMemory>) -> Told {
     match answer {
-        Ok(Some(line)) => told_if(is_shown(&line, b"??######??")),
+        Ok(Some(line)) => told_if(is_line(&line, b"??######??")),
         Ok(None) => Told::Other,
         Err(NoMemory) => Told::NoMemory,
     }

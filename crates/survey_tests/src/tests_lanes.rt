@@ -8,8 +8,6 @@ use lane_core::*;
 use solve_core::{Findings, Grade, Pick, Verdict};
 use std::alloc::Global;
 use std::collections::VecDeque;
-use std::process::Abort;
-use std::sync::atomic::{AtomicU32, Ordering};
 use std::test::Fail;
 
 fn clues(alloc: Global, count: u16, numbers: &[u16]) -> Result<Vec<Clue>, Fail> {
@@ -311,6 +309,7 @@ fn grades_a_job(rt: HostRuntime) -> Result<(), Fail> {
     let alloc = rt.alloc();
     let answer = grade(alloc, job(alloc, 9)?);
     assert_eq!(rt; (answer.number(), answer.guesses()), (9, 1000));
+    assert_eq!(rt; answer.pick(), Pick::First);
     let found = answer.outcome().ok().ok_or("no report")?;
     assert!(rt; is_one_cell(found));
     Ok(())
@@ -331,64 +330,6 @@ fn faults_in_sentences(rt: HostRuntime) -> Result<(), Fail> {
     let wanted =
         "the finish was sent, the lane is full, the finish was sent, the lane is full, the finish was not taken, an answer was not received";
     assert_eq!(rt; told.as_str(), wanted);
-    Ok(())
-}
-
-#[test]
-fn answers_keep_the_rule(rt: HostRuntime) -> Result<(), Fail> {
-    let alloc = rt.alloc();
-    for pick in [Pick::First, Pick::Most] {
-        let answer = grade(
-            alloc,
-            Job::new(7, puzzle_with(alloc, 1, 1, &[1], &[1])?, 1000, pick),
-        );
-        assert_eq!(rt; answer.pick(), pick);
-        assert!(rt; answer.outcome().is_ok());
-    }
-    Ok(())
-}
-
-/// A gate that notes the number of the last job that entered.
-#[derive(Drop)]
-struct LastEntry {
-    number: AtomicU32,
-}
-
-impl Gate for LastEntry {
-    fn enter(&self, number: u32) {
-        self.number.store(number, Ordering::SeqCst);
-    }
-}
-
-/// The ends of a lane of capacity 64.
-pub(crate) fn ends(alloc: Global) -> Result<(LaneFront, LaneBack), Fail> {
-    Ok(open_lane(alloc, 64).ok().ok_or("memory")?)
-}
-
-/// Whether this is the answer to the job 7.
-fn is_seventh(answer: Option<Answer>) -> bool {
-    match answer {
-        Some(answer) => {
-            answer.number() == 7
-                && answer.guesses() == 1000
-                && answer.puzzle().width() == 8
-                && answer.puzzle().height() == 1
-        }
-        None => false,
-    }
-}
-
-#[test]
-fn jobs_enter_the_gate(rt: HostRuntime) -> Result<(), Fail> {
-    let alloc = rt.alloc();
-    let gate = LastEntry {
-        number: AtomicU32::new(0),
-    };
-    let (mut front, mut back) = ends(alloc)?;
-    assert_eq!(rt; sent(front.send(job(alloc, 7)?)), Reply::Accepted);
-    assert_eq!(rt; back.step(alloc, &gate), Step::Graded);
-    assert_eq!(rt; gate.number.load(Ordering::SeqCst), 7);
-    assert!(rt; is_seventh(front.take()));
     Ok(())
 }
 

@@ -3,7 +3,7 @@
 ghost use Rattle.std.specs.Prelude.{◌≡◌, ◌≤◌, length};
 
 use crate::oracle_lines::{Cells, deduced, full_lines, lines_of_clue};
-use crate::tests::{drawn_cell, next_random, numbered_clue};
+use crate::test_draws::{Draws, numbered_cells, numbered_clue, push_partly_known};
 use grid_core::{Cell, Clue};
 use line_core::{Line, Tables, deduce};
 use std::alloc::{AllocError, Global};
@@ -64,25 +64,6 @@ fn is_deduced_alike(
     Ok(is_deduced(alloc, &answer, &wanted)?)
 }
 
-fn cell_of_digit(digit: u32) -> Cell {
-    match digit {
-        0 => Cell::Unknown,
-        1 => Cell::Filled,
-        _ => Cell::Blank,
-    }
-}
-
-/// Cells that are the digits of a number, base 3.
-fn numbered_cells(alloc: Global, count: u16, number: u32) -> Result<Cells, AllocError> {
-    let mut cells = Vec::new(alloc);
-    let mut rest = number;
-    for _ in 0..count {
-        cells.push(cell_of_digit(rest % 3))?;
-        rest /= 3;
-    }
-    Ok(cells)
-}
-
 /// Whether a clue is deduced alike on the first `lines` lines of a length.
 fn clue_is_deduced_alike(
     alloc: Global,
@@ -94,7 +75,7 @@ fn clue_is_deduced_alike(
     let mut tables = Tables::new(alloc, 16)?;
     let lines_of_clue = lines_of_clue(alloc, full_lines, clue.numbers())?;
     for number in 0..lines {
-        let cells = numbered_cells(alloc, len, number)?;
+        let cells = numbered_cells(alloc, usize::from(len), number)?;
         if !is_deduced_alike(alloc, &mut tables, &cells, clue, &lines_of_clue)? {
             return Ok(false);
         }
@@ -127,48 +108,31 @@ fn short_lines_are_deduced_alike(rt: HostRuntime) -> Result<(), Fail> {
     Ok(())
 }
 
-/// Cells of which about half are known, nearly all of them as in the full line whose filled cells are the
-/// bits of a number.
-fn partly_known_cells(
-    alloc: Global,
-    len: u16,
-    bits: u64,
-    state: &mut u64,
-) -> Result<Cells, AllocError> {
-    let mut cells = Vec::new(alloc);
-    let mut rest = bits;
-    for _ in 0..len {
-        let filled = rest % 2 == 1;
-        cells.push(drawn_cell(filled, next_random(state), 32))?;
-        rest /= 2;
-    }
-    Ok(cells)
-}
-
 /// Whether a pseudorandom line of a length is deduced alike.
 fn drawn_line_is_deduced_alike(
     alloc: Global,
     len: u16,
     full_lines: &[Cells],
-    state: &mut u64,
+    draws: &mut Draws,
 ) -> Result<bool, Fail> {
     let mut tables = Tables::new(alloc, 16)?;
-    let bits = next_random(state);
+    let bits = draws.draw();
     let clue = numbered_clue(alloc, len, bits)?;
     let lines_of_clue = lines_of_clue(alloc, full_lines, clue.numbers())?;
-    let cells = partly_known_cells(alloc, len, bits, state)?;
+    let mut cells = Vec::new(alloc);
+    push_partly_known(&mut cells, usize::from(len), bits, 32, draws)?;
     is_deduced_alike(alloc, &mut tables, &cells, &clue, &lines_of_clue)
 }
 
 #[test]
 fn drawn_lines_are_deduced_alike(rt: HostRuntime) -> Result<(), Fail> {
     let alloc = rt.alloc();
-    let mut state = 1u64;
+    let mut draws = Draws(1);
     for len in 7..13u16 {
         let full_lines = full_lines(alloc, usize::from(len))?;
         for round in 0..500u32 {
             assert!(rt;
-                drawn_line_is_deduced_alike(alloc, len, &full_lines, &mut state)?,
+                drawn_line_is_deduced_alike(alloc, len, &full_lines, &mut draws)?,
                 "{len}: {round}"
             );
         }

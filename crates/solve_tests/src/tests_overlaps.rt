@@ -15,7 +15,7 @@ struct Row {
     other: Cell,
 }
 
-static ROWS: [Row; 11] = [
+static ROWS: [Row; 13] = [
     Row {
         len: 63,
         clue: &[30, 32],
@@ -41,6 +41,12 @@ static ROWS: [Row; 11] = [
         other: Cell::Unknown,
     },
     Row {
+        len: 127,
+        clue: &[63, 63],
+        filled: &[(0, 63), (64, 127)],
+        other: Cell::Blank,
+    },
+    Row {
         len: 128,
         clue: &[60, 67],
         filled: &[(0, 60), (61, 128)],
@@ -57,6 +63,12 @@ static ROWS: [Row; 11] = [
         clue: &[2, 126],
         filled: &[(0, 2), (3, 129)],
         other: Cell::Blank,
+    },
+    Row {
+        len: 255,
+        clue: &[254],
+        filled: &[(1, 254)],
+        other: Cell::Unknown,
     },
     Row {
         len: 256,
@@ -95,7 +107,7 @@ fn is_within(i: u16, stretches: &[(u16, u16)]) -> bool {
 }
 
 /// What is deduced of an unknown line by tables for lines of its length.
-pub(crate) fn deduced(alloc: Global, len: u16, numbers: &[u16]) -> Result<Option<Line>, Fail> {
+fn deduced(alloc: Global, len: u16, numbers: &[u16]) -> Result<Option<Line>, Fail> {
     if len == 0 || len > 256 {
         return Err(Fail::new("a length"));
     }
@@ -119,17 +131,16 @@ fn has_filled(line: &Line, stretches: &[(u16, u16)], other: Cell) -> bool {
     true
 }
 
-/// Whether there is a line, of which some stretches are filled, and of the other cells the same is known.
-pub(crate) fn is_filled(answer: &Option<Line>, stretches: &[(u16, u16)], other: Cell) -> bool {
+/// Whether there is a line of a length, of which some stretches are filled, and of the other cells the same
+/// is known.
+pub(crate) fn is_filled(
+    answer: &Option<Line>,
+    len: u16,
+    stretches: &[(u16, u16)],
+    other: Cell,
+) -> bool {
     match answer {
-        Some(line) => has_filled(line, stretches, other),
-        None => false,
-    }
-}
-
-fn has_length(answer: &Option<Line>, len: u16) -> bool {
-    match answer {
-        Some(line) => line.len() == len,
+        Some(line) => line.len() == len && has_filled(line, stretches, other),
         None => false,
     }
 }
@@ -138,8 +149,11 @@ fn has_length(answer: &Option<Line>, len: u16) -> bool {
 fn overlaps_come_out(rt: HostRuntime) -> Result<(), Fail> {
     for row in &ROWS {
         let answer = deduced(rt.alloc(), row.len, row.clue)?;
-        assert!(rt; has_length(&answer, row.len), "{}", row.len);
-        assert!(rt; is_filled(&answer, row.filled, row.other), "{}", row.len);
+        assert!(rt;
+            is_filled(&answer, row.len, row.filled, row.other),
+            "{}",
+            row.len
+        );
     }
     Ok(())
 }

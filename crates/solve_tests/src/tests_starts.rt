@@ -2,7 +2,7 @@
 
 ghost use Rattle.std.specs.Prelude.{◌≤◌};
 
-use crate::tests::line_of;
+use crate::tests_deduced::line_of;
 use grid_core::{Cell, Clue, LONGEST_SIDE};
 use line_core::{Line, Starts, leftmost, rightmost};
 use std::alloc::Global;

@@ -1,7 +1,7 @@
 //! Scripts of calls on one thread, with each growth of memory refused in turn. Whether a ring is full or
 //! empty as an end sees it, no contract says.
 
-use crate::tests::{Batch, Both, Call, Called, Reply, jobs, jobs_for, told_of};
+use crate::tests_lanes::{Batch, Both, Call, Called, Reply, jobs, jobs_for, told_of};
 use grid_core::NoMemory;
 use lane_core::*;
 use refusals::{refuse, was_refused};

@@ -1,7 +1,7 @@
 //! Calls whose growths of memory are refused, each in turn, and calls that take no memory with every growth
 //! refused.
 
-use crate::tests::{
+use crate::tests_grids::{
     GOAL, are_same, clues_of, demonstration, drawn, goal_of, is_demonstration, parts,
 };
 use grid_core::*;

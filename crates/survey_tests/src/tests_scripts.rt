@@ -3,7 +3,7 @@
 
 ghost use Rattle.std.specs.Prelude.{◌≤◌};
 
-use crate::tests::{Both, Call, Called, Reply, jobs_for};
+use crate::tests_lanes::{Both, Call, Called, Reply, jobs_for};
 use lane_core::*;
 use std::alloc::Global;
 use std::process::Abort;
@@ -214,16 +214,8 @@ fn follow_scripts(rt: &impl Abort, alloc: Global, capacity: u32) -> Result<(), F
 }
 
 #[test]
-fn scripts_with_one_place(rt: HostRuntime) -> Result<(), Fail> {
-    follow_scripts(&rt, rt.alloc(), 1)
-}
-
-#[test]
-fn scripts_with_two_places(rt: HostRuntime) -> Result<(), Fail> {
-    follow_scripts(&rt, rt.alloc(), 2)
-}
-
-#[test]
-fn scripts_with_most_places(rt: HostRuntime) -> Result<(), Fail> {
+fn scripts_at_three_capacities(rt: HostRuntime) -> Result<(), Fail> {
+    follow_scripts(&rt, rt.alloc(), 1)?;
+    follow_scripts(&rt, rt.alloc(), 2)?;
     follow_scripts(&rt, rt.alloc(), 64)
 }

@@ -1,0 +1,168 @@
+//! Tests of deduction on lines worked out by hand.
+
+ghost use Rattle.std.specs.Prelude.{◌≤◌, length, IfSome};
+
+use crate::tests_overlaps::is_filled;
+use grid_core::{Cell, Clue};
+use line_core::*;
+use std::alloc::Global;
+use std::test::Fail;
+
+/// A line, a clue, and what is to come out: no cells if there is no placing.
+struct Row {
+    line: &'static [u8],
+    clue: &'static [u16],
+    deduced: &'static [u8],
+}
+
+static ROWS: [Row; 14] = [
+    Row {
+        line: b"?????",
+        clue: &[3],
+        deduced: b"??#??",
+    },
+    Row {
+        line: b"?#???",
+        clue: &[3],
+        deduced: b"?##?.",
+    },
+    Row {
+        line: b"??.???",
+        clue: &[3],
+        deduced: b"...###",
+    },
+    Row {
+        line: b"#???#",
+        clue: &[3],
+        deduced: b"",
+    },
+    Row {
+        line: b"??#??",
+        clue: &[1, 1],
+        deduced: b"?.#.?",
+    },
+    Row {
+        line: b"???",
+        clue: &[2, 2],
+        deduced: b"",
+    },
+    Row {
+        line: b"???",
+        clue: &[],
+        deduced: b"...",
+    },
+    Row {
+        line: b"?#?",
+        clue: &[],
+        deduced: b"",
+    },
+    Row {
+        line: b"?.?#??.",
+        clue: &[1, 2],
+        deduced: b"#.?#?..",
+    },
+    Row {
+        line: b"#",
+        clue: &[1],
+        deduced: b"#",
+    },
+    Row {
+        line: b"??????????",
+        clue: &[3, 4],
+        deduced: b"??#???##??",
+    },
+    Row {
+        line: b"??????????",
+        clue: &[65],
+        deduced: b"",
+    },
+    Row {
+        line: b"??????????",
+        clue: &[1, 129],
+        deduced: b"",
+    },
+    Row {
+        line: b"??????????",
+        clue: &[256],
+        deduced: b"",
+    },
+];
+
+/// The cell that a character stands for: `#` filled, `.` blank, any other unknown.
+fn cell_drawn(byte: u8) -> Cell {
+    match byte {
+        b'#' => Cell::Filled,
+        b'.' => Cell::Blank,
+        _ => Cell::Unknown,
+    }
+}
+
+/// The line that a text stands for, a character a cell: none if it has no character, or more than 256.
+pub(crate) fn line_of(text: &[u8]) -> Option<Line>
+    ensures { IfSome result (λ line. length line ≤ 256) }
+{
+    if text.is_empty() || 256 < text.len() {
+        return None;
+    }
+    let mut line = Line::unknown(text.len() as u16);
+    for i in 0..line.len() {
+        line.set(i, cell_drawn(text[i as usize]));
+    }
+    Some(line)
+}
+
+/// Whether a line has the cells that a text stands for.
+pub(crate) fn is_line(line: &Line, text: &[u8]) -> bool {
+    if text.len() != line.len() as usize {
+        return false;
+    }
+    for i in 0..line.len() {
+        if line.get(i) != cell_drawn(text[i as usize]) {
+            return false;
+        }
+    }
+    true
+}
+
+/// Whether the deduction of a row is what was worked out.
+fn comes_out(alloc: Global, row: &Row) -> Result<bool, Fail> {
+    let mut tables = Tables::new(alloc, 256)?;
+    let clue = Clue::from_numbers(alloc, row.clue)?;
+    let Some(line) = line_of(row.line) else {
+        return Ok(false);
+    };
+    Ok(match deduce(&mut tables, &line, &clue) {
+        Some(answer) => is_line(&answer, row.deduced),
+        None => row.deduced.is_empty(),
+    })
+}
+
+#[test]
+fn rows_come_out_as_worked_out(rt: HostRuntime) -> Result<(), Fail> {
+    for row in &ROWS {
+        assert!(rt; comes_out(rt.alloc(), row)?, "a row");
+    }
+    Ok(())
+}
+
+/// Whether two runs of two cells are deduced once the first and last cells are filled.
+fn holds_both_ends(alloc: Global, len: u16) -> Result<bool, Fail>
+    requires { (10 ≤ len) × (len ≤ 256) }
+{
+    let mut line = Line::unknown(len);
+    line.set(0, Cell::Filled);
+    line.set(len - 1, Cell::Filled);
+    let mut tables = Tables::new(alloc, len)?;
+    let clue = Clue::from_numbers(alloc, &[2, 2])?;
+    let answer = deduce(&mut tables, &line, &clue);
+    let filled = [(0, 2), (len - 2, len)];
+    Ok(is_filled(&answer, len, &filled, Cell::Blank))
+}
+
+#[test]
+fn lines_of_all_widths_are_held_at_both_ends(rt: HostRuntime) -> Result<(), Fail> {
+    for len in [63u16, 64, 65, 127, 128, 129, 255, 256] {
+        assert!(rt; holds_both_ends(rt.alloc(), len)?, "{len}");
+    }
+    Ok(())
+}
