@@ -113,10 +113,10 @@ static SAID: [(&[u8], &[u8], &[u8]); 45] = [
         b"  # 7\nwidth 1\nheight 1\nrows\n# 7\n1\ncolumns\n1\n",
         ONE,
     ),
-    // Other keywords are skipped, however many, and end a section.
+    // Other keywords are skipped, however many, and end a section. (The plain reader takes the blank line.)
     (
         b".non",
-        b"version 2\nwidth 1\nheight 1\nrows\n1\ncolumns\n1\ncolor x\n\na\nb\nc\nd\ne\nf\ng\nh\ni\nj\nk\n",
+        b"version 2\nwidth 1\nheight 1\nrows\n\n1\ncolumns\n1\ncolor x\n\na\nb\nc\nd\ne\nf\ng\nh\ni\nj\nk\n",
         ONE,
     ),
     (

@@ -211,8 +211,11 @@ fn goal_words(rt: HostRuntime) {
     let alloc = rt.alloc();
     let met = goal_of(alloc, GOAL);
     assert!(rt; goal_word_of(alloc, met) == Some(GoalWord::Meets));
-    let missed = goal_of(alloc, b"01100011010010101110101001010000110010100101111001");
-    assert!(rt; goal_word_of(alloc, missed) == Some(GoalWord::Misses));
+    // Goals that meet the clues of the rows alone, and of the columns alone.
+    let by_rows = goal_of(alloc, b"01100011010010101110101001010000110010100101101100");
+    assert!(rt; goal_word_of(alloc, by_rows) == Some(GoalWord::Misses));
+    let by_columns = goal_of(alloc, b"01100011010010101110101001010000110010100101011001");
+    assert!(rt; goal_word_of(alloc, by_columns) == Some(GoalWord::Misses));
     assert!(rt; goal_word_of(alloc, None) == Some(GoalWord::Absent));
 }
 
