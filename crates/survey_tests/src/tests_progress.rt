@@ -96,9 +96,10 @@ fn ten_rising_numbers_are_told_in_a_second(rt: HostRuntime) -> Result<(), Fail> 
     Ok(())
 }
 
-/// Takes bytes once it is let go.
+/// Fails at its first writes, so many, and then takes bytes once it is let go.
 #[derive(Drop)]
 struct HeldErrors<'a> {
+    failing: u32,
     taken: &'a mut Vec<u8>,
     is_held: &'a AtomicBool,
     is_let_go: &'a AtomicBool,
@@ -116,6 +117,10 @@ fn wait_for(it: &AtomicBool) {
 
 impl Write for HeldErrors<'_> {
     fn write(&mut self, bytes: &[u8]) -> io::Result<usize> {
+        if self.failing > 0 {
+            self.failing = self.failing.saturating_sub(1);
+            return Err(io::Error::from(ErrorKind::BrokenPipe));
+        }
         self.is_held.store(true, Ordering::SeqCst);
         wait_for(self.is_let_go);
         self.taken.extend_from_slice(bytes)?;
@@ -133,6 +138,7 @@ fn jobs_enter_while_the_writer_is_held(rt: HostRuntime) -> Result<(), Fail> {
     let is_held = AtomicBool::new(false);
     let is_let_go = AtomicBool::new(false);
     let errors = HeldErrors {
+        failing: 8,
         taken: &mut taken,
         is_held: &is_held,
         is_let_go: &is_let_go,
