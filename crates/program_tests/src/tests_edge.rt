@@ -110,3 +110,14 @@ fn largest_puzzles_pass(rt: HostRuntime) -> Result<(), Fail> {
     let line = "convert --to non edge-large.nin";
     assert_converted(&rt, "edge-large.nin", &nin, line, &non)
 }
+
+#[test]
+fn faults_far_down_are_told(rt: HostRuntime) -> Result<(), Fail> {
+    let blank = repeated(rt.alloc(), b"\n", 997)?;
+    let text = joined(rt.alloc(), &[b"1 1\n1\n", &blank, b"x\n"])?;
+    write_file(&rt, "edge-far.nin", &text)?;
+    let ending = ended(&rt, "lines edge-far.nin", b"")?;
+    assert!(rt; ending.said.as_slice() == b"nonograde: BadNumber:1000\n".as_slice());
+    remove_file(&rt, "edge-far.nin").ok().ok_or("remove")?;
+    Ok(())
+}
