@@ -97,7 +97,7 @@ const LOWER_TURNED: &str =
 const UPPER_TURNED: &str =
     "search 32 32 3 several #.... .#... ..... ##### ##### ..... ..#.. ....# .#... #.... ..... ##### ##### ..... ..#.. ....#";
 
-static ROWS: [Row; 14] = [
+static ROWS: [Row; 15] = [
     Row {
         rows: &[ONE, ONE],
         columns: &[ONE, ONE],
@@ -158,6 +158,13 @@ static ROWS: [Row; 14] = [
         columns: &[ONE, ONE, ONE, ONE],
         picks: BOTH,
         reports: &[(0, "trials 4 12 0 one .##. #..# ....")],
+    },
+    // By lines three cells are known. Trials of filled blank two more, and a trial of blank fills the first.
+    Row {
+        rows: &[PAIR, &[2], ONE, &[1, 2], ONE],
+        columns: &[PAIR, ONE, &[2], PAIR, &[2]],
+        picks: BOTH,
+        reports: &[(0, "search 3 6 0 unsettled")],
     },
     // By lines the last column fills its middle cell, and so the cell left of it is blank. If a trial fills
     // one of the first two cells of the first row, both rows below have to fill the other one's column, which
