@@ -1,0 +1,5 @@
+-- `leave_text`: the text is what is left.
+use Rattle.nonograde_c.proofs.replies.leave_text.Goals as goal
+
+pub returns : goal.returns
+returns c = c.leave.ensures
