@@ -1,8 +1,8 @@
 -- The answers of reports as those of calls.
 use Rattle.std.proofs.Common.{ℕ, List, Result, Ok, Err, ap}
 use Rattle.puzzle_text.specs.declared.faults.EntryFault.{EntryFault}
-use Rattle.puzzle_text.specs.declared.faults.EntryFault.TheVariants.{Text, UnknownFormat}
-use Rattle.puzzle_text.specs.declared.faults.TextFault.TheVariants.{TooLong, NoSize, BadSize, NoSection, BadLine, Twice, BadCount, BadNumber, BadGoal, NoMemory}
+use Rattle.puzzle_text.specs.declared.faults.EntryFault.TheVariants.{Text}
+use Rattle.puzzle_text.specs.declared.faults.TextFault.TheVariants.{NoMemory}
 use Rattle.reports.specs.Converting.{GivesConverted}
 use Rattle.reports.specs.Reports.{GivesText}
 use Rattle.reports.specs.declared.converting.ConvertFault.{ConvertFault}
@@ -18,17 +18,8 @@ entry_may (Err fault) = tt
 -- the fault of an entry is that of the call
 pub entry_refused : (fault : EntryFault) (answer : Result (List ℕ) EntryFault)
     → GivesText (Err fault) answer → Gives (Err (Entry fault)) (of_entry answer)
-entry_refused UnknownFormat answer gives = ap of_entry gives
 entry_refused (Text NoMemory) answer gives = entry_may answer
-entry_refused (Text TooLong) answer gives = ap of_entry gives
-entry_refused (Text NoSize) answer gives = ap of_entry gives
-entry_refused (Text BadSize) answer gives = ap of_entry gives
-entry_refused (Text NoSection) answer gives = ap of_entry gives
-entry_refused (Text (BadLine i)) answer gives = ap of_entry gives
-entry_refused (Text (Twice i)) answer gives = ap of_entry gives
-entry_refused (Text BadCount) answer gives = ap of_entry gives
-entry_refused (Text (BadNumber i)) answer gives = ap of_entry gives
-entry_refused (Text (BadGoal i)) answer gives = ap of_entry gives
+entry_refused fault answer gives = ap of_entry gives
 
 -- `NoMemory` may stand in place of what a conversion gives
 conversion_may : (answer : Result (List ℕ) ConvertFault) → MayLackMemory (of_conversion answer)
@@ -40,16 +31,6 @@ conversion_may (Err convert.NoMemory) = tt
 -- the fault of a conversion is that of the call
 pub conversion_refused : (fault : ConvertFault) (answer : Result (List ℕ) ConvertFault)
     → GivesConverted (Err fault) answer → Gives (Err (fault_of_convert fault)) (of_conversion answer)
-conversion_refused convert.Ambiguous answer gives = ap of_conversion gives
 conversion_refused convert.NoMemory answer gives = conversion_may answer
-conversion_refused (convert.Entry UnknownFormat) answer gives = ap of_conversion gives
 conversion_refused (convert.Entry (Text NoMemory)) answer gives = conversion_may answer
-conversion_refused (convert.Entry (Text TooLong)) answer gives = ap of_conversion gives
-conversion_refused (convert.Entry (Text NoSize)) answer gives = ap of_conversion gives
-conversion_refused (convert.Entry (Text BadSize)) answer gives = ap of_conversion gives
-conversion_refused (convert.Entry (Text NoSection)) answer gives = ap of_conversion gives
-conversion_refused (convert.Entry (Text (BadLine i))) answer gives = ap of_conversion gives
-conversion_refused (convert.Entry (Text (Twice i))) answer gives = ap of_conversion gives
-conversion_refused (convert.Entry (Text BadCount)) answer gives = ap of_conversion gives
-conversion_refused (convert.Entry (Text (BadNumber i))) answer gives = ap of_conversion gives
-conversion_refused (convert.Entry (Text (BadGoal i))) answer gives = ap of_conversion gives
+conversion_refused fault answer gives = ap of_conversion gives
