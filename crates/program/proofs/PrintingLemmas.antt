@@ -2,12 +2,12 @@
 use Rattle.std.proofs.Common.{◌≡◌, ◌≤◌, ℕ, List, Option, Some, None, Result, Ok, Err, [], codes, length, take, refl, sym, ap, ◌∙◌}
 use Rattle.std.specs.Prelude.{IfErr, IfSome, IsErrAnd, OnErr, OnOk}
 use Rattle.std.specs.Io.KnownBytes.{Appends, Keeps}
-use Rattle.std.proofs.KnownBytes.{Appends-trans}
+use Rattle.std.proofs.KnownBytes.{Appends-trans, Keeps-refl}
 use Rattle.grid_core.specs.Nonogram.{Nonogram}
 use Rattle.puzzle_text.specs.Collections.{Entry as NamedText}
 use Rattle.puzzle_text.specs.declared.faults.EntryFault.{EntryFault}
-use Rattle.puzzle_text.specs.declared.faults.EntryFault.TheVariants.{Text, UnknownFormat}
-use Rattle.puzzle_text.specs.declared.faults.TextFault.TheVariants.{TooLong, NoSize, BadSize, NoSection, BadLine, Twice, BadCount, BadNumber, BadGoal, NoMemory}
+use Rattle.puzzle_text.specs.declared.faults.EntryFault.TheVariants.{Text}
+use Rattle.puzzle_text.specs.declared.faults.TextFault.TheVariants.{NoMemory}
 use Rattle.puzzle_text.specs.declared.formats.Format.{Format}
 use Rattle.survey_core.specs.Guessing.{guessing}
 use Rattle.survey_core.specs.Leaving.{LeavesAt, WritesSurvey}
@@ -23,11 +23,6 @@ use Rattle.reports.specs.declared.converting.ConvertFault.TheVariants as convert
 use Rattle.program.specs.declared.stop.Stop.{Stop}
 use Rattle.program.specs.declared.stop.Stop.TheVariants.{Entry, Run, Write, NoMemory as memory_stop}
 
--- if nothing is written, the bytes stay
-pub keeps : (known : Option (List ℕ)) → Keeps known known
-keeps None = tt
-keeps (Some bytes) = refl
-
 -- a result that is an error, and this one
 pub is_stop : (r : Result (Unit {0}) Stop) (stop : Stop) → IsErrAnd r (λ given. given ≡ stop) → r ≡ Err stop
 is_stop (Ok _) stop is = absurd is
@@ -36,8 +31,8 @@ is_stop (Err given) stop is = ap (λ (s : Stop). Err s) is
 -- if there is no room for a text, nothing is printed
 pub unprinted : (shown known : Option (List ℕ)) →
     (text : List ℕ) × IfSome shown (λ bytes. text ≡ bytes) × Prints {U = Unit {0}} (Ok text) (Err memory_stop) known known
-unprinted None known = ([], tt, keeps known)
-unprinted (Some text) known = (text, refl, keeps known)
+unprinted None known = ([], tt, Keeps-refl known)
+unprinted (Some text) known = (text, refl, Keeps-refl known)
 
 -- if the last piece of a stop's line goes out behind the others, the line went out
 pub stop_printed : (stop : Stop) (word : List ℕ) (r : Result (Unit {0}) Stop) (first second third last : Option (List ℕ))
@@ -81,17 +76,8 @@ refused_entry : (text : Nonogram → List ℕ) (read : List ℕ → Result Nonog
     (known : Option (List ℕ))
     → GivesText (Err fault) (text_or_fault text (read body))
     → PrintsFile {U = Unit {0}} (λ bytes. or_stop Entry (text_or_fault text (read bytes))) (Err (Entry fault)) known known
-refused_entry text read body UnknownFormat known gives = (body, (rw gives refl, keeps known))
-refused_entry text read body (Text NoMemory) known gives = (body, keeps known)
-refused_entry text read body (Text TooLong) known gives = (body, (rw gives refl, keeps known))
-refused_entry text read body (Text NoSize) known gives = (body, (rw gives refl, keeps known))
-refused_entry text read body (Text BadSize) known gives = (body, (rw gives refl, keeps known))
-refused_entry text read body (Text NoSection) known gives = (body, (rw gives refl, keeps known))
-refused_entry text read body (Text (BadLine i)) known gives = (body, (rw gives refl, keeps known))
-refused_entry text read body (Text (Twice i)) known gives = (body, (rw gives refl, keeps known))
-refused_entry text read body (Text BadCount) known gives = (body, (rw gives refl, keeps known))
-refused_entry text read body (Text (BadNumber i)) known gives = (body, (rw gives refl, keeps known))
-refused_entry text read body (Text (BadGoal i)) known gives = (body, (rw gives refl, keeps known))
+refused_entry text read body (Text NoMemory) known gives = (body, Keeps-refl known)
+refused_entry text read body fault known gives = (body, (rw gives refl, Keeps-refl known))
 
 -- if a file's text is refused, and the answer is that fault, nothing is printed
 pub refused_of : (report : List ℕ → Nonogram → List ℕ) (name given body : List ℕ) (fault : EntryFault) (r : Result (Unit {0}) Stop)
@@ -105,19 +91,9 @@ refused_of report name given body fault r known named gives is =
 unconverted : (format : Format) (name body : List ℕ) (fault : ConvertFault) (known : Option (List ℕ))
     → GivesConverted (Err fault) (converted format (said name body))
     → PrintsFile {U = Unit {0}} (convert_answer format name) (Err (stop_of_convert fault)) known known
-unconverted format name body convert.Ambiguous known gives = (body, (rw gives refl, keeps known))
-unconverted format name body convert.NoMemory known gives = (body, keeps known)
-unconverted format name body (convert.Entry UnknownFormat) known gives = (body, (rw gives refl, keeps known))
-unconverted format name body (convert.Entry (Text NoMemory)) known gives = (body, keeps known)
-unconverted format name body (convert.Entry (Text TooLong)) known gives = (body, (rw gives refl, keeps known))
-unconverted format name body (convert.Entry (Text NoSize)) known gives = (body, (rw gives refl, keeps known))
-unconverted format name body (convert.Entry (Text BadSize)) known gives = (body, (rw gives refl, keeps known))
-unconverted format name body (convert.Entry (Text NoSection)) known gives = (body, (rw gives refl, keeps known))
-unconverted format name body (convert.Entry (Text (BadLine i))) known gives = (body, (rw gives refl, keeps known))
-unconverted format name body (convert.Entry (Text (Twice i))) known gives = (body, (rw gives refl, keeps known))
-unconverted format name body (convert.Entry (Text BadCount)) known gives = (body, (rw gives refl, keeps known))
-unconverted format name body (convert.Entry (Text (BadNumber i))) known gives = (body, (rw gives refl, keeps known))
-unconverted format name body (convert.Entry (Text (BadGoal i))) known gives = (body, (rw gives refl, keeps known))
+unconverted format name body convert.NoMemory known gives = (body, Keeps-refl known)
+unconverted format name body (convert.Entry (Text NoMemory)) known gives = (body, Keeps-refl known)
+unconverted format name body fault known gives = (body, (rw gives refl, Keeps-refl known))
 
 -- if a file's puzzle is not converted, and the answer is that fault, nothing is printed
 pub unconverted_of : (format : Format) (name given body : List ℕ) (fault : ConvertFault) (r : Result (Unit {0}) Stop)

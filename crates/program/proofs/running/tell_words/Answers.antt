@@ -1,0 +1,16 @@
+-- `tell_words`: if a text is for the output, it is help or the version, and the program ends by its printing.
+use Rattle.program.proofs.running.tell_words.Goals as goal
+
+pub returns-clause-ends : goal.returns-clause-ends
+returns-clause-ends g c = record {
+  refused = λ no_help no_version. absurd (let bad = c.use_stderr.ensures.1 (no_help, no_version) in cc);
+  shown = λ _. (
+    c.print_shown-done.ensures.answer.0,
+    record {
+      done = c.print_shown-done.result;
+      printed = c.print_shown-done.ensures.answer.2;
+      unwritten = c.print_shown-done.ensures.write;
+      ended = c.end_after.ensures;
+    },
+  );
+}
