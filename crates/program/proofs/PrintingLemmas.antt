@@ -1,7 +1,7 @@
 -- What is left in the output after a command, from what its parts give and leave.
 use Rattle.std.proofs.Common.{◌≡◌, ◌≤◌, ℕ, List, Option, Some, None, Result, Ok, Err, [], codes, length, take, refl, sym, ap, ◌∙◌}
 use Rattle.std.specs.Prelude.{IfErr, IfSome, IsErrAnd, OnErr, OnOk}
-use Rattle.std.specs.Io.KnownBytes.{Appends, Keeps}
+use Rattle.std.specs.Io.KnownBytes.{Appends}
 use Rattle.std.proofs.KnownBytes.{Appends-trans, Keeps-refl}
 use Rattle.grid_core.specs.Nonogram.{Nonogram}
 use Rattle.puzzle_text.specs.Collections.{Entry as NamedText}
