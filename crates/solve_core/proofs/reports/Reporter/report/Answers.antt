@@ -1,0 +1,9 @@
+-- `Reporter::report`: it is the report in sets of the width.
+use Rattle.std.proofs.Common.{rules}
+use Rattle.solve_core.proofs.reports.Reporter.report.Goals as goal
+
+pub returns-in-Narrow-clause-findings : goal.returns-in-Narrow-clause-findings
+returns-in-Narrow-clause-findings c = search rules
+
+pub returns-in-Narrow-clause-holds : goal.returns-in-Narrow-clause-holds
+returns-in-Narrow-clause-holds c = search rules
