@@ -1,5 +1,5 @@
 -- `read_within`: if a growth is refused, no more was read than the limit.
-use Rattle.std.proofs.Common.{◌++◌, take, arith}
+use Rattle.std.proofs.Common.{◌++◌, take, refl, arith}
 use Rattle.std.proofs.lemmas.List.{length-append, length-take}
 use Rattle.std.proofs.KnownBytes.{Consumes-trans}
 use Rattle.streams.proofs.reading.read_within.Goals as goal
@@ -22,3 +22,9 @@ returns-then-is_err-clause-refused g c =
       );
       read = Consumes-trans _ _ _ _ _ c.loop-buffer.invariant.taken c.in-Ok.ensures.bytes.0;
     }
+
+pub returns-in_default-clause-whole : goal.returns-in_default-clause-whole
+returns-in_default-clause-whole g c = tt
+
+pub returns-in_default-clause-failed : goal.returns-in_default-clause-failed
+returns-in_default-clause-failed g c = (λ _. omega (arith, c.in_default.ensures.counts, c.loop-buffer.invariant.same), λ _. refl)

@@ -1,5 +1,6 @@
 -- `write_behind`: what one more write takes of the rest goes out behind what went out before.
-use Rattle.std.proofs.Common.{rules}
+use Rattle.std.proofs.Common.{append-nil, refl, rules}
+use Rattle.std.proofs.KnownBytes.{Appends-kept}
 use Rattle.streams.proofs.Front.{appends_front}
 use Rattle.streams.proofs.writing.write_behind.Goals as goal
 
@@ -9,3 +10,6 @@ loop-sent-preserved g c = record {
   within = search rules;
   same = search rules;
 }
+
+pub returns-in-Err-clause-sent : goal.returns-in-Err-clause-sent
+returns-in-Err-clause-sent g c = (c.loop-sent.sent, refl, (search rules, search (rules, Appends-kept, append-nil)))
