@@ -118,7 +118,7 @@ impl Clue {
 fn is_run(number: u16) -> bool
     ensures { result ≡ is_run LONGEST_SIDE number }
 {
-    1 <= number && number <= LONGEST_SIDE
+    (1..=LONGEST_SIDE).contains(&number)
 }
 
 /// Whether each number can be the length of a run.
