@@ -1,6 +1,6 @@
 -- `write_starts`: run by run, the outermost of its ends in whole placings tells its start.
 use Rattle.std.proofs.Common.{◌≡◌, ◌+◌, ◌-◌, ◌<◌, ℕ, List, map, get_or, length-set, subst, refl, sym, ◌∙◌, arith}
-use Rattle.std.proofs.lemmas.Bool.{eqb-true}
+use Rattle.std.proofs.lemmas.Bool.{eqb-true, eqb-false}
 use Rattle.std.proofs.lemmas.List.Elements.{recursion_from_All}
 use Rattle.std.proofs.lemmas.Nat.Bits.{bit_at-zero}
 use Rattle.place_sets.specs.Masks.{Has}
@@ -43,6 +43,11 @@ whole_ends-whole-requires g c =
         ),
       ),
     )
+
+pub outermost_place-requires : goal.outermost_place-requires
+outermost_place-requires g c =
+    let some = eqb-false (g.W.PlaceSet.number c.whole_ends-whole.result) 0 (sym c.is_empty.ensures ∙ c.if-is_empty.false) in
+    omega arith
 
 pub loop-j-preserved : goal.loop-j-preserved
 loop-j-preserved g c =

@@ -65,23 +65,9 @@ overflow_shl-result c =
     (omega (arith, c.ilog2-level.ensures.next_power_gt, c.from.ensures)) in
     omega arith
 
-pub returns-clause-level : goal.returns-clause-level
-returns-clause-level c =
+pub returns : goal.returns
+returns c =
     let is =
     is_level c.ilog2-level.result c.args.length c.requires.0 c.requires.1 (omega (arith, c.ilog2-level.ensures.power_le, c.from.ensures))
     (omega (arith, c.ilog2-level.ensures.next_power_gt, c.from.ensures)) in
-    omega arith
-
-pub returns-clause-length : goal.returns-clause-length
-returns-clause-length c =
-    let is =
-    is_level c.ilog2-level.result c.args.length c.requires.0 c.requires.1 (omega (arith, c.ilog2-level.ensures.power_le, c.from.ensures))
-    (omega (arith, c.ilog2-level.ensures.next_power_gt, c.from.ensures)) in
-    omega arith
-
-pub returns-clause-rest : goal.returns-clause-rest
-returns-clause-rest c =
-    let is =
-    is_level c.ilog2-level.result c.args.length c.requires.0 c.requires.1 (omega (arith, c.ilog2-level.ensures.power_le, c.from.ensures))
-    (omega (arith, c.ilog2-level.ensures.next_power_gt, c.from.ensures)) in
-    omega arith
+    record { level = omega arith; length = omega arith; rest = omega arith }

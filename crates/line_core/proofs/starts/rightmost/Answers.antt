@@ -1,0 +1,5 @@
+-- `rightmost`: the outermost placing of the right side.
+use Rattle.line_core.proofs.starts.rightmost.Goals as goal
+
+pub returns : goal.returns
+returns c = rw c.numbers.ensures.numbers at c.find.ensures
