@@ -49,6 +49,9 @@ outermost_place-requires g c =
     let some = eqb-false (g.W.PlaceSet.number c.whole_ends-whole.result) 0 (sym c.is_empty.ensures ∙ c.if-is_empty.false) in
     omega arith
 
+pub overflow_sub-list : goal.overflow_sub-list
+overflow_sub-list g c = (c.whole_ends-whole.ensures.to c.outermost_place.result c.outermost_place.ensures.in_mask).0.0
+
 pub loop-j-preserved : goal.loop-j-preserved
 loop-j-preserved g c =
     let number = g.W.PlaceSet.number in
