@@ -1,6 +1,5 @@
 -- Entries that are listed one after another.
-use Rattle.std.proofs.Common.{◌≡◌, ◌+◌, ◌≤◌, List, [], ◌∷◌, ◌++◌, length, map, append_assoc, arith, Option, None, Some, sym, ap, refl, ◌∙◌}
-use Rattle.std.proofs.lemmas.List.{length-append, length-map, map-append}
+use Rattle.std.proofs.Common.{◌≡◌, ◌≤◌, List, [], ◌∷◌, length, map, arith, Option, None, Some, ap, refl, ◌∙◌}
 use Rattle.puzzle_text.specs.declared.collections.Entry.{Entry}
 use Rattle.puzzle_text.specs.declared.faults.EntryFault.{EntryFault}
 use Rattle.lane_core.specs.declared.answers.Answer.{Answer}
@@ -28,14 +27,3 @@ few_answered (entry ∷ entries) [] answers = omega arith
 few_answered (entry ∷ entries) (Some fault ∷ faults) answers = omega (arith, few_answered entries faults answers)
 few_answered (entry ∷ entries) (None ∷ faults) [] = omega arith
 few_answered (entry ∷ entries) (None ∷ faults) (answer ∷ answers) = omega (arith, few_answered entries faults answers)
-
--- one more entry was listed
-pub listed_more : (before : List GradedEntry) (next : GradedEntry) (all left right : List (Option GradedEntry))
-    → all ≡ map Some before ++ left → left ≡ Some next ∷ right
-    → (all ≡ map Some (before ++ next ∷ []) ++ right) × (length before + 1 ≤ length all)
-listed_more before next all left right so_far more = (
-  so_far ∙ ap (λ (xs : List (Option GradedEntry)). map Some before ++ xs) more
-      ∙ sym (append_assoc (map Some before) (Some next ∷ []) right)
-      ∙ ap (λ (xs : List (Option GradedEntry)). xs ++ right) (sym (map-append Some before (next ∷ []))),
-  omega (arith, ap length so_far, ap length more, length-append (map Some before) left, length-map before Some),
-)

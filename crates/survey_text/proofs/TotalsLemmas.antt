@@ -1,10 +1,7 @@
 -- Totals with one more entry, and those of two lists.
 use Rattle.std.proofs.Common.{◌≡◌, ℕ, ◌+◌, ◌<◌, ◌^◌, Bool, true, false, cond, List, [], ◌∷◌, ◌++◌, length, count_by, sym, ap, ◌∙◌, length-append, arith}
 use Rattle.std.proofs.lemmas.List.Sums.{count_by-le-length, sum_by-append}
-use Rattle.survey_text.specs.Entries.{GradedEntry}
-use Rattle.survey_text.specs.Parts.{IsTotals}
-use Rattle.survey_text.specs.steps.Tallies.{HasRoom, one_more_where, sum_of}
-use Rattle.survey_text.specs.declared.totals.Totals.{Totals}
+use Rattle.survey_text.specs.steps.Tallies.{one_more_where, sum_of}
 
 one_more_is : (b : Bool) (n : ℕ) → n + (0 + cond b 1 0) ≡ one_more_where b n
 one_more_is true n = omega arith
@@ -26,24 +23,3 @@ count_both {X = X} p xs ys old others new counted others_counted sum few =
 -- if one more element is counted, the count is the number of all elements
 pub one_more : {X : Type 0} (xs : List X) (x : X) (old new : ℕ) → old ≡ length xs → new ≡ old + 1 → new ≡ length (xs ++ x ∷ [])
 one_more xs x old new counted more = omega (arith, length-append xs (x ∷ []))
-
-fits : {X : Type 0} (p : X → Bool) (xs : List X) (count : ℕ) → count ≡ count_by p xs → length xs < 2 ^ 31 → count < 2 ^ 63
-fits p xs count counted few = omega (arith, count_by-le-length p xs)
-
--- totals of few entries can grow
-pub has_room : (totals : Totals) (entries : List GradedEntry) → IsTotals totals entries → length entries < 2 ^ 31 → HasRoom totals
-has_room totals entries is few = record {
-  all = omega arith;
-  refused = fits _ entries _ is.refused few;
-  verdicts = record {
-    none = fits _ entries _ is.none few;
-    one = fits _ entries _ is.one few;
-    several = fits _ entries _ is.several few;
-    unsettled = fits _ entries _ is.unsettled few;
-  };
-  grades = record {
-    by_lines = fits _ entries _ is.by_lines few;
-    by_trials = fits _ entries _ is.by_trials few;
-    by_search = fits _ entries _ is.by_search few;
-  };
-}
