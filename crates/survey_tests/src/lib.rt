@@ -1,4 +1,4 @@
-//! Tests of `lane_core` and `survey_core`.
+//! Tests of `streams`, `survey_text` and `survey_core`.
 #![tactic(auto)]
 
 #[cfg(test)]
@@ -10,25 +10,15 @@ mod tests_collect;
 #[cfg(test)]
 mod tests_counted;
 #[cfg(test)]
-mod tests_lanes;
-#[cfg(test)]
-mod tests_limits;
-#[cfg(test)]
 mod tests_parts;
 #[cfg(test)]
 mod tests_progress;
 #[cfg(test)]
 mod tests_refused;
 #[cfg(test)]
-mod tests_refused_grading;
-#[cfg(test)]
-mod tests_refused_lanes;
-#[cfg(test)]
 mod tests_rules;
 #[cfg(test)]
 mod tests_samples;
-#[cfg(test)]
-mod tests_scripts;
 #[cfg(test)]
 mod tests_sleep;
 #[cfg(test)]

@@ -1,8 +1,9 @@
 //! That lanes work at the same time, that jobs are dealt in turn, and that a thread can be started, no
 //! contract says.
 
-use crate::tests_lanes::job;
 use lane_core::{Gate, Job, OpenGate};
+use puzzle_text::read_nin;
+use solve_core::Pick;
 use std::alloc::Global;
 use std::sync::atomic::{AtomicU32, Ordering};
 use std::test::Fail;
@@ -10,11 +11,12 @@ use survey_core::{MOST_JOBS, MOST_LANES, collect};
 
 const MOST_TURNS: u32 = 100_000_000;
 
-/// Jobs with the numbers from 0.
+/// Jobs with the numbers from 0, each a puzzle of one cell.
 pub fn jobs_numbered(alloc: Global, count: u32) -> Result<Vec<Job>, Fail> {
     let mut jobs = Vec::new(alloc);
     for number in 0..count {
-        jobs.push(job(alloc, number)?)?;
+        let puzzle = read_nin(alloc, b"1 1\n1\n1\n")?;
+        jobs.push(Job::new(number, puzzle, 1000, Pick::First))?;
     }
     Ok(jobs)
 }

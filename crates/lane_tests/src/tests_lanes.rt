@@ -8,7 +8,16 @@ use lane_core::*;
 use solve_core::{Findings, Grade, Pick, Verdict};
 use std::alloc::Global;
 use std::collections::VecDeque;
+use std::fmt::Display;
 use std::test::Fail;
+
+/// Whether a fault is told by this sentence.
+fn is_told<F: Display>(alloc: Global, fault: &F, sentence: &str) -> bool {
+    match format!(in alloc; "{fault}") {
+        Ok(text) => text.as_str() == sentence,
+        Err(_) => false,
+    }
+}
 
 fn clues(alloc: Global, count: u16, numbers: &[u16]) -> Result<Vec<Clue>, Fail> {
     let mut clues = Vec::new(alloc);
