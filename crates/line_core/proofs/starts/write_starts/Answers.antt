@@ -44,14 +44,6 @@ whole_ends-whole-requires g c =
       ),
     )
 
-pub outermost_place-requires : goal.outermost_place-requires
-outermost_place-requires g c =
-    let some = eqb-false (g.W.PlaceSet.number c.whole_ends-whole.result) 0 (sym c.is_empty.ensures ∙ c.if-is_empty.false) in
-    omega arith
-
-pub overflow_sub-list : goal.overflow_sub-list
-overflow_sub-list g c = (c.whole_ends-whole.ensures.to c.outermost_place.result c.outermost_place.ensures.in_mask).0.0
-
 pub loop-j-preserved : goal.loop-j-preserved
 loop-j-preserved g c =
     let number = g.W.PlaceSet.number in
@@ -74,6 +66,14 @@ loop-j-preserved g c =
           (omega arith) c.whole_ends-whole.ensures place.ensures.in_mask place.ensures.outermost refl invariant.starts;
       len = length-set c.loop-j.list.starts j (place.result + 1 - get_or clue j 0) ∙ invariant.len;
     }
+
+pub outermost_place-requires : goal.outermost_place-requires
+outermost_place-requires g c =
+    let some = eqb-false (g.W.PlaceSet.number c.whole_ends-whole.result) 0 (sym c.is_empty.ensures ∙ c.if-is_empty.false) in
+    omega arith
+
+pub overflow_sub-list : goal.overflow_sub-list
+overflow_sub-list g c = (c.whole_ends-whole.ensures.to c.outermost_place.result c.outermost_place.ensures.in_mask).0.0
 
 pub returns-then-is_empty-clause-starts : goal.returns-then-is_empty-clause-starts
 returns-then-is_empty-clause-starts g c = λ p.
