@@ -20,14 +20,14 @@ risen-push told (first ∷ looks) look =
     ap (λ (others : List ℕ). if_risen told first ++ others) (risen-push (max told first) looks look)
     ∙ sym (append_assoc (if_risen told first) (risen (max told first) looks) (if_risen (greatest told (first ∷ looks)) look))
 
-abbrev lines_of : Option ℕ → List ℕ → List ℕ
-lines_of files risen = flat_map (λ begun. progress_line begun files) risen
+abbrev told_lines : Option ℕ → List ℕ → List ℕ
+told_lines files risen = flat_map (λ begun. progress_line begun files) risen
 
 -- what a look adds to what is told
 told_text-push : (files : Option ℕ) (looks : List ℕ) (look : ℕ)
-    → told_text files (looks ++ look ∷ []) ≡ told_text files looks ++ lines_of files (if_risen (greatest 0 looks) look)
+    → told_text files (looks ++ look ∷ []) ≡ told_text files looks ++ told_lines files (if_risen (greatest 0 looks) look)
 told_text-push files looks look =
-    ap (lines_of files) (risen-push 0 looks look)
+    ap (told_lines files) (risen-push 0 looks look)
     ∙ flat_map-append (λ (begun : ℕ). progress_line begun files) (risen 0 looks) (if_risen (greatest 0 looks) look)
 
 -- a look that finds no more than was told
@@ -38,7 +38,7 @@ not_risen files looks look told last few =
     let more = told_text-push files looks look in
     let most = greatest-push 0 looks look in
     let none : if_risen (greatest 0 looks) look ≡ [] = ap (λ (b : Bool). if b then look ∷ [] else []) within in (
-      more ∙ ap (λ (rest : List ℕ). told_text files looks ++ lines_of files rest) none ∙ append-nil (told_text files looks),
+      more ∙ ap (λ (rest : List ℕ). told_text files looks ++ told_lines files rest) none ∙ append-nil (told_text files looks),
       omega (arith, most, last, few),
     )
 
@@ -50,7 +50,7 @@ has_risen files looks look told last more =
     let added = told_text-push files looks look in
     let most = greatest-push 0 looks look in
     let one : if_risen (greatest 0 looks) look ≡ look ∷ [] = ap (λ (b : Bool). if b then look ∷ [] else []) beyond in (
-      added ∙ ap (λ (rest : List ℕ). told_text files looks ++ lines_of files rest) one
+      added ∙ ap (λ (rest : List ℕ). told_text files looks ++ told_lines files rest) one
           ∙ ap (λ (line : List ℕ). told_text files looks ++ line) (append-nil (progress_line look files)),
       omega (arith, most, last, more),
     )
