@@ -31,6 +31,11 @@ fn enter_slowly(clock: &impl Clock, gate: &ProgressGate) {
     }
 }
 
+/// Lets 50,000 jobs enter from each of four threads, and tells whether there was memory for it.
+fn enter_from_four<R: Threads + Sync + AllocGlobal>(rt: &R, gate: &ProgressGate) -> bool {
+    thread::map_indices(rt, rt.alloc(), 4, &|_| enter(gate, 50_000)).is_ok()
+}
+
 /// What is told while `count` jobs enter.
 fn told<R: Threads + Wait + Sync + AllocGlobal>(
     rt: &R,
@@ -78,6 +83,16 @@ fn last_number_is_told(rt: HostRuntime) -> Result<(), Fail> {
     }
     assert!(rt; told(&rt, 0, None)?.is_empty());
     assert!(rt; told(&rt, 0, Some(5))?.is_empty());
+    Ok(())
+}
+
+#[test]
+fn jobs_of_four_threads_are_all_counted(rt: HostRuntime) -> Result<(), Fail> {
+    let mut text = Vec::new(rt.alloc());
+    let gate = ProgressGate::new();
+    let progress = Progress::new(rt.alloc(), &mut text, None)?;
+    let is_done = progress.tell_while(&rt, &gate, &mut || enter_from_four(&rt, &gate));
+    assert!(rt; is_done && text.ends_with(b"\rentries begun 200000\n"));
     Ok(())
 }
 
