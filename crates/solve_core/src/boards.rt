@@ -13,6 +13,7 @@ ghost use Rattle.solve_core.specs.steps.Branches.{cells_before};
 ghost use Rattle.solve_core.specs.steps.Trails.{IsTrailed, IsTrailedGrid};
 
 use crate::grid_lines::GridLines;
+use crate::rooms::emptied;
 use grid_core::{Cell, Grid, LONGEST_SIDE, NoMemory, Side};
 use line_core::{LineOf, LineSet};
 use std::alloc::Global;
@@ -67,13 +68,12 @@ impl<W: LineSet> Board<W> {
         requires fits { (width ≤ W.WIDTH) × (height ≤ W.WIDTH) }
         ensures { IfOk result (λ board. board ≡ unknown_board width height) }
     {
-        let (lines, mut trail) = match other {
+        let (lines, trail) = match other {
             Some(other) => other.into_parts(),
             None => (None, Vec::new(alloc)),
         };
         let lines = GridLines::unknown(alloc, lines, width, height)?;
-        trail.clear();
-        trail.reserve(lines.count() + usize::from(LONGEST_SIDE))?;
+        let trail = emptied(alloc, trail, lines.count() + usize::from(LONGEST_SIDE))?;
         Ok(Board { lines, trail })
     }
 

@@ -7,6 +7,7 @@ ghost use Rattle.grid_core.specs.steps.Sides.{count_on};
 ghost use Rattle.solve_core.specs.steps.Widths.{FitsIn};
 
 use crate::places::clue_of_line;
+use crate::rooms::emptied;
 use grid_core::{LONGEST_SIDE, NoMemory, Puzzle, Side};
 use line_core::{LineOf, LineSet, Tables};
 use std::alloc::Global;
@@ -207,7 +208,7 @@ impl<W: LineSet> Deductions<W> {
         requires { (1 ≤ room) × (room ≤ MOST_REMEMBERED) }
         ensures { IfOk result (λ deductions. deductions ≡ []) }
     {
-        let (tables, mut slots, mut kept) = match others {
+        let (tables, slots, kept) = match others {
             Some(others) => others.into_parts(),
             None => (
                 Tables::new(alloc, LONGEST_SIDE)?,
@@ -215,10 +216,8 @@ impl<W: LineSet> Deductions<W> {
                 Vec::new(alloc),
             ),
         };
-        slots.clear();
-        slots.reserve(room.div_ceil(GROUP))?;
-        kept.clear();
-        kept.reserve(room)?;
+        let slots = emptied(alloc, slots, room.div_ceil(GROUP))?;
+        let kept = emptied(alloc, kept, room)?;
         Ok(Deductions {
             tables,
             room,

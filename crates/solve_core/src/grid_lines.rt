@@ -19,6 +19,7 @@ ghost use Rattle.solve_core.specs.Picks.{is_sure};
 ghost use Rattle.solve_core.specs.Picks.{most_known};
 
 use crate::picks::{known_cells, most_in_row};
+use crate::rooms::emptied;
 use grid_core::{Cell, Grid, NoMemory, Side};
 use line_core::{LineOf, LineSet};
 use place_sets::first_places;
@@ -57,6 +58,7 @@ impl<W: LineSet> Model for GridLines<W> {
 
 /// `count` lines of `len` cells each, of which nothing is known, in the room of others.
 fn unknown_lines<W: LineSet>(
+    alloc: Global,
     others: Vec<LineOf<W>>,
     len: u16,
     count: u16,
@@ -64,9 +66,7 @@ fn unknown_lines<W: LineSet>(
     requires { (1 ≤ len) × (len ≤ W.WIDTH) }
     ensures { IfOk result (λ lines. lines.items ≡ replicate count (replicate len Unknown)) }
 {
-    let mut lines = others;
-    lines.clear();
-    lines.reserve(usize::from(count))?;
+    let mut lines = emptied(alloc, others, usize::from(count))?;
     for _ in 0..count {
         lines.push_reserved(LineOf::unknown(len));
     }
@@ -219,8 +219,8 @@ impl<W: LineSet> GridLines<W> {
             None => (Vec::new(alloc), Vec::new(alloc)),
         };
         Ok(GridLines {
-            rows: unknown_lines(rows, width, height)?,
-            columns: unknown_lines(columns, height, width)?,
+            rows: unknown_lines(alloc, rows, width, height)?,
+            columns: unknown_lines(alloc, columns, height, width)?,
         })
     }
 

@@ -14,6 +14,7 @@ mod marks;
 mod picks;
 mod places;
 mod reports;
+mod rooms;
 mod search;
 mod solutions;
 mod solver;

@@ -18,6 +18,7 @@ ghost use Rattle.solve_core.specs.steps.Widths.{FitsIn};
 use crate::boards::Board;
 use crate::branches::Branch;
 use crate::picks::Pick;
+use crate::rooms::emptied;
 use crate::search::search;
 use crate::solutions::Solutions;
 use crate::trials::Trials;
@@ -179,7 +180,7 @@ fn report_within<W: LineSet>(
     ensures holds { IfOk result (λ findings. Holds (picked pick puzzle.now.width) puzzle.now guesses findings.verdict) }
     ensures spent { IfOk result (λ findings. findings.spent ≤ guesses) }
 {
-    let (trials, board, mut branches) = match kept.take() {
+    let (trials, board, branches) = match kept.take() {
         Some(
             Room {
                 trials,
@@ -192,8 +193,7 @@ fn report_within<W: LineSet>(
     let (width, height) = (puzzle.width(), puzzle.height());
     let mut trials = Trials::<W>::new(alloc, trials, puzzle)?;
     let mut board = Board::<W>::unknown(alloc, board, width, height)?;
-    branches.clear();
-    branches.reserve(board.lines().count())?;
+    let mut branches = emptied(alloc, branches, board.lines().count())?;
     let solutions = Solutions::new(alloc, width, height)?;
     let findings = findings(
         &mut trials,

@@ -13,6 +13,7 @@ ghost use Rattle.solve_core.specs.steps.Witnesses.{AddsMet, AreWitnesses, IsCros
 
 use crate::boards::Board;
 use crate::grid_lines::GridLines;
+use crate::rooms::emptied;
 use grid_core::{Cell, NoMemory, Puzzle};
 use line_core::LineSet;
 use place_sets::PlaceSet;
@@ -163,16 +164,16 @@ impl Witnesses {
         ensures { IfOk result (λ made. length made.fillable ≡ puzzle.now.width * puzzle.now.height) }
     {
         let cells = usize::from(puzzle.width()) * usize::from(puzzle.height());
-        let (mut witnesses, mut fillable, mut blankable) = match others {
+        let (witnesses, fillable, blankable) = match others {
             Some(others) => others.into_lists(),
             None => (Vec::new(alloc), Vec::new(alloc), Vec::new(alloc)),
         };
-        witnesses.clear();
-        witnesses.reserve((cells * WITNESSES_PER_CELL).min(MOST_WITNESSES))?;
+        let count = (cells * WITNESSES_PER_CELL).min(MOST_WITNESSES);
+        let mut witnesses = emptied(alloc, witnesses, count)?;
         witnesses.push_reserved(Witness::none());
-        fillable.clear();
+        let mut fillable = emptied(alloc, fillable, cells)?;
         fillable.resize(cells, 0)?;
-        blankable.clear();
+        let mut blankable = emptied(alloc, blankable, cells)?;
         blankable.resize(cells, 0)?;
         Ok(Witnesses {
             witnesses,

@@ -7,7 +7,7 @@ use Rattle.solve_core.proofs.grid_lines.unknown_lines.Goals as goal
 pub push_reserved-requires : goal.push_reserved-requires
 push_reserved-requires g c =
     let so_far = ap length c.loop.invariant.items ∙ length-replicate c.loop.counter (replicate c.args.len Unknown) in
-    omega (arith, c.loop.lines.ok.0, so_far, c.loop.invariant.room, c.loop-test.true)
+    omega (arith, so_far, c.loop.invariant.room, c.loop-test.true)
 
 pub loop-preserved : goal.loop-preserved
 loop-preserved g c = record {

@@ -5,6 +5,6 @@ use Rattle.solve_core.proofs.boards.Board.unknown.Goals as goal
 
 pub invariant_of-result : goal.invariant_of-result
 invariant_of-result g c =
-    board-unknown c.args.width c.args.height _ c.in_ok-lines.lines c.reserve.new.self.items c.requires.size c.in_ok-lines.ensures
-    (c.reserve.ensures.items ∙ c.clear.ensures.items)
-    (omega (arith, c.in_ok-reserve.ensures.ok, c.count.ensures.count))
+    board-unknown c.args.width c.args.height _ c.in_ok-lines.lines c.in_ok-trail.trail.items c.requires.size c.in_ok-lines.ensures
+    c.in_ok-trail.ensures.empty
+    (omega (arith, c.in_ok-trail.ensures.room, c.count.ensures.count))
