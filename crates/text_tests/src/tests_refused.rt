@@ -23,7 +23,7 @@ const MK: &[u8] = b"2 1\n\n1\n\n1 1 1 1 1 1 1 1 1 1 1 1 1 1 1 1 1 1\n\n#\n\n2\n"
 const NIN: &[u8] = b"2 1\n1\n\n1 2 3 4 5 6 7 8 9\n\n1\n";
 
 /// These, and a text of each fault that is found after a growth.
-const READ: [(Format, &[u8]); 20] = [
+static READ: [(Format, &[u8]); 20] = [
     (Format::Non, NON),
     (Format::Non, b""),
     (Format::Non, b"width 0\nheight 1\n"),
@@ -76,8 +76,8 @@ fn sweep_read(alloc: Global, format: Format, text: &[u8]) -> Result<usize, Unswe
 
 #[test]
 fn texts_are_read_or_refused(rt: HostRuntime) -> Result<(), Fail> {
-    for (format, text) in READ {
-        sweep_read(rt.alloc(), format, text)?;
+    for (format, text) in &READ {
+        sweep_read(rt.alloc(), *format, text)?;
     }
     Ok(())
 }
@@ -215,6 +215,15 @@ fn are_too_long(alloc: Global, text: &[u8]) -> bool {
         && matches!(read_nin(alloc, text), Err(TextFault::TooLong))
 }
 
+/// Whether an entry of this text is refused as too long.
+fn is_entry_too_long(alloc: Global, body: &[u8]) -> bool {
+    let name = b"a.non";
+    match read_entry(alloc, &Entry { name, body }) {
+        Err(fault) => fault == EntryFault::Text(TextFault::TooLong),
+        Ok(_) => false,
+    }
+}
+
 #[test]
 fn long_texts_are_too_long(rt: HostRuntime) -> Result<(), Fail> {
     let alloc = rt.alloc();
@@ -222,16 +231,11 @@ fn long_texts_are_too_long(rt: HostRuntime) -> Result<(), Fail> {
     let collection = repeated(alloc, b"", b"\n", LONGEST_COLLECTION + 1)?;
     refuse(alloc, 0);
     let long = are_too_long(alloc, &text);
-    let entry = Entry {
-        name: b"a.non",
-        body: &text,
-    };
-    let entry = read_entry(alloc, &entry);
-    let cut = entries(alloc, &collection);
+    let entry = is_entry_too_long(alloc, &text);
+    let cut = entries(alloc, &collection).err();
     assert!(rt; !was_refused(alloc), "no growth");
-    assert!(rt; long);
-    assert!(rt; matches!(entry, Err(EntryFault::Text(TextFault::TooLong))));
-    assert!(rt; matches!(cut, Err(CollectionFault::TooLong)));
+    assert!(rt; long && entry);
+    assert!(rt; cut == Some(CollectionFault::TooLong));
     assert!(rt; is_heeded(alloc));
     Ok(())
 }
@@ -264,8 +268,8 @@ fn refused_collections_take_no_memory(rt: HostRuntime) -> Result<(), Fail> {
     let stray = entries(alloc, b"@ a\n1\n@\n").err();
     let many = entries(alloc, &more).err();
     assert!(rt; !was_refused(alloc), "no growth");
-    assert_eq!(rt; stray, Some(CollectionFault::Stray(3)));
-    assert_eq!(rt; many, Some(CollectionFault::TooMany));
+    assert!(rt; stray == Some(CollectionFault::Stray(3)));
+    assert!(rt; many == Some(CollectionFault::TooMany));
     assert!(rt; is_heeded(alloc));
     Ok(())
 }
