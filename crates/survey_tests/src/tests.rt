@@ -7,12 +7,39 @@ use puzzle_text::{
 };
 use solve_core::Pick;
 use std::alloc::Global;
+use std::fmt::Display;
 use std::process::Abort;
 use std::sync::Wait;
 use std::sync::atomic::{AtomicU32, Ordering};
 use std::test::Fail;
 use std::thread::Threads;
 use survey_core::*;
+
+/// What a survey of a collection answers and prints.
+pub(crate) fn surveyed<R: Threads + Wait + Sync + AllocGlobal, G: Gate + Sync>(
+    rt: &R,
+    collection: &[u8],
+    settings: &Settings,
+    gate: &G,
+) -> (Result<(), RunFault>, Vec<u8>) {
+    let mut reader = Counted::new(collection);
+    let mut output = Counted::new(Vec::new(rt.alloc()));
+    let outcome = run_survey(rt, rt.alloc(), &mut reader, &mut output, settings, gate);
+    (outcome, output.inner)
+}
+
+/// What a survey of a collection's entries prints.
+pub(crate) fn surveyed_entries<R: Threads + Wait + Sync + AllocGlobal, G: Gate + Sync>(
+    rt: &R,
+    collection: &[u8],
+    settings: &Settings,
+    gate: &G,
+) -> Result<Vec<u8>, Fail> {
+    let found = entries(rt.alloc(), collection)?;
+    let mut output = Counted::new(Vec::new(rt.alloc()));
+    survey_entries(rt, rt.alloc(), &found, &mut output, settings, gate)?;
+    Ok(output.inner)
+}
 
 /// Asserts what a survey of a collection answers and prints.
 pub(crate) fn assert_survey(
@@ -22,18 +49,9 @@ pub(crate) fn assert_survey(
     wanted: Result<(), RunFault>,
     text: &str,
 ) {
-    let mut reader = Counted::new(collection);
-    let mut output = Counted::new(Vec::new(rt.alloc()));
-    let outcome = run_survey(
-        rt,
-        rt.alloc(),
-        &mut reader,
-        &mut output,
-        settings,
-        &OpenGate,
-    );
-    assert_eq!(rt; outcome, wanted);
-    assert_eq!(rt; output.inner.as_slice(), text.as_bytes());
+    let (outcome, printed) = surveyed(rt, collection, settings, &OpenGate);
+    assert!(rt; outcome == wanted);
+    assert!(rt; printed.as_slice() == text.as_bytes());
 }
 
 #[test]
@@ -80,6 +98,10 @@ fn refuses_large_collections(rt: HostRuntime) -> Result<(), Fail> {
     Ok(())
 }
 
+/// How the survey of the most entries ends, each of them refused.
+const MOST_REFUSED: &[u8] = b"10000 refused NoSize a.mk\n\
+    entries 10000 refused 10000 none 0 one 0 several 0 unsettled 0 line 0 trials 0 search 0\n";
+
 #[test]
 fn largest_collections_pass(rt: HostRuntime) -> Result<(), Fail> {
     let settings = Settings {
@@ -93,20 +115,9 @@ fn largest_collections_pass(rt: HostRuntime) -> Result<(), Fail> {
     let long = vec![in rt.alloc(); b'\n'; 16_777_216]?;
     assert_survey(&rt, &long, &settings, Ok(()), NOTHING);
     let most = repeated(rt.alloc(), b"@ a.mk\n", 10_000)?;
-    let mut reader = Counted::new(most.as_slice());
-    let mut output = Counted::new(Vec::new(rt.alloc()));
-    let outcome = run_survey(
-        &rt,
-        rt.alloc(),
-        &mut reader,
-        &mut output,
-        &settings,
-        &OpenGate,
-    );
-    assert_eq!(rt; outcome, Ok(()));
-    let last = b"10000 refused NoSize a.mk\n\
-        entries 10000 refused 10000 none 0 one 0 several 0 unsettled 0 line 0 trials 0 search 0\n";
-    assert!(rt; output.inner.ends_with(last));
+    let (outcome, printed) = surveyed(&rt, &most, &settings, &OpenGate);
+    assert!(rt; outcome.is_ok());
+    assert!(rt; printed.ends_with(MOST_REFUSED));
     Ok(())
 }
 
@@ -120,35 +131,43 @@ fn outcome_of(alloc: Global, number: u32, entry: &Entry<'_>) -> Result<Outcome, 
     Ok(Outcome { name, result })
 }
 
-/// The survey of entries, graded on one thread with at most two guesses.
-pub(crate) fn one_thread_survey(
-    alloc: Global,
-    entries: &[Entry<'_>],
-    show: bool,
-) -> Result<Vec<u8>, Fail> {
+/// What becomes of each entry of a collection.
+fn outcomes_of(alloc: Global, collection: &[u8]) -> Result<Vec<Outcome>, Fail> {
     let mut outcomes = Vec::new(alloc);
-    for (entry, number) in entries.iter().zip(1u32..) {
+    for (entry, number) in entries(alloc, collection)?.iter().zip(1u32..) {
         outcomes.push(outcome_of(alloc, number, entry)?)?;
     }
+    Ok(outcomes)
+}
+
+/// The survey of a collection, graded on one thread with at most two guesses.
+pub(crate) fn one_thread_survey(
+    alloc: Global,
+    collection: &[u8],
+    show: bool,
+) -> Result<Vec<u8>, Fail> {
+    let outcomes = outcomes_of(alloc, collection)?;
     if outcomes.len() > MOST_ENTRIES {
         return Err("too many".into());
     }
     Ok(print_survey(alloc, &outcomes, show)?)
 }
 
+/// The sixth of ten entries, graded with at most two guesses, with its solutions shown.
+const SIXTH_SHOWN: &[u8] = b"6 2x2 several search 0 0 2 absent two.mk\n#.\n.#\n\n.#\n#.\n\n";
+
+fn sixth_shown(alloc: Global) -> Result<Vec<u8>, Fail> {
+    let outcomes = outcomes_of(alloc, TEN.as_bytes())?;
+    Ok(print_entry(alloc, 6, outcomes.get(5).ok_or("entry")?, true)?)
+}
+
 #[test]
 fn prints_ten_entries(rt: HostRuntime) -> Result<(), Fail> {
-    let found = entries(rt.alloc(), TEN.as_bytes())?;
     for (show, text) in [(false, TEN_SURVEY), (true, TEN_SHOWN)] {
-        let survey = one_thread_survey(rt.alloc(), &found, show)?;
-        assert_eq!(rt; survey.as_slice(), text.as_bytes());
+        let survey = one_thread_survey(rt.alloc(), TEN.as_bytes(), show)?;
+        assert!(rt; survey.as_slice() == text.as_bytes());
     }
-    let switch = outcome_of(rt.alloc(), 6, found.get(5).ok_or("entry")?)?;
-    let text = print_entry(rt.alloc(), 6, &switch, true)?;
-    assert_eq!(rt;
-        text.as_slice(),
-        b"6 2x2 several search 0 0 2 absent two.mk\n#.\n.#\n\n.#\n#.\n\n".as_slice()
-    );
+    assert!(rt; sixth_shown(rt.alloc())?.as_slice() == SIXTH_SHOWN);
     Ok(())
 }
 
@@ -164,6 +183,11 @@ fn long_names_pass(rt: HostRuntime) -> Result<(), Fail> {
     Ok(())
 }
 
+const REFUSED_ENTRY: &[u8] = b"3 refused BadNumber:2 bad??? .mk\n";
+
+const REFUSED_SURVEY: &[u8] = b"1 refused BadNumber:2 bad??? .mk\n\
+    entries 1 refused 1 none 0 one 0 several 0 unsettled 0 line 0 trials 0 search 0\n";
+
 #[test]
 fn prints_refused_entries(rt: HostRuntime) -> Result<(), Fail> {
     let refused = Outcome {
@@ -171,14 +195,9 @@ fn prints_refused_entries(rt: HostRuntime) -> Result<(), Fail> {
         result: Err(EntryFault::Text(TextFault::BadNumber(2))),
     };
     let line = print_entry(rt.alloc(), 3, &refused, true)?;
-    assert_eq!(rt;
-        line.as_slice(),
-        b"3 refused BadNumber:2 bad??? .mk\n".as_slice()
-    );
+    assert!(rt; line.as_slice() == REFUSED_ENTRY);
     let text = print_survey(rt.alloc(), &[refused], false)?;
-    let survey = b"1 refused BadNumber:2 bad??? .mk\n\
-        entries 1 refused 1 none 0 one 0 several 0 unsettled 0 line 0 trials 0 search 0\n";
-    assert_eq!(rt; text.as_slice(), survey.as_slice());
+    assert!(rt; text.as_slice() == REFUSED_SURVEY);
     Ok(())
 }
 
@@ -214,10 +233,9 @@ fn pair_gate() -> Pair {
 fn surveys_grade_at_the_same_time(rt: HostRuntime) -> Result<(), Fail> {
     let settings = settings(2, 1, false);
     let gate = pair_gate();
-    let mut reader = Counted::new(PAIR.as_bytes());
-    let mut output = Counted::new(Vec::new(rt.alloc()));
-    run_survey(&rt, rt.alloc(), &mut reader, &mut output, &settings, &gate)?;
-    assert_eq!(rt; gate.saw_both.load(Ordering::SeqCst), 2);
+    let (outcome, _) = surveyed(&rt, PAIR.as_bytes(), &settings, &gate);
+    outcome?;
+    assert!(rt; gate.saw_both.load(Ordering::SeqCst) == 2);
     Ok(())
 }
 
@@ -225,34 +243,37 @@ fn surveys_grade_at_the_same_time(rt: HostRuntime) -> Result<(), Fail> {
 fn surveys_of_entries_grade_at_the_same_time(rt: HostRuntime) -> Result<(), Fail> {
     let settings = settings(2, 1, false);
     let gate = pair_gate();
-    let found = entries(rt.alloc(), PAIR.as_bytes())?;
-    let mut output = Counted::new(Vec::new(rt.alloc()));
-    survey_entries(&rt, rt.alloc(), &found, &mut output, &settings, &gate)?;
-    assert_eq!(rt; gate.saw_both.load(Ordering::SeqCst), 2);
+    surveyed_entries(&rt, PAIR.as_bytes(), &settings, &gate)?;
+    assert!(rt; gate.saw_both.load(Ordering::SeqCst) == 2);
+    Ok(())
+}
+
+/// Asserts that each fault is told by its sentence.
+fn assert_told<F: Display>(
+    rt: &(impl Abort + AllocGlobal),
+    sentences: &[(F, &str)],
+) -> Result<(), Fail> {
+    for (fault, sentence) in sentences {
+        let text = format!(in rt.alloc(); "{fault}")?;
+        assert!(rt; text.as_str() == *sentence, "{sentence}");
+    }
     Ok(())
 }
 
 #[test]
 fn faults_in_sentences(rt: HostRuntime) -> Result<(), Fail> {
-    for (fault, sentence) in [
+    let stray = RunFault::Collection(CollectionFault::Stray(1));
+    let sentences = [
         (RunFault::Read, "the reader failed"),
-        (
-            RunFault::Collection(CollectionFault::Stray(1)),
-            "line 1 belongs to no entry or names none",
-        ),
+        (stray, "line 1 belongs to no entry or names none"),
         (RunFault::Thread, "a thread was not started"),
         (RunFault::NoMemory, "out of memory"),
         (RunFault::Write(7), "the writer failed after 7 bytes"),
-    ] {
-        let text = format!(in rt.alloc(); "{fault}")?;
-        assert_eq!(rt; text.as_str(), sentence);
-    }
-    for (fault, sentence) in [
+    ];
+    assert_told(&rt, &sentences)?;
+    let sentences = [
         (CollectFault::NoMemory, "out of memory"),
         (CollectFault::Thread, "a thread was not started"),
-    ] {
-        let text = format!(in rt.alloc(); "{fault}")?;
-        assert_eq!(rt; text.as_str(), sentence);
-    }
-    Ok(())
+    ];
+    assert_told(&rt, &sentences)
 }

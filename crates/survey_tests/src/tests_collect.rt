@@ -1,13 +1,18 @@
 //! That lanes work at the same time, that jobs are dealt in turn, and that a thread can be started, no
 //! contract says.
 
-use lane_core::{Gate, Job, OpenGate};
+ghost use Rattle.std.specs.Prelude.{◌≤◌};
+
+use lane_core::{Answer, Gate, Job, OpenGate};
 use puzzle_text::read_nin;
 use solve_core::Pick;
 use std::alloc::Global;
+use std::process::Abort;
+use std::sync::Wait;
 use std::sync::atomic::{AtomicU32, Ordering};
 use std::test::Fail;
-use survey_core::{MOST_JOBS, MOST_LANES, collect};
+use std::thread::Threads;
+use survey_core::{LARGEST_RING, MOST_JOBS, MOST_LANES, collect};
 
 const MOST_TURNS: u32 = 100_000_000;
 
@@ -19,6 +24,37 @@ pub fn jobs_numbered(alloc: Global, count: u32) -> Result<Vec<Job>, Fail> {
         jobs.push(Job::new(number, puzzle, 1000, Pick::First))?;
     }
     Ok(jobs)
+}
+
+/// Whether there are so many answers, with the numbers from 0 in order.
+fn are_answers(answers: &[Answer], count: u32) -> bool {
+    let mut are_in_order = true;
+    for (answer, number) in answers.iter().zip(0..count) {
+        are_in_order &= answer.number() == number;
+    }
+    are_in_order && answers.len() == count as usize
+}
+
+/// Asserts that the answers to `count` jobs, over so many lanes with such rings, are there in job order.
+pub(crate) fn assert_answered<R: Threads + Wait + Sync + Abort + AllocGlobal, G: Gate + Sync>(
+    rt: &R,
+    count: u32,
+    lanes: u16,
+    ring: u16,
+    gate: &G,
+) -> Result<(), Fail>
+    requires lanes { (1 ≤ lanes) × (lanes ≤ MOST_LANES) }
+    requires ring { (1 ≤ ring) × (ring ≤ LARGEST_RING) }
+{
+    let jobs = jobs_numbered(rt.alloc(), count)?;
+    assert!(rt; jobs.len() <= MOST_JOBS);
+    let answers = collect(rt, rt.alloc(), jobs, lanes, ring, gate)?;
+    assert!(rt;
+        are_answers(&answers, count),
+        "{count} jobs, {} answers",
+        answers.len()
+    );
+    Ok(())
 }
 
 /// A gate at which each job waits until `wanted` jobs have entered.
@@ -44,16 +80,17 @@ impl Gate for Meeting {
 #[test]
 fn each_lane_has_a_thread(rt: HostRuntime) -> Result<(), Fail> {
     for lanes in [2u16, MOST_LANES] {
-        let jobs = jobs_numbered(rt.alloc(), u32::from(lanes))?;
-        assert!(rt; jobs.len() <= MOST_JOBS);
+        let wanted = u32::from(lanes);
         let gate = Meeting {
-            wanted: u32::from(lanes),
+            wanted,
             entered: AtomicU32::new(0),
             saw_all: AtomicU32::new(0),
         };
-        let answers = collect(&rt, rt.alloc(), jobs, lanes, 1, &gate)?;
-        assert_eq!(rt; answers.len(), usize::from(lanes));
-        assert_eq!(rt; gate.saw_all.load(Ordering::SeqCst), u32::from(lanes));
+        assert_answered(&rt, wanted, lanes, 1, &gate)?;
+        assert!(rt;
+            gate.saw_all.load(Ordering::SeqCst) == wanted,
+            "{lanes} lanes"
+        );
     }
     Ok(())
 }
@@ -91,16 +128,13 @@ impl Gate for FirstWaits {
 
 #[test]
 fn jobs_are_dealt_in_turn(rt: HostRuntime) -> Result<(), Fail> {
-    let jobs = jobs_numbered(rt.alloc(), 6)?;
-    assert!(rt; jobs.len() <= MOST_JOBS);
     let gate = FirstWaits {
         odd: AtomicU32::new(0),
         even: AtomicU32::new(0),
         seen: AtomicU32::new(NOTHING_SEEN),
     };
-    let answers = collect(&rt, rt.alloc(), jobs, 2, 1, &gate)?;
-    assert_eq!(rt; answers.len(), 6);
-    assert_eq!(rt; gate.seen.load(Ordering::SeqCst), 0);
+    assert_answered(&rt, 6, 2, 1, &gate)?;
+    assert!(rt; gate.seen.load(Ordering::SeqCst) == 0);
     Ok(())
 }
 
@@ -113,13 +147,7 @@ fn answers_stand_in_job_order(rt: HostRuntime) -> Result<(), Fail> {
         (40, 3, 8),
         (300, 16, 1),
     ] {
-        let jobs = jobs_numbered(rt.alloc(), count)?;
-        assert!(rt; jobs.len() <= MOST_JOBS);
-        let answers = collect(&rt, rt.alloc(), jobs, lanes, ring, &OpenGate)?;
-        assert_eq!(rt; answers.len(), count as usize);
-        for (answer, number) in answers.iter().zip(0..count) {
-            assert_eq!(rt; answer.number(), number);
-        }
+        assert_answered(&rt, count, lanes, ring, &OpenGate)?;
     }
     Ok(())
 }

@@ -4,112 +4,106 @@ use std::io;
 use std::io::{ErrorKind, Read, Write};
 use survey_core::Counted;
 
-/// Answers each call with an error of this kind, or else takes or gives `count` bytes.
+/// What a call answers: how many bytes it took or gave, or the kind of its error.
+type Answer = Result<usize, ErrorKind>;
+
+/// Gives this answer at each call, with fewer bytes if the call is of fewer.
 #[derive(Drop)]
 struct Scripted {
-    error: Option<ErrorKind>,
-    count: usize,
+    answer: Answer,
     flushes: u32,
 }
 
 impl Read for Scripted {
     fn read(&mut self, buffer: &mut [u8]) -> io::Result<usize> {
-        match self.error {
-            Some(kind) => Err(io::Error::from(kind)),
-            None => {
-                let count = self.count.min(buffer.len());
-                buffer[..count].fill(b'x');
-                Ok(count)
-            }
-        }
+        let count = self.answer?.min(buffer.len());
+        buffer[..count].fill(b'x');
+        Ok(count)
     }
 }
 
 impl Write for Scripted {
     fn write(&mut self, bytes: &[u8]) -> io::Result<usize> {
-        match self.error {
-            Some(kind) => Err(io::Error::from(kind)),
-            None => Ok(self.count.min(bytes.len())),
-        }
+        Ok(self.answer?.min(bytes.len()))
     }
 
     fn flush(&mut self) -> io::Result<()> {
         self.flushes = self.flushes.saturating_add(1);
-        match self.error {
-            Some(kind) => Err(io::Error::from(kind)),
-            None => Ok(()),
-        }
+        self.answer?;
+        Ok(())
     }
 }
 
 fn counted_script() -> Counted<Scripted> {
     Counted::new(Scripted {
-        error: None,
-        count: 2,
+        answer: Ok(0),
         flushes: 0,
     })
 }
 
-/// The kind of an error, if there is one.
-fn kind_of<T: Drop>(answer: io::Result<T>) -> Option<ErrorKind> {
+/// What is answered, with the kind of an error in its place.
+fn told<T>(answer: io::Result<T>) -> Result<T, ErrorKind> {
     match answer {
-        Ok(_) => None,
-        Err(error) => Some(error.kind()),
+        Ok(value) => Ok(value),
+        Err(error) => Err(error.kind()),
     }
 }
+
+/// Reads in turn, into three bytes: what each answers, and how many have failed then.
+const READS: [(Answer, u32); 5] = [
+    (Ok(2), 0),
+    (Ok(0), 0),
+    (Err(ErrorKind::TimedOut), 1),
+    (Err(ErrorKind::Interrupted), 2),
+    (Ok(0), 2),
+];
 
 #[test]
 fn reads_pass_through(rt: HostRuntime) {
     let mut reader = counted_script();
     let mut buffer = [b'.'; 3];
-    assert_eq!(rt; reader.read(&mut buffer).ok(), Some(2));
-    assert_eq!(rt; buffer.as_slice(), b"xx.".as_slice());
-    reader.inner.count = 0;
-    assert_eq!(rt; reader.read(&mut buffer).ok(), Some(0));
-    assert_eq!(rt; reader.faults(), 0);
-    let kinds = [ErrorKind::TimedOut, ErrorKind::Interrupted];
-    for (kind, faults) in kinds.into_iter().zip(1u32..3) {
-        reader.inner.error = Some(kind);
-        assert_eq!(rt; kind_of(reader.read(&mut buffer)), Some(kind));
-        assert_eq!(rt; reader.faults(), faults);
+    for (answer, faults) in READS {
+        reader.inner.answer = answer;
+        assert!(rt; told(reader.read(&mut buffer)) == answer, "{answer:?}");
+        assert!(rt; buffer == *b"xx.");
+        assert!(rt; reader.faults() == faults, "{answer:?}");
     }
-    reader.inner.error = None;
-    assert_eq!(rt; reader.read(&mut buffer).ok(), Some(0));
-    assert_eq!(rt; reader.faults(), 2);
 }
+
+/// Writes in turn: of which bytes, what each answers, and how many have failed then.
+const WRITES: [(&[u8], Answer, u32); 6] = [
+    (b"abc", Ok(2), 0),
+    (b"", Ok(0), 0),
+    (b"c", Err(ErrorKind::BrokenPipe), 1),
+    (b"", Err(ErrorKind::StorageFull), 2),
+    (b"c", Ok(0), 3),
+    (b"", Ok(0), 3),
+];
 
 #[test]
 fn writes_pass_through(rt: HostRuntime) {
     let mut writer = counted_script();
-    assert_eq!(rt; writer.write(b"abc").ok(), Some(2));
-    assert_eq!(rt; writer.write(b"").ok(), Some(0));
-    assert_eq!(rt; writer.faults(), 0);
-    writer.inner.error = Some(ErrorKind::BrokenPipe);
-    assert_eq!(rt; kind_of(writer.write(b"c")), Some(ErrorKind::BrokenPipe));
-    assert_eq!(rt; writer.faults(), 1);
-    writer.inner.error = Some(ErrorKind::StorageFull);
-    assert_eq!(rt; kind_of(writer.write(b"")), Some(ErrorKind::StorageFull));
-    assert_eq!(rt; writer.faults(), 2);
-    writer.inner.error = None;
-    writer.inner.count = 0;
-    assert_eq!(rt; writer.write(b"c").ok(), Some(0));
-    assert_eq!(rt; writer.faults(), 3);
-    assert_eq!(rt; writer.write(b"").ok(), Some(0));
-    assert_eq!(rt; writer.faults(), 3);
+    for (bytes, answer, faults) in WRITES {
+        writer.inner.answer = answer;
+        assert!(rt; told(writer.write(bytes)) == answer, "{answer:?}");
+        assert!(rt; writer.faults() == faults, "{answer:?}");
+    }
 }
+
+/// Flushes in turn: what each answers, and how many there were then and have failed.
+const FLUSHES: [(Result<(), ErrorKind>, u32, u32); 3] = [
+    (Ok(()), 1, 0),
+    (Err(ErrorKind::StorageFull), 2, 1),
+    (Ok(()), 3, 1),
+];
 
 #[test]
 fn flushes_pass_through(rt: HostRuntime) {
     let mut writer = counted_script();
-    assert!(rt; writer.flush().is_ok());
-    assert_eq!(rt; writer.inner.flushes, 1);
-    assert_eq!(rt; writer.faults(), 0);
-    writer.inner.error = Some(ErrorKind::StorageFull);
-    assert_eq!(rt; kind_of(writer.flush()), Some(ErrorKind::StorageFull));
-    assert_eq!(rt; writer.inner.flushes, 2);
-    assert_eq!(rt; writer.faults(), 1);
-    writer.inner.error = None;
-    assert!(rt; writer.flush().is_ok());
-    assert_eq!(rt; writer.inner.flushes, 3);
-    assert_eq!(rt; writer.faults(), 1);
+    for (answer, flushes, faults) in FLUSHES {
+        writer.inner.answer = answer.and(Ok(0));
+        assert!(rt; told(writer.flush()) == answer, "flush {flushes}");
+        assert!(rt; writer.inner.flushes == flushes);
+        assert!(rt; writer.faults() == faults, "flush {flushes}");
+    }
 }

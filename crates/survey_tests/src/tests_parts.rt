@@ -1,28 +1,27 @@
 //! Surveys that are read and printed in parts: that they have the bytes of one thread if threads are there,
 //! no contract says, nor that they flush once.
 
-use crate::tests::{one_thread_survey, repeated};
+use crate::tests::{one_thread_survey, repeated, surveyed_entries};
 use crate::tests_samples::{TEN, settings};
 use lane_core::OpenGate;
 use puzzle_text::entries;
 use std::io;
 use std::io::{ErrorKind, Write};
+use std::sync::Wait;
 use std::test::Fail;
+use std::thread::Threads;
 use survey_core::{Counted, MOST_LANES, RunFault, survey_entries};
 
 #[test]
 fn surveys_in_parts_are_alike(rt: HostRuntime) -> Result<(), Fail> {
-    let alloc = rt.alloc();
     for count in [6usize, 7, 33] {
-        let collection = repeated(alloc, TEN.as_bytes(), count)?;
-        let found = entries(alloc, &collection)?;
+        let collection = repeated(rt.alloc(), TEN.as_bytes(), count)?;
         for show in [false, true] {
-            let wanted = one_thread_survey(alloc, &found, show)?;
+            let wanted = one_thread_survey(rt.alloc(), &collection, show)?;
             for lanes in 1..=MOST_LANES {
-                let mut output = Counted::new(Vec::new(alloc));
                 let settings = settings(lanes, 8, show);
-                survey_entries(&rt, alloc, &found, &mut output, &settings, &OpenGate)?;
-                assert!(rt; output.inner == wanted, "{count} times, {lanes} lanes");
+                let survey = surveyed_entries(&rt, &collection, &settings, &OpenGate)?;
+                assert!(rt; survey == wanted, "{count} times, {lanes} lanes");
             }
         }
     }
@@ -54,32 +53,44 @@ impl Write for Room {
     }
 }
 
+/// What a survey answers, and how often it flushes.
+type Ending = (Result<(), RunFault>, u32);
+
+/// How a survey of a collection's entries ends if there is room for so many bytes, and whether just these are
+/// taken.
+fn surveyed_into_room(
+    rt: &(impl Threads + Wait + Sync + AllocGlobal),
+    collection: &[u8],
+    room: usize,
+    sent: &[u8],
+) -> Result<(Ending, bool), Fail> {
+    let found = entries(rt.alloc(), collection)?;
+    let mut output = Counted::new(Room {
+        taken: Vec::new(rt.alloc()),
+        room,
+        flushes: 0,
+    });
+    let settings = settings(4, 8, true);
+    let outcome = survey_entries(rt, rt.alloc(), &found, &mut output, &settings, &OpenGate);
+    let is_sent = output.inner.taken.as_slice() == sent;
+    Ok(((outcome, output.inner.flushes), is_sent))
+}
+
 #[test]
 fn writers_fail_in_each_part(rt: HostRuntime) -> Result<(), Fail> {
-    let alloc = rt.alloc();
-    let collection = repeated(alloc, TEN.as_bytes(), 33)?;
-    let found = entries(alloc, &collection)?;
-    let wanted = one_thread_survey(alloc, &found, true)?;
+    let collection = repeated(rt.alloc(), TEN.as_bytes(), 33)?;
+    let wanted = one_thread_survey(rt.alloc(), &collection, true)?;
     for room in (0..wanted.len() + 500).step_by(499) {
-        let mut output = Counted::new(Room {
-            taken: Vec::new(alloc),
-            room,
-            flushes: 0,
-        });
-        let settings = settings(4, 8, true);
-        let done = survey_entries(&rt, alloc, &found, &mut output, &settings, &OpenGate);
-        let sent = room.min(wanted.len());
-        assert!(rt;
-            output.inner.taken.as_slice() == &wanted[..sent],
-            "{room} bytes"
-        );
-        if room < wanted.len() {
-            assert_eq!(rt; done, Err(RunFault::Write(room as u64)));
-            assert_eq!(rt; output.inner.flushes, 0);
+        let sent = &wanted[..room.min(wanted.len())];
+        let (ending, is_sent) = surveyed_into_room(&rt, &collection, room, sent)?;
+        assert!(rt; is_sent, "{room} bytes");
+        let fails = (Err(RunFault::Write(room as u64)), 0);
+        let wanted = if room < wanted.len() {
+            fails
         } else {
-            assert_eq!(rt; done, Ok(()));
-            assert_eq!(rt; output.inner.flushes, 1);
-        }
+            (Ok(()), 1)
+        };
+        assert!(rt; ending == wanted, "{room} bytes");
     }
     Ok(())
 }

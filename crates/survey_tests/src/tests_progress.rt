@@ -1,8 +1,6 @@
 //! What is told of the progress, over one lane and over more: no contract follows a value into a thread.
 
-ghost use Rattle.std.specs.Prelude.{◌-◌, ◌^◌, ◌<◌};
-ghost use Rattle.streams.specs.Counted.{fault_count};
-
+use crate::tests::surveyed;
 use crate::tests_samples::{TEN, TEN_SURVEY, settings};
 use lane_core::Gate;
 use std::alloc::Global;
@@ -14,10 +12,10 @@ use std::test::Fail;
 use std::thread::Threads;
 use std::time::{Clock, Duration, Instant};
 use std::{io, thread};
-use survey_core::{Counted, Progress, ProgressGate, run_survey};
+use survey_core::{Progress, ProgressGate};
 
 /// Lets jobs enter, one after another.
-fn enter(gate: &ProgressGate, count: u32) {
+pub(crate) fn enter(gate: &ProgressGate, count: u32) {
     for number in 0..count {
         gate.enter(number);
     }
@@ -31,21 +29,40 @@ fn enter_slowly(clock: &impl Clock, gate: &ProgressGate) {
     }
 }
 
-/// Lets 50,000 jobs enter from each of four threads, and tells whether there was memory for it.
-fn enter_from_four<R: Threads + Sync + AllocGlobal>(rt: &R, gate: &ProgressGate) -> bool {
-    thread::map_indices(rt, rt.alloc(), 4, &|_| enter(gate, 50_000)).is_ok()
+/// Lets 50,000 jobs enter from each of four threads.
+fn enter_from_four<R: Threads + Sync + Abort + AllocGlobal>(rt: &R, gate: &ProgressGate) {
+    let done = thread::map_indices(rt, rt.alloc(), 4, &|_| enter(gate, 50_000));
+    assert!(rt; done.is_ok());
 }
 
-/// What is told while `count` jobs enter.
-fn told<R: Threads + Wait + Sync + AllocGlobal>(
+/// How jobs enter.
+#[derive(Clone, Copy)]
+enum Jobs {
+    InARow(u32),
+    Slowly,
+    FromFour,
+}
+
+impl Jobs {
+    fn enter<R: Threads + Clock + Sync + Abort + AllocGlobal>(self, rt: &R, gate: &ProgressGate) {
+        match self {
+            Jobs::InARow(count) => enter(gate, count),
+            Jobs::Slowly => enter_slowly(rt, gate),
+            Jobs::FromFour => enter_from_four(rt, gate),
+        }
+    }
+}
+
+/// What is told while jobs enter.
+fn told<R: Threads + Wait + Clock + Sync + Abort + AllocGlobal>(
     rt: &R,
-    count: u32,
+    jobs: Jobs,
     files: Option<u32>,
 ) -> Result<Vec<u8>, Fail> {
     let mut text = Vec::new(rt.alloc());
     let gate = ProgressGate::new();
     let progress = Progress::new(rt.alloc(), &mut text, files)?;
-    progress.tell_while(rt, &gate, &mut || enter(&gate, count));
+    progress.tell_while(rt, &gate, &mut || jobs.enter(rt, &gate));
     Ok(text)
 }
 
@@ -71,43 +88,48 @@ fn numbers_of(alloc: Global, text: &[u8]) -> Result<Vec<u32>, Fail> {
     Ok(numbers)
 }
 
+/// How many jobs enter, of how many files, and how what is told ends, if anything is.
+const LAST_LINES: [(u32, Option<u32>, &[u8]); 5] = [
+    (1, None, b"\rentries begun 1\n"),
+    (8, Some(10), b"\rentries begun 8 of 10 files\n"),
+    (10_000, None, b"\rentries begun 10000\n"),
+    (0, None, b""),
+    (0, Some(5), b""),
+];
+
 #[test]
 fn last_number_is_told(rt: HostRuntime) -> Result<(), Fail> {
-    for (count, files, wanted) in [
-        (1u32, None, "\rentries begun 1\n"),
-        (8, Some(10u32), "\rentries begun 8 of 10 files\n"),
-        (10_000, None, "\rentries begun 10000\n"),
-    ] {
-        let text = told(&rt, count, files)?;
-        assert!(rt; text.ends_with(wanted.as_bytes()), "{count} jobs");
+    for (count, files, last) in LAST_LINES {
+        let text = told(&rt, Jobs::InARow(count), files)?;
+        let is_told = text.ends_with(last) && text.is_empty() == last.is_empty();
+        assert!(rt; is_told, "{count} jobs");
     }
-    assert!(rt; told(&rt, 0, None)?.is_empty());
-    assert!(rt; told(&rt, 0, Some(5))?.is_empty());
     Ok(())
 }
 
 #[test]
 fn jobs_of_four_threads_are_all_counted(rt: HostRuntime) -> Result<(), Fail> {
-    let mut text = Vec::new(rt.alloc());
-    let gate = ProgressGate::new();
-    let progress = Progress::new(rt.alloc(), &mut text, None)?;
-    let is_done = progress.tell_while(&rt, &gate, &mut || enter_from_four(&rt, &gate));
-    assert!(rt; is_done && text.ends_with(b"\rentries begun 200000\n"));
+    let text = told(&rt, Jobs::FromFour, None)?;
+    assert!(rt; text.ends_with(b"\rentries begun 200000\n"));
     Ok(())
+}
+
+/// The numbers that are told in half a second, and how many they are at most.
+fn told_slowly<R: Threads + Wait + Clock + Sync + Abort + AllocGlobal>(
+    rt: &R,
+) -> Result<(Vec<u32>, u128), Fail> {
+    let start = Instant::now(rt)?;
+    let text = told(rt, Jobs::Slowly, None)?;
+    let most = start.elapsed(rt)?.as_millis() / 100 + 1;
+    Ok((numbers_of(rt.alloc(), &text)?, most))
 }
 
 #[test]
 fn ten_rising_numbers_are_told_in_a_second(rt: HostRuntime) -> Result<(), Fail> {
-    let mut text = Vec::new(rt.alloc());
-    let gate = ProgressGate::new();
-    let progress = Progress::new(rt.alloc(), &mut text, None)?;
-    let start = Instant::now(&rt)?;
-    progress.tell_while(&rt, &gate, &mut || enter_slowly(&rt, &gate));
-    let most = start.elapsed(&rt)?.as_millis() / 100 + 1;
-    let numbers = numbers_of(rt.alloc(), &text)?;
+    let (numbers, most) = told_slowly(&rt)?;
     assert!(rt; numbers.len() >= 2 && numbers.len() as u128 <= most);
     assert!(rt; numbers.is_sorted_by(|low, high| low < high));
-    assert_eq!(rt; numbers.last().copied(), Some(1000));
+    assert!(rt; numbers.last().copied() == Some(1000));
     Ok(())
 }
 
@@ -171,7 +193,7 @@ fn jobs_enter_while_the_writer_is_held(rt: HostRuntime) -> Result<(), Fail> {
         },
     );
     let wanted = "\rentries begun 1\rentries begun 1000\n";
-    assert_eq!(rt; taken.as_slice(), wanted.as_bytes());
+    assert!(rt; taken.as_slice() == wanted.as_bytes());
     Ok(())
 }
 
@@ -193,27 +215,26 @@ impl Write for FailingErrors {
     }
 }
 
+/// Whether a survey of ten entries prints what it is to.
+fn is_ten_survey<R: Threads + Wait + Sync + AllocGlobal>(
+    rt: &R,
+    lanes: u16,
+    gate: &ProgressGate,
+) -> bool {
+    let (outcome, text) = surveyed(rt, TEN.as_bytes(), &settings(lanes, 2, false), gate);
+    outcome.is_ok() && text.as_slice() == TEN_SURVEY.as_bytes()
+}
+
 /// That the survey of ten entries, two of them refused, is the same while its progress is told to a writer.
 fn assert_survey<R: Threads + Wait + Sync + Abort + AllocGlobal, E: Write + Drop + Send>(
     rt: &R,
     lanes: u16,
     errors: E,
 ) -> Result<(), Fail> {
-    let alloc = rt.alloc();
-    let mut reader = Counted::new(TEN.as_bytes());
-    let mut output = Counted::new(Vec::new(alloc));
-    let settings = settings(lanes, 2, false);
     let gate = ProgressGate::new();
-    let progress = Progress::new(alloc, errors, Some(10))?;
-    progress.tell_while(
-        rt,
-        &gate,
-        &mut ||
-            requires reading { fault_count reader < 2 ^ 32 - 1 }
-            requires writing { fault_count output < 2 ^ 32 - 1 }
-        { run_survey(rt, alloc, &mut reader, &mut output, &settings, &gate) },
-    )?;
-    assert_eq!(rt; output.inner.as_slice(), TEN_SURVEY.as_bytes());
+    let progress = Progress::new(rt.alloc(), errors, Some(10))?;
+    let is_survey = progress.tell_while(rt, &gate, &mut || is_ten_survey(rt, lanes, &gate));
+    assert!(rt; is_survey, "{lanes} lanes");
     Ok(())
 }
 

@@ -2,9 +2,9 @@
 
 use crate::tests::{one_thread_survey, repeated};
 use crate::tests_answers::{assert_answers, eight_jobs};
+use crate::tests_progress::enter;
 use crate::tests_samples::{TEN, TEN_SURVEY, settings};
 use lane_core::{Gate, OpenGate};
-use puzzle_text::entries;
 use refusals::{Told, refuse, sweep, told_if, was_refused};
 use std::sync::Wait;
 use std::sync::atomic::{AtomicU32, Ordering};
@@ -40,15 +40,14 @@ fn answers_are_collected_or_refused(rt: HostRuntime) -> Result<(), Fail> {
         let answers = collect(&rt, alloc, jobs, 3, 1, &gate);
         let refused = was_refused(alloc);
         match &answers {
-            Ok(answers) => {
-                assert_answers(&rt, answers, refused);
-                assert_eq!(rt; gate.count.load(Ordering::SeqCst), 8);
-            }
-            Err(_) => {
-                assert!(rt; refused, "growth {growth}");
-                assert_eq!(rt; gate.count.load(Ordering::SeqCst), 0);
-            }
+            Ok(answers) => assert_answers(&rt, answers, refused),
+            Err(_) => assert!(rt; refused, "growth {growth}"),
         }
+        let entered = if answers.is_ok() { 8 } else { 0 };
+        assert!(rt;
+            gate.count.load(Ordering::SeqCst) == entered,
+            "growth {growth}"
+        );
         if !refused {
             return Ok(());
         }
@@ -98,8 +97,7 @@ fn surveys_in_parts_are_written_or_refused(rt: HostRuntime) -> Result<(), Fail> 
     let alloc = rt.alloc();
     let mut collection = repeated(alloc, b"@ what.txt\n", 90)?;
     collection.extend_from_slice(TEN.as_bytes())?;
-    let found = entries(alloc, &collection)?;
-    let wanted = one_thread_survey(alloc, &found, false)?;
+    let wanted = one_thread_survey(alloc, &collection, false)?;
     sweep(alloc, || match Vec::with_capacity(alloc, 5000) {
         Ok(text) => told_of_survey(&rt, &collection, 3, text, &wanted),
         Err(_) => Told::NoMemory,
@@ -117,15 +115,7 @@ fn progress_is_told_or_refused(rt: HostRuntime) -> Result<(), Fail> {
         let gate = ProgressGate::new();
         refuse(alloc, growth);
         if let Ok(progress) = Progress::new(alloc, &mut text, Some(u32::MAX)) {
-            progress.tell_while(
-                &rt,
-                &gate,
-                &mut || {
-                    for number in 0..MOST_JOBS as u32 {
-                        gate.enter(number);
-                    }
-                },
-            );
+            progress.tell_while(&rt, &gate, &mut || enter(&gate, MOST_JOBS as u32));
         }
         if !was_refused(alloc) {
             assert!(rt; text.ends_with(b"\rentries begun 10000 of 4294967295 files\n"));

@@ -1,18 +1,17 @@
 //! Lanes whose ends sleep and wake one another: that no wake is lost, and that a lane goes on while others
 //! sleep or are held, no contract says.
 
-use crate::tests::one_thread_survey;
-use crate::tests_collect::jobs_numbered;
+use crate::tests::{one_thread_survey, surveyed_entries};
+use crate::tests_collect::assert_answered;
 use crate::tests_samples::settings;
 use lane_core::{Gate, OpenGate};
-use puzzle_text::{Entry, entries};
 use std::alloc::Global;
 use std::process::Abort;
 use std::sync::Wait;
 use std::sync::atomic::{AtomicU32, Ordering};
 use std::test::Fail;
 use std::thread::Threads;
-use survey_core::{Counted, MOST_JOBS, MOST_LANES, collect, survey_entries};
+use survey_core::MOST_LANES;
 
 const TINY: [&[u8]; 3] = [
     b"@ one.mk\n1 1\n0\n#\n0\n",
@@ -29,20 +28,17 @@ fn tiny_collection(alloc: Global, count: u32) -> Result<Vec<u8>, Fail> {
     Ok(text)
 }
 
-/// Surveys the entries over `lanes` lanes, with rings of 1, 2 and 8, twice each.
+/// Surveys a collection's entries over `lanes` lanes, with rings of 1, 2 and 8, twice each.
 fn assert_surveys(
     rt: &(impl Threads + Wait + Sync + Abort + AllocGlobal),
-    entries: &[Entry<'_>],
+    collection: &[u8],
     lanes: u16,
     wanted: &[u8],
 ) -> Result<(), Fail> {
     for ring in [1u16, 2, 8, 8, 2, 1] {
-        let mut output = Counted::new(Vec::new(rt.alloc()));
-        let settings = settings(lanes, ring, false);
-        survey_entries(rt, rt.alloc(), entries, &mut output, &settings, &OpenGate)?;
-        assert_eq!(rt;
-            output.inner.as_slice(),
-            wanted,
+        let survey = surveyed_entries(rt, collection, &settings(lanes, ring, false), &OpenGate)?;
+        assert!(rt;
+            survey.as_slice() == wanted,
             "{lanes} lanes, rings of {ring}"
         );
     }
@@ -53,10 +49,9 @@ fn assert_surveys(
 fn surveys_of_tiny_puzzles_end_alike(rt: HostRuntime) -> Result<(), Fail> {
     for count in 0..21u32 {
         let collection = tiny_collection(rt.alloc(), count)?;
-        let found = entries(rt.alloc(), &collection)?;
-        let wanted = one_thread_survey(rt.alloc(), &found, false)?;
+        let wanted = one_thread_survey(rt.alloc(), &collection, false)?;
         for lanes in 1..=MOST_LANES {
-            assert_surveys(&rt, &found, lanes, &wanted)?;
+            assert_surveys(&rt, &collection, lanes, &wanted)?;
         }
     }
     Ok(())
@@ -94,16 +89,13 @@ impl Gate for HoldsFirstLane {
 #[test]
 fn lanes_go_on_while_one_is_held(rt: HostRuntime) -> Result<(), Fail> {
     for ring in [1u16, 2, 8] {
-        let jobs = jobs_numbered(rt.alloc(), 200)?;
-        assert!(rt; jobs.len() <= MOST_JOBS);
         let gate = HoldsFirstLane {
             wanted: 150,
             others: AtomicU32::new(0),
             saw_all: AtomicU32::new(0),
         };
-        let answers = collect(&rt, rt.alloc(), jobs, 4, ring, &gate)?;
-        assert_eq!(rt; answers.len(), 200);
-        assert_eq!(rt; gate.saw_all.load(Ordering::SeqCst), 1);
+        assert_answered(&rt, 200, 4, ring, &gate)?;
+        assert!(rt; gate.saw_all.load(Ordering::SeqCst) == 1, "rings of {ring}");
     }
     Ok(())
 }

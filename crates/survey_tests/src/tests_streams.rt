@@ -104,18 +104,30 @@ fn failing_writer(
     })
 }
 
-/// Surveys what the reader gives, over `lanes` lanes.
-fn survey_streams(
+/// Surveys what the reader gives, over `lanes` lanes. Returns what is answered, whether just these bytes went
+/// out, and how many reads and how many writes failed.
+fn surveyed(
     rt: &(impl Threads + Wait + Sync + AllocGlobal),
     lanes: u16,
-    reader: &mut Counted<FailingReader<'static>>,
-    writer: &mut Counted<FailingWriter>,
-) -> Result<(), RunFault>
-    requires reading { fault_count reader.old ≡ 0 }
-    requires writing { fault_count writer.old ≡ 0 }
+    reader: Counted<FailingReader<'static>>,
+    writer: Counted<FailingWriter>,
+    sent: &[u8],
+) -> (Result<(), RunFault>, bool, (u32, u32))
+    requires reading { fault_count reader ≡ 0 }
+    requires writing { fault_count writer ≡ 0 }
 {
+    let (mut reader, mut writer) = (reader, writer);
     let settings = settings(lanes, 1, false);
-    run_survey(rt, rt.alloc(), reader, writer, &settings, &OpenGate)
+    let outcome = run_survey(
+        rt,
+        rt.alloc(),
+        &mut reader,
+        &mut writer,
+        &settings,
+        &OpenGate,
+    );
+    let is_sent = writer.inner.taken.as_slice() == sent;
+    (outcome, is_sent, (reader.faults(), writer.faults()))
 }
 
 /// That a survey ends with `Write` once just the first `sent` bytes went out.
@@ -128,24 +140,26 @@ fn assert_write_fails(
 )
     requires { fault_count writer ≡ 0 }
 {
-    let mut writer = writer;
-    let mut reader = failing_reader(collection, 1000, 1000);
-    let outcome = survey_streams(rt, lanes, &mut reader, &mut writer);
-    assert_eq!(rt; outcome, Err(RunFault::Write(sent.len() as u64)));
-    assert_eq!(rt; writer.inner.taken.as_slice(), sent);
-    assert_eq!(rt; reader.faults(), 0);
-    assert_eq!(rt; writer.faults(), 1);
+    let reader = failing_reader(collection, 1000, 1000);
+    let (outcome, is_sent, faults) = surveyed(rt, lanes, reader, writer, sent);
+    assert!(rt; outcome == Err(RunFault::Write(sent.len() as u64)));
+    assert!(rt; is_sent);
+    assert!(rt; faults == (0, 1));
 }
+
+/// Of each writer: the collection and its survey, how many lanes there are, how many bytes it takes at a call,
+/// and whether it ends by taking nothing.
+const WRITERS: [(&str, &str, u16, usize, bool); 4] = [
+    ("", NOTHING, 1, 3, false),
+    ("", NOTHING, 1, 3, true),
+    (DEMO, DEMO_SURVEY, 1, 1, false),
+    (DEMO, DEMO_SURVEY, 4, 1000, true),
+];
 
 #[test]
 fn writer_fails_at_each_call(rt: HostRuntime) {
-    assert_eq!(rt; DEMO_SURVEY.len(), 119);
-    for (collection, survey, lanes, piece, takes_nothing) in [
-        ("", NOTHING, 1u16, 3usize, false),
-        ("", NOTHING, 1, 3, true),
-        (DEMO, DEMO_SURVEY, 1, 1, false),
-        (DEMO, DEMO_SURVEY, 4, 1000, true),
-    ] {
+    assert!(rt; DEMO_SURVEY.len() == 119);
+    for (collection, survey, lanes, piece, takes_nothing) in WRITERS {
         for room in 0..survey.len() {
             let writer = failing_writer(rt.alloc(), piece, room, takes_nothing);
             let sent = &survey.as_bytes()[..room];
@@ -154,18 +168,25 @@ fn writer_fails_at_each_call(rt: HostRuntime) {
     }
 }
 
+/// Takes all, in pieces, and fails when it is flushed.
+fn failing_flusher(alloc: Global, is_interrupted: bool) -> Counted<FailingWriter>
+    ensures { fault_count result ≡ 0 }
+{
+    let mut writer = failing_writer(alloc, 3, 1000, false);
+    writer.inner.flush_fails = true;
+    writer.inner.is_interrupted = is_interrupted;
+    writer
+}
+
 #[test]
 fn flush_fails_at_the_end(rt: HostRuntime) {
     for lanes in [1u16, 4] {
         for (collection, survey) in [("", NOTHING), (DEMO, DEMO_SURVEY)] {
-            let mut writer = failing_writer(rt.alloc(), 3, 1000, false);
-            writer.inner.flush_fails = true;
+            let writer = failing_flusher(rt.alloc(), false);
             assert_write_fails(&rt, collection, lanes, writer, survey.as_bytes());
         }
     }
-    let mut writer = failing_writer(rt.alloc(), 3, 1000, false);
-    writer.inner.flush_fails = true;
-    assert_eq!(rt; write_text(&mut writer, b""), Err(0));
+    assert!(rt; write_text(&mut failing_flusher(rt.alloc(), false), b"") == Err(0));
 }
 
 #[test]
@@ -175,10 +196,8 @@ fn interrupted_writes_and_flushes_fail(rt: HostRuntime) {
         let mut writer = failing_writer(rt.alloc(), 1, line.len(), false);
         writer.inner.is_interrupted = true;
         assert_write_fails(&rt, DEMO, lanes, writer, line);
-        let mut writer = failing_writer(rt.alloc(), 3, 1000, false);
-        writer.inner.is_interrupted = true;
-        writer.inner.flush_fails = true;
-        assert_write_fails(&rt, DEMO, lanes, writer, DEMO_SURVEY.as_bytes());
+        let flusher = failing_flusher(rt.alloc(), true);
+        assert_write_fails(&rt, DEMO, lanes, flusher, DEMO_SURVEY.as_bytes());
     }
 }
 
@@ -191,13 +210,12 @@ fn assert_read(
     wanted: Result<(), RunFault>,
     written: &str,
 ) {
-    let mut reader = failing_reader(DEMO, piece, call);
-    let mut writer = failing_writer(rt.alloc(), 1000, 1000, false);
-    let outcome = survey_streams(rt, lanes, &mut reader, &mut writer);
-    assert_eq!(rt; outcome, wanted, "{piece} bytes a call, call {call}");
-    assert_eq!(rt; writer.inner.taken.as_slice(), written.as_bytes());
-    assert_eq!(rt; reader.faults(), u32::from(outcome.is_err()));
-    assert_eq!(rt; writer.faults(), 0);
+    let reader = failing_reader(DEMO, piece, call);
+    let writer = failing_writer(rt.alloc(), 1000, 1000, false);
+    let (outcome, is_sent, faults) = surveyed(rt, lanes, reader, writer, written.as_bytes());
+    assert!(rt; outcome == wanted, "{piece} bytes a call, call {call}");
+    assert!(rt; is_sent);
+    assert!(rt; faults == (u32::from(outcome.is_err()), 0));
 }
 
 /// The collection has 168 bytes, and one call more gives the end.
