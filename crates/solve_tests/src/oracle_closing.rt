@@ -29,19 +29,6 @@ fn places_from(
 }
 
 impl PlainLine {
-    fn new(
-        alloc: Global,
-        places: Vec<usize>,
-        clue: &Clue,
-        full_lines: &[Cells],
-    ) -> Result<PlainLine, AllocError> {
-        let lines_of_clue = lines_of_clue(alloc, full_lines, clue.numbers())?;
-        Ok(PlainLine {
-            places,
-            lines_of_clue,
-        })
-    }
-
     /// What a grid knows of the line.
     fn read(&self, alloc: Global, cells: &[Cell]) -> Result<Cells, AllocError> {
         let mut known = Vec::new(alloc);
@@ -127,8 +114,18 @@ impl PlainPuzzle {
         Ok(plain)
     }
 
-    fn push_line(&mut self, line: PlainLine) -> Result<(), AllocError> {
-        self.lines.push(line)?;
+    fn push_line(
+        &mut self,
+        alloc: Global,
+        places: Vec<usize>,
+        clue: &Clue,
+        full_lines: &[Cells],
+    ) -> Result<(), AllocError> {
+        let lines_of_clue = lines_of_clue(alloc, full_lines, clue.numbers())?;
+        self.lines.push(PlainLine {
+            places,
+            lines_of_clue,
+        })?;
         Ok(())
     }
 
@@ -136,7 +133,7 @@ impl PlainPuzzle {
         let full_lines = full_lines(alloc, self.width)?;
         for (y, clue) in clues.iter().enumerate() {
             let places = places_from(alloc, y.wrapping_mul(self.width), 1, self.width)?;
-            self.push_line(PlainLine::new(alloc, places, clue, &full_lines)?)?;
+            self.push_line(alloc, places, clue, &full_lines)?;
         }
         Ok(())
     }
@@ -145,7 +142,7 @@ impl PlainPuzzle {
         let full_lines = full_lines(alloc, self.height)?;
         for (x, clue) in clues.iter().enumerate() {
             let places = places_from(alloc, x, self.width, self.height)?;
-            self.push_line(PlainLine::new(alloc, places, clue, &full_lines)?)?;
+            self.push_line(alloc, places, clue, &full_lines)?;
         }
         Ok(())
     }

@@ -7,21 +7,25 @@ use std::alloc::{AllocError, Global};
 /// The cells of a line from one end to the other, or those of a grid in row order.
 pub type Cells = Vec<Cell>;
 
-fn with_one_more(cells: &[Cell], cell: Cell, alloc: Global) -> Result<Cells, AllocError> {
-    let mut longer = Vec::new(alloc);
-    for known in cells {
-        longer.push(*known)?;
-    }
+/// Adds a full line with a cell more to some.
+fn push_longer(
+    lines: &mut Vec<Cells>,
+    line: &[Cell],
+    cell: Cell,
+    alloc: Global,
+) -> Result<(), AllocError> {
+    let mut longer = line.to_vec(alloc)?;
     longer.push(cell)?;
-    Ok(longer)
+    lines.push(longer)?;
+    Ok(())
 }
 
 /// Each of some full lines with a filled cell more, and with a blank cell more.
 fn longer_lines(alloc: Global, lines: &[Cells]) -> Result<Vec<Cells>, AllocError> {
     let mut longer = Vec::new(alloc);
     for line in lines {
-        longer.push(with_one_more(line, Cell::Filled, alloc)?)?;
-        longer.push(with_one_more(line, Cell::Blank, alloc)?)?;
+        push_longer(&mut longer, line, Cell::Filled, alloc)?;
+        push_longer(&mut longer, line, Cell::Blank, alloc)?;
     }
     Ok(longer)
 }

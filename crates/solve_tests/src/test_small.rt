@@ -63,7 +63,7 @@ pub fn numbered_puzzle(
 }
 
 /// Widths, heights, and how many numbers there are.
-pub const SIZES: [(u16, u16, u32); 9] = [
+pub static SIZES: [(u16, u16, u32); 9] = [
     (1, 1, 9),
     (2, 1, 45),
     (3, 1, 216),

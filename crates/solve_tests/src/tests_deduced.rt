@@ -9,83 +9,23 @@ use std::alloc::Global;
 use std::test::Fail;
 
 /// A line, a clue, and what is to come out: no cells if there is no placing.
-struct Row {
-    line: &'static [u8],
-    clue: &'static [u16],
-    deduced: &'static [u8],
-}
+type Row = (&'static [u8], &'static [u16], &'static [u8]);
 
 static ROWS: [Row; 14] = [
-    Row {
-        line: b"?????",
-        clue: &[3],
-        deduced: b"??#??",
-    },
-    Row {
-        line: b"?#???",
-        clue: &[3],
-        deduced: b"?##?.",
-    },
-    Row {
-        line: b"??.???",
-        clue: &[3],
-        deduced: b"...###",
-    },
-    Row {
-        line: b"#???#",
-        clue: &[3],
-        deduced: b"",
-    },
-    Row {
-        line: b"??#??",
-        clue: &[1, 1],
-        deduced: b"?.#.?",
-    },
-    Row {
-        line: b"???",
-        clue: &[2, 2],
-        deduced: b"",
-    },
-    Row {
-        line: b"???",
-        clue: &[],
-        deduced: b"...",
-    },
-    Row {
-        line: b"?#?",
-        clue: &[],
-        deduced: b"",
-    },
-    Row {
-        line: b"?.?#??.",
-        clue: &[1, 2],
-        deduced: b"#.?#?..",
-    },
-    Row {
-        line: b"#",
-        clue: &[1],
-        deduced: b"#",
-    },
-    Row {
-        line: b"??????????",
-        clue: &[3, 4],
-        deduced: b"??#???##??",
-    },
-    Row {
-        line: b"??????????",
-        clue: &[65],
-        deduced: b"",
-    },
-    Row {
-        line: b"??????????",
-        clue: &[1, 129],
-        deduced: b"",
-    },
-    Row {
-        line: b"??????????",
-        clue: &[256],
-        deduced: b"",
-    },
+    (b"?????", &[3], b"??#??"),
+    (b"?#???", &[3], b"?##?."),
+    (b"??.???", &[3], b"...###"),
+    (b"#???#", &[3], b""),
+    (b"??#??", &[1, 1], b"?.#.?"),
+    (b"???", &[2, 2], b""),
+    (b"???", &[], b"..."),
+    (b"?#?", &[], b""),
+    (b"?.?#??.", &[1, 2], b"#.?#?.."),
+    (b"#", &[1], b"#"),
+    (b"??????????", &[3, 4], b"??#???##??"),
+    (b"??????????", &[65], b""),
+    (b"??????????", &[1, 129], b""),
+    (b"??????????", &[256], b""),
 ];
 
 /// The cell that a character stands for: `#` filled, `.` blank, any other unknown.
@@ -127,13 +67,14 @@ pub(crate) fn is_line(line: &Line, text: &[u8]) -> bool {
 /// Whether the deduction of a row is what was worked out.
 fn comes_out(alloc: Global, row: &Row) -> Result<bool, Fail> {
     let mut tables = Tables::new(alloc, 256)?;
-    let clue = Clue::from_numbers(alloc, row.clue)?;
-    let Some(line) = line_of(row.line) else {
+    let (line, numbers, deduced) = *row;
+    let clue = Clue::from_numbers(alloc, numbers)?;
+    let Some(line) = line_of(line) else {
         return Ok(false);
     };
     Ok(match deduce(&mut tables, &line, &clue) {
-        Some(answer) => is_line(&answer, row.deduced),
-        None => row.deduced.is_empty(),
+        Some(answer) => is_line(&answer, deduced),
+        None => deduced.is_empty(),
     })
 }
 

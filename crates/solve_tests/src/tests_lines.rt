@@ -161,10 +161,9 @@ fn unknown_cells_are_found(rt: HostRuntime) {
     line.set(0, Cell::Filled);
     line.set(1, Cell::Blank);
     line.set(3, Cell::Filled);
-    assert!(rt; line.first_unknown(0) == Some(2), "from the first");
-    assert!(rt; line.first_unknown(2) == Some(2), "from itself");
-    assert!(rt; line.first_unknown(3) == Some(4), "behind the first");
-    assert!(rt; line.first_unknown(5).is_none(), "from the length");
+    for (from, found) in [(0u16, Some(2)), (2, Some(2)), (3, Some(4)), (5, None)] {
+        assert!(rt; line.first_unknown(from) == found, "from {from}");
+    }
     line.set(4, Cell::Blank);
     assert!(rt; line.first_unknown(3).is_none(), "none behind");
 }

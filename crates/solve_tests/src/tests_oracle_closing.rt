@@ -106,7 +106,7 @@ fn are_closed_alike(alloc: Global, puzzle: &Puzzle, cells: &[Cell]) -> Result<bo
 fn small_puzzles_are_closed_alike(rt: HostRuntime) -> Result<(), Fail> {
     let alloc = rt.alloc();
     let mut draws = Draws(1);
-    for (width, height, count) in SIZES {
+    for &(width, height, count) in &SIZES {
         for number in 0..count {
             let Some(puzzle) = numbered_puzzle(alloc, width, height, number)? else {
                 continue;

@@ -84,7 +84,7 @@ fn clue_is_deduced_alike(
 }
 
 /// Lengths, and how many lines there are.
-const LENGTHS: [(u16, u32); 6] = [(1, 3), (2, 9), (3, 27), (4, 81), (5, 243), (6, 729)];
+static LENGTHS: [(u16, u32); 6] = [(1, 3), (2, 9), (3, 27), (4, 81), (5, 243), (6, 729)];
 
 /// Whether the clues of all lines of two cells more are deduced alike: those that fit, and those that don't.
 fn clues_are_deduced_alike(alloc: Global, len: u16, lines: u32) -> Result<bool, Fail>
@@ -102,7 +102,7 @@ fn clues_are_deduced_alike(alloc: Global, len: u16, lines: u32) -> Result<bool, 
 
 #[test]
 fn short_lines_are_deduced_alike(rt: HostRuntime) -> Result<(), Fail> {
-    for (len, lines) in LENGTHS {
+    for &(len, lines) in &LENGTHS {
         assert!(rt; clues_are_deduced_alike(rt.alloc(), len, lines)?, "{len}");
     }
     Ok(())

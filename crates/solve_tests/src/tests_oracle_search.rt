@@ -12,7 +12,7 @@ use solve_core::{Pick, Verdict, next_guess, report};
 use std::alloc::{AllocError, Global};
 use std::test::Fail;
 
-const PICKS: [Pick; 2] = [Pick::First, Pick::Most];
+static PICKS: [Pick; 2] = [Pick::First, Pick::Most];
 
 /// A limit on guesses that no search here comes to.
 const NO_LIMIT: u32 = 1_000_000;
@@ -42,18 +42,19 @@ fn are_two(
     Ok(is_grid(alloc, first, found[0])? && is_grid(alloc, second, found[1])?)
 }
 
+/// Whether the grids of a verdict are those that a search finds.
+fn has_grids(alloc: Global, verdict: &Verdict, found: &[&Cells]) -> Result<bool, AllocError> {
+    match verdict {
+        Verdict::Nothing | Verdict::Unsettled(None) => Ok(found.is_empty()),
+        Verdict::One(grid) | Verdict::Unsettled(Some(grid)) => is_only(alloc, grid, found),
+        Verdict::Several(first, second) => are_two(alloc, first, second, found),
+    }
+}
+
 /// Whether a verdict is that of a search with this course.
 fn is_verdict(alloc: Global, verdict: &Verdict, course: &Course) -> Result<bool, AllocError> {
-    let found = course.found.as_slice();
-    match verdict {
-        Verdict::Nothing => Ok(!course.is_cut && found.is_empty()),
-        Verdict::One(grid) => Ok(!course.is_cut && is_only(alloc, grid, found)?),
-        Verdict::Several(first, second) => Ok(
-            !course.is_cut && are_two(alloc, first, second, found)?,
-        ),
-        Verdict::Unsettled(None) => Ok(course.is_cut && found.is_empty()),
-        Verdict::Unsettled(Some(grid)) => Ok(course.is_cut && is_only(alloc, grid, found)?),
-    }
+    let is_cut = matches!(verdict, Verdict::Unsettled(_));
+    Ok(course.is_cut == is_cut && has_grids(alloc, verdict, &course.found)?)
 }
 
 /// Whether the report with a limit is what the opening and the walk with that limit tell.
@@ -76,8 +77,9 @@ fn is_reported(
     )
 }
 
-/// The limits that matter to a search that spends so many guesses.
-fn limits(alloc: Global, spent: u32) -> Result<Vec<u32>, AllocError> {
+/// The limits that matter to a search in which this happens.
+fn limits(alloc: Global, events: &[Event]) -> Result<Vec<u32>, AllocError> {
+    let spent = walk(alloc, events, NO_LIMIT)?.spent;
     if spent == 0 {
         return Ok(vec![in alloc; 0, NO_LIMIT]?);
     }
@@ -102,8 +104,7 @@ fn are_reported(
     pick: Pick,
 ) -> Result<bool, Fail> {
     let events = opening.events(alloc, plain, pick)?;
-    let whole = walk(alloc, &events, NO_LIMIT)?.spent;
-    for limit in limits(alloc, whole)? {
+    for limit in limits(alloc, &events)? {
         if !is_reported(alloc, puzzle, opening, &events, pick, limit)? {
             return Ok(false);
         }
@@ -115,7 +116,7 @@ fn are_reported(
 fn reports_are_alike(alloc: Global, puzzle: &Puzzle) -> Result<bool, Fail> {
     let plain = PlainPuzzle::new(alloc, puzzle)?;
     let opening = Opening::new(alloc, &plain)?;
-    for pick in PICKS {
+    for &pick in &PICKS {
         if !are_reported(alloc, puzzle, &plain, &opening, pick)? {
             return Ok(false);
         }
@@ -126,7 +127,7 @@ fn reports_are_alike(alloc: Global, puzzle: &Puzzle) -> Result<bool, Fail> {
 #[test]
 fn small_puzzles_are_reported_alike(rt: HostRuntime) -> Result<(), Fail> {
     let alloc = rt.alloc();
-    for (width, height, count) in SIZES {
+    for &(width, height, count) in &SIZES {
         for number in 0..count {
             let Some(puzzle) = numbered_puzzle(alloc, width, height, number)? else {
                 continue;
@@ -200,7 +201,7 @@ fn verdict_holds(alloc: Global, puzzle: &Puzzle, full_grids: &[Cells]) -> Result
 #[test]
 fn verdicts_on_small_puzzles_hold_of_all_grids(rt: HostRuntime) -> Result<(), Fail> {
     let alloc = rt.alloc();
-    for (width, height, count) in SIZES {
+    for &(width, height, count) in &SIZES {
         let full_grids = full_lines(alloc, usize::from(width) * usize::from(height))?;
         for number in 0..count {
             let Some(puzzle) = numbered_puzzle(alloc, width, height, number)? else {
@@ -235,7 +236,7 @@ fn guesses_are_alike(alloc: Global, width: u16, height: u16, cells: &[Cell]) -> 
     }
     let grid = grid_of(alloc, width, height, cells)?;
     let (columns, rows) = (usize::from(width), usize::from(height));
-    for pick in PICKS {
+    for &pick in &PICKS {
         let place = match next_guess(&grid, pick) {
             Some((x, y)) => Some(
                 usize::from(y)
@@ -252,7 +253,7 @@ fn guesses_are_alike(alloc: Global, width: u16, height: u16, cells: &[Cell]) -> 
 }
 
 /// Widths, heights, and how many grids there are.
-const GRIDS: [(u16, u16, u32); 11] = [
+static GRIDS: [(u16, u16, u32); 11] = [
     (1, 1, 3),
     (2, 1, 9),
     (3, 1, 27),
@@ -269,7 +270,7 @@ const GRIDS: [(u16, u16, u32); 11] = [
 #[test]
 fn guesses_in_small_grids_are_alike(rt: HostRuntime) -> Result<(), Fail> {
     let alloc = rt.alloc();
-    for (width, height, count) in GRIDS {
+    for &(width, height, count) in &GRIDS {
         for number in 0..count {
             let cells = numbered_cells(alloc, usize::from(width) * usize::from(height), number)?;
             assert!(rt;

@@ -6,94 +6,24 @@ use line_core::{Line, Tables, deduce};
 use std::alloc::Global;
 use std::test::Fail;
 
-/// Stretches of cells that are filled for certain, each told by its first cell and the cell after its last,
-/// and what is certain of the other cells.
-struct Row {
-    len: u16,
-    clue: &'static [u16],
-    filled: &'static [(u16, u16)],
-    other: Cell,
-}
+/// Stretches of cells, each told by its first cell and the cell after its last.
+type Stretches = &'static [(u16, u16)];
 
-static ROWS: [Row; 13] = [
-    Row {
-        len: 63,
-        clue: &[30, 32],
-        filled: &[(0, 30), (31, 63)],
-        other: Cell::Blank,
-    },
-    Row {
-        len: 64,
-        clue: &[40, 22],
-        filled: &[(1, 40), (42, 63)],
-        other: Cell::Unknown,
-    },
-    Row {
-        len: 64,
-        clue: &[64],
-        filled: &[(0, 64)],
-        other: Cell::Blank,
-    },
-    Row {
-        len: 65,
-        clue: &[50],
-        filled: &[(15, 50)],
-        other: Cell::Unknown,
-    },
-    Row {
-        len: 127,
-        clue: &[63, 63],
-        filled: &[(0, 63), (64, 127)],
-        other: Cell::Blank,
-    },
-    Row {
-        len: 128,
-        clue: &[60, 67],
-        filled: &[(0, 60), (61, 128)],
-        other: Cell::Blank,
-    },
-    Row {
-        len: 129,
-        clue: &[60, 1, 60],
-        filled: &[(6, 60), (69, 123)],
-        other: Cell::Unknown,
-    },
-    Row {
-        len: 129,
-        clue: &[2, 126],
-        filled: &[(0, 2), (3, 129)],
-        other: Cell::Blank,
-    },
-    Row {
-        len: 255,
-        clue: &[254],
-        filled: &[(1, 254)],
-        other: Cell::Unknown,
-    },
-    Row {
-        len: 256,
-        clue: &[129],
-        filled: &[(127, 129)],
-        other: Cell::Unknown,
-    },
-    Row {
-        len: 256,
-        clue: &[127, 127],
-        filled: &[(1, 127), (129, 255)],
-        other: Cell::Unknown,
-    },
-    Row {
-        len: 256,
-        clue: &[1, 3, 3],
-        filled: &[],
-        other: Cell::Unknown,
-    },
-    Row {
-        len: 256,
-        clue: &[],
-        filled: &[],
-        other: Cell::Blank,
-    },
+/// Lengths of lines, clues, the stretches that are filled for certain, and what is certain of the other cells.
+static OVERLAPS: [(u16, &[u16], Stretches, Cell); 13] = [
+    (63, &[30, 32], &[(0, 30), (31, 63)], Cell::Blank),
+    (64, &[40, 22], &[(1, 40), (42, 63)], Cell::Unknown),
+    (64, &[64], &[(0, 64)], Cell::Blank),
+    (65, &[50], &[(15, 50)], Cell::Unknown),
+    (127, &[63, 63], &[(0, 63), (64, 127)], Cell::Blank),
+    (128, &[60, 67], &[(0, 60), (61, 128)], Cell::Blank),
+    (129, &[60, 1, 60], &[(6, 60), (69, 123)], Cell::Unknown),
+    (129, &[2, 126], &[(0, 2), (3, 129)], Cell::Blank),
+    (255, &[254], &[(1, 254)], Cell::Unknown),
+    (256, &[129], &[(127, 129)], Cell::Unknown),
+    (256, &[127, 127], &[(1, 127), (129, 255)], Cell::Unknown),
+    (256, &[1, 3, 3], &[], Cell::Unknown),
+    (256, &[], &[], Cell::Blank),
 ];
 
 /// Whether a cell is in one of some stretches.
@@ -147,13 +77,9 @@ pub(crate) fn is_filled(
 
 #[test]
 fn overlaps_come_out(rt: HostRuntime) -> Result<(), Fail> {
-    for row in &ROWS {
-        let answer = deduced(rt.alloc(), row.len, row.clue)?;
-        assert!(rt;
-            is_filled(&answer, row.len, row.filled, row.other),
-            "{}",
-            row.len
-        );
+    for (len, numbers, filled, other) in &OVERLAPS {
+        let answer = deduced(rt.alloc(), *len, numbers)?;
+        assert!(rt; is_filled(&answer, *len, filled, *other), "{len}");
     }
     Ok(())
 }

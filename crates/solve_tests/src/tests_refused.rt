@@ -98,8 +98,12 @@ fn reports_are_made_or_refused(rt: HostRuntime) -> Result<(), Fail> {
     let puzzle = puzzle_with(alloc, &[ONE, ONE, ONE], &[ONE, ONE, ONE]).ok_or("puzzle")?;
     let growths = growths_with(alloc, &puzzle, 0)?;
     // A report makes all its room before it deduces its first line.
-    assert_eq!(rt; growths_with(alloc, &puzzle, 2)?, growths);
-    assert_eq!(rt; growths_with(alloc, &puzzle, 3)?, growths);
+    for guesses in [2, 3] {
+        assert!(rt;
+            growths_with(alloc, &puzzle, guesses)? == growths,
+            "{guesses}"
+        );
+    }
     Ok(())
 }
 

@@ -22,85 +22,31 @@ fn is_dead(line: &Line, clue: &Clue, starts: &mut Starts) -> bool {
     no_left && no_right
 }
 
-/// A line, a clue, whether there is a placing, and the starts that are to come out:
-/// none if there is no placing.
-struct Row {
-    line: &'static [u8],
-    clue: &'static [u16],
-    alive: bool,
-    left: &'static [u16],
-    right: &'static [u16],
-}
+/// The leftmost and the rightmost starts of a clue's runs.
+type Outermost = (&'static [u16], &'static [u16]);
+
+/// A line, a clue, and the starts that are to come out: none if there is no placing.
+type Row = (&'static [u8], &'static [u16], Option<Outermost>);
 
 static ROWS: [Row; 8] = [
-    Row {
-        line: b"?????",
-        clue: &[3],
-        alive: true,
-        left: &[0],
-        right: &[2],
-    },
-    Row {
-        line: b"??#??",
-        clue: &[1, 1],
-        alive: true,
-        left: &[0, 2],
-        right: &[2, 4],
-    },
-    Row {
-        line: b"???",
-        clue: &[2, 2],
-        alive: false,
-        left: &[],
-        right: &[],
-    },
-    Row {
-        line: b"???",
-        clue: &[],
-        alive: true,
-        left: &[],
-        right: &[],
-    },
-    Row {
-        line: b"?#?",
-        clue: &[],
-        alive: false,
-        left: &[],
-        right: &[],
-    },
-    Row {
-        line: b"?.?#??.",
-        clue: &[1, 2],
-        alive: true,
-        left: &[0, 2],
-        right: &[0, 3],
-    },
-    Row {
-        line: b"#",
-        clue: &[1],
-        alive: true,
-        left: &[0],
-        right: &[0],
-    },
-    Row {
-        line: b"??????????",
-        clue: &[3, 4],
-        alive: true,
-        left: &[0, 4],
-        right: &[2, 6],
-    },
+    (b"?????", &[3], Some((&[0], &[2]))),
+    (b"??#??", &[1, 1], Some((&[0, 2], &[2, 4]))),
+    (b"???", &[2, 2], None),
+    (b"???", &[], Some((&[], &[]))),
+    (b"?#?", &[], None),
+    (b"?.?#??.", &[1, 2], Some((&[0, 2], &[0, 3]))),
+    (b"#", &[1], Some((&[0], &[0]))),
+    (b"??????????", &[3, 4], Some((&[0, 4], &[2, 6]))),
 ];
 
 /// Whether the starts of a row are what was worked out, whatever starts were left before.
 fn row_comes_out(alloc: Global, row: &Row, starts: &mut Starts) -> Result<bool, Fail> {
-    let clue = Clue::from_numbers(alloc, row.clue)?;
-    let Some(line) = line_of(row.line) else {
-        return Ok(false);
-    };
-    Ok(if row.alive {
-        comes_out(&line, &clue, starts, row.left, row.right)
-    } else {
-        is_dead(&line, &clue, starts)
+    let (line, numbers, wanted) = *row;
+    let clue = Clue::from_numbers(alloc, numbers)?;
+    Ok(match (line_of(line), wanted) {
+        (Some(line), Some((left, right))) => comes_out(&line, &clue, starts, left, right),
+        (Some(line), None) => is_dead(&line, &clue, starts),
+        (None, _) => false,
     })
 }
 
