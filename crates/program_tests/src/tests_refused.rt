@@ -1,14 +1,17 @@
 //! Calls whose growths of memory are refused, each in turn, and texts that are too long with every growth
 //! refused.
 
+ghost use Rattle.std.specs.Prelude.{◌≤◌};
+
 use crate::tests_running::asked;
 use crate::tests_samples::{DEMO, DEMO_GRID, DEMO_NIN, MEETS, PAIR, TWO, joined, repeated};
 use clap::error::ErrorKind;
 use command_line::{CommandFault, Request};
 use puzzle_text::{EntryFault, Format, LONGEST_PUZZLE, TextFault};
-use refusals::{Told, is_heeded, refuse, sweep, told_if, was_refused};
+use refusals::{Told, Unswept, is_heeded, refuse, sweep, told_if, was_refused};
 use reports::{ConvertFault, convert, lines_report, solve_report};
 use solve_core::Pick;
+use std::alloc::Global;
 use std::test::Fail;
 use survey_core::Settings;
 
@@ -33,26 +36,34 @@ fn lines_are_reported_or_refused(rt: HostRuntime) -> Result<(), Fail> {
     Ok(())
 }
 
+/// Refuses each growth of a report with this limit on guesses in turn. Returns how many growths were refused.
+fn sweep_report(
+    alloc: Global,
+    name: &[u8],
+    text: &[u8],
+    guesses: u32,
+    wanted: &[u8],
+) -> Result<usize, Unswept>
+    requires { guesses ≤ 1000 }
+{
+    sweep(
+        alloc,
+        || told_of_text(
+            solve_report(alloc, name, text, guesses, Pick::First),
+            wanted,
+        ),
+    )
+}
+
 #[test]
 fn puzzles_are_solved_or_refused(rt: HostRuntime) -> Result<(), Fail> {
     let alloc = rt.alloc();
     let demo = joined(alloc, &[DEMO, MEETS])?;
     let line = b"1 5x10 one line 50 50 0 meets demo.non\n";
     let wanted = joined(alloc, &[line, DEMO_GRID, b"\n"])?;
-    sweep(
-        alloc,
-        || told_of_text(
-            solve_report(alloc, b"demo.non", &demo, 1000, Pick::First),
-            &wanted,
-        ),
-    )?;
-    sweep(
-        alloc,
-        || told_of_text(
-            solve_report(alloc, b"two.mk", TWO, 2, Pick::First),
-            b"1 2x2 several search 0 0 2 absent two.mk\n#.\n.#\n\n.#\n#.\n\n",
-        ),
-    )?;
+    sweep_report(alloc, b"demo.non", &demo, 1000, &wanted)?;
+    let wanted = b"1 2x2 several search 0 0 2 absent two.mk\n#.\n.#\n\n.#\n#.\n\n";
+    sweep_report(alloc, b"two.mk", TWO, 2, wanted)?;
     Ok(())
 }
 
@@ -67,32 +78,33 @@ fn told_of_converted(answer: Result<Vec<u8>, ConvertFault>, wanted: Option<&[u8]
     }
 }
 
+/// Refuses each growth of a conversion in turn. Returns how many growths were refused.
+fn sweep_conversion(
+    alloc: Global,
+    name: &[u8],
+    text: &[u8],
+    format: Format,
+    wanted: Option<&[u8]>,
+) -> Result<usize, Unswept> {
+    sweep(
+        alloc,
+        || told_of_converted(convert(alloc, name, text, format), wanted),
+    )
+}
+
 #[test]
 fn texts_are_converted_or_refused(rt: HostRuntime) -> Result<(), Fail> {
     let alloc = rt.alloc();
     let demo = joined(alloc, &[DEMO, MEETS])?;
-    sweep(
-        alloc,
-        || told_of_converted(convert(alloc, b"demo.non", &demo, Format::Non), Some(&demo)),
-    )?;
-    sweep(
-        alloc,
-        || told_of_converted(
-            convert(alloc, b"demo.non", &demo, Format::Nin),
-            Some(DEMO_NIN),
-        ),
-    )?;
-    sweep(
-        alloc,
-        || told_of_converted(convert(alloc, b"pair.mk", PAIR, Format::Mk), Some(PAIR)),
-    )?;
-    sweep(
-        alloc,
-        || told_of_converted(
-            convert(alloc, b"flat.mk", b"1 2\n1\n#\n1\n2\n", Format::Nin),
-            None,
-        ),
-    )?;
+    let table: [(&[u8], &[u8], Format, Option<&[u8]>); 4] = [
+        (b"demo.non", &demo, Format::Non, Some(&demo)),
+        (b"demo.non", &demo, Format::Nin, Some(DEMO_NIN)),
+        (b"pair.mk", PAIR, Format::Mk, Some(PAIR)),
+        (b"flat.mk", b"1 2\n1\n#\n1\n2\n", Format::Nin, None),
+    ];
+    for (name, text, format, wanted) in table {
+        sweep_conversion(alloc, name, text, format, wanted)?;
+    }
     Ok(())
 }
 

@@ -3,12 +3,12 @@
 use command_line::{CommandFault, Request, parse_words};
 use program::run;
 use std::alloc::{AllocError, Global};
-use std::io;
 use std::io::{ErrorKind, Read, Write};
 use std::rt::Files;
 use std::sync::Wait;
 use std::test::Fail;
 use std::thread::Threads;
+use std::{fs, io};
 use survey_core::Counted;
 
 /// How the program ended: its status, what it printed, what it said of a fault, and what it told of progress.
@@ -46,6 +46,18 @@ impl Read for FailingReader {
         self.room -= count;
         Ok(count)
     }
+}
+
+/// Writes a file of these bytes.
+pub(crate) fn make_file<R: Files>(rt: &R, name: &str, bytes: &[u8]) -> Result<(), Fail> {
+    fs::write(rt, name, bytes).ok().ok_or("write")?;
+    Ok(())
+}
+
+/// Removes a file.
+pub(crate) fn drop_file<R: Files>(rt: &R, name: &str) -> Result<(), Fail> {
+    fs::remove_file(rt, name).ok().ok_or("remove")?;
+    Ok(())
 }
 
 /// The words of a command line that has no word with a space in it.

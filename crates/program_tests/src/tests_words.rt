@@ -1,6 +1,6 @@
 //! Which words ask for what, and what the program says and answers.
 
-use crate::tests_running::{asked, ended};
+use crate::tests_running::{Ending, asked, ended};
 use crate::tests_samples::joined;
 use command_line::{CommandFault, Request};
 use grid_core::NoMemory;
@@ -12,67 +12,77 @@ use std::alloc::{AllocError, Global};
 use std::test::Fail;
 use survey_core::{Counted, RunFault, Settings};
 
-/// The stop at the fault of a puzzle's text.
-fn text_stop(fault: TextFault) -> Stop {
-    Stop::Entry(EntryFault::Text(fault))
+/// The largest number of a line.
+const LAST: u32 = u32::MAX;
+
+/// The faults of a puzzle's text, each with what is said of it.
+static TEXT_FAULTS: [(TextFault, &str); 10] = [
+    (TextFault::TooLong, "TooLong"),
+    (TextFault::NoSize, "NoSize"),
+    (TextFault::BadSize, "BadSize"),
+    (TextFault::NoSection, "NoSection"),
+    (TextFault::BadLine(LAST), "BadLine:4294967295"),
+    (TextFault::Twice(LAST), "Twice:4294967295"),
+    (TextFault::BadCount, "BadCount"),
+    (TextFault::BadNumber(LAST), "BadNumber:4294967295"),
+    (TextFault::BadGoal(LAST), "BadGoal:4294967295"),
+    (TextFault::NoMemory, "NoMemory"),
+];
+
+const STRAY: CollectionFault = CollectionFault::Stray(LAST);
+
+const TOO_MANY: CollectionFault = CollectionFault::TooMany;
+
+/// The other stops, each with what is said of it.
+static STOPS: [(Stop, &str); 9] = [
+    (Stop::Entry(EntryFault::UnknownFormat), "UnknownFormat"),
+    (Stop::Run(RunFault::Collection(STRAY)), "Stray:4294967295"),
+    (Stop::Run(RunFault::Collection(TOO_MANY)), "TooMany"),
+    (Stop::Run(RunFault::Write(u64::MAX)), "Write"),
+    (Stop::Run(RunFault::Thread), "Thread"),
+    (Stop::Ambiguous, "Ambiguous"),
+    (Stop::Read, "Read"),
+    (Stop::Write, "Write"),
+    (Stop::NoMemory, "NoMemory"),
+];
+
+/// Whether the status of a stop is 1, and this is said of it.
+fn is_told(alloc: Global, stop: &Stop, word: &str) -> Result<bool, Fail> {
+    let mut said = Counted::new(Vec::new(alloc));
+    let line = joined(alloc, &[b"nonograde: ", word.as_bytes(), b"\n"])?;
+    Ok(report_stop(&mut said, stop) == 1 && said.inner == line)
 }
 
 #[test]
 fn stops_have_their_lines(rt: HostRuntime) -> Result<(), Fail> {
-    let last = u32::MAX;
-    let stray = CollectionFault::Stray(last);
-    let table = [
-        (Stop::Entry(EntryFault::UnknownFormat), "UnknownFormat"),
-        (text_stop(TextFault::TooLong), "TooLong"),
-        (text_stop(TextFault::NoSize), "NoSize"),
-        (text_stop(TextFault::BadSize), "BadSize"),
-        (text_stop(TextFault::NoSection), "NoSection"),
-        (text_stop(TextFault::BadLine(last)), "BadLine:4294967295"),
-        (text_stop(TextFault::Twice(last)), "Twice:4294967295"),
-        (text_stop(TextFault::BadCount), "BadCount"),
-        (
-            text_stop(TextFault::BadNumber(last)),
-            "BadNumber:4294967295",
-        ),
-        (text_stop(TextFault::BadGoal(last)), "BadGoal:4294967295"),
-        (text_stop(TextFault::NoMemory), "NoMemory"),
-        (Stop::Run(RunFault::Collection(stray)), "Stray:4294967295"),
-        (
-            Stop::Run(RunFault::Collection(CollectionFault::TooMany)),
-            "TooMany",
-        ),
-        (Stop::Run(RunFault::Write(u64::MAX)), "Write"),
-        (Stop::Run(RunFault::Thread), "Thread"),
-        (Stop::Ambiguous, "Ambiguous"),
-        (Stop::Read, "Read"),
-        (Stop::Write, "Write"),
-        (Stop::NoMemory, "NoMemory"),
-    ];
-    for (stop, word) in &table {
-        let mut said = Counted::new(Vec::new(rt.alloc()));
-        let line = joined(rt.alloc(), &[b"nonograde: ", word.as_bytes(), b"\n"])?;
-        assert_eq!(rt; report_stop(&mut said, stop), 1, "{word}");
-        assert!(rt; said.inner == line, "{word}");
+    for (fault, word) in &TEXT_FAULTS {
+        let stop = Stop::Entry(EntryFault::Text(*fault));
+        assert!(rt; is_told(rt.alloc(), &stop, word)?, "{word}");
+    }
+    for (stop, word) in &STOPS {
+        assert!(rt; is_told(rt.alloc(), stop, word)?, "{word}");
     }
     Ok(())
 }
 
+/// Faults of conversions, each with its sentence.
+static SENTENCES: [(ConvertFault, &str); 3] = [
+    (
+        ConvertFault::Entry(EntryFault::Text(TextFault::BadLine(3))),
+        "line 3 belongs nowhere or is too long",
+    ),
+    (
+        ConvertFault::Ambiguous,
+        "the text would be read with the sizes the other way round",
+    ),
+    (ConvertFault::NoMemory, "out of memory"),
+];
+
 #[test]
 fn faults_in_sentences(rt: HostRuntime) -> Result<(), Fail> {
-    let table = [
-        (
-            ConvertFault::Entry(EntryFault::Text(TextFault::BadLine(3))),
-            "line 3 belongs nowhere or is too long",
-        ),
-        (
-            ConvertFault::Ambiguous,
-            "the text would be read with the sizes the other way round",
-        ),
-        (ConvertFault::NoMemory, "out of memory"),
-    ];
-    for (fault, sentence) in table {
+    for (fault, sentence) in &SENTENCES {
         let told = format!(in rt.alloc(); "{fault}")?;
-        assert_eq!(rt; told.as_str(), sentence);
+        assert!(rt; told.as_str() == *sentence, "{sentence}");
     }
     Ok(())
 }
@@ -103,28 +113,30 @@ fn is_survey(alloc: Global, line: &str, wanted: Asked, files: &[&str]) -> bool {
     }
 }
 
+/// Command lines, each with the settings and the files of its survey.
+static SURVEYS: [(&str, Asked, &[&str]); 4] = [
+    ("survey", (4, 8, 1000, Pick::First, false, false), &[]),
+    (
+        "survey --lanes 1 --ring 1 --guesses 0",
+        (1, 1, 0, Pick::First, false, false),
+        &[],
+    ),
+    (
+        "survey --lanes 16 --ring 64 --guesses 1000000 --pick most",
+        (16, 64, 1_000_000, Pick::Most, false, false),
+        &[],
+    ),
+    (
+        "survey --show a.mk --guesses 7 --progress b.nin",
+        (4, 8, 7, Pick::First, true, true),
+        &["a.mk", "b.nin"],
+    ),
+];
+
 #[test]
 fn words_ignored_by_surveys(rt: HostRuntime) {
-    let table: [(&str, Asked, &[&str]); 4] = [
-        ("survey", (4, 8, 1000, Pick::First, false, false), &[]),
-        (
-            "survey --lanes 1 --ring 1 --guesses 0",
-            (1, 1, 0, Pick::First, false, false),
-            &[],
-        ),
-        (
-            "survey --lanes 16 --ring 64 --guesses 1000000 --pick most",
-            (16, 64, 1_000_000, Pick::Most, false, false),
-            &[],
-        ),
-        (
-            "survey --show a.mk --guesses 7 --progress b.nin",
-            (4, 8, 7, Pick::First, true, true),
-            &["a.mk", "b.nin"],
-        ),
-    ];
-    for (line, wanted, files) in table {
-        assert!(rt; is_survey(rt.alloc(), line, wanted, files), "{line}");
+    for (line, wanted, files) in &SURVEYS {
+        assert!(rt; is_survey(rt.alloc(), line, *wanted, files), "{line}");
     }
 }
 
@@ -138,88 +150,109 @@ fn is_solve(alloc: Global, line: &str, guesses: u32, pick: Pick, file: &str) -> 
     }
 }
 
-#[test]
-fn words_ignored_on_one_file(rt: HostRuntime) {
-    for (line, guesses, pick) in [
-        ("solve two.mk", 1000, Pick::First),
-        ("solve --guesses 0 two.mk", 0, Pick::First),
-        ("solve --guesses 1000000 two.mk", 1_000_000, Pick::First),
-        ("solve --pick most --guesses 2 two.mk", 2, Pick::Most),
-    ] {
-        assert!(rt;
-            is_solve(rt.alloc(), line, guesses, pick, "two.mk"),
-            "{line}"
-        );
-    }
-    match &asked(rt.alloc(), "lines demo.nin") {
-        Ok(Request::Lines(file)) => assert_eq!(rt; file.as_str(), "demo.nin"),
-        _ => assert!(rt; false),
-    }
-    match &asked(rt.alloc(), "convert --to nin demo.non") {
-        Ok(Request::Convert(format, file)) => {
-            assert_eq!(rt; (*format, file.as_str()), (Format::Nin, "demo.non"));
-        }
-        _ => assert!(rt; false),
+/// Command lines that solve this file, each with its limit and its rule.
+static SOLVES: [(&str, u32, Pick); 4] = [
+    ("solve two.mk", 1000, Pick::First),
+    ("solve --guesses 0 two.mk", 0, Pick::First),
+    ("solve --guesses 1000000 two.mk", 1_000_000, Pick::First),
+    ("solve --pick most --guesses 2 two.mk", 2, Pick::Most),
+];
+
+/// Whether words ask for what is certain of this file by lines.
+fn is_lines(alloc: Global, line: &str, file: &str) -> bool {
+    match &asked(alloc, line) {
+        Ok(Request::Lines(name)) => name.as_str() == file,
+        _ => false,
     }
 }
 
-/// The status of words that are refused or ask for help; 1 if a growth of memory was refused.
-fn status_of(fault: &CommandFault) -> i32 {
-    match fault {
-        CommandFault::Words(error) => error.exit_code(),
-        CommandFault::NoMemory => 1,
+/// Whether words ask for this file to be converted so.
+fn is_convert(alloc: Global, line: &str, format: Format, file: &str) -> bool {
+    match &asked(alloc, line) {
+        Ok(Request::Convert(to, name)) => *to == format && name.as_str() == file,
+        _ => false,
     }
 }
+
+#[test]
+fn words_ignored_on_one_file(rt: HostRuntime) {
+    let alloc = rt.alloc();
+    for (line, guesses, pick) in &SOLVES {
+        assert!(rt; is_solve(alloc, line, *guesses, *pick, "two.mk"), "{line}");
+    }
+    assert!(rt; is_lines(alloc, "lines demo.nin", "demo.nin"));
+    let line = "convert --to nin demo.non";
+    assert!(rt; is_convert(alloc, line, Format::Nin, "demo.non"));
+}
+
+/// The status of words that are refused or ask for help; 1 if a growth of memory was refused. `None` if they
+/// are taken.
+fn status_of(alloc: Global, line: &str) -> Option<i32> {
+    match &asked(alloc, line) {
+        Err(CommandFault::Words(error)) => Some(error.exit_code()),
+        Err(CommandFault::NoMemory) => Some(1),
+        Ok(_request) => None,
+    }
+}
+
+/// Command lines that are refused, and two that ask for help, each with its status.
+static REFUSED: [(&str, i32); 16] = [
+    ("lines", 2),
+    ("lines a.mk b.mk", 2),
+    ("survey --lanes 17", 2),
+    ("survey --lanes 0", 2),
+    ("survey --ring 65", 2),
+    ("survey --ring 0", 2),
+    ("solve --guesses 1000001 a.mk", 2),
+    ("survey --guesses 1000001", 2),
+    ("survey --pick last", 2),
+    ("solve --pick last a.mk", 2),
+    ("convert --to txt a.mk", 2),
+    ("convert a.mk", 2),
+    ("lnes a.mk", 2),
+    ("", 2),
+    ("--help", 0),
+    ("solve --help", 0),
+];
 
 #[test]
 fn refused_words(rt: HostRuntime) {
-    let table = [
-        ("lines", 2),
-        ("lines a.mk b.mk", 2),
-        ("survey --lanes 17", 2),
-        ("survey --lanes 0", 2),
-        ("survey --ring 65", 2),
-        ("survey --ring 0", 2),
-        ("solve --guesses 1000001 a.mk", 2),
-        ("survey --guesses 1000001", 2),
-        ("survey --pick last", 2),
-        ("solve --pick last a.mk", 2),
-        ("convert --to txt a.mk", 2),
-        ("convert a.mk", 2),
-        ("lnes a.mk", 2),
-        ("", 2),
-        ("--help", 0),
-        ("solve --help", 0),
-    ];
-    for (line, status) in table {
-        match asked(rt.alloc(), line) {
-            Ok(_request) => assert!(rt; false, "{line} is taken"),
-            Err(fault) => assert_eq!(rt; status_of(&fault), status, "{line}"),
-        }
+    for (line, status) in &REFUSED {
+        assert!(rt; status_of(rt.alloc(), line) == Some(*status), "{line}");
     }
 }
 
+/// Whether the program ended with this status, and printed and said this.
+fn is_ended(ending: &Ending, status: u8, printed: &[u8], said: &[u8]) -> bool {
+    ending.status == status
+        && ending.printed.as_slice() == printed
+        && ending.said.as_slice() == said
+}
+
+/// Command lines, each with its standard input, and with the status, what is printed and what is said.
+static ENDINGS: [(&str, &[u8], u8, &[u8], &[u8]); 3] = [
+    (
+        "survey",
+        b"",
+        0,
+        b"entries 0 refused 0 none 0 one 0 several 0 unsettled 0 line 0 trials 0 search 0\n",
+        b"",
+    ),
+    (
+        "survey --show --lanes 1",
+        b"@ one.mk\n1 1\n0\n#\n0\n",
+        0,
+        b"1 1x1 one line 1 1 0 absent one.mk\n.\n\nentries 1 refused 0 none 0 one 1 several 0 unsettled 0 line 1 trials 0 search 0\n",
+        b"",
+    ),
+    ("survey", b"x\n", 1, b"", b"nonograde: Stray:1\n"),
+];
+
 #[test]
 fn statuses_and_streams(rt: HostRuntime) -> Result<(), Fail> {
-    let none = b"entries 0 refused 0 none 0 one 0 several 0 unsettled 0 line 0 trials 0 search 0\n";
-    let one =
-        b"1 1x1 one line 1 1 0 absent one.mk\n.\n\nentries 1 refused 0 none 0 one 1 several 0 unsettled 0 line 1 trials 0 search 0\n";
-    let table: [(&str, &[u8], u8, &[u8], &[u8]); 3] = [
-        ("survey", b"", 0, none, b""),
-        (
-            "survey --show --lanes 1",
-            b"@ one.mk\n1 1\n0\n#\n0\n",
-            0,
-            one,
-            b"",
-        ),
-        ("survey", b"x\n", 1, b"", b"nonograde: Stray:1\n"),
-    ];
-    for (line, input, status, printed, said) in table {
+    for (line, input, status, printed, said) in &ENDINGS {
         let ending = ended(&rt, line, input)?;
-        assert_eq!(rt; ending.status, status, "{line}");
-        assert!(rt; ending.printed.as_slice() == printed, "{line}");
-        assert!(rt; ending.said.as_slice() == said, "{line}");
+        assert!(rt; is_ended(&ending, *status, printed, said), "{line}");
     }
     Ok(())
 }
@@ -234,17 +267,19 @@ fn said_of(alloc: Global, line: &str) -> Result<String, Fail> {
 
 #[test]
 fn help_and_refused_words(rt: HostRuntime) -> Result<(), Fail> {
-    for (line, status) in [("--help", 0), ("lines", 2), ("survey --lanes 17", 2)] {
+    for (line, is_help) in [
+        ("--help", true),
+        ("lines", false),
+        ("survey --lanes 17", false),
+    ] {
         let ending = ended(&rt, line, b"")?;
         let text = said_of(rt.alloc(), line)?;
-        let (printed, said) = if status == 0 {
-            (text.as_bytes(), b"".as_slice())
+        let well = if is_help {
+            is_ended(&ending, 0, text.as_bytes(), b"")
         } else {
-            (b"".as_slice(), text.as_bytes())
+            is_ended(&ending, 2, b"", text.as_bytes())
         };
-        assert_eq!(rt; ending.status, status, "{line}");
-        assert!(rt; ending.printed.as_slice() == printed, "{line}");
-        assert!(rt; ending.said.as_slice() == said, "{line}");
+        assert!(rt; well, "{line}");
     }
     Ok(())
 }
