@@ -8,16 +8,8 @@ use lane_core::*;
 use solve_core::{Findings, Grade, Pick, Verdict};
 use std::alloc::Global;
 use std::collections::VecDeque;
-use std::fmt::Display;
+use std::process::Abort;
 use std::test::Fail;
-
-/// Whether a fault is told by this sentence.
-fn is_told<F: Display>(alloc: Global, fault: &F, sentence: &str) -> bool {
-    match format!(in alloc; "{fault}") {
-        Ok(text) => text.as_str() == sentence,
-        Err(_) => false,
-    }
-}
 
 fn clues(alloc: Global, count: u16, numbers: &[u16]) -> Result<Vec<Clue>, Fail> {
     let mut clues = Vec::new(alloc);
@@ -145,10 +137,56 @@ fn taken(reply: Option<Answer>) -> Reply {
     }
 }
 
+/// What comes of dealing: whether something moved, how many jobs then wait, and how many answers are there.
+type Dealt = (bool, usize, usize);
+
+/// What comes of dealing in a turn, and what the worker then answers, if it works.
+pub(crate) type Turn = (Dealt, Option<Reply>);
+
 /// What a script is followed on.
-pub(crate) trait Called {
+pub(crate) trait Called: Drop {
     /// Makes a call. A job to send is the first of those at hand.
     fn call(&mut self, alloc: Global, call: Call, jobs: &mut VecDeque<Job, Global>) -> Reply;
+
+    /// Deals the jobs that wait.
+    fn dealt(&mut self, waiting: &mut VecDeque<Job, Global>, got: &mut Vec<Answer>) -> Dealt;
+
+    /// Ends the lane, or gives it back with the reason why it can't end.
+    fn end(self) -> Result<(), (SettleFault, Self)>;
+}
+
+/// Has a lane deal, and its worker work, in turn.
+pub(crate) fn take_turns<L: Called>(
+    rt: &impl Abort,
+    lane: &mut L,
+    waiting: &mut VecDeque<Job, Global>,
+    got: &mut Vec<Answer>,
+    alloc: Global,
+    turns: &[Turn],
+) {
+    for (dealt, worked) in turns {
+        assert!(rt; lane.dealt(waiting, got) == *dealt, "{dealt:?}");
+        if let Some(worked) = worked {
+            assert!(rt;
+                lane.call(alloc, Call::Work, waiting) == *worked,
+                "after {dealt:?}"
+            );
+        }
+    }
+}
+
+/// Has a lane deal these jobs in turn, with room for so many answers.
+pub(crate) fn deal_jobs<L: Called>(
+    rt: &(impl Abort + AllocGlobal),
+    lane: &mut L,
+    jobs: VecDeque<Job, Global>,
+    room: usize,
+    turns: &[Turn],
+) -> Result<(), Fail> {
+    let mut waiting = jobs;
+    let mut got = Vec::with_capacity(rt.alloc(), room)?;
+    take_turns(rt, lane, &mut waiting, &mut got, rt.alloc(), turns);
+    Ok(())
 }
 
 /// Both ends of one lane, so that each call keeps that they are.
@@ -160,32 +198,13 @@ pub(crate) struct Both {
 }
 
 impl Both {
-    pub(crate) fn open(alloc: Global, capacity: usize) -> Result<Both, NoMemory>
+    /// The ends of a lane, unless its memory is refused.
+    pub(crate) fn open(alloc: Global, capacity: usize) -> Option<Both>
         requires least { 1 ≤ capacity }
         requires most { capacity ≤ LARGEST_RING }
     {
-        let (front, back) = open_lane(alloc, capacity)?;
-        Ok(Both { front, back })
-    }
-
-    pub(crate) fn step(&mut self, alloc: Global) -> Step {
-        self.back.step(alloc, &OpenGate)
-    }
-
-    fn dealt(
-        &mut self,
-        waiting: &mut VecDeque<Job, Global>,
-        got: &mut Vec<Answer>,
-    ) -> (bool, usize, usize) {
-        dealt(&mut self.front, waiting, got)
-    }
-
-    pub(crate) fn settle(self) -> Result<(), (SettleFault, Both)> {
-        let Both { front, back } = self;
-        match settle(front, back) {
-            Ok(()) => Ok(()),
-            Err((fault, front, back)) => Err((fault, Both { front, back })),
-        }
+        let (front, back) = open_lane(alloc, capacity).ok()?;
+        Some(Both { front, back })
     }
 }
 
@@ -198,15 +217,21 @@ impl Called for Both {
             },
             Call::Finish => finished(self.front.finish()),
             Call::Take => taken(self.front.take()),
-            Call::Work => Reply::Stepped(self.step(alloc)),
+            Call::Work => Reply::Stepped(self.back.step(alloc, &OpenGate)),
         }
     }
-}
 
-/// Has a batch lane's worker work.
-fn worked(alloc: Global, lane: &mut BatchLane) -> Reply {
-    lane.work(alloc, &OpenGate);
-    Reply::Worked
+    fn dealt(&mut self, waiting: &mut VecDeque<Job, Global>, got: &mut Vec<Answer>) -> Dealt {
+        dealt(&mut self.front, waiting, got)
+    }
+
+    fn end(self) -> Result<(), (SettleFault, Both)> {
+        let Both { front, back } = self;
+        match settle(front, back) {
+            Ok(()) => Ok(()),
+            Err((fault, front, back)) => Err((fault, Both { front, back })),
+        }
+    }
 }
 
 /// A lane of batches.
@@ -216,29 +241,13 @@ pub(crate) struct Batch {
 }
 
 impl Batch {
-    pub(crate) fn open(alloc: Global, capacity: usize) -> Result<Batch, NoMemory>
+    /// A lane of batches, unless its memory is refused.
+    pub(crate) fn open(alloc: Global, capacity: usize) -> Option<Batch>
         requires least { 1 ≤ capacity }
         requires most { capacity ≤ LARGEST_BATCH }
     {
-        Ok(Batch {
-            lane: BatchLane::new(alloc, capacity)?,
-        })
-    }
-
-    pub(crate) fn dealt(
-        &mut self,
-        waiting: &mut VecDeque<Job, Global>,
-        got: &mut Vec<Answer>,
-    ) -> (bool, usize, usize) {
-        dealt(&mut self.lane, waiting, got)
-    }
-
-    pub(crate) fn close(self) -> Result<(), (SettleFault, Batch)> {
-        let Batch { lane } = self;
-        match lane.close() {
-            Ok(()) => Ok(()),
-            Err((fault, lane)) => Err((fault, Batch { lane })),
-        }
+        let lane = BatchLane::new(alloc, capacity).ok()?;
+        Some(Batch { lane })
     }
 }
 
@@ -251,52 +260,58 @@ impl Called for Batch {
             },
             Call::Finish => finished(self.lane.finish()),
             Call::Take => taken(self.lane.take()),
-            Call::Work => worked(alloc, &mut self.lane),
+            Call::Work => {
+                self.lane.work(alloc, &OpenGate);
+                Reply::Worked
+            }
+        }
+    }
+
+    fn dealt(&mut self, waiting: &mut VecDeque<Job, Global>, got: &mut Vec<Answer>) -> Dealt {
+        dealt(&mut self.lane, waiting, got)
+    }
+
+    fn end(self) -> Result<(), (SettleFault, Batch)> {
+        match self.lane.close() {
+            Ok(()) => Ok(()),
+            Err((fault, lane)) => Err((fault, Batch { lane })),
         }
     }
 }
 
-/// What comes of a turn at a lane: whether something moved, how many jobs then wait, and how many answers are
-/// there.
-fn dealt<L: Lane>(
-    lane: &mut L,
-    waiting: &mut VecDeque<Job, Global>,
-    got: &mut Vec<Answer>,
-) -> (bool, usize, usize)
+fn dealt<L: Lane>(lane: &mut L, waiting: &mut VecDeque<Job, Global>, got: &mut Vec<Answer>) -> Dealt
     ensures { L.same_lane lane.old lane.new }
 {
     let moved = deal(lane, waiting, got);
     (moved, waiting.len(), got.len())
 }
 
+const LITTLE_ROOM: [Turn; 3] = [
+    ((true, 0, 0), Some(Reply::Worked)),
+    ((true, 0, 1), None),
+    ((false, 0, 1), None),
+];
+
 #[test]
 fn dealing_with_little_room(rt: HostRuntime) -> Result<(), Fail> {
-    let alloc = rt.alloc();
-    let mut waiting = jobs(alloc, 1, 2)?;
-    let mut lane = Batch::open(alloc, 2).ok().ok_or("memory")?;
-    let mut got = Vec::with_capacity(alloc, 1)?;
-    assert_eq!(rt; lane.dealt(&mut waiting, &mut got), (true, 0, 0));
-    worked(alloc, &mut lane.lane);
-    assert_eq!(rt; lane.dealt(&mut waiting, &mut got), (true, 0, 1));
-    assert_eq!(rt; lane.dealt(&mut waiting, &mut got), (false, 0, 1));
-    assert_eq!(rt; taken(lane.lane.take()), Reply::Answered(2));
+    let mut lane = Batch::open(rt.alloc(), 2).ok_or("memory")?;
+    deal_jobs(&rt, &mut lane, jobs(rt.alloc(), 1, 2)?, 1, &LITTLE_ROOM)?;
+    assert!(rt; taken(lane.lane.take()) == Reply::Answered(2));
     Ok(())
 }
 
+const AT_A_FRONT: [Turn; 4] = [
+    ((true, 1, 0), None),
+    ((false, 1, 0), Some(Reply::Stepped(Step::Graded))),
+    ((true, 0, 1), Some(Reply::Stepped(Step::Graded))),
+    ((true, 0, 2), Some(Reply::Stepped(Step::Done))),
+];
+
 #[test]
 fn dealing_at_a_front(rt: HostRuntime) -> Result<(), Fail> {
-    let alloc = rt.alloc();
-    let mut waiting = jobs(alloc, 1, 2)?;
-    let mut lane = Both::open(alloc, 1).ok().ok_or("memory")?;
-    let mut got = Vec::with_capacity(alloc, 2)?;
-    assert_eq!(rt; lane.dealt(&mut waiting, &mut got), (true, 1, 0));
-    assert_eq!(rt; lane.dealt(&mut waiting, &mut got), (false, 1, 0));
-    assert_eq!(rt; lane.step(alloc), Step::Graded);
-    assert_eq!(rt; lane.dealt(&mut waiting, &mut got), (true, 0, 1));
-    assert_eq!(rt; lane.step(alloc), Step::Graded);
-    assert_eq!(rt; lane.dealt(&mut waiting, &mut got), (true, 0, 2));
-    assert_eq!(rt; lane.step(alloc), Step::Done);
-    assert!(rt; lane.settle().is_ok());
+    let mut lane = Both::open(rt.alloc(), 1).ok_or("memory")?;
+    deal_jobs(&rt, &mut lane, jobs(rt.alloc(), 1, 2)?, 2, &AT_A_FRONT)?;
+    assert!(rt; lane.end().is_ok());
     Ok(())
 }
 
@@ -313,21 +328,26 @@ fn is_one_cell(found: &Findings) -> bool {
         && found.spent == 0
 }
 
-#[test]
-fn grades_a_job(rt: HostRuntime) -> Result<(), Fail> {
-    let alloc = rt.alloc();
-    let answer = grade(alloc, job(alloc, 9)?);
-    assert_eq!(rt; (answer.number(), answer.guesses()), (9, 1000));
-    assert_eq!(rt; answer.pick(), Pick::First);
-    let found = answer.outcome().ok().ok_or("no report")?;
-    assert!(rt; is_one_cell(found));
-    Ok(())
+/// Whether this is the answer to job 9, with its report.
+fn is_ninth(answer: &Answer) -> bool {
+    let is_of_job = answer.number() == 9 && answer.guesses() == 1000;
+    match answer.outcome() {
+        Ok(found) => is_of_job && is_one_cell(found),
+        Err(NoMemory) => false,
+    }
 }
 
 #[test]
-fn faults_in_sentences(rt: HostRuntime) -> Result<(), Fail> {
-    let alloc = rt.alloc();
-    let told = format!(in alloc;
+fn grades_a_job(rt: HostRuntime) -> Result<(), Fail> {
+    let answer = grade(rt.alloc(), job(rt.alloc(), 9)?);
+    assert!(rt; answer.pick() == Pick::First);
+    assert!(rt; is_ninth(&answer));
+    Ok(())
+}
+
+/// The sentences of the faults, in a row.
+fn sentences(alloc: Global) -> Result<String, Fail> {
+    Ok(format!(in alloc;
         "{}, {}, {}, {}, {}, {}",
         SendFault::Finished(job(alloc, 1)?),
         SendFault::Full(job(alloc, 1)?),
@@ -335,42 +355,47 @@ fn faults_in_sentences(rt: HostRuntime) -> Result<(), Fail> {
         FinishFault::Full,
         SettleFault::Unfinished,
         SettleFault::NotDrained
-    )?;
+    )?)
+}
+
+#[test]
+fn faults_in_sentences(rt: HostRuntime) -> Result<(), Fail> {
     let wanted =
         "the finish was sent, the lane is full, the finish was sent, the lane is full, the finish was not taken, an answer was not received";
-    assert_eq!(rt; told.as_str(), wanted);
+    assert!(rt; sentences(rt.alloc())?.as_str() == wanted);
     Ok(())
 }
 
 /// The front of a lane of capacity 1, whose back was dropped.
 fn front_alone(alloc: Global) -> Result<LaneFront, Fail> {
-    let (front, _back) = open_lane(alloc, 1).ok().ok_or("memory")?;
-    Ok(front)
+    Ok(Both::open(alloc, 1).ok_or("memory")?.front)
 }
 
 #[test]
 fn front_without_its_back(rt: HostRuntime) -> Result<(), Fail> {
-    let alloc = rt.alloc();
-    let mut front = front_alone(alloc)?;
-    assert_eq!(rt; sent(front.send(job(alloc, 1)?)), Reply::Accepted);
-    assert_eq!(rt; sent(front.send(job(alloc, 2)?)), Reply::FullReturning(2));
-    assert_eq!(rt; taken(front.take()), Reply::Nothing);
+    let mut front = front_alone(rt.alloc())?;
+    for (number, wanted) in [(1u32, Reply::Accepted), (2, Reply::FullReturning(2))] {
+        let job = job(rt.alloc(), number)?;
+        assert!(rt; sent(front.send(job)) == wanted, "job {number}");
+    }
+    assert!(rt; front.take().is_none());
     Ok(())
 }
 
 /// The back of a lane of capacity 1, to which a job was sent before the front was dropped.
 fn back_alone(alloc: Global) -> Result<LaneBack, Fail> {
-    let (mut front, back) = open_lane(alloc, 1).ok().ok_or("memory")?;
-    front.send(job(alloc, 1)?).ok().ok_or("not accepted")?;
-    Ok(back)
+    let mut lane = Both::open(alloc, 1).ok_or("memory")?;
+    if lane.call(alloc, Call::Send(1), &mut jobs(alloc, 1, 1)?) != Reply::Accepted {
+        return Err("not accepted".into());
+    }
+    Ok(lane.back)
 }
 
 #[test]
 fn back_without_its_front(rt: HostRuntime) -> Result<(), Fail> {
-    let alloc = rt.alloc();
-    let mut back = back_alone(alloc)?;
-    for wanted in [Step::Graded, Step::Idle, Step::Idle] {
-        assert_eq!(rt; back.step(alloc, &OpenGate), wanted);
+    let mut back = back_alone(rt.alloc())?;
+    for (step, wanted) in [Step::Graded, Step::Idle, Step::Idle].iter().enumerate() {
+        assert!(rt; back.step(rt.alloc(), &OpenGate) == *wanted, "step {step}");
     }
     Ok(())
 }

@@ -1,12 +1,11 @@
 //! Calls whose growths of memory are refused, each in turn, and calls that take no memory
 //! with every growth refused.
 
-use crate::tests_lanes::{Batch, Call, Called, job, jobs, puzzle_with};
+use crate::tests_lanes::{Batch, Call, Called, Reply, jobs, puzzle_with};
 use grid_core::NoMemory;
 use lane_core::*;
 use refusals::{Told, is_heeded, refuse, sweep, told_if, was_refused};
 use solve_core::Pick;
-use std::alloc::Global;
 use std::test::Fail;
 
 fn told_of_lane(answer: Result<BatchLane, NoMemory>) -> Told {
@@ -50,34 +49,24 @@ fn jobs_are_graded_or_refused(rt: HostRuntime) -> Result<(), Fail> {
     Ok(())
 }
 
-/// Whether this is the answer to the second job.
-fn is_second(answer: Option<Answer>) -> bool {
-    match answer {
-        Some(answer) => answer.number() == 2 && answer.outcome().is_ok(),
-        None => false,
-    }
-}
-
 #[test]
 fn lanes_take_no_memory(rt: HostRuntime) -> Result<(), Fail> {
     let alloc = rt.alloc();
-    let first = job(alloc, 1)?;
-    let mut waiting = jobs(alloc, 2, 1)?;
-    let mut batch = Batch::open(alloc, 3).ok().ok_or("memory")?;
+    let mut waiting = jobs(alloc, 1, 2)?;
+    let mut batch = Batch::open(alloc, 3).ok_or("memory")?;
     let mut got = Vec::with_capacity(alloc, 1)?;
     refuse(alloc, 0);
-    let sent = batch.lane.send(first).is_ok();
+    let sent = batch.call(alloc, Call::Send(1), &mut waiting);
     let dealing = batch.dealt(&mut waiting, &mut got);
     assert!(rt; !was_refused(alloc), "no growth");
-    assert!(rt; sent && dealing == (true, 0, 0));
+    assert!(rt; sent == Reply::Accepted && dealing == (true, 0, 0));
     batch.call(alloc, Call::Work, &mut waiting);
     refuse(alloc, 0);
     let taking = batch.dealt(&mut waiting, &mut got);
-    let last = batch.lane.take();
-    let closed = batch.close().is_ok();
+    let last = batch.call(alloc, Call::Take, &mut waiting);
+    let closed = batch.end().is_ok();
     assert!(rt; !was_refused(alloc), "no growth");
-    assert!(rt; closed && taking == (true, 0, 1));
-    assert!(rt; is_second(last));
+    assert!(rt; closed && taking == (true, 0, 1) && last == Reply::Answered(2));
     assert!(rt; is_heeded(alloc));
     Ok(())
 }

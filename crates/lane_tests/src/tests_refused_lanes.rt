@@ -1,8 +1,9 @@
 //! Scripts of calls on one thread, with each growth of memory refused in turn. Whether a ring is full or
 //! empty as an end sees it, no contract says.
 
-use crate::tests_lanes::{Batch, Both, Call, Called, Reply, jobs, jobs_for, told_of};
-use grid_core::NoMemory;
+use crate::tests_lanes::{
+    Batch, Both, Call, Called, Reply, Turn, jobs, jobs_for, take_turns, told_of,
+};
 use lane_core::*;
 use refusals::{refuse, was_refused};
 use std::alloc::Global;
@@ -61,6 +62,10 @@ const DRAINING_THE_BATCH: [(Call, Reply); 3] = [
     (Call::Take, Reply::Nothing),
 ];
 
+const LANE_SCRIPTS: [&[(Call, Reply)]; 3] = [&BEFORE_THE_FINISH, &TAKING_THE_FINISH, &DRAINING];
+
+const BATCH_SCRIPTS: [&[(Call, Reply)]; 3] = [&BATCH, &FINISHING_THE_BATCH, &DRAINING_THE_BATCH];
+
 /// Asserts that a reply is the wanted one, or that the wanted answer's memory was refused. Returns whether it
 /// is the wanted one.
 fn is_told(rt: &impl Abort, reply: Reply, wanted: Reply) -> bool {
@@ -100,38 +105,31 @@ enum Scene {
     Deal,
 }
 
-fn follow_lane(
-    rt: &impl Abort,
-    alloc: Global,
-    jobs: &mut VecDeque<Job, Global>,
-) -> Result<bool, NoMemory> {
-    let mut lane = Both::open(alloc, 1)?;
-    let begun = follow(rt, alloc, &mut lane, jobs, &BEFORE_THE_FINISH);
-    let (fault, mut lane) = lane.settle().expect_err(rt, "settled");
-    assert_eq!(rt; fault, SettleFault::Unfinished);
-    let finished = follow(rt, alloc, &mut lane, jobs, &TAKING_THE_FINISH);
-    let (fault, mut lane) = lane.settle().expect_err(rt, "settled");
-    assert_eq!(rt; fault, SettleFault::NotDrained);
-    let drained = follow(rt, alloc, &mut lane, jobs, &DRAINING);
-    assert!(rt; lane.settle().is_ok());
-    Ok(begun && finished && drained)
+/// The lane, which can't end yet for this reason.
+fn unended<L: Called>(rt: &impl Abort, lane: L, wanted: SettleFault) -> L {
+    let (fault, lane) = lane.end().expect_err(rt, "ended");
+    assert!(rt; fault == wanted, "{wanted:?}");
+    lane
 }
 
-fn follow_batch(
+/// Follows the scripts up to the finish's taking, and then to the last answer, and ends the lane. Returns
+/// whether no answer's memory was refused.
+fn follow_to_the_end<L: Called>(
     rt: &impl Abort,
     alloc: Global,
+    lane: L,
     jobs: &mut VecDeque<Job, Global>,
-) -> Result<bool, NoMemory> {
-    let mut lane = Batch::open(alloc, 2)?;
-    let begun = follow(rt, alloc, &mut lane, jobs, &BATCH);
-    let (fault, mut lane) = lane.close().expect_err(rt, "closed");
-    assert_eq!(rt; fault, SettleFault::Unfinished);
-    let finished = follow(rt, alloc, &mut lane, jobs, &FINISHING_THE_BATCH);
-    let (fault, mut lane) = lane.close().expect_err(rt, "closed");
-    assert_eq!(rt; fault, SettleFault::NotDrained);
-    let drained = follow(rt, alloc, &mut lane, jobs, &DRAINING_THE_BATCH);
-    assert!(rt; lane.close().is_ok());
-    Ok(begun && finished && drained)
+    scripts: [&[(Call, Reply)]; 3],
+) -> bool {
+    let [begin, finish, drain] = scripts;
+    let mut lane = lane;
+    let begun = follow(rt, alloc, &mut lane, jobs, begin);
+    let mut lane = unended(rt, lane, SettleFault::Unfinished);
+    let finished = follow(rt, alloc, &mut lane, jobs, finish);
+    let mut lane = unended(rt, lane, SettleFault::NotDrained);
+    let drained = follow(rt, alloc, &mut lane, jobs, drain);
+    assert!(rt; lane.end().is_ok());
+    begun && finished && drained
 }
 
 /// Whether these are the answers to the jobs from 1 on, and no answer's memory was refused.
@@ -145,40 +143,61 @@ fn are_answers(rt: &impl Abort, answers: &[Answer]) -> bool {
     all
 }
 
-fn deal_batch(
-    rt: &impl Abort,
-    alloc: Global,
-    waiting: &mut VecDeque<Job, Global>,
-) -> Result<bool, NoMemory> {
+const DEALING: [Turn; 4] = [
+    ((true, 1, 0), Some(Reply::Worked)),
+    ((true, 0, 2), Some(Reply::Worked)),
+    ((true, 0, 3), None),
+    ((false, 0, 3), None),
+];
+
+fn deal_batch(rt: &impl Abort, alloc: Global, waiting: &mut VecDeque<Job, Global>) -> Option<bool> {
     let mut lane = Batch::open(alloc, 2)?;
-    let mut got = Vec::with_capacity(alloc, 64)?;
-    assert_eq!(rt; lane.dealt(waiting, &mut got), (true, 1, 0));
-    lane.call(alloc, Call::Work, waiting);
-    assert_eq!(rt; lane.dealt(waiting, &mut got), (true, 0, 2));
-    lane.call(alloc, Call::Work, waiting);
-    assert_eq!(rt; lane.dealt(waiting, &mut got), (true, 0, 3));
-    assert_eq!(rt; lane.dealt(waiting, &mut got), (false, 0, 3));
-    assert!(rt; lane.close().is_ok());
-    Ok(are_answers(rt, &got))
+    let mut got = Vec::with_capacity(alloc, 64).ok()?;
+    take_turns(rt, &mut lane, waiting, &mut got, alloc, &DEALING);
+    assert!(rt; lane.end().is_ok());
+    Some(are_answers(rt, &got))
+}
+
+impl Scene {
+    /// The jobs that are sent or dealt.
+    fn jobs(self, alloc: Global) -> Result<VecDeque<Job, Global>, Fail> {
+        match self {
+            Scene::Lane => jobs_for(alloc, &BEFORE_THE_FINISH),
+            Scene::Batch => jobs_for(alloc, &BATCH),
+            Scene::Deal => jobs(alloc, 1, 3),
+        }
+    }
+
+    /// Follows the scene, unless the memory of a list or a lane is refused. Returns whether no answer's was.
+    fn follow(
+        self,
+        rt: &impl Abort,
+        alloc: Global,
+        jobs: &mut VecDeque<Job, Global>,
+    ) -> Option<bool> {
+        match self {
+            Scene::Lane => {
+                let lane = Both::open(alloc, 1)?;
+                Some(follow_to_the_end(rt, alloc, lane, jobs, LANE_SCRIPTS))
+            }
+            Scene::Batch => {
+                let lane = Batch::open(alloc, 2)?;
+                Some(follow_to_the_end(rt, alloc, lane, jobs, BATCH_SCRIPTS))
+            }
+            Scene::Deal => deal_batch(rt, alloc, jobs),
+        }
+    }
 }
 
 /// Follows a scene with each growth of memory refused in turn, and then with none. Each call answers as ever,
 /// but that the lane isn't opened, or an answer says that its memory was refused.
 fn follow_all(rt: &impl Abort, alloc: Global, scene: Scene) -> Result<(), Fail> {
     for growth in 1..MOST_GROWTHS {
-        let mut jobs = match scene {
-            Scene::Lane => jobs_for(alloc, &BEFORE_THE_FINISH)?,
-            Scene::Batch => jobs_for(alloc, &BATCH)?,
-            Scene::Deal => jobs(alloc, 1, 3)?,
-        };
+        let mut jobs = scene.jobs(alloc)?;
         refuse(alloc, growth);
-        let all = match scene {
-            Scene::Lane => follow_lane(rt, alloc, &mut jobs),
-            Scene::Batch => follow_batch(rt, alloc, &mut jobs),
-            Scene::Deal => deal_batch(rt, alloc, &mut jobs),
-        };
+        let all = scene.follow(rt, alloc, &mut jobs);
         let refused = was_refused(alloc);
-        assert!(rt; refused || matches!(&all, Ok(true)), "growth {growth}");
+        assert!(rt; refused || all == Some(true), "growth {growth}");
         if !refused {
             return Ok(());
         }

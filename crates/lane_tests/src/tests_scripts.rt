@@ -49,6 +49,11 @@ impl Counts {
         self.finish_taken && !self.held && self.received == self.put
     }
 
+    /// Whether an answer to each job was put and received.
+    fn is_answered(&self) -> bool {
+        self.received == self.jobs() && self.put == self.jobs()
+    }
+
     fn reply(&mut self, call: Call) -> Reply {
         match call {
             Call::Send(number) => self.send(number),
@@ -136,7 +141,7 @@ impl Script {
         requires most { capacity ≤ LARGEST_RING }
     {
         Ok(Script {
-            lane: Both::open(alloc, capacity as usize).ok().ok_or("memory")?,
+            lane: Both::open(alloc, capacity as usize).ok_or("memory")?,
             counts: Counts::new(capacity),
         })
     }
@@ -148,25 +153,35 @@ impl Script {
         Ok(())
     }
 
-    /// Sends the finish, steps and takes until the lane is drained, and settles it.
-    fn drain(self, rt: &impl Abort, alloc: Global) -> Result<(), Fail> {
-        let mut script = self;
+    /// Sends the finish, steps and takes until the lane is drained.
+    fn drain(&mut self, rt: &impl Abort, alloc: Global) -> Result<(), Fail> {
         for _ in 0..100 {
-            if script.counts.is_drained() {
-                break;
+            if self.counts.is_drained() {
+                return Ok(());
             }
             for call in [Call::Finish, Call::Work, Call::Take] {
-                script.call(rt, alloc, call)?;
+                self.call(rt, alloc, call)?;
             }
         }
-        let Script { lane, counts } = script;
-        assert!(rt; counts.is_drained());
-        assert_eq!(rt;
-            (counts.received, counts.put),
-            (counts.jobs(), counts.jobs())
-        );
-        assert!(rt; lane.settle().is_ok());
         Ok(())
+    }
+
+    /// Ends the lane, which is drained.
+    fn end(self, rt: &impl Abort) {
+        assert!(rt; self.counts.is_drained());
+        assert!(rt; self.counts.is_answered());
+        assert!(rt; self.lane.end().is_ok());
+    }
+
+    /// Makes 40 calls, from this state of the generator on. Returns the state after them.
+    fn call_at_random(&mut self, rt: &impl Abort, alloc: Global, start: u64) -> Result<u64, Fail> {
+        let mut state = start;
+        for _ in 0..40 {
+            state = advance(state);
+            let number = self.counts.jobs();
+            self.call(rt, alloc, call_of(state, number))?;
+        }
+        Ok(state)
     }
 }
 
@@ -191,14 +206,10 @@ fn follow_script(rt: &impl Abort, alloc: Global, capacity: u32, start: u64) -> R
     requires least { 1 ≤ capacity }
     requires most { capacity ≤ LARGEST_RING }
 {
-    let mut state = start;
     let mut script = Script::open(alloc, capacity)?;
-    for _ in 0..40 {
-        state = advance(state);
-        let call = call_of(state, script.counts.jobs());
-        script.call(rt, alloc, call)?;
-    }
+    let state = script.call_at_random(rt, alloc, start)?;
     script.drain(rt, alloc)?;
+    script.end(rt);
     Ok(state)
 }
 
