@@ -109,40 +109,32 @@ impl PlainPuzzle {
             height: usize::from(puzzle.height()),
             lines: Vec::new(alloc),
         };
-        plain.push_rows(alloc, puzzle.rows())?;
-        plain.push_columns(alloc, puzzle.columns())?;
+        let (width, height) = (plain.width, plain.height);
+        plain.push_lines(alloc, puzzle.rows(), width, width, 1)?;
+        plain.push_lines(alloc, puzzle.columns(), height, 1, width)?;
         Ok(plain)
     }
 
-    fn push_line(
+    /// Adds lines of a length: the first cell of each is `apart` places after that of the line before, and
+    /// each cell is `step` places after the one before.
+    fn push_lines(
         &mut self,
         alloc: Global,
-        places: Vec<usize>,
-        clue: &Clue,
-        full_lines: &[Cells],
+        clues: &[Clue],
+        len: usize,
+        apart: usize,
+        step: usize,
     ) -> Result<(), AllocError> {
-        let lines_of_clue = lines_of_clue(alloc, full_lines, clue.numbers())?;
-        self.lines.push(PlainLine {
-            places,
-            lines_of_clue,
-        })?;
-        Ok(())
-    }
-
-    fn push_rows(&mut self, alloc: Global, clues: &[Clue]) -> Result<(), AllocError> {
-        let full_lines = full_lines(alloc, self.width)?;
-        for (y, clue) in clues.iter().enumerate() {
-            let places = places_from(alloc, y.wrapping_mul(self.width), 1, self.width)?;
-            self.push_line(alloc, places, clue, &full_lines)?;
-        }
-        Ok(())
-    }
-
-    fn push_columns(&mut self, alloc: Global, clues: &[Clue]) -> Result<(), AllocError> {
-        let full_lines = full_lines(alloc, self.height)?;
-        for (x, clue) in clues.iter().enumerate() {
-            let places = places_from(alloc, x, self.width, self.height)?;
-            self.push_line(alloc, places, clue, &full_lines)?;
+        let full_lines = full_lines(alloc, len)?;
+        let mut first = 0usize;
+        for clue in clues {
+            let places = places_from(alloc, first, step, len)?;
+            let lines_of_clue = lines_of_clue(alloc, &full_lines, clue.numbers())?;
+            self.lines.push(PlainLine {
+                places,
+                lines_of_clue,
+            })?;
+            first = first.wrapping_add(apart);
         }
         Ok(())
     }

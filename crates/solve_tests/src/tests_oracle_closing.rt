@@ -26,40 +26,6 @@ fn is_closed(
     }
 }
 
-/// Whether a solver closes a grid by lines as the oracle does.
-fn closes_lines_alike(
-    alloc: Global,
-    puzzle: &Puzzle,
-    plain: &PlainPuzzle,
-    solver: &mut Solver,
-    cells: &[Cell],
-) -> Result<bool, Fail>
-    requires { solver.old ≡ puzzle.now }
-    ensures { solver.new ≡ puzzle.now }
-{
-    let mut grid = grid_of(alloc, puzzle.width(), puzzle.height(), cells)?;
-    let alive = solver.close_lines(&mut grid);
-    let wanted = plain.closure(alloc, cells)?;
-    Ok(is_closed(alloc, alive, &grid, &wanted)?)
-}
-
-/// Whether a solver closes a grid under trials as the oracle does.
-fn closes_trials_alike(
-    alloc: Global,
-    puzzle: &Puzzle,
-    plain: &PlainPuzzle,
-    solver: &mut Solver,
-    cells: &[Cell],
-) -> Result<bool, Fail>
-    requires { solver.old ≡ puzzle.now }
-    ensures { solver.new ≡ puzzle.now }
-{
-    let mut grid = grid_of(alloc, puzzle.width(), puzzle.height(), cells)?;
-    let alive = solver.close_trials(&mut grid);
-    let wanted = plain.trials(alloc, cells)?;
-    Ok(is_closed(alloc, alive, &grid, &wanted)?)
-}
-
 /// Whether a solver closes a grid as the oracle does, by lines and under trials.
 fn closes_alike(
     alloc: Global,
@@ -71,9 +37,19 @@ fn closes_alike(
     requires { solver.old ≡ puzzle.now }
     ensures { solver.new ≡ puzzle.now }
 {
-    let by_lines = closes_lines_alike(alloc, puzzle, plain, solver, cells)?;
-    let by_trials = closes_trials_alike(alloc, puzzle, plain, solver, cells)?;
-    Ok(by_lines && by_trials)
+    let mut by_lines = grid_of(alloc, puzzle.width(), puzzle.height(), cells)?;
+    let mut by_trials = grid_of(alloc, puzzle.width(), puzzle.height(), cells)?;
+    let lines_alive = solver.close_lines(&mut by_lines);
+    let trials_alive = solver.close_trials(&mut by_trials);
+    Ok(
+        is_closed(alloc, lines_alive, &by_lines, &plain.closure(alloc, cells)?)?
+            && is_closed(
+                alloc,
+                trials_alive,
+                &by_trials,
+                &plain.trials(alloc, cells)?,
+            )?,
+    )
 }
 
 /// Whether the grid of which nothing is known is closed by lines as the oracle does, without a solver.

@@ -9,7 +9,7 @@ use std::test::Fail;
 /// Stretches of cells, each told by its first cell and the cell after its last.
 type Stretches = &'static [(u16, u16)];
 
-/// Lengths of lines, clues, the stretches that are filled for certain, and what is certain of the other cells.
+/// Lengths of lines, clues, the stretches that are certainly filled, and what is certain of the other cells.
 static OVERLAPS: [(u16, &[u16], Stretches, Cell); 13] = [
     (63, &[30, 32], &[(0, 30), (31, 63)], Cell::Blank),
     (64, &[40, 22], &[(1, 40), (42, 63)], Cell::Unknown),
