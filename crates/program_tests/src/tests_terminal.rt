@@ -1,6 +1,6 @@
 //! At the terminal: help and the version.
 
-use crate::tests_running::{Ending, ended};
+use crate::tests_running::ended;
 use std::str;
 use std::test::Fail;
 
@@ -13,53 +13,41 @@ fn has_line(text: &[u8], line: &str) -> bool {
 }
 
 /// Command lines that ask for help, each with three lines of it: the usage, an example and the statuses.
-static HELP: [(&str, [&str; 3]); 4] = [
+static HELP: [(&str, &str, &str, &str); 4] = [
     (
         "survey --help",
-        [
-            "Usage: nonograde survey [OPTIONS] [FILE]...",
-            "Example: nonograde survey --lanes 8 --show puzzles/heart.non puzzles/cat.mk",
-            "Exit status: 0 if the survey is printed, 1 at a fault, 2 if the words are refused.",
-        ],
+        "Usage: nonograde survey [OPTIONS] [FILE]...",
+        "Example: nonograde survey --lanes 8 --show puzzles/heart.non puzzles/cat.mk",
+        "Exit status: 0 if the survey is printed, 1 at a fault, 2 if the words are refused.",
     ),
     (
         "solve --help",
-        [
-            "Usage: nonograde solve [OPTIONS] <FILE>",
-            "Example: nonograde solve puzzles/heart.non",
-            "Exit status: 0 if the line is printed, 1 at a fault, 2 if the words are refused.",
-        ],
+        "Usage: nonograde solve [OPTIONS] <FILE>",
+        "Example: nonograde solve puzzles/heart.non",
+        "Exit status: 0 if the line is printed, 1 at a fault, 2 if the words are refused.",
     ),
     (
         "convert --help",
-        [
-            "Usage: nonograde convert --to <FORMAT> <FILE>",
-            "Example: nonograde convert --to mk puzzles/heart.non",
-            "Exit status: 0 if the text is printed, 1 at a fault, 2 if the words are refused.",
-        ],
+        "Usage: nonograde convert --to <FORMAT> <FILE>",
+        "Example: nonograde convert --to mk puzzles/heart.non",
+        "Exit status: 0 if the text is printed, 1 at a fault, 2 if the words are refused.",
     ),
     (
         "lines --help",
-        [
-            "Usage: nonograde lines <FILE>",
-            "Example: nonograde lines puzzles/heart.non",
-            "Exit status: 0 if the grid is printed, 1 at a fault, 2 if the words are refused.",
-        ],
+        "Usage: nonograde lines <FILE>",
+        "Example: nonograde lines puzzles/heart.non",
+        "Exit status: 0 if the grid is printed, 1 at a fault, 2 if the words are refused.",
     ),
 ];
 
-/// Whether the program ended well, and printed each of these lines and said nothing.
-fn has_printed(ending: &Ending, lines: &[&str]) -> bool {
-    ending.status == 0
-        && ending.said.is_empty()
-        && lines.iter().all(|line| has_line(&ending.printed, line))
-}
-
 #[test]
 fn help_says_how_to_call(rt: HostRuntime) -> Result<(), Fail> {
-    for (words, lines) in &HELP {
+    for (words, usage, example, statuses) in &HELP {
         let ending = ended(&rt, words, b"")?;
-        assert!(rt; has_printed(&ending, lines), "{words}");
+        assert!(rt; ending.status == 0 && ending.said.is_empty(), "{words}");
+        for line in [usage, example, statuses] {
+            assert!(rt; has_line(&ending.printed, line), "{words}: {line}");
+        }
     }
     Ok(())
 }

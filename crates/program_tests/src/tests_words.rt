@@ -12,24 +12,21 @@ use std::alloc::{AllocError, Global};
 use std::test::Fail;
 use survey_core::{Counted, RunFault, Settings};
 
-/// The largest number of a line.
-const LAST: u32 = u32::MAX;
-
 /// The faults of a puzzle's text, each with what is said of it.
 static TEXT_FAULTS: [(TextFault, &str); 10] = [
     (TextFault::TooLong, "TooLong"),
     (TextFault::NoSize, "NoSize"),
     (TextFault::BadSize, "BadSize"),
     (TextFault::NoSection, "NoSection"),
-    (TextFault::BadLine(LAST), "BadLine:4294967295"),
-    (TextFault::Twice(LAST), "Twice:4294967295"),
+    (TextFault::BadLine(u32::MAX), "BadLine:4294967295"),
+    (TextFault::Twice(u32::MAX), "Twice:4294967295"),
     (TextFault::BadCount, "BadCount"),
-    (TextFault::BadNumber(LAST), "BadNumber:4294967295"),
-    (TextFault::BadGoal(LAST), "BadGoal:4294967295"),
+    (TextFault::BadNumber(u32::MAX), "BadNumber:4294967295"),
+    (TextFault::BadGoal(u32::MAX), "BadGoal:4294967295"),
     (TextFault::NoMemory, "NoMemory"),
 ];
 
-const STRAY: CollectionFault = CollectionFault::Stray(LAST);
+const STRAY: CollectionFault = CollectionFault::Stray(u32::MAX);
 
 const TOO_MANY: CollectionFault = CollectionFault::TooMany;
 
