@@ -153,15 +153,15 @@ fn long_texts_are_too_long(rt: HostRuntime) -> Result<(), Fail> {
     let alloc = rt.alloc();
     let text = repeated(alloc, b"\n", LONGEST_PUZZLE + 1)?;
     refuse(alloc, 0);
-    let lines = lines_report(alloc, b"a.non", &text).err();
-    let solved = solve_report(alloc, b"a.mk", &text, 1000, Pick::First).err();
-    let converted = convert(alloc, b"a.nin", &text, Format::Non).err();
-    let unknown = lines_report(alloc, b"a", &text).err();
+    let lines = lines_report(alloc, b"a.non", &text);
+    let solved = solve_report(alloc, b"a.mk", &text, 1000, Pick::First);
+    let converted = convert(alloc, b"a.nin", &text, Format::Non);
+    let unknown = lines_report(alloc, b"a", &text);
     assert!(rt; !was_refused(alloc), "no growth");
-    assert!(rt; lines == Some(TOO_LONG));
-    assert!(rt; solved == Some(TOO_LONG));
-    assert!(rt; converted == Some(ConvertFault::Entry(TOO_LONG)));
-    assert!(rt; unknown == Some(EntryFault::UnknownFormat));
+    assert!(rt; lines.err() == Some(TOO_LONG));
+    assert!(rt; solved.err() == Some(TOO_LONG));
+    assert!(rt; converted.err() == Some(ConvertFault::Entry(TOO_LONG)));
+    assert!(rt; unknown.err() == Some(EntryFault::UnknownFormat));
     assert!(rt; is_heeded(alloc));
     Ok(())
 }
