@@ -53,10 +53,8 @@ pub(crate) fn assert_answers(rt: &impl Abort, answers: &[Answer], refused: bool)
             answer.puzzle().goal_word(),
         );
         assert!(rt; told == (number, 1000, goal), "puzzle {number}");
-        assert!(rt;
-            is_reported(answer, grade, spent, refused),
-            "puzzle {number}"
-        );
+        let is_reported = is_reported(answer, grade, spent, refused);
+        assert!(rt; is_reported, "puzzle {number}");
     }
 }
 

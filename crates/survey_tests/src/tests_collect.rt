@@ -3,7 +3,7 @@
 
 ghost use Rattle.std.specs.Prelude.{◌≤◌};
 
-use lane_core::{Answer, Gate, Job, OpenGate};
+use lane_core::{Gate, Job, OpenGate};
 use puzzle_text::read_nin;
 use solve_core::Pick;
 use std::alloc::Global;
@@ -26,15 +26,6 @@ pub fn jobs_numbered(alloc: Global, count: u32) -> Result<Vec<Job>, Fail> {
     Ok(jobs)
 }
 
-/// Whether there are so many answers, with the numbers from 0 in order.
-fn are_answers(answers: &[Answer], count: u32) -> bool {
-    let mut are_in_order = true;
-    for (answer, number) in answers.iter().zip(0..count) {
-        are_in_order &= answer.number() == number;
-    }
-    are_in_order && answers.len() == count as usize
-}
-
 /// Asserts that the answers to `count` jobs, over so many lanes with such rings, are there in job order.
 pub(crate) fn assert_answered<R: Threads + Wait + Sync + Abort + AllocGlobal, G: Gate + Sync>(
     rt: &R,
@@ -49,11 +40,8 @@ pub(crate) fn assert_answered<R: Threads + Wait + Sync + Abort + AllocGlobal, G:
     let jobs = jobs_numbered(rt.alloc(), count)?;
     assert!(rt; jobs.len() <= MOST_JOBS);
     let answers = collect(rt, rt.alloc(), jobs, lanes, ring, gate)?;
-    assert!(rt;
-        are_answers(&answers, count),
-        "{count} jobs, {} answers",
-        answers.len()
-    );
+    let numbers = answers.iter().map(|answer| answer.number());
+    assert!(rt; numbers.eq(0..count), "{count} jobs, {lanes} lanes");
     Ok(())
 }
 
@@ -87,10 +75,8 @@ fn each_lane_has_a_thread(rt: HostRuntime) -> Result<(), Fail> {
             saw_all: AtomicU32::new(0),
         };
         assert_answered(&rt, wanted, lanes, 1, &gate)?;
-        assert!(rt;
-            gate.saw_all.load(Ordering::SeqCst) == wanted,
-            "{lanes} lanes"
-        );
+        let saw_all = gate.saw_all.load(Ordering::SeqCst);
+        assert!(rt; saw_all == wanted, "{lanes} lanes");
     }
     Ok(())
 }

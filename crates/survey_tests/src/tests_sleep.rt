@@ -37,10 +37,8 @@ fn assert_surveys(
 ) -> Result<(), Fail> {
     for ring in [1u16, 2, 8, 8, 2, 1] {
         let survey = surveyed_entries(rt, collection, &settings(lanes, ring, false), &OpenGate)?;
-        assert!(rt;
-            survey.as_slice() == wanted,
-            "{lanes} lanes, rings of {ring}"
-        );
+        let is_alike = survey.as_slice() == wanted;
+        assert!(rt; is_alike, "{lanes} lanes, rings of {ring}");
     }
     Ok(())
 }

@@ -47,31 +47,21 @@ fn failing_reader(text: &'static str, piece: usize, calls: usize) -> Counted<Fai
 
 /// Takes `room` bytes, in pieces, and then fails, or takes nothing.
 #[derive(Drop)]
-struct FailingWriter {
-    taken: Vec<u8>,
+pub(crate) struct FailingWriter {
+    pub(crate) taken: Vec<u8>,
     piece: usize,
     room: usize,
     takes_nothing: bool,
+    pub(crate) flushes: u32,
     flush_fails: bool,
-    is_interrupted: bool,
-}
-
-impl FailingWriter {
-    /// What a call that fails says.
-    fn error(&self) -> io::Error {
-        io::Error::from(if self.is_interrupted {
-            ErrorKind::Interrupted
-        } else {
-            ErrorKind::BrokenPipe
-        })
-    }
+    error: ErrorKind,
 }
 
 impl Write for FailingWriter {
     fn write(&mut self, bytes: &[u8]) -> io::Result<usize> {
         let count = self.piece.min(self.room).min(bytes.len());
         if count == 0 && !self.takes_nothing {
-            return Err(self.error());
+            return Err(io::Error::from(self.error));
         }
         self.taken.extend_from_slice(&bytes[..count])?;
         self.room -= count;
@@ -79,14 +69,15 @@ impl Write for FailingWriter {
     }
 
     fn flush(&mut self) -> io::Result<()> {
+        self.flushes = self.flushes.wrapping_add(1);
         if self.flush_fails {
-            return Err(self.error());
+            return Err(io::Error::from(self.error));
         }
         Ok(())
     }
 }
 
-fn failing_writer(
+pub(crate) fn failing_writer(
     alloc: Global,
     piece: usize,
     room: usize,
@@ -99,8 +90,9 @@ fn failing_writer(
         piece,
         room,
         takes_nothing,
+        flushes: 0,
         flush_fails: false,
-        is_interrupted: false,
+        error: ErrorKind::BrokenPipe,
     })
 }
 
@@ -116,16 +108,10 @@ fn surveyed(
     requires reading { fault_count reader ≡ 0 }
     requires writing { fault_count writer ≡ 0 }
 {
+    let alloc = rt.alloc();
     let (mut reader, mut writer) = (reader, writer);
     let settings = settings(lanes, 1, false);
-    let outcome = run_survey(
-        rt,
-        rt.alloc(),
-        &mut reader,
-        &mut writer,
-        &settings,
-        &OpenGate,
-    );
+    let outcome = run_survey(rt, alloc, &mut reader, &mut writer, &settings, &OpenGate);
     let is_sent = writer.inner.taken.as_slice() == sent;
     (outcome, is_sent, (reader.faults(), writer.faults()))
 }
@@ -169,12 +155,12 @@ fn writer_fails_at_each_call(rt: HostRuntime) {
 }
 
 /// Takes all, in pieces, and fails when it is flushed.
-fn failing_flusher(alloc: Global, is_interrupted: bool) -> Counted<FailingWriter>
+fn failing_flusher(alloc: Global, error: ErrorKind) -> Counted<FailingWriter>
     ensures { fault_count result ≡ 0 }
 {
     let mut writer = failing_writer(alloc, 3, 1000, false);
     writer.inner.flush_fails = true;
-    writer.inner.is_interrupted = is_interrupted;
+    writer.inner.error = error;
     writer
 }
 
@@ -182,11 +168,12 @@ fn failing_flusher(alloc: Global, is_interrupted: bool) -> Counted<FailingWriter
 fn flush_fails_at_the_end(rt: HostRuntime) {
     for lanes in [1u16, 4] {
         for (collection, survey) in [("", NOTHING), (DEMO, DEMO_SURVEY)] {
-            let writer = failing_flusher(rt.alloc(), false);
+            let writer = failing_flusher(rt.alloc(), ErrorKind::BrokenPipe);
             assert_write_fails(&rt, collection, lanes, writer, survey.as_bytes());
         }
     }
-    assert!(rt; write_text(&mut failing_flusher(rt.alloc(), false), b"") == Err(0));
+    let mut writer = failing_flusher(rt.alloc(), ErrorKind::BrokenPipe);
+    assert!(rt; write_text(&mut writer, b"") == Err(0));
 }
 
 #[test]
@@ -194,10 +181,10 @@ fn interrupted_writes_and_flushes_fail(rt: HostRuntime) {
     let line = b"1 5x10 one line 50 50 0 meets demo.non\n";
     for lanes in [1u16, 4] {
         let mut writer = failing_writer(rt.alloc(), 1, line.len(), false);
-        writer.inner.is_interrupted = true;
+        writer.inner.error = ErrorKind::Interrupted;
         assert_write_fails(&rt, DEMO, lanes, writer, line);
-        let flusher = failing_flusher(rt.alloc(), true);
-        assert_write_fails(&rt, DEMO, lanes, flusher, DEMO_SURVEY.as_bytes());
+        let writer = failing_flusher(rt.alloc(), ErrorKind::Interrupted);
+        assert_write_fails(&rt, DEMO, lanes, writer, DEMO_SURVEY.as_bytes());
     }
 }
 
