@@ -59,7 +59,7 @@ pub(crate) fn jobs(alloc: Global, first: u32, count: u32) -> Result<VecDeque<Job
 }
 
 /// A call on a lane.
-#[derive(Clone, Copy, Debug)]
+#[derive(Clone, Copy)]
 pub(crate) enum Call {
     Send(u32),
     Finish,
@@ -140,8 +140,12 @@ fn taken(reply: Option<Answer>) -> Reply {
 /// What comes of dealing: whether something moved, how many jobs then wait, and how many answers are there.
 type Dealt = (bool, usize, usize);
 
-/// What comes of dealing in a turn, and what the worker then answers, if it works.
-pub(crate) type Turn = (Dealt, Option<Reply>);
+/// A turn at a lane, and what it answers.
+#[derive(Clone, Copy)]
+pub(crate) enum Turn {
+    Deal(Dealt),
+    Call(Call, Reply),
+}
 
 /// What a script is followed on.
 pub(crate) trait Called: Drop {
@@ -155,38 +159,37 @@ pub(crate) trait Called: Drop {
     fn end(self) -> Result<(), (SettleFault, Self)>;
 }
 
-/// Has a lane deal, and its worker work, in turn.
+/// Takes turns at a lane.
 pub(crate) fn take_turns<L: Called>(
-    rt: &impl Abort,
+    rt: &(impl Abort + AllocGlobal),
     lane: &mut L,
     waiting: &mut VecDeque<Job, Global>,
     got: &mut Vec<Answer>,
-    alloc: Global,
     turns: &[Turn],
 ) {
-    for (dealt, worked) in turns {
-        assert!(rt; lane.dealt(waiting, got) == *dealt, "{dealt:?}");
-        if let Some(worked) = worked {
-            assert!(rt;
-                lane.call(alloc, Call::Work, waiting) == *worked,
-                "after {dealt:?}"
-            );
-        }
+    for (turn, number) in turns.iter().zip(1u32..) {
+        let is_told = match turn {
+            Turn::Deal(dealt) => lane.dealt(waiting, got) == *dealt,
+            Turn::Call(call, reply) => lane.call(rt.alloc(), *call, waiting) == *reply,
+        };
+        assert!(rt; is_told, "turn {number}");
     }
 }
 
-/// Has a lane deal these jobs in turn, with room for so many answers.
+/// Takes turns at a lane to which these jobs are dealt, with room for so many answers. Returns whether the
+/// lane can then end.
 pub(crate) fn deal_jobs<L: Called>(
     rt: &(impl Abort + AllocGlobal),
-    lane: &mut L,
+    lane: Option<L>,
     jobs: VecDeque<Job, Global>,
     room: usize,
     turns: &[Turn],
-) -> Result<(), Fail> {
+) -> Result<bool, Fail> {
+    let mut lane = lane.ok_or("memory")?;
     let mut waiting = jobs;
     let mut got = Vec::with_capacity(rt.alloc(), room)?;
-    take_turns(rt, lane, &mut waiting, &mut got, rt.alloc(), turns);
-    Ok(())
+    take_turns(rt, &mut lane, &mut waiting, &mut got, turns);
+    Ok(lane.end().is_ok())
 }
 
 /// Both ends of one lane, so that each call keeps that they are.
@@ -286,32 +289,49 @@ fn dealt<L: Lane>(lane: &mut L, waiting: &mut VecDeque<Job, Global>, got: &mut V
     (moved, waiting.len(), got.len())
 }
 
-const LITTLE_ROOM: [Turn; 3] = [
-    ((true, 0, 0), Some(Reply::Worked)),
-    ((true, 0, 1), None),
-    ((false, 0, 1), None),
+const LITTLE_ROOM: [Turn; 5] = [
+    Turn::Deal((true, 0, 0)),
+    Turn::Call(Call::Work, Reply::Worked),
+    Turn::Deal((true, 0, 1)),
+    Turn::Deal((false, 0, 1)),
+    Turn::Call(Call::Take, Reply::Answered(2)),
 ];
 
 #[test]
 fn dealing_with_little_room(rt: HostRuntime) -> Result<(), Fail> {
-    let mut lane = Batch::open(rt.alloc(), 2).ok_or("memory")?;
-    deal_jobs(&rt, &mut lane, jobs(rt.alloc(), 1, 2)?, 1, &LITTLE_ROOM)?;
-    assert!(rt; taken(lane.lane.take()) == Reply::Answered(2));
+    let alloc = rt.alloc();
+    deal_jobs(
+        &rt,
+        Batch::open(alloc, 2),
+        jobs(alloc, 1, 2)?,
+        1,
+        &LITTLE_ROOM,
+    )?;
     Ok(())
 }
 
-const AT_A_FRONT: [Turn; 4] = [
-    ((true, 1, 0), None),
-    ((false, 1, 0), Some(Reply::Stepped(Step::Graded))),
-    ((true, 0, 1), Some(Reply::Stepped(Step::Graded))),
-    ((true, 0, 2), Some(Reply::Stepped(Step::Done))),
+const AT_A_FRONT: [Turn; 7] = [
+    Turn::Deal((true, 1, 0)),
+    Turn::Deal((false, 1, 0)),
+    Turn::Call(Call::Work, Reply::Stepped(Step::Graded)),
+    Turn::Deal((true, 0, 1)),
+    Turn::Call(Call::Work, Reply::Stepped(Step::Graded)),
+    Turn::Deal((true, 0, 2)),
+    Turn::Call(Call::Work, Reply::Stepped(Step::Done)),
 ];
 
 #[test]
 fn dealing_at_a_front(rt: HostRuntime) -> Result<(), Fail> {
-    let mut lane = Both::open(rt.alloc(), 1).ok_or("memory")?;
-    deal_jobs(&rt, &mut lane, jobs(rt.alloc(), 1, 2)?, 2, &AT_A_FRONT)?;
-    assert!(rt; lane.end().is_ok());
+    let alloc = rt.alloc();
+    assert!(rt;
+        deal_jobs(
+            &rt,
+            Both::open(alloc, 1),
+            jobs(alloc, 1, 2)?,
+            2,
+            &AT_A_FRONT
+        )?
+    );
     Ok(())
 }
 
@@ -328,26 +348,20 @@ fn is_one_cell(found: &Findings) -> bool {
         && found.spent == 0
 }
 
-/// Whether this is the answer to job 9, with its report.
-fn is_ninth(answer: &Answer) -> bool {
-    let is_of_job = answer.number() == 9 && answer.guesses() == 1000;
-    match answer.outcome() {
-        Ok(found) => is_of_job && is_one_cell(found),
-        Err(NoMemory) => false,
-    }
-}
-
 #[test]
 fn grades_a_job(rt: HostRuntime) -> Result<(), Fail> {
     let answer = grade(rt.alloc(), job(rt.alloc(), 9)?);
+    assert!(rt; answer.number() == 9 && answer.guesses() == 1000);
     assert!(rt; answer.pick() == Pick::First);
-    assert!(rt; is_ninth(&answer));
+    let found = answer.outcome().ok().ok_or("no report")?;
+    assert!(rt; is_one_cell(found));
     Ok(())
 }
 
-/// The sentences of the faults, in a row.
-fn sentences(alloc: Global) -> Result<String, Fail> {
-    Ok(format!(in alloc;
+#[test]
+fn faults_in_sentences(rt: HostRuntime) -> Result<(), Fail> {
+    let alloc = rt.alloc();
+    let told = format!(in alloc;
         "{}, {}, {}, {}, {}, {}",
         SendFault::Finished(job(alloc, 1)?),
         SendFault::Full(job(alloc, 1)?),
@@ -355,14 +369,10 @@ fn sentences(alloc: Global) -> Result<String, Fail> {
         FinishFault::Full,
         SettleFault::Unfinished,
         SettleFault::NotDrained
-    )?)
-}
-
-#[test]
-fn faults_in_sentences(rt: HostRuntime) -> Result<(), Fail> {
+    )?;
     let wanted =
         "the finish was sent, the lane is full, the finish was sent, the lane is full, the finish was not taken, an answer was not received";
-    assert!(rt; sentences(rt.alloc())?.as_str() == wanted);
+    assert!(rt; told.as_str() == wanted);
     Ok(())
 }
 

@@ -3,52 +3,57 @@
 use crate::tests_lanes::{Batch, Both, Call, Called, Reply, Turn, deal_jobs, jobs, puzzle_with};
 use lane_core::*;
 use solve_core::Pick;
-use std::alloc::Global;
+use std::process::Abort;
 use std::test::Fail;
 
-/// How many of the jobs with the numbers from 0, `count` of them, a lane accepts.
-fn accepted<L: Called>(lane: &mut L, alloc: Global, count: u32) -> Result<u32, Fail> {
-    let mut waiting = jobs(alloc, 0, count)?;
-    let mut accepted: u32 = 0;
+/// Asserts that a lane accepts just so many jobs, if this is then the reply to this call.
+fn assert_holds<L: Called>(
+    rt: &(impl Abort + AllocGlobal),
+    lane: Option<L>,
+    count: u32,
+    call: Call,
+    reply: Reply,
+) -> Result<(), Fail> {
+    let mut lane = lane.ok_or("memory")?;
+    let mut waiting = jobs(rt.alloc(), 0, count.wrapping_add(1))?;
     for number in 0..count {
-        if lane.call(alloc, Call::Send(number), &mut waiting) == Reply::Accepted {
-            accepted = accepted.wrapping_add(1);
-        }
+        let sent = lane.call(rt.alloc(), Call::Send(number), &mut waiting);
+        assert!(rt; sent == Reply::Accepted, "job {number}");
     }
-    Ok(accepted)
+    assert!(rt; lane.call(rt.alloc(), call, &mut waiting) == reply);
+    Ok(())
 }
 
-/// What a lane answers to this job.
-fn reply<L: Called>(lane: &mut L, alloc: Global, number: u32) -> Result<Reply, Fail> {
-    Ok(lane.call(alloc, Call::Send(number), &mut jobs(alloc, number, 1)?))
-}
-
-const TAKING_65: [Turn; 3] = [
-    ((true, 0, 0), Some(Reply::Worked)),
-    ((true, 0, 64), None),
-    ((true, 0, 65), None),
+const TAKING_65: [Turn; 4] = [
+    Turn::Deal((true, 0, 0)),
+    Turn::Call(Call::Work, Reply::Worked),
+    Turn::Deal((true, 0, 64)),
+    Turn::Deal((true, 0, 65)),
 ];
 
 #[test]
 fn one_turn_takes_64_answers(rt: HostRuntime) -> Result<(), Fail> {
-    let mut lane = Batch::open(rt.alloc(), 66).ok_or("memory")?;
-    deal_jobs(&rt, &mut lane, jobs(rt.alloc(), 0, 65)?, 65, &TAKING_65)
+    let alloc = rt.alloc();
+    deal_jobs(
+        &rt,
+        Batch::open(alloc, 66),
+        jobs(alloc, 0, 65)?,
+        65,
+        &TAKING_65,
+    )?;
+    Ok(())
 }
 
 #[test]
 fn the_largest_ring_holds_64_messages(rt: HostRuntime) -> Result<(), Fail> {
-    let mut lane = Both::open(rt.alloc(), 64).ok_or("memory")?;
-    assert!(rt; accepted(&mut lane, rt.alloc(), 64)? == 64);
-    assert!(rt; reply(&mut lane, rt.alloc(), 64)? == Reply::FullReturning(64));
-    Ok(())
+    let lane = Both::open(rt.alloc(), 64);
+    assert_holds(&rt, lane, 64, Call::Send(64), Reply::FullReturning(64))
 }
 
 #[test]
 fn the_largest_batch_holds_10001_messages(rt: HostRuntime) -> Result<(), Fail> {
-    let mut batch = Batch::open(rt.alloc(), 10_001).ok_or("memory")?;
-    assert!(rt; accepted(&mut batch, rt.alloc(), 10_001)? == 10_001);
-    assert!(rt; batch.lane.finish() == Err(FinishFault::Full));
-    Ok(())
+    let lane = Batch::open(rt.alloc(), 10_001);
+    assert_holds(&rt, lane, 10_001, Call::Finish, Reply::Full)
 }
 
 #[test]

@@ -6,6 +6,7 @@ use grid_core::NoMemory;
 use lane_core::*;
 use refusals::{Told, is_heeded, refuse, sweep, told_if, was_refused};
 use solve_core::Pick;
+use std::process::Abort;
 use std::test::Fail;
 
 fn told_of_lane(answer: Result<BatchLane, NoMemory>) -> Told {
@@ -49,24 +50,33 @@ fn jobs_are_graded_or_refused(rt: HostRuntime) -> Result<(), Fail> {
     Ok(())
 }
 
-#[test]
-fn lanes_take_no_memory(rt: HostRuntime) -> Result<(), Fail> {
+/// Asserts that a lane of capacity 3 takes no memory but to grade.
+fn assert_no_growth<L: Called>(
+    rt: &(impl Abort + AllocGlobal),
+    lane: Option<L>,
+) -> Result<(), Fail> {
     let alloc = rt.alloc();
+    let mut lane = lane.ok_or("memory")?;
     let mut waiting = jobs(alloc, 1, 2)?;
-    let mut batch = Batch::open(alloc, 3).ok_or("memory")?;
     let mut got = Vec::with_capacity(alloc, 1)?;
     refuse(alloc, 0);
-    let sent = batch.call(alloc, Call::Send(1), &mut waiting);
-    let dealing = batch.dealt(&mut waiting, &mut got);
+    let sent = lane.call(alloc, Call::Send(1), &mut waiting);
+    let dealing = lane.dealt(&mut waiting, &mut got);
     assert!(rt; !was_refused(alloc), "no growth");
     assert!(rt; sent == Reply::Accepted && dealing == (true, 0, 0));
-    batch.call(alloc, Call::Work, &mut waiting);
+    lane.call(alloc, Call::Work, &mut waiting);
     refuse(alloc, 0);
-    let taking = batch.dealt(&mut waiting, &mut got);
-    let last = batch.call(alloc, Call::Take, &mut waiting);
-    let closed = batch.end().is_ok();
+    let taking = lane.dealt(&mut waiting, &mut got);
+    let last = lane.call(alloc, Call::Take, &mut waiting);
+    let ended = lane.end().is_ok();
     assert!(rt; !was_refused(alloc), "no growth");
-    assert!(rt; closed && taking == (true, 0, 1) && last == Reply::Answered(2));
-    assert!(rt; is_heeded(alloc));
+    assert!(rt; ended && taking == (true, 0, 1) && last == Reply::Answered(2));
+    Ok(())
+}
+
+#[test]
+fn lanes_take_no_memory(rt: HostRuntime) -> Result<(), Fail> {
+    assert_no_growth(&rt, Batch::open(rt.alloc(), 3))?;
+    assert!(rt; is_heeded(rt.alloc()));
     Ok(())
 }

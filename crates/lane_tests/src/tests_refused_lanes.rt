@@ -117,19 +117,19 @@ fn unended<L: Called>(rt: &impl Abort, lane: L, wanted: SettleFault) -> L {
 fn follow_to_the_end<L: Called>(
     rt: &impl Abort,
     alloc: Global,
-    lane: L,
+    lane: Option<L>,
     jobs: &mut VecDeque<Job, Global>,
     scripts: [&[(Call, Reply)]; 3],
-) -> bool {
+) -> Option<bool> {
     let [begin, finish, drain] = scripts;
-    let mut lane = lane;
+    let mut lane = lane?;
     let begun = follow(rt, alloc, &mut lane, jobs, begin);
     let mut lane = unended(rt, lane, SettleFault::Unfinished);
     let finished = follow(rt, alloc, &mut lane, jobs, finish);
     let mut lane = unended(rt, lane, SettleFault::NotDrained);
     let drained = follow(rt, alloc, &mut lane, jobs, drain);
     assert!(rt; lane.end().is_ok());
-    begun && finished && drained
+    Some(begun && finished && drained)
 }
 
 /// Whether these are the answers to the jobs from 1 on, and no answer's memory was refused.
@@ -143,17 +143,24 @@ fn are_answers(rt: &impl Abort, answers: &[Answer]) -> bool {
     all
 }
 
-const DEALING: [Turn; 4] = [
-    ((true, 1, 0), Some(Reply::Worked)),
-    ((true, 0, 2), Some(Reply::Worked)),
-    ((true, 0, 3), None),
-    ((false, 0, 3), None),
+const DEALING: [Turn; 6] = [
+    Turn::Deal((true, 1, 0)),
+    Turn::Call(Call::Work, Reply::Worked),
+    Turn::Deal((true, 0, 2)),
+    Turn::Call(Call::Work, Reply::Worked),
+    Turn::Deal((true, 0, 3)),
+    Turn::Deal((false, 0, 3)),
 ];
 
-fn deal_batch(rt: &impl Abort, alloc: Global, waiting: &mut VecDeque<Job, Global>) -> Option<bool> {
-    let mut lane = Batch::open(alloc, 2)?;
-    let mut got = Vec::with_capacity(alloc, 64).ok()?;
-    take_turns(rt, &mut lane, waiting, &mut got, alloc, &DEALING);
+/// Deals three jobs at a lane of capacity 2. Returns whether no answer's memory was refused.
+fn deal_three<L: Called>(
+    rt: &(impl Abort + AllocGlobal),
+    lane: Option<L>,
+    waiting: &mut VecDeque<Job, Global>,
+) -> Option<bool> {
+    let mut lane = lane?;
+    let mut got = Vec::with_capacity(rt.alloc(), 64).ok()?;
+    take_turns(rt, &mut lane, waiting, &mut got, &DEALING);
     assert!(rt; lane.end().is_ok());
     Some(are_answers(rt, &got))
 }
@@ -171,31 +178,32 @@ impl Scene {
     /// Follows the scene, unless the memory of a list or a lane is refused. Returns whether no answer's was.
     fn follow(
         self,
-        rt: &impl Abort,
-        alloc: Global,
+        rt: &(impl Abort + AllocGlobal),
         jobs: &mut VecDeque<Job, Global>,
     ) -> Option<bool> {
+        let alloc = rt.alloc();
         match self {
-            Scene::Lane => {
-                let lane = Both::open(alloc, 1)?;
-                Some(follow_to_the_end(rt, alloc, lane, jobs, LANE_SCRIPTS))
-            }
-            Scene::Batch => {
-                let lane = Batch::open(alloc, 2)?;
-                Some(follow_to_the_end(rt, alloc, lane, jobs, BATCH_SCRIPTS))
-            }
-            Scene::Deal => deal_batch(rt, alloc, jobs),
+            Scene::Lane => follow_to_the_end(rt, alloc, Both::open(alloc, 1), jobs, LANE_SCRIPTS),
+            Scene::Batch => follow_to_the_end(
+                rt,
+                alloc,
+                Batch::open(alloc, 2),
+                jobs,
+                BATCH_SCRIPTS,
+            ),
+            Scene::Deal => deal_three(rt, Batch::open(alloc, 2), jobs),
         }
     }
 }
 
 /// Follows a scene with each growth of memory refused in turn, and then with none. Each call answers as ever,
 /// but that the lane isn't opened, or an answer says that its memory was refused.
-fn follow_all(rt: &impl Abort, alloc: Global, scene: Scene) -> Result<(), Fail> {
+fn follow_all(rt: &(impl Abort + AllocGlobal), scene: Scene) -> Result<(), Fail> {
+    let alloc = rt.alloc();
     for growth in 1..MOST_GROWTHS {
         let mut jobs = scene.jobs(alloc)?;
         refuse(alloc, growth);
-        let all = scene.follow(rt, alloc, &mut jobs);
+        let all = scene.follow(rt, &mut jobs);
         let refused = was_refused(alloc);
         assert!(rt; refused || all == Some(true), "growth {growth}");
         if !refused {
@@ -208,15 +216,15 @@ fn follow_all(rt: &impl Abort, alloc: Global, scene: Scene) -> Result<(), Fail> 
 
 #[test]
 fn lane_on_one_thread(rt: HostRuntime) -> Result<(), Fail> {
-    follow_all(&rt, rt.alloc(), Scene::Lane)
+    follow_all(&rt, Scene::Lane)
 }
 
 #[test]
 fn batch_lane(rt: HostRuntime) -> Result<(), Fail> {
-    follow_all(&rt, rt.alloc(), Scene::Batch)
+    follow_all(&rt, Scene::Batch)
 }
 
 #[test]
 fn dealing_a_batch(rt: HostRuntime) -> Result<(), Fail> {
-    follow_all(&rt, rt.alloc(), Scene::Deal)
+    follow_all(&rt, Scene::Deal)
 }

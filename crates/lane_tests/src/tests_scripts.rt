@@ -130,22 +130,12 @@ impl Counts {
 
 /// A lane beside its counts.
 #[derive(Drop)]
-struct Script {
-    lane: Both,
+struct Script<L> {
+    lane: L,
     counts: Counts,
 }
 
-impl Script {
-    fn open(alloc: Global, capacity: u32) -> Result<Script, Fail>
-        requires least { 1 ≤ capacity }
-        requires most { capacity ≤ LARGEST_RING }
-    {
-        Ok(Script {
-            lane: Both::open(alloc, capacity as usize).ok_or("memory")?,
-            counts: Counts::new(capacity),
-        })
-    }
-
+impl<L: Called> Script<L> {
     fn call(&mut self, rt: &impl Abort, alloc: Global, call: Call) -> Result<(), Fail> {
         let told = self.counts.reply(call);
         let mut jobs = jobs_for(alloc, &[(call, told)])?;
@@ -201,12 +191,17 @@ fn call_of(state: u64, number: u32) -> Call {
     }
 }
 
-/// Follows one script of 40 calls, from this state of the generator. Returns the state after it.
-fn follow_script(rt: &impl Abort, alloc: Global, capacity: u32, start: u64) -> Result<u64, Fail>
-    requires least { 1 ≤ capacity }
-    requires most { capacity ≤ LARGEST_RING }
-{
-    let mut script = Script::open(alloc, capacity)?;
+/// Follows one script at a lane, from this state of the generator. Returns the state after it.
+fn follow_script<L: Called>(
+    rt: &impl Abort,
+    alloc: Global,
+    lane: Option<L>,
+    capacity: u32,
+    start: u64,
+) -> Result<u64, Fail> {
+    let lane = lane.ok_or("memory")?;
+    let counts = Counts::new(capacity);
+    let mut script = Script { lane, counts };
     let state = script.call_at_random(rt, alloc, start)?;
     script.drain(rt, alloc)?;
     script.end(rt);
@@ -219,7 +214,8 @@ fn follow_scripts(rt: &impl Abort, alloc: Global, capacity: u32) -> Result<(), F
 {
     let mut state = 1;
     for _ in 0..1000 {
-        state = follow_script(rt, alloc, capacity, state)?;
+        let lane = Both::open(alloc, capacity as usize);
+        state = follow_script(rt, alloc, lane, capacity, state)?;
     }
     Ok(())
 }
