@@ -176,17 +176,18 @@ pub(crate) fn take_turns<L: Called>(
     }
 }
 
-/// Takes turns at a lane to which these jobs are dealt, with room for so many answers. Returns whether the
-/// lane can then end.
+/// Takes turns at a lane, with the jobs from `first` on, `count` of them, and room for so many answers.
+/// Returns whether the lane can then end.
 pub(crate) fn deal_jobs<L: Called>(
     rt: &(impl Abort + AllocGlobal),
     lane: Option<L>,
-    jobs: VecDeque<Job, Global>,
+    first: u32,
+    count: u32,
     room: usize,
     turns: &[Turn],
 ) -> Result<bool, Fail> {
     let mut lane = lane.ok_or("memory")?;
-    let mut waiting = jobs;
+    let mut waiting = jobs(rt.alloc(), first, count)?;
     let mut got = Vec::with_capacity(rt.alloc(), room)?;
     take_turns(rt, &mut lane, &mut waiting, &mut got, turns);
     Ok(lane.end().is_ok())
@@ -299,14 +300,8 @@ const LITTLE_ROOM: [Turn; 5] = [
 
 #[test]
 fn dealing_with_little_room(rt: HostRuntime) -> Result<(), Fail> {
-    let alloc = rt.alloc();
-    deal_jobs(
-        &rt,
-        Batch::open(alloc, 2),
-        jobs(alloc, 1, 2)?,
-        1,
-        &LITTLE_ROOM,
-    )?;
+    let lane = Batch::open(rt.alloc(), 2);
+    deal_jobs(&rt, lane, 1, 2, 1, &LITTLE_ROOM)?;
     Ok(())
 }
 
@@ -322,16 +317,8 @@ const AT_A_FRONT: [Turn; 7] = [
 
 #[test]
 fn dealing_at_a_front(rt: HostRuntime) -> Result<(), Fail> {
-    let alloc = rt.alloc();
-    assert!(rt;
-        deal_jobs(
-            &rt,
-            Both::open(alloc, 1),
-            jobs(alloc, 1, 2)?,
-            2,
-            &AT_A_FRONT
-        )?
-    );
+    let lane = Both::open(rt.alloc(), 1);
+    assert!(rt; deal_jobs(&rt, lane, 1, 2, 2, &AT_A_FRONT)?);
     Ok(())
 }
 

@@ -33,14 +33,8 @@ const TAKING_65: [Turn; 4] = [
 
 #[test]
 fn one_turn_takes_64_answers(rt: HostRuntime) -> Result<(), Fail> {
-    let alloc = rt.alloc();
-    deal_jobs(
-        &rt,
-        Batch::open(alloc, 66),
-        jobs(alloc, 0, 65)?,
-        65,
-        &TAKING_65,
-    )?;
+    let lane = Batch::open(rt.alloc(), 66);
+    deal_jobs(&rt, lane, 0, 65, 65, &TAKING_65)?;
     Ok(())
 }
 

@@ -1,15 +1,17 @@
 //! Calls whose growths of memory are refused, each in turn, and calls that take no memory
 //! with every growth refused.
 
-use crate::tests_lanes::{Batch, Call, Called, Reply, jobs, puzzle_with};
+use crate::tests_lanes::{Batch, Call, Called, Reply, Turn, jobs, puzzle_with, take_turns};
 use grid_core::NoMemory;
 use lane_core::*;
 use refusals::{Told, is_heeded, refuse, sweep, told_if, was_refused};
 use solve_core::Pick;
+use std::alloc::Global;
+use std::collections::VecDeque;
 use std::process::Abort;
 use std::test::Fail;
 
-fn told_of_lane(answer: Result<BatchLane, NoMemory>) -> Told {
+fn told_of_lane<L: Lane + Drop>(answer: Result<L, NoMemory>) -> Told {
     match answer {
         Ok(mut lane) => told_if(lane.take().is_none() && lane.finish().is_ok()),
         Err(NoMemory) => Told::NoMemory,
@@ -50,27 +52,44 @@ fn jobs_are_graded_or_refused(rt: HostRuntime) -> Result<(), Fail> {
     Ok(())
 }
 
-/// Asserts that a lane of capacity 3 takes no memory but to grade.
+/// Takes turns at a lane with each growth refused, and asserts that there is none.
+fn take_turns_in_place<L: Called>(
+    rt: &(impl Abort + AllocGlobal),
+    lane: &mut L,
+    waiting: &mut VecDeque<Job, Global>,
+    got: &mut Vec<Answer>,
+    turns: &[Turn],
+) {
+    refuse(rt.alloc(), 0);
+    take_turns(rt, lane, waiting, got, turns);
+    assert!(rt; !was_refused(rt.alloc()), "no growth");
+}
+
+const SENDING: [Turn; 2] = [
+    Turn::Call(Call::Send(1), Reply::Accepted),
+    Turn::Deal((true, 0, 0)),
+];
+
+const TAKING: [Turn; 2] = [
+    Turn::Deal((true, 0, 1)),
+    Turn::Call(Call::Take, Reply::Answered(2)),
+];
+
+/// Asserts that a lane takes no memory but to grade.
 fn assert_no_growth<L: Called>(
     rt: &(impl Abort + AllocGlobal),
     lane: Option<L>,
 ) -> Result<(), Fail> {
-    let alloc = rt.alloc();
     let mut lane = lane.ok_or("memory")?;
-    let mut waiting = jobs(alloc, 1, 2)?;
-    let mut got = Vec::with_capacity(alloc, 1)?;
-    refuse(alloc, 0);
-    let sent = lane.call(alloc, Call::Send(1), &mut waiting);
-    let dealing = lane.dealt(&mut waiting, &mut got);
-    assert!(rt; !was_refused(alloc), "no growth");
-    assert!(rt; sent == Reply::Accepted && dealing == (true, 0, 0));
-    lane.call(alloc, Call::Work, &mut waiting);
-    refuse(alloc, 0);
-    let taking = lane.dealt(&mut waiting, &mut got);
-    let last = lane.call(alloc, Call::Take, &mut waiting);
+    let mut waiting = jobs(rt.alloc(), 1, 2)?;
+    let mut got = Vec::with_capacity(rt.alloc(), 1)?;
+    take_turns_in_place(rt, &mut lane, &mut waiting, &mut got, &SENDING);
+    lane.call(rt.alloc(), Call::Work, &mut waiting);
+    take_turns_in_place(rt, &mut lane, &mut waiting, &mut got, &TAKING);
+    refuse(rt.alloc(), 0);
     let ended = lane.end().is_ok();
-    assert!(rt; !was_refused(alloc), "no growth");
-    assert!(rt; ended && taking == (true, 0, 1) && last == Reply::Answered(2));
+    assert!(rt; !was_refused(rt.alloc()), "no growth");
+    assert!(rt; ended);
     Ok(())
 }
 
