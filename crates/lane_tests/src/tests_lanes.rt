@@ -363,14 +363,10 @@ fn faults_in_sentences(rt: HostRuntime) -> Result<(), Fail> {
     Ok(())
 }
 
-/// The front of a lane of capacity 1, whose back was dropped.
-fn front_alone(alloc: Global) -> Result<LaneFront, Fail> {
-    Ok(Both::open(alloc, 1).ok_or("memory")?.front)
-}
-
 #[test]
 fn front_without_its_back(rt: HostRuntime) -> Result<(), Fail> {
-    let mut front = front_alone(rt.alloc())?;
+    // The back is dropped at once.
+    let mut front = Both::open(rt.alloc(), 1).ok_or("memory")?.front;
     for (number, wanted) in [(1u32, Reply::Accepted), (2, Reply::FullReturning(2))] {
         let job = job(rt.alloc(), number)?;
         assert!(rt; sent(front.send(job)) == wanted, "job {number}");
