@@ -16,9 +16,8 @@ use Rattle.clap.specs.declared.builder.command.Command.{Command}
 use Rattle.clap.specs.declared.parser.matches.ArgMatches.{ArgMatches}
 use Rattle.clap.specs.declared.parser.matches.Found.{Found}
 use Rattle.clap.proofs.WalkLemmas.{first_value-rows, one_text-rows, raw_values-rows}
-use Rattle.command_line.specs.Words.{AsksIn, Choices, IsNumberIn, program_app, text_in, texts_in}
+use Rattle.command_line.specs.Words.{Choices, IsNumberIn, program_app, text_in, texts_in}
 use Rattle.command_line.specs.steps.Words.{IsArgument, IsCommand}
-use Rattle.command_line.specs.declared.command.Request.{Request}
 use Rattle.std.specs.declared.alloc.AllocError.{AllocError}
 
 -- what an unsigned number's `from_str` gives
@@ -86,15 +85,13 @@ take_end n xs past within =
 program_is_simple : (formats picks : Choices) → is_simple (program_app formats picks) ≡ true
 program_is_simple formats picks = refl
 
--- if the entered command asks for a request, the words do
-pub asked_of : (formats picks : Choices) (program : Command) (words given : List Text) (m : ArgMatches) (request : Request)
-    → app_of program ≡ program_app formats picks → given ≡ words → HasMatchesOf (app_of program) given m
-    → AsksIn (subcommand_rows_of m) request → AsksIn (subcommand_of (program_app formats picks) words) request
-asked_of formats picks program words given m request shape same has asks =
-    let simple : is_simple (app_of program) ≡ true = ap is_simple shape ∙ program_is_simple formats picks in
-    let entered : subcommand_rows_of m ≡ subcommand_of (program_app formats picks) words =
-    (has simple).1 ∙ ap (λ (a : App). subcommand_of a given) shape ∙ ap (subcommand_of (program_app formats picks)) same in
-    rw entered at asks
+-- the entries of the entered command are those that the words say
+pub entered_of : (formats picks : Choices) (program : Command) (words : List Text) (m : ArgMatches)
+    → IsCommand (program_app formats picks) program → HasMatchesOf (app_of program) words m
+    → subcommand_rows_of m ≡ subcommand_of (program_app formats picks) words
+entered_of formats picks program words m command has =
+    let simple : is_simple (app_of program) ≡ true = ap is_simple command.shape ∙ program_is_simple formats picks in
+    (has simple).1 ∙ ap (λ (a : App). subcommand_of a words) command.shape
 
 -- a command with one argument more has its rule, too
 pub added : (app : App) (rule : Rule) (old new : Command) (arg : Arg) →

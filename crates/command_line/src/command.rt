@@ -2,12 +2,12 @@
 
 ghost use Rattle.std.specs.Prelude.{◌≡◌, ◌≢◌, ◌≤◌, IfOk, IfSome, map, string_bytes, codes};
 ghost use Rattle.clap.specs.Walk.{one_of, rows_of};
-ghost use Rattle.clap.specs.Simple.{App};
+ghost use Rattle.clap.specs.Simple.{App, subcommand_of};
 ghost use Rattle.clap.specs.Words.{found_of, kind_of, subcommand_rows_of};
 ghost use Rattle.clap.specs.declared.error.kind.ErrorKind.TheVariants.{OutOfMemory};
 ghost use Rattle.command_line.specs.declared.command.CommandFault.TheVariants.{NoMemory as command_memory, Words as refused_words};
 ghost use Rattle.command_line.specs.Ranges.{HasSettingsInRange};
-ghost use Rattle.command_line.specs.Words.{AreSettingsIn, Asks, AsksIn, AsksSurvey, IsNumberIn, WordsAsk, command_app, convert_app, converting_app, file_rule, files_rule, grading_app, grading_rules, guesses_rule, lanes_rule, lines_app, pick_of_word, pick_rule, program_app, progress_rule, ring_rule, show_rule, solve_app, survey_app, text_in, texts_in, to_rule};
+ghost use Rattle.command_line.specs.Words.{AreSettingsIn, Asks, AsksIn, AsksSurvey, Choices, IsNumberIn, WordsAsk, command_app, convert_app, converting_app, file_rule, files_rule, grading_app, grading_rules, guesses_rule, lanes_rule, lines_app, pick_of_word, pick_rule, program_app, progress_rule, ring_rule, show_rule, solve_app, survey_app, text_in, texts_in, to_rule};
 ghost use Rattle.command_line.specs.steps.Words.{IsArgument, IsCommand, bare_app};
 
 use clap::error::ErrorKind;
@@ -466,6 +466,20 @@ fn request_in(alloc: Global, matches: &ArgMatches<'_>) -> Result<Option<Request>
     }
 }
 
+/// What the words ask for of a program, if they name a command that is known.
+fn request_by<'a>(
+    alloc: Global,
+    program: &mut Command<'a>,
+    words: &'a [String],
+) -> Result<Option<Request>, CommandFault>
+    ensures range { IfOk result (λ asked. IfSome asked HasSettingsInRange) }
+    ensures asked { (formats picks : Choices) → IsCommand (program_app formats picks) program.old
+        → IfOk result (λ asked. IfSome asked (AsksIn (subcommand_of (program_app formats picks) (map string_bytes words.now)))) }
+{
+    let matches = program.try_get_matches_from_mut(words)?;
+    request_in(alloc, &matches)
+}
+
 /// What the words after the program's name ask for.
 pub fn parse_words(alloc: Global, words: Vec<String>) -> Result<Request, CommandFault>
     ensures range { IfOk result HasSettingsInRange }
@@ -474,8 +488,7 @@ pub fn parse_words(alloc: Global, words: Vec<String>) -> Result<Request, Command
     let formats = Format::words();
     let picks = ["first", "most"];
     let mut program = whole_program(alloc, &formats, &picks)?;
-    let matches = program.try_get_matches_from_mut(words.as_slice())?;
-    match request_in(alloc, &matches)? {
+    match request_by(alloc, &mut program, words.as_slice())? {
         Some(request) => Ok(request),
         None => Err(missing_command(&mut program)?),
     }

@@ -1,6 +1,5 @@
--- `parse_words`: the words ask for what the entered command asks for.
+-- `parse_words`: the words ask for what they ask of the program with all commands.
 use Rattle.std.proofs.Common.{ap, map, refl, string_bytes}
-use Rattle.command_line.proofs.WordLemmas.{asked_of}
 use Rattle.command_line.proofs.command.parse_words.Goals as goal
 
 pub returns-in-Some-clause-asked : goal.returns-in-Some-clause-asked
@@ -9,6 +8,5 @@ returns-in-Some-clause-asked c = record {
   picks = _;
   format_words = c.words-formats.ensures;
   pick_words = refl;
-  asks = asked_of _ _ _ _ _ _ _ c.in_ok-program.ensures.shape (ap (map string_bytes) c.as_slice.ensures.value) c.in_ok-matches.ensures.ok.2
-      (rw c.in-Some.is at c.in_ok-request.ensures.asked);
+  asks = rw (ap (map string_bytes) c.as_slice.ensures.value) at (rw c.in-Some.is at c.in_ok-request.ensures.asked _ _ c.in_ok-program.ensures);
 }
