@@ -1,14 +1,13 @@
 -- Lines in their usual form: digits, separators and endings.
-use Rattle.std.proofs.Common.{◌≡◌, ℕ, ◌+◌, ◌-◌, ◌*◌, ◌<◌, ◌≤◌, true, false, cond, drop, not, eqb, leb, List, [], ◌∷◌, ◌++◌, length, take, filter, get_or, All, refl, sym, ap, subst, ◌∙◌, append_assoc, arith, inl, inr, Option, Some, None, Result, Ok}
+use Rattle.std.proofs.Common.{◌≡◌, ℕ, ◌+◌, ◌-◌, ◌<◌, ◌≤◌, true, false, cond, drop, not, eqb, leb, List, [], ◌∷◌, ◌++◌, length, take, filter, get_or, All, refl, sym, ap, subst, ◌∙◌, append_assoc, arith, inl, inr, Option, Some, None, IfSome, Result, Ok}
 use Rattle.std.specs.Prelude.{option_and_then}
 use Rattle.std.specs.Option.{option_map}
-use Rattle.std.specs.List.{list_all, onto_first, slice_split, AllByRecursion}
+use Rattle.std.specs.List.{list_all, slice_split, AllByRecursion}
 use Rattle.std.specs.Char.{is_ascii_digit}
 use Rattle.std.specs.Str.Parse.{digits_value}
-use Rattle.std.proofs.lemmas.Bool.{and_parts, cond-false, cond-true, le-leb}
+use Rattle.std.proofs.lemmas.Bool.{and_parts, cond-true, le-leb}
 use Rattle.std.proofs.lemmas.Bool.Decides.{nat_tests}
-use Rattle.std.proofs.lemmas.List.{append-nil, get_or_append_left, get_or_at, length-append, take_all, take_at}
-use Rattle.std.proofs.lemmas.List.Folds.{list_all-append}
+use Rattle.std.proofs.lemmas.List.{get_or_append_left, take_all}
 use Rattle.std.proofs.lemmas.List.Splits.{slice_split_at, slice_split_none}
 use Rattle.std.proofs.lemmas.List.Sums.{AllPass-from_list_all}
 use Rattle.grid_core.specs.declared.limits.TheConstants.{LONGEST_SIDE}
@@ -20,57 +19,14 @@ use Rattle.puzzle_text.specs.ClueLines.{clue_of_numbers, numbers_within}
 use Rattle.puzzle_text.specs.Lines.{Line, is_empty, numbered_from, raw_lines, strip_last, trim}
 use Rattle.puzzle_text.specs.Numbers.{is_separator, number_within, pieces}
 use Rattle.puzzle_text.specs.Sizes.{size_of, two_sizes}
-use Rattle.puzzle_text.specs.steps.Usual.{BeginsWith, BeginsWithDigit, BeginsWithNumber, EndsLine, IsNumeral, IsSeparated, SaysClue, SaysSizes}
-use Rattle.puzzle_text.proofs.NumbersLemmas.{digit_clear, keeps_piece, number_is, value_more}
-use Rattle.puzzle_text.proofs.ReadBack.{IsKept, IsTidy, kept_tidy, line_kept, raw_lines-feed, some_byte, strip_last_is, strip_last_other}
+use Rattle.puzzle_text.specs.steps.Usual.{BeginsWith, BeginsWithNumber, EndsLine, IsNumeral, IsSeparator, SaysClue, SaysSizes}
+use Rattle.puzzle_text.proofs.NumbersLemmas.{digit_clear, keeps_piece, number_is}
+use Rattle.puzzle_text.proofs.ReadBack.{IsKept, IsTidy, kept_tidy, line_kept, raw_lines-feed, strip_last_is}
 use Rattle.puzzle_text.proofs.ReadClue.{IsSpacing, clue_is, comma, space}
 use Rattle.puzzle_text.proofs.ReadClues.{all-append, tidy-join}
 
 pub digit_range : (c : ℕ) → is_ascii_digit c ≡ true → (48 ≤ c) × (c ≤ 57)
 digit_range c h = grind (arith, nat_tests)
-
--- ---- digits
-
-value_of_more : (piece : List ℕ) (byte : ℕ) → 48 ≤ byte → byte ≤ 57
-    → digits_value 10 (piece ++ byte ∷ []) ≡ digits_value 10 piece * 10 + (byte - 48)
-value_of_more piece byte low high =
-    let all = piece ++ byte ∷ [] in
-    let i = length piece in
-    let inside : i < length all = omega (arith, length-append piece (byte ∷ [])) in
-    let here : get_or all i 0 ≡ byte = get_or_at piece byte [] 0 i refl in
-    let whole : take (i + 1) all ≡ all = take_all (i + 1) all (omega (arith, length-append piece (byte ∷ []))) in
-    ap (digits_value 10) (sym whole) ∙ value_more all i inside (rw here low) (rw here high)
-    ∙ ap (λ (front : List ℕ). digits_value 10 front * 10 + (get_or all i 0 - 48)) (take_at piece (byte ∷ []) i refl)
-    ∙ ap (λ (digit : ℕ). digits_value 10 piece * 10 + (digit - 48)) here
-
--- the bytes passed are digits, and this is their value
-abbrev pub PassesDigits : List ℕ → List ℕ → ℕ → Type 0
-PassesDigits text rest value = (piece : List ℕ) × (text ≡ piece ++ rest) × (list_all is_ascii_digit piece ≡ true)
-    × (value ≡ digits_value 10 piece)
-
--- at the first digit
-pub no_digit_passed : (text : List ℕ) → PassesDigits text text 0
-no_digit_passed text = ([], refl, refl, refl)
-
--- one more digit
-pub digit_passed : (text rest others : List ℕ) (value digit more : ℕ) → PassesDigits text rest value → BeginsWithDigit rest digit others
-    → more ≡ value * 10 + digit → PassesDigits text others more
-digit_passed text rest others value digit more passed begins is =
-    let piece = passed.0 in
-    let byte = begins.0 in
-    let range = digit_range byte begins.2 in (
-      piece ++ byte ∷ [],
-      passed.1 ∙ ap (λ (r : List ℕ). piece ++ r) begins.1 ∙ sym (append_assoc piece (byte ∷ []) others),
-      rw (list_all-append is_ascii_digit piece (byte ∷ []), passed.2, begins.2) refl,
-      is ∙ ap (λ (n : ℕ). n * 10 + digit) passed.3 ∙ ap (λ (n : ℕ). digits_value 10 piece * 10 + n) begins.3
-          ∙ sym (value_of_more piece byte range.0 range.1),
-    )
-
--- the digits passed are a number
-pub number_passed : (text rest : List ℕ) (value : ℕ) → PassesDigits text rest value → 1 ≤ value → value ≤ LONGEST_SIDE
-    → BeginsWithNumber text value rest
-number_passed text rest value passed some low =
-    (passed.0, passed.1, record { digits = passed.2; value = passed.3; positive = some; within = low })
 
 -- ---- what a line of numbers says
 
@@ -161,19 +117,17 @@ abbrev pub PassesNumbers : List ℕ → List ℕ → List ℕ → Type 0
 PassesNumbers text rest numbers = (front : List ℕ) × (text ≡ front ++ rest)
     × ((more others : List ℕ) → SaysNumbers more others → SaysNumbers (front ++ more) (numbers ++ others))
 
-spaced : (after others : List ℕ) → IsSeparated after others → (s : ℕ) × IsSpacing s × (after ≡ s ∷ others)
-spaced after others e = elim e [ inl is ↦ (44, comma, is) | inr is ↦ (32, space, is) ]
+spaced : (s : ℕ) → IsSeparator s → IsSpacing s
+spaced s e = elim e [ inl is ↦ rw is comma | inr is ↦ rw is space ]
 
 -- one number more, and a separator
-pub number_and_more : (text rest after others numbers more : List ℕ) (n : ℕ) → PassesNumbers text rest numbers
-    → BeginsWithNumber rest n after → IsSeparated after others → more ≡ numbers ++ n ∷ [] → PassesNumbers text others more
-number_and_more text rest after others numbers more n passed begins separated is =
+pub number_and_more : (text rest others numbers more : List ℕ) (n s : ℕ) → PassesNumbers text rest numbers
+    → BeginsWithNumber rest n (s ∷ others) → IsSeparator s → more ≡ numbers ++ n ∷ [] → PassesNumbers text others more
+number_and_more text rest others numbers more n s passed begins separated is =
     let front = passed.0 in
     let piece = begins.0 in
-    let by = spaced after others separated in
-    let s = by.0 in
     let whole : text ≡ (front ++ (piece ++ s ∷ [])) ++ others =
-    passed.1 ∙ ap (λ (r : List ℕ). front ++ r) (begins.1 ∙ ap (λ (r : List ℕ). piece ++ r) by.2 ∙ sym (append_assoc piece (s ∷ []) others))
+    passed.1 ∙ ap (λ (r : List ℕ). front ++ r) (begins.1 ∙ sym (append_assoc piece (s ∷ []) others))
     ∙ sym (append_assoc front (piece ++ s ∷ []) others) in (
       front ++ (piece ++ s ∷ []),
       whole,
@@ -183,18 +137,10 @@ number_and_more text rest after others numbers more n passed begins separated is
           let counted : numbers ++ n ∷ ns ≡ more ++ ns = sym (append_assoc numbers (n ∷ []) ns) ∙ ap (λ (ms : List ℕ). ms ++ ns) (sym is) in
           subst (λ (t : List ℕ). SaysNumbers t (more ++ ns)) parts
           (subst (SaysNumbers (front ++ (piece ++ s ∷ line))) counted
-          (passed.2 (piece ++ s ∷ line) (n ∷ ns) (number_before piece n begins.2 s line ns by.1 said))),
+          (passed.2 (piece ++ s ∷ line) (n ∷ ns) (number_before piece n begins.2 s line ns (spaced s separated) said))),
     )
 
 -- ---- the end of a line
-
-raw_lines-last : (text : List ℕ) → 0 < length text → AllByRecursion (λ byte. eqb byte 10 ≡ false) text → raw_lines text ≡ text ∷ []
-raw_lines-last [] some none = absurd (omega arith)
-raw_lines-last (byte ∷ []) some none = cond-false (eqb byte 10) ((byte ∷ []) ∷ []) (onto_first byte []) none.0
-raw_lines-last (byte ∷ next ∷ bytes) some none =
-    let later = raw_lines (next ∷ bytes) in
-    cond-false (eqb byte 10) ((byte ∷ []) ∷ later) (onto_first byte later) none.0
-    ∙ ap (onto_first byte) (raw_lines-last (next ∷ bytes) (omega arith) none.1)
 
 abbrev first_of : ℕ → List ℕ → List ℕ → List Line
 first_of number text rest = record { number = number; text = text } ∷ numbered_from (number + 1) (raw_lines rest)
@@ -219,28 +165,28 @@ module _ (front rest : List ℕ) (tidy : IsTidy front) where
       ∙ ap (λ (line : List ℕ). first_of number (trim line) rest) (strip_last_is 13 front)
       ∙ ap (λ (line : List ℕ). first_of number line rest) kept.trimmed
 
-  at_end : BeginsWith (front ++ []) front []
-  at_end number =
-      ap (λ (bytes : List ℕ). numbered_from number (raw_lines bytes)) (append-nil front)
-      ∙ ap (numbered_from number) (raw_lines-last front (some_byte front tidy.first) kept.no_feed)
-      ∙ ap (λ (line : List ℕ). first_of number (trim (strip_last 13 line)) []) (strip_last_other 10 front (omega arith) tidy.last)
-      ∙ ap (λ (line : List ℕ). first_of number (trim line) []) kept.no_return
-      ∙ ap (λ (line : List ℕ). first_of number line []) kept.trimmed
-
 -- a tidy text before the end of a line is that line
 pub line_ends : (front bytes rest : List ℕ) → IsTidy front → EndsLine bytes rest → BeginsWith (front ++ bytes) front rest
 line_ends front bytes rest tidy e =
     elim e [
       | inl feed ↦ subst (λ (b : List ℕ). BeginsWith (front ++ b) front rest) (sym feed) (at_feed front rest tidy)
-      | inr other ↦ elim other [
-        | inl return ↦ subst (λ (b : List ℕ). BeginsWith (front ++ b) front rest) (sym return) (at_return front rest tidy)
-        | inr none ↦
-            subst (λ (b : List ℕ). BeginsWith (front ++ b) front rest) (sym none.0)
-            (subst (λ (r : List ℕ). BeginsWith (front ++ []) front r) (sym none.1) (at_end front [] tidy))
-      ]
+      | inr return ↦ subst (λ (b : List ℕ). BeginsWith (front ++ b) front rest) (sym return) (at_return front rest tidy)
     ]
 
 -- ---- what the first line says
+
+-- a slice of two bytes and more, of which the first is known
+pub headed : (text : List ℕ) (byte : ℕ) → 2 ≤ length text → get_or text 0 0 ≡ byte
+    → text ≡ byte ∷ get_or text 1 0 ∷ take (length text - 2) (drop 2 text)
+headed [] byte some is = absurd (omega arith)
+headed (a ∷ []) byte some is = absurd (omega arith)
+headed (a ∷ b ∷ rest) byte some is =
+    ap (λ (first : ℕ). first ∷ b ∷ rest) is ∙ ap (λ (r : List ℕ). byte ∷ b ∷ r) (sym (take_all (length (a ∷ b ∷ rest) - 2) rest (omega arith)))
+
+-- what follows of an answer, if there is one
+pub if_some : {T : Type 0} (P Q : T → Type 0) (o : Option T) → ((x : T) → P x → Q x) → IfSome o P → IfSome o Q
+if_some P Q None h p = tt
+if_some P Q (Some x) h p = h x p
 
 -- the last number of a line ends its clue
 pub clue_ends : (text rest after next numbers clue : List ℕ) (n : ℕ) → PassesNumbers text rest numbers → BeginsWithNumber rest n after
@@ -267,24 +213,17 @@ zero_ends text after next clue whole ends none =
       (ap (λ (c : List ℕ). Some c) (sym none), refl),
     )
 
--- what follows the first byte of a slice
-pub headed : (text : List ℕ) (byte : ℕ) → 1 ≤ length text → get_or text 0 0 ≡ byte → text ≡ byte ∷ take (length text - 1) (drop 1 text)
-headed [] byte some is = absurd (omega arith)
-headed (first ∷ rest) byte some is =
-    ap (λ (b : ℕ). b ∷ rest) is ∙ ap (λ (r : List ℕ). byte ∷ r) (sym (take_all (length (first ∷ rest) - 1) rest (omega arith)))
-
 -- two numbers say the sizes
-pub sizes_end : (text after second next rest : List ℕ) (a b : ℕ) → BeginsWithNumber text a after → IsSeparated after second
+pub sizes_end : (text second next rest : List ℕ) (a s b : ℕ) → BeginsWithNumber text a (s ∷ second) → IsSeparator s
     → BeginsWithNumber second b next → EndsLine next rest → SaysSizes text (a, b) rest
-sizes_end text after second next rest a b one separated two ends =
-    let by = spaced after second separated in
-    let s = by.0 in
+sizes_end text second next rest a s b one separated two ends =
+    let by = spaced s separated in
     let line = one.0 ++ s ∷ two.0 in
-    let said = number_before one.0 a one.2 s two.0 (b ∷ []) by.1 (number_alone two.0 b two.2) in
+    let said = number_before one.0 a one.2 s two.0 (b ∷ []) by (number_alone two.0 b two.2) in
     let whole : text ≡ line ++ next =
-    one.1 ∙ ap (λ (r : List ℕ). one.0 ++ r) (by.2 ∙ ap (λ (r : List ℕ). s ∷ r) two.1) ∙ sym (append_assoc one.0 (s ∷ two.0) next) in
+    one.1 ∙ ap (λ (r : List ℕ). one.0 ++ s ∷ r) two.1 ∙ sym (append_assoc one.0 (s ∷ two.0) next) in
     let parts : pieces line ≡ one.0 ∷ two.0 ∷ [] =
-    pieces_more one.0 a one.2 s two.0 by.1 ∙ ap (λ (ps : List (List ℕ)). one.0 ∷ ps) (pieces_alone two.0 b two.2) in (
+    pieces_more one.0 a one.2 s two.0 by ∙ ap (λ (ps : List (List ℕ)). one.0 ∷ ps) (pieces_alone two.0 b two.2) in (
       line,
       subst (λ (t : List ℕ). BeginsWith t line rest) (sym whole) (line_ends line next rest said.tidy ends),
       ap (two_sizes LONGEST_SIDE) parts

@@ -1,100 +1,113 @@
 //! Lines in their usual form: numbers with a comma or a space between each two, and LF or CR LF behind them.
 
-ghost use Rattle.std.specs.Prelude.{◌≡◌, ◌+◌, ◌<◌, ◌≤◌, ◌∷◌, [], length, IfSome};
-ghost use Rattle.puzzle_text.specs.steps.Usual.{BeginsWith, BeginsWithDigit, BeginsWithNumber, EndsLine, IsSeparated, SayClues, SaysClue, SaysSizes};
+ghost use Rattle.std.specs.Prelude.{◌≡◌, ◌+◌, ◌-◌, ◌<◌, ◌≤◌, ◌∷◌, [], length, true, IfSome, IsTrue};
+ghost use Rattle.std.specs.Char.{is_ascii_digit};
+ghost use Rattle.puzzle_text.specs.steps.Usual.{BeginsWith, BeginsWithNumber, EndsLine, IsNumeral, IsSeparator, SayClues, SaysClue, SaysSizes};
 
 use crate::clue_lines::room_for;
 use grid_core::{Clue, LONGEST_SIDE};
 use std::alloc::Global;
 
-/// The value of the digit that a text begins with, and what follows it.
-fn digit(text: &[u8]) -> Option<(u16, &[u8])>
-    ensures digit { IfSome result (λ found. BeginsWithDigit text.now found.0 found.1.now) }
-    ensures value { IfSome result (λ found. found.0 ≤ 9) }
-    ensures shorter { IfSome result (λ found. length found.1.now < length text.now) }
+/// The value of a digit.
+fn digit(byte: u8) -> Option<u16>
+    ensures { IfSome result (λ value. (is_ascii_digit byte ≡ true) × (value ≡ byte - 48)) }
+{
+    if byte.is_ascii_digit() {
+        Some(u16::from(byte - b'0'))
+    } else {
+        None
+    }
+}
+
+/// The number that one digit writes, if it isn't 0.
+fn of_one(a: u8) -> Option<u16>
+    ensures number { IfSome result (IsNumeral (a ∷ [])) }
+    ensures small { IfSome result (λ number. number ≤ 9) }
+{
+    match digit(a)? {
+        0 => None,
+        number => Some(number),
+    }
+}
+
+/// The number that two digits write, if the first isn't 0.
+fn of_two(a: u8, b: u8) -> Option<u16>
+    ensures { IfSome result (IsNumeral (a ∷ b ∷ [])) }
+{
+    Some(of_one(a)? * 10 + digit(b)?)
+}
+
+/// The number up to 256 that three digits write, if the first isn't 0.
+fn of_three(a: u8, b: u8, c: u8) -> Option<u16>
+    ensures { IfSome result (IsNumeral (a ∷ b ∷ c ∷ [])) }
+{
+    let number = of_two(a, b)? * 10 + digit(c)?;
+    if number <= LONGEST_SIDE {
+        Some(number)
+    } else {
+        None
+    }
+}
+
+/// The number from 1 to 256 that a text begins with, of up to three digits, the byte behind it, and what
+/// follows that byte.
+fn number(text: &[u8]) -> Option<(u16, u8, &[u8])>
+    ensures number { IfSome result (λ found. BeginsWithNumber text.now found.0 (found.1 ∷ found.2.now)) }
+    ensures shorter { IfSome result (λ found. length found.2.now < length text.now) }
 {
     match text {
-        [byte, rest @ ..] if byte.is_ascii_digit() => Some((u16::from(*byte - b'0'), rest)),
+        [a, end, rest @ ..] if !end.is_ascii_digit() => Some((of_one(*a)?, *end, rest)),
+        [a, b, end, rest @ ..] if !end.is_ascii_digit() => Some((of_two(*a, *b)?, *end, rest)),
+        [a, b, c, end, rest @ ..] => Some((of_three(*a, *b, *c)?, *end, rest)),
         _ => None,
     }
 }
 
-/// The number from 1 to 256 that a text begins with, of up to three digits, and what follows these.
-fn number(text: &[u8]) -> Option<(u16, &[u8])>
-    ensures number { IfSome result (λ found. BeginsWithNumber text.now found.0 found.1.now) }
-    ensures shorter { IfSome result (λ found. length found.1.now < length text.now) }
+/// What follows the ending of a line of which this is the first byte.
+fn below(end: u8, rest: &[u8]) -> Option<&[u8]>
+    ensures ends { IfSome result (λ below. EndsLine (end ∷ rest.now) below.now) }
+    ensures within { IfSome result (λ below. length below.now ≤ length rest.now) }
 {
-    let (first, rest) = digit(text)?;
-    if first == 0 {
-        return None;
-    }
-    let Some((second, more)) = digit(rest) else {
-        return Some((first, rest));
-    };
-    let two = first * 10 + second;
-    let Some((third, last)) = digit(more) else {
-        return Some((two, more));
-    };
-    let three = two * 10 + third;
-    if three > LONGEST_SIDE {
-        return None;
-    }
-    Some((three, last))
-}
-
-/// What follows the ending of a line, or nothing at the end of the text.
-fn end_of_line(text: &[u8]) -> Option<&[u8]>
-    ensures ends { IfSome result (λ rest. EndsLine text.now rest.now) }
-    ensures within { IfSome result (λ rest. length rest.now ≤ length text.now) }
-{
-    match text {
-        [b'\n', rest @ ..] => Some(rest),
-        [b'\r', b'\n', rest @ ..] => Some(rest),
-        [] => Some(text),
+    match (end, rest) {
+        (b'\n', _) => Some(rest),
+        (b'\r', [b'\n', below @ ..]) => Some(below),
         _ => None,
     }
 }
 
-/// What follows a comma or a space.
-fn after_separator(text: &[u8]) -> Option<&[u8]>
-    ensures separated { IfSome result (λ rest. IsSeparated text.now rest.now) }
-    ensures shorter { IfSome result (λ rest. length rest.now < length text.now) }
+/// Whether a byte is a comma or a space.
+fn is_separator(byte: u8) -> bool
+    ensures { IsTrue result → IsSeparator byte }
 {
-    match text {
-        [b',' | b' ', rest @ ..] => Some(rest),
-        _ => None,
-    }
+    byte == b',' || byte == b' '
 }
 
-/// The clue that the first line says, if it has numbers, and what follows the line.
-fn numbered_clue(alloc: Global, text: &[u8]) -> Option<(Clue, &[u8])>
-    ensures clue { IfSome result (λ found. SaysClue text.now found.0 found.1.now) }
-    ensures shorter { IfSome result (λ found. length found.1.now < length text.now) }
+/// Adds the numbers of the first line, if it has some, to an empty clue. Returns what follows the line.
+fn push_numbers<'t>(clue: &mut Clue, text: &'t [u8]) -> Option<&'t [u8]>
+    requires { clue.old ≡ [] }
+    ensures clue { IfSome result (λ below. SaysClue text.now clue.new below.now) }
+    ensures shorter { IfSome result (λ below. length below.now < length text.now) }
 {
-    let mut clue = Clue::empty(alloc);
     let mut rest = text;
-    'numbers: while let Some((number, after)) = number(rest) {
+    'numbers: while let Some((number, end, after)) = number(rest) {
         clue.push(number).ok()?;
-        let Some(others) = after_separator(after) else {
-            let below = end_of_line(after)?;
-            return Some((clue, below));
-        };
-        rest = others;
+        if !is_separator(end) {
+            return below(end, after);
+        }
+        rest = after;
     }
     None
 }
 
-/// The clue that the first line says, and what follows the line.
-fn clue_line(alloc: Global, text: &[u8]) -> Option<(Clue, &[u8])>
-    ensures clue { IfSome result (λ found. SaysClue text.now found.0 found.1.now) }
-    ensures shorter { IfSome result (λ found. length found.1.now < length text.now) }
+/// Makes an empty clue the one that the first line says. Returns what follows the line.
+fn read_clue_line<'t>(clue: &mut Clue, text: &'t [u8]) -> Option<&'t [u8]>
+    requires { clue.old ≡ [] }
+    ensures clue { IfSome result (λ below. SaysClue text.now clue.new below.now) }
+    ensures shorter { IfSome result (λ below. length below.now < length text.now) }
 {
     match text {
-        [b'0', after @ ..] => {
-            let below = end_of_line(after)?;
-            Some((Clue::empty(alloc), below))
-        }
-        _ => numbered_clue(alloc, text),
+        [b'0', end, rest @ ..] => below(*end, rest),
+        _ => push_numbers(clue, text),
     }
 }
 
@@ -108,9 +121,9 @@ pub(crate) fn read_clue_lines(alloc: Global, count: u16, text: &[u8]) -> Option<
     let mut clues = room_for(alloc, count).ok()?;
     let mut rest = text;
     'lines: while clues.len() < count {
-        let (clue, after) = clue_line(alloc, rest)?;
+        let mut clue = Clue::empty(alloc);
+        rest = read_clue_line(&mut clue, rest)?;
         clues.push_reserved(clue);
-        rest = after;
     }
     Some((clues, rest))
 }
@@ -119,9 +132,12 @@ pub(crate) fn read_clue_lines(alloc: Global, count: u16, text: &[u8]) -> Option<
 pub(crate) fn size_line(text: &[u8]) -> Option<((u16, u16), &[u8])>
     ensures { IfSome result (λ found. SaysSizes text.now found.0 found.1.now) }
 {
-    let (first, after) = number(text)?;
-    let (second, after) = number(after_separator(after)?)?;
-    Some(((first, second), end_of_line(after)?))
+    let (first, between, after) = number(text)?;
+    if !is_separator(between) {
+        return None;
+    }
+    let (second, end, after) = number(after)?;
+    Some(((first, second), below(end, after)?))
 }
 
 /// What follows the first line, if it is `#`.
@@ -129,7 +145,7 @@ pub(crate) fn hash_line(text: &[u8]) -> Option<&[u8]>
     ensures { IfSome result (λ rest. BeginsWith text.now (35 ∷ []) rest.now) }
 {
     match text {
-        [b'#', after @ ..] => end_of_line(after),
+        [b'#', end, rest @ ..] => below(*end, rest),
         _ => None,
     }
 }

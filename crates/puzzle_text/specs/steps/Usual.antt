@@ -1,5 +1,5 @@
 -- Lines in their usual form, as the quick readers take them.
-use Rattle.std.specs.Prelude.{◌≡◌, ℕ, ◌+◌, ◌-◌, ◌≤◌, ◌⊎◌, true, List, [], ◌∷◌, ◌++◌, length, slice_index, filter, Some, None, Ok}
+use Rattle.std.specs.Prelude.{◌≡◌, ℕ, ◌+◌, ◌≤◌, ◌⊎◌, true, List, [], ◌∷◌, ◌++◌, length, slice_index, filter, Some, None, Ok}
 use Rattle.std.specs.List.{list_all}
 use Rattle.std.specs.Char.{is_ascii_digit}
 use Rattle.std.specs.Str.Parse.{digits_value}
@@ -13,10 +13,6 @@ use Rattle.puzzle_text.specs.Keywords.{is_keyword_line}
 use Rattle.puzzle_text.specs.Numbers.{pieces}
 use Rattle.puzzle_text.specs.Sizes.{two_sizes}
 
--- the bytes begin with a digit of this value, and `rest` follows it
-abbrev pub BeginsWithDigit : List ℕ → ℕ → List ℕ → Type 0
-BeginsWithDigit bytes value rest = (byte : ℕ) × (bytes ≡ byte ∷ rest) × (is_ascii_digit byte ≡ true) × (value ≡ byte - 48)
-
 -- these bytes are the digits of a number from 1 to the limit
 pub record IsNumeral (piece : List ℕ) (number : ℕ) : Type 0 where
   pub digits : list_all is_ascii_digit piece ≡ true
@@ -28,13 +24,13 @@ pub record IsNumeral (piece : List ℕ) (number : ℕ) : Type 0 where
 abbrev pub BeginsWithNumber : List ℕ → ℕ → List ℕ → Type 0
 BeginsWithNumber bytes number rest = (piece : List ℕ) × (bytes ≡ piece ++ rest) × IsNumeral piece number
 
--- the bytes begin with a comma or a space, and `rest` follows it
-abbrev pub IsSeparated : List ℕ → List ℕ → Type 0
-IsSeparated bytes rest = (bytes ≡ 44 ∷ rest) ⊎ (bytes ≡ 32 ∷ rest)
+-- a comma or a space
+abbrev pub IsSeparator : ℕ → Type 0
+IsSeparator byte = (byte ≡ 44) ⊎ (byte ≡ 32)
 
--- the bytes begin with the ending of a line, and `rest` follows it, or there are none
+-- the bytes begin with the ending of a line, and `rest` follows it
 abbrev pub EndsLine : List ℕ → List ℕ → Type 0
-EndsLine bytes rest = (bytes ≡ 10 ∷ rest) ⊎ ((bytes ≡ 13 ∷ 10 ∷ rest) ⊎ ((bytes ≡ []) × (rest ≡ [])))
+EndsLine bytes rest = (bytes ≡ 10 ∷ rest) ⊎ (bytes ≡ 13 ∷ 10 ∷ rest)
 
 -- the first line has this text, and `rest` has the lines below it
 abbrev pub BeginsWith : List ℕ → List ℕ → List ℕ → Type 0

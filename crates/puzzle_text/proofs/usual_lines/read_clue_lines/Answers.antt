@@ -7,16 +7,16 @@ use Rattle.puzzle_text.proofs.usual_lines.read_clue_lines.Goals as goal
 pub lines-preserved : goal.lines-preserved
 lines-preserved c = record {
   said =
-      one_said c.args.text.now c.lines.rest.now c.in_ok-clue.after.now c.in_ok-clue.clue c.lines.clues.items c.push_reserved.new.self.items
-      c.lines.invariant.said c.in_ok-clue.ensures.clue c.push_reserved.ensures.items;
+      one_said c.args.text.now c.lines.rest.now c.in_ok-rest.rest.now c.read_clue_line.new.clue c.lines.clues.items
+      c.push_reserved.new.self.items c.lines.invariant.said c.in_ok-rest.ensures.clue c.push_reserved.ensures.items;
   capacity = search rules;
   count = search rules;
   room =
       omega (
         arith,
         ap length c.push_reserved.ensures.items,
-        length-append c.lines.clues.items (c.in_ok-clue.clue ∷ []),
-        c.in_ok-clue.ensures.shorter,
+        length-append c.lines.clues.items (c.read_clue_line.new.clue ∷ []),
+        c.in_ok-rest.ensures.shorter,
         c.lines.invariant.room,
       );
 }

@@ -1,7 +1,7 @@
--- What the loop of `numbered_clue` keeps: the line has said the numbers so far, and goes on.
+-- What the loop of `push_numbers` keeps: the line has said the numbers so far, and goes on.
 use Rattle.std.proofs.Common.{◌≤◌, length}
 use Rattle.puzzle_text.proofs.UsualLines.{PassesNumbers}
-use Rattle.puzzle_text.proofs.usual_lines.numbered_clue.Given as goal
+use Rattle.puzzle_text.proofs.usual_lines.push_numbers.Given as goal
 
 abbrev pub invariant-numbers : goal.invariant-numbers
 invariant-numbers l = record { said : PassesNumbers l.text l.rest l.clue; within : length l.rest ≤ length l.text }
