@@ -1,22 +1,24 @@
 -- What is said of a goal, from what `grid_core` promises of it.
-use Rattle.std.proofs.Common.{◌≡◌, ℕ, suc, ◌+◌, ◌*◌, ◌/◌, ◌%◌, ◌<◌, ◌≤◌, Bool, true, false, List, [], ◌∷◌, Option, Some, None, Decides, ◌↔◌, ◌==◌, length, map, get_or, refl, sym, ap, subst, ◌∙◌, if◌then◌else◌, arith}
+use Rattle.std.proofs.Common.{◌≡◌, ℕ, suc, ◌+◌, ◌-◌, ◌*◌, ◌/◌, ◌%◌, ◌<◌, ◌≤◌, Bool, true, false, List, [], ◌∷◌, Option, Some, None, Decides, ◌↔◌, ◌==◌, length, map, take, drop, get_or, refl, sym, ap, subst, ◌∙◌, if◌then◌else◌, arith}
 use Rattle.std.specs.List.{AllByRecursion, list_all}
 use Rattle.std.proofs.lemmas.Bool.{and_parts, and_from}
 use Rattle.std.proofs.lemmas.Bool.Decides.{Decides-eqb}
-use Rattle.std.proofs.lemmas.List.{get_or-map, length-map}
+use Rattle.std.proofs.lemmas.List.{get_or-drop, get_or-map, get_or-take, length-drop, length-map, length-take-le}
 use Rattle.std.proofs.lemmas.List.Elements.{recursion_from_All, All-from_recursion}
 use Rattle.std.proofs.Math.Nat.{mod-lt}
 use Rattle.std.proofs.lemmas.Nat.{div-add-mod', mul-add-lt, row-Below}
 use Rattle.std.proofs.lemmas.Slice.Eq.{bytes_eq-Decides}
 use Rattle.grid_core.specs.Cells.{colour, is_filled, is_known}
 use Rattle.grid_core.specs.Nonogram.{GridLine, Nonogram, GivenMeets, Meets, MeetsLine, Solves, lines_of}
-use Rattle.grid_core.specs.PartialGrid.{PartialGrid}
+use Rattle.grid_core.specs.PartialGrid.{PartialGrid, cell_at}
+use Rattle.grid_core.specs.Rows.{row_of}
+use Rattle.grid_core.proofs.RowLists.{get_or-row_of, length-row_of}
 use Rattle.grid_core.specs.declared.cells.Cell.{Cell}
 use Rattle.grid_core.specs.declared.cells.Cell.TheVariants.{Unknown}
 use Rattle.grid_core.specs.declared.puzzles.GoalWord.{GoalWord}
 use Rattle.grid_core.specs.declared.puzzles.GoalWord.TheVariants as word
 use Rattle.survey_text.specs.Goals.{meets_clues, meets_line, word_of_goal}
-use Rattle.survey_text.specs.steps.Goals.{IsOnlySolution, IsRowShown}
+use Rattle.survey_text.specs.steps.Goals.{AreColours, IsOnlySolution, IsRowShown}
 
 lines_decide : (full : List Bool) (lines : List GridLine) →
     Decides (list_all (meets_line full) lines) (AllByRecursion (MeetsLine full) lines)
@@ -63,6 +65,32 @@ same_lists (x ∷ xs) (y ∷ ys) e h =
     let first : x ≡ y = h 0 (omega arith) in
     ap (λ (v : Bool). v ∷ xs) first ∙ ap (λ (left : List Bool). y ∷ left)
     (same_lists xs ys (omega arith) (λ i within. h (suc i) (omega arith)))
+
+-- the values of a row are the colours of its cells exactly if the goal's are in that row
+pub row_shown : (grid : PartialGrid) (values : List Bool) (y first width last : ℕ) (row : List Cell) → row ≡ row_of grid y
+    → width ≡ grid.width → first ≡ y * width → last ≡ first + width
+    → AreColours row (take (last - first) (drop first values)) ↔ IsRowShown grid values y
+row_shown grid values y first width last row is wide start end =
+    let count : length row ≡ grid.width = ap length is ∙ length-row_of grid y in
+    let value : (x : ℕ) → x < grid.width → get_or (take (last - first) (drop first values)) x false ≡ get_or values (y * grid.width + x) false =
+    λ x within.
+    get_or-take (last - first) (drop first values) x false (omega arith) ∙ get_or-drop first values x false
+    ∙ ap (λ (k : ℕ). get_or values k false) (rw (start, wide) refl) in
+    let cell : (x : ℕ) → x < grid.width → is_filled (get_or row x Unknown) ≡ is_filled (cell_at grid x y) =
+    λ x within. ap is_filled (ap (λ (cells : List Cell). get_or cells x Unknown) is ∙ get_or-row_of grid x y within) in (
+      λ shown x within. sym (value x within) ∙ shown x (omega (arith, count)) ∙ cell x within,
+      λ shown x within.
+          let inside : x < grid.width = omega (arith, count, within) in
+          value x inside ∙ shown x inside ∙ sym (cell x inside),
+    )
+
+-- the values of a row are as many as its cells
+pub row_count : (values : List Bool) (y first width height last count : ℕ) → y < height → 1 ≤ width → length values ≡ width * height
+    → first ≡ y * width → last ≡ first + width → count ≡ width → length (take (last - first) (drop first values)) ≡ count
+row_count values y first width height last count row some size start end is =
+    let inside : y * width + (width - 1) < width * height = omega (arith, mul-add-lt y width (width - 1) height row (omega (arith, some))) in
+    let left : length (drop first values) ≡ length values - first = length-drop first values in
+    length-take-le (last - first) (drop first values) (omega (arith, left, inside)) ∙ omega arith
 
 filled_at : (cells : List Cell) (i : ℕ) → i < length cells → get_or (map is_filled cells) i false ≡ is_filled (get_or cells i Unknown)
 filled_at cells i h = get_or-map is_filled cells i Unknown false h

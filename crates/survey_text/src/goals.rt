@@ -2,25 +2,40 @@
 
 ghost use Rattle.std.specs.Prelude.{◌≡◌, ◌*◌, ◌<◌, ◌↔◌, ℕ, IsTrue, length};
 ghost use Rattle.survey_text.specs.Goals.{goal_word};
-ghost use Rattle.survey_text.specs.steps.Goals.{IsOnlySolution, IsOnlyWhereOne, IsRowShown};
+ghost use Rattle.survey_text.specs.steps.Goals.{AreColours, IsOnlySolution, IsOnlyWhereOne, IsRowShown};
 
-use grid_core::{GoalWord, Grid, Puzzle};
+use grid_core::{GoalWord, Grid, LineOf, Puzzle};
+use place_sets::PlaceSet;
 use solve_core::Verdict;
 
-/// Whether the values of a goal are the colours of a row.
+/// Whether values are the colours of a line's cells.
+fn is_line_shown<W: PlaceSet>(line: &LineOf<W>, values: &[bool]) -> bool
+    requires { length values.now ≡ length line.now }
+    ensures { IsTrue result ↔ AreColours line.now values.now }
+{
+    for x in 0..line.len() {
+        if values[usize::from(x)] != line.get(x).is_filled() {
+            return false;
+        }
+    }
+    true
+}
+
+/// Whether the values of a goal are the colours of a row. A row that fits a word is compared in one.
 fn is_row_shown(grid: &Grid, y: u16, values: &[bool]) -> bool
     requires row { y < grid.now.height }
     requires cells { length values.now ≡ grid.now.width * grid.now.height }
     ensures { IsTrue result ↔ IsRowShown grid.now values.now y }
 {
     let row = grid.row(y);
-    let first = usize::from(y) * usize::from(grid.width());
-    for x in 0..grid.width() {
-        if values[first + usize::from(x)] != row.get(x).is_filled() {
-            return false;
-        }
+    let width = usize::from(grid.width());
+    let first = usize::from(y) * width;
+    let values = &values[first..first + width];
+    if width <= 64 {
+        is_line_shown(&row.resized::<u64>(), values)
+    } else {
+        is_line_shown(&row, values)
     }
-    true
 }
 
 /// Whether the values of a goal are the colours of a grid.

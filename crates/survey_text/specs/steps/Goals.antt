@@ -1,10 +1,16 @@
 -- A goal beside the solution that is shown.
-use Rattle.std.specs.Prelude.{◌≡◌, ℕ, ◌+◌, ◌*◌, ◌<◌, Bool, List, slice_index_or, false}
+use Rattle.std.specs.Prelude.{◌≡◌, ℕ, ◌+◌, ◌*◌, ◌<◌, Bool, List, length, slice_index_or, false}
+use Rattle.grid_core.specs.declared.cells.Cell.{Cell}
+use Rattle.grid_core.specs.declared.cells.Cell.TheVariants.{Unknown}
 use Rattle.grid_core.specs.Cells.{is_filled}
 use Rattle.grid_core.specs.Nonogram.{Nonogram, Solves}
 use Rattle.grid_core.specs.PartialGrid.{PartialGrid, cell_at}
 use Rattle.solve_core.specs.declared.findings.Verdict.{Verdict}
 use Rattle.solve_core.specs.declared.findings.Verdict.TheVariants.{Nothing, One, Several, Unsettled}
+
+-- the values are the colours of these cells
+abbrev pub AreColours : List Cell → List Bool → Type 0
+AreColours cells values = (x : ℕ) → x < length cells → slice_index_or values x false ≡ is_filled (slice_index_or cells x Unknown)
 
 -- the values of a goal are the colours of a row
 abbrev pub IsRowShown : PartialGrid → List Bool → ℕ → Type 0
