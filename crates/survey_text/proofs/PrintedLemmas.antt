@@ -2,22 +2,16 @@
 use Rattle.std.proofs.Common.{◌≡◌, ℕ, zero, suc, ◌+◌, Bool, List, [], ◌∷◌, ◌++◌, length, ap, sym, ◌∙◌, append-nil, add-one, arith}
 use Rattle.std.specs.List.{flat_map, range_with_len}
 use Rattle.std.proofs.lemmas.Grind.{flat_map-append}
-use Rattle.std.proofs.lemmas.List.FromFn.{map-range_with_len_more}
-use Rattle.grid_core.specs.PartialGrid.{PartialGrid, cell_at}
+use Rattle.grid_core.specs.PartialGrid.{PartialGrid}
 use Rattle.survey_text.proofs.NumberedLemmas.{numbered-append, numbered-push}
 use Rattle.survey_text.specs.Entries.{GradedEntry, entry_text}
-use Rattle.survey_text.specs.Grids.{cell_byte, row_front, row_text, rows_text}
+use Rattle.survey_text.specs.Grids.{row_text, rows_text}
 use Rattle.survey_text.specs.Parts.{texts_from}
 
 -- a range with one more number
 range-more : (a n j : ℕ) → a + n ≡ j → range_with_len a (suc n) ≡ range_with_len a n ++ j ∷ []
 range-more a zero j e = let start : a ≡ j = omega arith in ap (λ (k : ℕ). k ∷ []) start
 range-more a (suc n) j e = ap (λ (others : List ℕ). a ∷ others) (range-more (a + 1) n j (omega arith))
-
--- one more cell adds its byte to the row
-pub row_front-more : (grid : PartialGrid) (y count : ℕ) → row_front grid y (count + 1) ≡ row_front grid y count ++
-    cell_byte (cell_at grid count y) ∷ []
-row_front-more grid y count = map-range_with_len_more (λ x. cell_byte (cell_at grid x y)) 0 count count (omega arith)
 
 -- one more row adds its text
 pub rows_text-more : (grid : PartialGrid) (count : ℕ) → rows_text grid (count + 1) ≡ rows_text grid count ++ row_text grid count

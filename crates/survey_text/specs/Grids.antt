@@ -3,7 +3,8 @@ use Rattle.std.specs.Prelude.{ℕ, List, ◌++◌, map, codes}
 use Rattle.std.specs.List.{flat_map, range_with_len}
 use Rattle.grid_core.specs.declared.cells.Cell.{Cell}
 use Rattle.grid_core.specs.declared.cells.Cell.TheVariants.{Unknown, Filled, Blank}
-use Rattle.grid_core.specs.PartialGrid.{PartialGrid, cell_at}
+use Rattle.grid_core.specs.PartialGrid.{PartialGrid}
+use Rattle.grid_core.specs.Rows.{row_of}
 
 -- the byte of a cell: `?` for an unknown one, `#` for a filled one, `.` for a blank one
 abbrev pub cell_byte : Cell → ℕ
@@ -11,13 +12,9 @@ cell_byte Unknown = 63
 cell_byte Filled = 35
 cell_byte Blank = 46
 
--- the bytes of a row's first cells, from the left
-abbrev pub row_front : PartialGrid → ℕ → ℕ → List ℕ
-row_front grid y count = map (λ x. cell_byte (cell_at grid x y)) (range_with_len 0 count)
-
 -- a row as a line
 abbrev pub row_text : PartialGrid → ℕ → List ℕ
-row_text grid y = row_front grid y grid.width ++ codes "\n"
+row_text grid y = map cell_byte (row_of grid y) ++ codes "\n"
 
 -- the first rows as lines, from the top
 abbrev pub rows_text : PartialGrid → ℕ → List ℕ
