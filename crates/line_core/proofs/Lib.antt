@@ -12,4 +12,5 @@ pub mod Outermost
 pub mod EndLaws
 pub mod Telling
 pub mod Packing
+pub mod Padding
 pub mod LoneRuns

@@ -4,7 +4,7 @@ ghost use Rattle.std.specs.Prelude.{◌≡◌, ◌<◌, ◌≤◌, List, length,
 ghost use Rattle.grid_core.specs.declared.cells.Cell.{Cell};
 ghost use Rattle.place_sets.specs.Masks.{IsMaskOf};
 ghost use Rattle.line_core.specs.Deduction.{deduced};
-ghost use Rattle.line_core.specs.steps.Passes.{IsSpanOf};
+ghost use Rattle.line_core.specs.steps.Passes.{IsSpanOf, padded};
 ghost use Rattle.line_core.specs.steps.Reach.{AreLengths, AreGapsAhead, IsFillable, IsBlankable};
 ghost use Rattle.line_core.specs.steps.Told.{told_by};
 
@@ -14,10 +14,10 @@ use crate::overlaps::{is_unknown, unknown_colours};
 use crate::passes::Pass;
 use crate::reach::{GAPS, gap_ahead, inner_ends, whole_ends, write_gaps_ahead};
 use crate::rooms::{Rooms, make_ready};
-use crate::spans::Span;
+use crate::spans::{Span, padded};
 use crate::widths::{Width, places_needed};
 use grid_core::{Clue, LONGEST_SIDE, LineOf, MOST_RUNS, NoMemory};
-use place_sets::{LEVELS, PlaceSet, Wide, add_spread, spread_levels, windows_within};
+use place_sets::{LEVELS, PlaceSet, Wide, add_spread, first_places, spread_levels, windows_within};
 use std::alloc::Global;
 use std::marker::Model;
 
@@ -56,6 +56,22 @@ fn possible_colours<W: PlaceSet>(span: &Span<W>, clue: &[u16], gaps: &[W; GAPS])
 
 /// The cells that are filled in some placing, and those that are blank in some,
 /// with room for the gaps of the runs.
+fn known_colours<W: PlaceSet>(span: &Span<W>, clue: &[u16], gaps: &mut [W; GAPS]) -> (W, W)
+    ghost line: { List Cell }
+    requires span { IsSpanOf W.WIDTH line span.now.len (W.number span.now.free) (W.number span.now.room) }
+    requires clue { AreLengths W.WIDTH clue.now }
+    requires count { length clue.now ≤ MOST_RUNS }
+    ensures filled { IsMaskOf (IsFillable line clue.now) (W.number result.0) }
+    ensures blank { IsMaskOf (IsBlankable line clue.now) (W.number result.1) }
+{
+    if clue.len() == 1 {
+        return lone_colours(span, clue);
+    }
+    write_gaps_ahead(span, clue, gaps);
+    possible_colours(span, clue, gaps)
+}
+
+/// The same, of which a line of unknown cells needs no pass, and others are padded.
 pub fn colours<W: PlaceSet>(span: &Span<W>, clue: &[u16], gaps: &mut [W; GAPS]) -> (W, W)
     ghost line: { List Cell }
     requires span { IsSpanOf W.WIDTH line span.now.len (W.number span.now.free) (W.number span.now.room) }
@@ -67,11 +83,8 @@ pub fn colours<W: PlaceSet>(span: &Span<W>, clue: &[u16], gaps: &mut [W; GAPS]) 
     if is_unknown(span) {
         return unknown_colours(span.len, clue);
     }
-    if clue.len() == 1 {
-        return lone_colours(span, clue);
-    }
-    write_gaps_ahead(span, clue, gaps);
-    possible_colours(span, clue, gaps)
+    let (fillable, blankable) = known_colours(&padded(span), clue, gaps);
+    (fillable, blankable.intersection(first_places(span.len)))
 }
 
 /// What is certain of a line, from the cells that can be filled and those that can be blank:

@@ -2,10 +2,10 @@
 
 ghost use Rattle.std.specs.Prelude.{◌≡◌, ◌<◌, ◌≤◌, List, reverse};
 ghost use Rattle.grid_core.specs.declared.cells.Cell.{Cell};
-ghost use Rattle.line_core.specs.steps.Passes.{IsSpanOf};
+ghost use Rattle.line_core.specs.steps.Passes.{IsSpanOf, padded};
 
 use grid_core::LineOf;
-use place_sets::{PlaceSet, complement_within, reversed_within};
+use place_sets::{PlaceSet, complement_within, first_places, reversed_within};
 
 /// How many cells a line has, and those of them that may be blank, and that may be filled.
 #[derive(Drop)]
@@ -39,5 +39,20 @@ pub fn reversed<W: PlaceSet>(span: &Span<W>) -> Span<W>
         len: span.len,
         free: reversed_within(span.free, span.len),
         room: reversed_within(span.room, span.len),
+    }
+}
+
+/// The line with blank cells behind it, up to as many as the sets have places: seen from the other end it
+/// needs no shift.
+pub fn padded<W: PlaceSet>(span: &Span<W>) -> Span<W>
+    ghost line: { List Cell }
+    requires { IsSpanOf W.WIDTH line span.now.len (W.number span.now.free) (W.number span.now.room) }
+    ensures { IsSpanOf W.WIDTH (padded W.WIDTH line) result.len (W.number result.free) (W.number result.room) }
+{
+    let behind = W::full().difference(first_places(span.len));
+    Span {
+        len: W::WIDTH,
+        free: span.free.union(behind),
+        room: span.room,
     }
 }

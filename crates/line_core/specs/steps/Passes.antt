@@ -1,5 +1,6 @@
 -- A line as words, and a pass over its runs, from its left.
-use Rattle.std.specs.Prelude.{◌≡◌, ℕ, ◌≤◌, true, false, List, length}
+use Rattle.std.specs.Prelude.{◌≡◌, ℕ, ◌-◌, ◌≤◌, true, false, List, ◌++◌, length, replicate}
+use Rattle.grid_core.specs.declared.cells.Cell.TheVariants.{Blank}
 use Rattle.grid_core.specs.declared.cells.Cell.{Cell}
 use Rattle.place_sets.specs.Masks.{IsMaskOf, AreWindows}
 use Rattle.line_core.specs.steps.Reach.{MayBe, IsGapAfter}
@@ -24,3 +25,7 @@ pub record IsPassOver (width top : ℕ) (line : List Cell) (runs : List ℕ) (fr
   pub windows_are : AreWindows room top windows
   pub opening_is : IsMaskOf (λ i. (i ≡ 0) × (length runs ≡ 0)) opening
   pub gap_is : IsMaskOf (IsGapAfter line runs) gap
+
+-- a line with blank cells behind it, up to `width`
+abbrev pub padded : ℕ → List Cell → List Cell
+padded width line = line ++ replicate (width - length line) Blank

@@ -1,14 +1,12 @@
--- The line that `colours` is about, as it is told to the functions that it calls.
+-- The line that `colours` is about, as it is told to the functions that it calls: padded where it is.
+use Rattle.line_core.specs.steps.Passes.{padded}
 use Rattle.line_core.proofs.deduction.colours.Given as goal
 
 abbrev pub ghost-is_unknown : goal.ghost-is_unknown
 ghost-is_unknown g a = g.line
 
-abbrev pub ghost-write_gaps_ahead : goal.ghost-write_gaps_ahead
-ghost-write_gaps_ahead g a = g.line
+abbrev pub ghost-padded : goal.ghost-padded
+ghost-padded g a = g.line
 
-abbrev pub ghost-possible_colours : goal.ghost-possible_colours
-ghost-possible_colours g a = g.line
-
-abbrev pub ghost-lone_colours : goal.ghost-lone_colours
-ghost-lone_colours g a = g.line
+abbrev pub ghost-known_colours : goal.ghost-known_colours
+ghost-known_colours g a = padded g.W.PlaceSet.WIDTH g.line

@@ -1,0 +1,203 @@
+-- A line with blank cells behind it has the placings of the line alone.
+use Rattle.std.proofs.Common.{◌≡◌, ℕ, zero, suc, ◌+◌, ◌-◌, ◌<◌, ◌≤◌, ◌⊎◌, inl, inr, Bool, true, false, List, [], ◌∷◌, ◌++◌, length, replicate, get_or, refl, sym, ap, ◌∙◌, arith, true≢false, length-append, append-nil}
+use Rattle.std.proofs.lemmas.Bool.{cases_lt, and_from, and_parts}
+use Rattle.std.proofs.lemmas.List.{get_or_append_left, get_or-append_right, get_or-replicate, length-replicate}
+use Rattle.grid_core.specs.declared.cells.Cell.{Cell}
+use Rattle.grid_core.specs.declared.cells.Cell.TheVariants.{Unknown, Blank}
+use Rattle.grid_core.specs.Cells.{allows, agrees}
+use Rattle.grid_core.specs.Runs.{runs}
+use Rattle.grid_core.proofs.RunsLemmas.{runs_after}
+use Rattle.place_sets.specs.Masks.{Has, has, IsMaskOf}
+use Rattle.place_sets.proofs.HasLemmas.{has_true}
+use Rattle.place_sets.proofs.Steps.{mask_same}
+use Rattle.grid_core.proofs.LineCells.{has_by}
+use Rattle.line_core.specs.steps.Passes.{IsSpanOf, padded}
+use Rattle.line_core.specs.steps.Reach.{IsBlankable, IsFillable}
+use Rattle.line_core.proofs.RunLaws.{ArePositive, runs_after-zero, runs_after-true, runs_after-false, runs_after-close, runs_after-nil}
+use Rattle.line_core.proofs.Certain.{CanBe}
+use Rattle.line_core.proofs.Joining.{length-agrees, fillable_to, fillable_from, blankable_to, blankable_from}
+
+-- ---- placings
+
+runs_after-blanks : (x : List Bool) (n m : ℕ) → runs_after n (x ++ replicate m false) ≡ runs_after n x
+runs_after-blanks [] n zero = refl
+runs_after-blanks [] zero (suc m) = runs_after-false (replicate m false) ∙ runs_after-blanks [] zero m
+runs_after-blanks [] (suc n) (suc m) =
+    runs_after-close n (replicate m false) ∙ ap (λ (ns : List ℕ). suc n ∷ ns) (runs_after-blanks [] zero m ∙ runs_after-zero [])
+    ∙ sym (runs_after-nil n)
+runs_after-blanks (true ∷ x) n m =
+    runs_after-true n (x ++ replicate m false) ∙ runs_after-blanks x (suc n) m ∙ sym (runs_after-true n x)
+runs_after-blanks (false ∷ x) zero m =
+    runs_after-false (x ++ replicate m false) ∙ runs_after-blanks x zero m ∙ sym (runs_after-false x)
+runs_after-blanks (false ∷ x) (suc n) m =
+    runs_after-close n (x ++ replicate m false) ∙ ap (λ (ns : List ℕ). suc n ∷ ns) (runs_after-blanks x zero m)
+    ∙ sym (runs_after-close n x)
+
+-- blank cells behind a full line are no run
+runs-blanks : (x : List Bool) (m : ℕ) → runs (x ++ replicate m false) ≡ runs x
+runs-blanks x m = sym (runs_after-zero (x ++ replicate m false)) ∙ runs_after-blanks x 0 m ∙ runs_after-zero x
+
+blanks_agree : (m : ℕ) → agrees (replicate m Blank) (replicate m false) ≡ true
+blanks_agree zero = refl
+blanks_agree (suc m) = blanks_agree m
+
+agree_blanks : (m : ℕ) (y : List Bool) → agrees (replicate m Blank) y ≡ true → y ≡ replicate m false
+agree_blanks zero [] h = refl
+agree_blanks zero (b ∷ y) h = cc
+agree_blanks (suc m) [] h = cc
+agree_blanks (suc m) (true ∷ y) h = absurd (true≢false (sym h))
+agree_blanks (suc m) (false ∷ y) h = ap (λ (t : List Bool). false ∷ t) (agree_blanks m y h)
+
+agrees_more : (l : List Cell) (x : List Bool) (m : ℕ) → agrees l x ≡ true
+    → agrees (l ++ replicate m Blank) (x ++ replicate m false) ≡ true
+agrees_more [] [] m h = blanks_agree m
+agrees_more [] (b ∷ x) m h = cc
+agrees_more (c ∷ l) [] m h = cc
+agrees_more (c ∷ l) (b ∷ x) m h =
+    let parts = and_parts (allows c b) (agrees l x) h in
+    and_from (allows c b) (agrees (l ++ replicate m Blank) (x ++ replicate m false)) parts.0 (agrees_more l x m parts.1)
+
+agrees_cut : (l : List Cell) (y : List Bool) (m : ℕ) → agrees (l ++ replicate m Blank) y ≡ true
+    → (x : List Bool) × (y ≡ x ++ replicate m false) × (agrees l x ≡ true)
+agrees_cut [] y m h = ([], agree_blanks m y h, refl)
+agrees_cut (c ∷ l) [] m h = cc
+agrees_cut (c ∷ l) (b ∷ y) m h =
+    let parts = and_parts (allows c b) (agrees (l ++ replicate m Blank) y) h in
+    let rest = agrees_cut l y m parts.1 in
+    (b ∷ rest.0, ap (λ (t : List Bool). b ∷ t) rest.1, and_from (allows c b) (agrees l rest.0) parts.0 rest.2)
+
+blank_at : (m k : ℕ) → get_or (replicate m false) k false ≡ false
+blank_at zero k = refl
+blank_at (suc m) zero = refl
+blank_at (suc m) (suc k) = blank_at m k
+
+filled_within : (x : List Bool) (m k : ℕ) → get_or (x ++ replicate m false) k false ≡ true → k < length x
+filled_within [] m k e = absurd (true≢false (sym e ∙ blank_at m k))
+filled_within (b ∷ x) m zero e = omega arith
+filled_within (b ∷ x) m (suc k) e = omega (arith, filled_within x m k e)
+
+module _ (l : List Cell) (clue : List ℕ) (m : ℕ) where
+  abbrev longer : List Cell
+  longer = l ++ replicate m Blank
+
+  inside : (k : ℕ) → k < length l → k < length longer
+  inside k within = omega (arith, length-append l (replicate m Blank), within)
+
+  -- what a cell of the line can be
+  with_blanks : (c : Bool) (k : ℕ) → k < length l → CanBe l clue c k → CanBe longer clue c k
+  with_blanks c k within (x, agree, is, at) =
+      let long : k < length x = omega (arith, length-agrees l x agree, within) in (
+        x ++ replicate m false,
+        agrees_more l x m agree,
+        runs-blanks x m ∙ is,
+        get_or_append_left x (replicate m false) false k long ∙ at,
+      )
+
+  without_blanks : (c : Bool) (k : ℕ) → k < length l → CanBe longer clue c k → CanBe l clue c k
+  without_blanks c k within (y, agree, is, at) =
+      let cut = agrees_cut l y m agree in
+      let long : k < length cut.0 = omega (arith, length-agrees l cut.0 cut.2, within) in (
+        cut.0,
+        cut.2,
+        sym (ap runs cut.1 ∙ runs-blanks cut.0 m) ∙ is,
+        sym (ap (λ (t : List Bool). get_or t k false) cut.1 ∙ get_or_append_left cut.0 (replicate m false) false k long) ∙ at,
+      )
+
+  -- the cells behind it can't be filled
+  filled_before : (k : ℕ) → CanBe longer clue true k → k < length l
+  filled_before k (y, agree, is, at) =
+      let cut = agrees_cut l y m agree in
+      let low = filled_within cut.0 m k (sym (ap (λ (t : List Bool). get_or t k false) cut.1) ∙ at) in
+      omega (arith, low, length-agrees l cut.0 cut.2)
+
+  filled_inside : (k : ℕ) → CanBe l clue true k → k < length l
+  filled_inside k (x, agree, is, at) =
+      let low = filled_within x 0 k (ap (λ (t : List Bool). get_or t k false) (append-nil x) ∙ at) in
+      omega (arith, low, length-agrees l x agree)
+
+  -- so the same cells are filled in a placing
+  pub fillable_alone : (f : ℕ) → ArePositive clue → IsMaskOf (IsFillable longer clue) f → IsMaskOf (IsFillable l clue) f
+  fillable_alone f pos are =
+      mask_same (IsFillable longer clue) (IsFillable l clue) f are
+      (λ i h.
+      let can = fillable_to longer clue i pos h in
+      let within = filled_before i can in
+      fillable_from l clue i within (without_blanks true i within can))
+      (λ i h.
+      let can = fillable_to l clue i pos h in
+      let within = filled_inside i can in
+      fillable_from longer clue i (inside i within) (with_blanks true i within can))
+
+  -- and of the line's cells the same are blank in one
+  pub blankable_alone : (b p n : ℕ) → IsMaskOf (IsBlankable longer clue) b → IsMaskOf (λ i. i < length l) p
+      → IsMaskOf (λ i. Has b i × Has p i) n → IsMaskOf (IsBlankable l clue) n
+  blankable_alone b p n are first both =
+      mask_same (λ i. Has b i × Has p i) (IsBlankable l clue) n both
+      (λ i h.
+      let within = first.to i h.1 in
+      blankable_from l clue i within (without_blanks false i within (blankable_to longer clue i (are.to i h.0))))
+      (λ i h.
+      let within : i < length l = h.2.0.0 in (
+        are.from i (blankable_from longer clue i (inside i within) (with_blanks false i within (blankable_to l clue i h))),
+        first.from i within,
+      ))
+
+-- ---- the masks
+
+cell_before : (line : List Cell) (m i : ℕ) → i < length line → get_or (line ++ replicate m Blank) i Unknown ≡ get_or line i Unknown
+cell_before line m i low = get_or_append_left line (replicate m Blank) Unknown i low
+
+cell_behind : (line : List Cell) (m i : ℕ) → length line ≤ i → i < length line + m → get_or (line ++ replicate m Blank) i Unknown ≡ Blank
+cell_behind line m i high low =
+    get_or-append_right line (replicate m Blank) (length line) i Unknown refl high
+    ∙ get_or-replicate m (i - length line) Blank Unknown (omega (arith, high, low))
+
+-- the masks of a line with blank cells behind it
+pub span_padded : (line : List Cell) (w len free room full first behind new : ℕ) → IsSpanOf w line len free room
+    → IsMaskOf (λ i. i < w) full → IsMaskOf (λ i. i < len) first → IsMaskOf (λ i. Has full i × (has first i ≡ false)) behind
+    → IsMaskOf (λ i. Has free i ⊎ Has behind i) new → IsSpanOf w (padded w line) w new room
+span_padded line w len free room full first behind new span all front outside either =
+    let m = w - length line in
+    let count : length (padded w line) ≡ w = omega (arith, length-append line (replicate m Blank), length-replicate m Blank, span.short) in
+    record {
+      some = omega (arith, count, span.some, span.short);
+      short = omega (arith, count);
+      len_is = sym count;
+      free_is = record {
+        to = λ i h.
+            elim (either.to i h) [
+              | inl in_line ↦
+                  let may = span.free_is.to i in_line in
+                  (omega (arith, count, may.0, span.short), ap (λ (c : Cell). allows c false) (cell_before line m i may.0) ∙ may.1)
+              | inr past ↦
+                  let out = outside.to i past in
+                  let low : i < w = all.to i out.0 in
+                  let high : length line ≤ i = elim (cases_lt i len) [
+                    | inl under ↦ absurd (true≢false (sym (has_true first i (front.from i under)) ∙ out.1))
+                    | inr over ↦ omega (arith, over, span.len_is)
+                  ] in
+                  (omega (arith, count, low), ap (λ (c : Cell). allows c false) (cell_behind line m i high (omega (arith, low, span.short))))
+            ];
+        from = λ i h.
+            elim (cases_lt i (length line)) [
+              | inl low ↦
+                  either.from i (inl (span.free_is.from i (low, sym (ap (λ (c : Cell). allows c false) (cell_before line m i low)) ∙ h.1)))
+              | inr high ↦
+                  let lacks : has first i ≡ false =
+                  has_by first i false (λ t. absurd (omega (arith, front.to i t, high, span.len_is))) (λ e. absurd (true≢false (sym e))) in
+                  either.from i (inr (outside.from i (all.from i (omega (arith, count, h.0)), lacks)))
+            ];
+      };
+      room_is = record {
+        to = λ i h.
+            let may = span.room_is.to i h in
+            (omega (arith, count, may.0, span.short), ap (λ (c : Cell). allows c true) (cell_before line m i may.0) ∙ may.1);
+        from = λ i h.
+            elim (cases_lt i (length line)) [
+              | inl low ↦ span.room_is.from i (low, sym (ap (λ (c : Cell). allows c true) (cell_before line m i low)) ∙ h.1)
+              | inr high ↦
+                  absurd
+                  (true≢false (sym h.1 ∙ ap (λ (c : Cell). allows c true) (cell_behind line m i high (omega (arith, count, h.0)))))
+            ];
+      };
+    }
