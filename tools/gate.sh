@@ -120,8 +120,8 @@ ended() {
     return "$(<"$room/${1##*/}.status")"
 }
 
-# Runs scripts side by side, and takes each as a step.
-steps_beside() {
+# Starts scripts side by side.
+begin() {
     local script
     for script; do
         {
@@ -129,6 +129,11 @@ steps_beside() {
             echo $? >"$room/${script##*/}.status"
         } &
     done
+}
+
+# Waits for scripts that were started, and takes each as a step.
+take() {
+    local script
     wait
     for script; do
         step ended "$script"
@@ -147,6 +152,9 @@ step check_promises
 step rt ci
 tools/edits.sh <"$log" || { failed=1; finish 1; }
 keep_libraries
+begin tools/library.sh
 step tools/outside.sh
-steps_beside tools/library.sh tools/sweep.sh tools/shards_test.sh tools/machines_test.sh tools/pack_test.sh tools/pages_test.sh
+others=(tools/sweep.sh tools/shards_test.sh tools/machines_test.sh tools/pack_test.sh tools/pages_test.sh)
+begin "${others[@]}"
+take tools/library.sh "${others[@]}"
 finish 0
