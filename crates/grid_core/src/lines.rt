@@ -82,8 +82,10 @@ impl<W: PlaceSet> LineOf<W> {
         requires { length other.now ≡ length self.old }
         ensures { self.new ≡ other.now }
     {
-        self.filled = other.filled;
-        self.blank = other.blank;
+        // Both sets are read before one is written, so that they are moved as one.
+        let (filled, blank) = (other.filled, other.blank);
+        self.filled = filled;
+        self.blank = blank;
     }
 
     /// How many cells it has.
