@@ -1,5 +1,5 @@
 //! A grid as its rows and its columns.
-ghost use Rattle.std.specs.Prelude.{◌≡◌, ◌+◌, ◌-◌, ◌*◌, ◌<◌, ◌≤◌, ℕ, nat_eq, [], length, replicate, slice_index_or, slice_set, true, vec_capacity, IfOk};
+ghost use Rattle.std.specs.Prelude.{◌≡◌, ◌+◌, ◌-◌, ◌*◌, ◌<◌, ◌≤◌, ℕ, nat_eq, [], length, replicate, slice_index_or, slice_set, true, vec_capacity, IfOk, IfSome};
 ghost use Rattle.grid_core.specs.Cells.{Extends, is_known};
 ghost use Rattle.grid_core.specs.Nonogram.{cells_at, places_on};
 ghost use Rattle.grid_core.specs.steps.Sides.{count_on};
@@ -7,7 +7,7 @@ ghost use Rattle.grid_core.specs.PartialGrid.{IsSize};
 ghost use Rattle.grid_core.specs.Rows.{cells_of_rows, row_of};
 ghost use Rattle.grid_core.specs.declared.cells.Cell.TheVariants.{Unknown};
 ghost use Rattle.grid_core.specs.declared.sides.Side.TheVariants.{Rows, Columns};
-ghost use Rattle.grid_core.specs.Lines.{IsChanged, IsUnknownFrom};
+ghost use Rattle.grid_core.specs.Lines.{IsChanged, IsUnknownCell, IsUnknownFrom};
 ghost use Rattle.grid_core.specs.declared.limits.TheConstants.{LONGEST_SIDE};
 ghost use Rattle.solve_core.specs.steps.GridLines.{AreLinesOf};
 ghost use Rattle.place_sets.specs.Masks.{Has, has, IsMaskOf};
@@ -18,7 +18,7 @@ ghost use Rattle.solve_core.specs.steps.Trails.{IsTrailed, TrailedGrid};
 ghost use Rattle.solve_core.specs.Picks.{is_sure};
 ghost use Rattle.solve_core.specs.Picks.{most_known};
 
-use crate::picks::{known_cells, most_in_row};
+use crate::picks::{known_cells, most_in_row, near_known};
 use crate::rooms::emptied;
 use grid_core::{Cell, Grid, NoMemory, Side};
 use line_core::{LineOf, LineSet};
@@ -196,6 +196,32 @@ fn sure_below<W: LineSet>(rows: &[LineOf<W>], y: usize) -> W
     }
 }
 
+/// The first of row y's unknown cells from a place on of whose neighbours at least `least`, 0 to 4, are known or
+/// outside the grid.
+fn first_near_known<W: LineSet>(
+    rows: &[LineOf<W>],
+    y: usize,
+    from: u16,
+    least: usize,
+) -> Option<u16>
+    requires y { y < length rows.now }
+    requires from { from < length (slice_index_or rows.now y []) }
+    requires least { least ≤ 4 }
+    ensures found { IfSome result (λ x. (from ≤ x) × IsUnknownCell (slice_index_or rows.now y []) x) }
+    ensures each { least ≡ 0 → IsUnknownFrom (slice_index_or rows.now y []) from result }
+{
+    if least == 0 {
+        return rows[y].first_unknown(from);
+    }
+    near_known(
+        &rows[y],
+        sure_above(rows, y),
+        sure_below(rows, y),
+        from,
+        least,
+    )
+}
+
 impl<W: LineSet> GridLines<W> {
     /// Its rows and its columns.
     fn into_lists(self) -> (Vec<LineOf<W>>, Vec<LineOf<W>>) {
@@ -269,15 +295,18 @@ impl<W: LineSet> GridLines<W> {
         }
     }
 
-    /// The place of the first unknown cell from a place on in row order, if there is one.
-    pub fn first_unknown(&self, from: usize) -> Option<usize>
-        requires { from ≤ length self.now.cells }
-        ensures { IsUnknownFrom self.now.cells from result }
+    /// The place of the first unknown cell from a place on in row order of whose neighbours at least `least`, 0
+    /// to 4, are known or outside the grid, if there is one.
+    pub fn first_unknown(&self, from: usize, least: usize) -> Option<usize>
+        requires from { from ≤ length self.now.cells }
+        requires least { least ≤ 4 }
+        ensures found { IfSome result (λ place. (from ≤ place) × IsUnknownCell self.now.cells place) }
+        ensures each { least ≡ 0 → IsUnknownFrom self.now.cells from result }
     {
         let width = self.columns.len();
         let mut column = from % width;
         for y in from / width..self.rows.len() {
-            if let Some(x) = self.rows[y].first_unknown(column as u16) {
+            if let Some(x) = first_near_known(&self.rows, y, column as u16, least) {
                 return Some(y * width + usize::from(x));
             }
             column = 0;

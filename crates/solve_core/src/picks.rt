@@ -1,11 +1,12 @@
 //! The rules for the cell of the next guess.
 
-ghost use Rattle.std.specs.Prelude.{◌≡◌, ◌+◌, ◌<◌, ◌≤◌, ℕ, IfNone, IfSome};
+ghost use Rattle.std.specs.Prelude.{◌≡◌, ◌+◌, ◌<◌, ◌≤◌, ℕ, length, IfNone, IfSome};
 ghost use Rattle.place_sets.specs.Masks.{Has, has, IsMaskOf};
-ghost use Rattle.solve_core.specs.steps.Counts.{AreCounts, IsKnownCell, IsMostInRow, two_of};
+ghost use Rattle.grid_core.specs.Lines.{IsUnknownCell};
+ghost use Rattle.solve_core.specs.steps.Counts.{AreCounts, IsKnownCell, IsMostInRow, beside_score, told_by, two_of};
 
 use line_core::LineOf;
-use place_sets::{PlaceSet, complement_within};
+use place_sets::{PlaceSet, complement_within, first_from};
 
 /// Which unknown cell is guessed next.
 #[derive(Clone, Copy, Debug, PartialEq, Eq)]
@@ -98,6 +99,20 @@ pub fn known_cells<W: PlaceSet>(line: &LineOf<W>) -> W
     complement_within(line.unknown_cells(), line.len())
 }
 
+/// The places of a row of which one neighbour in the row at least is known or outside the grid, and those of
+/// which both are.
+fn known_beside<W: PlaceSet>(row: &LineOf<W>) -> Two<W>
+    ensures counts { AreCounts (told_by (W.number result.either) (W.number result.both)) (W.number result.either) (W.number result.both) }
+    ensures beside { (x : ℕ) → x < length row.now → told_by (W.number result.either) (W.number result.both) x ≡ beside_score row.now x }
+{
+    let known = known_cells(row);
+    let left = known.shifted_up(1).union(W::first());
+    let right = known
+        .shifted_down(1)
+        .union(W::first().shifted_up(row.len() - 1));
+    Two::of(left, right)
+}
+
 /// The first of a row's unknown cells of whose neighbours the most are known or outside the grid, and of how
 /// many, if these are `least` or more. Above and below are the cells of which the neighbour there is.
 pub fn most_in_row<W: PlaceSet>(
@@ -108,13 +123,26 @@ pub fn most_in_row<W: PlaceSet>(
 ) -> Option<(usize, u16)>
     ensures { IsMostInRow row.now (has (W.number above)) (has (W.number below)) least result }
 {
-    let unknown = row.unknown_cells();
-    let known = known_cells(row);
-    let left = known.shifted_up(1).union(W::first());
-    let right = known
-        .shifted_down(1)
-        .union(W::first().shifted_up(row.len() - 1));
-    let beside = Two::of(left, right);
+    let beside = known_beside(row);
     let across = Two::of(above, below);
-    first_in_most(unknown, &beside, &across, least)
+    first_in_most(row.unknown_cells(), &beside, &across, least)
+}
+
+/// The first of a row's unknown cells from a place on of whose neighbours at least `least`, 0 to 4, are known or
+/// outside the grid. Above and below are the cells of which the neighbour there is.
+pub fn near_known<W: PlaceSet>(
+    row: &LineOf<W>,
+    above: W,
+    below: W,
+    from: u16,
+    least: usize,
+) -> Option<u16>
+    requires from { from < length row.now }
+    requires least { least ≤ 4 }
+    ensures { IfSome result (λ x. (from ≤ x) × IsUnknownCell row.now x) }
+{
+    let in_row = known_beside(row);
+    let in_column = Two::of(above, below);
+    let near = in_so_many(row.unknown_cells(), &in_row, &in_column, least);
+    first_from(near, from)
 }

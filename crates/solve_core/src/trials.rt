@@ -1,8 +1,9 @@
 //! Trials, one cell and one colour at a time.
-ghost use Rattle.std.specs.Prelude.{◌≡◌, ◌≢◌, ℕ, ◌+◌, ◌*◌, ◌<◌, ◌≤◌, ◌↔◌, Some, true, length, slice_set, slice_index_or, IsTrue, IfOk};
+ghost use Rattle.std.specs.Prelude.{◌≡◌, ◌≢◌, ℕ, ◌+◌, ◌*◌, ◌<◌, ◌≤◌, ◌↔◌, Some, true, length, slice_set, slice_index_or, false, IsTrue, IfOk, IfSome};
 ghost use Rattle.grid_core.specs.declared.cells.Cell.TheVariants.{Unknown, Filled, Blank};
 ghost use Rattle.grid_core.specs.Nonogram.{lines_of};
 ghost use Rattle.grid_core.specs.Cells.{is_known};
+ghost use Rattle.grid_core.specs.Lines.{IsUnknownCell, IsUnknownFrom};
 ghost use Rattle.solve_core.specs.Closure.{round, closure};
 ghost use Rattle.line_core.specs.Order.{AtMost};
 ghost use Rattle.solve_core.specs.Trials.{trials, IsTried};
@@ -236,20 +237,22 @@ impl<W: LineSet> Trials<W> {
         self.keep_colour(puzzle, board, place, Cell::Filled)
     }
 
-    /// Tries each unknown cell once.
-    fn try_all(&mut self, puzzle: &Puzzle, board: &mut Board<W>) -> Progress
+    /// Tries once each unknown cell of whose neighbours at least `least`, 0 to 4, are known or outside the grid.
+    fn try_each(&mut self, puzzle: &Puzzle, board: &mut Board<W>, least: usize) -> Progress
+        requires least { least ≤ 4 }
         requires ready { IsReady puzzle.now self.old board.old.cells }
         requires room { HasRoomFor puzzle.now self.old }
         requires size { IsBoardOf puzzle.now board.old }
         ensures progress { Progresses (trials (lines_of puzzle.now)) result board.old.cells board.new.cells }
         ensures ready { result ≢ Dead → IsReady puzzle.now self.new board.new.cells }
-        ensures tried { result ≡ Same → (k : ℕ) → k < length board.new.cells → IsTried (lines_of puzzle.now) board.new.cells k }
+        ensures tried { least ≡ 0 → result ≡ Same →
+            (k : ℕ) → k < length board.new.cells → IsTried (lines_of puzzle.now) board.new.cells k }
         ensures size { IsBoardOf puzzle.now board.new }
         ensures room { HasRoomFor puzzle.now self.new }
     {
         let mut progress = Progress::Same;
         let mut from = 0;
-        while let Some(place) = board.lines().first_unknown(from) {
+        while let Some(place) = board.lines().first_unknown(from, least) {
             match self.try_place(puzzle, board, place) {
                 Progress::Dead => return Progress::Dead,
                 Progress::Same => {}
@@ -260,7 +263,8 @@ impl<W: LineSet> Trials<W> {
         progress
     }
 
-    /// Tries cells until a whole pass changes nothing. Returns whether the board is alive.
+    /// Tries cells until a pass over all of them changes nothing: after each change first those with three known
+    /// neighbours, then with two and one, since there most colours are refuted. Returns whether the board is alive.
     fn try_until_same(&mut self, puzzle: &Puzzle, board: &mut Board<W>) -> bool
         requires ready { IsReady puzzle.now self.old board.old.cells }
         requires room { HasRoomFor puzzle.now self.old }
@@ -270,11 +274,17 @@ impl<W: LineSet> Trials<W> {
         ensures size { IsBoardOf puzzle.now board.new }
         ensures room { HasRoomFor puzzle.now self.new }
     {
+        let mut least = 3;
         loop {
-            match self.try_all(puzzle, board) {
+            match self.try_each(puzzle, board, least) {
                 Progress::Dead => return false,
-                Progress::Same => return true,
-                Progress::Changed => {}
+                Progress::Same => {
+                    if least == 0 {
+                        return true;
+                    }
+                    least -= 1;
+                }
+                Progress::Changed => least = 3,
             }
         }
     }

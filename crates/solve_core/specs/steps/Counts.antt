@@ -3,7 +3,7 @@ use Rattle.std.specs.Prelude.{◌≡◌, ℕ, ◌+◌, ◌-◌, ◌<◌, ◌≤�
 use Rattle.grid_core.specs.declared.cells.Cell.{Cell}
 use Rattle.grid_core.specs.declared.cells.Cell.TheVariants.{Unknown}
 use Rattle.grid_core.specs.Cells.{is_known}
-use Rattle.place_sets.specs.Masks.{IsMaskOf}
+use Rattle.place_sets.specs.Masks.{has, IsMaskOf}
 use Rattle.grid_core.specs.Lines.{IsUnknownCell}
 use Rattle.solve_core.specs.Picks.{is_sure}
 
@@ -17,16 +17,23 @@ pub record AreCounts (count : ℕ → ℕ) (either both : ℕ) : Type 0 where
   pub either_is : IsMaskOf (λ i. 1 ≤ count i) either
   pub both_is : IsMaskOf (λ i. 2 ≤ count i) both
 
+-- the count, of two at most, that two sets tell
+abbrev pub told_by : ℕ → ℕ → ℕ → ℕ
+told_by either both i = two_of (has either i) (has both i)
+
 -- a place of a known cell
 abbrev pub IsKnownCell : List Cell → ℕ → Type 0
 IsKnownCell cells i = (i < length cells) × (is_known (slice_index_or cells i Unknown) ≡ true)
 
+-- how many of the two neighbours of a row's cell in the row are known or outside the grid
+abbrev pub beside_score : List Cell → ℕ → ℕ
+beside_score row x = two_of (is_sure (nat_eq x 0) (slice_index_or row (x - 1) Unknown))
+    (is_sure (nat_eq (x + 1) (length row)) (slice_index_or row (x + 1) Unknown))
+
 -- how many neighbours of a row's cell are known or outside the grid,
 -- given for each cell whether the one above is, and the one below
 abbrev pub row_score : List Cell → (ℕ → Bool) → (ℕ → Bool) → ℕ → ℕ
-row_score row above below x =
-    two_of (is_sure (nat_eq x 0) (slice_index_or row (x - 1) Unknown))
-    (is_sure (nat_eq (x + 1) (length row)) (slice_index_or row (x + 1) Unknown)) + two_of (above x) (below x)
+row_score row above below x = beside_score row x + two_of (above x) (below x)
 
 -- of the unknown cells of a row, the first of those for which the most counts, and how much that is,
 -- if it is at least `least`

@@ -1,42 +1,19 @@
 -- `most_in_row`: the four sets say of each cell of the row which neighbours are known or outside the grid.
-use Rattle.std.proofs.Common.{rules, ◌≡◌, ◌∙◌, ◌+◌, ◌-◌, ℕ, length, subst}
-use Rattle.place_sets.specs.Masks.{Has, has, IsMaskOf, IsShifted}
-use Rattle.place_sets.proofs.Doubling.{one_within}
-use Rattle.solve_core.specs.steps.Counts.{two_of}
-use Rattle.solve_core.proofs.CountLaws.{counts_by, counts_own, left_is, most_by, right_is}
+use Rattle.std.proofs.Common.{rules, ◌+◌}
+use Rattle.place_sets.specs.Masks.{has}
+use Rattle.solve_core.proofs.CountLaws.{counts_by, counts_own, most_by}
 use Rattle.solve_core.proofs.picks.most_in_row.Goals as goal
 
-pub shifted_up-requires : goal.shifted_up-requires
-shifted_up-requires g c = one_within g.W.PlaceSet.WIDTH g.W.PlaceSet.TOP g.met.W.PlaceSet.top_is.0 g.met.W.PlaceSet.width_is
-
-pub shifted_down-requires : goal.shifted_down-requires
-shifted_down-requires g c = one_within g.W.PlaceSet.WIDTH g.W.PlaceSet.TOP g.met.W.PlaceSet.top_is.0 g.met.W.PlaceSet.width_is
-
 pub first_in_most-requires : goal.first_in_most-requires
-first_in_most-requires g c κs within =
-    let number = g.W.PlaceSet.number in (
-      search rules,
-      (
-        counts_own _ (number c.of-beside.result.either) (number c.of-beside.result.both) c.of-beside.ensures,
-        counts_own _ (number c.of-across.result.either) (number c.of-across.result.both) c.of-across.ensures,
-      ),
-    )
+first_in_most-requires g c κs within = (
+  search rules,
+  (c.known_beside-beside.ensures.counts, counts_own _ _ _ c.of-across.ensures),
+)
 
 pub returns : goal.returns
 returns g c =
     let number = g.W.PlaceSet.number in
-    let row = c.args.row.now in
-    let long : c.len.result ≡ length row = c.len.ensures.len in
-    let last =
-    subst (λ (n : ℕ). IsMaskOf (IsShifted g.W.PlaceSet.WIDTH (Has (number c.first-2.result)) (n - 1)) (number c.shifted_up-2.result))
-    long c.shifted_up-2.ensures in
-    let left = left_is row g.W.PlaceSet.WIDTH (number c.known_cells-known.result) (number c.shifted_up.result) (number c.first.result)
-    (number c.union-left.result) c.len.ensures.fits c.known_cells-known.ensures c.shifted_up.ensures c.first.ensures c.union-left.ensures in
-    let right = right_is row g.W.PlaceSet.WIDTH (number c.known_cells-known.result) (number c.shifted_down.result) (number c.first-2.result)
-    (number c.shifted_up-2.result) (number c.union-right.result) c.len.ensures.fits c.len.ensures.some
-    c.known_cells-known.ensures c.shifted_down.ensures c.first-2.ensures last c.union-right.ensures in
-    most_by row (has (number c.args.above)) (has (number c.args.below)) c.args.least
-    (number c.unknown_cells-unknown.result) _ _ c.first_in_most.result c.unknown_cells-unknown.ensures.cells
-    (λ x h. (λ i. counts_by _ _ _ c.of-beside.ensures x i + counts_by _ _ _ c.of-across.ensures x i)
-    ∙ (λ i. two_of (left x h i) (right x h i) + two_of (has (number c.args.above) x) (has (number c.args.below) x)))
+    most_by c.args.row.now (has (number c.args.above)) (has (number c.args.below)) c.args.least
+    (number c.unknown_cells.result) _ _ c.first_in_most.result c.unknown_cells.ensures.cells
+    (λ x h i. c.known_beside-beside.ensures.beside x h i + counts_by _ _ _ c.of-across.ensures x i)
     c.first_in_most.ensures.none c.first_in_most.ensures.found c.first_in_most.ensures.most c.first_in_most.ensures.earliest

@@ -6,14 +6,14 @@ use Rattle.solve_core.proofs.TrialSteps.{tried_ends}
 use Rattle.solve_core.proofs.GridSteps.{rest_closed}
 use Rattle.solve_core.proofs.trials.Trials.try_until_same.Goals as goal
 
-pub returns-in-Same-clause-tried : goal.returns-in-Same-clause-tried
-returns-in-Same-clause-tried g c =
+pub returns-then-least-eq0-clause-tried : goal.returns-then-least-eq0-clause-tried
+returns-then-least-eq0-clause-tried g c =
     let lines = lines_of c.args.puzzle.now in
     let first = c.args.board.now.cells in
-    let new = c.try_all.new.board.cells in
-    let closed = rest_closed c.args.puzzle.now c.try_all.new.self.closer new (c.in-Same.ensures.ready (λ e. cc)).rest in
-    sym (tried_ends lines new closed (c.in-Same.ensures.tried refl)) ∙ ap (trials lines) c.in-Same.ensures.progress ∙
-    c.loop.invariant.same
+    let new = c.try_each.new.board.cells in
+    let closed = rest_closed c.args.puzzle.now c.try_each.new.self.closer new (c.in-Same.ensures.ready (λ e. cc)).rest in
+    sym (tried_ends lines new closed (c.in-Same.ensures.tried c.if-least-eq0.true refl)) ∙ ap (trials lines) c.in-Same.ensures.progress ∙
+    c.loop-least.invariant.same
 
-pub returns-in-Same-clause-rest : goal.returns-in-Same-clause-rest
-returns-in-Same-clause-rest g c = λ alive. (c.in-Same.ensures.ready (λ e. cc)).rest
+pub returns-then-least-eq0-clause-rest : goal.returns-then-least-eq0-clause-rest
+returns-then-least-eq0-clause-rest g c = λ alive. (c.in-Same.ensures.ready (λ e. cc)).rest

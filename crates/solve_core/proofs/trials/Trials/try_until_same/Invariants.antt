@@ -1,5 +1,5 @@
 -- What the loop of `Trials::try_until_same` keeps: the board is ready, and trials of it end as at first.
-use Rattle.std.proofs.Common.{◌≡◌}
+use Rattle.std.proofs.Common.{◌≡◌, ◌+◌, ◌*◌, ◌≤◌}
 use Rattle.grid_core.specs.Nonogram.{lines_of}
 use Rattle.solve_core.specs.Trials.{trials}
 use Rattle.solve_core.specs.steps.Boards.{IsBoardOf}
@@ -7,13 +7,14 @@ use Rattle.solve_core.specs.steps.Tried.{HasRoomFor, IsReady}
 use Rattle.solve_core.specs.steps.Trails.{unknown_count}
 use Rattle.solve_core.proofs.trials.Trials.try_until_same.Given as goal
 
-abbrev pub invariant-loop : goal.invariant-loop
-invariant-loop g l = record {
+abbrev pub invariant-loop-least : goal.invariant-loop-least
+invariant-loop-least g l = record {
+  least : l.least ≤ 3;
   room : HasRoomFor l.puzzle l.self;
   size : IsBoardOf l.puzzle l.board;
   ready : IsReady l.puzzle l.self l.board.cells;
   same : trials (lines_of l.puzzle) l.board.cells ≡ trials (lines_of l.puzzle) l.fn.board.cells;
 }
 
-abbrev pub decreases-loop : goal.decreases-loop
-decreases-loop g l = unknown_count l.board.cells
+abbrev pub decreases-loop-least : goal.decreases-loop-least
+decreases-loop-least g l = 4 * unknown_count l.board.cells + l.least

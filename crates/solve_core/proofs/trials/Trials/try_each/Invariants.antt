@@ -1,4 +1,5 @@
--- What the loop of `Trials::try_all` keeps: what `progress` says; if that is `Same`, those passed are tried.
+-- What the loop of `Trials::try_each` keeps: what `progress` says; if it is `Same`, those passed are tried, unless
+-- only those near known ones are.
 use Rattle.std.proofs.Common.{◌≡◌, ◌≢◌, ◌-◌, ◌<◌, ◌≤◌, ℕ, length}
 use Rattle.grid_core.specs.Nonogram.{lines_of}
 use Rattle.solve_core.specs.declared.closures.Progress.TheVariants.{Dead, Same}
@@ -6,7 +7,7 @@ use Rattle.solve_core.specs.Trials.{trials, IsTried}
 use Rattle.solve_core.specs.steps.Boards.{IsBoardOf}
 use Rattle.solve_core.specs.steps.Marks.{Progresses}
 use Rattle.solve_core.specs.steps.Tried.{HasRoomFor, IsReady}
-use Rattle.solve_core.proofs.trials.Trials.try_all.Given as goal
+use Rattle.solve_core.proofs.trials.Trials.try_each.Given as goal
 
 abbrev pub invariant-loop-place : goal.invariant-loop-place
 invariant-loop-place g l = record {
@@ -16,7 +17,7 @@ invariant-loop-place g l = record {
   alive : l.progress ≢ Dead;
   progress : Progresses (trials (lines_of l.puzzle)) l.progress l.fn.board.cells l.board.cells;
   from : l.from ≤ length l.board.cells;
-  tried : l.progress ≡ Same → (k : ℕ) → k < l.from → IsTried (lines_of l.puzzle) l.board.cells k;
+  tried : l.least ≡ 0 → l.progress ≡ Same → (k : ℕ) → k < l.from → IsTried (lines_of l.puzzle) l.board.cells k;
 }
 
 abbrev pub decreases-loop-place : goal.decreases-loop-place

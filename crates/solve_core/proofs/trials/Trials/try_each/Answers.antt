@@ -1,4 +1,4 @@
--- `Trials::try_all`: cells before the next unknown one are tried or known, so if there is none all are tried.
+-- `Trials::try_each`: cells before the next unknown one are tried or known, so if there is none all are tried.
 use Rattle.std.proofs.Common.{◌≡◌, ◌∙◌, ◌+◌, ◌≤◌, List, inl, inr, sym, refl, ap, subst, arith, below_more, length, get_or}
 use Rattle.std.proofs.lemmas.Bool.{cases_lt}
 use Rattle.grid_core.specs.Cells.{is_unknown}
@@ -9,8 +9,8 @@ use Rattle.grid_core.specs.PartialGrid.{PartialGrid}
 use Rattle.solve_core.specs.Trials.{trials, IsTried}
 use Rattle.solve_core.proofs.Counting.{known-tried}
 use Rattle.solve_core.proofs.GridSteps.{progress-same, progress-changed}
-use Rattle.solve_core.proofs.trials.Trials.try_all.Goals as goal
-use Rattle.solve_core.proofs.trials.Trials.try_all.Goals.{in-Same, in-Changed}
+use Rattle.solve_core.proofs.trials.Trials.try_each.Goals as goal
+use Rattle.solve_core.proofs.trials.Trials.try_each.Goals.{in-Same, in-Changed}
 
 pub loop-place-preserved : goal.loop-place-preserved
 loop-place-preserved g c =
@@ -21,7 +21,7 @@ loop-place-preserved g c =
     let new = c.try_place.new.board.cells in
     let place = c.in-Some.place in
     let seen : c.lines.result.now.cells ≡ old = ap (λ (g : PartialGrid). g.cells) c.lines.ensures.lines in
-    let next : place + 1 ≤ length new = omega (arith, c.in-Some.ensures.1, ap length seen, before.size.2, c.try_place.ensures.size.2) in
+    let next : place + 1 ≤ length new = omega (arith, c.in-Some.ensures.found.1.0, ap length seen, before.size.2, c.try_place.ensures.size.2) in
     elim c.match-try_place.branch [
       | in-Same w ↦
           (let same : new ≡ old = w.in-Same.ensures.progress in
@@ -33,14 +33,14 @@ loop-place-preserved g c =
             progress = rw w.progress-is
                 (progress-same (trials (lines_of p)) c.loop-place.progress first old new before.progress same);
             from = next;
-            tried = λ e.
+            tried = λ all e.
                 below_more (λ k. IsTried (lines_of p) new k) place
                 (λ k l.
                 subst (λ (cells : List Cell). IsTried (lines_of p) cells k) (sym same)
                 (elim (cases_lt k c.loop-place.from) [
-                  | inl early ↦ before.tried (sym w.progress-is ∙ e) k early
+                  | inl early ↦ before.tried all (sym w.progress-is ∙ e) k early
                   | inr late ↦ known-tried (lines_of p) old k (ap (λ (r : List Cell). is_unknown (get_or r k Unknown)) (sym seen) ∙
-                      c.in-Some.ensures.3 k late l)
+                      (c.in-Some.ensures.each all).3 k late l)
                 ]))
                 (w.in-Same.ensures.tried refl);
           })
@@ -54,7 +54,7 @@ loop-place-preserved g c =
                 (progress-changed (trials (lines_of p)) c.loop-place.progress first old new before.alive
                 before.progress w.in-Changed.ensures.progress);
             from = next;
-            tried = rw w.progress-is (λ e. cc);
+            tried = rw w.progress-is (λ all e. cc);
           }
     ]
 
@@ -64,9 +64,9 @@ returns-clause-tried g c =
     let p = c.args.puzzle.now in
     let cells = c.loop-place.board.cells in
     let seen : c.lines.result.now.cells ≡ cells = ap (λ (g : PartialGrid). g.cells) c.lines.ensures.lines in
-    λ e k l.
+    λ all e k l.
     elim (cases_lt k c.loop-place.from) [
-      | inl early ↦ before.tried e k early
+      | inl early ↦ before.tried all e k early
       | inr late ↦ known-tried (lines_of p) cells k (ap (λ (r : List Cell). is_unknown (get_or r k Unknown)) (sym seen) ∙
-          c.in_default.ensures k late (omega (arith, l, ap length seen)))
+          c.in_default.ensures.each all k late (omega (arith, l, ap length seen)))
     ]

@@ -1,0 +1,8 @@
+-- The counts that `near_known` tells `in_so_many`: in how many of two sets each place is.
+use Rattle.solve_core.specs.steps.Counts.{told_by}
+use Rattle.solve_core.proofs.picks.near_known.Given as goal
+
+abbrev pub ghost-in_so_many : goal.ghost-in_so_many
+ghost-in_so_many g a =
+    let number = g.W.PlaceSet.number in
+    (told_by (number a.first.now.either) (number a.first.now.both), told_by (number a.second.now.either) (number a.second.now.both))
