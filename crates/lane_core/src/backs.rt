@@ -11,7 +11,7 @@ use crate::gates::Gate;
 use crate::grading::grade_by;
 use crate::messages::Message;
 use crate::steps::Step;
-use rtrb::{Consumer, Producer, PushError};
+use rtrb::{Consumer, Producer};
 use solve_core::Reporter;
 use std::alloc::Global;
 
@@ -23,13 +23,12 @@ fn offer(answers: &mut Producer<Answer>, held: &mut Option<Answer>, answer: Answ
     ensures room { producer_capacity answers.new ≤ known_free answers.new + length (sent answers.new) }
     ensures offered { IsOffered (producer_capacity answers.old) answer result (sent answers.old) (sent answers.new) held.new }
 {
-    match answers.push(answer) {
-        Ok(()) => Step::Graded,
-        Err(PushError::Full(answer)) => {
-            *held = Some(answer);
-            Step::Waiting
-        }
+    if answers.is_full() {
+        *held = Some(answer);
+        return Step::Waiting;
     }
+    answers.push_reserved(answer);
+    Step::Graded
 }
 
 /// The worker's end of a lane: it takes jobs, grades them and puts the answers.
@@ -67,20 +66,22 @@ impl LaneBack {
         if self.finished {
             return Step::Done;
         }
-        match self.held.take() {
-            Some(answer) => offer(&mut self.answers, &mut self.held, answer),
-            None => match self.messages.pop() {
-                Err(_) => Step::Idle,
-                Ok(Message::Finish) => {
-                    self.finished = true;
-                    Step::Done
-                }
-                Ok(Message::Work(job)) => {
-                    gate.enter(job.number);
-                    let answer = grade_by(&mut self.reporter, alloc, job);
-                    offer(&mut self.answers, &mut self.held, answer)
-                }
-            },
+        if let Some(answer) = self.held.take() {
+            return offer(&mut self.answers, &mut self.held, answer);
+        }
+        if self.messages.is_empty() {
+            return Step::Idle;
+        }
+        match self.messages.pop_known() {
+            Message::Finish => {
+                self.finished = true;
+                Step::Done
+            }
+            Message::Work(job) => {
+                gate.enter(job.number);
+                let answer = grade_by(&mut self.reporter, alloc, job);
+                offer(&mut self.answers, &mut self.held, answer)
+            }
         }
     }
 }

@@ -9,7 +9,7 @@ use crate::faults::{FinishFault, SendFault};
 use crate::jobs::Job;
 use crate::lanes::Lane;
 use crate::messages::Message;
-use rtrb::{Consumer, Producer, PushError};
+use rtrb::{Consumer, Producer};
 
 /// The collector's end of a lane: it sends jobs and the finish, and receives answers.
 /// It may be in another thread than the worker's end.
@@ -57,11 +57,11 @@ impl Lane for LaneFront {
         if self.finished {
             return Err(SendFault::Finished(job));
         }
-        match self.messages.push(Message::Work(job)) {
-            Ok(()) => Ok(()),
-            Err(PushError::Full(Message::Work(job))) => Err(SendFault::Full(job)),
-            Err(PushError::Full(Message::Finish)) => unreachable!(),
+        if self.messages.is_full() {
+            return Err(SendFault::Full(job));
         }
+        self.messages.push_reserved(Message::Work(job));
+        Ok(())
     }
 
     #[tactic(auto, using(crate::proofs::MessagesLemmas::messages))]
@@ -79,6 +79,9 @@ impl Lane for LaneFront {
     }
 
     fn take(&mut self) -> Option<Answer> {
-        self.answers.pop().ok()
+        if self.answers.is_empty() {
+            return None;
+        }
+        Some(self.answers.pop_known())
     }
 }

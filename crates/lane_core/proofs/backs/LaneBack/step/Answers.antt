@@ -1,6 +1,6 @@
 -- `LaneBack::step`: what was put and is held still answers what was taken,
 -- and the lists change as a step may.
-use Rattle.std.proofs.Common.{refl, sym, ap, ◌∙◌, ◌++◌, inr, subst}
+use Rattle.std.proofs.Common.{refl, sym, ap, ◌∙◌, ◌++◌, [], ◌∷◌, inr, subst}
 use Rattle.std.proofs.Math.Logic.{∥∥₁_map}
 use Rattle.std.specs.Prelude.{is_none, option_to_list}
 use Rattle.rtrb.specs.Ring.{sent, received}
@@ -31,37 +31,40 @@ invariant_of-self g c = record {
   room = c.offer.ensures.room;
 }
 
-pub invariant_of-self-in-Ok-Finish : goal.invariant_of-self-in-Ok-Finish
-invariant_of-self-in-Ok-Finish g c =
-    let taken = taken_as _ _ _ _ c.in-Ok-Finish.ensures.ok.0 c.in-Ok-Finish.field-0-is in
+pub invariant_of-self-in-Finish : goal.invariant_of-self-in-Finish
+invariant_of-self-in-Finish g c =
+    let taken = taken_as _ _ _ _ (c.pop_known.ensures.received.0 ∙ ap (λ taken. taken ++ c.pop_known.result ∷ []) c.is_empty.ensures.looked.1)
+    c.in-Finish.is in
     record {
       noted = sym (has_finish-took_finish _ _ taken);
       free = λ _. ap is_none c.take.ensures.after;
       answered =
           ∥∥₁_map c.args.self.now.answered
           (TakesMessage-answered Finish (back_lists c.args.self.now) _
-          (record { free = sym c.in-None.ensures.value; taken = taken; held = nothing_is_held _ c.take.ensures.after; put = refl }));
+          (record { free = sym c.in_default.ensures.value; taken = taken; held = nothing_is_held _ c.take.ensures.after; put = refl }));
       room = c.args.self.now.room;
     }
 
-pub invariant_of-self-in-Ok-Work : goal.invariant_of-self-in-Ok-Work
-invariant_of-self-in-Ok-Work g c =
-    let taken = taken_as _ _ _ _ c.in-Ok-Work.ensures.ok.0 c.in-Ok-Work.field-0-is in
+pub invariant_of-self-in-Work : goal.invariant_of-self-in-Work
+invariant_of-self-in-Work g c =
+    let taken = taken_as _ _ _ _ (c.pop_known.ensures.received.0 ∙ ap (λ taken. taken ++ c.pop_known.result ∷ []) c.is_empty.ensures.looked.1)
+    c.in-Work.is in
     let unfinished = c.if-self.false in
     record {
       noted = c.args.self.now.noted ∙ sym (has_finish-took_work _ _ _ taken);
       free = λ finished. cc;
       answered =
           ∥∥₁_map c.args.self.now.answered
-          (offered_is_answered _ c.in-Ok-Work.job c.grade_by-answer.result _ (back_lists c.args.self.now) _ _ _
-          (sym c.in-None.ensures.value) taken c.grade_by-answer.ensures c.offer-in-Ok-Work.ensures.offered);
-      room = c.offer-in-Ok-Work.ensures.room;
+          (offered_is_answered _ c.in-Work.job c.grade_by-answer.result _ (back_lists c.args.self.now) _ _ _
+          (sym c.in_default.ensures.value) taken c.grade_by-answer.ensures c.offer-in-Work.ensures.offered);
+      room = c.offer-in-Work.ensures.room;
     }
 
-pub returns-in-Ok-Work-clause-lists : goal.returns-in-Ok-Work-clause-lists
-returns-in-Ok-Work-clause-lists g c = inr (
+pub returns-in-Work-clause-lists : goal.returns-in-Work-clause-lists
+returns-in-Work-clause-lists g c = inr (
   sym c.args.self.now.noted ∙ c.if-self.false,
-  StepsBeforeFinish-offer_taken _ c.in-Ok-Work.job c.grade_by-answer.result c.offer-in-Ok-Work.result (back_lists c.args.self.now) _
-      (sym c.in-None.ensures.value)
-      (taken_as _ _ _ _ c.in-Ok-Work.ensures.ok.0 c.in-Ok-Work.field-0-is) c.grade_by-answer.ensures c.offer-in-Ok-Work.ensures.offered,
+  StepsBeforeFinish-offer_taken _ c.in-Work.job c.grade_by-answer.result c.offer-in-Work.result (back_lists c.args.self.now) _
+      (sym c.in_default.ensures.value)
+      (taken_as _ _ _ _ (c.pop_known.ensures.received.0 ∙ ap (λ taken. taken ++ c.pop_known.result ∷ []) c.is_empty.ensures.looked.1)
+      c.in-Work.is) c.grade_by-answer.ensures c.offer-in-Work.ensures.offered,
 )
