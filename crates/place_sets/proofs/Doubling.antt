@@ -4,7 +4,7 @@ use Rattle.std.proofs.lemmas.Bool.{cases_lt}
 use Rattle.std.proofs.lemmas.Nat.{pow-add, pow_pos, one_shl}
 use Rattle.std.proofs.Math.Pow.{pow_mono}
 use Rattle.place_sets.specs.Masks.{Has, IsMaskOf, AllFrom}
-use Rattle.place_sets.proofs.Steps.{widen, window-one}
+use Rattle.place_sets.proofs.Steps.{widen}
 
 -- the next power of two is twice this one
 pub pow_next : (k : ℕ) → 2 ^ (k + 1) ≡ 2 ^ k + 2 ^ k
@@ -59,14 +59,6 @@ one_within width top h e = let two : 2 ^ 1 ≤ 2 ^ top = pow_mono h in omega ari
 -- no width is over 256
 pub width_most : (width top : ℕ) → top ≤ 8 → width ≡ 2 ^ top → width ≤ 256
 width_most width top h e = let most : 2 ^ top ≤ 2 ^ 8 = pow_mono h in omega arith
-
--- the windows of one place are the places themselves
-pub windows_none : (mask : ℕ) (table : List ℕ) → 0 < length table → get_or table 0 0 ≡ mask → (k : ℕ) → k ≤ 0
-    → IsMaskOf (AllFrom (Has mask) (2 ^ k)) (get_or table k 0)
-windows_none mask table l at k h =
-    let e : 0 ≡ k = omega arith in
-    subst (λ (z : ℕ). IsMaskOf (AllFrom (Has mask) (2 ^ z)) (get_or table z 0)) e
-    (subst (λ (z : ℕ). IsMaskOf (AllFrom (Has mask) 1) z) (sym at) (window-one mask))
 
 -- two windows of a level, the second shifted to the end, make a window of the whole length
 pub window_is : (mask : ℕ) (w level rest length : ℕ) (m : ℕ) → 2 ^ level + rest ≡ length → rest < 2 ^ level

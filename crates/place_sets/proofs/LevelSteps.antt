@@ -186,13 +186,6 @@ none_at number none e (suc count) (suc k) = none_at number none e count k
 
 -- ---- one mask spread alone
 
--- a mask spread over one place is itself
-pub spread_one : (a : ℕ) → IsMaskOf (SomeFrom (Has a) 1) a
-spread_one a = record {
-  to = λ i h. let e : i + 0 ≡ i = omega arith in (0, omega arith, subst (Has a) (sym e) h);
-  from = λ i h. let below : h.0 < 1 = h.1 in let e : i + h.0 ≡ i = omega arith in subst (Has a) e h.2;
-}
-
 -- a mask spread over `m` places, spread once more by `s`, is spread over `m + s`
 pub spread_more : (P : ℕ → Type 0) (w m s next : ℕ) → s ≤ m → IsMaskOf (SomeFrom P m) w → IsMaskOf (λ i. Has w i ⊎ Has w (i + s)) next
     → IsMaskOf (SomeFrom P (m + s)) next

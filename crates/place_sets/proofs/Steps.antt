@@ -107,10 +107,3 @@ widen P w m s next l p q = record {
         subst P e (h (s + z) (omega arith))),
   );
 }
-
--- a window of one place
-pub window-one : (a : ℕ) → IsMaskOf (AllFrom (Has a) 1) a
-window-one a = record {
-  to = λ i h z b. (let e : i ≡ i + z = omega arith in subst (Has a) e h);
-  from = λ i h. (let e : i + 0 ≡ i = omega arith in subst (Has a) e (h 0 (omega arith)));
-}

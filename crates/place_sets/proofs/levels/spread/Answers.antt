@@ -1,11 +1,8 @@
 -- `spread`: each turn spreads over twice as many places, and the last step over what is left.
 use Rattle.std.proofs.Common.{ℕ, ◌≡◌, ◌+◌, ◌-◌, ◌*◌, arith, subst}
 use Rattle.place_sets.specs.Masks.{Has, IsMaskOf, SomeFrom}
-use Rattle.place_sets.proofs.LevelSteps.{spread_more, spread_one}
+use Rattle.place_sets.proofs.LevelSteps.{spread_more}
 use Rattle.place_sets.proofs.levels.spread.Goals as goal
-
-pub loop-have-init : goal.loop-have-init
-loop-have-init g c = record { some = omega arith; most = omega (arith, c.requires); spread = spread_one (g.W.PlaceSet.number c.args.mask) }
 
 pub loop-have-preserved : goal.loop-have-preserved
 loop-have-preserved g c =

@@ -1,11 +1,8 @@
 -- `starts_within`: each turn doubles the windows, and the last step adds what is left of the length.
 use Rattle.std.proofs.Common.{ℕ, ◌≡◌, ◌+◌, ◌-◌, ◌*◌, arith, subst}
 use Rattle.place_sets.specs.Masks.{Has, IsMaskOf, AllFrom}
-use Rattle.place_sets.proofs.Steps.{widen, window-one}
+use Rattle.place_sets.proofs.Steps.{widen}
 use Rattle.place_sets.proofs.windows.starts_within.Goals as goal
-
-pub loop-have-init : goal.loop-have-init
-loop-have-init g c = record { some = omega arith; most = omega (arith, c.requires); starts = window-one (g.W.PlaceSet.number c.args.mask) }
 
 pub loop-have-preserved : goal.loop-have-preserved
 loop-have-preserved g c =

@@ -1,20 +1,12 @@
 -- `windows_within`: the windows of each level are two of the level below, side by side.
-use Rattle.std.proofs.Common.{ℕ, ◌+◌, ◌*◌, ◌%◌, ◌^◌, ◌<◌, ◌∙◌, List, length, map, replicate, get_or, refl, sym, subst, arith}
+use Rattle.std.proofs.Common.{ℕ, ◌+◌, ◌*◌, ◌%◌, ◌^◌, ◌<◌, ◌∙◌, List, length, map, get_or, sym, subst, arith}
 use Rattle.std.proofs.Math.ListN.{length-set}
 use Rattle.std.proofs.lemmas.List.{map-set, length-map}
 use Rattle.std.proofs.lemmas.Nat.{one_shl}
 use Rattle.place_sets.specs.Masks.{Has, IsMaskOf, AllFrom}
-use Rattle.place_sets.proofs.Doubling.{windows_none, windows_more, step_within}
+use Rattle.place_sets.proofs.Doubling.{windows_more, step_within}
 use Rattle.place_sets.proofs.LevelSteps.{number_at}
 use Rattle.place_sets.proofs.windows.windows_within.Goals as goal
-
-pub loop-level-init : goal.loop-level-init
-loop-level-init g c =
-    let number = g.W.PlaceSet.number in
-    record {
-      size = refl;
-      each = windows_none (number c.args.mask) (map number (replicate 9 c.args.mask)) (omega arith) refl;
-    }
 
 pub both-requires : goal.both-requires
 both-requires g c =
@@ -44,9 +36,3 @@ loop-level-preserved g c =
           (subst (λ (m : ℕ). IsMaskOf (λ i. Has m i × Has m (i + (1 * 2 ^ level % 65536))) (number c.both.result))
           (number_at number table level _ there) c.both.ensures) invariant.each k b);
     }
-
-pub returns : goal.returns
-returns g c =
-    let end = c.TOP-level-end.ensures in
-    let test = c.loop-level-test.false in
-    record { each = λ k b. c.loop-level.invariant.each k (omega arith) }

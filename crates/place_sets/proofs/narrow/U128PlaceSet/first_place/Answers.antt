@@ -5,9 +5,6 @@ use Rattle.std.proofs.lemmas.Bool.{cases_lt}
 use Rattle.std.proofs.lemmas.Nat.Bits.{bit_at-trailing_zeros}
 use Rattle.place_sets.proofs.narrow.U128PlaceSet.first_place.Goals as goal
 
-pub returns-clause-within : goal.returns-clause-within
-returns-clause-within c = (bit_at-trailing_zeros w128 c.args.self c.requires c.ranges.self.fits).0
-
 pub returns-clause-in_mask : goal.returns-clause-in_mask
 returns-clause-in_mask c = (bit_at-trailing_zeros w128 c.args.self c.requires c.ranges.self.fits).1
 
