@@ -1,9 +1,8 @@
 -- The cells of a line that is kept as two sets.
-use Rattle.std.proofs.Common.{◌≡◌, ℕ, ◌^◌, ◌<◌, ◌≤◌, ◌≢◌, Bool, true, false, List, length, get_or, set, refl, sym, ap, ◌∙◌, subst, arith, true≢false, inl, inr, zero-add, get_or-set_same, get_or-set_other, ext_get_or, length-set, replicate}
+use Rattle.std.proofs.Common.{◌≡◌, ℕ, ◌<◌, ◌≤◌, ◌≢◌, Bool, true, false, List, length, get_or, set, refl, sym, ap, ◌∙◌, subst, arith, true≢false, inl, inr, zero-add, get_or-set_same, get_or-set_other, ext_get_or, length-set, replicate}
 use Rattle.std.proofs.lemmas.Bool.{cases_eq}
 use Rattle.std.proofs.lemmas.List.{length-replicate, get_or-replicate}
 use Rattle.std.proofs.lemmas.Nat.Bits.{bit_at-zero}
-use Rattle.std.proofs.Math.Pow.{pow_mono}
 use Rattle.std.proofs.lemmas.List.FromFn.{length-map-range_with_len, get_or-map-range_with_len}
 use Rattle.grid_core.specs.declared.cells.Cell.{Cell}
 use Rattle.grid_core.specs.declared.cells.Cell.TheVariants.{Unknown, Filled, Blank}
@@ -155,7 +154,3 @@ pub apart-resized : (width f b wf wb nf nb : ℕ) → wf ≡ f → wb ≡ b → 
     → ((i : ℕ) → Has f i → Has b i → ⊥) → (i : ℕ) → Has nf i → Has nb i → ⊥
 apart-resized width f b wf wb nf nb ef eb pf pb apart i x y =
     apart i (subst (λ (z : ℕ). Has z i) ef (pf.to i x).1) (subst (λ (z : ℕ). Has z i) eb (pb.to i y).1)
-
--- no set has more than 256 places
-pub width_within : (width top : ℕ) → width ≡ 2 ^ top → top ≤ 8 → width ≤ 256
-width_within width top e h = let l : 2 ^ top ≤ 2 ^ 8 = pow_mono h in omega (arith, e, l)

@@ -5,6 +5,3 @@ use Rattle.grid_core.proofs.grids.Grid.read_row.Goals as goal
 
 pub read-requires : goal.read-requires
 read-requires g c = ap length c.row.ensures.row ∙ length-row_of c.args.self.now c.args.y ∙ c.requires.width
-
-pub returns-clause-cells : goal.returns-clause-cells
-returns-clause-cells g c = c.read.ensures ∙ c.row.ensures.row

@@ -1,18 +1,12 @@
 -- `Grid::row`: a kept row has the cells of the grid's row.
-use Rattle.std.proofs.Common.{◌≡◌, ◌∙◌, ◌<◌, ap, sym, subst, get_or, length, arith}
+use Rattle.std.proofs.Common.{◌≡◌, ◌∙◌, ◌<◌, ap, sym, get_or, length, arith}
 use Rattle.std.proofs.lemmas.List.{length-map}
-use Rattle.grid_core.specs.KeptRows.{IsRow, row_cells, rows_cells}
+use Rattle.grid_core.specs.KeptRows.{row_cells, rows_cells}
 use Rattle.grid_core.specs.PartialGrid.{PartialGrid}
 use Rattle.grid_core.specs.Rows.{cells_of_rows, row_of}
 use Rattle.grid_core.proofs.KeptRows.{count-cells, row_at, rows-long}
 use Rattle.grid_core.proofs.RowLists.{row_of-rows}
 use Rattle.grid_core.proofs.grids.Grid.row.Goals as goal
-
-pub line-requires-clause-row : goal.line-requires-clause-row
-line-requires-clause-row c =
-    let rows = c.self.inside.rows.items in
-    let within : c.args.y < length rows = omega (arith, c.requires, ap (λ (g : PartialGrid). g.height) c.self.view_is) in
-    subst IsRow (sym c.index.ensures) (c.self.invariant.1 c.from.result (omega (arith, within, c.from.ensures)) c.index.result.now)
 
 pub returns-clause-row : goal.returns-clause-row
 returns-clause-row c =

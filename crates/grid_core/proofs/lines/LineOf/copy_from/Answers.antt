@@ -4,16 +4,6 @@ use Rattle.grid_core.specs.Lines.{line_cells}
 use Rattle.grid_core.proofs.LineCells.{length_seen}
 use Rattle.grid_core.proofs.lines.LineOf.copy_from.Goals as goal
 
-pub invariant_of-self : goal.invariant_of-self
-invariant_of-self g c =
-    let number = g.W.PlaceSet.number in
-    let line = c.self.inside in
-    let other = c.other.inside in
-    let long : other.len ≡ line.len =
-    sym (length_seen other.len (number other.filled) (number other.blank) c.args.other.now c.other.view_is) ∙ c.requires
-    ∙ length_seen line.len (number line.filled) (number line.blank) c.args.self.now c.self.view_is in
-    rw long at c.other.invariant
-
 pub returns : goal.returns
 returns g c =
     let number = g.W.PlaceSet.number in

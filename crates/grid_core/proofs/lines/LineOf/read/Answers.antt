@@ -2,22 +2,8 @@
 use Rattle.std.proofs.Common.{◌≡◌, ◌∙◌, ℕ, refl, ap, sym, arith}
 use Rattle.place_sets.specs.Masks.{number_of}
 use Rattle.grid_core.specs.Lines.{line_cells}
-use Rattle.grid_core.proofs.LineCells.{apart-resized, cells-resized, length_seen}
+use Rattle.grid_core.proofs.LineCells.{cells-resized, length_seen}
 use Rattle.grid_core.proofs.lines.LineOf.read.Goals as goal
-
-pub invariant_of-self : goal.invariant_of-self
-invariant_of-self g c =
-    let number = g.W.PlaceSet.number in
-    let other = c.other.inside in
-    let f = number_of other.filled in
-    let b = number_of other.blank in
-    record {
-      some = c.self.invariant.some;
-      short = c.self.invariant.short;
-      within = c.self.invariant.within;
-      apart = apart-resized g.W.PlaceSet.WIDTH f b f b (number c.narrowed-self-inside.result) (number c.narrowed-self-inside-2.result)
-          refl refl c.narrowed-self-inside.ensures c.narrowed-self-inside-2.ensures c.other.invariant.apart;
-    }
 
 pub returns : goal.returns
 returns g c =

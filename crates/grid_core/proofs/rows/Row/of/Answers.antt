@@ -1,6 +1,5 @@
 -- `Row::of`: the widened sets have the places of the line's, and stay apart.
-use Rattle.std.proofs.Common.{◌∙◌, ℕ, subst}
-use Rattle.place_sets.specs.Masks.{Has}
+use Rattle.std.proofs.Common.{◌∙◌}
 use Rattle.grid_core.specs.Lines.{line_cells}
 use Rattle.grid_core.proofs.LineCells.{length_seen}
 use Rattle.grid_core.proofs.rows.Row.of.Goals as goal
@@ -11,7 +10,3 @@ returns-clause-cells g c =
     let line = c.line.inside in
     let long = length_seen line.len (number line.filled) (number line.blank) c.args.line.now c.line.view_is in
     (λ i. line_cells (long i) (c.widened.ensures i) (c.widened-2.ensures i)) ∙ c.line.view_is
-
-pub returns-clause-row : goal.returns-clause-row
-returns-clause-row g c = λ x f b.
-    c.line.invariant.apart x (subst (λ (m : ℕ). Has m x) c.widened.ensures f) (subst (λ (m : ℕ). Has m x) c.widened-2.ensures b)
