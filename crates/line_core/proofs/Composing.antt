@@ -1,5 +1,5 @@
 -- The masks of gaps and of ends, each made of those before it.
-use Rattle.std.proofs.Common.{◌≡◌, ℕ, ◌+◌, ◌-◌, ◌<◌, ◌≤◌, true, false, List, [], ◌∷◌, length, get_or, reverse, sym, subst, arith, add-one, ◌⊎◌, inl, inr}
+use Rattle.std.proofs.Common.{rules, ◌≡◌, ℕ, ◌+◌, ◌-◌, ◌<◌, ◌≤◌, true, false, List, [], ◌∷◌, length, get_or, reverse, sym, subst, arith, add-one, ◌⊎◌, inl, inr}
 use Rattle.std.proofs.lemmas.Bool.{cases_lt}
 use Rattle.grid_core.specs.declared.cells.Cell.{Cell}
 use Rattle.place_sets.specs.Masks.{Has, IsMaskOf, IsShifted, IsFlooded, AllFrom, SomeFrom, SomeLevel, AreLevelsOf}
@@ -143,12 +143,7 @@ fill_more l clue top j whole old new w s f = record { to = λ i x. to i (s.to i 
 pub blank_first : (l : List Cell) (clue : List ℕ) (gap ahead m : ℕ) → IsMaskOf (IsGap l clue 0) gap → IsMaskOf (IsGapAhead l clue 0) ahead
     → IsMaskOf (λ i. Has gap i × Has ahead i) m
     → IsMaskOf (λ i. (q : ℕ) × (q ≤ 0) × IsGap l clue q i × IsGapAhead l clue q i) m
-blank_first l clue gap ahead m g a p =
-    mask_same (λ i. IsGap l clue 0 i × IsGapAhead l clue 0 i) (λ i. (q : ℕ) × (q ≤ 0) × IsGap l clue q i × IsGapAhead l clue q i) m
-    (meet_of (IsGap l clue 0) (IsGapAhead l clue 0) gap ahead m g a p) (λ i x. (0, omega arith, x.0, x.1))
-    (λ i x. let b : x.0 ≤ 0 = x.1 in
-    let e : x.0 ≡ 0 = omega arith in
-    subst (λ (q : ℕ). IsGap l clue q i × IsGapAhead l clue q i) e (x.2, x.3))
+blank_first l clue gap ahead m g a p = search rules
 
 -- one more gap, and the cells that are blank in it
 pub blank_more : (l : List Cell) (clue : List ℕ) (j gap ahead blank part m : ℕ) → IsMaskOf (IsGap l clue (j + 1)) gap

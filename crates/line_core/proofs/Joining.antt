@@ -1,5 +1,5 @@
 -- A line cut at a cell: placings of both parts make one of the whole, and a placing falls into two.
-use Rattle.std.proofs.Common.{◌≡◌, ℕ, zero, suc, ◌+◌, ◌-◌, ◌<◌, ◌≤◌, Bool, true, false, List, [], ◌∷◌, ◌++◌, length, replicate, refl, sym, ap, ◌∙◌, subst, arith, add-zero, zero-add, true≢false, ◌⊎◌, inl, inr, drop, get_or, drop-cons, add-one, drop_of_length-le, length-drop, reverse}
+use Rattle.std.proofs.Common.{rules, ◌≡◌, ℕ, zero, suc, ◌+◌, ◌-◌, ◌<◌, ◌≤◌, Bool, true, false, List, [], ◌∷◌, ◌++◌, length, replicate, refl, sym, ap, ◌∙◌, subst, arith, add-zero, zero-add, ◌⊎◌, inl, inr, drop, get_or, drop-cons, add-one, drop_of_length-le, length-drop, reverse}
 use Rattle.grid_core.proofs.RunsLemmas.{runs_after}
 use Rattle.std.proofs.lemmas.List.{get_or-reverse, length-reverse}
 use Rattle.std.proofs.lemmas.Bool.{cases_lt, and_from, and_parts}
@@ -298,11 +298,7 @@ fillable_to l clue i pos (j, jl, (z, zb, w)) =
 
 -- a line whose first cell is filled begins with a run
 pub begins_some : (y : List Bool) (b : Begins y) → get_or y 0 false ≡ true → 0 < b.count
-begins_some y b h = by b.count b.whole
-  where
-    by : (n : ℕ) → y ≡ replicate n true ++ b.rest → 0 < n
-    by zero e = absurd (true≢false (sym h ∙ ap (λ (t : List Bool). get_or t 0 false) e ∙ b.closed))
-    by (suc n) e = omega arith
+begins_some y b h = search rules
 
 -- and a cell that is filled in a placing is told so
 pub fillable_from : (l : List Cell) (clue : List ℕ) (i : ℕ) → i < length l → CanBe l clue true i → IsFillable l clue i

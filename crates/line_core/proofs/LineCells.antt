@@ -1,23 +1,11 @@
 -- The cells of a line that may have a colour, and the lengths of runs.
-use Rattle.std.proofs.Common.{◌≡◌, ℕ, ◌+◌, ◌<◌, ◌≤◌, ◌≢◌, Bool, true, false, List, length, get_or, set, refl, sym, ◌∙◌, subst, arith, true≢false, inl, inr, rules, get_or-set_same, get_or-set_other}
+use Rattle.std.proofs.Common.{◌≡◌, ℕ, ◌+◌, ◌<◌, ◌≤◌, ◌≢◌, Bool, true, false, List, length, get_or, set, refl, sym, subst, arith, true≢false, inl, inr, rules, get_or-set_same, get_or-set_other}
 use Rattle.std.proofs.lemmas.Bool.{cases_lt}
 use Rattle.grid_core.specs.declared.cells.Cell.{Cell}
 use Rattle.grid_core.specs.declared.cells.Cell.TheVariants.{Unknown, Filled, Blank}
 use Rattle.grid_core.specs.Cells.{allows, is_filled}
-use Rattle.grid_core.specs.Lines.{is_blank}
 use Rattle.place_sets.specs.Masks.{has, IsMaskOf}
-use Rattle.place_sets.proofs.Steps.{mask_same}
 use Rattle.line_core.specs.steps.Reach.{MayBe, AreLengths}
-
-open_to : (c : Cell) → is_blank c ≡ false → allows c true ≡ true
-open_to Unknown e = refl
-open_to Filled e = refl
-open_to Blank e = absurd (true≢false e)
-
-open_from : (c : Cell) → allows c true ≡ true → is_blank c ≡ false
-open_from Unknown e = refl
-open_from Filled e = refl
-open_from Blank e = absurd (true≢false (sym e))
 
 free_to : (c : Cell) → is_filled c ≡ false → allows c false ≡ true
 free_to Unknown e = refl
@@ -35,20 +23,12 @@ may_be_is : (line : List Cell) (set_of m : ℕ) (test : Cell → Bool) (filled :
     → ((c : Cell) → test c ≡ false → allows c filled ≡ true) → ((c : Cell) → allows c filled ≡ true → test c ≡ false)
     → ((i : ℕ) → i < length line → has set_of i ≡ test (get_or line i Unknown))
     → IsMaskOf (λ i. (i < length line) × (has set_of i ≡ false)) m → IsMaskOf (MayBe line filled) m
-may_be_is line set_of m test filled to from same lacking =
-    mask_same (λ i. (i < length line) × (has set_of i ≡ false)) (MayBe line filled) m lacking
-    (λ i a. (a.0, to (get_or line i Unknown) (sym (same i a.0) ∙ a.1)))
-    (λ i a. (a.0, same i a.0 ∙ from (get_or line i Unknown) a.1))
+may_be_is line set_of m test filled to from same lacking = search rules
 
 -- the cells that may be blank are those that the set of filled ones lacks
 pub free_is : (line : List Cell) (filled m : ℕ) → ((i : ℕ) → i < length line → has filled i ≡ is_filled (get_or line i Unknown))
     → IsMaskOf (λ i. (i < length line) × (has filled i ≡ false)) m → IsMaskOf (MayBe line false) m
 free_is line filled m = may_be_is line filled m is_filled false free_to free_from
-
--- the cells that may be filled are those that the set of blank ones lacks
-pub open_is : (line : List Cell) (blank m : ℕ) → ((i : ℕ) → i < length line → has blank i ≡ is_blank (get_or line i Unknown))
-    → IsMaskOf (λ i. (i < length line) × (has blank i ≡ false)) m → IsMaskOf (MayBe line true) m
-open_is line blank m = may_be_is line blank m is_blank true open_to open_from
 
 -- one more element written
 pub written_more : (P : ℕ → ℕ → Type 0) (xs : List ℕ) (j v : ℕ) → j < length xs → P j v → ((k : ℕ) → k < j → P k (get_or xs k 0)) → (k : ℕ)

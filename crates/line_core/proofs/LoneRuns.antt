@@ -1,12 +1,12 @@
 -- A clue of one run: its starts tell which cells can be filled and which can be blank.
-use Rattle.std.proofs.Common.{◌≡◌, ℕ, ◌+◌, ◌-◌, ◌<◌, ◌≤◌, Bool, true, false, List, [], ◌∷◌, length, refl, sym, ap, ◌∙◌, subst, arith, true≢false, ◌⊎◌, inl, inr, get_or}
+use Rattle.std.proofs.Common.{rules, ◌≡◌, ℕ, ◌+◌, ◌-◌, ◌<◌, ◌≤◌, Bool, true, false, List, [], ◌∷◌, length, refl, sym, ap, ◌∙◌, subst, arith, true≢false, ◌⊎◌, inl, inr, get_or}
 use Rattle.std.proofs.lemmas.Bool.{cases_lt}
 use Rattle.std.proofs.lemmas.Nat.Bits.{bit_at-zero}
 use Rattle.grid_core.specs.declared.cells.Cell.{Cell}
 use Rattle.grid_core.specs.Cells.{agrees}
 use Rattle.grid_core.specs.Runs.{runs}
 use Rattle.place_sets.specs.Masks.{Has, has, IsMaskOf, IsShifted, AllFrom, SomeFrom}
-use Rattle.place_sets.proofs.HasLemmas.{has_true, true_has}
+use Rattle.place_sets.proofs.HasLemmas.{has_true}
 use Rattle.place_sets.proofs.Steps.{mask_same}
 use Rattle.line_core.specs.steps.Reach.{MayBe, IsFillable, IsBlankable}
 use Rattle.line_core.specs.steps.Lone.{IsLoneStart}
@@ -134,11 +134,7 @@ leaves_from l clue i s pos one within start out =
 
 free_unless : (l : List Cell) (free filled : ℕ) (i : ℕ) → IsMaskOf (MayBe l false) free
     → ((k : ℕ) → k < length l → has free k ≡ false → Has filled k) → (Has filled i → ⊥) → i < length l → MayBe l false i
-free_unless l free filled i f from none h = by (has free i) refl
-  where
-    by : (b : Bool) → has free i ≡ b → MayBe l false i
-    by true e = f.to i (true_has free i e)
-    by false e = absurd (none (from i h e))
+free_unless l free filled i f from none h = search rules
 
 window_to : (l : List Cell) (room number i : ℕ) → IsMaskOf (MayBe l true) room → AllFrom (Has room) number i
     → AllFrom (MayBe l true) number i
@@ -151,14 +147,7 @@ window_from l room number i r h = λ z b. r.from (i + z) (h z b)
 -- a cell that must be filled is in the run
 must_fill : (l : List Cell) (free number s k : ℕ) → IsMaskOf (MayBe l false) free → IsLoneStart l number s → k < length l
     → has free k ≡ false → (s ≤ k) × (k < s + number)
-must_fill l free number s k f start h lacks =
-    elim (cases_lt k s) [
-      | inl before ↦ absurd (true≢false (sym (has_true free k (f.from k (start.blanks k h (λ low high. absurd (omega arith))))) ∙ lacks))
-      | inr low ↦ elim (cases_lt k (s + number)) [
-        | inl high ↦ (low, high)
-        | inr after ↦ absurd (true≢false (sym (has_true free k (f.from k (start.blanks k h (λ low high. absurd (omega arith))))) ∙ lacks))
-      ]
-    ]
+must_fill l free number s k f start h lacks = search rules
 
 -- no cell must be filled
 pub starts_anywhere : (l : List Cell) (number free room len line filled starts : ℕ) → len ≡ length l → IsMaskOf (MayBe l false) free

@@ -1,5 +1,5 @@
 -- Placings on a line of which nothing is known: the runs packed to the left, and from one on moved right.
-use Rattle.std.proofs.Common.{◌≡◌, ℕ, zero, suc, ◌+◌, ◌-◌, ◌*◌, ◌<◌, ◌≤◌, ◌≢◌, Bool, true, false, cond, List, length, replicate, map, nat_le, nat_lt, refl, sym, ap, ◌∙◌, subst, arith, add-one, true≢false, ◌⊎◌, inl, inr, get_or, ext_get_or}
+use Rattle.std.proofs.Common.{rules, ◌≡◌, ℕ, zero, suc, ◌+◌, ◌-◌, ◌*◌, ◌<◌, ◌≤◌, ◌≢◌, Bool, true, false, cond, List, length, replicate, map, nat_le, nat_lt, refl, sym, ap, ◌∙◌, subst, arith, add-one, true≢false, ◌⊎◌, inl, inr, get_or, ext_get_or}
 use Rattle.std.specs.List.{range_with_len}
 use Rattle.std.proofs.lemmas.Bool.{cases_lt, leb-true, le-leb, ltb-true, lt-ltb}
 use Rattle.std.proofs.lemmas.List.{take_all, length-replicate, get_or-replicate}
@@ -402,20 +402,7 @@ overlap_more clue w slack j start old some shifted new within h long at o p q r 
 -- a run that isn't longer than the slack has none
 pub overlap_same : (clue : List ℕ) (slack j m : ℕ) → get_or clue j 0 ≤ slack → IsMaskOf (IsOverlapBefore j clue slack) m
     → IsMaskOf (IsOverlapBefore (j + 1) clue slack) m
-overlap_same clue slack j m short o =
-    mask_same (IsOverlapBefore j clue slack) (IsOverlapBefore (j + 1) clue slack) m o (λ i x. (x.0, omega (arith, x.1), x.2, x.3)) from
-  where
-    from : (i : ℕ) → IsOverlapBefore (j + 1) clue slack i → IsOverlapBefore j clue slack i
-    from i x =
-        elim (cases_lt x.0 j) [
-          | inl low ↦ (x.0, low, x.2, x.3)
-          | inr high ↦
-              (let below : x.0 < j + 1 = x.1 in
-              let e : x.0 ≡ j = omega arith in
-              let low : least_start clue j + slack ≤ i = subst (λ (k : ℕ). least_start clue k + slack ≤ i) e x.2 in
-              let end : i < least_start clue j + get_or clue j 0 = subst (λ (k : ℕ). i < least_start clue k + get_or clue k 0) e x.3 in
-              absurd (omega arith))
-        ]
+overlap_same clue slack j m short o = search rules
 
 -- ---- a clue that needs more than there is
 

@@ -1,17 +1,14 @@
 -- A line with blank cells behind it has the placings of the line alone.
-use Rattle.std.proofs.Common.{◌≡◌, ℕ, zero, suc, ◌+◌, ◌-◌, ◌<◌, ◌≤◌, ◌⊎◌, inl, inr, Bool, true, false, List, [], ◌∷◌, ◌++◌, length, replicate, get_or, refl, sym, ap, ◌∙◌, arith, true≢false, length-append, append-nil}
-use Rattle.std.proofs.lemmas.Bool.{cases_lt, and_from, and_parts}
-use Rattle.std.proofs.lemmas.List.{get_or_append_left, get_or-append_right, get_or-replicate, length-replicate}
+use Rattle.std.proofs.Common.{◌≡◌, ℕ, zero, suc, ◌<◌, Bool, true, false, List, [], ◌∷◌, ◌++◌, length, replicate, get_or, refl, sym, ap, ◌∙◌, arith, true≢false, length-append, append-nil}
+use Rattle.std.proofs.lemmas.Bool.{and_from, and_parts}
+use Rattle.std.proofs.lemmas.List.{get_or_append_left}
 use Rattle.grid_core.specs.declared.cells.Cell.{Cell}
-use Rattle.grid_core.specs.declared.cells.Cell.TheVariants.{Unknown, Blank}
+use Rattle.grid_core.specs.declared.cells.Cell.TheVariants.{Blank}
 use Rattle.grid_core.specs.Cells.{allows, agrees}
 use Rattle.grid_core.specs.Runs.{runs}
 use Rattle.grid_core.proofs.RunsLemmas.{runs_after}
-use Rattle.place_sets.specs.Masks.{Has, has, IsMaskOf}
-use Rattle.place_sets.proofs.HasLemmas.{has_true}
+use Rattle.place_sets.specs.Masks.{Has, IsMaskOf}
 use Rattle.place_sets.proofs.Steps.{mask_same}
-use Rattle.grid_core.proofs.LineCells.{has_by}
-use Rattle.line_core.specs.steps.Passes.{IsSpanOf, padded}
 use Rattle.line_core.specs.steps.Reach.{IsBlankable, IsFillable}
 use Rattle.line_core.proofs.RunLaws.{ArePositive, runs_after-zero, runs_after-true, runs_after-false, runs_after-close, runs_after-nil}
 use Rattle.line_core.proofs.Certain.{CanBe}
@@ -141,63 +138,3 @@ module _ (l : List Cell) (clue : List ℕ) (m : ℕ) where
         are.from i (blankable_from longer clue i (inside i within) (with_blanks false i within (blankable_to l clue i h))),
         first.from i within,
       ))
-
--- ---- the masks
-
-cell_before : (line : List Cell) (m i : ℕ) → i < length line → get_or (line ++ replicate m Blank) i Unknown ≡ get_or line i Unknown
-cell_before line m i low = get_or_append_left line (replicate m Blank) Unknown i low
-
-cell_behind : (line : List Cell) (m i : ℕ) → length line ≤ i → i < length line + m → get_or (line ++ replicate m Blank) i Unknown ≡ Blank
-cell_behind line m i high low =
-    get_or-append_right line (replicate m Blank) (length line) i Unknown refl high
-    ∙ get_or-replicate m (i - length line) Blank Unknown (omega (arith, high, low))
-
--- the masks of a line with blank cells behind it
-pub span_padded : (line : List Cell) (w len free room full first behind new : ℕ) → IsSpanOf w line len free room
-    → IsMaskOf (λ i. i < w) full → IsMaskOf (λ i. i < len) first → IsMaskOf (λ i. Has full i × (has first i ≡ false)) behind
-    → IsMaskOf (λ i. Has free i ⊎ Has behind i) new → IsSpanOf w (padded w line) w new room
-span_padded line w len free room full first behind new span all front outside either =
-    let m = w - length line in
-    let count : length (padded w line) ≡ w = omega (arith, length-append line (replicate m Blank), length-replicate m Blank, span.short) in
-    record {
-      some = omega (arith, count, span.some, span.short);
-      short = omega (arith, count);
-      len_is = sym count;
-      free_is = record {
-        to = λ i h.
-            elim (either.to i h) [
-              | inl in_line ↦
-                  let may = span.free_is.to i in_line in
-                  (omega (arith, count, may.0, span.short), ap (λ (c : Cell). allows c false) (cell_before line m i may.0) ∙ may.1)
-              | inr past ↦
-                  let out = outside.to i past in
-                  let low : i < w = all.to i out.0 in
-                  let high : length line ≤ i = elim (cases_lt i len) [
-                    | inl under ↦ absurd (true≢false (sym (has_true first i (front.from i under)) ∙ out.1))
-                    | inr over ↦ omega (arith, over, span.len_is)
-                  ] in
-                  (omega (arith, count, low), ap (λ (c : Cell). allows c false) (cell_behind line m i high (omega (arith, low, span.short))))
-            ];
-        from = λ i h.
-            elim (cases_lt i (length line)) [
-              | inl low ↦
-                  either.from i (inl (span.free_is.from i (low, sym (ap (λ (c : Cell). allows c false) (cell_before line m i low)) ∙ h.1)))
-              | inr high ↦
-                  let lacks : has first i ≡ false =
-                  has_by first i false (λ t. absurd (omega (arith, front.to i t, high, span.len_is))) (λ e. absurd (true≢false (sym e))) in
-                  either.from i (inr (outside.from i (all.from i (omega (arith, count, h.0)), lacks)))
-            ];
-      };
-      room_is = record {
-        to = λ i h.
-            let may = span.room_is.to i h in
-            (omega (arith, count, may.0, span.short), ap (λ (c : Cell). allows c true) (cell_before line m i may.0) ∙ may.1);
-        from = λ i h.
-            elim (cases_lt i (length line)) [
-              | inl low ↦ span.room_is.from i (low, sym (ap (λ (c : Cell). allows c true) (cell_before line m i low)) ∙ h.1)
-              | inr high ↦
-                  absurd
-                  (true≢false (sym h.1 ∙ ap (λ (c : Cell). allows c true) (cell_behind line m i high (omega (arith, count, h.0)))))
-            ];
-      };
-    }

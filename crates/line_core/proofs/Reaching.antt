@@ -1,12 +1,12 @@
 -- How far the runs reach: gaps and ends as floods tell them, and as placings of the cells before do.
-use Rattle.std.proofs.Common.{◌≡◌, ℕ, zero, suc, ◌+◌, ◌-◌, ◌<◌, ◌≤◌, Bool, true, false, List, [], ◌∷◌, ◌++◌, length, replicate, refl, sym, ap, ◌∙◌, subst, arith, ◌⊎◌, inl, inr, get_or}
+use Rattle.std.proofs.Common.{rules, ◌≡◌, ℕ, zero, suc, ◌+◌, ◌-◌, ◌<◌, ◌≤◌, Bool, true, false, List, [], ◌∷◌, ◌++◌, length, replicate, refl, sym, ap, ◌∙◌, subst, arith, ◌⊎◌, inl, inr, get_or}
 use Rattle.std.proofs.lemmas.Bool.{and_from, and_parts}
 use Rattle.grid_core.specs.declared.cells.Cell.{Cell}
 use Rattle.grid_core.specs.declared.cells.Cell.TheVariants.{Unknown}
 use Rattle.grid_core.specs.Cells.{allows, agrees}
 use Rattle.grid_core.specs.Runs.{runs}
 use Rattle.place_sets.specs.Masks.{IsFlooded, AllFrom}
-use Rattle.line_core.specs.steps.Reach.{behind, HasPlacing, MayBeginBlank, MayBe, IsGapAfter, IsEndAfter}
+use Rattle.line_core.specs.steps.Reach.{behind, HasPlacing, MayBe, IsGapAfter, IsEndAfter}
 use Rattle.line_core.proofs.Joining.{begins, begins_some, runs_about, first_closed}
 
 -- one more blank cell before a placing
@@ -116,15 +116,7 @@ run_open l (suc m) (suc p) rest r =
 -- a run of `n` cells that goes back from the next cell, with a blank one or none before it, ends here
 end_from_run : (l : List Cell) (cs : List ℕ) (n i : ℕ) (rest : List Bool) → i < length l → OpenRun l n (suc i) rest → runs rest ≡ cs
     → get_or rest 0 false ≡ false → IsEndAfter l cs n i
-end_from_run l cs n i rest within o is closed =
-    let enough : n ≤ suc i = o.enough in
-    let e : suc i - n ≡ i + 1 - n = omega arith in
-    let start : MayBeginBlank (behind Unknown l (i + 1 - n)) cs =
-    (rest, subst (λ (q : ℕ). agrees (behind Unknown l q) rest ≡ true) e o.before, is, closed) in
-    let cells : AllFrom (MayBe l true) n (i + 1 - n) =
-    λ z b. let f : suc i - n + z ≡ i + 1 - n + z = omega arith in
-    (omega arith, subst (λ (q : ℕ). allows (get_or l q Unknown) true ≡ true) f (o.cells z b)) in
-    (omega arith, (start, cells))
+end_from_run l cs n i rest within o is closed = search rules
 
 run_from_end : (l : List Cell) (cs : List ℕ) (n i : ℕ) → 0 < n → IsEndAfter l cs n i → HasPlacing (behind Unknown l (suc i)) (n ∷ cs)
 run_from_end l cs n i some x =

@@ -1,5 +1,5 @@
 -- What masks of the cells that can be filled, and of those that can be blank, tell of a line.
-use Rattle.std.proofs.Common.{◌≡◌, ℕ, ◌<◌, ◌⊎◌, inl, inr, Bool, true, false, not, cond, ◌&&◌, ◌||◌, List, length, get_or, map, Some, None, refl, sym, ap, ◌∙◌, arith, true≢false, zero-add, ext_get_or}
+use Rattle.std.proofs.Common.{rules, ◌≡◌, ℕ, ◌<◌, ◌⊎◌, inl, inr, Bool, true, false, not, cond, ◌&&◌, ◌||◌, List, length, get_or, map, Some, None, refl, sym, ap, ◌∙◌, arith, true≢false, zero-add, ext_get_or}
 use Rattle.std.specs.List.{range_with_len}
 use Rattle.std.proofs.lemmas.List.FromFn.{length-map-range_with_len, get_or-map-range_with_len}
 use Rattle.grid_core.specs.declared.cells.Cell.{Cell}
@@ -36,12 +36,7 @@ told_dead len f b m p none = rw (either_first f b m p, none) refl
 
 -- what one mask has and another lacks
 without_at : (f b n i : ℕ) → IsMaskOf (λ i. Has f i × (has b i ≡ false)) n → has n i ≡ (has f i && not (has b i))
-without_at f b n i p = by (has f i) (has b i) refl refl
-  where
-    by : (x y : Bool) → has f i ≡ x → has b i ≡ y → has n i ≡ (x && not y)
-    by true true u v = has_by n i false (λ h. absurd (true≢false (sym v ∙ (p.to i h).1))) (λ e. absurd (true≢false (sym e)))
-    by true false u v = has_true n i (p.from i (true_has f i u, v))
-    by false y u v = has_by n i false (λ h. absurd (true≢false (sym (has_true f i (p.to i h).0) ∙ u))) (λ e. absurd (true≢false (sym e)))
+without_at f b n i p = search rules
 
 told_cell : (x y : Bool) → cell_with (x && not y) (y && not x) ≡ certain_by x y
 told_cell true true = refl
@@ -64,11 +59,6 @@ told_some len f b m nf nb p some pf pb =
     ∙ told_cell (has f k) (has b k)
     ∙ sym (get_or-map-range_with_len (λ (i : ℕ). certain_by (has f i) (has b i)) 0 len k k Unknown within (zero-add k))) in
     ap (λ (cells : List Cell). Some cells) same ∙ ap (λ (t : Bool). cond t (Some all) None) (sym (either_first f b m p ∙ some))
-
--- no cell of the answer is in both masks
-pub told_apart : (f b nf nb i : ℕ) → IsMaskOf (λ i. Has f i × (has b i ≡ false)) nf → IsMaskOf (λ i. Has b i × (has f i ≡ false)) nb
-    → Has nf i → Has nb i → ⊥
-told_apart f b nf nb i pf pb x y = true≢false (sym (has_true f i (pf.to i x).0) ∙ (pb.to i y).1)
 
 -- ---- the deduction
 

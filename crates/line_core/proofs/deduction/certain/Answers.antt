@@ -1,7 +1,7 @@
 -- `certain`: what one mask has and the other lacks; dead if the first cell can have no colour.
 use Rattle.std.proofs.Common.{◌∙◌, List, Some, ap, sym}
 use Rattle.grid_core.specs.declared.cells.Cell.{Cell}
-use Rattle.line_core.proofs.Telling.{told_dead, told_some, told_apart}
+use Rattle.line_core.proofs.Telling.{told_dead, told_some}
 use Rattle.line_core.proofs.deduction.certain.Goals as goal
 
 pub returns-then-not-contains : goal.returns-then-not-contains
@@ -9,12 +9,6 @@ returns-then-not-contains g c =
     let number = g.W.PlaceSet.number in
     told_dead c.args.len (number c.args.fillable) (number c.args.blankable) (number c.union.result) c.union.ensures
     (sym c.contains.ensures ∙ c.if-not-contains.true)
-
-pub of_sets-requires-clause-apart : goal.of_sets-requires-clause-apart
-of_sets-requires-clause-apart g c = λ i x y.
-    let number = g.W.PlaceSet.number in
-    told_apart (number c.args.fillable) (number c.args.blankable) (number c.difference-filled.result) (number c.difference-blank.result) i
-    c.difference-filled.ensures c.difference-blank.ensures x y
 
 pub returns : goal.returns
 returns g c =

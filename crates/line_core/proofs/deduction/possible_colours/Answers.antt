@@ -4,7 +4,6 @@ use Rattle.std.proofs.lemmas.Bool.{eqb-true, eqb-false}
 use Rattle.place_sets.specs.Masks.{IsMaskOf, SomeFrom, SomeLevel, AreLevelsOf}
 use Rattle.line_core.specs.steps.Reach.{behind, IsGap, IsGapAhead, IsWholeEnd, IsFillable, IsBlankable}
 use Rattle.line_core.specs.steps.Passes.{IsPassOver}
-use Rattle.line_core.proofs.LineCells.{length_at}
 use Rattle.place_sets.proofs.LevelSteps.{levels_none, none_at}
 use Rattle.place_sets.proofs.Steps.{mask_same}
 use Rattle.line_core.proofs.Composing.{runs_more, blank_first, blank_more, fill_more}
@@ -26,13 +25,6 @@ loop-j-init g c =
           levels_none (λ i. (q : ℕ) × (q < 0) × SomeFrom (IsWholeEnd line clue q) (get_or clue q 0) i) g.W.PlaceSet.TOP _
           (none_at number c.empty-spread.result c.empty-spread.ensures 9) (λ i h. let b : h.0 < 0 = h.1 in absurd (omega arith));
     }
-
-pub step-ends-requires : goal.step-ends-requires
-step-ends-requires g c =
-    let size = c.requires.1.0 in
-    let clue = c.requires.1.1.1.0 in
-    let test = c.loop-j-test.true in
-    (omega arith, length_at g.W.PlaceSet.WIDTH c.args.clue.now c.loop-j.j clue (omega arith))
 
 pub inner_ends-whole-requires : goal.inner_ends-whole-requires
 inner_ends-whole-requires g c = λ κs within.

@@ -4,9 +4,6 @@ use Rattle.place_sets.specs.Masks.{Has}
 use Rattle.place_sets.proofs.Uses.{flood_from, meet_of, has_of}
 use Rattle.line_core.proofs.gaps.first_gap.Goals as goal
 
-pub flood-requires : goal.flood-requires
-flood-requires g c = λ i h. (c.intersection.ensures.to i h).0
-
 pub returns : goal.returns
 returns g c =
     let number = g.W.PlaceSet.number in

@@ -7,9 +7,6 @@ use Rattle.line_core.proofs.gaps.gap_after.Goals as goal
 pub shifted_up-requires : goal.shifted_up-requires
 shifted_up-requires g c = one_within g.W.PlaceSet.WIDTH g.W.PlaceSet.TOP g.met.W.PlaceSet.top_is.0 g.met.W.PlaceSet.width_is
 
-pub flood-requires : goal.flood-requires
-flood-requires g c = λ i h. (c.intersection.ensures.to i h).1
-
 pub returns : goal.returns
 returns g c =
     let number = g.W.PlaceSet.number in

@@ -5,7 +5,7 @@ use Rattle.std.proofs.lemmas.List.{map-set, length-map, get_or-reverse}
 use Rattle.place_sets.specs.Masks.{IsMaskOf}
 use Rattle.line_core.specs.steps.Reach.{behind, IsGap}
 use Rattle.line_core.specs.steps.Passes.{IsPassOver}
-use Rattle.line_core.proofs.LineCells.{written_more, length_at}
+use Rattle.line_core.proofs.LineCells.{written_more}
 use Rattle.line_core.proofs.Composing.{runs_more}
 use Rattle.line_core.proofs.reach.write_reversed_gaps.Goals as goal
 
@@ -28,14 +28,6 @@ loop-j-init g c =
           (written_more (λ k m. IsMaskOf (IsGap line clue k) m) (map number gaps) 0 (number c.gap.result) some gap
           (λ k h. absurd (omega arith)) k (omega arith));
     }
-
-pub step-requires : goal.step-requires
-step-requires g c =
-    let size = c.requires.1.0 in
-    let clue = c.requires.1.1.1.0 in
-    let count = c.requires.1.1.1.1 in
-    let test = c.loop-j-test.true in
-    (omega arith, length_at g.W.PlaceSet.WIDTH c.args.clue.now _ clue (omega arith))
 
 pub loop-j-preserved : goal.loop-j-preserved
 loop-j-preserved g c =

@@ -1,32 +1,15 @@
 -- `write_starts`: run by run, the outermost of its ends in whole placings tells its start.
 use Rattle.std.proofs.Common.{◌≡◌, ◌+◌, ◌-◌, ◌<◌, ℕ, List, map, get_or, length-set, subst, refl, sym, ◌∙◌, arith}
-use Rattle.std.proofs.lemmas.Bool.{eqb-true, eqb-false}
+use Rattle.std.proofs.lemmas.Bool.{eqb-true}
 use Rattle.std.proofs.lemmas.List.Elements.{recursion_from_All}
 use Rattle.std.proofs.lemmas.Nat.Bits.{bit_at-zero}
 use Rattle.place_sets.specs.Masks.{Has}
 use Rattle.line_core.specs.steps.Reach.{behind}
 use Rattle.line_core.specs.steps.Passes.{IsPassOver}
 use Rattle.line_core.proofs.RunLaws.{ArePositive}
-use Rattle.line_core.proofs.LineCells.{length_at}
 use Rattle.line_core.proofs.Composing.{runs_more}
 use Rattle.line_core.proofs.Outermost.{some_end, outer_more}
 use Rattle.line_core.proofs.starts.write_starts.Goals as goal
-
-pub loop-j-init : goal.loop-j-init
-loop-j-init g c = record {
-  pass = c.new-pass.ensures g.line
-      (map g.W.PlaceSet.number c.windows_within-windows.result) c.requires.1.1.0 c.windows_within-windows.ensures;
-  starts = λ k h. absurd (omega arith);
-  len = refl;
-}
-
-pub step-ends-requires : goal.step-ends-requires
-step-ends-requires g c =
-    let size = c.requires.1.0 in
-    let clue = c.requires.1.1.1.0 in
-    let count = c.requires.1.1.1.1.0.1 in
-    let test = c.loop-j-test.true in
-    (omega arith, length_at g.W.PlaceSet.WIDTH c.args.clue.now c.loop-j.j clue test)
 
 pub whole_ends-whole-requires : goal.whole_ends-whole-requires
 whole_ends-whole-requires g c =
@@ -66,14 +49,6 @@ loop-j-preserved g c =
           (omega arith) c.whole_ends-whole.ensures place.ensures.in_mask place.ensures.outermost refl invariant.starts;
       len = length-set c.loop-j.list.starts j (place.result + 1 - get_or clue j 0) ∙ invariant.len;
     }
-
-pub outermost_place-requires : goal.outermost_place-requires
-outermost_place-requires g c =
-    let some = eqb-false (g.W.PlaceSet.number c.whole_ends-whole.result) 0 (sym c.is_empty.ensures ∙ c.if-is_empty.false) in
-    omega arith
-
-pub overflow_sub-list : goal.overflow_sub-list
-overflow_sub-list g c = (c.whole_ends-whole.ensures.to c.outermost_place.result c.outermost_place.ensures.in_mask).0.0
 
 pub returns-then-is_empty-clause-starts : goal.returns-then-is_empty-clause-starts
 returns-then-is_empty-clause-starts g c = λ p.
