@@ -1,12 +1,8 @@
 -- Lemmas on the entries of a collection.
-use Rattle.std.proofs.Common.{◌≡◌, ℕ, ◌-◌, false, List, [], ◌∷◌, ◌++◌, length, drop, refl, sym, ap, ◌∙◌, append_assoc}
-use Rattle.std.specs.Char.{to_ascii_lowercase}
-use Rattle.std.specs.Str.{bytes_eq, str_to_ascii_lowercase}
+use Rattle.std.proofs.Common.{◌≡◌, ℕ, false, List, [], ◌∷◌, ◌++◌, sym, ap, ◌∙◌, append_assoc}
 use Rattle.std.proofs.lemmas.Bool.{cond-false}
-use Rattle.std.proofs.lemmas.List.{drop-map, length-map}
 use Rattle.puzzle_text.specs.Lines.{raw_lines}
 use Rattle.puzzle_text.specs.Collections.{body_of, entries_of, is_marker, name_of}
-use Rattle.puzzle_text.specs.Formats.{has_ending}
 
 -- front went into the body, which is whole, and no entry began in it
 abbrev pub BodySoFar : List ℕ → List ℕ → List ℕ → Type 0
@@ -30,8 +26,3 @@ body_goes_on bytes rest raw after whole so_far parts first other =
       append_assoc front raw (body_of (raw_lines after)) ∙ sym (ap (λ (r : List ℕ). front ++ r) body) ∙ so_far.2,
       sym entries ∙ so_far.3,
     )
-
--- an ending, letters in either case
-pub ends_so : (name ending : List ℕ) (k : ℕ) → k ≡ length name - length ending
-    → bytes_eq (str_to_ascii_lowercase (drop k name)) (str_to_ascii_lowercase ending) ≡ has_ending (str_to_ascii_lowercase ending) name
-ends_so name ending k e = rw (length-map ending to_ascii_lowercase, drop-map to_ascii_lowercase (length name - length ending) name, e) refl

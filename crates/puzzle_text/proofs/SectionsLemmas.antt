@@ -124,15 +124,3 @@ front_chosen count lines found e =
     front_choice (eqb (length full) count) (leb count (length lines)) (list_all is_blank_line (drop count lines)) full
     (take count lines) found
     (λ enough within blank. front_kept count lines (leb-true _ _ within) blank (eqb-true _ _ enough)) e
-
-front_length_of : (within blank : Bool) (first found : List Line) (count : ℕ) → (within ≡ true → length first ≡ count)
-    → cond (within && blank) (Some first) None ≡ Some found → length found ≡ count
-front_length_of true true first found count same e = let is : first ≡ found = cc in ap length (sym is) ∙ same refl
-front_length_of true false first found count same e = absurd cc
-front_length_of false blank first found count same e = absurd cc
-
--- they are `count` lines
-pub front_length : (count : ℕ) (lines found : List Line) → front count lines ≡ Some found → length found ≡ count
-front_length count lines found e =
-    front_length_of (leb count (length lines)) (list_all is_blank_line (drop count lines)) (take count lines) found count
-    (λ within. length-take-le count lines (leb-true _ _ within)) e

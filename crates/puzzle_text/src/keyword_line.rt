@@ -7,7 +7,7 @@ ghost use Rattle.std.specs.Str.{str_to_ascii_lowercase};
 use crate::lines::Line;
 
 /// A line that begins with a keyword, and that keyword: all letters at its start.
-#[derive(Clone, Copy, Debug)]
+#[derive(Clone, Copy)]
 pub(crate) struct KeywordLine<'a> {
     pub word: &'a [u8],
     pub line: Line<'a>,

@@ -10,7 +10,7 @@ use memchr::memchr;
 use std::alloc::Global;
 
 /// A line: its number in the text, from 1, and its bytes without spaces and tabs at both ends.
-#[derive(Clone, Copy, Debug)]
+#[derive(Clone, Copy)]
 pub(crate) struct Line<'a> {
     pub number: u32,
     pub text: &'a [u8],

@@ -15,7 +15,7 @@ use grid_core::NoMemory;
 use std::alloc::Global;
 
 /// Which section a line stands in.
-#[derive(Clone, Copy, Debug)]
+#[derive(Clone, Copy)]
 pub(crate) enum Under {
     Rows,
     Columns,
@@ -25,7 +25,7 @@ pub(crate) enum Under {
 
 /// The lines of both sections, and the number of the first line that says something and stands in neither.
 /// Keyword lines and comments stand in none.
-#[derive(Debug, Drop)]
+#[derive(Drop)]
 pub(crate) struct Sections<'a> {
     pub rows: Vec<Line<'a>>,
     pub columns: Vec<Line<'a>>,

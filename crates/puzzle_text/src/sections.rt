@@ -13,7 +13,7 @@ use grid_core::NoMemory;
 use std::alloc::Global;
 
 /// The clue lines of a section.
-#[derive(Debug, Drop)]
+#[derive(Drop)]
 pub(crate) enum Chosen<'a, 'b> {
     /// A part of the section.
     Part(&'b [Line<'a>]),

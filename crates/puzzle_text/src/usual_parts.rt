@@ -14,7 +14,7 @@ use grid_core::Clue;
 use std::alloc::Global;
 
 /// The keyword lines of a text, and the clues of its sections.
-#[derive(Debug, Drop)]
+#[derive(Drop)]
 pub(crate) struct Parts<'t> {
     pub keyword_lines: Vec<KeywordLine<'t>>,
     pub rows: Vec<Clue>,

@@ -1,17 +1,13 @@
 -- `choice`: the first lines, if all after them are blank, are the choice; else the lines that aren't blank.
 use Rattle.std.proofs.Common.{map, sym, ◌∙◌}
 use Rattle.puzzle_text.specs.steps.Shown.{shown_line}
-use Rattle.puzzle_text.proofs.SectionsLemmas.{choice_full, choice_none, front_chosen, front_length, length_full}
+use Rattle.puzzle_text.proofs.SectionsLemmas.{choice_full, choice_none, front_chosen, length_full}
 use Rattle.std.proofs.lemmas.List.{length-map}
 use Rattle.puzzle_text.proofs.sections.choice.Goals as goal
 
 pub returns-in-Some-clause-lines : goal.returns-in-Some-clause-lines
 returns-in-Some-clause-lines c =
     sym (front_chosen c.args.count (map shown_line c.args.section.now) (map shown_line c.in-Some.first.now) (sym c.in-Some.ensures))
-
-pub returns-in-Some-clause-length : goal.returns-in-Some-clause-length
-returns-in-Some-clause-length c =
-    front_length c.args.count (map shown_line c.args.section.now) (map shown_line c.in-Some.first.now) (sym c.in-Some.ensures)
 
 pub returns-then-full_count-count-clause-lines : goal.returns-then-full_count-count-clause-lines
 returns-then-full_count-count-clause-lines c =

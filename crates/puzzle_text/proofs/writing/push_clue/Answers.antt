@@ -1,7 +1,7 @@
 -- `push_clue`: the first number, and then each other with the separator before it.
-use Rattle.std.proofs.Common.{List, ℕ, [], ◌++◌, ◌∷◌, ◌∙◌, ap, append_assoc, arith}
+use Rattle.std.proofs.Common.{ℕ, ◌++◌, ◌∙◌, ap, arith}
 use Rattle.std.specs.Prelude.{decimal}
-use Rattle.puzzle_text.proofs.WritingLemmas.{clue_is_written, wrote_more}
+use Rattle.puzzle_text.proofs.WritingLemmas.{clue_is_written}
 use Rattle.puzzle_text.proofs.writing.push_clue.Goals as goal
 
 pub returns-after-loop-number : goal.returns-after-loop-number
@@ -10,12 +10,3 @@ returns-after-loop-number c =
     c.loop-number.number-index (omega (arith, c.in-len1-up.len_at_least))
     (c.in_ok-push_number-in-len1-up.ensures.ok ∙ ap (λ (n : ℕ). c.args.out.now.items ++ decimal n) c.from.ensures) c.loop-number.invariant
     c.loop-number-test.false
-
-pub loop-number-preserved : goal.loop-number-preserved
-loop-number-preserved c =
-    wrote_more (λ other. c.args.separator ∷ decimal other) _ c.loop-number.number-index 0 c.push_number.new.text.items
-    c.loop-number.out.items c.push_number-in-loop-number.new.text.items c.loop-number-test.true c.loop-number.invariant
-    (c.in_ok-push_number-in-len1-up-2.ensures.ok
-    ∙ ap (λ (ys : List ℕ). ys ++ decimal c.from-in-loop-number.result) c.in_ok-push-in-len1-up.ensures.items
-    ∙ append_assoc c.loop-number.out.items (c.args.separator ∷ []) (decimal c.from-in-loop-number.result)
-    ∙ ap (λ (n : ℕ). c.loop-number.out.items ++ c.args.separator ∷ decimal n) c.from-in-loop-number.ensures)
