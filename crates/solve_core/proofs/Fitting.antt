@@ -9,13 +9,7 @@ use Rattle.grid_core.specs.declared.limits.TheConstants.{MOST_RUNS}
 use Rattle.grid_core.specs.declared.sides.Side.{Side}
 use Rattle.grid_core.specs.declared.sides.Side.TheVariants.{Rows, Columns}
 use Rattle.grid_core.specs.Nonogram.{Nonogram, line_on}
-use Rattle.grid_core.specs.steps.Sides.{count_on}
 use Rattle.solve_core.specs.steps.Widths.{FitsIn}
-
--- a side has no more lines than a set has places
-pub count_fits : (side : Side) (width : ℕ) (p : Nonogram) → FitsIn width p → count_on side p.width p.height ≤ width
-count_fits Rows width p f = f.columns_short
-count_fits Columns width p f = f.rows_short
 
 clue_fits : (width : ℕ) (clues : List (List ℕ)) (i : ℕ) → All (All (λ k. k ≤ width)) clues → All (λ k. k ≤ width) (get_or clues i [])
 clue_fits width clues i f = elim (cases_lt i (length clues)) [

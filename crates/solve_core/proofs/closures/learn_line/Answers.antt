@@ -27,34 +27,15 @@ seen : (p : Nonogram) (g : TrailedGrid) (side : Side) (i : ℕ) → IsBoardOf p 
     cells_at Unknown g.cells ((line_on side p i).places)
 seen p g side i b = λ j. cells_at Unknown g.cells (places_on side (b.0 j) (b.1 j) i)
 
-pub line-old-requires : goal.line-old-requires
-line-old-requires g c = rw (c.requires.board.0, c.requires.board.1) c.requires.i
-
 pub changes-changes-requires : goal.changes-changes-requires
 changes-changes-requires g c = length-deduced c.line-old.result.now c.in-Some.new (line_on c.args.side c.args.puzzle.now c.args.i).clue
     (sym c.in-Some.is ∙ c.deduce.ensures.answer)
-
-pub learn-requires-clause-i : goal.learn-requires-clause-i
-learn-requires-clause-i g c = rw (c.requires.board.0, c.requires.board.1) c.requires.i
 
 pub learn-requires-clause-more : goal.learn-requires-clause-more
 learn-requires-clause-more g c =
     subst (λ (r : List Cell). Extends r c.in-Some.new) c.line-old.ensures.cells
     (rw (sym c.deduce.ensures.answer ∙ c.in-Some.is) at
     (deduced-above c.line-old.result.now (line_on c.args.side c.args.puzzle.now c.args.i).clue))
-
-pub learn-requires-clause-changes : goal.learn-requires-clause-changes
-learn-requires-clause-changes g c =
-    subst (λ (r : List Cell). IsMaskOf (IsChanged r c.in-Some.new) (g.W.PlaceSet.number c.changes-changes.result)) c.line-old.ensures.cells
-    c.changes-changes.ensures.changes
-
-pub returns-in_default-clause-learned : goal.returns-in_default-clause-learned
-returns-in_default-clause-learned g c =
-    let p = c.args.puzzle.now in
-    let line = line_on c.args.side p c.args.i in
-    ap (λ (r : List Cell). deduced r line.clue)
-    (sym (c.line-old.ensures.cells ∙ seen p c.args.board.now c.args.side c.args.i c.requires.board)) ∙ sym c.deduce.ensures.answer ∙
-    c.in_default.is
 
 pub returns-then-is_empty-clause-learned : goal.returns-then-is_empty-clause-learned
 returns-then-is_empty-clause-learned g c =

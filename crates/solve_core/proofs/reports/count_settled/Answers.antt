@@ -3,8 +3,5 @@ use Rattle.std.proofs.Common.{length, ap, arith}
 use Rattle.solve_core.proofs.Counting.{known-and-unknown}
 use Rattle.solve_core.proofs.reports.count_settled.Goals as goal
 
-pub overflow_cast-result : goal.overflow_cast-result
-overflow_cast-result g c = omega (arith, ap length c.trail.ensures.trail, c.trail.ensures.few)
-
 pub returns : goal.returns
 returns g c = omega (arith, ap length c.trail.ensures.trail, c.requires, known-and-unknown c.args.board.now.cells)

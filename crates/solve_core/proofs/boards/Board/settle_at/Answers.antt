@@ -6,7 +6,7 @@ use Rattle.grid_core.specs.PartialGrid.{PartialGrid}
 use Rattle.solve_core.specs.steps.Boards.{IsBoard}
 use Rattle.solve_core.specs.steps.Trails.{TrailedGrid}
 use Rattle.solve_core.proofs.BoardSteps.{board-settled, place-within, trailed}
-use Rattle.solve_core.proofs.TrailSteps.{trailed-one, count-settled}
+use Rattle.solve_core.proofs.TrailSteps.{trailed-one}
 use Rattle.solve_core.proofs.boards.Board.settle_at.Goals as goal
 
 here : (g t : TrailedGrid) (room x y : ℕ) → g ≡ t → IsBoard g room → x < t.width → y < t.height →
@@ -18,19 +18,6 @@ here g t room x y same b lx ly u =
       inside,
       ap (λ (g : TrailedGrid). get_or g.cells (y * g.width + x) Unknown) same ∙ u,
       subst (λ (g : TrailedGrid). y * g.width + x < length g.cells) same inside,
-    )
-
-pub push_reserved-requires : goal.push_reserved-requires
-push_reserved-requires g c =
-    let b = c.self.inside in
-    let at = here (trailed b.lines b.trail.items) _ _ c.args.x c.args.y c.self.view_is c.self.invariant c.requires.column c.requires.row
-    c.requires.unknown in
-    omega (
-      arith,
-      b.trail.ok.0,
-      c.self.invariant.grid.settled,
-      c.self.invariant.room_is,
-      count-settled b.lines.cells (c.args.y * b.lines.width + c.args.x) c.args.cell at.0 at.1 c.requires.known,
     )
 
 pub invariant_of-self : goal.invariant_of-self

@@ -1,25 +1,12 @@
 -- `Closer::deduce_line`: deducing a line is a step towards the closure, and the line needs no mark then.
-use Rattle.std.proofs.Common.{◌∙◌, ℕ, false, arith, ap, sym, subst}
+use Rattle.std.proofs.Common.{◌∙◌, false, ap, subst}
 use Rattle.grid_core.specs.Nonogram.{crossing, line_on, lines_of}
 use Rattle.place_sets.specs.Masks.{Has, IsMarked, IsMaskOf}
 use Rattle.solve_core.specs.steps.LineMarks.{marks_on}
-use Rattle.solve_core.specs.steps.Closers.{Closing, IsMemoryOf}
-use Rattle.solve_core.proofs.Fitting.{count_fits}
+use Rattle.solve_core.specs.steps.Closers.{Closing}
 use Rattle.solve_core.proofs.SideLines.{line_is_one}
 use Rattle.solve_core.proofs.GridSteps.{learned-progress, marks-after}
 use Rattle.solve_core.proofs.closures.Closer.deduce_line.Goals as goal
-
-pub set-requires : goal.set-requires
-set-requires g c =
-    omega (
-      arith,
-      c.requires.i,
-      count_fits c.args.side c.args.self.now.width c.args.puzzle.now c.requires.work.memory.fits,
-      ap (λ (m : Closing). m.width) c.self.view_is,
-    )
-
-pub learn_line-requires-clause-memory : goal.learn_line-requires-clause-memory
-learn_line-requires-clause-memory g c = subst (IsMemoryOf c.args.puzzle.now) (sym c.self.view_is) c.requires.work.memory
 
 pub returns-clause-progress : goal.returns-clause-progress
 returns-clause-progress g c =
@@ -40,15 +27,3 @@ returns-clause-work g c =
           c.learn_line.ensures.learned c.learn_line.ensures.marks;
       memory = c.learn_line.ensures.memory;
     }
-
-pub returns-clause-own : goal.returns-clause-own
-returns-clause-own g c =
-    let side = c.args.side in
-    subst (λ (n : ℕ). IsMaskOf (IsMarked (Has (marks_on side c.args.self.now.marks)) c.args.i false) n)
-    (sym c.learn_line.ensures.marks.own)
-    (subst (λ (m : Closing). IsMaskOf (IsMarked (Has (marks_on side m.marks)) c.args.i false) (marks_on side c.set.new.self))
-    c.self.view_is c.set.ensures.own)
-
-pub returns-clause-same : goal.returns-clause-same
-returns-clause-same g c = λ e. ap (marks_on (crossing c.args.side)) (c.learn_line.ensures.same e) ∙ c.set.ensures.other ∙
-    ap (λ (m : Closing). marks_on (crossing c.args.side) m.marks) c.self.view_is

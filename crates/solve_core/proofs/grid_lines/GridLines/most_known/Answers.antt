@@ -1,11 +1,10 @@
 -- `GridLines::most_known`: with one more row, the best place is that of the rows above and of this one.
-use Rattle.std.proofs.Common.{◌≡◌, ◌∙◌, ◌+◌, ◌-◌, ◌*◌, ◌<◌, ℕ, Bool, [], Some, length, get_or, nat_eq, ap, sym, arith}
+use Rattle.std.proofs.Common.{◌≡◌, ◌∙◌, ◌+◌, ◌-◌, ◌*◌, ◌<◌, [], Some, length, get_or, nat_eq, ap, sym, arith}
 use Rattle.grid_core.specs.declared.cells.Cell.TheVariants.{Unknown}
-use Rattle.grid_core.specs.Cells.{is_unknown}
 use Rattle.grid_core.specs.PartialGrid.{PartialGrid}
 use Rattle.place_sets.specs.Masks.{has}
 use Rattle.solve_core.specs.Picks.{is_sure}
-use Rattle.solve_core.specs.Picks.{first_most, sure_neighbours}
+use Rattle.solve_core.specs.Picks.{sure_neighbours}
 use Rattle.solve_core.proofs.GridLineSteps.{line_read, lines-long}
 use Rattle.solve_core.proofs.PickRows.{best_after, least_after, least_then, row-step}
 use Rattle.solve_core.proofs.grid_lines.GridLines.most_known.Goals as goal
@@ -51,16 +50,3 @@ loop-y-preserved g c =
                 ap (least_after (sure_neighbours c.len-width.result c.args.self.now.cells)) same;
           })
     ]
-
-pub returns : goal.returns
-returns g c =
-    let cells = c.args.self.now.cells in
-    let passes : ℕ → Bool = λ k. is_unknown (get_or cells k Unknown) in
-    let wide : c.len-width.result ≡ c.args.self.now.width = c.len-width.ensures ∙ c.self.inside.columns.ok.0 ∙
-    ap (λ (t : PartialGrid). t.width) c.self.view_is in
-    let last : c.loop-y.y ≡ length c.self.inside.rows.items =
-    omega (arith, c.loop-y-test.false, c.loop-y.invariant.within, c.len-y-end.ensures, c.self.inside.rows.ok.0) in
-    let all : c.loop-y.y * c.len-width.result ≡ length cells =
-    (λ i. last i * (c.len-width.ensures ∙ c.self.inside.columns.ok.0) i) ∙ omega arith ∙ sym c.self.invariant.count ∙
-    ap (λ (t : PartialGrid). length t.cells) c.self.view_is in
-    c.loop-y.invariant.best_is ∙ (λ i. first_most (sure_neighbours (wide i) cells) passes (all i))

@@ -9,14 +9,6 @@ use Rattle.grid_core.specs.Rows.{cells_of_rows}
 use Rattle.solve_core.proofs.GridLineSteps.{line_read, lines-long, rows-written}
 use Rattle.solve_core.proofs.grid_lines.GridLines.write.Goals as goal
 
-pub loop-y-init : goal.loop-y-init
-loop-y-init g c = record {
-  width = c.requires.width;
-  height = c.requires.height;
-  count = λ h. absurd (omega (arith, h));
-  written = λ k h. absurd (omega (arith, h));
-}
-
 pub write_row-requires-clause-width : goal.write_row-requires-clause-width
 write_row-requires-clause-width g c =
     let rows = c.self.inside.rows.items in

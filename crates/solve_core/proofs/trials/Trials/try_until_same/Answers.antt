@@ -14,6 +14,3 @@ returns-then-least-eq0-clause-tried g c =
     let closed = rest_closed c.args.puzzle.now c.try_each.new.self.closer new (c.in-Same.ensures.ready (λ e. cc)).rest in
     sym (tried_ends lines new closed (c.in-Same.ensures.tried c.if-least-eq0.true refl)) ∙ ap (trials lines) c.in-Same.ensures.progress ∙
     c.loop-least.invariant.same
-
-pub returns-then-least-eq0-clause-rest : goal.returns-then-least-eq0-clause-rest
-returns-then-least-eq0-clause-rest g c = λ alive. (c.in-Same.ensures.ready (λ e. cc)).rest

@@ -37,14 +37,6 @@ returns-clause-witnesses c = λ p cells size.
     sym (ap length filled ∙ length-replicate (length inside.fillable.items) none))
     (omega (arith, ap length c.truncate.ensures.items, length-take 1 inside.witnesses.items))
 
-pub returns-clause-count : goal.returns-clause-count
-returns-clause-count c =
-    let inside = c.self.inside in
-    let none : ℕ = 0 in
-    let filled : c.fill.new.self.items ≡ replicate (length inside.fillable.items) 0 =
-    c.fill.ensures.items (λ y e. e) ∙ ap (λ (n : ℕ). replicate n none) inside.fillable.ok.0 in
-    ap length filled ∙ length-replicate (length inside.fillable.items) none ∙ ap (λ (q : WitnessLists). length q.fillable) c.self.view_is
-
 pub returns-then-len-eq1-clause-witnesses : goal.returns-then-len-eq1-clause-witnesses
 returns-then-len-eq1-clause-witnesses c = λ p cells size.
     let inside = c.self.inside in
