@@ -1,8 +1,8 @@
 -- Lemmas on one turn of a collector at a lane.
-use Rattle.std.proofs.Common.{◌≡◌, ◌≤◌, ◌⊎◌, ◌+◌, inl, inr, ℕ, List, [], ◌∷◌, ◌++◌, length, ap, sym, ◌∙◌, subst, append_assoc, length-append, arith}
+use Rattle.std.proofs.Common.{◌≡◌, ◌≤◌, ◌⊎◌, inl, inr, ℕ, List, [], ◌∷◌, ◌++◌, length, ap, sym, ◌∙◌, subst, append_assoc, length-append, arith}
 use mathlib.Core.List.{IsPrefix}
 use Rattle.lane_core.specs.Messages.{jobs_of, has_finish}
-use Rattle.lane_core.specs.Lane.{FrontLists, PutsMessage, ReceivesAnswer}
+use Rattle.lane_core.specs.Lane.{FrontLists, PutsMessage}
 use Rattle.lane_core.specs.Dealing.{MayRefuse, Deals, Grows}
 use Rattle.lane_core.specs.steps.Dealing.{Sends, Asks, Takes}
 use Rattle.lane_core.specs.declared.jobs.Job.{Job}
@@ -58,21 +58,6 @@ SentSoFar-grows old now new waiting left job s p = Grows-put old now new (Work j
 pub record TakenSoFar (old now : FrontLists) (got held : List Answer) (count : ℕ) : Type 0 where
   pub sent : now.sent ≡ old.sent
   pub answers : (fresh : List Answer) × (now.received ≡ old.received ++ fresh) × (held ≡ got ++ fresh) × (length fresh ≡ count)
-
--- one answer more is received and kept
-pub TakenSoFar-more : (old now new : FrontLists) (got held held' : List Answer) (count : ℕ) (answer : Answer) →
-    TakenSoFar old now got held count → ReceivesAnswer answer now new → held' ≡ held ++ answer ∷ [] → TakenSoFar old new got held' (count + 1)
-TakenSoFar-more old now new got held held' count answer t r kept =
-    let (fresh, received, same, few) = t.answers in
-    record {
-      sent = r.sent ∙ t.sent;
-      answers = (
-        fresh ++ answer ∷ [],
-        r.received ∙ ap (λ l. l ++ answer ∷ []) received ∙ append_assoc old.received fresh (answer ∷ []),
-        kept ∙ ap (λ l. l ++ answer ∷ []) same ∙ append_assoc got fresh (answer ∷ []),
-        length-append fresh (answer ∷ []) ∙ ap (λ n. n + 1) few,
-      );
-    }
 
 -- the finish was accepted after all jobs
 Deals-asked : (capacity : ℕ) (old mid asked new : FrontLists) (waiting left : List Job) (got got' : List Answer) →

@@ -159,7 +159,3 @@ offered_is_answered capacity job answer result old taken put held free t a o all
 pub taken_as : {A : Type 0} (after before : List A) (popped message : A) → after ≡ before ++ popped ∷ [] → popped ≡ message
     → after ≡ before ++ message ∷ []
 taken_as after before popped message e m = e ∙ ap (λ x. before ++ x ∷ []) m
-
--- after the finish nothing is held
-pub nothing_is_held : (held : Option Answer) → held ≡ None → IsHeldFor Finish held
-nothing_is_held held h = subst (λ o. IsHeldFor Finish o) (sym h) tt

@@ -1,15 +1,10 @@
 -- `LaneBack::step`: what was put and is held still answers what was taken,
 -- and the lists change as a step may.
-use Rattle.std.proofs.Common.{refl, sym, ap, ◌∙◌, ◌++◌, [], ◌∷◌, inr, subst}
+use Rattle.std.proofs.Common.{refl, sym, ap, ◌∙◌, ◌++◌, [], ◌∷◌, inr}
 use Rattle.std.proofs.Math.Logic.{∥∥₁_map}
-use Rattle.std.specs.Prelude.{is_none, option_to_list}
-use Rattle.rtrb.specs.Ring.{sent, received}
-use Rattle.lane_core.specs.Messages.{jobs_of}
-use Rattle.lane_core.specs.Answers.{AreAnswersTo}
-use Rattle.lane_core.specs.declared.messages.Message.TheVariants.{Finish}
 use Rattle.lane_core.specs.Ends.{back_lists}
-use Rattle.lane_core.proofs.MessagesLemmas.{has_finish-took_work, has_finish-took_finish}
-use Rattle.lane_core.proofs.LaneLemmas.{StepsBeforeFinish-offer_held, StepsBeforeFinish-offer_taken, TakesMessage-answered, IsOffered-all, offered_is_answered, taken_as, nothing_is_held}
+use Rattle.lane_core.proofs.MessagesLemmas.{has_finish-took_work}
+use Rattle.lane_core.proofs.LaneLemmas.{StepsBeforeFinish-offer_held, StepsBeforeFinish-offer_taken, offered_is_answered, taken_as}
 use Rattle.lane_core.proofs.backs.LaneBack.step.Goals as goal
 
 pub returns-in-Some-clause-lists : goal.returns-in-Some-clause-lists
@@ -18,32 +13,6 @@ returns-in-Some-clause-lists g c = inr (
   StepsBeforeFinish-offer_held _ c.in-Some.answer c.offer.result (back_lists c.args.self.now) _
       (sym c.in-Some.ensures.value) refl c.offer.ensures.offered,
 )
-
-pub invariant_of-self : goal.invariant_of-self
-invariant_of-self g c = record {
-  noted = c.args.self.now.noted;
-  free = λ finished. (let no = c.if-self.false in cc);
-  answered =
-      subst (λ l. ∥ AreAnswersTo (jobs_of (received c.args.self.now.messages)) l ∥₁)
-      (ap (λ h. sent c.args.self.now.answers ++ option_to_list h) (sym c.in-Some.ensures.value)
-      ∙ sym (IsOffered-all _ c.in-Some.answer c.offer.result _ _ _ c.offer.ensures.offered))
-      c.args.self.now.answered;
-  room = c.offer.ensures.room;
-}
-
-pub invariant_of-self-in-Finish : goal.invariant_of-self-in-Finish
-invariant_of-self-in-Finish g c =
-    let taken = taken_as _ _ _ _ (c.pop_known.ensures.received.0 ∙ ap (λ taken. taken ++ c.pop_known.result ∷ []) c.is_empty.ensures.looked.1)
-    c.in-Finish.is in
-    record {
-      noted = sym (has_finish-took_finish _ _ taken);
-      free = λ _. ap is_none c.take.ensures.after;
-      answered =
-          ∥∥₁_map c.args.self.now.answered
-          (TakesMessage-answered Finish (back_lists c.args.self.now) _
-          (record { free = sym c.in_default.ensures.value; taken = taken; held = nothing_is_held _ c.take.ensures.after; put = refl }));
-      room = c.args.self.now.room;
-    }
 
 pub invariant_of-self-in-Work : goal.invariant_of-self-in-Work
 invariant_of-self-in-Work g c =
