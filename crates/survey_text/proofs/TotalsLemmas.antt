@@ -1,7 +1,7 @@
 -- Totals with one more entry, and those of two lists.
-use Rattle.std.proofs.Common.{◌≡◌, ℕ, ◌+◌, ◌<◌, ◌^◌, Bool, true, false, cond, List, [], ◌∷◌, ◌++◌, length, count_by, sym, ap, ◌∙◌, length-append, arith}
-use Rattle.std.proofs.lemmas.List.Sums.{count_by-le-length, sum_by-append}
-use Rattle.survey_text.specs.steps.Tallies.{one_more_where, sum_of}
+use Rattle.std.proofs.Common.{◌≡◌, ℕ, ◌+◌, Bool, true, false, cond, List, [], ◌∷◌, ◌++◌, length, count_by, sym, ap, ◌∙◌, length-append, arith}
+use Rattle.std.proofs.lemmas.List.Sums.{sum_by-append}
+use Rattle.survey_text.specs.steps.Tallies.{one_more_where}
 
 one_more_is : (b : Bool) (n : ℕ) → n + (0 + cond b 1 0) ≡ one_more_where b n
 one_more_is true n = omega arith
@@ -13,12 +13,6 @@ pub count_more : {X : Type 0} (p : X → Bool) (xs : List X) (x : X) (old new : 
 count_more {X = X} p xs x old new counted more =
     more ∙ ap (one_more_where (p x)) counted
     ∙ sym (sum_by-append (λ (y : X). cond (p y) 1 0) xs (x ∷ []) ∙ one_more_is (p x) (count_by p xs))
-
--- the sum of two counts is the count of both lists, if these are few
-pub count_both : {X : Type 0} (p : X → Bool) (xs ys : List X) (old others new : ℕ) → old ≡ count_by p xs → others ≡ count_by p ys
-    → new ≡ sum_of old others → length (xs ++ ys) < 2 ^ 31 → new ≡ count_by p (xs ++ ys)
-count_both {X = X} p xs ys old others new counted others_counted sum few =
-    omega (arith, sum_by-append (λ (y : X). cond (p y) 1 0) xs ys, count_by-le-length p (xs ++ ys))
 
 -- if one more element is counted, the count is the number of all elements
 pub one_more : {X : Type 0} (xs : List X) (x : X) (old new : ℕ) → old ≡ length xs → new ≡ old + 1 → new ≡ length (xs ++ x ∷ [])

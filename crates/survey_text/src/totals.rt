@@ -14,7 +14,7 @@ use puzzle_text::{push_bytes, push_number};
 use solve_core::{Grade, Verdict};
 
 /// How many puzzles have each verdict.
-#[derive(Clone, Copy, Debug, PartialEq, Eq)]
+#[derive(Clone, Copy)]
 pub(crate) struct VerdictTotals {
     none: usize,
     one: usize,
@@ -55,7 +55,7 @@ impl VerdictTotals {
 }
 
 /// How many puzzles have each grade.
-#[derive(Clone, Copy, Debug, PartialEq, Eq)]
+#[derive(Clone, Copy)]
 pub(crate) struct GradeTotals {
     by_lines: usize,
     by_trials: usize,
@@ -90,7 +90,7 @@ impl GradeTotals {
 }
 
 /// How many entries there are, how many are refused, and how many have each verdict and each grade.
-#[derive(Clone, Copy, Debug, PartialEq, Eq)]
+#[derive(Clone, Copy)]
 pub(crate) struct Totals {
     /// How many entries there are.
     pub entries: usize,
