@@ -93,16 +93,3 @@ ended (Ok _) contents before after looks begun files progress some same has_told
     (Appends-trans before (contents progress.writer.inner) after _ _
     (subst (λ (fs : Option ℕ). Appends before (contents progress.writer.inner) (told_text fs (looks ++ begun ∷ []))) same has_told.printed) feed)
 ended (Err _) contents before after looks begun files progress some same has_told feed = tt
-
--- no LF, as no entry was begun
-pub not_ended : {E F : Type 0} (told : Result (Unit {0}) F) (contents : E → Option (List ℕ)) (before : Option (List ℕ)) (looks : List ℕ)
-    (begun : ℕ) (files : Option ℕ) (progress : Progress E) → begun ≡ 0 → progress.files ≡ files
-    → OnOk told (HasTold contents before (looks ++ begun ∷ []) progress)
-    → OnOk told (Appends before (contents progress.writer.inner) (progress_text files looks begun))
-not_ended (Ok _) contents before looks begun files progress none same has_told =
-    let test : (begun == 0) ≡ true = grind (arith, nat_tests) in
-    subst (λ (is_none : Bool). Appends before (contents progress.writer.inner)
-    (told_text files (looks ++ begun ∷ []) ++ (if is_none then [] else codes "\n"))) (sym test)
-    (subst (Appends before (contents progress.writer.inner)) (sym (append-nil (told_text files (looks ++ begun ∷ []))))
-    (subst (λ (fs : Option ℕ). Appends before (contents progress.writer.inner) (told_text fs (looks ++ begun ∷ []))) same has_told.printed))
-not_ended (Err _) contents before looks begun files progress none same has_told = tt

@@ -36,7 +36,7 @@ fn push_files(text: &mut Vec<u8>, files: Option<u32>) -> Result<(), NoMemory>
 }
 
 /// A text that didn't go out whole.
-#[derive(Clone, Copy, Debug)]
+#[derive(Clone, Copy)]
 pub(crate) struct Unprinted;
 
 impl From<NoMemory> for Unprinted {
