@@ -1,5 +1,5 @@
 -- What the entries of a command line say.
-use Rattle.std.proofs.Common.{◌≡◌, ◌∙◌, ◌≤◌, ◌<◌, ◌^◌, ℕ, Bool, List, [], Option, Some, None, Result, Ok, Err, IfOk, ◌||◌, refl, ap, arith, option_map, true}
+use Rattle.std.proofs.Common.{◌≡◌, ◌∙◌, ◌≤◌, ◌<◌, ◌^◌, ℕ, Bool, List, [], Option, Some, None, Result, Ok, Err, IfOk, ◌||◌, refl, ap, arith, option_map}
 use Rattle.std.specs.Prelude.{unwrap_or}
 use Rattle.std.specs.Borrow.{Bor}
 use Rattle.std.specs.Str.Parse.{ExplainsUnsignedError, HasUnsignedDigitsIfOk, ParsesUnsigned, digits_value, without_leading_plus}
@@ -8,15 +8,13 @@ use Rattle.std.proofs.Common.{length, map, max, min, take}
 use Rattle.std.proofs.Math.Seq.{take-length}
 use Rattle.clap.specs.Matches.{ReadsOne, first_value, matched_of, one_text, raw_values}
 use Rattle.clap.specs.Walk.{Rule, Text, one_of, rows_of, rule_of}
-use Rattle.clap.specs.Words.{AddsArg, AddsSubcommand, with_rule, with_subcommand}
-use Rattle.clap.specs.declared.builder.command.Command.TheViews.{out-Command}
+use Rattle.clap.specs.Words.{AddsArg, with_rule}
 use Rattle.clap.specs.declared.builder.arg.Arg.{Arg}
-use Rattle.clap.specs.Simple.{App, HasMatchesOf, app_of, shape_of, is_simple, subcommand_of, subcommand_rows_of}
+use Rattle.clap.specs.Simple.{App}
 use Rattle.clap.specs.declared.builder.command.Command.{Command}
-use Rattle.clap.specs.declared.parser.matches.ArgMatches.{ArgMatches}
 use Rattle.clap.specs.declared.parser.matches.Found.{Found}
 use Rattle.clap.proofs.WalkLemmas.{first_value-rows, one_text-rows, raw_values-rows}
-use Rattle.command_line.specs.Words.{Choices, IsNumberIn, program_app, text_in, texts_in}
+use Rattle.command_line.specs.Words.{IsNumberIn, text_in, texts_in}
 use Rattle.command_line.specs.steps.Words.{IsArgument, IsCommand}
 use Rattle.std.specs.declared.alloc.AllocError.{AllocError}
 
@@ -81,18 +79,6 @@ take_end n xs past within =
     let e : n ≡ length xs = omega arith in
     rw e (take-length xs)
 
--- `clap` reads the program's words by its definition
-program_is_simple : (formats picks : Choices) → is_simple (program_app formats picks) ≡ true
-program_is_simple formats picks = refl
-
--- the entries of the entered command are those that the words say
-pub entered_of : (formats picks : Choices) (program : Command) (words : List Text) (m : ArgMatches)
-    → IsCommand (program_app formats picks) program → HasMatchesOf (app_of program) words m
-    → subcommand_rows_of m ≡ subcommand_of (program_app formats picks) words
-entered_of formats picks program words m command has =
-    let simple : is_simple (app_of program) ≡ true = ap is_simple command.shape ∙ program_is_simple formats picks in
-    (has simple).1 ∙ ap (λ (a : App). subcommand_of a words) command.shape
-
 -- a command with one argument more has its rule, too
 pub added : (app : App) (rule : Rule) (old new : Command) (arg : Arg) →
     IsCommand app old → IsArgument rule arg → AddsArg old arg new → IsCommand (with_rule app rule) new
@@ -106,19 +92,3 @@ pub added_if_ok : (app : App) (rule : Rule) (old : Command) (arg : Arg) (result 
     IsCommand app old → IsArgument rule arg → IfOk result (AddsArg old arg) → IfOk result (IsCommand (with_rule app rule))
 added_if_ok app rule old arg (Ok new) command argument adds = added app rule old new arg command argument adds
 added_if_ok app rule old arg (Err _) command argument adds = tt
-
--- a command with one subcommand more has its shape, too
-pub with_command : (app other : App) (old sub new : Command) →
-    IsCommand app old → IsCommand other sub → AddsSubcommand old sub new → IsCommand (with_subcommand app other.top) new
-with_command app other old sub new command subcommand adds = record {
-  shape = adds.shape subcommand.local ∙ ap (λ a. with_subcommand a (shape_of sub)) command.shape
-      ∙ ap (λ a. with_subcommand app a.top) subcommand.shape;
-  local = adds.globals ∙ ap (λ b. b || (out-Command sub).has_globals) command.local ∙ subcommand.local;
-}
-
--- the same of a subcommand that may be added
-pub with_command_if_ok : (app other : App) (old sub : Command) (result : Result Command AllocError) →
-    IsCommand app old → IsCommand other sub → IfOk result (AddsSubcommand old sub)
-    → IfOk result (IsCommand (with_subcommand app other.top))
-with_command_if_ok app other old sub (Ok new) command subcommand adds = with_command app other old sub new command subcommand adds
-with_command_if_ok app other old sub (Err _) command subcommand adds = tt
