@@ -3,7 +3,7 @@
 
 Usage: library.py PROGRAM PUZZLES
 
-Compares `solve` and `convert` on each puzzle of a folder in each format, and `solve` on 2,000 puzzles made here. Its last line
+Compares `solve` and `convert` on each puzzle of a folder in each format, and `solve` on 500 puzzles made here. Its last line
 is `N passed, M failed`.
 """
 
@@ -16,7 +16,7 @@ from pathlib import Path
 
 import nonograde
 
-MADE = 2000
+MADE = 500
 
 
 def runs(line):

@@ -18,7 +18,7 @@ open_room
 cd "$room" || stop Write
 
 # Makes the two libraries. The calls to malloc are the kit's own small file of C.
-(cd "$top/crates/nonograde_c" && rt lib) >made 2>&1 || { tail -n 5 made; stop Library; }
+(cd "$top/crates/nonograde_c" && rt lib --jobs "$(nproc)") >made 2>&1 || { tail -n 5 made; stop Library; }
 cp "$kit/c/liblibc_c.a" libnonograde.a
 mkdir objects && (cd objects && ar x "$top/crates/nonograde_c/out/libnonograde_c.a")
 ar qs libnonograde.a objects/* || stop Library
