@@ -18,6 +18,11 @@ pub record Description : Type 0 where
 abbrev pub no_texts : Description
 no_texts = record { catalogue = None; title = None; by = None; copyright = None; license = None }
 
+-- these texts, or none
+abbrev pub described : Option Description → Description
+described None = no_texts
+described (Some d) = d
+
 -- the bytes of a text, if there is one
 abbrev pub bytes_of : Option (Vec ℕ Global) → Option (List ℕ)
 bytes_of None = None

@@ -2,11 +2,12 @@
 
 ghost use Rattle.std.specs.Prelude.{◌≡◌, ◌==◌, not, true, false, IfOk, OnErr, OnOk, IsErrOf, ◌↔◌, option_map};
 ghost use Rattle.std.specs.List.{list_all};
-ghost use Rattle.grid_core.specs.Description.{IsDescription, bytes_of, is_text, no_texts, text_of, with_text};
+ghost use Rattle.grid_core.specs.Description.{IsDescription, bytes_of, described, is_text, no_texts, text_of, with_text};
 
 use crate::NoMemory;
 use crate::limits::LONGEST_TEXT;
 use std::alloc::{AllocError, Global};
+use std::boxed::Box;
 use std::marker::Model;
 use thiserror::Error;
 
@@ -36,9 +37,9 @@ pub enum Field {
     License,
 }
 
-/// The texts that describe a puzzle.
+/// A place for each text.
 #[derive(Debug)]
-pub struct Texts {
+struct Fields {
     catalogue: Option<Vec<u8>>,
     title: Option<Vec<u8>>,
     by: Option<Vec<u8>>,
@@ -47,9 +48,9 @@ pub struct Texts {
 }
 
 /// A call of its own, so that a proof takes it as one step, whichever texts there are.
-impl Drop for Texts {
+impl Drop for Fields {
     fn drop(self) {
-        let Texts {
+        let Fields {
             catalogue: _,
             title: _,
             by: _,
@@ -59,7 +60,7 @@ impl Drop for Texts {
     }
 }
 
-impl Model for Texts {
+impl Model for Fields {
     ghost use Rattle.grid_core.specs.Description.{Description, IsDescription, bytes_of};
 
     ghost Value = { Description };
@@ -81,12 +82,12 @@ impl Model for Texts {
     }) };
 }
 
-impl Texts {
+impl Fields {
     /// No text at all.
-    pub fn none() -> Texts
+    fn none() -> Fields
         ensures { result ≡ no_texts }
     {
-        Texts {
+        Fields {
             catalogue: None,
             title: None,
             by: None,
@@ -96,7 +97,7 @@ impl Texts {
     }
 
     /// The text of a field, if it has one.
-    pub fn get(&self, field: Field) -> Option<&[u8]>
+    fn get(&self, field: Field) -> Option<&[u8]>
         ensures text { option_map (λ bytes. bytes.now) result ≡ text_of self.now field }
         ensures texts { IsDescription self.now }
     {
@@ -113,11 +114,25 @@ impl Texts {
         }
     }
 
+    /// Sets the text of a field.
+    fn set(&mut self, field: Field, bytes: Vec<u8>)
+        requires { is_text bytes.items ≡ true }
+        ensures { self.new ≡ with_text self.old field bytes.items }
+    {
+        match field {
+            Field::Catalogue => self.catalogue = Some(bytes),
+            Field::Title => self.title = Some(bytes),
+            Field::By => self.by = Some(bytes),
+            Field::Copyright => self.copyright = Some(bytes),
+            Field::License => self.license = Some(bytes),
+        }
+    }
+
     /// The same texts once more.
-    pub(crate) fn copy(&self) -> Result<Texts, NoMemory>
+    fn copy(&self) -> Result<Fields, NoMemory>
         ensures { IfOk result (λ texts. texts ≡ self.now) }
     {
-        Ok(Texts {
+        Ok(Fields {
             catalogue: copy_text(&self.catalogue)?,
             title: copy_text(&self.title)?,
             by: copy_text(&self.by)?,
@@ -125,12 +140,64 @@ impl Texts {
             license: copy_text(&self.license)?,
         })
     }
+}
+
+/// The texts that describe a puzzle. They lie apart from it, so that a puzzle is moved in few words.
+#[derive(Debug)]
+pub struct Texts {
+    fields: Option<Box<Fields>>,
+}
+
+impl Drop for Texts {
+    fn drop(self) {
+        let Texts { fields: _ } = self;
+    }
+}
+
+impl Model for Texts {
+    ghost use Rattle.std.specs.Prelude.{option_map};
+    ghost use Rattle.grid_core.specs.Description.{Description, described};
+
+    ghost Value = { Description };
+
+    ghost view = { λ t. described (option_map (λ fields. fields.value) t.fields) };
+}
+
+impl Texts {
+    /// No text at all.
+    pub fn none() -> Texts
+        ensures { result ≡ no_texts }
+    {
+        Texts { fields: None }
+    }
+
+    /// The text of a field, if it has one.
+    pub fn get(&self, field: Field) -> Option<&[u8]>
+        ensures text { option_map (λ bytes. bytes.now) result ≡ text_of self.now field }
+        ensures texts { IsDescription self.now }
+    {
+        match &self.fields {
+            Some(fields) => fields.get(field),
+            None => None,
+        }
+    }
+
+    /// The same texts once more.
+    pub(crate) fn copy(&self, alloc: Global) -> Result<Texts, NoMemory>
+        ensures { IfOk result (λ texts. texts ≡ self.now) }
+    {
+        let fields = match &self.fields {
+            Some(fields) => Some(Box::new(alloc, fields.copy()?)?),
+            None => None,
+        };
+        Ok(Texts { fields })
+    }
 
     // What the type keeps.
     pub(crate) fn see(&self)
         ensures { IsDescription self.now }
     {
-        let _ = &self.title;
+        let _ = self.get(Field::Title);
     }
 
     /// Sets the text of a field, any bytes. `BadText` if the text holds a line feed or is longer than 65,536
@@ -147,12 +214,16 @@ impl Texts {
         let Ok(bytes) = text.to_vec(alloc) else {
             return Err(TextsFault::NoMemory);
         };
-        match field {
-            Field::Catalogue => self.catalogue = Some(bytes),
-            Field::Title => self.title = Some(bytes),
-            Field::By => self.by = Some(bytes),
-            Field::Copyright => self.copyright = Some(bytes),
-            Field::License => self.license = Some(bytes),
+        match &mut self.fields {
+            Some(fields) => fields.set(field, bytes),
+            None => {
+                let mut fields = Fields::none();
+                fields.set(field, bytes);
+                let Ok(fields) = Box::new(alloc, fields) else {
+                    return Err(TextsFault::NoMemory);
+                };
+                self.fields = Some(fields);
+            }
         }
         Ok(())
     }

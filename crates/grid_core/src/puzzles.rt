@@ -215,7 +215,7 @@ impl Puzzle {
             height: self.height,
             rows: copy_clues(alloc, &self.rows)?,
             columns: copy_clues(alloc, &self.columns)?,
-            texts: self.texts.copy()?,
+            texts: self.texts.copy(alloc)?,
             goal: copy_goal(&self.goal)?,
         })
     }
