@@ -1,6 +1,5 @@
 -- The first stray line of a collection, found on one walk from the top.
 use Rattle.std.proofs.Common.{◌≡◌, ℕ, ◌+◌, Bool, true, false, cond, not, ◌&&◌, ◌||◌, List, [], ◌∷◌, ◌++◌, length, take, refl, sym, ap, ◌∙◌, append_assoc, Option, Some, None}
-use Rattle.std.specs.Prelude.{IfSome}
 use Rattle.std.specs.List.{enumerate_from, find, list_any}
 use Rattle.std.specs.Option.{option_map}
 use Rattle.std.proofs.Math.Seq.{take-append_seam}
@@ -97,9 +96,3 @@ from_first number (raw ∷ raws) marker named = rw marker (rw marker at (none_be
 -- and none at all, if the first line is one
 pub none_stray : (raws : List (List ℕ)) → begins_with_marker raws ≡ true → are_named (entries_of raws) ≡ true → first_stray raws ≡ None
 none_stray raws marker named = sym (stray_from-first raws) ∙ from_first 1 raws marker named
-
--- how many entries there are, if each has a name: then no line is stray
-pub sound : (named : Bool) (total : ℕ) (found : Option ℕ) → (named ≡ true → found ≡ None)
-    → IfSome (cond named (Some total) None) (λ count. (found ≡ None) × (count ≡ total))
-sound true total found none = (none refl, refl)
-sound false total found none = tt

@@ -1,6 +1,6 @@
 //! Collections of puzzle texts.
 
-ghost use Rattle.std.specs.Prelude.{◌≡◌, ◌==◌, ◌∷◌, ◌++◌, ◌<◌, ◌≤◌, ◌^◌, not, drop, take, map, true, false, length, Err, IfErr, IfOk, IfSome, Some, None, if◌then◌else◌};
+ghost use Rattle.std.specs.Prelude.{◌≡◌, ◌==◌, ◌∷◌, ◌++◌, ◌<◌, ◌≤◌, ◌^◌, not, drop, take, map, true, false, length, Err, IfSome, OnSome, None};
 ghost use Rattle.std.specs.List.{list_all};
 ghost use Rattle.puzzle_text.specs.Collections.{GivesEntries, body_of, cut, entries_of, first_stray, is_marker, name_of};
 ghost use Rattle.puzzle_text.specs.steps.Collections.{FollowsPlain, are_named, begins_with_marker, ends_line};
@@ -10,7 +10,6 @@ ghost use Rattle.puzzle_text.specs.Shown.{shown_entry};
 use crate::faults::CollectionFault;
 use crate::limits::{LONGEST_COLLECTION, MOST_ENTRIES};
 use crate::lines::{split_line, trim, without_ending};
-use grid_core::NoMemory;
 use memchr::memchr;
 use std::alloc::Global;
 
@@ -115,27 +114,6 @@ fn entry_count(bytes: &[u8]) -> usize
     count
 }
 
-fn entries_of<'a>(alloc: Global, bytes: &'a [u8]) -> Result<Vec<Entry<'a>>, NoMemory>
-    ensures { IfOk result (λ found. map shown_entry found.items ≡ entries_of (raw_lines bytes.now)) }
-{
-    let mut found = Vec::new(alloc);
-    let mut rest = bytes;
-    'lines: while !rest.is_empty() {
-        let (raw, after) = split_line(rest);
-        if is_marker(raw) {
-            let (body, others) = split_body(after);
-            found.push(Entry {
-                name: name_of(raw),
-                body,
-            })?;
-            rest = others;
-        } else {
-            rest = after;
-        }
-    }
-    Ok(found)
-}
-
 /// Whether the first line begins an entry, if there is one.
 fn begins_with_marker(bytes: &[u8]) -> bool
     ensures { result ≡ begins_with_marker (raw_lines bytes.now) }
@@ -147,42 +125,29 @@ fn begins_with_marker(bytes: &[u8]) -> bool
     is_marker(raw)
 }
 
-/// Whether a marker line gives a name.
-fn is_named(raw: &[u8]) -> bool
-    ensures { result ≡ not (is_empty (name_of raw.now)) }
+/// The entries of a collection, whatever stands above the first. `None` if one of them has no name, if they
+/// are over 10,000, or if a growth was refused.
+fn named_entries<'a>(alloc: Global, bytes: &'a [u8]) -> Option<Vec<Entry<'a>>>
+    ensures found { IfSome result (λ found. map shown_entry found.items ≡ entries_of (raw_lines bytes.now)) }
+    ensures named { OnSome result (are_named (entries_of (raw_lines bytes.now)) ≡ true) }
+    ensures few { OnSome result (length (entries_of (raw_lines bytes.now)) ≤ MOST_ENTRIES) }
 {
-    !name_of(raw).is_empty()
-}
-
-/// How many entries a collection has, if each of them has a name.
-fn named_count(bytes: &[u8]) -> Option<usize>
-    ensures { result ≡ (if are_named (entries_of (raw_lines bytes.now)) then Some (length (entries_of (raw_lines bytes.now))) else None) }
-{
+    let mut found = Vec::new(alloc);
     let mut rest = bytes;
-    let mut count = 0;
     'lines: while !rest.is_empty() {
         let (raw, after) = split_line(rest);
+        rest = after;
         if is_marker(raw) {
-            if !is_named(raw) {
+            let name = name_of(raw);
+            if name.is_empty() || found.len() == MOST_ENTRIES {
                 return None;
             }
-            count += 1;
+            let (body, others) = split_body(after);
+            found.push(Entry { name, body }).ok()?;
+            rest = others;
         }
-        let (_, others) = split_body(after);
-        rest = others;
     }
-    Some(count)
-}
-
-/// How many entries a collection has, if a look at its marker lines alone shows that no line is stray.
-fn sound_count(bytes: &[u8]) -> Option<usize>
-    ensures { IfSome result (λ count. (first_stray (raw_lines bytes.now) ≡ None) × (count ≡ length (entries_of (raw_lines bytes.now)))) }
-{
-    if begins_with_marker(bytes) {
-        named_count(bytes)
-    } else {
-        None
-    }
+    Some(found)
 }
 
 /// The number of the first line that belongs to no entry or names none.
@@ -209,23 +174,6 @@ fn first_stray(bytes: &[u8]) -> Option<u32>
     None
 }
 
-/// How many entries a collection has, or the number of its first stray line, which is looked for line by line
-/// only if the marker lines don't show that there is none.
-fn checked_count(bytes: &[u8]) -> Result<usize, u32>
-    requires { length bytes.now < 2 ^ 32 }
-    ensures count { IfOk result (λ count. (first_stray (raw_lines bytes.now) ≡ None)
-        × (count ≡ length (entries_of (raw_lines bytes.now)))) }
-    ensures stray { IfErr result (λ number. first_stray (raw_lines bytes.now) ≡ Some number) }
-{
-    if let Some(count) = sound_count(bytes) {
-        return Ok(count);
-    }
-    match first_stray(bytes) {
-        Some(number) => Err(number),
-        None => Ok(entry_count(bytes)),
-    }
-}
-
 /// The entries of a collection. A line `@ NAME` begins an entry;
 /// its text is the lines after that one up to the next such line or the end.
 pub fn entries<'a>(alloc: Global, bytes: &'a [u8]) -> Result<Vec<Entry<'a>>, CollectionFault>
@@ -236,12 +184,19 @@ pub fn entries<'a>(alloc: Global, bytes: &'a [u8]) -> Result<Vec<Entry<'a>>, Col
     if bytes.len() > LONGEST_COLLECTION {
         return Err(CollectionFault::TooLong);
     }
-    let count = match checked_count(bytes) {
-        Ok(count) => count,
-        Err(number) => return Err(CollectionFault::Stray(number)),
-    };
-    if count > MOST_ENTRIES {
+    if begins_with_marker(bytes)
+        && let Some(found) = named_entries(alloc, bytes)
+    {
+        return Ok(found);
+    }
+    if let Some(number) = first_stray(bytes) {
+        return Err(CollectionFault::Stray(number));
+    }
+    if entry_count(bytes) > MOST_ENTRIES {
         return Err(CollectionFault::TooMany);
     }
-    Ok(entries_of(alloc, bytes)?)
+    match named_entries(alloc, bytes) {
+        Some(found) => Ok(found),
+        None => Err(CollectionFault::NoMemory),
+    }
 }

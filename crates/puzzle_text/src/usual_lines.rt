@@ -68,9 +68,11 @@ fn below(end: u8, rest: &[u8]) -> Option<&[u8]>
     ensures ends { IfSome result (λ below. EndsLine (end ∷ rest.now) below.now) }
     ensures within { IfSome result (λ below. length below.now ≤ length rest.now) }
 {
-    match (end, rest) {
-        (b'\n', _) => Some(rest),
-        (b'\r', [b'\n', below @ ..]) => Some(below),
+    if end == b'\n' {
+        return Some(rest);
+    }
+    match rest {
+        [b'\n', below @ ..] if end == b'\r' => Some(below),
         _ => None,
     }
 }
