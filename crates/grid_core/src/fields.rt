@@ -38,26 +38,13 @@ pub enum Field {
 }
 
 /// A place for each text.
-#[derive(Debug)]
+#[derive(Debug, Drop)]
 struct Fields {
     catalogue: Option<Vec<u8>>,
     title: Option<Vec<u8>>,
     by: Option<Vec<u8>>,
     copyright: Option<Vec<u8>>,
     license: Option<Vec<u8>>,
-}
-
-/// A call of its own, so that a proof takes it as one step, whichever texts there are.
-impl Drop for Fields {
-    fn drop(self) {
-        let Fields {
-            catalogue: _,
-            title: _,
-            by: _,
-            copyright: _,
-            license: _,
-        } = self;
-    }
 }
 
 impl Model for Fields {
@@ -143,15 +130,9 @@ impl Fields {
 }
 
 /// The texts that describe a puzzle. They lie apart from it, so that a puzzle is moved in few words.
-#[derive(Debug)]
+#[derive(Debug, Drop)]
 pub struct Texts {
     fields: Option<Box<Fields>>,
-}
-
-impl Drop for Texts {
-    fn drop(self) {
-        let Texts { fields: _ } = self;
-    }
 }
 
 impl Model for Texts {
