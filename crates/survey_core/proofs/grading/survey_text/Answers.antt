@@ -19,5 +19,5 @@ returns g c =
     let answered = subst (λ (answers : List Answer). AreAnswersTo jobs answers)
     (sym c.deref-2.ensures.value) c.in_ok-answers.ensures.answers in
     let graded_so = are_graded guesses 1 (readings entries) jobs c.deref-2.result.now read.jobs answered in
-    let parts = c.in_ok-in_parts.ensures (all_answered _ entries c.requires (c.deref.ensures.value ∙ read.faults) graded_so) in
+    let parts = c.in_ok-printed.ensures (all_answered _ entries c.requires (c.deref.ensures.value ∙ read.faults) graded_so) in
     c.in_ok-finish.ensures c.args.settings.now.show (map (graded guesses) (map shown_entry entries)) parts
