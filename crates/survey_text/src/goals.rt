@@ -1,24 +1,35 @@
 //! What is said of goals.
 
-ghost use Rattle.std.specs.Prelude.{◌≡◌, ◌*◌, ◌<◌, ◌↔◌, ℕ, IsTrue, length};
+ghost use Rattle.std.specs.Prelude.{◌≡◌, ◌*◌, ◌<◌, ◌≤◌, ◌↔◌, ℕ, IsTrue, false, length, slice_index_or, true};
+ghost use Rattle.place_sets.specs.Masks.{IsMaskOf};
 ghost use Rattle.survey_text.specs.Goals.{goal_word};
 ghost use Rattle.survey_text.specs.steps.Goals.{AreColours, IsOnlySolution, IsOnlyWhereOne, IsRowShown};
 
 use grid_core::{GoalWord, Grid, LineOf, Puzzle};
-use place_sets::PlaceSet;
+use place_sets::{PlaceSet, first_places};
 use solve_core::Verdict;
 
-/// Whether values are the colours of a line's cells.
+/// The places of the values that are true. They are read from the last one, so that each takes one shift.
+#[tactic(auto, using(std::proofs::lemmas::Bool::cases_eq, place_sets::proofs::Doubling::one_within))]
+fn set_of<W: PlaceSet>(values: &[bool]) -> W
+    requires { length values.now ≤ W.WIDTH }
+    ensures { IsMaskOf (λ k. (k < length values.now) × (slice_index_or values.now k false ≡ true)) (W.number result) }
+{
+    let mut set = W::empty();
+    for x in (0..values.len()).rev() {
+        set = set.shifted_up(1).marked(0, values[x]);
+    }
+    set
+}
+
+/// Whether values are the colours of a line's cells. All are compared at once, as sets.
 fn is_line_shown<W: PlaceSet>(line: &LineOf<W>, values: &[bool]) -> bool
     requires { length values.now ≡ length line.now }
     ensures { IsTrue result ↔ AreColours line.now values.now }
 {
-    for x in 0..line.len() {
-        if values[usize::from(x)] != line.get(x).is_filled() {
-            return false;
-        }
-    }
-    true
+    let cells = first_places(line.len());
+    let differing = line.filled().symmetric_difference(set_of(values));
+    differing.intersection(cells).is_empty()
 }
 
 /// Whether the values of a goal are the colours of a row. A row that fits a word is compared in one.
