@@ -57,20 +57,13 @@ fn clue_of(alloc: Global, text: &[u8], numbers: &mut Vec<u16>) -> Result<Option<
     }
 }
 
-/// An empty list with room for `count` clues.
-pub(crate) fn room_for(alloc: Global, count: usize) -> Result<Vec<Clue>, NoMemory>
-    ensures items { IfOk result (λ clues. clues.items ≡ []) }
-    ensures len { IfOk result (λ clues. vec_len clues ≡ 0) }
-    ensures capacity { IfOk result (λ clues. vec_capacity clues ≡ count) }
+/// An empty list with room for `count` elements.
+pub(crate) fn room_for<T: Drop>(alloc: Global, count: usize) -> Result<Vec<T>, NoMemory>
+    ensures items { IfOk result (λ list. list.items ≡ []) }
+    ensures len { IfOk result (λ list. vec_len list ≡ 0) }
+    ensures capacity { IfOk result (λ list. vec_capacity list ≡ count) }
 {
     Ok(Vec::with_capacity(alloc, count)?)
-}
-
-/// An empty list with room for the numbers of most lines.
-fn room_for_numbers(alloc: Global) -> Result<Vec<u16>, NoMemory>
-    ensures { IfOk result (λ numbers. numbers.items ≡ []) }
-{
-    Ok(Vec::with_capacity(alloc, 16)?)
 }
 
 /// The clues that these lines say.
@@ -79,7 +72,7 @@ fn clues_of(alloc: Global, lines: &[Line<'_>]) -> Result<Vec<Clue>, TextFault>
     ensures length { IfOk result (λ clues. length clues.items ≡ length lines.now) }
 {
     let mut clues = room_for(alloc, lines.len())?;
-    let mut numbers = room_for_numbers(alloc)?;
+    let mut numbers = room_for(alloc, 16)?;
     for line in lines {
         let Some(clue) = clue_of(alloc, line.text, &mut numbers)? else {
             return Err(TextFault::BadNumber(line.number));

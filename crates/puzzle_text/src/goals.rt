@@ -1,12 +1,13 @@
 //! Goals in .non texts.
 
-ghost use Rattle.std.specs.Prelude.{◌≡◌, ◌==◌, [], true, length, vec_capacity, vec_len, IfOk, IfSome};
+ghost use Rattle.std.specs.Prelude.{◌≡◌, ◌==◌, true, length, IfOk, IfSome};
 ghost use Rattle.std.specs.Option.{is_some, option_map};
 ghost use Rattle.grid_core.specs.Nonogram.{bools_of, is_goal};
 ghost use Rattle.puzzle_text.specs.Answers.{Gives};
 ghost use Rattle.puzzle_text.specs.Non.{cell_of, goal_cells, goal_of};
 ghost use Rattle.puzzle_text.specs.steps.Shown.{shown_keyword};
 
+use crate::clue_lines::room_for;
 use crate::faults::TextFault;
 use crate::keyword_line::KeywordLine;
 use crate::keywords::quoted_text;
@@ -18,15 +19,6 @@ fn is_colour(byte: u8) -> bool
     ensures { result ≡ is_some (cell_of byte) }
 {
     byte == b'0' || byte == b'1'
-}
-
-/// An empty list with room for `count` cells.
-fn room_for(alloc: Global, count: usize) -> Result<Vec<bool>, NoMemory>
-    ensures items { IfOk result (λ cells. cells.items ≡ []) }
-    ensures len { IfOk result (λ cells. vec_len cells ≡ 0) }
-    ensures capacity { IfOk result (λ cells. vec_capacity cells ≡ count) }
-{
-    Ok(Vec::with_capacity(alloc, count)?)
 }
 
 /// The cells of a goal of `count` cells. All bytes are looked at in any case, many at a time.
