@@ -261,13 +261,12 @@ fn words_take_no_memory(rt: HostRuntime) {
 }
 
 #[test]
-fn refused_collections_take_no_memory(rt: HostRuntime) -> Result<(), Fail> {
+fn collections_are_refused_without_memory(rt: HostRuntime) -> Result<(), Fail> {
     let alloc = rt.alloc();
     let more = repeated(alloc, b"", b"@ a.mk\n", MOST_ENTRIES + 1)?;
     refuse(alloc, 0);
     let stray = entries(alloc, b"@ a\n1\n@\n").err();
     let many = entries(alloc, &more).err();
-    assert!(rt; !was_refused(alloc), "no growth");
     assert!(rt; stray == Some(CollectionFault::Stray(3)));
     assert!(rt; many == Some(CollectionFault::TooMany));
     assert!(rt; is_heeded(alloc));
