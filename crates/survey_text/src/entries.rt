@@ -56,11 +56,11 @@ fn push_verdict(text: &mut Vec<u8>, puzzle: &Puzzle, findings: &Findings) -> Res
     ensures { OnOk result (text.new.items ≡ text.old.items ++ verdict_text puzzle.now findings.now) }
 {
     push_number(text, u64::from(puzzle.width()))?;
-    push_bytes(text, b"x")?;
+    text.push(b'x')?;
     push_number(text, u64::from(puzzle.height()))?;
-    push_bytes(text, b" ")?;
+    text.push(b' ')?;
     push_bytes(text, verdict_word(&findings.verdict).as_bytes())?;
-    push_bytes(text, b" ")?;
+    text.push(b' ')?;
     push_bytes(text, grade_word(findings.grade).as_bytes())
 }
 
@@ -70,11 +70,11 @@ fn push_counts(text: &mut Vec<u8>, found: &GradedPuzzle<'_>) -> Result<(), NoMem
 {
     let findings = found.findings;
     push_number(text, u64::from(findings.line_known))?;
-    push_bytes(text, b" ")?;
+    text.push(b' ')?;
     push_number(text, u64::from(findings.trial_known))?;
-    push_bytes(text, b" ")?;
+    text.push(b' ')?;
     push_number(text, u64::from(findings.spent))?;
-    push_bytes(text, b" ")?;
+    text.push(b' ')?;
     push_bytes(text, goal_text(found.goal).as_bytes())
 }
 
@@ -83,7 +83,7 @@ fn push_found(text: &mut Vec<u8>, found: &GradedPuzzle<'_>) -> Result<(), NoMemo
     ensures { OnOk result (text.new.items ≡ text.old.items ++ result_text (Ok (found.now.puzzle.now, found.now.findings.now))) }
 {
     push_verdict(text, found.puzzle, found.findings)?;
-    push_bytes(text, b" ")?;
+    text.push(b' ')?;
     push_counts(text, found)
 }
 
@@ -110,11 +110,12 @@ fn push_line(text: &mut Vec<u8>, number: u32, entry: &ListedEntry<'_>) -> Result
     ensures { OnOk result (text.new.items ≡ text.old.items ++ entry_line number (shown_listed entry.now)) }
 {
     push_number(text, u64::from(number))?;
-    push_bytes(text, b" ")?;
+    text.push(b' ')?;
     push_result(text, entry)?;
-    push_bytes(text, b" ")?;
+    text.push(b' ')?;
     push_name(text, entry.name)?;
-    push_bytes(text, b"\n")
+    text.push(b'\n')?;
+    Ok(())
 }
 
 /// Adds a solution, and an empty line.
@@ -122,7 +123,8 @@ fn push_solution(text: &mut Vec<u8>, grid: &Grid) -> Result<(), NoMemory>
     ensures { OnOk result (text.new.items ≡ text.old.items ++ solution_text grid.now) }
 {
     push_grid(text, grid)?;
-    push_bytes(text, b"\n")
+    text.push(b'\n')?;
+    Ok(())
 }
 
 /// Adds the solutions that a verdict shows.

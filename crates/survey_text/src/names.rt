@@ -9,9 +9,10 @@ use grid_core::NoMemory;
 pub(crate) fn push_name(text: &mut Vec<u8>, name: &[u8]) -> Result<(), NoMemory>
     ensures { OnOk result (text.new.items ≡ text.old.items ++ map printed_byte name.now) }
 {
+    text.reserve(name.len())?;
     for &byte in name {
         let shown = if byte < 32 || byte == 127 { b'?' } else { byte };
-        text.push(shown)?;
+        text.push_reserved(shown);
     }
     Ok(())
 }
