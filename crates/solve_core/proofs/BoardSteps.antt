@@ -82,7 +82,7 @@ board-undone g old less room left k b t e s =
 
 -- a board of which nothing is known
 pub board-unknown : (w h room : ℕ) (g : PartialGrid) (trail : List ℕ) → IsSize w h →
-    g ≡ record { width = w; height = h; cells = replicate (w * h) Unknown } → trail ≡ [] → length g.cells + LONGEST_SIDE ≤ room
+    g ≡ record { width = w; height = h; cells = replicate (w * h) Unknown } → trail ≡ [] → length g.cells + 2 * LONGEST_SIDE ≤ room
     → IsBoard (trailed g trail) room
 board-unknown w h room g trail size e t fits = record {
   size = rw e size;

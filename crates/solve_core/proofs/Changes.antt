@@ -1,5 +1,5 @@
 -- A line that is written cell by cell, at the places where it changes.
-use Rattle.std.proofs.Common.{◌≡◌, ◌≢◌, ℕ, zero, suc, ◌<◌, ◌⊎◌, inl, inr, false, List, [], ◌∷◌, length, get_or, set, sym, ◌∙◌, ap, arith, length-set, get_or-set_same, get_or-set_other, ext_get_or, true≢false}
+use Rattle.std.proofs.Common.{◌≡◌, ◌≢◌, ℕ, zero, suc, ◌<◌, ◌⊎◌, inl, inr, List, [], ◌∷◌, length, get_or, set, sym, ◌∙◌, ap, arith, length-set, get_or-set_same, get_or-set_other, ext_get_or}
 use Rattle.std.specs.Int.{bit_at}
 use Rattle.std.proofs.lemmas.Nat.Bits.{bit_at-zero}
 use Rattle.std.proofs.lemmas.Bool.{cases_eq}
@@ -8,24 +8,17 @@ use Rattle.grid_core.specs.declared.cells.Cell.{Cell}
 use Rattle.grid_core.specs.declared.cells.Cell.TheVariants.{Unknown}
 use Rattle.grid_core.specs.Nonogram.{cells_at}
 use Rattle.grid_core.proofs.LineLaws.{length-cells_at, get_or-cells_at}
-use Rattle.place_sets.specs.Masks.{Has, IsMarked, IsMaskOf}
+use Rattle.place_sets.specs.Masks.{Has, IsMaskOf}
 use Rattle.grid_core.specs.Lines.{IsChanged}
 use Rattle.grid_core.proofs.Changing.{same_cells}
 use Rattle.solve_core.specs.Closure.{with_cells}
+use Rattle.solve_core.specs.steps.Learning.{IsPartly}
 use Rattle.solve_core.proofs.ClosureLaws.{length-with_cells}
 use Rattle.solve_core.proofs.LineSteps.{AreDistinct, AreBelow, distinct_same, get_or-with_cells, cells_at-with_cells}
 
--- of the cells at some places, those whose numbers are left are still the old ones, and the others are new
-pub record IsPartly (places : List ℕ) (before now new : List Cell) (left : ℕ) : Type 0 where
-  pub changed : (k : ℕ) → Has left k → IsChanged (cells_at Unknown before places) new k
-  pub as_old : (k : ℕ) → k < length places → Has left k → get_or now (get_or places k 0) Unknown ≡ get_or before (get_or places k 0) Unknown
-  pub as_new : (k : ℕ) → k < length places → (Has left k → ⊥) → get_or now (get_or places k 0) Unknown ≡ get_or new k Unknown
-  pub others : (p : ℕ) → ((k : ℕ) → k < length places → get_or places k 0 ≢ p) → get_or now p Unknown ≡ get_or before p Unknown
-  pub size : length now ≡ length before
-
 -- at first all changes are left
 pub partly-init : (places : List ℕ) (cells new : List Cell) (m : ℕ) → IsMaskOf (IsChanged (cells_at Unknown cells places) new) m →
-    IsPartly places cells cells new m
+    IsPartly places cells cells new (Has m)
 partly-init places cells new m p =
     let old = cells_at Unknown cells places in
     record {
@@ -38,30 +31,38 @@ partly-init places cells new m p =
       size = λ i. length cells;
     }
 
+-- what is left is told in other words
+pub partly-same : (places : List ℕ) (before now new : List Cell) (Left Same : ℕ → Type 0) → ((k : ℕ) → Left k → Same k) → ((k : ℕ) → Same k → Left k) →
+    IsPartly places before now new Left → IsPartly places before now new Same
+partly-same places before now new Left Same to from p = record {
+  changed = λ k h. p.changed k (from k h);
+  as_old = λ k l h. p.as_old k l (from k h);
+  as_new = λ k l n. p.as_new k l (λ h. n (to k h));
+  others = p.others;
+  size = p.size;
+}
+
 -- one more cell is written
-pub partly-step : (places : List ℕ) (before now new : List Cell) (left next i : ℕ) → AreDistinct places → AreBelow (length before) places →
-    i < length places → IsMaskOf (IsMarked (Has left) i false) next → IsPartly places before now new left →
-    IsPartly places before (set now (get_or places i 0) (get_or new i Unknown)) new next
-partly-step places before now new left next i distinct below here m p =
+pub partly-step : (places : List ℕ) (before now new : List Cell) (Left : ℕ → Type 0) (i : ℕ) → AreDistinct places → AreBelow (length before) places →
+    i < length places → IsPartly places before now new Left →
+    IsPartly places before (set now (get_or places i 0) (get_or new i Unknown)) new (λ k. Left k × (k ≢ i))
+partly-step places before now new Left i distinct below here p =
     let at = get_or places i 0 in
     let cell = get_or new i Unknown in
     let within : at < length now = omega (arith, All-from_recursion (λ k. k < length before) places below i 0 here, p.size) in
     record {
-      changed = λ k h. p.changed k (stays k h).0;
+      changed = λ k h. p.changed k h.0;
       as_old = λ k l h. get_or-set_other now at (get_or places k 0) cell Unknown
-          (λ e. (stays k h).1 (distinct_same places k i distinct l here e)) ∙ p.as_old k l (stays k h).0;
+          (λ e. h.1 (distinct_same places k i distinct l here e)) ∙ p.as_old k l h.0;
       as_new = λ k l n.
           elim (cases_eq k i) [
             | inl own ↦ (rw own (get_or-set_same now at cell Unknown within))
             | inr other ↦ get_or-set_other now at (get_or places k 0) cell Unknown
-                (λ e. other (distinct_same places k i distinct l here e)) ∙ p.as_new k l (λ h. n (m.from k (inl (h, other))))
+                (λ e. other (distinct_same places k i distinct l here e)) ∙ p.as_new k l (λ h. n (h, other))
           ];
       others = λ q n. get_or-set_other now at q cell Unknown (λ e. n i here (sym e)) ∙ p.others q n;
       size = length-set now at cell ∙ p.size;
     }
-  where
-    stays : (k : ℕ) → Has next k → Has left k × (k ≢ i)
-    stays k h = elim (m.to k h) [ inl kept ↦ kept | inr gone ↦ absurd (true≢false (sym gone.1)) ]
 
 -- no place is in a mask that is 0
 pub none_in : (m : ℕ) → m ≡ 0 → (k : ℕ) → Has m k → ⊥
@@ -86,9 +87,9 @@ is_among (q ∷ ps) p =
     ]
 
 -- if no change is left, the line is written
-pub partly-end : (places : List ℕ) (before now new : List Cell) (left : ℕ) → AreDistinct places → AreBelow (length before) places →
-    length new ≡ length places → ((k : ℕ) → Has left k → ⊥) → IsPartly places before now new left → now ≡ with_cells before places new
-partly-end places before now new left distinct below long none p =
+pub partly-end : (places : List ℕ) (before now new : List Cell) (Left : ℕ → Type 0) → AreDistinct places → AreBelow (length before) places →
+    length new ≡ length places → ((k : ℕ) → Left k → ⊥) → IsPartly places before now new Left → now ≡ with_cells before places new
+partly-end places before now new Left distinct below long none p =
     let after = with_cells before places new in
     let read : cells_at Unknown after places ≡ new = cells_at-with_cells before places new distinct below long in
     ext_get_or Unknown now after (p.size ∙ sym (length-with_cells before places new)) (λ q l.

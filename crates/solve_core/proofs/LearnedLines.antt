@@ -148,9 +148,11 @@ can_learn side w h i m cells new lines is are k has =
     let learned = learned_cell (get_or old k Unknown) (get_or new k Unknown) (Extends-at old new k is.more) at.1 in
     let read = at_across side w h k i cells here is.line in
     record {
-      line = line;
-      within = rw (are.1 k line) read.0;
-      unknown = rw (are.1 k line) (read.1 ∙ sym (at_own side w h i k cells here) ∙ learned.0);
+      ready = record {
+        line = line;
+        within = rw (are.1 k line) read.0;
+        unknown = rw (are.1 k line) (read.1 ∙ sym (at_own side w h i k cells here) ∙ learned.0);
+      };
       cell = omega (arith, at.0, length-Extends old new is.more);
       known = learned.1;
     }

@@ -21,16 +21,10 @@ use std::marker::Model;
 
 /// A grid as its rows and its columns. It keeps the places of the cells in the order in which they were
 /// settled, in room that is made once, and so leads back.
+#[derive(Drop)]
 pub struct Board<W: LineSet> {
     lines: GridLines<W>,
     trail: Vec<u16>,
-}
-
-/// A call of its own, so that a proof takes it as one step.
-impl<W: LineSet> Drop for Board<W> {
-    fn drop(self) {
-        let Board { lines: _, trail: _ } = self;
-    }
 }
 
 impl<W: LineSet> Model for Board<W> {
@@ -73,7 +67,7 @@ impl<W: LineSet> Board<W> {
             None => (None, Vec::new(alloc)),
         };
         let lines = GridLines::unknown(alloc, lines, width, height)?;
-        let trail = emptied(alloc, trail, lines.count() + usize::from(LONGEST_SIDE))?;
+        let trail = emptied(alloc, trail, lines.count() + 2 * usize::from(LONGEST_SIDE))?;
         Ok(Board { lines, trail })
     }
 
@@ -105,7 +99,7 @@ impl<W: LineSet> Board<W> {
     }
 
     /// Settles the unknown cell in column x and row y.
-    fn settle_at(&mut self, x: usize, y: usize, cell: Cell)
+    pub fn settle(&mut self, x: usize, y: usize, cell: Cell)
         requires column { x < self.old.width }
         requires row { y < self.old.height }
         requires unknown { slice_index_or self.old.cells (y * self.old.width + x) Unknown ≡ Unknown }
@@ -114,28 +108,14 @@ impl<W: LineSet> Board<W> {
         ensures trail { IsTrailed self.old self.new }
     {
         let place = y * self.lines.width() + x;
-        self.lines.settle(x, y, cell);
+        self.lines.set(x, y, cell);
         self.trail.push_reserved(place as u16);
-    }
-
-    /// Settles the unknown cell k of line i of a side.
-    pub fn settle(&mut self, side: Side, i: u16, k: u16, cell: Cell)
-        requires i { i < count_on side self.old.width self.old.height }
-        requires k { k < count_on (crossing side) self.old.width self.old.height }
-        requires unknown { slice_index_or self.old.cells (place_on side self.old.width i k) Unknown ≡ Unknown }
-        requires known { is_known cell ≡ true }
-        ensures cells { self.new.cells ≡ slice_set self.old.cells (place_on side self.old.width i k) cell }
-        ensures trail { IsTrailed self.old self.new }
-    {
-        match side {
-            Side::Rows => self.settle_at(usize::from(k), usize::from(i), cell),
-            Side::Columns => self.settle_at(usize::from(i), usize::from(k), cell),
-        }
     }
 
     /// Writes the cells of line i of a side, some of which change from unknown ones.
     pub fn learn(&mut self, side: Side, i: u16, new: &LineOf<W>, changes: W)
         requires i { i < count_on side self.old.width self.old.height }
+        requires fits { length new.now ≤ W.WIDTH }
         requires more { Extends (cells_along self.old side i) new.now }
         requires changes { IsMaskOf (IsChanged (cells_along self.old side i) new.now) (W.number changes) }
         ensures cells { self.new.cells ≡ with_cells self.old.cells (places_on side self.old.width self.old.height i) new.now }

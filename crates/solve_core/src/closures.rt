@@ -223,10 +223,10 @@ impl<W: LineSet> Closer<W> {
         ensures size { IsBoardOf puzzle.now board.new }
     {
         let width = usize::from(puzzle.width());
-        let (x, y) = ((place % width) as u16, (place / width) as u16);
-        self.marks.set(Side::Rows, y, true);
-        self.marks.set(Side::Columns, x, true);
-        board.settle(Side::Rows, y, x, colour);
+        let (x, y) = (place % width, place / width);
+        self.marks.set(Side::Rows, y as u16, true);
+        self.marks.set(Side::Columns, x as u16, true);
+        board.settle(x, y, colour);
         self.propagate(puzzle, board)
     }
 

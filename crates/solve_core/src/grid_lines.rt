@@ -13,11 +13,11 @@ ghost use Rattle.solve_core.specs.steps.GridLines.{AreLinesOf};
 ghost use Rattle.place_sets.specs.Masks.{Has, has, IsMaskOf};
 ghost use Rattle.solve_core.specs.Closure.{with_cells};
 ghost use Rattle.solve_core.specs.steps.Boards.{grid_of_board};
-ghost use Rattle.solve_core.specs.steps.Learning.{CanLearn, LeadsBack};
 ghost use Rattle.solve_core.specs.steps.Trails.{IsTrailed, TrailedGrid};
 ghost use Rattle.solve_core.specs.Picks.{is_sure};
 ghost use Rattle.solve_core.specs.Picks.{most_known};
 
+use crate::learning::settle_across;
 use crate::picks::{known_cells, most_in_row, near_known};
 use crate::rooms::emptied;
 use grid_core::{Cell, Grid, NoMemory, Side};
@@ -28,19 +28,10 @@ use std::marker::Model;
 
 /// A grid, each row and each column of it as a line, so that none has to be gathered cell by cell. A cell is
 /// read from its row.
+#[derive(Drop)]
 pub struct GridLines<W: LineSet> {
     rows: Vec<LineOf<W>>,
     columns: Vec<LineOf<W>>,
-}
-
-/// A call of its own, so that a proof takes it as one step.
-impl<W: LineSet> Drop for GridLines<W> {
-    fn drop(self) {
-        let GridLines {
-            rows: _,
-            columns: _,
-        } = self;
-    }
 }
 
 impl<W: LineSet> Model for GridLines<W> {
@@ -71,36 +62,6 @@ fn unknown_lines<W: LineSet>(
         lines.push_reserved(LineOf::unknown(len));
     }
     Ok(lines)
-}
-
-/// Settles cell `i` of each line at a change as `new` has the change, and puts its place on the trail: cell k of
-/// `new` is `first` and k steps.
-fn settle_across<W: LineSet>(
-    lines: &mut [LineOf<W>],
-    trail: &mut Vec<u16>,
-    i: u16,
-    first: usize,
-    step: usize,
-    new: &LineOf<W>,
-    changes: W,
-)
-    requires changes { (k : ℕ) → Has (W.number changes) k → CanLearn lines.old i new.now k }
-    requires places { (k : ℕ) → Has (W.number changes) k → first + k * step ≤ 65535 }
-    requires room { length trail.old.items + LONGEST_SIDE ≤ vec_capacity trail.old }
-    ensures changed { (k : ℕ) → Has (W.number changes) k → slice_index_or lines.new k []
-        ≡ slice_set (slice_index_or lines.old k []) i (slice_index_or new.now k Unknown) }
-    ensures others { (k : ℕ) → (Has (W.number changes) k → ⊥) → slice_index_or lines.new k [] ≡ slice_index_or lines.old k [] }
-    ensures len { length lines.new ≡ length lines.old }
-    ensures trail { LeadsBack first step (W.number changes) new.now trail.old.items trail.new.items }
-    ensures capacity { vec_capacity trail.new ≡ vec_capacity trail.old }
-{
-    let mut left = changes;
-    while !left.is_empty() {
-        let k = left.first_place();
-        left = left.marked(k, false);
-        lines[usize::from(k)].settle(i, new.get(k));
-        trail.push_reserved((first + usize::from(k) * step) as u16);
-    }
 }
 
 /// Copies lines over others of the same lengths.
@@ -343,27 +304,16 @@ impl<W: LineSet> GridLines<W> {
         self.columns[x].set(y as u16, cell);
     }
 
-    /// Settles the unknown cell in column x and row y.
-    pub fn settle(&mut self, x: usize, y: usize, cell: Cell)
-        requires column { x < self.old.width }
-        requires row { y < self.old.height }
-        requires unknown { slice_index_or self.old.cells (y * self.old.width + x) Unknown ≡ Unknown }
-        requires known { is_known cell ≡ true }
-        ensures { self.new ≡ record self.old { cells = slice_set self.old.cells (y * self.old.width + x) cell } }
-    {
-        self.rows[y].settle(x as u16, cell);
-        self.columns[x].settle(y as u16, cell);
-    }
-
     /// Writes the cells of line i of a side, some of which change from unknown ones, and puts the places of
     /// these on the trail.
     pub fn learn(&mut self, trail: &mut Vec<u16>, side: Side, i: u16, new: &LineOf<W>, changes: W)
         requires i { i < count_on side self.old.width self.old.height }
+        requires fits { length new.now ≤ W.WIDTH }
         requires more { Extends (cells_at Unknown self.old.cells (places_on side self.old.width self.old.height i)) new.now }
         requires changes { IsMaskOf
             (IsChanged (cells_at Unknown self.old.cells (places_on side self.old.width self.old.height i)) new.now)
             (W.number changes) }
-        requires room { length trail.old.items + LONGEST_SIDE ≤ vec_capacity trail.old }
+        requires room { length trail.old.items + 2 * LONGEST_SIDE ≤ vec_capacity trail.old }
         ensures cells { self.new ≡ record self.old {
           cells = with_cells self.old.cells (places_on side self.old.width self.old.height i) new.now;
         } }

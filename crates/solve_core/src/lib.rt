@@ -9,6 +9,7 @@ mod findings;
 mod grid_lines;
 mod guessing;
 pub mod laws;
+mod learning;
 mod line_grids;
 mod marks;
 mod picks;

@@ -31,6 +31,14 @@ pub changes-changes-requires : goal.changes-changes-requires
 changes-changes-requires g c = length-deduced c.line-old.result.now c.in-Some.new (line_on c.args.side c.args.puzzle.now c.args.i).clue
     (sym c.in-Some.is ∙ c.deduce.ensures.answer)
 
+pub learn-requires-clause-fits : goal.learn-requires-clause-fits
+learn-requires-clause-fits g c = omega (
+  arith,
+  length-deduced c.line-old.result.now c.in-Some.new (line_on c.args.side c.args.puzzle.now c.args.i).clue
+      (sym c.in-Some.is ∙ c.deduce.ensures.answer),
+  c.changes-changes.ensures.fits,
+)
+
 pub learn-requires-clause-more : goal.learn-requires-clause-more
 learn-requires-clause-more g c =
     subst (λ (r : List Cell). Extends r c.in-Some.new) c.line-old.ensures.cells

@@ -27,6 +27,7 @@ settle_across-requires g c =
     let is = learns_of c.args.side Rows c.args.i _ c.args.new.now _ _ _ c.self.invariant c.self.view_is c.in-Rows.is
     c.requires.i c.requires.more c.requires.changes in
     record {
+      fits = c.requires.fits;
       changes = rw c.deref_mut.ensures.value
           (can_learn Rows _ _ _ _ _ _ c.self.inside.columns.items is (refl, c.self.invariant.columns_are));
       places = λ k has.
@@ -88,6 +89,7 @@ settle_across-requires-in-Columns g c =
     let is = learns_of c.args.side Columns c.args.i _ c.args.new.now _ _ _ c.self.invariant c.self.view_is c.in-Columns.is
     c.requires.i c.requires.more c.requires.changes in
     record {
+      fits = c.requires.fits;
       changes = rw c.deref_mut-in-Columns.ensures.value
           (can_learn Columns _ _ _ _ _ _ c.self.inside.rows.items is (refl, c.self.invariant.rows_are));
       places = λ k has.

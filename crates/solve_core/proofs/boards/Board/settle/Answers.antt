@@ -1,4 +1,4 @@
--- `Board::settle_at`: since the cell was unknown, the trail has room for its place, and then leads back.
+-- `Board::settle`: since the cell was unknown, the trail has room for its place, and then leads back.
 use Rattle.std.proofs.Common.{◌≡◌, ◌∙◌, ◌+◌, ◌*◌, ◌++◌, ◌∷◌, ◌<◌, [], ℕ, length, get_or, set, subst, ap, arith}
 use Rattle.grid_core.specs.declared.cells.Cell.TheVariants.{Unknown}
 use Rattle.grid_core.specs.declared.sides.Side.TheVariants.{Rows}
@@ -7,7 +7,7 @@ use Rattle.solve_core.specs.steps.Boards.{IsBoard}
 use Rattle.solve_core.specs.steps.Trails.{TrailedGrid}
 use Rattle.solve_core.proofs.BoardSteps.{board-settled, place-within, trailed}
 use Rattle.solve_core.proofs.TrailSteps.{trailed-one}
-use Rattle.solve_core.proofs.boards.Board.settle_at.Goals as goal
+use Rattle.solve_core.proofs.boards.Board.settle.Goals as goal
 
 here : (g t : TrailedGrid) (room x y : ℕ) → g ≡ t → IsBoard g room → x < t.width → y < t.height →
     get_or t.cells (y * t.width + x) Unknown ≡ Unknown
@@ -25,8 +25,8 @@ invariant_of-self g c =
     let b = c.self.inside in
     let at = here (trailed b.lines b.trail.items) _ _ c.args.x c.args.y c.self.view_is c.self.invariant c.requires.column c.requires.row
     c.requires.unknown in
-    board-settled c.settle.new.self (trailed b.lines b.trail.items) c.push_reserved.new.self.items _ _ (c.args.y * b.lines.width + c.args.x)
-    c.args.cell c.self.invariant at.0 at.1 c.requires.known c.settle.ensures
+    board-settled c.set.new.self (trailed b.lines b.trail.items) c.push_reserved.new.self.items _ _ (c.args.y * b.lines.width + c.args.x)
+    c.args.cell c.self.invariant at.0 at.1 c.requires.known c.set.ensures
     (c.push_reserved.ensures.items ∙ (λ i. b.trail.items ++ (c.args.y * c.width.ensures.width i + c.args.x) ∷ []))
     c.push_reserved.ensures.capacity
 
@@ -38,9 +38,9 @@ returns-clause-trail g c =
     let at = here (trailed b.lines b.trail.items) t _ c.args.x c.args.y c.self.view_is c.self.invariant c.requires.column c.requires.row
     c.requires.unknown in
     trailed-one t _ (c.args.y * t.width + c.args.x) c.args.cell at.2 c.requires.unknown c.requires.known
-    (ap (λ (t : PartialGrid). t.width) c.settle.ensures ∙ wide)
-    (ap (λ (t : PartialGrid). t.height) c.settle.ensures ∙ ap (λ (t : TrailedGrid). t.height) c.self.view_is)
-    (ap (λ (t : PartialGrid). t.cells) c.settle.ensures ∙
+    (ap (λ (t : PartialGrid). t.width) c.set.ensures ∙ wide)
+    (ap (λ (t : PartialGrid). t.height) c.set.ensures ∙ ap (λ (t : TrailedGrid). t.height) c.self.view_is)
+    (ap (λ (t : PartialGrid). t.cells) c.set.ensures ∙
     (λ i. set (c.self.view_is i).cells (c.args.y * (c.self.view_is i).width + c.args.x) c.args.cell))
     (c.push_reserved.ensures.items ∙ (λ i. b.trail.items ++ (c.args.y * (c.width.ensures.width ∙ wide) i + c.args.x) ∷ []) ∙
     ap (λ (g : TrailedGrid). g.trail ++ (c.args.y * t.width + c.args.x) ∷ []) c.self.view_is)
