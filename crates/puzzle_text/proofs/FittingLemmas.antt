@@ -13,8 +13,9 @@ runs_sum (number ∷ numbers) runs =
     let run = and_parts (leb 1 number) (leb number 256) parts.0 in
     omega (arith, sum_by-cons (λ (x : ℕ). x) number numbers, leb-true number 256 run.1, runs_sum numbers parts.1)
 
--- the cells that a clue fills
-pub clue_sum : (numbers : List ℕ) → is_clue 256 numbers ≡ true → sum numbers ≤ 32768
-clue_sum numbers clue =
+-- how many numbers a clue has, and how many cells it fills
+pub clue_bounds : (numbers : List ℕ) → is_clue 256 numbers ≡ true → (length numbers ≤ 128) × (sum numbers ≤ 32768)
+clue_bounds numbers clue =
     let parts = and_parts (leb (length numbers) 128) (list_all (is_run 256) numbers) clue in
-    omega (arith, leb-true (length numbers) 128 parts.0, runs_sum numbers parts.1)
+    let few = leb-true (length numbers) 128 parts.0 in
+    (few, omega (arith, few, runs_sum numbers parts.1))

@@ -14,22 +14,15 @@ fn sum_of(numbers: &[u16]) -> u32
     numbers.iter().map(|number| u32::from(*number)).sum()
 }
 
-/// How many cells a clue fills.
-fn filled(clue: &Clue) -> u32
-    ensures filled { result ≡ sum clue.now }
-    ensures within { result ≤ 32768 }
-{
-    sum_of(clue.numbers())
-}
-
 /// How many cells a clue fills, if it fits a line of this length.
+#[tactic(auto, using(crate::proofs::FittingLemmas::clue_bounds))]
 fn filled_within(len: u16, clue: &Clue) -> Option<u32>
     ensures cells { result ≡ (if fits len clue.now then Some (sum clue.now) else None) }
     ensures within { IfSome result (λ cells. cells ≤ 32768) }
 {
-    let cells = filled(clue);
-    let needed = cells + clue.numbers().len() as u32;
-    if needed.saturating_sub(1) <= u32::from(len) {
+    let numbers = clue.numbers();
+    let cells = sum_of(numbers);
+    if cells + numbers.len() as u32 <= u32::from(len) + 1 {
         Some(cells)
     } else {
         None

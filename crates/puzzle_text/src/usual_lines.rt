@@ -51,13 +51,14 @@ fn of_three(a: u8, b: u8, c: u8) -> Option<u16>
 
 /// The number from 1 to 256 that a text begins with, of up to three digits, the byte behind it, and what
 /// follows that byte.
+#[inline(always)]
 fn number(text: &[u8]) -> Option<(u16, u8, &[u8])>
     ensures number { IfSome result (λ found. BeginsWithNumber text.now found.0 (found.1 ∷ found.2.now)) }
     ensures shorter { IfSome result (λ found. length found.2.now < length text.now) }
 {
     match text {
-        [a, end, rest @ ..] if !end.is_ascii_digit() => Some((of_one(*a)?, *end, rest)),
-        [a, b, end, rest @ ..] if !end.is_ascii_digit() => Some((of_two(*a, *b)?, *end, rest)),
+        [a, end, ..] if *end < b'0' => Some((of_one(*a)?, *end, &text[2..])),
+        [a, b, end, rest @ ..] if *end < b'0' => Some((of_two(*a, *b)?, *end, rest)),
         [a, b, c, end, rest @ ..] => Some((of_three(*a, *b, *c)?, *end, rest)),
         _ => None,
     }
@@ -84,8 +85,8 @@ fn is_separator(byte: u8) -> bool
     byte == b',' || byte == b' '
 }
 
-/// Adds the numbers of the first line, if it has some, to an empty clue. Returns what follows the line.
-fn push_numbers<'t>(clue: &mut Clue, text: &'t [u8]) -> Option<&'t [u8]>
+/// Makes an empty clue the one that the first line says. Returns what follows the line.
+fn read_clue_line<'t>(clue: &mut Clue, text: &'t [u8]) -> Option<&'t [u8]>
     requires { clue.old ≡ [] }
     ensures clue { IfSome result (λ below. SaysClue text.now clue.new below.now) }
     ensures shorter { IfSome result (λ below. length below.now < length text.now) }
@@ -93,23 +94,17 @@ fn push_numbers<'t>(clue: &mut Clue, text: &'t [u8]) -> Option<&'t [u8]>
     let mut rest = text;
     'numbers: while let Some((number, end, after)) = number(rest) {
         clue.push(number).ok()?;
-        if !is_separator(end) {
-            return below(end, after);
+        if end == b'\n' {
+            return Some(after);
         }
-        rest = after;
+        match after {
+            [_, _, ..] if is_separator(end) => rest = after,
+            _ => return below(end, after),
+        }
     }
-    None
-}
-
-/// Makes an empty clue the one that the first line says. Returns what follows the line.
-fn read_clue_line<'t>(clue: &mut Clue, text: &'t [u8]) -> Option<&'t [u8]>
-    requires { clue.old ≡ [] }
-    ensures clue { IfSome result (λ below. SaysClue text.now clue.new below.now) }
-    ensures shorter { IfSome result (λ below. length below.now < length text.now) }
-{
-    match text {
-        [b'0', end, rest @ ..] => below(*end, rest),
-        _ => push_numbers(clue, text),
+    match rest {
+        [b'0', end, after @ ..] if clue.numbers().is_empty() => below(*end, after),
+        _ => None,
     }
 }
 

@@ -1,10 +1,36 @@
--- `read_clue_line`: a 0 alone says the empty clue.
-use Rattle.std.proofs.Common.{rules}
-use Rattle.puzzle_text.proofs.UsualLines.{headed, if_some, zero_ends}
+-- `read_clue_line`: a number, and then a separator or the end of the line; or a 0 alone.
+use Rattle.std.proofs.Common.{◌≡◌, [], ◌∷◌, ◌++◌, ◌∙◌, ap, arith, inl, length, rules}
+use Rattle.std.proofs.lemmas.List.{length_push, nil_from_length}
+use Rattle.puzzle_text.proofs.UsualLines.{clue_ends, headed, if_some, number_and_more, zero_ends}
 use Rattle.puzzle_text.proofs.usual_lines.read_clue_line.Goals as goal
+
+pub returns-then-end-eq10-clause-clue : goal.returns-then-end-eq10-clause-clue
+returns-then-end-eq10-clause-clue c =
+    clue_ends c.args.text.now c.numbers.rest.now (c.in-Some.end ∷ c.in-Some.after.now) c.in-Some.after.now c.numbers.clue c.push.new.self
+    c.in-Some.number c.numbers.invariant.said c.in-Some.ensures.number (inl (search rules)) (search rules) (search rules)
+
+pub returns-in_default-after-clause-clue : goal.returns-in_default-after-clause-clue
+returns-in_default-after-clause-clue c =
+    if_some _ _ c.below.result
+    (λ below ends. clue_ends c.args.text.now c.numbers.rest.now (c.in-Some.end ∷ c.in-Some.after.now) below.now c.numbers.clue c.push.new.self
+    c.in-Some.number c.numbers.invariant.said c.in-Some.ensures.number ends (search rules) (search rules))
+    c.below.ensures.ends
+
+pub numbers-preserved : goal.numbers-preserved
+numbers-preserved c =
+    let pushed : c.push.new.self ≡ c.numbers.clue ++ c.in-Some.number ∷ [] = search rules in
+    record {
+      said =
+          number_and_more c.args.text.now c.numbers.rest.now c.in-Some.after.now c.numbers.clue c.push.new.self c.in-Some.number c.in-Some.end
+          c.numbers.invariant.said c.in-Some.ensures.number (search rules) pushed;
+      start = λ none. absurd (omega (arith, ap length pushed, ap length none, length_push c.numbers.clue c.in-Some.number));
+      within = omega (arith, c.in-Some.ensures.shorter, c.numbers.invariant.within);
+    }
 
 pub returns-in-48-clause-clue : goal.returns-in-48-clause-clue
 returns-in-48-clause-clue c =
-    if_some _ _ c.below.result
-    (λ below ends. zero_ends c.args.text.now _ below.now c.args.clue.now
-    (headed c.args.text.now 48 c.in-48.len_at_least (search rules)) ends c.requires) c.below.ensures.ends
+    let none = nil_from_length c.numbers.clue (search rules) in
+    if_some _ _ c.below-in-48.result
+    (λ below ends. zero_ends c.args.text.now _ below.now c.numbers.clue
+    (c.numbers.invariant.start none ∙ headed c.numbers.rest.now 48 c.in-48.len_at_least (search rules)) ends none)
+    c.below-in-48.ensures.ends

@@ -1,0 +1,14 @@
+-- What the loop of `read_clue_line` keeps: the line has said the numbers so far, and goes on.
+use Rattle.std.proofs.Common.{◌≡◌, ◌≤◌, [], length}
+use Rattle.puzzle_text.proofs.UsualLines.{PassesNumbers}
+use Rattle.puzzle_text.proofs.usual_lines.read_clue_line.Given as goal
+
+abbrev pub invariant-numbers : goal.invariant-numbers
+invariant-numbers l = record {
+  said : PassesNumbers l.text l.rest l.clue;
+  start : l.clue ≡ [] → l.text ≡ l.rest;
+  within : length l.rest ≤ length l.text;
+}
+
+abbrev pub decreases-numbers : goal.decreases-numbers
+decreases-numbers l = length l.rest
