@@ -1,22 +1,24 @@
 -- No line has a line feed in it, so nor has the text of a field.
-use Rattle.std.proofs.Common.{◌≡◌, ℕ, zero, suc, ◌+◌, ◌-◌, ◌<◌, Bool, true, false, cond, not, eqb, leb, ltb, List, [], ◌∷◌, length, take, drop, get_or, reverse, codes, All, refl, sym, ap, subst, ◌∙◌, arith, inl, inr, Option, Some, None, Ok, Err}
+use Rattle.std.proofs.Common.{◌≡◌, ℕ, zero, suc, ◌+◌, ◌-◌, ◌<◌, ◌≤◌, Bool, true, false, cond, not, eqb, leb, ltb, List, [], ◌∷◌, length, take, drop, get_or, reverse, codes, All, refl, sym, ap, subst, ◌∙◌, arith, inl, inr, Option, Some, None, IfSome, Ok, Err, map}
 use Rattle.std.specs.Prelude.{option_and_then, slice_get, unwrap_or}
-use Rattle.std.specs.List.{filter, onto_first, prefix_len, AllByRecursion}
+use Rattle.std.specs.List.{filter, list_all, onto_first, prefix_len, AllByRecursion}
 use Rattle.std.specs.Option.{option_map}
 use Rattle.std.specs.Char.{is_ascii_alphabetic}
-use Rattle.std.proofs.lemmas.Bool.{and_from, cases_Bool, le-leb, ltb-true, ltb-false}
-use Rattle.std.proofs.lemmas.List.{get_or_default, get_or-reverse, get_or-take, length-take-le, length-reverse}
+use Rattle.std.proofs.lemmas.Bool.{and_from, and_parts, cases_Bool, cond-false, le-leb, le-ltb, leb-true, ltb-true, ltb-false}
+use Rattle.std.proofs.lemmas.List.{get_or_default, get_or-reverse, get_or-take, length-drop, length-take-le, length-reverse}
 use Rattle.std.proofs.lemmas.List.Elements.{All-take, All-drop}
 use Rattle.std.proofs.lemmas.List.Sums.{AllPass-from_list_all, list_all-from_AllPass}
 use Rattle.grid_core.specs.Description.{IsDescription, is_field}
 use Rattle.grid_core.specs.declared.limits.TheConstants.{LONGEST_TEXT}
 use Rattle.puzzle_text.specs.declared.faults.TextFault.TheVariants.{TooLong}
 use Rattle.puzzle_text.specs.declared.limits.TheConstants.{LONGEST_PUZZLE}
+use Rattle.puzzle_text.specs.declared.keyword_line.KeywordLine.{KeywordLine}
 use Rattle.puzzle_text.specs.Sizes.{text_lines}
 use Rattle.puzzle_text.specs.Lines.{Line, is_blank, lines, numbered_from, raw_lines, strip_last, trim, trim_start, without_ending}
 use Rattle.puzzle_text.specs.steps.Lines.{HaveNoFeed, has_no_feed}
-use Rattle.puzzle_text.specs.Keywords.{after_quote, before_quote, first_with, has_keyword, rest, quoted_text}
-use Rattle.puzzle_text.specs.Non.{bad_line, field_text, least, long_text, number_of_line, texts_of}
+use Rattle.puzzle_text.specs.Keywords.{after_quote, before_quote, first_with, has_keyword, rest, quoted_text, with_keyword}
+use Rattle.puzzle_text.specs.steps.Shown.{shown_keyword}
+use Rattle.puzzle_text.specs.Non.{bad_line, field_text, least, least_of, long_text, number_of_line, text_words, texts_of}
 
 abbrev IsOther : ℕ → Type 0
 IsOther byte = not (eqb byte 10) ≡ true
@@ -25,67 +27,72 @@ IsOther byte = not (eqb byte 10) ≡ true
 abbrev IsClean : List ℕ → Type 0
 IsClean bytes = All IsOther bytes
 
+-- ---- what holds of a line's text, and of its parts, holds of a field's text
+
+module _ (P : List ℕ → Type 0) (cut : (n : ℕ) (bytes : List ℕ) → P bytes → P (drop n bytes))
+    (turn : (bytes : List ℕ) → P bytes → P (reverse bytes)) where
+  of_cond : (b : Bool) (xs ys : List ℕ) → P xs → P ys → P (cond b xs ys)
+  of_cond true xs ys p q = p
+  of_cond false xs ys p q = q
+
+  of_start : (bytes : List ℕ) → P bytes → P (trim_start bytes)
+  of_start [] h = h
+  of_start (byte ∷ bytes) h =
+      of_cond (is_blank byte) (trim_start bytes) (byte ∷ bytes) (of_start bytes (cut 1 (byte ∷ bytes) h)) h
+
+  of_trim : (bytes : List ℕ) → P bytes → P (trim bytes)
+  of_trim bytes h =
+      let front = trim_start bytes in
+      turn (trim_start (reverse front)) (of_start (reverse front) (turn front (of_start bytes h)))
+
+  option_cond : (b : Bool) (o p : Option (List ℕ)) → IfSome o P → IfSome p P → IfSome (cond b o p) P
+  option_cond true o p e f = e
+  option_cond false o p e f = f
+
+  of_after : (bytes : List ℕ) → P bytes → IfSome (after_quote bytes) P
+  of_after [] h = tt
+  of_after (byte ∷ bytes) h =
+      let others = cut 1 (byte ∷ bytes) h in
+      option_cond (eqb byte 34) (Some bytes) (after_quote bytes) others (of_after bytes others)
+
+  turned : (o : Option (List ℕ)) → IfSome o P → IfSome (option_map reverse o) P
+  turned None h = tt
+  turned (Some bytes) h = turn bytes h
+
+  of_between : (o : Option (List ℕ)) → IfSome o P → IfSome (option_and_then before_quote o) P
+  of_between None h = tt
+  of_between (Some bytes) h = turned (after_quote (reverse bytes)) (of_after (reverse bytes) (turn bytes h))
+
+  of_or : (o : Option (List ℕ)) (bytes : List ℕ) → IfSome o P → P bytes → P (unwrap_or o bytes)
+  of_or None bytes h other = other
+  of_or (Some found) bytes h other = h
+
+  of_text : (line : Line) → P line.text → P (quoted_text line)
+  of_text line h =
+      let letters = prefix_len is_ascii_alphabetic line.text in
+      let after = of_trim (drop letters line.text) (cut letters line.text h) in
+      of_or (option_and_then before_quote (after_quote (rest line))) (rest line)
+      (of_between (after_quote (rest line)) (of_after (rest line) after)) after
+
 -- ---- parts of what has no line feed
+
+clean_drop : (n : ℕ) (bytes : List ℕ) → IsClean bytes → IsClean (drop n bytes)
+clean_drop n bytes h = All-drop IsOther n bytes h
 
 clean_reverse : (bytes : List ℕ) → IsClean bytes → IsClean (reverse bytes)
 clean_reverse bytes h k d lt =
     let low : k < length bytes = omega (arith, length-reverse bytes) in
     ap (λ (byte : ℕ). not (eqb byte 10)) (get_or-reverse bytes k d low) ∙ h (length bytes - 1 - k) d (omega arith)
 
-clean_cond : (b : Bool) (xs ys : List ℕ) → IsClean xs → IsClean ys → IsClean (cond b xs ys)
-clean_cond true xs ys p q = p
-clean_cond false xs ys p q = q
-
-clean_start : (bytes : List ℕ) → IsClean bytes → IsClean (trim_start bytes)
-clean_start [] h = h
-clean_start (byte ∷ bytes) h =
-    clean_cond (is_blank byte) (trim_start bytes) (byte ∷ bytes) (clean_start bytes (All-drop IsOther 1 (byte ∷ bytes) h)) h
-
-clean_trim : (bytes : List ℕ) → IsClean bytes → IsClean (trim bytes)
-clean_trim bytes h =
-    let front = trim_start bytes in
-    clean_reverse (trim_start (reverse front)) (clean_start (reverse front) (clean_reverse front (clean_start bytes h)))
-
 clean_strip : (byte : ℕ) (bytes : List ℕ) → IsClean bytes → IsClean (strip_last byte bytes)
 clean_strip byte bytes h =
-    clean_cond (eqb (get_or bytes (length bytes - 1) 0) byte) (take (length bytes - 1) bytes) bytes
+    of_cond IsClean clean_drop clean_reverse (eqb (get_or bytes (length bytes - 1) 0) byte) (take (length bytes - 1) bytes) bytes
     (All-take IsOther (length bytes - 1) bytes h) h
-
--- what there is has no line feed
-abbrev IsCleanOption : Option (List ℕ) → Type 0
-IsCleanOption None = Unit {0}
-IsCleanOption (Some bytes) = IsClean bytes
-
-option_cond : (b : Bool) (o p : Option (List ℕ)) → IsCleanOption o → IsCleanOption p → IsCleanOption (cond b o p)
-option_cond true o p e f = e
-option_cond false o p e f = f
-
-clean_after : (bytes : List ℕ) → IsClean bytes → IsCleanOption (after_quote bytes)
-clean_after [] h = tt
-clean_after (byte ∷ bytes) h =
-    let others = All-drop IsOther 1 (byte ∷ bytes) h in
-    option_cond (eqb byte 34) (Some bytes) (after_quote bytes) others (clean_after bytes others)
-
-turned : (o : Option (List ℕ)) → IsCleanOption o → IsCleanOption (option_map reverse o)
-turned None h = tt
-turned (Some bytes) h = clean_reverse bytes h
-
-clean_between : (o : Option (List ℕ)) → IsCleanOption o → IsCleanOption (option_and_then before_quote o)
-clean_between None h = tt
-clean_between (Some bytes) h = turned (after_quote (reverse bytes)) (clean_after (reverse bytes) (clean_reverse bytes h))
-
-clean_or : (o : Option (List ℕ)) (bytes : List ℕ) → IsCleanOption o → IsClean bytes → IsClean (unwrap_or o bytes)
-clean_or None bytes h other = other
-clean_or (Some found) bytes h other = h
 
 clean_text : (line : Line) → has_no_feed line.text ≡ true → has_no_feed (quoted_text line) ≡ true
 clean_text line h =
-    let after =
-    clean_trim (drop (prefix_len is_ascii_alphabetic line.text) line.text)
-    (All-drop IsOther (prefix_len is_ascii_alphabetic line.text) line.text (AllPass-from_list_all _ line.text h)) in
     list_all-from_AllPass _ (quoted_text line)
-    (clean_or (option_and_then before_quote (after_quote (rest line))) (rest line)
-    (clean_between (after_quote (rest line)) (clean_after (rest line) after)) after)
+    (of_text IsClean clean_drop clean_reverse line (AllPass-from_list_all _ line.text h))
 
 -- ---- lines
 
@@ -141,7 +148,7 @@ clean_lines : (number : ℕ) (raws : List (List ℕ)) → AllByRecursion IsRaw r
 clean_lines number [] h = tt
 clean_lines number (raw ∷ raws) h = (
   list_all-from_AllPass _ (trim (without_ending raw))
-      (clean_trim (without_ending raw) (clean_strip 13 (strip_last 10 raw) (clean_line raw h.0))),
+      (of_trim IsClean clean_drop clean_reverse (without_ending raw) (clean_strip 13 (strip_last 10 raw) (clean_line raw h.0))),
   clean_lines (number + 1) raws h.1,
 )
 
@@ -220,3 +227,42 @@ lawful_texts stray text h none =
       copyright = lawful_text (codes "copyright") text h in_d.0;
       license = lawful_text (codes "license") text h in_e.0;
     }
+
+-- ---- texts that are short
+
+abbrev are_short : List KeywordLine → Bool
+are_short kept = list_all (λ found. leb (length found.line.text.now) LONGEST_TEXT) kept
+
+abbrev IsShort : List ℕ → Type 0
+IsShort bytes = length bytes ≤ LONGEST_TEXT
+
+short_text : (line : Line) → IsShort line.text → IsShort (quoted_text line)
+short_text =
+    of_text IsShort (λ n bytes h. omega (arith, length-drop n bytes)) (λ bytes h. omega (arith, length-reverse bytes))
+
+short_here : (b : Bool) (line : Line) (others : List Line) → IsShort line.text → long_of (slice_get others 0) ≡ None
+    → long_of (slice_get (cond b (line ∷ others) others) 0) ≡ None
+short_here true line others fits none =
+    ap number_of_line (cond-false (ltb LONGEST_TEXT (length (quoted_text line))) (Some line) None (le-ltb _ _ (short_text line fits)))
+short_here false line others fits none = none
+
+short_first : (word : List ℕ) (kept : List KeywordLine) → are_short kept ≡ true → long_of (first_with word (map shown_keyword kept)) ≡ None
+short_first word [] h = refl
+short_first word (found ∷ kept) h =
+    let parts = and_parts (leb (length found.line.text.now) LONGEST_TEXT) (are_short kept) h in
+    short_here (has_keyword word (shown_keyword found)) (shown_keyword found) (with_keyword word (map shown_keyword kept))
+    (leb-true _ _ parts.0) (short_first word kept parts.1)
+
+none_least : (f : List ℕ → Option ℕ) (words : List (List ℕ)) → ((word : List ℕ) → f word ≡ None) → least_of (map f words) ≡ None
+none_least f [] h = refl
+none_least f (word ∷ words) h = ap (λ (o : Option ℕ). least o (least_of (map f words))) (h word) ∙ none_least f words h
+
+or_stray : (stray : Option ℕ) → least stray None ≡ stray
+or_stray None = refl
+or_stray (Some number) = refl
+
+-- if no line is long, no text is
+pub short_lines : (stray : Option ℕ) (kept : List KeywordLine) → are_short kept ≡ true → bad_line stray (map shown_keyword kept) ≡ stray
+short_lines stray kept h =
+    ap (least stray) (none_least (λ word. number_of_line (long_text (map shown_keyword kept) word)) text_words (λ word. short_first word kept h))
+    ∙ or_stray stray

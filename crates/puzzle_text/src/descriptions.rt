@@ -1,6 +1,7 @@
 //! The texts of a puzzle in a .non text.
 
-ghost use Rattle.std.specs.Prelude.{◌≡◌, map, true, IfOk, OnOk};
+ghost use Rattle.std.specs.Prelude.{◌≡◌, length, map, nat_le, true, IfOk, OnOk};
+ghost use Rattle.std.specs.List.{list_all};
 ghost use Rattle.std.specs.Option.{option_map};
 ghost use Rattle.grid_core.specs.Description.{IsDescription, is_field};
 ghost use Rattle.puzzle_text.specs.Keywords.{field_word};
@@ -31,6 +32,15 @@ pub(crate) fn long_number(lines: &[KeywordLine<'_>], field: Field) -> Option<u32
         Some(found) => Some(found.line.number),
         None => None,
     }
+}
+
+/// Whether no line is longer than a field's text may be.
+pub(crate) fn are_short(lines: &[KeywordLine<'_>]) -> bool
+    ensures { result ≡ list_all (λ found. nat_le (length found.line.text.now) LONGEST_TEXT) lines.now }
+{
+    lines
+        .iter()
+        .all(|found| found.line.text.len() <= LONGEST_TEXT)
 }
 
 /// Sets a field to the text of its first line, if there is one.

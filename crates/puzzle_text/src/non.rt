@@ -12,7 +12,7 @@ ghost use Rattle.puzzle_text.specs.Non.{bad_line, check_lines, least, least_of, 
 ghost use Rattle.puzzle_text.specs.steps.Shown.{shown_keyword, shown_line, shown_sections};
 
 use crate::clue_lines::both_clues;
-use crate::descriptions::{long_number, texts_of};
+use crate::descriptions::{are_short, long_number, texts_of};
 use crate::faults::TextFault;
 use crate::goals::goal_of;
 use crate::keyword_line::KeywordLine;
@@ -58,9 +58,13 @@ fn second_number(lines: &[KeywordLine<'_>], word: &[u8]) -> Option<u32>
 
 /// The least number of a line that stands in no section, or of a text field's first line whose text is too
 /// long.
+#[tactic(auto, using(crate::proofs::FeedsLemmas::short_lines))]
 fn bad_line(keyword_lines: &[KeywordLine<'_>], stray: Option<u32>) -> Option<u32>
     ensures { result ≡ bad_line stray (map shown_keyword keyword_lines.now) }
 {
+    if are_short(keyword_lines) {
+        return stray;
+    }
     let long = FIELDS.map(|field| long_number(keyword_lines, field));
     least(stray, least_of(&long))
 }
