@@ -93,7 +93,7 @@ pub(crate) fn same_word(word: &[u8], other: &[u8]) -> bool
 fn has_keyword(word: &[u8], line: &KeywordLine<'_>) -> bool
     ensures { result ≡ has_keyword (str_to_ascii_lowercase word.now) (shown_keyword line.now) }
 {
-    line.word.len() == word.len() && same_word(line.word, word)
+    line.word.len() == word.len() && (line.word == word || same_word(line.word, word))
 }
 
 /// The line with this keyword at a place, from 0, among those with it.
