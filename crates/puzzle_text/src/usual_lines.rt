@@ -9,18 +9,18 @@ use grid_core::{Clue, LONGEST_SIDE};
 use std::alloc::Global;
 
 /// The value of a digit.
-fn digit(byte: u8) -> Option<u16>
+fn digit(byte: u8) -> Option<u8>
     ensures { IfSome result (λ value. (is_ascii_digit byte ≡ true) × (value ≡ byte - 48)) }
 {
     if byte.is_ascii_digit() {
-        Some(u16::from(byte - b'0'))
+        Some(byte - b'0')
     } else {
         None
     }
 }
 
 /// The number that one digit writes, if it isn't 0.
-fn of_one(a: u8) -> Option<u16>
+fn of_one(a: u8) -> Option<u8>
     ensures number { IfSome result (IsNumeral (a ∷ [])) }
     ensures small { IfSome result (λ number. number ≤ 9) }
 {
@@ -31,7 +31,7 @@ fn of_one(a: u8) -> Option<u16>
 }
 
 /// The number that two digits write, if the first isn't 0.
-fn of_two(a: u8, b: u8) -> Option<u16>
+fn of_two(a: u8, b: u8) -> Option<u8>
     ensures { IfSome result (IsNumeral (a ∷ b ∷ [])) }
 {
     Some(of_one(a)? * 10 + digit(b)?)
@@ -41,7 +41,7 @@ fn of_two(a: u8, b: u8) -> Option<u16>
 fn of_three(a: u8, b: u8, c: u8) -> Option<u16>
     ensures { IfSome result (IsNumeral (a ∷ b ∷ c ∷ [])) }
 {
-    let number = of_two(a, b)? * 10 + digit(c)?;
+    let number = u16::from(of_two(a, b)?) * 10 + u16::from(digit(c)?);
     if number <= LONGEST_SIDE {
         Some(number)
     } else {
@@ -57,8 +57,8 @@ fn number(text: &[u8]) -> Option<(u16, u8, &[u8])>
     ensures shorter { IfSome result (λ found. length found.2.now < length text.now) }
 {
     match text {
-        [a, end, ..] if *end < b'0' => Some((of_one(*a)?, *end, &text[2..])),
-        [a, b, end, rest @ ..] if *end < b'0' => Some((of_two(*a, *b)?, *end, rest)),
+        [a, end, ..] if *end < b'0' => Some((u16::from(of_one(*a)?), *end, &text[2..])),
+        [a, b, end, rest @ ..] if *end < b'0' => Some((u16::from(of_two(*a, *b)?), *end, rest)),
         [a, b, c, end, rest @ ..] => Some((of_three(*a, *b, *c)?, *end, rest)),
         _ => None,
     }
