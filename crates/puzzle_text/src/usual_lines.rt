@@ -56,6 +56,7 @@ fn number(text: &[u8]) -> Option<(u16, u8, &[u8])>
     ensures number { IfSome result (λ found. BeginsWithNumber text.now found.0 (found.1 ∷ found.2.now)) }
     ensures shorter { IfSome result (λ found. length found.2.now < length text.now) }
 {
+    // Separators and the endings of lines are less than any digit.
     match text {
         [a, end, ..] if *end < b'0' => Some((u16::from(of_one(*a)?), *end, &text[2..])),
         [a, b, end, rest @ ..] if *end < b'0' => Some((u16::from(of_two(*a, *b)?), *end, rest)),
@@ -97,6 +98,7 @@ fn read_clue_line<'t>(clue: &mut Clue, text: &'t [u8]) -> Option<&'t [u8]>
         if end == b'\n' {
             return Some(after);
         }
+        // Behind a separator stand a digit and a byte more.
         match after {
             [_, _, ..] if is_separator(end) => rest = after,
             _ => return below(end, after),
