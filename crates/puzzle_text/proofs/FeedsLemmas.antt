@@ -1,4 +1,4 @@
--- No line has a line feed in it, so nor has the text of a field.
+-- What holds of a line holds of the text of a field: no line has a line feed in it, so nor has the text; and a short line has a short text.
 use Rattle.std.proofs.Common.{◌≡◌, ℕ, zero, suc, ◌+◌, ◌-◌, ◌<◌, ◌≤◌, Bool, true, false, cond, not, eqb, leb, ltb, List, [], ◌∷◌, length, take, drop, get_or, reverse, codes, All, refl, sym, ap, subst, ◌∙◌, arith, inl, inr, Option, Some, None, IfSome, Ok, Err, map}
 use Rattle.std.specs.Prelude.{option_and_then, slice_get, unwrap_or}
 use Rattle.std.specs.List.{filter, list_all, onto_first, prefix_len, AllByRecursion}
