@@ -1,11 +1,11 @@
 //! What a line learned, written into the lines that cross it and onto the trail: by words of 64 places, and in one
 //! colour after the other, so that no cell is asked for its colour.
-ghost use Rattle.std.specs.Prelude.{◌≡◌, ◌≢◌, ℕ, ◌+◌, ◌*◌, ◌<◌, ◌≤◌, List, [], length, slice_index_or, slice_set, true, vec_capacity};
+ghost use Rattle.std.specs.Prelude.{◌≡◌, ◌≢◌, ℕ, ◌+◌, ◌*◌, ◌<◌, ◌≤◌, List, [], length, slice_index_or, slice_set, true, false, vec_capacity};
 ghost use Rattle.grid_core.specs.declared.cells.Cell.{Cell as CellValue};
 ghost use Rattle.grid_core.specs.declared.cells.Cell.TheVariants.{Unknown};
 ghost use Rattle.grid_core.specs.declared.limits.TheConstants.{LONGEST_SIDE};
 ghost use Rattle.grid_core.specs.Cells.{is_known};
-ghost use Rattle.place_sets.specs.Masks.{Has, IsMaskOf};
+ghost use Rattle.place_sets.specs.Masks.{Has, IsMarked, IsMaskOf};
 ghost use Rattle.solve_core.specs.steps.Learning.{CanLearn, CanSettleIn, AreAmong, IsLearning, LeadsBack, LeadsBackBut, IsIn};
 ghost use Rattle.solve_core.specs.steps.Trails.{TrailedGrid};
 
@@ -22,6 +22,14 @@ fn word_from<W: LineSet>(set: W, from: u16) -> u64
     ensures { IsMaskOf (λ i. (i < 64) × Has (W.number set) (i + from)) result }
 {
     u64::narrowed(set.shifted_down(from).widened())
+}
+
+/// A word without its first place.
+fn without_first(word: u64) -> u64
+    requires { 0 < word }
+    ensures { (k : ℕ) → Has word k → ((i : ℕ) → i < k → Has word i → ⊥) → IsMaskOf (IsMarked (Has word) k false) result }
+{
+    word & (word - 1)
 }
 
 /// Gives cell `i` of each line at those of the places that are among the 64 from `from` on a colour, and puts
@@ -55,7 +63,7 @@ fn settle_word<W: LineSet>(
     let mut left = word_from(places, from);
     while !left.is_empty() {
         let k = left.first_place();
-        left = left.marked(k, false);
+        left = without_first(left);
         let k = usize::from(from + k);
         lines[k].settle(i, colour);
         trail.push_reserved((first + k * step) as u16);

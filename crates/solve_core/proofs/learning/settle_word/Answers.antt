@@ -84,42 +84,6 @@ overflow_mul-k g c =
     (c.loop-colour.invariant.inside x c.first_place-k.ensures.in_mask) in
     rw c.from-k.ensures (omega (arith, c.requires.places (c.args.from + x) is.0))
 
-pub overflow_add-first : goal.overflow_add-first
-overflow_add-first g c =
-    let x = c.first_place-k.result in
-    let is = of_word (g.W.PlaceSet.number c.args.places) c.args.from c.word_from-left.result x c.word_from-left.ensures
-    (c.loop-colour.invariant.inside x c.first_place-k.ensures.in_mask) in
-    rw c.from-k.ensures (omega (arith, c.requires.places (c.args.from + x) is.0))
-
-pub overflow_cast-first : goal.overflow_cast-first
-overflow_cast-first g c =
-    let x = c.first_place-k.result in
-    let is = of_word (g.W.PlaceSet.number c.args.places) c.args.from c.word_from-left.result x c.word_from-left.ensures
-    (c.loop-colour.invariant.inside x c.first_place-k.ensures.in_mask) in
-    rw c.from-k.ensures (omega (arith, c.requires.places (c.args.from + x) is.0))
-
-pub push_reserved-requires : goal.push_reserved-requires
-push_reserved-requires g c =
-    let before = c.loop-colour.invariant in
-    omega (
-      arith,
-      c.requires.room,
-      before.room c.first_place-k.result c.first_place-k.ensures.in_mask,
-      c.first_place-k.ensures.within,
-      before.capacity,
-      c.loop-colour.trail.ok.0,
-    )
-
-pub loop-colour-smaller : goal.loop-colour-smaller
-loop-colour-smaller g c =
-    omega (
-      arith,
-      c.loop-colour.invariant.room c.first_place-k.result c.first_place-k.ensures.in_mask,
-      c.first_place-k.ensures.within,
-      one_more c.loop-colour.trail.items c.push_reserved.new.self.items (c.args.first + c.from-k.result * c.args.step)
-          c.push_reserved.ensures.items,
-    )
-
 pub loop-colour-preserved : goal.loop-colour-preserved
 loop-colour-preserved g c =
     let before = c.loop-colour.invariant in
@@ -128,11 +92,11 @@ loop-colour-preserved g c =
     let word = c.word_from-left.result in
     let lines = c.loop-colour.lines in
     let left = c.loop-colour.left in
-    let next = c.marked-left.result in
+    let next = c.without_first-left.result in
     let x = c.first_place-k.result in
     let at = c.from-k.result in
     let has = c.first_place-k.ensures.in_mask in
-    let marked = c.marked-left.ensures in
+    let marked = c.without_first-left.ensures x has (λ y l h. absurd {A = ⊥} (omega (arith, l, c.first_place-k.ensures.least y h))) in
     let is = of_word places from word x c.word_from-left.ensures (before.inside x has) in
     let line = (c.requires.cells (from + x) is).line in
     let within : at < length lines = omega (arith, c.from-k.ensures, line, c.loop-colour.auto.lines) in

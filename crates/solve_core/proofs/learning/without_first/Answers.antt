@@ -1,0 +1,48 @@
+-- `without_first`: one less than a word has the places behind its first one, and not that one.
+use Rattle.std.proofs.Common.{◌≡◌, ◌≢◌, ◌∙◌, ℕ, zero, suc, ◌-◌, ◌/◌, ◌<◌, inl, inr, refl, sym, ap, arith, true≢false}
+use Rattle.std.specs.Int.{bit_at}
+use Rattle.std.proofs.lemmas.Bool.{cases_eq}
+use Rattle.std.proofs.lemmas.Nat.Bits.{bit_at_and, bit_at-lt, bit_at_lowest, bit_at-suc}
+use Rattle.place_sets.specs.Masks.{Has}
+use Rattle.solve_core.proofs.learning.without_first.Goals as goal
+
+gone : (k n : ℕ) → Has n k → ((i : ℕ) → i < k → Has n i → ⊥) → bit_at (n - 1) k ≡ 0
+gone zero n h first =
+    let odd = sym (bit_at_lowest n) ∙ h in
+    bit_at_lowest (n - 1) ∙ omega (arith, odd)
+gone (suc k) n h first =
+    let even : bit_at n 0 ≡ 0 = lacks n 0 (first 0 (omega arith)) in
+    let half : (n - 1) / 2 ≡ n / 2 - 1 = omega (arith, sym (bit_at_lowest n) ∙ even) in
+    bit_at-suc (n - 1) k ∙ ap (λ (m : ℕ). bit_at m k) half ∙
+    gone k (n / 2) (sym (bit_at-suc n k) ∙ h) (λ i l a. first (suc i) (omega (arith, l)) (bit_at-suc n i ∙ a))
+  where
+    lacks : (n i : ℕ) → (Has n i → ⊥) → bit_at n i ≡ 0
+    lacks n i none = elim (cases_eq (bit_at n i) 1) [ inl has ↦ absurd (none has) | inr other ↦ omega (arith, other, bit_at-lt n i) ]
+
+same : (k j n : ℕ) → Has n k → ((i : ℕ) → i < k → Has n i → ⊥) → j ≢ k → Has n j → Has (n - 1) j
+same zero zero n h first other has = absurd (other refl)
+same zero (suc j) n h first other has =
+    let half : (n - 1) / 2 ≡ n / 2 = omega (arith, sym (bit_at_lowest n) ∙ h) in
+    bit_at-suc (n - 1) j ∙ ap (λ (m : ℕ). bit_at m j) half ∙ sym (bit_at-suc n j) ∙ has
+same (suc k) zero n h first other has = absurd (first 0 (omega arith) has)
+same (suc k) (suc j) n h first other has =
+    let even : bit_at n 0 ≡ 0 = elim (cases_eq (bit_at n 0) 1) [
+      | inl low ↦ absurd (first 0 (omega arith) low)
+      | inr rest ↦ omega (arith, rest, bit_at-lt n 0)
+    ] in
+    let half : (n - 1) / 2 ≡ n / 2 - 1 = omega (arith, sym (bit_at_lowest n) ∙ even) in
+    bit_at-suc (n - 1) j ∙ ap (λ (m : ℕ). bit_at m j) half ∙
+    same k j (n / 2) (sym (bit_at-suc n k) ∙ h) (λ i l a. first (suc i) (omega (arith, l)) (bit_at-suc n i ∙ a)) (λ e. other (ap suc e))
+    (sym (bit_at-suc n j) ∙ has)
+
+pub returns : goal.returns
+returns g k has first =
+    let word = g.args.word in record {
+      to = λ j h.
+          let both = sym (bit_at_and word (word - 1) j) ∙ h in
+          inl (omega (arith, both, bit_at-lt word j), λ e. absurd (omega (arith, both, ap (λ (i : ℕ). bit_at (word - 1) i) e, gone k word has first)));
+      from = λ j h. elim h [
+        | inl kept ↦ bit_at_and word (word - 1) j ∙ omega (arith, kept.0, same k j word has first kept.1 kept.0)
+        | inr none ↦ absurd (true≢false (sym none.1))
+      ];
+    }
