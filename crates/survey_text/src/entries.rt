@@ -17,56 +17,55 @@ use puzzle_text::{EntryFault, push_bytes, push_number};
 use solve_core::{Findings, Grade, Verdict};
 use std::alloc::Global;
 
-/// The word of a verdict.
-pub(crate) fn verdict_word(verdict: &Verdict) -> &'static str
-    ensures { result.now ≡ verdict_word verdict.now }
+/// Adds the word of a verdict and a space.
+fn push_verdict_word(text: &mut Vec<u8>, verdict: &Verdict) -> Result<(), NoMemory>
+    ensures { OnOk result (text.new.items ≡ text.old.items ++ verdict_word verdict.now ++ codes " ") }
 {
     match verdict {
-        Verdict::Nothing => "none",
-        Verdict::One(_) => "one",
-        Verdict::Several(_, _) => "several",
-        Verdict::Unsettled(_) => "unsettled",
+        Verdict::Nothing => push_bytes(text, b"none "),
+        Verdict::One(_) => push_bytes(text, b"one "),
+        Verdict::Several(_, _) => push_bytes(text, b"several "),
+        Verdict::Unsettled(_) => push_bytes(text, b"unsettled "),
     }
 }
 
-/// The word of a grade.
-fn grade_word(grade: Grade) -> &'static str
-    ensures { result.now ≡ grade_word grade }
+/// Adds the word of a grade and a space.
+fn push_grade_word(text: &mut Vec<u8>, grade: Grade) -> Result<(), NoMemory>
+    ensures { OnOk result (text.new.items ≡ text.old.items ++ grade_word grade ++ codes " ") }
 {
     match grade {
-        Grade::Lines => "line",
-        Grade::Trials => "trials",
-        Grade::Search => "search",
+        Grade::Lines => push_bytes(text, b"line "),
+        Grade::Trials => push_bytes(text, b"trials "),
+        Grade::Search => push_bytes(text, b"search "),
     }
 }
 
-/// The word that is printed for what is said of a goal.
-fn goal_text(word: GoalWord) -> &'static str
-    ensures { result.now ≡ goal_text word }
+/// Adds the word for what is said of a goal, and a space.
+fn push_goal_word(text: &mut Vec<u8>, word: GoalWord) -> Result<(), NoMemory>
+    ensures { OnOk result (text.new.items ≡ text.old.items ++ goal_text word ++ codes " ") }
 {
     match word {
-        GoalWord::Absent => "absent",
-        GoalWord::Meets => "meets",
-        GoalWord::Misses => "misses",
+        GoalWord::Absent => push_bytes(text, b"absent "),
+        GoalWord::Meets => push_bytes(text, b"meets "),
+        GoalWord::Misses => push_bytes(text, b"misses "),
     }
 }
 
-/// Adds the sizes, the verdict and the grade.
+/// Adds the sizes, the verdict and the grade, and a space.
 fn push_verdict(text: &mut Vec<u8>, puzzle: &Puzzle, findings: &Findings) -> Result<(), NoMemory>
-    ensures { OnOk result (text.new.items ≡ text.old.items ++ verdict_text puzzle.now findings.now) }
+    ensures { OnOk result (text.new.items ≡ text.old.items ++ verdict_text puzzle.now findings.now ++ codes " ") }
 {
     push_number(text, u64::from(puzzle.width()))?;
     text.push(b'x')?;
     push_number(text, u64::from(puzzle.height()))?;
     text.push(b' ')?;
-    push_bytes(text, verdict_word(&findings.verdict).as_bytes())?;
-    text.push(b' ')?;
-    push_bytes(text, grade_word(findings.grade).as_bytes())
+    push_verdict_word(text, &findings.verdict)?;
+    push_grade_word(text, findings.grade)
 }
 
-/// Adds the cells known after lines and after trials, the guesses spent, and what is said of the goal.
+/// Adds the cells known after lines and after trials, the guesses spent, and what is said of the goal, and a space.
 fn push_counts(text: &mut Vec<u8>, found: &GradedPuzzle<'_>) -> Result<(), NoMemory>
-    ensures { OnOk result (text.new.items ≡ text.old.items ++ counts_text found.now.puzzle.now found.now.findings.now) }
+    ensures { OnOk result (text.new.items ≡ text.old.items ++ counts_text found.now.puzzle.now found.now.findings.now ++ codes " ") }
 {
     let findings = found.findings;
     push_number(text, u64::from(findings.line_known))?;
@@ -75,29 +74,30 @@ fn push_counts(text: &mut Vec<u8>, found: &GradedPuzzle<'_>) -> Result<(), NoMem
     text.push(b' ')?;
     push_number(text, u64::from(findings.spent))?;
     text.push(b' ')?;
-    push_bytes(text, goal_text(found.goal).as_bytes())
+    push_goal_word(text, found.goal)
 }
 
-/// Adds what was found of a puzzle.
+/// Adds what was found of a puzzle, and a space.
 fn push_found(text: &mut Vec<u8>, found: &GradedPuzzle<'_>) -> Result<(), NoMemory>
-    ensures { OnOk result (text.new.items ≡ text.old.items ++ result_text (Ok (found.now.puzzle.now, found.now.findings.now))) }
+    ensures { OnOk result (text.new.items ≡ text.old.items ++ result_text (Ok (found.now.puzzle.now, found.now.findings.now)) ++ codes " ") }
 {
     push_verdict(text, found.puzzle, found.findings)?;
-    text.push(b' ')?;
     push_counts(text, found)
 }
 
-/// Adds why an entry is refused.
+/// Adds why an entry is refused, and a space.
 fn push_refusal(text: &mut Vec<u8>, fault: EntryFault) -> Result<(), NoMemory>
-    ensures { OnOk result (text.new.items ≡ text.old.items ++ codes "refused " ++ word_of fault) }
+    ensures { OnOk result (text.new.items ≡ text.old.items ++ codes "refused " ++ word_of fault ++ codes " ") }
 {
     push_bytes(text, b"refused ")?;
-    fault.word().push(text)
+    fault.word().push(text)?;
+    text.push(b' ')?;
+    Ok(())
 }
 
-/// Adds what was found, or why the entry is refused.
+/// Adds what was found, or why the entry is refused, and a space.
 fn push_result(text: &mut Vec<u8>, entry: &ListedEntry<'_>) -> Result<(), NoMemory>
-    ensures { OnOk result (text.new.items ≡ text.old.items ++ result_text (shown_listed entry.now).result) }
+    ensures { OnOk result (text.new.items ≡ text.old.items ++ result_text (shown_listed entry.now).result ++ codes " ") }
 {
     match &entry.result {
         Ok(found) => push_found(text, found),
@@ -112,7 +112,6 @@ fn push_line(text: &mut Vec<u8>, number: u32, entry: &ListedEntry<'_>) -> Result
     push_number(text, u64::from(number))?;
     text.push(b' ')?;
     push_result(text, entry)?;
-    text.push(b' ')?;
     push_name(text, entry.name)?;
     text.push(b'\n')?;
     Ok(())
