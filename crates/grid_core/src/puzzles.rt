@@ -1,9 +1,8 @@
 //! Puzzles.
 
 ghost use Rattle.std.specs.Prelude.{◌≡◌, ◌*◌, ◌<◌, ◌↔◌, true, false, length, option_map, IfOk, IsErrOf, IsTrue, IfSome, slice_index_or, []};
-ghost use Rattle.std.specs.List.{AllByRecursion, list_all};
+ghost use Rattle.std.specs.List.{AllByRecursion};
 ghost use Rattle.grid_core.specs.Clues.{is_clue};
-ghost use Rattle.grid_core.specs.Description.{IsDescription};
 ghost use Rattle.grid_core.specs.Nonogram.{GoalMeets, IsNonogram, HasClueForEachLine, Solves, bools_of, is_goal};
 ghost use Rattle.grid_core.specs.PartialGrid.{IsSize};
 

@@ -1,6 +1,6 @@
 //! Collections of puzzle texts.
 
-ghost use Rattle.std.specs.Prelude.{◌≡◌, ◌==◌, ◌∷◌, ◌++◌, ◌<◌, ◌≤◌, ◌^◌, not, drop, take, map, true, false, length, Err, IfSome, OnSome, None};
+ghost use Rattle.std.specs.Prelude.{◌≡◌, ◌==◌, ◌<◌, ◌≤◌, ◌^◌, not, take, map, true, false, length, Err, IfSome, OnSome, None};
 ghost use Rattle.std.specs.List.{list_all};
 ghost use Rattle.puzzle_text.specs.Collections.{GivesEntries, body_of, cut, entries_of, first_stray, is_marker, name_of};
 ghost use Rattle.puzzle_text.specs.steps.Collections.{FollowsPlain, are_named, begins_with_marker, ends_line};
