@@ -8,7 +8,6 @@ use place_sets::{PlaceSet, Wide};
 use std::alloc::Global;
 
 /// Room for the gaps in sets of 64, 128 and 256 places, each written only once it is needed.
-#[derive(Drop)]
 pub struct Rooms {
     /// Sets of 64 places.
     pub narrow: Vec<[u64; GAPS]>,
@@ -19,6 +18,17 @@ pub struct Rooms {
     ghost narrow_fits: { 0 < vec_capacity narrow },
     ghost middle_fits: { 0 < vec_capacity middle },
     ghost wide_fits: { 0 < vec_capacity wide },
+}
+
+/// A call of its own, so that a proof takes it as one step.
+impl Drop for Rooms {
+    fn drop(self) {
+        let Rooms {
+            narrow: _,
+            middle: _,
+            wide: _,
+        } = self;
+    }
 }
 
 impl Rooms {

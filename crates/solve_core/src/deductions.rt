@@ -142,12 +142,23 @@ fn keep<W: LineSet>(
 
 /// What deduces the lines of a puzzle. Once it is open it remembers what it deduced: each line has one slot,
 /// and a line that takes a slot takes it from the one before.
-#[derive(Drop)]
 pub struct Deductions<W: LineSet> {
     tables: Tables,
     room: usize,
     slots: Vec<[u16; GROUP]>,
     kept: Vec<Deduction<W>>,
+}
+
+/// A call of its own, so that a proof takes it as one step.
+impl<W: LineSet> Drop for Deductions<W> {
+    fn drop(self) {
+        let Deductions {
+            tables: _,
+            room: _,
+            slots: _,
+            kept: _,
+        } = self;
+    }
 }
 
 impl<W: LineSet> Model for Deductions<W> {

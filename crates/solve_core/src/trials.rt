@@ -86,12 +86,23 @@ fn try_colour<W: LineSet>(
 }
 
 /// What trials work with: what closes, a board for the trials of each colour, and the witnesses.
-#[derive(Drop)]
 pub struct Trials<W: LineSet> {
     pub(crate) closer: Closer<W>,
     filled_trial: Board<W>,
     blank_trial: Board<W>,
     witnesses: Witnesses,
+}
+
+/// A call of its own, so that a proof takes it as one step.
+impl<W: LineSet> Drop for Trials<W> {
+    fn drop(self) {
+        let Trials {
+            closer: _,
+            filled_trial: _,
+            blank_trial: _,
+            witnesses: _,
+        } = self;
+    }
 }
 
 impl<W: LineSet> Model for Trials<W> {

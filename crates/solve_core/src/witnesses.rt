@@ -108,11 +108,21 @@ fn keep_each(witnesses: &mut [Witness], learned: &Crossed, holder: usize)
 
 /// The witnesses of a grid, and for each cell and each of the two colours the number of one that met it
 /// there, in room that is made once. Witness 0 stands for none.
-#[derive(Drop)]
 pub struct Witnesses {
     witnesses: Vec<Witness>,
     fillable: Vec<u16>,
     blankable: Vec<u16>,
+}
+
+/// A call of its own, so that a proof takes it as one step.
+impl Drop for Witnesses {
+    fn drop(self) {
+        let Witnesses {
+            witnesses: _,
+            fillable: _,
+            blankable: _,
+        } = self;
+    }
 }
 
 impl Model for Witnesses {
