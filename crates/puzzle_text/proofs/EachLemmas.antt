@@ -1,7 +1,6 @@
 -- A step for each element of a list, as a loop makes it: front is what came of the elements before i.
-use Rattle.std.proofs.Common.{◌≡◌, Bool, true, false, cond, List, [], ◌∷◌, ◌++◌, append_assoc, drop, map, refl, sym, ap, ◌∙◌, Option, Some, None, Result, Ok, Err}
-use Rattle.std.specs.Prelude.{◌&&◌, IfSome, option_and_then}
-use Rattle.std.specs.Option.{is_some, option_map}
+use Rattle.std.proofs.Common.{◌≡◌, List, [], ◌∷◌, ◌++◌, drop, map, refl, sym, ap, ◌∙◌, Option, Result, Ok, Err}
+use Rattle.std.specs.Option.{option_map}
 use Rattle.puzzle_text.specs.declared.faults.TextFault.{TextFault}
 use Rattle.puzzle_text.specs.Answers.{◌>>=◌, each}
 
@@ -26,15 +25,3 @@ with_front-none (Err fault) = refl
 pub each_begins : {A X Y : Type 0} (step : X → Result Y TextFault) (view : A → X) (xs : List A)
     → with_front [] (each (λ a. step (view a)) (drop 0 xs)) ≡ each step (map view xs)
 each_begins step view xs = with_front-none (each (λ a. step (view a)) xs) ∙ sym (each-map step view xs)
-
-some_more : {Y : Type 0} (front : List Y) (y z : Y) (others : Option (List Y)) → z ≡ y
-    → some_with_front (front ++ y ∷ []) others ≡ some_with_front front (option_map (λ ys. z ∷ ys) others)
-some_more front y z None same = refl
-some_more front y z (Some ys) same = rw same (ap Some (append_assoc front (y ∷ []) ys))
-
-one_more : {Y : Type 0} (all : Bool) (front : List Y) (y : Y) (others : Option (List Y)) (o : Option Y) → IfSome o (λ z. z ≡ y)
-    → cond (all && is_some o) (some_with_front (front ++ y ∷ []) others) None
-    ≡ cond all (some_with_front front (option_and_then (λ z. option_map (λ ys. z ∷ ys) others) o)) None
-one_more false front y others o same = refl
-one_more true front y others None same = refl
-one_more true front y others (Some z) same = some_more front y z others same

@@ -1,4 +1,5 @@
 -- Lemmas on puzzles' texts and on collections.
+pub mod AllLemmas
 pub mod LinesLemmas
 pub mod NumbersLemmas
 pub mod EachLemmas
@@ -7,6 +8,9 @@ pub mod SectionsLemmas
 pub mod MkLemmas
 pub mod KeywordsLemmas
 pub mod WritingLemmas
+pub mod SaidLines
+pub mod PlacedWalk
+pub mod SectionsWalk
 pub mod ReadBack
 pub mod ReadClue
 pub mod ReadClues
@@ -18,10 +22,7 @@ pub mod ReadNon
 pub mod CollectionsLemmas
 pub mod PlainLines
 pub mod FeedsLemmas
-pub mod PlacedWalk
-pub mod SectionsWalk
 pub mod StrayWalk
-pub mod FieldsLemmas
 pub mod UsualLines
 pub mod UsualParts
 pub mod UsualReads

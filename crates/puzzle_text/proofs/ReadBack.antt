@@ -1,8 +1,11 @@
 -- What is written is read again: lines.
-use Rattle.std.proofs.Common.{◌≡◌, ℕ, ◌+◌, ◌-◌, ◌<◌, ◌≤◌, false, eqb, List, [], ◌∷◌, ◌++◌, length, get_or, reverse, refl, ap, ◌∙◌, append_assoc, arith}
-use Rattle.std.specs.List.{flat_map, onto_first, AllByRecursion}
-use Rattle.std.proofs.lemmas.Bool.{cond-false, ne_eqb, eq-eqb, or_from}
+use Rattle.std.proofs.Common.{◌≡◌, true, leb, ℕ, ◌+◌, ◌-◌, ◌<◌, ◌≤◌, false, eqb, List, [], ◌∷◌, ◌++◌, length, get_or, reverse, refl, ap, ◌∙◌, append_assoc, arith}
+use Rattle.std.specs.List.{list_all, flat_map, AllByRecursion}
+use Rattle.std.proofs.lemmas.Bool.{leb-true, cond-false, ne_eqb, eq-eqb}
 use Rattle.std.proofs.lemmas.List.{take_at, get_or_at, get_or-reverse, length-append, reverse-reverse}
+use Rattle.std.proofs.lemmas.Bool.Decides.{nat_tests}
+use Rattle.std.proofs.lemmas.List.Elements.{All-from_recursion, All-get_or}
+use Rattle.puzzle_text.proofs.AllLemmas.{all-weaker, all_pass}
 use Rattle.puzzle_text.specs.Lines.{Line, raw_lines, numbered_from, trim, trim_start, trim_end, strip_last, without_ending, is_blank}
 
 -- a line's text as it is written: no byte below a space, and no blank at either end
@@ -25,10 +28,7 @@ pub raw_lines-feed : (text rest : List ℕ) → AllByRecursion (λ byte. eqb byt
     → raw_lines (text ++ 10 ∷ rest) ≡ with_feed text ∷ raw_lines rest
 raw_lines-feed [] rest inked = refl
 raw_lines-feed (byte ∷ bytes) rest inked =
-    let later = raw_lines (bytes ++ 10 ∷ rest) in
-    let one : raw_lines (byte ∷ (bytes ++ 10 ∷ rest)) ≡ onto_first byte later =
-    cond-false (eqb byte 10) ((byte ∷ []) ∷ later) (onto_first byte later) inked.0 in
-    one ∙ ap (onto_first byte) (raw_lines-feed bytes rest inked.1)
+    rw (inked.0, raw_lines-feed bytes rest inked.1) refl
 
 pub strip_last_is : (byte : ℕ) (text : List ℕ) → strip_last byte (text ++ byte ∷ []) ≡ text
 strip_last_is byte text =
@@ -43,7 +43,7 @@ pub strip_last_other : (byte : ℕ) (text : List ℕ) → byte < 33 → 33 ≤ g
 strip_last_other byte text low last = rw (ne_eqb (get_or text (length text - 1) 0) byte (λ e. omega arith)) refl
 
 is_blank_false : (byte : ℕ) → 33 ≤ byte → is_blank byte ≡ false
-is_blank_false byte h = or_from (eqb byte 32) (eqb byte 9) (ne_eqb _ _ (λ e. omega arith)) (ne_eqb _ _ (λ e. omega arith))
+is_blank_false byte h = grind (arith, nat_tests)
 
 trim_start_is : (text : List ℕ) → 33 ≤ get_or text 0 0 → trim_start text ≡ text
 trim_start_is [] h = refl
@@ -52,11 +52,10 @@ trim_start_is (byte ∷ bytes) h = cond-false (is_blank byte) (trim_start bytes)
 trim_end_is : (text : List ℕ) → 0 < length text → 33 ≤ get_or text (length text - 1) 0 → trim_end text ≡ text
 trim_end_is text some h =
     let same : length text - 1 - 0 ≡ length text - 1 = omega arith in
-    let last : get_or (reverse text) 0 0 ≡ get_or text (length text - 1) 0 =
-    get_or-reverse text 0 0 some ∙ ap (λ (k : ℕ). get_or text k 0) same in
-    let high : 33 ≤ get_or (reverse text) 0 0 = rw last h in
+    let high : 33 ≤ get_or (reverse text) 0 0 = rw (get_or-reverse text 0 0 some, same) h in
     ap reverse (trim_start_is (reverse text) high) ∙ reverse-reverse text
 
+-- a text that begins with another byte than a blank is not empty
 pub some_byte : (text : List ℕ) → 33 ≤ get_or text 0 0 → 0 < length text
 some_byte [] h = absurd (omega arith)
 some_byte (byte ∷ bytes) h = omega arith
@@ -70,20 +69,27 @@ kept_edged text no_feed first last = record {
   trimmed = ap trim_end (trim_start_is text first) ∙ trim_end_is text (some_byte text first) last;
 }
 
-no_feeds : (text : List ℕ) → AllByRecursion (λ byte. 32 ≤ byte) text → AllByRecursion (λ byte. eqb byte 10 ≡ false) text
-no_feeds [] h = tt
-no_feeds (byte ∷ bytes) h = (ne_eqb _ _ (λ e. omega arith), no_feeds bytes h.1)
-
 -- a text as it is written is the whole line
 pub kept_tidy : (text : List ℕ) → IsTidy text → IsKept text
-kept_tidy text tidy = kept_edged text (no_feeds text tidy.inked) tidy.first tidy.last
-
-kept_all : (texts : List (List ℕ)) → AllByRecursion IsTidy texts → AllByRecursion IsKept texts
-kept_all [] h = tt
-kept_all (text ∷ texts) h = (kept_tidy text h.0, kept_all texts h.1)
+kept_tidy text tidy = kept_edged text (all-weaker (λ byte. 32 ≤ byte) _ (λ byte h. ne_eqb byte 10 (λ e. omega arith)) text tidy.inked) tidy.first tidy.last
 
 pub line_kept : (text : List ℕ) → IsKept text → trim (without_ending (with_feed text)) ≡ text
 line_kept text kept = ap (λ (t : List ℕ). trim (strip_last 13 t)) (strip_last_is 10 text) ∙ ap trim kept.no_return ∙ kept.trimmed
+
+-- a text of bytes above the space is tidy
+pub tidy_solid : (text : List ℕ) → 0 < length text → AllByRecursion (λ byte. 33 ≤ byte) text → IsTidy text
+tidy_solid text some high =
+    let at = All-from_recursion (λ byte. 33 ≤ byte) text high in
+    record {
+      inked = all-weaker (λ byte. 33 ≤ byte) _ (λ byte h. omega arith) text high;
+      first = All-get_or (λ byte. 33 ≤ byte) text 0 0 some at;
+      last = All-get_or (λ byte. 33 ≤ byte) text (length text - 1) 0 (omega arith) at;
+    }
+
+-- so is a word
+pub tidy_word : (text : List ℕ) → list_all (leb 33) text ≡ true → 0 < length text → IsTidy text
+tidy_word text high some =
+    tidy_solid text some (all-weaker (λ byte. leb 33 byte ≡ true) _ (λ byte h. leb-true 33 byte h) text (all_pass (leb 33) text high))
 
 -- texts as lines, numbered from here
 abbrev pub numbered : ℕ → List (List ℕ) → List Line
@@ -96,15 +102,14 @@ pub lines_kept : (number : ℕ) (texts : List (List ℕ)) → AllByRecursion IsK
 lines_kept number [] kept = refl
 lines_kept number (text ∷ texts) kept =
     let rest = flat_map with_feed texts in
-    let whole : flat_map with_feed (text ∷ texts) ≡ text ++ 10 ∷ rest = append_assoc text (10 ∷ []) rest in
-    let cut : raw_lines (flat_map with_feed (text ∷ texts)) ≡ with_feed text ∷ raw_lines rest =
-    ap raw_lines whole ∙ raw_lines-feed text rest kept.0.no_feed in
-    let here = line_kept text kept.0 in
-    ap (numbered_from number) cut
-    ∙ ap (λ (t : List ℕ). record { number = number; text = t } ∷ numbered_from (number + 1) (raw_lines rest)) here
-    ∙ ap (λ (ls : List Line). record { number = number; text = text } ∷ ls) (lines_kept (number + 1) texts kept.1)
+    rw (
+      append_assoc text (10 ∷ []) rest,
+      raw_lines-feed text rest kept.0.no_feed,
+      line_kept text kept.0,
+      lines_kept (number + 1) texts kept.1,
+    ) refl
 
 -- what is written as tidy lines is those lines
 pub lines_are : (number : ℕ) (texts : List (List ℕ)) → AllByRecursion IsTidy texts
     → numbered_from number (raw_lines (flat_map with_feed texts)) ≡ numbered number texts
-lines_are number texts tidy = lines_kept number texts (kept_all texts tidy)
+lines_are number texts tidy = lines_kept number texts (all-weaker IsTidy IsKept kept_tidy texts tidy)

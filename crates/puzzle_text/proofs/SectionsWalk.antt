@@ -1,10 +1,14 @@
 -- The sections of a text, put together on one walk from the top.
-use Rattle.std.proofs.Common.{◌≡◌, ℕ, ◌+◌, ◌<◌, drop, get_or, length, Bool, true, false, cond, eqb, not, ◌&&◌, List, [], ◌∷◌, ◌++◌, codes, refl, sym, ap, subst, ◌∙◌, append_assoc, Option, Some, None, map}
+use Rattle.std.proofs.Common.{◌≡◌, ℕ, ◌≤◌, arith, ◌+◌, ◌<◌, drop, get_or, length, Bool, true, false, cond, eqb, not, ◌&&◌, List, [], ◌∷◌, ◌++◌, codes, refl, sym, ap, ◌∙◌, append_assoc, Option, Some, None, map}
 use Rattle.std.specs.List.{find}
 use Rattle.std.specs.Option.{option_map}
-use Rattle.std.specs.Char.{to_ascii_lowercase}
+use Rattle.std.specs.Prelude.{take_while}
+use Rattle.std.specs.List.{AllByRecursion}
+use Rattle.std.proofs.lemmas.Bool.{ne_eqb}
+use Rattle.std.proofs.lemmas.Bool.Decides.{nat_tests}
+use Rattle.std.specs.Char.{is_ascii_alphabetic, to_ascii_lowercase}
 use Rattle.std.specs.Str.{str_to_ascii_lowercase}
-use Rattle.std.proofs.lemmas.List.{drop_more, length-map}
+use Rattle.std.proofs.lemmas.List.{append-nil, drop_more, length-map}
 use Rattle.puzzle_text.specs.declared.lines.Line.{Line as KeptLine}
 use Rattle.puzzle_text.specs.declared.places.Under.{Under}
 use Rattle.puzzle_text.specs.declared.places.Under.TheVariants.{Rows, Columns, Other}
@@ -28,11 +32,6 @@ below word lines = sections_of (walked word lines)
 abbrev of_parts : List Line → List Line → Option ℕ → Sections
 of_parts rows columns stray = record { rows = rows; columns = columns; stray = stray }
 
-same_parts : (p q r s : List Line) (m n : Option ℕ) → p ≡ q → r ≡ s → m ≡ n → of_parts p r m ≡ of_parts q s n
-same_parts p q r s m n first second third =
-    ap (λ (x : List Line). of_parts x r m) first ∙ ap (λ (x : List Line). of_parts q x m) second
-    ∙ ap (λ (x : Option ℕ). of_parts q s x) third
-
 abbrev number_at : Option (List ℕ × Line) → Option ℕ
 number_at found = option_map (λ (place : List ℕ × Line). place.1.number) found
 
@@ -52,28 +51,14 @@ noted false (Some m) place found = refl
 pub one_more : (under : Under) (word : List ℕ) (above : Sections) (line : Line) (others : List (List ℕ × Line)) → IsUnder word under
     → join above (sections_of ((word, line) ∷ others)) ≡ join (with_line above under line) (sections_of others)
 one_more Rows word above line others is =
-    let rows = section (codes "rows") others in
-    let columns = section (codes "columns") others in
     let found = find is_outside_sections others in
-    subst (λ (w : List ℕ). join above (sections_of ((w, line) ∷ others)) ≡ join (with_line above Rows line) (sections_of others)) (sym is)
-    (same_parts (above.rows ++ line ∷ rows) ((above.rows ++ line ∷ []) ++ rows) (above.columns ++ columns) (above.columns ++ columns) _ _
-    (sym (append_assoc above.rows (line ∷ []) rows)) refl
-    (ap (λ (o : Option (List ℕ × Line)). or_else above.stray (number_at o)) (never (is_full line) (codes "rows", line) found)))
+    rw (is, append_assoc above.rows (line ∷ []) (section (codes "rows") others), never (is_full line) (codes "rows", line) found) refl
 one_more Columns word above line others is =
-    let rows = section (codes "rows") others in
-    let columns = section (codes "columns") others in
     let found = find is_outside_sections others in
-    subst (λ (w : List ℕ). join above (sections_of ((w, line) ∷ others)) ≡ join (with_line above Columns line) (sections_of others))
-    (sym is)
-    (same_parts (above.rows ++ rows) (above.rows ++ rows) (above.columns ++ line ∷ columns) ((above.columns ++ line ∷ []) ++ columns) _ _
-    refl (sym (append_assoc above.columns (line ∷ []) columns))
-    (ap (λ (o : Option (List ℕ × Line)). or_else above.stray (number_at o)) (never (is_full line) (codes "columns", line) found)))
+    rw (is, append_assoc above.columns (line ∷ []) (section (codes "columns") others), never (is_full line) (codes "columns", line) found)
+    refl
 one_more Other word above line others is =
-    let found = find is_outside_sections others in
-    rw (is.0, is.1)
-    (same_parts (above.rows ++ section (codes "rows") others) (above.rows ++ section (codes "rows") others)
-    (above.columns ++ section (codes "columns") others) (above.columns ++ section (codes "columns") others) _ _
-    refl refl (noted (is_full line) above.stray (word, line) found))
+    rw (is.0, is.1, noted (is_full line) above.stray (word, line) (find is_outside_sections others)) refl
 
 -- ---- the three kinds of lines
 
@@ -115,16 +100,52 @@ below_content under word above line lines is e h =
     ap (λ places. join above (sections_of places)) (at_content (is_empty (keyword line)) (is_hash line) word (keyword line) line lines e h)
     ∙ one_more under word above line (walked word lines) is
 
+-- ---- many lines of one kind
+
+-- the keyword that a line's text begins with
+abbrev pub word_at : List ℕ → List ℕ
+word_at text = str_to_ascii_lowercase (take_while is_ascii_alphabetic text)
+
+-- the text of a line that is neither a keyword line nor a comment
+pub record IsContent (text : List ℕ) : Type 0 where
+  pub word : word_at text ≡ []
+  pub hash : eqb (get_or text 0 0) 35 ≡ false
+
+not_letter : (c : ℕ) → 48 ≤ c → c ≤ 57 → is_ascii_alphabetic c ≡ false
+not_letter c low high = grind (arith, nat_tests)
+
+-- a text that begins with a digit
+pub content_digit : (text : List ℕ) → 48 ≤ get_or text 0 0 → get_or text 0 0 ≤ 57 → IsContent text
+content_digit [] low high = record { word = refl; hash = refl }
+content_digit (c ∷ cs) low high = record { word = rw (not_letter c low high) refl; hash = ne_eqb c 35 (λ e. omega arith) }
+
+-- the sections with more lines at the end of one
+abbrev pub with_lines : Under → Sections → List Line → Sections
+with_lines under above [] = above
+with_lines under above (line ∷ found) = with_lines under (with_line above under line) found
+
+pub join_content : (under : Under) (word : List ℕ) (above : Sections) (found todo : List Line) → IsUnder word under
+    → AllByRecursion (λ line. IsContent line.text) found
+    → join above (below word (found ++ todo)) ≡ join (with_lines under above found) (below word todo)
+join_content under word above [] todo opens content = refl
+join_content under word above (line ∷ found) todo opens content =
+    below_content under word above line (found ++ todo) opens (ap is_empty content.0.word) content.0.hash
+    ∙ join_content under word (with_line above under line) found todo opens content.1
+
+pub with_rows : (above : Sections) (found : List Line) → with_lines Rows above found ≡ record above { rows = above.rows ++ found }
+with_rows above [] = ap (λ (lines : List Line). record above { rows = lines }) (sym (append-nil above.rows))
+with_rows above (line ∷ found) = rw (with_rows (with_line above Rows line) found, append_assoc above.rows (line ∷ []) found) refl
+
+pub with_columns : (above : Sections) (found : List Line) → with_lines Columns above found ≡ record above { columns = above.columns ++ found }
+with_columns above [] = ap (λ (lines : List Line). record above { columns = lines }) (sym (append-nil above.columns))
+with_columns above (line ∷ found) = rw (with_columns (with_line above Columns line) found, append_assoc above.columns (line ∷ []) found) refl
+
 -- ---- the walk over lines as the code keeps them
 
 -- at the top there is nothing yet in the sections
 pub nothing_above : (rows columns lines : List Line) → rows ≡ [] → columns ≡ []
     → join (of_parts rows columns None) (below [] lines) ≡ sections_of (placed lines)
 nothing_above rows columns lines p q = rw (p, q) (ap sections_of (walked-placed lines))
-
-shown_from : (lines : List KeptLine) (i : ℕ) (d : KeptLine) → i < length lines
-    → map shown_line (drop i lines) ≡ shown_line (get_or lines i d) ∷ map shown_line (drop (i + 1) lines)
-shown_from lines i d h = ap (map shown_line) (drop_more lines i d h)
 
 -- whether a keyword has no letters is told by the letters as they stand
 pub none_is : (own word : List ℕ) (b : Bool) → str_to_ascii_lowercase own ≡ word → eqb (length own) 0 ≡ b → is_empty word ≡ b
@@ -133,27 +154,27 @@ none_is own word b e none = ap is_empty (sym e) ∙ ap (λ (n : ℕ). eqb n 0) (
 module _ (lines : List KeptLine) (i : ℕ) (d : KeptLine) (word own : List ℕ) (above whole : Sections) (h : i < length lines)
     (so_far : join above (below word (map shown_line (drop i lines))) ≡ whole)
     (e : str_to_ascii_lowercase own ≡ keyword (shown_line (get_or lines i d))) where
+  abbrev line : Line
+  line = shown_line (get_or lines i d)
+
+  abbrev others : List Line
+  others = map shown_line (drop (i + 1) lines)
+
+  at_line_here : join above (below word (line ∷ others)) ≡ whole
+  at_line_here = sym (ap (λ all. join above (below word (map shown_line all))) (drop_more lines i d h)) ∙ so_far
+
   -- past a keyword line, which stands in no section
-  pub next_keyword : eqb (length own) 0 ≡ false
-      → join above (below (str_to_ascii_lowercase own) (map shown_line (drop (i + 1) lines))) ≡ whole
+  pub next_keyword : eqb (length own) 0 ≡ false → join above (below (str_to_ascii_lowercase own) others) ≡ whole
   next_keyword some =
-      let others = map shown_line (drop (i + 1) lines) in
-      ap (λ (next : List ℕ). join above (below next others)) e
-      ∙ sym (ap (λ (all : List Line). join above (below word all)) (shown_from lines i d h)
-      ∙ ap (join above) (below_keyword word (shown_line (get_or lines i d)) others (none_is own _ false e some))) ∙ so_far
+      ap (λ next. join above (below next others)) e
+      ∙ sym (ap (join above) (below_keyword word line others (none_is own _ false e some))) ∙ at_line_here
 
   -- past a comment, which stands in no section
-  pub next_comment : eqb (length own) 0 ≡ true → is_hash (shown_line (get_or lines i d)) ≡ true
-      → join above (below word (map shown_line (drop (i + 1) lines))) ≡ whole
-  next_comment none hash =
-      let others = map shown_line (drop (i + 1) lines) in
-      sym (ap (λ (all : List Line). join above (below word all)) (shown_from lines i d h)
-      ∙ ap (join above) (below_comment word (shown_line (get_or lines i d)) others (none_is own _ true e none) hash)) ∙ so_far
+  pub next_comment : eqb (length own) 0 ≡ true → is_hash line ≡ true → join above (below word others) ≡ whole
+  next_comment none hash = sym (ap (join above) (below_comment word line others (none_is own _ true e none) hash)) ∙ at_line_here
 
   -- past a line that goes into the section of the keyword above it
-  pub next_content : (under : Under) → IsUnder word under → eqb (length own) 0 ≡ true → is_hash (shown_line (get_or lines i d)) ≡ false
-      → join (with_line above under (shown_line (get_or lines i d))) (below word (map shown_line (drop (i + 1) lines))) ≡ whole
+  pub next_content : (under : Under) → IsUnder word under → eqb (length own) 0 ≡ true → is_hash line ≡ false
+      → join (with_line above under line) (below word others) ≡ whole
   next_content under is none other =
-      let others = map shown_line (drop (i + 1) lines) in
-      sym (ap (λ (all : List Line). join above (below word all)) (shown_from lines i d h)
-      ∙ below_content under word above (shown_line (get_or lines i d)) others is (none_is own _ true e none) other) ∙ so_far
+      sym (below_content under word above line others is (none_is own _ true e none) other) ∙ at_line_here

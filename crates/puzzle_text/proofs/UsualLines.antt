@@ -1,29 +1,26 @@
 -- Lines in their usual form: digits, separators and endings.
-use Rattle.std.proofs.Common.{◌≡◌, ℕ, ◌+◌, ◌-◌, ◌<◌, ◌≤◌, true, false, cond, drop, not, eqb, leb, List, [], ◌∷◌, ◌++◌, length, take, filter, get_or, All, refl, sym, ap, subst, ◌∙◌, append_assoc, arith, inl, inr, Option, Some, None, IfSome, Result, Ok}
-use Rattle.std.specs.Prelude.{option_and_then}
+use Rattle.std.proofs.Common.{◌≡◌, ℕ, ◌-◌, ◌<◌, ◌≤◌, true, false, drop, not, eqb, List, [], ◌∷◌, ◌++◌, length, take, filter, get_or, All, refl, sym, ap, ◌∙◌, append_assoc, arith, inl, inr, Option, Some, None, IfSome, Ok}
 use Rattle.std.specs.Option.{option_map}
 use Rattle.std.specs.List.{list_all, slice_split, AllByRecursion}
 use Rattle.std.specs.Char.{is_ascii_digit}
 use Rattle.std.specs.Str.Parse.{digits_value}
-use Rattle.std.proofs.lemmas.Bool.{and_parts, cond-true, le-leb}
+use Rattle.std.proofs.lemmas.Bool.{le-leb}
 use Rattle.std.proofs.lemmas.Bool.Decides.{nat_tests}
 use Rattle.std.proofs.lemmas.List.{get_or_append_left, take_all}
 use Rattle.std.proofs.lemmas.List.Splits.{slice_split_at, slice_split_none}
 use Rattle.std.proofs.lemmas.List.Sums.{AllPass-from_list_all}
 use Rattle.grid_core.specs.declared.limits.TheConstants.{LONGEST_SIDE}
 use Rattle.grid_core.specs.Clues.{is_clue}
-use Rattle.puzzle_text.specs.declared.faults.TextFault.{TextFault}
-use Rattle.puzzle_text.specs.declared.faults.TextFault.TheVariants.{BadSize}
-use Rattle.puzzle_text.specs.Answers.{◌>>=◌, or_fault}
-use Rattle.puzzle_text.specs.ClueLines.{clue_of_numbers, numbers_within}
-use Rattle.puzzle_text.specs.Lines.{Line, is_empty, numbered_from, raw_lines, strip_last, trim}
+use Rattle.puzzle_text.specs.ClueLines.{numbers_within}
+use Rattle.puzzle_text.specs.Lines.{is_empty}
 use Rattle.puzzle_text.specs.Numbers.{is_separator, number_within, pieces}
-use Rattle.puzzle_text.specs.Sizes.{size_of, two_sizes}
+use Rattle.puzzle_text.specs.Sizes.{size_of}
 use Rattle.puzzle_text.specs.steps.Usual.{BeginsWith, BeginsWithNumber, EndsLine, IsNumeral, IsSeparator, SaysClue, SaysSizes}
 use Rattle.puzzle_text.proofs.NumbersLemmas.{digit_clear, keeps_piece, number_is}
-use Rattle.puzzle_text.proofs.ReadBack.{IsKept, IsTidy, kept_tidy, line_kept, raw_lines-feed, strip_last_is}
+use Rattle.puzzle_text.proofs.ReadBack.{IsKept, IsTidy, kept_tidy, line_kept, tidy_solid, raw_lines-feed, strip_last_is}
 use Rattle.puzzle_text.proofs.ReadClue.{IsSpacing, clue_is, comma, space}
-use Rattle.puzzle_text.proofs.ReadClues.{all-append, tidy-join}
+use Rattle.puzzle_text.proofs.AllLemmas.{all-append, all-weaker, all_pass}
+use Rattle.puzzle_text.proofs.ReadClues.{tidy-join}
 
 pub digit_range : (c : ℕ) → is_ascii_digit c ≡ true → (48 ≤ c) × (c ≤ 57)
 digit_range c h = grind (arith, nat_tests)
@@ -36,12 +33,10 @@ pub record SaysNumbers (text : List ℕ) (numbers : List ℕ) : Type 0 where
   pub digit : is_ascii_digit (get_or text 0 0) ≡ true
   pub said : numbers_within LONGEST_SIDE (pieces text) ≡ Some numbers
 
-digits_high : (ds : List ℕ) → list_all is_ascii_digit ds ≡ true → AllByRecursion (λ byte. 32 ≤ byte) ds
-digits_high [] h = tt
-digits_high (d ∷ ds) h =
-    let parts = and_parts (is_ascii_digit d) (list_all is_ascii_digit ds) h in
-    let range = digit_range d parts.0 in
-    (omega (arith, range.0), digits_high ds parts.1)
+digits_high : (ds : List ℕ) → list_all is_ascii_digit ds ≡ true → AllByRecursion (λ byte. 33 ≤ byte) ds
+digits_high ds h =
+    all-weaker (λ d. is_ascii_digit d ≡ true) (λ d. 33 ≤ d) (λ d digit. omega (arith, (digit_range d digit).0)) ds
+    (all_pass is_ascii_digit ds h)
 
 some_digits : (piece : List ℕ) (n : ℕ) → n ≡ digits_value 10 piece → 1 ≤ n → 0 < length piece
 some_digits [] n e h = absurd (omega (arith, e))
@@ -51,14 +46,8 @@ module _ (piece : List ℕ) (n : ℕ) (numeral : IsNumeral piece n) where
   some_piece : 0 < length piece
   some_piece = some_digits piece n numeral.value numeral.positive
 
-  digit_in : (k : ℕ) → k < length piece → (48 ≤ get_or piece k 0) × (get_or piece k 0 ≤ 57)
-  digit_in k lt = digit_range (get_or piece k 0) (AllPass-from_list_all is_ascii_digit piece numeral.digits k 0 lt)
-
   tidy_piece : IsTidy piece
-  tidy_piece =
-      let first = digit_in 0 some_piece in
-      let last = digit_in (length piece - 1) (omega (arith, some_piece)) in
-      record { inked = digits_high piece numeral.digits; first = omega (arith, first.0); last = omega (arith, last.0) }
+  tidy_piece = tidy_solid piece some_piece (digits_high piece numeral.digits)
 
   unbroken : All (λ byte. is_separator byte ≡ false) piece
   unbroken k d lt = digit_clear (get_or piece k d) (AllPass-from_list_all is_ascii_digit piece numeral.digits k d lt)
@@ -70,15 +59,13 @@ module _ (piece : List ℕ) (n : ℕ) (numeral : IsNumeral piece n) where
 
   size_said : size_of LONGEST_SIDE piece ≡ Ok n
   size_said =
-      ap (λ (o : Option ℕ). or_fault BadSize (option_and_then (λ number. cond (leb 1 number) (Some number) None) o)) number_said
-      ∙ ap (or_fault BadSize) (cond-true (leb 1 n) (Some n) None (le-leb 1 n numeral.positive))
+      rw (number_said, le-leb 1 n numeral.positive) refl
 
   abbrev after_number : List (List ℕ) → Option (List ℕ)
   after_number parts = option_map (λ ys. n ∷ ys) (numbers_within LONGEST_SIDE parts)
 
   numbers_after : (parts : List (List ℕ)) → numbers_within LONGEST_SIDE (piece ∷ parts) ≡ after_number parts
-  numbers_after parts =
-      ap (λ (o : Option ℕ). option_and_then (λ (y : ℕ). option_map (λ ys. y ∷ ys) (numbers_within LONGEST_SIDE parts)) o) number_said
+  numbers_after parts = rw number_said refl
 
   pieces_alone : pieces piece ≡ piece ∷ []
   pieces_alone =
@@ -125,25 +112,14 @@ pub number_and_more : (text rest others numbers more : List ℕ) (n s : ℕ) →
     → BeginsWithNumber rest n (s ∷ others) → IsSeparator s → more ≡ numbers ++ n ∷ [] → PassesNumbers text others more
 number_and_more text rest others numbers more n s passed begins separated is =
     let front = passed.0 in
-    let piece = begins.0 in
-    let whole : text ≡ (front ++ (piece ++ s ∷ [])) ++ others =
-    passed.1 ∙ ap (λ (r : List ℕ). front ++ r) (begins.1 ∙ sym (append_assoc piece (s ∷ []) others))
-    ∙ sym (append_assoc front (piece ++ s ∷ []) others) in (
+    let piece = begins.0 in (
       front ++ (piece ++ s ∷ []),
-      whole,
+      rw (passed.1, begins.1) (simp append_assoc),
       λ line ns said.
-          let parts : front ++ (piece ++ s ∷ line) ≡ (front ++ (piece ++ s ∷ [])) ++ line =
-          ap (λ (r : List ℕ). front ++ r) (sym (append_assoc piece (s ∷ []) line)) ∙ sym (append_assoc front (piece ++ s ∷ []) line) in
-          let counted : numbers ++ n ∷ ns ≡ more ++ ns = sym (append_assoc numbers (n ∷ []) ns) ∙ ap (λ (ms : List ℕ). ms ++ ns) (sym is) in
-          subst (λ (t : List ℕ). SaysNumbers t (more ++ ns)) parts
-          (subst (SaysNumbers (front ++ (piece ++ s ∷ line))) counted
-          (passed.2 (piece ++ s ∷ line) (n ∷ ns) (number_before piece n begins.2 s line ns (spaced s separated) said))),
+          rw is (simp append_assoc (passed.2 (piece ++ s ∷ line) (n ∷ ns) (number_before piece n begins.2 s line ns (spaced s separated) said))),
     )
 
 -- ---- the end of a line
-
-abbrev first_of : ℕ → List ℕ → List ℕ → List Line
-first_of number text rest = record { number = number; text = text } ∷ numbered_from (number + 1) (raw_lines rest)
 
 module _ (front rest : List ℕ) (tidy : IsTidy front) where
   abbrev kept : IsKept front
@@ -151,26 +127,27 @@ module _ (front rest : List ℕ) (tidy : IsTidy front) where
 
   at_feed : BeginsWith (front ++ 10 ∷ rest) front rest
   at_feed number =
-      ap (numbered_from number) (raw_lines-feed front rest kept.no_feed)
-      ∙ ap (λ (text : List ℕ). first_of number text rest) (line_kept front kept)
+      rw (raw_lines-feed front rest kept.no_feed, line_kept front kept) refl
 
   at_return : BeginsWith (front ++ 13 ∷ 10 ∷ rest) front rest
   at_return number =
       let text = front ++ 13 ∷ [] in
       let none : AllByRecursion (λ byte. eqb byte 10 ≡ false) text =
       all-append (λ byte. eqb byte 10 ≡ false) front (13 ∷ []) kept.no_feed (refl, tt) in
-      ap (λ (bytes : List ℕ). numbered_from number (raw_lines bytes)) (sym (append_assoc front (13 ∷ []) (10 ∷ rest)))
-      ∙ ap (numbered_from number) (raw_lines-feed text rest none)
-      ∙ ap (λ (line : List ℕ). first_of number (trim (strip_last 13 line)) rest) (strip_last_is 10 text)
-      ∙ ap (λ (line : List ℕ). first_of number (trim line) rest) (strip_last_is 13 front)
-      ∙ ap (λ (line : List ℕ). first_of number line rest) kept.trimmed
+      rw (
+        ← append_assoc front (13 ∷ []) (10 ∷ rest),
+        raw_lines-feed text rest none,
+        strip_last_is 10 text,
+        strip_last_is 13 front,
+        kept.trimmed,
+      ) refl
 
 -- a tidy text before the end of a line is that line
 pub line_ends : (front bytes rest : List ℕ) → IsTidy front → EndsLine bytes rest → BeginsWith (front ++ bytes) front rest
 line_ends front bytes rest tidy e =
     elim e [
-      | inl feed ↦ subst (λ (b : List ℕ). BeginsWith (front ++ b) front rest) (sym feed) (at_feed front rest tidy)
-      | inr return ↦ subst (λ (b : List ℕ). BeginsWith (front ++ b) front rest) (sym return) (at_return front rest tidy)
+      | inl feed ↦ rw feed (at_feed front rest tidy)
+      | inr return ↦ rw return (at_return front rest tidy)
     ]
 
 -- ---- what the first line says
@@ -194,13 +171,11 @@ pub clue_ends : (text rest after next numbers clue : List ℕ) (n : ℕ) → Pas
 clue_ends text rest after next numbers clue n passed begins ends is lawful =
     let front = passed.0 in
     let line = front ++ begins.0 in
-    let said : SaysNumbers line clue =
-    subst (SaysNumbers line) (sym is) (passed.2 begins.0 (n ∷ []) (number_alone begins.0 n begins.2)) in
-    let whole : text ≡ line ++ after =
-    passed.1 ∙ ap (λ (r : List ℕ). front ++ r) begins.1 ∙ sym (append_assoc front begins.0 after) in (
+    let said : SaysNumbers line clue = rw is (passed.2 begins.0 (n ∷ []) (number_alone begins.0 n begins.2)) in
+    let whole : text ≡ line ++ after = rw (passed.1, begins.1) (sym (append_assoc front begins.0 after)) in (
       line,
-      subst (λ (t : List ℕ). BeginsWith t line next) (sym whole) (line_ends line after next said.tidy ends),
-      (ap (option_and_then (clue_of_numbers LONGEST_SIDE)) said.said ∙ clue_is LONGEST_SIDE clue lawful, said.digit),
+      rw whole (line_ends line after next said.tidy ends),
+      (rw said.said (clue_is LONGEST_SIDE clue lawful), said.digit),
     )
 
 -- a 0 alone says the empty clue
@@ -209,8 +184,8 @@ zero_ends text after next clue whole ends none =
     let line : List ℕ = 48 ∷ [] in
     let tidy : IsTidy line = record { inked = (omega arith, tt); first = omega arith; last = omega arith } in (
       line,
-      subst (λ (t : List ℕ). BeginsWith t line next) (sym whole) (line_ends line after next tidy ends),
-      (ap (λ (c : List ℕ). Some c) (sym none), refl),
+      rw whole (line_ends line after next tidy ends),
+      (rw none refl, refl),
     )
 
 -- two numbers say the sizes
@@ -220,15 +195,9 @@ sizes_end text second next rest a s b one separated two ends =
     let by = spaced s separated in
     let line = one.0 ++ s ∷ two.0 in
     let said = number_before one.0 a one.2 s two.0 (b ∷ []) by (number_alone two.0 b two.2) in
-    let whole : text ≡ line ++ next =
-    one.1 ∙ ap (λ (r : List ℕ). one.0 ++ s ∷ r) two.1 ∙ sym (append_assoc one.0 (s ∷ two.0) next) in
-    let parts : pieces line ≡ one.0 ∷ two.0 ∷ [] =
-    pieces_more one.0 a one.2 s two.0 by ∙ ap (λ (ps : List (List ℕ)). one.0 ∷ ps) (pieces_alone two.0 b two.2) in (
+    let whole : text ≡ line ++ next = rw (one.1, two.1) (sym (append_assoc one.0 (s ∷ two.0) next)) in (
       line,
-      subst (λ (t : List ℕ). BeginsWith t line rest) (sym whole) (line_ends line next rest said.tidy ends),
-      ap (two_sizes LONGEST_SIDE) parts
-          ∙ ap (λ (r : Result ℕ TextFault). r >>= λ first. size_of LONGEST_SIDE two.0 >>= λ second. Ok (first, second))
-          (size_said one.0 a one.2)
-          ∙ ap (λ (r : Result ℕ TextFault). r >>= λ second. Ok (a, second)) (size_said two.0 b two.2),
+      rw whole (line_ends line next rest said.tidy ends),
+      rw (pieces_more one.0 a one.2 s two.0 by, pieces_alone two.0 b two.2, size_said one.0 a one.2, size_said two.0 b two.2) refl,
       said.digit,
     )

@@ -1,7 +1,9 @@
 -- The parts of a usual .non text, found on one walk from the top.
-use Rattle.std.proofs.Common.{◌≡◌, ℕ, ◌+◌, true, false, not, eqb, List, [], ◌∷◌, ◌++◌, length, filter, get_or, refl, sym, ap, subst, ◌∙◌, append_assoc, arith, None}
-use Rattle.std.proofs.lemmas.Bool.{cond-false, cond-true, eqb-true}
-use Rattle.std.proofs.lemmas.List.{append-nil, length-append}
+use Rattle.std.proofs.Common.{◌≡◌, ℕ, ◌+◌, true, false, not, eqb, List, [], ◌∷◌, ◌++◌, length, filter, get_or, refl, sym, ap, ◌∙◌, append_assoc, arith, None}
+use Rattle.std.proofs.lemmas.Bool.{eqb-true}
+use Rattle.std.specs.List.{AllByRecursion}
+use Rattle.grid_core.specs.declared.limits.TheConstants.{LONGEST_SIDE}
+use Rattle.std.proofs.lemmas.List.{nil_from_length, append-nil, length-append}
 use Rattle.std.proofs.lemmas.List.Elements.{filter-append}
 use Rattle.puzzle_text.specs.declared.places.Under.{Under}
 use Rattle.puzzle_text.specs.declared.places.Under.TheVariants.{Rows, Columns, Other}
@@ -11,8 +13,9 @@ use Rattle.puzzle_text.specs.Non.{Sections, placed, sections_of}
 use Rattle.puzzle_text.specs.steps.Places.{IsUnder, with_line}
 use Rattle.puzzle_text.specs.steps.Usual.{AreClueLines, HaveClues, IsClueText, KeepsOthers, SayClues, SaysClue, clues_under}
 use Rattle.puzzle_text.proofs.ReadClues.{some_text}
-use Rattle.puzzle_text.proofs.ReadNon.{content_digit}
-use Rattle.puzzle_text.proofs.SectionsWalk.{below, below_comment, below_content, below_keyword, join, nothing_above}
+use Rattle.puzzle_text.proofs.AllLemmas.{all-weaker, filter_all, filter_none}
+use Rattle.puzzle_text.proofs.SaidLines.{SayAll, say_more}
+use Rattle.puzzle_text.proofs.SectionsWalk.{IsContent, below, below_comment, below_content, below_keyword, content_digit, join, join_content, nothing_above, with_columns, with_lines, with_rows}
 use Rattle.puzzle_text.proofs.UsualLines.{digit_range}
 
 -- a line of this number
@@ -21,42 +24,31 @@ line_at number text = record { number = number; text = text }
 
 -- ---- lines that say a clue
 
--- a line of a clue is no keyword line and no comment, and isn't blank
-pub record IsPlainLine (line : Line) : Type 0 where
-  pub word : is_empty (keyword line) ≡ true
-  pub hash : is_hash line ≡ false
-  pub full : is_full line ≡ true
+pub clue_content : (line : Line) (clue : List ℕ) → IsClueText line.text clue → IsContent line.text
+clue_content line clue said = let range = digit_range (get_or line.text 0 0) said.1 in content_digit line.text range.0 range.1
 
-pub clue_is_plain : (line : Line) (clue : List ℕ) → IsClueText line.text clue → IsPlainLine line
-clue_is_plain line clue said =
-    let range = digit_range (get_or line.text 0 0) said.1 in
-    let content = content_digit line.text range.0 range.1 in
-    record { word = ap is_empty content.word; hash = content.hash; full = some_text line.text range.0 }
+-- lines of clues say these clues
+pub say_all : (found : List Line) (clues : List (List ℕ)) → AreClueLines found clues → SayAll LONGEST_SIDE found clues
+say_all [] [] said = record { full = tt; hash = tt; count = refl; said = refl }
+say_all [] (clue ∷ clues) said = absurd said
+say_all (line ∷ found) [] said = absurd said
+say_all (line ∷ found) (clue ∷ clues) said =
+    say_more LONGEST_SIDE line clue found clues (some_text line.text (digit_range _ said.0.1).0) (clue_content line clue said.0).hash said.0.0
+    (say_all found clues said.1)
 
--- no blank line is among the lines of clues
-pub all_full : (found : List Line) (clues : List (List ℕ)) → AreClueLines found clues → filter is_full found ≡ found
-all_full [] clues said = refl
-all_full (line ∷ found) [] said = absurd said
-all_full (line ∷ found) (clue ∷ clues) said =
-    cond-true (is_full line) (line ∷ filter is_full found) (filter is_full found) (clue_is_plain line clue said.0).full
-    ∙ ap (λ (lines : List Line). line ∷ lines) (all_full found clues said.1)
+-- none of them is a keyword line or a comment
+all_content : (found : List Line) (clues : List (List ℕ)) → AreClueLines found clues → AllByRecursion (λ line. IsContent line.text) found
+all_content [] clues said = tt
+all_content (line ∷ found) [] said = absurd said
+all_content (line ∷ found) (clue ∷ clues) said = (clue_content line clue said.0, all_content found clues said.1)
 
--- nor is a keyword line
-pub no_keywords : (found todo : List Line) (clues : List (List ℕ)) → AreClueLines found clues
+no_keywords : (found todo : List Line) (clues : List (List ℕ)) → AreClueLines found clues
     → filter is_keyword_line (found ++ todo) ≡ filter is_keyword_line todo
-no_keywords [] todo clues said = refl
-no_keywords (line ∷ found) todo [] said = absurd said
-no_keywords (line ∷ found) todo (clue ∷ clues) said =
-    let others = filter is_keyword_line (found ++ todo) in
-    cond-false (is_keyword_line line) (line ∷ others) others (ap not (clue_is_plain line clue said.0).word)
-    ∙ no_keywords found todo clues said.1
-
--- there are as many clues as lines
-pub as_many : (found : List Line) (clues : List (List ℕ)) → AreClueLines found clues → length found ≡ length clues
-as_many [] [] said = refl
-as_many [] (clue ∷ clues) said = absurd said
-as_many (line ∷ found) [] said = absurd said
-as_many (line ∷ found) (clue ∷ clues) said = omega (arith, as_many found clues said.1)
+no_keywords found todo clues said =
+    let none =
+    all-weaker (λ (line : Line). IsContent line.text) (λ line. is_keyword_line line ≡ false) (λ line is. rw is.word refl) found
+    (all_content found clues said) in
+    rw (filter-append is_keyword_line found todo, filter_none is_keyword_line found none) refl
 
 -- lines of clues, and then more of them
 pub said_after : (found more : List Line) (clues others : List (List ℕ)) → AreClueLines found clues → AreClueLines more others
@@ -75,10 +67,8 @@ one_said bytes rest next clue clues more said one is = λ number.
     let line : Line = record { number = place; text = one.0 } in
     let count : place + 1 ≡ number + length more = omega (arith, ap length is, length-append clues (clue ∷ [])) in (
       first.0 ++ line ∷ [],
-      first.1 ∙ ap (λ (lines : List Line). first.0 ++ lines) (one.1 place)
-          ∙ sym (append_assoc first.0 (line ∷ []) (numbered_from (place + 1) (raw_lines next)))
-          ∙ ap (λ (n : ℕ). (first.0 ++ line ∷ []) ++ numbered_from n (raw_lines next)) count,
-      subst (AreClueLines (first.0 ++ line ∷ [])) (sym is) (said_after first.0 (line ∷ []) clues (clue ∷ []) first.2 (one.2, tt)),
+      rw (first.1, one.1 place, count) (sym (append_assoc first.0 (line ∷ []) _)),
+      rw is (said_after first.0 (line ∷ []) clues (clue ∷ []) first.2 (one.2, tt)),
     )
 
 -- ---- the walk
@@ -99,7 +89,7 @@ above_all whole rows columns p q = record {
   above = record { rows = []; columns = []; stray = None };
   opens = (refl, refl);
   joined = nothing_above [] [] whole refl refl;
-  clues = record { stray = refl; rows_said = subst (AreClueLines []) (sym p) tt; columns_said = subst (AreClueLines []) (sym q) tt };
+  clues = record { stray = refl; rows_said = rw p tt; columns_said = rw q tt };
 }
 
 -- past a comment
@@ -116,21 +106,19 @@ past_comment under whole todo line rows columns is none hash = record {
 
 same_full : (found : List Line) (line : Line) → is_full line ≡ false → filter is_full (found ++ line ∷ []) ≡ filter is_full found
 same_full found line blank =
-    filter-append is_full found (line ∷ [])
-    ∙ ap (λ (lines : List Line). filter is_full found ++ lines) (cond-false (is_full line) (line ∷ []) [] blank)
-    ∙ append-nil (filter is_full found)
+    rw (filter-append is_full found (line ∷ []), blank) (append-nil (filter is_full found))
 
 blank_more : (under : Under) (above : Sections) (line : Line) (rows columns : List (List ℕ)) → HaveClues above rows columns
     → is_full line ≡ false → HaveClues (with_line above under line) rows columns
 blank_more Rows above line rows columns clues blank = record {
   stray = clues.stray;
-  rows_said = subst (λ (lines : List Line). AreClueLines lines rows) (sym (same_full above.rows line blank)) clues.rows_said;
+  rows_said = rw (same_full above.rows line blank) clues.rows_said;
   columns_said = clues.columns_said;
 }
 blank_more Columns above line rows columns clues blank = record {
   stray = clues.stray;
   rows_said = clues.rows_said;
-  columns_said = subst (λ (lines : List Line). AreClueLines lines columns) (sym (same_full above.columns line blank)) clues.columns_said;
+  columns_said = rw (same_full above.columns line blank) clues.columns_said;
 }
 blank_more Other above line rows columns clues blank = record {
   stray = rw (clues.stray, blank) refl;
@@ -154,77 +142,29 @@ past_blank under whole todo line rows columns is none blank = record {
   clues = blank_more under is.above line rows columns is.clues (ap not blank);
 }
 
--- the sections with more lines
-abbrev with_lines : Under → Sections → List Line → Sections
-with_lines Rows above found = record above { rows = above.rows ++ found }
-with_lines Columns above found = record above { columns = above.columns ++ found }
-with_lines Other above found = above
-
-nothing_more : (under : Under) (above : Sections) → with_lines under above [] ≡ above
-nothing_more Rows above = ap (λ (lines : List Line). record above { rows = lines }) (append-nil above.rows)
-nothing_more Columns above = ap (λ (lines : List Line). record above { columns = lines }) (append-nil above.columns)
-nothing_more Other above = refl
-
-one_more : (under : Under) (above : Sections) (line : Line) (found : List Line) → is_full line ≡ true
-    → (under ≡ Other → ⊥) → with_lines under (with_line above under line) found ≡ with_lines under above (line ∷ found)
-one_more Rows above line found full some =
-    ap (λ (lines : List Line). record above { rows = lines }) (append_assoc above.rows (line ∷ []) found)
-one_more Columns above line found full some =
-    ap (λ (lines : List Line). record above { columns = lines }) (append_assoc above.columns (line ∷ []) found)
-one_more Other above line found full some = absurd (some refl)
-
-join_lines : (under : Under) (word : List ℕ) (above : Sections) (found todo : List Line) (clues : List (List ℕ))
-    → (under ≡ Other → length clues ≡ 0) → IsUnder word under → AreClueLines found clues
-    → join above (below word (found ++ todo)) ≡ join (with_lines under above found) (below word todo)
-join_lines under word above [] todo clues none opens said =
-    ap (λ (sections : Sections). join sections (below word todo)) (sym (nothing_more under above))
-join_lines under word above (line ∷ found) todo [] none opens said = absurd said
-join_lines under word above (line ∷ found) todo (clue ∷ clues) none opens said =
-    let plain = clue_is_plain line clue said.0 in
-    let some : under ≡ Other → ⊥ = λ e. (let no = none e in absurd (omega arith)) in
-    below_content under word above line (found ++ todo) opens plain.word plain.hash
-    ∙ join_lines under word (with_line above under line) found todo clues (λ e. absurd (some e)) opens said.1
-    ∙ ap (λ (sections : Sections). join sections (below word todo)) (one_more under above line found plain.full some)
-
-no_others : (under : Under) (rows columns : List (List ℕ)) → under ≡ Other → length (clues_under under rows columns) ≡ 0
-no_others Other rows columns e = refl
-no_others Rows rows columns e = absurd cc
-no_others Columns rows columns e = absurd cc
-
 more_said : (lines found : List Line) (clues : List (List ℕ)) → AreClueLines (filter is_full lines) [] → AreClueLines found clues
     → AreClueLines (filter is_full (lines ++ found)) clues
 more_said lines found clues none said =
-    let here = subst (λ (more : List Line). AreClueLines more clues) (sym (all_full found clues said)) said in
-    subst (λ (more : List Line). AreClueLines more clues) (sym (filter-append is_full lines found))
-    (said_after (filter is_full lines) (filter is_full found) [] clues none here)
-
-none_of : (rows : List (List ℕ)) → length rows ≡ 0 → rows ≡ []
-none_of [] e = refl
-none_of (row ∷ rows) e = absurd (omega arith)
+    rw (filter-append is_full lines found, filter_all is_full found (say_all found clues said).full)
+    (said_after (filter is_full lines) found [] clues none said)
 
 section_more : (under : Under) (above : Sections) (found : List Line) (old_rows old_columns rows columns : List (List ℕ))
     → HaveClues above old_rows old_columns → KeepsOthers under old_rows old_columns rows columns
     → AreClueLines found (clues_under under rows columns) → HaveClues (with_lines under above found) rows columns
-section_more Rows above found old_rows old_columns rows columns clues kept said = record {
-  stray = clues.stray;
-  rows_said =
-      more_said above.rows found rows
-      (subst (λ (rs : List (List ℕ)). AreClueLines (filter is_full above.rows) rs) (none_of old_rows kept.0) clues.rows_said) said;
-  columns_said = subst (AreClueLines (filter is_full above.columns)) (sym kept.1) clues.columns_said;
-}
-section_more Columns above found old_rows old_columns rows columns clues kept said = record {
-  stray = clues.stray;
-  rows_said = subst (AreClueLines (filter is_full above.rows)) (sym kept.1) clues.rows_said;
-  columns_said =
-      more_said above.columns found columns
-      (subst (λ (cs : List (List ℕ)). AreClueLines (filter is_full above.columns) cs) (none_of old_columns kept.0) clues.columns_said)
-      said;
-}
-section_more Other above found old_rows old_columns rows columns clues kept said = record {
-  stray = clues.stray;
-  rows_said = subst (AreClueLines (filter is_full above.rows)) (sym kept.0) clues.rows_said;
-  columns_said = subst (AreClueLines (filter is_full above.columns)) (sym kept.1) clues.columns_said;
-}
+section_more Rows above found old_rows old_columns rows columns clues kept said =
+    rw (with_rows above found, kept.1) (record {
+      stray = clues.stray;
+      rows_said = more_said above.rows found rows (rw (nil_from_length old_rows kept.0) at clues.rows_said) said;
+      columns_said = clues.columns_said;
+    })
+section_more Columns above found old_rows old_columns rows columns clues kept said =
+    rw (with_columns above found, kept.1) (record {
+      stray = clues.stray;
+      rows_said = clues.rows_said;
+      columns_said = more_said above.columns found columns (rw (nil_from_length old_columns kept.0) at clues.columns_said) said;
+    })
+section_more Other above [] old_rows old_columns rows columns clues kept said = rw (kept.0, kept.1) clues
+section_more Other above (line ∷ found) old_rows old_columns rows columns clues kept said = absurd said
 
 module _ (next : Under) (line : Line) (number place : ℕ) (after rest : List ℕ) (rows columns : List (List ℕ))
     (says : SayClues after (clues_under next rows columns) rest) (counted : place ≡ number + length (clues_under next rows columns)) where
@@ -248,9 +188,8 @@ module _ (next : Under) (line : Line) (number place : ℕ) (after rest : List �
     opens = opens;
     joined =
         sym (ap (join is.above) (below_keyword is.word line (numbered_from number (raw_lines after)) some)
-        ∙ ap (λ (lines : List Line). join is.above (below (keyword line) lines)) parts
-        ∙ join_lines next (keyword line) is.above found later (clues_under next rows columns) (no_others next rows columns) opens
-        (says number).2)
+        ∙ ap (λ lines. join is.above (below (keyword line) lines)) parts
+        ∙ join_content next (keyword line) is.above found later opens (all_content found _ (says number).2))
         ∙ is.joined;
     clues = section_more next is.above found old_rows old_columns rows columns is.clues kept (says number).2;
   }
@@ -259,20 +198,15 @@ module _ (next : Under) (line : Line) (number place : ℕ) (after rest : List �
   pub kept_one : (kept all : List Line) → kept ++ filter is_keyword_line (line ∷ numbered_from number (raw_lines after)) ≡ all
       → is_empty (keyword line) ≡ false → (kept ++ line ∷ []) ++ filter is_keyword_line later ≡ all
   kept_one kept all e some =
-      let others = filter is_keyword_line (numbered_from number (raw_lines after)) in
-      let same : others ≡ filter is_keyword_line later =
+      let same : filter is_keyword_line (numbered_from number (raw_lines after)) ≡ filter is_keyword_line later =
       ap (filter is_keyword_line) parts ∙ no_keywords found later (clues_under next rows columns) (says number).2 in
-      append_assoc kept (line ∷ []) (filter is_keyword_line later)
-      ∙ ap (λ (lines : List Line). kept ++ line ∷ lines) (sym same)
-      ∙ ap (λ (lines : List Line). kept ++ lines) (sym (cond-true (is_keyword_line line) (line ∷ others) others (ap not some)))
-      ∙ e
+      rw (append_assoc kept (line ∷ []) (filter is_keyword_line later), ← same) (rw some at e)
 
 -- no keyword line is passed
 pub kept_none : (kept all todo : List Line) (line : Line) → kept ++ filter is_keyword_line (line ∷ todo) ≡ all
     → is_empty (keyword line) ≡ true → kept ++ filter is_keyword_line todo ≡ all
 kept_none kept all todo line e none =
-    let others = filter is_keyword_line todo in
-    ap (λ (lines : List Line). kept ++ lines) (sym (cond-false (is_keyword_line line) (line ∷ others) others (ap not none))) ∙ e
+    rw none at e
 
 -- no bytes have no lines
 pub no_lines : (rest : List ℕ) (number : ℕ) → length rest ≡ 0 → numbered_from number (raw_lines rest) ≡ []

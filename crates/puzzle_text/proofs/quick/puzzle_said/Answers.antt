@@ -6,7 +6,9 @@ use Rattle.puzzle_text.specs.declared.keyword_line.KeywordLine.{KeywordLine}
 use Rattle.puzzle_text.specs.Non.{Sections, outline_of, puzzle_of_clues, puzzle_said}
 use Rattle.puzzle_text.specs.steps.Shown.{shown_keyword}
 use Rattle.puzzle_text.specs.steps.Usual.{HaveClues}
-use Rattle.puzzle_text.proofs.UsualReads.{ok_of_gives, said_by_parts}
+use Rattle.puzzle_text.proofs.SaidLines.{non_lines}
+use Rattle.puzzle_text.proofs.UsualParts.{say_all}
+use Rattle.puzzle_text.proofs.UsualReads.{ok_of_gives}
 use Rattle.puzzle_text.proofs.quick.puzzle_said.Goals as goal
 
 pub returns : goal.returns
@@ -23,4 +25,5 @@ returns c =
     (sym c.deref-2.ensures.value) in
     ok_of_gives (λ (p : Nonogram). (sections : Sections) → HaveClues sections rows columns → puzzle_said LONGEST_SIDE sections kept ≡ Ok p)
     c.puzzle_of_clues.result _ c.puzzle_of_clues.ensures (λ p said sections clues.
-    said_by_parts sections kept width height _ rows columns p clues outline (search rules) (search rules) (same ∙ said))
+    non_lines LONGEST_SIDE sections kept width height _ rows columns p clues.stray (say_all _ rows clues.rows_said)
+    (say_all _ columns clues.columns_said) outline (search rules) (search rules) (same ∙ said))

@@ -1,0 +1,35 @@
+-- What holds of each element of a list, and what a filter keeps of it then.
+use Rattle.std.proofs.Common.{◌≡◌, Bool, true, false, List, [], ◌∷◌, ◌++◌, filter, map, refl, ap}
+use Rattle.std.specs.List.{list_all, AllByRecursion}
+use Rattle.std.proofs.lemmas.Bool.{and_parts}
+
+module _ {X : Type 0} (P : X → Type 0) where
+  -- what holds of the elements of two lists holds of those of both together
+  pub all-append : (xs ys : List X) → AllByRecursion P xs → AllByRecursion P ys → AllByRecursion P (xs ++ ys)
+  all-append [] ys p q = q
+  all-append (x ∷ xs) ys p q = (p.0, all-append xs ys p.1 q)
+
+  -- what follows of each element holds of each that is made of one
+  pub all-map : {Y : Type 0} (Q : Y → Type 0) (f : X → Y) → ((x : X) → P x → Q (f x)) → (xs : List X) → AllByRecursion P xs
+      → AllByRecursion Q (map f xs)
+  all-map Q f next [] h = tt
+  all-map Q f next (x ∷ xs) h = (next x h.0, all-map Q f next xs h.1)
+
+  pub all-weaker : (Q : X → Type 0) → ((x : X) → P x → Q x) → (xs : List X) → AllByRecursion P xs → AllByRecursion Q xs
+  all-weaker Q next [] h = tt
+  all-weaker Q next (x ∷ xs) h = (next x h.0, all-weaker Q next xs h.1)
+
+module _ {X : Type 0} (p : X → Bool) where
+  -- each element of a list passes a test that all pass
+  pub all_pass : (xs : List X) → list_all p xs ≡ true → AllByRecursion (λ x. p x ≡ true) xs
+  all_pass [] h = tt
+  all_pass (x ∷ xs) h = let parts = and_parts (p x) (list_all p xs) h in (parts.0, all_pass xs parts.1)
+
+  -- a filter keeps all elements if all pass, and none if none does
+  pub filter_all : (xs : List X) → AllByRecursion (λ x. p x ≡ true) xs → filter p xs ≡ xs
+  filter_all [] h = refl
+  filter_all (x ∷ xs) h = rw h.0 (ap (λ ys. x ∷ ys) (filter_all xs h.1))
+
+  pub filter_none : (xs : List X) → AllByRecursion (λ x. p x ≡ false) xs → filter p xs ≡ []
+  filter_none [] h = refl
+  filter_none (x ∷ xs) h = rw h.0 (filter_none xs h.1)

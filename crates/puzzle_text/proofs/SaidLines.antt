@@ -1,0 +1,127 @@
+-- What the lines of a text say, if some of them say its sizes and others its clues.
+use Rattle.std.proofs.Common.{◌≡◌, ℕ, suc, ◌+◌, ◌≤◌, Bool, true, false, ltb, List, [], ◌∷◌, ◌++◌, length, drop, filter, refl, sym, ap, ◌∙◌, append_assoc, arith, Some, None, Ok, Err}
+use Rattle.std.specs.List.{position_or_len, AllByRecursion}
+use Rattle.std.proofs.lemmas.Bool.{cond-false, eq-eqb, le-ltb, lt-ltb}
+use Rattle.std.proofs.lemmas.List.{take_all, take_at, drop_at, length-append}
+use Rattle.grid_core.specs.Nonogram.{Nonogram, plain}
+use Rattle.puzzle_text.specs.declared.faults.TextFault.TheVariants.{TooLong}
+use Rattle.puzzle_text.specs.Lines.{Line, is_full, is_hash, lines}
+use Rattle.puzzle_text.specs.Numbers.{pieces}
+use Rattle.puzzle_text.specs.ClueLines.{clue_of, clues_of}
+use Rattle.puzzle_text.specs.Sections.{choice}
+use Rattle.puzzle_text.specs.Sizes.{text_lines, two_sizes}
+use Rattle.puzzle_text.specs.Mk.{at_hash, before_hash, mk_of}
+use Rattle.puzzle_text.specs.Nin.{nin_of}
+use Rattle.puzzle_text.specs.Readings.{likelier}
+use Rattle.puzzle_text.specs.Non.{Sections, both_clues, outline_of, puzzle_of_clues, puzzle_said}
+use Rattle.puzzle_text.proofs.AllLemmas.{filter_all}
+use Rattle.puzzle_text.proofs.MkLemmas.{puzzle_of_parts, reading_parts}
+
+-- the lines of a text that isn't too long
+pub short_lines : (bytes : List ℕ) → length bytes ≤ 1048576 → text_lines bytes ≡ Ok (lines bytes)
+short_lines bytes short =
+    cond-false (ltb 1048576 (length bytes)) (Err TooLong) (Ok (lines bytes)) (le-ltb 1048576 (length bytes) short)
+
+-- ---- lines round a line that begins with #
+
+-- the first element that passes stands behind those that don't
+first_place : {X : Type 0} (p : X → Bool) (xs : List X) (y : X) (ys : List X) → AllByRecursion (λ x. p x ≡ false) xs → p y ≡ true
+    → position_or_len p (xs ++ y ∷ ys) ≡ length xs
+first_place p [] y ys none here = rw here refl
+first_place p (x ∷ xs) y ys none here = rw none.0 (omega (arith, first_place p xs y ys none.1 here))
+
+no_place : {X : Type 0} (p : X → Bool) (xs : List X) → AllByRecursion (λ x. p x ≡ false) xs → position_or_len p xs ≡ length xs
+no_place p [] none = refl
+no_place p (x ∷ xs) none = rw none.0 (omega (arith, no_place p xs none.1))
+
+-- the lines are cut at the line that begins with #, if none before it does
+at_hash_is : (rows : List Line) (hash : Line) (after : List Line) → AllByRecursion (λ line. is_hash line ≡ false) rows
+    → is_hash hash ≡ true → at_hash (rows ++ hash ∷ after) ≡ Some (rows, after)
+at_hash_is rows hash after none here =
+    let place = first_place is_hash rows hash after none here in
+    let inside : ltb (length rows) (length (rows ++ hash ∷ after)) ≡ true = lt-ltb _ _ (omega (arith, length-append rows (hash ∷ after))) in
+    let parts : rows ++ hash ∷ after ≡ (rows ++ hash ∷ []) ++ after = sym (append_assoc rows (hash ∷ []) after) in
+    let behind : drop (length rows + 1) (rows ++ hash ∷ after) ≡ after =
+    ap (drop (length rows + 1)) parts ∙ drop_at (rows ++ hash ∷ []) after (length rows + 1) (length-append rows (hash ∷ [])) in
+    rw (place, inside, take_at rows (hash ∷ after) (length rows) refl, behind) refl
+
+-- no line is left out if none begins with #
+before_hash_is : (rows : List Line) → AllByRecursion (λ line. is_hash line ≡ false) rows → before_hash rows ≡ rows
+before_hash_is rows none = rw (no_place is_hash rows none) (take_all (length rows) rows (omega arith))
+
+-- ---- lines that say clues
+
+-- each of these lines says its clue; none is blank, and none begins with #
+pub record SayAll (limit : ℕ) (found : List Line) (clues : List (List ℕ)) : Type 0 where
+  pub full : AllByRecursion (λ line. is_full line ≡ true) found
+  pub hash : AllByRecursion (λ line. is_hash line ≡ false) found
+  pub count : length found ≡ length clues
+  pub said : clues_of limit found ≡ Ok clues
+
+-- one line more
+pub say_more : (limit : ℕ) (line : Line) (clue : List ℕ) (found : List Line) (clues : List (List ℕ)) → is_full line ≡ true
+    → is_hash line ≡ false → clue_of limit line.text ≡ Some clue → SayAll limit found clues → SayAll limit (line ∷ found) (clue ∷ clues)
+say_more limit line clue found clues full hash said others = record {
+  full = (full, others.full);
+  hash = (hash, others.hash);
+  count = ap suc others.count;
+  said = rw (said, others.said) refl;
+}
+
+-- the lines of a section that aren't blank are its clue lines, if they are as many as they should be
+chosen : (limit count : ℕ) (section : List Line) (clues : List (List ℕ)) → SayAll limit (filter is_full section) clues
+    → length clues ≡ count → choice count section ≡ Some (filter is_full section)
+chosen limit count section clues all many = rw (eq-eqb (length (filter is_full section)) count (all.count ∙ many)) refl
+
+-- and those are all, if none is blank
+all_chosen : (limit count : ℕ) (found : List Line) (clues : List (List ℕ)) → SayAll limit found clues → length clues ≡ count
+    → choice count found ≡ Some found
+all_chosen limit count found clues all many =
+    rw (filter_all is_full found all.full, eq-eqb (length found) count (all.count ∙ many)) refl
+
+both_said : (limit : ℕ) (order : Bool) (a b : List Line) (x y : List (List ℕ)) → SayAll limit a x → SayAll limit b y
+    → both_clues limit order a b ≡ Ok (x, y)
+both_said limit true a b x y p q = rw (p.said, q.said) refl
+both_said limit false a b x y p q = rw (q.said, p.said) refl
+
+-- ---- what all lines say
+
+-- in .mk: a size line, rows, a line that begins with #, and columns
+pub mk_lines : (limit width height : ℕ) (first cut : Line) (row_lines column_lines : List Line) (rows columns : List (List ℕ))
+    → two_sizes limit (pieces first.text) ≡ Ok (height, width) → is_full first ≡ true → is_hash cut ≡ true
+    → SayAll limit row_lines rows → SayAll limit column_lines columns → length rows ≡ height → length columns ≡ width
+    → mk_of limit (first ∷ (row_lines ++ cut ∷ column_lines)) ≡ Ok (plain width height rows columns)
+mk_lines limit width height first cut row_lines column_lines rows columns sizes full here p q high wide =
+    rw (
+      full,
+      sizes,
+      at_hash_is row_lines cut column_lines p.hash here,
+      before_hash_is column_lines q.hash,
+      all_chosen limit height row_lines rows p high,
+      all_chosen limit width column_lines columns q wide,
+      puzzle_of_parts limit width height row_lines column_lines,
+      both_said limit true row_lines column_lines rows columns p q,
+      reading_parts width height rows columns high,
+    ) refl
+
+-- in .nin: a size line and clues
+pub nin_lines : (limit a b : ℕ) (first : Line) (found : List Line) (clues : List (List ℕ)) → two_sizes limit (pieces first.text) ≡ Ok (a, b)
+    → is_full first ≡ true → SayAll limit found clues → length clues ≡ a + b
+    → nin_of limit (first ∷ found) ≡ Ok (likelier a b clues)
+nin_lines limit a b first found clues sizes full all many =
+    rw (full, sizes, all_chosen limit (a + b) found clues all many, all.said) refl
+
+-- in .non: keyword lines, and the lines of both sections
+pub non_lines : (limit : ℕ) (sections : Sections) (kept : List Line) (width height : ℕ) (order : Bool) (rows columns : List (List ℕ))
+    (p : Nonogram) → sections.stray ≡ None → SayAll limit (filter is_full sections.rows) rows
+    → SayAll limit (filter is_full sections.columns) columns → outline_of limit None kept ≡ Ok ((width, height), order)
+    → length rows ≡ height → length columns ≡ width → puzzle_of_clues (width, height) (rows, columns) kept ≡ Ok p
+    → puzzle_said limit sections kept ≡ Ok p
+non_lines limit sections kept width height order rows columns p stray in_rows in_columns outline high wide said =
+    rw (
+      stray,
+      outline,
+      chosen limit height sections.rows rows in_rows high,
+      chosen limit width sections.columns columns in_columns wide,
+      both_said limit order (filter is_full sections.rows) (filter is_full sections.columns) rows columns in_rows in_columns,
+    ) said
