@@ -4,9 +4,9 @@ use Rattle.std.specs.Prelude.{option_and_then, slice_get, unwrap_or}
 use Rattle.std.specs.List.{filter, list_all, onto_first, prefix_len, AllByRecursion}
 use Rattle.std.specs.Option.{option_map}
 use Rattle.std.specs.Char.{is_ascii_alphabetic}
-use Rattle.std.proofs.lemmas.Bool.{and_from, and_parts, cases_Bool, cond-false, le-leb, le-ltb, leb-true, ltb-true, ltb-false}
+use Rattle.std.proofs.lemmas.Bool.{cond_both, and_from, and_parts, cases_Bool, le-leb, le-ltb, leb-true, ltb-true, ltb-false}
 use Rattle.std.proofs.lemmas.List.{get_or_default, get_or-reverse, get_or-take, length-drop, length-take-le, length-reverse}
-use Rattle.std.proofs.lemmas.List.Elements.{All-take, All-drop}
+use Rattle.std.proofs.lemmas.List.Elements.{All-take, All-drop, All-filter, All-from_recursion, recursion_from_All}
 use Rattle.std.proofs.lemmas.List.Sums.{AllPass-from_list_all, list_all-from_AllPass}
 use Rattle.grid_core.specs.Description.{IsDescription, is_field}
 use Rattle.grid_core.specs.declared.limits.TheConstants.{LONGEST_TEXT}
@@ -31,29 +31,21 @@ IsClean bytes = All IsOther bytes
 
 module _ (P : List ℕ → Type 0) (cut : (n : ℕ) (bytes : List ℕ) → P bytes → P (drop n bytes))
     (turn : (bytes : List ℕ) → P bytes → P (reverse bytes)) where
-  of_cond : (b : Bool) (xs ys : List ℕ) → P xs → P ys → P (cond b xs ys)
-  of_cond true xs ys p q = p
-  of_cond false xs ys p q = q
-
   of_start : (bytes : List ℕ) → P bytes → P (trim_start bytes)
   of_start [] h = h
   of_start (byte ∷ bytes) h =
-      of_cond (is_blank byte) (trim_start bytes) (byte ∷ bytes) (of_start bytes (cut 1 (byte ∷ bytes) h)) h
+      cond_both (is_blank byte) (trim_start bytes) (byte ∷ bytes) P (λ _. of_start bytes (cut 1 (byte ∷ bytes) h)) (λ _. h)
 
   of_trim : (bytes : List ℕ) → P bytes → P (trim bytes)
   of_trim bytes h =
       let front = trim_start bytes in
       turn (trim_start (reverse front)) (of_start (reverse front) (turn front (of_start bytes h)))
 
-  option_cond : (b : Bool) (o p : Option (List ℕ)) → IfSome o P → IfSome p P → IfSome (cond b o p) P
-  option_cond true o p e f = e
-  option_cond false o p e f = f
-
   of_after : (bytes : List ℕ) → P bytes → IfSome (after_quote bytes) P
   of_after [] h = tt
   of_after (byte ∷ bytes) h =
       let others = cut 1 (byte ∷ bytes) h in
-      option_cond (eqb byte 34) (Some bytes) (after_quote bytes) others (of_after bytes others)
+      cond_both (eqb byte 34) (Some bytes) (after_quote bytes) (λ o. IfSome o P) (λ _. others) (λ _. of_after bytes others)
 
   turned : (o : Option (List ℕ)) → IfSome o P → IfSome (option_map reverse o) P
   turned None h = tt
@@ -86,8 +78,8 @@ clean_reverse bytes h k d lt =
 
 clean_strip : (byte : ℕ) (bytes : List ℕ) → IsClean bytes → IsClean (strip_last byte bytes)
 clean_strip byte bytes h =
-    of_cond IsClean clean_drop clean_reverse (eqb (get_or bytes (length bytes - 1) 0) byte) (take (length bytes - 1) bytes) bytes
-    (All-take IsOther (length bytes - 1) bytes h) h
+    cond_both (eqb (get_or bytes (length bytes - 1) 0) byte) (take (length bytes - 1) bytes) bytes IsClean
+    (λ _. All-take IsOther (length bytes - 1) bytes h) (λ _. h)
 
 clean_text : (line : Line) → has_no_feed line.text ≡ true → has_no_feed (quoted_text line) ≡ true
 clean_text line h =
@@ -109,17 +101,12 @@ raw_onto : (byte : ℕ) (parts : List (List ℕ)) → not (eqb byte 10) ≡ true
 raw_onto byte [] other h = (λ k lt. absurd (omega arith), tt)
 raw_onto byte (part ∷ parts) other h = (longer byte part other h.0, h.1)
 
-raw_cond : (b : Bool) (xs ys : List (List ℕ)) → (b ≡ true → AllByRecursion IsRaw xs) → (b ≡ false → AllByRecursion IsRaw ys)
-    → AllByRecursion IsRaw (cond b xs ys)
-raw_cond true xs ys p q = p refl
-raw_cond false xs ys p q = q refl
-
 all_raw : (bytes : List ℕ) → AllByRecursion IsRaw (raw_lines bytes)
 all_raw [] = tt
 all_raw (byte ∷ bytes) =
     let others = raw_lines bytes in
-    raw_cond (eqb byte 10) ((byte ∷ []) ∷ others) (onto_first byte others) (λ feed. (λ k lt. absurd (omega arith), all_raw bytes))
-    (λ other. raw_onto byte others (ap not other) (all_raw bytes))
+    cond_both (eqb byte 10) ((byte ∷ []) ∷ others) (onto_first byte others) (AllByRecursion IsRaw)
+    (λ feed. (λ k lt. absurd (omega arith), all_raw bytes)) (λ other. raw_onto byte others (ap not other) (all_raw bytes))
 
 clean_front : (raw : List ℕ) → IsRaw raw → IsClean (take (length raw - 1) raw)
 clean_front raw h k d lt =
@@ -138,11 +125,8 @@ clean_whole raw h last k d lt =
 
 clean_line : (raw : List ℕ) → IsRaw raw → IsClean (strip_last 10 raw)
 clean_line raw h =
-    let front = take (length raw - 1) raw in
-    elim (cases_Bool (eqb (get_or raw (length raw - 1) 0) 10)) [
-      | inl last ↦ rw last (clean_front raw h)
-      | inr other ↦ rw other (clean_whole raw h other)
-    ]
+    cond_both (eqb (get_or raw (length raw - 1) 0) 10) (take (length raw - 1) raw) raw IsClean (λ _. clean_front raw h)
+    (λ other. clean_whole raw h other)
 
 clean_lines : (number : ℕ) (raws : List (List ℕ)) → AllByRecursion IsRaw raws → HaveNoFeed (numbered_from number raws)
 clean_lines number [] h = tt
@@ -152,28 +136,21 @@ clean_lines number (raw ∷ raws) h = (
   clean_lines (number + 1) raws h.1,
 )
 
-lines_clean : (bytes : List ℕ) → HaveNoFeed (lines bytes)
-lines_clean bytes = clean_lines 1 (raw_lines bytes) (all_raw bytes)
-
 unless_long : (long : Bool) (all text : List Line) → HaveNoFeed all → cond long (Err TooLong) (Ok all) ≡ Ok text → HaveNoFeed text
 unless_long true all text h e = absurd cc
 unless_long false all text h e = let same : all ≡ text = cc in subst HaveNoFeed same h
 
 -- no line of a text that isn't too long has a line feed
 pub lines_have_no_feed : (bytes : List ℕ) (text : List Line) → text_lines bytes ≡ Ok text → HaveNoFeed text
-lines_have_no_feed bytes text e = unless_long (ltb LONGEST_PUZZLE (length bytes)) (lines bytes) text (lines_clean bytes) e
+lines_have_no_feed bytes text e = unless_long (ltb LONGEST_PUZZLE (length bytes)) (lines bytes) text (clean_lines 1 (raw_lines bytes) (all_raw bytes)) e
 
 -- ---- fields
 
-clean_kept : (b : Bool) (line : Line) (others : List Line) → has_no_feed line.text ≡ true → HaveNoFeed others
-    → HaveNoFeed (cond b (line ∷ others) others)
-clean_kept true line others here h = (here, h)
-clean_kept false line others here h = h
-
 -- the lines that a filter keeps have no line feed in them either
 pub clean_filter : (p : Line → Bool) (text : List Line) → HaveNoFeed text → HaveNoFeed (filter p text)
-clean_filter p [] h = tt
-clean_filter p (line ∷ text) h = clean_kept (p line) line (filter p text) h.0 (clean_filter p text h.1)
+clean_filter p text h =
+    let clean = λ (line : Line). has_no_feed line.text ≡ true in
+    recursion_from_All clean (filter p text) (All-filter p clean text (All-from_recursion clean text h))
 
 -- the line's number, if its text is too long
 abbrev long_of : Option Line → Option ℕ
@@ -205,27 +182,21 @@ least_none None n e = (refl, e)
 least_none (Some m) None e = absurd cc
 least_none (Some m) (Some n) e = absurd cc
 
+each_none : (numbers : List (Option ℕ)) → least_of numbers ≡ None → AllByRecursion (λ number. number ≡ None) numbers
+each_none [] e = tt
+each_none (number ∷ numbers) e = let parts = least_none number (least_of numbers) e in (parts.0, each_none numbers parts.1)
+
 -- if no line is bad, the texts may stand in their fields
 pub lawful_texts : (stray : Option ℕ) (text : List Line) → HaveNoFeed text → bad_line stray text ≡ None → IsDescription (texts_of text)
 lawful_texts stray text h none =
-    let long = λ (word : List ℕ). number_of_line (long_text text word) in
-    let e = long (codes "license") in
-    let d = long (codes "copyright") in
-    let c = long (codes "by") in
-    let b = long (codes "title") in
-    let a = long (codes "catalogue") in
-    let from_a = (least_none stray (least a (least b (least c (least d (least e None))))) none).1 in
-    let in_a = least_none a (least b (least c (least d (least e None)))) from_a in
-    let in_b = least_none b (least c (least d (least e None))) in_a.1 in
-    let in_c = least_none c (least d (least e None)) in_b.1 in
-    let in_d = least_none d (least e None) in_c.1 in
-    let in_e = least_none e None in_d.1 in
+    let longs = map (λ word. number_of_line (long_text text word)) text_words in
+    let all = each_none longs (least_none stray (least_of longs) none).1 in
     record {
-      catalogue = lawful_text (codes "catalogue") text h in_a.0;
-      title = lawful_text (codes "title") text h in_b.0;
-      by = lawful_text (codes "by") text h in_c.0;
-      copyright = lawful_text (codes "copyright") text h in_d.0;
-      license = lawful_text (codes "license") text h in_e.0;
+      catalogue = lawful_text (codes "catalogue") text h all.0;
+      title = lawful_text (codes "title") text h all.1.0;
+      by = lawful_text (codes "by") text h all.1.1.0;
+      copyright = lawful_text (codes "copyright") text h all.1.1.1.0;
+      license = lawful_text (codes "license") text h all.1.1.1.1.0;
     }
 
 -- ---- texts that are short
@@ -242,8 +213,7 @@ short_text =
 
 short_here : (b : Bool) (line : Line) (others : List Line) → IsShort line.text → long_of (slice_get others 0) ≡ None
     → long_of (slice_get (cond b (line ∷ others) others) 0) ≡ None
-short_here true line others fits none =
-    ap number_of_line (cond-false (ltb LONGEST_TEXT (length (quoted_text line))) (Some line) None (le-ltb _ _ (short_text line fits)))
+short_here true line others fits none = rw (le-ltb LONGEST_TEXT (length (quoted_text line)) (short_text line fits)) refl
 short_here false line others fits none = none
 
 short_first : (word : List ℕ) (kept : List KeywordLine) → are_short kept ≡ true → long_of (first_with word (map shown_keyword kept)) ≡ None
@@ -255,7 +225,7 @@ short_first word (found ∷ kept) h =
 
 none_least : (f : List ℕ → Option ℕ) (words : List (List ℕ)) → ((word : List ℕ) → f word ≡ None) → least_of (map f words) ≡ None
 none_least f [] h = refl
-none_least f (word ∷ words) h = ap (λ (o : Option ℕ). least o (least_of (map f words))) (h word) ∙ none_least f words h
+none_least f (word ∷ words) h = rw (h word, none_least f words h) refl
 
 or_stray : (stray : Option ℕ) → least stray None ≡ stray
 or_stray None = refl
@@ -264,5 +234,5 @@ or_stray (Some number) = refl
 -- if no line is long, no text is
 pub short_lines : (stray : Option ℕ) (kept : List KeywordLine) → are_short kept ≡ true → bad_line stray (map shown_keyword kept) ≡ stray
 short_lines stray kept h =
-    ap (least stray) (none_least (λ word. number_of_line (long_text (map shown_keyword kept) word)) text_words (λ word. short_first word kept h))
-    ∙ or_stray stray
+    rw (none_least (λ word. number_of_line (long_text (map shown_keyword kept) word)) text_words (λ word. short_first word kept h))
+    (or_stray stray)

@@ -19,7 +19,6 @@ pub mod ReadNin
 pub mod GreaterLimit
 pub mod NonText
 pub mod ReadNon
-pub mod CollectionsLemmas
 pub mod PlainLines
 pub mod FeedsLemmas
 pub mod StrayWalk

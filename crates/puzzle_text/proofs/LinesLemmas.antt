@@ -1,9 +1,10 @@
 -- Lemmas on lines.
-use Rattle.std.proofs.Common.{◌≡◌, ℕ, suc, ◌+◌, ◌-◌, ◌<◌, ◌≤◌, Bool, true, false, cond, eqb, ltb, List, [], ◌∷◌, length, take, drop, get_or, refl, sym, ap, ◌∙◌, arith, inl, inr, Option, Some, None}
-use Rattle.std.specs.List.{position_or_len, position, onto_first}
-use Rattle.std.proofs.lemmas.Bool.{cases_Bool, cond-false, false_from_ne_true, le-ltb, lt-ltb, ltb-true, ltb-false}
+use Rattle.std.proofs.Common.{◌≡◌, ℕ, suc, ◌+◌, ◌-◌, ◌<◌, ◌≤◌, Bool, true, false, cond, eqb, ltb, List, [], ◌∷◌, length, take, drop, get_or, refl, sym, arith, inl, inr, Option, Some, None}
+use Rattle.std.specs.List.{position_or_len, position}
+use Rattle.std.proofs.lemmas.Bool.{cases_Bool, false_from_ne_true, le-ltb, lt-ltb, ltb-true, ltb-false}
 use Rattle.std.proofs.lemmas.List.{take_all, drop_all, get_or-take, length-take-le, take-take}
 use Rattle.std.proofs.lemmas.List.Sums.{fails_before_first, position_or_len_is}
+use Rattle.std.proofs.lemmas.Option.{cond_some}
 use Rattle.std.proofs.lemmas.List.Quantifiers.{position-Some}
 use Rattle.memchr.specs.Find.{IsFirstByte, is_byte}
 use Rattle.puzzle_text.specs.Lines.{Line, numbered_from, raw_lines, strip_last, trim}
@@ -15,33 +16,20 @@ first_end bytes = position_or_len (λ byte. eqb byte 10) bytes
 abbrev CutsAt : List ℕ → ℕ → Type 0
 CutsAt bytes n = raw_lines bytes ≡ take n bytes ∷ raw_lines (drop n bytes)
 
-at_feed : (byte : ℕ) (bytes : List ℕ) → eqb byte 10 ≡ true → CutsAt (byte ∷ bytes) (first_end (byte ∷ bytes) + 1)
-at_feed byte bytes feed = rw feed refl
-
 at_other : (byte next : ℕ) (bytes : List ℕ) → eqb byte 10 ≡ false → CutsAt (next ∷ bytes) (first_end (next ∷ bytes) + 1)
     → CutsAt (byte ∷ next ∷ bytes) (first_end (byte ∷ next ∷ bytes) + 1)
 at_other byte next bytes other later =
     let end : first_end (byte ∷ next ∷ bytes) + 1 ≡ suc (first_end (next ∷ bytes) + 1) = rw other (omega arith) in
-    let one : raw_lines (byte ∷ next ∷ bytes) ≡ onto_first byte (raw_lines (next ∷ bytes)) =
-    cond-false (eqb byte 10) ((byte ∷ []) ∷ raw_lines (next ∷ bytes)) (onto_first byte (raw_lines (next ∷ bytes))) other in
-    one ∙ ap (onto_first byte) later ∙ sym (ap (λ (k : ℕ). take k (byte ∷ next ∷ bytes) ∷ raw_lines (drop k (byte ∷ next ∷ bytes))) end)
-
-at_last : (byte : ℕ) → eqb byte 10 ≡ false → CutsAt (byte ∷ []) (first_end (byte ∷ []) + 1)
-at_last byte other = rw other refl
+    rw (end, other, later) refl
 
 cut_at : (bytes : List ℕ) → 0 < length bytes → CutsAt bytes (first_end bytes + 1)
 cut_at [] h = absurd (omega arith)
-cut_at (byte ∷ []) h = elim (cases_Bool (eqb byte 10)) [ inl feed ↦ at_feed byte [] feed | inr other ↦ at_last byte other ]
+cut_at (byte ∷ []) h = elim (cases_Bool (eqb byte 10)) [ inl feed ↦ rw feed refl | inr other ↦ rw other refl ]
 cut_at (byte ∷ next ∷ bytes) h =
     elim (cases_Bool (eqb byte 10)) [
-      | inl feed ↦ at_feed byte (next ∷ bytes) feed
+      | inl feed ↦ rw feed refl
       | inr other ↦ at_other byte next bytes other (cut_at (next ∷ bytes) (omega arith))
     ]
-
--- what a condition let through, and that it holds
-pub chosen : (b : Bool) (m n : ℕ) → cond b (Some m) None ≡ Some n → (b ≡ true) × (m ≡ n)
-chosen true m n e = (refl, cc)
-chosen false m n e = absurd cc
 
 -- the condition fails if nothing came through
 pub not_chosen : (b : Bool) (m : ℕ) → cond b (Some m) None ≡ None → b ≡ false
@@ -52,7 +40,7 @@ not_chosen false m e = refl
 pub cut_at_feed : (bytes : List ℕ) (i : ℕ) → position (λ byte. eqb byte 10) bytes ≡ Some i
     → raw_lines bytes ≡ take (i + 1) bytes ∷ raw_lines (drop (i + 1) bytes)
 cut_at_feed bytes i e =
-    let found = chosen (ltb (first_end bytes) (length bytes)) (first_end bytes) i e in
+    let found = cond_some (ltb (first_end bytes) (length bytes)) (first_end bytes) i e in
     let inside : 0 < length bytes = omega (arith, ltb-true _ _ found.0) in
     rw (← found.1) (cut_at bytes inside)
 
@@ -107,10 +95,7 @@ pub line_at_feed : (bytes : List ℕ) (end : ℕ) → position (λ byte. eqb byt
     (raw_lines (drop (end + 1) bytes))
 line_at_feed bytes end e number =
     let found = position-Some (λ byte. eqb byte 10) bytes end 0 e in
-    ap (numbered_from number) (cut_at_feed bytes end e)
-    ∙ ap (λ (line : List ℕ).
-    record { number = number; text = trim (strip_last 13 line) } ∷ numbered_from (number + 1) (raw_lines (drop (end + 1) bytes)))
-    (strip_feed bytes end found.0 found.1)
+    rw (cut_at_feed bytes end e, strip_feed bytes end found.0 found.1) refl
 
 keeps_end : (bytes : List ℕ) → 0 < length bytes → position (λ byte. eqb byte 10) bytes ≡ None → strip_last 10 bytes ≡ bytes
 keeps_end bytes some e =
@@ -123,5 +108,4 @@ keeps_end bytes some e =
 pub line_at_end : (bytes : List ℕ) → 0 < length bytes → position (λ byte. eqb byte 10) bytes ≡ None → (number : ℕ)
     → numbered_from number (raw_lines bytes) ≡ record { number = number; text = trim (strip_last 13 bytes) } ∷ []
 line_at_end bytes some e number =
-    ap (numbered_from number) (cut_at_end bytes some e)
-    ∙ ap (λ (line : List ℕ). record { number = number; text = trim (strip_last 13 line) } ∷ []) (keeps_end bytes some e)
+    rw (cut_at_end bytes some e, keeps_end bytes some e) refl

@@ -1,7 +1,8 @@
 -- Lemmas on the lines round a line that begins with #, and on the clues of both sections.
-use Rattle.std.proofs.Common.{◌≡◌, ℕ, ◌+◌, ◌-◌, Bool, cond, not, ltb, List, [], ◌∷◌, ◌++◌, length, take, drop, map, true, refl, sym, ap, ◌∙◌, Option, Some, None, Result, Ok, Err}
+use Rattle.std.proofs.Common.{◌≡◌, ℕ, ◌+◌, ◌-◌, Bool, cond, not, ltb, List, [], ◌∷◌, ◌++◌, length, take, drop, map, true, refl, sym, ap, Option, Some, None, Result, Ok, Err}
 use Rattle.std.specs.List.{position, position_or_len, prefix_len}
 use Rattle.std.proofs.lemmas.Bool.{ltb-false}
+use Rattle.std.proofs.lemmas.Option.{cond_some}
 use Rattle.std.proofs.lemmas.List.{take-map, drop-map, length-map, take_all, take_rest}
 use Rattle.std.proofs.Math.Seq.{take-append_seam, drop-append_seam}
 use Rattle.grid_core.specs.Nonogram.{Nonogram, plain}
@@ -13,7 +14,7 @@ use Rattle.puzzle_text.specs.Lines.{Line, is_hash}
 use Rattle.puzzle_text.specs.Mk.{at_hash, before_hash, puzzle_of}
 use Rattle.puzzle_text.specs.Non.{both_clues}
 use Rattle.puzzle_text.specs.Readings.{reading}
-use Rattle.puzzle_text.proofs.LinesLemmas.{chosen, not_chosen}
+use Rattle.puzzle_text.proofs.LinesLemmas.{not_chosen}
 
 pub prefix_len-map : {X Y : Type 0} (p : Y → Bool) (view : X → Y) (xs : List X)
     → prefix_len p (map view xs) ≡ prefix_len (λ x. p (view x)) xs
@@ -39,7 +40,7 @@ module _ {X : Type 0} (view : X → Line) where
   -- the lines before the first that begins with #
   pub before_hash_found : (xs : List X) (i : ℕ) → hash_at xs ≡ Some i → before_hash (map view xs) ≡ map view (take i xs)
   before_hash_found xs i e =
-      let found = chosen (ltb (position_or_len (λ x. is_hash (view x)) xs) (length xs)) (position_or_len (λ x. is_hash (view x)) xs) i e in
+      let found = cond_some (ltb (position_or_len (λ x. is_hash (view x)) xs) (length xs)) (position_or_len (λ x. is_hash (view x)) xs) i e in
       rw (prefix_len-map (λ y. not (is_hash y)) view xs, found.1, take-map view i xs) refl
 
   -- all lines, if none begins with #
@@ -77,8 +78,7 @@ joined_more (Ok y) (Ok xs) (Ok ys) = refl
 each-append : {X Y : Type 0} (step : X → Result Y TextFault) (xs ys : List X) → each step (xs ++ ys) ≡ joined (each step xs) (each step ys)
 each-append step [] ys = sym (joined_none (each step ys))
 each-append {X} {Y} step (x ∷ xs) ys =
-    ap (λ (all : Result (List Y) TextFault). step x >>= λ y. all >>= λ zs. Ok (y ∷ zs)) (each-append step xs ys)
-    ∙ joined_more (step x) (each step xs) (each step ys)
+    rw (each-append step xs ys) (joined_more (step x) (each step xs) (each step ys))
 
 joined_clues : (width height : ℕ) (a b : Result (List (List ℕ)) TextFault)
     → joined a b >>= (λ clues. Ok (reading width height clues)) ≡ (a >>= λ rows. b >>= λ columns. Ok (rows, columns))
@@ -91,9 +91,8 @@ joined_clues width height (Ok rows) (Ok columns) = refl
 pub puzzle_of_parts : (limit width height : ℕ) (xs ys : List Line)
     → puzzle_of limit width height (xs ++ ys) ≡ both_clues limit true xs ys >>= with_clues width height
 puzzle_of_parts limit width height xs ys =
-    ap (λ all. all >>= λ clues. Ok (reading width height clues))
-    (each-append (λ line. or_fault (BadNumber line.number) (clue_of limit line.text)) xs ys)
-    ∙ joined_clues width height (clues_of limit xs) (clues_of limit ys)
+    rw (each-append (λ line. or_fault (BadNumber line.number) (clue_of limit line.text)) xs ys)
+    (joined_clues width height (clues_of limit xs) (clues_of limit ys))
 
 -- the first of the clues are the rows', as many as the height
 pub reading_parts : (width height : ℕ) (rows columns : List (List ℕ)) → length rows ≡ height

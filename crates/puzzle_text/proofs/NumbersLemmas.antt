@@ -1,19 +1,19 @@
 -- Lemmas on numbers in a line.
-use Rattle.std.proofs.Common.{◌≡◌, ℕ, zero, suc, ◌+◌, ◌-◌, ◌*◌, ◌<◌, ◌≤◌, Bool, true, false, cond, not, ◌&&◌, leb, ltb, List, [], ◌∷◌, ◌++◌, length, take, drop, filter, get_or, All, refl, sym, ap, ◌∙◌, arith, inl, inr, Option, Some, None, lit≤}
+use Rattle.std.proofs.Common.{◌≡◌, ℕ, zero, suc, ◌+◌, ◌-◌, ◌*◌, ◌<◌, ◌≤◌, Bool, true, false, not, ◌&&◌, leb, ltb, List, [], ◌∷◌, length, take, drop, filter, get_or, All, refl, sym, ap, ◌∙◌, arith, inl, inr, Option, Some, None, lit≤}
 use Rattle.std.specs.Prelude.{option_and_then}
 use Rattle.std.specs.Option.{option_map}
 use Rattle.std.specs.List.{list_all, position, position_or_len, slice_split}
 use Rattle.std.specs.Char.{is_ascii_digit, digit_value}
 use Rattle.std.specs.Str.Parse.{digits_value}
-use Rattle.std.proofs.lemmas.Bool.{cases_Bool, cond-true, le-leb, lt-leb, lt-ltb, ltb-true, ltb-false, ne_eqb}
+use Rattle.std.proofs.Math.Bool.{and-false}
+use Rattle.std.proofs.lemmas.Bool.{cases_Bool, le-leb, lt-leb, lt-ltb, ltb-true, ltb-false, ne_eqb}
 use Rattle.std.proofs.lemmas.Bool.Decides.{nat_tests}
-use Rattle.std.proofs.lemmas.List.{drop_more, get_or-take, get_or_default, length-take-le, take-append-drop, take_more, take_all, drop_all, take-take}
+use Rattle.std.proofs.lemmas.List.{drop_more, get_or-take, get_or_default, length-take-le, take-append-drop, take_all, drop_all, take-take}
 use Rattle.std.proofs.lemmas.List.Quantifiers.{position-Some}
 use Rattle.std.proofs.lemmas.List.Splits.{slice_split_at, slice_split_none}
 use Rattle.std.proofs.lemmas.List.Sums.{AllPass-from_list_all, fails_before_first, position_or_len_is, prefix_len-le-length}
-use Rattle.std.proofs.lemmas.List.Folds.{list_all_at}
+use Rattle.std.proofs.lemmas.List.Folds.{list_all_at, list_all_more}
 use borrow.Author.Count.{below_more}
-use Rattle.std.proofs.lemmas.List.Recursion.{and_push}
 use Rattle.std.proofs.lemmas.Int.Digits.{digits_value_more}
 use Rattle.std.proofs.lemmas.Str.Parse.{digits_value-take-le}
 use Rattle.puzzle_text.specs.ClueLines.{numbers_within}
@@ -25,7 +25,7 @@ use Rattle.puzzle_text.proofs.LinesLemmas.{not_chosen}
 pub all_more : {X : Type 0} (p : X → Bool) (xs : List X) (i : ℕ) (d : X) → i < length xs → list_all p (take i xs) ≡ true
     → p (get_or xs i d) ≡ true → list_all p (take (i + 1) xs) ≡ true
 all_more p xs i d h before here =
-    rw (take_more xs i d h, and_push (list_all p) p refl (λ _ _. refl) (take i xs) (get_or xs i d), before, here) refl
+    rw (list_all_more p xs i d h, before, here) refl
 
 digit_value_is : (c : ℕ) → 48 ≤ c → c ≤ 57 → digit_value c ≡ c - 48
 digit_value_is c low high = grind (arith, nat_tests)
@@ -33,8 +33,7 @@ digit_value_is c low high = grind (arith, nat_tests)
 -- one more digit
 pub value_more : (bytes : List ℕ) (i : ℕ) → i < length bytes → 48 ≤ get_or bytes i 0 → get_or bytes i 0 ≤ 57
     → digits_value 10 (take (i + 1) bytes) ≡ digits_value 10 (take i bytes) * 10 + (get_or bytes i 0 - 48)
-value_more bytes i h low high =
-    digits_value_more 10 bytes i h ∙ ap (λ (d : ℕ). digits_value 10 (take i bytes) * 10 + d) (digit_value_is _ low high)
+value_more bytes i h low high = rw (digits_value_more 10 bytes i h, digit_value_is (get_or bytes i 0) low high) refl
 
 -- a front that is past the limit already
 pub past_limit : (limit : ℕ) (piece : List ℕ) (i : ℕ) → limit < digits_value 10 (take i piece) → number_within limit piece ≡ None
@@ -47,9 +46,6 @@ past_limit limit piece i h =
 
 -- ---- the first piece
 
-split_here : (text : List ℕ) (i : ℕ) → i < length text → text ≡ take i text ++ get_or text i 0 ∷ drop (i + 1) text
-split_here text i h = sym (ap (λ (rest : List ℕ). take i text ++ rest) (sym (drop_more text i 0 h)) ∙ take-append-drop i text)
-
 none_before : (text : List ℕ) (i : ℕ) → i < length text → ((k : ℕ) → k < i → is_separator (get_or text k 0) ≡ false)
     → All (λ byte. is_separator byte ≡ false) (take i text)
 none_before text i h before k d lt =
@@ -59,8 +55,7 @@ none_before text i h before k d lt =
 pub keeps_piece : (piece : List ℕ) (parts : List (List ℕ)) → 0 < length piece
     → filter (λ part. not (is_empty part)) (piece ∷ parts) ≡ piece ∷ filter (λ part. not (is_empty part)) parts
 keeps_piece piece parts h =
-    let others = filter (λ part. not (is_empty part)) parts in
-    cond-true (not (is_empty piece)) (piece ∷ others) others (ap not (ne_eqb (length piece) 0 (λ e. omega arith)))
+    rw (ne_eqb (length piece) 0 (λ e. omega arith)) refl
 
 -- the bytes up to the first separator are the first piece, if there are any
 pub first_piece : (text : List ℕ) (end : ℕ) → position is_separator text ≡ Some end → is_separator (get_or text 0 0) ≡ false
@@ -69,12 +64,12 @@ first_piece text zero found first =
     absurd (let at : is_separator (get_or text 0 0) ≡ true = (position-Some is_separator text 0 0 found).1 in cc)
 first_piece text (suc k) found first =
     let end = suc k in
-    let at = position-Some is_separator text end 0 found in
+    let here = position-Some is_separator text end 0 found in
+    let parts = take-append-drop end text in
     let cut : slice_split is_separator text ≡ take end text ∷ slice_split is_separator (drop (end + 1) text) =
-    ap (slice_split is_separator) (split_here text end at.0)
-    ∙ slice_split_at is_separator (take end text) (get_or text end 0) (drop (end + 1) text) (none_before text end at.0 at.2) at.1 in
-    ap (filter (λ part. not (is_empty part))) cut
-    ∙ keeps_piece (take end text) (slice_split is_separator (drop (end + 1) text)) (omega (arith, length-take-le end text, at.0))
+    ap (slice_split is_separator) (sym (rw (drop_more text end 0 here.0) at parts))
+    ∙ slice_split_at is_separator (take end text) (get_or text end 0) (drop (end + 1) text) (none_before text end here.0 here.2) here.1 in
+    rw cut (keeps_piece (take end text) (slice_split is_separator (drop (end + 1) text)) (omega (arith, length-take-le end text, here.0)))
 
 -- without a separator it is the whole
 pub only_piece : (text : List ℕ) → 0 < length text → position is_separator text ≡ None → pieces text ≡ text ∷ []
@@ -83,7 +78,7 @@ only_piece text h none =
     ltb-false _ _ (not_chosen (ltb (position_or_len is_separator text) (length text)) (position_or_len is_separator text) none) in
     let clear : All (λ byte. is_separator byte ≡ false) text =
     λ k d lt. ap is_separator (get_or_default text k d 0 lt) ∙ fails_before_first is_separator text k 0 (omega (arith, past)) in
-    ap (filter (λ part. not (is_empty part))) (slice_split_none is_separator text clear) ∙ keeps_piece text [] h
+    rw (slice_split_none is_separator text clear) (keeps_piece text [] h)
 
 -- ---- the number of the first piece
 
@@ -131,17 +126,10 @@ number_is limit piece some digits low =
     let full : is_empty piece ≡ false = ne_eqb (length piece) 0 (λ e. omega arith) in
     rw (full, digits, le-leb (digits_value 10 piece) limit low) refl
 
-none_of : (b : Bool) (n : ℕ) → cond (b && false) (Some n) None ≡ None
-none_of true n = refl
-none_of false n = refl
-
 no_number : (limit : ℕ) (piece : List ℕ) (i : ℕ) → i < length piece → is_ascii_digit (get_or piece i 0) ≡ false
     → number_within limit piece ≡ None
 no_number limit piece i h other =
-    let within = λ (n : ℕ). cond (leb n limit) (Some n) None in
-    ap (λ (b : Bool). option_and_then within (cond (not (is_empty piece) && b) (Some (digits_value 10 piece)) None))
-    (list_all_at is_ascii_digit piece i 0 h other)
-    ∙ ap (option_and_then within) (none_of (not (is_empty piece)) (digits_value 10 piece))
+    rw (list_all_at is_ascii_digit piece i 0 h other, and-false (not (is_empty piece))) refl
 
 module _ (limit : ℕ) (text : List ℕ) (some : 0 < length text) (first : is_separator (get_or text 0 0) ≡ false) where
   -- the numbers of all pieces, by that of the first
@@ -149,8 +137,7 @@ module _ (limit : ℕ) (text : List ℕ) (some : 0 < length text) (first : is_se
       → numbers_within limit (pieces text)
       ≡ option_and_then (λ n. option_map (λ others. n ∷ others) (numbers_within limit (pieces (drop (end_of text + 1) text)))) number
   by_first number e =
-      ap (numbers_within limit) (cut text some first)
-      ∙ ap (option_and_then (λ (n : ℕ). option_map (λ others. n ∷ others) (numbers_within limit (pieces (drop (end_of text + 1) text))))) e
+      rw (cut text some first, e) refl
 
   -- a piece of digits ends at a separator or with the line
   pub number_ends : (i : ℕ) → i ≤ length text → list_all is_ascii_digit (take i text) ≡ true → digits_value 10 (take i text) ≤ limit
@@ -162,11 +149,8 @@ module _ (limit : ℕ) (text : List ℕ) (some : 0 < length text) (first : is_se
       let i = suc k in
       let end : end_of text ≡ i = position_or_len_is is_separator text i 0 within (digits_clear text i within digits) stop in
       let number : number_within limit (take (end_of text) text) ≡ Some (digits_value 10 (take i text)) =
-      ap (λ (j : ℕ). number_within limit (take j text)) end
-      ∙ number_is limit (take i text) (omega (arith, length-take-le i text within)) digits low in
-      by_first (Some (digits_value 10 (take i text))) number
-      ∙ ap (λ (j : ℕ). option_map (λ others. digits_value 10 (take i text) ∷ others) (numbers_within limit (pieces (drop (j + 1) text))))
-      end
+      rw end (number_is limit (take i text) (omega (arith, length-take-le i text within)) digits low) in
+      rw end at (by_first (Some (digits_value 10 (take i text))) number)
 
   -- a byte that is neither a digit nor a separator
   pub number_refused : (i : ℕ) → i < length text → list_all is_ascii_digit (take i text) ≡ true → is_separator (get_or text i 0) ≡ false

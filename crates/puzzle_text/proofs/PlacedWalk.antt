@@ -1,5 +1,5 @@
 -- The last keyword line above each line, found on one walk from the top.
-use Rattle.std.proofs.Common.{◌≡◌, ℕ, ◌+◌, Bool, true, false, cond, not, List, [], ◌∷◌, ◌++◌, length, map, take, refl, sym, ap, ◌∙◌, append_assoc, append-nil, Option, Some, None, unwrap_or}
+use Rattle.std.proofs.Common.{◌≡◌, ℕ, ◌+◌, Bool, true, false, cond, not, List, [], ◌∷◌, ◌++◌, length, map, take, refl, ap, append_assoc, append-nil, Option, Some, None, unwrap_or}
 use Rattle.std.specs.List.{enumerate_from, filter, last_or}
 use Rattle.std.specs.Option.{option_map}
 use Rattle.std.proofs.Math.Seq.{take-append_seam}
@@ -31,14 +31,13 @@ last_of_more start (y ∷ xs) x = last_of_more (Some y) xs x
 word_of_last : (empty : Bool) (line : Line) (kept : List Line)
     → unwrap_or (option_map keyword (last_or None (kept ++ cond (not empty) (line ∷ []) []))) []
     ≡ cond empty (unwrap_or (option_map keyword (last_or None kept)) []) (keyword line)
-word_of_last true line kept = ap (λ (lines : List Line). unwrap_or (option_map keyword (last_or None lines)) []) (append-nil kept)
-word_of_last false line kept = ap (λ (found : Option Line). unwrap_or (option_map keyword found) []) (last_of_more None kept line)
+word_of_last true line kept = rw (append-nil kept) refl
+word_of_last false line kept = rw (last_of_more None kept line) refl
 
 last_keyword-more : (front : List Line) (line : Line)
     → last_keyword (front ++ line ∷ []) ≡ cond (is_empty (keyword line)) (last_keyword front) (keyword line)
 last_keyword-more front line =
-    ap (λ (lines : List Line). unwrap_or (option_map keyword (last_or None lines)) []) (filter-append is_keyword_line front (line ∷ []))
-    ∙ word_of_last (is_empty (keyword line)) line (filter is_keyword_line front)
+    rw (filter-append is_keyword_line front (line ∷ [])) (word_of_last (is_empty (keyword line)) line (filter is_keyword_line front))
 
 one_more : (content : Bool) (named : ℕ → List ℕ) (place : ℕ) (line : Line) (under : List ℕ) (numbered : List (ℕ × Line))
     (others : List (List ℕ × Line))
@@ -46,8 +45,7 @@ one_more : (content : Bool) (named : ℕ → List ℕ) (place : ℕ) (line : Lin
     → cond content ((under, line) ∷ others) others
     ≡ map (λ one. (named one.0, one.1))
     (cond content ((place, line) ∷ filter (λ one. is_content one.1) numbered) (filter (λ one. is_content one.1) numbered))
-one_more true named place line under numbered others above later =
-    ap (λ (word : List ℕ). (word, line) ∷ others) (sym above) ∙ ap (λ (all : List (List ℕ × Line)). (named place, line) ∷ all) later
+one_more true named place line under numbered others above later = rw (above, later) refl
 one_more false named place line under numbered others above later = later
 
 -- the walk below some lines, from their last keyword on
@@ -56,13 +54,10 @@ walk_below : (front lines : List Line)
 walk_below front [] = refl
 walk_below front (line ∷ lines) =
     let whole = front ++ line ∷ lines in
-    let regrouped : (front ++ line ∷ []) ++ lines ≡ whole = append_assoc front (line ∷ []) lines in
     let next : walked (cond (is_empty (keyword line)) (last_keyword front) (keyword line)) lines
     ≡ placed_by (keyword_above whole) (enumerate_from (length front + 1) lines) =
-    ap (λ (under : List ℕ). walked under lines) (sym (last_keyword-more front line))
-    ∙ walk_below (front ++ line ∷ []) lines
-    ∙ ap (λ (all : List Line). placed_by (keyword_above all) (enumerate_from (length (front ++ line ∷ [])) lines)) regrouped
-    ∙ ap (λ (place : ℕ). placed_by (keyword_above whole) (enumerate_from place lines)) (length-append front (line ∷ [])) in
+    rw (last_keyword-more front line, append_assoc front (line ∷ []) lines, length-append front (line ∷ []))
+    at (walk_below (front ++ line ∷ []) lines) in
     one_more (is_content line) (keyword_above whole) (length front) line (last_keyword front) (enumerate_from (length front + 1) lines) _
     (ap last_keyword (take-append_seam front (line ∷ lines))) next
 

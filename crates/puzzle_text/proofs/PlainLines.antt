@@ -1,25 +1,16 @@
 -- Lines of a collection that begin no entry, passed over many at a time.
 use Rattle.std.proofs.Common.{◌≡◌, ℕ, zero, suc, ◌-◌, ◌<◌, ◌≤◌, Bool, true, false, cond, not, eqb, List, [], ◌∷◌, ◌++◌, length, take, get_or, refl, sym, ap, ◌∙◌, append_assoc, arith}
 use Rattle.std.specs.List.{list_all, onto_first}
-use Rattle.std.proofs.lemmas.Bool.{and_parts, cond-false, ne_eqb}
+use Rattle.std.proofs.lemmas.Bool.{cond_both, false_from_ne_true, not_from_false, not-true, and_parts, ne_eqb}
 use Rattle.std.proofs.lemmas.List.{get_or-take, get_or_default, length-take-le}
 use Rattle.std.proofs.lemmas.List.Sums.{list_all-from_AllPass}
 use Rattle.puzzle_text.specs.Lines.{raw_lines, strip_last, without_ending}
-use Rattle.puzzle_text.specs.Collections.{Entry, body_of, entries_of, is_marker, is_marker_text, name_of}
+use Rattle.puzzle_text.specs.Collections.{Entry, body_of, entries_of, is_marker, is_marker_text}
 use Rattle.puzzle_text.specs.steps.Collections.{FollowsPlain, ends_line}
 
 -- there is no @ among these bytes
 abbrev pub HasNoAt : List ℕ → Type 0
 HasNoAt bytes = list_all (λ byte. not (eqb byte 64)) bytes ≡ true
-
--- a test fails if its opposite passes
-pub not_true : (b : Bool) → not b ≡ true → b ≡ false
-not_true true e = absurd cc
-not_true false e = refl
-
-is_other : (b : Bool) → (b ≡ true → ⊥) → not b ≡ true
-is_other true h = absurd (h refl)
-is_other false h = refl
 
 -- a place with no @ before it
 pub no_at_before : (bytes : List ℕ) (i : ℕ) → i ≤ length bytes → ((k : ℕ) → 0 ≤ k → k < i → eqb (get_or bytes k 0) 64 ≡ true → ⊥)
@@ -27,7 +18,7 @@ pub no_at_before : (bytes : List ℕ) (i : ℕ) → i ≤ length bytes → ((k :
 no_at_before bytes i within none = list_all-from_AllPass _ (take i bytes) (λ k d lt.
     let low : k < i = omega (arith, length-take-le i bytes) in
     ap (λ (byte : ℕ). not (eqb byte 64)) (get_or_default (take i bytes) k d 0 lt ∙ get_or-take i bytes k 0 low)
-    ∙ is_other (eqb (get_or bytes k 0) 64) (none k (omega arith) low))
+    ∙ not_from_false _ (false_from_ne_true _ (none k (omega arith) low)))
 
 -- ---- a line that begins with another byte than @
 
@@ -36,10 +27,10 @@ take_first zero bytes other = refl
 take_first (suc k) [] other = refl
 take_first (suc k) (byte ∷ bytes) other = other
 
-strip_first : (b : Bool) (k : ℕ) (bytes : List ℕ) → eqb (get_or bytes 0 0) 64 ≡ false
-    → eqb (get_or (cond b (take k bytes) bytes) 0 0) 64 ≡ false
-strip_first true k bytes other = take_first k bytes other
-strip_first false k bytes other = other
+strip_first : (byte : ℕ) (bytes : List ℕ) → eqb (get_or bytes 0 0) 64 ≡ false → eqb (get_or (strip_last byte bytes) 0 0) 64 ≡ false
+strip_first byte bytes other =
+    cond_both (eqb (get_or bytes (length bytes - 1) 0) byte) (take (length bytes - 1) bytes) bytes (λ text. eqb (get_or text 0 0) 64 ≡ false)
+    (λ _. take_first (length bytes - 1) bytes other) (λ _. other)
 
 no_marker_text : (bytes : List ℕ) → eqb (get_or bytes 0 0) 64 ≡ false → is_marker_text bytes ≡ false
 no_marker_text [] other = refl
@@ -48,9 +39,7 @@ no_marker_text (first ∷ second ∷ others) other = rw other refl
 
 no_marker : (raw : List ℕ) → eqb (get_or raw 0 0) 64 ≡ false → is_marker raw ≡ false
 no_marker raw other =
-    let text = strip_last 10 raw in
-    let once : eqb (get_or text 0 0) 64 ≡ false = strip_first (eqb (get_or raw (length raw - 1) 0) 10) (length raw - 1) raw other in
-    no_marker_text (without_ending raw) (strip_first (eqb (get_or text (length text - 1) 0) 13) (length text - 1) text once)
+    no_marker_text (without_ending raw) (strip_first 13 (strip_last 10 raw) (strip_first 10 raw other))
 
 -- ---- if the first line begins no entry
 
@@ -69,10 +58,7 @@ abbrev IsPlain : List (List ℕ) → Type 0
 IsPlain raws = (body_of raws ≡ with_first raws) × (entries_of raws ≡ entries_of (below_first raws))
 
 plain : (raw : List ℕ) (raws : List (List ℕ)) → eqb (get_or raw 0 0) 64 ≡ false → IsPlain (raw ∷ raws)
-plain raw raws other = (
-  cond-false (is_marker raw) [] (raw ++ body_of raws) (no_marker raw other),
-  cond-false (is_marker raw) (record { name = name_of raw; body = body_of raws } ∷ entries_of raws) (entries_of raws) (no_marker raw other),
-)
+plain raw raws other = (rw (no_marker raw other) refl, rw (no_marker raw other) refl)
 
 plain_line : (feed : Bool) (byte : ℕ) (raws : List (List ℕ)) → eqb byte 64 ≡ false
     → IsPlain (cond feed ((byte ∷ []) ∷ raws) (onto_first byte raws))
@@ -125,9 +111,9 @@ over_front : (start : Bool) (front tail : List ℕ) → HasNoAt front
 over_front start [] tail h = (refl, refl)
 over_front start (byte ∷ front) tail h =
     let parts = and_parts (not (eqb byte 64)) (list_all (λ b. not (eqb b 64)) front) h in
-    let one = one_byte start byte (front ++ tail) (not_true (eqb byte 64) parts.0) in
+    let one = one_byte start byte (front ++ tail) (not-true (eqb byte 64) parts.0) in
     let others = over_front (eqb byte 10) front tail parts.1 in
-    (one.0 ∙ ap (λ (bytes : List ℕ). byte ∷ bytes) others.0, one.1 ∙ others.1)
+    (rw (one.0, others.0) refl, one.1 ∙ others.1)
 
 last_feed : (start : Bool) (byte : ℕ) (bytes : List ℕ) → starts_after start (byte ∷ bytes) ≡ eqb (get_or (byte ∷ bytes) (length bytes) 0) 10
 last_feed start byte [] = refl
@@ -156,45 +142,37 @@ follows_none bytes front (byte ∷ tail) whole h none = absurd (omega arith)
 follows_none bytes front [] whole h none =
     let over = over_front true front [] h in
     let start = starts_after true front in
-    let body : body_of (raw_lines (front ++ [])) ≡ front ++ [] = over.0 ∙ ap (λ (more : List ℕ). front ++ more) (body_none start) in (
-      front,
-      whole,
-      sym (ap (λ all. body_of (raw_lines all)) whole ∙ body),
-      sym (ap (λ all. entries_of (raw_lines all)) whole ∙ over.1 ∙ entries_none start),
-    )
+    (front, whole, rw (whole, over.0, body_none start) refl, rw (whole, over.1, entries_none start) refl)
 
 -- a line follows
 pub follows_line : (bytes front tail : List ℕ) → bytes ≡ front ++ tail → HasNoAt front → ends_line front ≡ true → FollowsPlain bytes tail
 follows_line bytes front tail whole h ends =
     let over = over_front true front tail h in
     let start : starts_after true front ≡ true = starts_where front ∙ ends in
-    let body : body_of (raw_lines (front ++ tail)) ≡ front ++ body_of (raw_lines tail) =
-    over.0 ∙ ap (λ b. front ++ body_in b (raw_lines tail)) start in
-    let entries : entries_of (raw_lines (front ++ tail)) ≡ entries_of (raw_lines tail) =
-    over.1 ∙ ap (λ b. entries_in b (raw_lines tail)) start in
-    (front, whole, sym (ap (λ all. body_of (raw_lines all)) whole ∙ body), sym (ap (λ all. entries_of (raw_lines all)) whole ∙ entries))
+    (front, whole, rw (whole, over.0, start) refl, rw (whole, over.1, start) refl)
 
 -- the end of a line follows, and then others
 pub follows_amid : (bytes front tail raw after : List ℕ) → bytes ≡ front ++ tail → HasNoAt front → ends_line front ≡ false
     → tail ≡ raw ++ after → raw_lines tail ≡ raw ∷ raw_lines after → FollowsPlain bytes after
 follows_amid bytes front tail raw after whole h ends parts first =
     let over = over_front true front tail h in
-    let amid : starts_after true front ≡ false = starts_where front ∙ ends in
-    let body : body_of (raw_lines (front ++ tail)) ≡ front ++ (raw ++ body_of (raw_lines after)) =
-    over.0 ∙ ap (λ b. front ++ body_in b (raw_lines tail)) amid ∙ ap (λ raws. front ++ with_first raws) first in
-    let entries : entries_of (raw_lines (front ++ tail)) ≡ entries_of (raw_lines after) =
-    over.1 ∙ ap (λ b. entries_in b (raw_lines tail)) amid ∙ ap (λ raws. entries_of (below_first raws)) first in (
+    let amid : starts_after true front ≡ false = starts_where front ∙ ends in (
       front ++ raw,
-      whole ∙ ap (λ (r : List ℕ). front ++ r) parts ∙ sym (append_assoc front raw after),
-      append_assoc front raw (body_of (raw_lines after)) ∙ sym (ap (λ all. body_of (raw_lines all)) whole ∙ body),
-      sym (ap (λ all. entries_of (raw_lines all)) whole ∙ entries),
+      rw (whole, parts) (sym (append_assoc front raw after)),
+      rw (whole, over.0, amid, first) (append_assoc front raw (body_of (raw_lines after))),
+      rw (whole, over.1, amid, first) refl,
     )
+
+-- a line that begins no entry goes into the body
+pub past_line : (rest raw after : List ℕ) → rest ≡ raw ++ after → raw_lines rest ≡ raw ∷ raw_lines after → is_marker raw ≡ false
+    → FollowsPlain rest after
+past_line rest raw after parts first other = (raw, parts, rw (first, other) refl, rw (first, other) refl)
 
 -- one after the other
 pub follow_on : (bytes rest next : List ℕ) → FollowsPlain bytes rest → FollowsPlain rest next → FollowsPlain bytes next
 follow_on bytes rest next one other = (
   one.0 ++ other.0,
-  one.1 ∙ ap (λ (r : List ℕ). one.0 ++ r) other.1 ∙ sym (append_assoc one.0 other.0 next),
-  append_assoc one.0 other.0 (body_of (raw_lines next)) ∙ ap (λ (r : List ℕ). one.0 ++ r) other.2 ∙ one.2,
+  rw (one.1, other.1) (sym (append_assoc one.0 other.0 next)),
+  rw (append_assoc one.0 other.0 (body_of (raw_lines next)), other.2) one.2,
   other.3 ∙ one.3,
 )

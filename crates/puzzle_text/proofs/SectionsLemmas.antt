@@ -1,17 +1,19 @@
 -- Lemmas on the choice of clue lines.
-use Rattle.std.proofs.Common.{◌≡◌, ℕ, suc, ◌++◌, append-nil, ◌≤◌, Bool, true, false, cond, ◌&&◌, eqb, leb, List, [], ◌∷◌, length, take, drop, map, refl, sym, ap, ◌∙◌, arith, Some, None}
+use Rattle.std.proofs.Common.{◌≡◌, ℕ, suc, append-nil, ◌≤◌, Bool, true, false, cond, not, ◌&&◌, eqb, leb, List, [], ◌∷◌, length, take, drop, map, refl, sym, ap, ◌∙◌, arith, Some, None}
 use Rattle.std.specs.List.{count_by, filter, list_all}
-use Rattle.std.proofs.lemmas.Bool.{and_parts, eqb-true, ne_eqb, eq-eqb, le-leb, leb-true}
+use Rattle.std.proofs.lemmas.Bool.{eqb-true, ne_eqb, eq-eqb, le-leb, leb-true}
 use Rattle.std.proofs.lemmas.List.{take-map, drop-map, length-map, length-take-le, take-append-drop}
 use Rattle.std.proofs.lemmas.List.Elements.{filter-append}
-use Rattle.std.proofs.lemmas.List.Sums.{length-filter}
+use Rattle.std.proofs.lemmas.List.Folds.{list_all-map}
+use Rattle.std.proofs.lemmas.List.Sums.{count_by-le-length, length-filter}
+use Rattle.puzzle_text.proofs.AllLemmas.{all-weaker, all_pass, filter_none}
 use Rattle.puzzle_text.specs.Lines.{Line, is_full, is_blank_line}
 use Rattle.puzzle_text.specs.Sections.{choice}
 use Rattle.puzzle_text.specs.steps.Sections.{front}
 
 kept : {X Y : Type 0} (view : X → Y) (b : Bool) (x : X) (xs : List X) (ys : List Y) → ys ≡ map view xs
     → cond b (view x ∷ ys) ys ≡ map view (cond b (x ∷ xs) xs)
-kept {X} {Y} view true x xs ys e = ap (λ (zs : List Y). view x ∷ zs) e
+kept {X} {Y} view true x xs ys e = rw e refl
 kept view false x xs ys e = e
 
 -- what a filter keeps of a list seen by a view
@@ -19,10 +21,6 @@ pub filter-map : {X Y : Type 0} (p : Y → Bool) (view : X → Y) (xs : List X)
     → filter p (map view xs) ≡ map view (filter (λ x. p (view x)) xs)
 filter-map p view [] = refl
 filter-map p view (x ∷ xs) = kept view (p (view x)) x (filter (λ y. p (view y)) xs) (filter p (map view xs)) (filter-map p view xs)
-
-pub list_all-map : {X Y : Type 0} (p : Y → Bool) (view : X → Y) (xs : List X) → list_all p (map view xs) ≡ list_all (λ x. p (view x)) xs
-list_all-map p view [] = refl
-list_all-map p view (x ∷ xs) = ap (λ b. p (view x) && b) (list_all-map p view xs)
 
 module _ {X : Type 0} (view : X → Line) where
   -- the lines of a section that aren't blank
@@ -52,18 +50,14 @@ module _ {X : Type 0} (view : X → Line) where
       → front count (map view section) ≡ Some (map view (take count section))
   front_first count section long blank =
       let within : leb count (length (map view section)) ≡ true = le-leb _ _ (omega (arith, length-map section view)) in
-      let empty : list_all is_blank_line (drop count (map view section)) ≡ true =
-      rw (drop-map view count section, list_all-map is_blank_line view (drop count section)) blank in
-      rw (within, empty, take-map view count section) refl
+      rw (within, drop-map view count section, list_all-map is_blank_line view (drop count section), blank, take-map view count section) refl
 
   -- the first lines are no clue lines if one after them isn't blank
   pub front_mixed : (count : ℕ) (section : List X) → count ≤ length section
       → list_all (λ x. is_blank_line (view x)) (drop count section) ≡ false → front count (map view section) ≡ None
   front_mixed count section long blank =
       let within : leb count (length (map view section)) ≡ true = le-leb _ _ (omega (arith, length-map section view)) in
-      let empty : list_all is_blank_line (drop count (map view section)) ≡ false =
-      rw (drop-map view count section, list_all-map is_blank_line view (drop count section)) blank in
-      rw (within, empty) refl
+      rw (within, drop-map view count section, list_all-map is_blank_line view (drop count section), blank) refl
 
   -- there are no clue lines if neither the first lines nor those that aren't blank will do
   pub choice_none : (count : ℕ) (section : List X) → front count (map view section) ≡ None
@@ -79,13 +73,8 @@ kept_some : (b : Bool) (line : Line) (full : List Line) (n : ℕ) → length (co
 kept_some true line full n e le = (refl, omega arith)
 kept_some false line full n e le = absurd (omega arith)
 
-no_more_of : (b : Bool) (line : Line) (full : List Line) (n : ℕ) → length full ≤ n → length (cond b (line ∷ full) full) ≤ suc n
-no_more_of true line full n le = omega arith
-no_more_of false line full n le = omega arith
-
 no_more : (lines : List Line) → length (filter is_full lines) ≤ length lines
-no_more [] = omega arith
-no_more (line ∷ lines) = no_more_of (is_full line) line (filter is_full lines) (length lines) (no_more lines)
+no_more lines = omega (arith, length-filter is_full lines, count_by-le-length is_full lines)
 
 -- if as many are kept as there are, all are
 all_kept : (lines : List Line) → length (filter is_full lines) ≡ length lines → filter is_full lines ≡ lines
@@ -95,18 +84,17 @@ all_kept (line ∷ lines) e =
     rw parts.0 (ap (λ (full : List Line). line ∷ full) (all_kept lines parts.1))
 
 none_kept : (lines : List Line) → list_all is_blank_line lines ≡ true → filter is_full lines ≡ []
-none_kept [] blank = refl
-none_kept (line ∷ lines) blank =
-    let parts = and_parts (is_blank_line line) (list_all is_blank_line lines) blank in
-    rw parts.0 (none_kept lines parts.1)
+none_kept lines blank =
+    filter_none is_full lines
+    (all-weaker (λ line. is_blank_line line ≡ true) (λ line. is_full line ≡ false) (λ line e. ap not e) lines (all_pass is_blank_line lines blank))
 
 front_kept : (count : ℕ) (lines : List Line) → count ≤ length lines → list_all is_blank_line (drop count lines) ≡ true
     → length (filter is_full lines) ≡ count → filter is_full lines ≡ take count lines
 front_kept count lines within blank enough =
     let first = take count lines in
     let whole : filter is_full lines ≡ filter is_full first =
-    ap (filter is_full) (sym (take-append-drop count lines)) ∙ filter-append is_full first (drop count lines)
-    ∙ ap (λ (more : List Line). filter is_full first ++ more) (none_kept (drop count lines) blank) ∙ append-nil (filter is_full first) in
+    ap (filter is_full) (sym (take-append-drop count lines))
+    ∙ rw (filter-append is_full first (drop count lines), none_kept (drop count lines) blank) (append-nil (filter is_full first)) in
     whole ∙ all_kept first (ap length (sym whole) ∙ enough ∙ sym (length-take-le count lines within))
 
 front_choice : (enough within blank : Bool) (full first found : List Line) → (enough ≡ true → within ≡ true → blank ≡ true → full ≡ first)

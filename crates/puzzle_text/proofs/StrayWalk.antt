@@ -1,15 +1,15 @@
 -- The first stray line of a collection, found on one walk from the top.
-use Rattle.std.proofs.Common.{◌≡◌, ℕ, ◌+◌, Bool, true, false, cond, not, ◌&&◌, ◌||◌, List, [], ◌∷◌, ◌++◌, length, take, refl, sym, ap, ◌∙◌, append_assoc, Option, Some, None}
+use Rattle.std.proofs.Common.{◌≡◌, ℕ, ◌+◌, Bool, true, false, cond, not, ◌&&◌, ◌||◌, List, [], ◌∷◌, ◌++◌, length, take, refl, sym, ◌∙◌, append_assoc, Option, Some, None}
 use Rattle.std.specs.List.{enumerate_from, find, list_any}
 use Rattle.std.specs.Option.{option_map}
+use Rattle.std.proofs.Math.Bool.{or-false}
 use Rattle.std.proofs.Math.Seq.{take-append_seam}
-use Rattle.std.proofs.lemmas.Bool.{and_parts}
+use Rattle.std.proofs.lemmas.Bool.{and_parts, not-true}
 use Rattle.std.proofs.lemmas.List.{length-append}
 use Rattle.std.proofs.lemmas.List.Folds.{list_any-append}
 use Rattle.puzzle_text.specs.Lines.{is_empty, trim, without_ending}
 use Rattle.puzzle_text.specs.Collections.{Entry, body_of, entries_of, first_stray, is_marker, is_stray, name_of}
 use Rattle.puzzle_text.specs.steps.Collections.{are_named, begins_with_marker}
-use Rattle.puzzle_text.proofs.PlainLines.{not_true}
 
 -- the number of the first stray line: `raws` are the lines from `number` on,
 -- and `inside` tells whether a marker line stands above
@@ -39,32 +39,23 @@ at_line false nameless blank true place raw found later e = e
 at_line false nameless true false place raw found later e = e
 at_line false nameless false false place raw found later e = refl
 
-either-false : (b : Bool) → (b || false) ≡ b
-either-false true = refl
-either-false false = refl
-
 -- the walk below some lines
 walk_below : (front raws : List (List ℕ))
     → stray_from (length front + 1) (list_any is_marker front) raws ≡ stray_number (front ++ raws) (enumerate_from (length front) raws)
 walk_below front [] = refl
 walk_below front (raw ∷ raws) =
     let whole = front ++ raw ∷ raws in
-    let regrouped : (front ++ raw ∷ []) ++ raws ≡ whole = append_assoc front (raw ∷ []) raws in
-    let inside : list_any is_marker (front ++ raw ∷ []) ≡ (list_any is_marker front || is_marker raw) =
-    list_any-append is_marker front (raw ∷ []) ∙ ap (λ (b : Bool). list_any is_marker front || b) (either-false (is_marker raw)) in
     let next : stray_from (length front + 1 + 1) (list_any is_marker front || is_marker raw) raws
     ≡ stray_number whole (enumerate_from (length front + 1) raws) =
-    ap (λ (b : Bool). stray_from (length front + 1 + 1) b raws) (sym inside)
-    ∙ ap (λ (place : ℕ). stray_from (place + 1) (list_any is_marker (front ++ raw ∷ [])) raws) (sym (length-append front (raw ∷ [])))
-    ∙ walk_below (front ++ raw ∷ []) raws
-    ∙ ap (λ (all : List (List ℕ)). stray_number all (enumerate_from (length (front ++ raw ∷ [])) raws)) regrouped
-    ∙ ap (λ (place : ℕ). stray_number whole (enumerate_from place raws)) (length-append front (raw ∷ [])) in
-    at_line (is_marker raw) (is_empty (name_of raw)) (is_empty (trim (without_ending raw))) (list_any is_marker front) (length front) raw
-    (find (stray_in whole) (enumerate_from (length front + 1) raws)) _ next
-    ∙ ap (λ (above : List (List ℕ)).
-    option_map (λ (one : ℕ × List ℕ). one.0 + 1)
-    (cond (is_stray above raw) (Some (length front, raw)) (find (stray_in whole) (enumerate_from (length front + 1) raws))))
-    (sym (take-append_seam front (raw ∷ raws)))
+    rw (
+      append_assoc front (raw ∷ []) raws,
+      length-append front (raw ∷ []),
+      list_any-append is_marker front (raw ∷ []),
+      or-false (is_marker raw),
+    ) at (walk_below (front ++ raw ∷ []) raws) in
+    rw (take-append_seam front (raw ∷ raws))
+    (at_line (is_marker raw) (is_empty (name_of raw)) (is_empty (trim (without_ending raw))) (list_any is_marker front) (length front) raw
+    (find (stray_in whole) (enumerate_from (length front + 1) raws)) _ next)
 
 -- the walk from the top finds the first stray line
 pub stray_from-first : (raws : List (List ℕ)) → stray_from 1 false raws ≡ first_stray raws
@@ -78,7 +69,7 @@ named_line : (marker blank : Bool) (number : ℕ) (later : Option ℕ) (entry : 
     → cond marker (cond (is_empty entry.name) (Some number) later) (cond (true || blank) later (Some number)) ≡ None
 named_line true blank number later entry others none named =
     let parts = and_parts (not (is_empty entry.name)) (are_named others) named in
-    rw (not_true (is_empty entry.name) parts.0) (none parts.1)
+    rw (not-true (is_empty entry.name) parts.0) (none parts.1)
 named_line false blank number later entry others none named = none named
 
 -- no line below a marker line is stray

@@ -1,21 +1,21 @@
 -- `past_plain`: nothing follows the front without `@`, or a line does, or the end of one and then others.
-use Rattle.std.proofs.Common.{rules, subst, sym}
-use Rattle.puzzle_text.proofs.PlainLines.{HasNoAt, follows_amid, follows_line, follows_none}
+use Rattle.std.proofs.Common.{rules, sym}
+use Rattle.puzzle_text.proofs.PlainLines.{follows_amid, follows_line, follows_none}
 use Rattle.puzzle_text.proofs.collections.past_plain.Goals as goal
 
 pub returns-then-is_empty : goal.returns-then-is_empty
 returns-then-is_empty c =
     follows_none c.args.bytes.now c.split_at.result.0.now c.split_at.result.1.now c.split_at.ensures.by_index.0
-    (subst HasNoAt (sym c.split_at.ensures.front) c.before_at.ensures.other) (search rules)
+    (rw c.split_at.ensures.front c.before_at.ensures.other) (search rules)
 
 pub returns-then-ends_line : goal.returns-then-ends_line
 returns-then-ends_line c =
     follows_line c.args.bytes.now c.split_at.result.0.now c.split_at.result.1.now c.split_at.ensures.by_index.0
-    (subst HasNoAt (sym c.split_at.ensures.front) c.before_at.ensures.other) (sym c.if-ends_line.ensures)
+    (rw c.split_at.ensures.front c.before_at.ensures.other) (sym c.if-ends_line.ensures)
 
 pub returns : goal.returns
 returns c =
     follows_amid c.args.bytes.now c.split_at.result.0.now c.split_at.result.1.now c.split_line.result.0.now c.split_line.result.1.now
     c.split_at.ensures.by_index.0
-    (subst HasNoAt (sym c.split_at.ensures.front) c.before_at.ensures.other)
+    (rw c.split_at.ensures.front c.before_at.ensures.other)
     (sym c.if-ends_line.ensures) c.split_line.ensures.whole c.split_line.ensures.first
