@@ -7,7 +7,7 @@ use Rattle.std.proofs.lemmas.List.Sums.{fails_before_first, position_or_len_is}
 use Rattle.std.proofs.lemmas.Option.{cond_some}
 use Rattle.std.proofs.lemmas.List.Quantifiers.{position-Some}
 use Rattle.memchr.specs.Find.{IsFirstByte, is_byte}
-use Rattle.puzzle_text.specs.Lines.{Line, numbered_from, raw_lines, strip_last, trim}
+use Rattle.puzzle_text.specs.Lines.{numbered_from, raw_lines, strip_last, trim}
 
 abbrev pub first_end : List ℕ → ℕ
 first_end bytes = position_or_len (λ byte. eqb byte 10) bytes
@@ -77,10 +77,6 @@ feed_found bytes (Some i) at =
     sym (feed_at bytes i at.0.high (λ k low. false_from_ne_true _ (at.0.before k (omega arith) low)) at.1)
 
 -- ---- the first line without its ending
-
--- a line of this number, from its bytes without their ending
-abbrev pub line_of : ℕ → List ℕ → Line
-line_of number text = record { number = number; text = trim text }
 
 strip_feed : (bytes : List ℕ) (end : ℕ) → end < length bytes → eqb (get_or bytes end 0) 10 ≡ true
     → strip_last 10 (take (end + 1) bytes) ≡ take end bytes

@@ -1,5 +1,5 @@
 -- Lemmas on numbers in a line.
-use Rattle.std.proofs.Common.{◌≡◌, ℕ, zero, suc, ◌+◌, ◌-◌, ◌*◌, ◌<◌, ◌≤◌, Bool, true, false, not, ◌&&◌, leb, ltb, List, [], ◌∷◌, length, take, drop, filter, get_or, All, refl, sym, ap, ◌∙◌, arith, inl, inr, Option, Some, None, lit≤}
+use Rattle.std.proofs.Common.{◌≡◌, ℕ, zero, suc, ◌+◌, ◌-◌, ◌*◌, ◌<◌, ◌≤◌, true, false, not, ◌&&◌, leb, ltb, List, [], ◌∷◌, length, take, drop, filter, get_or, All, refl, sym, ap, ◌∙◌, arith, inl, inr, Option, Some, None, lit≤}
 use Rattle.std.specs.Prelude.{option_and_then}
 use Rattle.std.specs.Option.{option_map}
 use Rattle.std.specs.List.{list_all, position, position_or_len, slice_split}
@@ -21,19 +21,18 @@ use Rattle.puzzle_text.specs.Lines.{is_empty}
 use Rattle.puzzle_text.specs.Numbers.{is_separator, number_within, pieces}
 use Rattle.puzzle_text.proofs.LinesLemmas.{not_chosen}
 
--- one more element that passes
-pub all_more : {X : Type 0} (p : X → Bool) (xs : List X) (i : ℕ) (d : X) → i < length xs → list_all p (take i xs) ≡ true
-    → p (get_or xs i d) ≡ true → list_all p (take (i + 1) xs) ≡ true
-all_more p xs i d h before here =
-    rw (list_all_more p xs i d h, before, here) refl
-
-digit_value_is : (c : ℕ) → 48 ≤ c → c ≤ 57 → digit_value c ≡ c - 48
-digit_value_is c low high = grind (arith, nat_tests)
+digit_value_is : (c : ℕ) → is_ascii_digit c ≡ true → digit_value c ≡ c - 48
+digit_value_is c digit = grind (arith, nat_tests)
 
 -- one more digit
-pub value_more : (bytes : List ℕ) (i : ℕ) → i < length bytes → 48 ≤ get_or bytes i 0 → get_or bytes i 0 ≤ 57
-    → digits_value 10 (take (i + 1) bytes) ≡ digits_value 10 (take i bytes) * 10 + (get_or bytes i 0 - 48)
-value_more bytes i h low high = rw (digits_value_more 10 bytes i h, digit_value_is (get_or bytes i 0) low high) refl
+pub next_digit : (bytes : List ℕ) (i : ℕ) → i < length bytes → list_all is_ascii_digit (take i bytes) ≡ true
+    → is_ascii_digit (get_or bytes i 0) ≡ true
+    → (list_all is_ascii_digit (take (i + 1) bytes) ≡ true)
+    × (digits_value 10 (take (i + 1) bytes) ≡ digits_value 10 (take i bytes) * 10 + (get_or bytes i 0 - 48))
+next_digit bytes i h digits digit = (
+  rw (list_all_more is_ascii_digit bytes i 0 h, digits, digit) refl,
+  rw (digits_value_more 10 bytes i h, digit_value_is (get_or bytes i 0) digit) refl,
+)
 
 -- a front that is past the limit already
 pub past_limit : (limit : ℕ) (piece : List ℕ) (i : ℕ) → limit < digits_value 10 (take i piece) → number_within limit piece ≡ None

@@ -1,5 +1,5 @@
 -- Lines in their usual form: digits, separators and endings.
-use Rattle.std.proofs.Common.{◌≡◌, ℕ, ◌-◌, ◌<◌, ◌≤◌, true, false, drop, not, eqb, List, [], ◌∷◌, ◌++◌, length, take, filter, get_or, All, refl, sym, ap, ◌∙◌, append_assoc, arith, inl, inr, Option, Some, None, IfSome, Ok}
+use Rattle.std.proofs.Common.{◌≡◌, ℕ, ◌-◌, ◌<◌, ◌≤◌, true, false, drop, not, eqb, List, [], ◌∷◌, ◌++◌, length, take, filter, get_or, All, refl, sym, ap, ◌∙◌, append_assoc, arith, inl, inr, Option, Some, Ok}
 use Rattle.std.specs.Option.{option_map}
 use Rattle.std.specs.List.{list_all, slice_split, AllByRecursion}
 use Rattle.std.specs.Char.{is_ascii_digit}
@@ -159,11 +159,6 @@ headed [] byte some is = absurd (omega arith)
 headed (a ∷ []) byte some is = absurd (omega arith)
 headed (a ∷ b ∷ rest) byte some is =
     ap (λ (first : ℕ). first ∷ b ∷ rest) is ∙ ap (λ (r : List ℕ). byte ∷ b ∷ r) (sym (take_all (length (a ∷ b ∷ rest) - 2) rest (omega arith)))
-
--- what follows of an answer, if there is one
-pub if_some : {T : Type 0} (P Q : T → Type 0) (o : Option T) → ((x : T) → P x → Q x) → IfSome o P → IfSome o Q
-if_some P Q None h p = tt
-if_some P Q (Some x) h p = h x p
 
 -- the last number of a line ends its clue
 pub clue_ends : (text rest after next numbers clue : List ℕ) (n : ℕ) → PassesNumbers text rest numbers → BeginsWithNumber rest n after

@@ -18,10 +18,6 @@ use Rattle.puzzle_text.proofs.SaidLines.{SayAll, say_more}
 use Rattle.puzzle_text.proofs.SectionsWalk.{IsContent, below, below_comment, below_content, below_keyword, content_digit, join, join_content, nothing_above, with_columns, with_lines, with_rows}
 use Rattle.puzzle_text.proofs.UsualLines.{digit_range}
 
--- a line of this number
-abbrev pub line_at : ℕ → List ℕ → Line
-line_at number text = record { number = number; text = text }
-
 -- ---- lines that say a clue
 
 pub clue_content : (line : Line) (clue : List ℕ) → IsClueText line.text clue → IsContent line.text

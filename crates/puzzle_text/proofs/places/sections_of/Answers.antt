@@ -1,8 +1,7 @@
 -- `sections_of`: each of the three kinds of lines leaves the sections of the text as they are to be.
-use Rattle.std.proofs.Common.{◌+◌, [], drop, ap, map, refl, subst, sym, ◌∙◌}
+use Rattle.std.proofs.Common.{◌+◌, [], drop, ap, map, refl, sym, ◌∙◌}
 use Rattle.std.specs.Str.{str_to_ascii_lowercase}
 use Rattle.puzzle_text.specs.Non.{Sections, placed, sections_of}
-use Rattle.puzzle_text.specs.steps.Places.{IsUnder}
 use Rattle.puzzle_text.specs.steps.Shown.{shown_line, shown_sections}
 use Rattle.puzzle_text.proofs.SectionsWalk.{below, join, next_comment, next_content, next_keyword, nothing_above}
 use Rattle.puzzle_text.proofs.places.sections_of.Goals as goal
@@ -27,14 +26,14 @@ loop-line-preserved c =
     elim c.if-not-is_empty.branch [
       | then-not-is_empty w ↦ (
         str_to_ascii_lowercase own,
-        subst (IsUnder (str_to_ascii_lowercase own)) (sym w.place-is) w.opened_by-place.ensures,
+        rw w.place-is w.opened_by-place.ensures,
         rw w.sections-is
             (next_keyword lines i _ word own above whole c.loop-line-test.true c.loop-line.invariant.2 c.keyword-word.ensures
             (sym c.is_empty.ensures ∙ w.if-not-is_empty.true)),
       )
       | else-not-is_empty+then-not-is_hash+in_ok-put w ↦ (
         word,
-        subst (IsUnder word) (sym w.place-is) c.loop-line.invariant.1,
+        rw w.place-is c.loop-line.invariant.1,
         ap (λ (sections : Sections). join sections (below word (map shown_line (drop (i + 1) lines))))
             (ap shown_sections w.sections-is ∙ w.in_ok-put.ensures)
             ∙ next_content lines i _ word own above whole c.loop-line-test.true c.loop-line.invariant.2 c.keyword-word.ensures
@@ -43,7 +42,7 @@ loop-line-preserved c =
       )
       | else-not-is_empty+else-not-is_hash w ↦ (
         word,
-        subst (IsUnder word) (sym w.place-is) c.loop-line.invariant.1,
+        rw w.place-is c.loop-line.invariant.1,
         rw w.sections-is
             (next_comment lines i _ word own above whole c.loop-line-test.true c.loop-line.invariant.2 c.keyword-word.ensures
             (sym c.is_empty.ensures ∙ w.if-not-is_empty.false) (sym w.is_hash.ensures ∙ w.if-not-is_hash.false)),

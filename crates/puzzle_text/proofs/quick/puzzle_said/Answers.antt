@@ -19,8 +19,7 @@ returns c =
     let rows = c.args.parts.rows.items in
     let columns = c.args.parts.columns.items in
     let outline : outline_of LONGEST_SIDE None kept ≡ Ok ((width, height), _) =
-    ap (λ (ls : List KeywordLine). outline_of LONGEST_SIDE None (map shown_keyword ls)) (sym c.deref.ensures.value)
-    ∙ c.in_ok-width.ensures.answer in
+    rw c.deref.ensures.value at c.in_ok-width.ensures.answer in
     let same = ap (λ (ls : List KeywordLine). puzzle_of_clues (width, height) (rows, columns) (map shown_keyword ls))
     (sym c.deref-2.ensures.value) in
     ok_of_gives (λ (p : Nonogram). (sections : Sections) → HaveClues sections rows columns → puzzle_said LONGEST_SIDE sections kept ≡ Ok p)

@@ -1,8 +1,6 @@
 -- `quick_nin`: what the size line and the clues say, the text says.
-use Rattle.std.proofs.Common.{Ok, ap, arith, rules, subst, sym, ◌≡◌, ◌∙◌}
-use Rattle.std.specs.Prelude.{IfSome}
+use Rattle.std.proofs.Common.{Ok, arith, rules, ◌≡◌}
 use Rattle.grid_core.specs.declared.limits.TheConstants.{LONGEST_SIDE}
-use Rattle.grid_core.specs.Nonogram.{Nonogram}
 use Rattle.puzzle_text.specs.Nin.{read_nin}
 use Rattle.puzzle_text.specs.Readings.{likelier}
 use Rattle.puzzle_text.proofs.UsualReads.{nin_said, some_of_ok}
@@ -14,6 +12,4 @@ returns-clause-answer c =
     let said : read_nin LONGEST_SIDE c.args.bytes.now ≡ Ok puzzle =
     nin_said c.args.bytes.now c.in_ok-a.after.now c.in_ok-clues.rest.now c.in_ok-a.a c.in_ok-a.b c.in_ok-clues.clues.items (omega arith)
     c.in_ok-a.ensures c.in_ok-clues.ensures.clues (search rules) c.in_ok-clues.ensures.count in
-    let is = λ (p : Nonogram). read_nin LONGEST_SIDE c.args.bytes.now ≡ Ok p in
-    subst (λ o. IfSome o is) (sym c.ok.ensures.value)
-    (some_of_ok (λ p. p ≡ puzzle) is c.likelier.result c.likelier.ensures (λ p e. said ∙ ap (λ (q : Nonogram). Ok q) (sym e)))
+    rw c.ok.ensures.value (some_of_ok (λ p. p ≡ puzzle) _ c.likelier.result c.likelier.ensures (λ p e. rw e said))

@@ -1,8 +1,6 @@
 -- `quick_non`: what the parts of the text say, the text says.
-use Rattle.std.proofs.Common.{Ok, arith, map, subst, sym, ◌≡◌}
-use Rattle.std.specs.Prelude.{IfSome}
+use Rattle.std.proofs.Common.{Ok, arith, map, ◌≡◌}
 use Rattle.grid_core.specs.declared.limits.TheConstants.{LONGEST_SIDE}
-use Rattle.grid_core.specs.Nonogram.{Nonogram}
 use Rattle.puzzle_text.specs.Lines.{lines}
 use Rattle.puzzle_text.specs.Non.{Sections, placed, puzzle_said, read_non, sections_of}
 use Rattle.puzzle_text.specs.steps.Shown.{shown_keyword}
@@ -20,9 +18,8 @@ returns-clause-answer c =
     let bytes = c.args.bytes.now in
     let parts = c.in_ok-parts_of.field-0 in
     let kept = map shown_keyword parts.keyword_lines.items in
-    let is = λ (p : Nonogram). read_non LONGEST_SIDE bytes ≡ Ok p in
-    subst (λ o. IfSome o is) (sym c.ok.ensures.value)
+    rw c.ok.ensures.value
     (some_of_ok (λ p. (sections : Sections) → HaveClues sections parts.rows.items parts.columns.items
-    → puzzle_said LONGEST_SIDE sections kept ≡ Ok p) is c.puzzle_said.result c.puzzle_said.ensures
+    → puzzle_said LONGEST_SIDE sections kept ≡ Ok p) (λ p. read_non LONGEST_SIDE bytes ≡ Ok p) c.puzzle_said.result c.puzzle_said.ensures
     (λ p said. non_said bytes kept p (omega arith) c.in_ok-parts_of.ensures.keywords
     (said (sections_of (placed (lines bytes))) c.in_ok-parts_of.ensures.sections)))

@@ -1,7 +1,8 @@
 -- `read_clue_line`: a number, and then a separator or the end of the line; or a 0 alone.
 use Rattle.std.proofs.Common.{◌≡◌, [], ◌∷◌, ◌++◌, ◌∙◌, ap, arith, inl, length, rules}
 use Rattle.std.proofs.lemmas.List.{length_push, nil_from_length}
-use Rattle.puzzle_text.proofs.UsualLines.{clue_ends, headed, if_some, number_and_more, zero_ends}
+use Rattle.std.proofs.lemmas.Option.{IfSome_then}
+use Rattle.puzzle_text.proofs.UsualLines.{clue_ends, headed, number_and_more, zero_ends}
 use Rattle.puzzle_text.proofs.usual_lines.read_clue_line.Goals as goal
 
 pub returns-then-end-eq10-clause-clue : goal.returns-then-end-eq10-clause-clue
@@ -11,10 +12,9 @@ returns-then-end-eq10-clause-clue c =
 
 pub returns-in_default-after-clause-clue : goal.returns-in_default-after-clause-clue
 returns-in_default-after-clause-clue c =
-    if_some _ _ c.below.result
+    IfSome_then c.below.result c.below.ensures.ends
     (λ below ends. clue_ends c.args.text.now c.numbers.rest.now (c.in-Some.end ∷ c.in-Some.after.now) below.now c.numbers.clue c.push.new.self
     c.in-Some.number c.numbers.invariant.said c.in-Some.ensures.number ends (search rules) (search rules))
-    c.below.ensures.ends
 
 pub numbers-preserved : goal.numbers-preserved
 numbers-preserved c =
@@ -30,7 +30,6 @@ numbers-preserved c =
 pub returns-in-48-clause-clue : goal.returns-in-48-clause-clue
 returns-in-48-clause-clue c =
     let none = nil_from_length c.numbers.clue (search rules) in
-    if_some _ _ c.below-in-48.result
+    IfSome_then c.below-in-48.result c.below-in-48.ensures.ends
     (λ below ends. zero_ends c.args.text.now _ below.now c.numbers.clue
     (c.numbers.invariant.start none ∙ headed c.numbers.rest.now 48 c.in-48.len_at_least (search rules)) ends none)
-    c.below-in-48.ensures.ends

@@ -1,12 +1,12 @@
 -- `parts_of`: past a blank line, a comment, or a keyword line with the clues below it.
-use Rattle.std.proofs.Common.{◌≡◌, ℕ, ◌+◌, ◌∷◌, ◌++◌, List, ap, arith, filter, length, map, rules, sym, ◌∙◌}
+use Rattle.std.proofs.Common.{◌≡◌, ◌+◌, ◌∷◌, arith, filter, length, map, rules, sym, ◌∙◌}
 use Rattle.puzzle_text.specs.declared.places.Under.TheVariants.{Other}
 use Rattle.puzzle_text.specs.Keywords.{is_keyword_line}
 use Rattle.puzzle_text.specs.Lines.{Line, lines, numbered_from, raw_lines}
 use Rattle.puzzle_text.specs.steps.Shown.{shown_keyword}
 use Rattle.puzzle_text.specs.steps.Usual.{clues_under}
 use Rattle.puzzle_text.proofs.SectionsWalk.{none_is}
-use Rattle.puzzle_text.proofs.UsualParts.{above_all, kept_none, kept_one, line_at, past_blank, past_comment, past_section}
+use Rattle.puzzle_text.proofs.UsualParts.{above_all, kept_none, kept_one, past_blank, past_comment, past_section}
 use Rattle.puzzle_text.proofs.usual_parts.parts_of.Goals as goal
 use Rattle.puzzle_text.proofs.usual_parts.parts_of.Goals.{else-not-is_empty-2-via-then-not-is_empty-2+else-not-is_hash, else-not-is_empty-2-via-else-not-is_empty-2}
 
@@ -31,18 +31,17 @@ lines-preserved-then-not-is_empty c =
     let columns = c.add.new.self.columns.items in
     let line : Line = record { number = number; text = c.trim.result.now } in
     let todo = numbered_from (number + 1) (raw_lines after) in
-    let first : numbered_from number (raw_lines c.lines.below.now) ≡ line ∷ todo =
-    c.next_line.ensures.first number ∙ ap (λ (text : List ℕ). line_at number text ∷ todo) (sym c.trim.ensures) in
+    let first : numbered_from number (raw_lines c.lines.below.now) ≡ line ∷ todo = rw c.trim.ensures (c.next_line.ensures.first number) in
     let place : number + c.in_ok-count.count + 1 ≡ number + 1 + length (clues_under under rows columns) =
     omega (arith, c.in_ok-count.ensures.count) in
     let some = none_is c.keyword-word.result.now _ _ c.keyword-word.ensures (sym c.is_empty-in-lines.ensures ∙ c.if-not-is_empty.true) in
     record {
       room = omega (arith, c.in_ok-count.ensures.room, c.next_line.ensures.shorter, c.lines.invariant.room);
       keywords =
-          ap (λ (kept : List Line). kept ++ filter is_keyword_line (numbered_from (number + c.in_ok-count.count + 1) (raw_lines next)))
-          c.in_ok-count.ensures.line
-          ∙ kept_one under line (number + 1) _ after next rows columns c.in_ok-count.ensures.clues place
-          (map shown_keyword c.lines.parts.keyword_lines.items) (filter is_keyword_line whole) (rw first at c.lines.invariant.keywords) some;
+          rw c.in_ok-count.ensures.line
+          (kept_one under line (number + 1) _ after next rows columns c.in_ok-count.ensures.clues place
+          (map shown_keyword c.lines.parts.keyword_lines.items) (filter is_keyword_line whole) (rw first at c.lines.invariant.keywords)
+          some);
       walk = (
         under,
         past_section under line (number + 1) _ after next rows columns c.in_ok-count.ensures.clues place c.lines.invariant.walk.0 whole
@@ -57,8 +56,7 @@ lines-preserved c =
     let number = c.lines.number + 1 in
     let line : Line = record { number = number; text = c.trim.result.now } in
     let todo = numbered_from (number + 1) (raw_lines c.next_line.result.1.now) in
-    let first : numbered_from number (raw_lines c.lines.below.now) ≡ line ∷ todo =
-    c.next_line.ensures.first number ∙ ap (λ (text : List ℕ). line_at number text ∷ todo) (sym c.trim.ensures) in
+    let first : numbered_from number (raw_lines c.lines.below.now) ≡ line ∷ todo = rw c.trim.ensures (c.next_line.ensures.first number) in
     let under = c.lines.invariant.walk.0 in
     let rows = c.lines.parts.rows.items in
     let columns = c.lines.parts.columns.items in
