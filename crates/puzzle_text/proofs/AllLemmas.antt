@@ -1,6 +1,6 @@
 -- What holds of each element of a list, and what a filter keeps of it then.
 use Rattle.std.proofs.Common.{◌≡◌, Bool, true, false, List, [], ◌∷◌, ◌++◌, filter, map, refl, ap}
-use Rattle.std.specs.List.{list_all, AllByRecursion}
+use Rattle.std.specs.List.{flat_map, list_all, AllByRecursion}
 use Rattle.std.proofs.lemmas.Bool.{and_parts}
 
 module _ {X : Type 0} (P : X → Type 0) where
@@ -18,6 +18,12 @@ module _ {X : Type 0} (P : X → Type 0) where
   pub all-weaker : (Q : X → Type 0) → ((x : X) → P x → Q x) → (xs : List X) → AllByRecursion P xs → AllByRecursion Q xs
   all-weaker Q next [] h = tt
   all-weaker Q next (x ∷ xs) h = (next x h.0, all-weaker Q next xs h.1)
+
+-- what holds of all that is made of each element holds of all that is made of a list
+pub all-flat_map : {X Y : Type 0} (P : Y → Type 0) (f : X → List Y) → ((x : X) → AllByRecursion P (f x)) → (xs : List X)
+    → AllByRecursion P (flat_map f xs)
+all-flat_map P f each [] = tt
+all-flat_map P f each (x ∷ xs) = all-append P (f x) (flat_map f xs) (each x) (all-flat_map P f each xs)
 
 module _ {X : Type 0} (p : X → Bool) where
   -- each element of a list passes a test that all pass

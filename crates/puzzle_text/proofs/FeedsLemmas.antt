@@ -142,7 +142,8 @@ unless_long false all text h e = let same : all ≡ text = cc in subst HaveNoFee
 
 -- no line of a text that isn't too long has a line feed
 pub lines_have_no_feed : (bytes : List ℕ) (text : List Line) → text_lines bytes ≡ Ok text → HaveNoFeed text
-lines_have_no_feed bytes text e = unless_long (ltb LONGEST_PUZZLE (length bytes)) (lines bytes) text (clean_lines 1 (raw_lines bytes) (all_raw bytes)) e
+lines_have_no_feed bytes text e =
+    unless_long (ltb LONGEST_PUZZLE (length bytes)) (lines bytes) text (clean_lines 1 (raw_lines bytes) (all_raw bytes)) e
 
 -- ---- fields
 

@@ -40,7 +40,8 @@ module _ {X : Type 0} (view : X → Line) where
   -- the lines before the first that begins with #
   pub before_hash_found : (xs : List X) (i : ℕ) → hash_at xs ≡ Some i → before_hash (map view xs) ≡ map view (take i xs)
   before_hash_found xs i e =
-      let found = cond_some (ltb (position_or_len (λ x. is_hash (view x)) xs) (length xs)) (position_or_len (λ x. is_hash (view x)) xs) i e in
+      let place = position_or_len (λ x. is_hash (view x)) xs in
+      let found = cond_some (ltb place (length xs)) place i e in
       rw (prefix_len-map (λ y. not (is_hash y)) view xs, found.1, take-map view i xs) refl
 
   -- all lines, if none begins with #

@@ -20,7 +20,7 @@ use Rattle.puzzle_text.specs.Keywords.{all_fields, field_word}
 use Rattle.puzzle_text.specs.Written.{clue_text, quoted_line, goal_byte, goal_lines, text_non}
 use Rattle.puzzle_text.proofs.ReadBack.{IsTidy, IsKept, kept_tidy, tidy_word, kept_edged, with_feed, numbered, lines_kept}
 use Rattle.puzzle_text.proofs.ReadClue.{space, comma}
-use Rattle.puzzle_text.proofs.AllLemmas.{all-append, all-weaker, all_pass}
+use Rattle.puzzle_text.proofs.AllLemmas.{all-append, all-flat_map, all-weaker, all_pass}
 use Rattle.puzzle_text.proofs.ReadClues.{tidy-join, tidy_decimal, tidy_clues, fed_clues, length_lines}
 
 -- ---- the lines
@@ -116,7 +116,8 @@ non_is p =
 
 no_feeds : (text : List ℕ) → list_all (λ byte. not (eqb byte 10)) text ≡ true → AllByRecursion (λ byte. eqb byte 10 ≡ false) text
 no_feeds text h =
-    all-weaker (λ byte. not (eqb byte 10) ≡ true) _ (λ byte other. not-true (eqb byte 10) other) text (all_pass (λ byte. not (eqb byte 10)) text h)
+    all-weaker (λ byte. not (eqb byte 10) ≡ true) _ (λ byte other. not-true (eqb byte 10) other) text
+    (all_pass (λ byte. not (eqb byte 10)) text h)
 
 kept_field : (word text : List ℕ) → list_all (λ byte. not (eqb byte 10)) word ≡ true → list_all (λ byte. not (eqb byte 10)) text ≡ true
     → 33 ≤ get_or (field_line word text) 0 0 → IsKept (field_line word text)
@@ -166,8 +167,8 @@ abbrev pub rest_of : List ℕ → List ℕ
 rest_of text = trim (drop (prefix_len is_ascii_alphabetic text) text)
 
 -- a text in double quotes is trimmed already
-pub quote_trimmed : (text : List ℕ) → trim_end (34 ∷ (text ++ 34 ∷ [])) ≡ 34 ∷ (text ++ 34 ∷ [])
-quote_trimmed text =
+pub quote_kept : (text : List ℕ) → trim_end (34 ∷ (text ++ 34 ∷ [])) ≡ 34 ∷ (text ++ 34 ∷ [])
+quote_kept text =
     let e = reverse-append (34 ∷ text) (34 ∷ []) in
     ap (λ (x : List ℕ). reverse (trim_start x)) e ∙ ap reverse (sym e) ∙ reverse-reverse (34 ∷ (text ++ 34 ∷ []))
 
@@ -180,36 +181,33 @@ pub record IsFieldWord (f : Field) : Type 0 where
   pub rest : (text : List ℕ) → rest_of (field_line (field_word f) text) ≡ 34 ∷ (text ++ 34 ∷ [])
   pub some : is_empty (field_word f) ≡ false
 
-pub at_field : (f : Field) → IsFieldWord f
-at_field Catalogue = record { clean = refl; short = omega arith; inked = λ _. omega arith; word = λ _. refl; rest = quote_trimmed; some = refl }
-at_field Title = record { clean = refl; short = omega arith; inked = λ _. omega arith; word = λ _. refl; rest = quote_trimmed; some = refl }
-at_field By = record { clean = refl; short = omega arith; inked = λ _. omega arith; word = λ _. refl; rest = quote_trimmed; some = refl }
-at_field Copyright = record { clean = refl; short = omega arith; inked = λ _. omega arith; word = λ _. refl; rest = quote_trimmed; some = refl }
-at_field License = record { clean = refl; short = omega arith; inked = λ _. omega arith; word = λ _. refl; rest = quote_trimmed; some = refl }
+pub facts : (f : Field) → IsFieldWord f
+facts Catalogue = record { clean = refl; short = omega arith; inked = λ _. omega arith; word = λ _. refl; rest = quote_kept; some = refl }
+facts Title = record { clean = refl; short = omega arith; inked = λ _. omega arith; word = λ _. refl; rest = quote_kept; some = refl }
+facts By = record { clean = refl; short = omega arith; inked = λ _. omega arith; word = λ _. refl; rest = quote_kept; some = refl }
+facts Copyright = record { clean = refl; short = omega arith; inked = λ _. omega arith; word = λ _. refl; rest = quote_kept; some = refl }
+facts License = record { clean = refl; short = omega arith; inked = λ _. omega arith; word = λ _. refl; rest = quote_kept; some = refl }
 
-kept_fields : (ts : Description) → IsDescription ts → (fs : List Field) → AllByRecursion IsKept (flat_map (part ts) fs)
-kept_fields ts lawful [] = tt
-kept_fields ts lawful (f ∷ fs) =
-    all-append IsKept (part ts f) (flat_map (part ts) fs)
-    (kept_one (field_word f) (text_of ts f) (at_field f).clean (lawful_field ts lawful f) (at_field f).inked) (kept_fields ts lawful fs)
+kept_size : (word : List ℕ) (n : ℕ) → list_all (leb 33) word ≡ true → 0 < length word → n < 2 ^ 64 → IsKept (size_text word n)
+kept_size word n high some wide =
+    kept_tidy (size_text word n) (tidy-join 32 word (decimal n) space (tidy_word word high some) (tidy_decimal n wide))
 
 kept_non : (limit : ℕ) (p : Nonogram) → limit < 2 ^ 64 → IsNonogramWithin limit p → AllByRecursion IsKept (texts_non p)
 kept_non limit p wide lawful =
-    let width =
-    kept_tidy (size_text (codes "width") p.width)
-    (tidy-join 32 (codes "width") (decimal p.width) space (tidy_word (codes "width") refl (omega arith)) (tidy_decimal p.width (omega (arith, lawful.size.width_to)))) in
-    let height =
-    kept_tidy (size_text (codes "height") p.height)
-    (tidy-join 32 (codes "height") (decimal p.height) space (tidy_word (codes "height") refl (omega arith)) (tidy_decimal p.height (omega (arith, lawful.size.height_to)))) in
+    let width = kept_size (codes "width") p.width refl (omega arith) (omega (arith, lawful.size.width_to)) in
+    let height = kept_size (codes "height") p.height refl (omega arith) (omega (arith, lawful.size.height_to)) in
     let rows = all-weaker IsTidy IsKept kept_tidy (map (clue_text 44) p.rows) (tidy_clues 44 limit p.rows comma wide lawful.rows) in
-    let columns = all-weaker IsTidy IsKept kept_tidy (map (clue_text 44) p.columns) (tidy_clues 44 limit p.columns comma wide lawful.columns) in
+    let columns =
+    all-weaker IsTidy IsKept kept_tidy (map (clue_text 44) p.columns) (tidy_clues 44 limit p.columns comma wide lawful.columns) in
     let after =
-    all-append IsKept (column_part p) (goal_part p) (all-append IsKept (map (clue_text 44) p.columns) (goal_gap p.goal) columns (kept_gap p.goal))
-    (kept_goal p.goal) in
+    all-append IsKept (column_part p) (goal_part p)
+    (all-append IsKept (map (clue_text 44) p.columns) (goal_gap p.goal) columns (kept_gap p.goal)) (kept_goal p.goal) in
     let behind =
     all-append IsKept (row_part p) (after_rows p) (all-append IsKept (map (clue_text 44) p.rows) ([] ∷ []) rows (kept_blank, tt))
     (kept_tidy (codes "columns") (tidy_word (codes "columns") refl (omega arith)), after) in
-    all-append IsKept (fields p.texts) (after_fields p) (kept_fields p.texts lawful.texts all_fields)
+    all-append IsKept (fields p.texts) (after_fields p) (all-flat_map IsKept (part p.texts)
+    (λ f. kept_one (field_word f) (text_of p.texts f) (facts f).clean (lawful_field p.texts lawful.texts f) (facts f).inked)
+    all_fields)
     (width, (height, (kept_blank, (kept_tidy (codes "rows") (tidy_word (codes "rows") refl (omega arith)), behind))))
 
 -- the lines of the text
@@ -232,7 +230,7 @@ length_fields ts lawful (f ∷ fs) =
     omega (
       arith,
       length-append (quoted_line (field_word f) (text_of ts f)) others,
-      length_field (field_word f) (text_of ts f) (at_field f).short (lawful_field ts lawful f),
+      length_field (field_word f) (text_of ts f) (facts f).short (lawful_field ts lawful f),
       length_fields ts lawful fs,
     )
 
@@ -241,12 +239,7 @@ length_goal w h None wide high lawful = omega arith
 length_goal w h (Some cells) wide high lawful =
     let count = eqb-true (length cells) (w * h) lawful in
     let text = map goal_byte cells in
-    omega (
-      arith,
-      mul-le w h 256 256 wide high,
-      length-map cells goal_byte,
-      length-append text (codes "\"\n"),
-    )
+    omega (arith, mul-le w h 256 256 wide high, length-map cells goal_byte, length-append text (codes "\"\n"))
 
 -- the text is short enough to be read
 pub length_non : (limit : ℕ) (p : Nonogram) → limit ≤ 256 → IsNonogramWithin limit p → length (text_non p) ≤ 1048576

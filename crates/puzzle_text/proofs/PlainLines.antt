@@ -29,8 +29,8 @@ take_first (suc k) (byte ∷ bytes) other = other
 
 strip_first : (byte : ℕ) (bytes : List ℕ) → eqb (get_or bytes 0 0) 64 ≡ false → eqb (get_or (strip_last byte bytes) 0 0) 64 ≡ false
 strip_first byte bytes other =
-    cond_both (eqb (get_or bytes (length bytes - 1) 0) byte) (take (length bytes - 1) bytes) bytes (λ text. eqb (get_or text 0 0) 64 ≡ false)
-    (λ _. take_first (length bytes - 1) bytes other) (λ _. other)
+    cond_both (eqb (get_or bytes (length bytes - 1) 0) byte) (take (length bytes - 1) bytes) bytes
+    (λ text. eqb (get_or text 0 0) 64 ≡ false) (λ _. take_first (length bytes - 1) bytes other) (λ _. other)
 
 no_marker_text : (bytes : List ℕ) → eqb (get_or bytes 0 0) 64 ≡ false → is_marker_text bytes ≡ false
 no_marker_text [] other = refl
@@ -76,17 +76,12 @@ abbrev entries_in : Bool → List (List ℕ) → List Entry
 entries_in true raws = entries_of raws
 entries_in false raws = entries_of (below_first raws)
 
-amid_body : (feed : Bool) (byte : ℕ) (raws : List (List ℕ))
-    → with_first (cond feed ((byte ∷ []) ∷ raws) (onto_first byte raws)) ≡ byte ∷ body_in feed raws
-amid_body true byte raws = refl
-amid_body false byte [] = refl
-amid_body false byte (raw ∷ raws) = refl
-
-amid_entries : (feed : Bool) (byte : ℕ) (raws : List (List ℕ))
-    → entries_of (below_first (cond feed ((byte ∷ []) ∷ raws) (onto_first byte raws))) ≡ entries_in feed raws
-amid_entries true byte raws = refl
-amid_entries false byte [] = refl
-amid_entries false byte (raw ∷ raws) = refl
+amid : (feed : Bool) (byte : ℕ) (raws : List (List ℕ))
+    → (with_first (cond feed ((byte ∷ []) ∷ raws) (onto_first byte raws)) ≡ byte ∷ body_in feed raws)
+    × (entries_of (below_first (cond feed ((byte ∷ []) ∷ raws) (onto_first byte raws))) ≡ entries_in feed raws)
+amid true byte raws = (refl, refl)
+amid false byte [] = (refl, refl)
+amid false byte (raw ∷ raws) = (refl, refl)
 
 -- past `front`, which has no @, the lines `raws` go on as `others`;
 -- `start` and `later` tell whether a line begins there
@@ -96,10 +91,11 @@ GoesOn start later front raws others =
 
 one_byte : (start : Bool) (byte : ℕ) (bytes : List ℕ) → eqb byte 64 ≡ false
     → GoesOn start (eqb byte 10) (byte ∷ []) (raw_lines (byte ∷ bytes)) (raw_lines bytes)
-one_byte false byte bytes other = (amid_body (eqb byte 10) byte (raw_lines bytes), amid_entries (eqb byte 10) byte (raw_lines bytes))
+one_byte false byte bytes other = amid (eqb byte 10) byte (raw_lines bytes)
 one_byte true byte bytes other =
     let first = plain_line (eqb byte 10) byte (raw_lines bytes) other in
-    (first.0 ∙ amid_body (eqb byte 10) byte (raw_lines bytes), first.1 ∙ amid_entries (eqb byte 10) byte (raw_lines bytes))
+    let others = amid (eqb byte 10) byte (raw_lines bytes) in
+    (first.0 ∙ others.0, first.1 ∙ others.1)
 
 -- whether a line begins after these bytes, if one begins before them or not
 abbrev starts_after : Bool → List ℕ → Bool
@@ -128,21 +124,17 @@ starts_where (byte ∷ bytes) =
 
 -- ---- what follows
 
-body_none : (start : Bool) → body_in start [] ≡ []
-body_none true = refl
-body_none false = refl
-
-entries_none : (start : Bool) → entries_in start [] ≡ []
-entries_none true = refl
-entries_none false = refl
+nothing_in : (start : Bool) → (body_in start [] ≡ []) × (entries_in start [] ≡ [])
+nothing_in true = (refl, refl)
+nothing_in false = (refl, refl)
 
 -- nothing follows
 pub follows_none : (bytes front tail : List ℕ) → bytes ≡ front ++ tail → HasNoAt front → length tail ≡ 0 → FollowsPlain bytes tail
 follows_none bytes front (byte ∷ tail) whole h none = absurd (omega arith)
 follows_none bytes front [] whole h none =
     let over = over_front true front [] h in
-    let start = starts_after true front in
-    (front, whole, rw (whole, over.0, body_none start) refl, rw (whole, over.1, entries_none start) refl)
+    let none = nothing_in (starts_after true front) in
+    (front, whole, rw (whole, over.0, none.0) refl, rw (whole, over.1, none.1) refl)
 
 -- a line follows
 pub follows_line : (bytes front tail : List ℕ) → bytes ≡ front ++ tail → HasNoAt front → ends_line front ≡ true → FollowsPlain bytes tail
@@ -156,11 +148,11 @@ pub follows_amid : (bytes front tail raw after : List ℕ) → bytes ≡ front +
     → tail ≡ raw ++ after → raw_lines tail ≡ raw ∷ raw_lines after → FollowsPlain bytes after
 follows_amid bytes front tail raw after whole h ends parts first =
     let over = over_front true front tail h in
-    let amid : starts_after true front ≡ false = starts_where front ∙ ends in (
+    let inside : starts_after true front ≡ false = starts_where front ∙ ends in (
       front ++ raw,
       rw (whole, parts) (sym (append_assoc front raw after)),
-      rw (whole, over.0, amid, first) (append_assoc front raw (body_of (raw_lines after))),
-      rw (whole, over.1, amid, first) refl,
+      rw (whole, over.0, inside, first) (append_assoc front raw (body_of (raw_lines after))),
+      rw (whole, over.1, inside, first) refl,
     )
 
 -- a line that begins no entry goes into the body

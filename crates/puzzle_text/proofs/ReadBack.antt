@@ -71,7 +71,9 @@ kept_edged text no_feed first last = record {
 
 -- a text as it is written is the whole line
 pub kept_tidy : (text : List ℕ) → IsTidy text → IsKept text
-kept_tidy text tidy = kept_edged text (all-weaker (λ byte. 32 ≤ byte) _ (λ byte h. ne_eqb byte 10 (λ e. omega arith)) text tidy.inked) tidy.first tidy.last
+kept_tidy text tidy =
+    kept_edged text (all-weaker (λ byte. 32 ≤ byte) _ (λ byte h. ne_eqb byte 10 (λ e. omega arith)) text tidy.inked) tidy.first
+    tidy.last
 
 pub line_kept : (text : List ℕ) → IsKept text → trim (without_ending (with_feed text)) ≡ text
 line_kept text kept = ap (λ (t : List ℕ). trim (strip_last 13 t)) (strip_last_is 10 text) ∙ ap trim kept.no_return ∙ kept.trimmed

@@ -154,7 +154,12 @@ module _ (limit a b : ℕ) (wide : limit < 2 ^ 64) (first : (1 ≤ a) × (a ≤ 
 
   -- sizes that are written are read again
   pub sizes_are : two_sizes limit (pieces (clue_text 32 (a ∷ b ∷ []))) ≡ Ok (a, b)
-  sizes_are = rw (pieces_of_clue 32 a (b ∷ []) space size_words, size_again limit a wide first.0 first.1, size_again limit b wide second.0 second.1) refl
+  sizes_are =
+      rw (
+        pieces_of_clue 32 a (b ∷ []) space size_words,
+        size_again limit a wide first.0 first.1,
+        size_again limit b wide second.0 second.1,
+      ) refl
 
 -- a text in .mk or .nin is short enough to be read
 pub length_within : (limit a b : ℕ) (rows columns : List (List ℕ)) → limit ≤ 256 → a ≤ limit → b ≤ limit

@@ -21,14 +21,14 @@ use Rattle.puzzle_text.specs.Non.{placed, sections_of, number_of_line, long_text
 use Rattle.puzzle_text.specs.Written.{clue_text, goal_byte, text_non}
 use Rattle.puzzle_text.specs.Non.{Sections, puzzle_said}
 use Rattle.puzzle_text.specs.declared.places.Under.TheVariants.{Rows, Columns}
-use Rattle.puzzle_text.proofs.AllLemmas.{all-append, all-map, all-weaker, filter_all, filter_none}
+use Rattle.puzzle_text.proofs.AllLemmas.{all-append, all-flat_map, all-map, all-weaker, filter_all, filter_none}
 use Rattle.puzzle_text.proofs.SectionsLemmas.{filter-map}
 use Rattle.puzzle_text.proofs.SaidLines.{SayAll, non_lines, short_lines}
 use Rattle.puzzle_text.proofs.SectionsWalk.{IsContent, below, below_keyword, content_digit, join, join_content, nothing_above, with_columns, with_lines, with_rows, word_at}
 use Rattle.puzzle_text.proofs.ReadBack.{numbered, kept_tidy}
 use Rattle.puzzle_text.proofs.ReadClue.{IsWord, comma}
 use Rattle.puzzle_text.proofs.ReadClues.{numbered-append, say_clues, word_clue, size_again, tidy_decimal}
-use Rattle.puzzle_text.proofs.NonText.{at_field, field_line, lawful_field, one, size_text, goal_text, goal_gap, part, fields, row_part, column_part, goal_part, after_rows, after_fields, texts_non, lines_non, length_non, quote_trimmed, rest_of}
+use Rattle.puzzle_text.proofs.NonText.{facts, field_line, lawful_field, one, size_text, goal_text, goal_gap, part, fields, row_part, column_part, goal_part, after_rows, after_fields, texts_non, lines_non, length_non, quote_kept, rest_of}
 
 abbrev texts_with : List ℕ → List (List ℕ) → List (List ℕ)
 texts_with word texts = filter (λ text. bytes_eq (word_at text) word) texts
@@ -49,7 +49,8 @@ content_clue (n ∷ ns) h =
 content_clues : (limit : ℕ) (clues : List (List ℕ)) → limit < 2 ^ 64 → AllByRecursion (λ clue. is_clue limit clue ≡ true) clues
     → AllByRecursion IsContent (map (clue_text 44) clues)
 content_clues limit clues wide h =
-    all-map (λ clue. is_clue limit clue ≡ true) IsContent (clue_text 44) (λ clue is. content_clue clue (word_clue limit clue wide is)) clues h
+    all-map (λ clue. is_clue limit clue ≡ true) IsContent (clue_text 44) (λ clue is. content_clue clue (word_clue limit clue wide is))
+    clues h
 
 content_gap : (o : Option (List Bool)) → AllByRecursion IsContent (goal_gap o)
 content_gap None = tt
@@ -63,8 +64,8 @@ with-content word texts other h =
     filter_none (λ text. bytes_eq (word_at text) word) texts
     (all-weaker IsContent (λ text. bytes_eq (word_at text) word ≡ false) (λ text is. rw is.word other) texts h)
 
-with-one : (word name : List ℕ) (o : Option (List ℕ)) (same : Bool) → ((text : List ℕ) → bytes_eq (word_at (field_line name text)) word ≡ same)
-    → texts_with word (one name o) ≡ cond same (one name o) []
+with-one : (word name : List ℕ) (o : Option (List ℕ)) (same : Bool)
+    → ((text : List ℕ) → bytes_eq (word_at (field_line name text)) word ≡ same) → texts_with word (one name o) ≡ cond same (one name o) []
 with-one word name None true h = refl
 with-one word name None false h = refl
 with-one word name (Some text) same h = rw (h text) refl
@@ -84,7 +85,7 @@ with-parts word ts [] = refl
 with-parts word ts (f ∷ fs) =
     rw (
       filter-append (λ text. bytes_eq (word_at text) word) (part ts f) (flat_map (part ts) fs),
-      with-one word (field_word f) (text_of ts f) (bytes_eq (field_word f) word) (λ text. rw ((at_field f).word text) refl),
+      with-one word (field_word f) (text_of ts f) (bytes_eq (field_word f) word) (λ text. rw ((facts f).word text) refl),
       with-parts word ts fs,
     ) (one_part ts (bytes_eq (field_word f) word) f (fields_with word fs))
 
@@ -134,7 +135,7 @@ module _ (limit : ℕ) (p : Nonogram) (wide : limit < 2 ^ 64) (lawful : IsNonogr
 
 texts_numbered : (k : ℕ) (texts : List (List ℕ)) → map (λ (line : Line). line.text) (numbered k texts) ≡ texts
 texts_numbered k [] = refl
-texts_numbered k (text ∷ texts) = ap (λ (ts : List (List ℕ)). text ∷ ts) (texts_numbered (k + 1) texts)
+texts_numbered k (text ∷ texts) = rw (texts_numbered (k + 1) texts) refl
 
 lines_with : (word : List ℕ) (k : ℕ) (texts : List (List ℕ))
     → map (λ (line : Line). line.text) (with_keyword word (numbered k texts)) ≡ texts_with word texts
@@ -202,12 +203,7 @@ below_keywords under k (x ∷ xs) ys h =
 
 one_word : (f : Field) (o : Option (List ℕ)) → AllByRecursion (λ text. is_empty (word_at text) ≡ false) (one (field_word f) o)
 one_word f None = tt
-one_word f (Some text) = (rw ((at_field f).word text) (at_field f).some, tt)
-
-fields_words : (ts : Description) (fs : List Field) → AllByRecursion (λ text. is_empty (word_at text) ≡ false) (flat_map (part ts) fs)
-fields_words ts [] = tt
-fields_words ts (f ∷ fs) =
-    all-append (λ text. is_empty (word_at text) ≡ false) (part ts f) (flat_map (part ts) fs) (one_word f (text_of ts f)) (fields_words ts fs)
+one_word f (Some text) = (rw ((facts f).word text) (facts f).some, tt)
 
 -- texts as lines are as they are as texts
 numbered_all : (P : List ℕ → Type 0) (k : ℕ) (texts : List (List ℕ)) → AllByRecursion P texts
@@ -227,24 +223,19 @@ abbrev these : Nonogram → ℕ → ℕ → Sections
 these p k m = record { rows = numbered k (row_part p); columns = numbered m (column_part p); stray = None }
 
 -- these are the sections, and no line is stray
-record IsLaidOut (p : Nonogram) (sections : Sections) : Type 0 where
-  rows_at : ℕ
-  columns_at : ℕ
-  are : sections ≡ these p rows_at columns_at
-
 laid_out : (limit : ℕ) (p : Nonogram) → limit < 2 ^ 64 → IsNonogramWithin limit p
-    → IsLaidOut p (sections_of (placed (numbered 1 (texts_non p))))
+    → (k : ℕ) × (m : ℕ) × (sections_of (placed (numbered 1 (texts_non p))) ≡ these p k m)
 laid_out limit p wide lawful =
-    let start = below_keywords [] 1 (fields p.texts) (after_fields p) (fields_words p.texts all_fields) in
+    let words = all-flat_map (λ text. is_empty (word_at text) ≡ false) (part p.texts) (λ f. one_word f (text_of p.texts f)) all_fields in
+    let start = below_keywords [] 1 (fields p.texts) (after_fields p) words in
     let m = start.1 + 1 + 1 + 1 + 1 in
     let row_lines = numbered m (row_part p) in
     let n = m + length (row_part p) in
     let column_lines = numbered (n + 1) (column_part p) in
-    let in_rows : Sections = with_lines Rows no_lines row_lines in
-    record {
-      rows_at = m;
-      columns_at = n + 1;
-      are = sym (nothing_above [] [] (numbered 1 (texts_non p)) refl refl)
+    let in_rows : Sections = with_lines Rows no_lines row_lines in (
+      m,
+      n + 1,
+      sym (nothing_above [] [] (numbered 1 (texts_non p)) refl refl)
           ∙ ap (join no_lines) start.2
           ∙ ap (λ (lines : List Line). join no_lines (below (codes "rows") lines)) (numbered-append m (row_part p) (after_rows p))
           ∙ join_content Rows (codes "rows") no_lines row_lines (numbered n (after_rows p)) refl
@@ -254,8 +245,8 @@ laid_out limit p wide lawful =
           (numbered_all IsContent (n + 1) (column_part p) (content_columns limit p wide lawful))
           ∙ ap (join (with_lines Columns in_rows column_lines)) (below_goal p.goal (n + 1 + length (column_part p)))
           ∙ rw (with_rows no_lines row_lines, with_columns _ column_lines, append-nil row_lines, append-nil column_lines)
-          refl;
-    }
+          refl,
+    )
 
 gap_blank : (k : ℕ) (o : Option (List Bool)) → AllByRecursion (λ line. is_full line ≡ false) (numbered k (goal_gap o))
 gap_blank k None = tt
@@ -315,11 +306,11 @@ module _ (limit : ℕ) (p : Nonogram) (wide : limit < 2 ^ 64) (lawful : IsNonogr
 
   goal_field : FieldIs (codes "goal") all_lines (goal_text p.goal)
   goal_field =
-      field_is (codes "goal") (goal_text p.goal) 1 (texts_non p) quote_trimmed
+      field_is (codes "goal") (goal_text p.goal) 1 (texts_non p) quote_kept
       (whole limit p wide lawful (codes "goal") true refl (λ text. refl))
 
   field_at : (f : Field) → FieldIs (field_word f) all_lines (text_of p.texts f)
-  field_at f = field_is (field_word f) (text_of p.texts f) 1 (texts_non p) (at_field f).rest (field_only limit p wide lawful f)
+  field_at f = field_is (field_word f) (text_of p.texts f) 1 (texts_non p) (facts f).rest (field_only limit p wide lawful f)
 
   long_at : (f : Field) → number_of_line (long_text all_lines (field_word f)) ≡ None
   long_at f = long_none (field_word f) all_lines (text_of p.texts f) (field_at f) (lawful_field p.texts lawful.texts f)
@@ -374,10 +365,10 @@ module _ (limit : ℕ) (p : Nonogram) (wide : limit < 2 ^ 64) (lawful : IsNonogr
   non_again =
       let laid = laid_out limit p wide lawful in
       let outline : outline_of limit None all_lines ≡ Ok ((p.width, p.height), order) = rw (sizes_read, order_read, lines_checked) refl in
-      ap (λ (sections : Sections). puzzle_said limit sections all_lines) laid.are
-      ∙ non_lines limit (these p laid.rows_at laid.columns_at) all_lines p.width p.height order p.rows p.columns p refl
-      (part_again limit laid.rows_at p.rows ([] ∷ []) wide lawful.rows (λ m. (refl, tt)))
-      (part_again limit laid.columns_at p.columns (goal_gap p.goal) wide lawful.columns (λ m. gap_blank m p.goal)) outline
+      ap (λ (sections : Sections). puzzle_said limit sections all_lines) laid.2
+      ∙ non_lines limit (these p laid.0 laid.1) all_lines p.width p.height order p.rows p.columns p refl
+      (part_again limit laid.0 p.rows ([] ∷ []) wide lawful.rows (λ m. (refl, tt)))
+      (part_again limit laid.1 p.columns (goal_gap p.goal) wide lawful.columns (λ m. gap_blank m p.goal)) outline
       lawful.clues.0 lawful.clues.1 (rw (goal_read, texts_read) refl)
 
 -- a written puzzle is read again, texts and goal included

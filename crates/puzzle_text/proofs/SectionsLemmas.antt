@@ -50,7 +50,8 @@ module _ {X : Type 0} (view : X → Line) where
       → front count (map view section) ≡ Some (map view (take count section))
   front_first count section long blank =
       let within : leb count (length (map view section)) ≡ true = le-leb _ _ (omega (arith, length-map section view)) in
-      rw (within, drop-map view count section, list_all-map is_blank_line view (drop count section), blank, take-map view count section) refl
+      rw (within, drop-map view count section, list_all-map is_blank_line view (drop count section), blank, take-map view count section)
+      refl
 
   -- the first lines are no clue lines if one after them isn't blank
   pub front_mixed : (count : ℕ) (section : List X) → count ≤ length section
@@ -86,7 +87,8 @@ all_kept (line ∷ lines) e =
 none_kept : (lines : List Line) → list_all is_blank_line lines ≡ true → filter is_full lines ≡ []
 none_kept lines blank =
     filter_none is_full lines
-    (all-weaker (λ line. is_blank_line line ≡ true) (λ line. is_full line ≡ false) (λ line e. ap not e) lines (all_pass is_blank_line lines blank))
+    (all-weaker (λ line. is_blank_line line ≡ true) (λ line. is_full line ≡ false) (λ line e. ap not e) lines
+    (all_pass is_blank_line lines blank))
 
 front_kept : (count : ℕ) (lines : List Line) → count ≤ length lines → list_all is_blank_line (drop count lines) ≡ true
     → length (filter is_full lines) ≡ count → filter is_full lines ≡ take count lines

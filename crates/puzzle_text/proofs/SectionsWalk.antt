@@ -136,9 +136,11 @@ pub with_rows : (above : Sections) (found : List Line) → with_lines Rows above
 with_rows above [] = ap (λ (lines : List Line). record above { rows = lines }) (sym (append-nil above.rows))
 with_rows above (line ∷ found) = rw (with_rows (with_line above Rows line) found, append_assoc above.rows (line ∷ []) found) refl
 
-pub with_columns : (above : Sections) (found : List Line) → with_lines Columns above found ≡ record above { columns = above.columns ++ found }
+pub with_columns : (above : Sections) (found : List Line)
+    → with_lines Columns above found ≡ record above { columns = above.columns ++ found }
 with_columns above [] = ap (λ (lines : List Line). record above { columns = lines }) (sym (append-nil above.columns))
-with_columns above (line ∷ found) = rw (with_columns (with_line above Columns line) found, append_assoc above.columns (line ∷ []) found) refl
+with_columns above (line ∷ found) =
+    rw (with_columns (with_line above Columns line) found, append_assoc above.columns (line ∷ []) found) refl
 
 -- ---- the walk over lines as the code keeps them
 

@@ -116,7 +116,8 @@ number_and_more text rest others numbers more n s passed begins separated is =
       front ++ (piece ++ s ∷ []),
       rw (passed.1, begins.1) (simp append_assoc),
       λ line ns said.
-          rw is (simp append_assoc (passed.2 (piece ++ s ∷ line) (n ∷ ns) (number_before piece n begins.2 s line ns (spaced s separated) said))),
+          let more_said = number_before piece n begins.2 s line ns (spaced s separated) said in
+          rw is (simp append_assoc (passed.2 (piece ++ s ∷ line) (n ∷ ns) more_said)),
     )
 
 -- ---- the end of a line

@@ -29,8 +29,8 @@ say_all [] [] said = record { full = tt; hash = tt; count = refl; said = refl }
 say_all [] (clue ∷ clues) said = absurd said
 say_all (line ∷ found) [] said = absurd said
 say_all (line ∷ found) (clue ∷ clues) said =
-    say_more LONGEST_SIDE line clue found clues (some_text line.text (digit_range _ said.0.1).0) (clue_content line clue said.0).hash said.0.0
-    (say_all found clues said.1)
+    say_more LONGEST_SIDE line clue found clues (some_text line.text (digit_range _ said.0.1).0) (clue_content line clue said.0).hash
+    said.0.0 (say_all found clues said.1)
 
 -- none of them is a keyword line or a comment
 all_content : (found : List Line) (clues : List (List ℕ)) → AreClueLines found clues → AllByRecursion (λ line. IsContent line.text) found
@@ -201,8 +201,7 @@ module _ (next : Under) (line : Line) (number place : ℕ) (after rest : List �
 -- no keyword line is passed
 pub kept_none : (kept all todo : List Line) (line : Line) → kept ++ filter is_keyword_line (line ∷ todo) ≡ all
     → is_empty (keyword line) ≡ true → kept ++ filter is_keyword_line todo ≡ all
-kept_none kept all todo line e none =
-    rw none at e
+kept_none kept all todo line e none = rw none at e
 
 -- no bytes have no lines
 pub no_lines : (rest : List ℕ) (number : ℕ) → length rest ≡ 0 → numbered_from number (raw_lines rest) ≡ []
