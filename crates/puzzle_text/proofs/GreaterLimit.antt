@@ -3,7 +3,7 @@ use Rattle.std.proofs.Common.{◌≡◌, ℕ, zero, suc, ◌≤◌, Bool, true, 
 use Rattle.std.specs.Prelude.{option_and_then}
 use Rattle.std.specs.List.{list_all}
 use Rattle.std.specs.Option.{option_map}
-use Rattle.std.proofs.lemmas.Bool.{and_from, and_parts, le-leb, leb-true}
+use Rattle.std.proofs.lemmas.Bool.{and_parts, le-leb, leb-true}
 use Rattle.puzzle_text.specs.declared.faults.TextFault.{TextFault}
 use Rattle.puzzle_text.specs.declared.faults.TextFault.TheVariants.{BadSize, BadNumber}
 use Rattle.grid_core.specs.Clues.{is_run, is_clue}
@@ -35,9 +35,7 @@ some-map h (Some y) new kept = λ x e. ap (option_map h) (kept y refl) ∙ e
 some-each : {X Y : Type 0} (f g : X → Option Y) (xs : List X) → ((x : X) → KeepsSome (f x) (g x))
     → KeepsSome (each_some f xs) (each_some g xs)
 some-each f g [] next = λ x e. e
-some-each {X} {Y} f g (x ∷ xs) next =
-    some-bind (f x) (g x) (λ (y : Y). option_map (λ ys. y ∷ ys) (each_some f xs)) (λ (y : Y). option_map (λ ys. y ∷ ys) (each_some g xs))
-    (next x) (λ y. some-map (λ (ys : List Y). y ∷ ys) (each_some f xs) (each_some g xs) (some-each f g xs next))
+some-each f g (x ∷ xs) next = search (some-bind, some-map, next x, some-each f g xs next)
 
 -- a test that the greater limit passes too
 some-test : {A : Type 0} (b c : Bool) (y : A) → (b ≡ true → c ≡ true) → KeepsSome (cond b (Some y) None) (cond c (Some y) None)
@@ -61,10 +59,7 @@ keeps-bind {A} (Err fault) new f g kept next = λ size number.
 keeps-each : {X Y : Type 0} (f g : X → Result Y TextFault) (xs : List X) → ((x : X) → KeepsAnswer (f x) (g x))
     → KeepsAnswer (each f xs) (each g xs)
 keeps-each f g [] next = λ _ _. refl
-keeps-each {X} {Y} f g (x ∷ xs) next =
-    keeps-bind (f x) (g x) (λ (y : Y). each f xs >>= λ ys. Ok (y ∷ ys)) (λ (y : Y). each g xs >>= λ ys. Ok (y ∷ ys)) (next x)
-    (λ y. keeps-bind (each f xs) (each g xs) (λ (ys : List Y). Ok (y ∷ ys)) (λ (ys : List Y). Ok (y ∷ ys)) (keeps-each f g xs next)
-    (λ ys. keeps-same (Ok (y ∷ ys))))
+keeps-each f g (x ∷ xs) next = search (keeps-bind, keeps-same, next x, keeps-each f g xs next)
 
 keeps-size : {A : Type 0} (old new : Option A) → KeepsSome old new → KeepsAnswer (or_fault BadSize old) (or_fault BadSize new)
 keeps-size None new kept = λ size number. absurd (size refl)
@@ -92,12 +87,12 @@ module _ (a b : ℕ) (le : a ≤ b) where
   runs_keep (n ∷ ns) h =
       let parts = and_parts (is_run a n) (list_all (is_run a) ns) h in
       let here = and_parts (leb 1 n) (leb n a) parts.0 in
-      and_from (is_run b n) (list_all (is_run b) ns) (and_from (leb 1 n) (leb n b) here.0 (within n here.1)) (runs_keep ns parts.1)
+      rw (here.0, within n here.1, runs_keep ns parts.1) refl
 
   is_clue_keeps : (ns : List ℕ) → is_clue a ns ≡ true → is_clue b ns ≡ true
   is_clue_keeps ns h =
       let parts = and_parts (leb (length ns) 128) (list_all (is_run a) ns) h in
-      and_from (leb (length ns) 128) (list_all (is_run b) ns) parts.0 (runs_keep ns parts.1)
+      rw (parts.0, runs_keep ns parts.1) refl
 
   numbers_keep : (ns : List ℕ) → KeepsSome (clue_of_numbers a ns) (clue_of_numbers b ns)
   numbers_keep [] = some-test _ _ _ (is_clue_keeps [])

@@ -123,11 +123,10 @@ kept_field : (word text : List ℕ) → list_all (λ byte. not (eqb byte 10)) wo
     → 33 ≤ get_or (field_line word text) 0 0 → IsKept (field_line word text)
 kept_field word text name clean first =
     let front = word ++ 32 ∷ 34 ∷ text in
-    let whole : field_line word text ≡ front ++ 34 ∷ [] = sym (append_assoc word (32 ∷ 34 ∷ text) (34 ∷ [])) in
+    let whole : front ++ 34 ∷ [] ≡ field_line word text = append_assoc word (32 ∷ 34 ∷ text) (34 ∷ []) in
     let place : length front ≡ length (field_line word text) - 1 = omega (arith, ap length whole, length-append front (34 ∷ [])) in
     let last : get_or (field_line word text) (length (field_line word text) - 1) 0 ≡ 34 =
-    ap (λ (x : List ℕ). get_or x (length (field_line word text) - 1) 0) whole
-    ∙ get_or_at front 34 [] 0 (length (field_line word text) - 1) place in
+    rw whole at (get_or_at front 34 [] 0 (length (field_line word text) - 1) place) in
     kept_edged (field_line word text)
     (all-append (λ byte. eqb byte 10 ≡ false) word (32 ∷ 34 ∷ (text ++ 34 ∷ [])) (no_feeds word name)
     (refl, (refl, all-append (λ byte. eqb byte 10 ≡ false) text (34 ∷ []) (no_feeds text clean) (refl, tt))))

@@ -1,5 +1,5 @@
 -- What is written is read again: the lines of clues.
-use Rattle.std.proofs.Common.{◌≡◌, ℕ, suc, ◌+◌, ◌*◌, ◌-◌, ◌<◌, ◌≤◌, ◌^◌, true, not, leb, List, [], ◌∷◌, ◌++◌, length, get_or, map, refl, sym, ap, subst, ◌∙◌, arith, Ok}
+use Rattle.std.proofs.Common.{◌≡◌, ℕ, suc, ◌+◌, ◌*◌, ◌-◌, ◌<◌, ◌≤◌, ◌^◌, true, not, leb, List, [], ◌∷◌, ◌++◌, length, get_or, map, refl, ap, arith, Ok}
 use Rattle.std.specs.Prelude.{decimal}
 use Rattle.std.specs.List.{flat_map, list_all, AllByRecursion}
 use Rattle.std.specs.Str.Parse.{AllDigits}
@@ -9,7 +9,7 @@ use Rattle.std.proofs.lemmas.List.{append-nil, length-append, get_or_append_left
 use Rattle.std.proofs.lemmas.Str.Parse.{digit_at, digit_from_value}
 use Rattle.std.proofs.lemmas.Fmt.{decimal_is_IsNumeral, length-decimal-le}
 use Rattle.grid_core.specs.Clues.{is_clue, is_run}
-use Rattle.puzzle_text.specs.Lines.{Line, is_empty}
+use Rattle.puzzle_text.specs.Lines.{is_empty}
 use Rattle.puzzle_text.specs.Numbers.{pieces}
 use Rattle.puzzle_text.specs.Sizes.{size_of, two_sizes}
 use Rattle.puzzle_text.specs.Written.{clue_text, clue_line, clue_lines, two_numbers}
@@ -30,15 +30,11 @@ tidy-join s a b spacing p q =
     let some_a = some_byte a p.first in
     let some_b = some_byte b q.first in
     let whole = length-append a (s ∷ b) in
-    let right : get_or (a ++ s ∷ b) (length (a ++ s ∷ b) - 1) 0 ≡ get_or (s ∷ b) (length (a ++ s ∷ b) - 1 - length a) 0 =
-    get_or-append_right a (s ∷ b) (length a) (length (a ++ s ∷ b) - 1) 0 refl (omega arith) in
     let place : length (a ++ s ∷ b) - 1 - length a ≡ suc (length b - 1) = omega arith in
-    let last : get_or (a ++ s ∷ b) (length (a ++ s ∷ b) - 1) 0 ≡ get_or b (length b - 1) 0 =
-    right ∙ ap (λ (k : ℕ). get_or (s ∷ b) k 0) place in
     record {
       inked = all-append (λ byte. 32 ≤ byte) a (s ∷ b) p.inked (spacing.high, q.inked);
       first = rw (get_or_append_left a (s ∷ b) 0 0 some_a) p.first;
-      last = rw last q.last;
+      last = rw (get_or-append_right a (s ∷ b) (length a) (length (a ++ s ∷ b) - 1) 0 refl (omega arith), place) q.last;
     }
 
 digits_inked : (ds : List ℕ) → AllDigits 10 ds → AllByRecursion (λ byte. 33 ≤ byte) ds
@@ -53,7 +49,7 @@ tidy_decimal n h =
 -- a clue is a tidy text
 pub tidy_clue : (s : ℕ) (numbers : List ℕ) → IsSpacing s → AllByRecursion IsWord numbers → IsTidy (clue_text s numbers)
 tidy_clue s [] spacing h = record { inked = (omega arith, tt); first = omega arith; last = omega arith }
-tidy_clue s (n ∷ []) spacing h = subst IsTidy (sym (append-nil (decimal n))) (tidy_decimal n h.0)
+tidy_clue s (n ∷ []) spacing h = rw append-nil (tidy_decimal n h.0)
 tidy_clue s (n ∷ m ∷ ns) spacing h =
     tidy-join s (decimal n) (clue_text s (m ∷ ns)) spacing (tidy_decimal n h.0) (tidy_clue s (m ∷ ns) spacing h.1)
 
@@ -64,8 +60,7 @@ pub numbered-append : (k : ℕ) (xs ys : List (List ℕ)) → numbered k (xs ++ 
 numbered-append k [] ys = ap (λ (n : ℕ). numbered n ys) (omega arith)
 numbered-append k (x ∷ xs) ys =
     let same : k + 1 + length xs ≡ k + suc (length xs) = omega arith in
-    ap (λ (ls : List Line). record { number = k; text = x } ∷ ls)
-    (numbered-append (k + 1) xs ys ∙ ap (λ (n : ℕ). numbered (k + 1) xs ++ numbered n ys) same)
+    rw (numbered-append (k + 1) xs ys, same) refl
 
 -- ---- the whole text
 

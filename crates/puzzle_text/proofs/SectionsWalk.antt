@@ -1,5 +1,5 @@
 -- The sections of a text, put together on one walk from the top.
-use Rattle.std.proofs.Common.{◌≡◌, ℕ, ◌≤◌, arith, ◌+◌, ◌<◌, drop, get_or, length, Bool, true, false, cond, eqb, not, ◌&&◌, List, [], ◌∷◌, ◌++◌, codes, refl, sym, ap, ◌∙◌, append_assoc, Option, Some, None, map}
+use Rattle.std.proofs.Common.{◌≡◌, ℕ, ◌≤◌, arith, ◌+◌, ◌<◌, drop, get_or, length, Bool, true, false, cond, eqb, ◌&&◌, List, [], ◌∷◌, ◌++◌, codes, refl, sym, ap, ◌∙◌, append_assoc, Option, Some, None, map}
 use Rattle.std.specs.List.{find}
 use Rattle.std.specs.Option.{option_map}
 use Rattle.std.specs.Prelude.{take_while}
@@ -8,6 +8,7 @@ use Rattle.std.proofs.lemmas.Bool.{ne_eqb}
 use Rattle.std.proofs.lemmas.Bool.Decides.{nat_tests}
 use Rattle.std.specs.Char.{is_ascii_alphabetic, to_ascii_lowercase}
 use Rattle.std.specs.Str.{str_to_ascii_lowercase}
+use Rattle.std.proofs.Math.Bool.{and-false}
 use Rattle.std.proofs.lemmas.List.{append-nil, drop_more, length-map}
 use Rattle.puzzle_text.specs.declared.lines.Line.{Line as KeptLine}
 use Rattle.puzzle_text.specs.declared.places.Under.{Under}
@@ -35,10 +36,6 @@ of_parts rows columns stray = record { rows = rows; columns = columns; stray = s
 abbrev number_at : Option (List ℕ × Line) → Option ℕ
 number_at found = option_map (λ (place : List ℕ × Line). place.1.number) found
 
-never : (b : Bool) (place : List ℕ × Line) (found : Option (List ℕ × Line)) → cond (b && false) (Some place) found ≡ found
-never true place found = refl
-never false place found = refl
-
 noted : (b : Bool) (old : Option ℕ) (place : List ℕ × Line) (found : Option (List ℕ × Line))
     → or_else old (number_at (cond (b && true) (Some place) found))
     ≡ or_else (or_else old (cond b (Some place.1.number) None)) (number_at found)
@@ -51,54 +48,28 @@ noted false (Some m) place found = refl
 pub one_more : (under : Under) (word : List ℕ) (above : Sections) (line : Line) (others : List (List ℕ × Line)) → IsUnder word under
     → join above (sections_of ((word, line) ∷ others)) ≡ join (with_line above under line) (sections_of others)
 one_more Rows word above line others is =
-    let found = find is_outside_sections others in
-    rw (is, append_assoc above.rows (line ∷ []) (section (codes "rows") others), never (is_full line) (codes "rows", line) found) refl
+    rw (is, append_assoc above.rows (line ∷ []) (section (codes "rows") others), and-false (is_full line)) refl
 one_more Columns word above line others is =
-    let found = find is_outside_sections others in
-    rw (is, append_assoc above.columns (line ∷ []) (section (codes "columns") others), never (is_full line) (codes "columns", line) found)
-    refl
+    rw (is, append_assoc above.columns (line ∷ []) (section (codes "columns") others), and-false (is_full line)) refl
 one_more Other word above line others is =
     rw (is.0, is.1, noted (is_full line) above.stray (word, line) (find is_outside_sections others)) refl
 
 -- ---- the three kinds of lines
 
-abbrev at_line : Bool → Bool → List ℕ → List ℕ → Line → List Line → List (List ℕ × Line)
-at_line none hash word own line lines =
-    let others = walked (cond none word own) lines in
-    cond (none && not hash) ((word, line) ∷ others) others
-
-at_keyword : (none hash : Bool) (word own : List ℕ) (line : Line) (lines : List Line) → none ≡ false
-    → at_line none hash word own line lines ≡ walked own lines
-at_keyword true hash word own line lines e = absurd cc
-at_keyword false hash word own line lines e = refl
-
-at_comment : (none hash : Bool) (word own : List ℕ) (line : Line) (lines : List Line) → none ≡ true → hash ≡ true
-    → at_line none hash word own line lines ≡ walked word lines
-at_comment true true word own line lines e h = refl
-at_comment true false word own line lines e h = absurd cc
-at_comment false hash word own line lines e h = absurd cc
-
-at_content : (none hash : Bool) (word own : List ℕ) (line : Line) (lines : List Line) → none ≡ true → hash ≡ false
-    → at_line none hash word own line lines ≡ (word, line) ∷ walked word lines
-at_content true false word own line lines e h = refl
-at_content true true word own line lines e h = absurd cc
-at_content false hash word own line lines e h = absurd cc
-
 -- what is still to come below a line of each kind
 pub below_keyword : (word : List ℕ) (line : Line) (lines : List Line) → is_empty (keyword line) ≡ false
     → below word (line ∷ lines) ≡ below (keyword line) lines
-below_keyword word line lines e = ap sections_of (at_keyword (is_empty (keyword line)) (is_hash line) word (keyword line) line lines e)
+below_keyword word line lines e = rw e refl
 
 pub below_comment : (word : List ℕ) (line : Line) (lines : List Line) → is_empty (keyword line) ≡ true → is_hash line ≡ true
     → below word (line ∷ lines) ≡ below word lines
-below_comment word line lines e h = ap sections_of (at_comment (is_empty (keyword line)) (is_hash line) word (keyword line) line lines e h)
+below_comment word line lines e h = rw (e, h) refl
 
 pub below_content : (under : Under) (word : List ℕ) (above : Sections) (line : Line) (lines : List Line) → IsUnder word under
     → is_empty (keyword line) ≡ true → is_hash line ≡ false
     → join above (below word (line ∷ lines)) ≡ join (with_line above under line) (below word lines)
 below_content under word above line lines is e h =
-    ap (λ places. join above (sections_of places)) (at_content (is_empty (keyword line)) (is_hash line) word (keyword line) line lines e h)
-    ∙ one_more under word above line (walked word lines) is
+    rw (e, h) (one_more under word above line (walked word lines) is)
 
 -- ---- many lines of one kind
 
