@@ -20,7 +20,8 @@ use Rattle.puzzle_text.proofs.UsualLines.{digit_range}
 
 -- ---- lines that say a clue
 
-pub clue_content : (line : Line) (clue : List ℕ) → IsClueText line.text clue → IsContent line.text
+-- such a line is neither a keyword line nor a comment
+clue_content : (line : Line) (clue : List ℕ) → IsClueText line.text clue → IsContent line.text
 clue_content line clue said = let range = digit_range (get_or line.text 0 0) said.1 in content_digit line.text range.0 range.1
 
 -- lines of clues say these clues
