@@ -1,6 +1,7 @@
 -- Two tests at each cell, whether it can be filled and whether it can be blank, tell the deduction.
 use Rattle.std.proofs.Common.{◌≡◌, ℕ, ◌<◌, Bool, true, false, not, List, [], ◌∷◌, length, get_or, map, Some, None, refl, sym, ap, ◌∙◌, arith, true≢false, zero-add, ext_get_or}
 use Rattle.std.specs.List.{list_all, range_with_len}
+use Rattle.std.proofs.lemmas.Bool.{false_from_ne_true, true_from_ne_false}
 use Rattle.std.proofs.lemmas.List.FromFn.{length-map-range_with_len, get_or-map-range_with_len}
 use Rattle.grid_core.specs.declared.cells.Cell.{Cell}
 use Rattle.grid_core.specs.declared.cells.Cell.TheVariants.{Unknown}
@@ -9,15 +10,11 @@ use Rattle.line_core.specs.Deduction.{shared, shared_at, deduced}
 use Rattle.grid_core.specs.Cells.{agrees}
 use Rattle.grid_core.specs.Runs.{runs}
 use Rattle.line_core.specs.steps.Told.{certain_by}
-use Rattle.line_core.proofs.DeductionLaws.{IsPlacing, ListsPlacings, placings_listed, no_placing, false_unless, filled_at, blank_at, agrees-Extends, Extends-agrees}
+use Rattle.line_core.proofs.DeductionLaws.{IsPlacing, ListsPlacings, placings_listed, no_placing, none_listed, not_all, filled_at, blank_at, agrees-Extends, Extends-agrees}
 
 -- the line has a placing with a colour at a cell
 abbrev pub CanBe : List Cell → List ℕ → Bool → ℕ → Type 0
 CanBe line clue filled i = (full : List Bool) × (agrees line full ≡ true) × (runs full ≡ clue) × (get_or full i false ≡ filled)
-
-true_unless : (b : Bool) → (b ≡ false → ⊥) → b ≡ true
-true_unless true h = refl
-true_unless false h = absurd (h refl)
 
 -- a test that passes exactly if something is so
 pub record Tells (P : Type 0) (b : Bool) : Type 0 where
@@ -30,30 +27,19 @@ certain_is : (l : List Cell) (clue : List ℕ) (ps : List (List Bool)) (k : ℕ)
 certain_is l clue ps k listed y p true true tf tb =
     let x = tf.to refl in
     let z = tb.to refl in
-    let not_filled : list_all (filled_at k) ps ≡ false =
-    false_unless (list_all (filled_at k) ps)
-    (λ e. true≢false (sym (listed.each (filled_at k) e z.0 (record { extends = agrees-Extends l z.0 z.1; runs_are = z.2 })) ∙ z.3)) in
-    let not_blank : list_all (blank_at k) ps ≡ false =
-    false_unless (list_all (blank_at k) ps)
-    (λ e. true≢false (sym (listed.each (blank_at k) e x.0 (record { extends = agrees-Extends l x.0 x.1; runs_are = x.2 })) ∙ ap not x.3)) in
-    rw (not_filled, not_blank) refl
+    rw (not_all l clue ps listed (filled_at k) z.0 (record { extends = agrees-Extends l z.0 z.1; runs_are = z.2 }) z.3,
+    not_all l clue ps listed (blank_at k) x.0 (record { extends = agrees-Extends l x.0 x.1; runs_are = x.2 }) (ap not x.3)) refl
 certain_is l clue ps k listed y p true false tf tb =
-    let all : list_all (filled_at k) ps ≡ true =
-    listed.every (filled_at k)
-    (λ x q. true_unless (get_or x k false) (λ e. true≢false (sym (tb.from (x, Extends-agrees l x q.extends, q.runs_are, e))))) in
-    rw all refl
+    rw (listed.every (filled_at k) (λ x q.
+    true_from_ne_false (get_or x k false) (λ e. true≢false (sym (tb.from (x, Extends-agrees l x q.extends, q.runs_are, e)))))) refl
 certain_is l clue ps k listed y p false true tf tb =
     let z = tb.to refl in
-    let not_filled : list_all (filled_at k) ps ≡ false =
-    false_unless (list_all (filled_at k) ps)
-    (λ e. true≢false (sym (listed.each (filled_at k) e z.0 (record { extends = agrees-Extends l z.0 z.1; runs_are = z.2 })) ∙ z.3)) in
-    let all : list_all (blank_at k) ps ≡ true =
-    listed.every (blank_at k)
-    (λ x q. ap not (false_unless (get_or x k false) (λ e. true≢false (sym (tf.from (x, Extends-agrees l x q.extends, q.runs_are, e)))))) in
-    rw (not_filled, all) refl
+    rw (not_all l clue ps listed (filled_at k) z.0 (record { extends = agrees-Extends l z.0 z.1; runs_are = z.2 }) z.3,
+    listed.every (blank_at k) (λ x q. ap not
+    (false_from_ne_true (get_or x k false) (λ e. true≢false (sym (tf.from (x, Extends-agrees l x q.extends, q.runs_are, e))))))) refl
 certain_is l clue ps k listed y p false false tf tb =
     let filled : get_or y k false ≡ true =
-    true_unless (get_or y k false) (λ e. true≢false (sym (tb.from (y, Extends-agrees l y p.extends, p.runs_are, e)))) in
+    true_from_ne_false (get_or y k false) (λ e. true≢false (sym (tb.from (y, Extends-agrees l y p.extends, p.runs_are, e)))) in
     absurd (true≢false (sym (tf.from (y, Extends-agrees l y p.extends, p.runs_are, filled))))
 
 certain_listed : (l : List Cell) (clue : List ℕ) (d : List Cell) (f b : ℕ → Bool) (ps : List (List Bool)) → ListsPlacings l clue ps
@@ -77,11 +63,6 @@ pub deduced-told : (l : List Cell) (clue : List ℕ) (d : List Cell) (f b : ℕ 
     → ((k : ℕ) → k < length l → get_or d k Unknown ≡ certain_by (f k) (b k)) → Some d ≡ deduced l clue
 deduced-told l clue d f b tf tb y p e each = certain_listed l clue d f b (placings l clue) (placings_listed l clue) tf tb y p e each
 
-dead_listed : (l : List Cell) (clue : List ℕ) (ps : List (List Bool)) → ListsPlacings l clue ps → ((y : List Bool) → IsPlacing l clue y → ⊥)
-    → None ≡ shared (length l) ps
-dead_listed l clue [] listed none = refl
-dead_listed l clue (y ∷ ys) listed none = absurd (none y listed.members.0)
-
 -- and a line with none is dead
 pub dead-told : (l : List Cell) (clue : List ℕ) → ((y : List Bool) → IsPlacing l clue y → ⊥) → None ≡ deduced l clue
-dead-told l clue none = dead_listed l clue (placings l clue) (placings_listed l clue) none
+dead-told l clue none = ap (shared (length l)) (sym (none_listed l clue (placings l clue) (placings_listed l clue) none))

@@ -1,8 +1,11 @@
 -- What the layers above cite of placings and of the deduced line.
 use Rattle.std.proofs.Common.{◌≡◌, ℕ, zero, suc, ◌<◌, Bool, true, false, not, cond, ◌&&◌, List, [], ◌∷◌, length, get_or, map, filter, Option, Some, None, refl, sym, ap, ◌∙◌, subst, arith, true≢false, bytes_eq, zero-add}
-use Rattle.std.specs.List.{AllByRecursion, list_all, range_with_len}
+use Rattle.std.specs.List.{All, list_all, range_with_len}
+use Rattle.std.proofs.lemmas.Bool.{and_parts, both_ways, false_from_ne_true, not-true}
+use Rattle.std.proofs.lemmas.List.Elements.{All-weaker, filter_passes}
+use Rattle.std.proofs.lemmas.List.Sums.{list_all-from_AllPass}
 use Rattle.std.proofs.lemmas.List.FromFn.{length-map-range_with_len, get_or-map-range_with_len}
-use Rattle.std.proofs.lemmas.List.Folds.{list_all-append}
+use Rattle.std.proofs.lemmas.List.Folds.{list_all-append, list_all-map}
 use Rattle.std.proofs.lemmas.Slice.Eq.{bytes_eq-Decides}
 use Rattle.std.proofs.Math.ListN.{length-map}
 use Rattle.grid_core.specs.declared.cells.Cell.{Cell}
@@ -77,19 +80,6 @@ Extends-antisym (x ∷ a) (y ∷ b) h k =
     let same : x ≡ y = cell_antisym x y h.0 k.0 in
     λ i. same i ∷ Extends-antisym a b h.1 k.1 i
 
-first_true : (a b : Bool) → (a && b) ≡ true → a ≡ true
-first_true true b h = refl
-first_true false b h = h
-
-second_true : (a b : Bool) → (a && b) ≡ true → b ≡ true
-second_true true b h = h
-second_true false b h = cc
-
--- a test that can't pass fails
-pub false_unless : (b : Bool) → (b ≡ true → ⊥) → b ≡ false
-false_unless true h = absurd (h refl)
-false_unless false h = refl
-
 -- ---- placings
 
 allows-Extends : (c : Cell) (b : Bool) → allows c b ≡ true → CellExtends c (colour b)
@@ -112,7 +102,7 @@ agrees-Extends [] [] h = tt
 agrees-Extends [] (b ∷ x) h = cc
 agrees-Extends (c ∷ l) [] h = cc
 agrees-Extends (c ∷ l) (b ∷ x) h =
-    (allows-Extends c b (first_true (allows c b) (agrees l x) h), agrees-Extends l x (second_true (allows c b) (agrees l x) h))
+    (allows-Extends c b (and_parts (allows c b) (agrees l x) h).0, agrees-Extends l x ((and_parts (allows c b) (agrees l x) h).1))
 
 -- and a full line that extends a line agrees with it
 pub Extends-agrees : (l : List Cell) (x : List Bool) → Extends l (map colour x) → agrees l x ≡ true
@@ -132,8 +122,8 @@ length-IsPlacing l clue x p = sym (length-map x colour) ∙ sym (length-Extends 
 -- a full line that passes the test is a placing
 pub test_IsPlacing : (l : List Cell) (clue : List ℕ) (x : List Bool) → is_placing l clue x ≡ true → IsPlacing l clue x
 test_IsPlacing l clue x h = record {
-  extends = agrees-Extends l x (first_true (agrees l x) (bytes_eq (runs x) clue) h);
-  runs_are = (bytes_eq-Decides (runs x) clue).0 (second_true (agrees l x) (bytes_eq (runs x) clue) h);
+  extends = agrees-Extends l x ((and_parts (agrees l x) (bytes_eq (runs x) clue) h).0);
+  runs_are = (bytes_eq-Decides (runs x) clue).0 ((and_parts (agrees l x) (bytes_eq (runs x) clue) h).1);
 }
 
 -- a placing passes the test
@@ -144,31 +134,19 @@ IsPlacing_test l clue x p = rw (Extends-agrees l x p.extends, (bytes_eq-Decides 
 pub record ListsPlacings (l : List Cell) (clue : List ℕ) (ps : List (List Bool)) : Type 0 where
   pub each : (q : List Bool → Bool) → list_all q ps ≡ true → (x : List Bool) → IsPlacing l clue x → q x ≡ true
   pub every : (q : List Bool → Bool) → ((x : List Bool) → IsPlacing l clue x → q x ≡ true) → list_all q ps ≡ true
-  pub members : AllByRecursion (IsPlacing l clue) ps
-
-list_all-map : {X Y : Type 0} (q : Y → Bool) (f : X → Y) (xs : List X) → list_all q (map f xs) ≡ list_all (λ x. q (f x)) xs
-list_all-map q f [] = refl
-list_all-map q f (x ∷ xs) = ap (λ (b : Bool). q (f x) && b) (list_all-map q f xs)
+  pub members : All (IsPlacing l clue) ps
 
 -- a test that passes on every full line passes on each
 each_full : (n : ℕ) (q : List Bool → Bool) → list_all q (full_lines n) ≡ true → (x : List Bool) → length x ≡ n → q x ≡ true
-each_full zero q h [] e = first_true (q []) true h
+each_full zero q h [] e = (and_parts (q []) true h).0
 each_full zero q h (b ∷ x) e = cc
 each_full (suc n) q h [] e = cc
 each_full (suc n) q h (b ∷ x) e =
-    let with_filled = map (λ (cells : List Bool). true ∷ cells) (full_lines n) in
-    let with_blank = map (λ (cells : List Bool). false ∷ cells) (full_lines n) in
-    let both : (list_all q with_filled && list_all q with_blank) ≡ true = sym (list_all-append q with_filled with_blank) ∙ h in
-    let filled : list_all (λ cells. q (true ∷ cells)) (full_lines n) ≡ true =
-    sym (list_all-map q (λ (cells : List Bool). true ∷ cells) (full_lines n))
-    ∙ first_true (list_all q with_filled) (list_all q with_blank) both in
-    let blank : list_all (λ cells. q (false ∷ cells)) (full_lines n) ≡ true =
-    sym (list_all-map q (λ (cells : List Bool). false ∷ cells) (full_lines n))
-    ∙ second_true (list_all q with_filled) (list_all q with_blank) both in
-    elim b as (λ b. q (b ∷ x) ≡ true) [
-      | true ↦ each_full n (λ cells. q (true ∷ cells)) filled x (omega arith)
-      | false ↦ each_full n (λ cells. q (false ∷ cells)) blank x (omega arith)
-    ]
+    let first = λ (b : Bool). map (λ (cells : List Bool). b ∷ cells) (full_lines n) in
+    let both : (list_all q (first true) && list_all q (first false)) ≡ true = sym (list_all-append q (first true) (first false)) ∙ h in
+    let parts = and_parts (list_all q (first true)) (list_all q (first false)) both in
+    let all : list_all q (first b) ≡ true = elim b as (λ b. list_all q (first b) ≡ true) [ true ↦ parts.0 | false ↦ parts.1 ] in
+    each_full n (λ cells. q (b ∷ cells)) (sym (list_all-map q (λ (cells : List Bool). b ∷ cells) (full_lines n)) ∙ all) x (omega arith)
 
 list_all-filter : (p q : List Bool → Bool) (xs : List (List Bool)) → list_all q (filter p xs) ≡ list_all (λ x. cond (p x) (q x) true) xs
 list_all-filter p q [] = refl
@@ -177,31 +155,13 @@ list_all-filter p q (x ∷ xs) =
     (λ b. list_all q (cond b (x ∷ filter p xs) (filter p xs)) ≡ (cond b (q x) true && list_all (λ y. cond (p y) (q y) true) xs))
     [ true ↦ ap (λ (b : Bool). q x && b) (list_all-filter p q xs) | false ↦ list_all-filter p q xs ]
 
-list_all_from : {X : Type 0} (q : X → Bool) (xs : List X) → AllByRecursion (λ x. q x ≡ true) xs → list_all q xs ≡ true
-list_all_from q [] h = refl
-list_all_from q (x ∷ xs) h = rw (h.0, list_all_from q xs h.1) refl
-
-each_weaker : {X : Type 0} (P Q : X → Type 0) (xs : List X) → ((x : X) → P x → Q x) → AllByRecursion P xs → AllByRecursion Q xs
-each_weaker P Q [] f h = tt
-each_weaker P Q (x ∷ xs) f h = (f x h.0, each_weaker P Q xs f h.1)
-
--- the kept elements pass the test
-kept_pass : {X : Type 0} (p : X → Bool) (xs : List X) → AllByRecursion (λ x. p x ≡ true) (filter p xs)
-kept_pass p [] = tt
-kept_pass p (x ∷ xs) = kept_pass_one (p x) refl (kept_pass p xs)
-  where
-    kept_pass_one : (b : Bool) → p x ≡ b → AllByRecursion (λ y. p y ≡ true) (filter p xs)
-        → AllByRecursion (λ y. p y ≡ true) (cond b (x ∷ filter p xs) (filter p xs))
-    kept_pass_one true e h = (e, h)
-    kept_pass_one false e h = h
-
 -- the placings of the definition are all placings
 pub placings_listed : (l : List Cell) (clue : List ℕ) → ListsPlacings l clue (placings l clue)
 placings_listed l clue =
     let p = is_placing l clue in
-    let members : AllByRecursion (IsPlacing l clue) (placings l clue) =
-    each_weaker (λ (x : List Bool). p x ≡ true) (IsPlacing l clue) (placings l clue) (test_IsPlacing l clue)
-    (kept_pass p (full_lines (length l))) in
+    let members : All (IsPlacing l clue) (placings l clue) =
+    All-weaker (λ (x : List Bool). p x ≡ true) (IsPlacing l clue) (test_IsPlacing l clue) (placings l clue)
+    (filter_passes p (full_lines (length l))) in
     record {
       each = λ q h x placing.
           let all : list_all (λ y. cond (p y) (q y) true) (full_lines (length l)) ≡ true =
@@ -209,13 +169,25 @@ placings_listed l clue =
           let at : cond (p x) (q x) true ≡ true =
           each_full (length l) (λ y. cond (p y) (q y) true) all x (length-IsPlacing l clue x placing) in
           rw (IsPlacing_test l clue x placing) at at;
-      every = λ q h. list_all_from q (placings l clue) (each_weaker (IsPlacing l clue) (λ x. q x ≡ true) (placings l clue) h members);
+      every = λ q h.
+          list_all-from_AllPass q (placings l clue) (All-weaker (IsPlacing l clue) (λ x. q x ≡ true) h (placings l clue) members);
       members = members;
     }
 
 -- if none are listed there is none
 pub no_placing : (l : List Cell) (clue : List ℕ) → ListsPlacings l clue [] → (x : List Bool) → IsPlacing l clue x → ⊥
 no_placing l clue listed x p = true≢false (sym (listed.each (λ _. false) refl x p))
+
+-- and if there is none, none are
+pub none_listed : (l : List Cell) (clue : List ℕ) (ps : List (List Bool)) → ListsPlacings l clue ps
+    → ((x : List Bool) → IsPlacing l clue x → ⊥) → ps ≡ []
+none_listed l clue [] listed none = refl
+none_listed l clue (y ∷ ps) listed none = absurd (none y (listed.members 0 y (omega arith)))
+
+-- a test that fails at one fails
+pub not_all : (l : List Cell) (clue : List ℕ) (ps : List (List Bool)) → ListsPlacings l clue ps → (q : List Bool → Bool) (y : List Bool)
+    → IsPlacing l clue y → q y ≡ false → list_all q ps ≡ false
+not_all l clue ps listed q y p e = false_from_ne_true (list_all q ps) (λ h. both_ways (q y) e (listed.each q h y p))
 
 -- a line extends another if it does so at each place
 pub Extends-from_places : (a b : List Cell) → length a ≡ length b
@@ -253,12 +225,6 @@ below_cell c true blank f b = subst (CellExtends Filled) (sym (f refl)) tt
 below_cell c false true f b = subst (CellExtends Blank) (sym (b refl)) tt
 below_cell c false false f b = tt
 
-above_cell : (c : Cell) (filled blank : Bool) → (c ≡ Filled → filled ≡ true) → (c ≡ Blank → (filled ≡ false) × (blank ≡ true))
-    → CellExtends c (cond filled Filled (cond blank Blank Unknown))
-above_cell Unknown filled blank f b = tt
-above_cell Filled filled blank f b = rw (f refl) tt
-above_cell Blank filled blank f b = let h = b refl in rw (h.0, h.1) tt
-
 filled_of : (x : Bool) → CellExtends Filled (colour x) → x ≡ true
 filled_of true h = refl
 filled_of false h = absurd h
@@ -267,19 +233,6 @@ blank_of : (x : Bool) → CellExtends Blank (colour x) → x ≡ false
 blank_of true h = absurd h
 blank_of false h = refl
 
--- the colour of a known cell in a placing
-known_filled : (l : List Cell) (clue : List ℕ) (x : List Bool) (k : ℕ) → IsPlacing l clue x → k < length l → get_or l k Unknown ≡ Filled
-    → get_or x k false ≡ true
-known_filled l clue x k p h e =
-    let at : CellExtends (get_or l k Unknown) (get_or (map colour x) k Unknown) = Extends-at l (map colour x) k p.extends in
-    filled_of (get_or x k false) (rw (e, get_or-map_colour x k (omega (arith, length-IsPlacing l clue x p))) at at)
-
-known_blank : (l : List Cell) (clue : List ℕ) (x : List Bool) (k : ℕ) → IsPlacing l clue x → k < length l → get_or l k Unknown ≡ Blank
-    → get_or x k false ≡ false
-known_blank l clue x k p h e =
-    let at : CellExtends (get_or l k Unknown) (get_or (map colour x) k Unknown) = Extends-at l (map colour x) k p.extends in
-    blank_of (get_or x k false) (rw (e, get_or-map_colour x k (omega (arith, length-IsPlacing l clue x p))) at at)
-
 length-shared : (n : ℕ) (ps : List (List Bool)) → length (map (shared_at ps) (range_with_len 0 n)) ≡ n
 length-shared n ps = length-map-range_with_len (shared_at ps) 0 n
 
@@ -287,32 +240,38 @@ get_or-shared : (n : ℕ) (ps : List (List Bool)) (k : ℕ) → k < n
     → get_or (map (shared_at ps) (range_with_len 0 n)) k Unknown ≡ shared_at ps k
 get_or-shared n ps k h = get_or-map-range_with_len (shared_at ps) 0 n k k Unknown h (zero-add k)
 
-not_all_filled : (l : List Cell) (clue : List ℕ) (ps : List (List Bool)) (k : ℕ) → ListsPlacings l clue ps → (y : List Bool)
-    → IsPlacing l clue y → get_or y k false ≡ false → list_all (filled_at k) ps ≡ false
-not_all_filled l clue ps k listed y p e =
-    false_unless (list_all (filled_at k) ps) (λ h. true≢false (sym (listed.each (filled_at k) h y p) ∙ e))
+-- a cell that each placing has
+greatest_at : (l : List Cell) (clue : List ℕ) (ps : List (List Bool)) (k : ℕ) → ListsPlacings l clue ps → (y : List Bool)
+    → IsPlacing l clue y → (c : Cell) → ((x : List Bool) → IsPlacing l clue x → CellExtends c (colour (get_or x k false)))
+    → CellExtends c (shared_at ps k)
+greatest_at l clue ps k listed y p Unknown h = tt
+greatest_at l clue ps k listed y p Filled h = rw (listed.every (filled_at k) (λ x q. filled_of (get_or x k false) (h x q))) tt
+greatest_at l clue ps k listed y p Blank h =
+    rw (not_all l clue ps listed (filled_at k) y p (blank_of (get_or y k false) (h y p)),
+    listed.every (blank_at k) (λ x q. ap not (blank_of (get_or x k false) (h x q)))) tt
 
-above_listed : (l : List Cell) (clue : List ℕ) (ps : List (List Bool)) → ListsPlacings l clue ps → AtMost (Some l) (shared (length l) ps)
-above_listed l clue [] listed = tt
-above_listed l clue (y ∷ ys) listed =
+greatest_listed : (l : List Cell) (clue : List ℕ) (ps : List (List Bool)) → ListsPlacings l clue ps → (o : Option (List Cell))
+    → ((x : List Bool) → IsPlacing l clue x → AtMost o (Some (map colour x))) → AtMost o (shared (length l) ps)
+greatest_listed l clue [] listed o h = tt
+greatest_listed l clue (y ∷ ys) listed None h = absurd (h y (listed.members 0 y (omega arith)))
+greatest_listed l clue (y ∷ ys) listed (Some d) h =
     let ps = y ∷ ys in
-    let n = length l in
-    Extends-from_places l (map (shared_at ps) (range_with_len 0 n)) (sym (length-shared n ps)) (λ k h.
-    rw (get_or-shared n ps k h)
-    (above_cell (get_or l k Unknown) (list_all (filled_at k) ps) (list_all (blank_at k) ps)
-    (λ e. listed.every (filled_at k) (λ x p. known_filled l clue x k p h e))
-    (λ e. (
-      not_all_filled l clue ps k listed y listed.members.0 (known_blank l clue y k listed.members.0 h e),
-      listed.every (blank_at k) (λ x p. ap not (known_blank l clue x k p h e)),
-    ))))
+    let p : IsPlacing l clue y = listed.members 0 y (omega arith) in
+    let long : length d ≡ length l =
+    length-Extends d (map colour y) (h y p) ∙ length-map y colour ∙ length-IsPlacing l clue y p in
+    Extends-from_places d (map (shared_at ps) (range_with_len 0 (length l))) (long ∙ sym (length-shared (length l) ps)) (λ k i.
+    rw (get_or-shared (length l) ps k (omega arith))
+    (greatest_at l clue ps k listed y p (get_or d k Unknown) (λ x q.
+    rw (get_or-map_colour x k (omega (arith, length-IsPlacing l clue x q))) at (Extends-at d (map colour x) k (h x q)))))
+
+-- what each placing has is deduced
+deduced-greatest : (l : List Cell) (clue : List ℕ) (o : Option (List Cell))
+    → ((x : List Bool) → IsPlacing l clue x → AtMost o (Some (map colour x))) → AtMost o (deduced l clue)
+deduced-greatest l clue = greatest_listed l clue (placings l clue) (placings_listed l clue)
 
 -- what is known stays known
 pub deduced-above : (l : List Cell) (clue : List ℕ) → AtMost (Some l) (deduced l clue)
-deduced-above l clue = above_listed l clue (placings l clue) (placings_listed l clue)
-
-not_true : (b : Bool) → not b ≡ true → b ≡ false
-not_true true h = cc
-not_true false h = refl
+deduced-above l clue = deduced-greatest l clue (Some l) (λ x p. p.extends)
 
 below_listed : (l : List Cell) (clue : List ℕ) (ps : List (List Bool)) → ListsPlacings l clue ps → (x : List Bool) → IsPlacing l clue x
     → AtMost (shared (length l) ps) (Some (map colour x))
@@ -327,39 +286,17 @@ below_listed l clue (y ∷ ys) listed x p =
     rw (get_or-shared n ps k within, get_or-map_colour x k (omega arith))
     (below_cell (colour (get_or x k false)) (list_all (filled_at k) ps) (list_all (blank_at k) ps)
     (λ e. ap colour (listed.each (filled_at k) e x p))
-    (λ e. ap colour (not_true (get_or x k false) (listed.each (blank_at k) e x p)))))
+    (λ e. ap colour (not-true (get_or x k false) (listed.each (blank_at k) e x p)))))
 
 -- each placing has what is deduced
 pub deduced-below : (l : List Cell) (clue : List ℕ) (x : List Bool) → IsPlacing l clue x → AtMost (deduced l clue) (Some (map colour x))
 deduced-below l clue x p = below_listed l clue (placings l clue) (placings_listed l clue) x p
 
-weaker_placing : (l m : List Cell) (clue : List ℕ) → Extends l m → (x : List Bool) → IsPlacing m clue x → IsPlacing l clue x
-weaker_placing l m clue h x p = record { extends = Extends-trans l m (map colour x) h p.extends; runs_are = p.runs_are }
-
-monotone_listed : (l m : List Cell) (clue : List ℕ) (ps qs : List (List Bool)) → ListsPlacings l clue ps → ListsPlacings m clue qs
-    → Extends l m → AtMost (shared (length l) ps) (shared (length m) qs)
-monotone_listed l m clue ps [] lp lq h = tt
-monotone_listed l m clue [] (z ∷ zs) lp lq h = absurd (no_placing l clue lp z (weaker_placing l m clue h z lq.members.0))
-monotone_listed l m clue (y ∷ ys) (z ∷ zs) lp lq h =
-    let ps = y ∷ ys in
-    let qs = z ∷ zs in
-    let n = length l in
-    let same : length l ≡ length m = length-Extends l m h in
-    Extends-from_places (map (shared_at ps) (range_with_len 0 n)) (map (shared_at qs) (range_with_len 0 (length m)))
-    (length-shared n ps ∙ same ∙ sym (length-shared (length m) qs)) (λ k i.
-    let within : k < n = omega (arith, length-shared n ps) in
-    rw (get_or-shared n ps k within, get_or-shared (length m) qs k (omega arith))
-    (below_cell (shared_at qs k) (list_all (filled_at k) ps) (list_all (blank_at k) ps)
-    (λ e. rw (lq.every (filled_at k) (λ x p. lp.each (filled_at k) e x (weaker_placing l m clue h x p))) refl)
-    (λ e.
-    let all : list_all (blank_at k) qs ≡ true = lq.every (blank_at k) (λ x p. lp.each (blank_at k) e x (weaker_placing l m clue h x p)) in
-    let some : get_or z k false ≡ false = not_true (get_or z k false) (lq.each (blank_at k) all z lq.members.0) in
-    rw (not_all_filled m clue qs k lq z lq.members.0 some, all) refl)))
-
 -- if more is known, no less is deduced
 pub deduced-monotone : (l m : List Cell) (clue : List ℕ) → Extends l m → AtMost (deduced l clue) (deduced m clue)
 deduced-monotone l m clue h =
-    monotone_listed l m clue (placings l clue) (placings m clue) (placings_listed l clue) (placings_listed m clue) h
+    deduced-greatest m clue (deduced l clue) (λ x p.
+    deduced-below l clue x (record { extends = Extends-trans l m (map colour x) h p.extends; runs_are = p.runs_are }))
 
 colour_inj : (a b : Bool) → CellExtends (colour a) (colour b) → b ≡ a
 colour_inj true true h = refl
@@ -376,7 +313,8 @@ full_same (a ∷ x) (b ∷ y) h = λ i. colour_inj a b h.0 i ∷ full_same x y h
 full_listed : (x : List Bool) (clue : List ℕ) (ps : List (List Bool)) → ListsPlacings (map colour x) clue ps → (d : List Cell)
     → shared (length (map colour x)) ps ≡ Some d → runs x ≡ clue
 full_listed x clue [] listed d e = cc
-full_listed x clue (y ∷ ys) listed d e = ap runs (sym (full_same x y listed.members.0.extends)) ∙ listed.members.0.runs_are
+full_listed x clue (y ∷ ys) listed d e = 
+    let p : IsPlacing (map colour x) clue y = listed.members 0 y (omega arith) in ap runs (sym (full_same x y p.extends)) ∙ p.runs_are
 
 -- a full line that isn't dead has the clue's runs
 pub deduced-full : (x : List Bool) (clue : List ℕ) (d : List Cell) → deduced (map colour x) clue ≡ Some d → runs x ≡ clue
@@ -384,33 +322,17 @@ deduced-full x clue d e = full_listed x clue (placings (map colour x) clue) (pla
 
 -- ---- a deduced line has no more to give
 
-same_test : (a b : Bool) → (a ≡ true → b ≡ true) → (b ≡ true → a ≡ true) → a ≡ b
-same_test true b h k = sym (h refl)
-same_test false true h k = k refl
-same_test false false h k = refl
+AtMost-antisym : (o : Option (List Cell)) (d : List Cell) → AtMost o (Some d) → AtMost (Some d) o → o ≡ Some d
+AtMost-antisym None d h k = absurd h
+AtMost-antisym (Some c) d h k = ap (λ (cells : List Cell). Some cells) (Extends-antisym c d h k)
 
-filter-same : (p q : List Bool → Bool) → ((x : List Bool) → p x ≡ q x) → (xs : List (List Bool)) → filter p xs ≡ filter q xs
-filter-same p q h [] = refl
-filter-same p q h (x ∷ xs) = rw (h x, filter-same p q h xs) refl
-
-same_placings : (l d : List Cell) (clue : List ℕ) → Extends l d → ((x : List Bool) → IsPlacing l clue x → Extends d (map colour x))
-    → filter (is_placing d clue) (full_lines (length l)) ≡ placings l clue
-same_placings l d clue h below =
-    (filter-same (is_placing d clue) (is_placing l clue)
-    (λ x.
-    same_test (is_placing d clue x) (is_placing l clue x)
-    (λ t. let p = test_IsPlacing d clue x t in
-    IsPlacing_test l clue x (record { extends = Extends-trans l d (map colour x) h p.extends; runs_are = p.runs_are }))
-    (λ t. let p = test_IsPlacing l clue x t in IsPlacing_test d clue x (record { extends = below x p; runs_are = p.runs_are })))
-    (full_lines (length l)))
-
--- deducing what was deduced changes nothing
+-- deducing what was deduced changes nothing: each placing of the line is one of the deduced line
 pub deduced-settled : (l d : List Cell) (clue : List ℕ) → deduced l clue ≡ Some d → deduced d clue ≡ Some d
 deduced-settled l d clue e =
-    let h : Extends l d = rw e at (deduced-above l clue) in
-    let same : filter (is_placing d clue) (full_lines (length l)) ≡ placings l clue =
-    same_placings l d clue h (λ x p. rw e at (deduced-below l clue x p)) in
-    rw (sym (length-Extends l d h)) (ap (shared (length l)) same ∙ e)
+    AtMost-antisym (deduced d clue) d
+    (rw e at (deduced-greatest l clue (deduced d clue) (λ x p.
+    deduced-below d clue x (record { extends = rw e at (deduced-below l clue x p); runs_are = p.runs_are }))))
+    (deduced-above d clue)
 
 -- the deduced line is as long as the line
 pub length-deduced : (l d : List Cell) (clue : List ℕ) → Some d ≡ deduced l clue → length d ≡ length l

@@ -1,6 +1,7 @@
 -- What the leftmost and the rightmost starts are.
 use Rattle.std.proofs.Common.{◌≡◌, ℕ, zero, suc, ◌<◌, Bool, true, false, List, [], ◌∷◌, length, map, Some, refl, sym, ap, ◌∙◌, subst, arith, inl, inr, ◌⊎◌, get_or, nat_le, filter}
-use Rattle.std.specs.List.{AllByRecursion, list_all, find, range_with_len}
+use Rattle.std.proofs.lemmas.List.Elements.{All-head, All-tail}
+use Rattle.std.specs.List.{All, list_all, find, range_with_len}
 use Rattle.std.proofs.lemmas.Bool.{cases_lt, leb-true, le-leb}
 use Rattle.std.proofs.lemmas.List.FromFn.{length-map-range_with_len, get_or-map-range_with_len}
 use Rattle.grid_core.specs.declared.cells.Cell.{Cell}
@@ -16,10 +17,10 @@ use Rattle.line_core.proofs.Painting.{IsLaid, Witness}
 use Rattle.line_core.proofs.Outermost.{all_as_far, laid_placing, outermost_found, outermost_of, placed, pass_all}
 
 -- the first that passes is a member, and passes
-found : (P : List Bool → Type 0) (p : List ℕ → Bool) (m : List ℕ) (ps : List (List Bool)) → AllByRecursion P ps
+found : (P : List Bool → Type 0) (p : List ℕ → Bool) (m : List ℕ) (ps : List (List Bool)) → All P ps
     → find p (map run_starts ps) ≡ Some m → (p m ≡ true) × ((x : List Bool) × P x × (run_starts x ≡ m))
 found P p m [] all e = cc
-found P p m (x ∷ ps) all e = by (p (run_starts x)) refl (found P p m ps all.1)
+found P p m (x ∷ ps) all e = by (p (run_starts x)) refl (found P p m ps (All-tail P x ps all))
   where
     by : (b : Bool) → p (run_starts x) ≡ b
         → (find p (map run_starts ps) ≡ Some m → (p m ≡ true) × ((x : List Bool) × P x × (run_starts x ≡ m)))
@@ -27,7 +28,7 @@ found P p m (x ∷ ps) all e = by (p (run_starts x)) refl (found P p m ps all.1)
     by true t rest =
         let here : Some (run_starts x) ≡ Some m = rw t at e in
         let same : run_starts x ≡ m = cc in
-        (subst (λ (z : List ℕ). p z ≡ true) same t, (x, all.0, same))
+        (subst (λ (z : List ℕ). p z ≡ true) same t, (x, All-head P x ps all, same))
     by false t rest = rest (rw t at e)
 
 starts_of : (l : List Cell) (clue m : List ℕ) → ((x : List Bool) × IsPlacing l clue x × (run_starts x ≡ m)) → AreStarts l clue m
@@ -79,15 +80,15 @@ either_far Right i j = elim (cases_lt i j) [ inl low ↦ inr (omega arith) | inr
 
 -- a member at which a number is furthest to a side
 outer_member : (side : Side) (P : List Bool → Type 0) (f : List Bool → ℕ) (x : List Bool) (ps : List (List Bool)) → P x →
-    AllByRecursion P ps → (z : List Bool) × P z × IsAsFar side (f z) (f x) × (list_all (λ y. as_far side (f z) (f y)) ps ≡ true)
+    All P ps → (z : List Bool) × P z × IsAsFar side (f z) (f x) × (list_all (λ y. as_far side (f z) (f y)) ps ≡ true)
 outer_member side P f x [] p all = (x, p, far_same side (f x), refl)
 outer_member side P f x (y ∷ ps) p all =
     elim (either_far side (f x) (f y)) [
       | inl far ↦
-          (let r = outer_member side P f x ps p all.1 in
+          (let r = outer_member side P f x ps p (All-tail P y ps all) in
           (r.0, r.1, r.2, rw (far_is side (f r.0) (f y) (far_then side (f r.0) (f x) (f y) r.2 far)) r.3))
       | inr far ↦
-          (let r = outer_member side P f y ps all.0 all.1 in
+          (let r = outer_member side P f y ps (All-head P y ps all) (All-tail P y ps all) in
           (r.0, r.1, far_then side (f r.0) (f y) (f x) r.2 far, rw (far_is side (f r.0) (f y) r.2) r.3))
     ]
 

@@ -1,7 +1,8 @@
 -- The placing whose starts are all least, and the one whose starts are all greatest.
 use Rattle.std.proofs.Common.{◌≡◌, ℕ, zero, suc, ◌+◌, ◌-◌, ◌<◌, ◌≤◌, Bool, true, false, not, ◌&&◌, List, [], ◌∷◌, ◌++◌, length, replicate, map, Some, None, refl, sym, ap, ◌∙◌, subst, arith, add-one, true≢false, drop, get_or, drop-cons, ext_get_or, nat_le, set, take, MatchBool}
-use Rattle.std.specs.List.{AllByRecursion, list_all, find}
-use Rattle.std.proofs.lemmas.Bool.{leb-true, le-leb}
+use Rattle.std.specs.List.{All, list_all, find}
+use Rattle.std.proofs.lemmas.List.Elements.{All-head, All-tail, All-weaker}
+use Rattle.std.proofs.lemmas.Bool.{and_parts, leb-true, le-leb}
 use Rattle.std.proofs.lemmas.List.Folds.{list_all-map}
 use Rattle.std.proofs.lemmas.List.{length-take-le, get_or-take}
 use lib.Pointwise.{pointwise}
@@ -20,7 +21,7 @@ use Rattle.line_core.proofs.LineCells.{written_more}
 use Rattle.line_core.specs.steps.Reach.{behind, MayBe, MayBeginBlank, IsStartAfter, IsWholeEnd, IsGap, IsGapAhead, HasPlacing}
 use Rattle.line_core.proofs.RunLaws.{ArePositive}
 use Rattle.line_core.proofs.Joining.{onto, length-agrees, length_behind, onto_behind, onto_agrees, agrees_onto, run_agrees, agrees_run, positive_at, runs_about, blankable_to, blankable_from}
-use Rattle.line_core.proofs.DeductionLaws.{IsPlacing, ListsPlacings, placings_listed, false_unless, agrees-Extends, Extends-agrees}
+use Rattle.line_core.proofs.DeductionLaws.{IsPlacing, placings_listed, none_listed, not_all, agrees-Extends, Extends-agrees}
 use Rattle.line_core.proofs.RunStarts.{starts_from, run_starts-from, start_of_cut, run_of, covered}
 use Rattle.line_core.proofs.Painting.{IsLaid, Witness, laid, placing_of, least_laid, greatest_laid}
 
@@ -94,16 +95,12 @@ pointwise_from (x ∷ xs) [] e h = absurd (omega arith)
 pointwise_from (x ∷ xs) (y ∷ ys) e h =
     rw (le-leb x y (h 0 (omega arith)), pointwise_from xs ys (omega arith) (λ j l. h (suc j) (omega arith))) refl
 
-both_true : (a b : Bool) → (a && b) ≡ true → (a ≡ true) × (b ≡ true)
-both_true true b h = (refl, h)
-both_true false b h = cc
-
 pointwise_to : (xs ys : List ℕ) → pointwise nat_le xs ys ≡ true → (length xs ≡ length ys) × ((j : ℕ) → get_or xs j 0 ≤ get_or ys j 0)
 pointwise_to [] [] h = (refl, λ j. omega arith)
 pointwise_to [] (y ∷ ys) h = cc
 pointwise_to (x ∷ xs) [] h = cc
 pointwise_to (x ∷ xs) (y ∷ ys) h =
-    let t = both_true (nat_le x y) (pointwise nat_le xs ys) h in
+    let t = and_parts (nat_le x y) (pointwise nat_le xs ys) h in
     let rest = pointwise_to xs ys t.1 in
     (ap suc rest.0, by (leb-true x y t.0) rest.1)
   where
@@ -138,19 +135,18 @@ outermost_found Left l clue = refl
 outermost_found Right l clue = refl
 
 -- the first that passes is the only one that does
-find_only : (p : List ℕ → Bool) (m : List ℕ) (ps : List (List Bool)) → AllByRecursion (λ x. p (run_starts x) ≡ true → run_starts x ≡ m) ps
+find_only : (p : List ℕ → Bool) (m : List ℕ) (ps : List (List Bool)) → All (λ x. p (run_starts x) ≡ true → run_starts x ≡ m) ps
     → list_all (λ x. not (p (run_starts x))) ps ≡ false → find p (map run_starts ps) ≡ Some m
 find_only p m [] only h = cc
-find_only p m (x ∷ ps) only h = by (p (run_starts x)) refl (find_only p m ps only.1)
+find_only p m (x ∷ ps) only h =
+    let P = λ (y : List Bool). p (run_starts y) ≡ true → run_starts y ≡ m in
+    by (p (run_starts x)) refl (All-head P x ps only) (find_only p m ps (All-tail P x ps only))
   where
-    by : (b : Bool) → p (run_starts x) ≡ b → (list_all (λ x. not (p (run_starts x))) ps ≡ false → find p (map run_starts ps) ≡ Some m)
+    by : (b : Bool) → p (run_starts x) ≡ b → (p (run_starts x) ≡ true → run_starts x ≡ m)
+        → (list_all (λ x. not (p (run_starts x))) ps ≡ false → find p (map run_starts ps) ≡ Some m)
         → find p (run_starts x ∷ map run_starts ps) ≡ Some m
-    by true e rest = rw e (ap (λ (z : List ℕ). Some z) (only.0 e))
-    by false e rest = rw e (rest (sym (ap (λ (v : Bool). not v && list_all (λ x. not (p (run_starts x))) ps) e) ∙ h))
-
-every : (P Q : List Bool → Type 0) (ps : List (List Bool)) → ((x : List Bool) → P x → Q x) → AllByRecursion P ps → AllByRecursion Q ps
-every P Q [] f h = tt
-every P Q (x ∷ ps) f h = (f x h.0, every P Q ps f h.1)
+    by true e here rest = rw e (ap (λ (z : List ℕ). Some z) (here e))
+    by false e here rest = rw e (rest (sym (ap (λ (v : Bool). not v && list_all (λ x. not (p (run_starts x))) ps) e) ∙ h))
 
 -- the starts of a placing lay the clue
 pub laid_placing : (l : List Cell) (clue : List ℕ) (x : List Bool) → IsPlacing l clue x → IsLaid l clue (run_starts x)
@@ -171,11 +167,10 @@ pass_all l clue p h x q = (placings_listed l clue).each (λ x. p (run_starts x))
 found_is : (l : List Cell) (clue m : List ℕ) (p : List ℕ → Bool) (x : List Bool) → IsPlacing l clue x → run_starts x ≡ m → p m ≡ true
     → ((y : List Bool) → IsPlacing l clue y → p (run_starts y) ≡ true → run_starts y ≡ m) → find p (all_starts l clue) ≡ Some m
 found_is l clue m p x q at pass only =
+    let listed = placings_listed l clue in
     find_only p m (placings l clue)
-    (every (IsPlacing l clue) (λ y. p (run_starts y) ≡ true → run_starts y ≡ m) (placings l clue) only (placings_listed l clue).members)
-    (false_unless (list_all (λ y. not (p (run_starts y))) (placings l clue)) (λ e.
-    let no : not (p (run_starts x)) ≡ true = (placings_listed l clue).each (λ y. not (p (run_starts y))) e x q in
-    true≢false (sym no ∙ ap (λ (z : List ℕ). not (p z)) at ∙ ap not pass)))
+    (All-weaker (IsPlacing l clue) (λ y. p (run_starts y) ≡ true → run_starts y ≡ m) only (placings l clue) listed.members)
+    (not_all l clue (placings l clue) listed (λ y. not (p (run_starts y))) x q (ap (λ (z : List ℕ). not (p z)) at ∙ ap not pass))
 
 -- starts that lay the clue are those of a placing
 pub placed : (l : List Cell) (clue m : List ℕ) → ArePositive clue → IsLaid l clue m
@@ -198,11 +193,6 @@ furthest_is side l clue m pos d furthest =
     as_far_antisym side (run_starts y) m
     (ap (all_as_far side (run_starts y)) (sym x.2) ∙ pass_all l clue (all_as_far side (run_starts y)) t x.0 x.1)
     (pass_all l clue (all_as_far side m) pass y q))
-
-none_listed : (l : List Cell) (clue : List ℕ) (ps : List (List Bool)) → ListsPlacings l clue ps → ((x : List Bool) → IsPlacing l clue x → ⊥)
-    → ps ≡ []
-none_listed l clue [] listed none = refl
-none_listed l clue (x ∷ ps) listed none = absurd (none x listed.members.0)
 
 -- ---- either side
 
