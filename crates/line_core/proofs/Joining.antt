@@ -19,6 +19,15 @@ length-agrees [] (b ∷ x) h = cc
 length-agrees (c ∷ l) [] h = cc
 length-agrees (c ∷ l) (b ∷ x) h = ap suc (length-agrees l x (and_parts (allows c b) (agrees l x) h).1)
 
+-- a filled cell is on the line
+pub filled_within : (x : List Bool) (i : ℕ) → get_or x i false ≡ true → i < length x
+filled_within [] i h = cc
+filled_within (b ∷ x) zero h = omega arith
+filled_within (b ∷ x) (suc i) h = omega (arith, filled_within x i h)
+
+pub filled_agrees : (l : List Cell) (x : List Bool) (i : ℕ) → agrees l x ≡ true → get_or x i false ≡ true → i < length l
+filled_agrees l x i agree filled = omega (arith, filled_within x i filled, length-agrees l x agree)
+
 -- ---- a list reversed in front of another
 
 -- a list reversed in front of another
@@ -124,11 +133,17 @@ runs_closed n [] h = runs_after-nil n
 runs_closed n (true ∷ b) h = cc
 runs_closed n (false ∷ b) h = runs_after-close n b ∙ ap (λ (rs : List ℕ). suc n ∷ rs) (runs_after-zero b)
 
-runs_around : (a : List Bool) (n : ℕ) (b : List Bool) → get_or a 0 false ≡ false → get_or b 0 false ≡ false
-    → runs (onto a (replicate (suc n) true ++ b)) ≡ onto (runs a) (suc n ∷ runs b)
-runs_around [] n b h k = runs_run (suc n) b ∙ runs_closed n b k
-runs_around (true ∷ a) n b h k = cc
-runs_around (false ∷ a) n b h k = runs_cut a (replicate (suc n) true ++ b) ∙ ap (onto (runs a)) (runs_run (suc n) b ∙ runs_closed n b k)
+-- the runs of a line that begins with one
+pub runs_first : (c : ℕ) (b : List Bool) → 0 < c → get_or b 0 false ≡ false → runs (replicate c true ++ b) ≡ c ∷ runs b
+runs_first zero b p k = absurd (omega arith)
+runs_first (suc n) b p k = runs_run (suc n) b ∙ runs_closed n b k
+
+-- the runs of a line that is cut round a run
+pub runs_about : (a : List Bool) (c : ℕ) (b : List Bool) → 0 < c → get_or a 0 false ≡ false → get_or b 0 false ≡ false
+    → runs (onto a (replicate c true ++ b)) ≡ onto (runs a) (c ∷ runs b)
+runs_about [] c b p h k = runs_first c b p k
+runs_about (true ∷ a) c b p h k = cc
+runs_about (false ∷ a) c b p h k = runs_cut a (replicate c true ++ b) ∙ ap (onto (runs a)) (runs_first c b p k)
 
 -- ---- parts of a clue
 
@@ -140,20 +155,20 @@ positive_at (c ∷ clue) p (suc j) h = positive_at clue p.1 j (omega arith)
 
 -- ---- a run on the line
 
--- cells that may be filled agree with a run
-pub agrees_run : (l : List Cell) (n s : ℕ) (y : List Bool) → AllFrom (MayBe l true) n s → agrees (drop (s + n) l) y ≡ true
-    → agrees (drop s l) (replicate n true ++ y) ≡ true
-agrees_run l zero s y o h = let e : s + 0 ≡ s = omega arith in subst (λ (k : ℕ). agrees (drop k l) y ≡ true) e h
-agrees_run l (suc n) s y o h =
-    let zeroth : s + 0 ≡ s = omega arith in
-    let first : MayBe l true s = subst (MayBe l true) zeroth (o 0 (omega arith)) in
-    let e : s + suc n ≡ suc s + n = omega arith in
-    let rest : agrees (drop (suc s) l) (replicate n true ++ y) ≡ true =
-    agrees_run l n (suc s) y (λ z b. let f : s + suc z ≡ suc s + z = omega arith in subst (MayBe l true) f (o (suc z) (omega arith)))
+-- cells that may have a colour agree with as many of it
+pub agrees_span : (l : List Cell) (v : Bool) (n p : ℕ) (y : List Bool) → AllFrom (MayBe l v) n p → agrees (drop (p + n) l) y ≡ true
+    → agrees (drop p l) (replicate n v ++ y) ≡ true
+agrees_span l v zero p y o h = let e : p + 0 ≡ p = omega arith in subst (λ (k : ℕ). agrees (drop k l) y ≡ true) e h
+agrees_span l v (suc n) p y o h =
+    let zeroth : p + 0 ≡ p = omega arith in
+    let first : MayBe l v p = subst (MayBe l v) zeroth (o 0 (omega arith)) in
+    let e : p + suc n ≡ suc p + n = omega arith in
+    let rest : agrees (drop (suc p) l) (replicate n v ++ y) ≡ true =
+    agrees_span l v n (suc p) y (λ z b. let f : p + suc z ≡ suc p + z = omega arith in subst (MayBe l v) f (o (suc z) (omega arith)))
     (subst (λ (k : ℕ). agrees (drop k l) y ≡ true) e h) in
-    let split : drop s l ≡ get_or l s Unknown ∷ drop (suc s) l = drop-cons l s Unknown first.0 in
-    subst (λ (t : List Cell). agrees t (true ∷ (replicate n true ++ y)) ≡ true) (sym split)
-    (and_from (allows (get_or l s Unknown) true) (agrees (drop (suc s) l) (replicate n true ++ y)) first.1 rest)
+    let split : drop p l ≡ get_or l p Unknown ∷ drop (suc p) l = drop-cons l p Unknown first.0 in
+    subst (λ (t : List Cell). agrees t (v ∷ (replicate n v ++ y)) ≡ true) (sym split)
+    (and_from (allows (get_or l p Unknown) v) (agrees (drop (suc p) l) (replicate n v ++ y)) first.1 rest)
 
 -- what remains of a line after its cells at s
 drop_past : (l : List Cell) (s : ℕ) (b : Bool) (y : List Bool) → agrees (drop s l) (b ∷ y) ≡ true
@@ -199,21 +214,11 @@ begins (false ∷ y) = record { count = 0; rest = false ∷ y; whole = refl; clo
 begins (true ∷ y) =
     let b = begins y in record { count = suc b.count; rest = b.rest; whole = ap (λ (t : List Bool). true ∷ t) b.whole; closed = b.closed }
 
-onto_run : (z : ℕ) (a w : List Bool) → onto (replicate z true ++ a) w ≡ onto a (replicate z true ++ w)
-onto_run zero a w = refl
-onto_run (suc z) a w = onto_run z a (true ∷ w) ∙ ap (onto a) (moved z w)
-  where
-    moved : (z : ℕ) (w : List Bool) → replicate z true ++ (true ∷ w) ≡ true ∷ (replicate z true ++ w)
-    moved zero w = refl
-    moved (suc z) w = ap (λ (t : List Bool). true ∷ t) (moved z w)
+-- a line whose first cell is filled begins with a run
+pub begins_some : (y : List Bool) (b : Begins y) → get_or y 0 false ≡ true → 0 < b.count
+begins_some y b h = search rules
 
-run_run : (z m : ℕ) (w : List Bool) → replicate z true ++ (replicate m true ++ w) ≡ replicate (z + m) true ++ w
-run_run zero m w = ap (λ (k : ℕ). replicate k true ++ w) (sym (zero-add m))
-run_run (suc z) m w =
-    let e : suc (z + m) ≡ suc z + m = omega arith in
-    ap (λ (t : List Bool). true ∷ t) (run_run z m w) ∙ ap (λ (k : ℕ). replicate k true ++ w) e
-
--- ---- the two final facts, and back
+-- ---- where a placing may be blank, and back
 
 -- a cell that the masks tell blank is blank in a placing
 pub blankable_to : (l : List Cell) (clue : List ℕ) (i : ℕ) → IsBlankable l clue i → CanBe l clue false i
@@ -256,94 +261,6 @@ blankable_from l clue i h (x, agree, is, at) =
       parts.2,
       (here.0, (a, cut.0, parts.0)),
       (here.0, (b, after, parts.1)),
-    )
-
--- the runs of a line that is cut round a run
-pub runs_about : (a : List Bool) (c : ℕ) (b : List Bool) → 0 < c → get_or a 0 false ≡ false → get_or b 0 false ≡ false
-    → runs (onto a (replicate c true ++ b)) ≡ onto (runs a) (c ∷ runs b)
-runs_about a zero b p h k = absurd (omega arith)
-runs_about a (suc n) b p h k = runs_around a n b h k
-
-pub length_run : (z : ℕ) (a : List Bool) → length (replicate z true ++ a) ≡ z + length a
-length_run zero a = omega arith
-length_run (suc z) a = omega (arith, length_run z a)
-
--- a cell that the masks tell filled is filled in a placing
-pub fillable_to : (l : List Cell) (clue : List ℕ) (i : ℕ) → ArePositive clue → IsFillable l clue i → CanBe l clue true i
-fillable_to l clue i pos (j, jl, (z, zb, w)) =
-    let c = get_or clue j 0 in
-    let cp : 0 < c = positive_at clue pos j jl in
-    let s = i + z + 1 - c in
-    let enough : c ≤ i + z + 1 = w.0.0 in
-    let cells : AllFrom (MayBe l true) c s = w.0.1.1 in
-    let first : s + 0 < length l = (cells 0 cp).0 in
-    let a = w.0.1.0 in
-    let b = w.1 in
-    let past : i + z + 1 ≡ s + c = omega arith in
-    let here : agrees (drop s l) (replicate c true ++ b.0) ≡ true =
-    agrees_run l c s b.0 cells (subst (λ (k : ℕ). agrees (drop k l) b.0 ≡ true) past b.1) in
-    let long : length a.0 ≡ s = length-agrees (behind Unknown l s) a.0 a.1 ∙ length_behind Unknown l s in
-    let at : length a.0 + (i - s) ≡ i = omega arith in
-    let x = onto a.0 (replicate c true ++ b.0) in
-    let clue_at : c ∷ drop (j + 1) clue ≡ drop j clue = ap (λ (k : ℕ). c ∷ drop k clue) (add-one j) ∙ sym (drop-cons clue j 0 jl) in (
-      x,
-      subst (λ (t : List Cell). agrees t x ≡ true) (onto_behind Unknown l s (omega arith))
-          (agrees_onto (behind Unknown l s) (drop s l) a.0 (replicate c true ++ b.0) a.1 here),
-      runs_about a.0 c b.0 cp a.3 b.3 ∙ ap (λ (p : List ℕ). onto p (c ∷ runs b.0)) a.2
-          ∙ ap (λ (q : List ℕ). onto (behind 0 clue j) (c ∷ q)) b.2
-          ∙ ap (onto (behind 0 clue j)) clue_at ∙ onto_behind 0 clue j (omega arith),
-      ap (λ (k : ℕ). get_or x k false) (sym at) ∙ get_or-onto false a.0 (replicate c true ++ b.0) (i - s)
-          ∙ get_or-run c b.0 (i - s) (omega arith),
-    )
-
--- a line whose first cell is filled begins with a run
-pub begins_some : (y : List Bool) (b : Begins y) → get_or y 0 false ≡ true → 0 < b.count
-begins_some y b h = search rules
-
--- and a cell that is filled in a placing is told so
-pub fillable_from : (l : List Cell) (clue : List ℕ) (i : ℕ) → i < length l → CanBe l clue true i → IsFillable l clue i
-fillable_from l clue i h (x, agree, is, at) =
-    let long : length x ≡ length l = length-agrees l x agree in
-    let within : i < length x = omega arith in
-    let u = begins (behind false x i) in
-    let v = begins (drop i x) in
-    let ahead : drop i x ≡ get_or x i false ∷ drop (suc i) x = drop-cons x i false within in
-    let some : 0 < v.count = begins_some (drop i x) v (ap (λ (t : List Bool). get_or t 0 false) ahead ∙ at) in
-    let c = u.count + v.count in
-    let s = length u.rest in
-    let place : i ≡ u.count + s = sym (length_behind false x i) ∙ ap length u.whole ∙ length_run u.count u.rest in
-    let y = replicate c true ++ v.rest in
-    let whole : onto u.rest y ≡ x =
-    ap (onto u.rest) (sym (run_run u.count v.count v.rest)) ∙ sym (onto_run u.count u.rest (replicate v.count true ++ v.rest))
-    ∙ ap (λ (t : List Bool). onto t (replicate v.count true ++ v.rest)) (sym u.whole) ∙ ap (onto (behind false x i)) (sym v.whole)
-    ∙ onto_behind false x i (omega arith) in
-    let parts =
-    onto_split (runs u.rest) (c ∷ runs v.rest) clue
-    (sym (runs_about u.rest c v.rest (omega arith) u.closed v.closed) ∙ ap runs whole ∙ is) in
-    let j = length (runs u.rest) in
-    let head = drop_head clue j c (runs v.rest) parts.1 in
-    let inside : s ≤ length l = omega arith in
-    let both : agrees (onto (behind Unknown l s) (drop s l)) (onto u.rest y) ≡ true =
-    subst (λ (t : List Cell). agrees t (onto u.rest y) ≡ true) (sym (onto_behind Unknown l s inside))
-    (subst (λ (t : List Bool). agrees l t ≡ true) (sym whole) agree) in
-    let cut = onto_agrees (behind Unknown l s) (drop s l) u.rest y (length_behind Unknown l s) both in
-    let run = run_agrees l c s v.rest cut.1 in
-    let start : s ≡ i + (v.count - 1) + 1 - c = omega arith in
-    let past : s + c ≡ i + (v.count - 1) + 1 = omega arith in
-    let before : MayBeginBlank (behind Unknown l s) (behind 0 clue j) =
-    (u.rest, cut.0, parts.0, u.closed) in
-    let rest_is : runs v.rest ≡ drop (j + 1) clue = head.1 ∙ ap (λ (k : ℕ). drop k clue) (sym (add-one j)) in
-    let after : MayBeginBlank (drop (s + c) l) (drop (j + 1) clue) =
-    (v.rest, run.1, rest_is, v.closed) in
-    let ends : IsEndAfter l (behind 0 clue j) c (i + (v.count - 1)) =
-    (omega arith, subst (λ (k : ℕ). MayBeginBlank (behind Unknown l k) (behind 0 clue j) × AllFrom (MayBe l true) c k) start (before, run.0)) in
-    let enough : v.count - 1 < c = omega arith in
-    let found : SomeFrom (λ e. IsEndAfter l (behind 0 clue j) c e × MayBeginBlank (drop (e + 1) l) (drop (j + 1) clue)) c i =
-    (v.count - 1, enough, (ends, subst (λ (k : ℕ). MayBeginBlank (drop k l) (drop (j + 1) clue)) past after)) in (
-      j,
-      head.2,
-      subst (λ (n : ℕ). SomeFrom (λ e. IsEndAfter l (behind 0 clue j) n e × MayBeginBlank (drop (e + 1) l) (drop (j + 1) clue)) n i)
-          (sym head.0) found,
     )
 
 -- ---- no run at an end: the end of the line, or a gap

@@ -7,6 +7,7 @@ pub mod Certain
 pub mod Composing
 pub mod LineCells
 pub mod RunStarts
+pub mod WholeEnds
 pub mod Painting
 pub mod Outermost
 pub mod EndLaws

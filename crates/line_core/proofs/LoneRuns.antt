@@ -12,8 +12,9 @@ use Rattle.line_core.specs.steps.Reach.{MayBe, IsFillable, IsBlankable}
 use Rattle.line_core.specs.steps.Lone.{IsLoneStart}
 use Rattle.line_core.proofs.RunLaws.{ArePositive}
 use Rattle.grid_core.proofs.LineCells.{has_by}
-use Rattle.line_core.proofs.Joining.{fillable_to, fillable_from, blankable_to, blankable_from}
-use Rattle.line_core.proofs.RunStarts.{starts_from, run_of, filled_in_run, covered}
+use Rattle.line_core.proofs.Joining.{blankable_to, blankable_from}
+use Rattle.line_core.proofs.WholeEnds.{fillable_to, fillable_from}
+use Rattle.line_core.proofs.RunStarts.{starts_from, in_run, covered}
 use Rattle.line_core.proofs.Painting.{laid, placing_of}
 
 -- ---- placings and starts
@@ -51,15 +52,7 @@ lone_start l clue x one agree is =
           (subst (λ (z : ℕ). i < get_or (starts_from 0 false x) z 0 + get_or clue z 0) e high));
     }
 
--- the cell is in the placing's run
-in_run : (clue : List ℕ) (x : List Bool) (i : ℕ) → length clue ≡ 1 → runs x ≡ clue → get_or (starts_from 0 false x) 0 0 ≤ i
-    → i < get_or (starts_from 0 false x) 0 0 + get_or clue 0 0 → get_or x i false ≡ true
-in_run clue x i one is low high =
-    let s = get_or (starts_from 0 false x) 0 0 in
-    let e : s + (i - s) ≡ i = omega arith in
-    subst (λ (k : ℕ). get_or x k false ≡ true) e (filled_in_run x clue 0 (run_of x clue 0 is (omega arith)) (i - s) (omega arith))
-
--- and each filled cell is
+-- each filled cell is in the placing's run
 of_run : (clue : List ℕ) (x : List Bool) (i : ℕ) → length clue ≡ 1 → runs x ≡ clue → get_or x i false ≡ true
     → (get_or (starts_from 0 false x) 0 0 ≤ i) × (i < get_or (starts_from 0 false x) 0 0 + get_or clue 0 0)
 of_run clue x i one is filled =
@@ -95,9 +88,7 @@ pub fills_from : (l : List Cell) (clue : List ℕ) (i s : ℕ) → ArePositive c
 fills_from l clue i s pos one start low high =
     let p = lone_placing l clue s pos one start in
     let at = p.start in
-    let e : s + (i - s) ≡ i = omega arith in
-    let within : i < length l = (subst (MayBe l true) e (start.window (i - s) (omega arith))).0 in
-    fillable_from l clue i within (p.full, p.agree, p.runs_are, in_run clue p.full i one p.runs_are (omega arith) (omega arith))
+    fillable_from l clue i (p.full, p.agree, p.runs_are, in_run p.full clue 0 i p.runs_are (omega arith) (omega arith) (omega arith))
 
 pub leaves_to : (l : List Cell) (clue : List ℕ) (i : ℕ) → length clue ≡ 1 → IsBlankable l clue i → LeavesFrom l (get_or clue 0 0) i
 leaves_to l clue i one h =
@@ -109,7 +100,7 @@ leaves_to l clue i one h =
       out = elim (cases_lt i s) [
         | inl before ↦ inl before
         | inr from ↦ elim (cases_lt i (s + get_or clue 0 0)) [
-          | inl inside ↦ absurd (true≢false (sym (in_run clue x.0 i one x.2 from inside) ∙ x.3))
+          | inl inside ↦ absurd (true≢false (sym (in_run x.0 clue 0 i x.2 (omega arith) from inside) ∙ x.3))
           | inr after ↦ inr after
         ]
       ];

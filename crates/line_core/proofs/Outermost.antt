@@ -20,70 +20,17 @@ use Rattle.place_sets.proofs.Uses.{meet_of}
 use Rattle.line_core.proofs.LineCells.{written_more}
 use Rattle.line_core.specs.steps.Reach.{behind, MayBe, MayBeginBlank, IsStartAfter, IsWholeEnd, IsGap, IsGapAhead, HasPlacing}
 use Rattle.line_core.proofs.RunLaws.{ArePositive}
-use Rattle.line_core.proofs.Joining.{onto, length-agrees, length_behind, onto_behind, onto_agrees, agrees_onto, run_agrees, agrees_run, positive_at, runs_about, blankable_to, blankable_from}
+use Rattle.line_core.proofs.Joining.{positive_at, blankable_to, blankable_from}
+use Rattle.line_core.proofs.WholeEnds.{whole_of, placing_with}
 use Rattle.line_core.proofs.DeductionLaws.{IsPlacing, placings_listed, none_listed, not_all, agrees-Extends, Extends-agrees}
-use Rattle.line_core.proofs.RunStarts.{starts_from, run_starts-from, start_of_cut, run_of, covered}
+use Rattle.line_core.proofs.RunStarts.{starts_from, run_starts-from, covered}
 use Rattle.line_core.proofs.Painting.{IsLaid, Witness, laid, placing_of, least_laid, greatest_laid}
 
--- ---- the ends of a run in whole placings, and the starts of placings
-
--- a run of a placing ends at one of its ends in whole placings
-pub whole_of : (l : List Cell) (clue : List ℕ) (x : List Bool) (k e : ℕ) → ArePositive clue → agrees l x ≡ true → runs x ≡ clue
-    → k < length clue
-    → e + 1 ≡ get_or (starts_from 0 false x) k 0 + get_or clue k 0 → IsWholeEnd l clue k e
-whole_of l clue x k e pos agree is h at =
-    let c = get_or clue k 0 in
-    let some : 0 < c = positive_at clue pos k h in
-    let r = run_of x clue k is h in
-    let d = laid l clue x agree is in
-    let s = get_or (starts_from 0 false x) k 0 in
-    let first : s + 0 < length l = (d.windows k h 0 some).0 in
-    let y = replicate c true ++ r.back in
-    let long : length r.front ≡ s = r.start in
-    let both : agrees (onto (behind Unknown l s) (drop s l)) (onto r.front y) ≡ true =
-    subst (λ (t : List Cell). agrees t (onto r.front y) ≡ true) (sym (onto_behind Unknown l s (omega arith)))
-    (subst (λ (t : List Bool). agrees l t ≡ true) (sym r.whole) agree) in
-    let cut = onto_agrees (behind Unknown l s) (drop s l) r.front y (length_behind Unknown l s ∙ sym long) both in
-    let run = run_agrees l c s r.back cut.1 in
-    let before : MayBeginBlank (behind Unknown l s) (behind 0 clue k) = (r.front, cut.0, r.front_runs, r.front_closed) in
-    let rest_is : runs r.back ≡ drop (k + 1) clue = r.back_runs ∙ ap (λ (n : ℕ). drop n clue) (sym (add-one k)) in
-    let after : MayBeginBlank (drop (s + c) l) (drop (k + 1) clue) = (r.back, run.1, rest_is, r.back_closed) in
-    let start : s ≡ e + 1 - c = omega arith in (
-      (omega arith, subst (IsStartAfter l (behind 0 clue k) c) start (before, run.0)),
-      subst (λ (n : ℕ). MayBeginBlank (drop n l) (drop (k + 1) clue)) (sym at) after,
-    )
-
--- and each such end is one in a placing
+-- each end of a run in whole placings is one of a placing
 pub witness_of : (l : List Cell) (clue : List ℕ) (k e : ℕ) → ArePositive clue → k < length clue → IsWholeEnd l clue k e
     → Witness l clue k (e + 1 - get_or clue k 0)
 witness_of l clue k e pos h w =
-    let c = get_or clue k 0 in
-    let some : 0 < c = positive_at clue pos k h in
-    let s = e + 1 - c in
-    let enough : c ≤ e + 1 = w.0.0 in
-    let cells : AllFrom (MayBe l true) c s = w.0.1.1 in
-    let first : s + 0 < length l = (cells 0 some).0 in
-    let a = w.0.1.0 in
-    let b = w.1 in
-    let past : e + 1 ≡ s + c = omega arith in
-    let here : agrees (drop s l) (replicate c true ++ b.0) ≡ true =
-    agrees_run l c s b.0 cells (subst (λ (n : ℕ). agrees (drop n l) b.0 ≡ true) past b.1) in
-    let long : length a.0 ≡ s = length-agrees (behind Unknown l s) a.0 a.1 ∙ length_behind Unknown l s in
-    let x = onto a.0 (replicate c true ++ b.0) in
-    let clue_at : c ∷ drop (k + 1) clue ≡ drop k clue = ap (λ (n : ℕ). c ∷ drop n clue) (add-one k) ∙ sym (drop-cons clue k 0 h) in
-    let agree : agrees l x ≡ true =
-    subst (λ (t : List Cell). agrees t x ≡ true) (onto_behind Unknown l s (omega arith))
-    (agrees_onto (behind Unknown l s) (drop s l) a.0 (replicate c true ++ b.0) a.1 here) in
-    let is : runs x ≡ clue =
-    runs_about a.0 c b.0 some a.3 b.3 ∙ ap (λ (p : List ℕ). onto p (c ∷ runs b.0)) a.2
-    ∙ ap (λ (q : List ℕ). onto (behind 0 clue k) (c ∷ q)) b.2
-    ∙ ap (onto (behind 0 clue k)) clue_at ∙ onto_behind 0 clue k (omega arith) in
-    let index : length (runs a.0) ≡ k = ap length a.2 ∙ length_behind 0 clue k in
-    record {
-      starts = starts_from 0 false x;
-      laid_so = laid l clue x agree is;
-      at = ap (λ (n : ℕ). get_or (starts_from 0 false x) n 0) (sym index) ∙ start_of_cut a.0 c b.0 some a.3 ∙ long;
-    }
+    let x = placing_with l clue k e pos h w in record { starts = starts_from 0 false x.0; laid_so = laid l clue x.0 x.1 x.2; at = x.3 }
 
 -- ---- the definitions
 
@@ -202,7 +149,7 @@ pub some_end : (l : List Cell) (clue : List ℕ) (j : ℕ) → ArePositive clue 
 some_end l clue j pos p h =
     let some : 0 < get_or clue j 0 = positive_at clue pos j h in
     let e = get_or (starts_from 0 false p.0) j 0 + get_or clue j 0 - 1 in
-    (e, whole_of l clue p.0 j e pos p.1 p.2 h (omega arith))
+    (e, whole_of l clue p.0 j e p.1 p.2 h (omega arith))
 
 laid_end : (l : List Cell) (clue ss : List ℕ) (j : ℕ) → ArePositive clue → IsLaid l clue ss → j < length clue
     → IsWholeEnd l clue j (get_or ss j 0 + get_or clue j 0 - 1)
@@ -210,7 +157,7 @@ laid_end l clue ss j pos d h =
     let some : 0 < get_or clue j 0 = positive_at clue pos j h in
     let x = placing_of l clue ss pos d in
     let at : get_or (starts_from 0 false x.0) j 0 ≡ get_or ss j 0 = ap (λ (z : List ℕ). get_or z j 0) x.3 in
-    whole_of l clue x.0 j (get_or ss j 0 + get_or clue j 0 - 1) pos x.1 x.2 h (omega arith)
+    whole_of l clue x.0 j (get_or ss j 0 + get_or clue j 0 - 1) x.1 x.2 h (omega arith)
 
 -- starts of runs of placings that are as far as those of every placing are those of one placing, the outermost
 pub outermost_of : (side : Side) (l : List Cell) (clue m ss : List ℕ) → ArePositive clue → IsLaid l clue ss → length m ≡ length clue →
@@ -301,7 +248,4 @@ answered side l clue list false pos long h = outermost_none side l clue h
 -- if a run ends somewhere in a whole placing, there is a placing
 pub some_placing : (l : List Cell) (clue : List ℕ) (j e : ℕ) → ArePositive clue → j < length clue → IsWholeEnd l clue j e
     → HasPlacing l clue
-some_placing l clue j e pos h w =
-    let y = witness_of l clue j e pos h w in
-    let x = placing_of l clue y.starts pos y.laid_so in
-    (x.0, x.1, x.2)
+some_placing l clue j e pos h w = let x = placing_with l clue j e pos h w in (x.0, x.1, x.2)

@@ -19,8 +19,9 @@ use Rattle.line_core.specs.steps.Reach.{AreLengths, MayBe, IsFillable, IsBlankab
 use Rattle.line_core.proofs.RunLaws.{ArePositive}
 use Rattle.grid_core.proofs.LineCells.{has_by}
 use Rattle.line_core.proofs.LineCells.{length_at}
-use Rattle.line_core.proofs.Joining.{positive_at, fillable_to, fillable_from, blankable_to, blankable_from}
-use Rattle.line_core.proofs.RunStarts.{starts_from, run_of, filled_in_run, covered}
+use Rattle.line_core.proofs.Joining.{positive_at, filled_agrees, blankable_to, blankable_from}
+use Rattle.line_core.proofs.WholeEnds.{fillable_to, fillable_from}
+use Rattle.line_core.proofs.RunStarts.{starts_from, in_run, covered}
 use Rattle.line_core.proofs.Painting.{IsLaid, laid, placing_of}
 use Rattle.line_core.proofs.Certain.{CanBe}
 
@@ -94,32 +95,15 @@ fits l clue x pos agree is = elim (cases_lt 0 (length clue)) [
       omega arith)
 ]
 
-same_place : (x : List Bool) (s i : ℕ) → s ≤ i → get_or x (s + (i - s)) false ≡ true → get_or x i false ≡ true
-same_place x s i h filled = let e : s + (i - s) ≡ i = omega arith in subst (λ (k : ℕ). get_or x k false ≡ true) e filled
-
 -- an overlap is filled in each placing
 pub overlap_filled : (l : List Cell) (clue : List ℕ) (x : List Bool) (slack i : ℕ) → ArePositive clue → agrees l x ≡ true → runs x ≡ clue
     → needed clue + slack ≡ length l + 1
     → IsOverlap clue slack i → get_or x i false ≡ true
 overlap_filled l clue x slack i pos agree is e (j, h, from, to) =
     let d = laid l clue x agree is in
-    let s = get_or (starts_from 0 false x) j 0 in
     let low = at_least l clue (starts_from 0 false x) j d h in
     let high = starts_within l clue (starts_from 0 false x) j pos d h in
-    same_place x s i (omega arith) (filled_in_run x clue j (run_of x clue j is h) (i - s) (omega arith))
-
-filled_within : (l : List Cell) (clue : List ℕ) (x : List Bool) (i : ℕ) → agrees l x ≡ true → runs x ≡ clue → get_or x i false ≡ true
-    → i < length l
-filled_within l clue x i agree is filled =
-    let c = covered x clue i is filled in
-    let s = get_or (starts_from 0 false x) c.index 0 in
-    let low = c.from in
-    let high = c.to in
-    let within : s + (i - s) < length l = ((laid l clue x agree is).windows c.index c.inside (i - s) (omega arith)).0 in
-    omega arith
-
-fillable_within : (l : List Cell) (clue : List ℕ) (i : ℕ) → ArePositive clue → IsFillable l clue i → i < length l
-fillable_within l clue i pos h = let x = fillable_to l clue i pos h in filled_within l clue x.0 i x.1 x.2 x.3
+    in_run x clue j i is h (omega arith) (omega arith)
 
 -- ---- placings on a line of which nothing is known
 
@@ -284,12 +268,10 @@ filled_by l clue slack i any_cell pos e r =
     let high = r.to in
     let by = i + 1 - (least_start clue r.index + get_or clue r.index 0) in
     let x = shifted_on l clue slack r.index by any_cell pos e (omega arith) in
-    let start = get_or (starts_from 0 false x.full) r.index 0 in
     let shift : shift_from r.index by r.index ≡ by =
     elim (shift_from-is r.index by r.index) [ inl low ↦ absurd (omega arith) | inr high ↦ high.1 ] in
     let at = x.starts r.index r.inside in
-    let filled = filled_in_run x.full clue r.index (run_of x.full clue r.index x.runs_are r.inside) (i - start) (omega arith) in
-    (x.full, x.agree, x.runs_are, same_place x.full start i (omega arith) filled)
+    (x.full, x.agree, x.runs_are, in_run x.full clue r.index i x.runs_are r.inside (omega arith) (omega arith))
 
 pub can_be_filled : (l : List Cell) (clue : List ℕ) (slack i : ℕ) → AnyColour l → ArePositive clue → needed clue + slack ≡ length l + 1
     → 0 < slack → 0 < length clue → i < length l → CanBe l clue true i
@@ -334,10 +316,10 @@ pub all_fillable : (l : List Cell) (clue : List ℕ) (slack line : ℕ) → AnyC
 all_fillable l clue slack line any_cell pos e some any a = mask_same (λ i. i < length l) (IsFillable l clue) line a to from
   where
     to : (i : ℕ) → i < length l → IsFillable l clue i
-    to i h = fillable_from l clue i h (can_be_filled l clue slack i any_cell pos e some any h)
+    to i h = fillable_from l clue i (can_be_filled l clue slack i any_cell pos e some any h)
 
     from : (i : ℕ) → IsFillable l clue i → i < length l
-    from i h = fillable_within l clue i pos h
+    from i h = let x = fillable_to l clue i pos h in filled_agrees l x.0 i x.1 x.3
 
 -- and else the overlaps alone
 pub overlaps_fillable : (l : List Cell) (clue : List ℕ) (slack certain : ℕ) → AnyColour l → ArePositive clue
@@ -348,8 +330,7 @@ overlaps_fillable l clue slack certain any_cell pos e still c = mask_same (IsOve
     to : (i : ℕ) → IsOverlap clue slack i → IsFillable l clue i
     to i o =
         let x = shifted_on l clue slack 0 0 any_cell pos e (omega arith) in
-        let filled = overlap_filled l clue x.full slack i pos x.agree x.runs_are e o in
-        fillable_from l clue i (filled_within l clue x.full i x.agree x.runs_are filled) (x.full, x.agree, x.runs_are, filled)
+        fillable_from l clue i (x.full, x.agree, x.runs_are, overlap_filled l clue x.full slack i pos x.agree x.runs_are e o)
 
     from : (i : ℕ) → IsFillable l clue i → IsOverlap clue slack i
     from i h =

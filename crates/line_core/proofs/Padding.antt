@@ -12,7 +12,8 @@ use Rattle.place_sets.proofs.Steps.{mask_same}
 use Rattle.line_core.specs.steps.Reach.{IsBlankable, IsFillable}
 use Rattle.line_core.proofs.RunLaws.{ArePositive, runs_after-zero, runs_after-true, runs_after-false, runs_after-close, runs_after-nil}
 use Rattle.line_core.proofs.Certain.{CanBe}
-use Rattle.line_core.proofs.Joining.{length-agrees, fillable_to, fillable_from, blankable_to, blankable_from}
+use Rattle.line_core.proofs.Joining.{length-agrees, filled_agrees, blankable_to, blankable_from}
+use Rattle.line_core.proofs.WholeEnds.{fillable_to, fillable_from}
 
 -- ---- placings
 
@@ -107,11 +108,6 @@ module _ (l : List Cell) (clue : List ℕ) (m : ℕ) where
       let low = filled_within cut.0 m k (sym (ap (λ (t : List Bool). get_or t k false) cut.1) ∙ at) in
       omega (arith, low, length-agrees l cut.0 cut.2)
 
-  filled_inside : (k : ℕ) → CanBe l clue true k → k < length l
-  filled_inside k (x, agree, is, at) =
-      let low = filled_within x 0 k (ap (λ (t : List Bool). get_or t k false) (append-nil x) ∙ at) in
-      omega (arith, low, length-agrees l x agree)
-
   -- so the same cells are filled in a placing
   pub fillable_alone : (f : ℕ) → ArePositive clue → IsMaskOf (IsFillable longer clue) f → IsMaskOf (IsFillable l clue) f
   fillable_alone f pos are =
@@ -119,11 +115,11 @@ module _ (l : List Cell) (clue : List ℕ) (m : ℕ) where
       (λ i h.
       let can = fillable_to longer clue i pos h in
       let within = filled_before i can in
-      fillable_from l clue i within (without_blanks true i within can))
+      fillable_from l clue i (without_blanks true i within can))
       (λ i h.
       let can = fillable_to l clue i pos h in
-      let within = filled_inside i can in
-      fillable_from longer clue i (inside i within) (with_blanks true i within can))
+      let within = filled_agrees l can.0 i can.1 can.3 in
+      fillable_from longer clue i (with_blanks true i within can))
 
   -- and of the line's cells the same are blank in one
   pub blankable_alone : (b p n : ℕ) → IsMaskOf (IsBlankable longer clue) b → IsMaskOf (λ i. i < length l) p

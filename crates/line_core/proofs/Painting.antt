@@ -8,7 +8,7 @@ use Rattle.grid_core.specs.Runs.{runs}
 use Rattle.place_sets.specs.Masks.{AllFrom}
 use Rattle.line_core.specs.steps.Reach.{MayBe}
 use Rattle.line_core.proofs.RunLaws.{ArePositive}
-use Rattle.line_core.proofs.Joining.{length-agrees, runs_run, runs_closed}
+use Rattle.line_core.proofs.Joining.{filled_agrees, agrees_span, runs_first}
 use Rattle.line_core.proofs.RunStarts.{starts_from, length-run_starts, run_of, filled_in_run, runs_apart, covered}
 
 -- starts that lay a clue's runs on a line: each on cells that may be filled, all apart,
@@ -27,11 +27,6 @@ agrees_at (c ∷ l) [] i a h = cc
 agrees_at (c ∷ l) (b ∷ x) zero a h = (and_parts (allows c b) (agrees l x) a).0
 agrees_at (c ∷ l) (b ∷ x) (suc i) a h = agrees_at l x i (and_parts (allows c b) (agrees l x) a).1 (omega arith)
 
-filled_inside : (x : List Bool) (i : ℕ) → get_or x i false ≡ true → i < length x
-filled_inside [] i h = cc
-filled_inside (b ∷ x) zero h = omega arith
-filled_inside (b ∷ x) (suc i) h = omega (arith, filled_inside x i h)
-
 -- the starts of a placing lay the clue
 pub laid : (l : List Cell) (clue : List ℕ) (x : List Bool) → agrees l x ≡ true → runs x ≡ clue → IsLaid l clue (starts_from 0 false x)
 laid l clue x agree is = record {
@@ -39,7 +34,7 @@ laid l clue x agree is = record {
   windows = λ j h z b.
       let filled = filled_in_run x clue j (run_of x clue j is h) z b in
       let s = get_or (starts_from 0 false x) j 0 in
-      let within : s + z < length l = omega (arith, filled_inside x (s + z) filled, length-agrees l x agree) in
+      let within : s + z < length l = filled_agrees l x (s + z) agree filled in
       (within, subst (λ (v : Bool). allows (get_or l (s + z) Unknown) v ≡ true) filled (agrees_at l x (s + z) agree within));
   apart = λ j h. runs_apart x clue j is h;
   blanks = λ i h free. by i h free (get_or x i false) refl;
@@ -100,20 +95,6 @@ laid_from l g p (c ∷ clue) (s ∷ ss) e first windows apart blanks pos =
     by i a free zero h from to = absurd (omega arith)
     by i a free (suc j) h from to = free j (omega arith) from to
 
-agrees_span : (l : List Cell) (v : Bool) (n p : ℕ) (y : List Bool) → AllFrom (MayBe l v) n p → agrees (drop (p + n) l) y ≡ true
-    → agrees (drop p l) (replicate n v ++ y) ≡ true
-agrees_span l v zero p y o h = let e : p + 0 ≡ p = omega arith in subst (λ (k : ℕ). agrees (drop k l) y ≡ true) e h
-agrees_span l v (suc n) p y o h =
-    let zeroth : p + 0 ≡ p = omega arith in
-    let first : MayBe l v p = subst (MayBe l v) zeroth (o 0 (omega arith)) in
-    let e : p + suc n ≡ suc p + n = omega arith in
-    let rest : agrees (drop (suc p) l) (replicate n v ++ y) ≡ true =
-    agrees_span l v n (suc p) y (λ z b. let f : p + suc z ≡ suc p + z = omega arith in subst (MayBe l v) f (o (suc z) (omega arith)))
-    (subst (λ (k : ℕ). agrees (drop k l) y ≡ true) e h) in
-    let split : drop p l ≡ get_or l p Unknown ∷ drop (suc p) l = drop-cons l p Unknown first.0 in
-    subst (λ (t : List Cell). agrees t (v ∷ (replicate n v ++ y)) ≡ true) (sym split)
-    (and_from (allows (get_or l p Unknown) v) (agrees (drop (suc p) l) (replicate n v ++ y)) first.1 rest)
-
 painted_agrees : (l : List Cell) (g p : ℕ) (clue ss : List ℕ) → ArePositive clue → p ≤ length l → Laid l g p clue ss
     → agrees (drop p l) (painted (length l) p clue ss) ≡ true
 painted_agrees l g p [] [] pos h d =
@@ -150,10 +131,6 @@ painted_head l n p (c ∷ clue) (s ∷ ss) d = by (s - p) (let start : p + 1 ≤
 runs_blanks : (m : ℕ) (y : List Bool) → runs (replicate m false ++ y) ≡ runs y
 runs_blanks zero y = refl
 runs_blanks (suc m) y = runs_blanks m y
-
-runs_first : (c : ℕ) (y : List Bool) → 0 < c → get_or y 0 false ≡ false → runs (replicate c true ++ y) ≡ c ∷ runs y
-runs_first zero y h k = absurd (omega arith)
-runs_first (suc n) y h k = runs_run (suc n) y ∙ runs_closed n y k
 
 painted_runs : (l : List Cell) (g n p : ℕ) (clue ss : List ℕ) → ArePositive clue → Laid l g p clue ss → runs (painted n p clue ss) ≡ clue
 painted_runs l g n p [] [] pos d = runs_blanks (n - p) []

@@ -7,7 +7,7 @@ use Rattle.line_core.specs.Ends.{starts_run, run_starts}
 use Rattle.line_core.specs.steps.Reach.{behind}
 use Rattle.grid_core.proofs.RunsLemmas.{runs_after}
 use Rattle.line_core.proofs.RunLaws.{runs_after-zero, runs_after-true, runs_after-false, runs_after-close, runs_after-nil}
-use Rattle.line_core.proofs.Joining.{onto, length_behind, onto_behind, get_or-onto, onto_split, drop_head, runs_cut, runs_about, get_or-run, begins, begins_some}
+use Rattle.line_core.proofs.Joining.{filled_within, onto, length_behind, onto_behind, get_or-onto, onto_split, drop_head, runs_cut, runs_about, get_or-run, begins, begins_some}
 
 -- the places at which runs start, from place `p` on; `after` tells whether the cell before is filled
 abbrev pub starts_from : ℕ → Bool → List Bool → List ℕ
@@ -97,7 +97,7 @@ mutual
 pub length-run_starts : (x : List Bool) → length (starts_from 0 false x) ≡ length (runs x)
 length-run_starts x = length-starts 0 x ∙ ap length (runs_after-zero x)
 
-length-onto : {A : Type 0} (a b : List A) → length (onto a b) ≡ length a + length b
+pub length-onto : {A : Type 0} (a b : List A) → length (onto a b) ≡ length a + length b
 length-onto [] b = omega arith
 length-onto (x ∷ a) b = omega (arith, length-onto a (x ∷ b))
 
@@ -146,11 +146,6 @@ start_is (false ∷ x) p k after h = let r = start_is x (suc p) k false h in (su
     by (suc i) e = e
 
 -- ---- a line cut round a run
-
-filled_within : (x : List Bool) (i : ℕ) → get_or x i false ≡ true → i < length x
-filled_within [] i h = cc
-filled_within (b ∷ x) zero h = omega arith
-filled_within (b ∷ x) (suc i) h = omega (arith, filled_within x i h)
 
 -- the start of a run that a line is cut round
 pub start_of_cut : (a : List Bool) (c : ℕ) (b : List Bool) → 0 < c → get_or a 0 false ≡ false
@@ -253,6 +248,13 @@ pub filled_in_run : (x : List Bool) (clue : List ℕ) (k : ℕ) → Run x clue k
 filled_in_run x clue k r z h =
     ap (λ (n : ℕ). get_or x (n + z) false) (sym r.start) ∙ ap (λ (y : List Bool). get_or y (length r.front + z) false) (sym r.whole)
     ∙ get_or-onto false r.front (replicate (get_or clue k 0) true ++ r.back) z ∙ get_or-run (get_or clue k 0) r.back z h
+
+pub in_run : (x : List Bool) (clue : List ℕ) (k i : ℕ) → runs x ≡ clue → k < length clue → get_or (starts_from 0 false x) k 0 ≤ i
+    → i < get_or (starts_from 0 false x) k 0 + get_or clue k 0 → get_or x i false ≡ true
+in_run x clue k i is h low high =
+    let s = get_or (starts_from 0 false x) k 0 in
+    let e : s + (i - s) ≡ i = omega arith in
+    subst (λ (n : ℕ). get_or x n false ≡ true) e (filled_in_run x clue k (run_of x clue k is h) (i - s) (omega arith))
 
 -- the cell after it isn't
 pub blank_after_run : (x : List Bool) (clue : List ℕ) (k : ℕ) → Run x clue k

@@ -13,7 +13,8 @@ use Rattle.line_core.specs.steps.Told.{certain_by, told_by}
 use Rattle.line_core.specs.steps.Reach.{IsFillable, IsBlankable}
 use Rattle.line_core.proofs.RunLaws.{ArePositive}
 use Rattle.line_core.proofs.DeductionLaws.{IsPlacing, agrees-Extends, Extends-agrees}
-use Rattle.line_core.proofs.Joining.{fillable_to, fillable_from, blankable_to, blankable_from}
+use Rattle.line_core.proofs.Joining.{blankable_to, blankable_from}
+use Rattle.line_core.proofs.WholeEnds.{fillable_to, fillable_from}
 use Rattle.line_core.proofs.Certain.{CanBe, Tells, deduced-told, dead-told}
 use Rattle.grid_core.proofs.LineCells.{cell_at, length_line, has_by}
 
@@ -71,7 +72,7 @@ told-deduced l clue len f b pos some long fill blank = by (has f 0) (has b 0) re
     filled_tells k h =
         record {
           to = λ e. fillable_to l clue k pos (fill.to k (true_has f k e));
-          from = λ x. has_true f k (fill.from k (fillable_from l clue k h x));
+          from = λ x. has_true f k (fill.from k (fillable_from l clue k x));
         }
 
     blank_tells : (k : ℕ) → k < length l → Tells (CanBe l clue false k) (has b k)

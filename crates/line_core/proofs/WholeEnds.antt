@@ -1,0 +1,81 @@
+-- The ends of a run in whole placings, and the placings that have them.
+use Rattle.std.proofs.Common.{◌≡◌, ℕ, ◌+◌, ◌-◌, ◌<◌, ◌≤◌, Bool, true, false, List, ◌∷◌, ◌++◌, length, replicate, refl, sym, ap, ◌∙◌, subst, arith, add-one, drop, get_or, drop-cons}
+use Rattle.grid_core.specs.declared.cells.Cell.{Cell}
+use Rattle.grid_core.specs.declared.cells.Cell.TheVariants.{Unknown}
+use Rattle.grid_core.specs.Cells.{agrees}
+use Rattle.grid_core.specs.Runs.{runs}
+use Rattle.place_sets.specs.Masks.{AllFrom}
+use Rattle.line_core.specs.steps.Reach.{behind, MayBe, MayBeginBlank, IsStartAfter, IsWholeEnd, IsFillable}
+use Rattle.line_core.proofs.RunLaws.{ArePositive}
+use Rattle.line_core.proofs.Certain.{CanBe}
+use Rattle.line_core.proofs.Joining.{onto, length-agrees, length_behind, onto_behind, onto_agrees, agrees_onto, run_agrees, agrees_span, positive_at, runs_about}
+use Rattle.line_core.proofs.RunStarts.{starts_from, start_of_cut, length-onto, run_of, in_run, covered}
+
+-- a run of a placing ends at one of its ends in whole placings
+pub whole_of : (l : List Cell) (clue : List ℕ) (x : List Bool) (k e : ℕ) → agrees l x ≡ true → runs x ≡ clue → k < length clue
+    → e + 1 ≡ get_or (starts_from 0 false x) k 0 + get_or clue k 0 → IsWholeEnd l clue k e
+whole_of l clue x k e agree is h at =
+    let c = get_or clue k 0 in
+    let r = run_of x clue k is h in
+    let s = get_or (starts_from 0 false x) k 0 in
+    let y = replicate c true ++ r.back in
+    let long : length r.front ≡ s = r.start in
+    let size : length r.front + length y ≡ length l = sym (length-onto r.front y) ∙ ap length r.whole ∙ length-agrees l x agree in
+    let both : agrees (onto (behind Unknown l s) (drop s l)) (onto r.front y) ≡ true =
+    subst (λ (t : List Cell). agrees t (onto r.front y) ≡ true) (sym (onto_behind Unknown l s (omega arith)))
+    (subst (λ (t : List Bool). agrees l t ≡ true) (sym r.whole) agree) in
+    let cut = onto_agrees (behind Unknown l s) (drop s l) r.front y (length_behind Unknown l s ∙ sym long) both in
+    let run = run_agrees l c s r.back cut.1 in
+    let before : MayBeginBlank (behind Unknown l s) (behind 0 clue k) = (r.front, cut.0, r.front_runs, r.front_closed) in
+    let rest_is : runs r.back ≡ drop (k + 1) clue = r.back_runs ∙ ap (λ (n : ℕ). drop n clue) (sym (add-one k)) in
+    let after : MayBeginBlank (drop (s + c) l) (drop (k + 1) clue) = (r.back, run.1, rest_is, r.back_closed) in
+    let start : s ≡ e + 1 - c = omega arith in (
+      (omega arith, subst (IsStartAfter l (behind 0 clue k) c) start (before, run.0)),
+      subst (λ (n : ℕ). MayBeginBlank (drop n l) (drop (k + 1) clue)) (sym at) after,
+    )
+
+-- and each such end is one in a placing
+pub placing_with : (l : List Cell) (clue : List ℕ) (k e : ℕ) → ArePositive clue → k < length clue → IsWholeEnd l clue k e
+    → (x : List Bool) × (agrees l x ≡ true) × (runs x ≡ clue) × (get_or (starts_from 0 false x) k 0 ≡ e + 1 - get_or clue k 0)
+placing_with l clue k e pos h w =
+    let c = get_or clue k 0 in
+    let some : 0 < c = positive_at clue pos k h in
+    let s = e + 1 - c in
+    let enough : c ≤ e + 1 = w.0.0 in
+    let cells : AllFrom (MayBe l true) c s = w.0.1.1 in
+    let first : s + 0 < length l = (cells 0 some).0 in
+    let a = w.0.1.0 in
+    let b = w.1 in
+    let past : e + 1 ≡ s + c = omega arith in
+    let here : agrees (drop s l) (replicate c true ++ b.0) ≡ true =
+    agrees_span l true c s b.0 cells (subst (λ (n : ℕ). agrees (drop n l) b.0 ≡ true) past b.1) in
+    let long : length a.0 ≡ s = length-agrees (behind Unknown l s) a.0 a.1 ∙ length_behind Unknown l s in
+    let x = onto a.0 (replicate c true ++ b.0) in
+    let clue_at : c ∷ drop (k + 1) clue ≡ drop k clue = ap (λ (n : ℕ). c ∷ drop n clue) (add-one k) ∙ sym (drop-cons clue k 0 h) in
+    let index : length (runs a.0) ≡ k = ap length a.2 ∙ length_behind 0 clue k in (
+      x,
+      subst (λ (t : List Cell). agrees t x ≡ true) (onto_behind Unknown l s (omega arith))
+          (agrees_onto (behind Unknown l s) (drop s l) a.0 (replicate c true ++ b.0) a.1 here),
+      runs_about a.0 c b.0 some a.3 b.3 ∙ ap (λ (p : List ℕ). onto p (c ∷ runs b.0)) a.2
+          ∙ ap (λ (q : List ℕ). onto (behind 0 clue k) (c ∷ q)) b.2
+          ∙ ap (onto (behind 0 clue k)) clue_at ∙ onto_behind 0 clue k (omega arith),
+      ap (λ (n : ℕ). get_or (starts_from 0 false x) n 0) (sym index) ∙ start_of_cut a.0 c b.0 some a.3 ∙ long,
+    )
+
+-- a cell that the masks tell filled is filled in a placing
+pub fillable_to : (l : List Cell) (clue : List ℕ) (i : ℕ) → ArePositive clue → IsFillable l clue i → CanBe l clue true i
+fillable_to l clue i pos (j, jl, (z, zb, w)) =
+    let x = placing_with l clue j (i + z) pos jl w in
+    let start = x.3 in
+    let enough : get_or clue j 0 ≤ i + z + 1 = w.0.0 in
+    (x.0, x.1, x.2, in_run x.0 clue j i x.2 jl (omega arith) (omega arith))
+
+-- and a cell that is filled in a placing is told so
+pub fillable_from : (l : List Cell) (clue : List ℕ) (i : ℕ) → CanBe l clue true i → IsFillable l clue i
+fillable_from l clue i (x, agree, is, at) =
+    let c = covered x clue i is at in
+    let low = c.from in
+    let high = c.to in
+    let e = get_or (starts_from 0 false x) c.index 0 + get_or clue c.index 0 - 1 in
+    let far : e ≡ i + (e - i) = omega arith in
+    (c.index, c.inside, (e - i, omega arith, subst (IsWholeEnd l clue c.index) far (whole_of l clue x c.index e agree is c.inside (omega arith))))
