@@ -13,7 +13,7 @@ use Rattle.line_core.proofs.DeductionLaws.{IsPlacing, placings_listed, test_IsPl
 use Rattle.line_core.specs.declared.starts.Side.{Side}
 use Rattle.line_core.specs.declared.starts.Side.TheVariants.{Left, Right}
 use Rattle.line_core.specs.steps.Outermost.{outermost, IsAsFar}
-use Rattle.line_core.proofs.Painting.{IsLaid, Witness}
+use Rattle.line_core.proofs.Painting.{AreFurthest}
 use Rattle.line_core.proofs.Outermost.{all_as_far, laid_placing, outermost_found, outermost_of, placed, pass_all}
 
 -- the first that passes is a member, and passes
@@ -106,12 +106,19 @@ pub outermost-exists : (side : Side) (l : List Cell) (clue : List ℕ) (x : List
     (m : List ℕ) × (outermost side l clue ≡ Some m)
 outermost-exists side l clue x p = (
   all,
-  outermost_of side l clue all (run_starts x) pos (laid_placing l clue x p) (length-map-range_with_len at 0 (length clue)) each furthest,
+  outermost_of side l clue all (positive_runs x clue p.runs_are) (record {
+    count = length-map-range_with_len at 0 (length clue);
+    some = run_starts x;
+    some_laid = laid_placing l clue x p;
+    each = λ j h.
+        let z = outer_at side l clue x j p in
+        record { starts = run_starts z.0; laid_so = laid_placing l clue z.0 z.1; at = sym (value j h) };
+    furthest = λ ss d j h.
+        let y = placed l clue ss (positive_runs x clue p.runs_are) d in
+        rw (value j h, sym (ap (λ (t : List ℕ). get_or t j 0) y.2)) ((outer_at side l clue x j p).2 y.0 y.1);
+  }),
 )
   where
-    pos : ArePositive clue
-    pos = positive_runs x clue p.runs_are
-
     at : ℕ → ℕ
     at j = get_or (run_starts (outer_at side l clue x j p).0) j 0
 
@@ -120,13 +127,3 @@ outermost-exists side l clue x p = (
 
     value : (j : ℕ) → j < length clue → get_or all j 0 ≡ at j
     value j h = get_or-map-range_with_len at 0 (length clue) j j 0 h (omega arith)
-
-    each : (j : ℕ) → j < length clue → Witness l clue j (get_or all j 0)
-    each j h =
-        let z = outer_at side l clue x j p in
-        record { starts = run_starts z.0; laid_so = laid_placing l clue z.0 z.1; at = sym (value j h) }
-
-    furthest : (ss : List ℕ) → IsLaid l clue ss → (j : ℕ) → j < length clue → IsAsFar side (get_or all j 0) (get_or ss j 0)
-    furthest ss d j h =
-        let y = placed l clue ss pos d in
-        rw (value j h, sym (ap (λ (t : List ℕ). get_or t j 0) y.2)) ((outer_at side l clue x j p).2 y.0 y.1)

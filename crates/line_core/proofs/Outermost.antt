@@ -24,7 +24,7 @@ use Rattle.line_core.proofs.Joining.{positive_at, blankable_to, blankable_from}
 use Rattle.line_core.proofs.WholeEnds.{whole_of, placing_with}
 use Rattle.line_core.proofs.DeductionLaws.{IsPlacing, placings_listed, none_listed, not_all, agrees-Extends, Extends-agrees}
 use Rattle.line_core.proofs.RunStarts.{starts_from, run_starts-from, covered}
-use Rattle.line_core.proofs.Painting.{IsLaid, Witness, laid, placing_of, least_laid, greatest_laid}
+use Rattle.line_core.proofs.Painting.{IsLaid, Witness, AreFurthest, laid, placing_of, furthest_laid}
 
 -- each end of a run in whole placings is one of a placing
 pub witness_of : (l : List Cell) (clue : List ℕ) (k e : ℕ) → ArePositive clue → k < length clue → IsWholeEnd l clue k e
@@ -126,16 +126,14 @@ placed l clue m pos d =
     let x = placing_of l clue m pos d in
     (x.0, record { extends = agrees-Extends l x.0 x.1; runs_are = x.2 }, run_starts-from x.0 ∙ x.3)
 
--- starts that lay the clue and are as far as those of every placing are the outermost
-pub furthest_is : (side : Side) (l : List Cell) (clue m : List ℕ) → ArePositive clue → IsLaid l clue m
-    → ((ss : List ℕ) → IsLaid l clue ss → (j : ℕ) → j < length clue → IsAsFar side (get_or m j 0) (get_or ss j 0)) →
-    outermost side l clue ≡ Some m
-furthest_is side l clue m pos d furthest =
-    let x = placed l clue m pos d in
+-- starts that are as far as those of every placing are those of one placing, the outermost
+pub outermost_of : (side : Side) (l : List Cell) (clue m : List ℕ) → ArePositive clue → AreFurthest side l clue m → outermost side l clue ≡ Some m
+outermost_of side l clue m pos f =
+    let x = placed l clue m pos (furthest_laid side l clue m f) in
     let test = λ (starts : List ℕ). list_all (all_as_far side starts) (all_starts l clue) in
     let pass : test m ≡ true =
     all_pass l clue (all_as_far side m)
-    (λ ss e. as_far_from side m ss (d.count ∙ sym e.count) (λ j h. furthest ss e j (omega (arith, d.count)))) in
+    (λ ss e. as_far_from side m ss (f.count ∙ sym e.count) (λ j h. f.furthest ss e j (omega (arith, f.count)))) in
     outermost_found side l clue ∙ found_is l clue m test x.0 x.1 x.2 pass (λ y q t.
     as_far_antisym side (run_starts y) m
     (ap (all_as_far side (run_starts y)) (sym x.2) ∙ pass_all l clue (all_as_far side (run_starts y)) t x.0 x.1)
@@ -159,15 +157,6 @@ laid_end l clue ss j pos d h =
     let at : get_or (starts_from 0 false x.0) j 0 ≡ get_or ss j 0 = ap (λ (z : List ℕ). get_or z j 0) x.3 in
     whole_of l clue x.0 j (get_or ss j 0 + get_or clue j 0 - 1) x.1 x.2 h (omega arith)
 
--- starts of runs of placings that are as far as those of every placing are those of one placing, the outermost
-pub outermost_of : (side : Side) (l : List Cell) (clue m ss : List ℕ) → ArePositive clue → IsLaid l clue ss → length m ≡ length clue →
-    ((j : ℕ) → j < length clue → Witness l clue j (get_or m j 0))
-    → ((ss : List ℕ) → IsLaid l clue ss → (j : ℕ) → j < length clue → IsAsFar side (get_or m j 0) (get_or ss j 0)) →
-    outermost side l clue ≡ Some m
-outermost_of Left l clue m ss pos d count each least = furthest_is Left l clue m pos (least_laid l clue m ss d count each least) least
-outermost_of Right l clue m ss pos d count each greatest =
-    furthest_is Right l clue m pos (greatest_laid l clue m ss d count each greatest) greatest
-
 as_far_start : (side : Side) (some end other start : ℕ) → 0 < some → start ≡ end + 1 - some → IsAsFar side end (other + some - 1)
     → IsAsFar side start other
 as_far_start Left some end other start s at far = omega arith
@@ -177,16 +166,16 @@ as_far_start Right some end other start s at far = omega arith
 pub outermost_is : (side : Side) (l : List Cell) (clue m : List ℕ) → ArePositive clue → HasPlacing l clue → length m ≡ length clue
     → ((j : ℕ) → j < length clue → IsOuterStart side l clue j (get_or m j 0)) → outermost side l clue ≡ Some m
 outermost_is side l clue m pos p count each =
-    outermost_of side l clue m (starts_from 0 false p.0) pos (laid l clue p.0 p.1 p.2) count witness furthest
-  where
-    witness : (j : ℕ) → j < length clue → Witness l clue j (get_or m j 0)
-    witness j h = let o = each j h in subst (Witness l clue j) (sym o.start_is) (witness_of l clue j o.end pos h o.whole)
-
-    furthest : (ss : List ℕ) → IsLaid l clue ss → (j : ℕ) → j < length clue → IsAsFar side (get_or m j 0) (get_or ss j 0)
-    furthest ss d j h =
-        let o = each j h in
-        as_far_start side (get_or clue j 0) o.end (get_or ss j 0) (get_or m j 0) (positive_at clue pos j h) o.start_is
-        (o.outermost_so (get_or ss j 0 + get_or clue j 0 - 1) (laid_end l clue ss j pos d h))
+    outermost_of side l clue m pos (record {
+      count = count;
+      some = starts_from 0 false p.0;
+      some_laid = laid l clue p.0 p.1 p.2;
+      each = λ j h. let o = each j h in subst (Witness l clue j) (sym o.start_is) (witness_of l clue j o.end pos h o.whole);
+      furthest = λ ss d j h.
+          let o = each j h in
+          as_far_start side (get_or clue j 0) o.end (get_or ss j 0) (get_or m j 0) (positive_at clue pos j h) o.start_is
+          (o.outermost_so (get_or ss j 0 + get_or clue j 0 - 1) (laid_end l clue ss j pos d h));
+    })
 
 pub outermost_none : (side : Side) (l : List Cell) (clue : List ℕ) → (HasPlacing l clue → ⊥) → outermost side l clue ≡ None
 outermost_none side l clue none =

@@ -1,22 +1,29 @@
 -- Full lines made of starts.
-use Rattle.std.proofs.Common.{◌≡◌, ℕ, zero, suc, ◌+◌, ◌-◌, ◌<◌, ◌≤◌, Bool, true, false, List, [], ◌∷◌, ◌++◌, length, replicate, refl, sym, ap, ◌∙◌, subst, arith, inl, inr, drop, get_or, drop-cons, drop_of_length-le}
+use Rattle.std.proofs.Common.{◌≡◌, ℕ, zero, suc, ◌+◌, ◌-◌, ◌<◌, ◌≤◌, Bool, true, false, List, [], ◌∷◌, ◌++◌, length, replicate, refl, sym, ap, ◌∙◌, subst, arith, inl, inr, below_more, drop, get_or, drop-cons, drop_of_length-le}
 use Rattle.std.proofs.lemmas.Bool.{cases_lt, and_from, and_parts}
 use Rattle.grid_core.specs.declared.cells.Cell.{Cell}
 use Rattle.grid_core.specs.declared.cells.Cell.TheVariants.{Unknown}
 use Rattle.grid_core.specs.Cells.{allows, agrees}
 use Rattle.grid_core.specs.Runs.{runs}
 use Rattle.place_sets.specs.Masks.{AllFrom}
+use Rattle.line_core.specs.declared.starts.Side.{Side}
+use Rattle.line_core.specs.declared.starts.Side.TheVariants.{Left, Right}
+use Rattle.line_core.specs.steps.Outermost.{IsAsFar}
 use Rattle.line_core.specs.steps.Reach.{MayBe}
 use Rattle.line_core.proofs.RunLaws.{ArePositive}
 use Rattle.line_core.proofs.Joining.{filled_agrees, agrees_span, runs_first}
 use Rattle.line_core.proofs.RunStarts.{starts_from, length-run_starts, run_of, filled_in_run, runs_apart, covered}
+
+-- each run ends before the next one, with a cell between them
+abbrev pub StandApart : List ℕ → List ℕ → Type 0
+StandApart clue ss = (j : ℕ) → suc j < length clue → get_or ss j 0 + get_or clue j 0 < get_or ss (suc j) 0
 
 -- starts that lay a clue's runs on a line: each on cells that may be filled, all apart,
 -- and every other cell may be blank
 pub record IsLaid (l : List Cell) (clue ss : List ℕ) : Type 0 where
   pub count : length ss ≡ length clue
   pub windows : (j : ℕ) → j < length clue → AllFrom (MayBe l true) (get_or clue j 0) (get_or ss j 0)
-  pub apart : (j : ℕ) → suc j < length clue → get_or ss j 0 + get_or clue j 0 < get_or ss (suc j) 0
+  pub apart : StandApart clue ss
   pub blanks : (i : ℕ) → i < length l → ((j : ℕ) → j < length clue → get_or ss j 0 ≤ i → i < get_or ss j 0 + get_or clue j 0 → ⊥)
       → MayBe l false i
 
@@ -61,14 +68,14 @@ Laid l g p [] (s ∷ ss) = ⊥
 Laid l g p (c ∷ clue) [] = ⊥
 Laid l g p (c ∷ clue) (s ∷ ss) = (p + g ≤ s) × AllFrom (MayBe l false) (s - p) p × AllFrom (MayBe l true) c s × Laid l 1 (s + c) clue ss
 
-first_least : (clue ss : List ℕ) → ((j : ℕ) → suc j < length clue → get_or ss j 0 + get_or clue j 0 < get_or ss (suc j) 0) → (j : ℕ)
+first_least : (clue ss : List ℕ) → StandApart clue ss → (j : ℕ)
     → j < length clue → get_or ss 0 0 ≤ get_or ss j 0
 first_least clue ss apart zero h = omega arith
 first_least clue ss apart (suc j) h = let below = first_least clue ss apart j (omega arith) in let next = apart j h in omega arith
 
 laid_from : (l : List Cell) (g p : ℕ) (clue ss : List ℕ) → length ss ≡ length clue → (0 < length clue → p + g ≤ get_or ss 0 0)
     → ((j : ℕ) → j < length clue → AllFrom (MayBe l true) (get_or clue j 0) (get_or ss j 0))
-    → ((j : ℕ) → suc j < length clue → get_or ss j 0 + get_or clue j 0 < get_or ss (suc j) 0)
+    → StandApart clue ss
     → ((i : ℕ) → p ≤ i → i < length l → ((j : ℕ) → j < length clue → get_or ss j 0 ≤ i → i < get_or ss j 0 + get_or clue j 0 → ⊥)
     → MayBe l false i)
     → ArePositive clue → Laid l g p clue ss
@@ -189,14 +196,13 @@ placing_of l clue ss pos d =
 -- ---- the least starts and the greatest
 
 -- each run ends before all later ones
-pub laid_apart : (l : List Cell) (clue ss : List ℕ) → IsLaid l clue ss → (i j : ℕ) → i < j → j < length clue
-    → get_or ss i 0 + get_or clue i 0 < get_or ss j 0
-laid_apart l clue ss d i zero h k = absurd (omega arith)
-laid_apart l clue ss d i (suc j) h k =
-    let next = d.apart j k in
+ends_before : (clue ss : List ℕ) → StandApart clue ss → (i j : ℕ) → i < j → j < length clue → get_or ss i 0 + get_or clue i 0 < get_or ss j 0
+ends_before clue ss apart i zero h k = absurd (omega arith)
+ends_before clue ss apart i (suc j) h k =
+    let next = apart j k in
     elim (cases_lt i j) [
-      | inl low ↦ (let rest = laid_apart l clue ss d i j low (omega arith) in omega arith)
-      | inr high ↦ (let e : i ≡ j = omega arith in subst (λ (q : ℕ). get_or ss q 0 + get_or clue q 0 < get_or ss (suc j) 0) (sym e) next)
+      | inl low ↦ (let rest = ends_before clue ss apart i j low (omega arith) in omega arith)
+      | inr high ↦ (let e : j ≡ i = omega arith in subst (λ (q : ℕ). get_or ss q 0 + get_or clue q 0 < get_or ss (suc j) 0) e next)
     ]
 
 -- some starts that lay the clue, with a given start of one run
@@ -205,101 +211,97 @@ pub record Witness (l : List Cell) (clue : List ℕ) (j s : ℕ) : Type 0 where
   pub laid_so : IsLaid l clue starts
   pub at : get_or starts j 0 ≡ s
 
--- the least starts of each run lay the clue
-pub least_laid : (l : List Cell) (clue m : List ℕ) → (y : List ℕ) → IsLaid l clue y → length m ≡ length clue
-    → ((j : ℕ) → j < length clue → Witness l clue j (get_or m j 0))
-    → ((ss : List ℕ) → IsLaid l clue ss → (j : ℕ) → j < length clue → get_or m j 0 ≤ get_or ss j 0) → IsLaid l clue m
-least_laid l clue m y some count each least = record {
-  count = count;
-  windows = λ j h. let w = each j h in subst (AllFrom (MayBe l true) (get_or clue j 0)) w.at (w.laid_so.windows j h);
-  apart = λ j h.
-      let w = each (suc j) h in
-      let low = least w.starts w.laid_so j (omega arith) in
-      let next = w.laid_so.apart j h in
-      let at : get_or w.starts (suc j) 0 ≡ get_or m (suc j) 0 = w.at in
-      omega arith;
-  blanks = λ i h free. go i h free (length clue) (omega arith) (λ q a b. absurd (omega arith));
-}
-  where
-    at_run : (i n : ℕ) → i < length l → n < length clue → get_or m n 0 + get_or clue n 0 ≤ i
-        → ((q : ℕ) → suc n ≤ q → q < length clue → i < get_or m q 0) → MayBe l false i
-    at_run i n h k after later =
-        let w = each n k in
-        let at : get_or w.starts n 0 ≡ get_or m n 0 = w.at in
-        w.laid_so.blanks i h (λ q inside from to.
-        elim (cases_lt q n) [
-          | inl low ↦ (let gap = laid_apart l clue w.starts w.laid_so q n low k in absurd (omega arith))
-          | inr high ↦ elim (cases_lt n q) [
-            | inl above ↦
-                (let bound = later q (omega arith) inside in let least_q = least w.starts w.laid_so q inside in absurd (omega arith))
-            | inr same ↦
-                (let e : q ≡ n = omega arith in
-                let bad = subst (λ (z : ℕ). i < get_or w.starts z 0 + get_or clue z 0) e to in
-                absurd (omega arith))
-          ]
-        ])
+-- each of some starts is one of a run that is laid, and as far to a side as any such
+pub record AreFurthest (side : Side) (l : List Cell) (clue m : List ℕ) : Type 0 where
+  pub count : length m ≡ length clue
+  pub some : List ℕ
+  pub some_laid : IsLaid l clue some
+  pub each : (j : ℕ) → j < length clue → Witness l clue j (get_or m j 0)
+  pub furthest : (ss : List ℕ) → IsLaid l clue ss → (j : ℕ) → j < length clue → IsAsFar side (get_or m j 0) (get_or ss j 0)
 
-    go : (i : ℕ) → i < length l → ((j : ℕ) → j < length clue → get_or m j 0 ≤ i → i < get_or m j 0 + get_or clue j 0 → ⊥)
-        → (n : ℕ) → n ≤ length clue → ((q : ℕ) → n ≤ q → q < length clue → i < get_or m q 0) → MayBe l false i
-    go i h free zero k later =
-        some.blanks i h
-        (λ q inside from to. let bound = later q (omega arith) inside in let low = least y some q inside in absurd (omega arith))
-    go i h free (suc n) k later =
-        elim (cases_lt i (get_or m n 0)) [
-          | inl low ↦ go i h free n (omega arith) (λ q a b. elim (cases_lt n q) [
-            | inl above ↦ later q (omega arith) b
-            | inr same ↦ (let e : n ≡ q = omega arith in subst (λ (z : ℕ). i < get_or m z 0) e low)
-          ])
-          | inr high ↦ elim (cases_lt i (get_or m n 0 + get_or clue n 0)) [
-            | inl inside ↦ absurd (free n (omega arith) high inside)
-            | inr past ↦ at_run i n h (omega arith) past later
-          ]
-        ]
+from_more : (P : ℕ → Type 0) (n : ℕ) → P n → ((q : ℕ) → n < q → P q) → (q : ℕ) → n ≤ q → P q
+from_more P n here later q h = elim (cases_lt n q) [ inl above ↦ later q above | inr same ↦ (let e : n ≡ q = omega arith in subst P e here) ]
 
--- and so do the greatest
-pub greatest_laid : (l : List Cell) (clue m : List ℕ) → (y : List ℕ) → IsLaid l clue y → length m ≡ length clue
-    → ((j : ℕ) → j < length clue → Witness l clue j (get_or m j 0))
-    → ((ss : List ℕ) → IsLaid l clue ss → (j : ℕ) → j < length clue → get_or ss j 0 ≤ get_or m j 0) → IsLaid l clue m
-greatest_laid l clue m y some count each greatest = record {
-  count = count;
-  windows = λ j h. let w = each j h in subst (AllFrom (MayBe l true) (get_or clue j 0)) w.at (w.laid_so.windows j h);
-  apart = λ j h.
-      let w = each j (omega arith) in
-      let high = greatest w.starts w.laid_so (suc j) h in
-      let next = w.laid_so.apart j h in
-      let at : get_or w.starts j 0 ≡ get_or m j 0 = w.at in
-      omega arith;
-  blanks = λ i h free. go i h free (length clue) 0 (omega arith) (λ q a. absurd (omega arith));
-}
-  where
-    at_run : (i n : ℕ) → i < length l → n < length clue → i < get_or m n 0 → ((q : ℕ) → q < n → get_or m q 0 + get_or clue q 0 ≤ i)
-        → MayBe l false i
-    at_run i n h k before earlier =
-        let w = each n k in
-        let at : get_or w.starts n 0 ≡ get_or m n 0 = w.at in
-        w.laid_so.blanks i h (λ q inside from to.
-        elim (cases_lt q n) [
-          | inl low ↦ (let bound = earlier q low in let high = greatest w.starts w.laid_so q inside in absurd (omega arith))
-          | inr high ↦ elim (cases_lt n q) [
-            | inl above ↦ (let gap = laid_apart l clue w.starts w.laid_so n q above inside in absurd (omega arith))
-            | inr same ↦
-                (let e : q ≡ n = omega arith in let bad = subst (λ (z : ℕ). get_or w.starts z 0 ≤ i) e from in absurd (omega arith))
-          ]
-        ])
+-- so many runs end before a cell, and all others start after it
+abbrev Cut : List ℕ → List ℕ → ℕ → ℕ → Type 0
+Cut clue ss i n = ((q : ℕ) → q < n → get_or ss q 0 + get_or clue q 0 ≤ i) × ((q : ℕ) → n ≤ q → q < length clue → i < get_or ss q 0)
 
-    go : (i : ℕ) → i < length l → ((j : ℕ) → j < length clue → get_or m j 0 ≤ i → i < get_or m j 0 + get_or clue j 0 → ⊥)
-        → (fuel n : ℕ) → n + fuel ≡ length clue → ((q : ℕ) → q < n → get_or m q 0 + get_or clue q 0 ≤ i) → MayBe l false i
-    go i h free zero n k earlier =
-        some.blanks i h
-        (λ q inside from to. let bound = earlier q (omega arith) in let high = greatest y some q inside in absurd (omega arith))
-    go i h free (suc fuel) n k earlier =
-        elim (cases_lt i (get_or m n 0 + get_or clue n 0)) [
-          | inr past ↦ go i h free fuel (suc n) (omega arith) (λ q a. elim (cases_lt q n) [
-            | inl low ↦ earlier q low
-            | inr high ↦ (let e : n ≡ q = omega arith in subst (λ (z : ℕ). get_or m z 0 + get_or clue z 0 ≤ i) e past)
-          ])
-          | inl under ↦ elim (cases_lt i (get_or m n 0)) [
-            | inl low ↦ at_run i n h (omega arith) low earlier
-            | inr high ↦ absurd (free n (omega arith) high under)
-          ]
-        ]
+-- which is so of each cell that is in no run
+cut_of : (clue ss : List ℕ) (i n : ℕ) → StandApart clue ss
+    → ((j : ℕ) → j < length clue → get_or ss j 0 ≤ i → i < get_or ss j 0 + get_or clue j 0 → ⊥) → n ≤ length clue
+    → ((q : ℕ) → n ≤ q → q < length clue → i < get_or ss q 0) → (k : ℕ) × (k ≤ length clue) × Cut clue ss i k
+cut_of clue ss i zero apart free h later = (0, h, ((λ q a. absurd (omega arith)), later))
+cut_of clue ss i (suc n) apart free h later =
+    elim (cases_lt i (get_or ss n 0)) [
+      | inl low ↦
+          cut_of clue ss i n apart free (omega arith)
+          (from_more (λ q. q < length clue → i < get_or ss q 0) n (λ k. low) (λ q a b. later q (omega arith) b))
+      | inr high ↦ elim (cases_lt i (get_or ss n 0 + get_or clue n 0)) [
+        | inl inside ↦ absurd (free n (omega arith) high inside)
+        | inr past ↦ (suc n, h, ((λ q a. below_more (λ z. get_or ss z 0 + get_or clue z 0 ≤ i) n (λ z b.
+            let gap = ends_before clue ss apart z n b (omega arith) in omega arith) past q (omega arith)), later))
+      ]
+    ]
+
+-- and such a cell may be blank
+blank_at : (l : List Cell) (clue ss : List ℕ) (i n : ℕ) → IsLaid l clue ss → i < length l → Cut clue ss i n → MayBe l false i
+blank_at l clue ss i n d h (before, after) =
+    d.blanks i h (λ q inside from to. elim (cases_lt q n) [
+      | inl low ↦ (let end = before q low in absurd (omega arith))
+      | inr high ↦ (let start = after q high inside in absurd (omega arith))
+    ])
+
+furthest_apart : (side : Side) (l : List Cell) (clue m : List ℕ) → AreFurthest side l clue m → StandApart clue m
+furthest_apart Left l clue m f j h =
+    let w = f.each (suc j) h in
+    let low = f.furthest w.starts w.laid_so j (omega arith) in
+    let next = w.laid_so.apart j h in
+    let at : get_or w.starts (suc j) 0 ≡ get_or m (suc j) 0 = w.at in
+    omega arith
+furthest_apart Right l clue m f j h =
+    let w = f.each j (omega arith) in
+    let high = f.furthest w.starts w.laid_so (suc j) h in
+    let next = w.laid_so.apart j h in
+    let at : get_or w.starts j 0 ≡ get_or m j 0 = w.at in
+    omega arith
+
+furthest_blank : (side : Side) (l : List Cell) (clue m : List ℕ) (i n : ℕ) → AreFurthest side l clue m → i < length l → n ≤ length clue
+    → Cut clue m i n → MayBe l false i
+furthest_blank Left l clue m i zero f h k (before, after) =
+    blank_at l clue f.some i 0 f.some_laid h
+    ((λ q a. absurd (omega arith)), λ q a b. let start = after q a b in let low = f.furthest f.some f.some_laid q b in omega arith)
+furthest_blank Left l clue m i (suc n) f h k (before, after) =
+    let w = f.each n (omega arith) in
+    let at : get_or w.starts n 0 ≡ get_or m n 0 = w.at in
+    let end = before n (omega arith) in
+    blank_at l clue w.starts i (suc n) w.laid_so h
+    ((λ q a. below_more (λ z. get_or w.starts z 0 + get_or clue z 0 ≤ i) n
+    (λ z b. let gap = ends_before clue w.starts w.laid_so.apart z n b (omega arith) in omega arith) (omega arith) q (omega arith)),
+    λ q a b. let start = after q a b in let low = f.furthest w.starts w.laid_so q b in omega arith)
+furthest_blank Right l clue m i n f h k (before, after) = elim (cases_lt n (length clue)) [
+  | inl more ↦
+      (let w = f.each n more in
+      let at : get_or w.starts n 0 ≡ get_or m n 0 = w.at in
+      let start = after n (omega arith) more in
+      blank_at l clue w.starts i n w.laid_so h
+      ((λ q a. let end = before q a in let high = f.furthest w.starts w.laid_so q (omega arith) in omega arith),
+      from_more (λ q. q < length clue → i < get_or w.starts q 0) n (λ b. omega arith)
+      (λ q a b. let gap = ends_before clue w.starts w.laid_so.apart n q a b in omega arith)))
+  | inr all ↦
+      blank_at l clue f.some i n f.some_laid h
+      ((λ q a. let end = before q a in let high = f.furthest f.some f.some_laid q (omega arith) in omega arith),
+      λ q a b. absurd (omega arith))
+]
+
+-- so all of them lay the clue
+pub furthest_laid : (side : Side) (l : List Cell) (clue m : List ℕ) → AreFurthest side l clue m → IsLaid l clue m
+furthest_laid side l clue m f =
+    let apart = furthest_apart side l clue m f in
+    record {
+      count = f.count;
+      windows = λ j h. let w = f.each j h in subst (AllFrom (MayBe l true) (get_or clue j 0)) w.at (w.laid_so.windows j h);
+      apart = apart;
+      blanks = λ i h free.
+          let cut = cut_of clue m i (length clue) apart free (omega arith) (λ q a b. absurd (omega arith)) in
+          furthest_blank side l clue m i cut.0 f h cut.1 cut.2;
+    }
