@@ -1,7 +1,8 @@
 -- Placings on a line of which nothing is known: the runs packed to the left, and from one on moved right.
 use Rattle.std.proofs.Common.{rules, ◌≡◌, ℕ, zero, suc, ◌+◌, ◌-◌, ◌*◌, ◌<◌, ◌≤◌, ◌≢◌, Bool, true, false, cond, List, length, replicate, map, nat_le, nat_lt, refl, sym, ap, ◌∙◌, subst, arith, add-one, true≢false, ◌⊎◌, inl, inr, get_or, ext_get_or}
 use Rattle.std.specs.List.{range_with_len}
-use Rattle.std.proofs.lemmas.Bool.{cases_lt, leb-true, le-leb, ltb-true, lt-ltb}
+use Rattle.std.proofs.lemmas.Bool.Decides.{nat_tests}
+use Rattle.std.proofs.lemmas.Bool.{false_from_ne_true, cases_lt, leb-true, le-leb, ltb-true, lt-ltb}
 use Rattle.std.proofs.lemmas.List.{take_all, length-replicate, get_or-replicate}
 use Rattle.std.proofs.lemmas.List.FromFn.{length-map-range_with_len, get_or-map-range_with_len}
 use Rattle.std.specs.Int.{bit_at}
@@ -163,53 +164,24 @@ shifted l clue slack shift any_cell pos e most up =
 -- ---- a cell that is no overlap can be blank
 
 -- a run keeps to its least start if its greatest one is no further than the cell
-away_from : ℕ → ℕ → ℕ → ℕ
-away_from start slack i = cond (nat_le (start + slack) i) 0 slack
-
-away_from-is : (start slack i : ℕ)
-    → ((start + slack ≤ i) × (away_from start slack i ≡ 0)) ⊎ ((i < start + slack) × (away_from start slack i ≡ slack))
-unfolding away_from
-away_from-is start slack i = by (nat_le (start + slack) i) refl
-  where
-    by : (b : Bool) → nat_le (start + slack) i ≡ b
-        → ((start + slack ≤ i) × (cond (nat_le (start + slack) i) 0 slack ≡ 0))
-        ⊎ ((i < start + slack) × (cond (nat_le (start + slack) i) 0 slack ≡ slack))
-    by true e = inl (leb-true (start + slack) i e, ap (λ (b : Bool). cond b 0 slack) e)
-    by false e = elim (cases_lt i (start + slack)) [
-      | inl low ↦ inr (low, ap (λ (b : Bool). cond b 0 slack) e)
-      | inr high ↦ absurd (true≢false (sym (le-leb (start + slack) i high) ∙ e))
-    ]
-
-shifted_away : (l : List Cell) (clue : List ℕ) (slack i : ℕ) → AnyColour l → ArePositive clue → needed clue + slack ≡ length l + 1
-    → Shifted l clue (λ (j : ℕ). away_from (least_start clue j) slack i)
-shifted_away l clue slack i any_cell pos e = shifted l clue slack (λ (j : ℕ). away_from (least_start clue j) slack i) any_cell pos e most up
-  where
-    most : (j : ℕ) → away_from (least_start clue j) slack i ≤ slack
-    most j = elim (away_from-is (least_start clue j) slack i) [ inl near ↦ omega arith | inr far ↦ omega arith ]
-
-    up : (j : ℕ) → suc j < length clue → away_from (least_start clue j) slack i ≤ away_from (least_start clue (suc j)) slack i
-    up j h =
-        let next = start_next clue j (omega arith) in
-        elim (away_from-is (least_start clue j) slack i) [
-          | inl near ↦ omega arith
-          | inr far ↦ elim (away_from-is (least_start clue (suc j)) slack i) [ inl low ↦ absurd (omega arith) | inr high ↦ omega arith ]
-        ]
+abbrev away_from : List ℕ → ℕ → ℕ → ℕ → ℕ
+away_from clue slack i j = cond (nat_le (least_start clue j + slack) i) 0 slack
 
 pub can_be_blank : (l : List Cell) (clue : List ℕ) (slack i : ℕ) → AnyColour l → ArePositive clue → needed clue + slack ≡ length l + 1
     → (IsOverlap clue slack i → ⊥) → CanBe l clue false i
 can_be_blank l clue slack i any_cell pos e none =
-    let x = shifted_away l clue slack i any_cell pos e in (x.full, x.agree, x.runs_are, by x (get_or x.full i false) refl)
+    let x = shifted l clue slack (away_from clue slack i) any_cell pos e (λ j. grind (arith, nat_tests))
+    (λ j h. let next = start_next clue j (omega arith) in grind (arith, nat_tests)) in
+    (x.full, x.agree, x.runs_are, false_from_ne_true (get_or x.full i false) (by x))
   where
-    by : (x : Shifted l clue (λ (j : ℕ). away_from (least_start clue j) slack i)) → (v : Bool) → get_or x.full i false ≡ v
-        → get_or x.full i false ≡ false
-    by x false f = f
-    by x true f =
+    by : (x : Shifted l clue (away_from clue slack i)) → get_or x.full i false ≡ true → ⊥
+    by x f =
         let c = covered x.full clue i x.runs_are f in
         let at = x.starts c.index c.inside in
-        elim (away_from-is (least_start clue c.index) slack i) [
-          | inl near ↦ absurd (none (c.index, c.inside, near.0, omega (arith, c.to)))
-          | inr far ↦ absurd (omega (arith, c.from))
-        ]
+        let from = c.from in
+        let to = c.to in
+        let near : least_start clue c.index + slack ≤ i = grind (arith, nat_tests) in
+        none (c.index, c.inside, near, grind (arith, nat_tests))
 
 -- ---- if there is a run that can move, each cell can be filled
 
@@ -230,36 +202,6 @@ reaches clue slack i (suc j) some h to =
       | inr high ↦ record { index = suc j; inside = h; from = high; to = to }
     ]
 
--- the runs from one on are shifted, all by the same
-shift_from : ℕ → ℕ → ℕ → ℕ
-shift_from first by j = cond (nat_lt j first) 0 by
-
-shift_from-is : (first by j : ℕ) → ((j < first) × (shift_from first by j ≡ 0)) ⊎ ((first ≤ j) × (shift_from first by j ≡ by))
-unfolding shift_from
-shift_from-is first by j = go (nat_lt j first) refl
-  where
-    go : (b : Bool) → nat_lt j first ≡ b
-        → ((j < first) × (cond (nat_lt j first) 0 by ≡ 0)) ⊎ ((first ≤ j) × (cond (nat_lt j first) 0 by ≡ by))
-    go true e = inl (ltb-true j first e, ap (λ (b : Bool). cond b 0 by) e)
-    go false e = elim (cases_lt j first) [
-      | inl low ↦ absurd (true≢false (sym (lt-ltb j first low) ∙ e))
-      | inr high ↦ inr (high, ap (λ (b : Bool). cond b 0 by) e)
-    ]
-
-shifted_on : (l : List Cell) (clue : List ℕ) (slack first by : ℕ) → AnyColour l → ArePositive clue → needed clue + slack ≡ length l + 1
-    → by ≤ slack → Shifted l clue (shift_from first by)
-shifted_on l clue slack first by any_cell pos e within = shifted l clue slack (shift_from first by) any_cell pos e most up
-  where
-    most : (j : ℕ) → shift_from first by j ≤ slack
-    most j = elim (shift_from-is first by j) [ inl near ↦ omega arith | inr far ↦ omega arith ]
-
-    up : (j : ℕ) → suc j < length clue → shift_from first by j ≤ shift_from first by (suc j)
-    up j h =
-        elim (shift_from-is first by j) [
-          | inl near ↦ omega arith
-          | inr far ↦ elim (shift_from-is first by (suc j)) [ inl low ↦ absurd (omega arith) | inr high ↦ omega arith ]
-        ]
-
 filled_by : (l : List Cell) (clue : List ℕ) (slack i : ℕ) → AnyColour l → ArePositive clue → needed clue + slack ≡ length l + 1
     → Reaches clue slack i → CanBe l clue true i
 filled_by l clue slack i any_cell pos e r =
@@ -267,9 +209,9 @@ filled_by l clue slack i any_cell pos e r =
     let low = r.from in
     let high = r.to in
     let by = i + 1 - (least_start clue r.index + get_or clue r.index 0) in
-    let x = shifted_on l clue slack r.index by any_cell pos e (omega arith) in
-    let shift : shift_from r.index by r.index ≡ by =
-    elim (shift_from-is r.index by r.index) [ inl low ↦ absurd (omega arith) | inr high ↦ high.1 ] in
+    let x = shifted l clue slack (λ j. cond (nat_lt j r.index) 0 by) any_cell pos e (λ j. grind (arith, nat_tests))
+    (λ j h. grind (arith, nat_tests)) in
+    let shift : cond (nat_lt r.index r.index) 0 by ≡ by = grind (arith, nat_tests) in
     let at = x.starts r.index r.inside in
     (x.full, x.agree, x.runs_are, in_run x.full clue r.index i x.runs_are r.inside (omega arith) (omega arith))
 
@@ -329,7 +271,7 @@ overlaps_fillable l clue slack certain any_cell pos e still c = mask_same (IsOve
   where
     to : (i : ℕ) → IsOverlap clue slack i → IsFillable l clue i
     to i o =
-        let x = shifted_on l clue slack 0 0 any_cell pos e (omega arith) in
+        let x = shifted l clue slack (λ j. 0) any_cell pos e (λ j. omega arith) (λ j h. omega arith) in
         fillable_from l clue i (x.full, x.agree, x.runs_are, overlap_filled l clue x.full slack i pos x.agree x.runs_are e o)
 
     from : (i : ℕ) → IsFillable l clue i → IsOverlap clue slack i
