@@ -1,5 +1,5 @@
 -- What the layers above cite of placings and of the deduced line.
-use Rattle.std.proofs.Common.{◌≡◌, ℕ, zero, suc, ◌<◌, Bool, true, false, not, cond, ◌&&◌, List, [], ◌∷◌, length, get_or, map, filter, Option, Some, None, refl, sym, ap, ◌∙◌, subst, arith, true≢false, bytes_eq, zero-add}
+use Rattle.std.proofs.Common.{◌≡◌, ℕ, zero, suc, ◌<◌, Bool, true, false, not, cond, ◌&&◌, List, [], ◌∷◌, length, get_or, map, filter, Option, Some, None, refl, sym, ap, ◌∙◌, subst, arith, true≢false, bytes_eq, zero-add, rules}
 use Rattle.std.specs.List.{All, list_all, range_with_len}
 use Rattle.std.proofs.lemmas.Bool.{and_parts, both_ways, false_from_ne_true, not-true}
 use Rattle.std.proofs.lemmas.List.Elements.{All-weaker, filter_passes}
@@ -246,9 +246,7 @@ greatest_at : (l : List Cell) (clue : List ℕ) (ps : List (List Bool)) (k : ℕ
     → CellExtends c (shared_at ps k)
 greatest_at l clue ps k listed y p Unknown h = tt
 greatest_at l clue ps k listed y p Filled h = rw (listed.every (filled_at k) (λ x q. filled_of (get_or x k false) (h x q))) tt
-greatest_at l clue ps k listed y p Blank h =
-    rw (not_all l clue ps listed (filled_at k) y p (blank_of (get_or y k false) (h y p)),
-    listed.every (blank_at k) (λ x q. ap not (blank_of (get_or x k false) (h x q)))) tt
+greatest_at l clue ps k listed y p Blank h = search rules
 
 greatest_listed : (l : List Cell) (clue : List ℕ) (ps : List (List Bool)) → ListsPlacings l clue ps → (o : Option (List Cell))
     → ((x : List Bool) → IsPlacing l clue x → AtMost o (Some (map colour x))) → AtMost o (shared (length l) ps)

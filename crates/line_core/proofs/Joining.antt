@@ -1,4 +1,5 @@
 -- A line cut at a cell: placings of both parts make one of the whole, and a placing falls into two.
+use Rattle.std.proofs.lemmas.Grind.{common_steps}
 use Rattle.std.proofs.Common.{rules, ◌≡◌, ℕ, zero, suc, ◌+◌, ◌-◌, ◌<◌, ◌≤◌, Bool, true, false, List, [], ◌∷◌, ◌++◌, length, replicate, refl, sym, ap, ◌∙◌, subst, arith, add-zero, zero-add, ◌⊎◌, inl, inr, drop, get_or, drop-cons, add-one, drop_of_length-le, length-drop, reverse}
 use Rattle.grid_core.proofs.RunsLemmas.{runs_after}
 use Rattle.std.proofs.lemmas.List.{get_or-reverse, length-reverse}
@@ -50,9 +51,7 @@ onto_behind d xs (suc i) h =
 -- the elements of the second list stand behind the first
 pub get_or-onto : {A : Type 0} (d : A) (a b : List A) (z : ℕ) → get_or (onto a b) (length a + z) d ≡ get_or b z d
 get_or-onto d [] b z = let e : 0 + z ≡ z = omega arith in ap (λ (k : ℕ). get_or b k d) e
-get_or-onto d (x ∷ a) b z =
-    let e : suc (length a) + z ≡ length a + suc z = omega arith in
-    ap (λ (k : ℕ). get_or (onto a (x ∷ b)) k d) e ∙ get_or-onto d a (x ∷ b) (suc z)
+get_or-onto d (x ∷ a) b z = grind (arith, common_steps)
 
 -- parts that agree make a whole that agrees
 pub agrees_onto : (s t : List Cell) (a b : List Bool) → agrees s a ≡ true → agrees t b ≡ true → agrees (onto s t) (onto a b) ≡ true
@@ -273,8 +272,7 @@ closed_none cs (b ∷ y, agree, is, closed) = cc
 pub closed_first : (c : Cell) (cells : List Cell) (cs : List ℕ) → MayBeginBlank (c ∷ cells) cs → (allows c false ≡ true) × HasPlacing cells cs
 closed_first c cells cs ([], agree, is, closed) = cc
 closed_first c cells cs (true ∷ y, agree, is, closed) = cc
-closed_first c cells cs (false ∷ y, agree, is, closed) =
-    ((and_parts (allows c false) (agrees cells y) agree).0, (y, (and_parts (allows c false) (agrees cells y) agree).1, is))
+closed_first c cells cs (false ∷ y, agree, is, closed) = search rules
 
 -- a placing goes on with a blank cell before it
 pub first_closed : (c : Cell) (cells : List Cell) (cs : List ℕ) → allows c false ≡ true → HasPlacing cells cs → MayBeginBlank (c ∷ cells) cs
@@ -288,11 +286,7 @@ none_closed (c ∷ cs) h = absurd (omega arith)
 pub closed_behind_to : (l : List Cell) (runs : List ℕ) (s : ℕ) → s ≤ length l → MayBeginBlank (behind Unknown l s) runs
     → ((s ≡ 0) × (length runs ≡ 0)) ⊎ ((1 ≤ s) × IsGapAfter l runs (s - 1))
 closed_behind_to l runs zero sl h = inl (refl, closed_none runs h)
-closed_behind_to l runs (suc s) sl h =
-    let first = closed_first (get_or l s Unknown) (behind Unknown l s) runs h in
-    let e : s ≡ suc s - 1 = omega arith in
-    let gap : IsGapAfter l runs s = ((omega arith, first.0), first.1) in
-    inr (omega arith, subst (IsGapAfter l runs) e gap)
+closed_behind_to l runs (suc s) sl h = search rules
 
 -- and back
 pub closed_behind_from : (l : List Cell) (runs : List ℕ) (s : ℕ) → ((s ≡ 0) × (length runs ≡ 0)) ⊎ ((1 ≤ s) × IsGapAfter l runs (s - 1))

@@ -33,13 +33,7 @@ free_is line filled m = may_be_is line filled m is_filled false free_to free_fro
 -- one more element written
 pub written_more : (P : ℕ → ℕ → Type 0) (xs : List ℕ) (j v : ℕ) → j < length xs → P j v → ((k : ℕ) → k < j → P k (get_or xs k 0)) → (k : ℕ)
     → k < j + 1 → P k (get_or (set xs j v) k 0)
-written_more P xs j v l here below k h =
-    elim (cases_lt k j) [
-      | inl low ↦ (let ne : k ≢ j = omega arith in subst (P k) (sym (get_or-set_other xs j k v 0 ne)) (below k low))
-      | inr high ↦
-          (let e : j ≡ k = omega arith in
-          subst (λ (z : ℕ). P z (get_or (set xs j v) z 0)) e (subst (P j) (sym (get_or-set_same xs j v 0 l)) here))
-    ]
+written_more P xs j v l here below k h = search rules
 
 -- a number of a clue is the length of a run
 pub length_at : (width : ℕ) (clue : List ℕ) (j : ℕ) → AreLengths width clue → j < length clue

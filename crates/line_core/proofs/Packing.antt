@@ -1,4 +1,5 @@
 -- Placings on a line of which nothing is known: the runs packed to the left, and from one on moved right.
+use Rattle.std.proofs.lemmas.Grind.{common_steps}
 use Rattle.std.proofs.Common.{rules, ◌≡◌, ℕ, zero, suc, ◌+◌, ◌-◌, ◌*◌, ◌<◌, ◌≤◌, ◌≢◌, Bool, true, false, cond, List, length, replicate, map, nat_le, nat_lt, refl, sym, ap, ◌∙◌, subst, arith, add-one, true≢false, ◌⊎◌, inl, inr, get_or, ext_get_or}
 use Rattle.std.specs.List.{range_with_len}
 use Rattle.std.proofs.lemmas.Bool.Decides.{nat_tests}
@@ -114,9 +115,7 @@ AnyColour l = (v : Bool) (i : ℕ) → i < length l → MayBe l v i
 
 -- a line of which nothing is known has any colour at each cell
 pub unknown_any : (len : ℕ) → AnyColour (replicate len Unknown)
-unknown_any len v i h =
-    let e = length-replicate len Unknown in
-    (h, subst (λ (c : Cell). allows c v ≡ true) (sym (get_or-replicate len i Unknown Unknown (omega arith))) refl)
+unknown_any len v i h = grind (arith, common_steps)
 
 -- a placing whose runs start after their least starts by what `shift` tells
 pub record Shifted (l : List Cell) (clue : List ℕ) (shift : ℕ → ℕ) : Type 0 where
@@ -330,13 +329,7 @@ overlap_same clue slack j m short o = search rules
 -- ---- a clue that needs more than there is
 
 pub none_is : (P : ℕ → Type 0) (m : ℕ) → m ≡ 0 → ((i : ℕ) → P i → ⊥) → IsMaskOf P m
-none_is P m e none =
-    record {
-      to = λ i h. let some : bit_at m i ≡ 1 = h in
-          let zeroth : bit_at m i ≡ 0 = ap (λ (n : ℕ). bit_at n i) e ∙ bit_at-zero i in
-          absurd (omega arith);
-      from = λ i h. absurd (none i h);
-    }
+none_is P m e none = search rules
 
 -- then no cell can be filled
 pub unfit_fillable : (l : List Cell) (clue : List ℕ) (m : ℕ) → ArePositive clue → length l + 1 < needed clue → m ≡ 0

@@ -1,5 +1,5 @@
 -- Full lines made of starts.
-use Rattle.std.proofs.Common.{◌≡◌, ℕ, zero, suc, ◌+◌, ◌-◌, ◌<◌, ◌≤◌, Bool, true, false, List, [], ◌∷◌, ◌++◌, length, replicate, refl, sym, ap, ◌∙◌, subst, arith, inl, inr, below_more, drop, get_or, drop-cons, drop_of_length-le}
+use Rattle.std.proofs.Common.{◌≡◌, ℕ, zero, suc, ◌+◌, ◌-◌, ◌<◌, ◌≤◌, Bool, true, false, List, [], ◌∷◌, ◌++◌, length, replicate, refl, sym, ap, ◌∙◌, subst, arith, inl, inr, below_more, drop, get_or, drop-cons, drop_of_length-le, rules}
 use Rattle.std.proofs.lemmas.Bool.{cases_lt, and_from, and_parts}
 use Rattle.grid_core.specs.declared.cells.Cell.{Cell}
 use Rattle.grid_core.specs.declared.cells.Cell.TheVariants.{Unknown}
@@ -245,25 +245,11 @@ cut_of clue ss i (suc n) apart free h later =
 
 -- and such a cell may be blank
 blank_at : (l : List Cell) (clue ss : List ℕ) (i n : ℕ) → IsLaid l clue ss → i < length l → Cut clue ss i n → MayBe l false i
-blank_at l clue ss i n d h (before, after) =
-    d.blanks i h (λ q inside from to. elim (cases_lt q n) [
-      | inl low ↦ (let end = before q low in absurd (omega arith))
-      | inr high ↦ (let start = after q high inside in absurd (omega arith))
-    ])
+blank_at l clue ss i n d h (before, after) = search rules
 
 furthest_apart : (side : Side) (l : List Cell) (clue m : List ℕ) → AreFurthest side l clue m → StandApart clue m
-furthest_apart Left l clue m f j h =
-    let w = f.each (suc j) h in
-    let low = f.furthest w.starts w.laid_so j (omega arith) in
-    let next = w.laid_so.apart j h in
-    let at : get_or w.starts (suc j) 0 ≡ get_or m (suc j) 0 = w.at in
-    omega arith
-furthest_apart Right l clue m f j h =
-    let w = f.each j (omega arith) in
-    let high = f.furthest w.starts w.laid_so (suc j) h in
-    let next = w.laid_so.apart j h in
-    let at : get_or w.starts j 0 ≡ get_or m j 0 = w.at in
-    omega arith
+furthest_apart Left l clue m f j h = search rules
+furthest_apart Right l clue m f j h = search rules
 
 furthest_blank : (side : Side) (l : List Cell) (clue m : List ℕ) (i n : ℕ) → AreFurthest side l clue m → i < length l → n ≤ length clue
     → Cut clue m i n → MayBe l false i
