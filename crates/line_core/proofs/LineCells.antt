@@ -4,7 +4,11 @@ use Rattle.std.proofs.lemmas.Bool.{cases_lt}
 use Rattle.grid_core.specs.declared.cells.Cell.{Cell}
 use Rattle.grid_core.specs.declared.cells.Cell.TheVariants.{Unknown, Filled, Blank}
 use Rattle.grid_core.specs.Cells.{allows, is_filled}
-use Rattle.place_sets.specs.Masks.{has, IsMaskOf}
+use Rattle.place_sets.specs.Masks.{Has, has, IsMaskOf}
+use Rattle.place_sets.proofs.HasLemmas.{true_has}
+use Rattle.place_sets.proofs.WordSteps.{none_is as is_none}
+use Rattle.std.proofs.lemmas.Bool.{false_from_ne_true}
+use Rattle.std.proofs.lemmas.Nat.Bits.{bit_at-zero}
 use Rattle.line_core.specs.steps.Reach.{MayBe, AreLengths}
 
 free_to : (c : Cell) → is_filled c ≡ false → allows c false ≡ true
@@ -29,6 +33,16 @@ may_be_is line set_of m test filled to from same lacking = search rules
 pub free_is : (line : List Cell) (filled m : ℕ) → ((i : ℕ) → i < length line → has filled i ≡ is_filled (get_or line i Unknown))
     → IsMaskOf (λ i. (i < length line) × (has filled i ≡ false)) m → IsMaskOf (MayBe line false) m
 free_is line filled m = may_be_is line filled m is_filled false free_to free_from
+
+-- a mask of nothing
+pub none_is : (P : ℕ → Type 0) (m : ℕ) → m ≡ 0 → ((i : ℕ) → P i → ⊥) → IsMaskOf P m
+none_is P m e none = subst (IsMaskOf P) (sym e) (is_none P none)
+
+pub none_has : (m i : ℕ) → m ≡ 0 → Has m i → ⊥
+none_has m i e h = let z : Has 0 i = subst (λ (k : ℕ). Has k i) e h in omega (arith, bit_at-zero i)
+
+pub lacks : (m i : ℕ) → (Has m i → ⊥) → has m i ≡ false
+lacks m i none = false_from_ne_true (has m i) (λ e. none (true_has m i e))
 
 -- one more element written
 pub written_more : (P : ℕ → ℕ → Type 0) (xs : List ℕ) (j v : ℕ) → j < length xs → P j v → ((k : ℕ) → k < j → P k (get_or xs k 0)) → (k : ℕ)

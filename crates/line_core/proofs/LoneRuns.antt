@@ -11,7 +11,7 @@ use Rattle.place_sets.proofs.Steps.{mask_same}
 use Rattle.line_core.specs.steps.Reach.{MayBe, IsFillable, IsBlankable}
 use Rattle.line_core.specs.steps.Lone.{IsLoneStart}
 use Rattle.line_core.proofs.RunLaws.{ArePositive}
-use Rattle.grid_core.proofs.LineCells.{has_by}
+use Rattle.line_core.proofs.LineCells.{lacks, none_has, none_is}
 use Rattle.line_core.proofs.Joining.{blankable_to, blankable_from}
 use Rattle.line_core.proofs.WholeEnds.{fillable_to, fillable_from}
 use Rattle.line_core.proofs.RunStarts.{starts_from, in_run, covered}
@@ -149,12 +149,9 @@ starts_anywhere l number free room len line filled starts e f r a p none w =
     mask_same (AllFrom (Has room) number) (IsLoneStart l number) starts w
     (λ i h. record {
       window = window_to l room number i r h;
-      blanks = λ k b out. free_unless l free filled k f (λ z c lacks. p.from z (a.from z (omega arith), lacks)) (nothing k) b;
+      blanks = λ k b out. free_unless l free filled k f (λ z c lacks. p.from z (a.from z (omega arith), lacks)) (λ h. none_has filled k none h) b;
     })
     (λ i s. window_from l room number i r s.window)
-  where
-    nothing : (k : ℕ) → Has filled k → ⊥
-    nothing k h = let z : Has 0 k = subst (λ (m : ℕ). Has m k) none h in omega (arith, bit_at-zero k)
 
 -- the run has the first and the last cell that must be filled
 pub starts_about : (l : List Cell) (w number free room len line filled starts first last before some all after m : ℕ) → len ≡ length l
@@ -195,22 +192,15 @@ starts_about l w number free room len line filled starts first last before some 
 -- no start, no placing
 pub lone_unfillable : (l : List Cell) (clue : List ℕ) (starts m : ℕ) → ArePositive clue → length clue ≡ 1
     → IsMaskOf (IsLoneStart l (get_or clue 0 0)) starts → starts ≡ 0 → m ≡ 0 → IsMaskOf (IsFillable l clue) m
-lone_unfillable l clue starts m pos one s none e = record {
-  to = λ i h. let z : Has 0 i = subst (λ (k : ℕ). Has k i) e h in absurd (omega (arith, bit_at-zero i));
-  from = λ i h. let f = fills_to l clue i pos one h in
-      let z : Has 0 f.s = subst (λ (k : ℕ). Has k f.s) none (s.from f.s f.start) in
-      absurd (omega (arith, bit_at-zero f.s));
-}
+lone_unfillable l clue starts m pos one s none e =
+    none_is (IsFillable l clue) m e
+    (λ i h. let f = fills_to l clue i pos one h in none_has starts f.s none (s.from f.s f.start))
 
 -- no start, no blank cell in a placing
 pub lone_unblankable : (l : List Cell) (clue : List ℕ) (starts m : ℕ) → length clue ≡ 1 → IsMaskOf (IsLoneStart l (get_or clue 0 0)) starts
     → starts ≡ 0 → m ≡ 0 → IsMaskOf (IsBlankable l clue) m
-lone_unblankable l clue starts m one s none e = record {
-  to = λ i h. let z : Has 0 i = subst (λ (k : ℕ). Has k i) e h in absurd (omega (arith, bit_at-zero i));
-  from = λ i h. let f = leaves_to l clue i one h in
-      let z : Has 0 f.s = subst (λ (k : ℕ). Has k f.s) none (s.from f.s f.start) in
-      absurd (omega (arith, bit_at-zero f.s));
-}
+lone_unblankable l clue starts m one s none e =
+    none_is (IsBlankable l clue) m e (λ i h. let f = leaves_to l clue i one h in none_has starts f.s none (s.from f.s f.start))
 
 -- each cell among as many from a start on
 pub lone_fillable : (l : List Cell) (clue : List ℕ) (w starts ends m : ℕ) → ArePositive clue → length clue ≡ 1 → 0 < get_or clue 0 0
@@ -271,5 +261,5 @@ lone_blankable l clue w len line starts first last certain m pos one e short s a
     from i h =
         let within : i < length l = h.2.0.0 in (
           a.from i (omega arith),
-          has_by certain i false (λ x. absurd (out i (leaves_to l clue i one h) x)) (λ e. absurd (true≢false (sym e))),
+          lacks certain i (out i (leaves_to l clue i one h)),
         )

@@ -3,7 +3,7 @@ use Rattle.std.proofs.lemmas.Grind.{common_steps}
 use Rattle.std.proofs.Common.{rules, ◌≡◌, ℕ, zero, suc, ◌+◌, ◌-◌, ◌*◌, ◌<◌, ◌≤◌, ◌≢◌, Bool, true, false, cond, List, length, replicate, map, nat_le, nat_lt, refl, sym, ap, ◌∙◌, subst, arith, add-one, true≢false, ◌⊎◌, inl, inr, get_or, ext_get_or}
 use Rattle.std.specs.List.{range_with_len}
 use Rattle.std.proofs.lemmas.Bool.Decides.{nat_tests}
-use Rattle.std.proofs.lemmas.Bool.{false_from_ne_true, cases_lt, leb-true, le-leb, ltb-true, lt-ltb}
+use Rattle.std.proofs.lemmas.Bool.{false_from_ne_true, false≢true, cases_lt, leb-true, le-leb, ltb-true, lt-ltb}
 use Rattle.std.proofs.lemmas.List.{take_all, length-replicate, get_or-replicate}
 use Rattle.std.proofs.lemmas.List.FromFn.{length-map-range_with_len, get_or-map-range_with_len}
 use Rattle.std.specs.Int.{bit_at}
@@ -16,11 +16,12 @@ use Rattle.grid_core.specs.Runs.{runs}
 use Rattle.place_sets.specs.Masks.{Has, has, IsMaskOf, IsShifted, AllFrom}
 use Rattle.place_sets.proofs.HasLemmas.{has_true, true_has}
 use Rattle.place_sets.proofs.Steps.{mask_same}
+use Rattle.place_sets.proofs.WordSteps.{some_place}
 use Rattle.line_core.specs.steps.Overlaps.{needed, least_start, IsOverlapBefore, IsOverlap}
 use Rattle.line_core.specs.steps.Reach.{AreLengths, MayBe, IsFillable, IsBlankable}
 use Rattle.line_core.proofs.RunLaws.{ArePositive}
 use Rattle.grid_core.proofs.LineCells.{has_by}
-use Rattle.line_core.proofs.LineCells.{length_at}
+use Rattle.line_core.proofs.LineCells.{length_at, lacks, none_has, none_is}
 use Rattle.line_core.proofs.Joining.{positive_at, filled_agrees, blankable_to, blankable_from}
 use Rattle.line_core.proofs.WholeEnds.{fillable_to, fillable_from}
 use Rattle.line_core.proofs.RunStarts.{starts_from, in_run, covered}
@@ -247,8 +248,7 @@ blankable_is l clue slack certain line m any_cell pos e c a p =
     from i h =
         let x = blankable_to l clue i h in (
           a.from i h.2.0.0,
-          has_by certain i false (λ o. absurd (true≢false (sym (overlap_filled l clue x.0 slack i pos x.1 x.2 e (c.to i o)) ∙ x.3)))
-              (λ e. absurd (true≢false (sym e))),
+          lacks certain i (λ o. true≢false (sym (overlap_filled l clue x.0 slack i pos x.1 x.2 e (c.to i o)) ∙ x.3)),
         )
 
 -- each cell of the line, if there is a run that can move
@@ -328,9 +328,6 @@ overlap_same clue slack j m short o = search rules
 
 -- ---- a clue that needs more than there is
 
-pub none_is : (P : ℕ → Type 0) (m : ℕ) → m ≡ 0 → ((i : ℕ) → P i → ⊥) → IsMaskOf P m
-none_is P m e none = search rules
-
 -- then no cell can be filled
 pub unfit_fillable : (l : List Cell) (clue : List ℕ) (m : ℕ) → ArePositive clue → length l + 1 < needed clue → m ≡ 0
     → IsMaskOf (IsFillable l clue) m
@@ -350,32 +347,22 @@ unknown_to l len free room known long f r p e =
     ext_get_or Unknown l (replicate len Unknown) (sym long ∙ sym (length-replicate len Unknown))
     (λ i h. by i h (get_or l i Unknown) refl ∙ sym (get_or-replicate len i Unknown Unknown (omega arith)))
   where
-    same : (i : ℕ) → (has free i ≡ has room i → ⊥) → ⊥
-    same i ne =
-        let some : bit_at known i ≡ 1 = p.from i ne in
-        let zeroth : bit_at known i ≡ 0 = ap (λ (n : ℕ). bit_at n i) e ∙ bit_at-zero i in
-        absurd (omega arith)
-
     by : (i : ℕ) → i < length l → (c : Cell) → get_or l i Unknown ≡ c → c ≡ Unknown
     by i h Unknown at = refl
     by i h Filled at =
-        absurd (same i (λ same.
-        let in_room : has room i ≡ true = has_true room i (r.from i (h, subst (λ (c : Cell). allows c true ≡ true) (sym at) refl)) in
-        let no : allows Filled false ≡ true =
-        subst (λ (c : Cell). allows c false ≡ true) at (f.to i (true_has free i (same ∙ in_room))).1 in
-        true≢false (sym no)))
+        absurd (none_has known i e (p.from i (λ same.
+        false≢true (rw at at (f.to i (true_has free i (same ∙ has_true room i (r.from i (h, rw at refl))))).1))))
     by i h Blank at =
-        absurd (same i (λ same.
-        let in_free : has free i ≡ true = has_true free i (f.from i (h, subst (λ (c : Cell). allows c false ≡ true) (sym at) refl)) in
-        let no : allows Blank true ≡ true =
-        subst (λ (c : Cell). allows c true ≡ true) at (r.to i (true_has room i (sym same ∙ in_free))).1 in
-        true≢false (sym no)))
+        absurd (none_has known i e (p.from i (λ same.
+        false≢true (rw at at (r.to i (true_has room i (sym same ∙ has_true free i (f.from i (h, rw at refl))))).1))))
 
 -- and if nothing is known, they are the same
 pub unknown_from : (l : List Cell) (len free room known : ℕ) → IsMaskOf (MayBe l false) free → IsMaskOf (MayBe l true) room
     → IsMaskOf (λ i. has free i ≢ has room i) known → l ≡ replicate len Unknown → known ≡ 0
-unknown_from l len free room known f r p e =
-    same_from_bits known 0 (λ i. by i (bit_at known i) refl (bit_at-lt known i) ∙ sym (bit_at-zero i))
+unknown_from l len free room known f r p e = elim (cases_lt 0 known) [
+  | inl some ↦ (let x = some_place known some in absurd (p.to x.0 x.1 (same x.0)))
+  | inr none ↦ omega arith
+]
   where
     any_cell : (v : Bool) (i : ℕ) → i < length l → MayBe l v i
     any_cell = subst AnyColour (sym e) (unknown_any len)
@@ -384,8 +371,3 @@ unknown_from l len free room known f r p e =
     same i =
         has_by free i (has room i) (λ h. has_true room i (r.from i (any_cell true i (f.to i h).0)))
         (λ h. f.from i (any_cell false i (r.to i (true_has room i h)).0))
-
-    by : (i n : ℕ) → bit_at known i ≡ n → n < 2 → bit_at known i ≡ 0
-    by i zero k h = k
-    by i (suc zero) k h = absurd (p.to i k (same i))
-    by i (suc (suc n)) k h = absurd (omega arith)

@@ -1,5 +1,5 @@
 -- How far the runs reach: gaps and ends as floods tell them, and as placings of the cells before do.
-use Rattle.std.proofs.Common.{rules, ◌≡◌, ℕ, zero, suc, ◌+◌, ◌-◌, ◌<◌, ◌≤◌, Bool, true, false, List, [], ◌∷◌, ◌++◌, length, replicate, refl, sym, ap, ◌∙◌, subst, arith, ◌⊎◌, inl, inr, get_or}
+use Rattle.std.proofs.Common.{rules, below_more, ◌≡◌, ℕ, zero, suc, ◌+◌, ◌-◌, ◌<◌, ◌≤◌, Bool, true, false, List, [], ◌∷◌, ◌++◌, length, replicate, refl, sym, ap, ◌∙◌, subst, arith, ◌⊎◌, inl, inr, get_or}
 use Rattle.std.proofs.lemmas.Bool.{and_from, and_parts}
 use Rattle.grid_core.specs.declared.cells.Cell.{Cell}
 use Rattle.grid_core.specs.declared.cells.Cell.TheVariants.{Unknown}
@@ -71,29 +71,19 @@ open_run l zero p rest h =
     }
 open_run l (suc m) zero rest h = cc
 open_run l (suc m) (suc p) rest h =
-    let first = (and_parts (allows (get_or l p Unknown) true) (agrees (behind Unknown l p) (replicate m true ++ rest)) h).0 in
-    let r = open_run l m p rest (and_parts (allows (get_or l p Unknown) true) (agrees (behind Unknown l p) (replicate m true ++ rest)) h).1 in
+    let open_at = λ (q : ℕ). allows (get_or l q Unknown) true ≡ true in
+    let parts = and_parts (allows (get_or l p Unknown) true) (agrees (behind Unknown l p) (replicate m true ++ rest)) h in
+    let r = open_run l m p rest parts.1 in
+    let enough : m ≤ p = r.enough in
     let e : p - m ≡ suc p - suc m = omega arith in
+    let nearest : p ≡ suc p - suc m + m = omega arith in
     record {
-      enough = omega (arith, r.enough);
-      cells = λ z b. by r first z b (below_or_at z m b);
+      enough = omega arith;
+      cells = λ z b. below_more (λ z. open_at (suc p - suc m + z)) m
+          (λ z c. let f : p - m + z ≡ suc p - suc m + z = omega arith in subst open_at f (r.cells z c))
+          (subst open_at nearest parts.0) z (omega arith);
       before = subst (λ (q : ℕ). agrees (behind Unknown l q) rest ≡ true) e r.before;
     }
-  where
-    below_or_at : (z m : ℕ) → z < suc m → (z < m) ⊎ (z ≡ m)
-    below_or_at z zero h = inr (omega arith)
-    below_or_at zero (suc m) h = inl (omega arith)
-    below_or_at (suc z) (suc m) h = elim (below_or_at z m (omega arith)) [ inl a ↦ inl (omega arith) | inr a ↦ inr (omega arith) ]
-
-    by : OpenRun l m p rest → allows (get_or l p Unknown) true ≡ true → (z : ℕ) → z < suc m → (z < m) ⊎ (z ≡ m)
-        → allows (get_or l (suc p - suc m + z) Unknown) true ≡ true
-    by r a z b (inl low) =
-        let e : p - m + z ≡ suc p - suc m + z = omega arith in
-        subst (λ (q : ℕ). allows (get_or l q Unknown) true ≡ true) e (r.cells z low)
-    by r a z b (inr same) =
-        let enough : m ≤ p = r.enough in
-        let e : p ≡ suc p - suc m + z = omega arith in
-        subst (λ (q : ℕ). allows (get_or l q Unknown) true ≡ true) e a
 
 run_open : (l : List Cell) (m p : ℕ) (rest : List Bool) → OpenRun l m p rest → agrees (behind Unknown l p) (replicate m true ++ rest) ≡ true
 run_open l zero p rest r = let e : p - 0 ≡ p = omega arith in subst (λ (q : ℕ). agrees (behind Unknown l q) rest ≡ true) e r.before

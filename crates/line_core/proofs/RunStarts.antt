@@ -1,5 +1,5 @@
 -- At which places the runs of a full line start.
-use Rattle.std.proofs.Common.{◌≡◌, ℕ, zero, suc, ◌+◌, ◌-◌, ◌<◌, ◌≤◌, Bool, true, false, not, cond, ◌&&◌, List, [], ◌∷◌, ◌++◌, length, replicate, filter, refl, sym, ap, ◌∙◌, subst, arith, add-zero, zero-add, add-one, true≢false, inl, inr, drop, get_or, drop-cons, append_assoc}
+use Rattle.std.proofs.Common.{rules, ◌≡◌, ℕ, zero, suc, ◌+◌, ◌-◌, ◌<◌, ◌≤◌, Bool, true, false, not, cond, ◌&&◌, List, [], ◌∷◌, ◌++◌, length, replicate, filter, refl, sym, ap, ◌∙◌, subst, arith, add-zero, zero-add, add-one, true≢false, inl, inr, drop, get_or, drop-cons, append_assoc}
 use Rattle.std.proofs.lemmas.Bool.{cases_lt}
 use Rattle.std.specs.List.{range_with_len}
 use Rattle.grid_core.specs.Runs.{runs}
@@ -327,18 +327,7 @@ stretch_of x (suc i) h = by (get_or x i false) refl (stretch_of x i)
           all = λ z a b. let e : suc i ≡ z = omega arith in subst (λ (n : ℕ). get_or x n false ≡ true) e h;
           free = e;
         }
-    by true e below =
-        let r = below e in
-        let from : r.first ≤ i = r.from in
-        record {
-          first = r.first;
-          from = omega arith;
-          all = λ z a b. elim (cases_lt z (suc i)) [
-            | inl low ↦ r.all z a (omega arith)
-            | inr high ↦ (let e : suc i ≡ z = omega arith in subst (λ (n : ℕ). get_or x n false ≡ true) e h)
-          ];
-          free = r.free;
-        }
+    by true e below = search rules
 
 -- each filled cell is in one
 pub covered : (x : List Bool) (clue : List ℕ) (i : ℕ) → runs x ≡ clue → get_or x i false ≡ true → Covered x clue i

@@ -1,6 +1,7 @@
 -- What masks of the cells that can be filled, and of those that can be blank, tell of a line.
 use Rattle.std.proofs.Common.{rules, ◌≡◌, ℕ, ◌<◌, ◌⊎◌, inl, inr, Bool, true, false, not, cond, ◌&&◌, ◌||◌, List, length, get_or, map, Some, None, refl, sym, ap, ◌∙◌, arith, true≢false, zero-add, ext_get_or}
 use Rattle.std.specs.List.{range_with_len}
+use Rattle.std.proofs.lemmas.Bool.{cases_Bool, or_cases, or_left, or_right}
 use Rattle.std.proofs.lemmas.List.FromFn.{length-map-range_with_len, get_or-map-range_with_len}
 use Rattle.grid_core.specs.declared.cells.Cell.{Cell}
 use Rattle.grid_core.specs.declared.cells.Cell.TheVariants.{Unknown}
@@ -19,17 +20,12 @@ use Rattle.line_core.proofs.Certain.{CanBe, Tells, deduced-told, dead-told}
 use Rattle.grid_core.proofs.LineCells.{cell_at, length_line, has_by}
 
 either_first : (f b m : ℕ) → IsMaskOf (λ i. Has f i ⊎ Has b i) m → (has f 0 || has b 0) ≡ has m 0
-either_first f b m p = by (has f 0) (has b 0) refl refl
-  where
-    by : (x y : Bool) → has f 0 ≡ x → has b 0 ≡ y → (x || y) ≡ has m 0
-    by true y u v = sym (has_true m 0 (p.from 0 (inl (true_has f 0 u))))
-    by false true u v = sym (has_true m 0 (p.from 0 (inr (true_has b 0 v))))
-    by false false u v =
-        sym (has_by m 0 false
-        (λ h. elim (p.to 0 h) [
-          | inl x ↦ absurd (true≢false (sym (has_true f 0 x) ∙ u))
-          | inr x ↦ absurd (true≢false (sym (has_true b 0 x) ∙ v))
-        ]) (λ e. absurd (true≢false (sym e))))
+either_first f b m p =
+    sym (has_by m 0 (has f 0 || has b 0)
+    (λ h. elim (p.to 0 h) [
+      | inl x ↦ or_left (has f 0) (has b 0) (has_true f 0 x)
+      | inr x ↦ or_right (has f 0) (has b 0) (has_true b 0 x)
+    ]) (λ e. p.from 0 (elim (or_cases (has f 0) (has b 0) e) [ inl x ↦ inl (true_has f 0 x) | inr x ↦ inr (true_has b 0 x) ])))
 
 -- the answer if the first cell can have no colour
 pub told_dead : (len f b m : ℕ) → IsMaskOf (λ i. Has f i ⊎ Has b i) m → has m 0 ≡ false → None ≡ told_by len f b
@@ -82,9 +78,6 @@ told-deduced l clue len f b pos some long fill blank = by (has f 0) (has b 0) re
           from = λ x. has_true b k (blank.from k (blankable_from l clue k h x));
         }
 
-    all : List Cell
-    all = map (λ (i : ℕ). certain_by (has f i) (has b i)) (range_with_len 0 len)
-
     found : (c : Bool) → CanBe l clue c 0 → Some (map (λ (i : ℕ). certain_by (has f i) (has b i)) (range_with_len 0 len)) ≡ deduced l clue
     found c x =
         deduced-told l clue (map (λ (i : ℕ). certain_by (has f i) (has b i)) (range_with_len 0 len)) (has f)
@@ -93,11 +86,10 @@ told-deduced l clue len f b pos some long fill blank = by (has f 0) (has b 0) re
         (λ k h. get_or-map-range_with_len (λ (i : ℕ). certain_by (has f i) (has b i)) 0 len k k Unknown (omega arith) (zero-add k))
 
     none : has f 0 ≡ false → has b 0 ≡ false → (y : List Bool) → IsPlacing l clue y → ⊥
-    none p q y x = pick (get_or y 0 false) refl
-      where
-        pick : (c : Bool) → get_or y 0 false ≡ c → ⊥
-        pick true e = true≢false (sym ((filled_tells 0 (omega arith)).from (y, Extends-agrees l y x.extends, x.runs_are, e)) ∙ p)
-        pick false e = true≢false (sym ((blank_tells 0 (omega arith)).from (y, Extends-agrees l y x.extends, x.runs_are, e)) ∙ q)
+    none p q y x = elim (cases_Bool (get_or y 0 false)) [
+      | inl e ↦ true≢false (sym ((filled_tells 0 (omega arith)).from (y, Extends-agrees l y x.extends, x.runs_are, e)) ∙ p)
+      | inr e ↦ true≢false (sym ((blank_tells 0 (omega arith)).from (y, Extends-agrees l y x.extends, x.runs_are, e)) ∙ q)
+    ]
 
     by : (x y : Bool) → has f 0 ≡ x → has b 0 ≡ y
         → cond (x || y) (Some (map (λ (i : ℕ). certain_by (has f i) (has b i)) (range_with_len 0 len))) None ≡ deduced l clue

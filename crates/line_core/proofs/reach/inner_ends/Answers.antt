@@ -7,6 +7,7 @@ use Rattle.place_sets.proofs.Steps.{mask_same}
 use Rattle.line_core.proofs.RunLaws.{ArePositive}
 use Rattle.line_core.proofs.Joining.{positive_at}
 use Rattle.line_core.proofs.Composing.{whole_is}
+use Rattle.place_sets.proofs.WordSteps.{none_is}
 use Rattle.place_sets.proofs.Uses.{meet_of, has_of}
 use Rattle.place_sets.proofs.Doubling.{one_within}
 use Rattle.line_core.proofs.reach.inner_ends.Goals as goal
@@ -25,7 +26,7 @@ returns g c =
     let inner = c.requires.1.1.0 in
     let pos : ArePositive clue = recursion_from_All (λ (n : ℕ). 0 < n) clue c.requires.1.0.positive in
     let none : IsMaskOf (λ i. (i ≡ length line - 1) × (j + 1 ≡ length clue)) 0 =
-    record { to = λ i h. absurd (omega (arith, bit_at-zero i)); from = λ i h. let e : j + 1 ≡ length clue = h.1 in absurd (omega arith) } in
+    none_is (λ i. (i ≡ length line - 1) × (j + 1 ≡ length clue)) (λ i h. let e : j + 1 ≡ length clue = h.1 in omega arith) in
     whole_is line clue j ends ahead 0 (number c.intersection.result) (omega arith)
     (positive_at clue pos j (omega arith)) c.requires.1.1.1.0 c.requires.1.1.1.1 none
     (mask_same (λ i. Has ends i × Has ahead (i + 1)) (λ i. Has ends i × (Has ahead (i + 1) ⊎ Has 0 i)) (number c.intersection.result)

@@ -8,6 +8,7 @@ use Rattle.line_core.specs.steps.Reach.{behind}
 use Rattle.line_core.specs.steps.Passes.{IsPassOver}
 use Rattle.line_core.proofs.RunLaws.{ArePositive}
 use Rattle.line_core.proofs.Composing.{runs_more}
+use Rattle.line_core.proofs.LineCells.{none_has}
 use Rattle.line_core.proofs.Outermost.{some_end, outer_more}
 use Rattle.line_core.proofs.starts.write_starts.Goals as goal
 
@@ -58,5 +59,4 @@ returns-then-is_empty-clause-starts g c = λ p.
     let e = some_end g.line clue c.loop-j.j pos p c.loop-j-test.true in
     let none : number c.whole_ends-whole.result ≡ 0 =
     eqb-true (number c.whole_ends-whole.result) 0 (sym c.is_empty.ensures ∙ c.if-is_empty.true) in
-    let there : Has 0 e.0 = subst (λ (m : ℕ). Has m e.0) none (c.whole_ends-whole.ensures.from e.0 e.1) in
-    absurd (omega (arith, bit_at-zero e.0))
+    absurd (none_has (number c.whole_ends-whole.result) e.0 none (c.whole_ends-whole.ensures.from e.0 e.1))
