@@ -7,7 +7,7 @@ use Rattle.place_sets.proofs.Steps.{mask_same}
 use Rattle.place_sets.proofs.Uses.{flood_same, meet_of, join_of}
 use Rattle.line_core.specs.steps.Reach.{behind, MayBe, IsGapAfter, IsStartAfter, IsEndAfter, IsGap, IsEnd, IsGapAhead, IsWholeEnd}
 use Rattle.line_core.proofs.Reaching.{After, first_gap_to, first_gap_from, gap_after_to, gap_after_from}
-use Rattle.line_core.proofs.Joining.{closed_behind_to, closed_behind_from, closed_ahead_to, closed_ahead_from, reversed_gap_to, reversed_gap_from}
+use Rattle.line_core.proofs.Joining.{closed_behind_to, closed_behind_from, closed_ahead_to, closed_ahead_from, reversed_gap}
 
 -- the mask of the first gaps
 pub gap_none_is : (l : List Cell) (free m : ℕ) → IsMaskOf (MayBe l false) free
@@ -76,8 +76,8 @@ pub ahead_is : (l : List Cell) (clue : List ℕ) (j gap m : ℕ) → j ≤ lengt
     → IsMaskOf (λ i. (i < length l) × Has gap (length l - 1 - i)) m → IsMaskOf (IsGapAhead l clue j) m
 ahead_is l clue j gap m jl g p =
     mask_same (λ i. (i < length l) × Has gap (length l - 1 - i)) (IsGapAhead l clue j) m p
-    (λ i h. reversed_gap_to l clue j i jl h.0 (g.to (length l - 1 - i) h.1))
-    (λ i h. let within : i < length l = h.0.0 in (within, g.from (length l - 1 - i) (reversed_gap_from l clue j i jl within h)))
+    (λ i h. (reversed_gap l clue j i jl h.0).0 (g.to (length l - 1 - i) h.1))
+    (λ i h. let within : i < length l = h.0.0 in (within, g.from (length l - 1 - i) ((reversed_gap l clue j i jl within).1 h)))
 
 -- the mask of the ends of a run in whole placings
 pub whole_is : (l : List Cell) (clue : List ℕ) (j ends ahead last m : ℕ) → j < length clue → 0 < get_or clue j 0

@@ -1,6 +1,6 @@
 -- A line cut at a cell: placings of both parts make one of the whole, and a placing falls into two.
 use Rattle.std.proofs.lemmas.Grind.{common_steps}
-use Rattle.std.proofs.Common.{rules, ◌≡◌, ℕ, zero, suc, ◌+◌, ◌-◌, ◌<◌, ◌≤◌, Bool, true, false, List, [], ◌∷◌, ◌++◌, length, replicate, refl, sym, ap, ◌∙◌, subst, arith, add-zero, zero-add, ◌⊎◌, inl, inr, drop, get_or, drop-cons, add-one, drop_of_length-le, length-drop, reverse}
+use Rattle.std.proofs.Common.{rules, ◌≡◌, ◌↔◌, ℕ, zero, suc, ◌+◌, ◌-◌, ◌<◌, ◌≤◌, Bool, true, false, List, [], ◌∷◌, ◌++◌, length, replicate, refl, sym, ap, ◌∙◌, subst, arith, add-zero, zero-add, ◌⊎◌, inl, inr, drop, get_or, drop-cons, add-one, drop_of_length-le, length-drop, reverse}
 use Rattle.grid_core.proofs.RunsLemmas.{runs_after}
 use Rattle.std.proofs.lemmas.List.{get_or-reverse, length-reverse}
 use Rattle.std.proofs.lemmas.Bool.{cases_lt, and_from, and_parts}
@@ -310,25 +310,10 @@ behind_reversed {A = A} d xs (suc p) m e =
     ap (λ (z : List A). get_or (reverse xs) p d ∷ z) (behind_reversed d xs p (suc m) (omega arith)) ∙ ap (λ (z : A). z ∷ drop (suc m) xs) at
     ∙ sym (drop-cons xs m d within)
 
--- a gap of the reversed line is a gap ahead
-pub reversed_gap_to : (l : List Cell) (clue : List ℕ) (j i : ℕ) → j ≤ length clue → i < length l
-    → IsGap (reverse l) (reverse clue) (length clue - j) (length l - 1 - i) → IsGapAhead l clue j i
-reversed_gap_to l clue j i jl il g =
-    let p = length l - 1 - i in
-    let back : length l - 1 - p ≡ i = omega arith in
-    let cell : get_or (reverse l) p Unknown ≡ get_or l i Unknown =
-    get_or-reverse l p Unknown (omega arith) ∙ ap (λ (k : ℕ). get_or l k Unknown) back in
-    let cells : behind Unknown (reverse l) p ≡ drop (i + 1) l = behind_reversed Unknown l p (i + 1) (omega arith) in
-    let runs : behind 0 (reverse clue) (length clue - j) ≡ drop j clue = behind_reversed 0 clue (length clue - j) j (omega arith) in (
-      (il, subst (λ (c : Cell). allows c false ≡ true) cell g.0.1),
-      subst (λ (cs : List ℕ). HasPlacing (drop (i + 1) l) cs) runs
-          (subst (λ (t : List Cell). HasPlacing t (behind 0 (reverse clue) (length clue - j))) cells g.1),
-    )
-
--- and a gap ahead is a gap of the reversed line
-pub reversed_gap_from : (l : List Cell) (clue : List ℕ) (j i : ℕ) → j ≤ length clue → i < length l → IsGapAhead l clue j i
-    → IsGap (reverse l) (reverse clue) (length clue - j) (length l - 1 - i)
-reversed_gap_from l clue j i jl il g =
+-- a gap of the reversed line is a gap ahead, and back
+pub reversed_gap : (l : List Cell) (clue : List ℕ) (j i : ℕ) → j ≤ length clue → i < length l
+    → IsGap (reverse l) (reverse clue) (length clue - j) (length l - 1 - i) ↔ IsGapAhead l clue j i
+reversed_gap l clue j i jl il =
     let p = length l - 1 - i in
     let back : length l - 1 - p ≡ i = omega arith in
     let cell : get_or (reverse l) p Unknown ≡ get_or l i Unknown =
@@ -336,9 +321,8 @@ reversed_gap_from l clue j i jl il g =
     let cells : behind Unknown (reverse l) p ≡ drop (i + 1) l = behind_reversed Unknown l p (i + 1) (omega arith) in
     let runs : behind 0 (reverse clue) (length clue - j) ≡ drop j clue = behind_reversed 0 clue (length clue - j) j (omega arith) in
     let within : p < length (reverse l) = omega (arith, length-reverse l) in (
-      (within, subst (λ (c : Cell). allows c false ≡ true) (sym cell) g.0.1),
-      subst (λ (t : List Cell). HasPlacing t (behind 0 (reverse clue) (length clue - j))) (sym cells)
-          (subst (λ (cs : List ℕ). HasPlacing (drop (i + 1) l) cs) (sym runs) g.1),
+      (λ g. ((il, rw cell at g.0.1), rw (cells, runs) at g.1)),
+      (λ g. ((within, rw cell g.0.1), rw (cells, runs) g.1)),
     )
 
 -- the end of the line, or a gap, after a run's end

@@ -124,26 +124,21 @@ starts_increase (true ∷ x) p zero (suc j) false l h = let rest = starts_at_lea
 starts_increase (true ∷ x) p (suc i) (suc j) false l h = starts_increase x (suc p) i j true (omega arith) (omega arith)
 starts_increase (false ∷ x) p i j after l h = starts_increase x (suc p) i j false l h
 
+before_more : (after b : Bool) (x : List Bool) (i : ℕ) → before b x i ≡ false → before after (b ∷ x) (suc i) ≡ false
+before_more after b x zero e = e
+before_more after b x (suc i) e = e
+
 -- each start is filled, and no filled cell comes right before it
 start_is : (x : List Bool) (p k : ℕ) (after : Bool) → k < length (starts_from p after x)
     → (i : ℕ) × (get_or (starts_from p after x) k 0 ≡ p + i) × (get_or x i false ≡ true) × (before after x i ≡ false)
 start_is [] p k after h = absurd (omega arith)
-start_is (true ∷ x) p k true h = let r = start_is x (suc p) k true h in (suc r.0, omega (arith, r.1), r.2, by r.0 r.3)
-  where
-    by : (i : ℕ) → before true x i ≡ false → before true (true ∷ x) (suc i) ≡ false
-    by zero e = e
-    by (suc i) e = e
+start_is (true ∷ x) p k true h =
+    let r = start_is x (suc p) k true h in (suc r.0, omega (arith, r.1), r.2, before_more true true x r.0 r.3)
 start_is (true ∷ x) p zero false h = (0, omega arith, refl, refl)
-start_is (true ∷ x) p (suc k) false h = let r = start_is x (suc p) k true (omega arith) in (suc r.0, omega (arith, r.1), r.2, by r.0 r.3)
-  where
-    by : (i : ℕ) → before true x i ≡ false → before false (true ∷ x) (suc i) ≡ false
-    by zero e = e
-    by (suc i) e = e
-start_is (false ∷ x) p k after h = let r = start_is x (suc p) k false h in (suc r.0, omega (arith, r.1), r.2, by r.0 r.3)
-  where
-    by : (i : ℕ) → before false x i ≡ false → before after (false ∷ x) (suc i) ≡ false
-    by zero e = refl
-    by (suc i) e = e
+start_is (true ∷ x) p (suc k) false h =
+    let r = start_is x (suc p) k true (omega arith) in (suc r.0, omega (arith, r.1), r.2, before_more false true x r.0 r.3)
+start_is (false ∷ x) p k after h =
+    let r = start_is x (suc p) k false h in (suc r.0, omega (arith, r.1), r.2, before_more after false x r.0 r.3)
 
 -- ---- a line cut round a run
 
