@@ -328,27 +328,21 @@ reversed_gap l clue j i jl il =
 -- the end of the line, or a gap, after a run's end
 pub closed_ahead_to : (l : List Cell) (clue : List ℕ) (j p : ℕ) → j ≤ length clue → p ≤ length l → MayBeginBlank (drop p l) (drop j clue)
     → ((p ≡ length l) × (j ≡ length clue)) ⊎ IsGapAhead l clue j p
-closed_ahead_to l clue j p jl pl h = by (cases_lt p (length l))
-  where
-    by : (p < length l) ⊎ (length l ≤ p) → ((p ≡ length l) × (j ≡ length clue)) ⊎ IsGapAhead l clue j p
-    by (inr past) =
-        let gone : drop p l ≡ [] = drop_of_length-le l {i = p} past in
-        let none : length (drop j clue) ≡ 0 = closed_none (drop j clue) (subst (λ (t : List Cell). MayBeginBlank t (drop j clue)) gone h) in
-        inl (omega arith, omega (arith, length-drop j clue))
-    by (inl within) =
-        let split : drop p l ≡ get_or l p Unknown ∷ drop (suc p) l = drop-cons l p Unknown within in
-        let first =
-        closed_first (get_or l p Unknown) (drop (suc p) l) (drop j clue) (subst (λ (t : List Cell). MayBeginBlank t (drop j clue)) split h) in
-        inr ((within, first.0), subst (λ (k : ℕ). HasPlacing (drop k l) (drop j clue)) (sym (add-one p)) first.1)
+closed_ahead_to l clue j p jl pl h = elim (cases_lt p (length l)) [
+  | inr past ↦
+      (let none : length (drop j clue) ≡ 0 = closed_none (drop j clue) (rw (drop_of_length-le l {i = p} past) at h) in
+      inl (omega arith, omega (arith, length-drop j clue)))
+  | inl within ↦
+      (let first = closed_first (get_or l p Unknown) (drop (suc p) l) (drop j clue) (rw (drop-cons l p Unknown within) at h) in
+      inr ((within, first.0), rw (add-one p) first.1))
+]
 
 -- and back
 pub closed_ahead_from : (l : List Cell) (clue : List ℕ) (j p : ℕ) → ((p ≡ length l) × (j ≡ length clue)) ⊎ IsGapAhead l clue j p
     → MayBeginBlank (drop p l) (drop j clue)
 closed_ahead_from l clue j p (inl h) =
-    let gone : [] ≡ drop p l = sym (drop_of_length-le l {i = p} (omega (arith, h.0))) in
     let none : length (drop j clue) ≡ 0 = ap length (drop_of_length-le clue {i = j} (omega (arith, h.1))) in
-    subst (λ (t : List Cell). MayBeginBlank t (drop j clue)) gone (none_closed (drop j clue) none)
+    rw (drop_of_length-le l {i = p} (omega (arith, h.0))) (none_closed (drop j clue) none)
 closed_ahead_from l clue j p (inr g) =
-    let split : get_or l p Unknown ∷ drop (suc p) l ≡ drop p l = sym (drop-cons l p Unknown g.0.0) in
-    let holds : HasPlacing (drop (suc p) l) (drop j clue) = subst (λ (k : ℕ). HasPlacing (drop k l) (drop j clue)) (add-one p) g.1 in
-    subst (λ (t : List Cell). MayBeginBlank t (drop j clue)) split (first_closed (get_or l p Unknown) (drop (suc p) l) (drop j clue) g.0.1 holds)
+    rw (drop-cons l p Unknown g.0.0)
+    (first_closed (get_or l p Unknown) (drop (suc p) l) (drop j clue) g.0.1 (rw (add-one p) at g.1))

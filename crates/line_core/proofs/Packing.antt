@@ -1,6 +1,6 @@
 -- Placings on a line of which nothing is known: the runs packed to the left, and from one on moved right.
 use Rattle.std.proofs.lemmas.Grind.{common_steps}
-use Rattle.std.proofs.Common.{rules, ◌≡◌, ℕ, zero, suc, ◌+◌, ◌-◌, ◌*◌, ◌<◌, ◌≤◌, ◌≢◌, Bool, true, false, cond, List, length, replicate, map, nat_le, nat_lt, refl, sym, ap, ◌∙◌, subst, arith, add-one, true≢false, ◌⊎◌, inl, inr, get_or, ext_get_or}
+use Rattle.std.proofs.Common.{rules, ◌≡◌, ℕ, zero, suc, ◌+◌, ◌-◌, ◌*◌, ◌<◌, ◌≤◌, ◌≢◌, Bool, true, false, cond, List, [], ◌∷◌, length, replicate, map, nat_le, nat_lt, refl, sym, ap, ◌∙◌, subst, arith, add-one, true≢false, ◌⊎◌, inl, inr, get_or, ext_get_or}
 use Rattle.std.specs.List.{range_with_len}
 use Rattle.std.proofs.lemmas.Bool.Decides.{nat_tests}
 use Rattle.std.proofs.lemmas.Bool.{false_from_ne_true, false≢true, cases_lt, leb-true, le-leb, ltb-true, lt-ltb}
@@ -86,17 +86,11 @@ starts_within l clue ss j pos d h =
 -- a clue that has a placing needs no more than there is
 pub fits : (l : List Cell) (clue : List ℕ) (x : List Bool) → ArePositive clue → agrees l x ≡ true → runs x ≡ clue
     → needed clue ≤ length l + 1
-fits l clue x pos agree is = elim (cases_lt 0 (length clue)) [
-  | inl some ↦
-      (let first = starts_within l clue (starts_from 0 false x) 0 pos (laid l clue x agree is) some in
-      let none : least_start clue 0 ≡ 0 = refl in
-      omega arith)
-  | inr none ↦
-      (let e : length clue ≡ 0 = omega arith in
-      let all : least_start clue 0 ≡ needed clue = ap (least_start clue) (sym e) ∙ start_last clue in
-      let zeroth : least_start clue 0 ≡ 0 = refl in
-      omega arith)
-]
+fits l [] x pos agree is = omega arith
+fits l (c ∷ clue) x pos agree is =
+    let first = starts_within l (c ∷ clue) (starts_from 0 false x) 0 pos (laid l (c ∷ clue) x agree is) (omega arith) in
+    let none : least_start (c ∷ clue) 0 ≡ 0 = refl in
+    omega arith
 
 -- an overlap is filled in each placing
 pub overlap_filled : (l : List Cell) (clue : List ℕ) (x : List Bool) (slack i : ℕ) → ArePositive clue → agrees l x ≡ true → runs x ≡ clue

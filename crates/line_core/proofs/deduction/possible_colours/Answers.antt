@@ -65,10 +65,6 @@ loop-j-preserved g c =
           (map number c.add_spread.new.levels) c.inner_ends-whole.ensures c.add_spread.ensures invariant.filled;
     }
 
--- the pass has come to the last run
-pass_at_last : (P : ℕ → Type 0) (j last : ℕ) → j ≡ last → P j → P last
-pass_at_last P j last e h = subst P e h
-
 pub whole_ends-last_whole-requires : goal.whole_ends-last_whole-requires
 whole_ends-last_whole-requires g c = λ κs within.
     let number = g.W.PlaceSet.number in
@@ -79,9 +75,9 @@ whole_ends-last_whole-requires g c = λ κs within.
     let pass = c.loop-j.pass in
     let e : c.loop-j.j ≡ last = (let test = c.loop-j-test.false in omega arith) in
     let at =
-    pass_at_last
+    subst
     (λ n. IsPassOver g.W.PlaceSet.WIDTH g.W.PlaceSet.TOP line (behind 0 clue n) (number pass.free)
-    (map number c.windows_within-windows.result) (number pass.opening) (number pass.gap)) c.loop-j.j last e c.loop-j.invariant.pass in
+    (map number c.windows_within-windows.result) (number pass.opening) (number pass.gap)) e c.loop-j.invariant.pass in
     let all : length clue ≡ last + 1 = omega arith in (
       within,
       (
@@ -111,9 +107,8 @@ returns-then-is_empty-clause-blank g c =
     let first =
     blank_first line clue (number c.gap.result) (number c.gap_ahead.result)
     (number c.intersection-blankable.result) gap c.gap_ahead.ensures c.intersection-blankable.ensures in
-    mask_same (λ i. (q : ℕ) × (q ≤ 0) × IsGap line clue q i × IsGapAhead line clue q i) (IsBlankable line clue)
-    (number c.intersection-blankable.result) first
-    (λ i h. let b : h.0 ≤ 0 = h.1 in (h.0, omega arith, h.2, h.3)) (λ i h. let b : h.0 ≤ length clue = h.1 in (h.0, omega arith, h.2, h.3))
+    subst (λ n. IsMaskOf (λ i. (q : ℕ) × (q ≤ n) × IsGap line clue q i × IsGapAhead line clue q i) (number c.intersection-blankable.result))
+    (sym none) first
 
 pub returns-clause-filled : goal.returns-clause-filled
 returns-clause-filled g c =
@@ -124,9 +119,9 @@ returns-clause-filled g c =
     let some : 0 < length clue = (let ne = eqb-false (length clue) 0 (sym c.is_empty.ensures ∙ c.if-is_empty.false) in omega arith) in
     let e : c.loop-j.j ≡ last = (let test = c.loop-j-test.false in omega arith) in
     let before =
-    pass_at_last
+    subst
     (λ n. AreLevelsOf (λ i. (q : ℕ) × (q < n) × SomeFrom (IsWholeEnd line clue q) (get_or clue q 0) i) g.W.PlaceSet.TOP
-    (map number c.loop-j.spread)) c.loop-j.j last e c.loop-j.invariant.filled in
+    (map number c.loop-j.spread)) e c.loop-j.invariant.filled in
     let filled =
     fill_more line clue g.W.PlaceSet.TOP last (number c.whole_ends-last_whole.result) (map number c.loop-j.spread)
     (map number c.add_spread-2.new.levels) c.whole_ends-last_whole.ensures c.add_spread-2.ensures before in
@@ -146,9 +141,9 @@ returns-clause-blank g c =
     let old = c.loop-j.pass in
     let new = c.step-last_ends.new.self in
     let at =
-    pass_at_last
+    subst
     (λ n. IsPassOver g.W.PlaceSet.WIDTH g.W.PlaceSet.TOP line (behind 0 clue n) (number old.free)
-    (map number c.windows_within-windows.result) (number old.opening) (number old.gap)) c.loop-j.j last e c.loop-j.invariant.pass in
+    (map number c.windows_within-windows.result) (number old.opening) (number old.gap)) e c.loop-j.invariant.pass in
     let pass =
     runs_more
     (λ (runs : List ℕ).
@@ -160,12 +155,10 @@ returns-clause-blank g c =
     let all : length clue ≡ last + 1 = omega arith in
     let ahead = subst (λ n. IsMaskOf (IsGapAhead line clue n) (number c.gap_ahead-after.result)) all c.gap_ahead-after.ensures in
     let before =
-    pass_at_last
-    (λ n. IsMaskOf (λ i. (q : ℕ) × (q ≤ n) × IsGap line clue q i × IsGapAhead line clue q i) (number c.loop-j.blankable)) c.loop-j.j last e
+    subst
+    (λ n. IsMaskOf (λ i. (q : ℕ) × (q ≤ n) × IsGap line clue q i × IsGapAhead line clue q i) (number c.loop-j.blankable)) e
     c.loop-j.invariant.blank in
-    mask_same (λ i. (q : ℕ) × (q ≤ last + 1) × IsGap line clue q i × IsGapAhead line clue q i) (IsBlankable line clue)
-    (number c.union-blankable-2.result)
+    subst (λ n. IsMaskOf (λ i. (q : ℕ) × (q ≤ n) × IsGap line clue q i × IsGapAhead line clue q i) (number c.union-blankable-2.result))
+    (sym all)
     (blank_more line clue last (number c.gap-2.result) (number c.gap_ahead-after.result) (number c.loop-j.blankable)
     (number c.intersection-2.result) (number c.union-blankable-2.result) gap ahead before c.intersection-2.ensures c.union-blankable-2.ensures)
-    (λ i h. let b : h.0 ≤ last + 1 = h.1 in (h.0, omega arith, h.2, h.3))
-    (λ i h. let b : h.0 ≤ length clue = h.1 in (h.0, omega arith, h.2, h.3))
