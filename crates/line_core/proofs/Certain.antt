@@ -1,6 +1,6 @@
 -- Two tests at each cell, whether it can be filled and whether it can be blank, tell the deduction.
 use Rattle.std.proofs.Common.{◌≡◌, ℕ, ◌<◌, Bool, true, false, not, List, [], ◌∷◌, length, get_or, map, Some, None, refl, sym, ap, ◌∙◌, arith, true≢false, zero-add, ext_get_or}
-use Rattle.std.specs.List.{list_all, range_with_len}
+use Rattle.std.specs.List.{range_with_len}
 use Rattle.std.proofs.lemmas.Bool.{false_from_ne_true, true_from_ne_false}
 use Rattle.std.proofs.lemmas.List.FromFn.{length-map-range_with_len, get_or-map-range_with_len}
 use Rattle.grid_core.specs.declared.cells.Cell.{Cell}
@@ -27,16 +27,20 @@ certain_is : (l : List Cell) (clue : List ℕ) (ps : List (List Bool)) (k : ℕ)
 certain_is l clue ps k listed y p true true tf tb =
     let x = tf.to refl in
     let z = tb.to refl in
-    rw (not_all l clue ps listed (filled_at k) z.0 (record { extends = agrees-Extends l z.0 z.1; runs_are = z.2 }) z.3,
-    not_all l clue ps listed (blank_at k) x.0 (record { extends = agrees-Extends l x.0 x.1; runs_are = x.2 }) (ap not x.3)) refl
+    rw (
+      not_all l clue ps listed (filled_at k) z.0 (record { extends = agrees-Extends l z.0 z.1; runs_are = z.2 }) z.3,
+      not_all l clue ps listed (blank_at k) x.0 (record { extends = agrees-Extends l x.0 x.1; runs_are = x.2 }) (ap not x.3),
+    ) refl
 certain_is l clue ps k listed y p true false tf tb =
     rw (listed.every (filled_at k) (λ x q.
     true_from_ne_false (get_or x k false) (λ e. true≢false (sym (tb.from (x, Extends-agrees l x q.extends, q.runs_are, e)))))) refl
 certain_is l clue ps k listed y p false true tf tb =
     let z = tb.to refl in
-    rw (not_all l clue ps listed (filled_at k) z.0 (record { extends = agrees-Extends l z.0 z.1; runs_are = z.2 }) z.3,
-    listed.every (blank_at k) (λ x q. ap not
-    (false_from_ne_true (get_or x k false) (λ e. true≢false (sym (tf.from (x, Extends-agrees l x q.extends, q.runs_are, e))))))) refl
+    rw (
+      not_all l clue ps listed (filled_at k) z.0 (record { extends = agrees-Extends l z.0 z.1; runs_are = z.2 }) z.3,
+      listed.every (blank_at k) (λ x q. ap not
+          (false_from_ne_true (get_or x k false) (λ e. true≢false (sym (tf.from (x, Extends-agrees l x q.extends, q.runs_are, e)))))),
+    ) refl
 certain_is l clue ps k listed y p false false tf tb =
     let filled : get_or y k false ≡ true =
     true_from_ne_false (get_or y k false) (λ e. true≢false (sym (tb.from (y, Extends-agrees l y p.extends, p.runs_are, e)))) in

@@ -311,7 +311,7 @@ full_same (a ∷ x) (b ∷ y) h = λ i. colour_inj a b h.0 i ∷ full_same x y h
 full_listed : (x : List Bool) (clue : List ℕ) (ps : List (List Bool)) → ListsPlacings (map colour x) clue ps → (d : List Cell)
     → shared (length (map colour x)) ps ≡ Some d → runs x ≡ clue
 full_listed x clue [] listed d e = cc
-full_listed x clue (y ∷ ys) listed d e = 
+full_listed x clue (y ∷ ys) listed d e =
     let p : IsPlacing (map colour x) clue y = listed.members 0 y (omega arith) in ap runs (sym (full_same x y p.extends)) ∙ p.runs_are
 
 -- a full line that isn't dead has the clue's runs

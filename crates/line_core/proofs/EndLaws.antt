@@ -13,7 +13,6 @@ use Rattle.line_core.proofs.DeductionLaws.{IsPlacing, placings_listed, test_IsPl
 use Rattle.line_core.specs.declared.starts.Side.{Side}
 use Rattle.line_core.specs.declared.starts.Side.TheVariants.{Left, Right}
 use Rattle.line_core.specs.steps.Outermost.{outermost, IsAsFar}
-use Rattle.line_core.proofs.Painting.{AreFurthest}
 use Rattle.line_core.proofs.Outermost.{all_as_far, laid_placing, outermost_found, outermost_of, placed, pass_all}
 
 -- the first that passes is a member, and passes

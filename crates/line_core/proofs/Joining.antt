@@ -8,8 +8,8 @@ use Rattle.grid_core.specs.declared.cells.Cell.{Cell}
 use Rattle.grid_core.specs.declared.cells.Cell.TheVariants.{Unknown}
 use Rattle.grid_core.specs.Cells.{allows, agrees}
 use Rattle.grid_core.specs.Runs.{runs}
-use Rattle.place_sets.specs.Masks.{AllFrom, SomeFrom}
-use Rattle.line_core.specs.steps.Reach.{behind, HasPlacing, MayBeginBlank, MayBe, IsGapAfter, IsEndAfter, IsGap, IsGapAhead, IsBlankable, IsFillable}
+use Rattle.place_sets.specs.Masks.{AllFrom}
+use Rattle.line_core.specs.steps.Reach.{behind, HasPlacing, MayBeginBlank, MayBe, IsGapAfter, IsGap, IsGapAhead, IsBlankable}
 use Rattle.line_core.proofs.RunLaws.{ArePositive, runs_after-zero, runs_after-true, runs_after-false, runs_after-close, runs_after-nil}
 use Rattle.line_core.proofs.Certain.{CanBe}
 

@@ -1,5 +1,5 @@
 -- The placing whose starts are all least, and the one whose starts are all greatest.
-use Rattle.std.proofs.Common.{◌≡◌, ℕ, zero, suc, ◌+◌, ◌-◌, ◌<◌, ◌≤◌, Bool, true, false, not, ◌&&◌, List, [], ◌∷◌, ◌++◌, length, replicate, map, Some, None, refl, sym, ap, ◌∙◌, subst, arith, add-one, true≢false, drop, get_or, drop-cons, ext_get_or, nat_le, set, take, MatchBool}
+use Rattle.std.proofs.Common.{◌≡◌, ℕ, zero, suc, ◌+◌, ◌-◌, ◌<◌, ◌≤◌, Bool, true, false, not, ◌&&◌, List, [], ◌∷◌, length, map, Some, None, refl, sym, ap, ◌∙◌, subst, arith, get_or, ext_get_or, nat_le, set, take, MatchBool}
 use Rattle.std.specs.List.{All, list_all, find}
 use Rattle.std.proofs.lemmas.List.Elements.{All-head, All-tail, All-weaker}
 use Rattle.std.proofs.lemmas.Bool.{and_parts, leb-true, le-leb}
@@ -7,18 +7,15 @@ use Rattle.std.proofs.lemmas.List.Folds.{list_all-map}
 use Rattle.std.proofs.lemmas.List.{length-take-le, get_or-take}
 use lib.Pointwise.{pointwise}
 use Rattle.grid_core.specs.declared.cells.Cell.{Cell}
-use Rattle.grid_core.specs.declared.cells.Cell.TheVariants.{Unknown}
-use Rattle.grid_core.specs.Cells.{agrees}
-use Rattle.grid_core.specs.Runs.{runs}
 use Rattle.line_core.specs.Placings.{placings}
 use Rattle.line_core.specs.Ends.{run_starts, all_starts}
 use Rattle.line_core.specs.declared.starts.Side.{Side}
 use Rattle.line_core.specs.declared.starts.Side.TheVariants.{Left, Right}
 use Rattle.line_core.specs.steps.Outermost.{outermost, IsAsFar, IsOuterStart}
-use Rattle.place_sets.specs.Masks.{Has, IsMaskOf, AllFrom}
+use Rattle.place_sets.specs.Masks.{Has, IsMaskOf}
 use Rattle.place_sets.proofs.Uses.{meet_of}
 use Rattle.line_core.proofs.LineCells.{written_more}
-use Rattle.line_core.specs.steps.Reach.{behind, MayBe, MayBeginBlank, IsStartAfter, IsWholeEnd, IsGap, IsGapAhead, HasPlacing}
+use Rattle.line_core.specs.steps.Reach.{IsWholeEnd, IsGap, IsGapAhead, HasPlacing}
 use Rattle.line_core.proofs.RunLaws.{ArePositive}
 use Rattle.line_core.proofs.Joining.{positive_at, blankable_to, blankable_from}
 use Rattle.line_core.proofs.WholeEnds.{whole_of, placing_with}

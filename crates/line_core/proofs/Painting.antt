@@ -1,6 +1,6 @@
 -- Full lines made of starts.
-use Rattle.std.proofs.Common.{◌≡◌, ℕ, zero, suc, ◌+◌, ◌-◌, ◌<◌, ◌≤◌, Bool, true, false, List, [], ◌∷◌, ◌++◌, length, replicate, refl, sym, ap, ◌∙◌, subst, arith, inl, inr, below_more, drop, get_or, drop-cons, drop_of_length-le, rules}
-use Rattle.std.proofs.lemmas.Bool.{cases_lt, and_from, and_parts}
+use Rattle.std.proofs.Common.{◌≡◌, ℕ, zero, suc, ◌+◌, ◌-◌, ◌<◌, ◌≤◌, Bool, true, false, List, [], ◌∷◌, ◌++◌, length, replicate, refl, sym, ap, ◌∙◌, subst, arith, inl, inr, below_more, drop, get_or, drop_of_length-le, rules}
+use Rattle.std.proofs.lemmas.Bool.{cases_lt, and_parts}
 use Rattle.grid_core.specs.declared.cells.Cell.{Cell}
 use Rattle.grid_core.specs.declared.cells.Cell.TheVariants.{Unknown}
 use Rattle.grid_core.specs.Cells.{allows, agrees}
@@ -238,8 +238,15 @@ cut_of clue ss i (suc n) apart free h later =
           (from_more (λ q. q < length clue → i < get_or ss q 0) n (λ k. low) (λ q a b. later q (omega arith) b))
       | inr high ↦ elim (cases_lt i (get_or ss n 0 + get_or clue n 0)) [
         | inl inside ↦ absurd (free n (omega arith) high inside)
-        | inr past ↦ (suc n, h, ((λ q a. below_more (λ z. get_or ss z 0 + get_or clue z 0 ≤ i) n (λ z b.
-            let gap = ends_before clue ss apart z n b (omega arith) in omega arith) past q (omega arith)), later))
+        | inr past ↦ (
+          suc n,
+          h,
+          (
+            (λ q a. below_more (λ z. get_or ss z 0 + get_or clue z 0 ≤ i) n (λ z b.
+                let gap = ends_before clue ss apart z n b (omega arith) in omega arith) past q (omega arith)),
+            later,
+          ),
+        )
       ]
     ]
 
@@ -260,23 +267,26 @@ furthest_blank Left l clue m i (suc n) f h k (before, after) =
     let w = f.each n (omega arith) in
     let at : get_or w.starts n 0 ≡ get_or m n 0 = w.at in
     let end = before n (omega arith) in
-    blank_at l clue w.starts i (suc n) w.laid_so h
-    ((λ q a. below_more (λ z. get_or w.starts z 0 + get_or clue z 0 ≤ i) n
-    (λ z b. let gap = ends_before clue w.starts w.laid_so.apart z n b (omega arith) in omega arith) (omega arith) q (omega arith)),
-    λ q a b. let start = after q a b in let low = f.furthest w.starts w.laid_so q b in omega arith)
+    blank_at l clue w.starts i (suc n) w.laid_so h (
+      (λ q a. below_more (λ z. get_or w.starts z 0 + get_or clue z 0 ≤ i) n
+          (λ z b. let gap = ends_before clue w.starts w.laid_so.apart z n b (omega arith) in omega arith) (omega arith) q (omega arith)),
+      λ q a b. let start = after q a b in let low = f.furthest w.starts w.laid_so q b in omega arith,
+    )
 furthest_blank Right l clue m i n f h k (before, after) = elim (cases_lt n (length clue)) [
   | inl more ↦
       (let w = f.each n more in
       let at : get_or w.starts n 0 ≡ get_or m n 0 = w.at in
       let start = after n (omega arith) more in
-      blank_at l clue w.starts i n w.laid_so h
-      ((λ q a. let end = before q a in let high = f.furthest w.starts w.laid_so q (omega arith) in omega arith),
-      from_more (λ q. q < length clue → i < get_or w.starts q 0) n (λ b. omega arith)
-      (λ q a b. let gap = ends_before clue w.starts w.laid_so.apart n q a b in omega arith)))
+      blank_at l clue w.starts i n w.laid_so h (
+        (λ q a. let end = before q a in let high = f.furthest w.starts w.laid_so q (omega arith) in omega arith),
+        from_more (λ q. q < length clue → i < get_or w.starts q 0) n (λ b. omega arith)
+            (λ q a b. let gap = ends_before clue w.starts w.laid_so.apart n q a b in omega arith),
+      ))
   | inr all ↦
-      blank_at l clue f.some i n f.some_laid h
-      ((λ q a. let end = before q a in let high = f.furthest f.some f.some_laid q (omega arith) in omega arith),
-      λ q a b. absurd (omega arith))
+      blank_at l clue f.some i n f.some_laid h (
+        (λ q a. let end = before q a in let high = f.furthest f.some f.some_laid q (omega arith) in omega arith),
+        λ q a b. absurd (omega arith),
+      )
 ]
 
 -- so all of them lay the clue

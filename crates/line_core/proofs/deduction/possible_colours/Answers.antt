@@ -2,7 +2,7 @@
 use Rattle.std.proofs.Common.{◌-◌, ◌∙◌, ◌≡◌, ◌+◌, ◌<◌, ◌≤◌, List, length, map, get_or, ℕ, arith, refl, sym, subst}
 use Rattle.std.proofs.lemmas.Bool.{eqb-true, eqb-false}
 use Rattle.place_sets.specs.Masks.{IsMaskOf, SomeFrom, SomeLevel, AreLevelsOf}
-use Rattle.line_core.specs.steps.Reach.{behind, IsGap, IsGapAhead, IsWholeEnd, IsFillable, IsBlankable}
+use Rattle.line_core.specs.steps.Reach.{behind, IsGap, IsGapAhead, IsWholeEnd, IsFillable}
 use Rattle.line_core.specs.steps.Passes.{IsPassOver}
 use Rattle.place_sets.proofs.LevelSteps.{levels_none, none_at}
 use Rattle.place_sets.proofs.Steps.{mask_same}

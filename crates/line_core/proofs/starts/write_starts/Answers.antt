@@ -1,9 +1,7 @@
 -- `write_starts`: run by run, the outermost of its ends in whole placings tells its start.
-use Rattle.std.proofs.Common.{◌≡◌, ◌+◌, ◌-◌, ◌<◌, ℕ, List, map, get_or, length-set, subst, refl, sym, ◌∙◌, arith}
+use Rattle.std.proofs.Common.{◌≡◌, ◌+◌, ◌-◌, ◌<◌, ℕ, List, map, get_or, length-set, refl, sym, ◌∙◌, arith}
 use Rattle.std.proofs.lemmas.Bool.{eqb-true}
 use Rattle.std.proofs.lemmas.List.Elements.{recursion_from_All}
-use Rattle.std.proofs.lemmas.Nat.Bits.{bit_at-zero}
-use Rattle.place_sets.specs.Masks.{Has}
 use Rattle.line_core.specs.steps.Reach.{behind}
 use Rattle.line_core.specs.steps.Passes.{IsPassOver}
 use Rattle.line_core.proofs.RunLaws.{ArePositive}
