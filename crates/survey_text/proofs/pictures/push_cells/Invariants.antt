@@ -1,10 +1,16 @@
--- What the loop of `push_cells` keeps: the bytes of the cells passed are added, and there is room for the others.
-use Rattle.std.proofs.Common.{◌≡◌, ◌+◌, ◌-◌, ◌≤◌, ◌++◌, length, map, take, vec_capacity, vec_len}
+-- What the loop of `push_cells` keeps: the bytes of the eights passed are added, and the sets begin behind them.
+use Rattle.std.proofs.Common.{◌≡◌, ℕ, ◌+◌, ◌*◌, ◌++◌, map}
+use Rattle.grid_core.specs.Lines.{line_cells}
+use Rattle.place_sets.specs.Masks.{has}
 use Rattle.survey_text.specs.Grids.{cell_byte}
 use Rattle.survey_text.proofs.pictures.push_cells.Given as goal
 
-abbrev pub invariant-loop-x : goal.invariant-loop-x
-invariant-loop-x g l = record {
-  added : l.text.items ≡ l.initial.text.items ++ map cell_byte (take l.x l.line);
-  room : vec_len l.text + (length l.line - l.x) ≤ vec_capacity l.text;
-}
+abbrev pub invariant-loop-part : goal.invariant-loop-part
+invariant-loop-part g l =
+    let number = g.W.PlaceSet.number in
+    record {
+      added : l.text.items ≡
+          l.initial.text.items ++ map cell_byte (line_cells (l._part * 8) (number l.initial.filled) (number l.initial.blank));
+      filled : (k : ℕ) → has (number l.filled) k ≡ has (number l.initial.filled) (k + l._part * 8);
+      blank : (k : ℕ) → has (number l.blank) k ≡ has (number l.initial.blank) (k + l._part * 8);
+    }
