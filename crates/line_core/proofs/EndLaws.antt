@@ -30,16 +30,13 @@ found P p m (x ∷ ps) all e = by (p (run_starts x)) refl (found P p m ps (All-t
         (subst (λ (z : List ℕ). p z ≡ true) same t, (x, All-head P x ps all, same))
     by false t rest = rest (rw t at e)
 
-starts_of : (l : List Cell) (clue m : List ℕ) → ((x : List Bool) × IsPlacing l clue x × (run_starts x ≡ m)) → AreStarts l clue m
-starts_of l clue m x = (x.0, IsPlacing_test l clue x.0 x.1, x.2)
-
 -- the outermost starts are those of a placing, and each is as far as the same of any placing
 pub outermost-furthest : (side : Side) (l : List Cell) (clue m : List ℕ) → outermost side l clue ≡ Some m
     → AreStarts l clue m × ((other : List ℕ) → AreStarts l clue other → all_as_far side m other ≡ true)
 outermost-furthest side l clue m e =
     let f = found (IsPlacing l clue) (λ starts. list_all (all_as_far side starts) (all_starts l clue)) m (placings l clue)
     (placings_listed l clue).members (sym (outermost_found side l clue) ∙ e) in (
-      starts_of l clue m f.1,
+      (f.1.0, IsPlacing_test l clue f.1.0 f.1.1, f.1.2),
       λ other s. ap (all_as_far side m) (sym s.2) ∙ pass_all l clue (all_as_far side m) f.0 s.0 (test_IsPlacing l clue s.0 s.1),
     )
 
