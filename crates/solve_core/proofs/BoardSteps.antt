@@ -1,5 +1,5 @@
 -- What settling a cell and going back do to a board.
-use Rattle.std.proofs.Common.{◌≡◌, ℕ, ◌+◌, ◌*◌, ◌<◌, ◌≤◌, true, List, [], ◌∷◌, ◌++◌, length, get_or, set, sym, ap, ◌∙◌, arith, length-append, length-set, replicate}
+use Rattle.std.proofs.Common.{subst, ◌≡◌, ℕ, ◌+◌, ◌*◌, ◌<◌, ◌≤◌, true, List, [], ◌∷◌, ◌++◌, length, get_or, set, sym, ap, ◌∙◌, arith, length-append, length-set, replicate}
 use Rattle.std.proofs.lemmas.List.{length-replicate}
 use Rattle.grid_core.specs.declared.cells.Cell.{Cell}
 use Rattle.grid_core.specs.declared.cells.Cell.TheVariants.{Unknown}
@@ -51,7 +51,7 @@ board-settled g old more room left k c b h u n e m s =
 
 -- a board that learned cells of a line
 pub board-learned : (g : PartialGrid) (old : TrailedGrid) (more : List ℕ) (room left : ℕ) → IsBoard old room → g.width ≡ old.width →
-    g.height ≡ old.height → IsTrailed old (record old { cells = g.cells; trail = more }) → left ≡ room → IsBoard (trailed g more) left
+    g.height ≡ old.height → IsTrailed old (trailed g more) → left ≡ room → IsBoard (trailed g more) left
 board-learned g old more room left b w h t s =
     let long : length g.cells ≡ length old.cells = sym (length-cleared g.cells t.added) ∙ ap length t.undo in
     record {
@@ -63,6 +63,13 @@ board-learned g old more room left b w h t s =
       };
       room_is = omega (arith, long, b.room_is);
     }
+
+-- the trail leads back from the cells that a line has learned
+pub trail-learned : (g : PartialGrid) (old : TrailedGrid) (cells : List Cell) (more : List ℕ) →
+    IsTrailed old (record old { cells = cells; trail = more }) → g.cells ≡ cells → g.width ≡ old.width → g.height ≡ old.height →
+    IsTrailed old (trailed g more)
+trail-learned g old cells more t same w h =
+    subst (IsTrailed old) (λ j. record { width = sym w j; height = sym h j; cells = sym same j; trail = more }) t
 
 -- a board in which the last settled cell is unknown again
 pub board-undone : (g : PartialGrid) (old : TrailedGrid) (less : List ℕ) (room left k : ℕ) → IsBoard old room → old.trail ≡ less ++ k ∷ []
@@ -82,7 +89,7 @@ board-undone g old less room left k b t e s =
 
 -- a board of which nothing is known
 pub board-unknown : (w h room : ℕ) (g : PartialGrid) (trail : List ℕ) → IsSize w h →
-    g ≡ record { width = w; height = h; cells = replicate (w * h) Unknown } → trail ≡ [] → length g.cells + 2 * LONGEST_SIDE ≤ room
+    g ≡ record { width = w; height = h; cells = replicate (w * h) Unknown } → trail ≡ [] → length g.cells + LONGEST_SIDE ≤ room
     → IsBoard (trailed g trail) room
 board-unknown w h room g trail size e t fits = record {
   size = rw e size;

@@ -1,8 +1,8 @@
 -- How many cells are known.
-use Rattle.std.proofs.Common.{◌≡◌, ℕ, zero, suc, ◌+◌, ◌<◌, Bool, true, false, List, [], ◌∷◌, length, get_or, cond, nat_eq, refl, sym, ap, ◌∙◌, arith, true≢false}
+use Rattle.std.proofs.Common.{take, ◌≤◌, ◌≡◌, ℕ, zero, suc, ◌+◌, ◌<◌, Bool, true, false, List, [], ◌∷◌, length, get_or, cond, nat_eq, refl, sym, ap, ◌∙◌, arith, true≢false}
 use Rattle.std.specs.List.{count_by, list_all}
 use Rattle.std.proofs.lemmas.Bool.{eqb-true, eq-eqb}
-use Rattle.std.proofs.lemmas.List.Sums.{sum_by-cons}
+use Rattle.std.proofs.lemmas.List.Sums.{count_by_more_yes, sum_by-cons}
 use Rattle.grid_core.specs.declared.cells.Cell.{Cell}
 use Rattle.grid_core.specs.declared.cells.Cell.TheVariants.{Unknown, Filled, Blank}
 use Rattle.grid_core.specs.Cells.{is_known, is_unknown}
@@ -20,6 +20,25 @@ known-and-unknown (Unknown ∷ cells) = omega (
 )
 known-and-unknown (Filled ∷ cells) = omega (arith, sum_by-cons (λ (c : Cell). cond (is_known c) 1 0) Filled cells, known-and-unknown cells)
 known-and-unknown (Blank ∷ cells) = omega (arith, sum_by-cons (λ (c : Cell). cond (is_known c) 1 0) Blank cells, known-and-unknown cells)
+
+known-if : (c : Cell) → is_unknown c ≡ false → is_known c ≡ true
+known-if Unknown h = absurd (true≢false h)
+known-if Filled h = refl
+known-if Blank h = refl
+
+-- each of the n cells before one is known
+pub count-run : (cells : List Cell) (n from to : ℕ) → from + n ≡ to → to ≤ length cells →
+    ((k : ℕ) → from ≤ k → k < to → is_unknown (get_or cells k Unknown) ≡ false) →
+    count_by is_known (take to cells) ≡ count_by is_known (take from cells) + n
+count-run cells zero from to e l h =
+    let same : to ≡ from = omega (arith, e) in
+    ap (λ (m : ℕ). count_by is_known (take m cells)) same ∙ omega arith
+count-run cells (suc n) from to e l h =
+    let last : to ≡ (from + n) + 1 = omega (arith, e) in
+    let before = count-run cells n from (from + n) refl (omega (arith, l, last)) (λ k a b. h k a (omega (arith, b, last))) in
+    let more = count_by_more_yes is_known cells (from + n) Unknown (omega (arith, l, last))
+    (known-if (get_or cells (from + n) Unknown) (h (from + n) (omega arith) (omega (arith, last)))) in
+    ap (λ (m : ℕ). count_by is_known (take m cells)) last ∙ omega (arith, more, before)
 
 none-unknown : (cells : List Cell) → list_all is_known cells ≡ true → unknown_count cells ≡ 0
 none-unknown [] h = refl

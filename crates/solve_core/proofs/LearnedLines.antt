@@ -19,6 +19,7 @@ use Rattle.place_sets.specs.Masks.{Has, IsMaskOf}
 use Rattle.solve_core.specs.Closure.{with_cells}
 use Rattle.solve_core.specs.steps.GridLines.{AreLinesOf}
 use Rattle.solve_core.specs.steps.Learning.{CanLearn, IsLearning}
+use Rattle.solve_core.specs.steps.Boards.{cells_along, IsBoard}
 use Rattle.solve_core.specs.steps.Trails.{TrailedGrid}
 use Rattle.solve_core.proofs.ClosureLaws.{length-with_cells}
 use Rattle.solve_core.proofs.GridLineSteps.{grid_of_lines, lines-cells}
@@ -46,6 +47,20 @@ learns_of side own i m new rows columns g a seen e line more changes =
       some = rw (← seen) a.size.width_from;
       line = line;
       count = rw (← seen) a.count;
+      more = more;
+      changes = changes;
+    }))
+
+-- what a line of a board learns
+pub learns_in : (side own : Side) (i m room : ℕ) (new : List Cell) (g b : TrailedGrid) → IsBoard g room → g ≡ b → side ≡ own →
+    i < count_on side b.width b.height → Extends (cells_along b side i) new → IsMaskOf (IsChanged (cells_along b side i) new) m →
+    Learns own g.width g.height i m g.cells new
+learns_in side own i m room new g b is seen e line more changes =
+    subst (λ (s : Side). Learns s g.width g.height i m g.cells new) e
+    (subst (λ (b : TrailedGrid). Learns side b.width b.height i m b.cells new) (sym seen) (record {
+      some = rw (← seen) is.size.width_from;
+      line = line;
+      count = rw (← seen) is.count;
       more = more;
       changes = changes;
     }))

@@ -27,3 +27,4 @@ pub mod PickLaws
 pub mod CountLaws
 pub mod PickRows
 pub mod StatedLaws
+pub mod WordLemmas

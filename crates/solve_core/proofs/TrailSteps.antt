@@ -1,13 +1,10 @@
 -- How the trail of settled cells grows.
-use Rattle.std.proofs.Common.{◌≡◌, ℕ, zero, suc, ◌+◌, ◌<◌, true, List, [], ◌∷◌, ◌++◌, length, get_or, set, refl, sym, ap, ◌∙◌, arith, subst, length-append, length-set, append-nil, append_assoc, true≢false, replicate}
-use Rattle.std.proofs.lemmas.List.{length-replicate}
+use Rattle.std.proofs.Common.{◌≡◌, ℕ, zero, suc, ◌+◌, ◌<◌, true, List, [], ◌∷◌, ◌++◌, length, get_or, set, refl, sym, ap, ◌∙◌, arith, subst, length-append, length-set, append-nil, append_assoc, true≢false}
 use Rattle.std.specs.List.{AllByRecursion}
 use Rattle.grid_core.specs.declared.cells.Cell.{Cell}
 use Rattle.grid_core.specs.declared.cells.Cell.TheVariants.{Unknown, Filled, Blank}
 use Rattle.grid_core.specs.Cells.{is_known}
-use Rattle.grid_core.specs.Nonogram.{Nonogram}
-use Rattle.solve_core.specs.steps.Boards.{IsBoardOf}
-use Rattle.solve_core.specs.steps.Trails.{TrailedGrid, unknown_count, cleared, IsFullTrail, IsTrailed}
+use Rattle.solve_core.specs.steps.Trails.{TrailedGrid, unknown_count, cleared, IsTrailed}
 
 -- clearing the places of two lists clears those of the second one first
 pub cleared-append : (cells : List Cell) (ks js : List ℕ) → cleared cells (ks ++ js) ≡ cleared (cleared cells js) ks
@@ -67,10 +64,6 @@ count-settled (Unknown ∷ g) (suc k) c h e n = let rest = count-settled g k c (
 count-settled (Filled ∷ g) (suc k) c h e n = count-settled g k c (omega arith) e n
 count-settled (Blank ∷ g) (suc k) c h e n = count-settled g k c (omega arith) e n
 
--- the size stays
-pub trailed-size : (p : Nonogram) (a b : TrailedGrid) → IsTrailed a b → IsBoardOf p a → IsBoardOf p b
-trailed-size p a b t s = (t.width ∙ s.0, t.height ∙ s.1, sym (length-cleared b.cells t.added) ∙ ap length t.undo ∙ s.2)
-
 -- one cell was settled
 pub trailed-one : (g after : TrailedGrid) (k : ℕ) (c : Cell) → k < length g.cells → get_or g.cells k Unknown ≡ Unknown → is_known c ≡ true
     → after.width ≡ g.width → after.height ≡ g.height → after.cells ≡ set g.cells k c → after.trail ≡ g.trail ++ k ∷ [] → IsTrailed g after
@@ -83,24 +76,3 @@ trailed-one g after k c h e n w t a b = record {
   within = ((omega (arith, ap length a, length-set g.cells k c)), tt);
   count = rw a (count-settled g.cells k c h e n);
 }
-
-unknown_count-all : (n : ℕ) → unknown_count (replicate n Unknown) ≡ n
-unknown_count-all zero = refl
-unknown_count-all (suc n) = ap suc (unknown_count-all n)
-
--- if nothing was known of a grid, each cell that was settled stands on the trail
-pub full-trail : (old new : TrailedGrid) (n : ℕ) → IsTrailed old new → old.trail ≡ [] → old.cells ≡ replicate n Unknown → IsFullTrail new
-full-trail old new n t e u =
-    omega (
-      arith,
-      ap length t.kept,
-      length-append old.trail t.added,
-      ap length e,
-      t.count,
-      ap unknown_count u,
-      unknown_count-all n,
-      ap length u,
-      length-replicate n Unknown,
-      ap length t.undo,
-      length-cleared new.cells t.added,
-    )

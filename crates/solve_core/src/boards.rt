@@ -1,20 +1,22 @@
 //! A grid as its rows and its columns, with the way back.
-ghost use Rattle.std.specs.Prelude.{◌≡◌, ◌+◌, ◌-◌, ◌*◌, ◌<◌, ◌≤◌, [], length, take, slice_index_or, slice_set, true, IfOk};
-ghost use Rattle.grid_core.specs.Cells.{Extends, is_known};
-ghost use Rattle.grid_core.specs.Nonogram.{crossing, places_on};
-ghost use Rattle.grid_core.specs.Lines.{IsChanged};
-ghost use Rattle.place_sets.specs.Masks.{IsMaskOf};
-ghost use Rattle.solve_core.specs.Closure.{with_cells};
-ghost use Rattle.grid_core.specs.steps.Sides.{count_on, place_on};
+ghost use Rattle.std.specs.Prelude.{◌≡◌, ◌+◌, ◌-◌, ◌*◌, ◌<◌, ◌≤◌, [], length, take, slice_index_or, slice_set, true, IfOk, IsTrue};
+ghost use Rattle.grid_core.specs.Cells.{is_known};
+ghost use Rattle.grid_core.specs.Nonogram.{lines_of};
+ghost use Rattle.solve_core.specs.Closure.{closure, if_alive};
 ghost use Rattle.grid_core.specs.PartialGrid.{IsSize};
 ghost use Rattle.grid_core.specs.declared.cells.Cell.TheVariants.{Unknown};
-ghost use Rattle.solve_core.specs.steps.Boards.{cells_along, fresh_board, grid_of_board, unknown_board, IsWhole};
+ghost use Rattle.solve_core.specs.steps.Boards.{fresh_board, grid_of_board, unknown_board, IsBoardOf};
 ghost use Rattle.solve_core.specs.steps.Branches.{cells_before};
+ghost use Rattle.solve_core.specs.steps.Closers.{IsIdle, IsMemoryOf};
+ghost use Rattle.solve_core.specs.steps.Marks.{IsAtRest};
 ghost use Rattle.solve_core.specs.steps.Trails.{IsTrailed, IsTrailedGrid};
 
+use crate::closures::Closer;
 use crate::grid_lines::GridLines;
+use crate::learners::Learner;
 use crate::rooms::emptied;
-use grid_core::{Cell, Grid, LONGEST_SIDE, NoMemory, Side};
+use crate::trails::push_changes;
+use grid_core::{Cell, Grid, LONGEST_SIDE, NoMemory, Puzzle, Side};
 use line_core::{LineOf, LineSet};
 use std::alloc::Global;
 use std::marker::Model;
@@ -73,7 +75,7 @@ impl<W: LineSet> Board<W> {
             None => (None, Vec::new(alloc)),
         };
         let lines = GridLines::unknown(alloc, lines, width, height)?;
-        let trail = emptied(alloc, trail, lines.count() + 2 * usize::from(LONGEST_SIDE))?;
+        let trail = emptied(alloc, trail, lines.count() + usize::from(LONGEST_SIDE))?;
         Ok(Board { lines, trail })
     }
 
@@ -95,15 +97,6 @@ impl<W: LineSet> Board<W> {
         &self.trail
     }
 
-    /// The cells of line i of a side.
-    pub fn line(&self, side: Side, i: u16) -> &LineOf<W>
-        requires { i < count_on side self.now.width self.now.height }
-        ensures cells { result.now ≡ cells_along self.now side i }
-        ensures whole { IsWhole self.now }
-    {
-        self.lines.line(side, i)
-    }
-
     /// Settles the unknown cell in column x and row y.
     pub fn settle(&mut self, x: usize, y: usize, cell: Cell)
         requires column { x < self.old.width }
@@ -116,18 +109,6 @@ impl<W: LineSet> Board<W> {
         let place = y * self.lines.width() + x;
         self.lines.set(x, y, cell);
         self.trail.push_reserved(place as u16);
-    }
-
-    /// Writes the cells of line i of a side, some of which change from unknown ones.
-    pub fn learn(&mut self, side: Side, i: u16, new: &LineOf<W>, changes: W)
-        requires i { i < count_on side self.old.width self.old.height }
-        requires fits { length new.now ≤ W.WIDTH }
-        requires more { Extends (cells_along self.old side i) new.now }
-        requires changes { IsMaskOf (IsChanged (cells_along self.old side i) new.now) (W.number changes) }
-        ensures cells { self.new.cells ≡ with_cells self.old.cells (places_on side self.old.width self.old.height i) new.now }
-        ensures trail { IsTrailed self.old self.new }
-    {
-        self.lines.learn(&mut self.trail, side, i, new, changes);
     }
 
     /// Makes the cell unknown that was settled last.
@@ -165,6 +146,19 @@ impl<W: LineSet> Board<W> {
         self.trail.clear();
     }
 
+    /// Closes it by all lines, with nothing to go back to. Returns whether it is alive.
+    pub fn close(&mut self, closer: &mut Closer<W>, puzzle: &Puzzle) -> bool
+        requires memory { IsMemoryOf puzzle.now closer.old }
+        requires size { IsBoardOf puzzle.now self.old }
+        ensures closed { if_alive result self.new.cells ≡ closure (lines_of puzzle.now) self.old.cells }
+        ensures rest { IsTrue result → IsAtRest puzzle.now closer.new self.new.cells }
+        ensures size { IsBoardOf puzzle.now self.new }
+        ensures idle { IsIdle puzzle.now closer.new }
+    {
+        self.trail.clear();
+        closer.propagate_all(puzzle, &mut self.lines)
+    }
+
     /// Takes over a grid's cells, with nothing to go back to.
     pub fn read(&mut self, grid: &Grid)
         requires width { grid.now.width ≡ self.old.width }
@@ -174,5 +168,25 @@ impl<W: LineSet> Board<W> {
     {
         self.lines.read(grid);
         self.trail.clear();
+    }
+}
+
+/// With the trail.
+impl<W: LineSet> Learner<W> for Board<W> {
+    ghost board = { λ b. b };
+
+    ghost KEEPS = { true };
+
+    fn line(&self, side: Side, i: u16) -> &LineOf<W> {
+        self.lines.line(side, i)
+    }
+
+    fn learn(&mut self, side: Side, i: u16, new: &LineOf<W>, changes: W) {
+        let (place, width) = (usize::from(i), self.lines.width());
+        self.lines.learn(side, i, new, changes);
+        match side {
+            Side::Rows => push_changes(&mut self.trail, place * width, 1, changes),
+            Side::Columns => push_changes(&mut self.trail, place, width, changes),
+        }
     }
 }

@@ -12,11 +12,13 @@ ghost use Rattle.solve_core.specs.steps.LineMarks.{marks_on, IsUnmarkedOn};
 ghost use Rattle.solve_core.specs.steps.Marks.{IsLearned, MarksChanges, HasWork, LeavesWork, Progresses, IsAtRest};
 ghost use Rattle.solve_core.specs.Closure.{if_alive};
 ghost use Rattle.solve_core.specs.steps.Trails.{CanSettle, IsTrailed, cleared};
-ghost use Rattle.solve_core.specs.steps.Boards.{IsBoardOf};
+ghost use Rattle.solve_core.specs.steps.Boards.{fresh_board, IsBoardOf};
 ghost use Rattle.solve_core.specs.declared.closures.Progress.TheVariants.{Dead, Same};
 
 use crate::boards::Board;
 use crate::deductions::Deductions;
+use crate::grid_lines::GridLines;
+use crate::learners::Learner;
 use crate::marks::Marks;
 use grid_core::{Cell, Puzzle, Side};
 use line_core::LineSet;
@@ -59,21 +61,22 @@ impl<W: LineSet> Model for Closer<W> {
 }
 
 /// Writes what is certain of line i of a side, and marks the lines that cross it at the cells that it learned.
-fn learn_line<W: LineSet>(
+fn learn_line<W: LineSet, B: Learner<W>>(
     deductions: &mut Deductions<W>,
     puzzle: &Puzzle,
     side: Side,
     i: u16,
-    board: &mut Board<W>,
+    board: &mut B,
     marks: &mut Marks<W>,
 ) -> Progress
     requires i { i < count_on side puzzle.now.width puzzle.now.height }
-    requires board { IsBoardOf puzzle.now board.old }
+    requires board { IsBoardOf puzzle.now (B.board board.old) }
     requires memory { AreRight W.WIDTH puzzle.now deductions.old }
-    ensures learned { IsLearned result (line_on side puzzle.now i) board.old.cells board.new.cells }
-    ensures marks { MarksChanges side i puzzle.now.width puzzle.now.height board.old.cells board.new.cells marks.old marks.new }
+    ensures learned { IsLearned result (line_on side puzzle.now i) (B.board board.old).cells (B.board board.new).cells }
+    ensures marks { MarksChanges side i puzzle.now.width puzzle.now.height (B.board board.old).cells (B.board board.new).cells marks.old marks.new }
     ensures same { result ≡ Same → marks.new ≡ marks.old }
-    ensures trail { IsTrailed board.old board.new }
+    ensures trail { B.KEEPS ≡ true → IsTrailed (B.board board.old) (B.board board.new) }
+    ensures size { IsBoardOf puzzle.now (B.board board.new) }
     ensures memory { AreRight W.WIDTH puzzle.now deductions.new }
 {
     let old = board.line(side, i);
@@ -106,15 +109,22 @@ impl<W: LineSet> Closer<W> {
     }
 
     /// Deduces line i of a side.
-    fn deduce_line(&mut self, puzzle: &Puzzle, side: Side, i: u16, board: &mut Board<W>) -> Progress
+    fn deduce_line<B: Learner<W>>(
+        &mut self,
+        puzzle: &Puzzle,
+        side: Side,
+        i: u16,
+        board: &mut B,
+    ) -> Progress
         requires i { i < count_on side puzzle.now.width puzzle.now.height }
-        requires work { HasWork puzzle.now self.old board.old.cells }
-        requires size { IsBoardOf puzzle.now board.old }
-        ensures progress { Progresses (closure (lines_of puzzle.now)) result board.old.cells board.new.cells }
-        ensures work { LeavesWork result puzzle.now self.new board.new.cells }
+        requires work { HasWork puzzle.now self.old (B.board board.old).cells }
+        requires size { IsBoardOf puzzle.now (B.board board.old) }
+        ensures progress { Progresses (closure (lines_of puzzle.now)) result (B.board board.old).cells (B.board board.new).cells }
+        ensures work { LeavesWork result puzzle.now self.new (B.board board.new).cells }
         ensures own { IsMaskOf (IsMarked (Has (marks_on side self.old.marks)) i false) (marks_on side self.new.marks) }
         ensures same { result ≡ Same → marks_on (crossing side) self.new.marks ≡ marks_on (crossing side) self.old.marks }
-        ensures trail { IsTrailed board.old board.new }
+        ensures trail { B.KEEPS ≡ true → IsTrailed (B.board board.old) (B.board board.new) }
+        ensures size { IsBoardOf puzzle.now (B.board board.new) }
     {
         self.marks.set(side, i, false);
         learn_line(
@@ -128,14 +138,15 @@ impl<W: LineSet> Closer<W> {
     }
 
     /// Deduces each marked line of a side.
-    fn deduce_side(&mut self, puzzle: &Puzzle, side: Side, board: &mut Board<W>) -> Progress
-        requires work { HasWork puzzle.now self.old board.old.cells }
-        requires size { IsBoardOf puzzle.now board.old }
-        ensures progress { Progresses (closure (lines_of puzzle.now)) result board.old.cells board.new.cells }
-        ensures work { LeavesWork result puzzle.now self.new board.new.cells }
+    fn deduce_side<B: Learner<W>>(&mut self, puzzle: &Puzzle, side: Side, board: &mut B) -> Progress
+        requires work { HasWork puzzle.now self.old (B.board board.old).cells }
+        requires size { IsBoardOf puzzle.now (B.board board.old) }
+        ensures progress { Progresses (closure (lines_of puzzle.now)) result (B.board board.old).cells (B.board board.new).cells }
+        ensures work { LeavesWork result puzzle.now self.new (B.board board.new).cells }
         ensures unmarked { result ≢ Dead → IsUnmarkedOn self.new.marks side }
         ensures same { result ≡ Same → marks_on (crossing side) self.new.marks ≡ marks_on (crossing side) self.old.marks }
-        ensures trail { IsTrailed board.old board.new }
+        ensures trail { B.KEEPS ≡ true → IsTrailed (B.board board.old) (B.board board.new) }
+        ensures size { IsBoardOf puzzle.now (B.board board.new) }
     {
         let mut progress = Progress::Same;
         let mut from = 0;
@@ -152,12 +163,13 @@ impl<W: LineSet> Closer<W> {
 
     /// Deduces marked lines until none is marked: all rows in turn, then all columns, and again. Returns
     /// whether the grid is alive.
-    fn deduce_marked(&mut self, puzzle: &Puzzle, board: &mut Board<W>) -> bool
-        requires work { HasWork puzzle.now self.old board.old.cells }
-        requires size { IsBoardOf puzzle.now board.old }
-        ensures closed { if_alive result board.new.cells ≡ closure (lines_of puzzle.now) board.old.cells }
-        ensures rest { IsTrue result → IsAtRest puzzle.now self.new board.new.cells }
-        ensures trail { IsTrailed board.old board.new }
+    fn deduce_marked<B: Learner<W>>(&mut self, puzzle: &Puzzle, board: &mut B) -> bool
+        requires work { HasWork puzzle.now self.old (B.board board.old).cells }
+        requires size { IsBoardOf puzzle.now (B.board board.old) }
+        ensures closed { if_alive result (B.board board.new).cells ≡ closure (lines_of puzzle.now) (B.board board.old).cells }
+        ensures rest { IsTrue result → IsAtRest puzzle.now self.new (B.board board.new).cells }
+        ensures trail { B.KEEPS ≡ true → IsTrailed (B.board board.old) (B.board board.new) }
+        ensures size { IsBoardOf puzzle.now (B.board board.new) }
         ensures memory { IsMemoryOf puzzle.now self.new }
     {
         loop {
@@ -173,14 +185,14 @@ impl<W: LineSet> Closer<W> {
     }
 
     /// Closes a board by the marked lines. Returns whether it is alive. No line is marked then.
-    fn propagate(&mut self, puzzle: &Puzzle, board: &mut Board<W>) -> bool
-        requires work { HasWork puzzle.now self.old board.old.cells }
-        requires size { IsBoardOf puzzle.now board.old }
-        ensures closed { if_alive result board.new.cells ≡ closure (lines_of puzzle.now) board.old.cells }
+    fn propagate<B: Learner<W>>(&mut self, puzzle: &Puzzle, board: &mut B) -> bool
+        requires work { HasWork puzzle.now self.old (B.board board.old).cells }
+        requires size { IsBoardOf puzzle.now (B.board board.old) }
+        ensures closed { if_alive result (B.board board.new).cells ≡ closure (lines_of puzzle.now) (B.board board.old).cells }
         ensures idle { IsIdle puzzle.now self.new }
-        ensures rest { IsTrue result → IsAtRest puzzle.now self.new board.new.cells }
-        ensures trail { IsTrailed board.old board.new }
-        ensures size { IsBoardOf puzzle.now board.new }
+        ensures rest { IsTrue result → IsAtRest puzzle.now self.new (B.board board.new).cells }
+        ensures trail { B.KEEPS ≡ true → IsTrailed (B.board board.old) (B.board board.new) }
+        ensures size { IsBoardOf puzzle.now (B.board board.new) }
     {
         let alive = self.deduce_marked(puzzle, board);
         if !alive {
@@ -189,18 +201,17 @@ impl<W: LineSet> Closer<W> {
         alive
     }
 
-    /// Closes a board by all lines, whatever was marked. Returns whether it is alive. No line is marked then.
-    pub fn propagate_all(&mut self, puzzle: &Puzzle, board: &mut Board<W>) -> bool
+    /// Closes a grid by all lines, whatever was marked. Returns whether it is alive. No line is marked then.
+    pub fn propagate_all(&mut self, puzzle: &Puzzle, lines: &mut GridLines<W>) -> bool
         requires memory { IsMemoryOf puzzle.now self.old }
-        requires size { IsBoardOf puzzle.now board.old }
-        ensures closed { if_alive result board.new.cells ≡ closure (lines_of puzzle.now) board.old.cells }
-        ensures rest { IsTrue result → IsAtRest puzzle.now self.new board.new.cells }
-        ensures trail { IsTrailed board.old board.new }
-        ensures size { IsBoardOf puzzle.now board.new }
+        requires size { IsBoardOf puzzle.now (fresh_board lines.old) }
+        ensures closed { if_alive result lines.new.cells ≡ closure (lines_of puzzle.now) lines.old.cells }
+        ensures rest { IsTrue result → IsAtRest puzzle.now self.new lines.new.cells }
+        ensures size { IsBoardOf puzzle.now (fresh_board lines.new) }
         ensures idle { IsIdle puzzle.now self.new }
     {
         self.marks.mark_all(puzzle.width(), puzzle.height());
-        self.propagate(puzzle, board)
+        self.propagate(puzzle, lines)
     }
 
     /// Gives an unknown cell of a board at rest a colour, and closes the board by what that says of the

@@ -1,5 +1,5 @@
 //! A grid as its rows and its columns.
-ghost use Rattle.std.specs.Prelude.{◌≡◌, ◌+◌, ◌-◌, ◌*◌, ◌<◌, ◌≤◌, ℕ, nat_eq, [], length, replicate, slice_index_or, slice_set, true, vec_capacity, IfOk, IfSome};
+ghost use Rattle.std.specs.Prelude.{◌≡◌, ◌+◌, ◌-◌, ◌*◌, ◌<◌, ◌≤◌, ℕ, nat_eq, [], false, length, replicate, slice_index_or, slice_set, true, vec_capacity, IfOk, IfSome};
 ghost use Rattle.grid_core.specs.Cells.{Extends, is_known};
 ghost use Rattle.grid_core.specs.Nonogram.{cells_at, places_on};
 ghost use Rattle.grid_core.specs.steps.Sides.{count_on};
@@ -12,11 +12,12 @@ ghost use Rattle.grid_core.specs.declared.limits.TheConstants.{LONGEST_SIDE};
 ghost use Rattle.solve_core.specs.steps.GridLines.{AreLinesOf};
 ghost use Rattle.place_sets.specs.Masks.{Has, has, IsMaskOf};
 ghost use Rattle.solve_core.specs.Closure.{with_cells};
-ghost use Rattle.solve_core.specs.steps.Boards.{grid_of_board};
+ghost use Rattle.solve_core.specs.steps.Boards.{fresh_board};
 ghost use Rattle.solve_core.specs.steps.Trails.{IsTrailed, TrailedGrid};
 ghost use Rattle.solve_core.specs.Picks.{is_sure};
 ghost use Rattle.solve_core.specs.Picks.{most_known};
 
+use crate::learners::Learner;
 use crate::learning::settle_across;
 use crate::picks::{known_cells, most_in_row, near_known};
 use crate::rooms::emptied;
@@ -254,17 +255,6 @@ impl<W: LineSet> GridLines<W> {
         self.rows[place / width].get((place % width) as u16)
     }
 
-    /// What is known of the cells of line i of a side.
-    pub fn line(&self, side: Side, i: u16) -> &LineOf<W>
-        requires { i < count_on side self.now.width self.now.height }
-        ensures { result.now ≡ cells_at Unknown self.now.cells (places_on side self.now.width self.now.height i) }
-    {
-        match side {
-            Side::Rows => &self.rows[usize::from(i)],
-            Side::Columns => &self.columns[usize::from(i)],
-        }
-    }
-
     /// The place of the first unknown cell from a place on in row order of whose neighbours at least `least`, 0
     /// to 4, are known or outside the grid, if there is one.
     pub fn first_unknown(&self, from: usize, least: usize) -> Option<usize>
@@ -313,36 +303,6 @@ impl<W: LineSet> GridLines<W> {
         self.columns[x].set(y as u16, cell);
     }
 
-    /// Writes the cells of line i of a side, some of which change from unknown ones, and puts the places of
-    /// these on the trail.
-    pub fn learn(&mut self, trail: &mut Vec<u16>, side: Side, i: u16, new: &LineOf<W>, changes: W)
-        requires i { i < count_on side self.old.width self.old.height }
-        requires fits { length new.now ≤ W.WIDTH }
-        requires more { Extends (cells_at Unknown self.old.cells (places_on side self.old.width self.old.height i)) new.now }
-        requires changes { IsMaskOf
-            (IsChanged (cells_at Unknown self.old.cells (places_on side self.old.width self.old.height i)) new.now)
-            (W.number changes) }
-        requires room { length trail.old.items + 2 * LONGEST_SIDE ≤ vec_capacity trail.old }
-        ensures cells { self.new ≡ record self.old {
-          cells = with_cells self.old.cells (places_on side self.old.width self.old.height i) new.now;
-        } }
-        ensures trail { (g : TrailedGrid) → grid_of_board g ≡ self.old → trail.old.items ≡ g.trail →
-            IsTrailed g (record g { cells = self.new.cells; trail = trail.new.items }) }
-        ensures capacity { vec_capacity trail.new ≡ vec_capacity trail.old }
-    {
-        let (place, width) = (usize::from(i), self.columns.len());
-        match side {
-            Side::Rows => {
-                self.rows[place].copy_from(new);
-                settle_across(&mut self.columns, trail, i, place * width, 1, new, changes);
-            }
-            Side::Columns => {
-                self.columns[place].copy_from(new);
-                settle_across(&mut self.rows, trail, i, place, width, new, changes);
-            }
-        }
-    }
-
     /// Becomes the same as another grid of its size, in place.
     pub fn copy_from(&mut self, other: &GridLines<W>)
         requires width { other.now.width ≡ self.old.width }
@@ -371,6 +331,34 @@ impl<W: LineSet> GridLines<W> {
     {
         for y in 0..self.rows.len() {
             grid.write_row(y as u16, &self.rows[y]);
+        }
+    }
+}
+
+/// Without a trail.
+impl<W: LineSet> Learner<W> for GridLines<W> {
+    ghost board = { fresh_board };
+
+    ghost KEEPS = { false };
+
+    fn line(&self, side: Side, i: u16) -> &LineOf<W> {
+        match side {
+            Side::Rows => &self.rows[usize::from(i)],
+            Side::Columns => &self.columns[usize::from(i)],
+        }
+    }
+
+    fn learn(&mut self, side: Side, i: u16, new: &LineOf<W>, changes: W) {
+        let place = usize::from(i);
+        match side {
+            Side::Rows => {
+                self.rows[place].copy_from(new);
+                settle_across(&mut self.columns, i, new, changes);
+            }
+            Side::Columns => {
+                self.columns[place].copy_from(new);
+                settle_across(&mut self.rows, i, new, changes);
+            }
         }
     }
 }

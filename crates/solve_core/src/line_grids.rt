@@ -1,35 +1,34 @@
 //! The grid of a puzzle as far as line logic gets.
 ghost use Rattle.std.specs.Prelude.{◌≡◌, IfOk};
-ghost use Rattle.solve_core.specs.steps.Boards.{unknown_board};
 ghost use Rattle.solve_core.specs.steps.Closers.{IsMemoryOf};
 ghost use Rattle.solve_core.specs.Report.{grid_of, line_grid, unknown_grid};
 ghost use Rattle.solve_core.specs.steps.Widths.{FitsIn};
 
-use crate::boards::Board;
 use crate::closures::Closer;
 use crate::deductions::Deductions;
+use crate::grid_lines::GridLines;
 use crate::widths::width_for;
 use grid_core::{Grid, NoMemory, Puzzle};
 use line_core::{LineSet, Width};
 use place_sets::Wide;
 use std::alloc::Global;
 
-/// Closes a board of which nothing is known, and writes it to a grid of which nothing is known. Returns the
+/// Closes lines of which nothing is known, and writes them to a grid of which nothing is known. Returns the
 /// grid, or none if it is dead.
 fn closed_grid<W: LineSet>(
     closer: &mut Closer<W>,
     puzzle: &Puzzle,
-    board: &mut Board<W>,
+    lines: &mut GridLines<W>,
     grid: Grid,
 ) -> Option<Grid>
     requires memory { IsMemoryOf puzzle.now closer.old }
-    requires board { board.old ≡ unknown_board puzzle.now.width puzzle.now.height }
+    requires lines { lines.old ≡ grid_of puzzle.now (unknown_grid puzzle.now) }
     requires grid { grid ≡ grid_of puzzle.now (unknown_grid puzzle.now) }
     ensures { result ≡ line_grid puzzle.now }
 {
-    if closer.propagate_all(puzzle, board) {
+    if closer.propagate_all(puzzle, lines) {
         let mut grid = grid;
-        board.lines().write(&mut grid);
+        lines.write(&mut grid);
         Some(grid)
     } else {
         None
@@ -45,10 +44,10 @@ fn line_grid_within<W: LineSet>(alloc: Global, puzzle: &Puzzle) -> Result<Option
     let width = puzzle.width();
     let height = puzzle.height();
     let grid = Grid::unknown(alloc, width, height)?;
-    let mut board = Board::<W>::unknown(alloc, None, width, height)?;
+    let mut lines = GridLines::<W>::unknown(alloc, None, width, height)?;
     let deductions = Deductions::with_room(alloc, None, 1)?;
     let mut closer = Closer::<W>::new(deductions);
-    Ok(closed_grid(&mut closer, puzzle, &mut board, grid))
+    Ok(closed_grid(&mut closer, puzzle, &mut lines, grid))
 }
 
 /// The grid of a puzzle of which nothing was known, closed under line deduction; none if it is dead. All of

@@ -7,7 +7,6 @@ ghost use Rattle.grid_core.specs.Nonogram.{lines_of};
 ghost use Rattle.solve_core.specs.steps.Boards.{IsBoardOf, unknown_board};
 ghost use Rattle.solve_core.specs.steps.Marks.{IsAtRest};
 ghost use Rattle.solve_core.specs.Closure.{if_alive};
-ghost use Rattle.solve_core.specs.steps.Trails.{IsFullTrail};
 ghost use Rattle.solve_core.specs.Trials.{trials as trials_of};
 ghost use Rattle.solve_core.specs.Sizes.{IsSizeOf};
 ghost use Rattle.solve_core.specs.Report.{report_of, grade_by};
@@ -29,34 +28,18 @@ use line_core::{LineSet, Width};
 use place_sets::Wide;
 use std::alloc::Global;
 
-/// How many cells are known of a board each known cell of which stands on its trail.
-fn count_settled<W: LineSet>(board: &Board<W>) -> u32
-    requires { IsFullTrail board.now }
-    ensures { result ≡ count_by is_known board.now.cells }
-{
-    board.trail().len() as u32
-}
-
 /// How many cells are known.
 fn count_known<W: LineSet>(board: &Board<W>) -> u32
     ensures { result ≡ count_by is_known board.now.cells }
 {
     let lines = board.lines();
-    let mut count = 0;
-    for place in 0..lines.count() {
-        if lines.at(place).is_known() {
-            count += 1;
-        }
+    let mut unknown = 0;
+    let mut from = 0;
+    while let Some(place) = lines.first_unknown(from, 0) {
+        unknown += 1;
+        from = place + 1;
     }
-    count
-}
-
-/// How many cells are known: `count` if the board is full, and else they are counted.
-fn count_unless_full<W: LineSet>(board: &Board<W>, full: bool, count: u32) -> u32
-    requires { full ≡ true → count ≡ count_by is_known board.now.cells }
-    ensures { result ≡ count_by is_known board.now.cells }
-{
-    if full { count } else { count_known(board) }
+    (lines.count() - unknown) as u32
 }
 
 /// Whether each cell is known, if `known` cells are.
@@ -82,7 +65,6 @@ fn try_unless_full<W: LineSet>(
     ensures tried { if_alive result board.new.cells ≡ trials_of (lines_of puzzle.now) board.old.cells }
     ensures rest { IsTrue result → IsAtRest puzzle.now trials.new.closer board.new.cells }
     ensures size { IsBoardOf puzzle.now board.new }
-    ensures full { full ≡ true → board.new ≡ board.old }
 {
     full || trials.try_at_rest(puzzle, board)
 }
@@ -117,7 +99,7 @@ fn findings<W: LineSet>(
     requires room { length board.old.cells ≤ vec_capacity branches.old }
     ensures { result ≡ report_of (picked pick puzzle.now.width) puzzle.now guesses }
 {
-    if !trials.closer.propagate_all(puzzle, board) {
+    if !board.close(&mut trials.closer, puzzle) {
         return Findings {
             verdict: Verdict::Nothing,
             grade: Grade::Lines,
@@ -126,7 +108,7 @@ fn findings<W: LineSet>(
             spent: 0,
         };
     }
-    let line_known = count_settled(board);
+    let line_known = count_known(board);
     let by_lines = are_known(board, line_known);
     if !try_unless_full(trials, puzzle, board, by_lines) {
         return Findings {
@@ -137,7 +119,7 @@ fn findings<W: LineSet>(
             spent: 0,
         };
     }
-    let trial_known = count_unless_full(board, by_lines, line_known);
+    let trial_known = count_known(board);
     let grade = grade(by_lines, are_known(board, trial_known));
     let mut solutions = solutions;
     let end = search(

@@ -312,7 +312,7 @@ impl<W: LineSet> Trials<W> {
         ensures size { IsBoardOf puzzle.now board.new }
         ensures room { HasRoomFor puzzle.now self.new }
     {
-        if !self.closer.propagate_all(puzzle, board) {
+        if !board.close(&mut self.closer, puzzle) {
             return false;
         }
         self.try_at_rest(puzzle, board)

@@ -57,7 +57,7 @@ impl<'p, W: LineSet> Workspace<'p, W> {
     {
         self.board.read(grid);
         let trials = &mut self.trials;
-        let alive = trials.closer.propagate_all(self.puzzle, &mut self.board);
+        let alive = self.board.close(&mut trials.closer, self.puzzle);
         self.board.lines().write(grid);
         alive
     }

@@ -20,12 +20,12 @@ fresh_board g = record { width = g.width; height = g.height; cells = g.cells; tr
 abbrev pub grid_of_board : TrailedGrid → PartialGrid
 grid_of_board g = record { width = g.width; height = g.height; cells = g.cells }
 
--- what each board keeps, with room for the trail and for one more line twice
+-- what each board keeps, with room for the trail and for one more line
 pub record IsBoard (g : TrailedGrid) (room : ℕ) : Type 0 where
   pub size : IsSize g.width g.height
   pub count : length g.cells ≡ g.width * g.height
   pub grid : IsTrailedGrid g
-  pub room_is : length g.cells + 2 * LONGEST_SIDE ≤ room
+  pub room_is : length g.cells + LONGEST_SIDE ≤ room
 
 -- the board has the puzzle's size
 abbrev pub IsBoardOf : Nonogram → TrailedGrid → Type 0

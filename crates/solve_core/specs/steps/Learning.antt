@@ -38,10 +38,6 @@ LeadsBack first step changes new old_trail trail =
 abbrev pub IsIn : ℕ → ℕ → ℕ → Type 0
 IsIn places from k = Has places k × (from ≤ k) × (k < from + 64)
 
--- the places of a set are among those of another
-abbrev pub AreAmong : ℕ → ℕ → Type 0
-AreAmong places others = (k : ℕ) → Has places k → Has others k
-
 -- of the cells at some places, those whose numbers are left are still the old ones, and the others are new
 pub record IsPartly (places : List ℕ) (before now new : List Cell) (Left : ℕ → Type 0) : Type 0 where
   pub changed : (k : ℕ) → Left k → IsChanged (cells_at Unknown before places) new k

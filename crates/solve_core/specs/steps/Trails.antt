@@ -35,10 +35,6 @@ pub record IsTrailedGrid (g : TrailedGrid) : Type 0 where
   pub inside : AllByRecursion (λ k. k < length g.cells) g.trail
   pub settled : length g.trail + unknown_count g.cells ≤ length g.cells
 
--- each known cell stands on the trail
-abbrev pub IsFullTrail : TrailedGrid → Type 0
-IsFullTrail g = length g.trail + unknown_count g.cells ≡ length g.cells
-
 -- The trail has gained the places of the cells that were unknown in the old grid and are known in the new
 -- one: made unknown again, the last one first, they give the old grid.
 pub record IsTrailed (old new : TrailedGrid) : Type 0 where

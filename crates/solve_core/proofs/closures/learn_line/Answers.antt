@@ -18,6 +18,7 @@ use Rattle.solve_core.specs.steps.LineMarks.{marks_on}
 use Rattle.solve_core.specs.Closure.{with_cells}
 use Rattle.solve_core.specs.steps.Marks.{IsWritten}
 use Rattle.solve_core.specs.steps.Trails.{TrailedGrid}
+use Rattle.solve_core.proofs.ClosureLaws.{length-with_cells}
 use Rattle.solve_core.proofs.LineSteps.{written-fewer, written-read}
 use Rattle.solve_core.proofs.SideLines.{below_places, crossing_twice, distinct_places}
 use Rattle.solve_core.proofs.closures.learn_line.Goals as goal
@@ -49,7 +50,7 @@ pub returns-then-is_empty-clause-learned : goal.returns-then-is_empty-clause-lea
 returns-then-is_empty-clause-learned g c =
     let p = c.args.puzzle.now in
     let line = line_on c.args.side p c.args.i in
-    let read = c.line-old.ensures.cells ∙ seen p c.args.board.now c.args.side c.args.i c.requires.board in
+    let read = c.line-old.ensures.cells ∙ seen p (g.B.Learner.board c.args.board.now) c.args.side c.args.i c.requires.board in
     let same : c.line-old.result.now ≡ c.in-Some.new =
     (same_without_change c.line-old.result.now c.in-Some.new (g.W.PlaceSet.number c.changes-changes.result)
     (length-deduced c.line-old.result.now c.in-Some.new line.clue (sym c.in-Some.is ∙ c.deduce.ensures.answer))
@@ -81,10 +82,10 @@ unchanged p old new certain side i k m positive l size w e changes lk n =
 pub returns-clause-learned : goal.returns-clause-learned
 returns-clause-learned g c =
     let p = c.args.puzzle.now in
-    let b = c.args.board.now in
+    let b = g.B.Learner.board c.args.board.now in
     let side = c.args.side in
     let line = line_on side p c.args.i in
-    let new = c.learn.new.self.cells in
+    let new = (g.B.Learner.board c.learn.new.self).cells in
     let read = c.line-old.ensures.cells ∙ seen p b side c.args.i c.requires.board in
     let same = same_without_change c.line-old.result.now c.in-Some.new (g.W.PlaceSet.number c.changes-changes.result)
     (length-deduced c.line-old.result.now c.in-Some.new line.clue (sym c.in-Some.is ∙ c.deduce.ensures.answer))
@@ -105,12 +106,12 @@ returns-clause-learned g c =
 pub returns-clause-marks : goal.returns-clause-marks
 returns-clause-marks g c =
     let p = c.args.puzzle.now in
-    let b = c.args.board.now in
+    let b = g.B.Learner.board c.args.board.now in
     let side = c.args.side in
     let i = c.args.i in
     let line = line_on side p i in
     let m = g.W.PlaceSet.number c.changes-changes.result in
-    let new = c.learn.new.self.cells in
+    let new = (g.B.Learner.board c.learn.new.self).cells in
     let before = c.args.marks.now in
     let after = c.add.new.self in
     let read = c.line-old.ensures.cells ∙ seen p b side i c.requires.board in
@@ -134,3 +135,12 @@ returns-clause-marks g c =
       same = λ k l n. unchanged p b.cells new c.in-Some.new side i k m (omega (arith, size.width_from)) c.requires.i c.requires.board.2
           w refl changes l (λ h. n (added.from k (inr h)));
     }
+
+pub returns-clause-size : goal.returns-clause-size
+returns-clause-size g c =
+    let b = g.B.Learner.board c.args.board.now in (
+      c.learn.ensures.width ∙ c.requires.board.0,
+      c.learn.ensures.height ∙ c.requires.board.1,
+      ap length c.learn.ensures.cells ∙
+          length-with_cells b.cells (places_on c.args.side b.width b.height c.args.i) c.in-Some.new ∙ c.requires.board.2,
+    )

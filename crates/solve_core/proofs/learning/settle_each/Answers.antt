@@ -4,7 +4,6 @@ use Rattle.std.proofs.lemmas.Bool.{cases_lt}
 use Rattle.grid_core.specs.declared.cells.Cell.{Cell}
 use Rattle.place_sets.specs.Masks.{Has}
 use Rattle.place_sets.proofs.Doubling.{width_most}
-use Rattle.solve_core.proofs.LearnedTrails.{leads-same}
 use Rattle.solve_core.proofs.learning.settle_each.Goals as goal
 
 pub loop-from-init : goal.loop-from-init
@@ -12,17 +11,13 @@ loop-from-init g c = record {
   words = (0, refl);
   as_old = λ k far. refl;
   as_new = λ k has l. absurd (omega (arith, l));
-  trail = λ b n changes left new is among before.
-      leads-same b c.args.first c.args.step n new c.args.trail.now.items _ _ (λ k h. (h, λ p. omega arith)) (λ k h. h.0) before;
-  most = (omega arith, omega arith);
-  capacity = refl;
+  most = omega arith;
 }
 
 pub settle_word-requires : goal.settle_word-requires
 settle_word-requires g c =
     let most = width_most g.W.PlaceSet.WIDTH g.W.PlaceSet.TOP g.met.W.PlaceSet.top_is.1 g.met.W.PlaceSet.width_is in
     let before = c.loop-from.invariant in
-    let below : c.loop-from.from < 256 = omega (arith, c.loop-from-test.true, c.WIDTH.ensures, most) in
     record {
       from = omega (arith, c.loop-from-test.true, c.WIDTH.ensures);
       cells = λ k is.
@@ -34,8 +29,6 @@ settle_word-requires g c =
             unknown = rw same can.unknown;
           };
       colour = c.requires.colour;
-      places = c.requires.places;
-      room = omega (arith, c.requires.room, before.most, before.capacity, before.words, below);
     }
 
 pub loop-from-smaller : goal.loop-from-smaller
@@ -59,10 +52,7 @@ loop-from-preserved g c =
         | inr now ↦ c.settle_word.ensures.changed k (has, now, l) ∙
             ap (λ (line : List Cell). set line c.args.i c.args.colour) (before.as_old k (λ p. now))
       ];
-      trail = λ b n changes left new is among start.
-          c.settle_word.ensures.trail b n changes left new is among (before.trail b n changes left new is among start);
-      most = (omega (arith, before.words.1, below), omega (arith, c.settle_word.ensures.more, before.most.1));
-      capacity = c.settle_word.ensures.capacity ∙ before.capacity;
+      most = omega (arith, before.words.1, below);
     }
 
 pub returns : goal.returns
@@ -75,10 +65,4 @@ returns g c =
       changed = λ k has. end.as_new k has (early k has);
       others = λ k no. end.as_old k (λ has. absurd (no has));
       len = c.loop-from.auto.lines;
-      trail = λ b n changes left new is among start.
-          leads-same b c.args.first c.args.step n new c.loop-from.trail.items _ _
-          (λ k h. (h.0, λ has. absurd {A = ⊥} (omega (arith, h.1 has, early k has)))) (λ k h. (h.0, λ has. absurd (h.1 has)))
-          (end.trail b n changes left new is among start);
-      more = omega (arith, end.most);
-      capacity = end.capacity;
     }

@@ -1,7 +1,13 @@
--- What the loop of `count_known` keeps: how many of the cells passed are known.
-use Rattle.std.proofs.Common.{◌≡◌, ◌≤◌, take, count_by}
+-- What the loop of `count_known` keeps: of the cells passed, all but the unknown ones counted are known.
+use Rattle.std.proofs.Common.{◌≡◌, ◌+◌, ◌-◌, ◌≤◌, length, take, count_by}
 use Rattle.grid_core.specs.Cells.{is_known}
 use Rattle.solve_core.proofs.reports.count_known.Given as goal
 
 abbrev pub invariant-loop-place : goal.invariant-loop-place
-invariant-loop-place g l = record { counted : l.count ≡ count_by is_known (take l.place l.board.cells); few : l.count ≤ l.place }
+invariant-loop-place g l = record {
+  counted : count_by is_known (take l.from l.board.cells) + l.unknown ≡ l.from;
+  within : l.from ≤ length l.board.cells;
+}
+
+abbrev pub decreases-loop-place : goal.decreases-loop-place
+decreases-loop-place g l = length l.board.cells - l.from

@@ -1,19 +1,17 @@
 -- `findings`: the report is the defined one, whether lines end dead, trials end dead, or there is a search.
-use Rattle.std.proofs.Common.{true, ap, sym, subst, ◌∙◌, ◌*◌, length, count_by}
+use Rattle.std.proofs.Common.{true, ap, sym, subst, ◌∙◌, ◌*◌, length}
 use Rattle.std.proofs.lemmas.List.{length-replicate}
 use Rattle.grid_core.specs.declared.cells.Cell.TheVariants.{Unknown}
-use Rattle.grid_core.specs.Cells.{is_known}
 use Rattle.solve_core.specs.Report.{grade_by}
 use Rattle.solve_core.specs.Picks.{picked}
 use Rattle.solve_core.specs.steps.Tried.{Tried}
 use Rattle.solve_core.specs.steps.Trails.{TrailedGrid}
-use Rattle.solve_core.proofs.TrailSteps.{full-trail}
 use Rattle.solve_core.proofs.ReportLaws.{report-alive, report-dead, report-refuted}
 use Rattle.solve_core.specs.steps.Closers.{IsMemoryOf}
 use Rattle.solve_core.proofs.reports.findings.Goals as goal
 
-pub propagate_all-requires : goal.propagate_all-requires
-propagate_all-requires g c =
+pub close-requires : goal.close-requires
+close-requires g c =
     let p = c.args.puzzle.now in
     record {
       memory = subst (λ (t : Tried). IsMemoryOf p t.closer) (sym c.trials.view_is) c.requires.trials.memory;
@@ -24,40 +22,30 @@ propagate_all-requires g c =
       );
     }
 
-pub returns-then-not-propagate_all : goal.returns-then-not-propagate_all
-returns-then-not-propagate_all g c =
+pub returns-then-not-close : goal.returns-then-not-close
+returns-then-not-close g c =
     report-dead (picked c.args.pick c.args.puzzle.now.width) c.args.puzzle.now c.args.board.now.cells c.args.guesses
-    (ap (λ (g : TrailedGrid). g.cells) c.requires.board) c.if-not-propagate_all.ensures.closed
+    (ap (λ (g : TrailedGrid). g.cells) c.requires.board) c.if-not-close.ensures.closed
 
 pub returns-then-not-try_unless_full : goal.returns-then-not-try_unless_full
 returns-then-not-try_unless_full g c =
     let p = c.args.puzzle.now in
-    report-refuted (picked c.args.pick p.width) p c.args.board.now.cells c.propagate_all.new.board.cells c.args.guesses
-    c.grade.result c.count_settled-line_known.result (ap (λ (g : TrailedGrid). g.cells) c.requires.board)
-    c.if-not-propagate_all.ensures.closed c.if-not-try_unless_full.ensures.tried
+    report-refuted (picked c.args.pick p.width) p c.args.board.now.cells c.close.new.self.cells c.args.guesses
+    c.grade.result c.count_known-line_known.result (ap (λ (g : TrailedGrid). g.cells) c.requires.board)
+    c.if-not-close.ensures.closed c.if-not-try_unless_full.ensures.tried
     (c.grade.ensures ∙ ap (λ b. grade_by b true) c.are_known-by_lines.ensures)
-    c.count_settled-line_known.ensures
+    c.count_known-line_known.ensures
 
 pub returns : goal.returns
 returns g c =
     let p = c.args.puzzle.now in
-    report-alive (picked c.args.pick p.width) p c.args.board.now.cells c.propagate_all.new.board.cells c.try_unless_full.new.board.cells
+    report-alive (picked c.args.pick p.width) p c.args.board.now.cells c.close.new.self.cells c.try_unless_full.new.board.cells
     c.args.guesses
     c.search-end.new.solutions.grids c.search-end.result.cut c.search-end.result.spent c.verdict.result c.grade-grade.result
-    c.count_settled-line_known.result c.count_unless_full-trial_known.result
+    c.count_known-line_known.result c.count_known-trial_known.result
     (ap (λ (g : TrailedGrid). g.cells) c.requires.board)
-    c.if-not-propagate_all.ensures.closed c.if-not-try_unless_full.ensures.tried
+    c.if-not-close.ensures.closed c.if-not-try_unless_full.ensures.tried
     c.search-end.ensures
     c.verdict.ensures
     (c.grade-grade.ensures ∙ (λ i. grade_by (c.are_known-by_lines.ensures i) (c.are_known.ensures i)))
-    c.count_settled-line_known.ensures c.count_unless_full-trial_known.ensures
-
-pub count_settled-line_known-requires : goal.count_settled-line_known-requires
-count_settled-line_known-requires g c =
-    full-trail c.args.board.now c.propagate_all.new.board _ c.if-not-propagate_all.ensures.trail
-    (ap (λ (g : TrailedGrid). g.trail) c.requires.board)
-    (ap (λ (g : TrailedGrid). g.cells) c.requires.board)
-
-pub count_unless_full-trial_known-requires : goal.count_unless_full-trial_known-requires
-count_unless_full-trial_known-requires g c = λ full.
-    c.count_settled-line_known.ensures ∙ ap (λ (b : TrailedGrid). count_by is_known b.cells) (sym (c.try_unless_full.ensures.full full))
+    c.count_known-line_known.ensures c.count_known-trial_known.ensures

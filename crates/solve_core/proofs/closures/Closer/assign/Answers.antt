@@ -1,5 +1,5 @@
 -- `Closer::assign`: only the row and the column of `place` can have more to give, and both get a mark.
-use Rattle.std.proofs.Common.{◌≡◌, ◌∙◌, ◌+◌, ◌*◌, ◌/◌, ◌%◌, ℕ, true, get_or, set, ap, sym, subst, List}
+use Rattle.std.proofs.Common.{refl, ◌≡◌, ◌∙◌, ◌+◌, ◌*◌, ◌/◌, ◌%◌, ℕ, true, get_or, set, ap, sym, subst, List}
 use Rattle.grid_core.specs.declared.cells.Cell.{Cell}
 use Rattle.grid_core.specs.declared.cells.Cell.TheVariants.{Unknown}
 use Rattle.place_sets.specs.Masks.{Has, IsMarked, IsMaskOf}
@@ -49,4 +49,4 @@ propagate-requires-clause-work g c =
 
 pub returns-clause-trail : goal.returns-clause-trail
 returns-clause-trail g c =
-    trailed-trans c.args.board.now c.settle.new.self c.propagate.new.board c.settle.ensures.trail c.propagate.ensures.trail
+    trailed-trans c.args.board.now c.settle.new.self c.propagate.new.board c.settle.ensures.trail (c.propagate.ensures.trail refl)

@@ -5,12 +5,16 @@ use Rattle.place_sets.specs.Masks.{Has}
 use Rattle.solve_core.specs.steps.LineMarks.{AreUnmarked, IsUnmarkedOn}
 use Rattle.grid_core.specs.Nonogram.{lines_of}
 use Rattle.solve_core.specs.Closure.{closure}
-use Rattle.solve_core.proofs.TrailSteps.{trailed-trans, trailed-size}
+use Rattle.solve_core.specs.steps.Trails.{IsTrailed, TrailedGrid}
+use Rattle.solve_core.proofs.TrailSteps.{trailed-trans}
 use Rattle.solve_core.proofs.GridSteps.{closed_after, progress-keeps}
 use Rattle.solve_core.proofs.SideLines.{by_side}
 use Rattle.solve_core.proofs.closures.Closer.deduce_marked.Goals as goal
 use Rattle.solve_core.proofs.closures.Closer.deduce_marked.Given.{Over}
 use Rattle.solve_core.proofs.closures.Closer.deduce_marked.Goals.{In-Same}
+
+twice : (a b c d : TrailedGrid) → IsTrailed a b → IsTrailed b c → IsTrailed c d → IsTrailed a d
+twice a b c d x y z = trailed-trans a c d (trailed-trans a b c x y) z
 
 unmarked : (g : Over) (c : In-Same g) → AreUnmarked c.deduce_side-in-loop-self.new.self.marks
 unmarked g c =
@@ -21,8 +25,9 @@ unmarked g c =
 
 pub returns-in-Same-clause-closed : goal.returns-in-Same-clause-closed
 returns-in-Same-clause-closed g c =
-    closed_after c.args.puzzle.now c.deduce_side-in-loop-self.new.self.marks c.args.board.now.cells c.loop-self.board.cells
-    c.deduce_side.new.board.cells c.deduce_side-in-loop-self.new.board.cells c.deduce_side.result
+    let board = g.B.Learner.board in
+    closed_after c.args.puzzle.now c.deduce_side-in-loop-self.new.self.marks (board c.args.board.now).cells (board c.loop-self.board).cells
+    (board c.deduce_side.new.board).cells (board c.deduce_side-in-loop-self.new.board).cells c.deduce_side.result
     (λ e. true≢false (sym (c.is_dead.ensures.1 e) ∙ c.if-is_dead.false)) c.deduce_side.ensures.progress c.in-Same.ensures.progress
     c.in-Same.ensures.work.marks (unmarked g c) c.loop-self.invariant.closed
 
@@ -33,37 +38,36 @@ returns-in-Same-clause-rest g c = λ alive. record {
 }
 
 pub returns-then-is_dead-clause-trail : goal.returns-then-is_dead-clause-trail
-returns-then-is_dead-clause-trail g c = trailed-trans c.args.board.now c.loop-self.board c.deduce_side.new.board
-    c.loop-self.invariant.trail c.deduce_side.ensures.trail
+returns-then-is_dead-clause-trail g c = λ keeps.
+    let board = g.B.Learner.board in
+    trailed-trans (board c.args.board.now) (board c.loop-self.board) (board c.deduce_side.new.board) (c.loop-self.invariant.trail keeps)
+    (c.deduce_side.ensures.trail keeps)
 
 pub returns-in-Dead-clause-trail : goal.returns-in-Dead-clause-trail
-returns-in-Dead-clause-trail g c =
-    trailed-trans c.args.board.now c.deduce_side.new.board c.deduce_side-in-loop-self.new.board
-    (trailed-trans c.args.board.now c.loop-self.board c.deduce_side.new.board c.loop-self.invariant.trail c.deduce_side.ensures.trail)
-    c.deduce_side-in-loop-self.ensures.trail
+returns-in-Dead-clause-trail g c = λ keeps.
+    let board = g.B.Learner.board in
+    twice (board c.args.board.now) (board c.loop-self.board) (board c.deduce_side.new.board) (board c.deduce_side-in-loop-self.new.board)
+    (c.loop-self.invariant.trail keeps) (c.deduce_side.ensures.trail keeps) (c.deduce_side-in-loop-self.ensures.trail keeps)
 
 pub returns-in-Same-clause-trail : goal.returns-in-Same-clause-trail
-returns-in-Same-clause-trail g c =
-    trailed-trans c.args.board.now c.deduce_side.new.board c.deduce_side-in-loop-self.new.board
-    (trailed-trans c.args.board.now c.loop-self.board c.deduce_side.new.board c.loop-self.invariant.trail c.deduce_side.ensures.trail)
-    c.deduce_side-in-loop-self.ensures.trail
+returns-in-Same-clause-trail g c = λ keeps.
+    let board = g.B.Learner.board in
+    twice (board c.args.board.now) (board c.loop-self.board) (board c.deduce_side.new.board) (board c.deduce_side-in-loop-self.new.board)
+    (c.loop-self.invariant.trail keeps) (c.deduce_side.ensures.trail keeps) (c.deduce_side-in-loop-self.ensures.trail keeps)
 
 pub loop-self-preserved : goal.loop-self-preserved
 loop-self-preserved g c =
     let p = c.args.puzzle.now in
-    let middle = c.deduce_side.new.board in
-    let new = c.deduce_side-in-loop-self.new.board in
+    let board = g.B.Learner.board in
     record {
       work = record { marks = c.in-Changed.ensures.work.marks; memory = c.deduce_side-in-loop-self.ensures.work.memory };
-      trail =
-          trailed-trans c.args.board.now middle new
-          (trailed-trans c.args.board.now c.loop-self.board middle c.loop-self.invariant.trail c.deduce_side.ensures.trail)
-          c.deduce_side-in-loop-self.ensures.trail;
-      size = trailed-size p middle new c.deduce_side-in-loop-self.ensures.trail
-          (trailed-size p c.loop-self.board middle c.deduce_side.ensures.trail c.loop-self.invariant.size);
+      trail = λ keeps.
+          twice (board c.args.board.now) (board c.loop-self.board) (board c.deduce_side.new.board) (board c.deduce_side-in-loop-self.new.board)
+          (c.loop-self.invariant.trail keeps) (c.deduce_side.ensures.trail keeps) (c.deduce_side-in-loop-self.ensures.trail keeps);
+      size = c.deduce_side-in-loop-self.ensures.size;
       closed =
           c.in-Changed.ensures.progress.0
-          ∙ progress-keeps (closure (lines_of p)) c.deduce_side.result c.loop-self.board.cells middle.cells
+          ∙ progress-keeps (closure (lines_of p)) c.deduce_side.result (board c.loop-self.board).cells (board c.deduce_side.new.board).cells
           (λ e. true≢false (sym (c.is_dead.ensures.1 e) ∙ c.if-is_dead.false)) c.deduce_side.ensures.progress
           ∙ c.loop-self.invariant.closed;
     }

@@ -1,5 +1,5 @@
 -- What the loop of `Closer::deduce_marked` keeps: the cells' closure; each turn that goes on settles some.
-use Rattle.std.proofs.Common.{◌≡◌}
+use Rattle.std.proofs.Common.{◌≡◌, true}
 use Rattle.grid_core.specs.Nonogram.{lines_of}
 use Rattle.solve_core.specs.Closure.{closure}
 use Rattle.solve_core.specs.steps.Marks.{HasWork}
@@ -8,12 +8,14 @@ use Rattle.solve_core.specs.steps.Boards.{IsBoardOf}
 use Rattle.solve_core.proofs.closures.Closer.deduce_marked.Given as goal
 
 abbrev pub invariant-loop-self : goal.invariant-loop-self
-invariant-loop-self g l = record {
-  work : HasWork l.puzzle l.self l.board.cells;
-  trail : IsTrailed l.fn.board l.board;
-  size : IsBoardOf l.puzzle l.board;
-  closed : closure (lines_of l.puzzle) l.board.cells ≡ closure (lines_of l.puzzle) l.fn.board.cells;
-}
+invariant-loop-self g l =
+    let board = g.B.Learner.board in
+    record {
+      work : HasWork l.puzzle l.self (board l.board).cells;
+      trail : g.B.Learner.KEEPS ≡ true → IsTrailed (board l.fn.board) (board l.board);
+      size : IsBoardOf l.puzzle (board l.board);
+      closed : closure (lines_of l.puzzle) (board l.board).cells ≡ closure (lines_of l.puzzle) (board l.fn.board).cells;
+    }
 
 abbrev pub decreases-loop-self : goal.decreases-loop-self
-decreases-loop-self g l = unknown_count l.board.cells
+decreases-loop-self g l = unknown_count (g.B.Learner.board l.board).cells

@@ -1,22 +1,23 @@
 -- `Closer::deduce_side`: the lines passed have no mark, and deducing another of the side gives them none.
-use Rattle.std.proofs.Common.{rules, ◌∙◌, ◌+◌, ◌<◌, ℕ, refl, true≢false, sym, subst, inl, inr, arith}
+use Rattle.std.proofs.Common.{rules, ◌≡◌, true, ◌∙◌, ◌+◌, ◌<◌, ℕ, refl, true≢false, sym, subst, inl, inr, arith}
 use Rattle.std.proofs.lemmas.Bool.{cases_lt}
 use Rattle.solve_core.specs.steps.Closers.{Closing}
 use Rattle.solve_core.specs.steps.LineMarks.{IsMarkedOn}
-use Rattle.solve_core.proofs.TrailSteps.{trailed-trans, trailed-size}
+use Rattle.solve_core.proofs.TrailSteps.{trailed-trans}
 use Rattle.solve_core.proofs.closures.Closer.deduce_side.Goals as goal
 use Rattle.solve_core.proofs.closures.Closer.deduce_side.Goals.{in-Same, in-Changed}
 
 pub loop-i-preserved : goal.loop-i-preserved
 loop-i-preserved g c =
-    let p = c.args.puzzle.now in
     let before = c.loop-i.invariant in
     let side = c.args.side in
     let i = c.in-Some.i in
     let first = c.in-Some.ensures in
     let new = c.deduce_line.new.self in
-    let trail = trailed-trans c.args.board.now c.loop-i.board c.deduce_line.new.board before.trail c.deduce_line.ensures.trail in
-    let size = trailed-size p c.loop-i.board c.deduce_line.new.board c.deduce_line.ensures.trail before.size in
+    let board = g.B.Learner.board in
+    let trail = λ (keeps : g.B.Learner.KEEPS ≡ true).
+    trailed-trans (board c.args.board.now) (board c.loop-i.board) (board c.deduce_line.new.board) (before.trail keeps)
+    (c.deduce_line.ensures.trail keeps) in
     let seen : (k : ℕ) → IsMarkedOn c.loop-i.self.marks side k → IsMarkedOn c.self.inside.marks side k =
     λ k h. subst (λ (m : Closing). IsMarkedOn m.marks side k) (sym c.self.view_is) h in
     let passed : (k : ℕ) → k < i + 1 → IsMarkedOn new.marks side k → ⊥ = λ k l h.
@@ -32,7 +33,7 @@ loop-i-preserved g c =
           record {
             work = record { marks = w.in-Same.ensures.work.marks; memory = c.deduce_line.ensures.work.memory };
             trail = trail;
-            size = size;
+            size = c.deduce_line.ensures.size;
             progress = search rules;
             alive = search rules;
             same = λ e. w.in-Same.ensures.same refl ∙ before.same (sym w.progress-is ∙ e);
@@ -43,7 +44,7 @@ loop-i-preserved g c =
           record {
             work = record { marks = w.in-Changed.ensures.work.marks; memory = c.deduce_line.ensures.work.memory };
             trail = trail;
-            size = size;
+            size = c.deduce_line.ensures.size;
             progress = search rules;
             alive = search rules;
             same = search rules;
@@ -53,5 +54,7 @@ loop-i-preserved g c =
     ]
 
 pub returns-in-Dead-clause-trail : goal.returns-in-Dead-clause-trail
-returns-in-Dead-clause-trail g c =
-    trailed-trans c.args.board.now c.loop-i.board c.deduce_line.new.board c.loop-i.invariant.trail c.deduce_line.ensures.trail
+returns-in-Dead-clause-trail g c = λ keeps.
+    let board = g.B.Learner.board in
+    trailed-trans (board c.args.board.now) (board c.loop-i.board) (board c.deduce_line.new.board) (c.loop-i.invariant.trail keeps)
+    (c.deduce_line.ensures.trail keeps)

@@ -4,14 +4,14 @@ use Rattle.grid_core.specs.Nonogram.{lines_of}
 use Rattle.solve_core.proofs.TrialSteps.{closure_dead, closure_trials}
 use Rattle.solve_core.proofs.trials.Trials.try_board.Goals as goal
 
-pub returns-then-not-propagate_all-clause-tried : goal.returns-then-not-propagate_all-clause-tried
-returns-then-not-propagate_all-clause-tried g c =
+pub returns-then-not-close-clause-tried : goal.returns-then-not-close-clause-tried
+returns-then-not-close-clause-tried g c =
     let first = c.args.board.now.cells in
-    sym (closure_dead (lines_of c.args.puzzle.now) first (sym c.if-not-propagate_all.ensures.closed))
+    sym (closure_dead (lines_of c.args.puzzle.now) first (sym c.if-not-close.ensures.closed))
 
 pub returns-clause-tried : goal.returns-clause-tried
 returns-clause-tried g c =
     let first = c.args.board.now.cells in
-    let closed = c.propagate_all.new.board.cells in
+    let closed = c.close.new.self.cells in
     c.try_at_rest.ensures.tried ∙
-    closure_trials (lines_of c.args.puzzle.now) first closed (sym c.if-not-propagate_all.ensures.closed)
+    closure_trials (lines_of c.args.puzzle.now) first closed (sym c.if-not-close.ensures.closed)

@@ -4,7 +4,7 @@ use Rattle.std.specs.Int.{bit_at}
 use Rattle.std.proofs.lemmas.Bool.{cases_eq}
 use Rattle.std.proofs.lemmas.Nat.Bits.{bit_at_and, bit_at-lt, bit_at_lowest, bit_at-suc}
 use Rattle.place_sets.specs.Masks.{Has}
-use Rattle.solve_core.proofs.learning.without_first.Goals as goal
+use Rattle.solve_core.proofs.words.without_first.Goals as goal
 
 gone : (k n : ℕ) → Has n k → ((i : ℕ) → i < k → Has n i → ⊥) → bit_at (n - 1) k ≡ 0
 gone zero n h first =
@@ -35,8 +35,8 @@ same (suc k) (suc j) n h first other has =
     same k j (n / 2) (sym (bit_at-suc n k) ∙ h) (λ i l a. first (suc i) (omega (arith, l)) (bit_at-suc n i ∙ a)) (λ e. other (ap suc e))
     (sym (bit_at-suc n j) ∙ has)
 
-pub returns : goal.returns
-returns g k has first =
+pub returns-clause-rest : goal.returns-clause-rest
+returns-clause-rest g k has first =
     let word = g.args.word in record {
       to = λ j h.
           let both = sym (bit_at_and word (word - 1) j) ∙ h in

@@ -1,0 +1,20 @@
+-- The places of a set that are in one of its words.
+use Rattle.std.proofs.Common.{◌≢◌, ◌+◌, ◌-◌, ◌<◌, ℕ, false, inl, inr, sym, arith, subst, true≢false}
+use Rattle.place_sets.specs.Masks.{Has, IsMarked, IsMaskOf}
+use Rattle.solve_core.specs.steps.Learning.{IsIn}
+
+-- the places of a set that are in the word from `from` on
+abbrev WordFrom : ℕ → ℕ → ℕ → Type 0
+WordFrom places from word = IsMaskOf (λ x. (x < 64) × Has places (x + from)) word
+
+pub in_word : (places from word k : ℕ) → WordFrom places from word → IsIn places from k → Has word (k - from)
+in_word places from word k mask is = mask.from (k - from) (omega (arith, is), subst (Has places) (omega (arith, is)) is.0)
+
+pub of_word : (places from word x : ℕ) → WordFrom places from word → Has word x → IsIn places from (from + x)
+of_word places from word x mask has =
+    let at = mask.to x has in
+    (subst (Has places) (omega arith) at.1, omega arith, omega (arith, at.0))
+
+-- what is left when a place was taken away is elsewhere
+pub stays : (left next k : ℕ) → IsMaskOf (IsMarked (Has left) k false) next → (j : ℕ) → Has next j → Has left j × (j ≢ k)
+stays left next k marked j h = elim (marked.to j h) [ inl kept ↦ kept | inr gone ↦ absurd (true≢false (sym gone.1)) ]

@@ -1,0 +1,77 @@
+-- `learn` of `Board`: the trail leads back from the cells that the line learned, and its room is left.
+use Rattle.std.proofs.Common.{◌∙◌, ◌*◌, arith, refl, subst, sym}
+use Rattle.grid_core.specs.declared.sides.Side.TheVariants.{Rows, Columns}
+use Rattle.grid_core.specs.Nonogram.{places_from, places_on}
+use Rattle.solve_core.specs.Closure.{with_cells}
+use Rattle.solve_core.specs.steps.Trails.{IsTrailed, TrailedGrid}
+use Rattle.solve_core.proofs.BoardSteps.{board-learned, trail-learned, trailed}
+use Rattle.solve_core.proofs.LearnedLines.{column_learning, learns_in, place_fits, row_learning}
+use Rattle.solve_core.proofs.Order.{length-Extends}
+use Rattle.solve_core.proofs.boards.BoardLearner.learn.Given.{Over}
+use Rattle.solve_core.proofs.boards.BoardLearner.learn.Goals as goal
+
+pub push_changes-requires : goal.push_changes-requires
+push_changes-requires g c =
+    let b = trailed c.self.inside.lines c.self.inside.trail.items in
+    let is = learns_in c.args.side Rows c.args.i _ _ c.args.new.now b _ c.self.invariant c.self.view_is c.in-Rows.is c.requires.i
+    c.requires.more c.requires.changes in
+    record {
+      within = λ k has. omega (arith, (is.changes.to k has).0, length-Extends _ c.args.new.now is.more, c.requires.fits);
+      places = λ k has.
+          let fits = place_fits Rows _ _ _ _ _ _ c.self.invariant.size is k has in
+          rw (c.from-place.ensures, c.width-width.ensures.width) (omega (arith, fits));
+      room = omega (arith, c.self.invariant.grid.settled, c.self.invariant.room_is);
+    }
+
+trailed-in-Rows : (g : Over) (c : goal.After-push_changes g) → IsTrailed (trailed c.self.inside.lines c.self.inside.trail.items)
+    (trailed c.learn.new.self c.push_changes.new.trail.items)
+trailed-in-Rows g c =
+    let b = trailed c.self.inside.lines c.self.inside.trail.items in
+    let is = learns_in c.args.side Rows c.args.i _ _ c.args.new.now b _ c.self.invariant c.self.view_is c.in-Rows.is c.requires.i
+    c.requires.more c.requires.changes in
+    trail-learned c.learn.new.self b _ _ (c.push_changes.ensures.trail c.args.new.now b b.width
+    (row_learning b _ _ _ _ _ _ _ is refl (λ j. c.from-place.ensures j * c.width-width.ensures.width j)) refl)
+    (c.learn.ensures.cells ∙ (λ j. with_cells b.cells (places_on (c.in-Rows.is j) b.width b.height c.args.i) c.args.new.now) ∙
+    (λ j. with_cells b.cells (places_from (sym c.from-place.ensures j * sym c.width-width.ensures.width j) 1 b.width) c.args.new.now)) c.learn.ensures.width c.learn.ensures.height
+
+pub invariant_of-self : goal.invariant_of-self
+invariant_of-self g c =
+    board-learned c.learn.new.self (trailed c.self.inside.lines c.self.inside.trail.items) c.push_changes.new.trail.items _ _
+    c.self.invariant c.learn.ensures.width c.learn.ensures.height (trailed-in-Rows g c) c.push_changes.ensures.capacity
+
+pub returns-in-Rows-clause-trail : goal.returns-in-Rows-clause-trail
+returns-in-Rows-clause-trail g c = λ keeps.
+    subst (λ (b : TrailedGrid). IsTrailed b (trailed c.learn.new.self c.push_changes.new.trail.items)) c.self.view_is (trailed-in-Rows g c)
+
+pub push_changes-requires-in-Columns : goal.push_changes-requires-in-Columns
+push_changes-requires-in-Columns g c =
+    let b = trailed c.self.inside.lines c.self.inside.trail.items in
+    let is = learns_in c.args.side Columns c.args.i _ _ c.args.new.now b _ c.self.invariant c.self.view_is c.in-Columns.is c.requires.i
+    c.requires.more c.requires.changes in
+    record {
+      within = λ k has. omega (arith, (is.changes.to k has).0, length-Extends _ c.args.new.now is.more, c.requires.fits);
+      places = λ k has.
+          let fits = place_fits Columns _ _ _ _ _ _ c.self.invariant.size is k has in
+          rw (c.from-place.ensures, c.width-width.ensures.width) (omega (arith, fits));
+      room = omega (arith, c.self.invariant.grid.settled, c.self.invariant.room_is);
+    }
+
+trailed-in-Columns : (g : Over) (c : goal.After-push_changes-in-Columns g) → IsTrailed (trailed c.self.inside.lines c.self.inside.trail.items)
+    (trailed c.learn.new.self c.push_changes-in-Columns.new.trail.items)
+trailed-in-Columns g c =
+    let b = trailed c.self.inside.lines c.self.inside.trail.items in
+    let is = learns_in c.args.side Columns c.args.i _ _ c.args.new.now b _ c.self.invariant c.self.view_is c.in-Columns.is c.requires.i
+    c.requires.more c.requires.changes in
+    trail-learned c.learn.new.self b _ _ (c.push_changes-in-Columns.ensures.trail c.args.new.now b b.height
+    (column_learning b _ _ _ _ _ _ _ _ is refl c.from-place.ensures c.width-width.ensures.width) refl)
+    (c.learn.ensures.cells ∙ (λ j. with_cells b.cells (places_on (c.in-Columns.is j) b.width b.height c.args.i) c.args.new.now) ∙
+    (λ j. with_cells b.cells (places_from (sym c.from-place.ensures j) (sym c.width-width.ensures.width j) b.height) c.args.new.now)) c.learn.ensures.width c.learn.ensures.height
+
+pub invariant_of-self-in-Columns : goal.invariant_of-self-in-Columns
+invariant_of-self-in-Columns g c =
+    board-learned c.learn.new.self (trailed c.self.inside.lines c.self.inside.trail.items) c.push_changes-in-Columns.new.trail.items _ _
+    c.self.invariant c.learn.ensures.width c.learn.ensures.height (trailed-in-Columns g c) c.push_changes-in-Columns.ensures.capacity
+
+pub returns-in-Columns-clause-trail : goal.returns-in-Columns-clause-trail
+returns-in-Columns-clause-trail g c = λ keeps.
+    subst (λ (b : TrailedGrid). IsTrailed b (trailed c.learn.new.self c.push_changes-in-Columns.new.trail.items)) c.self.view_is (trailed-in-Columns g c)
