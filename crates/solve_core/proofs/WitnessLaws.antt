@@ -380,7 +380,7 @@ noted list place number trial colour h e k =
 pub meets-filled : (w : WitnessLists) (place number : ℕ) (trial : List Cell) → place < length w.fillable →
     get_or trial place Unknown ≡ Filled → AddsMet w (record w { fillable = set w.fillable place number }) number trial
 meets-filled w place number trial h e =
-    record { witnesses = refl; filled_count = length-set w.fillable place number; blank_count = refl; met = by }
+    record { witnesses = refl; room = refl; filled_count = length-set w.fillable place number; blank_count = refl; met = by }
   where
     by : (k : ℕ) (colour : Cell) →
         Noted (met_by w colour) (met_by (record w { fillable = set w.fillable place number }) colour) number trial colour k
@@ -392,7 +392,7 @@ meets-filled w place number trial h e =
 pub meets-blank : (w : WitnessLists) (place number : ℕ) (trial : List Cell) → place < length w.blankable →
     get_or trial place Unknown ≡ Blank → AddsMet w (record w { blankable = set w.blankable place number }) number trial
 meets-blank w place number trial h e =
-    record { witnesses = refl; filled_count = refl; blank_count = length-set w.blankable place number; met = by }
+    record { witnesses = refl; room = refl; filled_count = refl; blank_count = length-set w.blankable place number; met = by }
   where
     by : (k : ℕ) (colour : Cell) →
         Noted (met_by w colour) (met_by (record w { blankable = set w.blankable place number }) colour) number trial colour k
@@ -483,23 +483,20 @@ zeros n k = let none : ℕ = 0 in elim (cases_lt k n) [
 ]
 
 -- if all witnesses but the first are dropped and all numbers are 0, the numbers are those of witnesses
-pub forgotten : (w : WitnessLists) (fillable blankable : List ℕ) → AreNumbered w → fillable ≡ replicate (length w.fillable) 0 →
-    blankable ≡ replicate (length w.blankable) 0
-    → AreNumbered (record w { witnesses = take 1 w.witnesses; fillable = fillable; blankable = blankable })
-forgotten w fillable blankable n filled blank = record {
-  count = ap length blank ∙ length-replicate (length w.blankable) 0 ∙ n.count ∙
-      sym (ap length filled ∙ length-replicate (length w.fillable) 0);
-  none = ap (λ (q : Witness). q.counts) (get_or-take 1 w.witnesses 0 no_witness (omega arith)) ∙ n.none;
+pub forgotten : (w : WitnessLists) (n : ℕ) → AreNumbered w →
+    AreNumbered (record w { witnesses = take 1 w.witnesses; fillable = replicate n 0; blankable = replicate n 0 })
+forgotten w n is = record {
+  count = refl;
+  none = ap (λ (q : Witness). q.counts) (get_or-take 1 w.witnesses 0 no_witness (omega arith)) ∙ is.none;
   within = λ k c. by k c;
 }
   where
     some : 0 < length (take 1 w.witnesses)
-    some = let first = n.within 0 Unknown in omega (arith, length-take-le 1 w.witnesses (omega arith))
+    some = let first = is.within 0 Unknown in omega (arith, length-take-le 1 w.witnesses (omega arith))
 
-    by : (k : ℕ) (c : Cell) → get_or (met_by (record w { witnesses = take 1 w.witnesses; fillable = fillable; blankable = blankable }) c)
-        k 0 < length (take 1 w.witnesses)
+    by : (k : ℕ) (c : Cell) →
+        get_or (met_by (record w { witnesses = take 1 w.witnesses; fillable = replicate n 0; blankable = replicate n 0 }) c) k 0 <
+        length (take 1 w.witnesses)
     by k Unknown = some
-    by k Filled = let here : get_or fillable k 0 ≡ 0 = ap (λ (ks : List ℕ). get_or ks k 0) filled ∙ zeros (length w.fillable) k in
-        omega (arith, here, some)
-    by k Blank = let here : get_or blankable k 0 ≡ 0 = ap (λ (ks : List ℕ). get_or ks k 0) blank ∙ zeros (length w.blankable) k in
-        omega (arith, here, some)
+    by k Filled = omega (arith, zeros n k, some)
+    by k Blank = omega (arith, zeros n k, some)

@@ -64,12 +64,13 @@ fn try_colour<W: LineSet>(
 ) -> Trial
     requires rest { IsAtRest puzzle.now closer.old board.now.cells }
     requires witnesses { AreWitnesses puzzle.now witnesses.old board.now.cells }
+    requires room { witnesses.old.room ≡ puzzle.now.width * puzzle.now.height }
     requires size { IsBoardOf puzzle.now board.now }
     requires trial { IsBoardOf puzzle.now trial.old }
     requires cell { CanSettle board.now.cells place colour }
     ensures tried { IsTrialOf result (lines_of puzzle.now) board.now.cells place colour trial.new.cells }
     ensures witnesses { AreWitnesses puzzle.now witnesses.new board.now.cells }
-    ensures count { length witnesses.new.fillable ≡ length witnesses.old.fillable }
+    ensures room { witnesses.new.room ≡ witnesses.old.room }
     ensures rest { IsAtRest puzzle.now closer.new board.now.cells }
     ensures closed_rest { result ≡ Closed → IsAtRest puzzle.now closer.new trial.new.cells }
     ensures back { result ≡ Closed → cleared trial.new.cells trial.new.trail ≡ board.now.cells }

@@ -1,5 +1,5 @@
 //! Witnesses: trials of a grid that stayed alive, kept while the grid learns more.
-ghost use Rattle.std.specs.Prelude.{◌≡◌, ◌*◌, ◌<◌, ◌≤◌, ℕ, List, Some, length, slice_index_or, slice_set, true, false, IsTrue, IfOk};
+ghost use Rattle.std.specs.Prelude.{◌≡◌, ◌*◌, ◌<◌, ◌≤◌, ℕ, List, Some, length, replicate, vec_capacity, slice_index_or, slice_set, true, false, IsTrue, IfOk};
 ghost use Rattle.grid_core.specs.declared.cells.Cell.{Cell as CellValue};
 ghost use Rattle.grid_core.specs.declared.cells.Cell.TheVariants.{Unknown};
 ghost use Rattle.grid_core.specs.Cells.{Extends};
@@ -106,12 +106,26 @@ fn keep_each(witnesses: &mut [Witness], learned: &Crossed, holder: usize)
     }
 }
 
+/// Makes a list of so many zeros, each of which stands for no witness, in room that is made.
+fn fill_with_none(list: &mut Vec<u16>, count: usize)
+    requires { count ≤ vec_capacity list.old }
+    ensures items { list.new.items ≡ replicate count 0 }
+    ensures capacity { vec_capacity list.new ≡ vec_capacity list.old }
+{
+    list.clear();
+    for _ in 0..count {
+        list.push_reserved(0);
+    }
+}
+
 /// The witnesses of a grid, and for each cell and each of the two colours the number of one that met it
 /// there, in room that is made once. Witness 0 stands for none.
 pub struct Witnesses {
     witnesses: Vec<Witness>,
     fillable: Vec<u16>,
     blankable: Vec<u16>,
+    /// How many cells the puzzle has.
+    cells: usize,
 }
 
 /// A call of its own, so that a proof takes it as one step.
@@ -121,13 +135,15 @@ impl Drop for Witnesses {
             witnesses: _,
             fillable: _,
             blankable: _,
+            cells: _,
         } = self;
     }
 }
 
 impl Model for Witnesses {
     ghost use Rattle.solve_core.specs.steps.WitnessLists.{WitnessLists};
-    ghost use Rattle.solve_core.specs.steps.Witnesses.{AreNumbered};
+    ghost use Rattle.solve_core.specs.steps.Witnesses.{AreWithin};
+    ghost use Rattle.std.specs.Prelude.{vec_capacity};
 
     ghost Value = { WitnessLists };
 
@@ -135,13 +151,15 @@ impl Model for Witnesses {
       witnesses = w.witnesses.items;
       fillable = w.fillable.items;
       blankable = w.blankable.items;
+      room = w.cells;
     } };
 
-    ghost invariant = { λ w. AreNumbered (record {
+    ghost invariant = { λ w. AreWithin (record {
       witnesses = w.witnesses.items;
       fillable = w.fillable.items;
       blankable = w.blankable.items;
-    }) };
+      room = w.cells;
+    }) (vec_capacity w.fillable) (vec_capacity w.blankable) };
 }
 
 impl Witnesses {
@@ -151,17 +169,18 @@ impl Witnesses {
             witnesses,
             fillable,
             blankable,
+            cells: _,
         } = self;
         (witnesses, fillable, blankable)
     }
 
-    /// Makes the room, in proportion to the puzzle, of that of others, if there are any. There is no witness.
+    /// Makes the room, in proportion to the puzzle, of that of others, if there are any.
     pub fn new(
         alloc: Global,
         others: Option<Witnesses>,
         puzzle: &Puzzle,
     ) -> Result<Witnesses, NoMemory>
-        ensures { IfOk result (λ made. length made.fillable ≡ puzzle.now.width * puzzle.now.height) }
+        ensures { IfOk result (λ made. made.room ≡ puzzle.now.width * puzzle.now.height) }
     {
         let cells = usize::from(puzzle.width()) * usize::from(puzzle.height());
         let (witnesses, fillable, blankable) = match others {
@@ -171,29 +190,22 @@ impl Witnesses {
         let count = (cells * WITNESSES_PER_CELL).min(MOST_WITNESSES);
         let mut witnesses = emptied(alloc, witnesses, count)?;
         witnesses.push_reserved(Witness::none());
-        let mut fillable = emptied(alloc, fillable, cells)?;
-        fillable.resize(cells, 0)?;
-        let mut blankable = emptied(alloc, blankable, cells)?;
-        blankable.resize(cells, 0)?;
         Ok(Witnesses {
             witnesses,
-            fillable,
-            blankable,
+            fillable: emptied(alloc, fillable, cells)?,
+            blankable: emptied(alloc, blankable, cells)?,
+            cells,
         })
     }
 
-    /// Drops all witnesses, so that there is none for any grid with as many cells.
+    /// Drops all witnesses, so that there is none for any grid of the puzzle's size.
     pub fn forget(&mut self)
-        ensures witnesses { (p : Nonogram) (cells : List CellValue) → length cells ≡ length self.old.fillable →
-            AreWitnesses p self.new cells }
-        ensures count { length self.new.fillable ≡ length self.old.fillable }
+        ensures witnesses { (p : Nonogram) (cells : List CellValue) → length cells ≡ self.old.room → AreWitnesses p self.new cells }
+        ensures room { self.new.room ≡ self.old.room }
     {
-        if self.witnesses.len() == 1 {
-            return;
-        }
         self.witnesses.truncate(1);
-        self.fillable.fill(0);
-        self.blankable.fill(0);
+        fill_with_none(&mut self.fillable, self.cells);
+        fill_with_none(&mut self.blankable, self.cells);
     }
 
     /// The number of the witness that met a colour at a place, whether or not it counts.
@@ -253,8 +265,9 @@ impl Witnesses {
         requires closed { round (lines_of puzzle.now) trial.now.cells ≡ Some trial.now.cells }
         requires extends { Extends (cleared trial.now.cells trial.now.trail) trial.now.cells }
         requires witnesses { AreWitnesses puzzle.now self.old (cleared trial.now.cells trial.now.trail) }
+        requires room { self.old.room ≡ puzzle.now.width * puzzle.now.height }
         ensures witnesses { AreWitnesses puzzle.now self.new (cleared trial.now.cells trial.now.trail) }
-        ensures count { length self.new.fillable ≡ length self.old.fillable }
+        ensures room { self.new.room ≡ self.old.room }
     {
         let number = self.witnesses.len();
         if number == self.witnesses.capacity() || number >= MOST_WITNESSES {
@@ -288,7 +301,7 @@ impl Witnesses {
             (slice_set (cells_before board.now.cells board.now.trail mark) place colour) ≡ Some board.now.cells }
         requires witnesses { AreWitnesses puzzle.now self.old (cells_before board.now.cells board.now.trail mark) }
         ensures witnesses { AreWitnesses puzzle.now self.new board.now.cells }
-        ensures count { length self.new.fillable ≡ length self.old.fillable }
+        ensures room { self.new.room ≡ self.old.room }
     {
         let learned = Crossed::of_places(&board.trail()[mark..], puzzle.width());
         let holder = self.number_at(place, colour);

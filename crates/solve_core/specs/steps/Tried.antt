@@ -1,5 +1,5 @@
 -- What is known of the trials of a grid.
-use Rattle.std.specs.Prelude.{◌≡◌, ◌*◌, List, length}
+use Rattle.std.specs.Prelude.{◌≡◌, ◌*◌, List}
 use Rattle.grid_core.specs.declared.cells.Cell.{Cell}
 use Rattle.grid_core.specs.Nonogram.{Nonogram}
 use Rattle.solve_core.specs.steps.Boards.{IsBoardOf}
@@ -21,7 +21,7 @@ pub record HasRoomFor (p : Nonogram) (t : Tried) : Type 0 where
   pub memory : IsMemoryOf p t.closer
   pub filled : IsBoardOf p t.filled
   pub blank : IsBoardOf p t.blank
-  pub cells : length t.witnesses.fillable ≡ p.width * p.height
+  pub cells : t.witnesses.room ≡ p.width * p.height
 
 -- no line has more to give, and the witnesses are alive: what a trial of these cells starts from
 pub record IsReady (p : Nonogram) (t : Tried) (cells : List Cell) : Type 0 where

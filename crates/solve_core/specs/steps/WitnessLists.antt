@@ -4,12 +4,13 @@ use Rattle.grid_core.specs.declared.cells.Cell.{Cell}
 use Rattle.grid_core.specs.declared.cells.Cell.TheVariants.{Unknown, Filled, Blank}
 use Rattle.solve_core.specs.declared.witnesses.Witness.{Witness}
 
--- witnesses, and for each cell and each colour the number of a witness that met it there.
--- Witness 0 stands for none
+-- witnesses, for each cell and each colour the number of a witness that met it there, and for how many
+-- cells there is room. Witness 0 stands for none
 pub record WitnessLists : Type 0 where
   pub witnesses : List Witness
   pub fillable : List ℕ
   pub blankable : List ℕ
+  pub room : ℕ
 
 -- a witness that doesn't count
 abbrev pub no_witness : Witness

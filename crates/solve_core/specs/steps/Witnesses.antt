@@ -1,5 +1,5 @@
 -- Witnesses: trials of a grid that stayed alive, kept while the grid learns more.
-use Rattle.std.specs.Prelude.{◌≡◌, ◌⊎◌, ℕ, ◌/◌, ◌%◌, ◌<◌, Bool, true, false, List, length, Some, slice_index_or}
+use Rattle.std.specs.Prelude.{◌≡◌, ◌⊎◌, ℕ, ◌/◌, ◌%◌, ◌<◌, ◌≤◌, Bool, true, false, List, length, Some, slice_index_or}
 use Rattle.grid_core.specs.declared.cells.Cell.{Cell}
 use Rattle.grid_core.specs.declared.cells.Cell.TheVariants.{Unknown, Filled, Blank}
 use Rattle.grid_core.specs.Cells.{Extends}
@@ -49,6 +49,12 @@ pub record AreNumbered (w : WitnessLists) : Type 0 where
   pub none : (witness_at w.witnesses 0).counts ≡ false
   pub within : (k : ℕ) (colour : Cell) → slice_index_or (met_by w colour) k 0 < length w.witnesses
 
+-- the numbers are those of witnesses, and there is the room that is promised
+pub record AreWithin (w : WitnessLists) (fillable_room blankable_room : ℕ) : Type 0 where
+  pub numbered : AreNumbered w
+  pub fillable : w.room ≤ fillable_room
+  pub blankable : w.room ≤ blankable_room
+
 -- a witness that still counts did so, and it holds what was learned, or it shares no line with it
 pub record IsKept (learned : Crossed) (holds : Type 0) (old new : Witness) : Type 0 where
   pub lines : new.lines ≡ old.lines
@@ -58,6 +64,7 @@ pub record IsKept (learned : Crossed) (holds : Type 0) (old new : Witness) : Typ
 -- the colour
 pub record AddsMet (old new : WitnessLists) (number : ℕ) (trial : List Cell) : Type 0 where
   pub witnesses : new.witnesses ≡ old.witnesses
+  pub room : new.room ≡ old.room
   pub filled_count : length new.fillable ≡ length old.fillable
   pub blank_count : length new.blankable ≡ length old.blankable
   pub met : (k : ℕ) (colour : Cell) → (slice_index_or (met_by new colour) k 0 ≡ slice_index_or (met_by old colour) k 0)

@@ -1,5 +1,5 @@
 -- `Trials::try_at_rest`: without witnesses each that counts is alive.
-use Rattle.std.proofs.Common.{◌∙◌, length, ap, sym, subst}
+use Rattle.std.proofs.Common.{◌∙◌, ap, sym, subst}
 use Rattle.solve_core.specs.steps.Marks.{IsAtRest}
 use Rattle.solve_core.specs.steps.Tried.{Tried}
 use Rattle.solve_core.proofs.trials.Trials.try_at_rest.Goals as goal
@@ -11,5 +11,5 @@ try_until_same-requires-clause-ready g c =
     record {
       rest = subst (λ (t : Tried). IsAtRest p t.closer cells) (sym c.self.view_is) c.requires.rest;
       witnesses = c.forget.ensures.witnesses p cells (c.requires.size.2 ∙ sym c.requires.room.cells ∙
-          ap (λ (t : Tried). length t.witnesses.fillable) (sym c.self.view_is));
+          ap (λ (t : Tried). t.witnesses.room) (sym c.self.view_is));
     }

@@ -10,6 +10,7 @@ pub try_colour-filled-requires : goal.try_colour-filled-requires
 try_colour-filled-requires g c = record {
   rest = (rw (← c.self.view_is) at c.requires.ready).rest;
   witnesses = (rw (← c.self.view_is) at c.requires.ready).witnesses;
+  room = (rw (← c.self.view_is) at c.requires.room).cells;
   size = c.requires.size;
   trial = (rw (← c.self.view_is) at c.requires.room).filled;
   cell = record { within = c.requires.place; unknown = c.requires.unknown; known = refl };
@@ -21,7 +22,7 @@ keep_colour-requires g c =
     let room = rw (← c.self.view_is) at c.requires.room in
     record {
       ready = record { rest = last.rest; witnesses = last.witnesses };
-      room = record { memory = last.rest.idle.memory; filled = last.trial; blank = room.blank; cells = last.count ∙ room.cells };
+      room = record { memory = last.rest.idle.memory; filled = last.trial; blank = room.blank; cells = last.room ∙ room.cells };
       size = c.requires.size;
       cell = record { within = c.requires.place; unknown = c.requires.unknown; known = refl };
       below = blank_below (lines_of c.args.puzzle.now) c.args.board.now.cells c.args.place c.requires.place
@@ -33,6 +34,7 @@ pub try_colour-blank-requires : goal.try_colour-blank-requires
 try_colour-blank-requires g c = record {
   rest = c.try_colour-filled.ensures.rest;
   witnesses = c.try_colour-filled.ensures.witnesses;
+  room = c.try_colour-filled.ensures.room ∙ (rw (← c.self.view_is) at c.requires.room).cells;
   size = c.requires.size;
   trial = (rw (← c.self.view_is) at c.requires.room).blank;
   cell = record { within = c.requires.place; unknown = c.requires.unknown; known = refl };
@@ -58,7 +60,7 @@ returns-then-not-is_refuted g c =
         memory = last.rest.idle.memory;
         filled = c.try_colour-filled.ensures.trial;
         blank = last.trial;
-        cells = last.count ∙ c.try_colour-filled.ensures.count ∙ room.cells;
+        cells = last.room ∙ c.try_colour-filled.ensures.room ∙ room.cells;
       };
     }
 
@@ -68,7 +70,7 @@ keep_colour-requires-2 g c =
     let room = rw (← c.self.view_is) at c.requires.room in
     record {
       ready = record { rest = last.rest; witnesses = last.witnesses };
-      room = record { memory = last.rest.idle.memory; filled = c.try_colour-filled.ensures.trial; blank = last.trial; cells = last.count ∙ c.try_colour-filled.ensures.count ∙ room.cells };
+      room = record { memory = last.rest.idle.memory; filled = c.try_colour-filled.ensures.trial; blank = last.trial; cells = last.room ∙ c.try_colour-filled.ensures.room ∙ room.cells };
       size = c.requires.size;
       cell = record { within = c.requires.place; unknown = c.requires.unknown; known = refl };
       below = filled_below (lines_of c.args.puzzle.now) c.args.board.now.cells c.args.place c.requires.place

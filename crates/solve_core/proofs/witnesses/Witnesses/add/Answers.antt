@@ -15,8 +15,13 @@ invariant_of-self g c =
       witnesses = inside.witnesses.items;
       fillable = inside.fillable.items;
       blankable = inside.blankable.items;
+      room = inside.cells;
     } in
-    rw c.push_reserved.ensures.items (added_numbered w (record { lines = c.of_places-lines.result; counts = true }) c.self.invariant)
+    record {
+      numbered = rw c.push_reserved.ensures.items (added_numbered w (record { lines = c.of_places-lines.result; counts = true }) c.self.invariant.numbered);
+      fillable = c.self.invariant.fillable;
+      blankable = c.self.invariant.blankable;
+    }
 
 pub meet_settled-requires-clause-cells : goal.meet_settled-requires-clause-cells
 meet_settled-requires-clause-cells g c =
@@ -33,6 +38,7 @@ returns-clause-witnesses g c =
       witnesses = inside.witnesses.items;
       fillable = inside.fillable.items;
       blankable = inside.blankable.items;
+      room = inside.cells;
     } in
     let cells = c.args.trial.now.cells in
     let trail = c.args.trial.now.trail in
@@ -46,9 +52,10 @@ returns-clause-witnesses g c =
     let count : c.len-number.result ≡ length w.witnesses = omega (arith, c.len-number.ensures, inside.witnesses.ok.0) in
     let adds : AddsMet (record w { witnesses = w.witnesses ++ last ∷ [] }) c.meet_settled.new.self (length w.witnesses) cells =
     rw (c.push_reserved.ensures.items, count) at c.meet_settled.ensures in
-    added_witnesses p w c.meet_settled.new.self g cells last c.self.invariant c.requires.closed c.requires.extends differ are adds
+    added_witnesses p w c.meet_settled.new.self g cells last c.self.invariant.numbered c.requires.closed c.requires.extends differ are adds
 
 pub returns-then-number-capacity-clause-witnesses : goal.returns-then-number-capacity-clause-witnesses
 returns-then-number-capacity-clause-witnesses g c =
     let before = cleared c.args.trial.now.cells c.args.trial.now.trail in
-    c.forget.ensures.witnesses c.args.puzzle.now before (places_for c.args.puzzle.now c.args.self.now before c.requires.witnesses)
+    c.forget.ensures.witnesses c.args.puzzle.now before
+    (length-Extends before c.args.trial.now.cells c.requires.extends ∙ c.requires.size.2 ∙ sym c.requires.room)

@@ -33,14 +33,19 @@ invariant_of-self g c =
       witnesses = inside.witnesses.items;
       fillable = inside.fillable.items;
       blankable = inside.blankable.items;
+      room = inside.cells;
     } in
     let after = c.keep_each.new.witnesses in
     let items : (with_items inside.witnesses after).items ≡ after =
     with_items_is inside.witnesses after (c.keep_each.auto.witnesses ∙ c.deref_mut.ensures.len) in
     let same : length after ≡ length w.witnesses = c.keep_each.auto.witnesses ∙ ap length c.deref_mut.ensures.value in
-    subst (λ (witnesses : List Witness). AreNumbered (record w { witnesses = witnesses })) (sym items)
-    (kept_numbered w after c.of_places-learned.result c.number_at-holder.result c.self.invariant same
-    (rw c.deref_mut.ensures.value at c.keep_each.ensures))
+    record {
+      numbered = subst (λ (witnesses : List Witness). AreNumbered (record w { witnesses = witnesses })) (sym items)
+          (kept_numbered w after c.of_places-learned.result c.number_at-holder.result c.self.invariant.numbered same
+          (rw c.deref_mut.ensures.value at c.keep_each.ensures));
+      fillable = c.self.invariant.fillable;
+      blankable = c.self.invariant.blankable;
+    }
 
 pub returns-clause-witnesses : goal.returns-clause-witnesses
 returns-clause-witnesses g c =
@@ -49,6 +54,7 @@ returns-clause-witnesses g c =
       witnesses = inside.witnesses.items;
       fillable = inside.fillable.items;
       blankable = inside.blankable.items;
+      room = inside.cells;
     } in
     let cells = c.args.board.now.cells in
     let learned = drop c.args.mark c.args.board.now.trail in
@@ -68,7 +74,7 @@ returns-clause-witnesses g c =
     cleared_within p.width cells learned lines
     (rw (c.trail.ensures.trail, c.width.ensures.width, take_rest c.args.board.now.trail c.args.mark) at c.of_places-learned.ensures) in
     subst (λ (witnesses : List Witness). AreWitnesses p (record w { witnesses = witnesses }) cells) (sym items)
-    (kept_witnesses p w after g cells lines c.number_at-holder.result c.args.place c.args.colour c.width.ensures.puzzle c.self.invariant
+    (kept_witnesses p w after g cells lines c.number_at-holder.result c.args.place c.args.colour c.width.ensures.puzzle c.self.invariant.numbered
     (length-Extends g cells more ∙ c.requires.size.2) c.requires.settled more differ
     are holder same
     (rw c.deref_mut.ensures.value at c.keep_each.ensures))
