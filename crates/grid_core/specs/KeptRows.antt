@@ -1,5 +1,5 @@
 -- Rows as a grid keeps them: two sets of places each, and no length.
-use Rattle.std.specs.Prelude.{◌<◌, ℕ, List, length, map, slice_index_or}
+use Rattle.std.specs.Prelude.{◌<◌, ◌≤◌, ◌-◌, ℕ, List, ◌++◌, length, map, replicate, slice_index_or}
 use Rattle.place_sets.specs.Masks.{Has, number_of}
 use Rattle.grid_core.specs.declared.cells.Cell.{Cell}
 use Rattle.grid_core.specs.declared.rows.Row.{Row}
@@ -17,6 +17,16 @@ rows_cells width rows = map (row_cells width) rows
 abbrev pub IsRow : Row → Type 0
 IsRow row = (x : ℕ) → Has (number_of row.filled) x → Has (number_of row.blank) x → ⊥
 
--- each of the rows is one
-abbrev pub AreRows : List Row → Type 0
-AreRows rows = (y : ℕ) → y < length rows → (row : Row) → IsRow (slice_index_or rows y row)
+-- a row of which nothing is known
+abbrev pub unknown_row : Row
+unknown_row = record { filled = record { low = 0; high = 0 }; blank = record { low = 0; high = 0 } }
+
+-- `height` rows, or more if more were written: below the written ones nothing is known
+abbrev pub all_rows : ℕ → List Row → List Row
+all_rows height rows = rows ++ replicate (height - length rows) unknown_row
+
+-- each of the rows that were written is one, of `height` at most, with room for all
+pub record AreRows (height : ℕ) (rows : List Row) (room : ℕ) : Type 0 where
+  pub each : (y : ℕ) → y < length rows → (row : Row) → IsRow (slice_index_or rows y row)
+  pub written : length rows ≤ height
+  pub room_is : height ≤ room

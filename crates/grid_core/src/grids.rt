@@ -1,8 +1,9 @@
 //! Partly known grids.
 
-ghost use Rattle.std.specs.Prelude.{◌≡◌, ℕ, ◌+◌, ◌*◌, ◌/◌, ◌%◌, ◌<◌, ◌≤◌, length, replicate, count_by, position, option_map, IfOk, slice_index_or, slice_set};
+ghost use Rattle.std.specs.Prelude.{◌≡◌, ℕ, ◌+◌, ◌*◌, ◌/◌, ◌%◌, ◌<◌, ◌≤◌, length, replicate, count_by, position, option_map, vec_capacity, IfOk, slice_index_or, slice_set};
 ghost use Rattle.grid_core.specs.Cells.{is_known, is_unknown};
 ghost use Rattle.grid_core.specs.PartialGrid.{PartialGrid, cell_at, IsSize, place};
+ghost use Rattle.grid_core.specs.KeptRows.{all_rows};
 ghost use Rattle.grid_core.specs.Rows.{row_of, with_row};
 ghost use Rattle.grid_core.specs.declared.cells.Cell.TheVariants.{Unknown};
 
@@ -16,27 +17,44 @@ use std::marker::Model;
 #[derive(Debug)]
 pub struct Grid {
     width: u16,
+    height: u16,
+    /// The rows that were written, from the top, with room for all. Nothing is known of those below.
     rows: Vec<Row>,
 }
 
 /// A call of its own, so that a proof takes it as one step.
 impl Drop for Grid {
     fn drop(self) {
-        let Grid { width: _, rows: _ } = self;
+        let Grid {
+            width: _,
+            height: _,
+            rows: _,
+        } = self;
     }
 }
 
 impl Model for Grid {
-    ghost use Rattle.std.specs.Prelude.{length, slice_index_or};
+    ghost use Rattle.std.specs.Prelude.{vec_capacity};
     ghost use Rattle.grid_core.specs.PartialGrid.{PartialGrid, IsSize};
     ghost use Rattle.grid_core.specs.Rows.{cells_of_rows};
-    ghost use Rattle.grid_core.specs.KeptRows.{AreRows, rows_cells};
+    ghost use Rattle.grid_core.specs.KeptRows.{AreRows, all_rows, rows_cells};
 
     ghost Value = { PartialGrid };
 
-    ghost view = { λ g. record { width = g.width; height = length g.rows.items; cells = cells_of_rows (rows_cells g.width g.rows.items) } };
+    ghost view = { λ g. record { width = g.width; height = g.height; cells = cells_of_rows (rows_cells g.width (all_rows g.height g.rows.items)) } };
 
-    ghost invariant = { λ g. IsSize g.width (length g.rows.items) × AreRows g.rows.items };
+    ghost invariant = { λ g. IsSize g.width g.height × AreRows g.height g.rows.items (vec_capacity g.rows) };
+}
+
+/// Adds rows of which nothing is known, in room that is made, until there are `count` rows.
+fn fill_up(rows: &mut Vec<Row>, count: usize)
+    requires { count ≤ vec_capacity rows.old }
+    ensures rows { rows.new.items ≡ all_rows count rows.old.items }
+    ensures room { vec_capacity rows.new ≡ vec_capacity rows.old }
+{
+    for _ in 0..count.saturating_sub(rows.len()) {
+        rows.push_reserved(Row::unknown());
+    }
 }
 
 impl Grid {
@@ -45,10 +63,10 @@ impl Grid {
         requires { IsSize width height }
         ensures { IfOk result (λ g. g ≡ record { width = width; height = height; cells = replicate (width * height) Unknown }) }
     {
-        let row = Row::of(&LineOf::<Wide>::unknown(width));
         Ok(Grid {
             width,
-            rows: vec![in alloc; row; usize::from(height)]?,
+            height,
+            rows: Vec::with_capacity(alloc, usize::from(height))?,
         })
     }
 
@@ -65,7 +83,7 @@ impl Grid {
     pub fn height(&self) -> u16
         ensures { result ≡ self.now.height }
     {
-        self.rows.len() as u16
+        self.height
     }
 
     /// The cells of row y, from 0 at the top.
@@ -74,7 +92,10 @@ impl Grid {
         ensures row { result ≡ row_of self.now y }
         ensures count { length self.now.cells ≡ self.now.width * self.now.height }
     {
-        self.rows[usize::from(y)].line(self.width)
+        match self.rows.get(usize::from(y)) {
+            Some(row) => row.line(self.width),
+            None => LineOf::unknown(self.width),
+        }
     }
 
     /// What is known of the cell in column x, from 0 at the left, and row y, from 0 at the top.
@@ -133,7 +154,9 @@ impl Grid {
         ensures row { self.new ≡ with_row self.old y line.now }
         ensures count { length self.old.cells ≡ self.old.width * self.old.height }
     {
-        self.rows[usize::from(y)] = Row::of(line);
+        let place = usize::from(y);
+        fill_up(&mut self.rows, place + 1);
+        self.rows[place] = Row::of(line);
     }
 
     /// Takes over the cells of row y into a line, which has as many.
@@ -164,7 +187,7 @@ impl Grid {
     pub fn first_unknown(&self) -> Option<(u16, u16)>
         ensures { result ≡ option_map (λ k. (k % self.now.width, k / self.now.width)) (position is_unknown self.now.cells) }
     {
-        for y in 0..self.rows.len() as u16 {
+        for y in 0..self.height {
             if let Some(x) = self.row(y).first_unknown(0) {
                 return Some((x, y));
             }
@@ -176,9 +199,12 @@ impl Grid {
     pub fn copy(&self, alloc: Global) -> Result<Grid, NoMemory>
         ensures { IfOk result (λ g. g ≡ self.now) }
     {
+        let mut rows = self.rows.clone()?;
+        rows.reserve(usize::from(self.height) - rows.len())?;
         Ok(Grid {
             width: self.width,
-            rows: self.rows.clone()?,
+            height: self.height,
+            rows,
         })
     }
 }

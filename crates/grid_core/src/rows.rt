@@ -1,7 +1,7 @@
 //! Rows of a grid, which knows how long they are.
 
 ghost use Rattle.std.specs.Prelude.{◌≡◌, ◌≤◌, length};
-ghost use Rattle.grid_core.specs.KeptRows.{IsRow, row_cells};
+ghost use Rattle.grid_core.specs.KeptRows.{IsRow, row_cells, unknown_row};
 
 use crate::LineOf;
 use place_sets::{PlaceSet, Wide};
@@ -14,6 +14,16 @@ pub(crate) struct Row {
 }
 
 impl Row {
+    /// A row of which nothing is known.
+    pub(crate) fn unknown() -> Row
+        ensures { result ≡ unknown_row }
+    {
+        Row {
+            filled: Wide::empty(),
+            blank: Wide::empty(),
+        }
+    }
+
     /// The cells of a line.
     pub(crate) fn of<W: PlaceSet>(line: &LineOf<W>) -> Row
         ensures cells { row_cells (length line.now) result ≡ line.now }

@@ -24,7 +24,7 @@ returns-in-Some c =
     let row = c.row.ensures.row in
     let lx : x < w = omega (arith, found.1, ap length row, length-row_of g y) in
     let ly : y < g.height =
-    omega (arith, c.loop-y-test.true, c.len-y-end.ensures, c.self.inside.rows.ok.0, ap (λ (g : PartialGrid). g.height) c.self.view_is) in
+    omega (arith, c.loop-y-test.true, ap (λ (g : PartialGrid). g.height) c.self.view_is) in
     let within : y * w + x < length g.cells = omega (arith, place-within w g.height x y lx ly, c.row.ensures.count) in
     let here : get_or g.cells (y * w + x) Unknown ≡ Unknown =
     sym (get_or-row_of g x y lx) ∙ ap (λ (r : List Cell). get_or r x Unknown) (sym row) ∙ found.2 in
@@ -47,7 +47,7 @@ pub returns : goal.returns
 returns c =
     let g = c.args.self.now in
     let high : g.height ≤ c.loop-y.y =
-    omega (arith, c.loop-y-test.false, c.len-y-end.ensures, c.self.inside.rows.ok.0, ap (λ (g : PartialGrid). g.height) c.self.view_is) in
-    let count : length g.cells ≡ g.width * g.height = rw (← c.self.view_is) (count-cells c.self.inside.width c.self.inside.rows.items) in
+    omega (arith, c.loop-y-test.false, ap (λ (g : PartialGrid). g.height) c.self.view_is) in
+    let count : length g.cells ≡ g.width * g.height = rw (← c.self.view_is) (count-cells c.self.inside.width c.self.inside.height c.self.inside.rows.items c.self.invariant.1.written) in
     let none = position_none g.cells (λ k l. c.loop-y.invariant k (omega (arith, l, count, mul-le-mul_left g.width high))) in
     sym (ap (option_map (λ (k : ℕ). (k % g.width, k / g.width))) none)

@@ -1,0 +1,10 @@
+-- What the loop of `fill_up` keeps: rows of which nothing is known were added, in the room that was there.
+use Rattle.std.proofs.Common.{◌≡◌, ◌++◌, replicate, vec_capacity}
+use Rattle.grid_core.specs.KeptRows.{unknown_row}
+use Rattle.grid_core.proofs.grids.fill_up.Given as goal
+
+abbrev pub invariant-loop : goal.invariant-loop
+invariant-loop l = record {
+  items : l.rows.items ≡ l.initial.rows.items ++ replicate l.counter unknown_row;
+  room : vec_capacity l.rows ≡ vec_capacity l.initial.rows;
+}
