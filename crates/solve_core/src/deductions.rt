@@ -237,6 +237,7 @@ impl<W: LineSet> Deductions<W> {
 
     /// What is certain of line i of a side of the puzzle with these cells: what all placings of its clue
     /// share, or none if there is no placing.
+    // Called, it would copy its answer.
     #[inline(always)]
     pub fn deduce(
         &mut self,

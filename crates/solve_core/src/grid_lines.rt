@@ -348,6 +348,8 @@ impl<W: LineSet> Learner<W> for GridLines<W> {
         }
     }
 
+    // Called, it has the new line in memory, whose fields the processor would wait for.
+    #[inline(always)]
     fn learn(&mut self, side: Side, i: u16, new: &LineOf<W>, changes: W) {
         let place = usize::from(i);
         match side {
