@@ -25,6 +25,7 @@ use grid_core::{Cell, NoMemory, Puzzle};
 use line_core::LineSet;
 use std::alloc::Global;
 use std::marker::Model;
+use std::mem;
 
 /// What a trial of a colour at an unknown cell came to.
 #[derive(Clone, Copy)]
@@ -232,7 +233,7 @@ impl<W: LineSet> Trials<W> {
         if filled.is_closed() {
             self.witnesses
                 .keep(puzzle, &self.filled_trial, 0, place, Cell::Filled);
-            board.restart_from(&self.filled_trial);
+            mem::swap(board, &mut self.filled_trial);
             return Progress::Changed;
         }
         self.keep_colour(puzzle, board, place, Cell::Filled)

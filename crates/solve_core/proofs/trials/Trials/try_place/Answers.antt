@@ -88,7 +88,7 @@ returns-then-is_closed-clause-progress g c =
     let below = filled_below lines g k c.requires.place
     (trial-refuted c.try_colour-blank.result lines g c.try_colour-blank.new.trial.cells k Blank
     (c.is_refuted-2.ensures.0 c.if-not-is_refuted.false) c.try_colour-blank.ensures.tried) in
-    rw (ap (λ (g : TrailedGrid). g.cells) c.restart_from.ensures)
+    rw (ap (λ (g : TrailedGrid). g.cells) c.swap.ensures.x_after)
     (settle-changed lines g c.try_colour-filled.new.trial.cells k Filled c.requires.place c.requires.unknown refl below closed)
 
 pub returns-then-is_refuted : goal.returns-then-is_refuted
