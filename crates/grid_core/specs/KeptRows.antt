@@ -1,5 +1,5 @@
 -- Rows as a grid keeps them: two sets of places each, and no length.
-use Rattle.std.specs.Prelude.{◌<◌, ◌≤◌, ◌-◌, ℕ, List, ◌++◌, length, map, replicate, slice_index_or}
+use Rattle.std.specs.Prelude.{◌≡◌, ◌<◌, ◌≤◌, ◌-◌, ℕ, List, [], ◌++◌, length, map, replicate, slice_index_or}
 use Rattle.place_sets.specs.Masks.{Has, number_of}
 use Rattle.grid_core.specs.declared.cells.Cell.{Cell}
 use Rattle.grid_core.specs.declared.rows.Row.{Row}
@@ -30,3 +30,10 @@ pub record AreRows (height : ℕ) (rows : List Row) (room : ℕ) : Type 0 where
   pub each : (y : ℕ) → y < length rows → (row : Row) → IsRow (slice_index_or rows y row)
   pub written : length rows ≤ height
   pub room_is : height ≤ room
+
+-- there is a row for each of these lines, with its cells
+pub record AreRowsOf (lines : List (List Cell)) (rows : List Row) : Type 0 where
+  pub count : length rows ≡ length lines
+  pub each : (y : ℕ) → y < length rows → (row : Row) → IsRow (slice_index_or rows y row)
+  pub cells : (y : ℕ) → y < length rows → (row : Row) →
+      row_cells (length (slice_index_or lines y [])) (slice_index_or rows y row) ≡ slice_index_or lines y []

@@ -1,10 +1,10 @@
 //! Partly known grids.
 
-ghost use Rattle.std.specs.Prelude.{◌≡◌, ℕ, ◌+◌, ◌*◌, ◌/◌, ◌%◌, ◌<◌, ◌≤◌, length, replicate, count_by, position, option_map, vec_capacity, IfOk, slice_index_or, slice_set};
+ghost use Rattle.std.specs.Prelude.{◌≡◌, ℕ, ◌+◌, ◌*◌, ◌/◌, ◌%◌, ◌<◌, ◌≤◌, [], length, replicate, count_by, position, option_map, vec_capacity, IfOk, slice_index_or, slice_set};
 ghost use Rattle.grid_core.specs.Cells.{is_known, is_unknown};
 ghost use Rattle.grid_core.specs.PartialGrid.{PartialGrid, cell_at, IsSize, place};
-ghost use Rattle.grid_core.specs.KeptRows.{all_rows};
-ghost use Rattle.grid_core.specs.Rows.{row_of, with_row};
+ghost use Rattle.grid_core.specs.KeptRows.{all_rows, AreRowsOf};
+ghost use Rattle.grid_core.specs.Rows.{cells_of_rows, row_of, with_row};
 ghost use Rattle.grid_core.specs.declared.cells.Cell.TheVariants.{Unknown};
 
 use crate::rows::Row;
@@ -54,6 +54,18 @@ fn fill_up(rows: &mut Vec<Row>, count: usize)
 {
     for _ in 0..count.saturating_sub(rows.len()) {
         rows.push_reserved(Row::unknown());
+    }
+}
+
+/// Writes rows with the cells of lines in place of others, in room that is made.
+fn write_all<W: PlaceSet>(rows: &mut Vec<Row>, lines: &[LineOf<W>])
+    requires { length lines.now ≤ vec_capacity rows.old }
+    ensures rows { AreRowsOf lines.now rows.new.items }
+    ensures room { vec_capacity rows.new ≡ vec_capacity rows.old }
+{
+    rows.clear();
+    for line in lines {
+        rows.push_reserved(Row::of(line));
     }
 }
 
@@ -157,6 +169,15 @@ impl Grid {
         let place = usize::from(y);
         fill_up(&mut self.rows, place + 1);
         self.rows[place] = Row::of(line);
+    }
+
+    /// Changes what is known of all cells, which become those of lines, one for each row.
+    pub fn write_rows<W: PlaceSet>(&mut self, lines: &[LineOf<W>])
+        requires height { length lines.now ≡ self.old.height }
+        requires widths { (y : ℕ) → y < length lines.now → length (slice_index_or lines.now y []) ≡ self.old.width }
+        ensures { self.new ≡ record self.old { cells = cells_of_rows lines.now } }
+    {
+        write_all(&mut self.rows, lines);
     }
 
     /// Takes over the cells of row y into a line, which has as many.

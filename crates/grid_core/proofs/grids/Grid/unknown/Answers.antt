@@ -16,6 +16,6 @@ returns c =
       width = w;
       height = h;
       cells = (ap (λ (rows : List Row). cells_of_rows (rows_cells w (all_rows h rows))) c.in_ok-with_capacity.ensures.items
-      ∙ ap (λ (n : ℕ). cells_of_rows (rows_cells w (replicate n unknown_row))) all
-      ∙ cells-unknown (row_cells w) unknown_row w h (unknown-cells w)) i;
+          ∙ ap (λ (n : ℕ). cells_of_rows (rows_cells w (replicate n unknown_row))) all
+          ∙ cells-unknown (row_cells w) unknown_row w h (unknown-cells w)) i;
     }
