@@ -329,9 +329,7 @@ impl<W: LineSet> GridLines<W> {
         requires height { grid.old.height ≡ self.now.height }
         ensures { grid.new ≡ self.now }
     {
-        for y in 0..self.rows.len() {
-            grid.write_row(y as u16, &self.rows[y]);
-        }
+        grid.write_rows(&self.rows);
     }
 }
 
