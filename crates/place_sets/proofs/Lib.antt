@@ -8,4 +8,3 @@ pub mod Halves
 pub mod Doubling
 pub mod LevelSteps
 pub mod Uses
-pub mod Marking

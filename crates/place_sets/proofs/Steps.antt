@@ -39,7 +39,7 @@ or_is P Q a b p q = record {
     by i zero e h = inr (q.to i (omega (arith, bit_at-lt b i)))
     by i (suc z) e h = inl (p.to i (omega (arith, bit_at-lt a i)))
 
-bit_at_shr : (a s i : ℕ) → bit_at (a / 2 ^ s) i ≡ bit_at a (i + s)
+pub bit_at_shr : (a s i : ℕ) → bit_at (a / 2 ^ s) i ≡ bit_at a (i + s)
 bit_at_shr a s i =
     let e : s + i ≡ i + s = omega arith in
     ap (λ (z : ℕ). z % 2) (shr-shr a s i ∙ ap (λ (z : ℕ). a / 2 ^ z) e)

@@ -3,23 +3,24 @@ use Rattle.std.proofs.Common.{◌≡◌, ℕ, zero, suc, ◌+◌, ◌-◌, ◌<�
 use Rattle.place_sets.specs.Masks.{Has, IsMaskOf, IsShifted, IsReversed, IsFlooded}
 use Rattle.place_sets.proofs.Steps.{mask_same}
 
-pub flooded_more : (P Q R S : ℕ → Type 0) → ((i : ℕ) → P i → R i) → ((i : ℕ) → Q i → S i) → (i : ℕ) → IsFlooded P Q i → IsFlooded R S i
-flooded_more P Q R S f g zero h = f 0 h
-flooded_more P Q R S f g (suc i) (inl h) = inl (f (suc i) h)
-flooded_more P Q R S f g (suc i) (inr h) = inr (g (suc i) h.0, flooded_more P Q R S f g i h.1)
+pub flooded_within : (P Q R S : ℕ → Type 0) (i : ℕ) → ((k : ℕ) → k ≤ i → P k → R k) → ((k : ℕ) → k ≤ i → Q k → S k) → IsFlooded P Q i
+    → IsFlooded R S i
+flooded_within P Q R S zero f g h = f 0 (omega arith) h
+flooded_within P Q R S (suc i) f g (inl h) = inl (f (suc i) (omega arith) h)
+flooded_within P Q R S (suc i) f g (inr h) =
+    inr (g (suc i) (omega arith) h.0, flooded_within P Q R S i (λ k b. f k (omega arith)) (λ k b. g k (omega arith)) h.1)
 
 -- a flood of what amounts to the same
 pub flood_same : (P Q R S : ℕ → Type 0) (m : ℕ) → ((i : ℕ) → P i → R i) → ((i : ℕ) → R i → P i) → ((i : ℕ) → Q i → S i)
     → ((i : ℕ) → S i → Q i)
     → IsMaskOf (IsFlooded P Q) m → IsMaskOf (IsFlooded R S) m
-flood_same P Q R S m a b c d p = mask_same (IsFlooded P Q) (IsFlooded R S) m p (flooded_more P Q R S a c) (flooded_more R S P Q b d)
+flood_same P Q R S m a b c d p =
+    mask_same _ _ m p (λ i. flooded_within P Q R S i (λ k l. a k) (λ k l. c k)) (λ i. flooded_within R S P Q i (λ k l. b k) (λ k l. d k))
 
 -- a flood from the sources that a mask has
 pub flood_from : (P Free : ℕ → Type 0) (sources m : ℕ) → IsMaskOf P sources → IsMaskOf (IsFlooded (Has sources) Free) m
     → IsMaskOf (IsFlooded P Free) m
-flood_from P Free sources m p q =
-    mask_same (IsFlooded (Has sources) Free) (IsFlooded P Free) m q (flooded_more (Has sources) Free P Free p.to (λ i h. h))
-    (flooded_more P Free (Has sources) Free p.from (λ i h. h))
+flood_from P Free sources m p = flood_same (Has sources) Free P Free m p.to p.from (λ i h. h) (λ i h. h)
 
 -- if both masks have what they should, so has the part that they share
 pub meet_of : (P Q : ℕ → Type 0) (a b m : ℕ) → IsMaskOf P a → IsMaskOf Q b → IsMaskOf (λ i. Has a i × Has b i) m

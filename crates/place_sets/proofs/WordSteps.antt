@@ -1,15 +1,16 @@
 -- What one step on a word comes to, as a set of places.
-use Rattle.std.proofs.Common.{◌≡◌, ◌≢◌, ℕ, zero, suc, ◌+◌, ◌-◌, ◌*◌, ◌/◌, ◌%◌, ◌^◌, ◌<◌, ◌≤◌, ◌⊎◌, inl, inr, Bool, true, false, refl, sym, ap, ◌∙◌, arith}
+use Rattle.std.proofs.Common.{◌≡◌, ◌≢◌, ℕ, zero, suc, ◌+◌, ◌-◌, ◌*◌, ◌/◌, ◌%◌, ◌^◌, ◌<◌, ◌≤◌, ◌⊎◌, inl, inr, Bool, true, false, refl, sym, ap, ◌∙◌, arith, min, cond, nat_eq}
 use Rattle.std.specs.Int.{bit_at, w64, w128}
 use Rattle.std.specs.Int.Bits.{bit_xor}
 use Rattle.std.specs.Int.RustNames.{bit_and, bit_or}
-use Rattle.std.proofs.lemmas.Bool.{cases_lt}
-use Rattle.std.proofs.lemmas.Nat.Bits.{bit_at_xor, bit_at_not, bit_at-lt, bit_at-zero, bit_at_ones, bit_at_ones_above, bit_at_cat_high}
-use Rattle.std.proofs.lemmas.Nat.{pow-add}
+use Rattle.std.proofs.lemmas.Bool.{cases_lt, cases_eq}
+use Rattle.std.proofs.lemmas.Bool.Decides.{nat_tests}
+use Rattle.std.proofs.lemmas.Nat.Bits.{bit_at_and, bit_at_or, bit_at_above, bit_at_xor, bit_at_not, bit_at-lt, bit_at-zero, bit_at_ones, bit_at_ones_above, bit_at_cat_high, bit_at-pow_same, bit_at-pow_other}
+use Rattle.std.proofs.lemmas.Nat.{pow-add, one_shl}
 use Rattle.place_sets.specs.Masks.{Has, has, IsMaskOf, IsShifted}
 use Rattle.place_sets.proofs.Flooding.{has_below}
 use Rattle.place_sets.proofs.HasLemmas.{true_has, has_false, false_has}
-use Rattle.place_sets.proofs.Steps.{and_is, or_is, shr_is, shl_is, has-itself, mask_same}
+use Rattle.place_sets.proofs.Steps.{and_is, or_is, shr_is, shl_is, has-itself, mask_same, bit_at_shr}
 
 -- a word of `n` ones has the first `n` places
 pub low_ones : (n : ℕ) → IsMaskOf (λ i. i < n) (2 ^ n - 1)
@@ -115,3 +116,39 @@ power_of (suc n) m h p = elim (cases_lt m (2 ^ n)) [
 -- a mask that is not 0 has a place
 pub some_place : (m : ℕ) → 0 < m → (i : ℕ) × Has m i
 some_place m p = let r = power_of m m (below_power m) p in (r.0, top_place m r.0 r.1 r.2)
+
+bit_at_difference : (w a b others i : ℕ) → a < 2 ^ w → ((i : ℕ) → i < w → bit_at others i ≡ 1 - bit_at b i) → bit_at (bit_and a others) i ≡ min (bit_at a i) (1 - bit_at b i)
+bit_at_difference w a b others i fits flips = elim (cases_lt i w) [
+  | inl low ↦ (let n = flips i low in omega (arith, bit_at_and a others i))
+  | inr high ↦ (let n = bit_at_above a w i fits high in omega (arith, bit_at_and a others i))
+]
+
+pub difference_64 : (a b i : ℕ) → a < 18446744073709551616 → b < 18446744073709551616 → bit_at (bit_and a (18446744073709551615 - b)) i ≡ min (bit_at a i) (1 - bit_at b i)
+difference_64 a b i fa fb = bit_at_difference 64 a b (18446744073709551615 - b) i fa (λ i l. bit_at_not w64 b i fb l)
+
+pub difference_128 : (a b i : ℕ) → a < 340282366920938463463374607431768211456 → b < 340282366920938463463374607431768211456 → bit_at (bit_and a (340282366920938463463374607431768211455 - b)) i ≡ min (bit_at a i) (1 - bit_at b i)
+difference_128 a b i fa fb = bit_at_difference 128 a b (340282366920938463463374607431768211455 - b) i fa (λ i l. bit_at_not w128 b i fb l)
+
+pub full_64 : IsMaskOf (λ i. i < 64) 18446744073709551615
+full_64 = low_ones 64
+
+pub full_128 : IsMaskOf (λ i. i < 128) 340282366920938463463374607431768211455
+full_128 = low_ones 128
+
+pub full_256 : IsMaskOf (λ i. i < 256) 115792089237316195423570985008687907853269984665640564039457584007913129639935
+full_256 = low_ones 256
+
+one_place : (w k i : ℕ) → k < w → bit_at (1 * 2 ^ k % 2 ^ w) i ≡ cond (nat_eq i k) 1 0
+one_place w k i h = let one = one_shl k w h in rw one (elim (cases_eq i k) [
+  | inl same ↦ (let yes = bit_at-pow_same k in grind (arith, nat_tests))
+  | inr other ↦ (let no = bit_at-pow_other k i other in grind (arith, nat_tests))
+])
+
+pub one_place_64 : (k i : ℕ) → k < 64 → bit_at (1 * 2 ^ k % 18446744073709551616) i ≡ cond (nat_eq i k) 1 0
+one_place_64 k i h = one_place 64 k i h
+
+pub one_place_128 : (k i : ℕ) → k < 128 → bit_at (1 * 2 ^ k % 340282366920938463463374607431768211456) i ≡ cond (nat_eq i k) 1 0
+one_place_128 k i h = one_place 128 k i h
+
+-- what a word's operations come to
+pub ruleset words = (full_64, full_128, one_is, up_is, none_above, bit_at_and, bit_at_or, bit_at_xor, bit_at-lt, bit_at_shr, one_place_64, one_place_128, nat_tests, difference_64, difference_128)

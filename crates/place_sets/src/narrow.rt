@@ -1,4 +1,5 @@
 //! Sets of 64 and of 128 places, each in one word.
+#![tactic(auto, using(crate::proofs::WordSteps::words))]
 
 ghost use Rattle.std.specs.Prelude.{◌≡◌, ◌≢◌, ◌+◌, ◌*◌, ◌^◌, ◌<◌, ◌≤◌, ◌==◌, ◌⊎◌, ℕ, false, refl};
 ghost use Rattle.std.proofs.Common.{arith};

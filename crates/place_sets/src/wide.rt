@@ -1,4 +1,5 @@
 //! Sets of 256 places.
+#![tactic(auto, using(crate::proofs::Halves::wholes))]
 
 ghost use Rattle.std.specs.Prelude.{◌≡◌, ◌+◌, ◌*◌, ◌^◌, ◌<◌, ◌≤◌, ◌⊎◌, ℕ, refl};
 ghost use Rattle.std.proofs.Common.{arith};
@@ -28,10 +29,12 @@ impl PlaceSet for Wide {
         Wide { low: 0, high: 0 }
     }
 
+    #[tactic(auto, using(crate::proofs::WordSteps::one_is))]
     fn first() -> Wide {
         Wide { low: 1, high: 0 }
     }
 
+    #[tactic(auto, using(crate::proofs::WordSteps::full_256))]
     fn full() -> Wide {
         Wide {
             low: u128::MAX,
@@ -39,6 +42,7 @@ impl PlaceSet for Wide {
         }
     }
 
+    #[tactic(auto, using(crate::proofs::Halves::empty_halves))]
     fn is_empty(self) -> bool {
         (self.low | self.high) == 0
     }

@@ -1,10 +1,7 @@
 -- `u128::narrowed` gives what its contract says.
-use Rattle.std.proofs.Common.{◌<◌, rules}
-use Rattle.place_sets.proofs.Halves.{narrow_128}
+use Rattle.std.proofs.Common.{arith}
+use Rattle.place_sets.proofs.Halves.{wholes}
 use Rattle.place_sets.proofs.narrow.U128PlaceSet.narrowed.Goals as goal
 
 pub returns : goal.returns
-returns c =
-    let a = c.args.wide in
-    let fl : a.low < 340282366920938463463374607431768211456 = search rules in
-    narrow_128 a.low a.high fl
+returns c = grind (arith, wholes)

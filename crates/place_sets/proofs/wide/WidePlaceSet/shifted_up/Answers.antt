@@ -1,32 +1,34 @@
--- `Wide::shifted_up`: by nothing; by less than a half, so that places of the low half go over; by a half or more.
-use Rattle.std.proofs.Common.{◌<◌, rules, arith}
-use Rattle.place_sets.specs.Masks.{joined}
-use Rattle.place_sets.proofs.Halves.{still, wide_below, up_less, up_more}
+-- `Wide::shifted_up`: by less than a half, so that places of the low half go over; by a half or more.
+use Rattle.std.proofs.Common.{◌-◌, ◌+◌, ◌∙◌, inl, inr, sym, arith, rules}
+use Rattle.std.proofs.lemmas.Bool.{cases_lt}
+use Rattle.place_sets.proofs.Flooding.{has_below}
+use Rattle.place_sets.proofs.Halves.{halves, wholes, low_at, high_at}
 use Rattle.place_sets.proofs.wide.WidePlaceSet.shifted_up.Goals as goal
-
-pub returns-then-by-eq0 : goal.returns-then-by-eq0
-returns-then-by-eq0 c =
-    let a = c.args.self in
-    let by = c.args.by in
-    let fl : a.low < 340282366920938463463374607431768211456 = search rules in
-    let fh : a.high < 340282366920938463463374607431768211456 = search rules in
-    still (joined a.low a.high) 256 (λ i h. wide_below a.low a.high i fl fh h) by c.if-by-eq0.true
 
 pub returns-then-by-lt128 : goal.returns-then-by-lt128
 returns-then-by-lt128 c =
-    let a = c.args.self in
     let by = c.args.by in
-    let fl : a.low < 340282366920938463463374607431768211456 = search rules in
-    let fh : a.high < 340282366920938463463374607431768211456 = search rules in
-    up_less a.low a.high by c.shifted_up.result c.shifted_up-then-by-lt128.result c.shifted_down-over.result c.union.result fl
-    c.shifted_up.type_inv fh c.if-by-eq0.false c.if-by-lt128.true c.shifted_up.ensures c.shifted_up-then-by-lt128.ensures
-    c.shifted_down-over.ensures c.union.ensures
+    let up = c.shifted_up-then-by-lt128.ensures in
+    let over = c.shifted_down-over.ensures in
+    let low = low_at c.args.self.low c.args.self.high in
+    let high = high_at c.args.self.low c.args.self.high (search rules) in
+    halves _ _ _ c.shifted_up.type_inv (record {
+      to = λ i h. let m = c.shifted_up.ensures.to i h in (m.0, (omega arith, m.1, low (i - by) (i - by) (omega arith) (omega arith) ∙ m.2));
+      from = λ i h. c.shifted_up.ensures.from i (h.0, h.1.1, sym (low (i - by) (i - by) (omega arith) (omega arith)) ∙ h.1.2);
+    }) (record {
+      to = λ i h. elim (c.union.ensures.to i h) [
+        | inl x ↦ (let m = up.to i x in (omega arith, omega arith, high (i - by) (i + 128 - by) (omega arith) ∙ m.2))
+        | inr x ↦
+            (let m = over.to i x in
+            let l = has_below 128 _ _ (search rules) m in
+            (omega arith, omega arith, low (i + (128 - by)) (i + 128 - by) l (omega arith) ∙ m))
+      ];
+      from = λ i h. c.union.ensures.from i (elim (cases_lt i by) [
+        | inl l ↦ inr (over.from i (sym (low (i + (128 - by)) (i + 128 - by) (omega arith) (omega arith)) ∙ h.2))
+        | inr l ↦ inl (up.from i (omega (arith, h.0), l, sym (high (i - by) (i + 128 - by) (omega arith)) ∙ h.2))
+      ]);
+    })
 
 pub returns-else-by-lt128 : goal.returns-else-by-lt128
 returns-else-by-lt128 c =
-    let a = c.args.self in
-    let by = c.args.by in
-    let fl : a.low < 340282366920938463463374607431768211456 = search rules in
-    let fh : a.high < 340282366920938463463374607431768211456 = search rules in
-    let b = c.if-by-lt128.false in
-    up_more a.low a.high by c.shifted_up-else-by-lt128.result fl (omega arith) c.requires c.shifted_up-else-by-lt128.ensures
+    halves _ 0 _ (omega arith) (grind (arith, wholes)) (record { to = λ i h. grind (arith, wholes); from = λ i h. grind (arith, wholes) })

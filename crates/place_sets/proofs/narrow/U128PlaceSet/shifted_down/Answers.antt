@@ -1,6 +1,0 @@
--- `u128::shifted_down` gives what its contract says.
-use Rattle.place_sets.proofs.WordSteps.{down_is}
-use Rattle.place_sets.proofs.narrow.U128PlaceSet.shifted_down.Goals as goal
-
-pub returns : goal.returns
-returns c = down_is c.args.self c.args.by

@@ -1,6 +1,0 @@
--- `u64::difference` gives what its contract says.
-use Rattle.place_sets.proofs.WordSteps.{lacks_64}
-use Rattle.place_sets.proofs.narrow.U64PlaceSet.difference.Goals as goal
-
-pub returns : goal.returns
-returns c = lacks_64 c.args.self c.args.other c.ranges.self.fits c.ranges.other.fits
