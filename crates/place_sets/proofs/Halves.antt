@@ -1,16 +1,15 @@
 -- Masks in two halves: the low places in one, those from some place on in the other.
-use Rattle.std.proofs.Common.{◌≡◌, ℕ, zero, suc, ◌+◌, ◌-◌, ◌*◌, ◌/◌, ◌%◌, ◌^◌, ◌<◌, ◌≤◌, ◌⊎◌, ◌↔◌, inl, inr, nat_eq, sym, ap, ◌∙◌, arith, subst}
+use Rattle.std.proofs.Common.{◌≡◌, ℕ, zero, suc, ◌+◌, ◌-◌, ◌^◌, ◌<◌, ◌≤◌, ◌⊎◌, ◌↔◌, inl, inr, nat_eq, sym, ap, ◌∙◌, arith, subst}
 use Rattle.std.specs.Int.{bit_at}
-use Rattle.std.specs.Int.RustNames.{bit_and, bit_or}
+use Rattle.std.specs.Int.RustNames.{bit_or}
 use Rattle.std.proofs.lemmas.Nat.{le_or_l, le_or_r}
-use Rattle.place_sets.proofs.WordSteps.{low_ones, down_is, up_is}
-use Rattle.place_sets.proofs.Steps.{and_is, or_is, has-itself}
+use Rattle.place_sets.proofs.WordSteps.{full_64}
 use Rattle.std.specs.Int.Bits.{or_zero_l, or_zero_r}
 use Rattle.std.proofs.lemmas.Bool.Decides.{nat_tests}
 use Rattle.std.proofs.lemmas.Bool.{cases_lt}
 use Rattle.place_sets.proofs.Uses.{flooded_within}
-use Rattle.std.proofs.lemmas.Nat.Bits.{bit_at-zero, bit_at_cat_low, bit_at_cat_high, bit_at_above}
-use Rattle.place_sets.specs.Masks.{Has, IsMaskOf, IsShifted, IsReversed, IsFlooded, joined}
+use Rattle.std.proofs.lemmas.Nat.Bits.{bit_at-zero, bit_at_and, bit_at-lt, bit_at_cat_low, bit_at_cat_high, bit_at_above}
+use Rattle.place_sets.specs.Masks.{Has, IsMaskOf, IsFlooded, joined}
 
 abbrev Fits : ℕ → Type 0
 Fits n = n < 2 ^ 128
@@ -33,11 +32,7 @@ empty_halves low high = grind (arith, nat_tests, le_or_l, le_or_r, or_zero_l, or
 
 pub ruleset wholes = (bit_low, at_high, above, bit_at-zero)
 
--- the high places of a mask of two halves
-pub bit_high : (low high i : ℕ) → Fits low → bit_at (joined low high) (i + 128) ≡ bit_at high i
-bit_high low high i f =
-    let e : i + 128 - 128 ≡ i = omega arith in
-    bit_at_cat_high high 128 low (i + 128) f (omega arith) ∙ ap (bit_at high) e
+pub ruleset parts = (bit_low, above, bit_at_and, bit_at-lt, full_64)
 
 -- a mask of two halves has what its halves have
 pub halves : (P : ℕ → Type 0) (low high : ℕ) → Fits low → IsMaskOf (λ i. (i < 128) × P i) low → IsMaskOf (λ i. P (i + 128)) high
@@ -67,8 +62,10 @@ flood_low sl sh fl fh i l =
     let S = Has (joined sl sh) in
     let F = Has (joined fl fh) in
     let s : (k : ℕ) → k ≤ i → bit_at (joined sl sh) k ≡ bit_at sl k = λ k b. bit_low sl sh k (omega arith) in
-    let f : (k : ℕ) → k ≤ i → bit_at (joined fl fh) k ≡ bit_at fl k = λ k b. bit_low fl fh k (omega arith) in
-    (flooded_within S F (Has sl) (Has fl) i (λ k b h. sym (s k b) ∙ h) (λ k b h. sym (f k b) ∙ h), flooded_within (Has sl) (Has fl) S F i (λ k b h. s k b ∙ h) (λ k b h. f k b ∙ h))
+    let f : (k : ℕ) → k ≤ i → bit_at (joined fl fh) k ≡ bit_at fl k = λ k b. bit_low fl fh k (omega arith) in (
+      flooded_within S F (Has sl) (Has fl) i (λ k b h. sym (s k b) ∙ h) (λ k b h. sym (f k b) ∙ h),
+      flooded_within (Has sl) (Has fl) S F i (λ k b h. s k b ∙ h) (λ k b h. f k b ∙ h),
+    )
 
 -- from the half on: what floods the last place of the low half goes on in the high one
 pub flood_high : (P Q R S : ℕ → Type 0) → (P 128 ⊎ (Q 128 × IsFlooded P Q 127)) ↔ R 0 → ((k : ℕ) → P (suc k + 128) ↔ R (suc k))
@@ -82,46 +79,3 @@ flood_high P Q R S a b c (suc i) =
       λ x. elim x [ inl y ↦ inl (p.0 y) | inr y ↦ inr (q.0 y.0, (flood_high P Q R S a b c i).0 y.1) ],
       λ x. elim x [ inl y ↦ inl (p.1 y) | inr y ↦ inr (q.1 y.0, (flood_high P Q R S a b c i).1 y.1) ],
     )
-
--- a half word seen from its other end
-half_low : (n m i : ℕ) → IsMaskOf (IsReversed 64 (Has (bit_and n 18446744073709551615))) m → Has m i → (i < 64) × Has n (63 - i)
-half_low n m i p h =
-    let two = p.to i h in
-    let l : i < 64 = two.0 in
-    (l, ((and_is (Has n) (λ k. k < 64) n 18446744073709551615 (has-itself n) (low_ones 64)).to (63 - i) two.1).0)
-
-low_half : (n m i : ℕ) → IsMaskOf (IsReversed 64 (Has (bit_and n 18446744073709551615))) m → i < 64 → Has n (63 - i) → Has m i
-low_half n m i p l h =
-    p.from i (l, (and_is (Has n) (λ k. k < 64) n 18446744073709551615 (has-itself n) (low_ones 64)).from (63 - i) (h, omega arith))
-
--- a word of 128 places is reversed by reversing its halves and exchanging them
-pub reversed_128 : (n low high : ℕ) → IsMaskOf (IsReversed 64 (Has (bit_and n 18446744073709551615))) low
-    → IsMaskOf (IsReversed 64 (Has (n / 2 ^ 64))) high
-    → IsMaskOf (IsReversed 128 (Has n)) (bit_or (low * 2 ^ 64 % 2 ^ 128) high)
-reversed_128 n low high p q = record {
-  to = λ i h. elim (all.to i h) [
-    | inl a ↦
-        (let l : i < 128 = a.0 in
-        let far : 64 ≤ i = a.1 in
-        let e : 63 - (i - 64) ≡ 127 - i = omega arith in
-        (l, subst (Has n) e (half_low n low (i - 64) p a.2).1))
-    | inr b ↦
-        (let two = q.to i b in
-        let l : i < 64 = two.0 in
-        let e : (63 - i) + 64 ≡ 127 - i = omega arith in
-        (omega arith, subst (Has n) e ((down_is n 64).to (63 - i) two.1)))
-  ];
-  from = λ i h.
-      let l : i < 128 = h.0 in
-      elim (cases_lt i 64) [
-        | inl near ↦
-            (let e : 127 - i ≡ (63 - i) + 64 = omega arith in
-            all.from i (inr (q.from i (near, (down_is n 64).from (63 - i) (subst (Has n) e h.1)))))
-        | inr far ↦
-            (let e : 127 - i ≡ 63 - (i - 64) = omega arith in
-            all.from i (inl (l, far, low_half n low (i - 64) p (omega arith) (subst (Has n) e h.1))))
-      ];
-}
-  where
-    all : IsMaskOf (λ i. IsShifted 128 (Has low) 64 i ⊎ Has high i) (bit_or (low * 2 ^ 64 % 2 ^ 128) high)
-    all = or_is (IsShifted 128 (Has low) 64) (Has high) (low * 2 ^ 64 % 2 ^ 128) high (up_is 128 low 64) (has-itself high)

@@ -93,6 +93,7 @@ impl PlaceSet for u64 {
         swap_pairs(sixteens, 0x00000000ffffffff, 32)
     }
 
+    #[tactic(auto, using(crate::proofs::WordSteps::least_64))]
     fn first_place(self) -> u16 {
         self.trailing_zeros() as u16
     }
@@ -101,6 +102,7 @@ impl PlaceSet for u64 {
         self.ilog2() as u16
     }
 
+    #[tactic(auto, using(crate::proofs::Halves::parts))]
     fn narrowed(wide: Wide) -> u64 {
         (wide.low & 0xffffffffffffffff) as u64
     }
@@ -194,6 +196,7 @@ impl PlaceSet for u128 {
         ((low as u128) << 64) | high as u128
     }
 
+    #[tactic(auto, using(crate::proofs::WordSteps::least_128))]
     fn first_place(self) -> u16 {
         self.trailing_zeros() as u16
     }
@@ -202,6 +205,7 @@ impl PlaceSet for u128 {
         self.ilog2() as u16
     }
 
+    #[tactic(auto, using(crate::proofs::Halves::parts))]
     fn narrowed(wide: Wide) -> u128 {
         wide.low
     }

@@ -1,9 +1,10 @@
 -- `swap_pairs`: the low half of each pair comes from the high one, and the high half from the low one.
-use Rattle.std.proofs.Common.{◌≡◌, ◌+◌, ◌-◌, ◌*◌, ◌/◌, ◌%◌, ◌^◌, inl, inr, sym, subst, arith, bit_and}
+use Rattle.std.proofs.Common.{◌≡◌, ◌+◌, ◌-◌, ◌*◌, ◌/◌, ◌%◌, ◌^◌, inl, inr, sym, ◌∙◌, subst, arith, bit_and}
 use Rattle.place_sets.specs.Masks.{Has}
 use Rattle.place_sets.proofs.Flooding.{has_below}
 use Rattle.place_sets.proofs.Reversing.{pairing}
-use Rattle.place_sets.proofs.WordSteps.{up_is, down_is, join_is, meet_is}
+use Rattle.place_sets.proofs.Steps.{bit_at_shr, up_is}
+use Rattle.place_sets.proofs.WordSteps.{join_is, meet_is}
 use Rattle.place_sets.proofs.narrow.swap_pairs.Goals as goal
 
 pub returns : goal.returns
@@ -21,7 +22,7 @@ returns c =
         | inl a ↦
             (let m = lower.to i a in
             let l = has_below 64 low i c.ranges.low.fits m.1 in
-            elim (at i l).pair [ inl p ↦ (l, subst (Has x) (sym p.2) ((down_is x by).to i m.0)) | inr p ↦ absurd (omega arith) ])
+            elim (at i l).pair [ inl p ↦ (l, subst (Has x) (sym p.2) (sym (bit_at_shr x by i) ∙ m.0)) | inr p ↦ absurd (omega arith) ])
         | inr a ↦
             (let m = up.to i a in
             let n = here.to (i - by) m.2 in
@@ -33,7 +34,7 @@ returns c =
             ])
       ];
       from = λ i h. both.from i (elim (at i h.0).pair [
-        | inl p ↦ inl (lower.from i ((down_is x by).from i (subst (Has x) p.2 h.1), p.0))
+        | inl p ↦ inl (lower.from i (bit_at_shr x by i ∙ subst (Has x) p.2 h.1, p.0))
         | inr p ↦ inr (up.from i (h.0, p.1, here.from (i - by) (subst (Has x) p.3 h.1, p.2)))
       ]);
     }
