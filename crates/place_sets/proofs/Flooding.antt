@@ -61,7 +61,8 @@ trick w x n i l h =
     let c = carry_below i x n 0 (omega arith) in
     let d = carry_step i x n 0 in
     let f = bit_at-lt n i in
-    let less : bit_at x i ≤ bit_at n i = elim (cases_eq (bit_at x i) 1) [ inl g ↦ (let k = h i g in omega arith) | inr g ↦ omega (arith, bit_at-lt x i) ] in
+    let less : bit_at x i ≤ bit_at n i =
+    elim (cases_eq (bit_at x i) 1) [ inl g ↦ (let k = h i g in omega arith) | inr g ↦ omega (arith, bit_at-lt x i) ] in
     rw (bit_at_or (bit_and (bit_xor sum n) n) x i, bit_at_and (bit_xor sum n) n i, bit_at_xor sum n i) (omega arith)
 
 flooded_free : (x n i : ℕ) → ((j : ℕ) → Has x j → Has n j) → IsFlooded (Has x) (Has n) i → Has n i

@@ -1,154 +1,77 @@
--- Spreading by levels: what a level holds once a mask joins it, and how a level is spread into the one below.
-use Rattle.std.proofs.Common.{◌≡◌, ℕ, zero, suc, refl, replicate, ◌+◌, ◌-◌, ◌^◌, ◌<◌, ◌≤◌, List, length, get_or, set, sym, map, arith, subst, get_or-set_same, get_or-set_other, ◌⊎◌, inl, inr}
-use Rattle.std.proofs.lemmas.Bool.{cases_lt}
+-- Spreading by levels: what a level holds once a mask joins it, and how a mask is spread over more places.
+use Rattle.std.proofs.Common.{◌≡◌, ◌≢◌, ℕ, zero, suc, refl, replicate, ◌+◌, ◌-◌, ◌^◌, ◌<◌, ◌≤◌, ◌↔◌, List, length, get_or, set, sym, map, arith, subst, get_or-set_same, get_or-set_other, ◌⊎◌, inl, inr}
+use Rattle.std.proofs.lemmas.Bool.{cases_lt, cases_eq}
 use Rattle.place_sets.specs.Masks.{Has, IsMaskOf, SomeFrom, SomeLevel, AreLevelsOf}
 use Rattle.std.proofs.lemmas.Nat.Bits.{bit_at-zero}
-use Rattle.std.proofs.lemmas.List.{get_or-map}
-use Rattle.place_sets.proofs.Doubling.{pow_next}
+use Rattle.std.proofs.lemmas.List.{get_or-map, map-set, length-map}
 
--- a mask spread over `by` places more, and then over `w` places, is spread over `w + by`
-pub spread_in : (mask by next w i : ℕ) → IsMaskOf (λ i. Has mask i ⊎ Has mask (i + by)) next → SomeFrom (Has next) w i
-    → SomeFrom (Has mask) (w + by) i
-spread_in mask by next w i h x = elim (h.to (i + x.0) x.2) [
-  | inl here ↦ (x.0, omega (arith, x.1), here)
-  | inr there ↦
-      (let e : (i + x.0) + by ≡ i + (x.0 + by) = omega arith in
-      (x.0 + by, omega (arith, x.1), subst (Has mask) e there))
-]
+-- two stretches that overlap or touch are one
+some_joined : (P : ℕ → Type 0) (m s n i : ℕ) → s ≤ m → m + s ≡ n → (SomeFrom P m i ⊎ SomeFrom P m (i + s)) ↔ SomeFrom P n i
+some_joined P m s n i l t = (
+  λ h. elim h [
+    | inl x ↦ (x.0, omega (arith, x.1), x.2)
+    | inr x ↦ (let e : i + s + x.0 ≡ i + (s + x.0) = omega arith in (s + x.0, omega (arith, x.1), subst P e x.2))
+  ],
+  λ x. elim (cases_lt x.0 m) [
+    | inl low ↦ inl (x.0, low, x.2)
+    | inr high ↦ (let e : i + x.0 ≡ i + s + (x.0 - s) = omega arith in inr (x.0 - s, omega (arith, x.1), subst P e x.2))
+  ],
+)
 
--- and the other way round, if `by` is no more than `w`
-pub spread_out : (mask by next w i : ℕ) → by ≤ w → IsMaskOf (λ i. Has mask i ⊎ Has mask (i + by)) next → SomeFrom (Has mask) (w + by) i
-    → SomeFrom (Has next) w i
-spread_out mask by next w i l h x = elim (cases_lt x.0 w) [
-  | inl low ↦ (x.0, low, h.from (i + x.0) (inl x.2))
-  | inr high ↦
-      (let e : i + x.0 ≡ (i + (x.0 - by)) + by = omega (arith, x.1) in
-      (x.0 - by, omega (arith, x.1), h.from (i + (x.0 - by)) (inr (subst (Has mask) e x.2))))
-]
+-- a mask spread over `m` places, spread once more by `s`, is spread over `m + s`
+pub spread_more : (P : ℕ → Type 0) (w m s n next : ℕ) → s ≤ m → m + s ≡ n → IsMaskOf (SomeFrom P m) w
+    → IsMaskOf (λ i. Has w i ⊎ Has w (i + s)) next → IsMaskOf (SomeFrom P n) next
+spread_more P w m s n next l t p q = record {
+  to = λ i h. (some_joined P m s n i l t).0 (elim (q.to i h) [ inl x ↦ inl (p.to i x) | inr x ↦ inr (p.to (i + s) x) ]);
+  from = λ i h. q.from i (elim ((some_joined P m s n i l t).1 h) [ inl x ↦ inl (p.from i x) | inr x ↦ inr (p.from (i + s) x) ]);
+}
 
--- a mask joined to what a level has
-abbrev pub IsJoined : List ℕ → ℕ → ℕ → ℕ → Type 0
-IsJoined levels level next new = IsMaskOf (λ i. Has (get_or levels level 0) i ⊎ Has next i) new
-
--- what the levels hold then, each spread
-pub level_in : (levels : List ℕ) (level next new w k i : ℕ) → level < length levels → IsJoined levels level next new
-    → SomeFrom (Has (get_or (set levels level new) k 0)) w i
-    → SomeFrom (Has (get_or levels k 0)) w i ⊎ ((k ≡ level) × SomeFrom (Has next) w i)
-level_in levels level next new w k i b joined x = elim (cases_lt k level) [
-  | inl low ↦ inl (x.0, x.1, subst (λ (m : ℕ). Has m (i + x.0)) (get_or-set_other levels level k _ 0 (omega arith)) x.2)
-  | inr from ↦ elim (cases_lt level k) [
-    | inl high ↦ inl (x.0, x.1, subst (λ (m : ℕ). Has m (i + x.0)) (get_or-set_other levels level k _ 0 (omega arith)) x.2)
-    | inr to ↦
-        (let e : k ≡ level = omega arith in
-        let at : Has (get_or (set levels level new) level 0) (i + x.0) =
-        subst (λ (z : ℕ). Has (get_or (set levels level new) z 0) (i + x.0)) e x.2 in
-        let here : Has new (i + x.0) = subst (λ (m : ℕ). Has m (i + x.0)) (get_or-set_same levels level _ 0 b) at in
-        elim (joined.to (i + x.0) here) [
-          | inl old ↦ inl (x.0, x.1, subst (λ (z : ℕ). Has (get_or levels z 0) (i + x.0)) (sym e) old)
-          | inr more ↦ inr (e, (x.0, x.1, more))
-        ])
-  ]
-]
-
--- what was there stays
-pub level_kept : (levels : List ℕ) (level next new w k i : ℕ) → level < length levels → IsJoined levels level next new
-    → SomeFrom (Has (get_or levels k 0)) w i
-    → SomeFrom (Has (get_or (set levels level new) k 0)) w i
-level_kept levels level next new w k i b joined x = elim (cases_lt k level) [
-  | inl low ↦ (x.0, x.1, subst (λ (m : ℕ). Has m (i + x.0)) (sym (get_or-set_other levels level k _ 0 (omega arith))) x.2)
-  | inr from ↦ elim (cases_lt level k) [
-    | inl high ↦ (x.0, x.1, subst (λ (m : ℕ). Has m (i + x.0)) (sym (get_or-set_other levels level k _ 0 (omega arith))) x.2)
-    | inr to ↦
-        (let e : k ≡ level = omega arith in
-        let old : Has (get_or levels level 0) (i + x.0) = subst (λ (z : ℕ). Has (get_or levels z 0) (i + x.0)) e x.2 in
-        let both : Has new (i + x.0) = joined.from (i + x.0) (inl old) in
-        let at : Has (get_or (set levels level new) level 0) (i + x.0) =
-        subst (λ (m : ℕ). Has m (i + x.0)) (sym (get_or-set_same levels level _ 0 b)) both in
-        (x.0, x.1, subst (λ (z : ℕ). Has (get_or (set levels level new) z 0) (i + x.0)) (sym e) at))
-  ]
-]
-
--- and what is added is there
-pub level_out : (levels : List ℕ) (level next new w i : ℕ) → level < length levels → IsJoined levels level next new
-    → SomeFrom (Has next) w i
-    → SomeFrom (Has (get_or (set levels level new) level 0)) w i
-level_out levels level next new w i b joined x =
-    let both : Has new (i + x.0) = joined.from (i + x.0) (inr x.2) in
-    (x.0, x.1, subst (λ (m : ℕ). Has m (i + x.0)) (sym (get_or-set_same levels level _ 0 b)) both)
-
--- a mask added to the level of a length
-pub mask_added : (levels : List ℕ) (top level mask rest size next new : ℕ) → level ≤ top → level < length levels → 2 ^ level + rest ≡ size
-    → rest < 2 ^ level
-    → IsMaskOf (λ i. Has mask i ⊎ Has mask (i + rest)) next
-    → IsJoined levels level next new
-    → AreLevelsOf (λ i. SomeLevel top levels i ⊎ SomeFrom (Has mask) size i) top (set levels level new)
-mask_added levels top level mask rest size next new within b e low h joined =
-    let small : rest ≤ 2 ^ level = omega arith in
-    record {
-      to = λ i x. elim (level_in levels level next new (2 ^ x.0) x.0 i b joined x.2) [
-        | inl old ↦ inl (x.0, x.1, old)
-        | inr more ↦
-            (let wide : SomeFrom (Has next) (2 ^ level) i = subst (λ (z : ℕ). SomeFrom (Has next) (2 ^ z) i) more.0 more.1 in
-            inr (subst (λ (n : ℕ). SomeFrom (Has mask) n i) e (spread_in mask rest next (2 ^ level) i h wide)))
-      ];
-      from = λ i x. elim x [
-        | inl old ↦ (old.0, old.1, level_kept levels level next new (2 ^ old.0) old.0 i b joined old.2)
-        | inr more ↦
-            (let wide : SomeFrom (Has mask) (2 ^ level + rest) i = subst (λ (n : ℕ). SomeFrom (Has mask) n i) (sym e) more in
-            (level, within, level_out levels level next new (2 ^ level) i b joined (spread_out mask rest next (2 ^ level) i small h wide)))
-      ];
-    }
-
--- a level spread into the one below
-pub level_lowered : (levels : List ℕ) (level by next new : ℕ) → level < length levels → by ≡ 2 ^ level
-    → IsMaskOf (λ i. Has (get_or levels (level + 1) 0) i ⊎ Has (get_or levels (level + 1) 0) (i + by)) next
-    → IsJoined levels level next new
-    → AreLevelsOf (SomeLevel (level + 1) levels) level (set levels level new)
-level_lowered levels level by next new b e h joined =
-    let twice : 2 ^ level + by ≡ 2 ^ (level + 1) = omega (arith, pow_next level) in
-    let above = get_or levels (level + 1) 0 in
-    record {
-      to = λ i x. elim (level_in levels level next new (2 ^ x.0) x.0 i b joined x.2) [
-        | inl old ↦ (x.0, omega (arith, x.1), old)
-        | inr more ↦
-            (let wide : SomeFrom (Has next) (2 ^ level) i = subst (λ (z : ℕ). SomeFrom (Has next) (2 ^ z) i) more.0 more.1 in
-            (level + 1, omega arith, subst (λ (n : ℕ). SomeFrom (Has above) n i) twice (spread_in above by next (2 ^ level) i h wide)))
-      ];
-      from = λ i x. elim (cases_lt x.0 (level + 1)) [
-        | inl low ↦ (x.0, omega arith, level_kept levels level next new (2 ^ x.0) x.0 i b joined x.2)
-        | inr high ↦
-            (let within : x.0 ≤ level + 1 = x.1 in
-            let same : x.0 ≡ level + 1 = omega arith in
-            let top : SomeFrom (Has above) (2 ^ (level + 1)) i = subst (λ (z : ℕ). SomeFrom (Has (get_or levels z 0)) (2 ^ z) i) same x.2 in
-            let wide : SomeFrom (Has above) (2 ^ level + by) i = subst (λ (n : ℕ). SomeFrom (Has above) n i) (sym twice) top in (
-              level,
-              omega arith,
-              level_out levels level next new (2 ^ level) i b joined (spread_out above by next (2 ^ level) i (omega arith) h wide),
-            ))
-      ];
-    }
+-- a mask spread by `s` places more, and then over `m` places, is spread over `m + s`
+pub spread_before : (mask s next m n i : ℕ) → s ≤ m → m + s ≡ n → IsMaskOf (λ i. Has mask i ⊎ Has mask (i + s)) next
+    → SomeFrom (Has next) m i ↔ SomeFrom (Has mask) n i
+spread_before mask s next m n i l t h = (
+  λ x. (some_joined (Has mask) m s n i l t).0 (elim (h.to _ x.2) [
+    | inl y ↦ inl (x.0, x.1, y)
+    | inr y ↦ (let e : i + x.0 + s ≡ i + s + x.0 = omega arith in inr (x.0, x.1, subst (Has mask) e y))
+  ]),
+  λ x. elim ((some_joined (Has mask) m s n i l t).1 x) [
+    | inl y ↦ (y.0, y.1, h.from _ (inl y.2))
+    | inr y ↦ (let e : i + s + y.0 ≡ i + y.0 + s = omega arith in (y.0, y.1, h.from _ (inr (subst (Has mask) e y.2))))
+  ],
+)
 
 -- an element of a table of words, as a number
 pub number_at : {A : Type 0} (number : A → ℕ) (xs : List A) (i : ℕ) (d : A) → i < length xs
     → number (get_or xs i d) ≡ get_or (map number xs) i 0
 number_at number xs i d l = sym (get_or-map number xs i d 0 l)
 
--- and what is joined to it
-pub joined_at : {A : Type 0} (number : A → ℕ) (xs : List A) (i : ℕ) (d y : A) (next : ℕ) → i < length xs
-    → IsMaskOf (λ k. Has (number (get_or xs i d)) k ⊎ Has next k) (number y) → IsJoined (map number xs) i next (number y)
-joined_at number xs i d y next l p = subst (λ (m : ℕ). IsMaskOf (λ k. Has m k ⊎ Has next k) (number y)) (number_at number xs i d l) p
-
--- the lowest level is spread over one place: it is its mask
-pub lowest_in : (levels : List ℕ) (i : ℕ) → Has (get_or levels 0 0) i → SomeLevel 0 levels i
-lowest_in levels i h = (0, omega arith, (0, omega arith, subst (Has (get_or levels 0 0)) (omega arith) h))
-
-pub lowest_out : (levels : List ℕ) (i : ℕ) → SomeLevel 0 levels i → Has (get_or levels 0 0) i
-lowest_out levels i x =
-    let low : x.0 ≤ 0 = x.1 in
-    let same : x.0 ≡ 0 = omega arith in
-    let one : SomeFrom (Has (get_or levels 0 0)) 1 i = subst (λ (z : ℕ). SomeFrom (Has (get_or levels z 0)) (2 ^ z) i) same x.2 in
-    let first : one.0 < 1 = one.1 in
-    subst (Has (get_or levels 0 0)) (omega arith) one.2
+-- what the levels have once a mask joins that of one of them
+pub level_set : {A : Type 0} (number : A → ℕ) (xs : List A) (top level : ℕ) (d y : A) (next : ℕ) → level ≤ top → level < length xs
+    → IsMaskOf (λ k. Has (number (get_or xs level d)) k ⊎ Has next k) (number y)
+    → (i : ℕ) → SomeLevel top (map number (set xs level y)) i ↔ (SomeLevel top (map number xs) i ⊎ SomeFrom (Has next) (2 ^ level) i)
+level_set number xs top level d y next b l p i =
+    let old = map number xs in
+    let there : level < length old = omega (arith, length-map xs number) in
+    let same = get_or-set_same old level (number y) 0 there in
+    let other : (k : ℕ) → k ≢ level → get_or (set old level (number y)) k 0 ≡ get_or old k 0 = λ k n. get_or-set_other old level k _ 0 n in
+    let was = number_at number xs level d l in
+    rw (map-set number xs level y) (
+      λ x. elim (cases_eq x.0 level) [
+        | inl e ↦
+            (let w : SomeFrom (Has (number y)) (2 ^ level) i = rw (e, same) at x.2 in
+            elim (p.to _ w.2) [ inl o ↦ inl (level, b, (w.0, w.1, rw was at o)) | inr n ↦ inr (w.0, w.1, n) ])
+        | inr n ↦ inl (x.0, x.1, rw (other x.0 n) at x.2)
+      ],
+      λ x. elim x [
+        | inl o ↦ elim (cases_eq o.0 level) [
+          | inl e ↦
+              (let w : SomeFrom (Has (get_or old level 0)) (2 ^ level) i = rw e at o.2 in
+              (level, b, (w.0, w.1, rw same (p.from _ (inl (rw was w.2))))))
+          | inr n ↦ (o.0, o.1, rw (other o.0 n) o.2)
+        ]
+        | inr n ↦ (level, b, (n.0, n.1, rw same (p.from _ (inr n.2))))
+      ],
+    )
 
 -- no level has a place at first
 pub levels_none : (P : ℕ → Type 0) (top : ℕ) (levels : List ℕ) → ((k : ℕ) → get_or levels k 0 ≡ 0) → ((i : ℕ) → P i → ⊥)
@@ -160,22 +83,17 @@ levels_none P top levels none never = record {
   from = λ i p. absurd (never i p);
 }
 
--- the next level down
-pub levels_on : (P : ℕ → Type 0) (top t k : ℕ) (old new : List ℕ) → t ≡ top → k < top → AreLevelsOf P (top - k) old
-    → AreLevelsOf (SomeLevel (t - 1 - k + 1) old) (t - 1 - k) new → AreLevelsOf P (top - (k + 1)) new
-levels_on P top t k old new e l p q =
-    let above : t - 1 - k + 1 ≡ top - k = omega arith in
-    let here : t - 1 - k ≡ top - (k + 1) = omega arith in
-    let r : AreLevelsOf (SomeLevel (top - k) old) (top - (k + 1)) new =
-    subst (λ (n : ℕ). AreLevelsOf (SomeLevel (top - k) old) n new) here
-    (subst (λ (n : ℕ). AreLevelsOf (SomeLevel n old) (t - 1 - k) new) above q) in
-    record { to = λ i x. p.to i (r.to i x); from = λ i x. r.from i (p.from i x) }
-
--- the lowest level at last
+-- the lowest level is spread over one place: it is its mask
 pub lowest_is : (P : ℕ → Type 0) (low : ℕ) (levels : List ℕ) → low ≡ 0 → AreLevelsOf P low levels → IsMaskOf P (get_or levels 0 0)
-lowest_is P low levels e p =
-    let q : AreLevelsOf P 0 levels = subst (λ (n : ℕ). AreLevelsOf P n levels) e p in
-    record { to = λ i h. q.to i (lowest_in levels i h); from = λ i x. lowest_out levels i (q.from i x) }
+lowest_is P low levels e p = record {
+  to = λ i h. p.to i (0, omega arith, (0, omega arith, (let z : i ≡ i + 0 = omega arith in subst (Has (get_or levels 0 0)) z h)));
+  from = λ i x.
+      let y = p.from i x in
+      let z : y.0 ≡ 0 = omega (arith, y.1) in
+      let w : SomeFrom (Has (get_or levels 0 0)) 1 i = rw z at y.2 in
+      let f : i + w.0 ≡ i = omega (arith, w.1) in
+      subst (Has (get_or levels 0 0)) f w.2;
+}
 
 -- each element of a list of empty words is 0 as a number
 pub none_at : {A : Type 0} (number : A → ℕ) (none : A) → number none ≡ 0 → (count k : ℕ)
@@ -183,23 +101,3 @@ pub none_at : {A : Type 0} (number : A → ℕ) (none : A) → number none ≡ 0
 none_at number none e zero k = refl
 none_at number none e (suc count) zero = e
 none_at number none e (suc count) (suc k) = none_at number none e count k
-
--- ---- one mask spread alone
-
--- a mask spread over `m` places, spread once more by `s`, is spread over `m + s`
-pub spread_more : (P : ℕ → Type 0) (w m s next : ℕ) → s ≤ m → IsMaskOf (SomeFrom P m) w → IsMaskOf (λ i. Has w i ⊎ Has w (i + s)) next
-    → IsMaskOf (SomeFrom P (m + s)) next
-spread_more P w m s next few p q = record {
-  to = λ i h. elim (q.to i h) [
-    | inl x ↦ (let y = p.to i x in let below : y.0 < m = y.1 in (y.0, omega arith, y.2))
-    | inr x ↦
-        (let y = p.to (i + s) x in
-        let below : y.0 < m = y.1 in
-        let e : i + s + y.0 ≡ i + (s + y.0) = omega arith in
-        (s + y.0, omega arith, subst P e y.2))
-  ];
-  from = λ i h. let below : h.0 < m + s = h.1 in q.from i (elim (cases_lt h.0 m) [
-    | inl low ↦ inl (p.from i (h.0, low, h.2))
-    | inr high ↦ (let e : i + h.0 ≡ i + s + (h.0 - s) = omega arith in inr (p.from (i + s) (h.0 - s, omega arith, subst P e h.2)))
-  ]);
-}

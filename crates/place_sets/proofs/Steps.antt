@@ -31,22 +31,17 @@ pub mask_same : (P Q : ℕ → Type 0) (a : ℕ) → IsMaskOf P a → ((i : ℕ)
 mask_same P Q a p f g = record { to = λ i h. f i (p.to i h); from = λ i h. p.from i (g i h) }
 
 -- windows that overlap or touch make a longer one
-pub widen : (P : ℕ → Type 0) (w m s : ℕ) (next : ℕ) → s ≤ m → IsMaskOf (AllFrom P m) w → IsMaskOf (λ i. Has w i × Has w (i + s)) next
-    → IsMaskOf (AllFrom P (m + s)) next
-widen P w m s next l p q = record {
+pub widen : (P : ℕ → Type 0) (w m s n next : ℕ) → s ≤ m → m + s ≡ n → IsMaskOf (AllFrom P m) w
+    → IsMaskOf (λ i. Has w i × Has w (i + s)) next → IsMaskOf (AllFrom P n) next
+widen P w m s n next l t p q = record {
   to = λ i h z b.
       let two = q.to i h in
       elim (cases_lt z m) [
         | inl low ↦ p.to i two.0 z low
-        | inr high ↦
-            (let e : (i + s) + (z - s) ≡ i + z = omega arith in
-            let c : z - s < m = omega arith in
-            subst P e (p.to (i + s) two.1 (z - s) c))
+        | inr high ↦ (let e : i + s + (z - s) ≡ i + z = omega arith in subst P e (p.to (i + s) two.1 (z - s) (omega arith)))
       ];
   from = λ i h. q.from i (
     p.from i (λ z b. h z (omega arith)),
-    p.from (i + s) (λ z b.
-        let e : i + (s + z) ≡ (i + s) + z = omega arith in
-        subst P e (h (s + z) (omega arith))),
+    p.from (i + s) (λ z b. let e : i + (s + z) ≡ i + s + z = omega arith in subst P e (h (s + z) (omega arith))),
   );
 }

@@ -4,14 +4,16 @@ use Rattle.place_sets.proofs.searching.first_from.Goals as goal
 
 pub returns : goal.returns
 returns g c =
-    let first = c.first_place in
-    let both = c.intersection-later.ensures.to first.result first.ensures.in_mask in
-    let within = first.ensures.within in (
-      (c.shifted_up.ensures.to first.result both.1).1,
+    let first = c.first_place.ensures in
+    let later = c.intersection-later.ensures in
+    let up = c.shifted_up.ensures in
+    let both = later.to _ first.in_mask in
+    let within = first.within in (
+      (up.to _ both.1).1,
       within,
       both.0,
       λ i after before there.
           let all = c.full.ensures.from (i - c.args.from) (omega arith) in
-          let least = first.ensures.least i (c.intersection-later.ensures.from i (there, c.shifted_up.ensures.from i (omega arith, after, all))) in
+          let least = first.least i (later.from i (there, up.from i (omega arith, after, all))) in
           omega arith,
     )

@@ -32,6 +32,7 @@ returns c =
             inr (high.ensures.from i (l, bit_at_shr n 64 (63 - i) ∙ subst (Has n) e h.1)))
         | inr l ↦
             (let e : 127 - i ≡ 63 - (i - 64) = omega arith in
-            inl (up.from i (h.0, l, low.ensures.from (i - 64) (omega arith, part.from _ (subst (Has n) e h.1, full_64.from _ (omega arith))))))
+            let there = part.from _ (subst (Has n) e h.1, full_64.from _ (omega arith)) in
+            inl (up.from i (h.0, l, low.ensures.from (i - 64) (omega arith, there))))
       ]);
     }
