@@ -67,8 +67,7 @@ trick w x n i l h =
 
 flooded_free : (x n i : ℕ) → ((j : ℕ) → Has x j → Has n j) → IsFlooded (Has x) (Has n) i → Has n i
 flooded_free x n zero h f = h 0 f
-flooded_free x n (suc i) h (inl f) = h (suc i) f
-flooded_free x n (suc i) h (inr f) = f.0
+flooded_free x n (suc i) h f = grind arith
 
 -- what the trick computes, of sources that are free
 pub flooded : (w x n : ℕ) → x < 2 ^ w → n < 2 ^ w → ((j : ℕ) → Has x j → Has n j)

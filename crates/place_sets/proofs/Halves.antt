@@ -6,7 +6,6 @@ use Rattle.std.proofs.lemmas.Nat.{le_or_l, le_or_r}
 use Rattle.place_sets.proofs.WordSteps.{full_64}
 use Rattle.std.specs.Int.Bits.{or_zero_l, or_zero_r}
 use Rattle.std.proofs.lemmas.Bool.Decides.{nat_tests}
-use Rattle.std.proofs.lemmas.Bool.{cases_lt}
 use Rattle.place_sets.proofs.Uses.{flooded_within}
 use Rattle.std.proofs.lemmas.Nat.Bits.{bit_at-zero, bit_at_and, bit_at-lt, bit_at_cat_low, bit_at_cat_high, bit_at_above}
 use Rattle.place_sets.specs.Masks.{Has, IsMaskOf, IsFlooded, joined}
@@ -37,16 +36,7 @@ pub ruleset parts = (bit_low, above, bit_at_and, bit_at-lt, full_64)
 -- a mask of two halves has what its halves have
 pub halves : (P : ℕ → Type 0) (low high : ℕ) → Fits low → IsMaskOf (λ i. (i < 128) × P i) low → IsMaskOf (λ i. P (i + 128)) high
     → IsMaskOf P (joined low high)
-halves P low high f p q = record {
-  to = λ i h. elim (cases_lt i 128) [
-    | inl l ↦ (p.to i (rw bit_low at h)).1
-    | inr l ↦ (let e : i - 128 + 128 ≡ i = omega arith in subst P e (q.to (i - 128) (rw at_high at h)))
-  ];
-  from = λ i h. elim (cases_lt i 128) [
-    | inl l ↦ rw bit_low (p.from i (l, h))
-    | inr l ↦ (let e : i ≡ i - 128 + 128 = omega arith in rw at_high (q.from (i - 128) (subst P e h)))
-  ];
-}
+halves P low high f p q = grind (arith, bit_low, at_high)
 
 -- one of the low places
 pub low_at : (low high i j : ℕ) → i < 128 → j ≡ i → bit_at (joined low high) j ≡ bit_at low i

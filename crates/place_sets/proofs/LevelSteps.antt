@@ -85,15 +85,7 @@ levels_none P top levels none never = record {
 
 -- the lowest level is spread over one place: it is its mask
 pub lowest_is : (P : ℕ → Type 0) (low : ℕ) (levels : List ℕ) → low ≡ 0 → AreLevelsOf P low levels → IsMaskOf P (get_or levels 0 0)
-lowest_is P low levels e p = record {
-  to = λ i h. p.to i (0, omega arith, (0, omega arith, (let z : i ≡ i + 0 = omega arith in subst (Has (get_or levels 0 0)) z h)));
-  from = λ i x.
-      let y = p.from i x in
-      let z : y.0 ≡ 0 = omega (arith, y.1) in
-      let w : SomeFrom (Has (get_or levels 0 0)) 1 i = rw z at y.2 in
-      let f : i + w.0 ≡ i = omega (arith, w.1) in
-      subst (Has (get_or levels 0 0)) f w.2;
-}
+lowest_is P low levels e p = grind arith
 
 -- each element of a list of empty words is 0 as a number
 pub none_at : {A : Type 0} (number : A → ℕ) (none : A) → number none ≡ 0 → (count k : ℕ)

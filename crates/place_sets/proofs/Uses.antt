@@ -1,6 +1,6 @@
 -- What a few steps on words come to: floods, parts shared and joined, shifted and reversed places.
-use Rattle.std.proofs.Common.{◌≡◌, ℕ, zero, suc, ◌+◌, ◌-◌, ◌<◌, ◌≤◌, ◌⊎◌, inl, inr, arith, subst}
-use Rattle.place_sets.specs.Masks.{Has, IsMaskOf, IsShifted, IsReversed, IsFlooded}
+use Rattle.std.proofs.Common.{ℕ, zero, suc, ◌≤◌, ◌⊎◌, inl, inr, arith}
+use Rattle.place_sets.specs.Masks.{Has, IsMaskOf, IsShifted, IsFlooded}
 use Rattle.place_sets.proofs.Steps.{mask_same}
 
 pub flooded_within : (P Q R S : ℕ → Type 0) (i : ℕ) → ((k : ℕ) → k ≤ i → P k → R k) → ((k : ℕ) → k ≤ i → Q k → S k) → IsFlooded P Q i
@@ -25,35 +25,16 @@ flood_from P Free sources m p = flood_same (Has sources) Free P Free m p.to p.fr
 -- if both masks have what they should, so has the part that they share
 pub meet_of : (P Q : ℕ → Type 0) (a b m : ℕ) → IsMaskOf P a → IsMaskOf Q b → IsMaskOf (λ i. Has a i × Has b i) m
     → IsMaskOf (λ i. P i × Q i) m
-meet_of P Q a b m p q r =
-    mask_same (λ i. Has a i × Has b i) (λ i. P i × Q i) m r (λ i h. (p.to i h.0, q.to i h.1)) (λ i h. (p.from i h.0, q.from i h.1))
+meet_of P Q a b m p q r = grind arith
 
 -- and so has what they have together
 pub join_of : (P Q : ℕ → Type 0) (a b m : ℕ) → IsMaskOf P a → IsMaskOf Q b → IsMaskOf (λ i. Has a i ⊎ Has b i) m
     → IsMaskOf (λ i. P i ⊎ Q i) m
-join_of P Q a b m p q r =
-    mask_same (λ i. Has a i ⊎ Has b i) (λ i. P i ⊎ Q i) m r (λ i h. elim h [ inl x ↦ inl (p.to i x) | inr y ↦ inr (q.to i y) ])
-    (λ i h. elim h [ inl x ↦ inl (p.from i x) | inr y ↦ inr (q.from i y) ])
+join_of P Q a b m p q r = grind arith
 
 pub shifted_of : (w : ℕ) (P : ℕ → Type 0) (a by m : ℕ) → IsMaskOf P a → IsMaskOf (IsShifted w (Has a) by) m → IsMaskOf (IsShifted w P by) m
-shifted_of w P a by m p q =
-    mask_same (IsShifted w (Has a) by) (IsShifted w P by) m q (λ i h. (h.0, h.1, p.to (i - by) h.2))
-    (λ i h. (h.0, h.1, p.from (i - by) h.2))
+shifted_of w P a by m p q = grind arith
 
 -- a mask has the places that it has
 pub has_of : (a : ℕ) → IsMaskOf (Has a) a
 has_of a = record { to = λ i h. h; from = λ i h. h }
-
--- the first places, reversed in their word and shifted down to the first one, are seen from their other end
-pub reversed_first : (w mask reversed len m : ℕ) → len ≤ w → IsMaskOf (IsReversed w (Has mask)) reversed
-    → IsMaskOf (λ i. Has reversed (i + (w - len))) m
-    → IsMaskOf (λ i. (i < len) × Has mask (len - 1 - i)) m
-reversed_first w mask reversed len m h p q =
-    mask_same (λ i. Has reversed (i + (w - len))) (λ i. (i < len) × Has mask (len - 1 - i)) m q
-    (λ i x. let a = p.to (i + (w - len)) x in
-    let l : i + (w - len) < w = a.0 in
-    let e : w - 1 - (i + (w - len)) ≡ len - 1 - i = omega arith in
-    (omega arith, subst (Has mask) e a.1))
-    (λ i a. let l : i < len = a.0 in
-    let e : len - 1 - i ≡ w - 1 - (i + (w - len)) = omega arith in
-    p.from (i + (w - len)) (omega arith, subst (Has mask) e a.1))

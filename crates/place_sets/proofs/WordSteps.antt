@@ -3,7 +3,7 @@ use Rattle.std.proofs.Common.{◌≡◌, ℕ, zero, suc, ◌+◌, ◌-◌, ◌*�
 use Rattle.std.specs.Int.{bit_at, w64, w128, trailing_zeros, Width}
 use mir.Val.{bits}
 use Rattle.std.specs.Int.RustNames.{bit_and, bit_or}
-use Rattle.std.proofs.lemmas.Bool.{cases_lt, cases_eq}
+use Rattle.std.proofs.lemmas.Bool.{cases_eq}
 use Rattle.std.proofs.lemmas.Bool.Decides.{nat_tests}
 use Rattle.std.proofs.lemmas.Nat.Bits.{bit_at_and, bit_at_or, bit_at_above, bit_at_xor, bit_at_not, bit_at-lt, bit_at-zero, bit_at_ones, bit_at_ones_above, bit_at-pow_same, bit_at-pow_other, bit_at_lowest, bit_at-suc, bit_at-trailing_zeros}
 use Rattle.std.proofs.lemmas.Nat.{pow-add, one_shl}
@@ -31,10 +31,7 @@ join_is a b = grind (arith, bit_at_or, bit_at-lt)
 
 -- no place is above that of the greatest power of two
 pub none_above : (m r : ℕ) → 2 ^ r ≤ m → m < 2 * 2 ^ r → (i : ℕ) → Has m i → i ≤ r
-none_above m r a b i h = elim (cases_lt r i) [
-  | inl high ↦ (let e = pow-add 2 r 1 in absurd (omega (arith, bit_at_above m (r + 1) i (omega arith) (omega arith))))
-  | inr low ↦ low
-]
+none_above m r a b i h = let twice = pow-add 2 r 1 in let none = bit_at_above m (r + 1) i in grind arith
 
 place_in : (n m : ℕ) → m ≤ n → 0 < m → (i : ℕ) × Has m i
 place_in zero m b p = absurd (omega arith)
@@ -49,10 +46,7 @@ some_place m p = place_in m m (omega arith) p
 
 bit_at_difference : (w a b others i : ℕ) → a < 2 ^ w → ((i : ℕ) → i < w → bit_at others i ≡ 1 - bit_at b i)
     → bit_at (bit_and a others) i ≡ min (bit_at a i) (1 - bit_at b i)
-bit_at_difference w a b others i fits flips = elim (cases_lt i w) [
-  | inl low ↦ (let n = flips i low in omega (arith, bit_at_and a others i))
-  | inr high ↦ (let n = bit_at_above a w i fits high in omega (arith, bit_at_and a others i))
-]
+bit_at_difference w a b others i fits flips = grind (arith, bit_at_and, bit_at_above)
 
 pub difference_64 : (a b i : ℕ) → a < 18446744073709551616 → b < 18446744073709551616
     → bit_at (bit_and a (18446744073709551615 - b)) i ≡ min (bit_at a i) (1 - bit_at b i)
@@ -72,10 +66,7 @@ pub full_256 : IsMaskOf (λ i. i < 256) 1157920892373161954235709850086879078532
 full_256 = low_ones 256
 
 one_place : (w k i : ℕ) → k < w → bit_at (1 * 2 ^ k % 2 ^ w) i ≡ cond (nat_eq i k) 1 0
-one_place w k i h = let one = one_shl k w h in rw one (elim (cases_eq i k) [
-  | inl same ↦ (let yes = bit_at-pow_same k in grind (arith, nat_tests))
-  | inr other ↦ (let no = bit_at-pow_other k i other in grind (arith, nat_tests))
-])
+one_place w k i h = let one = one_shl k w h in rw one (grind (arith, nat_tests, bit_at-pow_same, bit_at-pow_other))
 
 pub one_place_64 : (k i : ℕ) → k < 64 → bit_at (1 * 2 ^ k % 18446744073709551616) i ≡ cond (nat_eq i k) 1 0
 one_place_64 k i h = one_place 64 k i h
@@ -84,21 +75,15 @@ pub one_place_128 : (k i : ℕ) → k < 128 → bit_at (1 * 2 ^ k % 340282366920
 one_place_128 k i h = one_place 128 k i h
 
 -- the least place of a word
-least : (w : Width) (n : ℕ) → 0 < n → n < 2 ^ bits w → Has n (trailing_zeros w n) × ((i : ℕ) → Has n i → trailing_zeros w n ≤ i)
-least w n p l = let h = bit_at-trailing_zeros w n p l in (
-  h.1,
-  λ i x. elim (cases_lt i (trailing_zeros w n)) [
-    | inl low ↦ (let none = h.2 i low in absurd (omega arith))
-    | inr high ↦ high
-  ],
-)
+least : (w : Width) (n i : ℕ) → 0 < n → n < 2 ^ bits w → Has n (trailing_zeros w n) × (Has n i → trailing_zeros w n ≤ i)
+least w n i p l = grind (arith, bit_at-trailing_zeros)
 
 pub least_64 : (n i : ℕ) → 0 < n → n < 18446744073709551616 → Has n (trailing_zeros w64 n) × (Has n i → trailing_zeros w64 n ≤ i)
-least_64 n i p l = let h = least w64 n p l in (h.0, h.1 i)
+least_64 n i p l = least w64 n i p l
 
 pub least_128 : (n i : ℕ) → 0 < n → n < 340282366920938463463374607431768211456
     → Has n (trailing_zeros w128 n) × (Has n i → trailing_zeros w128 n ≤ i)
-least_128 n i p l = let h = least w128 n p l in (h.0, h.1 i)
+least_128 n i p l = least w128 n i p l
 
 -- what a word's operations come to
 pub ruleset words = (

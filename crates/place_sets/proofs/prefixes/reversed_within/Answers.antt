@@ -1,13 +1,19 @@
 -- `reversed_within`: the places reversed in their word end with the word, and are shifted down to the first one.
-use Rattle.std.proofs.Common.{ℕ, ◌+◌, ◌-◌, subst}
-use Rattle.place_sets.specs.Masks.{Has, IsMaskOf}
-use Rattle.place_sets.proofs.Uses.{reversed_first}
+use Rattle.std.proofs.Common.{◌≡◌, ◌+◌, ◌-◌, subst, arith}
+use Rattle.place_sets.specs.Masks.{Has}
 use Rattle.place_sets.proofs.prefixes.reversed_within.Goals as goal
 
 pub returns : goal.returns
 returns g c =
-    let number = g.W.PlaceSet.number in
-    reversed_first g.W.PlaceSet.WIDTH (number c.args.mask) (number c.reversed.result) c.args.len (number c.shifted_down.result) c.requires.1
-    c.reversed.ensures
-    (subst (λ (w : ℕ). IsMaskOf (λ i. Has (number c.reversed.result) (i + (w - c.args.len))) (number c.shifted_down.result)) c.WIDTH.ensures
-    c.shifted_down.ensures)
+    let mask = Has (g.W.PlaceSet.number c.args.mask) in
+    let w = c.WIDTH.ensures in
+    let all = c.requires in
+    record {
+      to = λ i h.
+          let a = c.reversed.ensures.to _ (c.shifted_down.ensures.to i h) in
+          let e : g.W.PlaceSet.WIDTH - 1 - (i + (c.WIDTH.result - c.args.len)) ≡ c.args.len - 1 - i = omega (arith, a.0) in
+          (omega (arith, a.0), subst mask e a.1);
+      from = λ i h.
+          let e : c.args.len - 1 - i ≡ g.W.PlaceSet.WIDTH - 1 - (i + (c.WIDTH.result - c.args.len)) = omega (arith, h.0) in
+          c.shifted_down.ensures.from i (c.reversed.ensures.from _ (omega (arith, h.0), subst mask e h.1));
+    }

@@ -25,19 +25,13 @@ rest_of level n low high =
     let block = rw (e, z, xor_zero_r) at (xor_block level 1 1 (n - 2 ^ level) 0 (omega arith) (pow_pos level)) in
     omega arith
 
-record IsLevel (level length : ℕ) : Type 0 where
-  low : 2 ^ level ≤ length
-  high : length < 2 * 2 ^ level
-  within : level ≤ 8
-  rest : bit_xor length (1 * 2 ^ level % 65536) ≡ length - 2 ^ level
-
 is_level : (level length odd : ℕ) → odd ≡ bit_or length 1 → 0 < length → length ≤ 256 → 2 ^ level ≤ odd → odd < 2 * 2 ^ level
-    → IsLevel level length
+    → (2 ^ level ≤ length) × (length < 2 * 2 ^ level) × (level ≤ 8) × (bit_xor length (1 * 2 ^ level % 65536) ≡ length - 2 ^ level)
 is_level level length odd e some short l h =
     let low : 2 ^ level ≤ length = level_at_least level length some (omega arith) in
     let high : length < 2 * 2 ^ level = omega (arith, with_lowest length) in
     let within = level_within level length 256 8 low short refl in
-    record { low = low; high = high; within = within; rest = rw (one_shl level 16 (omega arith)) (rest_of level length low high) }
+    (low, high, within, rw (one_shl level 16 (omega arith)) (rest_of level length low high))
 
 pub ilog2-level-requires : goal.ilog2-level-requires
 ilog2-level-requires c = omega (arith, with_lowest c.args.length, c.from.ensures)
