@@ -4,8 +4,13 @@ use Rattle.std.specs.Int.{bit_at}
 use Rattle.place_sets.specs.Masks.{Has, IsFlooded, joined}
 use Rattle.place_sets.proofs.Flooding.{has_below}
 use Rattle.place_sets.proofs.Steps.{mask_same}
-use Rattle.place_sets.proofs.Halves.{halves, flood_low, flood_high, high_at}
+use Rattle.place_sets.proofs.Halves.{bit_low, halves, flood_low, flood_high, high_at}
 use Rattle.place_sets.proofs.wide.WidePlaceSet.flood.Goals as goal
+
+pub flood-low-requires : goal.flood-low-requires
+flood-low-requires c i h =
+    let l = has_below 128 c.args.sources.low i (search rules) h in
+    sym (bit_low c.args.free.low c.args.free.high i l) ∙ c.requires i (bit_low c.args.sources.low c.args.sources.high i l ∙ h)
 
 pub flood-requires : goal.flood-requires
 flood-requires c i h =

@@ -2,7 +2,7 @@
 use Rattle.std.proofs.Common.{◌-◌, ◌+◌, ◌∙◌, inl, inr, sym, arith, rules}
 use Rattle.std.proofs.lemmas.Bool.{cases_lt}
 use Rattle.place_sets.proofs.Flooding.{has_below}
-use Rattle.place_sets.proofs.Halves.{halves, low_at, high_at}
+use Rattle.place_sets.proofs.Halves.{wholes, halves, low_at, high_at}
 use Rattle.place_sets.proofs.wide.WidePlaceSet.shifted_down.Goals as goal
 
 pub returns-then-by-lt128 : goal.returns-then-by-lt128
@@ -28,3 +28,6 @@ returns-then-by-lt128 c =
       to = λ i h. high (i + by) (i + 128 + by) (omega arith) ∙ c.shifted_down-then-by-lt128.ensures.to i h;
       from = λ i h. c.shifted_down-then-by-lt128.ensures.from i (sym (high (i + by) (i + 128 + by) (omega arith)) ∙ h);
     })
+
+pub returns-else-by-lt128 : goal.returns-else-by-lt128
+returns-else-by-lt128 c = grind (arith, wholes)
