@@ -8,7 +8,7 @@ use Rattle.std.proofs.lemmas.Bool.Decides.{nat_tests}
 use Rattle.std.proofs.lemmas.Nat.Bits.{bit_at_and, bit_at_or, bit_at_above, bit_at_xor, bit_at_not, bit_at-lt, bit_at-zero, bit_at_ones, bit_at_ones_above, bit_at-pow_same, bit_at-pow_other, bit_at_lowest, bit_at-suc, bit_at-trailing_zeros}
 use Rattle.std.proofs.lemmas.Nat.{pow-add, one_shl}
 use Rattle.place_sets.specs.Masks.{Has, IsMaskOf}
-use Rattle.place_sets.proofs.Steps.{mask_same, bit_at_shr, up_is}
+use Rattle.place_sets.proofs.Steps.{mask_same}
 
 -- a word of `n` ones has the first `n` places
 pub low_ones : (n : ℕ) → IsMaskOf (λ i. i < n) (2 ^ n - 1)
@@ -86,20 +86,4 @@ pub least_128 : (n i : ℕ) → 0 < n → n < 3402823669209384634633746074317682
 least_128 n i p l = least w128 n i p l
 
 -- what a word's operations come to
-pub ruleset words = (
-  full_64,
-  full_128,
-  one_is,
-  up_is,
-  none_above,
-  bit_at_and,
-  bit_at_or,
-  bit_at_xor,
-  bit_at-lt,
-  bit_at_shr,
-  one_place_64,
-  one_place_128,
-  nat_tests,
-  difference_64,
-  difference_128,
-)
+pub ruleset words = (bit_at_and, bit_at_or, bit_at_xor, bit_at-lt, one_place_64, one_place_128, nat_tests, difference_64, difference_128)

@@ -32,10 +32,12 @@ impl PlaceSet for u64 {
         0
     }
 
+    #[tactic(auto, using(crate::proofs::WordSteps::one_is))]
     fn first() -> u64 {
         1
     }
 
+    #[tactic(auto, using(crate::proofs::WordSteps::full_64))]
     fn full() -> u64 {
         u64::MAX
     }
@@ -44,6 +46,7 @@ impl PlaceSet for u64 {
         self == 0
     }
 
+    #[tactic(auto)]
     fn contains(self, place: u16) -> bool {
         (self >> place) & 1 == 1
     }
@@ -72,10 +75,12 @@ impl PlaceSet for u64 {
         self & !other
     }
 
+    #[tactic(auto, using(crate::proofs::Steps::up_is))]
     fn shifted_up(self, by: u16) -> u64 {
         self << by
     }
 
+    #[tactic(auto, using(crate::proofs::Steps::bit_at_shr))]
     fn shifted_down(self, by: u16) -> u64 {
         self >> by
     }
@@ -98,6 +103,7 @@ impl PlaceSet for u64 {
         self.trailing_zeros() as u16
     }
 
+    #[tactic(auto, using(crate::proofs::WordSteps::none_above))]
     fn last_place(self) -> u16 {
         self.ilog2() as u16
     }
@@ -138,10 +144,12 @@ impl PlaceSet for u128 {
         0
     }
 
+    #[tactic(auto, using(crate::proofs::WordSteps::one_is))]
     fn first() -> u128 {
         1
     }
 
+    #[tactic(auto, using(crate::proofs::WordSteps::full_128))]
     fn full() -> u128 {
         u128::MAX
     }
@@ -150,6 +158,7 @@ impl PlaceSet for u128 {
         self == 0
     }
 
+    #[tactic(auto)]
     fn contains(self, place: u16) -> bool {
         (self >> place) & 1 == 1
     }
@@ -178,10 +187,12 @@ impl PlaceSet for u128 {
         self & !other
     }
 
+    #[tactic(auto, using(crate::proofs::Steps::up_is))]
     fn shifted_up(self, by: u16) -> u128 {
         self << by
     }
 
+    #[tactic(auto, using(crate::proofs::Steps::bit_at_shr))]
     fn shifted_down(self, by: u16) -> u128 {
         self >> by
     }
@@ -201,6 +212,7 @@ impl PlaceSet for u128 {
         self.trailing_zeros() as u16
     }
 
+    #[tactic(auto, using(crate::proofs::WordSteps::none_above))]
     fn last_place(self) -> u16 {
         self.ilog2() as u16
     }
