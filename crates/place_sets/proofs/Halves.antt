@@ -29,8 +29,10 @@ above n i f l = bit_at_above n 128 i f l
 pub empty_halves : (low high : ℕ) → nat_eq (bit_or low high) 0 ≡ nat_eq (joined low high) 0
 empty_halves low high = grind (arith, nat_tests, le_or_l, le_or_r, or_zero_l, or_zero_r)
 
+-- what a place of two halves is
 pub ruleset wholes = (bit_low, at_high, above, bit_at-zero)
 
+-- what a place of a low half is
 pub ruleset parts = (bit_low, above, bit_at_and, bit_at-lt, full_64)
 
 -- a mask of two halves has what its halves have

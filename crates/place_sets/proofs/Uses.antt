@@ -3,6 +3,7 @@ use Rattle.std.proofs.Common.{ℕ, zero, suc, ◌≤◌, ◌⊎◌, inl, inr, ar
 use Rattle.place_sets.specs.Masks.{Has, IsMaskOf, IsShifted, IsFlooded}
 use Rattle.place_sets.proofs.Steps.{mask_same}
 
+-- a flood goes by the places up to its own
 pub flooded_within : (P Q R S : ℕ → Type 0) (i : ℕ) → ((k : ℕ) → k ≤ i → P k → R k) → ((k : ℕ) → k ≤ i → Q k → S k) → IsFlooded P Q i
     → IsFlooded R S i
 flooded_within P Q R S zero f g h = f 0 (omega arith) h

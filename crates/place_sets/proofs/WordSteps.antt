@@ -56,6 +56,7 @@ pub difference_128 : (a b i : ℕ) → a < 3402823669209384634633746074317682114
     → bit_at (bit_and a (340282366920938463463374607431768211455 - b)) i ≡ min (bit_at a i) (1 - bit_at b i)
 difference_128 a b i fa fb = bit_at_difference 128 a b (340282366920938463463374607431768211455 - b) i fa (λ i. bit_at_not w128 b i fb)
 
+-- a word of ones has all places
 pub full_64 : IsMaskOf (λ i. i < 64) 18446744073709551615
 full_64 = low_ones 64
 
@@ -85,5 +86,5 @@ pub least_128 : (n i : ℕ) → 0 < n → n < 3402823669209384634633746074317682
     → Has n (trailing_zeros w128 n) × (Has n i → trailing_zeros w128 n ≤ i)
 least_128 n i p l = least w128 n i p l
 
--- what a word's operations come to
+-- what a bit of a word's operation is
 pub ruleset words = (bit_at_and, bit_at_or, bit_at_xor, bit_at-lt, one_place_64, one_place_128, nat_tests, difference_64, difference_128)
