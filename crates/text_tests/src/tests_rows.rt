@@ -111,3 +111,16 @@ fn a_row_in_the_middle_of_a_grid(rt: HostRuntime) -> Result<(), Fail> {
     assert!(rt; line.is_same(&row), "the row");
     Ok(())
 }
+
+#[test]
+fn all_rows_are_written_at_once(rt: HostRuntime) -> Result<(), Fail> {
+    let mut grid = Grid::unknown(rt.alloc(), 5, 1)?;
+    grid.set(1, 0, Cell::Blank);
+    grid.write_rows(&[new_row()]);
+    assert!(rt; grid.known() == 4, "`?.???` became `#?##.`");
+    assert!(rt; grid.at(0) == Cell::Filled && grid.at(1) == Cell::Unknown);
+    assert!(rt;
+        grid.at(2) == Cell::Filled && grid.at(3) == Cell::Filled && grid.at(4) == Cell::Blank
+    );
+    Ok(())
+}
