@@ -32,7 +32,7 @@ pub line-below : (p : Nonogram) (size : ℕ) (side : Side) (i : ℕ) → i < cou
 line-below p size side i l e = rw e (below_places side p.width p.height i l)
 
 -- a line stays settled if none of its cells changed
-settled-same : (g new : List Cell) (line : GridLine) → IsDeduced g line →
+pub settled-same : (g new : List Cell) (line : GridLine) → IsDeduced g line →
     ((i : ℕ) → i < length line.places → get_or new (get_or line.places i 0) Unknown ≡ get_or g (get_or line.places i 0) Unknown) →
     IsDeduced new line
 settled-same g new line settled same = rw (cells_at-same new g line.places same) settled

@@ -28,20 +28,10 @@ number_at-holder-requires g c =
 
 pub invariant_of-self : goal.invariant_of-self
 invariant_of-self g c =
-    let inside = c.self.inside in
-    let w : WitnessLists = record {
-      witnesses = inside.witnesses.items;
-      fillable = inside.fillable.items;
-      blankable = inside.blankable.items;
-      room = inside.cells;
-    } in
     let after = c.keep_each.new.witnesses in
-    let items : (with_items inside.witnesses after).items ≡ after =
-    with_items_is inside.witnesses after (c.keep_each.auto.witnesses ∙ c.deref_mut.ensures.len) in
-    let same : length after ≡ length w.witnesses = c.keep_each.auto.witnesses ∙ ap length c.deref_mut.ensures.value in
     record {
-      numbered = subst (λ (witnesses : List Witness). AreNumbered (record w { witnesses = witnesses })) (sym items)
-          (kept_numbered w after c.of_places-learned.result c.number_at-holder.result c.self.invariant.numbered same
+      numbered = rw (with_items_is c.self.inside.witnesses after (c.keep_each.auto.witnesses ∙ c.deref_mut.ensures.len))
+          (kept_numbered _ after _ _ c.self.invariant.numbered (c.keep_each.auto.witnesses ∙ ap length c.deref_mut.ensures.value)
           (rw c.deref_mut.ensures.value at c.keep_each.ensures));
       fillable = c.self.invariant.fillable;
       blankable = c.self.invariant.blankable;
@@ -49,32 +39,16 @@ invariant_of-self g c =
 
 pub returns-clause-witnesses : goal.returns-clause-witnesses
 returns-clause-witnesses g c =
-    let inside = c.self.inside in
-    let w : WitnessLists = record {
-      witnesses = inside.witnesses.items;
-      fillable = inside.fillable.items;
-      blankable = inside.blankable.items;
-      room = inside.cells;
-    } in
     let cells = c.args.board.now.cells in
     let learned = drop c.args.mark c.args.board.now.trail in
     let g = cells_before cells c.args.board.now.trail c.args.mark in
     let after = c.keep_each.new.witnesses in
-    let lines = c.of_places-learned.result in
-    let items : (with_items inside.witnesses after).items ≡ after =
-    with_items_is inside.witnesses after (c.keep_each.auto.witnesses ∙ c.deref_mut.ensures.len) in
-    let same : length after ≡ length w.witnesses = c.keep_each.auto.witnesses ∙ ap length c.deref_mut.ensures.value in
     let p = c.args.puzzle.now in
-    let more : Extends g cells = settled-extends (lines_of p) g cells c.args.place c.args.colour c.requires.unknown c.requires.settled in
-    let are : AreWitnesses p w g = subst (λ (q : WitnessLists). AreWitnesses p q g) (sym c.self.view_is) c.requires.witnesses in
-    let holder : c.number_at-holder.result ≡ get_or (met_by w c.args.colour) c.args.place 0 =
-    subst (λ (q : WitnessLists). c.number_at-holder.result ≡ get_or (met_by q c.args.colour) c.args.place 0)
-    (sym c.self.view_is) c.number_at-holder.ensures in
-    let differ : DifferWithin p.width g cells lines =
-    cleared_within p.width cells learned lines
-    (rw (c.trail.ensures.trail, c.width.ensures.width, take_rest c.args.board.now.trail c.args.mark) at c.of_places-learned.ensures) in
-    subst (λ (witnesses : List Witness). AreWitnesses p (record w { witnesses = witnesses }) cells) (sym items)
-    (kept_witnesses p w after g cells lines c.number_at-holder.result c.args.place c.args.colour c.width.ensures.puzzle c.self.invariant.numbered
-    (length-Extends g cells more ∙ c.requires.size.2) c.requires.settled more differ
-    are holder same
-    (rw c.deref_mut.ensures.value at c.keep_each.ensures))
+    let more = settled-extends (lines_of p) g cells c.args.place c.args.colour c.requires.unknown c.requires.settled in
+    rw (with_items_is c.self.inside.witnesses after (c.keep_each.auto.witnesses ∙ c.deref_mut.ensures.len))
+    (kept_witnesses p _ after g cells _ _ c.args.place c.args.colour c.width.ensures.puzzle c.self.invariant.numbered
+    (length-Extends g cells more ∙ c.requires.size.2) c.requires.settled more
+    (cleared_within p.width cells learned c.of_places-learned.result (rw (c.trail.ensures.trail, c.width.ensures.width,
+    take_rest c.args.board.now.trail c.args.mark) at c.of_places-learned.ensures))
+    (rw (← c.self.view_is) at c.requires.witnesses) (rw (← c.self.view_is) at c.number_at-holder.ensures)
+    (c.keep_each.auto.witnesses ∙ ap length c.deref_mut.ensures.value) (rw c.deref_mut.ensures.value at c.keep_each.ensures))
