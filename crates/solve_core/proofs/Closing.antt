@@ -51,28 +51,21 @@ repeat-fixed f (suc n) g e = rw e (repeat-fixed f n g e)
 pub unknown_count-le : (g : List Cell) → unknown_count g ≤ length g
 unknown_count-le [] = omega arith
 unknown_count-le (Unknown ∷ g) = omega (arith, unknown_count-le g)
-unknown_count-le (Filled ∷ g) = omega (arith, unknown_count-le g)
-unknown_count-le (Blank ∷ g) = omega (arith, unknown_count-le g)
+unknown_count-le (_ ∷ g) = omega (arith, unknown_count-le g)
 
 -- a grid that knows all of another one is the same, or has fewer unknown cells
 pub fewer_unknown : (g z : List Cell) → Extends g z → (z ≡ g) ⊎ (unknown_count z < unknown_count g)
 fewer_unknown [] [] h = inl refl
-fewer_unknown [] (d ∷ z) h = absurd h
-fewer_unknown (c ∷ g) [] h = absurd h
 fewer_unknown (Unknown ∷ g) (Unknown ∷ z) h =
     elim (fewer_unknown g z h.1) [ inl e ↦ inl (ap (λ (r : List Cell). Unknown ∷ r) e) | inr l ↦ inr (omega arith) ]
-fewer_unknown (Unknown ∷ g) (Filled ∷ z) h =
-    inr (elim (fewer_unknown g z h.1) [ inl e ↦ omega (arith, ap (unknown_count) e) | inr l ↦ omega arith ])
-fewer_unknown (Unknown ∷ g) (Blank ∷ z) h =
-    inr (elim (fewer_unknown g z h.1) [ inl e ↦ omega (arith, ap (unknown_count) e) | inr l ↦ omega arith ])
-fewer_unknown (Filled ∷ g) (Unknown ∷ z) h = absurd h.0
 fewer_unknown (Filled ∷ g) (Filled ∷ z) h =
     elim (fewer_unknown g z h.1) [ inl e ↦ inl (ap (λ (r : List Cell). Filled ∷ r) e) | inr l ↦ inr l ]
-fewer_unknown (Filled ∷ g) (Blank ∷ z) h = absurd h.0
-fewer_unknown (Blank ∷ g) (Unknown ∷ z) h = absurd h.0
-fewer_unknown (Blank ∷ g) (Filled ∷ z) h = absurd h.0
 fewer_unknown (Blank ∷ g) (Blank ∷ z) h =
     elim (fewer_unknown g z h.1) [ inl e ↦ inl (ap (λ (r : List Cell). Blank ∷ r) e) | inr l ↦ inr l ]
+fewer_unknown (Unknown ∷ g) (_ ∷ z) h =
+    inr (elim (fewer_unknown g z h.1) [ inl e ↦ omega (arith, ap unknown_count e) | inr l ↦ omega arith ])
+fewer_unknown (_ ∷ g) (_ ∷ z) h = absurd h.0
+fewer_unknown _ _ h = absurd h
 
 closed_after : (f : List Cell → Option (List Cell)) (n : ℕ) (g c : List Cell) (o : Option (List Cell)) → f g ≡ o → AtMost (Some g) o →
     option_and_then (repeat f n) o ≡ Some c
@@ -81,11 +74,10 @@ closed_after f n g c None is k e next = cc
 closed_after f n g c (Some g') is k e next =
     elim (fewer_unknown g g' k) [
       | inl same ↦
-          (let fixed : f g ≡ Some g = is ∙ ap (λ (r : List Cell). Some r) same in
-          let ends : repeat f n g ≡ Some c = ap (repeat f n) (sym same) ∙ e in
-          let c_is : Some g ≡ Some c = sym (repeat-fixed f n g fixed) ∙ ends in
-          let same_c : g ≡ c = cc in
-          ap f (sym same_c) ∙ fixed ∙ c_is)
+          (let fixed : f g' ≡ Some g' = rw same (rw same at is) in
+          let ends = repeat-fixed f n g' fixed in
+          let end : g' ≡ c = cc in
+          rw (← end) fixed)
       | inr less ↦ next g' less e
     ]
 

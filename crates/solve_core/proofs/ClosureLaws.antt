@@ -1,40 +1,51 @@
 -- The closure is the least line-closed grid, and loses no solution.
 use Rattle.std.proofs.Common.{◌≡◌, ℕ, zero, suc, ◌+◌, ◌<◌, Bool, false, List, [], ◌∷◌, length, get_or, set, map, Option, Some, None, refl, sym, ap, ◌∙◌, arith, length-set, option_map}
 use Rattle.std.specs.List.{AllByRecursion}
+use Rattle.std.proofs.Math.ListN.{get_or-map}
+use Rattle.std.proofs.lemmas.List.{set-get_or}
 use Rattle.grid_core.specs.declared.cells.Cell.{Cell}
-use Rattle.grid_core.specs.declared.cells.Cell.TheVariants.{Unknown}
+use Rattle.grid_core.specs.declared.cells.Cell.TheVariants.{Unknown, Blank}
 use Rattle.grid_core.specs.Cells.{CellExtends, Extends, colour}
 use Rattle.grid_core.specs.Runs.{runs}
 use Rattle.grid_core.specs.Nonogram.{GridLine, cells_at}
 use Rattle.line_core.specs.Deduction.{deduced}
 use Rattle.solve_core.specs.Closure.{with_cells, deduce_line, round, repeat, closure}
-use Rattle.solve_core.proofs.Order.{AtMost, AtMost-trans, Extends-refl, Extends-trans, Extends-antisym, HasLength, join_all-above, join_all-above_each, join_all-least}
+use Rattle.solve_core.proofs.Order.{AtMost, AtMost-trans, Extends-refl, Extends-trans, Extends-antisym, HasLength, join_all-above, join_all-least}
 pub use Rattle.solve_core.specs.LeastClosed.{IsLeastClosed}
 use Rattle.solve_core.proofs.Closing.{IsDeduction, repeat-above, repeat-below, repeat-least, repeat-closed, unknown_count-le}
 use Rattle.line_core.proofs.DeductionLaws.{Extends-at, deduced-below, deduced-monotone, deduced-full, get_or-map_colour}
 
--- if a grid knows no less, neither do its cells at some places
-pub cells_at-monotone : (g z : List Cell) (places : List ℕ) → Extends g z → Extends (cells_at Unknown g places) (cells_at Unknown z places)
-cells_at-monotone g z [] h = tt
-cells_at-monotone g z (k ∷ places) h = (Extends-at g z k h, cells_at-monotone g z places h)
+-- if a grid knows no less, its cell does neither, whatever stands for one outside
+at_more : (g z : List Cell) (k : ℕ) (d : Cell) → Extends g z → CellExtends (get_or g k Unknown) (get_or z k d)
+at_more [] [] k d h = tt
+at_more (x ∷ g) (y ∷ z) zero d h = h.0
+at_more (x ∷ g) (y ∷ z) (suc k) d h = at_more g z k d h.1
+at_more _ _ k d h = absurd h
+
+cells_at-monotone : (g z : List Cell) (d : Cell) (places : List ℕ) → Extends g z → Extends (cells_at Unknown g places) (cells_at d z places)
+cells_at-monotone g z d [] h = tt
+cells_at-monotone g z d (k ∷ places) h = (at_more g z k d h, cells_at-monotone g z d places h)
+
+-- writing what stands there changes nothing
+pub with_cells-read : (d : Cell) (g : List Cell) (places : List ℕ) → with_cells g places (cells_at d g places) ≡ g
+with_cells-read d g [] = refl
+with_cells-read d g (p ∷ ps) = ap (λ (r : List Cell). with_cells r ps (cells_at d g ps)) (set-get_or g p d) ∙ with_cells-read d g ps
 
 -- if a grid knows no less, and a cell neither, then the grid with the cell written knows no less
 pub set-monotone : (g z : List Cell) (k : ℕ) (c d : Cell) → Extends g z → CellExtends c d → Extends (set g k c) (set z k d)
 set-monotone [] [] k c d h e = tt
-set-monotone [] (y ∷ z) k c d h e = absurd h
-set-monotone (x ∷ g) [] k c d h e = absurd h
 set-monotone (x ∷ g) (y ∷ z) zero c d h e = (e, h.1)
 set-monotone (x ∷ g) (y ∷ z) (suc k) c d h e = (h.0, set-monotone g z k c d h.1 e)
+set-monotone _ _ k c d h e = absurd h
 
 -- if a grid knows no less, and the cells written at some places neither, the result knows no less
 pub with_cells-monotone : (g z : List Cell) (places : List ℕ) (cs ds : List Cell) → Extends g z → Extends cs ds →
     Extends (with_cells g places cs) (with_cells z places ds)
-with_cells-monotone g z [] cs ds h e = h
-with_cells-monotone g z (k ∷ places) [] [] h e = h
-with_cells-monotone g z (k ∷ places) [] (d ∷ ds) h e = absurd e
-with_cells-monotone g z (k ∷ places) (c ∷ cs) [] h e = absurd e
 with_cells-monotone g z (k ∷ places) (c ∷ cs) (d ∷ ds) h e =
     with_cells-monotone (set g k c) (set z k d) places cs ds (set-monotone g z k c d h e.0) e.1
+with_cells-monotone g z (k ∷ places) [] (d ∷ ds) h e = absurd e
+with_cells-monotone g z (k ∷ places) (c ∷ cs) [] h e = absurd e
+with_cells-monotone g z _ _ _ h e = h
 
 written-monotone : (g z : List Cell) (places : List ℕ) (o p : Option (List Cell)) → Extends g z → AtMost o p →
     AtMost (option_map (with_cells g places) o) (option_map (with_cells z places) p)
@@ -47,7 +58,7 @@ pub deduce_line-monotone : (line : GridLine) (g z : List Cell) → Extends g z �
 deduce_line-monotone line g z h =
     written-monotone g z line.places (deduced (cells_at Unknown g line.places) line.clue)
     (deduced (cells_at Unknown z line.places) line.clue) h
-    (deduced-monotone (cells_at Unknown g line.places) (cells_at Unknown z line.places) line.clue (cells_at-monotone g z line.places h))
+    (deduced-monotone (cells_at Unknown g line.places) (cells_at Unknown z line.places) line.clue (cells_at-monotone g z Unknown line.places h))
 
 -- a grid with cells written at some places is as long as before
 pub length-with_cells : (g : List Cell) (places : List ℕ) (cs : List Cell) → length (with_cells g places cs) ≡ length g
@@ -60,14 +71,18 @@ length-written g places None = tt
 length-written g places (Some cs) = length-with_cells g places cs
 
 -- what each line deduces from a grid is as long as the grid, or dead
-pub lengths : (g : List Cell) (lines : List GridLine) → AllByRecursion (HasLength (length g)) (map (deduce_line g) lines)
+lengths : (g : List Cell) (lines : List GridLine) → AllByRecursion (HasLength (length g)) (map (deduce_line g) lines)
 lengths g [] = tt
 lengths g (line ∷ lines) =
     (length-written g line.places (deduced (cells_at Unknown g line.places) line.clue), lengths g lines)
 
 -- a round only adds to what is known
 pub round-above : (lines : List GridLine) (g : List Cell) → AtMost (Some g) (round lines g)
-round-above lines g = join_all-above g (map (deduce_line g) lines) (lengths g lines)
+round-above lines g = (join_all-above g (map (deduce_line g) lines) (lengths g lines)).0
+
+-- and is above what each line deduces
+pub round-above_each : (lines : List GridLine) (g : List Cell) → AllByRecursion (λ o. AtMost o (round lines g)) (map (deduce_line g) lines)
+round-above_each lines g = (join_all-above g (map (deduce_line g) lines) (lengths g lines)).1
 
 -- the round of the greater grid, if it's not dead, is above each of the smaller grid's deductions
 below_each : (lines : List GridLine) (g z w : List Cell) → Extends g z →
@@ -83,7 +98,7 @@ monotone_to lines g z h None is = tt
 monotone_to lines g z h (Some w) is =
     let above : AtMost (Some z) (Some w) = rw is at (round-above lines z) in
     let each : AllByRecursion (λ o. AtMost o (Some w)) (map (deduce_line z) lines) =
-    rw is at (join_all-above_each z (map (deduce_line z) lines) (lengths z lines)) in
+    rw is at (round-above_each lines z) in
     join_all-least g w (map (deduce_line g) lines) (Extends-trans g z w h above) (below_each lines g z w h each)
 
 pub round-deduction : (lines : List GridLine) → IsDeduction (round lines)
@@ -118,47 +133,23 @@ IsLeastClosed-unique f g (Some x) (Some y) h k =
 abbrev pub MeetsLines : List GridLine → List Bool → Type 0
 MeetsLines lines full = AllByRecursion (λ line. runs (cells_at false full line.places) ≡ line.clue) lines
 
-colour_at : (full : List Bool) (g : List Cell) (k : ℕ) → Extends g (map colour full) →
-    CellExtends (get_or g k Unknown) (colour (get_or full k false))
-colour_at [] [] k h = tt
-colour_at [] (c ∷ g) k h = absurd h
-colour_at (b ∷ full) [] k h = absurd h
-colour_at (b ∷ full) (c ∷ g) zero h = h.0
-colour_at (b ∷ full) (c ∷ g) (suc k) h = colour_at full g k h.1
-
-line_below : (full : List Bool) (g : List Cell) (places : List ℕ) → Extends g (map colour full) →
-    Extends (cells_at Unknown g places) (map colour (cells_at false full places))
-line_below full g [] h = tt
-line_below full g (k ∷ places) h = (colour_at full g k h, line_below full g places h)
-
-set-below : (full : List Bool) (g : List Cell) (k : ℕ) (c : Cell) → Extends g (map colour full) →
-    CellExtends c (colour (get_or full k false)) → Extends (set g k c) (map colour full)
-set-below [] [] k c h e = tt
-set-below [] (x ∷ g) k c h e = absurd h
-set-below (b ∷ full) [] k c h e = absurd h
-set-below (b ∷ full) (x ∷ g) zero c h e = (e, h.1)
-set-below (b ∷ full) (x ∷ g) (suc k) c h e = (h.0, set-below full g k c h.1 e)
-
-with_cells-below : (full : List Bool) (g : List Cell) (places : List ℕ) (cs : List Cell) → Extends g (map colour full) →
-    Extends cs (map colour (cells_at false full places)) → Extends (with_cells g places cs) (map colour full)
-with_cells-below full g [] cs h e = h
-with_cells-below full g (k ∷ places) [] h e = h
-with_cells-below full g (k ∷ places) (c ∷ cs) h e = with_cells-below full (set g k c) places cs (set-below full g k c h e.0) e.1
-
-written-below : (full : List Bool) (g : List Cell) (places : List ℕ) (o : Option (List Cell)) → Extends g (map colour full) →
-    AtMost o (Some (map colour (cells_at false full places))) → AtMost (option_map (with_cells g places) o) (Some (map colour full))
-written-below full g places None h e = absurd e
-written-below full g places (Some cs) h e = with_cells-below full g places cs h e
+read-colour : (full : List Bool) (places : List ℕ) → cells_at Blank (map colour full) places ≡ map colour (cells_at false full places)
+read-colour full [] = refl
+read-colour full (k ∷ places) = λ i. get_or-map colour full k false i ∷ read-colour full places i
 
 lines_below : (lines : List GridLine) (full : List Bool) (g : List Cell) → MeetsLines lines full → Extends g (map colour full) →
     AllByRecursion (λ o. AtMost o (Some (map colour full))) (map (deduce_line g) lines)
 lines_below [] full g m h = tt
-lines_below (line ∷ lines) full g m h = (
-  written-below full g line.places (deduced (cells_at Unknown g line.places) line.clue) h
-      (deduced-below (cells_at Unknown g line.places) line.clue (cells_at false full line.places)
-      (record { extends = line_below full g line.places h; runs_are = m.0 })),
-  lines_below lines full g m.1 h,
-)
+lines_below (line ∷ lines) full g m h =
+    let z = map colour full in
+    let same = read-colour full line.places in
+    let old = cells_at Unknown g line.places in
+    let below : AtMost (deduced old line.clue) (Some (cells_at Blank z line.places)) =
+    rw same (deduced-below old line.clue (cells_at false full line.places)
+    (record { extends = rw same at (cells_at-monotone g z Blank line.places h); runs_are = m.0 })) in (
+      rw (with_cells-read Blank z line.places) at (written-monotone g z line.places (deduced old line.clue) (Some (cells_at Blank z line.places)) h below),
+      lines_below lines full g m.1 h,
+    )
 
 -- a round learns nothing that a solution hasn't
 pub round-below : (lines : List GridLine) (full : List Bool) → MeetsLines lines full → (g : List Cell) → Extends g (map colour full) →
@@ -212,4 +203,4 @@ pub full-meets : (lines : List GridLine) (full : List Bool) (w : List Cell) → 
     round lines (map colour full) ≡ Some w → MeetsLines lines full
 full-meets lines full w r e =
     let z = map colour full in
-    meets_each lines full w r (rw e at (join_all-above_each z (map (deduce_line z) lines) (lengths z lines)))
+    meets_each lines full w r (rw e at (round-above_each lines z))

@@ -14,7 +14,7 @@ use Rattle.solve_core.specs.steps.Trails.{unknown_count}
 use Rattle.solve_core.proofs.Order.{AtMost, Extends-refl, Extends-trans, Extends-antisym, length-Extends}
 use Rattle.solve_core.proofs.Closing.{fewer_unknown}
 use Rattle.line_core.proofs.DeductionLaws.{deduced-above, deduced-settled}
-use Rattle.solve_core.proofs.ClosureLaws.{IsLeastClosed, IsLeastClosed-unique, closure-IsLeastClosed, with_cells-monotone}
+use Rattle.solve_core.proofs.ClosureLaws.{IsLeastClosed, IsLeastClosed-unique, closure-IsLeastClosed, with_cells-monotone, with_cells-read}
 use Rattle.solve_core.proofs.StepLaws.{IsOneOf, closed_line, step_within, dead_within}
 
 set_elsewhere : (g : List Cell) (p : ℕ) (c : Cell) (k : ℕ) → (p ≡ k → c ≡ get_or g k Unknown) →
@@ -75,11 +75,6 @@ below_from first step (suc n) size h = (
   below_from (first + step) step n size (λ i l. let next = h (suc i) (omega arith) in omega (arith, next)),
 )
 
--- writing what stands there changes nothing
-pub with_cells-same : (g : List Cell) (places : List ℕ) → with_cells g places (cells_at Unknown g places) ≡ g
-with_cells-same g [] = refl
-with_cells-same g (p ∷ ps) = ap (λ (r : List Cell). with_cells r ps (cells_at Unknown g ps)) (set-get_or g p Unknown) ∙ with_cells-same g ps
-
 -- two grids that have the same cell at each of some places are read alike there
 pub cells_at-same : (a b : List Cell) (places : List ℕ) →
     ((i : ℕ) → i < length places → get_or a (get_or places i 0) Unknown ≡ get_or b (get_or places i 0) Unknown) →
@@ -92,7 +87,7 @@ cells_at-same a b (p ∷ ps) h =
 
 -- a settled line gives nothing
 pub settled_line : (g : List Cell) (line : GridLine) → IsDeduced g line → deduce_line g line ≡ Some g
-settled_line g line h = ap (option_map (with_cells g line.places)) h ∙ ap (λ (r : List Cell). Some r) (with_cells-same g line.places)
+settled_line g line h = ap (option_map (with_cells g line.places)) h ∙ ap (λ (r : List Cell). Some r) (with_cells-read Unknown g line.places)
 
 above_line : (line : GridLine) (g d : List Cell) → deduced (cells_at Unknown g line.places) line.clue ≡ Some d →
     Extends (cells_at Unknown g line.places) d
@@ -107,7 +102,7 @@ pub written-extends : (line : GridLine) (g new : List Cell) → IsWritten line g
 written-extends line g new w =
     let old = with_cells-monotone g g line.places (cells_at Unknown g line.places) w.certain (Extends-refl g)
     (above_line line g w.certain w.is_certain) in
-    rw w.written (rw (with_cells-same g line.places) at old)
+    rw w.written (rw (with_cells-read Unknown g line.places) at old)
 
 -- what was written is read
 pub written-read : (line : GridLine) (g new : List Cell) (w : IsWritten line g new) → AreDistinct line.places →
@@ -205,7 +200,7 @@ closed_settled lines g line e m distinct within = to (deduced (cells_at Unknown 
     to None above below = absurd below
     to (Some d) above below =
         let old = with_cells-monotone g g line.places (cells_at Unknown g line.places) d (Extends-refl g) above in
-        let up : Extends g (with_cells g line.places d) = rw (with_cells-same g line.places) at old in
+        let up : Extends g (with_cells g line.places d) = rw (with_cells-read Unknown g line.places) at old in
         let same : with_cells g line.places d ≡ g = Extends-antisym (with_cells g line.places d) g below up in
         let long : length d ≡ length line.places = sym (length-Extends (cells_at Unknown g line.places) d above) ∙
         length-cells_at Unknown g line.places in

@@ -14,42 +14,30 @@ CellAtMost c None = Unit {0}
 CellAtMost c (Some d) = CellExtends c d
 
 join_cells-left : (c d : Cell) → CellAtMost c (join_cells c d)
-join_cells-left Unknown d = tt
-join_cells-left Filled Unknown = tt
 join_cells-left Filled Filled = tt
-join_cells-left Filled Blank = tt
-join_cells-left Blank Unknown = tt
-join_cells-left Blank Filled = tt
 join_cells-left Blank Blank = tt
+join_cells-left _ _ = tt
 
 join_cells-right : (c d : Cell) → CellAtMost d (join_cells c d)
 join_cells-right Unknown d = (Extends-refl (d ∷ [])).0
-join_cells-right Filled Unknown = tt
 join_cells-right Filled Filled = tt
-join_cells-right Filled Blank = tt
-join_cells-right Blank Unknown = tt
-join_cells-right Blank Filled = tt
 join_cells-right Blank Blank = tt
+join_cells-right _ _ = tt
 
 -- a cell above two cells is above what they know together
 join_cells-least : (c d z : Cell) → CellExtends c z → CellExtends d z → (j : Cell) × (join_cells c d ≡ Some j) × CellExtends j z
 join_cells-least Unknown d z h k = (d, refl, k)
-join_cells-least Filled Unknown z h k = (Filled, refl, h)
+join_cells-least c Unknown z h k = (c, refl, h)
 join_cells-least Filled Filled z h k = (Filled, refl, h)
-join_cells-least Filled Blank Unknown h k = absurd h
-join_cells-least Filled Blank Filled h k = absurd k
-join_cells-least Filled Blank Blank h k = absurd h
-join_cells-least Blank Unknown z h k = (Blank, refl, h)
-join_cells-least Blank Filled Unknown h k = absurd h
-join_cells-least Blank Filled Filled h k = absurd h
-join_cells-least Blank Filled Blank h k = absurd k
 join_cells-least Blank Blank z h k = (Blank, refl, h)
+join_cells-least Filled Blank Filled h k = absurd k
+join_cells-least Blank Filled Blank h k = absurd k
+join_cells-least _ _ _ h k = absurd h
 
 cons_at_most : (c : Cell) (g : List Cell) (o : Option Cell) (os : Option (List Cell)) → CellAtMost c o → AtMost (Some g) os →
     AtMost (Some (c ∷ g)) (option_cons o os)
-cons_at_most c g None os h k = tt
-cons_at_most c g (Some d) None h k = tt
 cons_at_most c g (Some d) (Some new) h k = (h, k)
+cons_at_most c g _ _ h k = tt
 
 pub join-left : (a b : List Cell) → length a ≡ length b → AtMost (Some a) (join a b)
 join-left [] b h = tt
@@ -64,30 +52,17 @@ join-right (c ∷ a) (d ∷ b) h = cons_at_most d b (join_cells c d) (join a b) 
 
 pub join-least : (a b z : List Cell) → Extends a z → Extends b z → (j : List Cell) × (join a b ≡ Some j) × Extends j z
 join-least [] b [] h k = ([], refl, tt)
-join-least [] b (e ∷ z) h k = absurd h
-join-least (c ∷ a) b [] h k = absurd h
-join-least (c ∷ a) [] (e ∷ z) h k = absurd k
 join-least (c ∷ a) (d ∷ b) (e ∷ z) h k =
     let cell = join_cells-least c d e h.0 k.0 in
     let rest = join-least a b z h.1 k.1 in
     (cell.0 ∷ rest.0, rw (cell.1, rest.1) refl, (cell.2, rest.2))
+join-least (c ∷ a) [] (e ∷ z) h k = absurd k
+join-least _ _ _ h k = absurd h
 
 -- a grid has `n` cells, or is dead
 abbrev pub HasLength : ℕ → Option (List Cell) → Type 0
 HasLength n None = Unit {0}
 HasLength n (Some g) = length g ≡ n
-
--- what a grid knows together with others is above the grid, if each of them is as long, or dead
-pub join_all-above : (g : List Cell) (os : List (Option (List Cell))) → AllByRecursion (HasLength (length g)) os →
-    AtMost (Some g) (join_all g os)
-join_all-above g [] h = Extends-refl g
-join_all-above g (None ∷ os) h = tt
-join_all-above g (Some d ∷ os) h =
-    elim (join g d) as (λ o. AtMost (Some g) o → AtMost (Some g) (option_and_then (λ joined. join_all joined os) o)) [
-      | None ↦ (λ k. tt)
-      | Some j ↦ (λ k. AtMost-trans (Some g) (Some j) (join_all j os) k (join_all-above j os (rw (sym (length-Extends g j k)) h.1)))
-    ]
-    (join-left g d (sym h.0))
 
 -- a grid that is above each of several is above what they know together
 pub join_all-least : (g z : List Cell) (os : List (Option (List Cell))) → Extends g z → AllByRecursion (λ o. AtMost o (Some z)) os →
@@ -102,31 +77,31 @@ dead_above : (os : List (Option (List Cell))) → AllByRecursion (λ o. AtMost o
 dead_above [] = tt
 dead_above (o ∷ os) = (tt, dead_above os)
 
--- what is joined is above each part
-pub join_all-above_each : (g : List Cell) (os : List (Option (List Cell))) → AllByRecursion (HasLength (length g)) os →
-    AllByRecursion (λ o. AtMost o (join_all g os)) os
-join_all-above_each g [] h = tt
-join_all-above_each g (None ∷ os) h = (tt, dead_above os)
-join_all-above_each g (Some d ∷ os) h =
+-- what is joined is above a grid and each of several, if each of them is as long, or dead
+pub join_all-above : (g : List Cell) (os : List (Option (List Cell))) → AllByRecursion (HasLength (length g)) os →
+    AllByRecursion (λ o. AtMost o (join_all g os)) (Some g ∷ os)
+join_all-above g [] h = (Extends-refl g, tt)
+join_all-above g (None ∷ os) h = (tt, (tt, dead_above os))
+join_all-above g (Some d ∷ os) h =
     elim (join g d) as (λ o. AtMost (Some g) o → AtMost (Some d) o →
-    AllByRecursion (λ p. AtMost p (option_and_then (λ joined. join_all joined os) o)) (Some d ∷ os)) [
-      | None ↦ (λ k l. (tt, dead_above os))
+    AllByRecursion (λ p. AtMost p (option_and_then (λ joined. join_all joined os) o)) (Some g ∷ Some d ∷ os)) [
+      | None ↦ (λ k l. (tt, (tt, dead_above os)))
       | Some j ↦ (λ k l.
-          let lengths : AllByRecursion (HasLength (length j)) os = rw (sym (length-Extends g j k)) h.1 in
-          (AtMost-trans (Some d) (Some j) (join_all j os) l (join_all-above j os lengths), join_all-above_each j os lengths))
+          let rest = join_all-above j os (rw (sym (length-Extends g j k)) h.1) in
+          let under = λ (x : List Cell) (m : Extends x j). AtMost-trans (Some x) (Some j) (join_all j os) m rest.0 in
+          (under g k, (under d l, rest.1)))
     ]
     (join-left g d (sym h.0)) (join-right g d (sym h.0))
 
 -- a grid with a cell that another one has is below that one
 pub set_within : (a b : List Cell) (i : ℕ) (d : Cell) → Extends a b → CellExtends d (get_or b i Unknown) → Extends (set a i d) b
 set_within [] [] i d e f = tt
-set_within [] (y ∷ b) i d e f = absurd e
-set_within (x ∷ a) [] i d e f = absurd e
 set_within (x ∷ a) (y ∷ b) zero d e f = (f, e.1)
 set_within (x ∷ a) (y ∷ b) (suc i) d e f = (e.0, set_within a b i d e.1 f)
+set_within _ _ i d e f = absurd e
 
 -- a grid with an unknown cell settled knows more
 pub set_extends : (g : List Cell) (k : ℕ) (c : Cell) → get_or g k Unknown ≡ Unknown → Extends g (set g k c)
 set_extends [] k c e = tt
-set_extends (x ∷ g) zero c e = (subst (λ (q : Cell). CellExtends q c) (sym e) tt, Extends-refl g)
+set_extends (x ∷ g) zero c e = (rw e tt, Extends-refl g)
 set_extends (x ∷ g) (suc k) c e = ((Extends-refl (x ∷ [])).0, set_extends g k c e)

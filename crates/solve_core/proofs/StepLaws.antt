@@ -5,8 +5,8 @@ use Rattle.grid_core.specs.declared.cells.Cell.{Cell}
 use Rattle.grid_core.specs.Cells.{Extends}
 use Rattle.grid_core.specs.Nonogram.{GridLine}
 use Rattle.solve_core.specs.Closure.{deduce_line, round, closure}
-use Rattle.solve_core.proofs.Order.{AtMost, AtMost-trans, Extends-refl, join_all-above_each, join_all-least}
-use Rattle.solve_core.proofs.ClosureLaws.{closure-IsLeastClosed, deduce_line-monotone, round-above, same_at_most, lengths}
+use Rattle.solve_core.proofs.Order.{AtMost, AtMost-trans, Extends-refl, join_all-least}
+use Rattle.solve_core.proofs.ClosureLaws.{closure-IsLeastClosed, deduce_line-monotone, round-above, same_at_most, round-above_each}
 
 -- a line is one of several
 abbrev pub IsOneOf : GridLine → List GridLine → Type 0
@@ -23,7 +23,7 @@ at_one P g (x ∷ lines) line h (inr m) = at_one P g lines line h.1 m
 pub closed_line : (lines : List GridLine) (c : List Cell) (line : GridLine) → round lines c ≡ Some c → IsOneOf line lines →
     AtMost (deduce_line c line) (Some c)
 closed_line lines c line e m =
-    at_one (λ o. AtMost o (Some c)) c lines line (rw e at (join_all-above_each c (map (deduce_line c) lines) (lengths c lines))) m
+    at_one (λ o. AtMost o (Some c)) c lines line (rw e at (round-above_each lines c)) m
 
 step_to : (lines : List GridLine) (g : List Cell) (line : GridLine) (o : Option (List Cell)) →
     ((z : List Cell) → o ≡ Some z → round lines z ≡ Some z) → IsOneOf line lines → AtMost (Some g) o → AtMost (deduce_line g line) o
