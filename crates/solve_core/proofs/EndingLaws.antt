@@ -5,16 +5,6 @@ use Rattle.grid_core.specs.Nonogram.{Nonogram}
 use Rattle.solve_core.specs.Search.{Event, Guess}
 use Rattle.solve_core.specs.steps.Endings.{Ending, ending}
 
--- a list followed by nothing is the list
-pub append-nil-right : {X : Type 0} (xs : List X) → xs ++ [] ≡ xs
-append-nil-right [] = refl
-append-nil-right (x ∷ xs) = λ i. x ∷ append-nil-right xs i
-
--- joining three lists, it makes no difference which two are joined first
-pub append-assoc-right : {X : Type 0} (xs ys zs : List X) → (xs ++ ys) ++ zs ≡ xs ++ (ys ++ zs)
-append-assoc-right [] ys zs = refl
-append-assoc-right (x ∷ xs) ys zs = λ i. x ∷ append-assoc-right xs ys zs i
-
 -- a guess that the limit allows is spent
 pub ending-guess : (p : Nonogram) (found : List PartialGrid) (spent limit : ℕ) (es : List Event) → length found < 2 → spent < limit
     → ending p found spent (limit - spent) (Guess ∷ es) ≡ ending p found (spent + 1) (limit - (spent + 1)) es

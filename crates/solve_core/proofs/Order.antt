@@ -9,7 +9,7 @@ pub use Rattle.line_core.specs.Order.{AtMost}
 pub use Rattle.line_core.proofs.DeductionLaws.{Extends-refl, Extends-trans, Extends-antisym, length-Extends, AtMost-trans}
 
 -- at one cell
-abbrev CellAtMost : Cell → Option Cell → Type 0
+abbrev pub CellAtMost : Cell → Option Cell → Type 0
 CellAtMost c None = Unit {0}
 CellAtMost c (Some d) = CellExtends c d
 
@@ -34,7 +34,7 @@ join_cells-least Filled Blank Filled h k = absurd k
 join_cells-least Blank Filled Blank h k = absurd k
 join_cells-least _ _ _ h k = absurd h
 
-cons_at_most : (c : Cell) (g : List Cell) (o : Option Cell) (os : Option (List Cell)) → CellAtMost c o → AtMost (Some g) os →
+pub cons_at_most : (c : Cell) (g : List Cell) (o : Option Cell) (os : Option (List Cell)) → CellAtMost c o → AtMost (Some g) os →
     AtMost (Some (c ∷ g)) (option_cons o os)
 cons_at_most c g (Some d) (Some new) h k = (h, k)
 cons_at_most c g _ _ h k = tt

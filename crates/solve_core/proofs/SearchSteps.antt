@@ -15,9 +15,10 @@ use Rattle.solve_core.specs.steps.Trails.{unknown_count}
 use Rattle.solve_core.specs.steps.Branches.{AreKnownBefore, IsClosed, IsNext, IsOpen, IsWork, AreOlder}
 use Rattle.line_core.proofs.DeductionLaws.{Extends-at}
 use Rattle.grid_core.specs.Lines.{IsUnknownFrom}
+use Rattle.grid_core.proofs.FirstUnknown.{position_none, position_some}
 use Rattle.solve_core.proofs.Closing.{repeat-fixed}
 use Rattle.solve_core.proofs.ClosureLaws.{closure-IsLeastClosed}
-use Rattle.solve_core.proofs.SearchLaws.{events-unfold, unknown_is, unknown_count-more}
+use Rattle.solve_core.proofs.SearchLaws.{events-unfold, same_known, unknown_is, unknown_count-more}
 use Rattle.solve_core.proofs.TrailSteps.{count-settled}
 use Rattle.solve_core.proofs.BranchLaws.{branch-count}
 
@@ -49,12 +50,7 @@ next-unknown pick lawful lines cells k h = let at = lawful.within cells k h.0 in
 
 -- if a cell is unknown, the number of unknown cells isn't 0
 pub unknown_count-positive : (cells : List Cell) (k : ℕ) → k < length cells → get_or cells k Unknown ≡ Unknown → 0 < unknown_count cells
-unknown_count-positive [] k l e = absurd (omega arith)
-unknown_count-positive (Unknown ∷ cells) k l e = omega arith
-unknown_count-positive (Filled ∷ cells) zero l e = cc
-unknown_count-positive (Filled ∷ cells) (suc k) l e = unknown_count-positive cells k (omega arith) e
-unknown_count-positive (Blank ∷ cells) zero l e = cc
-unknown_count-positive (Blank ∷ cells) (suc k) l e = unknown_count-positive cells k (omega arith) e
+unknown_count-positive cells k l e = omega (arith, count-settled cells k Filled l e refl)
 
 -- a cell to guess is unknown
 pub open-unknown : (pick : List Cell → Option ℕ) (lawful : IsPick pick) (lines : List GridLine) (cells : List Cell) (next : Option ℕ) →
@@ -83,39 +79,6 @@ alive-fewer lines cells now k c l e known closed =
     let above : Extends (set cells k c) now = rw (sym closed) at ((closure-IsLeastClosed lines (set cells k c)).above) in
     omega (arith, count-settled cells k c l e known, unknown_count-more (set cells k c) now above)
 
--- the first place that passes
-pub position-at : (p : Cell → Bool) (xs : List Cell) (k : ℕ) → k < length xs → p (get_or xs k Unknown) ≡ true →
-    ((j : ℕ) → j < k → p (get_or xs j Unknown) ≡ false) → position p xs ≡ Some k
-position-at p xs k l t f = let e : 0 + k ≡ k = omega arith in position_from-zero p xs ∙ from 0 xs k l t f ∙ ap (λ m. Some m) e
-  where
-    from : (i : ℕ) (ys : List Cell) (n : ℕ) → n < length ys → p (get_or ys n Unknown) ≡ true →
-        ((j : ℕ) → j < n → p (get_or ys j Unknown) ≡ false) → position_from p i ys ≡ Some (i + n)
-    from i [] n l' t' f' = absurd (omega arith)
-    from i (y ∷ ys) zero l' t' f' = let e : i ≡ i + 0 = omega arith in ap (λ b. cond b (Some i) (position_from p (i + 1) ys)) t' ∙
-        ap (λ n. Some n) e
-    from i (y ∷ ys) (suc n) l' t' f' =
-        let e : i + 1 + n ≡ i + suc n = omega arith in
-        ap (λ b. cond b (Some i) (position_from p (i + 1) ys)) (f' 0 (omega arith))
-        ∙ from (i + 1) ys n (omega arith) t' (λ j h. f' (suc j) (omega arith))
-        ∙ ap (λ m. Some m) e
-
-pub position-none : (p : Cell → Bool) (xs : List Cell) → ((j : ℕ) → j < length xs → p (get_or xs j Unknown) ≡ false) → position p xs ≡ None
-position-none p xs f = position_from-zero p xs ∙ from 0 xs f
-  where
-    from : (i : ℕ) (ys : List Cell) → ((j : ℕ) → j < length ys → p (get_or ys j Unknown) ≡ false) → position_from p i ys ≡ None
-    from i [] f' = refl
-    from i (y ∷ ys) f' = ap (λ b. cond b (Some i) (position_from p (i + 1) ys)) (f' 0 (omega arith)) ∙
-        from (i + 1) ys (λ j h. f' (suc j) (omega arith))
-
-known_stays : (c d : Cell) → is_unknown c ≡ false → CellExtends c d → is_unknown d ≡ false
-known_stays Unknown d h e = absurd (true≢false h)
-known_stays Filled Unknown h e = absurd e
-known_stays Filled Filled h e = refl
-known_stays Filled Blank h e = refl
-known_stays Blank Unknown h e = absurd e
-known_stays Blank Filled h e = refl
-known_stays Blank Blank h e = refl
-
 -- what stands before the first unknown cell stays known when that cell is guessed
 pub known-before : (lines : List GridLine) (cells now : List Cell) (place : ℕ) (c : Cell) → first_unknown cells ≡ Some place →
     Some now ≡ closure lines (set cells place c)
@@ -125,7 +88,7 @@ known-before lines cells now place c first closed k l =
     let other : k ≢ place = omega arith in
     let before : is_unknown (get_or (set cells place c) k Unknown) ≡ false =
     rw get_or-set_other ((position-Some is_unknown cells place Unknown first).2 k l) in
-    known_stays (get_or (set cells place c) k Unknown) (get_or now k Unknown) before (Extends-at (set cells place c) now k above)
+    rw (same_known (get_or (set cells place c) k Unknown) (get_or now k Unknown) before (Extends-at (set cells place c) now k above)) before
 
 -- if no cell before a place is unknown, the first unknown one from there on is the first of all
 pub first-from : (cells seen : List Cell) (start : ℕ) (found : Option ℕ) → seen ≡ cells → AreKnownBefore start cells →
@@ -133,9 +96,6 @@ pub first-from : (cells seen : List Cell) (start : ℕ) (found : Option ℕ) →
 first-from cells seen start found e before h = by found (subst (λ (r : List Cell). IsUnknownFrom r start found) e h)
   where
     by : (found : Option ℕ) → IsUnknownFrom cells start found → found ≡ first_unknown cells
-    by None none = sym (position-none is_unknown cells
-        (λ j l. elim (cases_lt j start) [ inl early ↦ before j early | inr late ↦ none j late l ]))
-    by (Some place) at =
-        sym
-        (position-at is_unknown cells place at.1 (ap is_unknown at.2)
+    by None none = sym (position_none cells (λ j l. elim (cases_lt j start) [ inl early ↦ before j early | inr late ↦ none j late l ]))
+    by (Some place) at = sym (position_some cells place at.1 at.2
         (λ j l. elim (cases_lt j start) [ inl early ↦ before j early | inr late ↦ at.3 j late l ]))

@@ -8,7 +8,8 @@ use Rattle.grid_core.specs.Cells.{CellExtends, Extends, colour}
 use Rattle.grid_core.specs.Nonogram.{GridLine}
 use Rattle.solve_core.specs.Closure.{option_cons, round, closure}
 use Rattle.solve_core.specs.Trials.{is_refuted, left_over, tried, all_present, trial_round, trials}
-use Rattle.solve_core.proofs.Order.{AtMost, Extends-trans, length-Extends, set_within}
+use Rattle.solve_core.proofs.SearchLaws.{same_known}
+use Rattle.solve_core.proofs.Order.{AtMost, CellAtMost, cons_at_most, Extends-trans, length-Extends, set_within}
 use Rattle.solve_core.proofs.Closing.{IsDeduction, repeat-fixed, and_then-above, and_then-below}
 use Rattle.line_core.proofs.DeductionLaws.{Extends-at, get_or-map_colour}
 use Rattle.solve_core.proofs.ClosureLaws.{IsLeastClosed, closure-IsLeastClosed, repeat-IsLeastClosed, MeetsLines, round-solution, same_at_most, set-monotone}
@@ -23,31 +24,18 @@ abbrev pub OptionBelow : Option Cell → Cell → Type 0
 OptionBelow None c = ⊥
 OptionBelow (Some d) c = CellExtends d c
 
-abbrev OptionAbove : Cell → Option Cell → Type 0
-OptionAbove c None = Unit {0}
-OptionAbove c (Some d) = CellExtends c d
-
-tried-above : (lines : List GridLine) (grid : List Cell) (k : ℕ) (c : Cell) → OptionAbove c (tried lines grid k c)
+tried-above : (lines : List GridLine) (grid : List Cell) (k : ℕ) (c : Cell) → CellAtMost c (tried lines grid k c)
 tried-above lines grid k Unknown =
-    elim (left_over (is_refuted lines grid k Filled) (is_refuted lines grid k Blank)) as (λ o. OptionAbove Unknown o) [
-      | None ↦ tt
-      | Some d ↦ tt
-    ]
+    elim (left_over (is_refuted lines grid k Filled) (is_refuted lines grid k Blank)) as (λ o. CellAtMost Unknown o) [ None ↦ tt | Some d ↦ tt ]
 tried-above lines grid k Filled = tt
 tried-above lines grid k Blank = tt
 
-cons_above : (c : Cell) (g : List Cell) (o : Option Cell) (os : Option (List Cell)) → OptionAbove c o → AtMost (Some g) os →
-    AtMost (Some (c ∷ g)) (option_cons o os)
-cons_above c g None os h k = tt
-cons_above c g (Some d) None h k = tt
-cons_above c g (Some d) (Some new) h k = (h, k)
-
 -- the cells of a list whose first place is n
-all_above : (f : ℕ → Option Cell) (n : ℕ) (g : List Cell) → ((k : ℕ) → k < length g → OptionAbove (get_or g k Unknown) (f (n + k))) →
+all_above : (f : ℕ → Option Cell) (n : ℕ) (g : List Cell) → ((k : ℕ) → k < length g → CellAtMost (get_or g k Unknown) (f (n + k))) →
     AtMost (Some g) (all_present (map f (range_with_len n (length g))))
 all_above f n [] h = tt
 all_above f n (c ∷ g) h =
-    cons_above c g (f n) (all_present (map f (range_with_len (n + 1) (length g)))) (rw add-zero at (h 0 (omega arith)))
+    cons_at_most c g (f n) (all_present (map f (range_with_len (n + 1) (length g)))) (rw add-zero at (h 0 (omega arith)))
     (all_above f (n + 1) g (λ k l. let e : n + suc k ≡ n + 1 + k = omega arith in rw e at (h (suc k) (omega arith))))
 
 -- what trials say of the cells of a grid only adds to what is known
@@ -75,9 +63,8 @@ all_below f n (c ∷ w) h =
 
 cons_parts : (o : Option Cell) (os : Option (List Cell)) (c : Cell) (w : List Cell) → AtMost (option_cons o os) (Some (c ∷ w)) →
     OptionBelow o c × AtMost os (Some w)
-cons_parts None os c w h = absurd h
-cons_parts (Some d) None c w h = absurd h
 cons_parts (Some d) (Some g) c w h = h
+cons_parts _ _ c w h = absurd h
 
 -- what is below a grid as a whole is below it at each place
 pub each_below : (f : ℕ → Option Cell) (n : ℕ) (w : List Cell) → AtMost (all_present (map f (range_with_len n (length w)))) (Some w) →
@@ -88,16 +75,16 @@ each_below f n (c ∷ w) h (suc k) l =
     let e : n + suc k ≡ n + 1 + k = omega arith in
     rw e (each_below f (n + 1) w (cons_parts (f n) (all_present (map f (range_with_len (n + 1) (length w)))) c w h).1 k (omega arith))
 
+none_if : (o p : Option (List Cell)) → AtMost o p → is_none o ≡ true → is_none p ≡ true
+none_if o None h e = refl
+none_if None (Some w) h e = absurd h
+none_if (Some g) (Some w) h e = e
+
 -- a colour that is refuted in a grid is not that of a line-closed grid that knows more
 refuted_not_there : (lines : List GridLine) (g w : List Cell) (k : ℕ) (c : Cell) → round lines w ≡ Some w → Extends g w →
     is_refuted lines g k c ≡ true → CellExtends c (get_or w k Unknown) → k < length w → ⊥
-refuted_not_there lines g w k c closed h refuted there l =
-    let with_it : Extends (set g k c) w = set_within g w k c h there in
-    none_above (closure lines (set g k c)) w refuted ((closure-IsLeastClosed lines (set g k c)).least w closed with_it)
-  where
-    none_above : (o : Option (List Cell)) (w' : List Cell) → is_none o ≡ true → AtMost o (Some w') → ⊥
-    none_above None w' e m = m
-    none_above (Some g') w' e m = true≢false (sym e)
+refuted_not_there lines g w k c closed h refuted there l = true≢false (sym (none_if (closure lines (set g k c)) (Some w)
+    ((closure-IsLeastClosed lines (set g k c)).least w closed (set_within g w k c h there)) refuted))
 
 -- a grid that knows more has a closure that knows no less
 pub closure-monotone : (lines : List GridLine) (g z : List Cell) → Extends g z → AtMost (closure lines g) (closure lines z)
@@ -107,53 +94,32 @@ closure-monotone lines g z h = to (closure lines z) (closure-IsLeastClosed lines
     to None l = tt
     to (Some w) l = (closure-IsLeastClosed lines g).least w (l.closed w refl) (Extends-trans g z w h l.above)
 
-none_if : (o p : Option (List Cell)) → AtMost o p → is_none o ≡ true → is_none p ≡ true
-none_if o None h e = refl
-none_if None (Some w) h e = absurd h
-none_if (Some g) (Some w) h e = e
-
 pub is_refuted-monotone : (lines : List GridLine) (g z : List Cell) (k : ℕ) (c : Cell) → CellExtends c c → Extends g z →
     is_refuted lines g k c ≡ true → is_refuted lines z k c ≡ true
 is_refuted-monotone lines g z k c s h e =
     none_if (closure lines (set g k c)) (closure lines (set z k c))
     (closure-monotone lines (set g k c) (set z k c) (set-monotone g z k c c h s)) e
 
-blank_if : (w : Cell) → CellExtends Blank w → w ≡ Blank
-blank_if Unknown h = absurd h
-blank_if Filled h = absurd h
-blank_if Blank h = refl
-
-filled_if : (w : Cell) → CellExtends Filled w → w ≡ Filled
-filled_if Unknown h = absurd h
-filled_if Filled h = refl
-filled_if Blank h = absurd h
-
 -- if filled is refuted, the settled cell is blank
 left_blank : (lines : List GridLine) (z : List Cell) (k : ℕ) (c w : Cell) → CellExtends c w → OptionBelow (tried lines z k c) w →
     is_refuted lines z k Filled ≡ true → (CellExtends Filled w → ⊥) → w ≡ Blank
-left_blank lines z k Unknown w h b r n = blank_if w (by (is_refuted lines z k Blank) (rw r at b))
-  where
-    by : (s : Bool) → OptionBelow (left_over true s) w → CellExtends Blank w
-    by true e = absurd e
-    by false e = e
+left_blank lines z k Unknown w h b r n = same_known Blank w refl (elim (is_refuted lines z k Blank) as (λ s. OptionBelow (left_over true s) w →
+    CellExtends Blank w) [ true ↦ (λ e. absurd e) | false ↦ (λ e. e) ] (rw r at b))
 left_blank lines z k Filled w h b r n = absurd (n h)
-left_blank lines z k Blank w h b r n = blank_if w h
+left_blank lines z k Blank w h b r n = same_known Blank w refl h
 
 left_filled : (lines : List GridLine) (z : List Cell) (k : ℕ) (c w : Cell) → CellExtends c w → OptionBelow (tried lines z k c) w →
     is_refuted lines z k Blank ≡ true → (CellExtends Blank w → ⊥) → w ≡ Filled
-left_filled lines z k Unknown w h b r n = filled_if w (by (is_refuted lines z k Filled) (rw r at b))
-  where
-    by : (s : Bool) → OptionBelow (left_over s true) w → CellExtends Filled w
-    by true e = absurd e
-    by false e = e
-left_filled lines z k Filled w h b r n = filled_if w h
+left_filled lines z k Unknown w h b r n = same_known Filled w refl (elim (is_refuted lines z k Filled) as (λ s. OptionBelow (left_over s true) w →
+    CellExtends Filled w) [ true ↦ (λ e. absurd e) | false ↦ (λ e. e) ] (rw r at b))
+left_filled lines z k Filled w h b r n = same_known Filled w refl h
 left_filled lines z k Blank w h b r n = absurd (n h)
 
 left_over-below : (filled blank : Bool) (w : Cell) → (filled ≡ true → w ≡ Blank) → (blank ≡ true → w ≡ Filled) →
     OptionBelow (left_over filled blank) w
 left_over-below true true w f b = let e : Blank ≡ Filled = sym (f refl) ∙ b refl in cc
-left_over-below true false w f b = subst (CellExtends Blank) (sym (f refl)) tt
-left_over-below false true w f b = subst (CellExtends Filled) (sym (b refl)) tt
+left_over-below true false w f b = rw (f refl) tt
+left_over-below false true w f b = rw (b refl) tt
 left_over-below false false w f b = tt
 
 -- what trials settle in a grid is so in the closed result of trials on a grid that knows more
@@ -214,13 +180,8 @@ pub trials-IsLeastClosed : (lines : List GridLine) (g : List Cell) → IsLeastCl
 trials-IsLeastClosed lines g = repeat-IsLeastClosed (trial_round lines) (trial_round-deduction lines) g
 
 known_below : (lines : List GridLine) (z : List Cell) (k : ℕ) (b : Bool) (c : Cell) → c ≡ colour b → OptionBelow (tried lines z k c) c
-known_below lines z k b Unknown e = no_colour b e
-  where
-    no_colour : (d : Bool) → Unknown ≡ colour d → OptionBelow (tried lines z k Unknown) Unknown
-    no_colour true e' = cc
-    no_colour false e' = cc
-known_below lines z k b Filled e = tt
-known_below lines z k b Blank e = tt
+known_below lines z k true c e = rw e tt
+known_below lines z k false c e = rw e tt
 
 -- a solution is trial-closed
 pub trial_round-solution : (lines : List GridLine) (full : List Bool) → MeetsLines lines full →

@@ -6,7 +6,7 @@ use Rattle.std.proofs.lemmas.List.{get_or_append_left, get_or_past, get_or-take,
 use Rattle.std.proofs.Math.Seq.{get_or-append_seam}
 use Rattle.grid_core.specs.declared.cells.Cell.{Cell}
 use Rattle.grid_core.specs.declared.cells.Cell.TheVariants.{Unknown, Filled, Blank}
-use Rattle.grid_core.specs.Cells.{CellExtends, Extends, is_known}
+use Rattle.grid_core.specs.Cells.{CellExtends, Extends, is_unknown}
 use Rattle.grid_core.specs.Nonogram.{Nonogram, IsNonogram, GridLine, lines_of, cells_at, line_on}
 use Rattle.grid_core.specs.steps.Sides.{count_on}
 use Rattle.line_core.specs.Deduction.{deduced}
@@ -23,6 +23,7 @@ use Rattle.solve_core.specs.steps.WitnessLists.{WitnessLists, no_witness, witnes
 use Rattle.solve_core.specs.steps.Witnesses.{has_side, IsCrossed, DifferWithin, ShareNoLine, IsWitness, AreWitnesses, AreNumbered, IsKept, AddsMet}
 use Rattle.solve_core.proofs.Order.{Extends-refl, Extends-antisym, length-Extends, set_within}
 use Rattle.solve_core.proofs.ClosureLaws.{closure-IsLeastClosed}
+use Rattle.solve_core.proofs.SearchLaws.{same_known}
 use Rattle.solve_core.proofs.TrialSteps.{met_open}
 use Rattle.solve_core.proofs.SideLines.{along, line_is_one, unique_place}
 use Rattle.solve_core.proofs.GridSteps.{settled-same, settled_closed, place_again, line-distinct, line-below}
@@ -59,12 +60,6 @@ get_or-overlaid [] [] k e = refl
 get_or-overlaid (c ∷ a) (d ∷ b) zero e = refl
 get_or-overlaid (c ∷ a) (d ∷ b) (suc k) e = get_or-overlaid a b k (omega arith)
 get_or-overlaid _ _ k e = absurd (omega arith)
-
-known_stays : (c d : Cell) → is_known c ≡ true → CellExtends c d → d ≡ c
-known_stays Unknown d n h = absurd (true≢false (sym n))
-known_stays Filled Filled n h = refl
-known_stays Blank Blank n h = refl
-known_stays _ _ n h = absurd h
 
 line_settled : (p : Nonogram) (g : List Cell) (side : Side) (i : ℕ) → IsNonogram p → length g ≡ p.width * p.height →
     round (lines_of p) g ≡ Some g → i < count_on side p.width p.height → IsDeduced g (line_on side p i)
@@ -124,17 +119,17 @@ module _ (g new t : List Cell) (h : Extends g new) (l : Extends g t) where
         ]
 
     -- a cell that the trial knows is the same in both grids as one
-    met_stays : (k : ℕ) (c : Cell) → is_known c ≡ true → get_or t k Unknown ≡ c → get_or (overlaid new t) k Unknown ≡ c
+    met_stays : (k : ℕ) (c : Cell) → is_unknown c ≡ false → get_or t k Unknown ≡ c → get_or (overlaid new t) k Unknown ≡ c
     met_stays k c known is = elim (cases_Bool (has_side lines.rows (k / p.width))) [
       | inl e ↦ as_trial k (theirs.rows k (apart.rows (k / p.width) e)) ∙ is
       | inr e ↦ let old = mine.rows k e in
-          as_new k old ∙ known_stays c (get_or new k Unknown) known (rw (old ∙ is) at (Extends-at g new k h))
+          as_new k old ∙ same_known c (get_or new k Unknown) known (rw (old ∙ is) at (Extends-at g new k h))
     ]
 
 -- ---- witnesses that stay
 
 -- a cell that a number was noted at is known, unless it is that of no witness
-noted_known : (w : WitnessLists) (k number : ℕ) (c : Cell) → number ≢ 0 → get_or (met_by w c) k 0 ≡ number → is_known c ≡ true
+noted_known : (w : WitnessLists) (k number : ℕ) (c : Cell) → number ≢ 0 → get_or (met_by w c) k 0 ≡ number → is_unknown c ≡ false
 noted_known w k number Unknown n e = absurd (n (sym e))
 noted_known w k number Filled n e = refl
 noted_known w k number Blank n e = refl

@@ -9,45 +9,29 @@ use Rattle.solve_core.proofs.SearchSteps.{unknown_count-positive}
 use Rattle.solve_core.proofs.branches.take_guess.Goals as goal
 
 pub returns-in-Some-clause-events : goal.returns-in-Some-clause-events
-returns-in-Some-clause-events g c =
-    λ rule lines w.
-    ap (λ next. open_events rule lines c.args.board.now.cells next
-    (pending rule lines c.args.board.now.cells c.args.board.now.trail c.args.branches.now.items)) c.in-Some.is
-    ∙ fork-events rule lines c.args.board.now.cells c.args.board.now.trail c.args.branches.now.items c.push_reserved.new.self.items _
-    c.push_reserved.ensures.items (omega (arith, ap length c.trail-mark.ensures.trail))
+returns-in-Some-clause-events g c = λ rule lines w. rw c.in-Some.is
+    (fork-events rule lines c.args.board.now.cells c.args.board.now.trail c.args.branches.now.items c.push_reserved.new.self.items _
+    c.push_reserved.ensures.items (omega (arith, ap length c.trail-mark.ensures.trail)))
 
 pub returns-in-Some-clause-work : goal.returns-in-Some-clause-work
-returns-in-Some-clause-work g c =
-    λ rule lines w older n.
-    fork-work rule lines c.args.board.now.cells c.args.board.now.trail c.args.branches.now.items c.push_reserved.new.self.items _
-    c.push_reserved.ensures.items (omega (arith, ap length c.trail-mark.ensures.trail)) w
-    (subst (AreOlder c.args.board.now.trail c.args.branches.now.items) c.in-Some.is older)
-    (subst (IsOpen rule lines c.args.board.now.cells) c.in-Some.is n)
+returns-in-Some-clause-work g c = λ rule lines w older n.
+    fork-work rule lines _ _ _ _ _ c.push_reserved.ensures.items (omega (arith, ap length c.trail-mark.ensures.trail)) w
+    (rw c.in-Some.is at older) (rw c.in-Some.is at n)
 
 pub returns-in-Some-pop-clause-events : goal.returns-in-Some-pop-clause-events
-returns-in-Some-pop-clause-events g c =
-    λ rule lines w.
-    ap (λ next. open_events rule lines c.args.board.now.cells next
-    (pending rule lines c.args.board.now.cells c.args.board.now.trail c.args.branches.now.items)) c.in-None.is
-    ∙ back-events rule lines c.args.board.now.cells c.go_back.new.self.cells c.args.board.now.trail c.go_back.new.self.trail
-    c.args.branches.now.items c.pop.new.self.items c.in-Some-pop.branch
-    c.in-Some-pop.ensures.items (ap (λ (g : TrailedGrid). g.cells) c.go_back.ensures)
-    (ap (λ (g : TrailedGrid). g.trail) c.go_back.ensures) w
+returns-in-Some-pop-clause-events g c = λ rule lines w. rw c.in-None.is
+    (back-events rule lines _ c.go_back.new.self.cells _ c.go_back.new.self.trail _ _ c.in-Some-pop.branch c.in-Some-pop.ensures.items
+    (ap (λ (g : TrailedGrid). g.cells) c.go_back.ensures) (ap (λ (g : TrailedGrid). g.trail) c.go_back.ensures) w)
 
 pub returns-in-Some-pop-clause-work : goal.returns-in-Some-pop-clause-work
-returns-in-Some-pop-clause-work g c =
-    λ rule lines w older n.
-    back-work rule lines c.args.board.now.cells c.go_back.new.self.cells c.args.board.now.trail c.go_back.new.self.trail
-    c.args.branches.now.items c.pop.new.self.items c.in-Some-pop.branch
-    c.in-Some-pop.ensures.items (ap (λ (g : TrailedGrid). g.cells) c.go_back.ensures)
+returns-in-Some-pop-clause-work g c = λ rule lines w older n.
+    back-work rule lines _ _ _ _ _ _ c.in-Some-pop.branch c.in-Some-pop.ensures.items (ap (λ (g : TrailedGrid). g.cells) c.go_back.ensures)
     (ap (λ (g : TrailedGrid). g.trail) c.go_back.ensures) w
 
 pub returns-in-Some-pop-clause-ready : goal.returns-in-Some-pop-clause-ready
-returns-in-Some-pop-clause-ready g c =
-    λ rule lines w n.
-    back-ready rule lines c.args.board.now.cells c.go_back.new.self.cells c.args.board.now.trail c.args.branches.now.items
-    c.pop.new.self.items c.in-Some-pop.branch
-    c.in-Some-pop.ensures.items (ap (λ (g : TrailedGrid). g.cells) c.go_back.ensures) w
+returns-in-Some-pop-clause-ready g c = λ rule lines w n.
+    back-ready rule lines _ _ _ _ _ _ c.in-Some-pop.branch c.in-Some-pop.ensures.items (ap (λ (g : TrailedGrid). g.cells) c.go_back.ensures)
+    (ap (λ (g : TrailedGrid). g.trail) c.go_back.ensures) w
 
 pub returns-in-Some-pop-clause-count : goal.returns-in-Some-pop-clause-count
 returns-in-Some-pop-clause-count g c =
@@ -56,12 +40,6 @@ returns-in-Some-pop-clause-count g c =
 
 pub push_reserved-requires : goal.push_reserved-requires
 push_reserved-requires g c =
-    let next = subst (λ (o : Option ℕ). IfSome o (λ place. (place < length c.args.board.now.cells) ×
-    (get_or c.args.board.now.cells place Unknown ≡ Unknown))) c.in-Some.is c.requires.next in
-    omega (
-      arith,
-      c.requires.older (λ e. cc),
-      c.requires.room,
-      c.trail-mark.ensures.grid.settled,
-      unknown_count-positive c.args.board.now.cells c.in-Some.place next.0 next.1,
-    )
+    let next = rw c.in-Some.is at c.requires.next in
+    let some = unknown_count-positive c.args.board.now.cells c.in-Some.place next.0 next.1 in
+    omega (arith, c.requires.older (λ e. cc), c.requires.room, c.trail-mark.ensures.grid.settled, some)

@@ -1,12 +1,12 @@
 -- `search`: a guess and what is owed after it end as what was owed before, and fewer events are left.
-use Rattle.std.proofs.Common.{◌≡◌, ◌+◌, ◌-◌, ◌≤◌, ◌++◌, [], refl, ap, sym, ◌∙◌, arith, length, slice_set}
+use Rattle.std.proofs.Common.{append-nil, ◌≡◌, ◌+◌, ◌-◌, ◌≤◌, ◌++◌, [], refl, ap, sym, ◌∙◌, arith, length, slice_set}
 use Rattle.grid_core.specs.Nonogram.{lines_of}
 use Rattle.solve_core.specs.Search.{events}
 use Rattle.solve_core.specs.steps.Endings.{ending}
 use Rattle.solve_core.specs.steps.Guesses.{owed, owed_by}
 use Rattle.solve_core.specs.Picks.{picked}
 use Rattle.solve_core.proofs.PickLaws.{picked-IsPick}
-use Rattle.solve_core.proofs.EndingLaws.{append-nil-right, ending-next}
+use Rattle.solve_core.proofs.EndingLaws.{ending-next}
 use Rattle.solve_core.proofs.BranchLaws.{start-work}
 use Rattle.solve_core.proofs.SearchSteps.{alive-events, closed-closure, open-unknown, open-older, older-none}
 use Rattle.solve_core.proofs.GridSteps.{closed_rest, rest_closed}
@@ -35,7 +35,7 @@ loop-pick-init g c =
           (alive-events rule (picked-IsPick c.args.pick p.width) lines board.cells board.cells (owed_by rule p branches board)
           (sym (closed-closure lines board.cells closed))
           ∙ ap (λ es. events rule lines board.cells ++ es) none
-          ∙ append-nil-right (events rule lines board.cells))
+          ∙ append-nil (events rule lines board.cells))
           ∙ ap (λ gs. ending p gs 0 limit (events rule lines board.cells)) c.requires.found;
       room = c.requires.room;
       cells = refl;
