@@ -2,6 +2,7 @@
 use Rattle.std.proofs.Common.{◌≡◌, ◌≢◌, ◌∙◌, refl, ℕ, ◌*◌, ◌<◌, ◌≤◌, inl, inr, List, [], length, get_or, set, sym, ap, subst, arith, length-set, get_or-set_same, get_or-set_other, ext_get_or}
 use Rattle.std.specs.Int.{bit_at}
 use Rattle.std.proofs.lemmas.Bool.{cases_eq}
+use Rattle.std.proofs.lemmas.List.{set-get_or}
 use Rattle.grid_core.specs.declared.cells.Cell.{Cell}
 use Rattle.grid_core.specs.declared.cells.Cell.TheVariants.{Unknown}
 use Rattle.grid_core.specs.declared.sides.Side.{Side}
@@ -93,19 +94,6 @@ AreOn side w h cells lines = (length lines ≡ count_on side w h) ×
 abbrev after : Side → ℕ → ℕ → ℕ → List Cell → List Cell → List Cell
 after side w h i cells new = with_cells cells (places_on side w h i) new
 
-long_new : (side : Side) (w h i m : ℕ) (cells new : List Cell) → Learns side w h i m cells new →
-    length new ≡ length (places_on side w h i)
-long_new side w h i m cells new is =
-    sym (length-Extends (cells_at Unknown cells (places_on side w h i)) new is.more) ∙
-    length-cells_at Unknown cells (places_on side w h i)
-
--- the cells of the line are the new ones
-own_read : (side : Side) (w h i m : ℕ) (cells new : List Cell) → Learns side w h i m cells new →
-    cells_at Unknown (after side w h i cells new) (places_on side w h i) ≡ new
-own_read side w h i m cells new is =
-    cells_at-with_cells cells (places_on side w h i) new (distinct_places side w h i is.some)
-    (rw is.count (below_places side w h i is.line)) (long_new side w h i m cells new is)
-
 -- the cell of the line at k
 at_own : (side : Side) (w h i k : ℕ) (cells : List Cell) → k < count_on (crossing side) w h →
     get_or (cells_at Unknown cells (places_on side w h i)) k Unknown ≡ get_or cells (place_on side w i k) Unknown
@@ -113,113 +101,108 @@ at_own side w h i k cells l =
     get_or-cells_at Unknown cells (places_on side w h i) k (omega (arith, l, length-places_on side w h i)) ∙
     ap (λ (p : ℕ). get_or cells p Unknown) (get_or-places_on side w h i k l)
 
--- a cell of another line of the side stays
-at_other : (side : Side) (w h i j k m : ℕ) (cells new : List Cell) → Learns side w h i m cells new → j ≢ i → j < count_on side w h →
-    k < count_on (crossing side) w h → get_or (after side w h i cells new) (place_on side w j k) Unknown ≡ get_or cells (place_on side w j k) Unknown
-at_other side w h i j k m cells new is other lj lk =
-    get_or-with_cells cells (places_on side w h i) new (place_on side w j k) (λ t lt e.
-    let there = along side w h i t lt in
-    absurd (other (sym (same_place side w h i t j k is.line there.0 lj lk (sym there.1 ∙ e)).0)))
-
--- the lines of its side
-own_learned : (side : Side) (w h i m : ℕ) (cells new : List Cell) (own : List (List Cell)) → Learns side w h i m cells new →
-    AreOn side w h cells own → AreOn side w h (after side w h i cells new) (set own i new)
-own_learned side w h i m cells new own is are = (
-  length-set own i new ∙ are.0,
-  λ j lj.
-      let below : j < length own = omega (arith, lj, length-set own i new) in
-      let inside : j < count_on side w h = omega (arith, below, are.0) in
-      elim (cases_eq j i) [
-        | inl same ↦ rw same (get_or-set_same own i new [] (omega (arith, is.line, are.0)) ∙ sym (own_read side w h i m cells new is))
-        | inr other ↦ get_or-set_other own i j new [] other ∙ are.1 j below ∙
-            sym (cells_at-same (after side w h i cells new) cells (places_on side w h j) (λ k lk.
-            let there = along side w h j k lk in
-            rw there.1 (at_other side w h i j k m cells new is other inside there.0)))
-      ],
-)
-
 -- the cell of a line that crosses
 at_across : (side : Side) (w h k t : ℕ) (cells : List Cell) → k < count_on (crossing side) w h → t < count_on side w h →
     (t < length (cells_at Unknown cells (places_on (crossing side) w h k))) ×
     (get_or (cells_at Unknown cells (places_on (crossing side) w h k)) t Unknown ≡ get_or cells (place_on side w t k) Unknown)
 at_across side w h k t cells lk lt =
     let places = places_on (crossing side) w h k in
-    let long : length places ≡ count_on side w h = length-places_on (crossing side) w h k ∙
-    ap (λ (s : Side). count_on s w h) (crossing_twice side) in
-    let here : t < length places = omega (arith, lt, long) in (
-      omega (arith, here, length-cells_at Unknown cells places),
-      get_or-cells_at Unknown cells places t here ∙ ap (λ (p : ℕ). get_or cells p Unknown) (across side w h k t here).1,
-    )
+    let here : t < length places = rw (length-places_on (crossing side) w h k, crossing_twice side) lt in
+    (rw length-cells_at here, get_or-cells_at Unknown cells places t here ∙ ap (λ (p : ℕ). get_or cells p Unknown) (across side w h k t here).1)
 
--- what changes can be written into the lines that cross
-pub can_learn : (side : Side) (w h i m : ℕ) (cells new : List Cell) (lines : List (List Cell)) → Learns side w h i m cells new →
-    AreOn (crossing side) w h cells lines → (k : ℕ) → Has m k → CanLearn lines i new k
-can_learn side w h i m cells new lines is are k has =
-    let old = cells_at Unknown cells (places_on side w h i) in
-    let at = is.changes.to k has in
-    let here : k < count_on (crossing side) w h =
-    (along side w h i k (omega (arith, at.0, length-cells_at Unknown cells (places_on side w h i)))).0 in
-    let line : k < length lines = omega (arith, here, are.0) in
-    let learned = learned_cell (get_or old k Unknown) (get_or new k Unknown) (Extends-at old new k is.more) at.1 in
-    let read = at_across side w h k i cells here is.line in
-    record {
-      ready = record {
-        line = line;
-        within = rw (are.1 k line) read.0;
-        unknown = rw (are.1 k line) (read.1 ∙ sym (at_own side w h i k cells here) ∙ learned.0);
-      };
-      cell = omega (arith, at.0, length-Extends old new is.more);
-      known = learned.1;
-    }
+module _ (side : Side) (w h i m : ℕ) (cells new : List Cell) (is : Learns side w h i m cells new) where
+  -- the cells of the line are the new ones
+  own_read : cells_at Unknown (after side w h i cells new) (places_on side w h i) ≡ new
+  own_read = cells_at-with_cells cells (places_on side w h i) new (distinct_places side w h i is.some)
+      (rw is.count (below_places side w h i is.line))
+      (sym (length-Extends (cells_at Unknown cells (places_on side w h i)) new is.more) ∙ length-cells_at Unknown cells (places_on side w h i))
 
--- the lines that cross
-across_learned : (side : Side) (w h i m : ℕ) (cells new : List Cell) (lines more : List (List Cell)) → Learns side w h i m cells new →
-    AreOn (crossing side) w h cells lines → length more ≡ length lines →
-    ((k : ℕ) → Has m k → get_or more k [] ≡ set (get_or lines k []) i (get_or new k Unknown)) →
-    ((k : ℕ) → (Has m k → ⊥) → get_or more k [] ≡ get_or lines k []) →
-    AreOn (crossing side) w h (after side w h i cells new) more
-across_learned side w h i m cells new lines more is are long changed others = (
-  long ∙ are.0,
-  λ k lk.
-      let below : k < length lines = omega (arith, lk, long) in
-      let inside : k < count_on (crossing side) w h = omega (arith, below, are.0) in
+  -- a cell of another line of the side stays
+  at_other : (j k : ℕ) → j ≢ i → j < count_on side w h → k < count_on (crossing side) w h →
+      get_or (after side w h i cells new) (place_on side w j k) Unknown ≡ get_or cells (place_on side w j k) Unknown
+  at_other j k other lj lk = get_or-with_cells cells (places_on side w h i) new (place_on side w j k) (λ t lt e.
+      let there = along side w h i t lt in
+      absurd (other (sym (same_place side w h i t j k is.line there.0 lj lk (sym there.1 ∙ e)).0)))
+
+  -- the lines of its side
+  own_learned : (own : List (List Cell)) → AreOn side w h cells own → AreOn side w h (after side w h i cells new) (set own i new)
+  own_learned own are = (
+    length-set own i new ∙ are.0,
+    λ j lj.
+        let below : j < length own = omega (arith, lj, length-set own i new) in
+        elim (cases_eq j i) [
+          | inl same ↦ rw same (get_or-set_same own i new [] (omega (arith, is.line, are.0)) ∙ sym own_read)
+          | inr other ↦ get_or-set_other own i j new [] other ∙ are.1 j below ∙
+              sym (cells_at-same (after side w h i cells new) cells (places_on side w h j) (λ k lk.
+              let there = along side w h j k lk in
+              rw there.1 (at_other j k other (omega (arith, below, are.0)) there.0)))
+        ],
+  )
+
+  -- where a cell of the line changes
+  change_in : (k : ℕ) → Has m k → k < count_on (crossing side) w h
+  change_in k has =
+      let at = is.changes.to k has in (along side w h i k (omega (arith, at.0, length-cells_at Unknown cells (places_on side w h i)))).0
+
+  -- what changes can be written into the lines that cross
+  pub can_learn : (lines : List (List Cell)) → AreOn (crossing side) w h cells lines → (k : ℕ) → Has m k → CanLearn lines i new k
+  can_learn lines are k has =
       let old = cells_at Unknown cells (places_on side w h i) in
-      let before = cells_at Unknown cells (places_on (crossing side) w h k) in
-      let then = cells_at Unknown (after side w h i cells new) (places_on (crossing side) w h k) in
-      let line = are.1 k below in
-      let high : length before ≡ length then = length-cells_at Unknown cells (places_on (crossing side) w h k) ∙
-      sym (length-cells_at Unknown (after side w h i cells new) (places_on (crossing side) w h k)) in
-      let tall : length before ≡ count_on side w h = length-cells_at Unknown cells (places_on (crossing side) w h k) ∙
-      length-places_on (crossing side) w h k ∙ ap (λ (s : Side). count_on s w h) (crossing_twice side) in
-      let own : get_or then i Unknown ≡ get_or new k Unknown = (at_across side w h k i (after side w h i cells new) inside is.line).1 ∙
-      sym (at_own side w h i k (after side w h i cells new) inside) ∙
-      ap (λ (r : List Cell). get_or r k Unknown) (own_read side w h i m cells new is) in
-      let kept : (t : ℕ) → t < length before → t ≢ i → get_or before t Unknown ≡ get_or then t Unknown = λ t lt other.
-      let lt2 : t < count_on side w h = omega (arith, lt, tall) in
-      (at_across side w h k t cells inside lt2).1 ∙ sym (at_other side w h i t k m cells new is other lt2 inside) ∙
-      sym (at_across side w h k t (after side w h i cells new) inside lt2).1 in
-      elim (cases_eq (bit_at m k) 1) [
-        | inl has ↦
-            let written : get_or more k [] ≡ set before i (get_or new k Unknown) = changed k has ∙
-            ap (λ (r : List Cell). set r i (get_or new k Unknown)) line in
-            written ∙ ext_get_or Unknown (set before i (get_or new k Unknown)) then (length-set before i (get_or new k Unknown) ∙ high) (λ t lt.
-            let inner : t < length before = omega (arith, lt, length-set before i (get_or new k Unknown)) in
-            elim (cases_eq t i) [
-              | inl same ↦ rw same (get_or-set_same before i (get_or new k Unknown) Unknown (omega (arith, is.line, tall)) ∙ sym own)
-              | inr other ↦ get_or-set_other before i t (get_or new k Unknown) Unknown other ∙ kept t inner other
-            ])
-        | inr none ↦
-            others k none ∙ line ∙ ext_get_or Unknown before then high (λ t lt.
-            elim (cases_eq t i) [
-              | inl same ↦ rw same ((at_across side w h k i cells inside is.line).1 ∙ sym (at_own side w h i k cells inside) ∙
-                  sym (same_cells (get_or old k Unknown) (get_or new k Unknown) (λ d. none (is.changes.from k (
-                    omega (arith, inside, length-cells_at Unknown cells (places_on side w h i), length-places_on side w h i),
-                    d,
-                  )))) ∙ sym own)
-              | inr other ↦ kept t lt other
-            ])
-      ],
-)
+      let at = is.changes.to k has in
+      let here = change_in k has in
+      let line : k < length lines = omega (arith, here, are.0) in
+      let learned = learned_cell (get_or old k Unknown) (get_or new k Unknown) (Extends-at old new k is.more) at.1 in
+      let read = at_across side w h k i cells here is.line in
+      record {
+        ready = record {
+          line = line;
+          within = rw (are.1 k line) read.0;
+          unknown = rw (are.1 k line) (read.1 ∙ sym (at_own side w h i k cells here) ∙ learned.0);
+        };
+        cell = omega (arith, at.0, length-Extends old new is.more);
+        known = learned.1;
+      }
+
+  -- a line that crosses gets the cell of the new line
+  crossed : (k : ℕ) → k < count_on (crossing side) w h → cells_at Unknown (after side w h i cells new) (places_on (crossing side) w h k) ≡
+      set (cells_at Unknown cells (places_on (crossing side) w h k)) i (get_or new k Unknown)
+  crossed k lk =
+      let now = after side w h i cells new in
+      let places = places_on (crossing side) w h k in
+      let before = cells_at Unknown cells places in
+      let v = get_or new k Unknown in
+      let long = length-cells_at Unknown now places in
+      ext_get_or Unknown (cells_at Unknown now places) (set before i v) (long ∙ sym (length-set before i v ∙ length-cells_at Unknown cells places)) (λ t lt.
+      let inner : t < count_on side w h = rw (long, length-places_on (crossing side) w h k, crossing_twice side) at lt in
+      (at_across side w h k t now lk inner).1 ∙ elim (cases_eq t i) [
+        | inl same ↦ rw same (sym (at_own side w h i k now lk) ∙ ap (λ (r : List Cell). get_or r k Unknown) own_read ∙
+            sym (get_or-set_same before i v Unknown (at_across side w h k i cells lk is.line).0))
+        | inr other ↦ at_other t k other inner lk ∙ sym (at_across side w h k t cells lk inner).1 ∙
+            sym (get_or-set_other before i t v Unknown other)
+      ])
+
+  -- the lines that cross
+  across_learned : (lines more : List (List Cell)) → AreOn (crossing side) w h cells lines → length more ≡ length lines →
+      ((k : ℕ) → Has m k → get_or more k [] ≡ set (get_or lines k []) i (get_or new k Unknown)) →
+      ((k : ℕ) → (Has m k → ⊥) → get_or more k [] ≡ get_or lines k []) → AreOn (crossing side) w h (after side w h i cells new) more
+  across_learned lines more are long changed others = (
+    long ∙ are.0,
+    λ k lk.
+        let below : k < length lines = omega (arith, lk, long) in
+        let inside : k < count_on (crossing side) w h = omega (arith, below, are.0) in
+        let old = cells_at Unknown cells (places_on side w h i) in
+        let line = are.1 k below in
+        elim (cases_eq (bit_at m k) 1) [
+          | inl has ↦ changed k has ∙ ap (λ (r : List Cell). set r i (get_or new k Unknown)) line ∙ sym (crossed k inside)
+          | inr none ↦
+              let kept = same_cells (get_or old k Unknown) (get_or new k Unknown) (λ d. none (is.changes.from k (
+                omega (arith, inside, length-cells_at Unknown cells (places_on side w h i), length-places_on side w h i),
+                d,
+              ))) in
+              others k none ∙ line ∙ sym (crossed k inside ∙
+              rw (kept ∙ at_own side w h i k cells inside ∙ sym (at_across side w h k i cells inside is.line).1) (set-get_or _ i Unknown))
+        ],
+  )
 
 -- rows and columns that have the cells of a grid are its lines
 whole : (w h : ℕ) (cells : List Cell) (rows columns : List (List Cell)) → IsSize w h → length cells ≡ w * h → AreOn Rows w h cells rows →
@@ -236,37 +219,37 @@ whole w h cells rows columns size count high wide =
     (λ j. record { width = wide.0 j; height = high.0 j; cells = same j }, subst (λ (r : List Cell). AreLinesOf r rows columns) (sym same) are)
 
 -- the lines after a row was written
-pub learned_rows : (i m : ℕ) (new : List Cell) (rows columns more : List (List Cell)) → AreLinesOf (cells_of_rows rows) rows columns →
-    Learns Rows (length columns) (length rows) i m (cells_of_rows rows) new → length more ≡ length columns →
-    ((k : ℕ) → Has m k → get_or more k [] ≡ set (get_or columns k []) i (get_or new k Unknown)) →
-    ((k : ℕ) → (Has m k → ⊥) → get_or more k [] ≡ get_or columns k []) →
+pub learned_rows : (i m : ℕ) (new : List Cell) (rows columns lines more : List (List Cell)) → AreLinesOf (cells_of_rows rows) rows columns →
+    Learns Rows (length columns) (length rows) i m (cells_of_rows rows) new → lines ≡ columns → length more ≡ length lines →
+    ((k : ℕ) → Has m k → get_or more k [] ≡ set (get_or lines k []) i (get_or new k Unknown)) →
+    ((k : ℕ) → (Has m k → ⊥) → get_or more k [] ≡ get_or lines k []) →
     (grid_of_lines (set rows i new) more
     ≡ record (grid_of_lines rows columns) { cells = after Rows (length columns) (length rows) i (cells_of_rows rows) new }) ×
     AreLinesOf (cells_of_rows (set rows i new)) (set rows i new) more
-learned_rows i m new rows columns more a is long changed others =
+learned_rows i m new rows columns lines more a is e long changed others =
     let cells = cells_of_rows rows in
     let w = length columns in
     let h = length rows in
     whole w h (after Rows w h i cells new) (set rows i new) more a.size (length-with_cells cells (places_on Rows w h i) new ∙ is.count)
-    (own_learned Rows w h i m cells new rows is (refl, a.rows_are))
-    (across_learned Rows w h i m cells new columns more is (refl, a.columns_are) long changed others)
+    (own_learned Rows w h i m cells new is rows (refl, a.rows_are))
+    (across_learned Rows w h i m cells new is lines more (ap length e, rw e a.columns_are) long changed others)
 
 -- the lines after a column was written
-pub learned_columns : (i m : ℕ) (new : List Cell) (rows columns more : List (List Cell)) → AreLinesOf (cells_of_rows rows) rows columns →
-    Learns Columns (length columns) (length rows) i m (cells_of_rows rows) new → length more ≡ length rows →
-    ((k : ℕ) → Has m k → get_or more k [] ≡ set (get_or rows k []) i (get_or new k Unknown)) →
-    ((k : ℕ) → (Has m k → ⊥) → get_or more k [] ≡ get_or rows k []) →
+pub learned_columns : (i m : ℕ) (new : List Cell) (rows columns lines more : List (List Cell)) → AreLinesOf (cells_of_rows rows) rows columns →
+    Learns Columns (length columns) (length rows) i m (cells_of_rows rows) new → lines ≡ rows → length more ≡ length lines →
+    ((k : ℕ) → Has m k → get_or more k [] ≡ set (get_or lines k []) i (get_or new k Unknown)) →
+    ((k : ℕ) → (Has m k → ⊥) → get_or more k [] ≡ get_or lines k []) →
     (grid_of_lines more (set columns i new)
     ≡ record (grid_of_lines rows columns) { cells = after Columns (length columns) (length rows) i (cells_of_rows rows) new }) ×
     AreLinesOf (cells_of_rows more) more (set columns i new)
-learned_columns i m new rows columns more a is long changed others =
+learned_columns i m new rows columns lines more a is e long changed others =
     let cells = cells_of_rows rows in
     let w = length columns in
     let h = length rows in
     whole w h (after Columns w h i cells new) more (set columns i new) a.size
     (length-with_cells cells (places_on Columns w h i) new ∙ is.count)
-    (across_learned Columns w h i m cells new rows more is (refl, a.rows_are) long changed others)
-    (own_learned Columns w h i m cells new columns is (refl, a.columns_are))
+    (across_learned Columns w h i m cells new is lines more (ap length e, rw e a.rows_are) long changed others)
+    (own_learned Columns w h i m cells new is columns (refl, a.columns_are))
 
 -- the line has as many cells as before
 pub long_line : (side : Side) (w h i m : ℕ) (cells new : List Cell) (own : List (List Cell)) → Learns side w h i m cells new →
@@ -279,6 +262,4 @@ long_line side w h i m cells new own is are =
 pub place_fits : (side : Side) (w h i m : ℕ) (cells new : List Cell) → IsSize w h → Learns side w h i m cells new → (k : ℕ) → Has m k →
     place_on side w i k ≤ 65535
 place_fits side w h i m cells new size is k has =
-    let at = is.changes.to k has in
-    let here = along side w h i k (omega (arith, at.0, length-cells_at Unknown cells (places_on side w h i))) in
-    omega (arith, cell_within side w h i k is.line here.0, longest_sides_fit w h size)
+    omega (arith, cell_within side w h i k is.line (change_in side w h i m cells new is k has), longest_sides_fit w h size)

@@ -24,86 +24,60 @@ pub copy_from-requires : goal.copy_from-requires
 copy_from-requires g c =
     let is = learns_of c.args.side Rows c.args.i _ c.args.new.now _ _ _ c.self.invariant c.self.view_is c.in-Rows.is
     c.requires.i c.requires.more c.requires.changes in
-    let rows = c.self.inside.rows.items in
-    let line = c.index_mut.result.now in
-    long_line Rows _ _ _ _ _ _ rows is (refl, c.self.invariant.rows_are) ∙
-    sym (ap length (c.index_mut.ensures.value ∙ (λ j. get_or rows (c.from-place.ensures j) line)
-    ∙ line_read rows c.args.i line is.line))
+    rw (c.index_mut.ensures.value, c.from-place.ensures, line_read c.self.inside.rows.items c.args.i _ is.line)
+    (long_line Rows _ _ _ _ _ _ c.self.inside.rows.items is (refl, c.self.invariant.rows_are))
 
-pub settle_across-requires : goal.settle_across-requires
-settle_across-requires g c =
+pub settle_across-requires-clause-changes : goal.settle_across-requires-clause-changes
+settle_across-requires-clause-changes g c =
     let is = learns_of c.args.side Rows c.args.i _ c.args.new.now _ _ _ c.self.invariant c.self.view_is c.in-Rows.is
     c.requires.i c.requires.more c.requires.changes in
-    record {
-      fits = c.requires.fits;
-      changes = rw c.deref_mut.ensures.value
-          (can_learn Rows _ _ _ _ _ _ c.self.inside.columns.items is (refl, c.self.invariant.columns_are));
-    }
+    rw c.deref_mut.ensures.value (can_learn Rows _ _ _ _ _ _ is c.self.inside.columns.items (refl, c.self.invariant.columns_are))
 
 pub invariant_of-self : goal.invariant_of-self
 invariant_of-self g c =
     let is = learns_of c.args.side Rows c.args.i _ c.args.new.now _ _ _ c.self.invariant c.self.view_is c.in-Rows.is
     c.requires.i c.requires.more c.requires.changes in
-    let learned = learned_rows _ _ _ _ _ c.settle_across.new.lines c.self.invariant is
-    (c.settle_across.ensures.len ∙ ap length c.deref_mut.ensures.value)
-    (rw c.deref_mut.ensures.value at c.settle_across.ensures.changed)
-    (rw c.deref_mut.ensures.value at c.settle_across.ensures.others) in
-    let kept = with_items_is c.self.inside.columns c.settle_across.new.lines
-    (c.settle_across.ensures.len ∙ c.deref_mut.ensures.len) in
+    let learned = learned_rows _ _ _ _ _ _ c.settle_across.new.lines c.self.invariant is c.deref_mut.ensures.value
+    c.settle_across.ensures.len c.settle_across.ensures.changed c.settle_across.ensures.others in
+    let kept = with_items_is c.self.inside.columns c.settle_across.new.lines (c.settle_across.ensures.len ∙ c.deref_mut.ensures.len) in
     rw (kept, c.from-place.ensures, c.copy_from.ensures) learned.1
 
 pub returns-in-Rows : goal.returns-in-Rows
 returns-in-Rows g c =
     let is = learns_of c.args.side Rows c.args.i _ c.args.new.now _ _ _ c.self.invariant c.self.view_is c.in-Rows.is
     c.requires.i c.requires.more c.requires.changes in
-    let learned = learned_rows _ _ _ _ _ c.settle_across.new.lines c.self.invariant is
-    (c.settle_across.ensures.len ∙ ap length c.deref_mut.ensures.value)
-    (rw c.deref_mut.ensures.value at c.settle_across.ensures.changed)
-    (rw c.deref_mut.ensures.value at c.settle_across.ensures.others) in
-    let kept = with_items_is c.self.inside.columns c.settle_across.new.lines
-    (c.settle_across.ensures.len ∙ c.deref_mut.ensures.len) in
+    let learned = learned_rows _ _ _ _ _ _ c.settle_across.new.lines c.self.invariant is c.deref_mut.ensures.value
+    c.settle_across.ensures.len c.settle_across.ensures.changed c.settle_across.ensures.others in
+    let kept = with_items_is c.self.inside.columns c.settle_across.new.lines (c.settle_across.ensures.len ∙ c.deref_mut.ensures.len) in
     written (rw (← c.self.view_is, c.in-Rows.is, kept, c.from-place.ensures, c.copy_from.ensures) learned.0)
 
 pub copy_from-requires-in-Columns : goal.copy_from-requires-in-Columns
 copy_from-requires-in-Columns g c =
     let is = learns_of c.args.side Columns c.args.i _ c.args.new.now _ _ _ c.self.invariant c.self.view_is c.in-Columns.is
     c.requires.i c.requires.more c.requires.changes in
-    let columns = c.self.inside.columns.items in
-    let line = c.index_mut-in-Columns.result.now in
-    long_line Columns _ _ _ _ _ _ columns is (refl, c.self.invariant.columns_are) ∙
-    sym (ap length (c.index_mut-in-Columns.ensures.value ∙ (λ j. get_or columns (c.from-place.ensures j) line)
-    ∙ line_read columns c.args.i line is.line))
+    rw (c.index_mut-in-Columns.ensures.value, c.from-place.ensures, line_read c.self.inside.columns.items c.args.i _ is.line)
+    (long_line Columns _ _ _ _ _ _ c.self.inside.columns.items is (refl, c.self.invariant.columns_are))
 
-pub settle_across-requires-in-Columns : goal.settle_across-requires-in-Columns
-settle_across-requires-in-Columns g c =
+pub settle_across-requires-in-Columns-clause-changes : goal.settle_across-requires-in-Columns-clause-changes
+settle_across-requires-in-Columns-clause-changes g c =
     let is = learns_of c.args.side Columns c.args.i _ c.args.new.now _ _ _ c.self.invariant c.self.view_is c.in-Columns.is
     c.requires.i c.requires.more c.requires.changes in
-    record {
-      fits = c.requires.fits;
-      changes = rw c.deref_mut-in-Columns.ensures.value
-          (can_learn Columns _ _ _ _ _ _ c.self.inside.rows.items is (refl, c.self.invariant.rows_are));
-    }
+    rw c.deref_mut-in-Columns.ensures.value (can_learn Columns _ _ _ _ _ _ is c.self.inside.rows.items (refl, c.self.invariant.rows_are))
 
 pub invariant_of-self-in-Columns : goal.invariant_of-self-in-Columns
 invariant_of-self-in-Columns g c =
     let is = learns_of c.args.side Columns c.args.i _ c.args.new.now _ _ _ c.self.invariant c.self.view_is c.in-Columns.is
     c.requires.i c.requires.more c.requires.changes in
-    let learned = learned_columns _ _ _ _ _ c.settle_across-in-Columns.new.lines c.self.invariant is
-    (c.settle_across-in-Columns.ensures.len ∙ ap length c.deref_mut-in-Columns.ensures.value)
-    (rw c.deref_mut-in-Columns.ensures.value at c.settle_across-in-Columns.ensures.changed)
-    (rw c.deref_mut-in-Columns.ensures.value at c.settle_across-in-Columns.ensures.others) in
-    let kept = with_items_is c.self.inside.rows c.settle_across-in-Columns.new.lines
-    (c.settle_across-in-Columns.ensures.len ∙ c.deref_mut-in-Columns.ensures.len) in
+    let learned = learned_columns _ _ _ _ _ _ c.settle_across-in-Columns.new.lines c.self.invariant is c.deref_mut-in-Columns.ensures.value
+    c.settle_across-in-Columns.ensures.len c.settle_across-in-Columns.ensures.changed c.settle_across-in-Columns.ensures.others in
+    let kept = with_items_is c.self.inside.rows c.settle_across-in-Columns.new.lines (c.settle_across-in-Columns.ensures.len ∙ c.deref_mut-in-Columns.ensures.len) in
     rw (kept, c.from-place.ensures, c.copy_from-in-Columns.ensures) learned.1
 
 pub returns-in-Columns : goal.returns-in-Columns
 returns-in-Columns g c =
     let is = learns_of c.args.side Columns c.args.i _ c.args.new.now _ _ _ c.self.invariant c.self.view_is c.in-Columns.is
     c.requires.i c.requires.more c.requires.changes in
-    let learned = learned_columns _ _ _ _ _ c.settle_across-in-Columns.new.lines c.self.invariant is
-    (c.settle_across-in-Columns.ensures.len ∙ ap length c.deref_mut-in-Columns.ensures.value)
-    (rw c.deref_mut-in-Columns.ensures.value at c.settle_across-in-Columns.ensures.changed)
-    (rw c.deref_mut-in-Columns.ensures.value at c.settle_across-in-Columns.ensures.others) in
-    let kept = with_items_is c.self.inside.rows c.settle_across-in-Columns.new.lines
-    (c.settle_across-in-Columns.ensures.len ∙ c.deref_mut-in-Columns.ensures.len) in
+    let learned = learned_columns _ _ _ _ _ _ c.settle_across-in-Columns.new.lines c.self.invariant is c.deref_mut-in-Columns.ensures.value
+    c.settle_across-in-Columns.ensures.len c.settle_across-in-Columns.ensures.changed c.settle_across-in-Columns.ensures.others in
+    let kept = with_items_is c.self.inside.rows c.settle_across-in-Columns.new.lines (c.settle_across-in-Columns.ensures.len ∙ c.deref_mut-in-Columns.ensures.len) in
     written (rw (← c.self.view_is, c.in-Columns.is, kept, c.from-place.ensures, c.copy_from-in-Columns.ensures) learned.0)
