@@ -1,5 +1,5 @@
 -- A grid as its rows and its columns: its cells, and what changing one of them does.
-use Rattle.std.proofs.Common.{◌≡◌, ◌≢◌, ℕ, ◌+◌, ◌-◌, ◌*◌, ◌/◌, ◌%◌, ◌<◌, ◌≤◌, inl, inr, false, Some, None, List, [], ◌++◌, length, take, drop, get_or, set, refl, sym, ap, subst, ◌∙◌, arith, below_more, length-set, get_or-set_same, get_or-set_other, replicate}
+use Rattle.std.proofs.Common.{◌≡◌, ◌≢◌, ℕ, ◌+◌, ◌-◌, ◌*◌, ◌/◌, ◌%◌, ◌<◌, ◌≤◌, inl, inr, false, Some, None, List, [], ◌∷◌, ◌++◌, length, take, drop, get_or, set, refl, sym, ap, subst, ◌∙◌, arith, below_more, length-set, get_or-set_same, get_or-set_other, replicate}
 use Rattle.std.proofs.lemmas.List.{ext_get_or, get_or_default, get_or-replicate, length-replicate}
 use Rattle.std.proofs.lemmas.Nat.{div_below}
 use Rattle.grid_core.specs.declared.cells.Cell.{Cell}
@@ -19,17 +19,16 @@ use Rattle.grid_core.proofs.RowLists.{get_or-row_of, get_or-rows, length-row_of,
 use Rattle.std.proofs.Math.Nat.{mul-le-mul_left}
 use Rattle.std.proofs.lemmas.Bool.{cases_eq, cases_lt}
 use Rattle.solve_core.proofs.SideLines.{along, distinct_places, same_place, row_within, column_within}
-use Rattle.solve_core.proofs.LineSteps.{AreDistinct, cells_at-same, distinct_same}
+use Rattle.solve_core.proofs.LineSteps.{AreDistinct, cells_at-same, distinct_same, get_or-replicated}
 
-pub length-along : (cells : List Cell) (first step n : ℕ) → length (cells_at Unknown cells (places_from first step n)) ≡ n
+length-along : (cells : List Cell) (first step n : ℕ) → length (cells_at Unknown cells (places_from first step n)) ≡ n
 length-along cells first step n = length-cells_at Unknown cells (places_from first step n) ∙ length-places_from first step n
 
-pub get_or-along : (cells : List Cell) (first step n i : ℕ) → i < n →
-    get_or (cells_at Unknown cells (places_from first step n)) i Unknown ≡ get_or cells (first + i * step) Unknown
-get_or-along cells first step n i h =
-    let within : i < length (places_from first step n) = omega (arith, length-places_from first step n) in
-    get_or-cells_at Unknown cells (places_from first step n) i within ∙
-    ap (λ (q : ℕ). get_or cells q Unknown) (get_or-places_from first step n i h)
+get_or-along : (cells : List Cell) (first step n i k : ℕ) → i < n → first + i * step ≡ k →
+    get_or (cells_at Unknown cells (places_from first step n)) i Unknown ≡ get_or cells k Unknown
+get_or-along cells first step n i k h e =
+    get_or-cells_at Unknown cells (places_from first step n) i (omega (arith, length-places_from first step n)) ∙
+    ap (λ (q : ℕ). get_or cells q Unknown) (get_or-places_from first step n i h ∙ e)
 
 -- a written cell is written in a line at the number of its place, if no place is there twice
 along-set : (cells : List Cell) (places : List ℕ) (k at : ℕ) (c : Cell) → AreDistinct places → k < length places →
@@ -152,39 +151,24 @@ across-more columns more rows y row l e long set_at is = record {
 
 -- ---- the cells of rows
 
+-- a row and a column read at a cell
+pub cell-read : {cells : List Cell} (rows columns : List (List Cell)) (x y : ℕ) → AreLinesOf cells rows columns → x < length columns →
+    y < length rows → (get_or (get_or rows y []) x Unknown ≡ get_or cells (y * length columns + x) Unknown) ×
+    (get_or (get_or columns x []) y Unknown ≡ get_or cells (y * length columns + x) Unknown)
+cell-read {cells} rows columns x y a lx ly = (
+  rw (a.rows_are y ly) (get_or-along cells (y * length columns) 1 (length columns) x (y * length columns + x) lx (omega arith)),
+  rw (a.columns_are x lx) (get_or-along cells x (length columns) (length rows) y (y * length columns + x) ly (omega arith)),
+)
+
 -- the cells of the rows of a grid are its cells
 pub lines-cells : (cells : List Cell) (rows columns : List (List Cell)) → AreLinesOf cells rows columns → cells_of_rows rows ≡ cells
 lines-cells cells rows columns a =
     let w = length columns in
+    let wide = λ (y : ℕ) (l : y < length rows). ap length (a.rows_are y l) ∙ length-along cells (y * w) 1 w in
     let long = length-rows w rows wide in
     ext_get_or Unknown (cells_of_rows rows) cells (omega (arith, long, a.count)) (λ k l.
-    let within : k < length cells = omega (arith, long, a.count) in
-    let at = place_in cells rows columns k a within in
-    let split : k / w * w + k % w ≡ k = sym at.3 in
-    ap (λ (q : ℕ). get_or (cells_of_rows rows) q Unknown) (sym split)
-    ∙ get_or-rows w rows (k / w) (k % w) wide at.2 at.1
-    ∙ ap (λ (row : List Cell). get_or row (k % w) Unknown) (a.rows_are (k / w) at.2)
-    ∙ get_or-along cells (k / w * w) 1 w (k % w) at.1
-    ∙ ap (λ (q : ℕ). get_or cells q Unknown) (omega (arith, split)))
-  where
-    wide : (y : ℕ) → y < length rows → length (get_or rows y []) ≡ length columns
-    wide y l = ap length (a.rows_are y l) ∙ length-along cells (y * length columns) 1 (length columns)
-
--- a row and a column read at a cell
-pub cell-read : (rows columns : List (List Cell)) (x y : ℕ) → AreLinesOf (cells_of_rows rows) rows columns → x < length columns →
-    y < length rows
-    → (get_or (get_or rows y []) x Unknown ≡ get_or (cells_of_rows rows) (y * length columns + x) Unknown) ×
-    (get_or (get_or columns x []) y Unknown ≡ get_or (cells_of_rows rows) (y * length columns + x) Unknown)
-cell-read rows columns x y a lx ly =
-    let cells = cells_of_rows rows in
-    let w = length columns in
-    let along : y * w + x * 1 ≡ y * w + x = omega arith in
-    let down : x + y * w ≡ y * w + x = omega arith in (
-      ap (λ (row : List Cell). get_or row x Unknown) (a.rows_are y ly) ∙ get_or-along cells (y * w) 1 w x lx ∙
-          ap (λ (k : ℕ). get_or cells k Unknown) along,
-      ap (λ (column : List Cell). get_or column y Unknown) (a.columns_are x lx) ∙ get_or-along cells x w (length rows) y ly ∙
-          ap (λ (k : ℕ). get_or cells k Unknown) down,
-    )
+    let at = place_in cells rows columns k a (omega (arith, long, a.count)) in
+    rw (← at.3) at (get_or-rows w rows (k / w) (k % w) wide at.2 at.1 ∙ (cell-read rows columns (k % w) (k / w) a at.1 at.2).0))
 
 -- how long a row and a column are
 pub lines-long : (rows columns : List (List Cell)) (x y : ℕ) → AreLinesOf (cells_of_rows rows) rows columns → x < length columns →
@@ -195,23 +179,20 @@ lines-long rows columns x y a lx ly = (
   ap length (a.columns_are x lx) ∙ length-along (cells_of_rows rows) x (length columns) (length rows),
 )
 
--- a row that was taken out has the cell
-pub row-at : (rows columns : List (List Cell)) (row : List Cell) (x y : ℕ) → AreLinesOf (cells_of_rows rows) rows columns → x < length columns →
-    y < length rows → row ≡ get_or rows y row →
-    (x < length row) × (get_or row x Unknown ≡ get_or (cells_of_rows rows) (y * length columns + x) Unknown)
-row-at rows columns row x y a lx ly is =
-    rw (is ∙ line_read rows y row ly) (omega (arith, lx, (lines-long rows columns x y a lx ly).0), (cell-read rows columns x y a lx ly).0)
-
--- and so has a column
-pub column-at : (rows columns : List (List Cell)) (column : List Cell) (x y : ℕ) → AreLinesOf (cells_of_rows rows) rows columns →
-    x < length columns → y < length rows → column ≡ get_or columns x column →
-    (y < length column) × (get_or column y Unknown ≡ get_or (cells_of_rows rows) (y * length columns + x) Unknown)
-column-at rows columns column x y a lx ly is =
-    rw (is ∙ line_read columns x column lx) (omega (arith, ly, (lines-long rows columns x y a lx ly).1), (cell-read rows columns x y a lx ly).1)
-
 -- the grid that rows and columns are
 abbrev pub grid_of_lines : List (List Cell) → List (List Cell) → PartialGrid
 grid_of_lines rows columns = record { width = length columns; height = length rows; cells = cells_of_rows rows }
+
+-- a row that was taken out has the cell
+pub row-at : (rows columns : List (List Cell)) (row : List Cell) (x y : ℕ) → AreLinesOf (cells_of_rows rows) rows columns →
+    x < length columns → y < length rows → row ≡ get_or rows y row → x < length row
+row-at rows columns row x y a lx ly is = rw (is ∙ line_read rows y row ly) (omega (arith, lx, (lines-long rows columns x y a lx ly).0))
+
+-- and so has a column
+pub column-at : (rows columns : List (List Cell)) (column : List Cell) (x y : ℕ) → AreLinesOf (cells_of_rows rows) rows columns →
+    x < length columns → y < length rows → column ≡ get_or columns x column → y < length column
+column-at rows columns column x y a lx ly is =
+    rw (is ∙ line_read columns x column lx) (omega (arith, ly, (lines-long rows columns x y a lx ly).1))
 
 -- the lines of a grid after a cell was written in its row and its column, which were taken out
 pub cell-changed : (rows columns : List (List Cell)) (row new_row column new_column : List Cell) (x y : ℕ) (c : Cell) →
@@ -224,50 +205,31 @@ cell-changed rows columns row new_row column new_column x y c a lx ly is_row er 
     let after = lines-written (cells_of_rows rows) rows columns new_row new_column x y c a lx ly
     (er ∙ ap (λ (line : List Cell). set line x c) (is_row ∙ line_read rows y row ly))
     (ec ∙ ap (λ (line : List Cell). set line y c) (is_column ∙ line_read columns x column lx)) in
-    let same = lines-cells (set (cells_of_rows rows) (y * length columns + x) c) (set rows y new_row) (set columns x new_column) after in (
-      subst (λ (cells : List Cell). AreLinesOf cells (set rows y new_row) (set columns x new_column)) (sym same) after,
-      λ i. record { width = length-set columns x new_column i; height = length-set rows y new_row i; cells = same i },
-    )
+    let same = lines-cells (set (cells_of_rows rows) (y * length columns + x) c) (set rows y new_row) (set columns x new_column) after in
+    (rw same after, λ i. record { width = length-set columns x new_column i; height = length-set rows y new_row i; cells = same i })
+
+-- of no place of them anything is known
+read-unknown : (n : ℕ) (places : List ℕ) → cells_at Unknown (replicate n Unknown) places ≡ replicate (length places) Unknown
+read-unknown n [] = refl
+read-unknown n (k ∷ places) = λ i. get_or-replicated n k Unknown i ∷ read-unknown n places i
 
 -- lines of which nothing is known
 pub lines-unknown : (w h : ℕ) (rows columns : List (List Cell)) → IsSize w h → rows ≡ replicate h (replicate w Unknown) →
     columns ≡ replicate w (replicate h Unknown)
     → (cells_of_rows rows ≡ replicate (w * h) Unknown) × AreLinesOf (cells_of_rows rows) rows columns
 lines-unknown w h rows columns size er el =
-    let are = lines in
-    let same = lines-cells cells rows columns are in
-    (same, subst (λ (r : List Cell). AreLinesOf r rows columns) (sym same) are)
-  where
-    cells : List Cell
-    cells = replicate (w * h) Unknown
-
-    wide : length columns ≡ w
-    wide = ap length el ∙ length-replicate w (replicate h Unknown)
-
-    high : length rows ≡ h
-    high = ap length er ∙ length-replicate h (replicate w Unknown)
-
-    along : (first step n : ℕ) → ((i : ℕ) → i < n → first + i * step < w * h) →
-        replicate n Unknown ≡ cells_at Unknown cells (places_from first step n)
-    along first step n within =
-        ext_get_or Unknown (replicate n Unknown) (cells_at Unknown cells (places_from first step n)) (length-replicate n Unknown ∙
-        sym (length-along cells first step n))
-        (λ i below.
-        let l : i < n = omega (arith, length-replicate n Unknown) in
-        get_or-replicate n i Unknown Unknown l
-        ∙ sym (get_or-along cells first step n i l ∙ get_or-replicate (w * h) (first + i * step) Unknown Unknown (within i l)))
-
-    lines : AreLinesOf cells rows columns
-    lines = record {
+    let wide : length columns ≡ w = ap length el ∙ length-replicate w (replicate h Unknown) in
+    let high : length rows ≡ h = ap length er ∙ length-replicate h (replicate w Unknown) in
+    let along = λ (first step n : ℕ). read-unknown (w * h) (places_from first step n) ∙
+    ap (λ (k : ℕ). replicate k Unknown) (length-places_from first step n) in
+    let are : AreLinesOf (replicate (w * h) Unknown) rows columns = record {
       size = rw (wide, high) size;
       count = rw (wide, high) (length-replicate (w * h) Unknown);
-      rows_are = λ y below.
-          let l : y < h = omega (arith, high) in
-          rw wide (rw er (get_or-replicate h y (replicate w Unknown) [] l) ∙ along (y * w) 1 w (λ i k. row_within w h y i l k));
-      columns_are = λ x below.
-          let l : x < w = omega (arith, wide) in
-          rw (wide, high) (rw el (get_or-replicate w x (replicate h Unknown) [] l) ∙ along x w h (λ i k. column_within w h x i l k));
-    }
+      rows_are = λ y l. rw (wide, along (y * w) 1 w, er) (get_or-replicate h y (replicate w Unknown) [] (omega (arith, high)));
+      columns_are = λ x l. rw (wide, high, along x w h, el) (get_or-replicate w x (replicate h Unknown) [] (omega (arith, wide)));
+    } in
+    let same = lines-cells (replicate (w * h) Unknown) rows columns are in
+    (same, rw same are)
 
 -- the rows and the columns of two grids of one size are as many, and as long
 pub lines-alike : (rows columns others beside : List (List Cell)) (g h : PartialGrid) → AreLinesOf (cells_of_rows rows) rows columns →
@@ -276,10 +238,8 @@ pub lines-alike : (rows columns others beside : List (List Cell)) (g h : Partial
     × ((y : ℕ) → y < length rows → length (get_or others y []) ≡ length (get_or rows y []))
     × ((x : ℕ) → x < length columns → length (get_or beside x []) ≡ length (get_or columns x []))
 lines-alike rows columns others beside g h a b seen other wide high =
-    let tall : length others ≡ length rows =
-    ap (λ (p : PartialGrid). p.height) other ∙ high ∙ sym (ap (λ (p : PartialGrid). p.height) seen) in
-    let broad : length beside ≡ length columns =
-    ap (λ (p : PartialGrid). p.width) other ∙ wide ∙ sym (ap (λ (p : PartialGrid). p.width) seen) in (
+    let tall : length others ≡ length rows = rw (← other, ← seen) at high in
+    let broad : length beside ≡ length columns = rw (← other, ← seen) at wide in (
       tall,
       broad,
       λ y l. (lines-long others beside 0 y b b.size.width_from (omega (arith, l, tall))).0 ∙ broad ∙
@@ -290,19 +250,22 @@ lines-alike rows columns others beside g h a b seen other wide high =
 
 -- ---- unknown cells
 
+-- the cell of a row that a cell of the grid is
+in_row : (rows columns : List (List Cell)) (y k : ℕ) → AreLinesOf (cells_of_rows rows) rows columns → y < length rows → y * length columns ≤ k →
+    k < y * length columns + length columns →
+    get_or (cells_of_rows rows) k Unknown ≡ get_or (get_or rows y []) (k - y * length columns) Unknown
+in_row rows columns y k a ly from to =
+    let at : y * length columns + (k - y * length columns) ≡ k = omega arith in
+    sym (rw at at ((cell-read rows columns (k - y * length columns) y a (omega arith) ly).0))
+
 -- the cells of a row that has no unknown one from a cell on
 pub row-known : (rows columns : List (List Cell)) (y column : ℕ) → AreLinesOf (cells_of_rows rows) rows columns → y < length rows →
     IsUnknownFrom (get_or rows y []) column None
     → (k : ℕ) → y * length columns + column ≤ k → k < y * length columns + length columns →
     is_unknown (get_or (cells_of_rows rows) k Unknown) ≡ false
 row-known rows columns y column a ly none k from to =
-    let w = length columns in
-    let x : ℕ = k - y * w in
-    let at : y * w + x ≡ k = omega arith in
-    let lx : x < w = omega arith in
-    let long = (lines-long rows columns x y a lx ly).0 in
-    ap is_unknown (ap (λ (q : ℕ). get_or (cells_of_rows rows) q Unknown) (sym at) ∙ sym (cell-read rows columns x y a lx ly).0) ∙
-    none x (omega arith) (omega (arith, long, lx))
+    let long = (lines-long rows columns 0 y a a.size.width_from ly).0 in
+    rw (in_row rows columns y k a ly (omega arith) to) (none (k - y * length columns) (omega arith) (omega (arith, long)))
 
 -- the first unknown cell of a row
 pub row-unknown : (rows columns : List (List Cell)) (y column x : ℕ) → AreLinesOf (cells_of_rows rows) rows columns → y < length rows →
@@ -310,17 +273,11 @@ pub row-unknown : (rows columns : List (List Cell)) (y column x : ℕ) → AreLi
     → (x < length columns) × (get_or (cells_of_rows rows) (y * length columns + x) Unknown ≡ Unknown)
     × ((k : ℕ) → y * length columns + column ≤ k → k < y * length columns + x → is_unknown (get_or (cells_of_rows rows) k Unknown) ≡ false)
 row-unknown rows columns y column x a ly found =
-    let w = length columns in
-    let positive : 0 < w = a.size.width_from in
-    let lx : x < w = omega (arith, found.1, (lines-long rows columns 0 y a positive ly).0) in (
+    let lx : x < length columns = omega (arith, found.1, (lines-long rows columns 0 y a a.size.width_from ly).0) in (
       lx,
       sym (cell-read rows columns x y a lx ly).0 ∙ found.2,
-      λ k from to.
-          (let z : ℕ = k - y * w in
-          let at : y * w + z ≡ k = omega arith in
-          let lz : z < w = omega (arith, lx) in
-          ap is_unknown (ap (λ (q : ℕ). get_or (cells_of_rows rows) q Unknown) (sym at) ∙ sym (cell-read rows columns z y a lz ly).0) ∙
-          found.3 z (omega arith) (omega arith)),
+      λ k from to. rw (in_row rows columns y k a ly (omega arith) (omega (arith, lx)))
+          (found.3 (k - y * length columns) (omega arith) (omega arith)),
     )
 
 -- ---- rows read from a grid
@@ -340,15 +297,12 @@ lines-read g rows columns size count wide rows_are long cells = record {
       ext_get_or Unknown (get_or rows y []) (cells_at Unknown g.cells (places_from (y * w) 1 w))
       (same ∙ sym (length-along g.cells (y * w) 1 w))
       (λ x h. let lx : x < w = omega (arith, h, same) in
-      let at : y * w + x * 1 ≡ y * w + x = omega arith in
-      row_cell x y lx ly ∙ sym (get_or-along g.cells (y * w) 1 w x lx ∙ ap (λ (k : ℕ). get_or g.cells k Unknown) at));
+      row_cell x y lx ly ∙ sym (get_or-along g.cells (y * w) 1 w x (y * w + x) lx (omega arith)));
   columns_are = λ x lx.
       ext_get_or Unknown (get_or columns x []) (cells_at Unknown g.cells (places_from x w (length rows)))
       (long x lx ∙ sym (length-along g.cells x w (length rows)))
       (λ y h. let ly : y < length rows = omega (arith, h, long x lx) in
-      let at : x + y * w ≡ y * w + x = omega arith in
-      cells x y lx ly ∙ row_cell x y lx ly
-      ∙ sym (get_or-along g.cells x w (length rows) y ly ∙ ap (λ (k : ℕ). get_or g.cells k Unknown) at));
+      cells x y lx ly ∙ row_cell x y lx ly ∙ sym (get_or-along g.cells x w (length rows) y (y * w + x) ly (omega arith)));
 }
   where
     w : ℕ
@@ -356,10 +310,7 @@ lines-read g rows columns size count wide rows_are long cells = record {
 
     row_cell : (x y : ℕ) → x < length columns → y < length rows →
         get_or (get_or rows y []) x Unknown ≡ get_or g.cells (y * length columns + x) Unknown
-    row_cell x y lx ly =
-        ap (λ (row : List Cell). get_or row x Unknown) (rows_are y ly)
-        ∙ get_or-row_of g x y (omega (arith, lx, wide))
-        ∙ ap (λ (n : ℕ). get_or g.cells (y * n + x) Unknown) wide
+    row_cell x y lx ly = rw (rows_are y ly, ← wide) (get_or-row_of g x y (omega (arith, lx, wide)))
 
 -- ---- rows written into a grid
 

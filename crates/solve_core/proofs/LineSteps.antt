@@ -1,5 +1,5 @@
 -- Writing a line into a grid: which cells change, and what the closure is afterwards.
-use Rattle.std.proofs.Common.{◌≡◌, ◌≢◌, ℕ, zero, suc, ◌+◌, ◌*◌, ◌<◌, inl, inr, true, List, [], ◌∷◌, length, get_or, set, Option, Some, None, option_map, refl, sym, ap, ◌∙◌, arith, length-set, get_or-set_same}
+use Rattle.std.proofs.Common.{◌≡◌, ◌≢◌, ℕ, zero, suc, ◌+◌, ◌*◌, ◌<◌, inl, inr, true, List, [], ◌∷◌, length, get_or, set, Option, Some, None, option_map, refl, sym, ap, ◌∙◌, arith, length-set, get_or-set_same, replicate}
 use Rattle.std.specs.List.{AllByRecursion}
 use Rattle.std.proofs.lemmas.List.{set-get_or}
 use Rattle.grid_core.specs.declared.cells.Cell.{Cell}
@@ -34,6 +34,12 @@ get_or-with_cells g (p ∷ ps) [] k h = refl
 get_or-with_cells g (p ∷ ps) (c ∷ d) k h =
     let here : get_or (set g p c) k Unknown ≡ get_or g k Unknown = set_elsewhere g p c k (λ e. h 0 (omega arith) e) in
     get_or-with_cells (set g p c) ps d k (λ i l e. h (suc i) (omega arith) e ∙ sym here) ∙ here
+
+-- a list of one item reads as that, also outside
+pub get_or-replicated : {X : Type 0} (n k : ℕ) (d : X) → get_or (replicate n d) k d ≡ d
+get_or-replicated zero k d = refl
+get_or-replicated (suc n) zero d = refl
+get_or-replicated (suc n) (suc k) d = get_or-replicated n k d
 
 -- no place is in the list twice
 abbrev pub AreDistinct : List ℕ → Type 0

@@ -27,7 +27,7 @@ use Rattle.solve_core.proofs.SearchLaws.{same_known}
 use Rattle.solve_core.proofs.TrialSteps.{met_open}
 use Rattle.solve_core.proofs.SideLines.{along, line_is_one, unique_place}
 use Rattle.solve_core.proofs.GridSteps.{settled-same, settled_closed, place_again, line-distinct, line-below}
-use Rattle.solve_core.proofs.LineSteps.{cells_at-same, closed_settled}
+use Rattle.solve_core.proofs.LineSteps.{closed_settled, get_or-replicated}
 
 -- ---- two grids as one
 
@@ -366,19 +366,13 @@ pub no_witnesses : (p : Nonogram) (w : WitnessLists) (cells : List Cell) → Are
 no_witnesses p w cells n size few = with_colours p w cells n size (λ number counts.
     let first : number ≡ 0 = omega (arith, inside w.witnesses number counts) in absurd (true≢false (sym counts ∙ rw first n.none)))
 
-zeros : (n k : ℕ) → let none : ℕ = 0 in get_or (replicate n none) k none ≡ none
-zeros n k = let none : ℕ = 0 in elim (cases_lt k n) [
-  | inl l ↦ get_or-replicate n k none none l
-  | inr l ↦ get_or_past (replicate n none) k none (omega (arith, length-replicate n none))
-]
-
 -- if all witnesses but the first are dropped and all numbers are 0, the numbers are those of witnesses
 pub forgotten : (w : WitnessLists) (n : ℕ) → AreNumbered w →
     AreNumbered (record w { witnesses = take 1 w.witnesses; fillable = replicate n 0; blankable = replicate n 0 })
 forgotten w n is = record {
   count = refl;
   none = rw (get_or-take 1 w.witnesses 0 no_witness (omega arith)) is.none;
-  within = λ k. elim [ Unknown ↦ some | Filled ↦ omega (arith, zeros n k, some) | Blank ↦ omega (arith, zeros n k, some) ];
+  within = λ k. elim [ Unknown ↦ some | Filled ↦ rw (get_or-replicated n k) some | Blank ↦ rw (get_or-replicated n k) some ];
 }
   where
     some : 0 < length (take 1 w.witnesses)
