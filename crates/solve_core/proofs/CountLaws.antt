@@ -1,6 +1,6 @@
 -- In how many sets a place is, and what that says of a row's neighbours.
-use Rattle.std.proofs.Common.{◌≡◌, ℕ, zero, suc, ◌+◌, ◌-◌, ◌<◌, ◌≤◌, ◌⊎◌, inl, inr, Bool, true, false, nat_eq, List, length, get_or, Option, Some, None, IfSome, IfNone, refl, sym, ◌∙◌, arith, true≢false}
-use Rattle.std.proofs.lemmas.Bool.{eqb-true, eq-eqb}
+use Rattle.std.proofs.Common.{◌≡◌, ℕ, zero, suc, ◌+◌, ◌-◌, ◌<◌, ◌≤◌, ◌⊎◌, inl, inr, Bool, true, false, nat_eq, List, length, get_or, Option, Some, None, IfSome, IfNone, refl, sym, ◌∙◌, arith, subst, true≢false}
+use Rattle.std.proofs.lemmas.Bool.{cases_eq, cases_lt, eqb-true, eq-eqb, or_cases}
 use Rattle.grid_core.specs.declared.cells.Cell.{Cell}
 use Rattle.grid_core.specs.declared.cells.Cell.TheVariants.{Unknown}
 use Rattle.grid_core.specs.Cells.{is_known}
@@ -10,24 +10,6 @@ use Rattle.grid_core.specs.Lines.{IsUnknownCell}
 use Rattle.grid_core.proofs.LineCells.{has_by}
 use Rattle.solve_core.specs.steps.Counts.{AreCounts, IsKnownCell, IsMostInRow, row_score, two_of}
 use Rattle.solve_core.specs.Picks.{is_sure}
-
-at_most_one : (n : ℕ) → (n ≤ 1) ⊎ (2 ≤ n)
-at_most_one zero = inl (omega arith)
-at_most_one (suc zero) = inl (omega arith)
-at_most_one (suc (suc n)) = inr (omega arith)
-
-zero_or : (n : ℕ) → (n ≡ 0) ⊎ (1 ≤ n)
-zero_or zero = inl refl
-zero_or (suc n) = inr (omega arith)
-
-last_or : (n m : ℕ) → (n + 1 ≡ m) ⊎ (n < m → n + 1 < m)
-last_or n zero = inr (λ l. absurd (omega arith))
-last_or zero (suc zero) = inl refl
-last_or zero (suc (suc m)) = inr (λ l. omega arith)
-last_or (suc n) (suc m) = elim (last_or n m) [
-  | inl e ↦ inl (omega (arith, e))
-  | inr more ↦ inr (λ l. let up = more (omega (arith, l)) in omega (arith, up))
-]
 
 lacking : (m i : ℕ) → has m i ≡ false → Has m i → ⊥
 lacking m i e h = true≢false (sym (has_true m i h) ∙ e)
@@ -40,36 +22,22 @@ counts_by f e b c i = by (has e i) (has b i) refl refl
     by true true p q = let two : 2 ≤ f i = c.both_is.to i (true_has b i q) in omega (arith, two, c.most i)
     by true false p q =
         let one : 1 ≤ f i = c.either_is.to i (true_has e i p) in
-        elim (at_most_one (f i)) [ inl few ↦ omega (arith, one, few) | inr two ↦ absurd (lacking b i q (c.both_is.from i two)) ]
+        elim (cases_lt 1 (f i)) [ inl two ↦ absurd (lacking b i q (c.both_is.from i (omega arith))) | inr few ↦ omega (arith, one, few) ]
     by false true p q = let two : 2 ≤ f i = c.both_is.to i (true_has b i q) in
         absurd (lacking e i p (c.either_is.from i (omega (arith, two))))
-    by false false p q = elim (zero_or (f i)) [
-      | inl none ↦ omega (arith, none)
-      | inr some ↦ absurd (lacking e i p (c.either_is.from i some))
+    by false false p q = elim (cases_lt 0 (f i)) [
+      | inl some ↦ absurd (lacking e i p (c.either_is.from i (omega arith)))
+      | inr none ↦ omega (arith, none)
     ]
 
 -- two sets that tell a count also tell the count that is read off them
 pub counts_own : (f : ℕ → ℕ) (e b : ℕ) → AreCounts f e b → AreCounts (λ i. two_of (has e i) (has b i)) e b
-counts_own f e b c = record {
-  most = λ i. omega (arith, counts_by f e b c i, c.most i);
-  either_is = record {
-    to = λ i h. (let one = c.either_is.to i h in omega (arith, counts_by f e b c i, one));
-    from = λ i h. c.either_is.from i (omega (arith, counts_by f e b c i, h));
-  };
-  both_is = record {
-    to = λ i h. (let two = c.both_is.to i h in omega (arith, counts_by f e b c i, two));
-    from = λ i h. c.both_is.from i (omega (arith, counts_by f e b c i, h));
-  };
-}
+counts_own f e b c = subst (λ (count : ℕ → ℕ). AreCounts count e b) (λ j i. sym (counts_by f e b c i) j) c
 
 sure_by : (outside : Bool) (c : Cell) → (outside ≡ true) ⊎ (is_known c ≡ true) → is_sure outside c ≡ true
 sure_by true c h = refl
 sure_by false c (inl e) = absurd (true≢false (sym e))
 sure_by false c (inr e) = e
-
-by_sure : (outside : Bool) (c : Cell) → is_sure outside c ≡ true → (outside ≡ true) ⊎ (is_known c ≡ true)
-by_sure true c h = inl refl
-by_sure false c h = inr h
 
 -- the cells with a known cell to their left, and the first one
 pub left_is : (row : List Cell) (w known up first left : ℕ) → length row ≤ w → IsMaskOf (IsKnownCell row) known →
@@ -85,11 +53,11 @@ left_is row w known up first left fits k u f l x h = has_by left x (is_sure (nat
     ]
 
     from : is_sure (nat_eq x 0) (get_or row (x - 1) Unknown) ≡ true → Has left x
-    from e = elim (by_sure (nat_eq x 0) (get_or row (x - 1) Unknown) e) [
+    from e = elim (or_cases (nat_eq x 0) (is_known (get_or row (x - 1) Unknown)) e) [
       | inl start ↦ l.from x (inr (f.from x (eqb-true x 0 start)))
-      | inr sure ↦ elim (zero_or x) [
+      | inr sure ↦ elim (cases_eq x 0) [
         | inl start ↦ l.from x (inr (f.from x start))
-        | inr later ↦ l.from x (inl (u.from x (omega (arith, h, fits), later, k.from (x - 1) (omega (arith, h), sure))))
+        | inr later ↦ l.from x (inl (u.from x (omega (arith, h, fits), omega (arith, later), k.from (x - 1) (omega (arith, h), sure))))
       ]
     ]
 
@@ -112,13 +80,13 @@ right_is row w known down first last right fits some k d f m r x h =
     ]
 
     from : is_sure (nat_eq (x + 1) (length row)) (get_or row (x + 1) Unknown) ≡ true → Has right x
-    from e = elim (by_sure (nat_eq (x + 1) (length row)) (get_or row (x + 1) Unknown) e) [
+    from e = elim (or_cases (nat_eq (x + 1) (length row)) (is_known (get_or row (x + 1) Unknown)) e) [
       | inl end ↦
           (let at : x + 1 ≡ length row = eqb-true (x + 1) (length row) end in
           r.from x (inr (m.from x (omega (arith, h, fits), omega (arith, at), f.from (x - (length row - 1)) (omega (arith, at))))))
-      | inr sure ↦ elim (last_or x (length row)) [
+      | inr sure ↦ elim (cases_eq (x + 1) (length row)) [
         | inl at ↦ r.from x (inr (m.from x (omega (arith, h, fits), omega (arith, at), f.from (x - (length row - 1)) (omega (arith, at)))))
-        | inr more ↦ r.from x (inl (d.from x (k.from (x + 1) (more h, sure))))
+        | inr more ↦ r.from x (inl (d.from x (k.from (x + 1) (omega (arith, h, more), sure))))
       ]
     ]
 

@@ -1,7 +1,7 @@
 -- How many cells are known.
-use Rattle.std.proofs.Common.{take, ◌≤◌, ◌≡◌, ℕ, zero, suc, ◌+◌, ◌<◌, Bool, true, false, List, [], ◌∷◌, length, get_or, cond, nat_eq, refl, sym, ap, ◌∙◌, arith, true≢false}
+use Rattle.std.proofs.Common.{take, ◌≤◌, ◌≡◌, ℕ, zero, suc, inl, inr, ◌+◌, ◌<◌, Bool, true, false, List, [], ◌∷◌, length, get_or, cond, nat_eq, refl, sym, ap, ◌∙◌, arith, true≢false}
 use Rattle.std.specs.List.{count_by, list_all}
-use Rattle.std.proofs.lemmas.Bool.{eqb-true, eq-eqb}
+use Rattle.std.proofs.lemmas.Bool.{cases_Bool, eq-eqb, ne_eqb}
 use Rattle.std.proofs.lemmas.List.Sums.{count_by_more_yes, sum_by-cons}
 use Rattle.grid_core.specs.declared.cells.Cell.{Cell}
 use Rattle.grid_core.specs.declared.cells.Cell.TheVariants.{Unknown, Filled, Blank}
@@ -13,18 +13,13 @@ use Rattle.solve_core.specs.Trials.{IsTried}
 -- each cell is known or unknown
 pub known-and-unknown : (cells : List Cell) → count_by is_known cells + unknown_count cells ≡ length cells
 known-and-unknown [] = refl
-known-and-unknown (Unknown ∷ cells) = omega (
-  arith,
-  sum_by-cons (λ (c : Cell). cond (is_known c) 1 0) Unknown cells,
-  known-and-unknown cells,
-)
-known-and-unknown (Filled ∷ cells) = omega (arith, sum_by-cons (λ (c : Cell). cond (is_known c) 1 0) Filled cells, known-and-unknown cells)
-known-and-unknown (Blank ∷ cells) = omega (arith, sum_by-cons (λ (c : Cell). cond (is_known c) 1 0) Blank cells, known-and-unknown cells)
+known-and-unknown (Unknown ∷ cells) =
+    omega (arith, sum_by-cons (λ (c : Cell). cond (is_known c) 1 0) Unknown cells, known-and-unknown cells)
+known-and-unknown (c ∷ cells) = omega (arith, sum_by-cons (λ (c : Cell). cond (is_known c) 1 0) c cells, known-and-unknown cells)
 
 known-if : (c : Cell) → is_unknown c ≡ false → is_known c ≡ true
 known-if Unknown h = absurd (true≢false h)
-known-if Filled h = refl
-known-if Blank h = refl
+known-if _ h = refl
 
 -- each of the n cells before one is known
 pub count-run : (cells : List Cell) (n from to : ℕ) → from + n ≡ to → to ≤ length cells →
@@ -43,36 +38,26 @@ count-run cells (suc n) from to e l h =
 none-unknown : (cells : List Cell) → list_all is_known cells ≡ true → unknown_count cells ≡ 0
 none-unknown [] h = refl
 none-unknown (Unknown ∷ cells) h = absurd (true≢false (sym h))
-none-unknown (Filled ∷ cells) h = none-unknown cells h
-none-unknown (Blank ∷ cells) h = none-unknown cells h
+none-unknown (_ ∷ cells) h = none-unknown cells h
 
 all-of-none : (cells : List Cell) → unknown_count cells ≡ 0 → list_all is_known cells ≡ true
 all-of-none [] h = refl
 all-of-none (Unknown ∷ cells) h = absurd (omega (arith, h))
-all-of-none (Filled ∷ cells) h = all-of-none cells h
-all-of-none (Blank ∷ cells) h = all-of-none cells h
+all-of-none (_ ∷ cells) h = all-of-none cells h
 
 -- all cells are known exactly if as many are known as there are
 pub all-known : (cells : List Cell) → nat_eq (count_by is_known cells) (length cells) ≡ list_all is_known cells
-all-known cells = by (list_all is_known cells) (nat_eq (count_by is_known cells) (length cells)) refl refl
-  where
-    by : (all same : Bool) → list_all is_known cells ≡ all → nat_eq (count_by is_known cells) (length cells) ≡ same → same ≡ all
-    by true true e f = refl
-    by false false e f = refl
-    by true false e f =
-        let whole : count_by is_known cells ≡ length cells = omega (arith, known-and-unknown cells, none-unknown cells e) in
-        absurd (true≢false (sym (eq-eqb (count_by is_known cells) (length cells) whole) ∙ f))
-    by false true e f =
-        let whole : count_by is_known cells ≡ length cells = eqb-true (count_by is_known cells) (length cells) f in
-        absurd (true≢false (sym (all-of-none cells (omega (arith, known-and-unknown cells, whole))) ∙ e))
+all-known cells = elim (cases_Bool (list_all is_known cells)) [
+  | inl e ↦ eq-eqb (count_by is_known cells) (length cells) (omega (arith, known-and-unknown cells, none-unknown cells e)) ∙ sym e
+  | inr e ↦ ne_eqb (count_by is_known cells) (length cells)
+      (λ whole. true≢false (sym (all-of-none cells (omega (arith, known-and-unknown cells, whole))) ∙ e)) ∙ sym e
+]
 
 known-at : (cells : List Cell) (k : ℕ) → list_all is_known cells ≡ true → k < length cells → is_known (get_or cells k Unknown) ≡ true
 known-at [] k h l = absurd (omega arith)
 known-at (Unknown ∷ cells) k h l = absurd (true≢false (sym h))
-known-at (Filled ∷ cells) zero h l = refl
-known-at (Filled ∷ cells) (suc k) h l = known-at cells k h (omega arith)
-known-at (Blank ∷ cells) zero h l = refl
-known-at (Blank ∷ cells) (suc k) h l = known-at cells k h (omega arith)
+known-at (_ ∷ cells) zero h l = refl
+known-at (_ ∷ cells) (suc k) h l = known-at cells k h (omega arith)
 
 -- if all cells are known, there is none to try
 pub full-tried : (lines : List GridLine) (cells : List Cell) → list_all is_known cells ≡ true → (k : ℕ) → k < length cells →

@@ -31,6 +31,13 @@ pub line-below : (p : Nonogram) (size : ℕ) (side : Side) (i : ℕ) → i < cou
     AreBelow size ((line_on side p i).places)
 line-below p size side i l e = rw e (below_places side p.width p.height i l)
 
+-- each line of a closed grid is settled
+pub line_settled : (p : Nonogram) (g : List Cell) (side : Side) (i : ℕ) → IsNonogram p → length g ≡ p.width * p.height →
+    round (lines_of p) g ≡ Some g → i < count_on side p.width p.height → IsDeduced g (line_on side p i)
+line_settled p g side i is size closed l =
+    closed_settled (lines_of p) g (line_on side p i) closed (line_is_one side p i is l) (line-distinct p side i is)
+    (line-below p (length g) side i l size)
+
 -- a line stays settled if none of its cells changed
 pub settled-same : (g new : List Cell) (line : GridLine) → IsDeduced g line →
     ((i : ℕ) → i < length line.places → get_or new (get_or line.places i 0) Unknown ≡ get_or g (get_or line.places i 0) Unknown) →
@@ -45,75 +52,51 @@ pub marks-after : (p : Nonogram) (cells new : List Cell) (marks middle after : L
     MarksChanges side i p.width p.height cells new middle after → MarksAfter r p after new
 marks-after p cells new marks middle after side i r m l taken other learned changes = by r learned
   where
-    w : ℕ
-    w = p.width
-
-    h : ℕ
-    h = p.height
-
     within : AreMarksWithin p.width p.height after
-    within = by_side (λ s. (j : ℕ) → IsMarkedOn after s j → j < count_on s w h) side
-        (λ j x. elim (taken.to j (subst (λ (q : ℕ). Has q j) changes.own x)) [
+    within = by_side (λ s. (j : ℕ) → IsMarkedOn after s j → j < count_on s p.width p.height) side
+        (λ j x. elim (taken.to j (rw changes.own at x)) [
           | inl kept ↦ m.within side j kept.0
           | inr gone ↦ absurd (true≢false (sym gone.1))
         ])
-        (λ j x. elim (changes.crossing_it j x) [
-          | inl old ↦ m.within (crossing side) j (subst (λ (q : ℕ). Has q j) other old)
-          | inr new ↦ new
-        ])
+        (λ j x. elim (changes.crossing_it j x) [ inl old ↦ m.within (crossing side) j (rw other at old) | inr new ↦ new ])
 
-    -- a line of the side that has no mark had none before, if it is another one
-    own : (j : ℕ) → j < count_on side w h → (IsMarkedOn after side j → ⊥) → j ≢ i → IsDeduced cells (line_on side p j)
-    own j lj n ne = m.settled side j lj (λ x. n (subst (λ (q : ℕ). Has q j) (sym changes.own) (taken.from j (inl (x, ne)))))
-
-    -- a crossing line that has no mark had none before
-    cross : (j : ℕ) → j < count_on (crossing side) w h → (IsMarkedOn after (crossing side) j → ⊥) →
-        IsDeduced cells (line_on (crossing side) p j)
-    cross j lj n = m.settled (crossing side) j lj (λ x. n (changes.kept j (subst (λ (q : ℕ). Has q j) (sym other) x)))
-
-    written : IsWritten (line_on side p i) cells new → HasMarks p after new
-    written wr =
-        let distinct = line-distinct p side i m.puzzle in
-        let below = line-below p (length cells) side i l m.size in
-        record {
-          puzzle = m.puzzle;
-          size = sym (length-Extends cells new (written-extends (line_on side p i) cells new wr)) ∙ m.size;
-          within = within;
-          settled = by_side (λ s. (j : ℕ) → j < count_on s w h → (IsMarkedOn after s j → ⊥) → IsDeduced new (line_on s p j)) side
-              (λ j lj n. elim (cases_eq j i) [
-                | inl same ↦ subst (λ (q : ℕ). IsDeduced new (line_on side p q)) (sym same)
-                    (written-settled (line_on side p i) cells new wr distinct below)
-                | inr ne ↦ settled-same cells new (line_on side p j) (own j lj n ne) (λ b lb.
-                    let there = along side w h j b lb in
-                    written-elsewhere (line_on side p i) cells new wr distinct below (get_or (places_on side w h j) b 0) (λ k lk meet.
-                    let here = along side w h i k lk in
-                    absurd (ne (sym (same_place side w h i k j b l here.0 lj there.0 (sym here.1 ∙ meet ∙ there.1)).0))))
-              ])
-              (λ j lj n. settled-same cells new (line_on (crossing side) p j) (cross j lj n) (λ b lb.
-              let there = across side w h j b lb in
-              written-elsewhere (line_on side p i) cells new wr distinct below (get_or (places_on (crossing side) w h j) b 0) (λ k lk meet.
-              let here = along side w h i k lk in
-              let same : k ≡ j = (same_place side w h i k b j l here.0 there.0 lj (sym here.1 ∙ meet ∙ there.1)).1 in
-              subst (λ (q : ℕ). get_or new q Unknown ≡ get_or cells q Unknown)
-              (ap (place_on side w i) (sym same) ∙ sym here.1 ∙ meet) (changes.same j lj n))));
-        }
+    -- the marks are right if the line is settled, and cells elsewhere are as they were
+    marked : length new ≡ length cells → IsDeduced new (line_on side p i) →
+        ((q : ℕ) → ((k : ℕ) → k < length (places_on side p.width p.height i) → get_or (places_on side p.width p.height i) k 0 ≡ q →
+        get_or new q Unknown ≡ get_or cells q Unknown) → get_or new q Unknown ≡ get_or cells q Unknown) → HasMarks p after new
+    marked long own elsewhere = record {
+      puzzle = m.puzzle;
+      size = long ∙ m.size;
+      within = within;
+      settled = by_side (λ s. (j : ℕ) → j < count_on s p.width p.height → (IsMarkedOn after s j → ⊥) → IsDeduced new (line_on s p j)) side
+          (λ j lj n. elim (cases_eq j i) [
+            | inl same ↦ rw same own
+            | inr ne ↦ settled-same cells new (line_on side p j)
+                (m.settled side j lj (λ x. n (rw changes.own (taken.from j (inl (x, ne)))))) (λ b lb.
+                let there = along side p.width p.height j b lb in
+                elsewhere (get_or (places_on side p.width p.height j) b 0) (λ k lk meet.
+                let here = along side p.width p.height i k lk in
+                absurd (ne (sym (same_place side p.width p.height i k j b l here.0 lj there.0 (sym here.1 ∙ meet ∙ there.1)).0))))
+          ])
+          (λ j lj n. settled-same cells new (line_on (crossing side) p j)
+          (m.settled (crossing side) j lj (λ x. n (changes.kept j (rw other x)))) (λ b lb.
+          let there = across side p.width p.height j b lb in
+          elsewhere (get_or (places_on (crossing side) p.width p.height j) b 0) (λ k lk meet.
+          let here = along side p.width p.height i k lk in
+          let same = (same_place side p.width p.height i k b j l here.0 there.0 lj (sym here.1 ∙ meet ∙ there.1)).1 in
+          rw (sym meet ∙ here.1 ∙ ap (place_on side p.width i) same) (changes.same j lj n))));
+    }
 
     by : (r : Progress) → IsLearned r (line_on side p i) cells new → MarksAfter r p after new
     by Dead learned = tt
     by Same learned =
-        rw learned.0
-        (record {
-          puzzle = m.puzzle;
-          size = m.size;
-          within = within;
-          settled = by_side (λ s. (j : ℕ) → j < count_on s w h → (IsMarkedOn after s j → ⊥) → IsDeduced cells (line_on s p j)) side
-              (λ j lj n. elim (cases_eq j i) [
-                | inl same ↦ subst (λ (q : ℕ). IsDeduced cells (line_on side p q)) (sym same) learned.1
-                | inr ne ↦ own j lj n ne
-              ])
-              cross;
-        })
-    by Changed learned = written learned.0
+        marked (ap length learned.0) (rw learned.0 learned.1) (λ q k. ap (λ (g : List Cell). get_or g q Unknown) learned.0)
+    by Changed learned =
+        let line = line_on side p i in
+        let distinct = line-distinct p side i m.puzzle in
+        let below = line-below p (length cells) side i l m.size in
+        marked (sym (length-Extends cells new (written-extends line cells new learned.0)))
+        (written-settled line cells new learned.0 distinct below) (written-elsewhere line cells new learned.0 distinct below)
 
 -- if no line has more to give, the cells are their own closure
 pub settled_closed : (p : Nonogram) (cells : List Cell) → IsNonogram p →
@@ -149,7 +132,7 @@ progress-changed f r old middle new n h k = (k.0 ∙ progress-keeps f r old midd
 -- progress to some cells is progress to cells that are the same
 pub progress-same : (f : List Cell → Option (List Cell)) (r : Progress) (old middle new : List Cell) → Progresses f r old middle →
     new ≡ middle → Progresses f r old new
-progress-same f r old middle new h e = subst (λ (g : List Cell). Progresses f r old g) (sym e) h
+progress-same f r old middle new h e = rw e h
 
 -- if no line is marked after steps that keep the closure, the cells are the closure of the first ones
 pub closed_after : (p : Nonogram) (marks : LineMarks) (first cells middle new : List Cell) (r : Progress) → r ≢ Dead →
@@ -215,8 +198,7 @@ closed_rest p c cells is size closed idle = record {
     puzzle = is;
     size = size;
     within = λ side i h. absurd (idle.unmarked side i h);
-    settled = λ side i l n. closed_settled (lines_of p) cells (line_on side p i) closed (line_is_one side p i is l)
-        (line-distinct p side i is) (line-below p (length cells) side i l size);
+    settled = λ side i l n. line_settled p cells side i is size closed l;
   };
   idle = idle;
 }

@@ -54,8 +54,6 @@ AreBelow n places = AllByRecursion (λ k. k < n) places
 pub cells_at-with_cells : (g : List Cell) (places : List ℕ) (d : List Cell) → AreDistinct places → AreBelow (length g) places →
     length d ≡ length places → cells_at Unknown (with_cells g places d) places ≡ d
 cells_at-with_cells g [] [] a b e = refl
-cells_at-with_cells g [] (c ∷ d) a b e = absurd (omega arith)
-cells_at-with_cells g (p ∷ ps) [] a b e = absurd (omega arith)
 cells_at-with_cells g (p ∷ ps) (c ∷ d) a b e =
     let within : p < length g = b.0 in
     let first : get_or (with_cells (set g p c) ps d) p Unknown ≡ c =
@@ -63,6 +61,7 @@ cells_at-with_cells g (p ∷ ps) (c ∷ d) a b e =
     let rest : cells_at Unknown (with_cells (set g p c) ps d) ps ≡ d =
     cells_at-with_cells (set g p c) ps d a.1 (rw length-set b.1) (omega arith) in
     λ i. first i ∷ rest i
+cells_at-with_cells g _ _ a b e = absurd (omega arith)
 
 -- places that are a step apart are distinct, if the step is positive
 pub distinct_from : (first step n : ℕ) → 0 < step → AreDistinct (places_from first step n)
@@ -178,14 +177,10 @@ distinct_same (p ∷ ps) (suc k) (suc i) d l m e = ap suc (distinct_same ps k i 
 -- a cell that learned something was unknown
 pub learned_cell : (old new : Cell) → CellExtends old new → new ≢ old → (old ≡ Unknown) × (is_known new ≡ true)
 learned_cell Unknown Unknown h n = absurd (n refl)
-learned_cell Unknown Filled h n = (refl, refl)
-learned_cell Unknown Blank h n = (refl, refl)
-learned_cell Filled Unknown h n = absurd h
+learned_cell Unknown _ h n = (refl, refl)
 learned_cell Filled Filled h n = absurd (n refl)
-learned_cell Filled Blank h n = absurd h
-learned_cell Blank Unknown h n = absurd h
-learned_cell Blank Filled h n = absurd h
 learned_cell Blank Blank h n = absurd (n refl)
+learned_cell _ _ h n = absurd h
 
 -- a line stays settled if a cell that isn't its own is written
 pub settled-elsewhere : (g : List Cell) (k : ℕ) (c : Cell) (line : GridLine) → IsDeduced g line →

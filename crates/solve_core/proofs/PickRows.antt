@@ -1,7 +1,7 @@
 -- The cell to guess, found row by row.
-use Rattle.std.proofs.Common.{◌≡◌, ◌≢◌, ℕ, zero, suc, ◌+◌, ◌-◌, ◌*◌, ◌/◌, ◌%◌, ◌<◌, ◌≤◌, Bool, true, false, cond, nat_eq, nat_lt, nat_le, List, [], length, get_or, Option, Some, None, refl, sym, ap, ◌∙◌, subst, arith, true≢false, ltb-true, ltb-false, leb-true, leb-false, add-one, add-zero}
-use Rattle.std.proofs.lemmas.Bool.{eqb-true, eqb-false, lt-ltb, le-ltb}
-use Rattle.std.proofs.lemmas.Nat.{div-mul-add}
+use Rattle.std.proofs.Common.{◌≡◌, ◌≢◌, ℕ, zero, suc, ◌+◌, ◌-◌, ◌*◌, ◌/◌, ◌%◌, ◌<◌, ◌≤◌, Bool, true, false, cond, nat_eq, nat_lt, nat_le, inl, inr, List, [], length, get_or, Option, Some, None, refl, sym, ap, ◌∙◌, subst, arith, true≢false, ltb-true, ltb-false, leb-true, leb-false, add-one, add-zero}
+use Rattle.std.proofs.lemmas.Bool.{cases_Bool, cases_eq, cases_lt, eq-eqb, ne_eqb, eqb-false, lt-ltb, le-ltb, le-leb, lt-leb}
+use Rattle.std.proofs.lemmas.Nat.{mod-mul-add}
 use Rattle.grid_core.specs.declared.cells.Cell.{Cell}
 use Rattle.grid_core.specs.declared.cells.Cell.TheVariants.{Unknown}
 use Rattle.grid_core.specs.Cells.{is_unknown}
@@ -17,48 +17,20 @@ use Rattle.solve_core.proofs.SearchLaws.{unknown_is}
 
 sure_same : (o p : Bool) (c d : Cell) → o ≡ p → (o ≡ false → c ≡ d) → is_sure o c ≡ is_sure p d
 sure_same true true c d e h = refl
-sure_same true false c d e h = absurd (true≢false e)
-sure_same false true c d e h = absurd (true≢false (sym e))
 sure_same false false c d e h = ap (is_sure false) (h refl)
-
-column_is : (w y x : ℕ) → x < w → (y * w + x) % w ≡ x
-column_is w y x l =
-    let parts : y * w + x ≡ (y * w + x) / w * w + (y * w + x) % w = omega (arith, l) in
-    let same : y * w + x ≡ y * w + (y * w + x) % w = rw (div-mul-add y w x l) at parts in
-    omega (arith, same)
-
-not_top : (w z x : ℕ) → z * w + x < w → z ≢ 0 → ⊥
-not_top w zero x low n = n refl
-not_top w (suc z) x low n = omega (arith, low)
+sure_same _ _ c d e h = cc
 
 top_is : (w y x : ℕ) → x < w → nat_eq y 0 ≡ nat_lt (y * w + x) w
-top_is w y x l = by (nat_eq y 0) (nat_lt (y * w + x) w) refl refl
-  where
-    by : (a b : Bool) → nat_eq y 0 ≡ a → nat_lt (y * w + x) w ≡ b → a ≡ b
-    by true true e f = refl
-    by false false e f = refl
-    by true false e f = (let top : y ≡ 0 = eqb-true y 0 e in let high : w ≤ y * w + x = ltb-false (y * w + x) w f in
-        let at : y * w + x ≡ x = rw top (omega arith) in absurd (omega (arith, high, at, l)))
-    by false true e f =
-        let low : y * w + x < w = ltb-true (y * w + x) w f in
-        absurd (not_top w y x low (eqb-false y 0 e))
+top_is w zero x l = sym (lt-ltb (zero * w + x) w (omega arith))
+top_is w (suc y) x l = ne_eqb (suc y) 0 (λ e. cc) ∙ sym (le-ltb (suc y * w + x) w (omega arith))
 
 bottom_is : (w h y x : ℕ) → y < h → x < w → nat_eq (y + 1) h ≡ nat_le (w * h) (y * w + x + w)
-bottom_is w h y x ly lx = by (nat_eq (y + 1) h) (nat_le (w * h) (y * w + x + w)) refl refl
-  where
-    by : (a b : Bool) → nat_eq (y + 1) h ≡ a → nat_le (w * h) (y * w + x + w) ≡ b → a ≡ b
-    by true true e f = refl
-    by false false e f = refl
-    by true false e f =
-        let last : y + 1 ≡ h = eqb-true (y + 1) h e in
-        let more : y * w + x + w < w * h = leb-false (w * h) (y * w + x + w) f in
-        let all : w * h ≡ y * w + w = rw (← last) (omega arith) in
-        absurd (omega (arith, more, all))
-    by false true e f =
-        let few : w * h ≤ y * w + x + w = leb-true (w * h) (y * w + x + w) f in
-        let other : y + 1 ≢ h = eqb-false (y + 1) h e in
-        let next : (y + 1) * w + x * 1 < w * h = row_within w h (y + 1) x (omega (arith, ly, other)) lx in
-        absurd (omega (arith, few, next))
+bottom_is w h y x ly lx = elim (cases_eq (y + 1) h) [
+  | inl last ↦ eq-eqb (y + 1) h last ∙
+      sym (le-leb (w * h) (y * w + x + w) (let all : w * h ≡ y * w + w = rw (← last) (omega arith) in omega (arith, all)))
+  | inr other ↦ ne_eqb (y + 1) h other ∙
+      sym (lt-leb (w * h) (y * w + x + w) (omega (arith, row_within w h (y + 1) x (omega (arith, ly, other)) lx)))
+]
 
 row_back : (w z x : ℕ) → z ≢ 0 → (z - 1) * w + x ≡ z * w + x - w
 row_back w zero x n = absurd (n refl)
@@ -88,33 +60,28 @@ score-is rows columns y x above below a ly lx up down =
     long : length row ≡ w
     long = (lines-long rows columns x y a lx ly).0
 
+    there : (z v q : ℕ) → z < w → v < length rows → v * w + z ≡ q → get_or (get_or rows v []) z Unknown ≡ get_or cells q Unknown
+    there z v q lz lv e = rw e at ((cell-read rows columns z v a lz lv).0)
+
     left : is_sure (nat_eq x 0) (get_or row (x - 1) Unknown) ≡ is_left_sure w cells k
     left = sure_same (nat_eq x 0) (nat_eq (k % w) 0) (get_or row (x - 1) Unknown) (get_or cells (k - 1) Unknown)
-        (ap (λ (n : ℕ). nat_eq n 0) (sym (column_is w y x lx)))
-        (λ e. (let some : x ≢ 0 = eqb-false x 0 e in
-        let at : y * w + (x - 1) ≡ k - 1 = omega (arith, some) in
-        (cell-read rows columns (x - 1) y a (omega (arith, lx)) ly).0 ∙ ap (λ (n : ℕ). get_or cells n Unknown) at))
+        (ap (λ (n : ℕ). nat_eq n 0) (sym (mod-mul-add y w x lx)))
+        (λ e. let some = eqb-false x 0 e in there (x - 1) y (k - 1) (omega (arith, lx)) ly (omega (arith, some)))
 
     right : is_sure (nat_eq (x + 1) (length row)) (get_or row (x + 1) Unknown) ≡ is_right_sure w cells k
     right = sure_same (nat_eq (x + 1) (length row)) (nat_eq (k % w + 1) w) (get_or row (x + 1) Unknown) (get_or cells (k + 1) Unknown)
-        (λ i. nat_eq (sym (column_is w y x lx) i + 1) (long i))
-        (λ e. (let some : x + 1 ≢ length row = eqb-false (x + 1) (length row) e in
-        let at : y * w + (x + 1) ≡ k + 1 = omega arith in
-        (cell-read rows columns (x + 1) y a (omega (arith, lx, some, long)) ly).0 ∙ ap (λ (n : ℕ). get_or cells n Unknown) at))
+        (λ i. nat_eq (sym (mod-mul-add y w x lx) i + 1) (long i))
+        (λ e. let some = eqb-false (x + 1) (length row) e in there (x + 1) y (k + 1) (omega (arith, lx, some, long)) ly (omega arith))
 
     over : is_sure (nat_eq y 0) (get_or (get_or rows (y - 1) []) x Unknown) ≡ is_above_sure w cells k
     over = sure_same (nat_eq y 0) (nat_lt k w) (get_or (get_or rows (y - 1) []) x Unknown) (get_or cells (k - w) Unknown) (top_is w y x lx)
-        (λ e. (let some : y ≢ 0 = eqb-false y 0 e in
-        let at : (y - 1) * w + x ≡ k - w = row_back w y x some in
-        (cell-read rows columns x (y - 1) a lx (omega (arith, ly))).0 ∙ ap (λ (n : ℕ). get_or cells n Unknown) at))
+        (λ e. there x (y - 1) (k - w) lx (omega (arith, ly)) (row_back w y x (eqb-false y 0 e)))
 
     under : is_sure (nat_eq (y + 1) (length rows)) (get_or (get_or rows (y + 1) []) x Unknown) ≡ is_below_sure w cells k
     under = sure_same (nat_eq (y + 1) (length rows)) (nat_le (length cells) (k + w)) (get_or (get_or rows (y + 1) []) x Unknown)
         (get_or cells (k + w) Unknown)
         (bottom_is w (length rows) y x ly lx ∙ ap (λ (n : ℕ). nat_le n (k + w)) (sym a.count))
-        (λ e. (let some : y + 1 ≢ length rows = eqb-false (y + 1) (length rows) e in
-        let at : (y + 1) * w + x ≡ k + w = omega arith in
-        (cell-read rows columns x (y + 1) a lx (omega (arith, ly, some))).0 ∙ ap (λ (n : ℕ). get_or cells n Unknown) at))
+        (λ e. let some = eqb-false (y + 1) (length rows) e in there x (y + 1) (k + w) lx (omega (arith, ly, some)) (omega arith))
 
 -- how much has to count for a later place to be better
 abbrev pub least_after : (ℕ → ℕ) → Option ℕ → ℕ
@@ -159,19 +126,17 @@ row-low : (score : ℕ → ℕ) (passes : ℕ → Bool) (s w most : ℕ) (best :
     → least_after score (first_most score passes (s + w)) ≤ most
 row-low score passes s zero most best e low few = rw (add-zero s, ← e) low
 row-low score passes s (suc w) most best e low few =
-    let next : suc (s + w) ≡ s + suc w = omega arith in
-    subst (λ n. least_after score (first_most score passes n) ≤ most) next
-    (by (passes (s + w)) refl (first_most score passes (s + w)) (row-low score passes s w most best e low (λ x l. few x (omega arith))))
-  where
-    later : (j : ℕ) → passes (s + w) ≡ true → score j + 1 ≤ most → (b : Bool) → least_after score (cond b (Some (s + w)) (Some j)) ≤ most
-    later j o l true = (let less = few w (omega arith) o in omega (arith, less))
-    later j o l false = l
-
-    by : (b : Bool) → passes (s + w) ≡ b → (best : Option ℕ) → least_after score best ≤ most
-        → least_after score (cond b (better score best (s + w)) best) ≤ most
-    by true o None l = (let less = few w (omega arith) o in omega (arith, less))
-    by true o (Some j) l = later j o l (nat_lt (score j) (score (s + w)))
-    by false o best l = l
+    let next : s + w + 1 ≡ s + suc w = omega arith in
+    let now = first_most score passes (s + w) in
+    let before = row-low score passes s w most best e low (λ x l. few x (omega arith)) in
+    rw (← next)
+    (elim (cases_lt (score (s + w)) (least_after score now)) [
+      | inl less ↦ rw (← cell-none score passes (s + w) now refl (λ o. less)) before
+      | inr enough ↦ elim (cases_Bool (passes (s + w))) [
+        | inl o ↦ rw (← cell-some score passes (s + w) now refl o enough) (let less = few w (omega arith) o in omega (arith, less))
+        | inr other ↦ rw (← cell-none score passes (s + w) now refl (λ o. absurd (true≢false (sym o ∙ other)))) before
+      ]
+    ])
 
 -- if enough counts for a place of a row, the first of those for which the most counts is the best
 pub row-some : (score : ℕ → ℕ) (passes : ℕ → Bool) (s w x : ℕ) (best : Option ℕ) → best ≡ first_most score passes s → x < w →
@@ -273,10 +238,4 @@ one_at_most false = omega arith
 
 -- at most four neighbours of a cell are known or outside the grid
 pub score-few : (w : ℕ) (cells : List Cell) (k : ℕ) → sure_neighbours w cells k ≤ 4
-score-few w cells k = omega (
-  arith,
-  one_at_most (is_left_sure w cells k),
-  one_at_most (is_right_sure w cells k),
-  one_at_most (is_above_sure w cells k),
-  one_at_most (is_below_sure w cells k),
-)
+score-few w cells k = omega (arith, one_at_most)

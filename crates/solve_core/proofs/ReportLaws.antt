@@ -1,5 +1,6 @@
 -- The report on a puzzle, by its two closures and by how its search ends.
-use Rattle.std.proofs.Common.{◌≡◌, ℕ, zero, suc, ◌+◌, ◌≤◌, Bool, true, false, List, [], ◌∷◌, ◌++◌, length, map, Option, Some, None, nat_lt, refl, sym, ap, ◌∙◌, arith, subst, ltb-true, ltb-false, true≢false, zero-add, option_and_then, count_by}
+use Rattle.std.proofs.Common.{◌≡◌, ℕ, zero, suc, ◌+◌, ◌≤◌, Bool, true, false, List, [], ◌∷◌, ◌++◌, length, map, Option, Some, None, nat_lt, refl, sym, ap, ◌∙◌, arith, subst, ltb-true, ltb-false, true≢false, zero-add, add-zero, inl, inr, option_and_then, count_by}
+use Rattle.std.proofs.lemmas.Bool.{cases_lt, le-ltb, lt-ltb}
 use Rattle.std.specs.List.{list_all}
 use Rattle.grid_core.specs.Cells.{is_known}
 use Rattle.solve_core.specs.declared.findings.Grade.{Grade}
@@ -18,20 +19,13 @@ use Rattle.solve_core.specs.Verdicts.{IsFinal}
 use Rattle.solve_core.specs.steps.Endings.{Ending, ending}
 
 nat_lt-more : (m n : ℕ) → nat_lt m n ≡ nat_lt (suc m) (suc n)
-nat_lt-more m n = by (nat_lt m n) (nat_lt (suc m) (suc n)) refl refl
-  where
-    by : (a b : Bool) → nat_lt m n ≡ a → nat_lt (suc m) (suc n) ≡ b → a ≡ b
-    by true true e f = refl
-    by false false e f = refl
-    by true false e f = absurd (omega (arith, ltb-true m n e, ltb-false (suc m) (suc n) f))
-    by false true e f = absurd (omega (arith, ltb-false m n e, ltb-true (suc m) (suc n) f))
+nat_lt-more m n = elim (cases_lt m n) [
+  | inl l ↦ lt-ltb m n l ∙ sym (lt-ltb (suc m) (suc n) (omega arith))
+  | inr l ↦ le-ltb m n l ∙ sym (le-ltb (suc m) (suc n) (omega arith))
+]
 
-nat_lt-positive : (n : ℕ) → true ≡ nat_lt 0 (suc n)
-nat_lt-positive n = by (nat_lt 0 (suc n)) refl
-  where
-    by : (b : Bool) → nat_lt 0 (suc n) ≡ b → true ≡ b
-    by true e = refl
-    by false e = absurd (omega (arith, ltb-false 0 (suc n) e))
+nat_lt-positive : (n : ℕ) → nat_lt 0 (suc n) ≡ true
+nat_lt-positive n = lt-ltb 0 (suc n) (omega arith)
 
 -- how a search ends, by its events up to the n-th solution and within the limit
 abbrev defined : Nonogram → List PartialGrid → ℕ → ℕ → ℕ → List Event → Ending
@@ -44,43 +38,23 @@ defined p found n spent left es =
 
 ending-one : (p : Nonogram) (a : PartialGrid) (spent left : ℕ) (es : List Event) →
     ending p (a ∷ []) spent left es ≡ defined p (a ∷ []) 1 spent left es
-ending-one p a spent left [] = let e : spent ≡ spent + 0 = omega arith in λ i. record { found = a ∷ []; cut = false; spent = e i }
-ending-one p a spent left (Solution c ∷ es) = let e : spent ≡ spent + 0 = omega arith in
-    λ i. record { found = a ∷ grid_of p c ∷ []; cut = false; spent = e i }
-ending-one p a spent zero (Guess ∷ es) =
-    let e : spent ≡ spent + 0 = omega arith in
-    λ i. record { found = a ∷ []; cut = nat_lt-positive (length (through_solution 1 es)) i; spent = e i }
+ending-one p a spent left [] = rw add-zero refl
+ending-one p a spent left (Solution c ∷ es) = rw add-zero refl
+ending-one p a spent zero (Guess ∷ es) = rw (add-zero, nat_lt-positive (length (through_solution 1 es))) refl
 ending-one p a spent (suc left) (Guess ∷ es) =
     let part = within_guesses left (through_solution 1 es) in
     let e : suc spent + guesses_in part ≡ spent + suc (guesses_in part) = omega arith in
-    ending-one p a (suc spent) left es
-    ∙ (λ i. record {
-      found = a ∷ map (grid_of p) (solutions_in part);
-      cut = nat_lt-more (length part) (length (through_solution 1 es)) i;
-      spent = e i;
-    })
+    rw (ending-one p a (suc spent) left es, nat_lt-more (length part) (length (through_solution 1 es)), e) refl
 
 ending-none : (p : Nonogram) (spent left : ℕ) (es : List Event) → ending p [] spent left es ≡ defined p [] 2 spent left es
-ending-none p spent left [] = let e : spent ≡ spent + 0 = omega arith in λ i. record { found = []; cut = false; spent = e i }
-ending-none p spent left (Solution c ∷ es) =
-    ending-one p (grid_of p c) spent left es
-    ∙ (λ i. record {
-      found = grid_of p c ∷ map (grid_of p) (solutions_in (within_guesses left (through_solution 1 es)));
-      cut = nat_lt-more (length (within_guesses left (through_solution 1 es))) (length (through_solution 1 es)) i;
-      spent = spent + guesses_in (within_guesses left (through_solution 1 es));
-    })
-ending-none p spent zero (Guess ∷ es) =
-    let e : spent ≡ spent + 0 = omega arith in
-    λ i. record { found = []; cut = nat_lt-positive (length (through_solution 2 es)) i; spent = e i }
+ending-none p spent left [] = rw add-zero refl
+ending-none p spent left (Solution c ∷ es) = rw (ending-one p (grid_of p c) spent left es,
+    nat_lt-more (length (within_guesses left (through_solution 1 es))) (length (through_solution 1 es))) refl
+ending-none p spent zero (Guess ∷ es) = rw (add-zero, nat_lt-positive (length (through_solution 2 es))) refl
 ending-none p spent (suc left) (Guess ∷ es) =
     let part = within_guesses left (through_solution 2 es) in
     let e : suc spent + guesses_in part ≡ spent + suc (guesses_in part) = omega arith in
-    ending-none p (suc spent) left es
-    ∙ (λ i. record {
-      found = map (grid_of p) (solutions_in part);
-      cut = nat_lt-more (length part) (length (through_solution 2 es)) i;
-      spent = e i;
-    })
+    rw (ending-none p (suc spent) left es, nat_lt-more (length part) (length (through_solution 2 es)), e) refl
 
 -- how the search of a puzzle ends, from what trials leave
 abbrev pub end_from : (List Cell → Option ℕ) → Nonogram → ℕ → Option (List Cell) → Ending
@@ -99,23 +73,7 @@ report_by pick p limit closed tried =
 
 pub report-is : (pick : List Cell → Option ℕ) (p : Nonogram) (limit : ℕ) →
     report_by pick p limit (line_closure p) (trial_closure p) ≡ report_of pick p limit
-report-is pick p limit =
-    let e = ending-none p 0 limit (whole_search pick p) in
-    let z = zero-add (guesses_of pick p limit) in
-    (λ i. let end : Ending = e i in record {
-      verdict = verdict_by end.found end.cut;
-      grade = grade_by (is_decided (line_closure p)) (is_decided (trial_closure p));
-      line_known = known_in (line_closure p);
-      trial_known = known_in (trial_closure p);
-      spent = end.spent;
-    })
-    ∙ (λ i. record {
-      verdict = verdict_of pick p limit;
-      grade = grade_by (is_decided (line_closure p)) (is_decided (trial_closure p));
-      line_known = known_in (line_closure p);
-      trial_known = known_in (trial_closure p);
-      spent = z i;
-    })
+report-is pick p limit = rw (ending-none p 0 limit (whole_search pick p), zero-add (guesses_of pick p limit)) refl
 
 -- if the two closures are known, so is the report
 pub report-by : (pick : List Cell → Option ℕ) (p : Nonogram) (limit : ℕ) (closed tried : Option (List Cell)) → closed ≡ line_closure p →
@@ -128,30 +86,20 @@ ending-final : (p : Nonogram) (found : List PartialGrid) (spent left : ℕ) (es 
     → IsFinal (verdict_by (ending p found spent left es).found (ending p found spent left es).cut) →
     (ending p found spent left es).cut ≡ false
 ending-final p (a ∷ b ∷ more) spent left es h = refl
-ending-final p [] spent left [] h = refl
 ending-final p [] spent left (Solution c ∷ es) h = ending-final p (grid_of p c ∷ []) spent left es h
-ending-final p [] spent zero (Guess ∷ es) h = absurd h
-ending-final p [] spent (suc left) (Guess ∷ es) h = ending-final p [] (suc spent) left es h
-ending-final p (a ∷ []) spent left [] h = refl
-ending-final p (a ∷ []) spent left (Solution c ∷ es) h = refl
-ending-final p (a ∷ []) spent zero (Guess ∷ es) h = absurd h
-ending-final p (a ∷ []) spent (suc left) (Guess ∷ es) h = ending-final p (a ∷ []) (suc spent) left es h
+ending-final p found spent zero (Guess ∷ es) h = absurd h
+ending-final p found spent (suc left) (Guess ∷ es) h = ending-final p found (suc spent) left es h
+ending-final p _ spent left _ h = refl
 
 -- a greater limit changes nothing of the end of a search that wasn't cut short
 ending-greater : (p : Nonogram) (found : List PartialGrid) (spent left greater : ℕ) (es : List Event) → left ≤ greater
     → (ending p found spent left es).cut ≡ false → ending p found spent greater es ≡ ending p found spent left es
 ending-greater p (a ∷ b ∷ more) spent left greater es l h = refl
-ending-greater p [] spent left greater [] l h = refl
 ending-greater p [] spent left greater (Solution c ∷ es) l h = ending-greater p (grid_of p c ∷ []) spent left greater es l h
-ending-greater p [] spent zero greater (Guess ∷ es) l h = absurd (true≢false h)
-ending-greater p [] spent (suc left) zero (Guess ∷ es) l h = absurd (omega arith)
-ending-greater p [] spent (suc left) (suc greater) (Guess ∷ es) l h = ending-greater p [] (suc spent) left greater es (omega arith) h
-ending-greater p (a ∷ []) spent left greater [] l h = refl
-ending-greater p (a ∷ []) spent left greater (Solution c ∷ es) l h = refl
-ending-greater p (a ∷ []) spent zero greater (Guess ∷ es) l h = absurd (true≢false h)
-ending-greater p (a ∷ []) spent (suc left) zero (Guess ∷ es) l h = absurd (omega arith)
-ending-greater p (a ∷ []) spent (suc left) (suc greater) (Guess ∷ es) l h =
-    ending-greater p (a ∷ []) (suc spent) left greater es (omega arith) h
+ending-greater p found spent zero greater (Guess ∷ es) l h = absurd (true≢false h)
+ending-greater p found spent (suc left) zero (Guess ∷ es) l h = absurd (omega arith)
+ending-greater p found spent (suc left) (suc greater) (Guess ∷ es) l h = ending-greater p found (suc spent) left greater es (omega arith) h
+ending-greater p _ spent left greater _ l h = refl
 
 -- if the verdict is final, the report is the same for every greater limit
 pub report-greater : (pick : List Cell → Option ℕ) (p : Nonogram) (limit greater : ℕ) → limit ≤ greater →
@@ -160,15 +108,9 @@ report-greater pick p limit greater l h =
     let final : IsFinal (report_by pick p limit (line_closure p) (trial_closure p)).verdict =
     subst (λ (r : Findings). IsFinal r.verdict) (sym (report-is pick p limit)) h in
     let e = ending-greater p [] 0 limit greater (whole_search pick p) l (ending-final p [] 0 limit (whole_search pick p) final) in
-    sym (report-is pick p greater)
-    ∙ (λ i. let end : Ending = e i in record {
-      verdict = verdict_by end.found end.cut;
-      grade = grade_by (is_decided (line_closure p)) (is_decided (trial_closure p));
-      line_known = known_in (line_closure p);
-      trial_known = known_in (trial_closure p);
-      spent = end.spent;
-    })
-    ∙ report-is pick p limit
+    let same : report_by pick p greater (line_closure p) (trial_closure p) ≡ report_by pick p limit (line_closure p) (trial_closure p) =
+    rw e refl in
+    sym (report-is pick p greater) ∙ same ∙ report-is pick p limit
 
 -- the report on a puzzle that neither closure finds dead, by how its search ends
 pub report-alive : (pick : List Cell → Option ℕ) (p : Nonogram) (start closed tried : List Cell) (limit : ℕ)
@@ -183,16 +125,7 @@ pub report-alive : (pick : List Cell → Option ℕ) (p : Nonogram) (start close
 report-alive pick p start closed tried limit found cut spent verdict grade line_known trial_known s c d e v g l k =
     let c' : Some closed ≡ line_closure p = c ∙ ap (closure (lines_of p)) s in
     let d' : Some tried ≡ trial_closure p = d ∙ ap (option_and_then (trials (lines_of p))) c' in
-    let e' : record { found = found; cut = cut; spent = spent } ≡ end_from pick p limit (Some tried) = e in
-    (λ i. record { verdict = v i; grade = g i; line_known = l i; trial_known = k i; spent = spent })
-    ∙ (λ i. let end : Ending = e' i in record {
-      verdict = verdict_by end.found end.cut;
-      grade = grade_by (list_all is_known closed) (list_all is_known tried);
-      line_known = count_by is_known closed;
-      trial_known = count_by is_known tried;
-      spent = end.spent;
-    })
-    ∙ report-by pick p limit (Some closed) (Some tried) c' d'
+    rw (v, g, l, k) (rw (← e) at (report-by pick p limit (Some closed) (Some tried) c' d'))
 
 -- the report on a puzzle that trials find dead
 pub report-refuted : (pick : List Cell → Option ℕ) (p : Nonogram) (start closed : List Cell) (limit : ℕ) (grade : Grade) (line_known : ℕ)
@@ -202,8 +135,7 @@ pub report-refuted : (pick : List Cell → Option ℕ) (p : Nonogram) (start clo
 report-refuted pick p start closed limit grade line_known s c d g l =
     let c' : Some closed ≡ line_closure p = c ∙ ap (closure (lines_of p)) s in
     let d' : None ≡ trial_closure p = d ∙ ap (option_and_then (trials (lines_of p))) c' in
-    (λ i. record { verdict = Nothing; grade = g i; line_known = l i; trial_known = 0; spent = 0 })
-    ∙ report-by pick p limit (Some closed) None c' d'
+    rw (g, l) (report-by pick p limit (Some closed) None c' d')
 
 -- the report on a puzzle that lines find dead
 pub report-dead : (pick : List Cell → Option ℕ) (p : Nonogram) (start : List Cell) (limit : ℕ) → start ≡ unknown_grid p →

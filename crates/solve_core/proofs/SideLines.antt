@@ -1,7 +1,8 @@
 -- The lines of a grid by side and number.
-use Rattle.std.proofs.Common.{◌≡◌, ℕ, zero, suc, ◌+◌, ◌*◌, ◌<◌, ◌≤◌, inl, inr, List, [], ◌∷◌, length, get_or, refl, ap, arith}
+use Rattle.std.proofs.Common.{◌≡◌, ℕ, zero, suc, ◌+◌, ◌*◌, ◌<◌, ◌≤◌, inl, inr, List, [], ◌∷◌, ◌/◌, ◌%◌, ◌∙◌, sym, length, get_or, refl, ap, arith}
 use Rattle.std.specs.List.{AllByRecursion}
 use Rattle.std.proofs.Math.Nat.{mul-le-mul_left}
+use Rattle.std.proofs.lemmas.Nat.{div-mul-add, mod-mul-add}
 use Rattle.std.proofs.lemmas.List.Elements.{recursion_from_All}
 use Rattle.grid_core.specs.declared.sides.Side.{Side}
 use Rattle.grid_core.specs.declared.sides.Side.TheVariants.{Rows, Columns}
@@ -20,12 +21,10 @@ longest_sides_fit w h size =
 
 -- a place has only one row and only one column
 pub unique_place : (w y j a b : ℕ) → a < w → b < w → y * w + a ≡ j * w + b → (y ≡ j) × (a ≡ b)
-unique_place w zero zero a b h k e = (refl, omega arith)
-unique_place w zero (suc j) a b h k e = absurd (omega arith)
-unique_place w (suc y) zero a b h k e = absurd (omega arith)
-unique_place w (suc y) (suc j) a b h k e =
-    let rest = unique_place w y j a b h k (omega arith) in
-    (ap suc rest.0, rest.1)
+unique_place w y j a b h k e = (
+  sym (div-mul-add y w a h) ∙ ap (λ (q : ℕ). q / w) e ∙ div-mul-add j w b k,
+  sym (mod-mul-add y w a h) ∙ ap (λ (q : ℕ). q % w) e ∙ mod-mul-add j w b k,
+)
 
 -- a cell of a row is in the grid
 pub row_within : (w h y i : ℕ) → y < h → i < w → y * w + i * 1 < w * h

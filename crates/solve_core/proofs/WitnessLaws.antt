@@ -1,6 +1,7 @@
 -- What an alive trial of a grid tells of a grid that has learned more.
 use Rattle.std.proofs.Common.{◌≡◌, ◌≢◌, ℕ, zero, suc, ◌+◌, ◌*◌, ◌/◌, ◌%◌, ◌<◌, ◌≤◌, ◌⊎◌, inl, inr, Bool, true, false, List, [], ◌∷◌, ◌++◌, length, take, replicate, get_or, set, Some, refl, sym, ap, ◌∙◌, arith, subst, true≢false, get_or-set_same, get_or-set_other, length-append, length-set}
 use Rattle.std.proofs.lemmas.Bool.{cases_Bool, cases_eq, cases_lt, false_from_ne_true}
+use Rattle.std.proofs.lemmas.Nat.{div-mul-add, mod-mul-add}
 use Rattle.std.proofs.Math.ListN.{get_or-map}
 use Rattle.std.proofs.lemmas.List.{get_or_append_left, get_or_past, get_or-take, get_or-replicate, length-take-le, length-replicate, length-map}
 use Rattle.std.proofs.Math.Seq.{get_or-append_seam}
@@ -26,7 +27,7 @@ use Rattle.solve_core.proofs.ClosureLaws.{closure-IsLeastClosed}
 use Rattle.solve_core.proofs.SearchLaws.{same_known}
 use Rattle.solve_core.proofs.TrialSteps.{met_open}
 use Rattle.solve_core.proofs.SideLines.{along, line_is_one, unique_place}
-use Rattle.solve_core.proofs.GridSteps.{settled-same, settled_closed, place_again, line-distinct, line-below}
+use Rattle.solve_core.proofs.GridSteps.{line_settled, settled-same, settled_closed, place_again, line-distinct, line-below}
 use Rattle.solve_core.proofs.LineSteps.{closed_settled, get_or-replicated}
 
 -- ---- two grids as one
@@ -61,16 +62,6 @@ get_or-overlaid (c ∷ a) (d ∷ b) zero e = refl
 get_or-overlaid (c ∷ a) (d ∷ b) (suc k) e = get_or-overlaid a b k (omega arith)
 get_or-overlaid _ _ k e = absurd (omega arith)
 
-line_settled : (p : Nonogram) (g : List Cell) (side : Side) (i : ℕ) → IsNonogram p → length g ≡ p.width * p.height →
-    round (lines_of p) g ≡ Some g → i < count_on side p.width p.height → IsDeduced g (line_on side p i)
-line_settled p g side i is size closed l =
-    closed_settled (lines_of p) g (line_on side p i) closed (line_is_one side p i is l) (line-distinct p side i is)
-    (line-below p (length g) side i l size)
-
--- the row and the column of a place
-split_place : (w y x k : ℕ) → x < w → k ≡ y * w + x → (k / w ≡ y) × (k % w ≡ x)
-split_place w y x k l e = unique_place w (k / w) y (k % w) x (omega arith) l (place_again k w w refl (omega arith) ∙ e)
-
 -- a grid that learned more, and a trial of the old one
 module _ (g new t : List Cell) (h : Extends g new) (l : Extends g t) where
   at : (k : ℕ) → get_or (overlaid new t) k Unknown ≡ over (get_or new k Unknown) (get_or t k Unknown)
@@ -99,10 +90,10 @@ module _ (g new t : List Cell) (h : Extends g new) (l : Extends g t) where
         with_new side i li = line_settled p new side i is (sym (length-Extends g new h) ∙ size) new_closed li
 
         row : (y b : ℕ) → b < length ((line_on Rows p y).places) → get_or ((line_on Rows p y).places) b 0 / p.width ≡ y
-        row y b lb = let there = along Rows p.width p.height y b lb in (split_place p.width y b _ there.0 there.1).0
+        row y b lb = let there = along Rows p.width p.height y b lb in rw there.1 (div-mul-add y p.width b there.0)
 
         column : (x b : ℕ) → x < p.width → b < length ((line_on Columns p x).places) → get_or ((line_on Columns p x).places) b 0 % p.width ≡ x
-        column x b lx lb = (split_place p.width b x _ lx (along Columns p.width p.height x b lb).1).1
+        column x b lx lb = rw (along Columns p.width p.height x b lb).1 (mod-mul-add b p.width x lx)
 
         each : (side : Side) (i : ℕ) → i < count_on side p.width p.height → IsDeduced (overlaid new t) (line_on side p i)
         each Rows y ly = elim (cases_Bool (has_side lines.rows y)) [
