@@ -9,19 +9,15 @@ loop-i-init g c = none-written c.args.lines.now (λ (k : ℕ). get_or c.args.oth
 
 pub copy_from-requires : goal.copy_from-requires
 copy_from-requires g c =
-    let i = c.loop-i.i in
-    let other : i < length c.args.others.now = omega (arith, c.requires.count, c.loop-i-test.true) in
-    ap length (c.index-others-i.is ∙ line_read c.args.others.now i c.index-others-i.result other) ∙ c.requires.lengths i c.loop-i-test.true
-    ∙ sym (ap length (line-left c.args.lines.now (λ (k : ℕ). get_or c.args.others.now k []) i c.loop-i.lines c.index-lines-i.result
-    (omega (arith, c.loop-i.auto.lines, c.loop-i-test.true)) c.loop-i.invariant))
+    rw (c.index-others-i.is, line_read c.args.others.now c.loop-i.i _ (omega (arith, c.requires.count, c.loop-i-test.true)),
+    line-left _ _ _ _ c.index-lines-i.result (omega (arith, c.loop-i.auto.lines, c.loop-i-test.true)) c.loop-i.invariant)
+    (c.requires.lengths c.loop-i.i c.loop-i-test.true)
 
 pub loop-i-preserved : goal.loop-i-preserved
 loop-i-preserved g c =
-    let i = c.loop-i.i in
-    let other : i < length c.args.others.now = omega (arith, c.requires.count, c.loop-i-test.true) in
-    one-written c.args.lines.now (λ (k : ℕ). get_or c.args.others.now k []) i c.loop-i.lines c.copy_from.new.self
-    (omega (arith, c.loop-i.auto.lines, c.loop-i-test.true))
-    (c.copy_from.ensures ∙ c.index-others-i.is ∙ line_read c.args.others.now i c.index-others-i.result other) c.loop-i.invariant
+    one-written _ _ _ _ c.copy_from.new.self (omega (arith, c.loop-i.auto.lines, c.loop-i-test.true))
+    (c.copy_from.ensures ∙ c.index-others-i.is ∙ line_read c.args.others.now c.loop-i.i _ (omega (arith, c.requires.count, c.loop-i-test.true)))
+    c.loop-i.invariant
 
 pub returns : goal.returns
 returns g c =

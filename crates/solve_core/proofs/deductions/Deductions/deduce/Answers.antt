@@ -12,13 +12,11 @@ use Rattle.solve_core.proofs.deductions.Deductions.deduce.Goals as goal
 
 pub deduce-requires : goal.deduce-requires
 deduce-requires g c =
-    subst (λ (l : List ℕ). All (λ k. k ≤ g.W.PlaceSet.WIDTH) l) (sym c.clue_of_line-clue.ensures)
-    (fits_line c.args.side g.W.PlaceSet.WIDTH c.args.puzzle.now c.args.i c.requires.memory.fits)
+    rw c.clue_of_line-clue.ensures (fits_line c.args.side g.W.PlaceSet.WIDTH c.args.puzzle.now c.args.i c.requires.memory.fits)
 
 pub deduce-answer-requires : goal.deduce-answer-requires
 deduce-answer-requires g c =
-    subst (λ (l : List ℕ). All (λ k. k ≤ g.W.PlaceSet.WIDTH) l) (sym c.clue_of_line-clue.ensures)
-    (fits_line c.args.side g.W.PlaceSet.WIDTH c.args.puzzle.now c.args.i c.requires.memory.fits)
+    rw c.clue_of_line-clue.ensures (fits_line c.args.side g.W.PlaceSet.WIDTH c.args.puzzle.now c.args.i c.requires.memory.fits)
 
 pub returns-in_default-clause-answer : goal.returns-in_default-clause-answer
 returns-in_default-clause-answer g c = c.deduce.ensures.answer ∙ ap (deduced c.args.line.now) c.clue_of_line-clue.ensures
@@ -41,20 +39,20 @@ returns-then-is_of-clause-answer g c =
     c.copy_answer.ensures ∙ ap (λ (d : KnownLine). d.answer) c.behind-self.view_is
     ∙ remembered c.args.puzzle.now c.self.inside.kept.items c.from-index.result c.args.side c.args.i c.args.line.now
     c.index-then-is_of.result.now c.index-then-index-len.result.now
-    (subst (AreRight g.W.PlaceSet.WIDTH c.args.puzzle.now) (sym c.self.view_is) c.requires.memory).right
+    (rw (← c.self.view_is) at c.requires.memory).right
     (omega (arith, c.if-index-len.true, c.len.ensures)) c.index-then-is_of.ensures c.index-then-index-len.ensures
     (c.is_of.ensures c.if-is_of.true)
 
 pub returns-clause-memory : goal.returns-clause-memory
 returns-clause-memory g c =
     let p = c.args.puzzle.now in
-    let before = subst (AreRight g.W.PlaceSet.WIDTH p) (sym c.self.view_is) c.requires.memory in
+    let before = rw (← c.self.view_is) at c.requires.memory in
     let own : c.copy_answer-2.result ≡ deduced c.copy.result (line_on c.args.side p c.args.i).clue =
     c.copy_answer-2.ensures ∙ c.deduce-answer.ensures.answer ∙ (λ i. deduced (sym c.copy.ensures i) (c.clue_of_line-clue.ensures i)) in
     record {
       fits = before.fits;
       right = λ k d l. elim (c.keep.ensures.kept k d l) [
-        | inl e ↦ subst (IsDeductionOf p) (sym e) own
+        | inl e ↦ rw e own
         | inr m ↦ All-contains (IsDeductionOf p) c.self.inside.kept.items (get_or c.keep.new.kept.items k d) before.right m
       ];
     }

@@ -10,15 +10,11 @@ pub get-requires : goal.get-requires
 get-requires g c =
     let rows = c.self.inside.rows.items in
     let columns = c.self.inside.columns.items in
-    let k = c.args.place in
-    let w = length columns in
-    let wide : c.len-width.result ≡ w = c.len-width.ensures ∙ c.self.inside.columns.ok.0 in
-    let seen : cells_of_rows rows ≡ c.args.self.now.cells = ap (λ (g : PartialGrid). g.cells) c.self.view_is in
-    let at = place_in (cells_of_rows rows) rows columns k c.self.invariant (omega (arith, c.requires, ap length seen)) in
-    let long = (lines-long rows columns (k % w) (k / w) c.self.invariant at.1 at.2).0 in
-    let row : c.index.result.now ≡ get_or rows (k / w) [] = c.index.ensures ∙ (λ i. get_or rows (k / wide i) c.index.result.now) ∙
-    line_read rows (k / w) c.index.result.now at.2 in
-    rw wide (omega (arith, at.1, ap length row, long))
+    let wide = c.len-width.ensures ∙ c.self.inside.columns.ok.0 in
+    let at = place_in (cells_of_rows rows) rows columns c.args.place c.self.invariant
+    (omega (arith, c.requires, ap (λ (g : PartialGrid). length g.cells) c.self.view_is)) in
+    rw (c.index.ensures, wide, line_read rows (c.args.place / length columns) _ at.2)
+    (omega (arith, at.1, (lines-long rows columns (c.args.place % length columns) (c.args.place / length columns) c.self.invariant at.1 at.2).0))
 
 pub returns : goal.returns
 returns g c =
@@ -26,11 +22,9 @@ returns g c =
     let columns = c.self.inside.columns.items in
     let k = c.args.place in
     let w = length columns in
-    let wide : c.len-width.result ≡ w = c.len-width.ensures ∙ c.self.inside.columns.ok.0 in
-    let seen : cells_of_rows rows ≡ c.args.self.now.cells = ap (λ (g : PartialGrid). g.cells) c.self.view_is in
-    let at = place_in (cells_of_rows rows) rows columns k c.self.invariant (omega (arith, c.requires, ap length seen)) in
-    let row : c.index.result.now ≡ get_or rows (k / w) [] = c.index.ensures ∙ (λ i. get_or rows (k / wide i) c.index.result.now) ∙
-    line_read rows (k / w) c.index.result.now at.2 in
-    c.get.ensures ∙ (λ i. get_or (row i) (k % wide i) Unknown)
-    ∙ (cell-read rows columns (k % w) (k / w) c.self.invariant at.1 at.2).0
-    ∙ (λ i. get_or (seen i) (sym at.3 i) Unknown)
+    let wide = c.len-width.ensures ∙ c.self.inside.columns.ok.0 in
+    let at = place_in (cells_of_rows rows) rows columns k c.self.invariant
+    (omega (arith, c.requires, ap (λ (g : PartialGrid). length g.cells) c.self.view_is)) in
+    let row = c.index.ensures ∙ (λ i. get_or rows (k / wide i) c.index.result.now) ∙ line_read rows (k / w) c.index.result.now at.2 in
+    c.get.ensures ∙ (λ i. get_or (row i) (k % wide i) Unknown) ∙ (cell-read rows columns (k % w) (k / w) c.self.invariant at.1 at.2).0
+    ∙ (λ i. get_or (c.self.view_is i).cells (sym at.3 i) Unknown)

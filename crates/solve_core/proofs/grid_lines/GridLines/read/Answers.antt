@@ -1,5 +1,5 @@
 -- `GridLines::read`: the lines that are read are those of the grid, so the cells of the rows are its cells.
-use Rattle.std.proofs.Common.{◌≡◌, ◌∙◌, List, length, ap, sym, subst}
+use Rattle.std.proofs.Common.{◌≡◌, ◌∙◌, List, length, ap, sym, refl}
 use Rattle.std.proofs.lemmas.List.{with_items_is}
 use Rattle.grid_core.specs.declared.cells.Cell.{Cell}
 use Rattle.grid_core.specs.PartialGrid.{PartialGrid}
@@ -15,8 +15,7 @@ invariant_of-self g c =
     let rows = with_items_is c.self.inside.rows new_rows (c.read_lines.ensures.rows ∙ c.deref_mut.ensures.len) in
     let columns = with_items_is c.self.inside.columns new_columns (c.read_lines.ensures.columns ∙ c.deref_mut-2.ensures.len) in
     let same = lines-cells c.args.grid.now.cells new_rows new_columns c.read_lines.ensures.lines in
-    rw (rows, columns)
-    (subst (λ (cells : List Cell). AreLinesOf cells new_rows new_columns) (sym same) c.read_lines.ensures.lines)
+    rw (rows, columns, same) c.read_lines.ensures.lines
 
 pub returns-clause-lines : goal.returns-clause-lines
 returns-clause-lines g c =
@@ -31,8 +30,4 @@ returns-clause-lines g c =
     let high : length new_rows ≡ grid.height =
     c.read_lines.ensures.rows ∙ ap length c.deref_mut.ensures.value ∙ ap (λ (g : PartialGrid). g.height) seen ∙ sym c.requires.height in
     let same = lines-cells grid.cells new_rows new_columns c.read_lines.ensures.lines in
-    λ i. record {
-      width = (ap length columns ∙ wide) i;
-      height = (ap length rows ∙ high) i;
-      cells = (ap cells_of_rows rows ∙ same) i;
-    }
+    rw (rows, columns, wide, high, same) refl
