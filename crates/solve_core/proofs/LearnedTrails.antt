@@ -1,5 +1,7 @@
 -- The trail while a line is written into a grid cell by cell.
-use Rattle.std.proofs.Common.{◌≡◌, ◌≢◌, ◌∙◌, refl, ℕ, ◌+◌, ◌*◌, ◌<◌, ◌++◌, ◌∷◌, [], List, length, get_or, set, sym, ap, arith, subst}
+use Rattle.std.proofs.Common.{◌≡◌, ◌≢◌, ◌∙◌, refl, ℕ, ◌+◌, ◌*◌, ◌<◌, ◌++◌, ◌∷◌, [], inl, inr, List, length, length-set, get_or, set, get_or-set_same, get_or-set_other, ext_get_or, sym, ap, arith}
+use Rattle.std.proofs.lemmas.Bool.{cases_eq}
+use Rattle.grid_core.proofs.Changing.{same_cells}
 use Rattle.grid_core.specs.declared.cells.Cell.{Cell}
 use Rattle.grid_core.specs.declared.cells.Cell.TheVariants.{Unknown}
 use Rattle.grid_core.specs.Nonogram.{cells_at, places_from}
@@ -9,58 +11,96 @@ use Rattle.place_sets.specs.Masks.{Has}
 use Rattle.solve_core.specs.Closure.{with_cells}
 use Rattle.solve_core.specs.steps.Learning.{IsLearning, LeadsBackBut}
 use Rattle.solve_core.specs.steps.Trails.{IsTrailed, TrailedGrid}
-use Rattle.solve_core.proofs.Changes.{partly-init, partly-same, partly-step, partly-end}
-use Rattle.solve_core.proofs.LineSteps.{below_from, distinct_from, learned_cell}
+use Rattle.solve_core.proofs.Changes.{is_among}
+use Rattle.solve_core.proofs.ClosureLaws.{length-with_cells}
+use Rattle.solve_core.proofs.LineSteps.{below_from, cells_at-with_cells, distinct_from, distinct_same, get_or-with_cells, learned_cell}
 use Rattle.solve_core.proofs.Order.{length-Extends}
 use Rattle.solve_core.proofs.TrailSteps.{trailed-one, trailed-refl, trailed-trans}
-
--- at first the grid is as it was
-pub leads-init : (b : TrailedGrid) (first step n m : ℕ) (new : List Cell) (trail : List ℕ) → IsLearning b first step n m new → trail ≡ b.trail →
-    LeadsBackBut b first step n new (Has m) trail
-leads-init b first step n m new trail is e =
-    (b.cells, partly-init (places_from first step n) b.cells new m is.changed, rw e (trailed-refl b))
 
 -- what is left is told in other words
 pub leads-same : (b : TrailedGrid) (first step n : ℕ) (new : List Cell) (trail : List ℕ) (Left Same : ℕ → Type 0) → ((k : ℕ) → Left k → Same k) →
     ((k : ℕ) → Same k → Left k) → LeadsBackBut b first step n new Left trail → LeadsBackBut b first step n new Same trail
 leads-same b first step n new trail Left Same to from before =
-    (before.0, partly-same (places_from first step n) b.cells before.0 new Left Same to from before.1, before.2)
-
--- one more change is written
-pub leads-step : (b : TrailedGrid) (first step n m k : ℕ) (new : List Cell) (trail more : List ℕ) (Left : ℕ → Type 0) →
-    IsLearning b first step n m new → Left k → more ≡ trail ++ (first + k * step) ∷ [] →
-    LeadsBackBut b first step n new Left trail → LeadsBackBut b first step n new (λ j. Left j × (j ≢ k)) more
-leads-step b first step n m k new trail more Left is left e before =
-    let places = places_from first step n in
-    let old = cells_at Unknown b.cells places in
-    let cells = before.0 in
-    let partly = before.1 in
-    let at = partly.changed k left in
-    let here : k < length places = omega (arith, at.0, length-cells_at Unknown b.cells places) in
-    let short : k < n = omega (arith, here, length-places_from first step n) in
-    let place : get_or places k 0 ≡ first + k * step = get_or-places_from first step n k short in
-    let learned = learned_cell (get_or old k Unknown) (get_or new k Unknown) (Extends-at old new k is.more) at.1 in
-    let unknown : get_or cells (get_or places k 0) Unknown ≡ Unknown =
-    partly.as_old k here left ∙ sym (get_or-cells_at Unknown b.cells places k here) ∙ learned.0 in
-    let within : get_or places k 0 < length cells = rw (place, partly.size) (is.within k short) in
-    let after = set cells (get_or places k 0) (get_or new k Unknown) in
-    let now : TrailedGrid = record b { cells = cells; trail = trail } in
-    let then : TrailedGrid = record b { cells = after; trail = more } in (
-      after,
-      partly-step places b.cells cells new Left k (distinct_from first step n is.apart)
-          (below_from first step n (length b.cells) is.within) here partly,
-      trailed-trans b now then before.2
-          (trailed-one now then (get_or places k 0) (get_or new k Unknown) within unknown learned.1 refl refl refl
-          (e ∙ ap (λ (p : ℕ). trail ++ p ∷ []) (sym place))),
+    let p = before.1 in (
+      before.0,
+      record {
+        changed = λ k h. p.changed k (from k h);
+        as_old = λ k l h. p.as_old k l (from k h);
+        as_new = λ k l none. p.as_new k l (λ h. none (to k h));
+        others = p.others;
+        size = p.size;
+      },
+      before.2,
     )
 
--- with no change left the line is written
-pub leads-end : (b : TrailedGrid) (first step n m : ℕ) (new : List Cell) (trail : List ℕ) (Left : ℕ → Type 0) → IsLearning b first step n m new →
-    ((k : ℕ) → Left k → ⊥) → LeadsBackBut b first step n new Left trail →
-    IsTrailed b (record b { cells = with_cells b.cells (places_from first step n) new; trail = trail })
-leads-end b first step n m new trail Left is none end =
-    let places = places_from first step n in
-    subst (λ (cells : List Cell). IsTrailed b (record b { cells = cells; trail = trail }))
-    (partly-end places b.cells end.0 new Left (distinct_from first step n is.apart) (below_from first step n (length b.cells) is.within)
-    (sym (length-Extends (cells_at Unknown b.cells places) new is.more) ∙ length-cells_at Unknown b.cells places) none end.1)
-    end.2
+module _ (b : TrailedGrid) (first step n m : ℕ) (new : List Cell) (is : IsLearning b first step n m new) where
+  abbrev places : List ℕ
+  places = places_from first step n
+
+  abbrev old : List Cell
+  old = cells_at Unknown b.cells places
+
+  -- at first the grid is as it was
+  pub leads-init : (trail : List ℕ) → trail ≡ b.trail → LeadsBackBut b first step n new (Has m) trail
+  leads-init trail e = (
+    b.cells,
+    record {
+      changed = is.changed.to;
+      as_old = λ k l h. refl;
+      as_new = λ k l none. sym (get_or-cells_at Unknown b.cells places k l) ∙ sym (same_cells (get_or old k Unknown) (get_or new k Unknown)
+          (λ d. none (is.changed.from k (omega (arith, l, length-cells_at Unknown b.cells places), d))));
+      others = λ p none. refl;
+      size = refl;
+    },
+    rw e (trailed-refl b),
+  )
+
+  -- one more change is written
+  pub leads-step : (k : ℕ) (trail more : List ℕ) (Left : ℕ → Type 0) → Left k → more ≡ trail ++ (first + k * step) ∷ [] →
+      LeadsBackBut b first step n new Left trail → LeadsBackBut b first step n new (λ j. Left j × (j ≢ k)) more
+  leads-step k trail more Left left e before =
+      let cells = before.0 in
+      let p = before.1 in
+      let at = p.changed k left in
+      let here : k < length places = omega (arith, at.0, length-cells_at Unknown b.cells places) in
+      let short : k < n = omega (arith, here, length-places_from first step n) in
+      let place = get_or-places_from first step n k short in
+      let learned = learned_cell (get_or old k Unknown) (get_or new k Unknown) (Extends-at old new k is.more) at.1 in
+      let unknown = p.as_old k here left ∙ sym (get_or-cells_at Unknown b.cells places k here) ∙ learned.0 in
+      let within : get_or places k 0 < length cells = rw (place, p.size) (is.within k short) in
+      let q = get_or places k 0 in
+      let cell = get_or new k Unknown in
+      let apart = λ (j : ℕ) (l : j < length places) (other : j ≢ k). get_or-set_other cells q (get_or places j 0) cell Unknown
+      (λ s. other (distinct_same places j k (distinct_from first step n is.apart) l here s)) in
+      let now : TrailedGrid = record b { cells = cells; trail = trail } in
+      let then : TrailedGrid = record b { cells = set cells q cell; trail = more } in (
+        set cells q cell,
+        record {
+          changed = λ j h. p.changed j h.0;
+          as_old = λ j l h. apart j l h.1 ∙ p.as_old j l h.0;
+          as_new = λ j l none. elim (cases_eq j k) [
+            | inl own ↦ rw own (get_or-set_same cells q cell Unknown within)
+            | inr other ↦ apart j l other ∙ p.as_new j l (λ h. none (h, other))
+          ];
+          others = λ j none. get_or-set_other cells q j cell Unknown (λ s. none k here (sym s)) ∙ p.others j none;
+          size = length-set cells q cell ∙ p.size;
+        },
+        trailed-trans b now then before.2
+            (trailed-one now then q cell within unknown learned.1 refl refl refl (e ∙ ap (λ (r : ℕ). trail ++ r ∷ []) (sym place))),
+      )
+
+  -- with no change left the line is written
+  pub leads-end : (trail : List ℕ) (Left : ℕ → Type 0) → ((k : ℕ) → Left k → ⊥) → LeadsBackBut b first step n new Left trail →
+      IsTrailed b (record b { cells = with_cells b.cells (places_from first step n) new; trail = trail })
+  leads-end trail Left none end =
+      let p = end.1 in
+      let after = with_cells b.cells places new in
+      let read = cells_at-with_cells b.cells places new (distinct_from first step n is.apart)
+      (below_from first step n (length b.cells) is.within) (sym (length-Extends old new is.more) ∙ length-cells_at Unknown b.cells places) in
+      let same : end.0 ≡ after = ext_get_or Unknown end.0 after (p.size ∙ sym (length-with_cells b.cells places new)) (λ q l.
+      elim (is_among places q) [
+        | inl there ↦ rw (← there.2) (p.as_new there.0 there.1 (none there.0) ∙ ap (λ (r : List Cell). get_or r there.0 Unknown) (sym read) ∙
+            get_or-cells_at Unknown after places there.0 there.1)
+        | inr other ↦ p.others q other ∙ sym (get_or-with_cells b.cells places new q (λ i h e. absurd (other i h e)))
+      ]) in
+      rw (← same) end.2

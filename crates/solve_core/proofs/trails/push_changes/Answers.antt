@@ -9,7 +9,7 @@ loop-from-init g c = record {
   words = (0, refl);
   trail = λ b n new is e.
       leads-same b c.args.first c.args.step n new c.args.trail.now.items _ _ (λ k h. (h, omega arith)) (λ k h. h.0)
-      (leads-init b c.args.first c.args.step n (g.W.PlaceSet.number c.args.changes) new c.args.trail.now.items is e);
+      (leads-init b c.args.first c.args.step n (g.W.PlaceSet.number c.args.changes) new is c.args.trail.now.items e);
   most = (omega arith, omega arith);
   capacity = refl;
 }
@@ -47,7 +47,7 @@ returns g c =
     let end = c.loop-from.invariant in
     record {
       trail = λ new b n is e.
-          leads-end b c.args.first c.args.step n (g.W.PlaceSet.number c.args.changes) new c.loop-from.trail.items _ is
+          leads-end b c.args.first c.args.step n (g.W.PlaceSet.number c.args.changes) new is c.loop-from.trail.items _
           (λ k h. omega (arith, h.1, c.requires.within k h.0, c.WIDTH.ensures, c.loop-from-test.false)) (end.trail b n new is e);
       capacity = end.capacity;
     }

@@ -8,24 +8,12 @@ use Rattle.solve_core.proofs.WordLemmas.{in_word, of_word, stays}
 use Rattle.solve_core.proofs.LearnedTrails.{leads-same, leads-step}
 use Rattle.solve_core.proofs.trails.push_word.Goals as goal
 
-one_more : (trail more : List ℕ) (p : ℕ) → more ≡ trail ++ p ∷ [] → length more ≡ length trail + 1
-one_more trail more p e = ap length e ∙ length-append trail (p ∷ [])
-
--- a place that is left behind the least one is after it
-after_first : (k j : ℕ) → k ≤ j → j ≢ k → k < j
-after_first k j least other = elim (cases_eq j k) [ inl same ↦ absurd (other same) | inr apart ↦ omega (arith, least, apart) ]
-
 pub loop-k-init : goal.loop-k-init
 loop-k-init g c = record {
   inside = λ x h. h;
   trail = λ b n new is before.
       leads-same b c.args.first c.args.step n new c.args.trail.now.items _ _
-      (λ k h. (
-        h.0,
-        h.1,
-        λ l. in_word (g.W.PlaceSet.number c.args.changes) c.args.from c.word_from-left.result k c.word_from-left.ensures
-            (h.0, h.1, l),
-      ))
+      (λ k h. (h.0, h.1, λ l. in_word _ c.args.from c.word_from-left.result k c.word_from-left.ensures (h.0, h.1, l)))
       (λ k h. (h.0, h.1)) before;
   room = λ x h. omega arith;
   most = omega arith;
@@ -55,8 +43,7 @@ loop-k-preserved g c =
     let has = c.first_place-k.ensures.in_mask in
     let marked = c.without_first-left.ensures.rest x has (λ y l h. absurd {A = ⊥} (omega (arith, l, c.first_place-k.ensures.least y h))) in
     let is = of_word changes from c.word_from-left.result x c.word_from-left.ensures (before.inside x has) in
-    let longer = one_more c.loop-k.trail.items c.push_reserved.new.self.items (c.args.first + c.from.result * c.args.step)
-    c.push_reserved.ensures.items in
+    let longer = ap length c.push_reserved.ensures.items ∙ length-append c.loop-k.trail.items _ in
     record {
       inside = λ y h. before.inside y (stays left next x marked y h).0;
       trail = λ b n new is_learning start.
@@ -66,12 +53,13 @@ loop-k-preserved g c =
             (h.0, h.1, λ l. (stays left next x marked (k - from) (h.2 l)).0),
             λ e. (stays left next x marked (k - from) (h.2 (omega (arith, e, is.2)))).1 (omega (arith, e)),
           ))
-          (leads-step b c.args.first c.args.step n changes (from + x) new c.loop-k.trail.items c.push_reserved.new.self.items _ is_learning
+          (leads-step b c.args.first c.args.step n changes new is_learning (from + x) c.loop-k.trail.items c.push_reserved.new.self.items _
           (is.0, omega arith, λ l. subst (Has left) (omega arith) has)
           (c.push_reserved.ensures.items ∙ (λ i. c.loop-k.trail.items ++ (c.args.first + c.from.ensures i * c.args.step) ∷ []))
           (before.trail b n new is_learning start));
       room = λ y h.
-          let later : x < y = after_first x y (c.first_place-k.ensures.least y (stays left next x marked y h).0) (stays left next x marked y h).1 in
+          let stay = stays left next x marked y h in
+          let later : x < y = omega (arith, c.first_place-k.ensures.least y stay.0, stay.1) in
           omega (arith, longer, before.room x has, later);
       most = omega (arith, longer, before.room x has, c.first_place-k.ensures.within);
       capacity = c.push_reserved.ensures.capacity ∙ before.capacity;
