@@ -105,7 +105,7 @@ branch-count limit (b ∷ branches) h k = omega (arith, order-count limit b.mark
 module _ (pick : List Cell → Option ℕ) (lines : List GridLine) where
   -- the branches mean the same for other cells and another trail, if the cells before each are the same
   module _ (cells now : List Cell) (trail after : List ℕ) (limit : ℕ)
-    (same : (mark : ℕ) → mark < limit → cells_before now after mark ≡ cells_before cells trail mark) where
+      (same : (mark : ℕ) → mark < limit → cells_before now after mark ≡ cells_before cells trail mark) where
     pending-same : (branches : List Branch) → AreBefore limit branches →
         pending pick lines now after branches ≡ pending pick lines cells trail branches
     pending-same [] h = refl
@@ -146,7 +146,7 @@ module _ (pick : List Cell → Option ℕ) (lines : List GridLine) where
   pending-last cells trail (x ∷ branches) b = rw (pending-last cells trail branches b, append_assoc) refl
 
   module _ (cells : List Cell) (trail : List ℕ) (branches made : List Branch) (b : Branch) (e : made ≡ branches ++ (b ∷ []))
-    (m : b.mark ≡ length trail) where
+      (m : b.mark ≡ length trail) where
     -- a filled guess: its branch is kept
     pub fork-work : IsWork pick lines cells trail branches → AreBefore (length trail) branches → IsNext pick lines cells b.place →
         IsWork pick lines cells trail made
@@ -162,7 +162,7 @@ module _ (pick : List Cell → Option ℕ) (lines : List GridLine) where
     fork-events = rw (e, pending-last cells trail branches b, m, before-now cells trail) refl
 
   module _ (cells now : List Cell) (trail after : List ℕ) (all rest : List Branch) (b : Branch) (e : all ≡ rest ++ (b ∷ []))
-    (f : now ≡ cells_before cells trail b.mark) (g : after ≡ take b.mark trail) (w : IsWork pick lines cells trail all) where
+      (f : now ≡ cells_before cells trail b.mark) (g : after ≡ take b.mark trail) (w : IsWork pick lines cells trail all) where
     -- what the last branch leaves
     last : AreBefore b.mark rest × AreInOrder rest
     last = order-last rest b (rw e at w.order)

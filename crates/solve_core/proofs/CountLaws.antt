@@ -41,9 +41,8 @@ sure_by false c (inr e) = e
 
 -- the cells with a known cell to their left, and the first one
 pub left_is : (row : List Cell) (w known up first left : ℕ) → length row ≤ w → IsMaskOf (IsKnownCell row) known →
-    IsMaskOf (IsShifted w (Has known) 1) up → IsMaskOf (λ i. i ≡ 0) first
-    → IsMaskOf (λ i. Has up i ⊎ Has first i) left → (x : ℕ) → x < length row →
-    has left x ≡ is_sure (nat_eq x 0) (get_or row (x - 1) Unknown)
+    IsMaskOf (IsShifted w (Has known) 1) up → IsMaskOf (λ i. i ≡ 0) first → IsMaskOf (λ i. Has up i ⊎ Has first i) left → (x : ℕ) →
+    x < length row → has left x ≡ is_sure (nat_eq x 0) (get_or row (x - 1) Unknown)
 left_is row w known up first left fits k u f l x h = has_by left x (is_sure (nat_eq x 0) (get_or row (x - 1) Unknown)) to from
   where
     to : Has left x → is_sure (nat_eq x 0) (get_or row (x - 1) Unknown) ≡ true
@@ -92,13 +91,11 @@ right_is row w known down first last right fits some k d f m r x h =
 
 -- what is found by two counts whose sum is the row's score at each cell is the most in the row
 pub most_by : (row : List Cell) (above below : ℕ → Bool) (least cells : ℕ) (f g : ℕ → ℕ) (result : Option (ℕ × ℕ)) →
-    IsMaskOf (IsUnknownCell row) cells
-    → ((x : ℕ) → x < length row → f x + g x ≡ row_score row above below x)
-    → IfNone result ((i : ℕ) → Has cells i → f i + g i < least)
-    → IfSome result (λ found. Has cells found.1 × (found.0 ≡ f found.1 + g found.1) × (least ≤ found.0))
-    → IfSome result (λ found. (i : ℕ) → Has cells i → f i + g i ≤ found.0)
-    → IfSome result (λ found. (i : ℕ) → Has cells i → i < found.1 → f i + g i < found.0)
-    → IsMostInRow row above below least result
+    IsMaskOf (IsUnknownCell row) cells → ((x : ℕ) → x < length row → f x + g x ≡ row_score row above below x) →
+    IfNone result ((i : ℕ) → Has cells i → f i + g i < least) →
+    IfSome result (λ found. Has cells found.1 × (found.0 ≡ f found.1 + g found.1) × (least ≤ found.0)) →
+    IfSome result (λ found. (i : ℕ) → Has cells i → f i + g i ≤ found.0) →
+    IfSome result (λ found. (i : ℕ) → Has cells i → i < found.1 → f i + g i < found.0) → IsMostInRow row above below least result
 most_by row above below least cells f g None m score none found most earliest =
     λ x u. (let few = none x (m.from x u) in omega (arith, few, score x u.0))
 most_by row above below least cells f g (Some (n, k)) m score none found most earliest =

@@ -21,10 +21,9 @@ ending-guess p found spent limit es l h =
     by (a ∷ b ∷ more) k = absurd (omega arith)
 
 -- one turn of a search: a guess is spent, and what happens below it is looked at
-pub ending-next : (p : Nonogram) (found more : List PartialGrid) (spent limit : ℕ) (whole : Ending) (before below after : List Event)
-    → before ≡ Guess ∷ below → length found < 2 → spent < limit → ending p found spent (limit - spent) before ≡ whole
-    → ((s l : ℕ) → ending p more s l after ≡ ending p found s l below)
-    → ending p more (spent + 1) (limit - (spent + 1)) after ≡ whole
+pub ending-next : (p : Nonogram) (found more : List PartialGrid) (spent limit : ℕ) (whole : Ending) (before below after : List Event) →
+    before ≡ Guess ∷ below → length found < 2 → spent < limit → ending p found spent (limit - spent) before ≡ whole →
+    ((s l : ℕ) → ending p more s l after ≡ ending p found s l below) → ending p more (spent + 1) (limit - (spent + 1)) after ≡ whole
 ending-next p found more spent limit whole before below after e room less told h =
     h (spent + 1) (limit - (spent + 1)) ∙ sym (ending-guess p found spent limit below room less) ∙
     ap (ending p found spent (limit - spent)) (sym e) ∙ told

@@ -79,9 +79,8 @@ cell_in cells rows columns x y a lx ly = omega (arith, row_within (length column
 
 -- the lines after a cell was written in its row and its column
 pub lines-written : (cells : List Cell) (rows columns : List (List Cell)) (row column : List Cell) (x y : ℕ) (c : Cell) →
-    AreLinesOf cells rows columns → x < length columns → y < length rows
-    → row ≡ set (get_or rows y []) x c → column ≡ set (get_or columns x []) y c
-    → AreLinesOf (set cells (y * length columns + x) c) (set rows y row) (set columns x column)
+    AreLinesOf cells rows columns → x < length columns → y < length rows → row ≡ set (get_or rows y []) x c →
+    column ≡ set (get_or columns x []) y c → AreLinesOf (set cells (y * length columns + x) c) (set rows y row) (set columns x column)
 lines-written cells rows columns row column x y c a lx ly er ec =
     let w = length columns in
     let h = length rows in
@@ -133,8 +132,7 @@ pub record HaveAcross (columns rows : List (List Cell)) (y : ℕ) : Type 0 where
 
 -- and after row y was written those of it too
 pub across-more : (columns more rows : List (List Cell)) (y : ℕ) (row : List Cell) → y < length rows → row ≡ get_or rows y [] →
-    length more ≡ length columns →
-    ((x : ℕ) → x < length columns → get_or more x [] ≡ set (get_or columns x []) y (get_or row x Unknown)) →
+    length more ≡ length columns → ((x : ℕ) → x < length columns → get_or more x [] ≡ set (get_or columns x []) y (get_or row x Unknown)) →
     HaveAcross columns rows y → HaveAcross more rows (y + 1)
 across-more columns more rows y row l e long set_at is = record {
   cells = λ x k lx lk.
@@ -172,8 +170,7 @@ lines-cells cells rows columns a =
 
 -- how long a row and a column are
 pub lines-long : (rows columns : List (List Cell)) (x y : ℕ) → AreLinesOf (cells_of_rows rows) rows columns → x < length columns →
-    y < length rows
-    → (length (get_or rows y []) ≡ length columns) × (length (get_or columns x []) ≡ length rows)
+    y < length rows → (length (get_or rows y []) ≡ length columns) × (length (get_or columns x []) ≡ length rows)
 lines-long rows columns x y a lx ly = (
   ap length (a.rows_are y ly) ∙ length-along (cells_of_rows rows) (y * length columns) 1 (length columns),
   ap length (a.columns_are x lx) ∙ length-along (cells_of_rows rows) x (length columns) (length rows),
@@ -260,8 +257,7 @@ in_row rows columns y k a ly from to =
 
 -- the cells of a row that has no unknown one from a cell on
 pub row-known : (rows columns : List (List Cell)) (y column : ℕ) → AreLinesOf (cells_of_rows rows) rows columns → y < length rows →
-    IsUnknownFrom (get_or rows y []) column None
-    → (k : ℕ) → y * length columns + column ≤ k → k < y * length columns + length columns →
+    IsUnknownFrom (get_or rows y []) column None → (k : ℕ) → y * length columns + column ≤ k → k < y * length columns + length columns →
     is_unknown (get_or (cells_of_rows rows) k Unknown) ≡ false
 row-known rows columns y column a ly none k from to =
     let long = (lines-long rows columns 0 y a a.size.width_from ly).0 in
@@ -284,8 +280,7 @@ row-unknown rows columns y column x a ly found =
 
 -- if the rows are those of a grid, and the columns have the cells of the rows, they are the lines of the grid
 pub lines-read : (g : PartialGrid) (rows columns : List (List Cell)) → IsSize (length columns) (length rows) →
-    length g.cells ≡ length columns * length rows → g.width ≡ length columns →
-    ((y : ℕ) → y < length rows → get_or rows y [] ≡ row_of g y) →
+    length g.cells ≡ length columns * length rows → g.width ≡ length columns → ((y : ℕ) → y < length rows → get_or rows y [] ≡ row_of g y) →
     ((x : ℕ) → x < length columns → length (get_or columns x []) ≡ length rows) →
     ((x y : ℕ) → x < length columns → y < length rows → get_or (get_or columns x []) y Unknown ≡ get_or (get_or rows y []) x Unknown) →
     AreLinesOf g.cells rows columns

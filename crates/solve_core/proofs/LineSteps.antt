@@ -137,8 +137,7 @@ written-elsewhere line g new w a b k h =
 
 -- fewer cells are unknown if a line learned something
 pub written-fewer : (line : GridLine) (g new : List Cell) (w : IsWritten line g new) → w.certain ≢ cells_at Unknown g line.places →
-    AreDistinct line.places → AreBelow (length g) line.places
-    → unknown_count new < unknown_count g
+    AreDistinct line.places → AreBelow (length g) line.places → unknown_count new < unknown_count g
 written-fewer line g new w n a b =
     elim (fewer_unknown g new (written-extends line g new w)) [
       | inl same ↦ absurd (n (sym (written-read line g new w a b) ∙ ap (λ (r : List Cell). cells_at Unknown r line.places) same))

@@ -38,10 +38,9 @@ row_back w (suc z) x n = let less : suc z - 1 ≡ z = omega arith in rw less (om
 
 -- the count of a row's cell is that of the grid's
 pub score-is : (rows columns : List (List Cell)) (y x : ℕ) (above below : ℕ → Bool) → AreLinesOf (cells_of_rows rows) rows columns →
-    y < length rows → x < length columns
-    → above x ≡ is_sure (nat_eq y 0) (get_or (get_or rows (y - 1) []) x Unknown) →
-    below x ≡ is_sure (nat_eq (y + 1) (length rows)) (get_or (get_or rows (y + 1) []) x Unknown)
-    → row_score (get_or rows y []) above below x ≡ sure_neighbours (length columns) (cells_of_rows rows) (y * length columns + x)
+    y < length rows → x < length columns → above x ≡ is_sure (nat_eq y 0) (get_or (get_or rows (y - 1) []) x Unknown) →
+    below x ≡ is_sure (nat_eq (y + 1) (length rows)) (get_or (get_or rows (y + 1) []) x Unknown) →
+    row_score (get_or rows y []) above below x ≡ sure_neighbours (length columns) (cells_of_rows rows) (y * length columns + x)
 score-is rows columns y x above below a ly lx up down =
     (λ i. two_of (left i) (right i) + two_of ((up ∙ over) i) ((down ∙ under) i)) ∙ omega arith
   where
@@ -140,10 +139,9 @@ row-low score passes s (suc w) most best e low few =
 
 -- if enough counts for a place of a row, the first of those for which the most counts is the best
 pub row-some : (score : ℕ → ℕ) (passes : ℕ → Bool) (s w x : ℕ) (best : Option ℕ) → best ≡ first_most score passes s → x < w →
-    passes (s + x) ≡ true → least_after score best ≤ score (s + x)
-    → ((z : ℕ) → z < w → passes (s + z) ≡ true → score (s + z) ≤ score (s + x)) →
-    ((z : ℕ) → z < x → passes (s + z) ≡ true → score (s + z) < score (s + x))
-    → Some (s + x) ≡ first_most score passes (s + w)
+    passes (s + x) ≡ true → least_after score best ≤ score (s + x) →
+    ((z : ℕ) → z < w → passes (s + z) ≡ true → score (s + z) ≤ score (s + x)) →
+    ((z : ℕ) → z < x → passes (s + z) ≡ true → score (s + z) < score (s + x)) → Some (s + x) ≡ first_most score passes (s + w)
 row-some score passes s w x best e lx here least most earliest =
     let all : s + x + 1 + (w - (x + 1)) ≡ s + w = omega (arith, lx) in
     rw all at (row-none score passes (s + x + 1) (w - (x + 1)) (Some (s + x))
@@ -163,18 +161,15 @@ least_then least None = least
 least_then least (Some found) = found.0 + 1
 
 -- one more row looked at
-pub row-step : (rows columns : List (List Cell)) (y width : ℕ) (cells row : List Cell) (above below : ℕ → Bool) (best : Option ℕ)
-    (least : ℕ) (found : Option (ℕ × ℕ))
-    → AreLinesOf (cells_of_rows rows) rows columns → y < length rows → width ≡ length columns → cells_of_rows rows ≡ cells →
-    row ≡ get_or rows y []
-    → ((x : ℕ) → x < length columns → above x ≡ is_sure (nat_eq y 0) (get_or (get_or rows (y - 1) []) x Unknown))
-    → ((x : ℕ) → x < length columns → below x ≡ is_sure (nat_eq (y + 1) (length rows)) (get_or (get_or rows (y + 1) []) x Unknown))
-    → best ≡ first_most (sure_neighbours width cells) (λ k. is_unknown (get_or cells k Unknown)) (y * width) →
-    least ≡ least_after (sure_neighbours width cells) best
-    → IsMostInRow row above below least found
-    → (best_after (y * width) best found
-    ≡ first_most (sure_neighbours width cells) (λ k. is_unknown (get_or cells k Unknown)) ((y + 1) * width))
-    × (least_then least found ≡ least_after (sure_neighbours width cells) (best_after (y * width) best found))
+pub row-step : (rows columns : List (List Cell)) (y width : ℕ) (cells row : List Cell) (above below : ℕ → Bool) (best : Option ℕ) (least :
+    ℕ) (found : Option (ℕ × ℕ)) → AreLinesOf (cells_of_rows rows) rows columns → y < length rows → width ≡ length columns →
+    cells_of_rows rows ≡ cells → row ≡ get_or rows y [] →
+    ((x : ℕ) → x < length columns → above x ≡ is_sure (nat_eq y 0) (get_or (get_or rows (y - 1) []) x Unknown)) →
+    ((x : ℕ) → x < length columns → below x ≡ is_sure (nat_eq (y + 1) (length rows)) (get_or (get_or rows (y + 1) []) x Unknown)) →
+    best ≡ first_most (sure_neighbours width cells) (λ k. is_unknown (get_or cells k Unknown)) (y * width) →
+    least ≡ least_after (sure_neighbours width cells) best → IsMostInRow row above below least found →
+    (best_after (y * width) best found ≡ first_most (sure_neighbours width cells) (λ k. is_unknown (get_or cells k Unknown)) ((y + 1) *
+    width)) × (least_then least found ≡ least_after (sure_neighbours width cells) (best_after (y * width) best found))
 row-step rows columns y width cells row above below best least found a ly wide seen is up down first l m =
     rw (wide, ← seen) (by found (rw is at m))
   where

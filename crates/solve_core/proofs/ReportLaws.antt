@@ -48,8 +48,10 @@ ending-one p a spent (suc left) (Guess ∷ es) =
 
 ending-none : (p : Nonogram) (spent left : ℕ) (es : List Event) → ending p [] spent left es ≡ defined p [] 2 spent left es
 ending-none p spent left [] = rw add-zero refl
-ending-none p spent left (Solution c ∷ es) = rw (ending-one p (grid_of p c) spent left es,
-    nat_lt-more (length (within_guesses left (through_solution 1 es))) (length (through_solution 1 es))) refl
+ending-none p spent left (Solution c ∷ es) = rw (
+  ending-one p (grid_of p c) spent left es,
+  nat_lt-more (length (within_guesses left (through_solution 1 es))) (length (through_solution 1 es)),
+) refl
 ending-none p spent zero (Guess ∷ es) = rw (add-zero, nat_lt-positive (length (through_solution 2 es))) refl
 ending-none p spent (suc left) (Guess ∷ es) =
     let part = within_guesses left (through_solution 2 es) in
@@ -77,8 +79,7 @@ report-is pick p limit = rw (ending-none p 0 limit (whole_search pick p), zero-a
 
 -- if the two closures are known, so is the report
 pub report-by : (pick : List Cell → Option ℕ) (p : Nonogram) (limit : ℕ) (closed tried : Option (List Cell)) → closed ≡ line_closure p →
-    tried ≡ trial_closure p
-    → report_by pick p limit closed tried ≡ report_of pick p limit
+    tried ≡ trial_closure p → report_by pick p limit closed tried ≡ report_of pick p limit
 report-by pick p limit closed tried c t = (λ i. report_by pick p limit (c i) (t i)) ∙ report-is pick p limit
 
 -- a search whose verdict is final was not cut short

@@ -113,10 +113,10 @@ module _ (pick : List Cell → Option ℕ) (lawful : IsPick pick) (lines : List 
   -- what holds of what is found, if it holds of nothing from a dead grid, of a full one's cells, and of what
   -- is found below both guesses
   module _ (P : ℕ → List Cell → List (List Cell) → Type 0) (deep : (g : List Cell) → P 0 g [])
-    (dead : (n : ℕ) (g : List Cell) → closure lines g ≡ None → P (suc n) g [])
-    (leaf : (n : ℕ) (g c : List Cell) → closure lines g ≡ Some c → pick c ≡ None → P (suc n) g (c ∷ []))
-    (node : (n : ℕ) (g c : List Cell) (k : ℕ) → closure lines g ≡ Some c → Extends g c → k < length c → get_or c k Unknown ≡ Unknown →
-    (xs ys : List (List Cell)) → P n (set c k Filled) xs → P n (set c k Blank) ys → P (suc n) g (xs ++ ys)) where
+      (dead : (n : ℕ) (g : List Cell) → closure lines g ≡ None → P (suc n) g [])
+      (leaf : (n : ℕ) (g c : List Cell) → closure lines g ≡ Some c → pick c ≡ None → P (suc n) g (c ∷ []))
+      (node : (n : ℕ) (g c : List Cell) (k : ℕ) → closure lines g ≡ Some c → Extends g c → k < length c → get_or c k Unknown ≡ Unknown →
+      (xs ys : List (List Cell)) → P n (set c k Filled) xs → P n (set c k Blank) ys → P (suc n) g (xs ++ ys)) where
     each_found : (n : ℕ) (g : List Cell) → P n g (solutions_in (events_within pick n lines g))
     each_found zero g = deep g
     each_found (suc n) g = from (closure lines g) refl (each_found n)

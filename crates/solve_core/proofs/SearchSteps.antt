@@ -44,8 +44,7 @@ closure-closed lines g now e = (closure-IsLeastClosed lines g).closed now (sym e
 
 -- the cell of the next guess is unknown
 pub next-unknown : (pick : List Cell → Option ℕ) (lawful : IsPick pick) (lines : List GridLine) (cells : List Cell) (k : ℕ) →
-    IsNext pick lines cells k
-    → (k < length cells) × (get_or cells k Unknown ≡ Unknown)
+    IsNext pick lines cells k → (k < length cells) × (get_or cells k Unknown ≡ Unknown)
 next-unknown pick lawful lines cells k h = let at = lawful.within cells k h.0 in (at.0, unknown_is (get_or cells k Unknown) at.1)
 
 -- if a cell is unknown, the number of unknown cells isn't 0
@@ -54,15 +53,13 @@ unknown_count-positive cells k l e = omega (arith, count-settled cells k Filled 
 
 -- a cell to guess is unknown
 pub open-unknown : (pick : List Cell → Option ℕ) (lawful : IsPick pick) (lines : List GridLine) (cells : List Cell) (next : Option ℕ) →
-    IsOpen pick lines cells next
-    → IfSome next (λ place. (place < length cells) × (get_or cells place Unknown ≡ Unknown))
+    IsOpen pick lines cells next → IfSome next (λ place. (place < length cells) × (get_or cells place Unknown ≡ Unknown))
 open-unknown pick lawful lines cells None h = tt
 open-unknown pick lawful lines cells (Some place) h = next-unknown pick lawful lines cells place h
 
 -- if a cell is to be guessed, there are no more branches than settled cells
-pub open-older : (pick : List Cell → Option ℕ) (lines : List GridLine) (cells : List Cell) (trail : List ℕ) (branches : List Branch)
-    (next : Option ℕ)
-    → IsWork pick lines cells trail branches → AreOlder trail branches next → next ≢ None → length branches ≤ length trail
+pub open-older : (pick : List Cell → Option ℕ) (lines : List GridLine) (cells : List Cell) (trail : List ℕ) (branches : List Branch) (next :
+    Option ℕ) → IsWork pick lines cells trail branches → AreOlder trail branches next → next ≢ None → length branches ≤ length trail
 open-older pick lines cells trail branches None w o n = absurd (n refl)
 open-older pick lines cells trail branches (Some place) w o n = branch-count (length trail) branches w.order o
 
@@ -72,17 +69,15 @@ older-none trail branches None e = tt
 older-none trail branches (Some k) e = subst (λ (bs : List Branch). AreOlder trail bs (Some k)) (sym e) tt
 
 -- closing with one more cell settled leaves fewer unknown
-pub alive-fewer : (lines : List GridLine) (cells now : List Cell) (k : ℕ) (c : Cell) → k < length cells →
-    get_or cells k Unknown ≡ Unknown → is_known c ≡ true
-    → Some now ≡ closure lines (set cells k c) → unknown_count now < unknown_count cells
+pub alive-fewer : (lines : List GridLine) (cells now : List Cell) (k : ℕ) (c : Cell) → k < length cells → get_or cells k Unknown ≡ Unknown →
+    is_known c ≡ true → Some now ≡ closure lines (set cells k c) → unknown_count now < unknown_count cells
 alive-fewer lines cells now k c l e known closed =
     let above : Extends (set cells k c) now = rw (sym closed) at ((closure-IsLeastClosed lines (set cells k c)).above) in
     omega (arith, count-settled cells k c l e known, unknown_count-more (set cells k c) now above)
 
 -- what stands before the first unknown cell stays known when that cell is guessed
 pub known-before : (lines : List GridLine) (cells now : List Cell) (place : ℕ) (c : Cell) → first_unknown cells ≡ Some place →
-    Some now ≡ closure lines (set cells place c)
-    → AreKnownBefore place now
+    Some now ≡ closure lines (set cells place c) → AreKnownBefore place now
 known-before lines cells now place c first closed k l =
     let above : Extends (set cells place c) now = rw (sym closed) at ((closure-IsLeastClosed lines (set cells place c)).above) in
     let other : k ≢ place = omega arith in

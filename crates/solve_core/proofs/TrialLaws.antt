@@ -124,8 +124,7 @@ left_over-below false false w f b = tt
 
 -- what trials settle in a grid is so in the closed result of trials on a grid that knows more
 pub tried-below : (lines : List GridLine) (g z w : List Cell) (k : ℕ) (c : Cell) → Extends g z → Extends z w → round lines w ≡ Some w →
-    k < length w
-    → CellExtends c (get_or w k Unknown) → OptionBelow (tried lines z k (get_or z k Unknown)) (get_or w k Unknown) →
+    k < length w → CellExtends c (get_or w k Unknown) → OptionBelow (tried lines z k (get_or z k Unknown)) (get_or w k Unknown) →
     OptionBelow (tried lines g k c) (get_or w k Unknown)
 tried-below lines g z w k Unknown gz zw closed l h b =
     let at : CellExtends (get_or z k Unknown) (get_or w k Unknown) = Extends-at z w k zw in

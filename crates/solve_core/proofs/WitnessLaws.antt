@@ -76,7 +76,7 @@ module _ (g new t : List Cell) (h : Extends g new) (l : Extends g t) where
   as_new k same = at k ∙ over_less (get_or new k Unknown) (get_or t k Unknown) (rw same at (Extends-at g new k h))
 
   module _ (p : Nonogram) (lines learned : Crossed) (mine : DifferWithin p.width g t lines) (theirs : DifferWithin p.width g new learned)
-    (apart : ShareNoLine lines learned) where
+      (apart : ShareNoLine lines learned) where
     -- Two line-closed grids that came from the same one and share no line as one are line-closed.
     overlaid_closed : IsNonogram p → length g ≡ p.width * p.height → round (lines_of p) new ≡ Some new → round (lines_of p) t ≡ Some t →
         round (lines_of p) (overlaid new t) ≡ Some (overlaid new t)
@@ -127,9 +127,8 @@ noted_known w k number Blank n e = refl
 
 -- A witness stays one if what was learned shares no line with it.
 apart_stays : (p : Nonogram) (w : WitnessLists) (g new : List Cell) (number : ℕ) (learned : Crossed) → IsNonogram p →
-    length g ≡ p.width * p.height → round (lines_of p) new ≡ Some new
-    → Extends g new → DifferWithin p.width g new learned → ShareNoLine ((witness_at w.witnesses number).lines) learned →
-    number ≢ 0 → IsWitness p w g number → IsWitness p w new number
+    length g ≡ p.width * p.height → round (lines_of p) new ≡ Some new → Extends g new → DifferWithin p.width g new learned →
+    ShareNoLine ((witness_at w.witnesses number).lines) learned → number ≢ 0 → IsWitness p w g number → IsWitness p w new number
 apart_stays p w g new number learned is size closed h theirs apart some was =
     let t = was.trial in
     let lines = (witness_at w.witnesses number).lines in

@@ -9,8 +9,11 @@ loop-i-init g c = none-written c.args.lines.now (λ (k : ℕ). get_or c.args.oth
 
 pub copy_from-requires : goal.copy_from-requires
 copy_from-requires g c =
-    rw (c.index-others-i.is, line_read c.args.others.now c.loop-i.i _ (omega (arith, c.requires.count, c.loop-i-test.true)),
-    line-left _ _ _ _ c.index-lines-i.result (omega (arith, c.loop-i.auto.lines, c.loop-i-test.true)) c.loop-i.invariant)
+    rw (
+      c.index-others-i.is,
+      line_read c.args.others.now c.loop-i.i _ (omega (arith, c.requires.count, c.loop-i-test.true)),
+      line-left _ _ _ _ c.index-lines-i.result (omega (arith, c.loop-i.auto.lines, c.loop-i-test.true)) c.loop-i.invariant,
+    )
     (c.requires.lengths c.loop-i.i c.loop-i-test.true)
 
 pub loop-i-preserved : goal.loop-i-preserved

@@ -26,9 +26,8 @@ returns-clause-answer g c = c.deduce-answer.ensures.answer ∙ ap (deduced c.arg
 
 -- what is remembered of a line is what is certain of it
 remembered : (p : Nonogram) (kept : List KnownLine) (k : ℕ) (side : Side) (i : ℕ) (line : List Cell) (d e : KnownLine) →
-    All (IsDeductionOf p) kept → k < length kept
-    → d ≡ get_or kept k d → e ≡ get_or kept k e → (e.side ≡ side) × (e.number ≡ i) × (e.line ≡ line) →
-    d.answer ≡ deduced line (line_on side p i).clue
+    All (IsDeductionOf p) kept → k < length kept → d ≡ get_or kept k d → e ≡ get_or kept k e →
+    (e.side ≡ side) × (e.number ≡ i) × (e.line ≡ line) → d.answer ≡ deduced line (line_on side p i).clue
 remembered p kept k side i line d e right l x y is =
     let same : d ≡ e = x ∙ get_or_default kept k d e l ∙ sym y in
     let own : d.answer ≡ deduced d.line (line_on d.side p d.number).clue = subst (IsDeductionOf p) (sym x) (right k d l) in

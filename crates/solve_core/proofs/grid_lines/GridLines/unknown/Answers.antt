@@ -12,5 +12,10 @@ invariant_of-result g c =
 
 pub returns : goal.returns
 returns g c =
-    rw ((lines-unknown c.args.width c.args.height _ _ c.requires.size c.in_ok-unknown_lines.ensures c.in_ok-unknown_lines-2.ensures).0,
-    c.in_ok-unknown_lines-2.ensures, c.in_ok-unknown_lines.ensures, length-replicate c.args.width, length-replicate c.args.height) refl
+    rw (
+      (lines-unknown c.args.width c.args.height _ _ c.requires.size c.in_ok-unknown_lines.ensures c.in_ok-unknown_lines-2.ensures).0,
+      c.in_ok-unknown_lines-2.ensures,
+      c.in_ok-unknown_lines.ensures,
+      length-replicate c.args.width,
+      length-replicate c.args.height,
+    ) refl

@@ -48,7 +48,10 @@ returns-clause-witnesses g c =
     rw (with_items_is c.self.inside.witnesses after (c.keep_each.auto.witnesses ∙ c.deref_mut.ensures.len))
     (kept_witnesses p _ after g cells _ _ c.args.place c.args.colour c.width.ensures.puzzle c.self.invariant.numbered
     (length-Extends g cells more ∙ c.requires.size.2) c.requires.settled more
-    (cleared_within p.width cells learned c.of_places-learned.result (rw (c.trail.ensures.trail, c.width.ensures.width,
-    take_rest c.args.board.now.trail c.args.mark) at c.of_places-learned.ensures))
+    (cleared_within p.width cells learned c.of_places-learned.result (rw (
+      c.trail.ensures.trail,
+      c.width.ensures.width,
+      take_rest c.args.board.now.trail c.args.mark,
+    ) at c.of_places-learned.ensures))
     (rw (← c.self.view_is) at c.requires.witnesses) (rw (← c.self.view_is) at c.number_at-holder.ensures)
     (c.keep_each.auto.witnesses ∙ ap length c.deref_mut.ensures.value) (rw c.deref_mut.ensures.value at c.keep_each.ensures))

@@ -18,8 +18,7 @@ invariant_of-self-in-Blank g c = record {
   numbered = more_numbered _ _ c.args.number c.args.trial.now.cells c.self.invariant.numbered (rw (← c.self.view_is) at c.requires.number)
       (meets-blank _ c.args.place c.args.number c.args.trial.now.cells
       (omega (arith, c.requires.place, c.self.invariant.numbered.count, rw (← c.self.view_is) at c.requires.cells))
-      (sym c.at-colour.ensures ∙ c.in-Blank.is))
-      ;
+      (sym c.at-colour.ensures ∙ c.in-Blank.is));
   fillable = c.self.invariant.fillable;
   blankable = c.self.invariant.blankable;
 }
