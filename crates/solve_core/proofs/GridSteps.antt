@@ -149,29 +149,23 @@ pub place_marks : (p : Nonogram) (cells : List Cell) (marks after : LineMarks) (
 place_marks p cells marks after k y x c m hy hx at rows columns = record {
   puzzle = m.puzzle;
   size = length-set cells k c ∙ m.size;
-  within = each_within;
-  settled = each;
+  within = elim [ Rows ↦ within Rows y hy rows | Columns ↦ within Columns x hx columns ];
+  settled = elim [ Rows ↦ settled Rows y x hy hx at rows | Columns ↦ settled Columns x y hx hy at columns ];
 }
   where
-    stays : (side : Side) (i b j : ℕ) → i < count_on side p.width p.height → b < count_on (crossing side) p.width p.height →
-        j < count_on side p.width p.height → k ≡ place_on side p.width i b → j ≢ i → IsDeduced cells (line_on side p j) →
-        IsDeduced (set cells k c) (line_on side p j)
-    stays side i b j li lb lj e ne settled = settled-elsewhere cells k c (line_on side p j) settled (λ d ld s.
+    within : (side : Side) (i : ℕ) → i < count_on side p.width p.height →
+        IsMaskOf (IsMarked (Has (marks_on side marks)) i true) (marks_on side after) → (j : ℕ) → IsMarkedOn after side j →
+        j < count_on side p.width p.height
+    within side i l mask j h = elim (mask.to j h) [ inl old ↦ m.within side j old.0 | inr own ↦ rw own.0 l ]
+
+    settled : (side : Side) (i b : ℕ) → i < count_on side p.width p.height → b < count_on (crossing side) p.width p.height →
+        k ≡ place_on side p.width i b → IsMaskOf (IsMarked (Has (marks_on side marks)) i true) (marks_on side after) →
+        (j : ℕ) → j < count_on side p.width p.height → (IsMarkedOn after side j → ⊥) → IsDeduced (set cells k c) (line_on side p j)
+    settled side i b li lb e mask j lj n =
+        let ne : j ≢ i = λ same. n (mask.from j (inr (same, refl))) in
+        settled-elsewhere cells k c (line_on side p j) (m.settled side j lj (λ h. n (mask.from j (inl (h, ne))))) (λ d ld s.
         let there = along side p.width p.height j d ld in
         ne (sym (same_place side p.width p.height i b j d li lb lj there.0 (sym e ∙ s ∙ there.1)).0))
-
-    each_within : AreMarksWithin p.width p.height after
-    each_within Rows j h = elim (rows.to j h) [ inl old ↦ m.within Rows j old.0 | inr own ↦ rw own.0 hy ]
-    each_within Columns j h = elim (columns.to j h) [ inl old ↦ m.within Columns j old.0 | inr own ↦ rw own.0 hx ]
-
-    each : (side : Side) (j : ℕ) → j < count_on side p.width p.height → (IsMarkedOn after side j → ⊥) →
-        IsDeduced (set cells k c) (line_on side p j)
-    each Rows j l n =
-        let ne : j ≢ y = λ e. n (rows.from j (inr (e, refl))) in
-        stays Rows y x j hy hx l at ne (m.settled Rows j l (λ h. n (rows.from j (inl (h, ne)))))
-    each Columns j l n =
-        let ne : j ≢ x = λ e. n (columns.from j (inr (e, refl))) in
-        stays Columns x y j hx hy l at ne (m.settled Columns j l (λ h. n (columns.from j (inl (h, ne)))))
 
 -- the column and the row of a place
 pub place_split : (p : Nonogram) (cells : List Cell) (k : ℕ) → IsNonogram p → length cells ≡ p.width * p.height → k < length cells

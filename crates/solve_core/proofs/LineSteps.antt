@@ -94,55 +94,48 @@ cells_at-same a b (p ∷ ps) h =
 pub settled_line : (g : List Cell) (line : GridLine) → IsDeduced g line → deduce_line g line ≡ Some g
 settled_line g line h = ap (option_map (with_cells g line.places)) h ∙ ap (λ (r : List Cell). Some r) (with_cells-read Unknown g line.places)
 
-above_line : (line : GridLine) (g d : List Cell) → deduced (cells_at Unknown g line.places) line.clue ≡ Some d →
-    Extends (cells_at Unknown g line.places) d
-above_line line g d e = rw e at (deduced-above (cells_at Unknown g line.places) line.clue)
+-- what is certain of a line was written
+module _ (line : GridLine) (g new : List Cell) (w : IsWritten line g new) where
+  above : Extends (cells_at Unknown g line.places) w.certain
+  above = rw w.is_certain at (deduced-above (cells_at Unknown g line.places) line.clue)
 
--- deducing a line gives the cells in which what is certain of it is written
-pub written_line : (line : GridLine) (g new : List Cell) → IsWritten line g new → deduce_line g line ≡ Some new
-written_line line g new w = ap (option_map (with_cells g line.places)) w.is_certain ∙ ap (λ (r : List Cell). Some r) (sym w.written)
+  -- deducing the line gives these cells
+  pub written_line : deduce_line g line ≡ Some new
+  written_line = ap (option_map (with_cells g line.places)) w.is_certain ∙ ap (λ (r : List Cell). Some r) (sym w.written)
 
--- writing what is certain of a line only adds to what is known
-pub written-extends : (line : GridLine) (g new : List Cell) → IsWritten line g new → Extends g new
-written-extends line g new w =
-    let old = with_cells-monotone g g line.places (cells_at Unknown g line.places) w.certain (Extends-refl g)
-    (above_line line g w.certain w.is_certain) in
-    rw w.written (rw (with_cells-read Unknown g line.places) at old)
+  -- that only adds to what is known
+  pub written-extends : Extends g new
+  written-extends = rw w.written (rw (with_cells-read Unknown g line.places) at
+      (with_cells-monotone g g line.places (cells_at Unknown g line.places) w.certain (Extends-refl g) above))
 
--- what was written is read
-pub written-read : (line : GridLine) (g new : List Cell) (w : IsWritten line g new) → AreDistinct line.places →
-    AreBelow (length g) line.places → cells_at Unknown new line.places ≡ w.certain
-written-read line g new w a b =
-    let long : length w.certain ≡ length line.places =
-    sym (length-Extends (cells_at Unknown g line.places) w.certain (above_line line g w.certain w.is_certain)) ∙
-    length-cells_at Unknown g line.places in
-    ap (λ (r : List Cell). cells_at Unknown r line.places) w.written ∙ cells_at-with_cells g line.places w.certain a b long
+  module _ (a : AreDistinct line.places) (b : AreBelow (length g) line.places) where
+    -- what was written is read
+    pub written-read : cells_at Unknown new line.places ≡ w.certain
+    written-read =
+        ap (λ (r : List Cell). cells_at Unknown r line.places) w.written ∙ cells_at-with_cells g line.places w.certain a b
+        (sym (length-Extends (cells_at Unknown g line.places) w.certain above) ∙ length-cells_at Unknown g line.places)
 
--- the line that was written is settled
-pub written-settled : (line : GridLine) (g new : List Cell) → IsWritten line g new → AreDistinct line.places →
-    AreBelow (length g) line.places → IsDeduced new line
-written-settled line g new w a b =
-    rw (written-read line g new w a b) (deduced-settled (cells_at Unknown g line.places) w.certain line.clue w.is_certain)
+    -- the line that was written is settled
+    pub written-settled : IsDeduced new line
+    written-settled = rw written-read (deduced-settled (cells_at Unknown g line.places) w.certain line.clue w.is_certain)
 
--- a cell stays that the line doesn't have, or that it had as it is
-pub written-elsewhere : (line : GridLine) (g new : List Cell) → IsWritten line g new → AreDistinct line.places →
-    AreBelow (length g) line.places → (k : ℕ)
-    → ((i : ℕ) → i < length line.places → get_or line.places i 0 ≡ k → get_or new k Unknown ≡ get_or g k Unknown) →
-    get_or new k Unknown ≡ get_or g k Unknown
-written-elsewhere line g new w a b k h =
-    rw w.written
-    (get_or-with_cells g line.places w.certain k (λ i l e.
-    ap (λ (r : List Cell). get_or r i Unknown) (sym (written-read line g new w a b)) ∙ get_or-cells_at Unknown new line.places i l
-    ∙ ap (λ (q : ℕ). get_or new q Unknown) e ∙ h i l e))
+    -- a cell stays that the line doesn't have, or that it had as it is
+    pub written-elsewhere : (k : ℕ) →
+        ((i : ℕ) → i < length line.places → get_or line.places i 0 ≡ k → get_or new k Unknown ≡ get_or g k Unknown) →
+        get_or new k Unknown ≡ get_or g k Unknown
+    written-elsewhere k h =
+        rw w.written
+        (get_or-with_cells g line.places w.certain k (λ i l e.
+        ap (λ (r : List Cell). get_or r i Unknown) (sym written-read) ∙ get_or-cells_at Unknown new line.places i l
+        ∙ ap (λ (q : ℕ). get_or new q Unknown) e ∙ h i l e))
 
--- fewer cells are unknown if a line learned something
-pub written-fewer : (line : GridLine) (g new : List Cell) (w : IsWritten line g new) → w.certain ≢ cells_at Unknown g line.places →
-    AreDistinct line.places → AreBelow (length g) line.places → unknown_count new < unknown_count g
-written-fewer line g new w n a b =
-    elim (fewer_unknown g new (written-extends line g new w)) [
-      | inl same ↦ absurd (n (sym (written-read line g new w a b) ∙ ap (λ (r : List Cell). cells_at Unknown r line.places) same))
-      | inr less ↦ less
-    ]
+  -- fewer cells are unknown if a line learned something
+  pub written-fewer : w.certain ≢ cells_at Unknown g line.places → AreDistinct line.places → AreBelow (length g) line.places →
+      unknown_count new < unknown_count g
+  written-fewer n a b = elim (fewer_unknown g new written-extends) [
+    | inl same ↦ absurd (n (sym (written-read a b) ∙ ap (λ (r : List Cell). cells_at Unknown r line.places) same))
+    | inr less ↦ less
+  ]
 
 -- from a grid between one and its closure the closure is the same
 pub least_between : (f : List Cell → Option (List Cell)) (g z : List Cell) (c d : Option (List Cell)) → IsLeastClosed f g c →

@@ -1,6 +1,6 @@
 -- What the rule of most known neighbours picks.
 use Rattle.std.proofs.Common.{◌≡◌, ℕ, zero, suc, ◌<◌, ◌≤◌, inl, inr, Bool, true, false, cond, nat_lt, List, length, get_or, Option, Some, None, refl, sym, ap, ◌∙◌, subst, arith, true≢false, ltb-true, ltb-false}
-use Rattle.std.proofs.lemmas.Bool.{cases_eq}
+use Rattle.std.proofs.lemmas.Bool.{cases_eq, cases_lt, le-ltb, lt-ltb}
 use Rattle.grid_core.specs.declared.cells.Cell.{Cell}
 use Rattle.grid_core.specs.declared.cells.Cell.TheVariants.{Unknown}
 use Rattle.grid_core.specs.Cells.{is_unknown}
@@ -25,49 +25,31 @@ pub first_most-is : (score : ℕ → ℕ) (passes : ℕ → Bool) (n : ℕ) → 
 first_most-is score passes zero = λ j l. absurd (omega arith)
 first_most-is score passes (suc n) = by (passes n) refl (first_most score passes n) (first_most-is score passes n)
   where
-    later : (k : ℕ) → passes n ≡ true → IsFirstMost score passes n (Some k) → (b : Bool) → nat_lt (score k) (score n) ≡ b
-        → IsFirstMost score passes (suc n) (cond b (Some n) (Some k))
-    later k o most true e = (
+    take : passes n ≡ true → ((j : ℕ) → j < n → passes j ≡ true → score j < score n) → IsFirstMost score passes (suc n) (Some n)
+    take o less = (
       omega arith,
       o,
-      λ j l p. elim (cases_eq j n) [
-        | inl own ↦ rw own (omega arith)
-        | inr other ↦ (let less = most.2 j (omega arith) p in omega (arith, less, ltb-true (score k) (score n) e))
-      ],
-      λ j l p. (let less = most.2 j l p in omega (arith, less, ltb-true (score k) (score n) e)),
+      λ j l p. elim (cases_eq j n) [ inl own ↦ rw own (omega arith) | inr other ↦ (let few = less j (omega arith) p in omega (arith, few)) ],
+      less,
     )
-    later k o most false e = (
+
+    stay : (k : ℕ) → (passes n ≡ true → score n ≤ score k) → IsFirstMost score passes n (Some k) → IsFirstMost score passes (suc n) (Some k)
+    stay k few most = (
       omega (arith, most.0),
       most.1,
-      λ j l p. elim (cases_eq j n) [
-        | inl own ↦ rw own (ltb-false (score k) (score n) e)
-        | inr other ↦ most.2 j (omega arith) p
-      ],
+      λ j l p. elim (cases_eq j n) [ inl own ↦ rw own (few (rw own at p)) | inr other ↦ most.2 j (omega arith) p ],
       most.3,
     )
 
-    by : (b : Bool) → passes n ≡ b → (best : Option ℕ) → IsFirstMost score passes n best
-        → IsFirstMost score passes (suc n) (cond b (better score best n) best)
-    by true o None none = (
-      omega arith,
-      o,
-      λ j l p. elim (cases_eq j n) [
-        | inl own ↦ rw own (omega arith)
-        | inr other ↦ absurd (true≢false (sym p ∙ none j (omega arith)))
-      ],
-      λ j l p. absurd (true≢false (sym p ∙ none j l)),
-    )
-    by true o (Some k) most = later k o most (nat_lt (score k) (score n)) refl
+    by : (b : Bool) → passes n ≡ b → (best : Option ℕ) → IsFirstMost score passes n best →
+        IsFirstMost score passes (suc n) (cond b (better score best n) best)
+    by true o None none = take o (λ j l p. absurd (true≢false (sym p ∙ none j l)))
+    by true o (Some k) most = elim (cases_lt (score k) (score n)) [
+      | inl more ↦ rw (lt-ltb (score k) (score n) more) (take o (λ j l p. let less = most.2 j l p in omega (arith, less)))
+      | inr few ↦ rw (le-ltb (score k) (score n) few) (stay k (λ p. few) most)
+    ]
     by false o None none = λ j l. elim (cases_eq j n) [ inl own ↦ rw own o | inr other ↦ none j (omega arith) ]
-    by false o (Some k) most = (
-      omega (arith, most.0),
-      most.1,
-      λ j l p. elim (cases_eq j n) [
-        | inl own ↦ absurd (true≢false (sym p ∙ ap passes own ∙ o))
-        | inr other ↦ most.2 j (omega arith) p
-      ],
-      most.3,
-    )
+    by false o (Some k) most = stay k (λ p. absurd (true≢false (sym p ∙ o))) most
 
 picked-most : (width : ℕ) (grid : List Cell) (best : Option ℕ) → most_known width grid ≡ best
     → IsFirstMost (sure_neighbours width grid) (λ j. is_unknown (get_or grid j Unknown)) (length grid) best

@@ -87,68 +87,64 @@ abbrev pub least_after : (ℕ → ℕ) → Option ℕ → ℕ
 least_after score None = 0
 least_after score (Some k) = score k + 1
 
-kept : (score : ℕ → ℕ) (best : Option ℕ) (k : ℕ) → score k < least_after score best → better score best k ≡ best
-kept score None k l = absurd (omega arith)
-kept score (Some j) k l = rw (le-ltb (score j) (score k) (omega arith)) refl
+module _ (score : ℕ → ℕ) (passes : ℕ → Bool) where
+  -- a place that doesn't pass, or for which not enough counts, changes nothing
+  pub cell-none : (s : ℕ) (best : Option ℕ) → best ≡ first_most score passes s → (passes s ≡ true → score s < least_after score best) →
+      best ≡ first_most score passes (s + 1)
+  cell-none s best e few = by (passes s) refl best few ∙ (λ i. cond (passes s) (better score (e i) s) (e i)) ∙
+      ap (first_most score passes) (sym (add-one s))
+    where
+      by : (b : Bool) → passes s ≡ b → (best : Option ℕ) → (passes s ≡ true → score s < least_after score best) →
+          best ≡ cond b (better score best s) best
+      by true o None few = (let less = few o in absurd (omega arith))
+      by true o (Some j) few = let less = few o in rw (le-ltb (score j) (score s) (omega (arith, less))) refl
+      by false o best few = refl
 
-taken : (score : ℕ → ℕ) (best : Option ℕ) (k : ℕ) → least_after score best ≤ score k → better score best k ≡ Some k
-taken score None k l = refl
-taken score (Some j) k l = rw (lt-ltb (score j) (score k) (omega arith)) refl
+  -- a place that passes, and for which enough counts, is the best
+  pub cell-some : (s : ℕ) (best : Option ℕ) → best ≡ first_most score passes s → passes s ≡ true → least_after score best ≤ score s →
+      Some s ≡ first_most score passes (s + 1)
+  cell-some s best e o enough = by best enough ∙ (λ i. cond (sym o i) (better score (e i) s) (e i)) ∙
+      ap (first_most score passes) (sym (add-one s))
+    where
+      by : (best : Option ℕ) → least_after score best ≤ score s → Some s ≡ better score best s
+      by None l = refl
+      by (Some j) l = rw (lt-ltb (score j) (score s) (omega arith)) refl
 
--- a place that doesn't pass, or for which not enough counts, changes nothing
-pub cell-none : (score : ℕ → ℕ) (passes : ℕ → Bool) (s : ℕ) (best : Option ℕ) → best ≡ first_most score passes s →
-    (passes s ≡ true → score s < least_after score best) → best ≡ first_most score passes (s + 1)
-cell-none score passes s best e few = by (passes s) refl ∙ (λ i. cond (passes s) (better score (e i) s) (e i)) ∙
-    ap (first_most score passes) (sym (add-one s))
-  where
-    by : (b : Bool) → passes s ≡ b → best ≡ cond b (better score best s) best
-    by true o = sym (kept score best s (few o))
-    by false o = refl
+  -- if no place of a row counts for enough, the best one stays
+  row-none : (s w : ℕ) (best : Option ℕ) → best ≡ first_most score passes s →
+      ((x : ℕ) → x < w → passes (s + x) ≡ true → score (s + x) < least_after score best) → best ≡ first_most score passes (s + w)
+  row-none s zero best e none = rw (add-zero s) e
+  row-none s (suc w) best e none =
+      let next : s + w + 1 ≡ s + suc w = omega arith in
+      rw next at (cell-none (s + w) best (row-none s w best e (λ x l. none x (omega arith))) (none w (omega arith)))
 
--- a place that passes, and for which enough counts, is the best
-pub cell-some : (score : ℕ → ℕ) (passes : ℕ → Bool) (s : ℕ) (best : Option ℕ) → best ≡ first_most score passes s → passes s ≡ true →
-    least_after score best ≤ score s → Some s ≡ first_most score passes (s + 1)
-cell-some score passes s best e o enough = sym (taken score best s enough) ∙ (λ i. cond (sym o i) (better score (e i) s) (e i)) ∙
-    ap (first_most score passes) (sym (add-one s))
+  -- nor does what has to count for a later place grow beyond what none of the row counts for
+  row-low : (s w most : ℕ) (best : Option ℕ) → best ≡ first_most score passes s → least_after score best ≤ most →
+      ((x : ℕ) → x < w → passes (s + x) ≡ true → score (s + x) < most) → least_after score (first_most score passes (s + w)) ≤ most
+  row-low s zero most best e low few = rw (add-zero s, ← e) low
+  row-low s (suc w) most best e low few =
+      let next : s + w + 1 ≡ s + suc w = omega arith in
+      let now = first_most score passes (s + w) in
+      let before = row-low s w most best e low (λ x l. few x (omega arith)) in
+      rw (← next)
+      (elim (cases_lt (score (s + w)) (least_after score now)) [
+        | inl less ↦ rw (← cell-none (s + w) now refl (λ o. less)) before
+        | inr enough ↦ elim (cases_Bool (passes (s + w))) [
+          | inl o ↦ rw (← cell-some (s + w) now refl o enough) (let less = few w (omega arith) o in omega (arith, less))
+          | inr other ↦ rw (← cell-none (s + w) now refl (λ o. absurd (true≢false (sym o ∙ other)))) before
+        ]
+      ])
 
--- if no place of a row counts for enough, the best one stays
-pub row-none : (score : ℕ → ℕ) (passes : ℕ → Bool) (s w : ℕ) (best : Option ℕ) → best ≡ first_most score passes s
-    → ((x : ℕ) → x < w → passes (s + x) ≡ true → score (s + x) < least_after score best) → best ≡ first_most score passes (s + w)
-row-none score passes s zero best e none = rw (add-zero s) e
-row-none score passes s (suc w) best e none =
-    let next : s + w + 1 ≡ s + suc w = omega arith in
-    rw next at (cell-none score passes (s + w) best (row-none score passes s w best e (λ x l. none x (omega arith))) (none w (omega arith)))
-
--- nor does what has to count for a later place grow beyond what none of the row counts for
-row-low : (score : ℕ → ℕ) (passes : ℕ → Bool) (s w most : ℕ) (best : Option ℕ) → best ≡ first_most score passes s
-    → least_after score best ≤ most → ((x : ℕ) → x < w → passes (s + x) ≡ true → score (s + x) < most)
-    → least_after score (first_most score passes (s + w)) ≤ most
-row-low score passes s zero most best e low few = rw (add-zero s, ← e) low
-row-low score passes s (suc w) most best e low few =
-    let next : s + w + 1 ≡ s + suc w = omega arith in
-    let now = first_most score passes (s + w) in
-    let before = row-low score passes s w most best e low (λ x l. few x (omega arith)) in
-    rw (← next)
-    (elim (cases_lt (score (s + w)) (least_after score now)) [
-      | inl less ↦ rw (← cell-none score passes (s + w) now refl (λ o. less)) before
-      | inr enough ↦ elim (cases_Bool (passes (s + w))) [
-        | inl o ↦ rw (← cell-some score passes (s + w) now refl o enough) (let less = few w (omega arith) o in omega (arith, less))
-        | inr other ↦ rw (← cell-none score passes (s + w) now refl (λ o. absurd (true≢false (sym o ∙ other)))) before
-      ]
-    ])
-
--- if enough counts for a place of a row, the first of those for which the most counts is the best
-pub row-some : (score : ℕ → ℕ) (passes : ℕ → Bool) (s w x : ℕ) (best : Option ℕ) → best ≡ first_most score passes s → x < w →
-    passes (s + x) ≡ true → least_after score best ≤ score (s + x) →
-    ((z : ℕ) → z < w → passes (s + z) ≡ true → score (s + z) ≤ score (s + x)) →
-    ((z : ℕ) → z < x → passes (s + z) ≡ true → score (s + z) < score (s + x)) → Some (s + x) ≡ first_most score passes (s + w)
-row-some score passes s w x best e lx here least most earliest =
-    let all : s + x + 1 + (w - (x + 1)) ≡ s + w = omega (arith, lx) in
-    rw all at (row-none score passes (s + x + 1) (w - (x + 1)) (Some (s + x))
-    (cell-some score passes (s + x) (first_most score passes (s + x)) refl here
-    (row-low score passes s x (score (s + x)) best e least earliest))
-    (λ z l p. (let at : s + x + 1 + z ≡ s + (x + 1 + z) = omega arith in
-    let less = most (x + 1 + z) (omega (arith, l, lx)) (rw at at p) in rw at (omega (arith, less)))))
+  -- if enough counts for a place of a row, the first of those for which the most counts is the best
+  row-some : (s w x : ℕ) (best : Option ℕ) → best ≡ first_most score passes s → x < w → passes (s + x) ≡ true →
+      least_after score best ≤ score (s + x) → ((z : ℕ) → z < w → passes (s + z) ≡ true → score (s + z) ≤ score (s + x)) →
+      ((z : ℕ) → z < x → passes (s + z) ≡ true → score (s + z) < score (s + x)) → Some (s + x) ≡ first_most score passes (s + w)
+  row-some s w x best e lx here least most earliest =
+      let all : s + x + 1 + (w - (x + 1)) ≡ s + w = omega (arith, lx) in
+      rw all at (row-none (s + x + 1) (w - (x + 1)) (Some (s + x))
+      (cell-some (s + x) (first_most score passes (s + x)) refl here (row-low s x (score (s + x)) best e least earliest))
+      (λ z l p. (let at : s + x + 1 + z ≡ s + (x + 1 + z) = omega arith in
+      let less = most (x + 1 + z) (omega (arith, l, lx)) (rw at at p) in rw at (omega (arith, less)))))
 
 -- the best place after one more row
 abbrev pub best_after : ℕ → Option ℕ → Option (ℕ × ℕ) → Option ℕ
@@ -161,15 +157,15 @@ least_then least None = least
 least_then least (Some found) = found.0 + 1
 
 -- one more row looked at
-pub row-step : (rows columns : List (List Cell)) (y width : ℕ) (cells row : List Cell) (above below : ℕ → Bool) (best : Option ℕ) (least :
-    ℕ) (found : Option (ℕ × ℕ)) → AreLinesOf (cells_of_rows rows) rows columns → y < length rows → width ≡ length columns →
+pub row-step : (rows columns : List (List Cell)) (y width : ℕ) (cells row : List Cell) (above below : ℕ → Bool) (best : Option ℕ)
+    (least : ℕ) (found : Option (ℕ × ℕ)) → AreLinesOf (cells_of_rows rows) rows columns → y < length rows → width ≡ length columns →
     cells_of_rows rows ≡ cells → row ≡ get_or rows y [] →
     ((x : ℕ) → x < length columns → above x ≡ is_sure (nat_eq y 0) (get_or (get_or rows (y - 1) []) x Unknown)) →
     ((x : ℕ) → x < length columns → below x ≡ is_sure (nat_eq (y + 1) (length rows)) (get_or (get_or rows (y + 1) []) x Unknown)) →
     best ≡ first_most (sure_neighbours width cells) (λ k. is_unknown (get_or cells k Unknown)) (y * width) →
     least ≡ least_after (sure_neighbours width cells) best → IsMostInRow row above below least found →
-    (best_after (y * width) best found ≡ first_most (sure_neighbours width cells) (λ k. is_unknown (get_or cells k Unknown)) ((y + 1) *
-    width)) × (least_then least found ≡ least_after (sure_neighbours width cells) (best_after (y * width) best found))
+    (best_after (y * width) best found ≡ first_most (sure_neighbours width cells) (λ k. is_unknown (get_or cells k Unknown)) ((y + 1) * width))
+    × (least_then least found ≡ least_after (sure_neighbours width cells) (best_after (y * width) best found))
 row-step rows columns y width cells row above below best least found a ly wide seen is up down first l m =
     rw (wide, ← seen) (by found (rw is at m))
   where

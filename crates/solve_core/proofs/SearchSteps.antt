@@ -58,8 +58,8 @@ open-unknown pick lawful lines cells None h = tt
 open-unknown pick lawful lines cells (Some place) h = next-unknown pick lawful lines cells place h
 
 -- if a cell is to be guessed, there are no more branches than settled cells
-pub open-older : (pick : List Cell → Option ℕ) (lines : List GridLine) (cells : List Cell) (trail : List ℕ) (branches : List Branch) (next :
-    Option ℕ) → IsWork pick lines cells trail branches → AreOlder trail branches next → next ≢ None → length branches ≤ length trail
+pub open-older : (pick : List Cell → Option ℕ) (lines : List GridLine) (cells : List Cell) (trail : List ℕ) (branches : List Branch)
+    (next : Option ℕ) → IsWork pick lines cells trail branches → AreOlder trail branches next → next ≢ None → length branches ≤ length trail
 open-older pick lines cells trail branches None w o n = absurd (n refl)
 open-older pick lines cells trail branches (Some place) w o n = branch-count (length trail) branches w.order o
 

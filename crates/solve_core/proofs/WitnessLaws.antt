@@ -125,48 +125,11 @@ noted_known w k number Unknown n e = absurd (n (sym e))
 noted_known w k number Filled n e = refl
 noted_known w k number Blank n e = refl
 
--- A witness stays one if what was learned shares no line with it.
-apart_stays : (p : Nonogram) (w : WitnessLists) (g new : List Cell) (number : ℕ) (learned : Crossed) → IsNonogram p →
-    length g ≡ p.width * p.height → round (lines_of p) new ≡ Some new → Extends g new → DifferWithin p.width g new learned →
-    ShareNoLine ((witness_at w.witnesses number).lines) learned → number ≢ 0 → IsWitness p w g number → IsWitness p w new number
-apart_stays p w g new number learned is size closed h theirs apart some was =
-    let t = was.trial in
-    let lines = (witness_at w.witnesses number).lines in
-    record {
-      trial = overlaid new t;
-      closed = overlaid_closed g new t h was.extends p lines learned was.within theirs apart is size closed was.closed;
-      extends = overlaid-extends new t;
-      within = record {
-        rows = λ k e. sym (as_new g new t h was.extends k (was.within.rows k e));
-        columns = λ k e. sym (as_new g new t h was.extends k (was.within.columns k e));
-      };
-      met = λ k c e. met_stays g new t h was.extends p lines learned was.within theirs apart k c
-          (noted_known w k number c some e) (was.met k c e);
-    }
-
 squeezed : (a b c : List Cell) (k : ℕ) → Extends a b → Extends b c → get_or a k Unknown ≡ get_or c k Unknown →
     get_or b k Unknown ≡ get_or c k Unknown
 squeezed a b c k h l same =
     let e : get_or b k Unknown ∷ [] ≡ get_or c k Unknown ∷ [] =
     Extends-antisym _ _ (Extends-at b c k l, tt) (rw same at (Extends-at a b k h), tt) in cc
-
--- A witness stays one if it has the colour of the settled cell: it knows all that was learned from that.
-holding_stays : (p : Nonogram) (w : WitnessLists) (g new : List Cell) (number place : ℕ) (c : Cell) →
-    closure (lines_of p) (set g place c) ≡ Some new → Extends g new
-    → get_or (met_by w c) place 0 ≡ number → IsWitness p w g number → IsWitness p w new number
-holding_stays p w g new number place c e h noted was =
-    let more : Extends new was.trial = rw e at ((closure-IsLeastClosed (lines_of p) (set g place c)).least was.trial was.closed
-    (set_within g was.trial place c was.extends (rw (was.met place c noted) ((Extends-refl (c ∷ [])).0)))) in
-    record {
-      trial = was.trial;
-      closed = was.closed;
-      extends = more;
-      within = record {
-        rows = λ k n. squeezed g new was.trial k h more (was.within.rows k n);
-        columns = λ k n. squeezed g new was.trial k h more (was.within.columns k n);
-      };
-      met = was.met;
-    }
 
 -- ---- what was learned, by the places that lead back
 
@@ -242,18 +205,43 @@ kept_witnesses p w after g new learned holder place c is n size e h differ are h
     with_colours p (record w { witnesses = after }) new (kept_numbered w after learned holder n same kept)
     (sym (length-Extends g new h) ∙ places_for p w g are) each
   where
+    -- A witness stays one if it has the colour of the settled cell, since it knows all that was learned from that,
+    -- and if what was learned shares no line with it.
     each : (number : ℕ) → (witness_at after number).counts ≡ true → IsWitness p (record w { witnesses = after }) new number
     each number counts =
         let own = kept number (omega (arith, same, inside after number counts)) in
         let before = own.counts counts in
         let was = are.each number before.0 in
-        let stays : IsWitness p w new number = elim before.1 [
-          | inl holds ↦ holding_stays p w g new number place c e h (sym (holds ∙ held)) was
-          | inr apart ↦ apart_stays p w g new number learned is size
-              ((closure-IsLeastClosed (lines_of p) (set g place c)).closed new e) h differ apart
-              (λ z. true≢false (sym before.0 ∙ rw z n.none)) was
-        ] in
-        record { trial = stays.trial; closed = stays.closed; extends = stays.extends; within = rw own.lines stays.within; met = stays.met }
+        let t = was.trial in
+        let least = closure-IsLeastClosed (lines_of p) (set g place c) in
+        let some = λ (z : number ≡ 0). true≢false (sym before.0 ∙ rw z n.none) in
+        elim before.1 [
+          | inl holds ↦
+              (let more : Extends new t = rw e at (least.least t was.closed (set_within g t place c was.extends
+              (rw (was.met place c (sym (holds ∙ held))) ((Extends-refl (c ∷ [])).0)))) in
+              record {
+                trial = t;
+                closed = was.closed;
+                extends = more;
+                within = rw own.lines (record {
+                  rows = λ k l. squeezed g new t k h more (was.within.rows k l);
+                  columns = λ k l. squeezed g new t k h more (was.within.columns k l);
+                });
+                met = was.met;
+              })
+          | inr apart ↦ record {
+            trial = overlaid new t;
+            closed = overlaid_closed g new t h was.extends p (witness_at w.witnesses number).lines learned was.within differ apart is size
+                (least.closed new e) was.closed;
+            extends = overlaid-extends new t;
+            within = rw own.lines (record {
+              rows = λ k l. sym (as_new g new t h was.extends k (was.within.rows k l));
+              columns = λ k l. sym (as_new g new t h was.extends k (was.within.columns k l));
+            });
+            met = λ k d l. met_stays g new t h was.extends p (witness_at w.witnesses number).lines learned was.within differ apart k d
+                (noted_known w k number d some l) (was.met k d l);
+          }
+        ]
 
 -- with one witness more the numbers are those of witnesses
 pub added_numbered : (w : WitnessLists) (last : Witness) → AreNumbered w →

@@ -6,31 +6,6 @@ use Rattle.place_sets.specs.Masks.{Has}
 use Rattle.place_sets.proofs.Doubling.{width_most}
 use Rattle.solve_core.proofs.learning.settle_each.Goals as goal
 
-pub loop-from-init : goal.loop-from-init
-loop-from-init g c = record {
-  words = (0, refl);
-  as_old = λ k far. refl;
-  as_new = λ k has l. absurd (omega (arith, l));
-  most = omega arith;
-}
-
-pub settle_word-requires : goal.settle_word-requires
-settle_word-requires g c =
-    let most = width_most g.W.PlaceSet.WIDTH g.W.PlaceSet.TOP g.met.W.PlaceSet.top_is.1 g.met.W.PlaceSet.width_is in
-    let before = c.loop-from.invariant in
-    record {
-      from = omega (arith, c.loop-from-test.true, c.WIDTH.ensures);
-      cells = λ k is.
-          let can = c.requires.cells k is.0 in
-          let same = before.as_old k (λ p. is.1) in
-          record {
-            line = omega (arith, can.line, c.loop-from.auto.lines);
-            within = rw same can.within;
-            unknown = rw same can.unknown;
-          };
-      colour = c.requires.colour;
-    }
-
 pub loop-from-smaller : goal.loop-from-smaller
 loop-from-smaller g c =
     let most = width_most g.W.PlaceSet.WIDTH g.W.PlaceSet.TOP g.met.W.PlaceSet.top_is.1 g.met.W.PlaceSet.width_is in
@@ -53,16 +28,4 @@ loop-from-preserved g c =
             ap (λ (line : List Cell). set line c.args.i c.args.colour) (before.as_old k (λ p. now))
       ];
       most = omega (arith, before.words.1, below);
-    }
-
-pub returns : goal.returns
-returns g c =
-    let end = c.loop-from.invariant in
-    let from = c.loop-from.from in
-    let places = g.W.PlaceSet.number c.args.places in
-    let early : (k : ℕ) → Has places k → k < from = λ k has. omega (arith, c.requires.within k has, c.WIDTH.ensures, c.loop-from-test.false) in
-    record {
-      changed = λ k has. end.as_new k has (early k has);
-      others = λ k no. end.as_old k (λ has. absurd (no has));
-      len = c.loop-from.auto.lines;
     }

@@ -10,15 +10,6 @@ use Rattle.solve_core.proofs.WordLemmas.{in_word, of_word, stays}
 use Rattle.solve_core.proofs.GridLineSteps.{line_read}
 use Rattle.solve_core.proofs.learning.settle_word.Goals as goal
 
-pub loop-colour-init : goal.loop-colour-init
-loop-colour-init g c =
-    let places = g.W.PlaceSet.number c.args.places in
-    record {
-      inside = λ x h. h;
-      as_old = λ k no. refl;
-      as_new = λ x h n. absurd {A = get_or c.args.lines.now (c.args.from + x) [] ≡ set (get_or c.args.lines.now (c.args.from + x) []) c.args.i c.args.colour} (n h);
-    }
-
 pub overflow_add-from : goal.overflow_add-from
 overflow_add-from g c =
     let most = width_most g.W.PlaceSet.WIDTH g.W.PlaceSet.TOP g.met.W.PlaceSet.top_is.1 g.met.W.PlaceSet.width_is in
@@ -80,17 +71,8 @@ loop-colour-preserved g c =
       ];
     }
 
-pub returns : goal.returns
-returns g c =
-    let places = g.W.PlaceSet.number c.args.places in
-    let from = c.args.from in
-    let word = c.word_from-left.result in
+pub returns-clause-changed : goal.returns-clause-changed
+returns-clause-changed g c = λ k is.
     let none = none_in c.loop-colour.left (eqb-true c.loop-colour.left 0 (sym c.is_empty.ensures ∙ c.loop-colour-test.false)) in
-    let end = c.loop-colour.invariant in
-    record {
-      changed = λ k is. subst
-          (λ (j : ℕ). get_or c.loop-colour.lines j [] ≡ set (get_or c.args.lines.now j []) c.args.i c.args.colour) (omega (arith, is.1))
-          (end.as_new (k - from) (in_word places from word k c.word_from-left.ensures is) (none (k - from)));
-      others = λ k no. end.as_old k (λ x h gone e. no (subst (IsIn places from) e (of_word places from word x c.word_from-left.ensures h)));
-      len = c.loop-colour.auto.lines;
-    }
+    subst (λ (j : ℕ). get_or c.loop-colour.lines j [] ≡ set (get_or c.args.lines.now j []) c.args.i c.args.colour) (omega (arith, is.1))
+    (c.loop-colour.invariant.as_new (k - c.args.from) (in_word _ c.args.from _ k c.word_from-left.ensures is) (none (k - c.args.from)))

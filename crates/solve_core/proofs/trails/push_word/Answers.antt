@@ -20,18 +20,6 @@ loop-k-init g c = record {
   capacity = refl;
 }
 
-pub overflow_add-from : goal.overflow_add-from
-overflow_add-from g c =
-    let most = width_most g.W.PlaceSet.WIDTH g.W.PlaceSet.TOP g.met.W.PlaceSet.top_is.1 g.met.W.PlaceSet.width_is in
-    omega (arith, most, c.requires.from, c.first_place-k.ensures.within)
-
-pub overflow_mul-from : goal.overflow_mul-from
-overflow_mul-from g c =
-    let x = c.first_place-k.result in
-    let is = of_word (g.W.PlaceSet.number c.args.changes) c.args.from c.word_from-left.result x c.word_from-left.ensures
-    (c.loop-k.invariant.inside x c.first_place-k.ensures.in_mask) in
-    rw c.from.ensures (omega (arith, c.requires.places (c.args.from + x) is.0))
-
 pub loop-k-preserved : goal.loop-k-preserved
 loop-k-preserved g c =
     let before = c.loop-k.invariant in
@@ -65,17 +53,9 @@ loop-k-preserved g c =
       capacity = c.push_reserved.ensures.capacity ∙ before.capacity;
     }
 
-pub returns : goal.returns
-returns g c =
-    let from = c.args.from in
+pub returns-clause-trail : goal.returns-clause-trail
+returns-clause-trail g c = λ b n new is start.
     let none = none_in c.loop-k.left (eqb-true c.loop-k.left 0 (sym c.is_empty.ensures ∙ c.loop-k-test.false)) in
-    let end = c.loop-k.invariant in
-    record {
-      trail = λ b n new is start.
-          leads-same b c.args.first c.args.step n new c.loop-k.trail.items _ _
-          (λ k h. (h.0, elim (cases_lt k (from + 64)) [ inl l ↦ absurd (none (k - from) (h.2 l)) | inr far ↦ far ]))
-          (λ k h. (h.0, omega (arith, h.1), λ l. absurd (omega (arith, l, h.1))))
-          (end.trail b n new is start);
-      more = end.most;
-      capacity = end.capacity;
-    }
+    leads-same b c.args.first c.args.step n new c.loop-k.trail.items _ _
+    (λ k h. (h.0, elim (cases_lt k (c.args.from + 64)) [ inl l ↦ absurd (none (k - c.args.from) (h.2 l)) | inr far ↦ far ]))
+    (λ k h. (h.0, omega (arith, h.1), λ l. absurd (omega (arith, l, h.1)))) (c.loop-k.invariant.trail b n new is start)
