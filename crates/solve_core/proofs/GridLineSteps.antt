@@ -109,22 +109,6 @@ pub record IsWrittenTo (old : List (List Cell)) (new : ℕ → List Cell) (n : �
   pub written : (k : ℕ) → k < n → get_or lines k [] ≡ new k
   pub left : (k : ℕ) → n ≤ k → get_or lines k [] ≡ get_or old k []
 
-pub none-written : (old : List (List Cell)) (new : ℕ → List Cell) → IsWrittenTo old new 0 old
-none-written old new = record { written = λ k h. absurd {A = get_or old k [] ≡ new k} (omega arith); left = λ k h. refl }
-
-pub one-written : (old : List (List Cell)) (new : ℕ → List Cell) (n : ℕ) (lines : List (List Cell)) (line : List Cell) → n < length lines →
-    line ≡ new n → IsWrittenTo old new n lines → IsWrittenTo old new (n + 1) (set lines n line)
-one-written old new n lines line l e is = record {
-  written = below_more (λ (k : ℕ). get_or (set lines n line) k [] ≡ new k) n
-      (λ k h. let apart : k ≢ n = omega arith in get_or-set_other lines n k line [] apart ∙ is.written k h)
-      (get_or-set_same lines n line [] l ∙ e);
-  left = λ k h. let apart : k ≢ n = omega arith in get_or-set_other lines n k line [] apart ∙ is.left k (omega arith);
-}
-
-pub line-left : (old : List (List Cell)) (new : ℕ → List Cell) (n : ℕ) (lines : List (List Cell)) (line : List Cell) → n < length lines →
-    IsWrittenTo old new n lines → get_or lines n line ≡ get_or old n []
-line-left old new n lines line l is = line_read lines n line l ∙ is.left n (omega arith)
-
 -- the columns have the cells of the rows above row y
 pub record HaveAcross (columns rows : List (List Cell)) (y : ℕ) : Type 0 where
   pub cells : (x k : ℕ) → x < length columns → k < y → get_or (get_or columns x []) k Unknown ≡ get_or (get_or rows k []) x Unknown

@@ -14,22 +14,6 @@ loop-from-init g c = record {
   capacity = refl;
 }
 
-pub push_word-requires : goal.push_word-requires
-push_word-requires g c =
-    let most = width_most g.W.PlaceSet.WIDTH g.W.PlaceSet.TOP g.met.W.PlaceSet.top_is.1 g.met.W.PlaceSet.width_is in
-    let before = c.loop-from.invariant in
-    let below : c.loop-from.from < 256 = omega (arith, c.loop-from-test.true, c.WIDTH.ensures, most) in
-    record {
-      from = omega (arith, c.loop-from-test.true, c.WIDTH.ensures);
-      places = c.requires.places;
-      room = omega (arith, c.requires.room, before.most, before.capacity, before.words, below);
-    }
-
-pub loop-from-smaller : goal.loop-from-smaller
-loop-from-smaller g c =
-    let most = width_most g.W.PlaceSet.WIDTH g.W.PlaceSet.TOP g.met.W.PlaceSet.top_is.1 g.met.W.PlaceSet.width_is in
-    omega (arith, c.loop-from-test.true, c.WIDTH.ensures, most)
-
 pub loop-from-preserved : goal.loop-from-preserved
 loop-from-preserved g c =
     let most = width_most g.W.PlaceSet.WIDTH g.W.PlaceSet.TOP g.met.W.PlaceSet.top_is.1 g.met.W.PlaceSet.width_is in
@@ -42,12 +26,7 @@ loop-from-preserved g c =
       capacity = c.push_word.ensures.capacity ∙ before.capacity;
     }
 
-pub returns : goal.returns
-returns g c =
-    let end = c.loop-from.invariant in
-    record {
-      trail = λ new b n is e.
-          leads-end b c.args.first c.args.step n (g.W.PlaceSet.number c.args.changes) new is c.loop-from.trail.items _
-          (λ k h. omega (arith, h.1, c.requires.within k h.0, c.WIDTH.ensures, c.loop-from-test.false)) (end.trail b n new is e);
-      capacity = end.capacity;
-    }
+pub returns-clause-trail : goal.returns-clause-trail
+returns-clause-trail g c = λ new b n is e.
+    leads-end b c.args.first c.args.step n (g.W.PlaceSet.number c.args.changes) new is c.loop-from.trail.items _
+    (λ k h. omega (arith, h.1, c.requires.within k h.0, c.WIDTH.ensures, c.loop-from-test.false)) (c.loop-from.invariant.trail b n new is e)
