@@ -1,20 +1,9 @@
 -- A line that is written cell by cell, at the places where it changes.
-use Rattle.std.proofs.Common.{◌≡◌, ◌≢◌, ℕ, zero, suc, ◌<◌, ◌⊎◌, inl, inr, List, [], ◌∷◌, length, get_or, set, sym, ◌∙◌, ap, arith, length-set, get_or-set_same, get_or-set_other, ext_get_or}
+use Rattle.std.proofs.Common.{◌≡◌, ◌≢◌, ℕ, zero, suc, ◌<◌, ◌⊎◌, inl, inr, List, [], ◌∷◌, length, get_or, ap, arith}
 use Rattle.std.specs.Int.{bit_at}
 use Rattle.std.proofs.lemmas.Nat.Bits.{bit_at-zero}
 use Rattle.std.proofs.lemmas.Bool.{cases_eq}
-use Rattle.std.proofs.lemmas.List.Elements.{All-from_recursion}
-use Rattle.grid_core.specs.declared.cells.Cell.{Cell}
-use Rattle.grid_core.specs.declared.cells.Cell.TheVariants.{Unknown}
-use Rattle.grid_core.specs.Nonogram.{cells_at}
-use Rattle.grid_core.proofs.LineLaws.{length-cells_at, get_or-cells_at}
-use Rattle.place_sets.specs.Masks.{Has, IsMaskOf}
-use Rattle.grid_core.specs.Lines.{IsChanged}
-use Rattle.grid_core.proofs.Changing.{same_cells}
-use Rattle.solve_core.specs.Closure.{with_cells}
-use Rattle.solve_core.specs.steps.Learning.{IsPartly}
-use Rattle.solve_core.proofs.ClosureLaws.{length-with_cells}
-use Rattle.solve_core.proofs.LineSteps.{AreDistinct, AreBelow, distinct_same, get_or-with_cells, cells_at-with_cells}
+use Rattle.place_sets.specs.Masks.{Has}
 
 -- no place is in a mask that is 0
 pub none_in : (m : ℕ) → m ≡ 0 → (k : ℕ) → Has m k → ⊥

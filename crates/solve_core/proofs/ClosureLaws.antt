@@ -13,7 +13,7 @@ use Rattle.solve_core.specs.Closure.{with_cells, deduce_line, round, repeat, clo
 use Rattle.solve_core.proofs.Order.{AtMost, AtMost-trans, Extends-refl, Extends-trans, Extends-antisym, HasLength, join_all-above, join_all-least}
 pub use Rattle.solve_core.specs.LeastClosed.{IsLeastClosed}
 use Rattle.solve_core.proofs.Closing.{IsDeduction, repeat-above, repeat-below, repeat-least, repeat-closed, unknown_count-le}
-use Rattle.line_core.proofs.DeductionLaws.{Extends-at, deduced-below, deduced-monotone, deduced-full, get_or-map_colour}
+use Rattle.line_core.proofs.DeductionLaws.{deduced-below, deduced-monotone, deduced-full, get_or-map_colour}
 
 -- if a grid knows no less, its cell does neither, whatever stands for one outside
 at_more : (g z : List Cell) (k : ℕ) (d : Cell) → Extends g z → CellExtends (get_or g k Unknown) (get_or z k d)

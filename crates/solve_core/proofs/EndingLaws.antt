@@ -1,5 +1,5 @@
 -- How a search ends, told by the event that comes next.
-use Rattle.std.proofs.Common.{◌≡◌, ℕ, suc, ◌+◌, ◌-◌, add-one, ◌<◌, List, [], ◌∷◌, ◌++◌, length, refl, sym, ap, ◌∙◌, arith}
+use Rattle.std.proofs.Common.{◌≡◌, ℕ, suc, ◌+◌, ◌-◌, add-one, ◌<◌, List, [], ◌∷◌, length, refl, sym, ap, ◌∙◌, arith}
 use Rattle.grid_core.specs.PartialGrid.{PartialGrid}
 use Rattle.grid_core.specs.Nonogram.{Nonogram}
 use Rattle.solve_core.specs.Search.{Event, Guess}

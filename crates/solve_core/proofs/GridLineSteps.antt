@@ -1,5 +1,5 @@
 -- A grid as its rows and its columns: its cells, and what changing one of them does.
-use Rattle.std.proofs.Common.{◌≡◌, ◌≢◌, ℕ, ◌+◌, ◌-◌, ◌*◌, ◌/◌, ◌%◌, ◌<◌, ◌≤◌, inl, inr, false, Some, None, List, [], ◌∷◌, ◌++◌, length, take, drop, get_or, set, refl, sym, ap, subst, ◌∙◌, arith, below_more, length-set, get_or-set_same, get_or-set_other, replicate}
+use Rattle.std.proofs.Common.{◌≡◌, ◌≢◌, ℕ, ◌+◌, ◌-◌, ◌*◌, ◌/◌, ◌%◌, ◌<◌, ◌≤◌, inl, inr, false, Some, None, List, [], ◌∷◌, ◌++◌, length, take, drop, get_or, set, refl, sym, ap, ◌∙◌, arith, below_more, length-set, get_or-set_same, get_or-set_other, replicate}
 use Rattle.std.proofs.lemmas.List.{ext_get_or, get_or_default, get_or-replicate, length-replicate}
 use Rattle.std.proofs.lemmas.Nat.{div_below}
 use Rattle.grid_core.specs.declared.cells.Cell.{Cell}
@@ -18,7 +18,7 @@ use Rattle.grid_core.proofs.RowLemmas.{length-replaced, replaced-here, replaced-
 use Rattle.grid_core.proofs.RowLists.{get_or-row_of, get_or-rows, length-row_of, length-rows}
 use Rattle.std.proofs.Math.Nat.{mul-le-mul_left}
 use Rattle.std.proofs.lemmas.Bool.{cases_eq, cases_lt}
-use Rattle.solve_core.proofs.SideLines.{along, distinct_places, same_place, row_within, column_within}
+use Rattle.solve_core.proofs.SideLines.{along, distinct_places, same_place, row_within}
 use Rattle.solve_core.proofs.LineSteps.{AreDistinct, cells_at-same, distinct_same, get_or-replicated}
 
 length-along : (cells : List Cell) (first step n : ℕ) → length (cells_at Unknown cells (places_from first step n)) ≡ n
@@ -108,6 +108,15 @@ line_read lines i line h = get_or_default lines i line [] h
 pub record IsWrittenTo (old : List (List Cell)) (new : ℕ → List Cell) (n : ℕ) (lines : List (List Cell)) : Type 0 where
   pub written : (k : ℕ) → k < n → get_or lines k [] ≡ new k
   pub left : (k : ℕ) → n ≤ k → get_or lines k [] ≡ get_or old k []
+
+pub one-written : (old : List (List Cell)) (new : ℕ → List Cell) (n : ℕ) (lines : List (List Cell)) (line : List Cell) → n < length lines →
+    line ≡ new n → IsWrittenTo old new n lines → IsWrittenTo old new (n + 1) (set lines n line)
+one-written old new n lines line l e is = record {
+  written = below_more (λ (k : ℕ). get_or (set lines n line) k [] ≡ new k) n
+      (λ k h. let apart : k ≢ n = omega arith in get_or-set_other lines n k line [] apart ∙ is.written k h)
+      (get_or-set_same lines n line [] l ∙ e);
+  left = λ k h. let apart : k ≢ n = omega arith in get_or-set_other lines n k line [] apart ∙ is.left k (omega arith);
+}
 
 -- the columns have the cells of the rows above row y
 pub record HaveAcross (columns rows : List (List Cell)) (y : ℕ) : Type 0 where

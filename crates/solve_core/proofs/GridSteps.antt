@@ -1,5 +1,5 @@
 -- What deducing a line, or settling a cell, does to the marks of the lines and to the grid's closure.
-use Rattle.std.proofs.Common.{◌≡◌, ◌≢◌, ℕ, ◌+◌, ◌*◌, ◌/◌, ◌%◌, ◌<◌, ◌≤◌, inl, inr, true, false, List, length, get_or, set, Option, Some, refl, sym, ap, ◌∙◌, arith, subst, length-set, true≢false}
+use Rattle.std.proofs.Common.{◌≡◌, ◌≢◌, ℕ, ◌+◌, ◌*◌, ◌/◌, ◌%◌, ◌<◌, ◌≤◌, inl, inr, true, false, List, length, get_or, set, Option, Some, refl, sym, ap, ◌∙◌, arith, length-set, true≢false}
 use Rattle.std.proofs.lemmas.Bool.{cases_eq}
 use Rattle.std.proofs.lemmas.Nat.{div_below}
 use Rattle.grid_core.specs.declared.cells.Cell.{Cell}
@@ -13,7 +13,7 @@ use Rattle.solve_core.specs.steps.LineMarks.{LineMarks, marks_on, IsMarkedOn, Ar
 use Rattle.place_sets.specs.Masks.{Has, IsMarked, IsMaskOf}
 use Rattle.grid_core.specs.declared.sides.Side.{Side}
 use Rattle.grid_core.specs.declared.sides.Side.TheVariants.{Rows, Columns}
-use Rattle.solve_core.specs.steps.Marks.{IsDeduced, IsWritten, IsLearned, MarksChanges, HasMarks, MarksAfter, Progresses, IsAtRest}
+use Rattle.solve_core.specs.steps.Marks.{IsDeduced, IsLearned, MarksChanges, HasMarks, MarksAfter, Progresses, IsAtRest}
 use Rattle.solve_core.specs.steps.Closers.{Closing, IsIdle}
 use Rattle.solve_core.specs.steps.Trails.{unknown_count}
 use Rattle.solve_core.proofs.Order.{Extends-refl, length-Extends}

@@ -1,5 +1,5 @@
 -- What a search finds: every solution that extends the grid, nothing else, and none twice.
-use Rattle.std.proofs.Common.{◌≡◌, ℕ, zero, suc, ◌+◌, ◌<◌, ◌≤◌, ◌⊎◌, inl, inr, Bool, true, false, cond, List, [], ◌∷◌, ◌++◌, length, get_or, set, map, Option, Some, None, position, refl, sym, ap, ◌∙◌, arith, subst, length-set, true≢false, add-one, take}
+use Rattle.std.proofs.Common.{◌≡◌, ℕ, zero, suc, ◌+◌, ◌<◌, ◌≤◌, ◌⊎◌, inl, inr, Bool, true, false, List, [], ◌∷◌, ◌++◌, length, get_or, set, map, Option, Some, None, refl, sym, ap, ◌∙◌, arith, length-set, true≢false, add-one, take}
 use Rattle.std.specs.List.{position_or_len}
 use Rattle.std.proofs.lemmas.Bool.{cases_lt, lt-ltb}
 use Rattle.std.proofs.lemmas.List.Sums.{fails_before_first}
@@ -9,7 +9,7 @@ use Rattle.grid_core.specs.declared.cells.Cell.{Cell}
 use Rattle.grid_core.specs.declared.cells.Cell.TheVariants.{Unknown, Filled, Blank}
 use Rattle.grid_core.specs.Cells.{CellExtends, Extends, colour, is_unknown, is_filled}
 use Rattle.grid_core.specs.Nonogram.{GridLine}
-use Rattle.solve_core.specs.Closure.{round, closure}
+use Rattle.solve_core.specs.Closure.{closure}
 use Rattle.solve_core.specs.Search.{Event, Guess, Solution, IsPick, first_unknown, guess_at, search_from, events_within, events}
 use Rattle.solve_core.specs.Report.{solutions_in, through_solution}
 use Rattle.solve_core.proofs.Order.{AtMost, Extends-refl, Extends-trans, length-Extends, Extends-antisym, set_extends, set_within}
@@ -95,9 +95,8 @@ AreDistinct-append (x ∷ xs) ys h k apart = (
 )
 
 two_colours : (c : Cell) → CellExtends Filled c → CellExtends Blank c → ⊥
-two_colours Unknown h k = h
 two_colours Filled h k = k
-two_colours Blank h k = h
+two_colours _ h k = h
 
 not_both : (c s : List Cell) (k : ℕ) → k < length c → Extends (set c k Filled) s → Extends (set c k Blank) s → ⊥
 not_both [] s k l h e = absurd (omega arith)

@@ -1,12 +1,10 @@
 -- What happens below a guess, and at which cell the next one is made.
-use Rattle.std.proofs.Common.{◌≡◌, ◌≢◌, ℕ, zero, suc, ◌+◌, ◌<◌, ◌≤◌, inl, inr, List, [], ◌∷◌, ◌++◌, length, get_or, set, refl, sym, ap, ◌∙◌, arith, subst, Option, Some, None, IfSome, true, false, Bool, cond, position, true≢false, get_or-set_other}
+use Rattle.std.proofs.Common.{◌≡◌, ◌≢◌, ℕ, ◌+◌, ◌<◌, ◌≤◌, inl, inr, List, [], ◌++◌, length, get_or, set, refl, sym, ap, ◌∙◌, arith, subst, Option, Some, None, IfSome, true, false, get_or-set_other}
 use Rattle.std.proofs.lemmas.Bool.{cases_lt}
-use Rattle.std.specs.List.{position_from}
 use Rattle.std.proofs.lemmas.List.Quantifiers.{position-Some}
-use Rattle.std.proofs.lemmas.Iterator.Adapters.{position_from-zero}
 use Rattle.grid_core.specs.declared.cells.Cell.{Cell}
-use Rattle.grid_core.specs.declared.cells.Cell.TheVariants.{Unknown, Filled, Blank}
-use Rattle.grid_core.specs.Cells.{is_unknown, is_known, CellExtends, Extends}
+use Rattle.grid_core.specs.declared.cells.Cell.TheVariants.{Unknown, Filled}
+use Rattle.grid_core.specs.Cells.{is_unknown, is_known, Extends}
 use Rattle.grid_core.specs.Nonogram.{GridLine}
 use Rattle.solve_core.specs.declared.branches.Branch.{Branch}
 use Rattle.solve_core.specs.Closure.{round, closure}

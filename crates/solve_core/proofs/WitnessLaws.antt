@@ -1,23 +1,22 @@
 -- What an alive trial of a grid tells of a grid that has learned more.
-use Rattle.std.proofs.Common.{◌≡◌, ◌≢◌, ℕ, zero, suc, ◌+◌, ◌*◌, ◌/◌, ◌%◌, ◌<◌, ◌≤◌, ◌⊎◌, inl, inr, Bool, true, false, List, [], ◌∷◌, ◌++◌, length, take, replicate, get_or, set, Some, refl, sym, ap, ◌∙◌, arith, subst, true≢false, get_or-set_same, get_or-set_other, length-append, length-set}
+use Rattle.std.proofs.Common.{◌≡◌, ◌≢◌, ℕ, zero, suc, ◌*◌, ◌/◌, ◌%◌, ◌<◌, ◌≤◌, ◌⊎◌, inl, inr, Bool, true, false, List, [], ◌∷◌, ◌++◌, length, take, replicate, get_or, set, Some, refl, sym, ap, ◌∙◌, arith, true≢false, get_or-set_same, get_or-set_other, length-append, length-set}
 use Rattle.std.proofs.lemmas.Bool.{cases_Bool, cases_eq, cases_lt, false_from_ne_true}
 use Rattle.std.proofs.lemmas.Nat.{div-mul-add, mod-mul-add}
 use Rattle.std.proofs.Math.ListN.{get_or-map}
-use Rattle.std.proofs.lemmas.List.{get_or_append_left, get_or_past, get_or-take, get_or-replicate, length-take-le, length-replicate, length-map}
+use Rattle.std.proofs.lemmas.List.{get_or_append_left, get_or_past, get_or-take, length-take-le, length-map}
 use Rattle.std.proofs.Math.Seq.{get_or-append_seam}
 use Rattle.grid_core.specs.declared.cells.Cell.{Cell}
 use Rattle.grid_core.specs.declared.cells.Cell.TheVariants.{Unknown, Filled, Blank}
 use Rattle.grid_core.specs.Cells.{CellExtends, Extends, is_unknown}
-use Rattle.grid_core.specs.Nonogram.{Nonogram, IsNonogram, GridLine, lines_of, cells_at, line_on}
+use Rattle.grid_core.specs.Nonogram.{Nonogram, IsNonogram, lines_of, line_on}
 use Rattle.grid_core.specs.steps.Sides.{count_on}
-use Rattle.line_core.specs.Deduction.{deduced}
 use Rattle.line_core.proofs.DeductionLaws.{Extends-at}
 use Rattle.solve_core.specs.Closure.{round, closure}
 use Rattle.grid_core.specs.declared.sides.Side.{Side}
 use Rattle.grid_core.specs.declared.sides.Side.TheVariants.{Rows, Columns}
 use Rattle.solve_core.specs.steps.Marks.{IsDeduced, AreOpen}
 use Rattle.solve_core.specs.steps.Trails.{cleared}
-use Rattle.solve_core.specs.steps.Overlaid.{over, overlaid, AreAlike, AreApart}
+use Rattle.solve_core.specs.steps.Overlaid.{over, overlaid}
 use Rattle.solve_core.specs.declared.witnesses.Crossed.{Crossed}
 use Rattle.solve_core.specs.declared.witnesses.Witness.{Witness}
 use Rattle.solve_core.specs.steps.WitnessLists.{WitnessLists, no_witness, witness_at, met_by, open_marks}
@@ -26,16 +25,15 @@ use Rattle.solve_core.proofs.Order.{Extends-refl, Extends-antisym, length-Extend
 use Rattle.solve_core.proofs.ClosureLaws.{closure-IsLeastClosed}
 use Rattle.solve_core.proofs.SearchLaws.{same_known}
 use Rattle.solve_core.proofs.TrialSteps.{met_open}
-use Rattle.solve_core.proofs.SideLines.{along, line_is_one, unique_place}
-use Rattle.solve_core.proofs.GridSteps.{line_settled, settled-same, settled_closed, place_again, line-distinct, line-below}
-use Rattle.solve_core.proofs.LineSteps.{closed_settled, get_or-replicated}
+use Rattle.solve_core.proofs.SideLines.{along}
+use Rattle.solve_core.proofs.GridSteps.{line_settled, settled-same, settled_closed}
+use Rattle.solve_core.proofs.LineSteps.{get_or-replicated}
 
 -- ---- two grids as one
 
 over-extends : (c d : Cell) → CellExtends c (over c d)
 over-extends Unknown d = tt
-over-extends Filled d = tt
-over-extends Blank d = tt
+over-extends _ d = tt
 
 -- if the other cell knows no less, it is the one that stands
 over_more : (c d : Cell) → CellExtends c d → over c d ≡ d

@@ -1,8 +1,6 @@
 -- `take_guess`: a branch that is made, or gone back to, leaves what is still to happen as it was.
-use Rattle.std.proofs.Common.{◌≡◌, ◌<◌, ℕ, Option, IfSome, subst, ap, ◌∙◌, arith, length, drop, get_or}
-use Rattle.grid_core.specs.declared.cells.Cell.TheVariants.{Unknown}
+use Rattle.std.proofs.Common.{ap, ◌∙◌, arith, length, drop}
 use Rattle.solve_core.specs.steps.Trails.{TrailedGrid}
-use Rattle.solve_core.specs.steps.Branches.{pending, open_events, IsOpen, AreOlder}
 use Rattle.solve_core.proofs.BranchLaws.{fork-work, fork-events, back-work, back-events, back-ready}
 use Rattle.solve_core.proofs.TrailSteps.{length-cleared}
 use Rattle.solve_core.proofs.SearchSteps.{unknown_count-positive}

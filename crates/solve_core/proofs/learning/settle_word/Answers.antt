@@ -4,7 +4,6 @@ use Rattle.std.proofs.lemmas.Bool.{cases_eq, eqb-true}
 use Rattle.grid_core.specs.declared.cells.Cell.{Cell}
 use Rattle.place_sets.specs.Masks.{Has}
 use Rattle.place_sets.proofs.Doubling.{width_most}
-use Rattle.solve_core.specs.steps.Learning.{IsIn}
 use Rattle.solve_core.proofs.Changes.{none_in}
 use Rattle.solve_core.proofs.WordLemmas.{in_word, of_word, stays}
 use Rattle.solve_core.proofs.GridLineSteps.{line_read}

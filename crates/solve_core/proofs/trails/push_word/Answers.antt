@@ -1,8 +1,7 @@
 -- `push_word`: a change of the word is put on the trail once.
-use Rattle.std.proofs.Common.{◌≡◌, ◌≢◌, ◌∙◌, ◌+◌, ◌-◌, ◌*◌, ◌<◌, ◌≤◌, ◌++◌, ◌∷◌, ℕ, inl, inr, List, [], length, ap, arith, length-append, subst, sym, refl}
-use Rattle.std.proofs.lemmas.Bool.{cases_eq, cases_lt, eqb-true}
+use Rattle.std.proofs.Common.{◌∙◌, ◌+◌, ◌-◌, ◌*◌, ◌<◌, ◌++◌, ◌∷◌, inl, inr, [], length, ap, arith, length-append, subst, sym, refl}
+use Rattle.std.proofs.lemmas.Bool.{cases_lt, eqb-true}
 use Rattle.place_sets.specs.Masks.{Has}
-use Rattle.place_sets.proofs.Doubling.{width_most}
 use Rattle.solve_core.proofs.Changes.{none_in}
 use Rattle.solve_core.proofs.WordLemmas.{in_word, of_word, stays}
 use Rattle.solve_core.proofs.LearnedTrails.{leads-same, leads-step}

@@ -1,10 +1,7 @@
 -- `GridLines::read`: the lines that are read are those of the grid, so the cells of the rows are its cells.
-use Rattle.std.proofs.Common.{◌≡◌, ◌∙◌, List, length, ap, sym, refl}
+use Rattle.std.proofs.Common.{◌≡◌, ◌∙◌, length, ap, sym, refl}
 use Rattle.std.proofs.lemmas.List.{with_items_is}
-use Rattle.grid_core.specs.declared.cells.Cell.{Cell}
 use Rattle.grid_core.specs.PartialGrid.{PartialGrid}
-use Rattle.solve_core.specs.steps.GridLines.{AreLinesOf}
-use Rattle.grid_core.specs.Rows.{cells_of_rows}
 use Rattle.solve_core.proofs.GridLineSteps.{lines-cells}
 use Rattle.solve_core.proofs.grid_lines.GridLines.read.Goals as goal
 

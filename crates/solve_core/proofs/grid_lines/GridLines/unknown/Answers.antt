@@ -1,7 +1,6 @@
 -- `GridLines::unknown`: the rows and the columns of unknown cells are the lines of the unknown grid.
-use Rattle.std.proofs.Common.{◌≡◌, ◌∙◌, length, refl}
+use Rattle.std.proofs.Common.{refl}
 use Rattle.std.proofs.lemmas.List.{length-replicate}
-use Rattle.grid_core.specs.declared.cells.Cell.TheVariants.{Unknown}
 use Rattle.solve_core.proofs.GridLineSteps.{lines-unknown}
 use Rattle.solve_core.proofs.grid_lines.GridLines.unknown.Goals as goal
 

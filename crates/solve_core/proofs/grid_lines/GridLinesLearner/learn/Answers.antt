@@ -1,5 +1,5 @@
 -- `learn` of `GridLines`: written whole, and into each line that crosses it at a change, the line is in the lines of one grid.
-use Rattle.std.proofs.Common.{◌∙◌, ◌≡◌, ap, get_or, length, false, true, true≢false, List, refl, sym}
+use Rattle.std.proofs.Common.{◌∙◌, ◌≡◌, ap, false, true, true≢false, List, refl, sym}
 use Rattle.std.proofs.lemmas.List.{with_items_is}
 use Rattle.grid_core.specs.declared.cells.Cell.{Cell}
 use Rattle.grid_core.specs.declared.sides.Side.TheVariants.{Rows, Columns}

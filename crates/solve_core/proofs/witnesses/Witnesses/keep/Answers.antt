@@ -1,13 +1,8 @@
 -- `Witnesses::keep`: a witness that met `colour`, or is apart from what was learned, is one for the board.
-use Rattle.std.proofs.Common.{◌≡◌, ◌∙◌, List, length, drop, get_or, ap, sym, subst, arith}
-use Rattle.std.specs.Vec.{with_items}
+use Rattle.std.proofs.Common.{◌∙◌, length, drop, ap, arith}
 use Rattle.std.proofs.lemmas.List.{take_rest, with_items_is}
-use Rattle.grid_core.specs.Cells.{Extends}
 use Rattle.grid_core.specs.Nonogram.{lines_of}
 use Rattle.solve_core.specs.steps.Branches.{cells_before}
-use Rattle.solve_core.specs.steps.WitnessLists.{WitnessLists, met_by}
-use Rattle.solve_core.specs.steps.Witnesses.{AreNumbered, AreWitnesses, DifferWithin}
-use Rattle.solve_core.specs.declared.witnesses.Witness.{Witness}
 use Rattle.solve_core.proofs.Order.{length-Extends}
 use Rattle.solve_core.proofs.TrialSteps.{settled-extends}
 use Rattle.solve_core.proofs.WitnessLaws.{cleared_within, kept_numbered, kept_witnesses, places_for}
