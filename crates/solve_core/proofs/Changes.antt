@@ -18,11 +18,10 @@ none_of q p ps other none (suc k) l = none k (omega arith)
 pub is_among : (places : List ℕ) (p : ℕ) →
     ((k : ℕ) × (k < length places) × (get_or places k 0 ≡ p)) ⊎ ((k : ℕ) → k < length places → get_or places k 0 ≢ p)
 is_among [] p = inr (λ k l. absurd (omega arith))
-is_among (q ∷ ps) p =
-    elim (cases_eq q p) [
-      | inl first ↦ inl (0, omega arith, first)
-      | inr other ↦ elim (is_among ps p) [
-        | inl there ↦ inl (suc there.0, omega (arith, there.1), there.2)
-        | inr none ↦ inr (none_of q p ps other none)
-      ]
-    ]
+is_among (q ∷ ps) p = elim (cases_eq q p) [
+  | inl first ↦ inl (0, omega arith, first)
+  | inr other ↦ elim (is_among ps p) [
+    | inl there ↦ inl (suc there.0, omega (arith, there.1), there.2)
+    | inr none ↦ inr (none_of q p ps other none)
+  ]
+]

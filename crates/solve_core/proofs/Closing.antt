@@ -39,8 +39,7 @@ repeat-below f z b (suc n) g h = and_then-below (repeat f n) z (repeat-below f z
 -- the result is at most each closed grid that knows what the given one knows
 pub repeat-least : (f : List Cell → Option (List Cell)) → IsDeduction f → (n : ℕ) (g z : List Cell) → f z ≡ Some z → Extends g z →
     AtMost (repeat f n g) (Some z)
-repeat-least f d n g z closed h =
-    repeat-below f z (λ g' k. let m = d.monotone g' z k in rw closed at m) n g h
+repeat-least f d n g z closed h = repeat-below f z (λ g' k. let m = d.monotone g' z k in rw closed at m) n g h
 
 -- repeating a step leaves a grid as it is, if one step does
 pub repeat-fixed : (f : List Cell → Option (List Cell)) (n : ℕ) (g : List Cell) → f g ≡ Some g → repeat f n g ≡ Some g
@@ -60,8 +59,7 @@ fewer_unknown (Unknown ∷ g) (Unknown ∷ z) h =
     elim (fewer_unknown g z h.1) [ inl e ↦ inl (ap (λ (r : List Cell). Unknown ∷ r) e) | inr l ↦ inr (omega arith) ]
 fewer_unknown (Filled ∷ g) (Filled ∷ z) h =
     elim (fewer_unknown g z h.1) [ inl e ↦ inl (ap (λ (r : List Cell). Filled ∷ r) e) | inr l ↦ inr l ]
-fewer_unknown (Blank ∷ g) (Blank ∷ z) h =
-    elim (fewer_unknown g z h.1) [ inl e ↦ inl (ap (λ (r : List Cell). Blank ∷ r) e) | inr l ↦ inr l ]
+fewer_unknown (Blank ∷ g) (Blank ∷ z) h = elim (fewer_unknown g z h.1) [ inl e ↦ inl (ap (λ (r : List Cell). Blank ∷ r) e) | inr l ↦ inr l ]
 fewer_unknown (Unknown ∷ g) (_ ∷ z) h =
     inr (elim (fewer_unknown g z h.1) [ inl e ↦ omega (arith, ap unknown_count e) | inr l ↦ omega arith ])
 fewer_unknown (_ ∷ g) (_ ∷ z) h = absurd h.0
@@ -71,19 +69,17 @@ closed_after : (f : List Cell → Option (List Cell)) (n : ℕ) (g c : List Cell
     option_and_then (repeat f n) o ≡ Some c
     → ((g' : List Cell) → unknown_count g' < unknown_count g → repeat f n g' ≡ Some c → f c ≡ Some c) → f c ≡ Some c
 closed_after f n g c None is k e next = cc
-closed_after f n g c (Some g') is k e next =
-    elim (fewer_unknown g g' k) [
-      | inl same ↦
-          (let fixed : f g' ≡ Some g' = rw same (rw same at is) in
-          let ends = repeat-fixed f n g' fixed in
-          let end : g' ≡ c = cc in
-          rw (← end) fixed)
-      | inr less ↦ next g' less e
-    ]
+closed_after f n g c (Some g') is k e next = elim (fewer_unknown g g' k) [
+  | inl same ↦
+      (let fixed : f g' ≡ Some g' = rw same (rw same at is) in
+      let ends = repeat-fixed f n g' fixed in
+      let end : g' ≡ c = cc in
+      rw (← end) fixed)
+  | inr less ↦ next g' less e
+]
 
 -- with more steps than unknown cells, the result is closed
 pub repeat-closed : (f : List Cell → Option (List Cell)) → ((g : List Cell) → AtMost (Some g) (f g)) → (n : ℕ) (g c : List Cell) →
     unknown_count g < n → repeat f n g ≡ Some c → f c ≡ Some c
 repeat-closed f a zero g c h e = absurd (omega arith)
-repeat-closed f a (suc n) g c h e =
-    closed_after f n g c (f g) refl (a g) e (λ g' less e'. repeat-closed f a n g' c (omega arith) e')
+repeat-closed f a (suc n) g c h e = closed_after f n g c (f g) refl (a g) e (λ g' less e'. repeat-closed f a n g' c (omega arith) e')

@@ -73,8 +73,7 @@ length-written g places (Some cs) = length-with_cells g places cs
 -- what each line deduces from a grid is as long as the grid, or dead
 lengths : (g : List Cell) (lines : List GridLine) → AllByRecursion (HasLength (length g)) (map (deduce_line g) lines)
 lengths g [] = tt
-lengths g (line ∷ lines) =
-    (length-written g line.places (deduced (cells_at Unknown g line.places) line.clue), lengths g lines)
+lengths g (line ∷ lines) = (length-written g line.places (deduced (cells_at Unknown g line.places) line.clue), lengths g lines)
 
 -- a round only adds to what is known
 pub round-above : (lines : List GridLine) (g : List Cell) → AtMost (Some g) (round lines g)

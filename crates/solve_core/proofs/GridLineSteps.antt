@@ -331,8 +331,7 @@ rows-written old rows columns y row a wide count ly is above = rw wide (size, ea
         (cell-read rows columns x y a lx ly).0
 
     each : (k : ℕ) → k < (y + 1) * w → get_or new k Unknown ≡ get_or (cells_of_rows rows) k Unknown
-    each k l =
-        elim (cases_lt k (y * w)) [
-          | inl low ↦ replaced-others old.cells row (y * w) w long fits k (inl low) ∙ above k low
-          | inr from ↦ (let at : y * w + (k - y * w) ≡ k = omega arith in rw at at (here (k - y * w) (omega arith)))
-        ]
+    each k l = elim (cases_lt k (y * w)) [
+      | inl low ↦ replaced-others old.cells row (y * w) w long fits k (inl low) ∙ above k low
+      | inr from ↦ (let at : y * w + (k - y * w) ≡ k = omega arith in rw at at (here (k - y * w) (omega arith)))
+    ]

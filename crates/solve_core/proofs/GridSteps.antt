@@ -89,8 +89,7 @@ marks-after p cells new marks middle after side i r m l taken other learned chan
 
     by : (r : Progress) → IsLearned r (line_on side p i) cells new → MarksAfter r p after new
     by Dead learned = tt
-    by Same learned =
-        marked (ap length learned.0) (rw learned.0 learned.1) (λ q k. ap (λ (g : List Cell). get_or g q Unknown) learned.0)
+    by Same learned = marked (ap length learned.0) (rw learned.0 learned.1) (λ q k. ap (λ (g : List Cell). get_or g q Unknown) learned.0)
     by Changed learned =
         let line = line_on side p i in
         let distinct = line-distinct p side i m.puzzle in
@@ -177,8 +176,7 @@ place_split p cells k is size l =
 
 -- cells at rest are line-closed
 pub rest_closed : (p : Nonogram) (c : Closing) (cells : List Cell) → IsAtRest p c cells → round (lines_of p) cells ≡ Some cells
-rest_closed p c cells r =
-    (closure-IsLeastClosed (lines_of p) cells).closed cells (unmarked_closed p c.marks cells r.marks r.idle.unmarked)
+rest_closed p c cells r = (closure-IsLeastClosed (lines_of p) cells).closed cells (unmarked_closed p c.marks cells r.marks r.idle.unmarked)
 
 -- a place is its row times the width, plus its column, if the width is positive
 pub place_again : (k width other : ℕ) → width ≡ other → 0 < other → k / width * other + k % width ≡ k

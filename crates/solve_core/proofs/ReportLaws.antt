@@ -29,12 +29,11 @@ nat_lt-positive n = lt-ltb 0 (suc n) (omega arith)
 
 -- how a search ends, by its events up to the n-th solution and within the limit
 abbrev defined : Nonogram → List PartialGrid → ℕ → ℕ → ℕ → List Event → Ending
-defined p found n spent left es =
-    record {
-      found = found ++ map (grid_of p) (solutions_in (within_guesses left (through_solution n es)));
-      cut = nat_lt (length (within_guesses left (through_solution n es))) (length (through_solution n es));
-      spent = spent + guesses_in (within_guesses left (through_solution n es));
-    }
+defined p found n spent left es = record {
+  found = found ++ map (grid_of p) (solutions_in (within_guesses left (through_solution n es)));
+  cut = nat_lt (length (within_guesses left (through_solution n es))) (length (through_solution n es));
+  spent = spent + guesses_in (within_guesses left (through_solution n es));
+}
 
 ending-one : (p : Nonogram) (a : PartialGrid) (spent left : ℕ) (es : List Event) →
     ending p (a ∷ []) spent left es ≡ defined p (a ∷ []) 1 spent left es
@@ -64,14 +63,13 @@ end_from pick p limit start = ending p [] 0 limit (events_from pick (lines_of p)
 
 -- the report, by the two closures and by how the search ends
 abbrev pub report_by : (List Cell → Option ℕ) → Nonogram → ℕ → Option (List Cell) → Option (List Cell) → Findings
-report_by pick p limit closed tried =
-    record {
-      verdict = verdict_by (end_from pick p limit tried).found (end_from pick p limit tried).cut;
-      grade = grade_by (is_decided closed) (is_decided tried);
-      line_known = known_in closed;
-      trial_known = known_in tried;
-      spent = (end_from pick p limit tried).spent;
-    }
+report_by pick p limit closed tried = record {
+  verdict = verdict_by (end_from pick p limit tried).found (end_from pick p limit tried).cut;
+  grade = grade_by (is_decided closed) (is_decided tried);
+  line_known = known_in closed;
+  trial_known = known_in tried;
+  spent = (end_from pick p limit tried).spent;
+}
 
 pub report-is : (pick : List Cell → Option ℕ) (p : Nonogram) (limit : ℕ) →
     report_by pick p limit (line_closure p) (trial_closure p) ≡ report_of pick p limit

@@ -22,8 +22,7 @@ at_one P g (x ∷ lines) line h (inr m) = at_one P g lines line h.1 m
 -- a closed grid is closed under each of its lines
 pub closed_line : (lines : List GridLine) (c : List Cell) (line : GridLine) → round lines c ≡ Some c → IsOneOf line lines →
     AtMost (deduce_line c line) (Some c)
-closed_line lines c line e m =
-    at_one (λ o. AtMost o (Some c)) c lines line (rw e at (round-above_each lines c)) m
+closed_line lines c line e m = at_one (λ o. AtMost o (Some c)) c lines line (rw e at (round-above_each lines c)) m
 
 step_to : (lines : List GridLine) (g : List Cell) (line : GridLine) (o : Option (List Cell)) →
     ((z : List Cell) → o ≡ Some z → round lines z ≡ Some z) → IsOneOf line lines → AtMost (Some g) o → AtMost (deduce_line g line) o

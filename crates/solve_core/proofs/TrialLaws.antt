@@ -16,8 +16,7 @@ use Rattle.solve_core.proofs.ClosureLaws.{IsLeastClosed, closure-IsLeastClosed, 
 
 -- what trials say of each cell of a grid
 abbrev pub tried_cells : List GridLine → List Cell → Option (List Cell)
-tried_cells lines grid =
-    all_present (map (λ k. tried lines grid k (slice_index_or grid k Unknown)) (range_with_len 0 (length grid)))
+tried_cells lines grid = all_present (map (λ k. tried lines grid k (slice_index_or grid k Unknown)) (range_with_len 0 (length grid)))
 
 -- an option of a cell below a cell
 abbrev pub OptionBelow : Option Cell → Cell → Type 0

@@ -171,8 +171,7 @@ with_colours p w cells n size each = record {
 
 -- there is a number for each cell of a grid that has witnesses
 pub places_for : (p : Nonogram) (w : WitnessLists) (cells : List Cell) → AreWitnesses p w cells → length cells ≡ length w.fillable
-places_for p w cells are =
-    sym are.colours.filled_count ∙ length-map w.fillable (λ number. (witness_at w.witnesses number).counts)
+places_for p w cells are = sym are.colours.filled_count ∙ length-map w.fillable (λ number. (witness_at w.witnesses number).counts)
 
 -- a witness that counts is in the list
 inside : (witnesses : List Witness) (number : ℕ) → (witness_at witnesses number).counts ≡ true → number < length witnesses
