@@ -1,31 +1,11 @@
 -- `learn` of `GridLines`: written whole, and into each line that crosses it at a change, the line is in the lines of one grid.
-use Rattle.std.proofs.Common.{◌∙◌, ◌≡◌, ap, false, true, true≢false, List, refl, sym}
+use Rattle.std.proofs.Common.{◌∙◌, ap, refl}
 use Rattle.std.proofs.lemmas.List.{with_items_is}
-use Rattle.grid_core.specs.declared.cells.Cell.{Cell}
 use Rattle.grid_core.specs.declared.sides.Side.TheVariants.{Rows, Columns}
 use Rattle.grid_core.specs.PartialGrid.{PartialGrid}
-use Rattle.solve_core.specs.steps.Boards.{fresh_board}
-use Rattle.solve_core.specs.steps.Trails.{IsTrailed}
 use Rattle.solve_core.proofs.GridLineSteps.{line_read}
 use Rattle.solve_core.proofs.LearnedLines.{can_learn, learned_columns, learned_rows, learns_of, long_line}
 use Rattle.solve_core.proofs.grid_lines.GridLinesLearner.learn.Goals as goal
-
--- the cells of a grid are others, and its size is the same
-written : {g new : PartialGrid} {cells : List Cell} → new ≡ record g { cells = cells } →
-    record { cells : new.cells ≡ cells; width : new.width ≡ g.width; height : new.height ≡ g.height; trail : false ≡ true → IsTrailed (fresh_board g) (fresh_board new) }
-written e = record {
-  cells = ap (λ (p : PartialGrid). p.cells) e;
-  width = ap (λ (p : PartialGrid). p.width) e;
-  height = ap (λ (p : PartialGrid). p.height) e;
-  trail = λ keeps. absurd (true≢false (sym keeps));
-}
-
-pub copy_from-requires : goal.copy_from-requires
-copy_from-requires g c =
-    let is = learns_of c.args.side Rows c.args.i _ c.args.new.now _ _ _ c.self.invariant c.self.view_is c.in-Rows.is
-    c.requires.i c.requires.more c.requires.changes in
-    rw (c.index_mut.ensures.value, c.from-place.ensures, line_read c.self.inside.rows.items c.args.i _ is.line)
-    (long_line Rows _ _ _ _ _ _ c.self.inside.rows.items is (refl, c.self.invariant.rows_are))
 
 pub settle_across-requires-clause-changes : goal.settle_across-requires-clause-changes
 settle_across-requires-clause-changes g c =
@@ -42,14 +22,13 @@ invariant_of-self g c =
     let kept = with_items_is c.self.inside.columns c.settle_across.new.lines (c.settle_across.ensures.len ∙ c.deref_mut.ensures.len) in
     rw (kept, c.from-place.ensures, c.copy_from.ensures) learned.1
 
-pub returns-in-Rows : goal.returns-in-Rows
-returns-in-Rows g c =
+pub returns-in-Rows-clause-cells : goal.returns-in-Rows-clause-cells
+returns-in-Rows-clause-cells g c =
     let is = learns_of c.args.side Rows c.args.i _ c.args.new.now _ _ _ c.self.invariant c.self.view_is c.in-Rows.is
     c.requires.i c.requires.more c.requires.changes in
     let learned = learned_rows _ _ _ _ _ _ c.settle_across.new.lines c.self.invariant is c.deref_mut.ensures.value
     c.settle_across.ensures.len c.settle_across.ensures.changed c.settle_across.ensures.others in
-    let kept = with_items_is c.self.inside.columns c.settle_across.new.lines (c.settle_across.ensures.len ∙ c.deref_mut.ensures.len) in
-    written (rw (← c.self.view_is, c.in-Rows.is, kept, c.from-place.ensures, c.copy_from.ensures) learned.0)
+    rw (← c.self.view_is, c.in-Rows.is, c.from-place.ensures, c.copy_from.ensures) (ap (λ (p : PartialGrid). p.cells) learned.0)
 
 pub copy_from-requires-in-Columns : goal.copy_from-requires-in-Columns
 copy_from-requires-in-Columns g c =
@@ -73,11 +52,11 @@ invariant_of-self-in-Columns g c =
     let kept = with_items_is c.self.inside.rows c.settle_across-in-Columns.new.lines (c.settle_across-in-Columns.ensures.len ∙ c.deref_mut-in-Columns.ensures.len) in
     rw (kept, c.from-place.ensures, c.copy_from-in-Columns.ensures) learned.1
 
-pub returns-in-Columns : goal.returns-in-Columns
-returns-in-Columns g c =
+pub returns-in-Columns-clause-cells : goal.returns-in-Columns-clause-cells
+returns-in-Columns-clause-cells g c =
     let is = learns_of c.args.side Columns c.args.i _ c.args.new.now _ _ _ c.self.invariant c.self.view_is c.in-Columns.is
     c.requires.i c.requires.more c.requires.changes in
     let learned = learned_columns _ _ _ _ _ _ c.settle_across-in-Columns.new.lines c.self.invariant is c.deref_mut-in-Columns.ensures.value
     c.settle_across-in-Columns.ensures.len c.settle_across-in-Columns.ensures.changed c.settle_across-in-Columns.ensures.others in
     let kept = with_items_is c.self.inside.rows c.settle_across-in-Columns.new.lines (c.settle_across-in-Columns.ensures.len ∙ c.deref_mut-in-Columns.ensures.len) in
-    written (rw (← c.self.view_is, c.in-Columns.is, kept, c.from-place.ensures, c.copy_from-in-Columns.ensures) learned.0)
+    rw (← c.self.view_is, c.in-Columns.is, kept) (ap (λ (p : PartialGrid). p.cells) learned.0)
