@@ -19,29 +19,13 @@ pub use Rattle.line_core.specs.Order.{AtMost}
 -- ---- the order of what is known
 
 cell_refl : (c : Cell) → CellExtends c c
-cell_refl Unknown = tt
-cell_refl Filled = tt
-cell_refl Blank = tt
+cell_refl c = search rules
 
 cell_trans : (a b c : Cell) → CellExtends a b → CellExtends b c → CellExtends a c
-cell_trans Unknown b c h k = tt
-cell_trans Filled Unknown c h k = absurd h
-cell_trans Filled Filled c h k = k
-cell_trans Filled Blank c h k = absurd h
-cell_trans Blank Unknown c h k = absurd h
-cell_trans Blank Filled c h k = absurd h
-cell_trans Blank Blank c h k = k
+cell_trans a b c h k = search rules
 
 cell_antisym : (a b : Cell) → CellExtends a b → CellExtends b a → a ≡ b
-cell_antisym Unknown Unknown h k = refl
-cell_antisym Unknown Filled h k = absurd k
-cell_antisym Unknown Blank h k = absurd k
-cell_antisym Filled Unknown h k = absurd h
-cell_antisym Filled Filled h k = refl
-cell_antisym Filled Blank h k = absurd h
-cell_antisym Blank Unknown h k = absurd h
-cell_antisym Blank Filled h k = absurd h
-cell_antisym Blank Blank h k = refl
+cell_antisym a b h k = search rules
 
 -- a line extends itself
 pub Extends-refl : (g : List Cell) → Extends g g
@@ -50,66 +34,42 @@ Extends-refl (c ∷ g) = (cell_refl c, Extends-refl g)
 
 -- a line that extends one that extends another extends that other
 pub Extends-trans : (a b c : List Cell) → Extends a b → Extends b c → Extends a c
-Extends-trans [] [] [] h k = tt
-Extends-trans [] [] (z ∷ c) h k = absurd k
-Extends-trans [] (y ∷ b) c h k = absurd h
-Extends-trans (x ∷ a) [] c h k = absurd h
-Extends-trans (x ∷ a) (y ∷ b) [] h k = absurd k
 Extends-trans (x ∷ a) (y ∷ b) (z ∷ c) h k = (cell_trans x y z h.0 k.0, Extends-trans a b c h.1 k.1)
+Extends-trans a b c h k = search rules
 
 -- lines that extend one another are of one length
 pub length-Extends : (a b : List Cell) → Extends a b → length a ≡ length b
-length-Extends [] [] h = refl
-length-Extends [] (y ∷ b) h = absurd h
-length-Extends (x ∷ a) [] h = absurd h
 length-Extends (x ∷ a) (y ∷ b) h = ap suc (length-Extends a b h.1)
+length-Extends a b h = search rules
 
 -- what is at most one thing is at most what that is at most
 pub AtMost-trans : (a b c : Option (List Cell)) → AtMost a b → AtMost b c → AtMost a c
-AtMost-trans a b None h k = tt
-AtMost-trans a None (Some z) h k = absurd k
-AtMost-trans None (Some y) (Some z) h k = absurd h
 AtMost-trans (Some x) (Some y) (Some z) h k = Extends-trans x y z h k
+AtMost-trans a b c h k = search rules
 
 -- two lines that extend each other are the same
 pub Extends-antisym : (a b : List Cell) → Extends a b → Extends b a → a ≡ b
-Extends-antisym [] [] h k = refl
-Extends-antisym [] (y ∷ b) h k = absurd h
-Extends-antisym (x ∷ a) [] h k = absurd h
-Extends-antisym (x ∷ a) (y ∷ b) h k =
-    let same : x ≡ y = cell_antisym x y h.0 k.0 in
-    λ i. same i ∷ Extends-antisym a b h.1 k.1 i
+Extends-antisym (x ∷ a) (y ∷ b) h k = let same = cell_antisym x y h.0 k.0 in λ i. same i ∷ Extends-antisym a b h.1 k.1 i
+Extends-antisym a b h k = search rules
 
 -- ---- placings
 
 allows-Extends : (c : Cell) (b : Bool) → allows c b ≡ true → CellExtends c (colour b)
-allows-Extends Unknown b h = tt
-allows-Extends Filled true h = tt
-allows-Extends Filled false h = cc
-allows-Extends Blank true h = cc
-allows-Extends Blank false h = tt
+allows-Extends c b h = search rules
 
 Extends-allows : (c : Cell) (b : Bool) → CellExtends c (colour b) → allows c b ≡ true
-Extends-allows Unknown b h = refl
-Extends-allows Filled true h = refl
-Extends-allows Filled false h = absurd h
-Extends-allows Blank true h = absurd h
-Extends-allows Blank false h = refl
+Extends-allows c b h = search rules
 
 -- a full line agrees with a line exactly if it extends it
 pub agrees-Extends : (l : List Cell) (x : List Bool) → agrees l x ≡ true → Extends l (map colour x)
-agrees-Extends [] [] h = tt
-agrees-Extends [] (b ∷ x) h = cc
-agrees-Extends (c ∷ l) [] h = cc
 agrees-Extends (c ∷ l) (b ∷ x) h =
     (allows-Extends c b (and_parts (allows c b) (agrees l x) h).0, agrees-Extends l x ((and_parts (allows c b) (agrees l x) h).1))
+agrees-Extends l x h = search rules
 
 -- and a full line that extends a line agrees with it
 pub Extends-agrees : (l : List Cell) (x : List Bool) → Extends l (map colour x) → agrees l x ≡ true
-Extends-agrees [] [] h = refl
-Extends-agrees [] (b ∷ x) h = absurd h
-Extends-agrees (c ∷ l) [] h = absurd h
 Extends-agrees (c ∷ l) (b ∷ x) h = rw (Extends-allows c b h.0, Extends-agrees l x h.1) refl
+Extends-agrees l x h = search rules
 
 -- a full line with the clue's runs that has the line's colour wherever that is known
 pub record IsPlacing (l : List Cell) (clue : List ℕ) (x : List Bool) : Type 0 where
@@ -192,18 +152,14 @@ not_all l clue ps listed q y p e = false_from_ne_true (list_all q ps) (λ h. bot
 -- a line extends another if it does so at each place
 pub Extends-from_places : (a b : List Cell) → length a ≡ length b
     → ((k : ℕ) → k < length a → CellExtends (get_or a k Unknown) (get_or b k Unknown)) → Extends a b
-Extends-from_places [] [] e h = tt
-Extends-from_places [] (d ∷ b) e h = cc
-Extends-from_places (c ∷ a) [] e h = cc
 Extends-from_places (c ∷ a) (d ∷ b) e h = (h 0 (omega arith), Extends-from_places a b (omega arith) (λ k l. h (suc k) (omega arith)))
+Extends-from_places a b e h = search rules
 
 -- a line that extends another does so at each place
 pub Extends-at : (a b : List Cell) (k : ℕ) → Extends a b → CellExtends (get_or a k Unknown) (get_or b k Unknown)
-Extends-at [] [] k h = tt
-Extends-at [] (d ∷ b) k h = absurd h
-Extends-at (c ∷ a) [] k h = absurd h
 Extends-at (c ∷ a) (d ∷ b) zero h = h.0
 Extends-at (c ∷ a) (d ∷ b) (suc k) h = Extends-at a b k h.1
+Extends-at a b k h = search rules
 
 -- whether a full line is filled at a place
 abbrev pub filled_at : ℕ → List Bool → Bool
@@ -221,17 +177,13 @@ get_or-map_colour (b ∷ x) (suc k) h = get_or-map_colour x k (omega arith)
 
 below_cell : (c : Cell) (filled blank : Bool) → (filled ≡ true → c ≡ Filled) → (blank ≡ true → c ≡ Blank)
     → CellExtends (cond filled Filled (cond blank Blank Unknown)) c
-below_cell c true blank f b = subst (CellExtends Filled) (sym (f refl)) tt
-below_cell c false true f b = subst (CellExtends Blank) (sym (b refl)) tt
-below_cell c false false f b = tt
+below_cell c filled blank f b = search rules
 
 filled_of : (x : Bool) → CellExtends Filled (colour x) → x ≡ true
-filled_of true h = refl
-filled_of false h = absurd h
+filled_of x h = search rules
 
 blank_of : (x : Bool) → CellExtends Blank (colour x) → x ≡ false
-blank_of true h = absurd h
-blank_of false h = refl
+blank_of x h = search rules
 
 length-shared : (n : ℕ) (ps : List (List Bool)) → length (map (shared_at ps) (range_with_len 0 n)) ≡ n
 length-shared n ps = length-map-range_with_len (shared_at ps) 0 n
@@ -297,16 +249,12 @@ deduced-monotone l m clue h =
     deduced-below l clue x (record { extends = Extends-trans l m (map colour x) h p.extends; runs_are = p.runs_are }))
 
 colour_inj : (a b : Bool) → CellExtends (colour a) (colour b) → b ≡ a
-colour_inj true true h = refl
-colour_inj true false h = absurd h
-colour_inj false true h = absurd h
-colour_inj false false h = refl
+colour_inj a b h = search rules
 
 full_same : (x y : List Bool) → Extends (map colour x) (map colour y) → y ≡ x
 full_same [] [] h = refl
-full_same [] (b ∷ y) h = absurd h
-full_same (a ∷ x) [] h = absurd h
 full_same (a ∷ x) (b ∷ y) h = λ i. colour_inj a b h.0 i ∷ full_same x y h.1 i
+full_same x y h = search rules
 
 full_listed : (x : List Bool) (clue : List ℕ) (ps : List (List Bool)) → ListsPlacings (map colour x) clue ps → (d : List Cell)
     → shared (length (map colour x)) ps ≡ Some d → runs x ≡ clue
@@ -321,8 +269,8 @@ deduced-full x clue d e = full_listed x clue (placings (map colour x) clue) (pla
 -- ---- a deduced line has no more to give
 
 AtMost-antisym : (o : Option (List Cell)) (d : List Cell) → AtMost o (Some d) → AtMost (Some d) o → o ≡ Some d
-AtMost-antisym None d h k = absurd h
 AtMost-antisym (Some c) d h k = ap (λ (cells : List Cell). Some cells) (Extends-antisym c d h k)
+AtMost-antisym None d h k = absurd h
 
 -- deducing what was deduced changes nothing: each placing of the line is one of the deduced line
 pub deduced-settled : (l d : List Cell) (clue : List ℕ) → deduced l clue ≡ Some d → deduced d clue ≡ Some d

@@ -155,19 +155,15 @@ positive_at (c ∷ clue) p (suc j) h = positive_at clue p.1 j (omega arith)
 -- ---- a run on the line
 
 -- cells that may have a colour agree with as many of it
-pub agrees_span : (l : List Cell) (v : Bool) (n p : ℕ) (y : List Bool) → AllFrom (MayBe l v) n p → agrees (drop (p + n) l) y ≡ true
-    → agrees (drop p l) (replicate n v ++ y) ≡ true
-agrees_span l v zero p y o h = let e : p + 0 ≡ p = omega arith in subst (λ (k : ℕ). agrees (drop k l) y ≡ true) e h
-agrees_span l v (suc n) p y o h =
+pub agrees_span : (l : List Cell) (v : Bool) (n p q : ℕ) (y : List Bool) → p + n ≡ q → AllFrom (MayBe l v) n p
+    → agrees (drop q l) y ≡ true → agrees (drop p l) (replicate n v ++ y) ≡ true
+agrees_span l v zero p q y e o h = let same : p ≡ q = omega arith in rw same h
+agrees_span l v (suc n) p q y e o h =
     let zeroth : p + 0 ≡ p = omega arith in
     let first : MayBe l v p = subst (MayBe l v) zeroth (o 0 (omega arith)) in
-    let e : p + suc n ≡ suc p + n = omega arith in
-    let rest : agrees (drop (suc p) l) (replicate n v ++ y) ≡ true =
-    agrees_span l v n (suc p) y (λ z b. let f : p + suc z ≡ suc p + z = omega arith in subst (MayBe l v) f (o (suc z) (omega arith)))
-    (subst (λ (k : ℕ). agrees (drop k l) y ≡ true) e h) in
-    let split : drop p l ≡ get_or l p Unknown ∷ drop (suc p) l = drop-cons l p Unknown first.0 in
-    subst (λ (t : List Cell). agrees t (v ∷ (replicate n v ++ y)) ≡ true) (sym split)
-    (and_from (allows (get_or l p Unknown) v) (agrees (drop (suc p) l) (replicate n v ++ y)) first.1 rest)
+    rw (drop-cons l p Unknown first.0) (and_from (allows (get_or l p Unknown) v) (agrees (drop (suc p) l) (replicate n v ++ y)) first.1
+    (agrees_span l v n (suc p) q y (omega arith)
+    (λ z b. let f : p + suc z ≡ suc p + z = omega arith in subst (MayBe l v) f (o (suc z) (omega arith))) h))
 
 -- what remains of a line after its cells at s
 drop_past : (l : List Cell) (s : ℕ) (b : Bool) (y : List Bool) → agrees (drop s l) (b ∷ y) ≡ true

@@ -1,5 +1,5 @@
 -- Full lines made of starts.
-use Rattle.std.proofs.Common.{◌≡◌, ℕ, zero, suc, ◌+◌, ◌-◌, ◌<◌, ◌≤◌, Bool, true, false, List, [], ◌∷◌, ◌++◌, length, replicate, refl, sym, ap, ◌∙◌, subst, arith, inl, inr, below_more, drop, get_or, drop_of_length-le, rules}
+use Rattle.std.proofs.Common.{◌≡◌, ℕ, zero, suc, ◌+◌, ◌-◌, ◌<◌, ◌≤◌, Bool, true, false, List, [], ◌∷◌, ◌++◌, length, replicate, refl, sym, ap, ◌∙◌, subst, arith, inl, inr, add-zero, below_more, drop, get_or, drop_of_length-le, rules}
 use Rattle.std.proofs.lemmas.Bool.{cases_lt, and_parts}
 use Rattle.grid_core.specs.declared.cells.Cell.{Cell}
 use Rattle.grid_core.specs.declared.cells.Cell.TheVariants.{Unknown}
@@ -18,14 +18,17 @@ use Rattle.line_core.proofs.RunStarts.{starts_from, length-run_starts, run_of, f
 abbrev pub StandApart : List ℕ → List ℕ → Type 0
 StandApart clue ss = (j : ℕ) → suc j < length clue → get_or ss j 0 + get_or clue j 0 < get_or ss (suc j) 0
 
+-- a cell in none of the runs
+abbrev pub IsFree : List ℕ → List ℕ → ℕ → Type 0
+IsFree clue ss i = (j : ℕ) → j < length clue → get_or ss j 0 ≤ i → i < get_or ss j 0 + get_or clue j 0 → ⊥
+
 -- starts that lay a clue's runs on a line: each on cells that may be filled, all apart,
 -- and every other cell may be blank
 pub record IsLaid (l : List Cell) (clue ss : List ℕ) : Type 0 where
   pub count : length ss ≡ length clue
   pub windows : (j : ℕ) → j < length clue → AllFrom (MayBe l true) (get_or clue j 0) (get_or ss j 0)
   pub apart : StandApart clue ss
-  pub blanks : (i : ℕ) → i < length l → ((j : ℕ) → j < length clue → get_or ss j 0 ≤ i → i < get_or ss j 0 + get_or clue j 0 → ⊥)
-      → MayBe l false i
+  pub blanks : (i : ℕ) → i < length l → IsFree clue ss i → MayBe l false i
 
 agrees_at : (l : List Cell) (x : List Bool) (i : ℕ) → agrees l x ≡ true → i < length l
     → allows (get_or l i Unknown) (get_or x i false) ≡ true
@@ -47,151 +50,102 @@ laid l clue x agree is = record {
   blanks = λ i h free. by i h free (get_or x i false) refl;
 }
   where
-    by : (i : ℕ) → i < length l
-        → ((j : ℕ) → j < length clue → get_or (starts_from 0 false x) j 0 ≤ i → i < get_or (starts_from 0 false x) j 0 + get_or clue j 0
-        → ⊥) → (v : Bool) → get_or x i false ≡ v → MayBe l false i
+    by : (i : ℕ) → i < length l → IsFree clue (starts_from 0 false x) i → (v : Bool) → get_or x i false ≡ v → MayBe l false i
     by i h free true e = let c = covered x clue i is e in absurd (free c.index c.inside c.from c.to)
     by i h free false e = (h, subst (λ (v : Bool). allows (get_or l i Unknown) v ≡ true) e (agrees_at l x i agree h))
 
 -- ---- and back: a line painted by starts
 
--- the cells from place `p` on, of the line of `n` cells with runs at the starts
-abbrev pub painted : ℕ → ℕ → List ℕ → List ℕ → List Bool
-painted n p [] ss = replicate (n - p) false ++ []
-painted n p (c ∷ clue) [] = []
-painted n p (c ∷ clue) (s ∷ ss) = replicate (s - p) false ++ (replicate c true ++ painted n (s + c) clue ss)
-
--- the same as `IsLaid`, run by run, for the cells from place `p` on, with at least `g` blank ones first
-abbrev pub Laid : List Cell → ℕ → ℕ → List ℕ → List ℕ → Type 0
-Laid l g p [] [] = AllFrom (MayBe l false) (length l - p) p
-Laid l g p [] (s ∷ ss) = ⊥
-Laid l g p (c ∷ clue) [] = ⊥
-Laid l g p (c ∷ clue) (s ∷ ss) = (p + g ≤ s) × AllFrom (MayBe l false) (s - p) p × AllFrom (MayBe l true) c s × Laid l 1 (s + c) clue ss
-
-first_least : (clue ss : List ℕ) → StandApart clue ss → (j : ℕ)
-    → j < length clue → get_or ss 0 0 ≤ get_or ss j 0
+first_least : (clue ss : List ℕ) → StandApart clue ss → (j : ℕ) → j < length clue → get_or ss 0 0 ≤ get_or ss j 0
 first_least clue ss apart zero h = omega arith
-first_least clue ss apart (suc j) h = let below = first_least clue ss apart j (omega arith) in let next = apart j h in omega arith
-
-laid_from : (l : List Cell) (g p : ℕ) (clue ss : List ℕ) → length ss ≡ length clue → (0 < length clue → p + g ≤ get_or ss 0 0)
-    → ((j : ℕ) → j < length clue → AllFrom (MayBe l true) (get_or clue j 0) (get_or ss j 0))
-    → StandApart clue ss
-    → ((i : ℕ) → p ≤ i → i < length l → ((j : ℕ) → j < length clue → get_or ss j 0 ≤ i → i < get_or ss j 0 + get_or clue j 0 → ⊥)
-    → MayBe l false i)
-    → ArePositive clue → Laid l g p clue ss
-laid_from l g p [] [] e first windows apart blanks pos =
-    λ z b. blanks (p + z) (omega arith) (omega arith) (λ j h from to. absurd (omega arith))
-laid_from l g p [] (s ∷ ss) e first windows apart blanks pos = absurd (omega arith)
-laid_from l g p (c ∷ clue) [] e first windows apart blanks pos = absurd (omega arith)
-laid_from l g p (c ∷ clue) (s ∷ ss) e first windows apart blanks pos =
-    let start : p + g ≤ s = first (omega arith) in
-    let window : AllFrom (MayBe l true) c s = windows 0 (omega arith) in
-    let last : s + 0 < length l = (window 0 pos.0).0 in (
-      start,
-      (λ z b. blanks (p + z) (omega arith) (omega arith) (λ j h from to.
-          let least = first_least (c ∷ clue) (s ∷ ss) apart j h in
-          absurd (omega arith))),
-      window,
-      laid_from l 1 (s + c) clue ss (omega arith) (λ h. let next = apart 0 (omega arith) in omega arith)
-          (λ j h. windows (suc j) (omega arith)) (λ j h. apart (suc j) (omega arith))
-          (λ i a h free. blanks i (omega arith) h (by i a free)) pos.1,
-    )
-  where
-    by : (i : ℕ) → s + c ≤ i → ((j : ℕ) → j < length clue → get_or ss j 0 ≤ i → i < get_or ss j 0 + get_or clue j 0 → ⊥)
-        → (j : ℕ) → j < length (c ∷ clue) → get_or (s ∷ ss) j 0 ≤ i → i < get_or (s ∷ ss) j 0 + get_or (c ∷ clue) j 0 → ⊥
-    by i a free zero h from to = absurd (omega arith)
-    by i a free (suc j) h from to = free j (omega arith) from to
-
-painted_agrees : (l : List Cell) (g p : ℕ) (clue ss : List ℕ) → ArePositive clue → p ≤ length l → Laid l g p clue ss
-    → agrees (drop p l) (painted (length l) p clue ss) ≡ true
-painted_agrees l g p [] [] pos h d =
-    let e : length l ≤ p + (length l - p) = omega arith in
-    let gone : [] ≡ drop (p + (length l - p)) l = sym (drop_of_length-le l {i = p + (length l - p)} e) in
-    agrees_span l false (length l - p) p [] d (subst (λ (t : List Cell). agrees t [] ≡ true) gone refl)
-painted_agrees l g p [] (s ∷ ss) pos h d = absurd d
-painted_agrees l g p (c ∷ clue) [] pos h d = absurd d
-painted_agrees l g p (c ∷ clue) (s ∷ ss) pos h d =
-    let start : p + g ≤ s = d.0 in
-    let some : 0 < c = pos.0 in
-    let last : s + (c - 1) < length l = (d.2 (c - 1) (omega arith)).0 in
-    let e : s ≡ p + (s - p) = omega arith in
-    let rest = painted_agrees l 1 (s + c) clue ss pos.1 (omega arith) d.3 in
-    let run = agrees_span l true c s (painted (length l) (s + c) clue ss) d.2 rest in
-    agrees_span l false (s - p) p (replicate c true ++ painted (length l) (s + c) clue ss) d.1
-    (subst (λ (k : ℕ). agrees (drop k l) (replicate c true ++ painted (length l) (s + c) clue ss) ≡ true) e run)
-
--- after a run comes a blank cell, or none
-painted_head : (l : List Cell) (n p : ℕ) (clue ss : List ℕ) → Laid l 1 p clue ss → get_or (painted n p clue ss) 0 false ≡ false
-painted_head l n p [] [] d = by (n - p)
-  where
-    by : (m : ℕ) → get_or (replicate m false ++ []) 0 false ≡ false
-    by zero = refl
-    by (suc m) = refl
-painted_head l n p [] (s ∷ ss) d = absurd d
-painted_head l n p (c ∷ clue) [] d = absurd d
-painted_head l n p (c ∷ clue) (s ∷ ss) d = by (s - p) (let start : p + 1 ≤ s = d.0 in omega arith)
-  where
-    by : (m : ℕ) → 0 < m → get_or (replicate m false ++ (replicate c true ++ painted n (s + c) clue ss)) 0 false ≡ false
-    by zero h = absurd (omega arith)
-    by (suc m) h = refl
+first_least clue ss apart (suc j) h = omega (arith, first_least clue ss apart j (omega arith), apart j h)
 
 runs_blanks : (m : ℕ) (y : List Bool) → runs (replicate m false ++ y) ≡ runs y
 runs_blanks zero y = refl
 runs_blanks (suc m) y = runs_blanks m y
 
-painted_runs : (l : List Cell) (g n p : ℕ) (clue ss : List ℕ) → ArePositive clue → Laid l g p clue ss → runs (painted n p clue ss) ≡ clue
-painted_runs l g n p [] [] pos d = runs_blanks (n - p) []
-painted_runs l g n p [] (s ∷ ss) pos d = absurd d
-painted_runs l g n p (c ∷ clue) [] pos d = absurd d
-painted_runs l g n p (c ∷ clue) (s ∷ ss) pos d =
-    let rest = painted n (s + c) clue ss in
-    runs_blanks (s - p) (replicate c true ++ rest) ∙ runs_first c rest pos.0 (painted_head l n (s + c) clue ss d.3)
-    ∙ ap (λ (z : List ℕ). c ∷ z) (painted_runs l 1 n (s + c) clue ss pos.1 d.3)
+runs_run_first : (m c : ℕ) (y : List Bool) (clue : List ℕ) → 0 < c → get_or y 0 false ≡ false → runs y ≡ clue
+    → runs (replicate m false ++ (replicate c true ++ y)) ≡ c ∷ clue
+runs_run_first m c y clue some k e =
+    runs_blanks m (replicate c true ++ y) ∙ runs_first c y some k ∙ ap (λ (z : List ℕ). c ∷ z) e
 
-starts_blanks : (m p : ℕ) (y : List Bool) → starts_from p false (replicate m false ++ y) ≡ starts_from (p + m) false y
-starts_blanks zero p y = let e : p ≡ p + 0 = omega arith in ap (λ (k : ℕ). starts_from k false y) e
-starts_blanks (suc m) p y =
-    let e : suc p + m ≡ p + suc m = omega arith in starts_blanks m (suc p) y ∙ ap (λ (k : ℕ). starts_from k false y) e
+starts_past : (v : Bool) (m p q : ℕ) (y : List Bool) → p + m ≡ q → starts_from p v (replicate m v ++ y) ≡ starts_from q v y
+starts_past v zero p q y e = ap (λ (k : ℕ). starts_from k v y) (sym (add-zero p) ∙ e)
+starts_past true (suc m) p q y e = starts_past true m (suc p) q y (omega arith)
+starts_past false (suc m) p q y e = starts_past false m (suc p) q y (omega arith)
 
-starts_open : (m p : ℕ) (y : List Bool) → starts_from p true (replicate m true ++ y) ≡ starts_from (p + m) true y
-starts_open zero p y = let e : p ≡ p + 0 = omega arith in ap (λ (k : ℕ). starts_from k true y) e
-starts_open (suc m) p y = let e : suc p + m ≡ p + suc m = omega arith in starts_open m (suc p) y ∙ ap (λ (k : ℕ). starts_from k true y) e
+starts_first : (m c p s : ℕ) (y : List Bool) (ss : List ℕ) → p + m ≡ s → 0 < c → get_or y 0 false ≡ false
+    → starts_from (s + c) false y ≡ ss → starts_from p false (replicate m false ++ (replicate c true ++ y)) ≡ s ∷ ss
+starts_first m zero p s y ss e h k r = absurd (omega arith)
+starts_first m (suc n) p s y ss e h k r =
+    starts_past false m p s (replicate (suc n) true ++ y) e
+    ∙ ap (λ (z : List ℕ). s ∷ z) (starts_past true n (suc s) (s + suc n) y (omega arith) ∙ closed (s + suc n) y k ∙ r)
+  where
+    closed : (p : ℕ) (y : List Bool) → get_or y 0 false ≡ false → starts_from p true y ≡ starts_from p false y
+    closed p [] h = refl
+    closed p (true ∷ y) h = cc
+    closed p (false ∷ y) h = refl
 
-starts_closed : (p : ℕ) (y : List Bool) → get_or y 0 false ≡ false → starts_from p true y ≡ starts_from p false y
-starts_closed p [] h = refl
-starts_closed p (true ∷ y) h = cc
-starts_closed p (false ∷ y) h = refl
+blank_head : (m : ℕ) (y : List Bool) → (0 < length y → 0 < m) → get_or (replicate m false ++ y) 0 false ≡ false
+blank_head zero [] h = refl
+blank_head zero (b ∷ y) h = absurd (omega (arith, h (omega arith)))
+blank_head (suc m) y h = refl
 
-starts_first : (c s : ℕ) (y : List Bool) → 0 < c → get_or y 0 false ≡ false
-    → starts_from s false (replicate c true ++ y) ≡ s ∷ starts_from (s + c) false y
-starts_first zero s y h k = absurd (omega arith)
-starts_first (suc n) s y h k =
-    let e : suc s + n ≡ s + suc n = omega arith in
-    ap (λ (z : List ℕ). s ∷ z) (starts_open n (suc s) y ∙ ap (λ (q : ℕ). starts_from q true y) e ∙ starts_closed (s + suc n) y k)
+-- the cells from place `p` on of a line with runs at the starts
+record Painted (l : List Cell) (p : ℕ) (clue ss : List ℕ) : Type 0 where
+  full : List Bool
+  agree : agrees (drop p l) full ≡ true
+  runs_are : runs full ≡ clue
+  starts_are : starts_from p false full ≡ ss
+  head : (0 < length clue → p < get_or ss 0 0) → get_or full 0 false ≡ false
 
-painted_starts : (l : List Cell) (g n p : ℕ) (clue ss : List ℕ) → ArePositive clue → Laid l g p clue ss
-    → starts_from p false (painted n p clue ss) ≡ ss
-painted_starts l g n p [] [] pos d = starts_blanks (n - p) p []
-painted_starts l g n p [] (s ∷ ss) pos d = absurd d
-painted_starts l g n p (c ∷ clue) [] pos d = absurd d
-painted_starts l g n p (c ∷ clue) (s ∷ ss) pos d =
-    let start : p + g ≤ s = d.0 in
-    let rest = painted n (s + c) clue ss in
-    let e : p + (s - p) ≡ s = omega arith in
-    starts_blanks (s - p) p (replicate c true ++ rest) ∙ ap (λ (k : ℕ). starts_from k false (replicate c true ++ rest)) e
-    ∙ starts_first c s rest pos.0 (painted_head l n (s + c) clue ss d.3)
-    ∙ ap (λ (z : List ℕ). s ∷ z) (painted_starts l 1 n (s + c) clue ss pos.1 d.3)
+paint : (l : List Cell) (p : ℕ) (clue ss : List ℕ) → ArePositive clue → p ≤ length l → length ss ≡ length clue
+    → (0 < length clue → p ≤ get_or ss 0 0)
+    → ((j : ℕ) → j < length clue → AllFrom (MayBe l true) (get_or clue j 0) (get_or ss j 0)) → StandApart clue ss
+    → ((i : ℕ) → p ≤ i → i < length l → IsFree clue ss i → MayBe l false i) → Painted l p clue ss
+paint l p [] [] pos h e first windows apart blanks =
+    let m = length l - p in record {
+      full = replicate m false ++ [];
+      agree = agrees_span l false m p (length l) [] (omega arith)
+          (λ z b. blanks (p + z) (omega arith) (omega arith) (λ j h from to. absurd (omega arith)))
+          (rw (drop_of_length-le l {i = length l} (omega arith)) refl);
+      runs_are = runs_blanks m [];
+      starts_are = starts_past false m p (length l) [] (omega arith);
+      head = λ h. blank_head m [] (λ k. absurd (omega arith));
+    }
+paint l p [] (s ∷ ss) pos h e first windows apart blanks = absurd (omega arith)
+paint l p (c ∷ clue) [] pos h e first windows apart blanks = absurd (omega arith)
+paint l p (c ∷ clue) (s ∷ ss) pos h e first windows apart blanks =
+    let some : 0 < c = pos.0 in
+    let start : p ≤ s = first (omega arith) in
+    let window : AllFrom (MayBe l true) c s = windows 0 (omega arith) in
+    let last = (window (c - 1) (omega arith)).0 in
+    let next : 0 < length clue → s + c < get_or ss 0 0 = λ h. apart 0 (omega arith) in
+    let rest = paint l (s + c) clue ss pos.1 (omega arith) (omega arith) (λ h. omega (arith, next h))
+        (λ j h. windows (suc j) (omega arith)) (λ j h. apart (suc j) (omega arith))
+        (λ i a h free. blanks i (omega arith) h (by i a free)) in
+    let y = replicate c true ++ rest.full in
+    let closed = rest.head next in record {
+      full = replicate (s - p) false ++ y;
+      agree = agrees_span l false (s - p) p s y (omega arith)
+          (λ z b. blanks (p + z) (omega arith) (omega arith) (λ j h from to.
+              absurd (omega (arith, first_least (c ∷ clue) (s ∷ ss) apart j h))))
+          (agrees_span l true c s (s + c) rest.full refl window rest.agree);
+      runs_are = runs_run_first (s - p) c rest.full clue some closed rest.runs_are;
+      starts_are = starts_first (s - p) c p s rest.full ss (omega arith) some closed rest.starts_are;
+      head = λ h. blank_head (s - p) y (λ k. omega (arith, h (omega arith)));
+    }
+  where
+    by : (i : ℕ) → s + c ≤ i → IsFree clue ss i → IsFree (c ∷ clue) (s ∷ ss) i
+    by i a free zero h from to = absurd (omega arith)
+    by i a free (suc j) h from to = free j (omega arith) from to
 
 -- starts that lay a clue are those of a placing
 pub placing_of : (l : List Cell) (clue ss : List ℕ) → ArePositive clue → IsLaid l clue ss
     → (x : List Bool) × (agrees l x ≡ true) × (runs x ≡ clue) × (starts_from 0 false x ≡ ss)
 placing_of l clue ss pos d =
-    let steps = laid_from l 0 0 clue ss d.count (λ h. omega arith) d.windows d.apart (λ i a h free. d.blanks i h free) pos in (
-      painted (length l) 0 clue ss,
-      painted_agrees l 0 0 clue ss pos (omega arith) steps,
-      painted_runs l 0 (length l) 0 clue ss pos steps,
-      painted_starts l 0 (length l) 0 clue ss pos steps,
-    )
+    let x = paint l 0 clue ss pos (omega arith) d.count (λ h. omega arith) d.windows d.apart (λ i a h free. d.blanks i h free) in
+    (x.full, x.agree, x.runs_are, x.starts_are)
 
 -- ---- the least starts and the greatest
 
@@ -227,8 +181,7 @@ abbrev Cut : List ℕ → List ℕ → ℕ → ℕ → Type 0
 Cut clue ss i n = ((q : ℕ) → q < n → get_or ss q 0 + get_or clue q 0 ≤ i) × ((q : ℕ) → n ≤ q → q < length clue → i < get_or ss q 0)
 
 -- which is so of each cell that is in no run
-cut_of : (clue ss : List ℕ) (i n : ℕ) → StandApart clue ss
-    → ((j : ℕ) → j < length clue → get_or ss j 0 ≤ i → i < get_or ss j 0 + get_or clue j 0 → ⊥) → n ≤ length clue
+cut_of : (clue ss : List ℕ) (i n : ℕ) → StandApart clue ss → IsFree clue ss i → n ≤ length clue
     → ((q : ℕ) → n ≤ q → q < length clue → i < get_or ss q 0) → (k : ℕ) × (k ≤ length clue) × Cut clue ss i k
 cut_of clue ss i zero apart free h later = (0, h, ((λ q a. absurd (omega arith)), later))
 cut_of clue ss i (suc n) apart free h later =

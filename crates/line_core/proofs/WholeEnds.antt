@@ -46,9 +46,8 @@ placing_with l clue k e pos h w =
     let first : s + 0 < length l = (cells 0 some).0 in
     let a = w.0.1.0 in
     let b = w.1 in
-    let past : e + 1 ≡ s + c = omega arith in
     let here : agrees (drop s l) (replicate c true ++ b.0) ≡ true =
-    agrees_span l true c s b.0 cells (subst (λ (n : ℕ). agrees (drop n l) b.0 ≡ true) past b.1) in
+    agrees_span l true c s (e + 1) b.0 (omega arith) cells b.1 in
     let long : length a.0 ≡ s = length-agrees (behind Unknown l s) a.0 a.1 ∙ length_behind Unknown l s in
     let x = onto a.0 (replicate c true ++ b.0) in
     let clue_at : c ∷ drop (k + 1) clue ≡ drop k clue = ap (λ (n : ℕ). c ∷ drop n clue) (add-one k) ∙ sym (drop-cons clue k 0 h) in
