@@ -1,5 +1,5 @@
 -- What the leftmost and the rightmost starts are.
-use Rattle.std.proofs.Common.{◌≡◌, ℕ, zero, suc, ◌<◌, Bool, true, false, List, [], ◌∷◌, length, map, Some, refl, sym, ap, ◌∙◌, subst, arith, inl, inr, ◌⊎◌, get_or, nat_le, filter}
+use Rattle.std.proofs.Common.{rules, ◌≡◌, ℕ, zero, suc, ◌<◌, Bool, true, false, List, [], ◌∷◌, length, map, Some, refl, sym, ap, ◌∙◌, subst, arith, inl, inr, ◌⊎◌, get_or, nat_le, filter}
 use Rattle.std.proofs.lemmas.List.Elements.{All-head, All-tail}
 use Rattle.std.specs.List.{All, list_all, find, range_with_len}
 use Rattle.std.proofs.lemmas.Bool.{cases_lt, leb-true, le-leb}
@@ -55,20 +55,16 @@ as_far Left = nat_le
 as_far Right = λ i other. nat_le other i
 
 is_far : (side : Side) (i other : ℕ) → as_far side i other ≡ true → IsAsFar side i other
-is_far Left i other h = leb-true i other h
-is_far Right i other h = leb-true other i h
+is_far side i other h = search (rules, leb-true)
 
 far_is : (side : Side) (i other : ℕ) → IsAsFar side i other → as_far side i other ≡ true
-far_is Left i other h = le-leb i other h
-far_is Right i other h = le-leb other i h
+far_is side i other h = search (rules, le-leb)
 
 far_same : (side : Side) (i : ℕ) → IsAsFar side i i
-far_same Left i = omega arith
-far_same Right i = omega arith
+far_same side i = search rules
 
 far_then : (side : Side) (i j k : ℕ) → IsAsFar side i j → IsAsFar side j k → IsAsFar side i k
-far_then Left i j k a b = omega arith
-far_then Right i j k a b = omega arith
+far_then side i j k a b = search rules
 
 either_far : (side : Side) (i j : ℕ) → IsAsFar side i j ⊎ IsAsFar side j i
 either_far Left i j = elim (cases_lt i j) [ inl low ↦ inl (omega arith) | inr high ↦ inr (omega arith) ]

@@ -15,10 +15,8 @@ use Rattle.line_core.proofs.Certain.{CanBe}
 
 -- a full line that agrees with a line is as long
 pub length-agrees : (l : List Cell) (x : List Bool) → agrees l x ≡ true → length x ≡ length l
-length-agrees [] [] h = refl
-length-agrees [] (b ∷ x) h = cc
-length-agrees (c ∷ l) [] h = cc
 length-agrees (c ∷ l) (b ∷ x) h = ap suc (length-agrees l x (and_parts (allows c b) (agrees l x) h).1)
+length-agrees l x h = search rules
 
 -- a filled cell is on the line
 pub filled_within : (x : List Bool) (i : ℕ) → get_or x i false ≡ true → i < length x
@@ -44,9 +42,7 @@ length_behind d xs (suc i) = ap suc (length_behind d xs i)
 -- what is behind a place, reversed in front of the rest, is the list
 pub onto_behind : {A : Type 0} (d : A) (xs : List A) (i : ℕ) → i ≤ length xs → onto (behind d xs i) (drop i xs) ≡ xs
 onto_behind d xs zero h = refl
-onto_behind d xs (suc i) h =
-    let within : i < length xs = omega arith in
-    ap (onto (behind d xs i)) (sym (drop-cons xs i d within)) ∙ onto_behind d xs i (omega arith)
+onto_behind d xs (suc i) h = ap (onto (behind d xs i)) (sym (drop-cons xs i d h)) ∙ onto_behind d xs i (omega arith)
 
 -- the elements of the second list stand behind the first
 pub get_or-onto : {A : Type 0} (d : A) (a b : List A) (z : ℕ) → get_or (onto a b) (length a + z) d ≡ get_or b z d
@@ -55,22 +51,19 @@ get_or-onto d (x ∷ a) b z = grind (arith, common_steps)
 
 -- parts that agree make a whole that agrees
 pub agrees_onto : (s t : List Cell) (a b : List Bool) → agrees s a ≡ true → agrees t b ≡ true → agrees (onto s t) (onto a b) ≡ true
-agrees_onto [] t [] b h k = k
-agrees_onto [] t (x ∷ a) b h k = cc
-agrees_onto (c ∷ s) t [] b h k = cc
 agrees_onto (c ∷ s) t (x ∷ a) b h k =
     agrees_onto s (c ∷ t) a (x ∷ b) (and_parts (allows c x) (agrees s a) h).1
     (and_from (allows c x) (agrees t b) (and_parts (allows c x) (agrees s a) h).0 k)
+agrees_onto s t a b h k = search rules
 
 -- and the parts of a whole that agrees do so
 pub onto_agrees : (s t : List Cell) (a b : List Bool) → length s ≡ length a → agrees (onto s t) (onto a b) ≡ true
     → (agrees s a ≡ true) × (agrees t b ≡ true)
 onto_agrees [] t [] b e h = (refl, h)
-onto_agrees [] t (x ∷ a) b e h = absurd (omega arith)
-onto_agrees (c ∷ s) t [] b e h = absurd (omega arith)
 onto_agrees (c ∷ s) t (x ∷ a) b e h =
     let r = onto_agrees s (c ∷ t) a (x ∷ b) (omega arith) h in
     (and_from (allows c x) (agrees s a) (and_parts (allows c x) (agrees t b) r.1).0 r.0, (and_parts (allows c x) (agrees t b) r.1).1)
+onto_agrees s t a b e h = search rules
 
 -- the first of the elements that are left
 pub drop_head : (xs : List ℕ) (i r : ℕ) (q : List ℕ) → r ∷ q ≡ drop i xs → (get_or xs i 0 ≡ r) × (q ≡ drop (suc i) xs) × (i < length xs)
@@ -176,14 +169,12 @@ drop_past (c ∷ l) (suc s) b y h = let r = drop_past l s b y h in ((omega (arit
 -- and cells that agree with a run may be filled
 pub run_agrees : (l : List Cell) (n s : ℕ) (y : List Bool) → agrees (drop s l) (replicate n true ++ y) ≡ true
     → AllFrom (MayBe l true) n s × (agrees (drop (s + n) l) y ≡ true)
-run_agrees l zero s y h =
-    let e : s ≡ s + 0 = omega arith in
-    (λ z b. absurd (omega arith), subst (λ (k : ℕ). agrees (drop k l) y ≡ true) e h)
+run_agrees l zero s y h = (λ z b. absurd (omega arith), rw (add-zero s) h)
 run_agrees l (suc n) s y h =
     let first = drop_past l s true (replicate n true ++ y) h in
     let rest = run_agrees l n (suc s) y first.1 in
-    let e : suc s + n ≡ s + suc n = omega arith in
-    (λ z b. by first.0 rest.0 z b, subst (λ (k : ℕ). agrees (drop k l) y ≡ true) e rest.1)
+    let e : s + suc n ≡ suc s + n = omega arith in
+    (λ z b. by first.0 rest.0 z b, rw e rest.1)
   where
     by : MayBe l true s → AllFrom (MayBe l true) n (suc s) → (z : ℕ) → z < suc n → MayBe l true (s + z)
     by here later zero b = let f : s ≡ s + 0 = omega arith in subst (MayBe l true) f here
@@ -191,9 +182,7 @@ run_agrees l (suc n) s y h =
 
 -- the cells of a run are filled
 pub get_or-run : (n : ℕ) (y : List Bool) (z : ℕ) → z < n → get_or (replicate n true ++ y) z false ≡ true
-get_or-run zero y z h = absurd (omega arith)
-get_or-run (suc n) y zero h = refl
-get_or-run (suc n) y (suc z) h = get_or-run n y z (omega arith)
+get_or-run n y z h = grind (arith, common_steps)
 
 -- a line begins with a run of `count` cells, or none, that does not go on
 pub record Begins (y : List Bool) : Type 0 where
@@ -222,11 +211,8 @@ blankable_to l clue i (j, jl, gap, ahead) =
     let b = ahead.1 in
     let within : i < length l = gap.0.0 in
     let long : length a.0 ≡ i = length-agrees (behind Unknown l i) a.0 a.1 ∙ length_behind Unknown l i in
-    let split : drop i l ≡ get_or l i Unknown ∷ drop (suc i) l = drop-cons l i Unknown within in
-    let after : agrees (drop (suc i) l) b.0 ≡ true = subst (λ (k : ℕ). agrees (drop k l) b.0 ≡ true) (add-one i) b.1 in
-    let here : agrees (drop i l) (false ∷ b.0) ≡ true =
-    subst (λ (t : List Cell). agrees t (false ∷ b.0) ≡ true) (sym split)
-    (and_from (allows (get_or l i Unknown) false) (agrees (drop (suc i) l) b.0) gap.0.1 after) in
+    let here : agrees (drop i l) (false ∷ b.0) ≡ true = rw (drop-cons l i Unknown within)
+    (and_from (allows (get_or l i Unknown) false) (agrees (drop (suc i) l) b.0) gap.0.1 (rw (add-one i) at b.1)) in
     let at : length a.0 + 0 ≡ i = omega arith in (
       onto a.0 (false ∷ b.0),
       subst (λ (t : List Cell). agrees t (onto a.0 (false ∷ b.0)) ≡ true) (onto_behind Unknown l i (omega arith))
@@ -245,30 +231,19 @@ blankable_from l clue i h (x, agree, is, at) =
     let split : drop i x ≡ false ∷ b = drop-cons x i false within ∙ ap (λ (v : Bool). v ∷ b) at in
     let whole : onto a (false ∷ b) ≡ x = ap (onto a) (sym split) ∙ onto_behind false x i (omega arith) in
     let parts = onto_split (runs a) (runs b) clue (sym (runs_cut a b) ∙ ap runs whole ∙ is) in
-    let j = length (runs a) in
-    let both : agrees (onto (behind Unknown l i) (drop i l)) (onto a (false ∷ b)) ≡ true =
-    subst (λ (t : List Cell). agrees t (onto a (false ∷ b)) ≡ true) (sym (onto_behind Unknown l i (omega arith)))
-    (subst (λ (t : List Bool). agrees l t ≡ true) (sym whole) agree) in
-    let cut = onto_agrees (behind Unknown l i) (drop i l) a (false ∷ b) (length_behind Unknown l i ∙ sym (length_behind false x i)) both in
+    let cut = onto_agrees (behind Unknown l i) (drop i l) a (false ∷ b) (length_behind Unknown l i ∙ sym (length_behind false x i))
+    (rw (onto_behind Unknown l i (omega arith), whole) agree) in
     let here = drop_past l i false b cut.1 in
-    let after : agrees (drop (i + 1) l) b ≡ true = subst (λ (k : ℕ). agrees (drop k l) b ≡ true) (sym (add-one i)) here.1 in (
-      j,
-      parts.2,
-      (here.0, (a, cut.0, parts.0)),
-      (here.0, (b, after, parts.1)),
-    )
+    (length (runs a), parts.2, (here.0, (a, cut.0, parts.0)), (here.0, (b, rw (add-one i) here.1, parts.1)))
 
 -- ---- no run at an end: the end of the line, or a gap
 
 -- a placing whose first cell is blank has no run there
 pub closed_none : (cs : List ℕ) → MayBeginBlank [] cs → length cs ≡ 0
-closed_none cs ([], agree, is, closed) = sym (ap length is)
-closed_none cs (b ∷ y, agree, is, closed) = cc
+closed_none cs x = search rules
 
 pub closed_first : (c : Cell) (cells : List Cell) (cs : List ℕ) → MayBeginBlank (c ∷ cells) cs → (allows c false ≡ true) × HasPlacing cells cs
-closed_first c cells cs ([], agree, is, closed) = cc
-closed_first c cells cs (true ∷ y, agree, is, closed) = cc
-closed_first c cells cs (false ∷ y, agree, is, closed) = search rules
+closed_first c cells cs x = search rules
 
 -- a placing goes on with a blank cell before it
 pub first_closed : (c : Cell) (cells : List Cell) (cs : List ℕ) → allows c false ≡ true → HasPlacing cells cs → MayBeginBlank (c ∷ cells) cs
@@ -288,12 +263,12 @@ closed_behind_to l runs (suc s) sl h = search rules
 pub closed_behind_from : (l : List Cell) (runs : List ℕ) (s : ℕ) → ((s ≡ 0) × (length runs ≡ 0)) ⊎ ((1 ≤ s) × IsGapAfter l runs (s - 1))
     → MayBeginBlank (behind Unknown l s) runs
 closed_behind_from l runs zero (inl h) = none_closed runs h.1
-closed_behind_from l runs zero (inr h) = let bad : 1 ≤ 0 = h.0 in absurd (omega arith)
-closed_behind_from l runs (suc s) (inl h) = let bad : suc s ≡ 0 = h.0 in absurd (omega arith)
 closed_behind_from l runs (suc s) (inr h) =
     let e : suc s - 1 ≡ s = omega arith in
     let gap = subst (IsGapAfter l runs) e h.1 in
     first_closed (get_or l s Unknown) (behind Unknown l s) runs gap.0.1 gap.1
+closed_behind_from l runs zero (inr h) = absurd (omega (arith, h.0))
+closed_behind_from l runs (suc s) (inl h) = absurd (omega (arith, h.0))
 
 -- ---- a line and a clue seen from the other end
 

@@ -11,14 +11,10 @@ use Rattle.std.proofs.lemmas.Nat.Bits.{bit_at-zero}
 use Rattle.line_core.specs.steps.Reach.{MayBe, AreLengths}
 
 free_to : (c : Cell) → is_filled c ≡ false → allows c false ≡ true
-free_to Unknown e = refl
-free_to Filled e = absurd (true≢false e)
-free_to Blank e = refl
+free_to c e = search rules
 
 free_from : (c : Cell) → allows c false ≡ true → is_filled c ≡ false
-free_from Unknown e = refl
-free_from Filled e = absurd (true≢false (sym e))
-free_from Blank e = refl
+free_from c e = search rules
 
 -- a set of the places that another lacks, which has a line's cells of one colour, has those that may have the
 -- other colour

@@ -19,11 +19,8 @@ use Rattle.line_core.proofs.Painting.{laid, placing_of}
 -- ---- placings and starts
 
 -- a placing of the run that starts here
-record LonePlacing (l : List Cell) (clue : List ℕ) (s : ℕ) : Type 0 where
-  full : List Bool
-  agree : agrees l full ≡ true
-  runs_are : runs full ≡ clue
-  start : get_or (starts_from 0 false full) 0 0 ≡ s
+abbrev LonePlacing : List Cell → List ℕ → ℕ → Type 0
+LonePlacing l clue s = (x : List Bool) × (agrees l x ≡ true) × (runs x ≡ clue) × (get_or (starts_from 0 false x) 0 0 ≡ s)
 
 lone_placing : (l : List Cell) (clue : List ℕ) (s : ℕ) → ArePositive clue → length clue ≡ 1 → IsLoneStart l (get_or clue 0 0) s
     → LonePlacing l clue s
@@ -35,7 +32,7 @@ lone_placing l clue s pos one start =
       apart = λ j h. absurd (omega arith);
       blanks = λ i h free. start.blanks i h (λ low high. free 0 (omega arith) low high);
     }) in
-    record { full = p.0; agree = p.1; runs_are = p.2; start = ap (λ (ss : List ℕ). get_or ss 0 0) p.3 }
+    (p.0, p.1, p.2, ap (λ (ss : List ℕ). get_or ss 0 0) p.3)
   where
     first : (P : ℕ → Type 0) → P 0 → (j : ℕ) → j < length clue → P j
     first P at j h = let e : 0 ≡ j = omega arith in subst P e at
@@ -46,9 +43,7 @@ lone_start l clue x one agree is =
     let d = laid l clue x agree is in
     record {
       window = d.windows 0 (omega arith);
-      blanks = λ i h free. d.blanks i h (λ j k low high. let e : j ≡ 0 = omega arith in
-          free (subst (λ (z : ℕ). get_or (starts_from 0 false x) z 0 ≤ i) e low)
-          (subst (λ (z : ℕ). i < get_or (starts_from 0 false x) z 0 + get_or clue z 0) e high));
+      blanks = λ i h free. d.blanks i h (λ j k low high. let e : j ≡ 0 = omega arith in free (rw e at low) (rw e at high));
     }
 
 -- each filled cell is in the placing's run
@@ -56,68 +51,55 @@ of_run : (clue : List ℕ) (x : List Bool) (i : ℕ) → length clue ≡ 1 → r
     → (get_or (starts_from 0 false x) 0 0 ≤ i) × (i < get_or (starts_from 0 false x) 0 0 + get_or clue 0 0)
 of_run clue x i one is filled =
     let c = covered x clue i is filled in
-    let inside = c.inside in
-    let e : c.index ≡ 0 = omega arith in (
-      subst (λ (z : ℕ). get_or (starts_from 0 false x) z 0 ≤ i) e c.from,
-      subst (λ (z : ℕ). i < get_or (starts_from 0 false x) z 0 + get_or clue z 0) e c.to,
-    )
+    let e : c.index ≡ 0 = omega (arith, c.inside) in (rw e at c.from, rw e at c.to)
 
 -- a start from which the run fills the cell
-pub record FillsFrom (l : List Cell) (number i : ℕ) : Type 0 where
-  pub s : ℕ
-  pub start : IsLoneStart l number s
-  pub low : s ≤ i
-  pub high : i < s + number
+abbrev FillsFrom : List Cell → ℕ → ℕ → Type 0
+FillsFrom l number i = (s : ℕ) × IsLoneStart l number s × (s ≤ i) × (i < s + number)
 
 -- a start from which the run leaves the cell blank
-pub record LeavesFrom (l : List Cell) (number i : ℕ) : Type 0 where
-  pub s : ℕ
-  pub start : IsLoneStart l number s
-  pub out : (i < s) ⊎ (s + number ≤ i)
+abbrev LeavesFrom : List Cell → ℕ → ℕ → Type 0
+LeavesFrom l number i = (s : ℕ) × IsLoneStart l number s × ((i < s) ⊎ (s + number ≤ i))
 
 pub fills_to : (l : List Cell) (clue : List ℕ) (i : ℕ) → ArePositive clue → length clue ≡ 1 → IsFillable l clue i
     → FillsFrom l (get_or clue 0 0) i
 fills_to l clue i pos one h =
     let x = fillable_to l clue i pos h in
     let r = of_run clue x.0 i one x.2 x.3 in
-    record { s = get_or (starts_from 0 false x.0) 0 0; start = lone_start l clue x.0 one x.1 x.2; low = r.0; high = r.1 }
+    (get_or (starts_from 0 false x.0) 0 0, lone_start l clue x.0 one x.1 x.2, r.0, r.1)
 
 pub fills_from : (l : List Cell) (clue : List ℕ) (i s : ℕ) → ArePositive clue → length clue ≡ 1 → IsLoneStart l (get_or clue 0 0) s → s ≤ i
     → i < s + get_or clue 0 0 → IsFillable l clue i
 fills_from l clue i s pos one start low high =
     let p = lone_placing l clue s pos one start in
-    let at = p.start in
-    fillable_from l clue i (p.full, p.agree, p.runs_are, in_run p.full clue 0 i p.runs_are (omega arith) (omega arith) (omega arith))
+    let at = p.3 in
+    fillable_from l clue i (p.0, p.1, p.2, in_run p.0 clue 0 i p.2 (omega arith) (omega arith) (omega arith))
 
 pub leaves_to : (l : List Cell) (clue : List ℕ) (i : ℕ) → length clue ≡ 1 → IsBlankable l clue i → LeavesFrom l (get_or clue 0 0) i
 leaves_to l clue i one h =
     let x = blankable_to l clue i h in
     let s = get_or (starts_from 0 false x.0) 0 0 in
-    record {
-      s = s;
-      start = lone_start l clue x.0 one x.1 x.2;
-      out = elim (cases_lt i s) [
-        | inl before ↦ inl before
-        | inr from ↦ elim (cases_lt i (s + get_or clue 0 0)) [
-          | inl inside ↦ absurd (true≢false (sym (in_run x.0 clue 0 i x.2 (omega arith) from inside) ∙ x.3))
-          | inr after ↦ inr after
-        ]
-      ];
-    }
+    (s, lone_start l clue x.0 one x.1 x.2, elim (cases_lt i s) [
+      | inl before ↦ inl before
+      | inr from ↦ elim (cases_lt i (s + get_or clue 0 0)) [
+        | inl inside ↦ absurd (true≢false (sym (in_run x.0 clue 0 i x.2 (omega arith) from inside) ∙ x.3))
+        | inr after ↦ inr after
+      ]
+    ])
 
 pub leaves_from : (l : List Cell) (clue : List ℕ) (i s : ℕ) → ArePositive clue → length clue ≡ 1 → i < length l
     → IsLoneStart l (get_or clue 0 0) s → (i < s) ⊎ (s + get_or clue 0 0 ≤ i) → IsBlankable l clue i
 leaves_from l clue i s pos one within start out =
     let p = lone_placing l clue s pos one start in
-    blankable_from l clue i within (p.full, p.agree, p.runs_are, blank (get_or p.full i false) p refl)
+    blankable_from l clue i within (p.0, p.1, p.2, blank (get_or p.0 i false) p refl)
   where
-    blank : (b : Bool) → (p : LonePlacing l clue s) → get_or p.full i false ≡ b → get_or p.full i false ≡ false
+    blank : (b : Bool) → (p : LonePlacing l clue s) → get_or p.0 i false ≡ b → get_or p.0 i false ≡ false
     blank false p e = e
     blank true p e =
-        let r = of_run clue p.full i one p.runs_are e in
+        let r = of_run clue p.0 i one p.2 e in
         let low = r.0 in
         let high = r.1 in
-        let at = p.start in
+        let at = p.3 in
         elim out [ inl x ↦ absurd (omega arith) | inr y ↦ absurd (omega arith) ]
 
 -- ---- the masks
@@ -125,14 +107,6 @@ leaves_from l clue i s pos one within start out =
 free_unless : (l : List Cell) (free filled : ℕ) (i : ℕ) → IsMaskOf (MayBe l false) free
     → ((k : ℕ) → k < length l → has free k ≡ false → Has filled k) → (Has filled i → ⊥) → i < length l → MayBe l false i
 free_unless l free filled i f from none h = search rules
-
-window_to : (l : List Cell) (room number i : ℕ) → IsMaskOf (MayBe l true) room → AllFrom (Has room) number i
-    → AllFrom (MayBe l true) number i
-window_to l room number i r h = λ z b. r.to (i + z) (h z b)
-
-window_from : (l : List Cell) (room number i : ℕ) → IsMaskOf (MayBe l true) room → AllFrom (MayBe l true) number i
-    → AllFrom (Has room) number i
-window_from l room number i r h = λ z b. r.from (i + z) (h z b)
 
 -- a cell that must be filled is in the run
 must_fill : (l : List Cell) (free number s k : ℕ) → IsMaskOf (MayBe l false) free → IsLoneStart l number s → k < length l
@@ -147,10 +121,10 @@ pub starts_anywhere : (l : List Cell) (number free room len line filled starts :
 starts_anywhere l number free room len line filled starts e f r a p none w =
     mask_same (AllFrom (Has room) number) (IsLoneStart l number) starts w
     (λ i h. record {
-      window = window_to l room number i r h;
+      window = λ z b. r.to (i + z) (h z b);
       blanks = λ k b out. free_unless l free filled k f (λ z c lacks. p.from z (a.from z (omega arith), lacks)) (λ h. none_has filled k none h) b;
     })
-    (λ i s. window_from l room number i r s.window)
+    (λ i s z b. r.from (i + z) (s.window z b))
 
 -- the run has the first and the last cell that must be filled
 pub starts_about : (l : List Cell) (w number free room len line filled starts first last before some all after m : ℕ) → len ≡ length l
@@ -170,7 +144,7 @@ starts_about l w number free room len line filled starts first last before some 
         let low : i < first + 1 = b.to i two.1 in
         let high : last + 1 - number ≤ i = (d.to i h.1).1 in
         record {
-          window = window_to l room number i r (s.to i two.0);
+          window = λ z b. r.to (i + z) (s.to i two.0 z b);
           blanks = λ k within out. free_unless l free filled k f (λ z c lacks. p.from z (a.from z (omega arith), lacks))
               (λ x. let l0 = least k x in let g0 = greatest k x in out (omega arith) (omega arith)) within;
         }
@@ -184,7 +158,7 @@ starts_about l w number free room len line filled starts first last before some 
         let y = must i last start at_last in
         let low : i ≤ first = x.0 in
         let high : last < i + number = y.1 in (
-          q.from i (s.from i (window_from l room number i r start.window), b.from i (omega arith)),
+          q.from i (s.from i (λ z b. r.from (i + z) (start.window z b)), b.from i (omega arith)),
           d.from i (omega arith, omega arith, c.from (i - (last + 1 - number)) (omega arith)),
         )
 
@@ -193,13 +167,13 @@ pub lone_unfillable : (l : List Cell) (clue : List ℕ) (starts m : ℕ) → Are
     → IsMaskOf (IsLoneStart l (get_or clue 0 0)) starts → starts ≡ 0 → m ≡ 0 → IsMaskOf (IsFillable l clue) m
 lone_unfillable l clue starts m pos one s none e =
     none_is (IsFillable l clue) m e
-    (λ i h. let f = fills_to l clue i pos one h in none_has starts f.s none (s.from f.s f.start))
+    (λ i h. let f = fills_to l clue i pos one h in none_has starts f.0 none (s.from f.0 f.1))
 
 -- no start, no blank cell in a placing
 pub lone_unblankable : (l : List Cell) (clue : List ℕ) (starts m : ℕ) → length clue ≡ 1 → IsMaskOf (IsLoneStart l (get_or clue 0 0)) starts
     → starts ≡ 0 → m ≡ 0 → IsMaskOf (IsBlankable l clue) m
 lone_unblankable l clue starts m one s none e =
-    none_is (IsBlankable l clue) m e (λ i h. let f = leaves_to l clue i one h in none_has starts f.s none (s.from f.s f.start))
+    none_is (IsBlankable l clue) m e (λ i h. let f = leaves_to l clue i one h in none_has starts f.0 none (s.from f.0 f.1))
 
 -- each cell among as many from a start on
 pub lone_fillable : (l : List Cell) (clue : List ℕ) (w starts ends m : ℕ) → ArePositive clue → length clue ≡ 1 → 0 < get_or clue 0 0
@@ -220,12 +194,12 @@ lone_fillable l clue w starts ends m pos one some short s p q =
     from : (i : ℕ) → IsFillable l clue i → SomeFrom (Has ends) (get_or clue 0 0) i
     from i h =
         let f = fills_to l clue i pos one h in
-        let low = f.low in
-        let high = f.high in
-        let last : f.s + (get_or clue 0 0 - 1) < length l = (f.start.window (get_or clue 0 0 - 1) (omega arith)).0 in
-        let z = f.s + (get_or clue 0 0 - 1) - i in
-        let back : i + z - (get_or clue 0 0 - 1) ≡ f.s = omega arith in
-        (z, omega arith, p.from (i + z) (omega arith, omega arith, subst (Has starts) (sym back) (s.from f.s f.start)))
+        let low = f.2 in
+        let high = f.3 in
+        let last : f.0 + (get_or clue 0 0 - 1) < length l = (f.1.window (get_or clue 0 0 - 1) (omega arith)).0 in
+        let z = f.0 + (get_or clue 0 0 - 1) - i in
+        let back : i + z - (get_or clue 0 0 - 1) ≡ f.0 = omega arith in
+        (z, omega arith, p.from (i + z) (omega arith, omega arith, subst (Has starts) (sym back) (s.from f.0 f.1)))
 
 -- each cell but those that the run fills from each start
 pub lone_blankable : (l : List Cell) (clue : List ℕ) (w len line starts first last certain m : ℕ) → ArePositive clue → length clue ≡ 1
@@ -252,9 +226,9 @@ lone_blankable l clue w len line starts first last certain m pos one e short s a
         let x = c.to i h in
         let low : last ≤ i = x.1 in
         let high : i < first + get_or clue 0 0 = x.2 in
-        let most = greatest f.s (s.from f.s f.start) in
-        let few = least f.s (s.from f.s f.start) in
-        elim f.out [ inl y ↦ absurd (omega arith) | inr y ↦ absurd (omega arith) ]
+        let most = greatest f.0 (s.from f.0 f.1) in
+        let few = least f.0 (s.from f.0 f.1) in
+        elim f.2 [ inl y ↦ absurd (omega arith) | inr y ↦ absurd (omega arith) ]
 
     from : (i : ℕ) → IsBlankable l clue i → Has line i × (has certain i ≡ false)
     from i h =

@@ -1,5 +1,5 @@
 -- The placing whose starts are all least, and the one whose starts are all greatest.
-use Rattle.std.proofs.Common.{◌≡◌, ℕ, zero, suc, ◌+◌, ◌-◌, ◌<◌, ◌≤◌, Bool, true, false, not, ◌&&◌, List, [], ◌∷◌, length, map, Some, None, refl, sym, ap, ◌∙◌, subst, arith, get_or, ext_get_or, nat_le, set, take, MatchBool}
+use Rattle.std.proofs.Common.{rules, ◌≡◌, ℕ, zero, suc, ◌+◌, ◌-◌, ◌<◌, ◌≤◌, Bool, true, false, not, ◌&&◌, List, [], ◌∷◌, length, map, Some, None, refl, sym, ap, ◌∙◌, subst, arith, get_or, ext_get_or, nat_le, set, take, MatchBool}
 use Rattle.std.specs.List.{All, list_all, find}
 use Rattle.std.proofs.lemmas.List.Elements.{All-head, All-tail, All-weaker}
 use Rattle.std.proofs.lemmas.Bool.{and_parts, leb-true, le-leb}
@@ -33,16 +33,12 @@ witness_of l clue k e pos h w =
 
 pointwise_from : (xs ys : List ℕ) → length xs ≡ length ys → ((j : ℕ) → j < length xs → get_or xs j 0 ≤ get_or ys j 0)
     → pointwise nat_le xs ys ≡ true
-pointwise_from [] [] e h = refl
-pointwise_from [] (y ∷ ys) e h = absurd (omega arith)
-pointwise_from (x ∷ xs) [] e h = absurd (omega arith)
 pointwise_from (x ∷ xs) (y ∷ ys) e h =
     rw (le-leb x y (h 0 (omega arith)), pointwise_from xs ys (omega arith) (λ j l. h (suc j) (omega arith))) refl
+pointwise_from xs ys e h = search rules
 
 pointwise_to : (xs ys : List ℕ) → pointwise nat_le xs ys ≡ true → (length xs ≡ length ys) × ((j : ℕ) → get_or xs j 0 ≤ get_or ys j 0)
 pointwise_to [] [] h = (refl, λ j. omega arith)
-pointwise_to [] (y ∷ ys) h = cc
-pointwise_to (x ∷ xs) [] h = cc
 pointwise_to (x ∷ xs) (y ∷ ys) h =
     let t = and_parts (nat_le x y) (pointwise nat_le xs ys) h in
     let rest = pointwise_to xs ys t.1 in
@@ -51,6 +47,7 @@ pointwise_to (x ∷ xs) (y ∷ ys) h =
     by : x ≤ y → ((j : ℕ) → get_or xs j 0 ≤ get_or ys j 0) → (j : ℕ) → get_or (x ∷ xs) j 0 ≤ get_or (y ∷ ys) j 0
     by a b zero = a
     by a b (suc j) = b j
+pointwise_to xs ys h = search rules
 
 pub pointwise_antisym : (xs ys : List ℕ) → pointwise nat_le xs ys ≡ true → pointwise nat_le ys xs ≡ true → xs ≡ ys
 pointwise_antisym xs ys h k =
@@ -156,8 +153,7 @@ laid_end l clue ss j pos d h =
 
 as_far_start : (side : Side) (some end other start : ℕ) → 0 < some → start ≡ end + 1 - some → IsAsFar side end (other + some - 1)
     → IsAsFar side start other
-as_far_start Left some end other start s at far = omega arith
-as_far_start Right some end other start s at far = omega arith
+as_far_start side some end other start s at far = search rules
 
 -- the starts that are furthest to a side are those of one placing, which is the outermost
 pub outermost_is : (side : Side) (l : List Cell) (clue m : List ℕ) → ArePositive clue → HasPlacing l clue → length m ≡ length clue

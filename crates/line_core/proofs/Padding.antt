@@ -1,5 +1,5 @@
 -- A line with blank cells behind it has the placings of the line alone.
-use Rattle.std.proofs.Common.{◌≡◌, ℕ, zero, suc, ◌<◌, Bool, true, false, List, [], ◌∷◌, ◌++◌, length, replicate, get_or, refl, sym, ap, ◌∙◌, arith, true≢false, length-append}
+use Rattle.std.proofs.Common.{rules, ◌≡◌, ℕ, zero, suc, ◌<◌, Bool, true, false, List, [], ◌∷◌, ◌++◌, length, replicate, get_or, refl, sym, ap, ◌∙◌, arith, true≢false, length-append}
 use Rattle.std.proofs.lemmas.Bool.{and_from, and_parts}
 use Rattle.std.proofs.lemmas.List.{get_or_append_left}
 use Rattle.grid_core.specs.declared.cells.Cell.{Cell}
@@ -40,20 +40,16 @@ blanks_agree zero = refl
 blanks_agree (suc m) = blanks_agree m
 
 agree_blanks : (m : ℕ) (y : List Bool) → agrees (replicate m Blank) y ≡ true → y ≡ replicate m false
-agree_blanks zero [] h = refl
-agree_blanks zero (b ∷ y) h = cc
-agree_blanks (suc m) [] h = cc
-agree_blanks (suc m) (true ∷ y) h = absurd (true≢false (sym h))
 agree_blanks (suc m) (false ∷ y) h = ap (λ (t : List Bool). false ∷ t) (agree_blanks m y h)
+agree_blanks m y h = search rules
 
 agrees_more : (l : List Cell) (x : List Bool) (m : ℕ) → agrees l x ≡ true
     → agrees (l ++ replicate m Blank) (x ++ replicate m false) ≡ true
 agrees_more [] [] m h = blanks_agree m
-agrees_more [] (b ∷ x) m h = cc
-agrees_more (c ∷ l) [] m h = cc
 agrees_more (c ∷ l) (b ∷ x) m h =
     let parts = and_parts (allows c b) (agrees l x) h in
     and_from (allows c b) (agrees (l ++ replicate m Blank) (x ++ replicate m false)) parts.0 (agrees_more l x m parts.1)
+agrees_more l x m h = search rules
 
 agrees_cut : (l : List Cell) (y : List Bool) (m : ℕ) → agrees (l ++ replicate m Blank) y ≡ true
     → (x : List Bool) × (y ≡ x ++ replicate m false) × (agrees l x ≡ true)

@@ -1,5 +1,6 @@
 -- At which places the runs of a full line start.
 use Rattle.std.proofs.Common.{rules, ◌≡◌, ℕ, zero, suc, ◌+◌, ◌-◌, ◌<◌, ◌≤◌, Bool, true, false, not, cond, ◌&&◌, List, [], ◌∷◌, ◌++◌, length, replicate, filter, refl, sym, ap, ◌∙◌, subst, arith, add-zero, zero-add, add-one, true≢false, inl, inr, drop, get_or, drop-cons, append_assoc}
+use Rattle.std.proofs.Math.Seq.{get_or-append_seam}
 use Rattle.std.proofs.lemmas.Bool.{cases_lt}
 use Rattle.std.specs.List.{range_with_len}
 use Rattle.grid_core.specs.Runs.{runs}
@@ -29,22 +30,11 @@ starts-filter : (whole rest : List Bool) (p : ℕ) (after : Bool) → ((k : ℕ)
 starts-filter whole [] p after h = refl
 starts-filter whole (b ∷ rest) p after h =
     let here : starts_run whole p ≡ (b && not after) = ap (starts_run whole) (sym (add-zero p)) ∙ h 0 in
-    let later : filter (starts_run whole) (range_with_len (suc p) (length rest)) ≡ starts_from (suc p) b rest =
-    starts-filter whole rest (suc p) b next in
-    ap (λ (q : ℕ).
-    cond (starts_run whole p) (p ∷ filter (starts_run whole) (range_with_len q (length rest)))
-    (filter (starts_run whole) (range_with_len q (length rest)))) (add-one p)
-    ∙ ap (λ (t : Bool).
-    cond t (p ∷ filter (starts_run whole) (range_with_len (suc p) (length rest)))
-    (filter (starts_run whole) (range_with_len (suc p) (length rest)))) here
-    ∙ ap (λ (xs : List ℕ). cond (b && not after) (p ∷ xs) xs) later ∙ by b after
+    rw (add-one p, here, starts-filter whole rest (suc p) b next) (by b after)
   where
     by : (b after : Bool)
         → cond (b && not after) (p ∷ starts_from (suc p) b rest) (starts_from (suc p) b rest) ≡ starts_from p after (b ∷ rest)
-    by true true = refl
-    by true false = refl
-    by false true = refl
-    by false false = refl
+    by b after = search rules
 
     next : (k : ℕ) → starts_run whole (suc p + k) ≡ starts_at b rest k
     next zero = let e : suc p + 0 ≡ p + 1 = omega arith in ap (starts_run whole) e ∙ h 1
@@ -55,8 +45,7 @@ pub run_starts-from : (x : List Bool) → run_starts x ≡ starts_from 0 false x
 run_starts-from x = starts-filter x x 0 false (λ k. ap (starts_run x) (zero-add k) ∙ by k)
   where
     and_true : (b : Bool) → b ≡ (b && true)
-    and_true true = refl
-    and_true false = refl
+    and_true b = search rules
 
     by : (k : ℕ) → starts_run x k ≡ starts_at false x k
     by zero = and_true (get_or x 0 false)
@@ -65,22 +54,15 @@ run_starts-from x = starts-filter x x 0 false (λ k. ap (starts_run x) (zero-add
 -- ---- how many there are, and their order
 
 starts_one : (p : ℕ) (v b : Bool) (w : List Bool) → starts_from p v (b ∷ w) ≡ starts_from p v (b ∷ []) ++ starts_from (suc p) b w
-starts_one p true true w = refl
-starts_one p false true w = refl
-starts_one p true false w = refl
-starts_one p false false w = refl
+starts_one p v b w = search rules
 
 -- the starts of a line that is cut somewhere
 pub starts-onto : (a w : List Bool)
     → starts_from 0 false (onto a w) ≡ starts_from 0 false (onto a []) ++ starts_from (length a) (get_or a 0 false) w
 starts-onto [] w = refl
 starts-onto (b ∷ a) w =
-    let before = starts_from 0 false (onto a []) in
-    let one = starts_from (length a) (get_or a 0 false) (b ∷ []) in
-    let rest = starts_from (suc (length a)) b w in
-    starts-onto a (b ∷ w) ∙ ap (λ (xs : List ℕ). before ++ xs) (starts_one (length a) (get_or a 0 false) b w)
-    ∙ sym (append_assoc before one rest)
-    ∙ ap (λ (xs : List ℕ). xs ++ rest) (sym (starts-onto a (b ∷ [])))
+    rw (starts-onto a (b ∷ w), starts-onto a (b ∷ []), starts_one (length a) (get_or a 0 false) b w) (sym (append_assoc
+    (starts_from 0 false (onto a [])) (starts_from (length a) (get_or a 0 false) (b ∷ [])) (starts_from (suc (length a)) b w)))
 
 mutual
   length-starts : (p : ℕ) (x : List Bool) → length (starts_from p false x) ≡ length (runs_after 0 x)
@@ -125,8 +107,7 @@ starts_increase (true ∷ x) p (suc i) (suc j) false l h = starts_increase x (su
 starts_increase (false ∷ x) p i j after l h = starts_increase x (suc p) i j false l h
 
 before_more : (after b : Bool) (x : List Bool) (i : ℕ) → before b x i ≡ false → before after (b ∷ x) (suc i) ≡ false
-before_more after b x zero e = e
-before_more after b x (suc i) e = e
+before_more after b x i e = search rules
 
 -- each start is filled, and no filled cell comes right before it
 start_is : (x : List Bool) (p k : ℕ) (after : Bool) → k < length (starts_from p after x)
@@ -145,23 +126,10 @@ start_is (false ∷ x) p k after h =
 -- the start of a run that a line is cut round
 pub start_of_cut : (a : List Bool) (c : ℕ) (b : List Bool) → 0 < c → get_or a 0 false ≡ false
     → get_or (starts_from 0 false (onto a (replicate c true ++ b))) (length (runs a)) 0 ≡ length a
-start_of_cut a c b some closed =
-    let count : length (starts_from 0 false (onto a [])) ≡ length (runs a) = starts_before a closed in
-    let all : starts_from 0 false (onto a (replicate c true ++ b))
-    ≡ starts_from 0 false (onto a []) ++ starts_from (length a) false (replicate c true ++ b) =
-    starts-onto a (replicate c true ++ b)
-    ∙ ap (λ (t : Bool). starts_from 0 false (onto a []) ++ starts_from (length a) t (replicate c true ++ b)) closed in
-    ap (λ (xs : List ℕ). get_or xs (length (runs a)) 0) all
-    ∙ ap (λ (n : ℕ). get_or (starts_from 0 false (onto a []) ++ starts_from (length a) false (replicate c true ++ b)) n 0) (sym count)
-    ∙ past (starts_from 0 false (onto a [])) (starts_from (length a) false (replicate c true ++ b)) ∙ first_of c some
-  where
-    past : (xs ys : List ℕ) → get_or (xs ++ ys) (length xs) 0 ≡ get_or ys 0 0
-    past [] ys = refl
-    past (z ∷ xs) ys = past xs ys
-
-    first_of : (n : ℕ) → 0 < n → get_or (starts_from (length a) false (replicate n true ++ b)) 0 0 ≡ length a
-    first_of zero h = absurd (omega arith)
-    first_of (suc n) h = refl
+start_of_cut a zero b some closed = absurd (omega arith)
+start_of_cut a (suc n) b some closed =
+    rw (starts-onto a (replicate (suc n) true ++ b), closed, sym (starts_before a closed)) (get_or-append_seam
+    (starts_from 0 false (onto a [])) (length a) (starts_from (suc (length a)) true (replicate n true ++ b)) 0)
 
 -- run k of a line with a clue's runs, with what comes before it, last first, and after it
 pub record Run (x : List Bool) (clue : List ℕ) (k : ℕ) : Type 0 where
@@ -175,11 +143,8 @@ pub record Run (x : List Bool) (clue : List ℕ) (k : ℕ) : Type 0 where
   pub back_runs : runs back ≡ drop (suc k) clue
 
 -- the run that starts at a place
-record RunAt (x : List Bool) (clue : List ℕ) (s : ℕ) : Type 0 where
-  index : ℕ
-  inside : index < length clue
-  start_at : get_or (starts_from 0 false x) index 0 ≡ s
-  run : Run x clue index
+abbrev RunAt : List Bool → List ℕ → ℕ → Type 0
+RunAt x clue s = (j : ℕ) × (j < length clue) × (get_or (starts_from 0 false x) j 0 ≡ s) × Run x clue j
 
 run_at : (x : List Bool) (clue : List ℕ) (s : ℕ) → runs x ≡ clue → get_or x s false ≡ true → before false x s ≡ false → RunAt x clue s
 run_at x clue s is filled first =
@@ -197,21 +162,16 @@ run_at x clue s is filled first =
     let cut = drop_head clue j v.count (runs v.rest) parts.1 in
     let at : get_or (starts_from 0 false x) j 0 ≡ s =
     ap (λ (y : List Bool). get_or (starts_from 0 false y) j 0) (sym whole) ∙ start_of_cut a v.count v.rest some closed ∙ long in
-    record {
-      index = j;
-      inside = cut.2;
-      start_at = at;
-      run = record {
-        front = a;
-        back = v.rest;
-        whole = ap (λ (n : ℕ). onto a (replicate n true ++ v.rest)) cut.0 ∙ whole;
-        front_closed = closed;
-        back_closed = v.closed;
-        start = long ∙ sym at;
-        front_runs = parts.0;
-        back_runs = cut.1;
-      };
-    }
+    (j, cut.2, at, record {
+      front = a;
+      back = v.rest;
+      whole = ap (λ (n : ℕ). onto a (replicate n true ++ v.rest)) cut.0 ∙ whole;
+      front_closed = closed;
+      back_closed = v.closed;
+      start = long ∙ sym at;
+      front_runs = parts.0;
+      back_runs = cut.1;
+    })
   where
     head : (s : ℕ) → before false x s ≡ false → get_or (behind false x s) 0 false ≡ false
     head zero h = refl
@@ -232,10 +192,10 @@ run_of x clue k is h =
     let inside : k < length (starts_from 0 false x) = omega arith in
     let s = start_is x 0 k false inside in
     let r = run_at x clue s.0 is s.2 s.3 in
-    let there : r.index < length clue = r.inside in
+    let there : r.0 < length clue = r.1 in
     let value : get_or (starts_from 0 false x) k 0 ≡ s.0 = s.1 ∙ zero-add s.0 in
-    let same : r.index ≡ k = same_index x r.index k (omega arith) inside (r.start_at ∙ sym value) in
-    subst (Run x clue) same r.run
+    let same : r.0 ≡ k = same_index x r.0 k (omega arith) inside (r.2 ∙ sym value) in
+    subst (Run x clue) same r.3
 
 -- the cells of a run are filled
 pub filled_in_run : (x : List Bool) (clue : List ℕ) (k : ℕ) → Run x clue k → (z : ℕ) → z < get_or clue k 0
@@ -298,48 +258,33 @@ pub record Covered (x : List Bool) (clue : List ℕ) (i : ℕ) : Type 0 where
   pub from : get_or (starts_from 0 false x) index 0 ≤ i
   pub to : i < get_or (starts_from 0 false x) index 0 + get_or clue index 0
 
-record Stretch (x : List Bool) (i : ℕ) : Type 0 where
-  first : ℕ
-  from : first ≤ i
-  all : (z : ℕ) → first ≤ z → z ≤ i → get_or x z false ≡ true
-  free : before false x first ≡ false
+abbrev Stretch : List Bool → ℕ → Type 0
+Stretch x i = (k : ℕ) × (k ≤ i) × ((z : ℕ) → k ≤ z → z ≤ i → get_or x z false ≡ true) × (before false x k ≡ false)
 
 stretch_of : (x : List Bool) (i : ℕ) → get_or x i false ≡ true → Stretch x i
-stretch_of x zero h =
-    record {
-      first = 0;
-      from = omega arith;
-      all = λ z a b. let e : 0 ≡ z = omega arith in subst (λ (n : ℕ). get_or x n false ≡ true) e h;
-      free = refl;
-    }
+stretch_of x zero h = (0, omega arith, (λ z a b. let e : z ≡ 0 = omega arith in rw e h), refl)
 stretch_of x (suc i) h = by (get_or x i false) refl (stretch_of x i)
   where
     by : (b : Bool) → get_or x i false ≡ b → (get_or x i false ≡ true → Stretch x i) → Stretch x (suc i)
-    by false e below =
-        record {
-          first = suc i;
-          from = omega arith;
-          all = λ z a b. let e : suc i ≡ z = omega arith in subst (λ (n : ℕ). get_or x n false ≡ true) e h;
-          free = e;
-        }
+    by false e below = (suc i, omega arith, (λ z a b. let e : z ≡ suc i = omega arith in rw e h), e)
     by true e below = search rules
 
 -- each filled cell is in one
 pub covered : (x : List Bool) (clue : List ℕ) (i : ℕ) → runs x ≡ clue → get_or x i false ≡ true → Covered x clue i
 covered x clue i is h =
     let t = stretch_of x i h in
-    let from : t.first ≤ i = t.from in
-    let r = run_at x clue t.first is (t.all t.first (omega arith) from) t.free in
-    let start : get_or (starts_from 0 false x) r.index 0 ≡ t.first = r.start_at in
+    let from : t.0 ≤ i = t.1 in
+    let r = run_at x clue t.0 is (t.2 t.0 (omega arith) from) t.3 in
+    let start : get_or (starts_from 0 false x) r.0 0 ≡ t.0 = r.2 in
     record {
-      index = r.index;
-      inside = r.inside;
+      index = r.0;
+      inside = r.1;
       from = omega arith;
-      to = elim (cases_lt i (get_or (starts_from 0 false x) r.index 0 + get_or clue r.index 0)) [
+      to = elim (cases_lt i (get_or (starts_from 0 false x) r.0 0 + get_or clue r.0 0)) [
         | inl low ↦ low
         | inr high ↦
             absurd (true≢false
-            (sym (t.all (get_or (starts_from 0 false x) r.index 0 + get_or clue r.index 0) (omega arith) high)
-            ∙ blank_after_run x clue r.index r.run))
+            (sym (t.2 (get_or (starts_from 0 false x) r.0 0 + get_or clue r.0 0) (omega arith) high)
+            ∙ blank_after_run x clue r.0 r.3))
       ];
     }

@@ -21,10 +21,8 @@ whole_of l clue x k e agree is h at =
     let y = replicate c true ++ r.back in
     let long : length r.front ≡ s = r.start in
     let size : length r.front + length y ≡ length l = sym (length-onto r.front y) ∙ ap length r.whole ∙ length-agrees l x agree in
-    let both : agrees (onto (behind Unknown l s) (drop s l)) (onto r.front y) ≡ true =
-    subst (λ (t : List Cell). agrees t (onto r.front y) ≡ true) (sym (onto_behind Unknown l s (omega arith)))
-    (subst (λ (t : List Bool). agrees l t ≡ true) (sym r.whole) agree) in
-    let cut = onto_agrees (behind Unknown l s) (drop s l) r.front y (length_behind Unknown l s ∙ sym long) both in
+    let cut = onto_agrees (behind Unknown l s) (drop s l) r.front y (length_behind Unknown l s ∙ sym long)
+    (rw (onto_behind Unknown l s (omega arith), r.whole) agree) in
     let run = run_agrees l c s r.back cut.1 in
     let before : MayBeginBlank (behind Unknown l s) (behind 0 clue k) = (r.front, cut.0, r.front_runs, r.front_closed) in
     let rest_is : runs r.back ≡ drop (k + 1) clue = r.back_runs ∙ ap (λ (n : ℕ). drop n clue) (sym (add-one k)) in
