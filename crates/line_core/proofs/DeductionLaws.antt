@@ -99,14 +99,13 @@ pub record ListsPlacings (l : List Cell) (clue : List ℕ) (ps : List (List Bool
 -- a test that passes on every full line passes on each
 each_full : (n : ℕ) (q : List Bool → Bool) → list_all q (full_lines n) ≡ true → (x : List Bool) → length x ≡ n → q x ≡ true
 each_full zero q h [] e = (and_parts (q []) true h).0
-each_full zero q h (b ∷ x) e = cc
-each_full (suc n) q h [] e = cc
 each_full (suc n) q h (b ∷ x) e =
     let first = λ (b : Bool). map (λ (cells : List Bool). b ∷ cells) (full_lines n) in
     let both : (list_all q (first true) && list_all q (first false)) ≡ true = sym (list_all-append q (first true) (first false)) ∙ h in
     let parts = and_parts (list_all q (first true)) (list_all q (first false)) both in
     let all : list_all q (first b) ≡ true = elim b as (λ b. list_all q (first b) ≡ true) [ true ↦ parts.0 | false ↦ parts.1 ] in
     each_full n (λ cells. q (b ∷ cells)) (sym (list_all-map q (λ (cells : List Bool). b ∷ cells) (full_lines n)) ∙ all) x (omega arith)
+each_full n q h x e = search rules
 
 list_all-filter : (p q : List Bool → Bool) (xs : List (List Bool)) → list_all q (filter p xs) ≡ list_all (λ x. cond (p x) (q x) true) xs
 list_all-filter p q [] = refl

@@ -43,52 +43,37 @@ start_within clue j = sum_by-take-le (λ (n : ℕ). n + 1) clue j
 
 -- few runs, none of them long, need few cells
 pub start_few : (clue : List ℕ) (j : ℕ) → AreLengths 256 clue → j < length clue → least_start clue j + (get_or clue j 0 + 1) ≤ 257 * (j + 1)
-start_few clue zero are h = let size = length_at 256 clue 0 are h in omega arith
+start_few clue zero are h = omega (arith, (length_at 256 clue 0 are h).1)
 start_few clue (suc j) are h =
-    let size = length_at 256 clue (suc j) are h in
-    let before = start_few clue j are (omega arith) in
-    let next = start_next clue j (omega arith) in
-    omega arith
+    omega (arith, (length_at 256 clue (suc j) are h).1, start_few clue j are (omega arith), start_next clue j (omega arith))
 
 -- ---- at which places the runs of any placing start
 
 pub at_least : (l : List Cell) (clue ss : List ℕ) (j : ℕ) → IsLaid l clue ss → j < length clue → least_start clue j ≤ get_or ss j 0
 at_least l clue ss zero d h = omega arith
-at_least l clue ss (suc j) d h =
-    let before = at_least l clue ss j d (omega arith) in
-    let next = start_next clue j (omega arith) in
-    let apart = d.apart j h in
-    omega arith
+at_least l clue ss (suc j) d h = omega (arith, at_least l clue ss j d (omega arith), start_next clue j (omega arith), d.apart j h)
 
 pub at_most : (l : List Cell) (clue ss : List ℕ) (later j : ℕ) → ArePositive clue → IsLaid l clue ss → j + suc later ≡ length clue
     → get_or ss j 0 + needed clue ≤ length l + 1 + least_start clue j
 at_most l clue ss zero j pos d e =
     let h : j < length clue = omega arith in
     let some : 0 < get_or clue j 0 = positive_at clue pos j h in
-    let next = start_next clue j h in
     let end : suc j ≡ length clue = omega arith in
     let all : least_start clue (suc j) ≡ needed clue = ap (least_start clue) end ∙ start_last clue in
-    let within : get_or ss j 0 + (get_or clue j 0 - 1) < length l = (d.windows j h (get_or clue j 0 - 1) (omega arith)).0 in
-    omega arith
+    omega (arith, start_next clue j h, (d.windows j h (get_or clue j 0 - 1) (omega arith)).0)
 at_most l clue ss (suc later) j pos d e =
-    let after = at_most l clue ss later (suc j) pos d (omega arith) in
-    let next = start_next clue j (omega arith) in
-    let apart = d.apart j (omega arith) in
-    omega arith
+    omega (arith, at_most l clue ss later (suc j) pos d (omega arith), start_next clue j (omega arith), d.apart j (omega arith))
 
 starts_within : (l : List Cell) (clue ss : List ℕ) (j : ℕ) → ArePositive clue → IsLaid l clue ss → j < length clue
     → get_or ss j 0 + needed clue ≤ length l + 1 + least_start clue j
-starts_within l clue ss j pos d h =
-    let e : j + suc (length clue - suc j) ≡ length clue = omega arith in at_most l clue ss (length clue - suc j) j pos d e
+starts_within l clue ss j pos d h = at_most l clue ss (length clue - suc j) j pos d (omega arith)
 
 -- a clue that has a placing needs no more than there is
 pub fits : (l : List Cell) (clue : List ℕ) (x : List Bool) → ArePositive clue → agrees l x ≡ true → runs x ≡ clue
     → needed clue ≤ length l + 1
 fits l [] x pos agree is = omega arith
 fits l (c ∷ clue) x pos agree is =
-    let first = starts_within l (c ∷ clue) (starts_from 0 false x) 0 pos (laid l (c ∷ clue) x agree is) (omega arith) in
-    let none : least_start (c ∷ clue) 0 ≡ 0 = refl in
-    omega arith
+    omega (arith, starts_within l (c ∷ clue) (starts_from 0 false x) 0 pos (laid l (c ∷ clue) x agree is) (omega arith))
 
 -- an overlap is filled in each placing
 pub overlap_filled : (l : List Cell) (clue : List ℕ) (x : List Bool) (slack i : ℕ) → ArePositive clue → agrees l x ≡ true → runs x ≡ clue
@@ -96,9 +81,8 @@ pub overlap_filled : (l : List Cell) (clue : List ℕ) (x : List Bool) (slack i 
     → IsOverlap clue slack i → get_or x i false ≡ true
 overlap_filled l clue x slack i pos agree is e (j, h, from, to) =
     let d = laid l clue x agree is in
-    let low = at_least l clue (starts_from 0 false x) j d h in
-    let high = starts_within l clue (starts_from 0 false x) j pos d h in
-    in_run x clue j i is h (omega arith) (omega arith)
+    in_run x clue j i is h (omega (arith, starts_within l clue (starts_from 0 false x) j pos d h))
+    (omega (arith, at_least l clue (starts_from 0 false x) j d h))
 
 -- ---- placings on a line of which nothing is known
 
@@ -111,11 +95,9 @@ pub unknown_any : (len : ℕ) → AnyColour (replicate len Unknown)
 unknown_any len v i h = grind (arith, common_steps)
 
 -- a placing whose runs start after their least starts by what `shift` tells
-pub record Shifted (l : List Cell) (clue : List ℕ) (shift : ℕ → ℕ) : Type 0 where
-  pub full : List Bool
-  pub agree : agrees l full ≡ true
-  pub runs_are : runs full ≡ clue
-  pub starts : (j : ℕ) → j < length clue → get_or (starts_from 0 false full) j 0 ≡ least_start clue j + shift j
+abbrev Shifted : List Cell → List ℕ → (ℕ → ℕ) → Type 0
+Shifted l clue shift = (x : List Bool) × (agrees l x ≡ true) × (runs x ≡ clue)
+    × ((j : ℕ) → j < length clue → get_or (starts_from 0 false x) j 0 ≡ least_start clue j + shift j)
 
 abbrev shifted_starts : List ℕ → (ℕ → ℕ) → List ℕ
 shifted_starts clue shift = map (λ (j : ℕ). least_start clue j + shift j) (range_with_len 0 (length clue))
@@ -130,28 +112,12 @@ pub shifted : (l : List Cell) (clue : List ℕ) (slack : ℕ) (shift : ℕ → �
 shifted l clue slack shift any_cell pos e most up =
     let x = placing_of l clue (shifted_starts clue shift) pos (record {
       count = length-map-range_with_len (λ (j : ℕ). least_start clue j + shift j) 0 (length clue);
-      windows = windows;
-      apart = apart;
+      windows = λ j h z b. any_cell true (get_or (shifted_starts clue shift) j 0 + z)
+          (omega (arith, shifted_at clue shift j h, start_next clue j h, start_within clue (suc j), most j));
+      apart = λ j h. omega (arith, shifted_at clue shift j (omega arith), shifted_at clue shift (suc j) h, start_next clue j (omega arith),
+          up j h);
       blanks = λ i h free. any_cell false i h;
-    }) in
-    record { full = x.0; agree = x.1; runs_are = x.2; starts = λ j h. ap (λ (z : List ℕ). get_or z j 0) x.3 ∙ shifted_at clue shift j h }
-  where
-    windows : (j : ℕ) → j < length clue → AllFrom (MayBe l true) (get_or clue j 0) (get_or (shifted_starts clue shift) j 0)
-    windows j h z b =
-        let here = shifted_at clue shift j h in
-        let next = start_next clue j h in
-        let within = start_within clue (suc j) in
-        let far = most j in
-        any_cell true (get_or (shifted_starts clue shift) j 0 + z) (omega arith)
-
-    apart : (j : ℕ) → suc j < length clue
-        → get_or (shifted_starts clue shift) j 0 + get_or clue j 0 < get_or (shifted_starts clue shift) (suc j) 0
-    apart j h =
-        let here = shifted_at clue shift j (omega arith) in
-        let after = shifted_at clue shift (suc j) h in
-        let next = start_next clue j (omega arith) in
-        let more = up j h in
-        omega arith
+    }) in (x.0, x.1, x.2, λ j h. ap (λ (z : List ℕ). get_or z j 0) x.3 ∙ shifted_at clue shift j h)
 
 -- ---- a cell that is no overlap can be blank
 
@@ -164,12 +130,12 @@ pub can_be_blank : (l : List Cell) (clue : List ℕ) (slack i : ℕ) → AnyColo
 can_be_blank l clue slack i any_cell pos e none =
     let x = shifted l clue slack (away_from clue slack i) any_cell pos e (λ j. grind (arith, nat_tests))
     (λ j h. let next = start_next clue j (omega arith) in grind (arith, nat_tests)) in
-    (x.full, x.agree, x.runs_are, false_from_ne_true (get_or x.full i false) (by x))
+    (x.0, x.1, x.2, false_from_ne_true (get_or x.0 i false) (by x))
   where
-    by : (x : Shifted l clue (away_from clue slack i)) → get_or x.full i false ≡ true → ⊥
+    by : (x : Shifted l clue (away_from clue slack i)) → get_or x.0 i false ≡ true → ⊥
     by x f =
-        let c = covered x.full clue i x.runs_are f in
-        let at = x.starts c.index c.inside in
+        let c = covered x.0 clue i x.2 f in
+        let at = x.3 c.index c.inside in
         let from = c.from in
         let to = c.to in
         let near : least_start clue c.index + slack ≤ i = grind (arith, nat_tests) in
@@ -178,34 +144,31 @@ can_be_blank l clue slack i any_cell pos e none =
 -- ---- if there is a run that can move, each cell can be filled
 
 -- a run that fills the cell from one of its starts
-pub record Reaches (clue : List ℕ) (slack i : ℕ) : Type 0 where
-  pub index : ℕ
-  pub inside : index < length clue
-  pub from : least_start clue index ≤ i
-  pub to : i < least_start clue index + get_or clue index 0 + slack
+abbrev Reaches : List ℕ → ℕ → ℕ → Type 0
+Reaches clue slack i = (j : ℕ) × (j < length clue) × (least_start clue j ≤ i) × (i < least_start clue j + get_or clue j 0 + slack)
 
 reaches : (clue : List ℕ) (slack i j : ℕ) → 0 < slack → j < length clue → i < least_start clue j + get_or clue j 0 + slack
     → Reaches clue slack i
-reaches clue slack i zero some h to = record { index = 0; inside = h; from = omega arith; to = to }
+reaches clue slack i zero some h to = (0, h, omega arith, to)
 reaches clue slack i (suc j) some h to =
     let next = start_next clue j (omega arith) in
     elim (cases_lt i (least_start clue (suc j))) [
       | inl low ↦ reaches clue slack i j some (omega arith) (omega arith)
-      | inr high ↦ record { index = suc j; inside = h; from = high; to = to }
+      | inr high ↦ (suc j, h, high, to)
     ]
 
 filled_by : (l : List Cell) (clue : List ℕ) (slack i : ℕ) → AnyColour l → ArePositive clue → needed clue + slack ≡ length l + 1
     → Reaches clue slack i → CanBe l clue true i
 filled_by l clue slack i any_cell pos e r =
-    let some = positive_at clue pos r.index r.inside in
-    let low = r.from in
-    let high = r.to in
-    let by = i + 1 - (least_start clue r.index + get_or clue r.index 0) in
-    let x = shifted l clue slack (λ j. cond (nat_lt j r.index) 0 by) any_cell pos e (λ j. grind (arith, nat_tests))
+    let some = positive_at clue pos r.0 r.1 in
+    let low = r.2 in
+    let high = r.3 in
+    let by = i + 1 - (least_start clue r.0 + get_or clue r.0 0) in
+    let x = shifted l clue slack (λ j. cond (nat_lt j r.0) 0 by) any_cell pos e (λ j. grind (arith, nat_tests))
     (λ j h. grind (arith, nat_tests)) in
-    let shift : cond (nat_lt r.index r.index) 0 by ≡ by = grind (arith, nat_tests) in
-    let at = x.starts r.index r.inside in
-    (x.full, x.agree, x.runs_are, in_run x.full clue r.index i x.runs_are r.inside (omega arith) (omega arith))
+    let shift : cond (nat_lt r.0 r.0) 0 by ≡ by = grind (arith, nat_tests) in
+    let at = x.3 r.0 r.1 in
+    (x.0, x.1, x.2, in_run x.0 clue r.0 i x.2 r.1 (omega arith) (omega arith))
 
 pub can_be_filled : (l : List Cell) (clue : List ℕ) (slack i : ℕ) → AnyColour l → ArePositive clue → needed clue + slack ≡ length l + 1
     → 0 < slack → 0 < length clue → i < length l → CanBe l clue true i
@@ -217,11 +180,6 @@ can_be_filled l clue slack i any_cell pos e some any within =
     filled_by l clue slack i any_cell pos e (reaches clue slack i last some (omega arith) (omega arith))
 
 -- ---- the masks
-
--- a clue that needs more than there is has no placing
-pub unfit : (l : List Cell) (clue : List ℕ) (filled : Bool) (i : ℕ) → ArePositive clue → length l + 1 < needed clue → CanBe l clue filled i
-    → ⊥
-unfit l clue filled i pos long x = let most = fits l clue x.0 pos x.1 x.2 in omega arith
 
 -- the cells of the line without the overlaps
 pub blankable_is : (l : List Cell) (clue : List ℕ) (slack certain line m : ℕ) → AnyColour l → ArePositive clue
@@ -263,7 +221,7 @@ overlaps_fillable l clue slack certain any_cell pos e still c = mask_same (IsOve
     to : (i : ℕ) → IsOverlap clue slack i → IsFillable l clue i
     to i o =
         let x = shifted l clue slack (λ j. 0) any_cell pos e (λ j. omega arith) (λ j h. omega arith) in
-        fillable_from l clue i (x.full, x.agree, x.runs_are, overlap_filled l clue x.full slack i pos x.agree x.runs_are e o)
+        fillable_from l clue i (x.0, x.1, x.2, overlap_filled l clue x.0 slack i pos x.1 x.2 e o)
 
     from : (i : ℕ) → IsFillable l clue i → IsOverlap clue slack i
     from i h =
@@ -308,9 +266,7 @@ overlap_more clue w slack j start old some shifted new within h long at o p q r 
               let e : x.0 ≡ j = omega arith in
               let low : least_start clue j + slack ≤ i = subst (λ (k : ℕ). least_start clue k + slack ≤ i) e x.2 in
               let end : i < least_start clue j + get_or clue j 0 = subst (λ (k : ℕ). i < least_start clue k + get_or clue k 0) e x.3 in
-              let next = start_next clue j h in
-              let last = start_within clue (suc j) in
-              inr (q.from i (omega arith, omega arith, p.from (i - start) (omega arith))))
+              inr (q.from i (omega (arith, start_next clue j h, start_within clue (suc j)), omega arith, p.from (i - start) (omega arith))))
         ]
 
 -- a run that isn't longer than the slack has none
@@ -323,12 +279,14 @@ overlap_same clue slack j m short o = search rules
 -- then no cell can be filled
 pub unfit_fillable : (l : List Cell) (clue : List ℕ) (m : ℕ) → ArePositive clue → length l + 1 < needed clue → m ≡ 0
     → IsMaskOf (IsFillable l clue) m
-unfit_fillable l clue m pos long e = none_is (IsFillable l clue) m e (λ i h. unfit l clue true i pos long (fillable_to l clue i pos h))
+unfit_fillable l clue m pos long e =
+    none_is (IsFillable l clue) m e (λ i h. let x = fillable_to l clue i pos h in omega (arith, fits l clue x.0 pos x.1 x.2))
 
 -- nor blank
 pub unfit_blankable : (l : List Cell) (clue : List ℕ) (m : ℕ) → ArePositive clue → length l + 1 < needed clue → m ≡ 0
     → IsMaskOf (IsBlankable l clue) m
-unfit_blankable l clue m pos long e = none_is (IsBlankable l clue) m e (λ i h. unfit l clue false i pos long (blankable_to l clue i h))
+unfit_blankable l clue m pos long e =
+    none_is (IsBlankable l clue) m e (λ i h. let x = blankable_to l clue i h in omega (arith, fits l clue x.0 pos x.1 x.2))
 
 -- ---- a line of which nothing is known
 

@@ -36,10 +36,7 @@ without_at : (f b n i : ℕ) → IsMaskOf (λ i. Has f i × (has b i ≡ false))
 without_at f b n i p = search rules
 
 told_cell : (x y : Bool) → cell_with (x && not y) (y && not x) ≡ certain_by x y
-told_cell true true = refl
-told_cell true false = refl
-told_cell false true = refl
-told_cell false false = refl
+told_cell x y = search rules
 
 -- and the answer if it can have one
 pub told_some : (len f b m nf nb : ℕ) → IsMaskOf (λ i. Has f i ⊎ Has b i) m → has m 0 ≡ true

@@ -1,5 +1,5 @@
 -- `possible_colours`: run by run the pass goes on, and each run and the gap after it join the masks.
-use Rattle.std.proofs.Common.{◌-◌, ◌∙◌, ◌≡◌, ◌+◌, ◌<◌, ◌≤◌, List, length, map, get_or, ℕ, arith, refl, sym, subst}
+use Rattle.std.proofs.Common.{add-one, ◌-◌, ◌∙◌, ◌≡◌, ◌+◌, ◌<◌, ◌≤◌, List, length, map, get_or, ℕ, arith, refl, sym, subst}
 use Rattle.std.proofs.lemmas.Bool.{eqb-true, eqb-false}
 use Rattle.place_sets.specs.Masks.{IsMaskOf, SomeFrom, SomeLevel, AreLevelsOf}
 use Rattle.line_core.specs.steps.Reach.{behind, IsGap, IsGapAhead, IsWholeEnd, IsFillable}
@@ -15,8 +15,7 @@ loop-j-init g c =
     let line = g.line in
     let clue = c.args.clue.now in
     let pass = c.new-pass.ensures line (map number c.windows_within-windows.result) c.requires.1.1.0 c.windows_within-windows.ensures in
-    let gap : IsMaskOf (IsGap line clue 0) (number c.gap.result) =
-    subst (λ m. IsMaskOf (IsGap line clue 0) (number m)) (sym c.gap.ensures) pass.gap_is in
+    let gap : IsMaskOf (IsGap line clue 0) (number c.gap.result) = rw c.gap.ensures pass.gap_is in
     record {
       pass = pass;
       blank = blank_first line clue (number c.gap.result) (number c.gap_ahead.result)
@@ -46,17 +45,11 @@ loop-j-preserved g c =
     let clue = c.args.clue.now in
     let j = c.loop-j.j in
     let invariant = c.loop-j.invariant in
-    let new = c.step-ends.new.self in
-    let pass =
-    runs_more
-    (λ (runs : List ℕ).
-    IsPassOver g.W.PlaceSet.WIDTH g.W.PlaceSet.TOP line runs (number new.free) (map number c.windows_within-windows.result)
-    (number new.opening) (number new.gap)) clue j (get_or clue j 0) refl
-    (c.step-ends.ensures.passed line (behind 0 clue j) invariant.pass) in
+    let passed = c.step-ends.ensures.passed line (behind 0 clue j) invariant.pass in
     let gap : IsMaskOf (IsGap line clue (j + 1)) (number c.gap-in-loop-j.result) =
-    subst (λ m. IsMaskOf (IsGap line clue (j + 1)) (number m)) (sym c.gap-in-loop-j.ensures) pass.gap_is in
+    rw (c.gap-in-loop-j.ensures, add-one j) passed.gap_is in
     record {
-      pass = pass;
+      pass = rw (add-one j) passed;
       blank = blank_more line clue j (number c.gap-in-loop-j.result) (number c.gap_ahead-ahead.result) (number c.loop-j.blankable)
           (number c.intersection.result)
           (number c.union-blankable.result) gap c.gap_ahead-ahead.ensures invariant.blank c.intersection.ensures c.union-blankable.ensures;
@@ -72,12 +65,7 @@ whole_ends-last_whole-requires g c = λ κs within.
     let clue = c.args.clue.now in
     let last = length clue - 1 in
     let some : 0 < length clue = (let ne = eqb-false (length clue) 0 (sym c.is_empty.ensures ∙ c.if-is_empty.false) in omega arith) in
-    let pass = c.loop-j.pass in
     let e : c.loop-j.j ≡ last = (let test = c.loop-j-test.false in omega arith) in
-    let at =
-    subst
-    (λ n. IsPassOver g.W.PlaceSet.WIDTH g.W.PlaceSet.TOP line (behind 0 clue n) (number pass.free)
-    (map number c.windows_within-windows.result) (number pass.opening) (number pass.gap)) e c.loop-j.invariant.pass in
     let all : length clue ≡ last + 1 = omega arith in (
       within,
       (
@@ -87,7 +75,7 @@ whole_ends-last_whole-requires g c = λ κs within.
           (
             omega arith,
             (
-              c.step-last_ends.ensures.ends line (behind 0 clue last) at,
+              c.step-last_ends.ensures.ends line (behind 0 clue last) (rw e at c.loop-j.invariant.pass),
               subst (λ n. IsMaskOf (IsGapAhead line clue n) (number c.gap_ahead-after.result)) all c.gap_ahead-after.ensures,
             ),
           ),
@@ -102,13 +90,11 @@ returns-then-is_empty-clause-blank g c =
     let clue = c.args.clue.now in
     let none : length clue ≡ 0 = eqb-true (length clue) 0 (sym c.is_empty.ensures ∙ c.if-is_empty.true) in
     let pass = c.new-pass.ensures line (map number c.windows_within-windows.result) c.requires.1.1.0 c.windows_within-windows.ensures in
-    let gap : IsMaskOf (IsGap line clue 0) (number c.gap.result) =
-    subst (λ m. IsMaskOf (IsGap line clue 0) (number m)) (sym c.gap.ensures) pass.gap_is in
-    let first =
-    blank_first line clue (number c.gap.result) (number c.gap_ahead.result)
-    (number c.intersection-blankable.result) gap c.gap_ahead.ensures c.intersection-blankable.ensures in
+    let gap : IsMaskOf (IsGap line clue 0) (number c.gap.result) = rw c.gap.ensures pass.gap_is in
     subst (λ n. IsMaskOf (λ i. (q : ℕ) × (q ≤ n) × IsGap line clue q i × IsGapAhead line clue q i) (number c.intersection-blankable.result))
-    (sym none) first
+    (sym none)
+    (blank_first line clue (number c.gap.result) (number c.gap_ahead.result)
+    (number c.intersection-blankable.result) gap c.gap_ahead.ensures c.intersection-blankable.ensures)
 
 pub returns-clause-filled : goal.returns-clause-filled
 returns-clause-filled g c =
@@ -118,13 +104,10 @@ returns-clause-filled g c =
     let last = length clue - 1 in
     let some : 0 < length clue = (let ne = eqb-false (length clue) 0 (sym c.is_empty.ensures ∙ c.if-is_empty.false) in omega arith) in
     let e : c.loop-j.j ≡ last = (let test = c.loop-j-test.false in omega arith) in
-    let before =
-    subst
-    (λ n. AreLevelsOf (λ i. (q : ℕ) × (q < n) × SomeFrom (IsWholeEnd line clue q) (get_or clue q 0) i) g.W.PlaceSet.TOP
-    (map number c.loop-j.spread)) e c.loop-j.invariant.filled in
     let filled =
     fill_more line clue g.W.PlaceSet.TOP last (number c.whole_ends-last_whole.result) (map number c.loop-j.spread)
-    (map number c.add_spread-2.new.levels) c.whole_ends-last_whole.ensures c.add_spread-2.ensures before in
+    (map number c.add_spread-2.new.levels) c.whole_ends-last_whole.ensures c.add_spread-2.ensures
+    (rw e at c.loop-j.invariant.filled) in
     mask_same (SomeLevel g.W.PlaceSet.TOP (map number c.add_spread-2.new.levels)) (IsFillable line clue)
     (number c.spread_levels.result) c.spread_levels.ensures
     (λ i x. let h = filled.to i x in let b : h.0 < last + 1 = h.1 in (h.0, omega arith, h.2))
@@ -138,27 +121,12 @@ returns-clause-blank g c =
     let last = length clue - 1 in
     let some : 0 < length clue = (let ne = eqb-false (length clue) 0 (sym c.is_empty.ensures ∙ c.if-is_empty.false) in omega arith) in
     let e : c.loop-j.j ≡ last = (let test = c.loop-j-test.false in omega arith) in
-    let old = c.loop-j.pass in
-    let new = c.step-last_ends.new.self in
-    let at =
-    subst
-    (λ n. IsPassOver g.W.PlaceSet.WIDTH g.W.PlaceSet.TOP line (behind 0 clue n) (number old.free)
-    (map number c.windows_within-windows.result) (number old.opening) (number old.gap)) e c.loop-j.invariant.pass in
-    let pass =
-    runs_more
-    (λ (runs : List ℕ).
-    IsPassOver g.W.PlaceSet.WIDTH g.W.PlaceSet.TOP line runs (number new.free) (map number c.windows_within-windows.result)
-    (number new.opening) (number new.gap)) clue last (get_or clue last 0) refl
-    (c.step-last_ends.ensures.passed line (behind 0 clue last) at) in
-    let gap : IsMaskOf (IsGap line clue (last + 1)) (number c.gap-2.result) =
-    subst (λ m. IsMaskOf (IsGap line clue (last + 1)) (number m)) (sym c.gap-2.ensures) pass.gap_is in
+    let passed = c.step-last_ends.ensures.passed line (behind 0 clue last) (rw e at c.loop-j.invariant.pass) in
+    let gap : IsMaskOf (IsGap line clue (last + 1)) (number c.gap-2.result) = rw (c.gap-2.ensures, add-one last) passed.gap_is in
     let all : length clue ≡ last + 1 = omega arith in
     let ahead = subst (λ n. IsMaskOf (IsGapAhead line clue n) (number c.gap_ahead-after.result)) all c.gap_ahead-after.ensures in
-    let before =
-    subst
-    (λ n. IsMaskOf (λ i. (q : ℕ) × (q ≤ n) × IsGap line clue q i × IsGapAhead line clue q i) (number c.loop-j.blankable)) e
-    c.loop-j.invariant.blank in
     subst (λ n. IsMaskOf (λ i. (q : ℕ) × (q ≤ n) × IsGap line clue q i × IsGapAhead line clue q i) (number c.union-blankable-2.result))
     (sym all)
     (blank_more line clue last (number c.gap-2.result) (number c.gap_ahead-after.result) (number c.loop-j.blankable)
-    (number c.intersection-2.result) (number c.union-blankable-2.result) gap ahead before c.intersection-2.ensures c.union-blankable-2.ensures)
+    (number c.intersection-2.result) (number c.union-blankable-2.result) gap ahead (rw e at c.loop-j.invariant.blank)
+    c.intersection-2.ensures c.union-blankable-2.ensures)

@@ -1,5 +1,5 @@
 -- `write_reversed_gaps`: run by run the pass over the reversed line gives the next gap.
-use Rattle.std.proofs.Common.{ℕ, ◌+◌, ◌-◌, ◌<◌, ◌∙◌, List, length, map, reverse, get_or, sym, subst, arith}
+use Rattle.std.proofs.Common.{add-one, ℕ, ◌+◌, ◌-◌, ◌<◌, ◌∙◌, List, length, map, reverse, get_or, sym, subst, arith}
 use Rattle.std.proofs.Math.ListN.{length-set}
 use Rattle.std.proofs.lemmas.List.{map-set, length-map, get_or-reverse}
 use Rattle.place_sets.specs.Masks.{IsMaskOf}
@@ -17,8 +17,7 @@ loop-j-init g c =
     let gaps = c.args.gaps.now in
     let pass =
     c.new-pass.ensures line (map number c.windows_within-windows.result) c.reversed-reversed.ensures c.windows_within-windows.ensures in
-    let gap : IsMaskOf (IsGap line clue 0) (number c.gap.result) =
-    subst (λ m. IsMaskOf (IsGap line clue 0) (number m)) (sym c.gap.ensures) pass.gap_is in
+    let gap : IsMaskOf (IsGap line clue 0) (number c.gap.result) = rw c.gap.ensures pass.gap_is in
     let some : 0 < length (map number gaps) = omega (arith, length-map gaps number, c.told-gaps) in
     record {
       size = length-set gaps _ _ ∙ c.told-gaps;
@@ -36,22 +35,16 @@ loop-j-preserved g c =
     let clue = reverse c.args.clue.now in
     let gaps = c.loop-j.gaps in
     let j = c.loop-j.j in
-    let n = get_or c.args.clue.now (length c.args.clue.now - 1 - j) 0 in
-    let new = c.step.new.self in
-    let pass =
-    runs_more
-    (λ (runs : List ℕ).
-    IsPassOver g.W.PlaceSet.WIDTH g.W.PlaceSet.TOP line runs (number new.free) (map number c.windows_within-windows.result)
-    (number new.opening) (number new.gap)) clue j n
-    (sym (get_or-reverse c.args.clue.now j 0 c.loop-j-test.true)) (c.step.ensures.passed line (behind 0 clue j) c.loop-j.invariant.pass) in
+    let e = sym (get_or-reverse c.args.clue.now j 0 c.loop-j-test.true) in
+    let passed = rw e at (c.step.ensures.passed line (behind 0 clue j) c.loop-j.invariant.pass) in
     let gap : IsMaskOf (IsGap line clue (j + 1)) (number c.gap-in-loop-j.result) =
-    subst (λ m. IsMaskOf (IsGap line clue (j + 1)) (number m)) (sym c.gap-in-loop-j.ensures) pass.gap_is in
+    rw (c.gap-in-loop-j.ensures, add-one j) passed.gap_is in
     let size = c.loop-j.invariant.size in
     let test = c.loop-j-test.true in
     let some : j + 1 < length (map number gaps) = omega (arith, length-map gaps number, c.requires.1.1.1.1) in
     record {
       size = length-set gaps _ _ ∙ size;
-      pass = pass;
+      pass = rw (add-one j) passed;
       gaps = λ k h.
           subst (λ (t : List ℕ). IsMaskOf (IsGap line clue k) (get_or t k 0)) (sym (map-set number gaps (j + 1) c.gap-in-loop-j.result))
           (written_more (λ k m. IsMaskOf (IsGap line clue k) m) (map number gaps) (j + 1) (number c.gap-in-loop-j.result) some gap

@@ -1,5 +1,5 @@
 -- `write_starts`: run by run, the outermost of its ends in whole placings tells its start.
-use Rattle.std.proofs.Common.{◌≡◌, ◌+◌, ◌-◌, ◌<◌, ℕ, List, map, get_or, length-set, refl, sym, ◌∙◌, arith}
+use Rattle.std.proofs.Common.{add-one, ◌≡◌, ◌+◌, ◌-◌, ◌<◌, ℕ, List, map, get_or, length-set, refl, sym, ◌∙◌, arith}
 use Rattle.std.proofs.lemmas.Bool.{eqb-true}
 use Rattle.std.proofs.lemmas.List.Elements.{recursion_from_All}
 use Rattle.line_core.specs.steps.Reach.{behind}
@@ -34,14 +34,9 @@ loop-j-preserved g c =
     let j = c.loop-j.j in
     let invariant = c.loop-j.invariant in
     let place = c.outermost_place in
-    let new = c.step-ends.new.self in
     let count = c.requires.1.1.1.1.0.1 in
     record {
-      pass = runs_more
-          (λ (runs : List ℕ).
-          IsPassOver g.W.PlaceSet.WIDTH g.W.PlaceSet.TOP line runs (number new.free) (map number c.windows_within-windows.result)
-          (number new.opening) (number new.gap)) clue j (get_or clue j 0) refl
-          (c.step-ends.ensures.passed line (behind 0 clue j) invariant.pass);
+      pass = rw (add-one j) (c.step-ends.ensures.passed line (behind 0 clue j) invariant.pass);
       starts =
           outer_more c.args.side line clue c.loop-j.list.starts j (number c.whole_ends-whole.result) place.result
           (place.result + 1 - get_or clue j 0)
