@@ -185,7 +185,3 @@ ahead_of l clue j p reversed len m e s jl g h =
     ahead_is l clue j (get_or reversed p 0) m jl
     (subst (λ (k : ℕ). IsMaskOf (IsGap (reverse l) (reverse clue) k) (get_or reversed p 0)) (sym same) (g p (omega arith)))
     (subst (λ (n : ℕ). IsMaskOf (λ i. (i < n) × Has (get_or reversed p 0) (n - 1 - i)) m) (sym e) h)
-
--- one more run of a clue behind
-pub runs_more : (P : List ℕ → Type 0) (clue : List ℕ) (j n : ℕ) → n ≡ get_or clue j 0 → P (n ∷ behind 0 clue j) → P (behind 0 clue (j + 1))
-runs_more P clue j n e h = subst (λ (k : ℕ). P (behind 0 clue k)) (sym (add-one j)) (subst (λ (m : ℕ). P (m ∷ behind 0 clue j)) e h)

@@ -5,15 +5,10 @@ use Rattle.line_core.proofs.Telling.{told_dead, told_some}
 use Rattle.line_core.proofs.deduction.certain.Goals as goal
 
 pub returns-then-not-contains : goal.returns-then-not-contains
-returns-then-not-contains g c =
-    let number = g.W.PlaceSet.number in
-    told_dead c.args.len (number c.args.fillable) (number c.args.blankable) (number c.union.result) c.union.ensures
-    (sym c.contains.ensures ∙ c.if-not-contains.true)
+returns-then-not-contains g c = told_dead c.args.len _ _ _ c.union.ensures (sym c.contains.ensures ∙ c.if-not-contains.true)
 
 pub returns : goal.returns
 returns g c =
-    let number = g.W.PlaceSet.number in
     ap (λ (line : List Cell). Some line) c.of_sets.ensures
-    ∙ told_some c.args.len (number c.args.fillable) (number c.args.blankable) (number c.union.result) (number c.difference-filled.result)
-    (number c.difference-blank.result) c.union.ensures (sym c.contains.ensures ∙ c.if-not-contains.false) c.difference-filled.ensures
+    ∙ told_some c.args.len _ _ _ _ _ c.union.ensures (sym c.contains.ensures ∙ c.if-not-contains.false) c.difference-filled.ensures
     c.difference-blank.ensures

@@ -6,7 +6,7 @@ use Rattle.line_core.specs.steps.Reach.{behind, IsGap, IsGapAhead, IsWholeEnd, I
 use Rattle.line_core.specs.steps.Passes.{IsPassOver}
 use Rattle.place_sets.proofs.LevelSteps.{levels_none, none_at}
 use Rattle.place_sets.proofs.Steps.{mask_same}
-use Rattle.line_core.proofs.Composing.{runs_more, blank_first, blank_more, fill_more}
+use Rattle.line_core.proofs.Composing.{blank_first, blank_more, fill_more}
 use Rattle.line_core.proofs.deduction.possible_colours.Goals as goal
 
 pub loop-j-init : goal.loop-j-init
@@ -18,8 +18,7 @@ loop-j-init g c =
     let gap : IsMaskOf (IsGap line clue 0) (number c.gap.result) = rw c.gap.ensures pass.gap_is in
     record {
       pass = pass;
-      blank = blank_first line clue (number c.gap.result) (number c.gap_ahead.result)
-          (number c.intersection-blankable.result) gap c.gap_ahead.ensures c.intersection-blankable.ensures;
+      blank = blank_first line clue _ _ _ gap c.gap_ahead.ensures c.intersection-blankable.ensures;
       filled =
           levels_none (λ i. (q : ℕ) × (q < 0) × SomeFrom (IsWholeEnd line clue q) (get_or clue q 0) i) g.W.PlaceSet.TOP _
           (none_at number c.empty-spread.result c.empty-spread.ensures 9) (λ i h. let b : h.0 < 0 = h.1 in absurd (omega arith));
@@ -50,12 +49,9 @@ loop-j-preserved g c =
     rw (c.gap-in-loop-j.ensures, add-one j) passed.gap_is in
     record {
       pass = rw (add-one j) passed;
-      blank = blank_more line clue j (number c.gap-in-loop-j.result) (number c.gap_ahead-ahead.result) (number c.loop-j.blankable)
-          (number c.intersection.result)
-          (number c.union-blankable.result) gap c.gap_ahead-ahead.ensures invariant.blank c.intersection.ensures c.union-blankable.ensures;
+      blank = blank_more line clue j _ _ _ _ _ gap c.gap_ahead-ahead.ensures invariant.blank c.intersection.ensures c.union-blankable.ensures;
       filled =
-          fill_more line clue g.W.PlaceSet.TOP j (number c.inner_ends-whole.result) (map number c.loop-j.spread)
-          (map number c.add_spread.new.levels) c.inner_ends-whole.ensures c.add_spread.ensures invariant.filled;
+          fill_more line clue g.W.PlaceSet.TOP j _ _ _ c.inner_ends-whole.ensures c.add_spread.ensures invariant.filled;
     }
 
 pub whole_ends-last_whole-requires : goal.whole_ends-last_whole-requires
@@ -93,8 +89,7 @@ returns-then-is_empty-clause-blank g c =
     let gap : IsMaskOf (IsGap line clue 0) (number c.gap.result) = rw c.gap.ensures pass.gap_is in
     subst (λ n. IsMaskOf (λ i. (q : ℕ) × (q ≤ n) × IsGap line clue q i × IsGapAhead line clue q i) (number c.intersection-blankable.result))
     (sym none)
-    (blank_first line clue (number c.gap.result) (number c.gap_ahead.result)
-    (number c.intersection-blankable.result) gap c.gap_ahead.ensures c.intersection-blankable.ensures)
+    (blank_first line clue _ _ _ gap c.gap_ahead.ensures c.intersection-blankable.ensures)
 
 pub returns-clause-filled : goal.returns-clause-filled
 returns-clause-filled g c =
@@ -105,8 +100,7 @@ returns-clause-filled g c =
     let some : 0 < length clue = (let ne = eqb-false (length clue) 0 (sym c.is_empty.ensures ∙ c.if-is_empty.false) in omega arith) in
     let e : c.loop-j.j ≡ last = (let test = c.loop-j-test.false in omega arith) in
     let filled =
-    fill_more line clue g.W.PlaceSet.TOP last (number c.whole_ends-last_whole.result) (map number c.loop-j.spread)
-    (map number c.add_spread-2.new.levels) c.whole_ends-last_whole.ensures c.add_spread-2.ensures
+    fill_more line clue g.W.PlaceSet.TOP last _ _ _ c.whole_ends-last_whole.ensures c.add_spread-2.ensures
     (rw e at c.loop-j.invariant.filled) in
     mask_same (SomeLevel g.W.PlaceSet.TOP (map number c.add_spread-2.new.levels)) (IsFillable line clue)
     (number c.spread_levels.result) c.spread_levels.ensures
@@ -127,6 +121,5 @@ returns-clause-blank g c =
     let ahead = subst (λ n. IsMaskOf (IsGapAhead line clue n) (number c.gap_ahead-after.result)) all c.gap_ahead-after.ensures in
     subst (λ n. IsMaskOf (λ i. (q : ℕ) × (q ≤ n) × IsGap line clue q i × IsGapAhead line clue q i) (number c.union-blankable-2.result))
     (sym all)
-    (blank_more line clue last (number c.gap-2.result) (number c.gap_ahead-after.result) (number c.loop-j.blankable)
-    (number c.intersection-2.result) (number c.union-blankable-2.result) gap ahead (rw e at c.loop-j.invariant.blank)
+    (blank_more line clue last _ _ _ _ _ gap ahead (rw e at c.loop-j.invariant.blank)
     c.intersection-2.ensures c.union-blankable-2.ensures)

@@ -6,8 +6,6 @@ use Rattle.line_core.proofs.gaps.first_gap.Goals as goal
 
 pub returns : goal.returns
 returns g c =
-    let number = g.W.PlaceSet.number in
-    let free = number c.args.free in
-    flood_from (λ k. Has free k × (k ≡ 0)) (Has free) (number c.intersection.result) (number c.flood.result)
-    (meet_of (Has free) (λ k. k ≡ 0) free (number c.first.result) (number c.intersection.result) (has_of free) c.first.ensures
-    c.intersection.ensures) c.flood.ensures
+    let free = g.W.PlaceSet.number c.args.free in
+    flood_from (λ k. Has free k × (k ≡ 0)) (Has free) _ _
+    (meet_of (Has free) (λ k. k ≡ 0) free _ _ (has_of free) c.first.ensures c.intersection.ensures) c.flood.ensures

@@ -12,6 +12,5 @@ returns g c =
     let number = g.W.PlaceSet.number in
     let free = number c.args.free in
     let After = IsShifted g.W.PlaceSet.WIDTH (Has (number c.args.ends)) 1 in
-    flood_from (λ k. After k × Has free k) (Has free) (number c.intersection.result) (number c.flood.result)
-    (meet_of After (Has free) (number c.shifted_up.result) free (number c.intersection.result) c.shifted_up.ensures (has_of free)
-    c.intersection.ensures) c.flood.ensures
+    flood_from (λ k. After k × Has free k) (Has free) _ _
+    (meet_of After (Has free) _ free _ c.shifted_up.ensures (has_of free) c.intersection.ensures) c.flood.ensures

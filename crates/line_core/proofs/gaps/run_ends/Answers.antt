@@ -22,7 +22,4 @@ shifted_up-requires g c = one_within g.W.PlaceSet.WIDTH g.W.PlaceSet.TOP g.met.W
 
 pub returns : goal.returns
 returns g c =
-    let number = g.W.PlaceSet.number in
-    run_ends_are g.W.PlaceSet.WIDTH (number c.args.gap) (number c.args.opening) (number c.args.window) (c.args.length - 1)
-    (number c.shifted_up.result) (number c.intersection-starts.result) (number c.union.result) (number c.shifted_up-2.result)
-    c.shifted_up.ensures c.union.ensures c.intersection-starts.ensures c.shifted_up-2.ensures
+    run_ends_are _ _ _ _ (c.args.length - 1) _ _ _ _ c.shifted_up.ensures c.union.ensures c.intersection-starts.ensures c.shifted_up-2.ensures

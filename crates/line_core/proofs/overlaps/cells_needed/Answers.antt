@@ -7,6 +7,4 @@ use Rattle.line_core.proofs.overlaps.cells_needed.Goals as goal
 pub overflow_add-needed-in-loop-number : goal.overflow_add-needed-in-loop-number
 overflow_add-needed-in-loop-number c =
     let i = c.loop-number.number-index in
-    let clue = c.args.clue.now in
-    let few = start_few clue i c.requires.clue c.loop-number-test.true in
-    omega (arith, c.loop-number.invariant)
+    omega (arith, c.loop-number.invariant, start_few c.args.clue.now i c.requires.clue c.loop-number-test.true)

@@ -6,14 +6,8 @@ use Rattle.line_core.proofs.overlaps.is_unknown.Goals as goal
 
 pub returns : goal.returns
 returns g c =
-    let number = g.W.PlaceSet.number in
-    let span = c.args.span.now in
-    let are = c.requires.1 in
-    let known = number c.symmetric_difference.result in (
-      (λ t. unknown_to g.line span.len (number span.free) (number span.room) known are.len_is are.free_is are.room_is
-          c.symmetric_difference.ensures (eqb-true known 0 (sym c.is_empty.ensures ∙ t))),
-      (λ e. c.is_empty.ensures
-          ∙ eq-eqb known 0
-          (unknown_from g.line span.len (number span.free) (number span.room) known are.free_is are.room_is
-          c.symmetric_difference.ensures e)),
+    let are = c.requires.1 in (
+      (λ t. unknown_to g.line _ _ _ _ are.len_is are.free_is are.room_is
+          c.symmetric_difference.ensures (eqb-true _ 0 (sym c.is_empty.ensures ∙ t))),
+      (λ e. c.is_empty.ensures ∙ eq-eqb _ 0 (unknown_from g.line _ _ _ _ are.free_is are.room_is c.symmetric_difference.ensures e)),
     )

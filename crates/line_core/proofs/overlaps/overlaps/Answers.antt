@@ -11,9 +11,7 @@ pub shifted_up-requires : goal.shifted_up-requires
 shifted_up-requires g c =
     let clue = c.args.clue.now in
     let j = c.loop-number.number-index in
-    let next = start_next clue j c.loop-number-test.true in
-    let last = start_within clue (suc j) in
-    omega (arith, c.requires.fits, c.loop-number.invariant.start)
+    omega (arith, c.requires.fits, c.loop-number.invariant.start, start_next clue j c.loop-number-test.true, start_within clue (suc j))
 
 pub overflow_add-greatest_start-in-loop-number : goal.overflow_add-greatest_start-in-loop-number
 overflow_add-greatest_start-in-loop-number g c =
@@ -38,12 +36,10 @@ loop-number-preserved g c =
       found = elim c.if-number-slack.branch [
         | then-number-slack w ↦
             subst (λ m. IsMaskOf (IsOverlapBefore (j + 1) clue slack) (number m)) (sym w.certain-is)
-            (overlap_more clue g.W.PlaceSet.WIDTH slack j c.loop-number.greatest_start (number c.loop-number.certain)
-            (number w.first_places.result) (number w.shifted_up.result) (number w.union-certain.result)
-            c.requires.fits c.loop-number-test.true w.if-number-slack.true invariant.start invariant.found w.first_places.ensures
+            (overlap_more clue g.W.PlaceSet.WIDTH slack j c.loop-number.greatest_start _ _ _ _ c.requires.fits c.loop-number-test.true w.if-number-slack.true invariant.start invariant.found w.first_places.ensures
             w.shifted_up.ensures w.union-certain.ensures)
         | else-number-slack w ↦
             subst (λ m. IsMaskOf (IsOverlapBefore (j + 1) clue slack) (number m)) (sym w.certain-is)
-            (overlap_same clue slack j (number c.loop-number.certain) w.if-number-slack.false invariant.found)
+            (overlap_same clue slack j _ w.if-number-slack.false invariant.found)
       ];
     }

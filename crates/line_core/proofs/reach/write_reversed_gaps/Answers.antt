@@ -6,7 +6,6 @@ use Rattle.place_sets.specs.Masks.{IsMaskOf}
 use Rattle.line_core.specs.steps.Reach.{behind, IsGap}
 use Rattle.line_core.specs.steps.Passes.{IsPassOver}
 use Rattle.line_core.proofs.LineCells.{written_more}
-use Rattle.line_core.proofs.Composing.{runs_more}
 use Rattle.line_core.proofs.reach.write_reversed_gaps.Goals as goal
 
 pub loop-j-init : goal.loop-j-init

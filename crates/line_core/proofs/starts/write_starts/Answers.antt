@@ -5,7 +5,6 @@ use Rattle.std.proofs.lemmas.List.Elements.{recursion_from_All}
 use Rattle.line_core.specs.steps.Reach.{behind}
 use Rattle.line_core.specs.steps.Passes.{IsPassOver}
 use Rattle.line_core.proofs.RunLaws.{ArePositive}
-use Rattle.line_core.proofs.Composing.{runs_more}
 use Rattle.line_core.proofs.LineCells.{none_has}
 use Rattle.line_core.proofs.Outermost.{some_end, outer_more}
 use Rattle.line_core.proofs.starts.write_starts.Goals as goal
@@ -38,9 +37,8 @@ loop-j-preserved g c =
     record {
       pass = rw (add-one j) (c.step-ends.ensures.passed line (behind 0 clue j) invariant.pass);
       starts =
-          outer_more c.args.side line clue c.loop-j.list.starts j (number c.whole_ends-whole.result) place.result
-          (place.result + 1 - get_or clue j 0)
-          (omega arith) c.whole_ends-whole.ensures place.ensures.in_mask place.ensures.outermost refl invariant.starts;
+          outer_more c.args.side line clue c.loop-j.list.starts j _ place.result (place.result + 1 - get_or clue j 0) (omega arith)
+          c.whole_ends-whole.ensures place.ensures.in_mask place.ensures.outermost refl invariant.starts;
       len = length-set c.loop-j.list.starts j (place.result + 1 - get_or clue j 0) ∙ invariant.len;
     }
 

@@ -7,17 +7,11 @@ use Rattle.line_core.proofs.passes.Pass.step.Goals as goal
 
 pub returns-clause-ends : goal.returns-clause-ends
 returns-clause-ends g c = λ line runs h.
-    let number = g.W.PlaceSet.number in
-    let self = c.args.self.now in
-    ends_are line runs g.W.PlaceSet.WIDTH c.args.number (number self.gap) h.room (number self.opening)
-    (number c.window_starts-window.result) (number c.run_ends-ends.result)
-    h.short c.requires.0 h.gap_is h.opening_is h.room_is
+    ends_are line runs _ c.args.number _ h.room _ _ _ h.short c.requires.0 h.gap_is h.opening_is h.room_is
     (c.window_starts-window.ensures h.room h.windows_are) c.run_ends-ends.ensures
 
 pub returns-clause-passed : goal.returns-clause-passed
 returns-clause-passed g c = λ line runs h.
-    let number = g.W.PlaceSet.number in
-    let self = c.args.self.now in
     let ends = returns-clause-ends g c line runs h in
     record {
       room = h.room;
@@ -30,6 +24,5 @@ returns-clause-passed g c = λ line runs h.
         from = λ i x. absurd (omega (arith, x.1));
       };
       gap_is =
-          gap_next_is line runs g.W.PlaceSet.WIDTH c.args.number (number self.free) (number c.run_ends-ends.result)
-          (number c.gap_after-self.result) h.short c.requires.0 h.free_is ends c.gap_after-self.ensures;
+          gap_next_is line runs _ c.args.number _ _ _ h.short c.requires.0 h.free_is ends c.gap_after-self.ensures;
     }
