@@ -13,9 +13,8 @@ use Rattle.line_core.proofs.Joining.{closed_behind_to, closed_behind_from, close
 pub gap_none_is : (l : List Cell) (free m : ℕ) → IsMaskOf (MayBe l false) free
     → IsMaskOf (IsFlooded (λ k. Has free k × (k ≡ 0)) (Has free)) m → IsMaskOf (IsGapAfter l []) m
 gap_none_is l free m f p =
-    mask_same (IsFlooded (λ k. (k ≡ 0) × MayBe l false k) (MayBe l false)) (IsGapAfter l []) m
-    (flood_same (λ k. Has free k × (k ≡ 0)) (Has free) (λ k. (k ≡ 0) × MayBe l false k) (MayBe l false) m
-    (λ i h. (h.1, f.to i h.0)) (λ i h. (f.from i h.1, h.0)) f.to f.from p)
+    mask_same _ _ m
+    (flood_same (λ k. Has free k × (k ≡ 0)) (Has free) (λ k. (k ≡ 0) × MayBe l false k) (MayBe l false) m (λ i h. (h.1, f.to i h.0)) (λ i h. (f.from i h.1, h.0)) f.to f.from p)
     (first_gap_to l) (first_gap_from l)
 
 -- the mask of the gaps after a run, from that of its ends
@@ -23,9 +22,8 @@ pub gap_next_is : (l : List Cell) (runs : List ℕ) (w n free ends m : ℕ) → 
     → IsMaskOf (IsEndAfter l runs n) ends
     → IsMaskOf (IsFlooded (λ k. IsShifted w (Has ends) 1 k × Has free k) (Has free)) m → IsMaskOf (IsGapAfter l (n ∷ runs)) m
 gap_next_is l runs w n free ends m short pos f e p =
-    mask_same (IsFlooded (After l n runs) (MayBe l false)) (IsGapAfter l (n ∷ runs)) m
-    (flood_same (λ k. IsShifted w (Has ends) 1 k × Has free k) (Has free) (After l n runs) (MayBe l false) m
-    (λ i h. (f.to i h.1, h.0.1, e.to (i - 1) h.0.2))
+    mask_same _ _ m
+    (flood_same (λ k. IsShifted w (Has ends) 1 k × Has free k) (Has free) (After l n runs) (MayBe l false) m (λ i h. (f.to i h.1, h.0.1, e.to (i - 1) h.0.2))
     (λ i h. let within : i < length l = h.0.0 in ((omega arith, h.1, e.from (i - 1) h.2), f.from i h.0)) f.to f.from p)
     (λ i h. gap_after_to l runs n i pos h) (gap_after_from l runs n)
 
@@ -38,8 +36,7 @@ pub ends_are : (l : List Cell) (runs : List ℕ) (w n gap room opening window m 
     → IsMaskOf (IsGapAfter l runs) gap → IsMaskOf (λ i. (i ≡ 0) × (length runs ≡ 0)) opening → IsMaskOf (MayBe l true) room
     → IsMaskOf (AllFrom (Has room) n) window
     → IsMaskOf (EndsAt w gap opening window n) m → IsMaskOf (IsEndAfter l runs n) m
-ends_are l runs w n gap room opening window m short some g f a v p =
-    mask_same (EndsAt w gap opening window n) (IsEndAfter l runs n) m p to from
+ends_are l runs w n gap room opening window m short some g f a v p = mask_same _ _ m p to from
   where
     start_to : (s : ℕ) → (IsShifted w (Has gap) 1 s ⊎ Has opening s) × Has window s → IsStartAfter l runs n s
     start_to s h = (
@@ -75,8 +72,7 @@ pub ahead_is : (l : List Cell) (clue : List ℕ) (j gap m : ℕ) → j ≤ lengt
     → IsMaskOf (IsGap (reverse l) (reverse clue) (length clue - j)) gap
     → IsMaskOf (λ i. (i < length l) × Has gap (length l - 1 - i)) m → IsMaskOf (IsGapAhead l clue j) m
 ahead_is l clue j gap m jl g p =
-    mask_same (λ i. (i < length l) × Has gap (length l - 1 - i)) (IsGapAhead l clue j) m p
-    (λ i h. (reversed_gap l clue j i jl h.0).0 (g.to (length l - 1 - i) h.1))
+    mask_same _ _ m p (λ i h. (reversed_gap l clue j i jl h.0).0 (g.to (length l - 1 - i) h.1))
     (λ i h. let within : i < length l = h.0.0 in (within, g.from (length l - 1 - i) ((reversed_gap l clue j i jl within).1 h)))
 
 -- the mask of the ends of a run in whole placings
@@ -153,11 +149,7 @@ pub blank_more : (l : List Cell) (clue : List ℕ) (j gap ahead blank part m : �
     → IsMaskOf (λ i. Has blank i ⊎ Has part i) m
     → IsMaskOf (λ i. (q : ℕ) × (q ≤ j + 1) × IsGap l clue q i × IsGapAhead l clue q i) m
 blank_more l clue j gap ahead blank part m g a b p r =
-    mask_same (λ i. ((q : ℕ) × (q ≤ j) × IsGap l clue q i × IsGapAhead l clue q i) ⊎ (IsGap l clue (j + 1) i × IsGapAhead l clue (j + 1) i))
-    (λ i. (q : ℕ) × (q ≤ j + 1) × IsGap l clue q i × IsGapAhead l clue q i) m
-    (join_of (λ i. (q : ℕ) × (q ≤ j) × IsGap l clue q i × IsGapAhead l clue q i)
-    (λ i. IsGap l clue (j + 1) i × IsGapAhead l clue (j + 1) i) blank part m b
-    (meet_of (IsGap l clue (j + 1)) (IsGapAhead l clue (j + 1)) gap ahead part g a p) r) to from
+    mask_same _ _ m (join_of _ _ blank part m b (meet_of _ _ gap ahead part g a p) r) to from
   where
     to : (i : ℕ) → ((q : ℕ) × (q ≤ j) × IsGap l clue q i × IsGapAhead l clue q i) ⊎ (IsGap l clue (j + 1) i × IsGapAhead l clue (j + 1) i)
         → (q : ℕ) × (q ≤ j + 1) × IsGap l clue q i × IsGapAhead l clue q i

@@ -119,8 +119,7 @@ pub starts_anywhere : (l : List Cell) (number free room len line filled starts :
     → IsMaskOf (λ i. i < len) line → IsMaskOf (λ i. Has line i × (has free i ≡ false)) filled → filled ≡ 0
     → IsMaskOf (AllFrom (Has room) number) starts → IsMaskOf (IsLoneStart l number) starts
 starts_anywhere l number free room len line filled starts e f r a p none w =
-    mask_same (AllFrom (Has room) number) (IsLoneStart l number) starts w
-    (λ i h. record {
+    mask_same _ _ starts w (λ i h. record {
       window = λ z b. r.to (i + z) (h z b);
       blanks = λ k b out. free_unless l free filled k f (λ z c lacks. p.from z (a.from z (omega arith), lacks)) (λ h. none_has filled k none h) b;
     })
@@ -135,8 +134,7 @@ pub starts_about : (l : List Cell) (w number free room len line filled starts fi
     → IsMaskOf (λ i. i < w) all → IsMaskOf (IsShifted w (Has all) (last + 1 - number)) after → IsMaskOf (λ i. Has some i × Has after i) m
     → IsMaskOf (IsLoneStart l number) m
 starts_about l w number free room len line filled starts first last before some all after m e pos f r a p s at_first least at_last greatest
-    short b q c d t =
-    mask_same (λ i. Has some i × Has after i) (IsLoneStart l number) m t to from
+    short b q c d t = mask_same _ _ m t to from
   where
     to : (i : ℕ) → Has some i × Has after i → IsLoneStart l number i
     to i h =
@@ -180,8 +178,7 @@ pub lone_fillable : (l : List Cell) (clue : List ℕ) (w starts ends m : ℕ) �
     → length l ≤ w → IsMaskOf (IsLoneStart l (get_or clue 0 0)) starts
     → IsMaskOf (IsShifted w (Has starts) (get_or clue 0 0 - 1)) ends → IsMaskOf (SomeFrom (Has ends) (get_or clue 0 0)) m
     → IsMaskOf (IsFillable l clue) m
-lone_fillable l clue w starts ends m pos one some short s p q =
-    mask_same (SomeFrom (Has ends) (get_or clue 0 0)) (IsFillable l clue) m q to from
+lone_fillable l clue w starts ends m pos one some short s p q = mask_same _ _ m q to from
   where
     to : (i : ℕ) → SomeFrom (Has ends) (get_or clue 0 0) i → IsFillable l clue i
     to i h =
@@ -208,7 +205,7 @@ pub lone_blankable : (l : List Cell) (clue : List ℕ) (w len line starts first 
     → IsMaskOf (λ i. (i < w) × (last ≤ i) × (i < first + get_or clue 0 0)) certain → IsMaskOf (λ i. i < len) line
     → IsMaskOf (λ i. Has line i × (has certain i ≡ false)) m → IsMaskOf (IsBlankable l clue) m
 lone_blankable l clue w len line starts first last certain m pos one e short s at_first least at_last greatest c a p =
-    mask_same (λ i. Has line i × (has certain i ≡ false)) (IsBlankable l clue) m p to from
+    mask_same _ _ m p to from
   where
     to : (i : ℕ) → Has line i × (has certain i ≡ false) → IsBlankable l clue i
     to i h =

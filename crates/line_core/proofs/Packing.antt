@@ -186,8 +186,7 @@ pub blankable_is : (l : List Cell) (clue : List ℕ) (slack certain line m : ℕ
     → needed clue + slack ≡ length l + 1
     → IsMaskOf (IsOverlap clue slack) certain → IsMaskOf (λ i. i < length l) line → IsMaskOf (λ i. Has line i × (has certain i ≡ false)) m
     → IsMaskOf (IsBlankable l clue) m
-blankable_is l clue slack certain line m any_cell pos e c a p =
-    mask_same (λ i. Has line i × (has certain i ≡ false)) (IsBlankable l clue) m p to from
+blankable_is l clue slack certain line m any_cell pos e c a p = mask_same _ _ m p to from
   where
     to : (i : ℕ) → Has line i × (has certain i ≡ false) → IsBlankable l clue i
     to i h =
@@ -246,8 +245,7 @@ pub overlap_more : (clue : List ℕ) (w slack j start old some shifted new : ℕ
     → IsMaskOf (IsOverlapBefore j clue slack) old → IsMaskOf (λ i. i < get_or clue j 0 - slack) some
     → IsMaskOf (IsShifted w (Has some) start) shifted
     → IsMaskOf (λ i. Has old i ⊎ Has shifted i) new → IsMaskOf (IsOverlapBefore (j + 1) clue slack) new
-overlap_more clue w slack j start old some shifted new within h long at o p q r =
-    mask_same (λ i. Has old i ⊎ Has shifted i) (IsOverlapBefore (j + 1) clue slack) new r to from
+overlap_more clue w slack j start old some shifted new within h long at o p q r = mask_same _ _ new r to from
   where
     to : (i : ℕ) → Has old i ⊎ Has shifted i → IsOverlapBefore (j + 1) clue slack i
     to i (inl x) = let y = o.to i x in (y.0, omega (arith, y.1), y.2, y.3)

@@ -107,23 +107,17 @@ module _ (l : List Cell) (clue : List ℕ) (m : ℕ) where
   -- so the same cells are filled in a placing
   pub fillable_alone : (f : ℕ) → ArePositive clue → IsMaskOf (IsFillable longer clue) f → IsMaskOf (IsFillable l clue) f
   fillable_alone f pos are =
-      mask_same (IsFillable longer clue) (IsFillable l clue) f are
-      (λ i h.
-      let can = fillable_to longer clue i pos h in
-      let within = filled_before i can in
-      fillable_from l clue i (without_blanks true i within can))
-      (λ i h.
-      let can = fillable_to l clue i pos h in
-      let within = filled_agrees l can.0 i can.1 can.3 in
-      fillable_from longer clue i (with_blanks true i within can))
+      mask_same _ _ f are
+      (λ i h. let can = fillable_to longer clue i pos h in fillable_from l clue i (without_blanks true i (filled_before i can) can))
+      (λ i h. let can = fillable_to l clue i pos h in
+      fillable_from longer clue i (with_blanks true i (filled_agrees l can.0 i can.1 can.3) can))
 
   -- and of the line's cells the same are blank in one
   pub blankable_alone : (b p n : ℕ) → IsMaskOf (IsBlankable longer clue) b → IsMaskOf (λ i. i < length l) p
       → IsMaskOf (λ i. Has b i × Has p i) n → IsMaskOf (IsBlankable l clue) n
   blankable_alone b p n are first both =
-      mask_same (λ i. Has b i × Has p i) (IsBlankable l clue) n both
-      (λ i h.
-      let within = first.to i h.1 in
+      mask_same _ _ n both
+      (λ i h. let within = first.to i h.1 in
       blankable_from l clue i within (without_blanks false i within (blankable_to longer clue i (are.to i h.0))))
       (λ i h.
       let within : i < length l = h.2.0.0 in (

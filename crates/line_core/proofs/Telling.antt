@@ -45,8 +45,7 @@ pub told_some : (len f b m nf nb : ℕ) → IsMaskOf (λ i. Has f i ⊎ Has b i)
 told_some len f b m nf nb p some pf pb =
     let all = map (λ (i : ℕ). certain_by (has f i) (has b i)) (range_with_len 0 len) in
     let same : line_cells len nf nb ≡ all =
-    ext_get_or Unknown (line_cells len nf nb) all
-    (length_line len nf nb ∙ sym (length-map-range_with_len (λ (i : ℕ). certain_by (has f i) (has b i)) 0 len)) (λ k i.
+    ext_get_or Unknown (line_cells len nf nb) all (length_line len nf nb ∙ sym (length-map-range_with_len _ 0 len)) (λ k i.
     let within : k < len = omega (arith, length_line len nf nb) in
     cell_at len nf nb k within ∙ ap (λ (z : Bool). cell_with z (has nb k)) (without_at f b nf k pf)
     ∙ ap (cell_with (has f k && not (has b k))) (without_at b f nb k pb)
@@ -62,25 +61,21 @@ pub told-deduced : (l : List Cell) (clue : List ℕ) (len f b : ℕ) → ArePosi
 told-deduced l clue len f b pos some long fill blank = by (has f 0) (has b 0) refl refl
   where
     filled_tells : (k : ℕ) → k < length l → Tells (CanBe l clue true k) (has f k)
-    filled_tells k h =
-        record {
-          to = λ e. fillable_to l clue k pos (fill.to k (true_has f k e));
-          from = λ x. has_true f k (fill.from k (fillable_from l clue k x));
-        }
+    filled_tells k h = record {
+      to = λ e. fillable_to l clue k pos (fill.to k (true_has f k e));
+      from = λ x. has_true f k (fill.from k (fillable_from l clue k x));
+    }
 
     blank_tells : (k : ℕ) → k < length l → Tells (CanBe l clue false k) (has b k)
-    blank_tells k h =
-        record {
-          to = λ e. blankable_to l clue k (blank.to k (true_has b k e));
-          from = λ x. has_true b k (blank.from k (blankable_from l clue k h x));
-        }
+    blank_tells k h = record {
+      to = λ e. blankable_to l clue k (blank.to k (true_has b k e));
+      from = λ x. has_true b k (blank.from k (blankable_from l clue k h x));
+    }
 
     found : (c : Bool) → CanBe l clue c 0 → Some (map (λ (i : ℕ). certain_by (has f i) (has b i)) (range_with_len 0 len)) ≡ deduced l clue
     found c x =
-        deduced-told l clue (map (λ (i : ℕ). certain_by (has f i) (has b i)) (range_with_len 0 len)) (has f)
-        (has b) filled_tells blank_tells x.0 (record { extends = agrees-Extends l x.0 x.1; runs_are = x.2 })
-        (length-map-range_with_len (λ (i : ℕ). certain_by (has f i) (has b i)) 0 len ∙ sym long)
-        (λ k h. get_or-map-range_with_len (λ (i : ℕ). certain_by (has f i) (has b i)) 0 len k k Unknown (omega arith) (zero-add k))
+        deduced-told l clue _ (has f) (has b) filled_tells blank_tells x.0 (record { extends = agrees-Extends l x.0 x.1; runs_are = x.2 })
+        (length-map-range_with_len _ 0 len ∙ sym long) (λ k h. get_or-map-range_with_len _ 0 len k k Unknown (omega arith) (zero-add k))
 
     none : has f 0 ≡ false → has b 0 ≡ false → (y : List Bool) → IsPlacing l clue y → ⊥
     none p q y x = elim (cases_Bool (get_or y 0 false)) [

@@ -14,19 +14,14 @@ use Rattle.line_core.proofs.overlaps.unknown_colours.Goals.{then-is_empty, else-
 
 pub returns-then-len-needed-clause-filled : goal.returns-then-len-needed-clause-filled
 returns-then-len-needed-clause-filled g c =
-    let line = replicate c.args.len Unknown in
-    let clue = c.args.clue.now in
     let long = length-replicate c.args.len Unknown in
-    let pos : ArePositive clue = recursion_from_All (λ (n : ℕ). 0 < n) clue c.requires.clue.positive in
-    unfit_fillable line clue (g.W.PlaceSet.number c.empty.result) pos (omega (arith, c.cells_needed-needed.ensures)) c.empty.ensures
+    unfit_fillable (replicate c.args.len Unknown) c.args.clue.now _ (recursion_from_All (λ (n : ℕ). 0 < n) _ c.requires.clue.positive)
+    (omega (arith, c.cells_needed-needed.ensures)) c.empty.ensures
 
 pub returns-then-len-needed-clause-blank : goal.returns-then-len-needed-clause-blank
 returns-then-len-needed-clause-blank g c =
-    let line = replicate c.args.len Unknown in
-    let clue = c.args.clue.now in
     let long = length-replicate c.args.len Unknown in
-    let pos : ArePositive clue = recursion_from_All (λ (n : ℕ). 0 < n) clue c.requires.clue.positive in
-    unfit_blankable line clue (g.W.PlaceSet.number c.empty-then-len-needed.result) pos
+    unfit_blankable (replicate c.args.len Unknown) c.args.clue.now _ (recursion_from_All (λ (n : ℕ). 0 < n) _ c.requires.clue.positive)
     (omega (arith, c.cells_needed-needed.ensures)) c.empty-then-len-needed.ensures
 
 pub returns-clause-filled : goal.returns-clause-filled
@@ -47,8 +42,7 @@ returns-clause-filled g c =
             | else-slack-eq0 v ↦ inr (eqb-true (length clue) 0 (sym v.is_empty.ensures ∙ sym v.value-is ∙ w.if-is_empty.true))
           ] in
           subst (λ m. IsMaskOf (IsFillable line clue) (number m)) (sym w.fillable-is)
-          (overlaps_fillable line clue slack (number c.overlaps-certain.result)
-          (unknown_any len) pos fits still c.overlaps-certain.ensures))
+          (overlaps_fillable line clue slack _ (unknown_any len) pos fits still c.overlaps-certain.ensures))
       | else-is_empty w ↦
           (let moves : (0 < slack) × (0 < length clue) =
           elim c.if-slack-eq0.branch [
@@ -58,15 +52,12 @@ returns-clause-filled g c =
                 let some = v.if-slack-eq0.false in
                 (omega arith, omega arith))
           ] in
-          let cells : IsMaskOf (λ i. i < length line) (number c.first_places-line.result) =
-          subst (λ (n : ℕ). IsMaskOf (λ i. i < n) (number c.first_places-line.result)) (sym long) c.first_places-line.ensures in
           subst (λ m. IsMaskOf (IsFillable line clue) (number m)) (sym w.fillable-is)
-          (all_fillable line clue slack (number c.first_places-line.result) (unknown_any len) pos fits moves.0 moves.1 cells))
+          (all_fillable line clue slack _ (unknown_any len) pos fits moves.0 moves.1 (rw (sym long) at c.first_places-line.ensures)))
     ]
 
 pub returns-clause-blank : goal.returns-clause-blank
 returns-clause-blank g c =
-    let number = g.W.PlaceSet.number in
     let len = c.args.len in
     let line = replicate len Unknown in
     let clue = c.args.clue.now in
@@ -74,7 +65,5 @@ returns-clause-blank g c =
     let slack = len + 1 - c.cells_needed-needed.result in
     let pos : ArePositive clue = recursion_from_All (λ (n : ℕ). 0 < n) clue c.requires.clue.positive in
     let fits : needed clue + slack ≡ length line + 1 = omega (arith, c.cells_needed-needed.ensures) in
-    let cells : IsMaskOf (λ i. i < length line) (number c.first_places-line.result) =
-    subst (λ (n : ℕ). IsMaskOf (λ i. i < n) (number c.first_places-line.result)) (sym long) c.first_places-line.ensures in
-    blankable_is line clue slack (number c.overlaps-certain.result) (number c.first_places-line.result) (number c.difference.result)
-    (unknown_any len) pos fits c.overlaps-certain.ensures cells c.difference.ensures
+    let cells : IsMaskOf (λ i. i < length line) (g.W.PlaceSet.number c.first_places-line.result) = rw long c.first_places-line.ensures in
+    blankable_is line clue slack _ _ _ (unknown_any len) pos fits c.overlaps-certain.ensures cells c.difference.ensures
