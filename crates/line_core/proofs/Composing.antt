@@ -1,11 +1,11 @@
 -- The masks of gaps and of ends, each made of those before it.
-use Rattle.std.proofs.Common.{rules, ◌≡◌, ℕ, ◌+◌, ◌-◌, ◌<◌, ◌≤◌, true, false, List, [], ◌∷◌, length, get_or, reverse, sym, subst, arith, add-one, ◌⊎◌, inl, inr}
+use Rattle.std.proofs.Common.{rules, ◌≡◌, ℕ, ◌+◌, ◌-◌, ◌<◌, ◌≤◌, true, false, List, [], ◌∷◌, length, get_or, reverse, sym, subst, arith, ◌⊎◌, inl, inr}
 use Rattle.std.proofs.lemmas.Bool.{cases_lt}
 use Rattle.grid_core.specs.declared.cells.Cell.{Cell}
 use Rattle.place_sets.specs.Masks.{Has, IsMaskOf, IsShifted, IsFlooded, AllFrom, SomeFrom, SomeLevel, AreLevelsOf}
 use Rattle.place_sets.proofs.Steps.{mask_same}
 use Rattle.place_sets.proofs.Uses.{flood_same, meet_of, join_of}
-use Rattle.line_core.specs.steps.Reach.{behind, MayBe, IsGapAfter, IsStartAfter, IsEndAfter, IsGap, IsEnd, IsGapAhead, IsWholeEnd}
+use Rattle.line_core.specs.steps.Reach.{MayBe, IsGapAfter, IsStartAfter, IsEndAfter, IsGap, IsEnd, IsGapAhead, IsWholeEnd}
 use Rattle.line_core.proofs.Reaching.{After, first_gap_to, first_gap_from, gap_after_to, gap_after_from}
 use Rattle.line_core.proofs.Joining.{closed_behind_to, closed_behind_from, closed_ahead_to, closed_ahead_from, reversed_gap}
 
@@ -14,7 +14,8 @@ pub gap_none_is : (l : List Cell) (free m : ℕ) → IsMaskOf (MayBe l false) fr
     → IsMaskOf (IsFlooded (λ k. Has free k × (k ≡ 0)) (Has free)) m → IsMaskOf (IsGapAfter l []) m
 gap_none_is l free m f p =
     mask_same _ _ m
-    (flood_same (λ k. Has free k × (k ≡ 0)) (Has free) (λ k. (k ≡ 0) × MayBe l false k) (MayBe l false) m (λ i h. (h.1, f.to i h.0)) (λ i h. (f.from i h.1, h.0)) f.to f.from p)
+    (flood_same (λ k. Has free k × (k ≡ 0)) (Has free) (λ k. (k ≡ 0) × MayBe l false k) (MayBe l false) m (λ i h. (h.1, f.to i h.0))
+    (λ i h. (f.from i h.1, h.0)) f.to f.from p)
     (first_gap_to l) (first_gap_from l)
 
 -- the mask of the gaps after a run, from that of its ends
@@ -23,7 +24,8 @@ pub gap_next_is : (l : List Cell) (runs : List ℕ) (w n free ends m : ℕ) → 
     → IsMaskOf (IsFlooded (λ k. IsShifted w (Has ends) 1 k × Has free k) (Has free)) m → IsMaskOf (IsGapAfter l (n ∷ runs)) m
 gap_next_is l runs w n free ends m short pos f e p =
     mask_same _ _ m
-    (flood_same (λ k. IsShifted w (Has ends) 1 k × Has free k) (Has free) (After l n runs) (MayBe l false) m (λ i h. (f.to i h.1, h.0.1, e.to (i - 1) h.0.2))
+    (flood_same (λ k. IsShifted w (Has ends) 1 k × Has free k) (Has free) (After l n runs) (MayBe l false) m
+    (λ i h. (f.to i h.1, h.0.1, e.to (i - 1) h.0.2))
     (λ i h. let within : i < length l = h.0.0 in ((omega arith, h.1, e.from (i - 1) h.2), f.from i h.0)) f.to f.from p)
     (λ i h. gap_after_to l runs n i pos h) (gap_after_from l runs n)
 

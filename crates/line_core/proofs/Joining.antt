@@ -242,7 +242,8 @@ blankable_from l clue i h (x, agree, is, at) =
 pub closed_none : (cs : List ℕ) → MayBeginBlank [] cs → length cs ≡ 0
 closed_none cs x = search rules
 
-pub closed_first : (c : Cell) (cells : List Cell) (cs : List ℕ) → MayBeginBlank (c ∷ cells) cs → (allows c false ≡ true) × HasPlacing cells cs
+pub closed_first : (c : Cell) (cells : List Cell) (cs : List ℕ) → MayBeginBlank (c ∷ cells) cs
+    → (allows c false ≡ true) × HasPlacing cells cs
 closed_first c cells cs x = search rules
 
 -- a placing goes on with a blank cell before it

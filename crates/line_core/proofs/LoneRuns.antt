@@ -121,7 +121,8 @@ pub starts_anywhere : (l : List Cell) (number free room len line filled starts :
 starts_anywhere l number free room len line filled starts e f r a p none w =
     mask_same _ _ starts w (λ i h. record {
       window = λ z b. r.to (i + z) (h z b);
-      blanks = λ k b out. free_unless l free filled k f (λ z c lacks. p.from z (a.from z (omega arith), lacks)) (λ h. none_has filled k none h) b;
+      blanks = λ k b out. free_unless l free filled k f (λ z c lacks. p.from z (a.from z (omega arith), lacks))
+          (λ h. none_has filled k none h) b;
     })
     (λ i s z b. r.from (i + z) (s.window z b))
 

@@ -121,7 +121,8 @@ placed l clue m pos d =
     (x.0, record { extends = agrees-Extends l x.0 x.1; runs_are = x.2 }, run_starts-from x.0 ∙ x.3)
 
 -- starts that are as far as those of every placing are those of one placing, the outermost
-pub outermost_of : (side : Side) (l : List Cell) (clue m : List ℕ) → ArePositive clue → AreFurthest side l clue m → outermost side l clue ≡ Some m
+pub outermost_of : (side : Side) (l : List Cell) (clue m : List ℕ) → ArePositive clue → AreFurthest side l clue m
+    → outermost side l clue ≡ Some m
 outermost_of side l clue m pos f =
     let x = placed l clue m pos (furthest_laid side l clue m f) in
     let test = λ (starts : List ℕ). list_all (all_as_far side starts) (all_starts l clue) in

@@ -11,7 +11,7 @@ use Rattle.grid_core.specs.declared.cells.Cell.{Cell}
 use Rattle.grid_core.specs.declared.cells.Cell.TheVariants.{Unknown, Filled, Blank}
 use Rattle.grid_core.specs.Cells.{agrees}
 use Rattle.grid_core.specs.Runs.{runs}
-use Rattle.place_sets.specs.Masks.{Has, has, IsMaskOf, IsShifted, AllFrom}
+use Rattle.place_sets.specs.Masks.{Has, has, IsMaskOf, IsShifted}
 use Rattle.place_sets.proofs.HasLemmas.{has_true, true_has}
 use Rattle.place_sets.proofs.Steps.{mask_same}
 use Rattle.place_sets.proofs.WordSteps.{some_place}

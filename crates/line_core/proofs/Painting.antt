@@ -150,7 +150,8 @@ placing_of l clue ss pos d =
 -- ---- the least starts and the greatest
 
 -- each run ends before all later ones
-ends_before : (clue ss : List ℕ) → StandApart clue ss → (i j : ℕ) → i < j → j < length clue → get_or ss i 0 + get_or clue i 0 < get_or ss j 0
+ends_before : (clue ss : List ℕ) → StandApart clue ss → (i j : ℕ) → i < j → j < length clue
+    → get_or ss i 0 + get_or clue i 0 < get_or ss j 0
 ends_before clue ss apart i zero h k = absurd (omega arith)
 ends_before clue ss apart i (suc j) h k =
     let next = apart j k in
@@ -174,7 +175,8 @@ pub record AreFurthest (side : Side) (l : List Cell) (clue m : List ℕ) : Type 
   pub furthest : (ss : List ℕ) → IsLaid l clue ss → (j : ℕ) → j < length clue → IsAsFar side (get_or m j 0) (get_or ss j 0)
 
 from_more : (P : ℕ → Type 0) (n : ℕ) → P n → ((q : ℕ) → n < q → P q) → (q : ℕ) → n ≤ q → P q
-from_more P n here later q h = elim (cases_lt n q) [ inl above ↦ later q above | inr same ↦ (let e : n ≡ q = omega arith in subst P e here) ]
+from_more P n here later q h =
+    elim (cases_lt n q) [ inl above ↦ later q above | inr same ↦ (let e : n ≡ q = omega arith in subst P e here) ]
 
 -- so many runs end before a cell, and all others start after it
 abbrev Cut : List ℕ → List ℕ → ℕ → ℕ → Type 0

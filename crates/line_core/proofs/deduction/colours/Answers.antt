@@ -7,7 +7,8 @@ use Rattle.line_core.proofs.deduction.colours.Goals as goal
 pub returns-clause-filled : goal.returns-clause-filled
 returns-clause-filled g c =
     let clue = c.args.clue.now in
-    fillable_alone g.line clue (g.W.PlaceSet.WIDTH - length g.line) _ (recursion_from_All (λ (n : ℕ). 0 < n) clue c.requires.1.1.1.0.positive) c.known_colours-fillable.ensures.filled
+    fillable_alone g.line clue (g.W.PlaceSet.WIDTH - length g.line) _
+    (recursion_from_All (λ (n : ℕ). 0 < n) clue c.requires.1.1.1.0.positive) c.known_colours-fillable.ensures.filled
 
 pub returns-clause-blank : goal.returns-clause-blank
 returns-clause-blank g c =

@@ -1,9 +1,8 @@
 -- `possible_colours`: run by run the pass goes on, and each run and the gap after it join the masks.
-use Rattle.std.proofs.Common.{add-one, ◌-◌, ◌∙◌, ◌≡◌, ◌+◌, ◌<◌, ◌≤◌, List, length, map, get_or, ℕ, arith, refl, sym, subst}
+use Rattle.std.proofs.Common.{add-one, ◌-◌, ◌∙◌, ◌≡◌, ◌+◌, ◌<◌, ◌≤◌, length, map, get_or, ℕ, arith, sym, subst}
 use Rattle.std.proofs.lemmas.Bool.{eqb-true, eqb-false}
-use Rattle.place_sets.specs.Masks.{IsMaskOf, SomeFrom, SomeLevel, AreLevelsOf}
+use Rattle.place_sets.specs.Masks.{IsMaskOf, SomeFrom, SomeLevel}
 use Rattle.line_core.specs.steps.Reach.{behind, IsGap, IsGapAhead, IsWholeEnd, IsFillable}
-use Rattle.line_core.specs.steps.Passes.{IsPassOver}
 use Rattle.place_sets.proofs.LevelSteps.{levels_none, none_at}
 use Rattle.place_sets.proofs.Steps.{mask_same}
 use Rattle.line_core.proofs.Composing.{blank_first, blank_more, fill_more}
@@ -49,7 +48,8 @@ loop-j-preserved g c =
     rw (c.gap-in-loop-j.ensures, add-one j) passed.gap_is in
     record {
       pass = rw (add-one j) passed;
-      blank = blank_more line clue j _ _ _ _ _ gap c.gap_ahead-ahead.ensures invariant.blank c.intersection.ensures c.union-blankable.ensures;
+      blank = blank_more line clue j _ _ _ _ _ gap c.gap_ahead-ahead.ensures invariant.blank c.intersection.ensures
+          c.union-blankable.ensures;
       filled =
           fill_more line clue g.W.PlaceSet.TOP j _ _ _ c.inner_ends-whole.ensures c.add_spread.ensures invariant.filled;
     }

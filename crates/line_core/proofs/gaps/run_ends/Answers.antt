@@ -22,4 +22,5 @@ shifted_up-requires g c = one_within g.W.PlaceSet.WIDTH g.W.PlaceSet.TOP g.met.W
 
 pub returns : goal.returns
 returns g c =
-    run_ends_are _ _ _ _ (c.args.length - 1) _ _ _ _ c.shifted_up.ensures c.union.ensures c.intersection-starts.ensures c.shifted_up-2.ensures
+    run_ends_are _ _ _ _ (c.args.length - 1) _ _ _ _ c.shifted_up.ensures c.union.ensures c.intersection-starts.ensures
+    c.shifted_up-2.ensures

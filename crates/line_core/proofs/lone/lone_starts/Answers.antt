@@ -1,8 +1,7 @@
 -- `lone_starts`: the run has the first and the last cell that must be filled,
 -- or starts anywhere if none must be.
-use Rattle.std.proofs.Common.{ℕ, sym, subst, ◌∙◌}
+use Rattle.std.proofs.Common.{sym, ◌∙◌}
 use Rattle.std.proofs.lemmas.Bool.{eqb-true}
-use Rattle.place_sets.specs.Masks.{Has, IsMaskOf, IsShifted}
 use Rattle.line_core.proofs.LoneRuns.{starts_anywhere, starts_about}
 use Rattle.line_core.proofs.lone.lone_starts.Goals as goal
 
@@ -17,7 +16,8 @@ returns g c =
     let is = c.requires.1.0 in
     let first = c.first_place-greatest in
     let last = c.last_place in
-    starts_about g.line _ _ _ _ _ _ _ _ _ _ _ _ _ _ _ is.len_is c.requires.1.1.0 is.free_is is.room_is c.first_places.ensures c.difference-filled.ensures c.starts_within-starts.ensures
+    starts_about g.line _ _ _ _ _ _ _ _ _ _ _ _ _ _ _ is.len_is c.requires.1.1.0 is.free_is is.room_is c.first_places.ensures
+    c.difference-filled.ensures c.starts_within-starts.ensures
     first.ensures.in_mask first.ensures.least last.ensures.in_mask last.ensures.greatest first.ensures.within
     c.first_places-2.ensures c.intersection.ensures c.full.ensures
     (rw c.saturating_sub-least.ensures at c.shifted_up.ensures) c.intersection-2.ensures

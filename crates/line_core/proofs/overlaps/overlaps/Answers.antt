@@ -36,7 +36,8 @@ loop-number-preserved g c =
       found = elim c.if-number-slack.branch [
         | then-number-slack w ↦
             subst (λ m. IsMaskOf (IsOverlapBefore (j + 1) clue slack) (number m)) (sym w.certain-is)
-            (overlap_more clue g.W.PlaceSet.WIDTH slack j c.loop-number.greatest_start _ _ _ _ c.requires.fits c.loop-number-test.true w.if-number-slack.true invariant.start invariant.found w.first_places.ensures
+            (overlap_more clue g.W.PlaceSet.WIDTH slack j c.loop-number.greatest_start _ _ _ _ c.requires.fits c.loop-number-test.true
+            w.if-number-slack.true invariant.start invariant.found w.first_places.ensures
             w.shifted_up.ensures w.union-certain.ensures)
         | else-number-slack w ↦
             subst (λ m. IsMaskOf (IsOverlapBefore (j + 1) clue slack) (number m)) (sym w.certain-is)
