@@ -46,26 +46,23 @@ certain_is l clue ps k listed y p false false tf tb =
     true_from_ne_false (get_or y k false) (λ e. true≢false (sym (tb.from (y, Extends-agrees l y p.extends, p.runs_are, e)))) in
     absurd (true≢false (sym (tf.from (y, Extends-agrees l y p.extends, p.runs_are, filled))))
 
-certain_listed : (l : List Cell) (clue : List ℕ) (d : List Cell) (f b : ℕ → Bool) (ps : List (List Bool)) → ListsPlacings l clue ps
-    → ((k : ℕ) → k < length l → Tells (CanBe l clue true k) (f k)) → ((k : ℕ) → k < length l → Tells (CanBe l clue false k) (b k))
-    → (y : List Bool) → IsPlacing l clue y → length d ≡ length l
-    → ((k : ℕ) → k < length l → get_or d k Unknown ≡ certain_by (f k) (b k)) → Some d ≡ shared (length l) ps
-certain_listed l clue d f b [] listed tf tb y p e each = absurd (no_placing l clue listed y p)
-certain_listed l clue d f b (x ∷ ys) listed tf tb y p e each =
-    let ps = x ∷ ys in
-    let all = map (shared_at ps) (range_with_len 0 (length l)) in
-    ap (λ (cells : List Cell). Some cells)
-    (ext_get_or Unknown d all (e ∙ sym (length-map-range_with_len (shared_at ps) 0 (length l))) (λ k i.
-    let within : k < length l = omega (arith, e) in
-    each k within ∙ sym (certain_is l clue ps k listed y p (f k) (b k) (tf k within) (tb k within))
-    ∙ sym (get_or-map-range_with_len (shared_at ps) 0 (length l) k k Unknown within (zero-add k))))
-
 -- cells that are as two tests tell are the deduction of a line with a placing
 pub deduced-told : (l : List Cell) (clue : List ℕ) (d : List Cell) (f b : ℕ → Bool)
     → ((k : ℕ) → k < length l → Tells (CanBe l clue true k) (f k)) → ((k : ℕ) → k < length l → Tells (CanBe l clue false k) (b k))
     → (y : List Bool) → IsPlacing l clue y → length d ≡ length l
     → ((k : ℕ) → k < length l → get_or d k Unknown ≡ certain_by (f k) (b k)) → Some d ≡ deduced l clue
-deduced-told l clue d f b tf tb y p e each = certain_listed l clue d f b (placings l clue) (placings_listed l clue) tf tb y p e each
+deduced-told l clue d f b tf tb y p e each = by (placings l clue) (placings_listed l clue)
+  where
+    by : (ps : List (List Bool)) → ListsPlacings l clue ps → Some d ≡ shared (length l) ps
+    by [] listed = absurd (no_placing l clue listed y p)
+    by (x ∷ ys) listed =
+        let ps = x ∷ ys in
+        let all = map (shared_at ps) (range_with_len 0 (length l)) in
+        ap (λ (cells : List Cell). Some cells)
+        (ext_get_or Unknown d all (e ∙ sym (length-map-range_with_len (shared_at ps) 0 (length l))) (λ k i.
+        let within : k < length l = omega (arith, e) in
+        each k within ∙ sym (certain_is l clue ps k listed y p (f k) (b k) (tf k within) (tb k within))
+        ∙ sym (get_or-map-range_with_len (shared_at ps) 0 (length l) k k Unknown within (zero-add k))))
 
 -- and a line with none is dead
 pub dead-told : (l : List Cell) (clue : List ℕ) → ((y : List Bool) → IsPlacing l clue y → ⊥) → None ≡ deduced l clue

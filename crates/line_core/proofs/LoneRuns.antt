@@ -25,17 +25,13 @@ LonePlacing l clue s = (x : List Bool) × (agrees l x ≡ true) × (runs x ≡ c
 lone_placing : (l : List Cell) (clue : List ℕ) (s : ℕ) → ArePositive clue → length clue ≡ 1 → IsLoneStart l (get_or clue 0 0) s
     → LonePlacing l clue s
 lone_placing l clue s pos one start =
-    let number = get_or clue 0 0 in
     let p = placing_of l clue (s ∷ []) pos (record {
       count = sym one;
-      windows = λ j h. first (λ j. AllFrom (MayBe l true) (get_or clue j 0) (get_or (s ∷ []) j 0)) start.window j h;
+      windows = λ j h. let e : j ≡ 0 = omega arith in rw e start.window;
       apart = λ j h. absurd (omega arith);
       blanks = λ i h free. start.blanks i h (λ low high. free 0 (omega arith) low high);
     }) in
     (p.0, p.1, p.2, ap (λ (ss : List ℕ). get_or ss 0 0) p.3)
-  where
-    first : (P : ℕ → Type 0) → P 0 → (j : ℕ) → j < length clue → P j
-    first P at j h = let e : 0 ≡ j = omega arith in subst P e at
 
 lone_start : (l : List Cell) (clue : List ℕ) (x : List Bool) → length clue ≡ 1 → agrees l x ≡ true → runs x ≡ clue
     → IsLoneStart l (get_or clue 0 0) (get_or (starts_from 0 false x) 0 0)

@@ -72,8 +72,7 @@ as_far_antisym Right xs ys h k = pointwise_antisym xs ys k h
 -- the outermost starts are the first that are as far as all
 pub outermost_found : (side : Side) (l : List Cell) (clue : List ℕ) →
     outermost side l clue ≡ find (λ starts. list_all (all_as_far side starts) (all_starts l clue)) (all_starts l clue)
-outermost_found Left l clue = refl
-outermost_found Right l clue = refl
+outermost_found side l clue = search rules
 
 -- the first that passes is the only one that does
 find_only : (p : List ℕ → Bool) (m : List ℕ) (ps : List (List Bool)) → All (λ x. p (run_starts x) ≡ true → run_starts x ≡ m) ps

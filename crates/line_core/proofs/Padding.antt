@@ -1,4 +1,5 @@
 -- A line with blank cells behind it has the placings of the line alone.
+use Rattle.std.proofs.lemmas.Grind.{common_steps}
 use Rattle.std.proofs.Common.{rules, ◌≡◌, ℕ, zero, suc, ◌<◌, Bool, true, false, List, [], ◌∷◌, ◌++◌, length, replicate, get_or, refl, sym, ap, ◌∙◌, arith, true≢false, length-append}
 use Rattle.std.proofs.lemmas.Bool.{and_from, and_parts}
 use Rattle.std.proofs.lemmas.List.{get_or_append_left}
@@ -61,9 +62,7 @@ agrees_cut (c ∷ l) (b ∷ y) m h =
     (b ∷ rest.0, ap (λ (t : List Bool). b ∷ t) rest.1, and_from (allows c b) (agrees l rest.0) parts.0 rest.2)
 
 blank_at : (m k : ℕ) → get_or (replicate m false) k false ≡ false
-blank_at zero k = refl
-blank_at (suc m) zero = refl
-blank_at (suc m) (suc k) = blank_at m k
+blank_at m k = grind (arith, common_steps)
 
 filled_within : (x : List Bool) (m k : ℕ) → get_or (x ++ replicate m false) k false ≡ true → k < length x
 filled_within [] m k e = absurd (true≢false (sym e ∙ blank_at m k))

@@ -30,9 +30,6 @@ returns g c = λ j h.
     let new : get_or (map number reversed) p 0 ≡ get_or (map number (reversed ++ rest)) p 0 =
     sym (get_or_append_left (map number reversed) (map number rest) 0 p (omega (arith, length-map reversed number, same, within)))
     ∙ ap (λ (l : List ℕ). get_or l p 0) (sym (map-append number reversed rest)) in
-    let at : IsMaskOf (λ i. (i < len) × Has (get_or (map number gaps) p 0) (len - 1 - i)) (get_or (map number reversed) p 0) =
-    subst (λ (m : ℕ). IsMaskOf (λ i. (i < len) × Has m (len - 1 - i)) (get_or (map number reversed) p 0)) old
-    (c.reverse_all.ensures.1 p (omega (arith, length-map first number, within))) in
     ahead_of g.line clue j p (map number gaps) len (get_or (map number (reversed ++ rest)) p 0) (sym c.requires.1.1.0.len_is)
     (omega arith) h c.write_reversed_gaps.ensures.gaps
-    (subst (IsMaskOf (λ i. (i < len) × Has (get_or (map number gaps) p 0) (len - 1 - i))) new at)
+    (rw (old, new) at (c.reverse_all.ensures.1 p (omega (arith, length-map first number, within))))
