@@ -222,24 +222,23 @@ deduced-greatest l clue = greatest_listed l clue (placings l clue) (placings_lis
 pub deduced-above : (l : List Cell) (clue : List ℕ) → AtMost (Some l) (deduced l clue)
 deduced-above l clue = deduced-greatest l clue (Some l) (λ x p. p.extends)
 
-below_listed : (l : List Cell) (clue : List ℕ) (ps : List (List Bool)) → ListsPlacings l clue ps → (x : List Bool) → IsPlacing l clue x
-    → AtMost (shared (length l) ps) (Some (map colour x))
-below_listed l clue [] listed x p = absurd (no_placing l clue listed x p)
-below_listed l clue (y ∷ ys) listed x p =
-    let ps = y ∷ ys in
-    let n = length l in
-    let long : length x ≡ n = length-IsPlacing l clue x p in
-    Extends-from_places (map (shared_at ps) (range_with_len 0 n)) (map colour x)
-    (length-shared n ps ∙ sym long ∙ sym (length-map x colour)) (λ k h.
-    let within : k < n = omega (arith, length-shared n ps) in
-    rw (get_or-shared n ps k within, get_or-map_colour x k (omega arith))
-    (below_cell (colour (get_or x k false)) (list_all (filled_at k) ps) (list_all (blank_at k) ps)
-    (λ e. ap colour (listed.each (filled_at k) e x p))
-    (λ e. ap colour (not-true (get_or x k false) (listed.each (blank_at k) e x p)))))
-
 -- each placing has what is deduced
 pub deduced-below : (l : List Cell) (clue : List ℕ) (x : List Bool) → IsPlacing l clue x → AtMost (deduced l clue) (Some (map colour x))
-deduced-below l clue x p = below_listed l clue (placings l clue) (placings_listed l clue) x p
+deduced-below l clue x p = by (placings l clue) (placings_listed l clue)
+  where
+    by : (ps : List (List Bool)) → ListsPlacings l clue ps → AtMost (shared (length l) ps) (Some (map colour x))
+    by [] listed = absurd (no_placing l clue listed x p)
+    by (y ∷ ys) listed =
+        let ps = y ∷ ys in
+        let n = length l in
+        let long : length x ≡ n = length-IsPlacing l clue x p in
+        Extends-from_places (map (shared_at ps) (range_with_len 0 n)) (map colour x)
+        (length-shared n ps ∙ sym long ∙ sym (length-map x colour)) (λ k h.
+        let within : k < n = omega (arith, length-shared n ps) in
+        rw (get_or-shared n ps k within, get_or-map_colour x k (omega arith))
+        (below_cell (colour (get_or x k false)) (list_all (filled_at k) ps) (list_all (blank_at k) ps)
+        (λ e. ap colour (listed.each (filled_at k) e x p))
+        (λ e. ap colour (not-true (get_or x k false) (listed.each (blank_at k) e x p)))))
 
 -- if more is known, no less is deduced
 pub deduced-monotone : (l m : List Cell) (clue : List ℕ) → Extends l m → AtMost (deduced l clue) (deduced m clue)
@@ -255,15 +254,13 @@ full_same [] [] h = refl
 full_same (a ∷ x) (b ∷ y) h = λ i. colour_inj a b h.0 i ∷ full_same x y h.1 i
 full_same x y h = search rules
 
-full_listed : (x : List Bool) (clue : List ℕ) (ps : List (List Bool)) → ListsPlacings (map colour x) clue ps → (d : List Cell)
-    → shared (length (map colour x)) ps ≡ Some d → runs x ≡ clue
-full_listed x clue [] listed d e = cc
-full_listed x clue (y ∷ ys) listed d e =
-    let p : IsPlacing (map colour x) clue y = listed.members 0 y (omega arith) in ap runs (sym (full_same x y p.extends)) ∙ p.runs_are
-
 -- a full line that isn't dead has the clue's runs
 pub deduced-full : (x : List Bool) (clue : List ℕ) (d : List Cell) → deduced (map colour x) clue ≡ Some d → runs x ≡ clue
-deduced-full x clue d e = full_listed x clue (placings (map colour x) clue) (placings_listed (map colour x) clue) d e
+deduced-full x clue d e = by (placings (map colour x) clue) (placings_listed (map colour x) clue) e
+  where
+    by : (ps : List (List Bool)) → ListsPlacings (map colour x) clue ps → shared (length (map colour x)) ps ≡ Some d → runs x ≡ clue
+    by [] listed e = cc
+    by (y ∷ ys) listed e = let p = listed.members 0 y (omega arith) in ap runs (sym (full_same x y p.extends)) ∙ p.runs_are
 
 -- ---- a deduced line has no more to give
 

@@ -189,12 +189,9 @@ same_index x i j hi hj e =
 pub run_of : (x : List Bool) (clue : List ℕ) (k : ℕ) → runs x ≡ clue → k < length clue → Run x clue k
 run_of x clue k is h =
     let count : length (starts_from 0 false x) ≡ length clue = length-run_starts x ∙ ap length is in
-    let inside : k < length (starts_from 0 false x) = omega arith in
-    let s = start_is x 0 k false inside in
+    let s = start_is x 0 k false (omega arith) in
     let r = run_at x clue s.0 is s.2 s.3 in
-    let there : r.0 < length clue = r.1 in
-    let value : get_or (starts_from 0 false x) k 0 ≡ s.0 = s.1 ∙ zero-add s.0 in
-    let same : r.0 ≡ k = same_index x r.0 k (omega arith) inside (r.2 ∙ sym value) in
+    let same : r.0 ≡ k = same_index x r.0 k (omega (arith, r.1)) (omega arith) (r.2 ∙ sym (s.1 ∙ zero-add s.0)) in
     subst (Run x clue) same r.3
 
 -- the cells of a run are filled
@@ -231,10 +228,9 @@ runs_apart x clue k is h =
     let count : length (starts_from 0 false x) ≡ length clue = length-run_starts x ∙ ap length is in
     let s = get_or (starts_from 0 false x) k 0 in
     let r = run_of x clue k is (omega arith) in
-    let inside : suc k < length (starts_from 0 false x) = omega arith in
-    let t = start_is x 0 (suc k) false inside in
+    let t = start_is x 0 (suc k) false (omega arith) in
     let value : get_or (starts_from 0 false x) (suc k) 0 ≡ t.0 = t.1 ∙ zero-add t.0 in
-    let more : s < t.0 = omega (arith, starts_increase x 0 k (suc k) false (omega arith) inside) in
+    let more : s < t.0 = omega (arith, starts_increase x 0 k (suc k) false (omega arith) (omega arith)) in
     elim (cases_lt (s + get_or clue k 0) t.0) [
       | inl far ↦ omega arith
       | inr near ↦ absurd (close s t.0 (get_or clue k 0) more near t.2 t.3 (filled_in_run x clue k r) (blank_after_run x clue k r))

@@ -63,9 +63,7 @@ placing_with l clue k e pos h w =
 pub fillable_to : (l : List Cell) (clue : List ℕ) (i : ℕ) → ArePositive clue → IsFillable l clue i → CanBe l clue true i
 fillable_to l clue i pos (j, jl, (z, zb, w)) =
     let x = placing_with l clue j (i + z) pos jl w in
-    let start = x.3 in
-    let enough : get_or clue j 0 ≤ i + z + 1 = w.0.0 in
-    (x.0, x.1, x.2, in_run x.0 clue j i x.2 jl (omega arith) (omega arith))
+    (x.0, x.1, x.2, in_run x.0 clue j i x.2 jl (omega (arith, x.3, w.0.0)) (omega (arith, x.3, w.0.0)))
 
 -- and a cell that is filled in a placing is told so
 pub fillable_from : (l : List Cell) (clue : List ℕ) (i : ℕ) → CanBe l clue true i → IsFillable l clue i
