@@ -1,4 +1,5 @@
 -- What the layers above cite of placings and of the deduced line.
+use Rattle.std.proofs.lemmas.Grind.{common_steps}
 use Rattle.std.proofs.Common.{◌≡◌, ℕ, zero, suc, ◌<◌, Bool, true, false, not, cond, ◌&&◌, List, [], ◌∷◌, length, get_or, map, filter, Option, Some, None, refl, sym, ap, ◌∙◌, arith, true≢false, bytes_eq, zero-add, rules}
 use Rattle.std.specs.List.{All, list_all, range_with_len}
 use Rattle.std.proofs.lemmas.Bool.{and_parts, both_ways, false_from_ne_true, not-true}
@@ -170,9 +171,7 @@ blank_at k x = not (get_or x k false)
 
 -- the colour of a full line at a place
 pub get_or-map_colour : (x : List Bool) (k : ℕ) → k < length x → get_or (map colour x) k Unknown ≡ colour (get_or x k false)
-get_or-map_colour [] k h = absurd (omega arith)
-get_or-map_colour (b ∷ x) zero h = refl
-get_or-map_colour (b ∷ x) (suc k) h = get_or-map_colour x k (omega arith)
+get_or-map_colour x k h = grind (arith, common_steps)
 
 below_cell : (c : Cell) (filled blank : Bool) → (filled ≡ true → c ≡ Filled) → (blank ≡ true → c ≡ Blank)
     → CellExtends (cond filled Filled (cond blank Blank Unknown)) c

@@ -25,16 +25,8 @@ loop-j-init g c =
 
 pub inner_ends-whole-requires : goal.inner_ends-whole-requires
 inner_ends-whole-requires g c = λ κs within.
-    let test = c.loop-j-test.true in (
-      within,
-      (
-        c.requires.1.1.1.0,
-        (
-          omega arith,
-          (c.step-ends.ensures.ends g.line (behind 0 c.args.clue.now c.loop-j.j) c.loop-j.invariant.pass, c.gap_ahead-ahead.ensures),
-        ),
-      ),
-    )
+    let ends = c.step-ends.ensures.ends g.line (behind 0 c.args.clue.now c.loop-j.j) c.loop-j.invariant.pass in
+    (within, (c.requires.1.1.1.0, (omega (arith, c.loop-j-test.true), (ends, c.gap_ahead-ahead.ensures))))
 
 pub loop-j-preserved : goal.loop-j-preserved
 loop-j-preserved g c =
@@ -62,22 +54,10 @@ whole_ends-last_whole-requires g c = λ κs within.
     let last = length clue - 1 in
     let some : 0 < length clue = (let ne = eqb-false (length clue) 0 (sym c.is_empty.ensures ∙ c.if-is_empty.false) in omega arith) in
     let e : c.loop-j.j ≡ last = (let test = c.loop-j-test.false in omega arith) in
-    let all : length clue ≡ last + 1 = omega arith in (
-      within,
-      (
-        c.requires.1.1.0,
-        (
-          c.requires.1.1.1.0,
-          (
-            omega arith,
-            (
-              c.step-last_ends.ensures.ends line (behind 0 clue last) (rw e at c.loop-j.invariant.pass),
-              subst (λ n. IsMaskOf (IsGapAhead line clue n) (number c.gap_ahead-after.result)) all c.gap_ahead-after.ensures,
-            ),
-          ),
-        ),
-      ),
-    )
+    let all : length clue ≡ last + 1 = omega arith in
+    let ends = c.step-last_ends.ensures.ends line (behind 0 clue last) (rw e at c.loop-j.invariant.pass) in
+    let after = subst (λ n. IsMaskOf (IsGapAhead line clue n) (number c.gap_ahead-after.result)) all c.gap_ahead-after.ensures in
+    (within, (c.requires.1.1.0, (c.requires.1.1.1.0, (omega arith, (ends, after)))))
 
 pub returns-then-is_empty-clause-blank : goal.returns-then-is_empty-clause-blank
 returns-then-is_empty-clause-blank g c =

@@ -9,20 +9,9 @@ use Rattle.line_core.proofs.Outermost.{some_end, outer_more}
 use Rattle.line_core.proofs.starts.write_starts.Goals as goal
 
 pub whole_ends-whole-requires : goal.whole_ends-whole-requires
-whole_ends-whole-requires g c =
-    λ κs within. (
-      within,
-      (
-        c.requires.1.1.0,
-        (
-          c.requires.1.1.1.0,
-          (
-            c.loop-j-test.true,
-            (c.step-ends.ensures.ends g.line (behind 0 c.args.clue.now c.loop-j.j) c.loop-j.invariant.pass, c.gap_ahead-ahead.ensures),
-          ),
-        ),
-      ),
-    )
+whole_ends-whole-requires g c = λ κs within.
+    let ends = c.step-ends.ensures.ends g.line (behind 0 c.args.clue.now c.loop-j.j) c.loop-j.invariant.pass in
+    (within, (c.requires.1.1.0, (c.requires.1.1.1.0, (c.loop-j-test.true, (ends, c.gap_ahead-ahead.ensures)))))
 
 pub loop-j-preserved : goal.loop-j-preserved
 loop-j-preserved g c =
