@@ -75,13 +75,14 @@ pub leaves_to : (l : List Cell) (clue : List ℕ) (i : ℕ) → length clue ≡ 
 leaves_to l clue i one h =
     let x = blankable_to l clue i h in
     let s = get_or (starts_from 0 false x.0) 0 0 in
-    (s, lone_start l clue x.0 one x.1 x.2, elim (cases_lt i s) [
+    let out : (i < s) ⊎ (s + get_or clue 0 0 ≤ i) = elim (cases_lt i s) [
       | inl before ↦ inl before
       | inr from ↦ elim (cases_lt i (s + get_or clue 0 0)) [
         | inl inside ↦ absurd (true≢false (sym (in_run x.0 clue 0 i x.2 (omega arith) from inside) ∙ x.3))
         | inr after ↦ inr after
       ]
-    ])
+    ] in
+    (s, lone_start l clue x.0 one x.1 x.2, out)
 
 pub leaves_from : (l : List Cell) (clue : List ℕ) (i s : ℕ) → ArePositive clue → length clue ≡ 1 → i < length l
     → IsLoneStart l (get_or clue 0 0) s → (i < s) ⊎ (s + get_or clue 0 0 ≤ i) → IsBlankable l clue i

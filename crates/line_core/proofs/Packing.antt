@@ -114,8 +114,8 @@ shifted l clue slack shift any_cell pos e most up =
       count = length-map-range_with_len (λ (j : ℕ). least_start clue j + shift j) 0 (length clue);
       windows = λ j h z b. any_cell true (get_or (shifted_starts clue shift) j 0 + z)
           (omega (arith, shifted_at clue shift j h, start_next clue j h, start_within clue (suc j), most j));
-      apart = λ j h. omega (arith, shifted_at clue shift j (omega arith), shifted_at clue shift (suc j) h, start_next clue j (omega arith),
-          up j h);
+      apart = λ j h. let here = shifted_at clue shift j (omega arith) in let next = start_next clue j (omega arith) in
+          omega (arith, shifted_at clue shift (suc j) h, up j h);
       blanks = λ i h free. any_cell false i h;
     }) in (x.0, x.1, x.2, λ j h. ap (λ (z : List ℕ). get_or z j 0) x.3 ∙ shifted_at clue shift j h)
 

@@ -122,14 +122,14 @@ paint l p (c ∷ clue) (s ∷ ss) pos h e first windows apart blanks =
     let last = (window (c - 1) (omega arith)).0 in
     let next : 0 < length clue → s + c < get_or ss 0 0 = λ h. apart 0 (omega arith) in
     let rest = paint l (s + c) clue ss pos.1 (omega arith) (omega arith) (λ h. omega (arith, next h))
-        (λ j h. windows (suc j) (omega arith)) (λ j h. apart (suc j) (omega arith))
-        (λ i a h free. blanks i (omega arith) h (by i a free)) in
+    (λ j h. windows (suc j) (omega arith)) (λ j h. apart (suc j) (omega arith))
+    (λ i a h free. blanks i (omega arith) h (by i a free)) in
     let y = replicate c true ++ rest.full in
     let closed = rest.head next in record {
       full = replicate (s - p) false ++ y;
       agree = agrees_span l false (s - p) p s y (omega arith)
           (λ z b. blanks (p + z) (omega arith) (omega arith) (λ j h from to.
-              absurd (omega (arith, first_least (c ∷ clue) (s ∷ ss) apart j h))))
+          absurd (omega (arith, first_least (c ∷ clue) (s ∷ ss) apart j h))))
           (agrees_span l true c s (s + c) rest.full refl window rest.agree);
       runs_are = runs_run_first (s - p) c rest.full clue some closed rest.runs_are;
       starts_are = starts_first (s - p) c p s rest.full ss (omega arith) some closed rest.starts_are;

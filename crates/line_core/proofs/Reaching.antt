@@ -26,8 +26,9 @@ first_cell c cells cs (false ∷ y, agree, is) =
 first_cell c cells cs (true ∷ y, agree, is) =
     let b = begins (true ∷ y) in
     let some : 0 < b.count = begins_some (true ∷ y) b refl in
-    inr (b.count, b.rest, some, subst (λ (t : List Bool). agrees (c ∷ cells) t ≡ true) b.whole agree,
-    sym (runs_about [] b.count b.rest some refl b.closed) ∙ ap runs (sym b.whole) ∙ is, b.closed)
+    let same = subst (λ (t : List Bool). agrees (c ∷ cells) t ≡ true) b.whole agree in
+    let runs_are = sym (runs_about [] b.count b.rest some refl b.closed) ∙ ap runs (sym b.whole) ∙ is in
+    inr (b.count, b.rest, some, same, runs_are, b.closed)
 
 -- the first gaps: from the first cell on, as long as all may be blank
 pub first_gap_to : (l : List Cell) (i : ℕ) → IsFlooded (λ k. (k ≡ 0) × MayBe l false k) (MayBe l false) i → IsGapAfter l [] i
@@ -77,8 +78,8 @@ end_from_run l cs n i q rest within e cells h is closed =
 run_from_end : (l : List Cell) (cs : List ℕ) (n i : ℕ) → 0 < n → IsEndAfter l cs n i → HasPlacing (behind Unknown l (suc i)) (n ∷ cs)
 run_from_end l cs n i some x =
     let y = x.1.0 in
-    (replicate n true ++ y.0, run_open l n (suc i) (i + 1 - n) y.0 (omega (arith, x.0)) (λ z b. (x.1.1 z b).1) y.1,
-    runs_about [] n y.0 some refl y.3 ∙ ap (λ (rs : List ℕ). n ∷ rs) y.2)
+    let agree = run_open l n (suc i) (i + 1 - n) y.0 (omega (arith, x.0)) (λ z b. (x.1.1 z b).1) y.1 in
+    (replicate n true ++ y.0, agree, runs_about [] n y.0 some refl y.3 ∙ ap (λ (rs : List ℕ). n ∷ rs) y.2)
 
 -- the gaps after a run: from the cell after an end of it on, as long as all may be blank
 abbrev pub After : List Cell → ℕ → List ℕ → ℕ → Type 0

@@ -162,7 +162,7 @@ run_at x clue s is filled first =
     let cut = drop_head clue j v.count (runs v.rest) parts.1 in
     let at : get_or (starts_from 0 false x) j 0 ≡ s =
     ap (λ (y : List Bool). get_or (starts_from 0 false y) j 0) (sym whole) ∙ start_of_cut a v.count v.rest some closed ∙ long in
-    (j, cut.2, at, record {
+    let run : Run x clue j = record {
       front = a;
       back = v.rest;
       whole = ap (λ (n : ℕ). onto a (replicate n true ++ v.rest)) cut.0 ∙ whole;
@@ -171,7 +171,8 @@ run_at x clue s is filled first =
       start = long ∙ sym at;
       front_runs = parts.0;
       back_runs = cut.1;
-    })
+    } in
+    (j, cut.2, at, run)
   where
     head : (s : ℕ) → before false x s ≡ false → get_or (behind false x s) 0 false ≡ false
     head zero h = refl

@@ -73,5 +73,5 @@ fillable_from l clue i (x, agree, is, at) =
     let high = c.to in
     let e = get_or (starts_from 0 false x) c.index 0 + get_or clue c.index 0 - 1 in
     let far : e ≡ i + (e - i) = omega arith in
-    (c.index, c.inside, (e - i, omega arith, subst (IsWholeEnd l clue c.index) far
-    (whole_of l clue x c.index e agree is c.inside (omega arith))))
+    let end = subst (IsWholeEnd l clue c.index) far (whole_of l clue x c.index e agree is c.inside (omega arith)) in
+    (c.index, c.inside, (e - i, omega arith, end))
