@@ -1,5 +1,5 @@
 -- A grid as its rows and its columns: its cells, and what changing one of them does.
-use Rattle.std.proofs.Common.{◌≡◌, ◌≢◌, ℕ, ◌+◌, ◌-◌, ◌*◌, ◌/◌, ◌%◌, ◌<◌, ◌≤◌, inl, inr, false, Some, None, List, [], ◌∷◌, ◌++◌, length, take, drop, get_or, set, refl, sym, ap, ◌∙◌, arith, below_more, length-set, get_or-set_same, get_or-set_other, replicate}
+use Rattle.std.proofs.Common.{◌≡◌, ◌≢◌, ℕ, ◌+◌, ◌-◌, ◌*◌, ◌/◌, ◌%◌, ◌<◌, ◌≤◌, inl, inr, false, Some, None, List, [], ◌∷◌, length, get_or, set, refl, sym, ap, ◌∙◌, arith, below_more, length-set, get_or-set_same, get_or-set_other, replicate}
 use Rattle.std.proofs.lemmas.List.{ext_get_or, get_or_default, get_or-replicate, length-replicate}
 use Rattle.std.proofs.lemmas.Nat.{div_below}
 use Rattle.grid_core.specs.declared.cells.Cell.{Cell}
@@ -13,11 +13,9 @@ use Rattle.grid_core.specs.steps.Sides.{count_on, place_on}
 use Rattle.grid_core.proofs.LineLaws.{length-places_from, get_or-places_from, length-places_on, get_or-places_on, length-cells_at, get_or-cells_at}
 use Rattle.grid_core.specs.Lines.{IsUnknownFrom}
 use Rattle.solve_core.specs.steps.GridLines.{AreLinesOf}
-use Rattle.grid_core.specs.Rows.{cells_of_rows, row_of, with_row}
-use Rattle.grid_core.proofs.RowLemmas.{length-replaced, replaced-here, replaced-others}
+use Rattle.grid_core.specs.Rows.{cells_of_rows, row_of}
 use Rattle.grid_core.proofs.RowLists.{get_or-row_of, get_or-rows, length-row_of, length-rows}
-use Rattle.std.proofs.Math.Nat.{mul-le-mul_left}
-use Rattle.std.proofs.lemmas.Bool.{cases_eq, cases_lt}
+use Rattle.std.proofs.lemmas.Bool.{cases_eq}
 use Rattle.solve_core.proofs.SideLines.{along, distinct_places, same_place, row_within}
 use Rattle.solve_core.proofs.LineSteps.{AreDistinct, cells_at-same, distinct_same, get_or-replicated}
 
@@ -299,39 +297,3 @@ lines-read g rows columns size count wide rows_are long cells = record {
     row_cell : (x y : ℕ) → x < length columns → y < length rows →
         get_or (get_or rows y []) x Unknown ≡ get_or g.cells (y * length columns + x) Unknown
     row_cell x y lx ly = rw (rows_are y ly, ← wide) (get_or-row_of g x y (omega (arith, lx, wide)))
-
--- ---- rows written into a grid
-
--- a grid that has the cells of the rows above, with one more row written
-pub rows-written : (old : PartialGrid) (rows columns : List (List Cell)) (y : ℕ) (row : List Cell) →
-    AreLinesOf (cells_of_rows rows) rows columns → old.width ≡ length columns
-    → length old.cells ≡ length columns * length rows → y < length rows → row ≡ get_or rows y []
-    → ((k : ℕ) → k < y * length columns → get_or old.cells k Unknown ≡ get_or (cells_of_rows rows) k Unknown)
-    → (length (with_row old y row).cells ≡ length (cells_of_rows rows))
-    × ((k : ℕ) → k < (y + 1) * length columns → get_or (with_row old y row).cells k Unknown ≡ get_or (cells_of_rows rows) k Unknown)
-rows-written old rows columns y row a wide count ly is above = rw wide (size, each)
-  where
-    w : ℕ
-    w = length columns
-
-    long : length row ≡ w
-    long = ap length is ∙ (lines-long rows columns 0 y a a.size.width_from ly).0
-
-    fits : y * w + w ≤ length old.cells
-    fits = let more : w * (y + 1) ≤ w * length rows = mul-le-mul_left w (omega arith) in omega (arith, more, count)
-
-    new : List Cell
-    new = take (y * w) old.cells ++ row ++ drop (y * w + w) old.cells
-
-    size : length new ≡ length (cells_of_rows rows)
-    size = length-replaced old.cells row (y * w) w long fits ∙ count ∙ sym a.count
-
-    here : (x : ℕ) → x < w → get_or new (y * w + x) Unknown ≡ get_or (cells_of_rows rows) (y * w + x) Unknown
-    here x lx = replaced-here old.cells row (y * w) w long fits x lx ∙ ap (λ (line : List Cell). get_or line x Unknown) is ∙
-        (cell-read rows columns x y a lx ly).0
-
-    each : (k : ℕ) → k < (y + 1) * w → get_or new k Unknown ≡ get_or (cells_of_rows rows) k Unknown
-    each k l = elim (cases_lt k (y * w)) [
-      | inl low ↦ replaced-others old.cells row (y * w) w long fits k (inl low) ∙ above k low
-      | inr from ↦ (let at : y * w + (k - y * w) ≡ k = omega arith in rw at at (here (k - y * w) (omega arith)))
-    ]
