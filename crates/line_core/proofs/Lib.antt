@@ -15,3 +15,4 @@ pub mod Telling
 pub mod Packing
 pub mod Padding
 pub mod LoneRuns
+pub mod FullLines

@@ -1,12 +1,12 @@
 -- The cells of a line that may have a colour, and the lengths of runs.
-use Rattle.std.proofs.Common.{◌≡◌, ℕ, ◌+◌, ◌<◌, ◌≤◌, Bool, true, false, List, length, get_or, set, sym, subst, arith, rules}
+use Rattle.std.proofs.Common.{◌≡◌, ℕ, ◌+◌, ◌<◌, ◌≤◌, Bool, true, false, List, length, get_or, set, sym, subst, arith, rules, inl, inr}
 use Rattle.grid_core.specs.declared.cells.Cell.{Cell}
 use Rattle.grid_core.specs.declared.cells.Cell.TheVariants.{Unknown}
 use Rattle.grid_core.specs.Cells.{allows, is_filled}
 use Rattle.place_sets.specs.Masks.{Has, has, IsMaskOf}
 use Rattle.place_sets.proofs.HasLemmas.{true_has}
-use Rattle.place_sets.proofs.WordSteps.{none_is as is_none}
-use Rattle.std.proofs.lemmas.Bool.{false_from_ne_true}
+use Rattle.place_sets.proofs.WordSteps.{none_is as is_none, some_place}
+use Rattle.std.proofs.lemmas.Bool.{false_from_ne_true, cases_lt}
 use Rattle.std.proofs.lemmas.Nat.Bits.{bit_at-zero}
 use Rattle.line_core.specs.steps.Reach.{MayBe, AreLengths}
 
@@ -32,6 +32,10 @@ free_is line filled m = may_be_is line filled m is_filled false free_to free_fro
 -- a mask of nothing
 pub none_is : (P : ℕ → Type 0) (m : ℕ) → m ≡ 0 → ((i : ℕ) → P i → ⊥) → IsMaskOf P m
 none_is P m e none = subst (IsMaskOf P) (sym e) (is_none P none)
+
+-- and a mask that has none is empty
+pub none_in : (P : ℕ → Type 0) (m : ℕ) → IsMaskOf P m → ((i : ℕ) → P i → ⊥) → m ≡ 0
+none_in P m p none = elim (cases_lt 0 m) [ inl some ↦ (let x = some_place m some in absurd (none x.0 (p.to x.0 x.1))) | inr e ↦ omega arith ]
 
 pub none_has : (m i : ℕ) → m ≡ 0 → Has m i → ⊥
 none_has m i e h = let z : Has 0 i = subst (λ (k : ℕ). Has k i) e h in omega (arith, bit_at-zero i)

@@ -14,12 +14,11 @@ use Rattle.grid_core.specs.Runs.{runs}
 use Rattle.place_sets.specs.Masks.{Has, has, IsMaskOf, IsShifted}
 use Rattle.place_sets.proofs.HasLemmas.{has_true, true_has}
 use Rattle.place_sets.proofs.Steps.{mask_same}
-use Rattle.place_sets.proofs.WordSteps.{some_place}
 use Rattle.line_core.specs.steps.Overlaps.{needed, least_start, IsOverlapBefore, IsOverlap}
 use Rattle.line_core.specs.steps.Reach.{AreLengths, MayBe, IsFillable, IsBlankable}
 use Rattle.line_core.proofs.RunLaws.{ArePositive}
 use Rattle.grid_core.proofs.LineCells.{has_by}
-use Rattle.line_core.proofs.LineCells.{length_at, lacks, none_has, none_is}
+use Rattle.line_core.proofs.LineCells.{length_at, lacks, none_has, none_in, none_is}
 use Rattle.line_core.proofs.Joining.{positive_at, filled_agrees, blankable_to, blankable_from}
 use Rattle.line_core.proofs.WholeEnds.{fillable_to, fillable_from}
 use Rattle.line_core.proofs.RunStarts.{starts_from, in_run, covered}
@@ -307,10 +306,7 @@ unknown_to l len free room known long f r p e =
 -- and if nothing is known, they are the same
 pub unknown_from : (l : List Cell) (len free room known : ℕ) → IsMaskOf (MayBe l false) free → IsMaskOf (MayBe l true) room
     → IsMaskOf (λ i. has free i ≢ has room i) known → l ≡ replicate len Unknown → known ≡ 0
-unknown_from l len free room known f r p e = elim (cases_lt 0 known) [
-  | inl some ↦ (let x = some_place known some in absurd (p.to x.0 x.1 (same x.0)))
-  | inr none ↦ omega arith
-]
+unknown_from l len free room known f r p e = none_in _ known p (λ i differ. differ (same i))
   where
     any_cell : (v : Bool) (i : ℕ) → i < length l → MayBe l v i
     any_cell = subst AnyColour (sym e) (unknown_any len)

@@ -30,7 +30,7 @@ pub record IsLaid (l : List Cell) (clue ss : List ℕ) : Type 0 where
   pub apart : StandApart clue ss
   pub blanks : (i : ℕ) → i < length l → IsFree clue ss i → MayBe l false i
 
-agrees_at : (l : List Cell) (x : List Bool) (i : ℕ) → agrees l x ≡ true → i < length l
+pub agrees_at : (l : List Cell) (x : List Bool) (i : ℕ) → agrees l x ≡ true → i < length l
     → allows (get_or l i Unknown) (get_or x i false) ≡ true
 agrees_at [] x i a h = absurd (omega arith)
 agrees_at (c ∷ l) [] i a h = cc

@@ -1,4 +1,5 @@
 -- The definitions that only private calls need.
+pub mod Full
 pub mod Lone
 pub mod Outermost
 pub mod Overlaps

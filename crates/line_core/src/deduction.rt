@@ -9,6 +9,7 @@ ghost use Rattle.line_core.specs.steps.Reach.{AreLengths, AreGapsAhead, IsFillab
 ghost use Rattle.line_core.specs.steps.Told.{told_by};
 
 use crate::Line;
+use crate::full::{full_colours, is_full};
 use crate::lone::lone_colours;
 use crate::overlaps::{is_unknown, unknown_colours};
 use crate::passes::Pass;
@@ -71,7 +72,7 @@ fn known_colours<W: PlaceSet>(span: &Span<W>, clue: &[u16], gaps: &mut [W; GAPS]
     possible_colours(span, clue, gaps)
 }
 
-/// The same, of which a line of unknown cells needs no pass, and others are padded.
+/// The same, of which a line whose cells are all unknown, or all known, needs no pass, and others are padded.
 pub fn colours<W: PlaceSet>(span: &Span<W>, clue: &[u16], gaps: &mut [W; GAPS]) -> (W, W)
     ghost line: { List Cell }
     requires span { IsSpanOf W.WIDTH line span.now.len (W.number span.now.free) (W.number span.now.room) }
@@ -82,6 +83,9 @@ pub fn colours<W: PlaceSet>(span: &Span<W>, clue: &[u16], gaps: &mut [W; GAPS]) 
 {
     if is_unknown(span) {
         return unknown_colours(span.len, clue);
+    }
+    if is_full(span) {
+        return full_colours(span, clue);
     }
     let (fillable, blankable) = known_colours(&padded(span), clue, gaps);
     (fillable, blankable.intersection(first_places(span.len)))

@@ -2,6 +2,7 @@
 #![tactic(auto)]
 
 mod deduction;
+mod full;
 mod gaps;
 pub mod laws;
 mod line;

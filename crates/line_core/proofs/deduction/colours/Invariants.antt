@@ -10,3 +10,9 @@ ghost-padded g a = g.line
 
 abbrev pub ghost-known_colours : goal.ghost-known_colours
 ghost-known_colours g a = padded g.W.PlaceSet.WIDTH g.line
+
+abbrev pub ghost-is_full : goal.ghost-is_full
+ghost-is_full g a = g.line
+
+abbrev pub ghost-full_colours : goal.ghost-full_colours
+ghost-full_colours g a = g.line

@@ -1,0 +1,197 @@
+-- A line whose cells are all known: one full line agrees with it, whose runs a walk compares with the clue.
+use Rattle.std.proofs.Common.{rules, ◌≡◌, ◌≢◌, ◌↔◌, ℕ, zero, suc, ◌+◌, ◌<◌, ◌≤◌, Bool, true, false, not, cond, List, [], ◌∷◌, length, map, Option, Some, None, refl, sym, ap, ◌∙◌, subst, arith, add-one, zero-add, add_comm, true≢false, drop, get_or, drop-cons, drop_of_length-le, ext_get_or, inl, inr}
+use Rattle.std.proofs.lemmas.Bool.{cases_lt, false_from_ne_true}
+use Rattle.std.proofs.lemmas.List.{get_or-drop}
+use Rattle.grid_core.specs.declared.cells.Cell.{Cell}
+use Rattle.grid_core.specs.declared.cells.Cell.TheVariants.{Unknown, Filled, Blank}
+use Rattle.grid_core.specs.Cells.{allows, agrees, is_filled}
+use Rattle.grid_core.specs.Runs.{runs}
+use Rattle.grid_core.proofs.LineCells.{has_by}
+use Rattle.grid_core.proofs.RunsLemmas.{runs_after}
+use Rattle.place_sets.specs.Masks.{Has, has, IsMaskOf}
+use Rattle.place_sets.proofs.HasLemmas.{has_true, true_has}
+use Rattle.place_sets.proofs.Steps.{mask_same}
+use Rattle.line_core.specs.steps.Full.{IsFull, IsFilled}
+use Rattle.line_core.specs.steps.Reach.{MayBe}
+use Rattle.line_core.proofs.RunLaws.{runs_after-zero, runs_after-true, runs_after-close, runs_after-nil}
+use Rattle.line_core.proofs.Certain.{CanBe}
+use Rattle.line_core.proofs.LineCells.{none_has, none_in}
+use Rattle.line_core.proofs.Joining.{length-agrees}
+use Rattle.line_core.proofs.RunStarts.{covered}
+use Rattle.line_core.proofs.Painting.{agrees_at}
+
+-- ---- the one full line that agrees
+
+-- a full line that agrees has colours that the cells may have
+pub may_be : (l : List Cell) (x : List Bool) (v : Bool) (i : ℕ) → agrees l x ≡ true → i < length l → get_or x i false ≡ v → MayBe l v i
+may_be l x v i agree h e = (h, subst (λ (b : Bool). allows (get_or l i Unknown) b ≡ true) e (agrees_at l x i agree h))
+
+-- and no others
+only_be : (l : List Cell) (x : List Bool) (v : Bool) (i : ℕ) → IsFull l → agrees l x ≡ true → MayBe l v i → get_or x i false ≡ v
+only_be l x v i full agree m = by v (get_or x i false) refl m
+  where
+    by : (v b : Bool) → get_or x i false ≡ b → MayBe l v i → b ≡ v
+    by true false e m = absurd (full i (may_be l x false i agree m.0 e) m)
+    by false true e m = absurd (full i m (may_be l x true i agree m.0 e))
+    by v b e m = search rules
+
+-- the line's filled cells, as a full line
+agrees_filled : (l : List Cell) → agrees l (map is_filled l) ≡ true
+agrees_filled [] = refl
+agrees_filled (Unknown ∷ l) = agrees_filled l
+agrees_filled (Filled ∷ l) = agrees_filled l
+agrees_filled (Blank ∷ l) = agrees_filled l
+
+-- if its runs are the clue, each cell can be what it may be
+pub can_be : (l : List Cell) (clue : List ℕ) (v : Bool) (i : ℕ) → IsFull l → runs (map is_filled l) ≡ clue → MayBe l v i → CanBe l clue v i
+can_be l clue v i full is m = (map is_filled l, agrees_filled l, is, only_be l (map is_filled l) v i full (agrees_filled l) m)
+
+-- and each placing has its runs
+pub placing_runs : (l : List Cell) (clue : List ℕ) (v : Bool) (i : ℕ) → IsFull l → CanBe l clue v i → runs (map is_filled l) ≡ clue
+placing_runs l clue v i full (x, agree, is, at) =
+    let y = map is_filled l in
+    let long : length x ≡ length l = length-agrees l x agree in
+    ap runs (sym (ext_get_or false x y (long ∙ sym (length-agrees l y (agrees_filled l))) (λ k h.
+    sym (only_be l y (get_or x k false) k full (agrees_filled l) (may_be l x (get_or x k false) k agree (omega arith) refl))))) ∙ is
+
+-- ---- the walk over its runs
+
+-- the runs of cells, if the first `least` of them are blank
+abbrev pub runs_past : ℕ → List Bool → Option (List ℕ)
+runs_past zero y = Some (runs y)
+runs_past (suc n) [] = Some []
+runs_past (suc n) (true ∷ y) = None
+runs_past (suc n) (false ∷ y) = runs_past n y
+
+-- what a walk keeps that has passed some of a clue's numbers: what is left is the mask of some cells,
+-- of which the first must be blank and the runs must be the clue's others
+pub record IsWalked (cells : List Bool) (clue : List ℕ) (j least left : ℕ) : Type 0 where
+  pub rest : List Bool
+  pub rest_is : IsMaskOf (IsFilled rest) left
+  pub to : runs cells ≡ clue → runs_past least rest ≡ Some (drop j clue)
+  pub from : runs_past least rest ≡ Some (drop j clue) → runs cells ≡ clue
+
+-- runs after blank cells
+past_blanks : (least n : ℕ) (y : List Bool) → least ≤ n → ((i : ℕ) → i < n → get_or y i false ≡ false)
+    → runs_past least y ≡ Some (runs (drop n y))
+past_blanks zero (suc n) [] h blank = refl
+past_blanks least (suc n) (true ∷ y) h blank = absurd (true≢false (blank 0 (omega arith)))
+past_blanks zero (suc n) (false ∷ y) h blank = past_blanks zero n y (omega arith) (λ i b. blank (suc i) (omega arith))
+past_blanks (suc least) (suc n) (false ∷ y) h blank = past_blanks least n y (omega arith) (λ i b. blank (suc i) (omega arith))
+past_blanks least n y h blank = search rules
+
+-- none of which is filled
+past_filled : (least i : ℕ) (y : List Bool) → i < least → get_or y i false ≡ true → runs_past least y ≡ None
+past_filled zero i y h f = absurd (omega arith)
+past_filled (suc least) (suc i) (false ∷ y) h f = past_filled least i y (omega arith) f
+past_filled (suc least) i y h f = search rules
+
+past_runs : (least : ℕ) (y : List Bool) (ns : List ℕ) → runs_past least y ≡ Some ns → runs y ≡ ns
+past_runs (suc least) (false ∷ y) ns e = past_runs least y ns e
+past_runs least y ns e = search rules
+
+past_none : (least left : ℕ) (y : List Bool) → IsMaskOf (IsFilled y) left → left ≡ 0 → runs_past least y ≡ Some []
+past_none least left y p e =
+    past_blanks least (least + length y) y (omega arith)
+    (λ i h. false_from_ne_true (get_or y i false) (λ f. none_has left i e (p.from i f)))
+    ∙ ap (λ (t : List Bool). Some (runs t)) (drop_of_length-le y {i = least + length y} (omega arith))
+
+-- cells further on
+dropped_at : (n i : ℕ) (y : List Bool) → get_or (drop n y) i false ≡ get_or y (i + n) false
+dropped_at n i y = get_or-drop n y i false ∙ ap (λ (k : ℕ). get_or y k false) (add_comm n i)
+
+-- the first cells in the other colour
+abbrev crossed : ℕ → List Bool → List Bool
+crossed zero y = y
+crossed (suc n) [] = true ∷ crossed n []
+crossed (suc n) (b ∷ y) = not b ∷ crossed n y
+
+crossed_at : (n i : ℕ) (y : List Bool) (low : Bool) → (low ≡ true → i < n) → (low ≡ false → n ≤ i)
+    → get_or (crossed n y) i false ≡ cond low (not (get_or y i false)) (get_or y i false)
+crossed_at (suc n) (suc i) [] low a b = crossed_at n i [] low (λ e. omega (arith, a e)) (λ e. omega (arith, b e))
+crossed_at (suc n) (suc i) (c ∷ y) low a b = crossed_at n i y low (λ e. omega (arith, a e)) (λ e. omega (arith, b e))
+crossed_at n i y low a b = grind arith
+
+crossed_is : (n : ℕ) (y : List Bool) (filled ones next : ℕ) → IsMaskOf (IsFilled y) filled → IsMaskOf (λ i. i < n) ones
+    → IsMaskOf (λ i. has filled i ≢ has ones i) next → IsMaskOf (IsFilled (crossed n y)) next
+crossed_is n y filled ones next p q r =
+    mask_same _ _ next r (λ i differ. at i ∙ (other (has filled i) (has ones i)).0 differ)
+    (λ i e. (other (has filled i) (has ones i)).1 (sym (at i) ∙ e))
+  where
+    other : (s low : Bool) → (s ≢ low) ↔ (cond low (not s) s ≡ true)
+    other s low = search rules
+
+    at : (i : ℕ) → get_or (crossed n y) i false ≡ cond (has ones i) (not (has filled i)) (has filled i)
+    at i =
+        let same : has filled i ≡ get_or y i false = has_by filled i (get_or y i false) (p.to i) (p.from i) in
+        rw same (crossed_at n i y (has ones i) (λ e. q.to i (true_has ones i e)) (λ e. elim (cases_lt i n) [
+          | inl low ↦ absurd (true≢false (sym (has_true ones i (q.from i low)) ∙ e))
+          | inr high ↦ high
+        ]))
+
+-- a run that goes on is longer
+longer : (m k : ℕ) (y : List Bool) (ns : List ℕ) → runs_after (suc m) y ≡ k ∷ ns → m < k
+longer m k [] ns e = let h : suc m ∷ [] ≡ k ∷ ns = sym (runs_after-nil m) ∙ e in let same : suc m ≡ k = cc in omega arith
+longer m k (true ∷ y) ns e = let h = longer (suc m) k y ns (sym (runs_after-true (suc m) y) ∙ e) in omega arith
+longer m k (false ∷ y) ns e =
+    let h : suc m ∷ runs_after 0 y ≡ k ∷ ns = sym (runs_after-close m y) ∙ e in let same : suc m ≡ k = cc in omega arith
+
+-- a run has a length exactly if as many cells in the other colour, and the next one, are blank
+cross : (m n k : ℕ) (y : List Bool) (ns : List ℕ) → suc m + n ≡ k
+    → (runs_after (suc m) y ≡ k ∷ ns) ↔ (runs_past (suc n) (crossed n y) ≡ Some ns)
+cross m zero k [] ns e = grind (arith, runs_after-nil m)
+cross m zero k (true ∷ y) ns e = ((λ h. absurd (omega (arith, longer (suc m) k y ns (sym (runs_after-true (suc m) y) ∙ h)))), λ h. cc)
+cross m zero k (false ∷ y) ns e = grind (arith, runs_after-close m y, runs_after-zero y)
+cross m (suc n) k [] ns e = grind (arith, runs_after-nil m)
+cross m (suc n) k (true ∷ y) ns e = rw runs_after-true (cross (suc m) n k y ns (omega arith))
+cross m (suc n) k (false ∷ y) ns e = grind (arith, runs_after-close m y)
+
+-- the first run of cells that begin with one
+cross_first : (n : ℕ) (y : List Bool) (ns : List ℕ) → 0 < n → get_or y 0 false ≡ true
+    → (runs y ≡ n ∷ ns) ↔ (runs_past (n + 1) (crossed n y) ≡ Some ns)
+cross_first (suc n) (true ∷ y) ns h first =
+    rw (add-one, sym (runs_after-zero (true ∷ y)) ∙ runs_after-true 0 y) (cross 0 n (suc n) y ns (omega arith))
+cross_first n y ns h first = search rules
+
+-- the walk goes on
+pub walk_more : (cells : List Bool) (clue : List ℕ) (j least left start shifted ones next : ℕ) → j < length clue → 0 < get_or clue j 0
+    → Has left start → ((i : ℕ) → Has left i → start ≤ i) → least ≤ start → IsMaskOf (λ i. Has left (i + start)) shifted
+    → IsMaskOf (λ i. i < get_or clue j 0) ones → IsMaskOf (λ i. has shifted i ≢ has ones i) next
+    → IsWalked cells clue j least left → IsWalked cells clue (j + 1) (get_or clue j 0 + 1) next
+walk_more cells clue j least left start shifted ones next h some at first far s o x p =
+    let n = get_or clue j 0 in
+    let y = drop start p.rest in
+    let skip = past_blanks least start p.rest far
+    (λ i b. false_from_ne_true (get_or p.rest i false) (λ f. let low = first i (p.rest_is.from i f) in absurd (omega arith))) in
+    let filled : get_or y 0 false ≡ true = dropped_at start 0 p.rest ∙ ap (λ (k : ℕ). get_or p.rest k false) (zero-add start) ∙ p.rest_is.to start at in
+    let next_is : drop j clue ≡ n ∷ drop (j + 1) clue = rw add-one (drop-cons clue j 0 h) in
+    let both = cross_first n y (drop (j + 1) clue) some filled in record {
+      rest = crossed n y;
+      rest_is = crossed_is n y shifted ones next (mask_same _ _ shifted s
+          (λ i b. dropped_at start i p.rest ∙ p.rest_is.to (i + start) b) (λ i f. p.rest_is.from (i + start) (sym (dropped_at start i p.rest) ∙ f))) o x;
+      to = λ is. both.0 (let same : Some (runs y) ≡ Some (drop j clue) = sym skip ∙ p.to is in cc);
+      from = λ e. p.from (skip ∙ ap (λ (ns : List ℕ). Some ns) (both.1 e ∙ sym next_is));
+    }
+
+-- it ends where a cell is left among the first
+pub walk_near : (cells : List Bool) (clue : List ℕ) (j least left start : ℕ) → start < least → Has left start → IsWalked cells clue j least left
+    → runs cells ≡ clue → ⊥
+walk_near cells clue j least left start h at p is =
+    let none = past_filled least start p.rest h (p.rest_is.to start at) in let some = p.to is in cc
+
+-- and where none is left for a further number
+pub walk_none : (cells : List Bool) (clue : List ℕ) (j least left : ℕ) → j < length clue → left ≡ 0 → IsWalked cells clue j least left
+    → runs cells ≡ clue → ⊥
+walk_none cells clue j least left h e p is =
+    let none = past_none least left p.rest p.rest_is e in let some = p.to is in let next = drop-cons clue j 0 h in cc
+
+-- at the end none is left exactly if all runs were the clue's
+pub walk_last : (cells : List Bool) (clue : List ℕ) (j least left : ℕ) → length clue ≤ j → IsWalked cells clue j least left
+    → (left ≡ 0) ↔ (runs cells ≡ clue)
+walk_last cells clue j least left h p =
+    let all = drop_of_length-le clue {i = j} h in (
+      (λ e. p.from (past_none least left p.rest p.rest_is e ∙ ap (λ (ns : List ℕ). Some ns) (sym all))),
+      (λ is. none_in _ left p.rest_is (λ i f.
+          let c = covered p.rest [] i (past_runs least p.rest [] (p.to is ∙ ap (λ (ns : List ℕ). Some ns) all)) f in
+          absurd (omega (arith, c.inside)))),
+    )
