@@ -89,13 +89,13 @@ board-undone g old less room left k b t e s =
 
 -- a board of which nothing is known
 pub board-unknown : (w h room : ℕ) (g : PartialGrid) (trail : List ℕ) → IsSize w h →
-    g ≡ record { width = w; height = h; cells = replicate (w * h) Unknown } → trail ≡ [] → length g.cells + LONGEST_SIDE ≤ room
+    g ≡ record { width = w; height = h; cells = replicate (w * h) Unknown } → trail ≡ [] → w * h + LONGEST_SIDE ≤ room
     → IsBoard (trailed g trail) room
 board-unknown w h room g trail size e t fits = record {
   size = rw e size;
   count = rw e (length-replicate (w * h) Unknown);
   grid = record { inside = rw t tt; settled = rw t (omega (arith, unknown_count-le g.cells)) };
-  room_is = fits;
+  room_is = rw (e, length-replicate (w * h) Unknown) fits;
 }
 
 -- a cell of a line is one of the board's

@@ -5,7 +5,7 @@ ghost use Rattle.grid_core.specs.Nonogram.{lines_of};
 ghost use Rattle.solve_core.specs.Closure.{closure, if_alive};
 ghost use Rattle.grid_core.specs.PartialGrid.{IsSize};
 ghost use Rattle.grid_core.specs.declared.cells.Cell.TheVariants.{Unknown};
-ghost use Rattle.solve_core.specs.steps.Boards.{fresh_board, grid_of_board, unknown_board, IsBoardOf};
+ghost use Rattle.solve_core.specs.steps.Boards.{fresh_board, grid_of_board, unknown_board, HasBoardRoom, IsBoardOf};
 ghost use Rattle.solve_core.specs.steps.Branches.{cells_before};
 ghost use Rattle.solve_core.specs.steps.Closers.{IsIdle, IsMemoryOf};
 ghost use Rattle.solve_core.specs.steps.Marks.{IsAtRest};
@@ -20,6 +20,53 @@ use grid_core::{Cell, Grid, LONGEST_SIDE, NoMemory, Puzzle, Side};
 use line_core::{LineOf, LineSet};
 use std::alloc::Global;
 use std::marker::Model;
+
+/// Room for a board, whatever stands in it.
+#[derive(Drop)]
+pub struct BoardRoom<W: LineSet> {
+    rows: Vec<LineOf<W>>,
+    columns: Vec<LineOf<W>>,
+    trail: Vec<u16>,
+}
+
+impl<W: LineSet> Model for BoardRoom<W> {
+    ghost use Rattle.std.specs.Prelude.{vec_capacity};
+    ghost use Rattle.solve_core.specs.steps.Boards.{BoardSpace};
+
+    ghost Value = { BoardSpace };
+
+    ghost view = { λ r. record { rows = vec_capacity r.rows; columns = vec_capacity r.columns; trail = vec_capacity r.trail } };
+}
+
+impl<W: LineSet> BoardRoom<W> {
+    /// Room for a board of this size, of that of another one, if there is one.
+    pub fn new(
+        alloc: Global,
+        other: Option<BoardRoom<W>>,
+        width: u16,
+        height: u16,
+    ) -> Result<BoardRoom<W>, NoMemory>
+        requires { IsSize width height }
+        ensures { IfOk result (HasBoardRoom width height) }
+    {
+        let (rows, columns, trail) = match other {
+            Some(
+                BoardRoom {
+                    rows,
+                    columns,
+                    trail,
+                },
+            ) => (rows, columns, trail),
+            None => (Vec::new(alloc), Vec::new(alloc), Vec::new(alloc)),
+        };
+        let cells = usize::from(width) * usize::from(height);
+        Ok(BoardRoom {
+            rows: emptied(alloc, rows, usize::from(height))?,
+            columns: emptied(alloc, columns, usize::from(width))?,
+            trail: emptied(alloc, trail, cells + usize::from(LONGEST_SIDE))?,
+        })
+    }
+}
 
 /// A grid as its rows and its columns. It keeps the places of the cells in the order in which they were
 /// settled, in room that is made once, and so leads back.
@@ -53,30 +100,35 @@ impl<W: LineSet> Model for Board<W> {
 }
 
 impl<W: LineSet> Board<W> {
-    /// Its lines and its trail.
-    fn into_parts(self) -> (Option<GridLines<W>>, Vec<u16>) {
-        let Board { lines, trail } = self;
-        (Some(lines), trail)
-    }
-
-    /// A board of which nothing is known, in the room of another one, if there is one.
-    pub fn unknown(
-        alloc: Global,
-        other: Option<Board<W>>,
-        width: u16,
-        height: u16,
-    ) -> Result<Board<W>, NoMemory>
+    /// A board of which nothing is known, in room that is made.
+    pub fn unknown(room: BoardRoom<W>, width: u16, height: u16) -> Board<W>
         requires size { IsSize width height }
         requires fits { (width ≤ W.WIDTH) × (height ≤ W.WIDTH) }
-        ensures { IfOk result (λ board. board ≡ unknown_board width height) }
+        requires room { HasBoardRoom width height room }
+        ensures board { result ≡ unknown_board width height }
+        ensures count { length result.cells ≡ width * height }
     {
-        let (lines, trail) = match other {
-            Some(other) => other.into_parts(),
-            None => (None, Vec::new(alloc)),
-        };
-        let lines = GridLines::unknown(alloc, lines, width, height)?;
-        let trail = emptied(alloc, trail, lines.count() + usize::from(LONGEST_SIDE))?;
-        Ok(Board { lines, trail })
+        let BoardRoom {
+            rows,
+            columns,
+            mut trail,
+        } = room;
+        trail.clear();
+        Board {
+            lines: GridLines::unknown(rows, columns, width, height),
+            trail,
+        }
+    }
+
+    /// Its room, for another board.
+    pub fn into_room(self) -> BoardRoom<W> {
+        let Board { lines, trail } = self;
+        let (rows, columns) = lines.into_lists();
+        BoardRoom {
+            rows,
+            columns,
+            trail,
+        }
     }
 
     /// Its rows and its columns.

@@ -20,11 +20,9 @@ ghost use Rattle.solve_core.specs.Picks.{most_known};
 use crate::learners::Learner;
 use crate::learning::settle_across;
 use crate::picks::{known_cells, most_in_row, near_known};
-use crate::rooms::emptied;
-use grid_core::{Cell, Grid, NoMemory, Side};
+use grid_core::{Cell, Grid, Side};
 use line_core::{LineOf, LineSet};
 use place_sets::first_places;
-use std::alloc::Global;
 use std::marker::Model;
 
 /// A grid, each row and each column of it as a line, so that none has to be gathered cell by cell. A cell is
@@ -57,21 +55,18 @@ impl<W: LineSet> Model for GridLines<W> {
     ghost invariant = { λ g. AreLinesOf (cells_of_rows g.rows.items) g.rows.items g.columns.items };
 }
 
-/// `count` lines of `len` cells each, of which nothing is known, in the room of others.
-fn unknown_lines<W: LineSet>(
-    alloc: Global,
-    others: Vec<LineOf<W>>,
-    len: u16,
-    count: u16,
-) -> Result<Vec<LineOf<W>>, NoMemory>
-    requires { (1 ≤ len) × (len ≤ W.WIDTH) }
-    ensures { IfOk result (λ lines. lines.items ≡ replicate count (replicate len Unknown)) }
+/// `count` lines of `len` cells each, of which nothing is known, in a list that has room for them.
+fn unknown_lines<W: LineSet>(list: Vec<LineOf<W>>, len: u16, count: u16) -> Vec<LineOf<W>>
+    requires len { (1 ≤ len) × (len ≤ W.WIDTH) }
+    requires room { count ≤ vec_capacity list }
+    ensures { result.items ≡ replicate count (replicate len Unknown) }
 {
-    let mut lines = emptied(alloc, others, usize::from(count))?;
+    let mut lines = list;
+    lines.clear();
     for _ in 0..count {
         lines.push_reserved(LineOf::unknown(len));
     }
-    Ok(lines)
+    lines
 }
 
 /// Copies lines over others of the same lengths.
@@ -195,30 +190,28 @@ fn first_near_known<W: LineSet>(
 
 impl<W: LineSet> GridLines<W> {
     /// Its rows and its columns.
-    fn into_lists(self) -> (Vec<LineOf<W>>, Vec<LineOf<W>>) {
+    pub fn into_lists(self) -> (Vec<LineOf<W>>, Vec<LineOf<W>>) {
         let GridLines { rows, columns } = self;
         (rows, columns)
     }
 
-    /// A grid of this size of which nothing is known, in the room of another one, if there is one.
+    /// A grid of this size of which nothing is known, in lists that have room for its rows and its columns.
     pub fn unknown(
-        alloc: Global,
-        other: Option<GridLines<W>>,
+        rows: Vec<LineOf<W>>,
+        columns: Vec<LineOf<W>>,
         width: u16,
         height: u16,
-    ) -> Result<GridLines<W>, NoMemory>
+    ) -> GridLines<W>
         requires size { IsSize width height }
         requires fits { (width ≤ W.WIDTH) × (height ≤ W.WIDTH) }
-        ensures { IfOk result (λ g. g ≡ record { width = width; height = height; cells = replicate (width * height) Unknown }) }
+        requires rows { height ≤ vec_capacity rows }
+        requires columns { width ≤ vec_capacity columns }
+        ensures { result ≡ record { width = width; height = height; cells = replicate (width * height) Unknown } }
     {
-        let (rows, columns) = match other {
-            Some(other) => other.into_lists(),
-            None => (Vec::new(alloc), Vec::new(alloc)),
-        };
-        Ok(GridLines {
-            rows: unknown_lines(alloc, rows, width, height)?,
-            columns: unknown_lines(alloc, columns, height, width)?,
-        })
+        GridLines {
+            rows: unknown_lines(rows, width, height),
+            columns: unknown_lines(columns, height, width),
+        }
     }
 
     /// How many cells a row has.

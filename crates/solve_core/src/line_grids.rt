@@ -7,6 +7,7 @@ ghost use Rattle.solve_core.specs.steps.Widths.{FitsIn};
 use crate::closures::Closer;
 use crate::deductions::Deductions;
 use crate::grid_lines::GridLines;
+use crate::rooms::emptied;
 use crate::widths::width_for;
 use grid_core::{Grid, NoMemory, Puzzle};
 use line_core::{LineSet, Width};
@@ -44,9 +45,11 @@ fn line_grid_within<W: LineSet>(alloc: Global, puzzle: &Puzzle) -> Result<Option
     let width = puzzle.width();
     let height = puzzle.height();
     let grid = Grid::unknown(alloc, width, height)?;
-    let mut lines = GridLines::<W>::unknown(alloc, None, width, height)?;
+    let rows = emptied(alloc, Vec::new(alloc), usize::from(height))?;
+    let columns = emptied(alloc, Vec::new(alloc), usize::from(width))?;
     let deductions = Deductions::with_room(alloc, None, 1)?;
     let mut closer = Closer::<W>::new(deductions);
+    let mut lines = GridLines::unknown(rows, columns, width, height);
     Ok(closed_grid(&mut closer, puzzle, &mut lines, grid))
 }
 

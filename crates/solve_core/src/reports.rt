@@ -4,23 +4,24 @@ ghost use Rattle.std.specs.List.{list_all};
 ghost use Rattle.grid_core.specs.Cells.{is_known};
 ghost use Rattle.solve_core.specs.Picks.{picked};
 ghost use Rattle.grid_core.specs.Nonogram.{lines_of};
-ghost use Rattle.solve_core.specs.steps.Boards.{IsBoardOf, unknown_board};
+ghost use Rattle.solve_core.specs.steps.Boards.{IsBoardOf};
+ghost use Rattle.solve_core.specs.steps.Closers.{IsMemoryOf};
 ghost use Rattle.solve_core.specs.steps.Marks.{IsAtRest};
 ghost use Rattle.solve_core.specs.Closure.{if_alive};
 ghost use Rattle.solve_core.specs.Trials.{trials as trials_of};
 ghost use Rattle.solve_core.specs.Sizes.{IsSizeOf};
-ghost use Rattle.solve_core.specs.Report.{report_of, grade_by};
-ghost use Rattle.solve_core.specs.steps.Tried.{HasRoomFor};
+ghost use Rattle.solve_core.specs.Report.{report_of, grade_by, unknown_grid};
+ghost use Rattle.solve_core.specs.steps.Tried.{HasTrialRoom};
 ghost use Rattle.solve_core.specs.Verdicts.{Holds};
 ghost use Rattle.solve_core.specs.steps.Widths.{FitsIn};
 
-use crate::boards::Board;
+use crate::boards::{Board, BoardRoom};
 use crate::branches::Branch;
 use crate::picks::Pick;
 use crate::rooms::emptied;
 use crate::search::search;
 use crate::solutions::Solutions;
-use crate::trials::Trials;
+use crate::trials::{TrialRoom, Trials};
 use crate::widths::width_for;
 use crate::{Findings, Grade, Verdict};
 use grid_core::{NoMemory, Puzzle};
@@ -51,22 +52,28 @@ fn are_known<W: LineSet>(board: &Board<W>, known: u32) -> bool
 }
 
 /// Closes a board at rest under trials, of which nothing is left to do if it is full. Returns whether it is
-/// alive.
+/// alive, and gives the room back.
 fn try_unless_full<W: LineSet>(
-    trials: &mut Trials<W>,
+    room: TrialRoom<W>,
     puzzle: &Puzzle,
     board: &mut Board<W>,
     full: bool,
-) -> bool
-    requires rest { IsAtRest puzzle.now trials.old.closer board.old.cells }
-    requires room { HasRoomFor puzzle.now trials.old }
+) -> (bool, TrialRoom<W>)
+    requires fits { FitsIn W.WIDTH puzzle.now }
+    requires rest { IsAtRest puzzle.now room.closer board.old.cells }
+    requires room { HasTrialRoom puzzle.now room.filled room.blank room.witnesses.room }
     requires size { IsBoardOf puzzle.now board.old }
     requires full { full ≡ list_all is_known board.old.cells }
-    ensures tried { if_alive result board.new.cells ≡ trials_of (lines_of puzzle.now) board.old.cells }
-    ensures rest { IsTrue result → IsAtRest puzzle.now trials.new.closer board.new.cells }
+    ensures tried { if_alive result.0 board.new.cells ≡ trials_of (lines_of puzzle.now) board.old.cells }
+    ensures rest { IsTrue result.0 → IsAtRest puzzle.now result.1.closer board.new.cells }
     ensures size { IsBoardOf puzzle.now board.new }
 {
-    full || trials.try_at_rest(puzzle, board)
+    if full {
+        return (true, room);
+    }
+    let mut trials = Trials::new(room, puzzle);
+    let alive = trials.try_at_rest(puzzle, board);
+    (alive, trials.into_room())
 }
 
 fn grade(by_lines: bool, by_trials: bool) -> Grade
@@ -81,49 +88,56 @@ fn grade(by_lines: bool, by_trials: bool) -> Grade
     }
 }
 
-/// The report, by a board of which nothing is known and in room that is made.
+/// The report, by a board of which nothing is known and in room that is made, which it gives back.
 fn findings<W: LineSet>(
-    trials: &mut Trials<W>,
+    room: TrialRoom<W>,
     puzzle: &Puzzle,
     board: &mut Board<W>,
     branches: &mut Vec<Branch>,
     solutions: Solutions,
     guesses: u32,
     pick: Pick,
-) -> Findings
-    requires trials { HasRoomFor puzzle.now trials.old }
-    requires board { board.old ≡ unknown_board puzzle.now.width puzzle.now.height }
-    requires size { IsSizeOf puzzle.now solutions.width solutions.height }
+) -> (Findings, TrialRoom<W>)
+    requires fits { FitsIn W.WIDTH puzzle.now }
+    requires memory { IsMemoryOf puzzle.now room.closer }
+    requires trials { HasTrialRoom puzzle.now room.filled room.blank room.witnesses.room }
+    requires unknown { board.old.cells ≡ unknown_grid puzzle.now }
+    requires size { IsBoardOf puzzle.now board.old }
+    requires solutions { IsSizeOf puzzle.now solutions.width solutions.height }
     requires branches { branches.old.items ≡ [] }
     requires found { solutions.grids ≡ [] }
     requires room { length board.old.cells ≤ vec_capacity branches.old }
-    ensures { result ≡ report_of (picked pick puzzle.now.width) puzzle.now guesses }
+    ensures { result.0 ≡ report_of (picked pick puzzle.now.width) puzzle.now guesses }
 {
-    if !board.close(&mut trials.closer, puzzle) {
-        return Findings {
+    let mut room = room;
+    if !board.close(&mut room.closer, puzzle) {
+        let dead = Findings {
             verdict: Verdict::Nothing,
             grade: Grade::Lines,
             line_known: 0,
             trial_known: 0,
             spent: 0,
         };
+        return (dead, room);
     }
     let line_known = count_known(board);
     let by_lines = are_known(board, line_known);
-    if !try_unless_full(trials, puzzle, board, by_lines) {
-        return Findings {
+    let (alive, mut room) = try_unless_full(room, puzzle, board, by_lines);
+    if !alive {
+        let refuted = Findings {
             verdict: Verdict::Nothing,
             grade: grade(by_lines, true),
             line_known,
             trial_known: 0,
             spent: 0,
         };
+        return (refuted, room);
     }
     let trial_known = count_known(board);
     let grade = grade(by_lines, are_known(board, trial_known));
     let mut solutions = solutions;
     let end = search(
-        &mut trials.closer,
+        &mut room.closer,
         puzzle,
         board,
         branches,
@@ -131,20 +145,21 @@ fn findings<W: LineSet>(
         guesses,
         pick,
     );
-    Findings {
+    let findings = Findings {
         verdict: solutions.verdict(end.cut),
         grade,
         line_known,
         trial_known,
         spent: end.spent,
-    }
+    };
+    (findings, room)
 }
 
 /// What a report works in.
 #[derive(Drop)]
 struct Room<W: LineSet> {
-    trials: Trials<W>,
-    board: Board<W>,
+    trials: TrialRoom<W>,
+    board: BoardRoom<W>,
     branches: Vec<Branch>,
 }
 
@@ -173,12 +188,13 @@ fn report_within<W: LineSet>(
         None => (None, None, Vec::new(alloc)),
     };
     let (width, height) = (puzzle.width(), puzzle.height());
-    let mut trials = Trials::<W>::new(alloc, trials, puzzle)?;
-    let mut board = Board::<W>::unknown(alloc, board, width, height)?;
+    let trials = TrialRoom::<W>::new(alloc, trials, puzzle)?;
+    let board = BoardRoom::<W>::new(alloc, board, width, height)?;
+    let mut board = Board::unknown(board, width, height);
     let mut branches = emptied(alloc, branches, board.lines().count())?;
     let solutions = Solutions::new(alloc, width, height)?;
-    let findings = findings(
-        &mut trials,
+    let (findings, trials) = findings(
+        trials,
         puzzle,
         &mut board,
         &mut branches,
@@ -188,7 +204,7 @@ fn report_within<W: LineSet>(
     );
     *kept = Some(Room {
         trials,
-        board,
+        board: board.into_room(),
         branches,
     });
     Ok(findings)

@@ -7,17 +7,18 @@ ghost use Rattle.grid_core.specs.Lines.{IsUnknownCell, IsUnknownFrom};
 ghost use Rattle.solve_core.specs.Closure.{round, closure};
 ghost use Rattle.line_core.specs.Order.{AtMost};
 ghost use Rattle.solve_core.specs.Trials.{trials, IsTried};
+ghost use Rattle.solve_core.specs.steps.Closers.{IsMemoryOf};
 ghost use Rattle.solve_core.specs.steps.Marks.{Progresses, IsAtRest, IsTrialOf};
 ghost use Rattle.solve_core.specs.Closure.{if_alive};
 ghost use Rattle.solve_core.specs.steps.Trails.{CanSettle, cleared};
-ghost use Rattle.solve_core.specs.steps.Tried.{HasRoomFor, IsReady};
+ghost use Rattle.solve_core.specs.steps.Tried.{HasRoomFor, HasTrialRoom, IsReady};
 ghost use Rattle.solve_core.specs.steps.Widths.{FitsIn};
 ghost use Rattle.solve_core.specs.steps.Witnesses.{AreWitnesses};
 ghost use Rattle.solve_core.specs.steps.Boards.{IsBoardOf};
 ghost use Rattle.solve_core.specs.declared.trials.Trial.TheVariants.{Refuted, Closed};
 ghost use Rattle.solve_core.specs.declared.closures.Progress.TheVariants.{Dead, Same};
 
-use crate::boards::Board;
+use crate::boards::{Board, BoardRoom};
 use crate::closures::{Closer, Progress};
 use crate::deductions::Deductions;
 use crate::witnesses::Witnesses;
@@ -87,6 +88,52 @@ fn try_colour<W: LineSet>(
     Trial::Closed
 }
 
+/// What trials are made of: what closes, room for a board for the trials of each colour, and witnesses.
+#[derive(Drop)]
+pub struct TrialRoom<W: LineSet> {
+    pub(crate) closer: Closer<W>,
+    filled: BoardRoom<W>,
+    blank: BoardRoom<W>,
+    witnesses: Witnesses,
+}
+
+impl<W: LineSet> TrialRoom<W> {
+    /// Makes the room that closing and trials of a puzzle take, of that of others, if there are any.
+    pub fn new(
+        alloc: Global,
+        others: Option<TrialRoom<W>>,
+        puzzle: &Puzzle,
+    ) -> Result<TrialRoom<W>, NoMemory>
+        requires { FitsIn W.WIDTH puzzle.now }
+        ensures memory { IfOk result (λ room. IsMemoryOf puzzle.now room.closer) }
+        ensures room { IfOk result (λ room. HasTrialRoom puzzle.now room.filled room.blank room.witnesses.room) }
+    {
+        let (deductions, filled, blank, witnesses) = match others {
+            Some(
+                TrialRoom {
+                    closer,
+                    filled,
+                    blank,
+                    witnesses,
+                },
+            ) => (
+                Some(closer.into_deductions()),
+                Some(filled),
+                Some(blank),
+                Some(witnesses),
+            ),
+            None => (None, None, None, None),
+        };
+        let (width, height) = (puzzle.width(), puzzle.height());
+        Ok(TrialRoom {
+            closer: Closer::new(Deductions::new(alloc, deductions, puzzle)?),
+            filled: BoardRoom::new(alloc, filled, width, height)?,
+            blank: BoardRoom::new(alloc, blank, width, height)?,
+            witnesses: Witnesses::new(alloc, witnesses, puzzle)?,
+        })
+    }
+}
+
 /// What trials work with: what closes, a board for the trials of each colour, and the witnesses.
 pub struct Trials<W: LineSet> {
     pub(crate) closer: Closer<W>,
@@ -121,49 +168,45 @@ impl<W: LineSet> Model for Trials<W> {
 }
 
 impl<W: LineSet> Trials<W> {
-    /// What it works with: deductions, a board for the trials of each colour, and witnesses.
-    fn into_parts(
-        self,
-    ) -> (
-        Option<Deductions<W>>,
-        Option<Board<W>>,
-        Option<Board<W>>,
-        Option<Witnesses>,
-    ) {
+    /// Trials of a puzzle, in room that is made for it.
+    pub fn new(room: TrialRoom<W>, puzzle: &Puzzle) -> Trials<W>
+        requires fits { FitsIn W.WIDTH puzzle.now }
+        requires memory { IsMemoryOf puzzle.now room.closer }
+        requires room { HasTrialRoom puzzle.now room.filled room.blank room.witnesses.room }
+        ensures room { HasRoomFor puzzle.now result }
+        ensures closer { result.closer ≡ room.closer }
+    {
+        let TrialRoom {
+            closer,
+            filled,
+            blank,
+            witnesses,
+        } = room;
+        let (width, height) = (puzzle.width(), puzzle.height());
+        Trials {
+            closer,
+            filled_trial: Board::unknown(filled, width, height),
+            blank_trial: Board::unknown(blank, width, height),
+            witnesses,
+        }
+    }
+
+    /// What closes, and its room, for other trials.
+    pub fn into_room(self) -> TrialRoom<W>
+        ensures { result.closer ≡ self.closer }
+    {
         let Trials {
             closer,
             filled_trial,
             blank_trial,
             witnesses,
         } = self;
-        (
-            Some(closer.into_deductions()),
-            Some(filled_trial),
-            Some(blank_trial),
-            Some(witnesses),
-        )
-    }
-
-    /// Makes the room that closing and trials take, of that of others, if there are any.
-    pub fn new(
-        alloc: Global,
-        others: Option<Trials<W>>,
-        puzzle: &Puzzle,
-    ) -> Result<Trials<W>, NoMemory>
-        requires { FitsIn W.WIDTH puzzle.now }
-        ensures { IfOk result (λ trials. HasRoomFor puzzle.now trials) }
-    {
-        let (deductions, filled, blank, witnesses) = match others {
-            Some(others) => others.into_parts(),
-            None => (None, None, None, None),
-        };
-        let (width, height) = (puzzle.width(), puzzle.height());
-        Ok(Trials {
-            closer: Closer::new(Deductions::new(alloc, deductions, puzzle)?),
-            filled_trial: Board::unknown(alloc, filled, width, height)?,
-            blank_trial: Board::unknown(alloc, blank, width, height)?,
-            witnesses: Witnesses::new(alloc, witnesses, puzzle)?,
-        })
+        TrialRoom {
+            closer,
+            filled: filled_trial.into_room(),
+            blank: blank_trial.into_room(),
+            witnesses,
+        }
     }
 
     /// Gives a cell the colour that is left, and closes the board.

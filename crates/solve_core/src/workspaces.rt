@@ -7,8 +7,8 @@ ghost use Rattle.solve_core.specs.Trials.{trials};
 ghost use Rattle.solve_core.specs.Closure.{if_alive};
 ghost use Rattle.solve_core.specs.steps.Widths.{FitsIn};
 
-use crate::boards::Board;
-use crate::trials::Trials;
+use crate::boards::{Board, BoardRoom};
+use crate::trials::{TrialRoom, Trials};
 use grid_core::{Grid, NoMemory, Puzzle};
 use line_core::LineSet;
 use std::alloc::Global;
@@ -41,10 +41,13 @@ impl<'p, W: LineSet> Workspace<'p, W> {
         requires { FitsIn W.WIDTH puzzle.now }
         ensures { IfOk result (λ workspace. workspace ≡ puzzle.now) }
     {
+        let (width, height) = (puzzle.width(), puzzle.height());
+        let room = TrialRoom::new(alloc, None, puzzle)?;
+        let board = BoardRoom::new(alloc, None, width, height)?;
         Ok(Workspace {
             puzzle,
-            trials: Trials::new(alloc, None, puzzle)?,
-            board: Board::unknown(alloc, None, puzzle.width(), puzzle.height())?,
+            trials: Trials::new(room, puzzle),
+            board: Board::unknown(board, width, height),
         })
     }
 

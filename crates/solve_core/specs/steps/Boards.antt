@@ -20,6 +20,18 @@ fresh_board g = record { width = g.width; height = g.height; cells = g.cells; tr
 abbrev pub grid_of_board : TrailedGrid → PartialGrid
 grid_of_board g = record { width = g.width; height = g.height; cells = g.cells }
 
+-- for how many rows, columns and places on a trail there is room
+pub record BoardSpace : Type 0 where
+  pub rows : ℕ
+  pub columns : ℕ
+  pub trail : ℕ
+
+-- there is room for a board of this size, and on its trail for one more line
+pub record HasBoardRoom (width height : ℕ) (room : BoardSpace) : Type 0 where
+  pub rows : height ≤ room.rows
+  pub columns : width ≤ room.columns
+  pub trail : width * height + LONGEST_SIDE ≤ room.trail
+
 -- what each board keeps, with room for the trail and for one more line
 pub record IsBoard (g : TrailedGrid) (room : ℕ) : Type 0 where
   pub size : IsSize g.width g.height

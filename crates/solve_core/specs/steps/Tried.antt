@@ -1,8 +1,8 @@
 -- What is known of the trials of a grid.
-use Rattle.std.specs.Prelude.{◌≡◌, ◌*◌, List}
+use Rattle.std.specs.Prelude.{◌≡◌, ℕ, ◌*◌, List}
 use Rattle.grid_core.specs.declared.cells.Cell.{Cell}
 use Rattle.grid_core.specs.Nonogram.{Nonogram}
-use Rattle.solve_core.specs.steps.Boards.{IsBoardOf}
+use Rattle.solve_core.specs.steps.Boards.{BoardSpace, HasBoardRoom, IsBoardOf}
 use Rattle.solve_core.specs.steps.Marks.{IsAtRest}
 use Rattle.solve_core.specs.steps.Closers.{Closing, IsMemoryOf}
 use Rattle.solve_core.specs.steps.Trails.{TrailedGrid}
@@ -22,6 +22,12 @@ pub record HasRoomFor (p : Nonogram) (t : Tried) : Type 0 where
   pub filled : IsBoardOf p t.filled
   pub blank : IsBoardOf p t.blank
   pub cells : t.witnesses.room ≡ p.width * p.height
+
+-- there is room for the boards of the puzzle's trials, and for witnesses of `cells` cells, as many as it has
+pub record HasTrialRoom (p : Nonogram) (filled blank : BoardSpace) (cells : ℕ) : Type 0 where
+  pub filled_fits : HasBoardRoom p.width p.height filled
+  pub blank_fits : HasBoardRoom p.width p.height blank
+  pub cells_fit : cells ≡ p.width * p.height
 
 -- no line has more to give, and the witnesses are alive: what a trial of these cells starts from
 pub record IsReady (p : Nonogram) (t : Tried) (cells : List Cell) : Type 0 where

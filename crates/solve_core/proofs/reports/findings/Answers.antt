@@ -1,50 +1,33 @@
 -- `findings`: the report is the defined one, whether lines end dead, trials end dead, or there is a search.
-use Rattle.std.proofs.Common.{true, ap, sym, subst, ◌∙◌, ◌*◌, length}
-use Rattle.std.proofs.lemmas.List.{length-replicate}
-use Rattle.grid_core.specs.declared.cells.Cell.TheVariants.{Unknown}
+use Rattle.std.proofs.Common.{true, ap, ◌∙◌}
 use Rattle.solve_core.specs.Report.{grade_by}
 use Rattle.solve_core.specs.Picks.{picked}
-use Rattle.solve_core.specs.steps.Tried.{Tried}
-use Rattle.solve_core.specs.steps.Trails.{TrailedGrid}
 use Rattle.solve_core.proofs.ReportLaws.{report-alive, report-dead, report-refuted}
-use Rattle.solve_core.specs.steps.Closers.{IsMemoryOf}
 use Rattle.solve_core.proofs.reports.findings.Goals as goal
-
-pub close-requires : goal.close-requires
-close-requires g c =
-    let p = c.args.puzzle.now in
-    record {
-      memory = subst (λ (t : Tried). IsMemoryOf p t.closer) (sym c.trials.view_is) c.requires.trials.memory;
-      size = (
-        ap (λ (g : TrailedGrid). g.width) c.requires.board,
-        ap (λ (g : TrailedGrid). g.height) c.requires.board,
-        ap (λ (g : TrailedGrid). length g.cells) c.requires.board ∙ length-replicate (p.width * p.height) Unknown,
-      );
-    }
 
 pub returns-then-not-close : goal.returns-then-not-close
 returns-then-not-close g c =
     report-dead (picked c.args.pick c.args.puzzle.now.width) c.args.puzzle.now c.args.board.now.cells c.args.guesses
-    (ap (λ (g : TrailedGrid). g.cells) c.requires.board) c.if-not-close.ensures.closed
+    c.requires.unknown c.if-not-close.ensures.closed
 
-pub returns-then-not-try_unless_full : goal.returns-then-not-try_unless_full
-returns-then-not-try_unless_full g c =
+pub returns-then-not-alive : goal.returns-then-not-alive
+returns-then-not-alive g c =
     let p = c.args.puzzle.now in
     report-refuted (picked c.args.pick p.width) p c.args.board.now.cells c.close.new.self.cells c.args.guesses
-    c.grade.result c.count_known-line_known.result (ap (λ (g : TrailedGrid). g.cells) c.requires.board)
-    c.if-not-close.ensures.closed c.if-not-try_unless_full.ensures.tried
+    c.grade.result c.count_known-line_known.result c.requires.unknown
+    c.if-not-close.ensures.closed (rw c.if-not-alive.true at c.try_unless_full-alive.ensures.tried)
     (c.grade.ensures ∙ ap (λ b. grade_by b true) c.are_known-by_lines.ensures)
     c.count_known-line_known.ensures
 
 pub returns : goal.returns
 returns g c =
     let p = c.args.puzzle.now in
-    report-alive (picked c.args.pick p.width) p c.args.board.now.cells c.close.new.self.cells c.try_unless_full.new.board.cells
+    report-alive (picked c.args.pick p.width) p c.args.board.now.cells c.close.new.self.cells c.try_unless_full-alive.new.board.cells
     c.args.guesses
     c.search-end.new.solutions.grids c.search-end.result.cut c.search-end.result.spent c.verdict.result c.grade-grade.result
     c.count_known-line_known.result c.count_known-trial_known.result
-    (ap (λ (g : TrailedGrid). g.cells) c.requires.board)
-    c.if-not-close.ensures.closed c.if-not-try_unless_full.ensures.tried
+    c.requires.unknown
+    c.if-not-close.ensures.closed (rw c.if-not-alive.false at c.try_unless_full-alive.ensures.tried)
     c.search-end.ensures
     c.verdict.ensures
     (c.grade-grade.ensures ∙ (λ i. grade_by (c.are_known-by_lines.ensures i) (c.are_known.ensures i)))

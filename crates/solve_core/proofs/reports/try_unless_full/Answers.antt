@@ -1,7 +1,6 @@
 -- `try_unless_full`: trials leave a full board at rest as it is.
-use Rattle.std.proofs.Common.{◌∙◌, sym, ap}
+use Rattle.std.proofs.Common.{◌∙◌, sym}
 use Rattle.grid_core.specs.Nonogram.{lines_of}
-use Rattle.solve_core.specs.Closure.{if_alive}
 use Rattle.solve_core.proofs.Counting.{full-tried}
 use Rattle.solve_core.proofs.GridSteps.{rest_closed}
 use Rattle.solve_core.proofs.TrialSteps.{tried_ends}
@@ -9,9 +8,8 @@ use Rattle.solve_core.proofs.reports.try_unless_full.Goals as goal
 
 pub returns-then-full-clause-tried : goal.returns-then-full-clause-tried
 returns-then-full-clause-tried g c =
-    let closer = c.args.trials.now.closer in
+    let closer = c.args.room.closer in
     let lines = lines_of c.args.puzzle.now in
     let cells = c.args.board.now.cells in
-    ap (λ b. if_alive b cells) c.if-full.true
-    ∙ sym (tried_ends lines cells (rest_closed c.args.puzzle.now closer cells c.requires.rest)
+    sym (tried_ends lines cells (rest_closed c.args.puzzle.now closer cells c.requires.rest)
     (full-tried lines cells (sym c.requires.full ∙ c.if-full.true)))

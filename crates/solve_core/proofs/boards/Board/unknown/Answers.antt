@@ -1,10 +1,10 @@
 -- `Board::unknown`: with all cells unknown and room on the trail for each, the board is a lawful one.
-use Rattle.std.proofs.Common.{arith}
+use Rattle.std.proofs.Common.{arith, ap}
+use Rattle.solve_core.specs.steps.Boards.{BoardSpace}
 use Rattle.solve_core.proofs.BoardSteps.{board-unknown}
 use Rattle.solve_core.proofs.boards.Board.unknown.Goals as goal
 
 pub invariant_of-result : goal.invariant_of-result
 invariant_of-result g c =
-    board-unknown c.args.width c.args.height _ c.in_ok-lines.lines c.in_ok-trail.trail.items c.requires.size c.in_ok-lines.ensures
-    c.in_ok-trail.ensures.empty
-    (omega (arith, c.in_ok-trail.ensures.room, c.count.ensures.count))
+    board-unknown c.args.width c.args.height _ c.unknown.result c.clear.new.self.items c.requires.size c.unknown.ensures c.clear.ensures.items
+    (omega (arith, c.requires.room.trail, ap (λ (r : BoardSpace). r.trail) c.room.view_is, c.clear.ensures.capacity))

@@ -6,15 +6,15 @@ use Rattle.solve_core.proofs.grid_lines.GridLines.unknown.Goals as goal
 
 pub invariant_of-result : goal.invariant_of-result
 invariant_of-result g c =
-    (lines-unknown c.args.width c.args.height c.in_ok-unknown_lines.field-0.items c.in_ok-unknown_lines-2.field-0.items c.requires.size
-    c.in_ok-unknown_lines.ensures c.in_ok-unknown_lines-2.ensures).1
+    (lines-unknown c.args.width c.args.height c.unknown_lines.result.items c.unknown_lines-2.result.items c.requires.size
+    c.unknown_lines.ensures c.unknown_lines-2.ensures).1
 
 pub returns : goal.returns
 returns g c =
     rw (
-      (lines-unknown c.args.width c.args.height _ _ c.requires.size c.in_ok-unknown_lines.ensures c.in_ok-unknown_lines-2.ensures).0,
-      c.in_ok-unknown_lines-2.ensures,
-      c.in_ok-unknown_lines.ensures,
+      (lines-unknown c.args.width c.args.height _ _ c.requires.size c.unknown_lines.ensures c.unknown_lines-2.ensures).0,
+      c.unknown_lines-2.ensures,
+      c.unknown_lines.ensures,
       length-replicate c.args.width,
       length-replicate c.args.height,
     ) refl
