@@ -15,7 +15,7 @@ use Rattle.puzzle_text.specs.Sizes.{size_of, two_sizes, size_line}
 use Rattle.puzzle_text.specs.Nin.{read_nin}
 use Rattle.puzzle_text.specs.Mk.{read_mk}
 use Rattle.puzzle_text.specs.Non.{sizes_of, both_clues, read_non}
-use Rattle.puzzle_text.specs.Laws.{KeepsAnswer}
+use Rattle.puzzle_text.specs.Laws.{GreaterLimitKeeps, KeepsAnswer}
 
 -- ---- options
 
@@ -121,14 +121,18 @@ module _ (a b : ℕ) (le : a ≤ b) where
 
   -- ---- the readers keep their answers
 
-  pub nin_keeps : (bytes : List ℕ) → KeepsAnswer (read_nin a bytes) (read_nin b bytes)
+  nin_keeps : (bytes : List ℕ) → KeepsAnswer (read_nin a bytes) (read_nin b bytes)
   nin_keeps bytes = search (keeps-bind, keeps-same, line_keeps, clues_keep)
 
-  pub mk_keeps : (bytes : List ℕ) → KeepsAnswer (read_mk a bytes) (read_mk b bytes)
+  mk_keeps : (bytes : List ℕ) → KeepsAnswer (read_mk a bytes) (read_mk b bytes)
   mk_keeps bytes = search (keeps-bind, keeps-same, line_keeps, clues_keep) depth 8
 
   sizes_keep : (text : List Line) → KeepsAnswer (sizes_of a text) (sizes_of b text)
   sizes_keep text = search (keeps-bind, keeps-same, size_keeps)
 
-  pub non_keeps : (bytes : List ℕ) → KeepsAnswer (read_non a bytes) (read_non b bytes)
+  non_keeps : (bytes : List ℕ) → KeepsAnswer (read_non a bytes) (read_non b bytes)
   non_keeps bytes = search (keeps-bind, keeps-same, sizes_keep, both_keep) depth 8
+
+-- a greater limit keeps what a text says, in each format
+pub keeps : (a b : ℕ) → a ≤ b → GreaterLimitKeeps a b
+keeps a b le = λ bytes. (non_keeps a b le bytes, mk_keeps a b le bytes, nin_keeps a b le bytes)

@@ -85,11 +85,11 @@ strip_feed bytes end h at =
     rw (last, get_or-take (end + 1) bytes end 0 (omega arith), at, take-take end (end + 1) bytes (omega arith)) refl
 
 -- the lines of a text are the first one, up to the first line feed, and those of the rest
-pub line_at_feed : (bytes : List ℕ) (end : ℕ) → position (λ byte. eqb byte 10) bytes ≡ Some end → (number : ℕ)
+pub line_at_feed : (number : ℕ) (bytes : List ℕ) (end : ℕ) → position (λ byte. eqb byte 10) bytes ≡ Some end
     → numbered_from number (raw_lines bytes)
     ≡ record { number = number; text = trim (strip_last 13 (take end bytes)) } ∷ numbered_from (number + 1)
     (raw_lines (drop (end + 1) bytes))
-line_at_feed bytes end e number =
+line_at_feed number bytes end e =
     let found = position-Some (λ byte. eqb byte 10) bytes end 0 e in
     rw (cut_at_feed bytes end e, strip_feed bytes end found.0 found.1) refl
 
@@ -101,7 +101,7 @@ keeps_end bytes some e =
     rw last refl
 
 -- a text without a line feed is one line
-pub line_at_end : (bytes : List ℕ) → 0 < length bytes → position (λ byte. eqb byte 10) bytes ≡ None → (number : ℕ)
+pub line_at_end : (number : ℕ) (bytes : List ℕ) → 0 < length bytes → position (λ byte. eqb byte 10) bytes ≡ None
     → numbered_from number (raw_lines bytes) ≡ record { number = number; text = trim (strip_last 13 bytes) } ∷ []
-line_at_end bytes some e number =
+line_at_end number bytes some e =
     rw (cut_at_end bytes some e, keeps_end bytes some e) refl

@@ -99,3 +99,9 @@ puzzle_of_parts limit width height xs ys =
 pub reading_parts : (width height : ℕ) (rows columns : List (List ℕ)) → length rows ≡ height
     → reading width height (rows ++ columns) ≡ plain width height rows columns
 reading_parts width height rows columns e = rw (← e, take-append_seam rows columns, drop-append_seam rows columns) refl
+
+pub puzzle_of_both : (limit width height : ℕ) (xs ys : List Line) (rows columns : List (List ℕ))
+    → both_clues limit true xs ys ≡ Ok (rows, columns) → length rows ≡ height
+    → puzzle_of limit width height (xs ++ ys) ≡ Ok (plain width height rows columns)
+puzzle_of_both limit width height xs ys rows columns said high =
+    rw (puzzle_of_parts limit width height xs ys, said, reading_parts width height rows columns high) refl

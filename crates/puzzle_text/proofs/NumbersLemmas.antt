@@ -25,14 +25,13 @@ digit_value_is : (c : ℕ) → is_ascii_digit c ≡ true → digit_value c ≡ c
 digit_value_is c digit = grind (arith, nat_tests)
 
 -- one more digit
-pub next_digit : (bytes : List ℕ) (i : ℕ) → i < length bytes → list_all is_ascii_digit (take i bytes) ≡ true
-    → is_ascii_digit (get_or bytes i 0) ≡ true
-    → (list_all is_ascii_digit (take (i + 1) bytes) ≡ true)
-    × (digits_value 10 (take (i + 1) bytes) ≡ digits_value 10 (take i bytes) * 10 + (get_or bytes i 0 - 48))
-next_digit bytes i h digits digit = (
-  rw (list_all_more is_ascii_digit bytes i 0 h, digits, digit) refl,
-  rw (digits_value_more 10 bytes i h, digit_value_is (get_or bytes i 0) digit) refl,
-)
+pub next_digits : (bytes : List ℕ) (i : ℕ) → i < length bytes → list_all is_ascii_digit (take i bytes) ≡ true
+    → is_ascii_digit (get_or bytes i 0) ≡ true → list_all is_ascii_digit (take (i + 1) bytes) ≡ true
+next_digits bytes i h digits digit = rw (list_all_more is_ascii_digit bytes i 0 h, digits, digit) refl
+
+pub next_value : (bytes : List ℕ) (i : ℕ) → i < length bytes → is_ascii_digit (get_or bytes i 0) ≡ true
+    → digits_value 10 (take (i + 1) bytes) ≡ digits_value 10 (take i bytes) * 10 + (get_or bytes i 0 - 48)
+next_value bytes i h digit = rw (digits_value_more 10 bytes i h, digit_value_is (get_or bytes i 0) digit) refl
 
 -- a front that is past the limit already
 pub past_limit : (limit : ℕ) (piece : List ℕ) (i : ℕ) → limit < digits_value 10 (take i piece) → number_within limit piece ≡ None

@@ -15,7 +15,7 @@ use Rattle.puzzle_text.specs.Nin.{nin_of}
 use Rattle.puzzle_text.specs.Readings.{likelier}
 use Rattle.puzzle_text.specs.Non.{Sections, both_clues, outline_of, puzzle_of_clues, puzzle_said}
 use Rattle.puzzle_text.proofs.AllLemmas.{filter_all}
-use Rattle.puzzle_text.proofs.MkLemmas.{puzzle_of_parts, reading_parts}
+use Rattle.puzzle_text.proofs.MkLemmas.{puzzle_of_both}
 
 -- the lines of a text that isn't too long
 pub short_lines : (bytes : List ℕ) → length bytes ≤ 1048576 → text_lines bytes ≡ Ok (lines bytes)
@@ -99,9 +99,8 @@ mk_lines limit width height first cut row_lines column_lines rows columns sizes 
       before_hash_is column_lines q.hash,
       all_chosen limit height row_lines rows p high,
       all_chosen limit width column_lines columns q wide,
-      puzzle_of_parts limit width height row_lines column_lines,
-      both_said limit true row_lines column_lines rows columns p q,
-      reading_parts width height rows columns high,
+      puzzle_of_both limit width height row_lines column_lines rows columns
+          (both_said limit true row_lines column_lines rows columns p q) high,
     ) refl
 
 -- in .nin: a size line and clues

@@ -32,8 +32,8 @@ module _ {X : Type 0} (view : X → Line) where
       rw (filter-map is_full view section, length-map (full_of section) view) (length-filter (λ x. is_full (view x)) section)
 
   -- there are as many lines that aren't blank as are counted
-  pub length_full : (section full : List X) → full ≡ full_of section → length full ≡ count_by (λ x. is_full (view x)) section
-  length_full section full e = ap length e ∙ length-filter (λ x. is_full (view x)) section
+  pub length_full : (section full : List X) → full ≡ full_of section → length (map view full) ≡ count_by (λ x. is_full (view x)) section
+  length_full section full e = length-map full view ∙ ap length e ∙ length-filter (λ x. is_full (view x)) section
 
   -- the lines that aren't blank are the clue lines if they are `count`
   pub choice_full : (count : ℕ) (section full : List X) → full ≡ full_of section → count_by (λ x. is_full (view x)) section ≡ count

@@ -58,8 +58,8 @@ walk_below front (raw ∷ raws) =
     (find (stray_in whole) (enumerate_from (length front + 1) raws)) _ next)
 
 -- the walk from the top finds the first stray line
-pub stray_from-first : (raws : List (List ℕ)) → stray_from 1 false raws ≡ first_stray raws
-stray_from-first raws = walk_below [] raws
+pub first_stray_found : (raws : List (List ℕ)) → stray_from 1 false raws ≡ first_stray raws
+first_stray_found raws = walk_below [] raws
 
 -- ---- if each entry has a name
 
@@ -86,4 +86,4 @@ from_first number (raw ∷ raws) marker named = rw marker (rw marker at (none_be
 
 -- and none at all, if the first line is one
 pub none_stray : (raws : List (List ℕ)) → begins_with_marker raws ≡ true → are_named (entries_of raws) ≡ true → first_stray raws ≡ None
-none_stray raws marker named = sym (stray_from-first raws) ∙ from_first 1 raws marker named
+none_stray raws marker named = sym (first_stray_found raws) ∙ from_first 1 raws marker named

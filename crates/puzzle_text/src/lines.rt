@@ -16,6 +16,7 @@ pub(crate) struct Line<'a> {
     pub text: &'a [u8],
 }
 
+#[tactic(auto, using(crate::proofs::LinesLemmas::feed_found))]
 fn first_line_feed(bytes: &[u8]) -> Option<usize>
     ensures { result ≡ position (λ byte. byte == 10) bytes.now }
 {
@@ -23,6 +24,7 @@ fn first_line_feed(bytes: &[u8]) -> Option<usize>
 }
 
 /// The first line of a text, with its line feed, and what follows.
+#[tactic(auto, using(crate::proofs::LinesLemmas::cut_at_feed, crate::proofs::LinesLemmas::cut_at_end))]
 pub(crate) fn split_line(bytes: &[u8]) -> (&[u8], &[u8])
     requires { 0 < length bytes.now }
     ensures first { raw_lines bytes.now ≡ result.0.now ∷ raw_lines result.1.now }
@@ -90,6 +92,7 @@ pub(crate) fn without_ending(raw: &[u8]) -> &[u8]
 }
 
 /// The first line of a text, without its ending, and what follows.
+#[tactic(auto, using(crate::proofs::LinesLemmas::line_at_feed, crate::proofs::LinesLemmas::line_at_end, std::proofs::lemmas::List::take_rest))]
 pub(crate) fn next_line(bytes: &[u8]) -> (&[u8], &[u8])
     requires { 0 < length bytes.now }
     ensures first { (number : ℕ) → numbered_from number (raw_lines bytes.now)

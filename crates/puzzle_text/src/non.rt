@@ -83,6 +83,7 @@ fn repeated(lines: &[KeywordLine<'_>]) -> Option<u32>
 
 /// Checks that no line is out of place, no text is too long, and no keyword that may stand once only is
 /// repeated.
+#[tactic(auto, using(crate::proofs::FeedsLemmas::lawful_texts))]
 fn check_lines(keyword_lines: &[KeywordLine<'_>], stray: Option<u32>) -> Result<(), TextFault>
     requires { HaveNoFeed (map shown_keyword keyword_lines.now) }
     ensures answer { Gives (λ done. done) result (check_lines stray (map shown_keyword keyword_lines.now)) }
@@ -177,6 +178,7 @@ fn puzzle_said(
     puzzle_of_clues(alloc, keyword_lines, width, height, rows, columns)
 }
 
+#[tactic(auto, using(crate::proofs::KeywordsLemmas::said_of_kept, crate::proofs::FeedsLemmas::clean_filter))]
 fn non_of(alloc: Global, lines: &[Line<'_>]) -> Result<Puzzle, TextFault>
     requires { HaveNoFeed (map shown_line lines.now) }
     ensures { Gives (λ p. p) result (non_of LONGEST_SIDE (map shown_line lines.now)) }
@@ -187,6 +189,7 @@ fn non_of(alloc: Global, lines: &[Line<'_>]) -> Result<Puzzle, TextFault>
 }
 
 /// What `read_non` reads, line by line, whatever form the text has.
+#[tactic(auto, using(crate::proofs::FeedsLemmas::lines_have_no_feed))]
 pub fn plain_non(alloc: Global, bytes: &[u8]) -> Result<Puzzle, TextFault>
     ensures answer { Gives (λ p. p) result (read_non LONGEST_SIDE bytes.now) }
     // `NoMemory` never stands in place of this fault.

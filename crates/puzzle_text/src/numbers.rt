@@ -7,6 +7,7 @@ ghost use Rattle.puzzle_text.specs.ClueLines.{numbers_within};
 ghost use Rattle.puzzle_text.specs.Numbers.{is_separator, number_within, pieces};
 
 /// The number that a piece writes in decimal, if it is no more than the limit.
+#[tactic(auto, using(crate::proofs::NumbersLemmas::next_digits, crate::proofs::NumbersLemmas::next_value))]
 pub(crate) fn number_within(limit: u16, piece: &[u8]) -> Option<u16>
     ensures number { result ≡ number_within limit piece.now }
     ensures within { IfSome result (λ number. number ≤ limit) }
@@ -55,6 +56,7 @@ fn first_separator(text: &[u8]) -> Option<usize>
 }
 
 /// The first piece of a line between commas, spaces and tabs, and what follows it.
+#[tactic(auto, using(crate::proofs::NumbersLemmas::first_piece, crate::proofs::NumbersLemmas::only_piece, std::proofs::lemmas::List::take_rest))]
 pub(crate) fn next_piece(text: &[u8]) -> Option<(&[u8], &[u8])>
     ensures none { IfNone result (pieces text.now ≡ []) }
     ensures some { IfSome result (λ found. pieces text.now ≡ found.0.now ∷ pieces found.1.now) }
@@ -72,6 +74,7 @@ pub(crate) fn next_piece(text: &[u8]) -> Option<(&[u8], &[u8])>
 
 /// The number that the first piece writes in decimal, if it is no more than the limit, and what follows the
 /// piece.
+#[tactic(auto, using(crate::proofs::NumbersLemmas::number_refused, crate::proofs::NumbersLemmas::next_digits, crate::proofs::NumbersLemmas::next_value))]
 pub(crate) fn first_number(limit: u16, text: &[u8]) -> Option<(u16, &[u8])>
     requires some { 0 < length text.now }
     requires first { is_separator (slice_index text.now 0) ≡ false }

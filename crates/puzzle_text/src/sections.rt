@@ -47,6 +47,7 @@ fn are_blank(lines: &[Line<'_>]) -> bool
 }
 
 /// The first `count` lines of a section, if all after them are blank.
+#[tactic(auto, using(crate::proofs::SectionsLemmas::front_first, crate::proofs::SectionsLemmas::front_mixed))]
 fn front<'a, 'b>(count: usize, section: &'b [Line<'a>]) -> Option<&'b [Line<'a>]>
     ensures { option_map (λ first. map shown_line first.now) result ≡ front count (map shown_line section.now) }
 {
@@ -62,6 +63,7 @@ fn front<'a, 'b>(count: usize, section: &'b [Line<'a>]) -> Option<&'b [Line<'a>]
 
 /// The `count` clue lines of a section: its lines that aren't blank, or else its first ones.
 /// The first ones are tried first: if all after them are blank, and `count` lines aren't, these are the same.
+#[tactic(auto, using(crate::proofs::SectionsLemmas::front_chosen, crate::proofs::SectionsLemmas::choice_none, crate::proofs::SectionsLemmas::choice_full))]
 pub(crate) fn choice<'a, 'b>(
     alloc: Global,
     count: usize,

@@ -1,6 +1,0 @@
--- `write_mk`: the parts are those of the text.
-use Rattle.std.proofs.Common.{rules}
-use Rattle.puzzle_text.proofs.writing.write_mk.Goals as goal
-
-pub returns : goal.returns
-returns c = search rules
