@@ -1,5 +1,5 @@
 -- What holds of a line holds of the text of a field: no line has a line feed in it, so nor has the text; and a short line has a short text.
-use Rattle.std.proofs.Common.{◌≡◌, ℕ, zero, suc, ◌+◌, ◌-◌, ◌<◌, ◌≤◌, Bool, true, false, cond, not, eqb, leb, ltb, List, [], ◌∷◌, length, take, drop, get_or, reverse, codes, All, refl, sym, ap, subst, ◌∙◌, arith, inl, inr, Option, Some, None, IfSome, Ok, Err, map}
+use Rattle.std.proofs.Common.{rules, ◌≡◌, ℕ, zero, suc, ◌+◌, ◌-◌, ◌<◌, ◌≤◌, Bool, true, false, cond, not, eqb, leb, ltb, List, [], ◌∷◌, length, take, drop, get_or, reverse, codes, All, refl, sym, ap, subst, ◌∙◌, arith, inl, inr, Option, Some, None, IfSome, Ok, Err, map}
 use Rattle.std.specs.Prelude.{option_and_then, slice_get, unwrap_or}
 use Rattle.std.specs.List.{filter, list_all, onto_first, prefix_len, AllByRecursion}
 use Rattle.std.specs.Option.{option_map}
@@ -137,8 +137,7 @@ clean_lines number (raw ∷ raws) h = (
 )
 
 unless_long : (long : Bool) (all text : List Line) → HaveNoFeed all → cond long (Err TooLong) (Ok all) ≡ Ok text → HaveNoFeed text
-unless_long true all text h e = absurd cc
-unless_long false all text h e = let same : all ≡ text = cc in subst HaveNoFeed same h
+unless_long long all text h e = search rules
 
 -- no line of a text that isn't too long has a line feed
 pub lines_have_no_feed : (bytes : List ℕ) (text : List Line) → text_lines bytes ≡ Ok text → HaveNoFeed text
@@ -158,8 +157,7 @@ abbrev long_of : Option Line → Option ℕ
 long_of o = number_of_line (option_and_then (λ line. cond (ltb LONGEST_TEXT (length (quoted_text line))) (Some line) None) o)
 
 short : (line : Line) (b : Bool) → number_of_line (cond b (Some line) None) ≡ None → b ≡ false
-short line true e = absurd cc
-short line false e = refl
+short line b e = search rules
 
 lawful_field : (o : Option Line) → ((line : Line) → o ≡ Some line → has_no_feed line.text ≡ true) → long_of o ≡ None
     → is_field (option_map quoted_text o) ≡ true
@@ -171,7 +169,7 @@ lawful_field (Some line) clean fits =
 
 first_clean : (text : List Line) → HaveNoFeed text → (line : Line) → slice_get text 0 ≡ Some line → has_no_feed line.text ≡ true
 first_clean [] h line e = absurd cc
-first_clean (found ∷ text) h line e = let same : found ≡ line = cc in ap (λ (l : Line). has_no_feed l.text) (sym same) ∙ h.0
+first_clean (found ∷ text) h line e = search rules
 
 lawful_text : (word : List ℕ) (text : List Line) → HaveNoFeed text → number_of_line (long_text text word) ≡ None
     → is_field (field_text word text) ≡ true
@@ -180,8 +178,7 @@ lawful_text word text h fits =
 
 least_none : (m n : Option ℕ) → least m n ≡ None → (m ≡ None) × (n ≡ None)
 least_none None n e = (refl, e)
-least_none (Some m) None e = absurd cc
-least_none (Some m) (Some n) e = absurd cc
+least_none (Some m) n e = search rules
 
 each_none : (numbers : List (Option ℕ)) → least_of numbers ≡ None → AllByRecursion (λ number. number ≡ None) numbers
 each_none [] e = tt
@@ -214,8 +211,7 @@ short_text =
 
 short_here : (b : Bool) (line : Line) (others : List Line) → IsShort line.text → long_of (slice_get others 0) ≡ None
     → long_of (slice_get (cond b (line ∷ others) others) 0) ≡ None
-short_here true line others fits none = rw (le-ltb LONGEST_TEXT (length (quoted_text line)) (short_text line fits)) refl
-short_here false line others fits none = none
+short_here b line others fits none = let within = short_text line fits in search rules
 
 short_first : (word : List ℕ) (kept : List KeywordLine) → are_short kept ≡ true → long_of (first_with word (map shown_keyword kept)) ≡ None
 short_first word [] h = refl
@@ -229,8 +225,7 @@ none_least f [] h = refl
 none_least f (word ∷ words) h = rw (h word, none_least f words h) refl
 
 or_stray : (stray : Option ℕ) → least stray None ≡ stray
-or_stray None = refl
-or_stray (Some number) = refl
+or_stray stray = search rules
 
 -- if no line is long, no text is
 pub short_lines : (stray : Option ℕ) (kept : List KeywordLine) → are_short kept ≡ true → bad_line stray (map shown_keyword kept) ≡ stray

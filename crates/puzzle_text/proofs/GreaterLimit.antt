@@ -95,10 +95,8 @@ module _ (a b : ℕ) (le : a ≤ b) where
       rw (parts.0, runs_keep ns parts.1) refl
 
   numbers_keep : (ns : List ℕ) → KeepsSome (clue_of_numbers a ns) (clue_of_numbers b ns)
-  numbers_keep [] = some-test _ _ _ (is_clue_keeps [])
   numbers_keep (zero ∷ []) = λ x e. e
-  numbers_keep (zero ∷ m ∷ ns) = some-test _ _ _ (is_clue_keeps (zero ∷ m ∷ ns))
-  numbers_keep (suc n ∷ ns) = some-test _ _ _ (is_clue_keeps (suc n ∷ ns))
+  numbers_keep ns = some-test _ _ _ (is_clue_keeps ns)
 
   clue_keeps : (text : List ℕ) → KeepsSome (clue_of a text) (clue_of b text)
   clue_keeps text = some-bind _ _ _ _ (some-each _ _ (pieces text) number_keeps) numbers_keep
@@ -107,10 +105,8 @@ module _ (a b : ℕ) (le : a ≤ b) where
   clues_keep section = keeps-each _ _ section (λ line. keeps-number line.number _ _ (clue_keeps line.text))
 
   two_keep : (parts : List (List ℕ)) → KeepsAnswer (two_sizes a parts) (two_sizes b parts)
-  two_keep [] = λ _ _. refl
-  two_keep (m ∷ []) = λ _ _. refl
   two_keep (m ∷ n ∷ []) = search (keeps-bind, keeps-same, size_keeps)
-  two_keep (m ∷ n ∷ o ∷ others) = λ _ _. refl
+  two_keep parts = λ _ _. refl
 
   line_keeps : (text : List Line) → KeepsAnswer (size_line a text) (size_line b text)
   line_keeps text = search (keeps-bind, keeps-same, two_keep)

@@ -16,19 +16,15 @@ first_end bytes = position_or_len (λ byte. eqb byte 10) bytes
 abbrev CutsAt : List ℕ → ℕ → Type 0
 CutsAt bytes n = raw_lines bytes ≡ take n bytes ∷ raw_lines (drop n bytes)
 
-at_other : (byte next : ℕ) (bytes : List ℕ) → eqb byte 10 ≡ false → CutsAt (next ∷ bytes) (first_end (next ∷ bytes) + 1)
-    → CutsAt (byte ∷ next ∷ bytes) (first_end (byte ∷ next ∷ bytes) + 1)
-at_other byte next bytes other later =
-    let end : first_end (byte ∷ next ∷ bytes) + 1 ≡ suc (first_end (next ∷ bytes) + 1) = rw other (omega arith) in
-    rw (end, other, later) refl
-
 cut_at : (bytes : List ℕ) → 0 < length bytes → CutsAt bytes (first_end bytes + 1)
 cut_at [] h = absurd (omega arith)
 cut_at (byte ∷ []) h = elim (cases_Bool (eqb byte 10)) [ inl feed ↦ rw feed refl | inr other ↦ rw other refl ]
 cut_at (byte ∷ next ∷ bytes) h =
     elim (cases_Bool (eqb byte 10)) [
       | inl feed ↦ rw feed refl
-      | inr other ↦ at_other byte next bytes other (cut_at (next ∷ bytes) (omega arith))
+      | inr other ↦
+          let end : first_end (byte ∷ next ∷ bytes) + 1 ≡ suc (first_end (next ∷ bytes) + 1) = rw other (omega arith) in
+          rw (end, other, cut_at (next ∷ bytes) (omega arith)) refl
     ]
 
 -- the condition fails if nothing came through

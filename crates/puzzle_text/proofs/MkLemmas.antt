@@ -71,10 +71,8 @@ joined_none (Err fault) = refl
 
 joined_more : {Y : Type 0} (r : Result Y TextFault) (a b : Result (List Y) TextFault)
     → r >>= (λ y. joined a b >>= λ all. Ok (y ∷ all)) ≡ joined (r >>= (λ y. a >>= λ ys. Ok (y ∷ ys))) b
-joined_more (Err fault) a b = refl
-joined_more (Ok y) (Err fault) b = refl
-joined_more (Ok y) (Ok xs) (Err fault) = refl
 joined_more (Ok y) (Ok xs) (Ok ys) = refl
+joined_more r a b = refl
 
 each-append : {X Y : Type 0} (step : X → Result Y TextFault) (xs ys : List X) → each step (xs ++ ys) ≡ joined (each step xs) (each step ys)
 each-append step [] ys = sym (joined_none (each step ys))
@@ -84,9 +82,8 @@ each-append {X} {Y} step (x ∷ xs) ys =
 joined_clues : (width height : ℕ) (a b : Result (List (List ℕ)) TextFault)
     → joined a b >>= (λ clues. Ok (reading width height clues)) ≡ (a >>= λ rows. b >>= λ columns. Ok (rows, columns))
     >>= with_clues width height
-joined_clues width height (Err fault) b = refl
-joined_clues width height (Ok rows) (Err fault) = refl
 joined_clues width height (Ok rows) (Ok columns) = refl
+joined_clues width height a b = refl
 
 -- the puzzle of the clue lines of both sections
 pub puzzle_of_parts : (limit width height : ℕ) (xs ys : List Line)

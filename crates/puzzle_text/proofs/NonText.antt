@@ -1,5 +1,5 @@
 -- The text of a puzzle in .non as lines.
-use Rattle.std.proofs.Common.{◌≡◌, drop, reverse, ℕ, ◌*◌, ◌-◌, ◌<◌, ◌≤◌, ◌^◌, Bool, true, false, not, eqb, leb, List, [], ◌∷◌, ◌++◌, length, get_or, map, codes, refl, sym, ap, ◌∙◌, append_assoc, arith, Option, Some, None}
+use Rattle.std.proofs.Common.{rules, ◌≡◌, drop, reverse, ℕ, ◌*◌, ◌-◌, ◌<◌, ◌≤◌, ◌^◌, Bool, true, false, not, eqb, leb, List, [], ◌∷◌, ◌++◌, length, get_or, map, codes, refl, sym, ap, ◌∙◌, append_assoc, arith, Option, Some, None}
 use Rattle.std.specs.Prelude.{decimal}
 use Rattle.std.specs.List.{flat_map, list_all, AllByRecursion}
 use Rattle.std.proofs.lemmas.Bool.{not-true, and_parts, leb-true, eqb-true}
@@ -98,19 +98,11 @@ fed_goal (Some cells) = rw (fed_one (codes "goal") (Some (map goal_byte cells)))
 
 pub non_is : (p : Nonogram) → flat_map with_feed (texts_non p) ≡ text_non p
 non_is p =
-    rw (
-      flat_map-append with_feed (fields p.texts) (after_fields p),
-      fed_fields p.texts all_fields,
-      flat_map-append with_feed (row_part p) (after_rows p),
-      flat_map-append with_feed (map (clue_text 44) p.rows) ([] ∷ []),
-      fed_clues 44 p.rows,
-      append_assoc (map (clue_text 44) p.columns) (goal_gap p.goal) (goal_part p),
-      flat_map-append with_feed (map (clue_text 44) p.columns) (goal_gap p.goal ++ goal_part p),
-      fed_clues 44 p.columns,
-      fed_goal p.goal,
-      append_assoc (decimal p.width) (10 ∷ []),
-      append_assoc (decimal p.height) (10 ∷ []),
-    ) (simp append_assoc)
+    let fed = λ (xs ys : List (List ℕ)). flat_map-append with_feed xs ys in
+    rw (fed (fields p.texts) (after_fields p), fed_fields p.texts all_fields, fed (row_part p) (after_rows p))
+    (rw (fed (map (clue_text 44) p.rows) ([] ∷ []), fed_clues 44 p.rows, append_assoc (map (clue_text 44) p.columns) (goal_gap p.goal))
+    (rw (fed (map (clue_text 44) p.columns) (goal_gap p.goal ++ goal_part p), fed_clues 44 p.columns, fed_goal p.goal)
+    (rw (append_assoc (decimal p.width) (10 ∷ []), append_assoc (decimal p.height) (10 ∷ [])) (simp append_assoc))))
 
 -- ---- no line is cut or trimmed
 
@@ -147,8 +139,7 @@ kept_gap (Some cells) = (kept_blank, tt)
 
 clean_goal : (cells : List Bool) → list_all (λ byte. not (eqb byte 10)) (map goal_byte cells) ≡ true
 clean_goal [] = refl
-clean_goal (true ∷ cells) = clean_goal cells
-clean_goal (false ∷ cells) = clean_goal cells
+clean_goal (cell ∷ cells) = search (rules, clean_goal cells)
 
 kept_goal : (o : Option (List Bool)) → AllByRecursion IsKept (one (codes "goal") (goal_text o))
 kept_goal None = tt
@@ -182,10 +173,7 @@ pub record IsFieldWord (f : Field) : Type 0 where
 
 pub facts : (f : Field) → IsFieldWord f
 facts Catalogue = record { clean = refl; short = omega arith; inked = λ _. omega arith; word = λ _. refl; rest = quote_kept; some = refl }
-facts Title = record { clean = refl; short = omega arith; inked = λ _. omega arith; word = λ _. refl; rest = quote_kept; some = refl }
-facts By = record { clean = refl; short = omega arith; inked = λ _. omega arith; word = λ _. refl; rest = quote_kept; some = refl }
-facts Copyright = record { clean = refl; short = omega arith; inked = λ _. omega arith; word = λ _. refl; rest = quote_kept; some = refl }
-facts License = record { clean = refl; short = omega arith; inked = λ _. omega arith; word = λ _. refl; rest = quote_kept; some = refl }
+facts f = record { clean = refl; short = omega arith; inked = λ _. omega arith; word = λ _. refl; rest = quote_kept; some = refl }
 
 kept_size : (word : List ℕ) (n : ℕ) → list_all (leb 33) word ≡ true → 0 < length word → n < 2 ^ 64 → IsKept (size_text word n)
 kept_size word n high some wide =
@@ -226,12 +214,8 @@ length_fields : (ts : Description) → IsDescription ts → (fs : List Field)
 length_fields ts lawful [] = omega arith
 length_fields ts lawful (f ∷ fs) =
     let others = flat_map (λ (g : Field). quoted_line (field_word g) (text_of ts g)) fs in
-    omega (
-      arith,
-      length-append (quoted_line (field_word f) (text_of ts f)) others,
-      length_field (field_word f) (text_of ts f) (facts f).short (lawful_field ts lawful f),
-      length_fields ts lawful fs,
-    )
+    let here = length_field (field_word f) (text_of ts f) (facts f).short (lawful_field ts lawful f) in
+    omega (arith, length-append (quoted_line (field_word f) (text_of ts f)) others, length_fields ts lawful fs)
 
 length_goal : (w h : ℕ) (o : Option (List Bool)) → w ≤ 256 → h ≤ 256 → is_goal (w * h) o ≡ true → length (goal_lines o) ≤ 65550
 length_goal w h None wide high lawful = omega arith
@@ -245,15 +229,9 @@ pub length_non : (limit : ℕ) (p : Nonogram) → limit ≤ 256 → IsNonogramWi
 length_non limit p wide lawful =
     let width : p.width ≤ 256 = omega (arith, lawful.size.width_to) in
     let height : p.height ≤ 256 = omega (arith, lawful.size.height_to) in
-    omega (
-      arith,
-      length-append {A = ℕ},
-      length_fields p.texts lawful.texts all_fields,
-      length_goal p.width p.height p.goal width height lawful.goal,
-      length-decimal-le 3 p.width (omega arith) (omega arith) (omega arith),
-      length-decimal-le 3 p.height (omega arith) (omega arith) (omega arith),
-      length_lines 44 limit p.rows (omega arith) lawful.rows,
-      length_lines 44 limit p.columns (omega arith) lawful.columns,
-      lawful.clues.0,
-      lawful.clues.1,
-    )
+    let goal = length_goal p.width p.height p.goal width height lawful.goal in
+    let wide_text = length-decimal-le 3 p.width (omega arith) (omega arith) (omega arith) in
+    let high_text = length-decimal-le 3 p.height (omega arith) (omega arith) (omega arith) in
+    let rows = length_lines 44 limit p.rows (omega arith) lawful.rows in
+    let columns = length_lines 44 limit p.columns (omega arith) lawful.columns in
+    omega (arith, length-append {A = ℕ}, length_fields p.texts lawful.texts all_fields)

@@ -1,5 +1,5 @@
 -- Lemmas on numbers in a line.
-use Rattle.std.proofs.Common.{◌≡◌, ℕ, zero, suc, ◌+◌, ◌-◌, ◌*◌, ◌<◌, ◌≤◌, true, false, not, ◌&&◌, leb, ltb, List, [], ◌∷◌, length, take, drop, filter, get_or, All, refl, sym, ap, ◌∙◌, arith, inl, inr, Option, Some, None, lit≤}
+use Rattle.std.proofs.Common.{rules, ◌≡◌, ℕ, zero, suc, ◌+◌, ◌-◌, ◌*◌, ◌<◌, ◌≤◌, true, false, not, ◌&&◌, leb, ltb, List, [], ◌∷◌, length, take, drop, filter, get_or, All, refl, sym, ap, ◌∙◌, arith, inl, inr, Option, Some, None, lit≤}
 use Rattle.std.specs.Prelude.{option_and_then}
 use Rattle.std.specs.Option.{option_map}
 use Rattle.std.specs.List.{list_all, position, position_or_len, slice_split}
@@ -37,10 +37,7 @@ next_value bytes i h digit = rw (digits_value_more 10 bytes i h, digit_value_is 
 pub past_limit : (limit : ℕ) (piece : List ℕ) (i : ℕ) → limit < digits_value 10 (take i piece) → number_within limit piece ≡ None
 past_limit limit piece i h =
     let big : leb (digits_value 10 piece) limit ≡ false = lt-leb _ _ (omega (arith, digits_value-take-le 10 piece i (lit≤ tt))) in
-    elim (cases_Bool (not (is_empty piece) && list_all is_ascii_digit piece)) [
-      | inl digits ↦ rw (digits, big) refl
-      | inr other ↦ rw other refl
-    ]
+    search rules
 
 -- ---- the first piece
 
@@ -134,8 +131,7 @@ module _ (limit : ℕ) (text : List ℕ) (some : 0 < length text) (first : is_se
   by_first : (number : Option ℕ) → number_within limit (take (end_of text) text) ≡ number
       → numbers_within limit (pieces text)
       ≡ option_and_then (λ n. option_map (λ others. n ∷ others) (numbers_within limit (pieces (drop (end_of text + 1) text)))) number
-  by_first number e =
-      rw (cut text some first, e) refl
+  by_first number e = rw (cut text some first, e) refl
 
   -- a piece of digits ends at a separator or with the line
   pub number_ends : (i : ℕ) → i ≤ length text → list_all is_ascii_digit (take i text) ≡ true → digits_value 10 (take i text) ≤ limit

@@ -1,5 +1,5 @@
 -- The last keyword line above each line, found on one walk from the top.
-use Rattle.std.proofs.Common.{◌≡◌, ℕ, ◌+◌, Bool, true, false, cond, not, List, [], ◌∷◌, ◌++◌, length, map, take, refl, ap, append_assoc, append-nil, Option, Some, None, unwrap_or}
+use Rattle.std.proofs.Common.{rules, ◌≡◌, ℕ, ◌+◌, Bool, true, false, cond, not, List, [], ◌∷◌, ◌++◌, length, map, take, refl, ap, append_assoc, append-nil, Option, Some, None, unwrap_or}
 use Rattle.std.specs.List.{enumerate_from, filter, last_or}
 use Rattle.std.specs.Option.{option_map}
 use Rattle.std.proofs.Math.Seq.{take-append_seam}
@@ -39,15 +39,6 @@ last_keyword-more : (front : List Line) (line : Line)
 last_keyword-more front line =
     rw (filter-append is_keyword_line front (line ∷ [])) (word_of_last (is_empty (keyword line)) line (filter is_keyword_line front))
 
-one_more : (content : Bool) (named : ℕ → List ℕ) (place : ℕ) (line : Line) (under : List ℕ) (numbered : List (ℕ × Line))
-    (others : List (List ℕ × Line))
-    → named place ≡ under → others ≡ placed_by named numbered
-    → cond content ((under, line) ∷ others) others
-    ≡ map (λ one. (named one.0, one.1))
-    (cond content ((place, line) ∷ filter (λ one. is_content one.1) numbered) (filter (λ one. is_content one.1) numbered))
-one_more true named place line under numbered others above later = rw (above, later) refl
-one_more false named place line under numbered others above later = later
-
 -- the walk below some lines, from their last keyword on
 walk_below : (front lines : List Line)
     → walked (last_keyword front) lines ≡ placed_by (keyword_above (front ++ lines)) (enumerate_from (length front) lines)
@@ -58,8 +49,8 @@ walk_below front (line ∷ lines) =
     ≡ placed_by (keyword_above whole) (enumerate_from (length front + 1) lines) =
     rw (last_keyword-more front line, append_assoc front (line ∷ []) lines, length-append front (line ∷ []))
     at (walk_below (front ++ line ∷ []) lines) in
-    one_more (is_content line) (keyword_above whole) (length front) line (last_keyword front) (enumerate_from (length front + 1) lines) _
-    (ap last_keyword (take-append_seam front (line ∷ lines))) next
+    let here : keyword_above whole (length front) ≡ last_keyword front = ap last_keyword (take-append_seam front (line ∷ lines)) in
+    search rules
 
 -- the walk from the top finds the last keyword line above each line
 pub walked-placed : (lines : List Line) → walked [] lines ≡ placed lines

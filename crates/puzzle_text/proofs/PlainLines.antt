@@ -1,5 +1,5 @@
 -- Lines of a collection that begin no entry, passed over many at a time.
-use Rattle.std.proofs.Common.{◌≡◌, ℕ, zero, suc, ◌-◌, ◌<◌, ◌≤◌, Bool, true, false, cond, not, eqb, List, [], ◌∷◌, ◌++◌, length, take, get_or, refl, sym, ap, ◌∙◌, append_assoc, arith}
+use Rattle.std.proofs.Common.{rules, ◌≡◌, ℕ, zero, suc, ◌-◌, ◌<◌, ◌≤◌, Bool, true, false, cond, not, eqb, List, [], ◌∷◌, ◌++◌, length, take, get_or, refl, sym, ap, ◌∙◌, append_assoc, arith}
 use Rattle.std.specs.List.{list_all, onto_first}
 use Rattle.std.proofs.lemmas.Bool.{cond_both, false_from_ne_true, not_from_false, not-true, and_parts, ne_eqb}
 use Rattle.std.proofs.lemmas.List.{get_or-take, get_or_default, length-take-le}
@@ -23,9 +23,8 @@ no_at_before bytes i within none = list_all-from_AllPass _ (take i bytes) (λ k 
 -- ---- a line that begins with another byte than @
 
 take_first : (k : ℕ) (bytes : List ℕ) → eqb (get_or bytes 0 0) 64 ≡ false → eqb (get_or (take k bytes) 0 0) 64 ≡ false
-take_first zero bytes other = refl
-take_first (suc k) [] other = refl
 take_first (suc k) (byte ∷ bytes) other = other
+take_first k bytes other = refl
 
 strip_first : (byte : ℕ) (bytes : List ℕ) → eqb (get_or bytes 0 0) 64 ≡ false → eqb (get_or (strip_last byte bytes) 0 0) 64 ≡ false
 strip_first byte bytes other =
@@ -34,8 +33,7 @@ strip_first byte bytes other =
 
 no_marker_text : (bytes : List ℕ) → eqb (get_or bytes 0 0) 64 ≡ false → is_marker_text bytes ≡ false
 no_marker_text [] other = refl
-no_marker_text (first ∷ []) other = other
-no_marker_text (first ∷ second ∷ others) other = rw other refl
+no_marker_text (first ∷ others) other = search rules
 
 no_marker : (raw : List ℕ) → eqb (get_or raw 0 0) 64 ≡ false → is_marker raw ≡ false
 no_marker raw other =
@@ -79,9 +77,8 @@ entries_in false raws = entries_of (below_first raws)
 amid : (feed : Bool) (byte : ℕ) (raws : List (List ℕ))
     → (with_first (cond feed ((byte ∷ []) ∷ raws) (onto_first byte raws)) ≡ byte ∷ body_in feed raws)
     × (entries_of (below_first (cond feed ((byte ∷ []) ∷ raws) (onto_first byte raws))) ≡ entries_in feed raws)
-amid true byte raws = (refl, refl)
-amid false byte [] = (refl, refl)
 amid false byte (raw ∷ raws) = (refl, refl)
+amid feed byte raws = (refl, refl)
 
 -- past `front`, which has no @, the lines `raws` go on as `others`;
 -- `start` and `later` tell whether a line begins there

@@ -33,11 +33,7 @@ raw_lines-feed (byte ∷ bytes) rest inked =
 pub strip_last_is : (byte : ℕ) (text : List ℕ) → strip_last byte (text ++ byte ∷ []) ≡ text
 strip_last_is byte text =
     let n : length text ≡ length (text ++ byte ∷ []) - 1 = omega (arith, length-append text (byte ∷ [])) in
-    rw (
-      get_or_at text byte [] 0 (length (text ++ byte ∷ []) - 1) n,
-      eq-eqb byte byte refl,
-      take_at text (byte ∷ []) (length (text ++ byte ∷ []) - 1) n,
-    ) refl
+    rw (get_or_at text byte [] 0 _ n, eq-eqb byte byte refl, take_at text (byte ∷ []) _ n) refl
 
 pub strip_last_other : (byte : ℕ) (text : List ℕ) → byte < 33 → 33 ≤ get_or text (length text - 1) 0 → strip_last byte text ≡ text
 strip_last_other byte text low last = rw (ne_eqb (get_or text (length text - 1) 0) byte (λ e. omega arith)) refl
@@ -104,12 +100,8 @@ pub lines_kept : (number : ℕ) (texts : List (List ℕ)) → AllByRecursion IsK
 lines_kept number [] kept = refl
 lines_kept number (text ∷ texts) kept =
     let rest = flat_map with_feed texts in
-    rw (
-      append_assoc text (10 ∷ []) rest,
-      raw_lines-feed text rest kept.0.no_feed,
-      line_kept text kept.0,
-      lines_kept (number + 1) texts kept.1,
-    ) refl
+    rw (append_assoc text (10 ∷ []) rest, raw_lines-feed text rest kept.0.no_feed, line_kept text kept.0)
+    (rw (lines_kept (number + 1) texts kept.1) refl)
 
 -- what is written as tidy lines is those lines
 pub lines_are : (number : ℕ) (texts : List (List ℕ)) → AllByRecursion IsTidy texts

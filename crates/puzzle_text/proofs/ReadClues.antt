@@ -108,23 +108,15 @@ length_numbers : (s : ℕ) (ns : List ℕ) → AllByRecursion (λ n. n < 1000) n
     → length (flat_map (λ other. s ∷ decimal other) ns) ≤ 4 * length ns
 length_numbers s [] h = omega arith
 length_numbers s (n ∷ ns) h =
-    omega (
-      arith,
-      length-append (decimal n) (flat_map (λ other. s ∷ decimal other) ns),
-      length-decimal-le 3 n (omega arith) (omega (arith, h.0)) (omega (arith, h.0)),
-      length_numbers s ns h.1,
-    )
+    let here = length-decimal-le 3 n (omega arith) (omega arith) (omega arith) in
+    omega (arith, length-append (decimal n) (flat_map (λ other. s ∷ decimal other) ns), length_numbers s ns h.1)
 
 length_clue : (s : ℕ) (clue : List ℕ) → AllByRecursion (λ n. n < 1000) clue → length clue ≤ 128 → length (clue_line s clue) ≤ 514
 length_clue s [] h few = omega arith
 length_clue s (n ∷ ns) h few =
-    omega (
-      arith,
-      length-append (clue_text s (n ∷ ns)) (10 ∷ []),
-      length-append (decimal n) (flat_map (λ other. s ∷ decimal other) ns),
-      length-decimal-le 3 n (omega arith) (omega (arith, h.0)) (omega (arith, h.0)),
-      length_numbers s ns h.1,
-    )
+    let here = length-decimal-le 3 n (omega arith) (omega arith) (omega arith) in
+    let line = length-append (decimal n) (flat_map (λ other. s ∷ decimal other) ns) in
+    omega (arith, length-append (clue_text s (n ∷ ns)) (10 ∷ []), length_numbers s ns h.1)
 
 -- a clue's line has at most 514 bytes
 pub length_lines : (s limit : ℕ) (clues : List (List ℕ)) → limit < 1000 → AllByRecursion (λ clue. is_clue limit clue ≡ true) clues
@@ -134,7 +126,7 @@ length_lines s limit (clue ∷ clues) wide h =
     let parts = and_parts (leb (length clue) 128) (list_all (is_run limit) clue) h.0 in
     let small = all-weaker (λ n. n ≤ limit) (λ n. n < 1000) (λ n low. omega arith) clue (runs limit clue parts.1) in
     let here = length_clue s clue small (leb-true (length clue) 128 parts.0) in
-    omega (arith, length-append (clue_line s clue) (clue_lines s clues), here, length_lines s limit clues wide h.1)
+    omega (arith, length-append (clue_line s clue) (clue_lines s clues), length_lines s limit clues wide h.1)
 
 module _ (limit a b : ℕ) (wide : limit < 2 ^ 64) (first : (1 ≤ a) × (a ≤ limit)) (second : (1 ≤ b) × (b ≤ limit)) where
   size_words : AllByRecursion IsWord (a ∷ b ∷ [])

@@ -17,12 +17,7 @@ abbrev pub texts_mk : Nonogram → List (List ℕ)
 texts_mk p = clue_text 32 (p.height ∷ p.width ∷ []) ∷ (map (clue_text 32) p.rows ++ (35 ∷ []) ∷ map (clue_text 32) p.columns)
 
 text_is : (p : Nonogram) → flat_map with_feed (texts_mk p) ≡ text_mk p
-text_is p =
-    rw (
-      flat_map-append with_feed (map (clue_text 32) p.rows) ((35 ∷ []) ∷ map (clue_text 32) p.columns),
-      fed_clues 32 p.rows,
-      fed_clues 32 p.columns,
-    ) (simp (append_assoc, append-nil))
+text_is p = rw (flat_map-append with_feed (map (clue_text 32) p.rows), fed_clues 32 p.rows, fed_clues 32 p.columns) (simp (append_assoc, append-nil))
 
 module _ (limit : ℕ) (p : Nonogram) (wide : limit ≤ 256) (lawful : IsNonogramWithin limit p) where
   abbrev pub high : (1 ≤ p.height) × (p.height ≤ limit)
@@ -54,12 +49,8 @@ module _ (limit : ℕ) (p : Nonogram) (wide : limit ≤ 256) (lawful : IsNonogra
   -- the text is short enough to be read
   pub length_text : length (text_mk p) ≤ 1048576
   length_text =
-      omega (
-        arith,
-        length-append {A = ℕ},
-        length_within limit p.height p.width p.rows p.columns wide lawful.size.height_to lawful.size.width_to lawful.rows lawful.columns
-            (omega (arith, lawful.size.height_to, lawful.size.width_to, lawful.clues.0, lawful.clues.1)),
-      )
+      let whole = length_within limit p.height p.width p.rows p.columns wide lawful.size.height_to lawful.size.width_to lawful.rows in
+      omega (arith, length-append {A = ℕ}, whole lawful.columns (omega arith))
 
   -- a written puzzle is read again, without its texts and its goal
   pub read_again : read_mk limit (text_mk p) ≡ Ok (plain p.width p.height p.rows p.columns)

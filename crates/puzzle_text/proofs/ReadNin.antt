@@ -1,5 +1,5 @@
 -- What is written in .nin is read again.
-use Rattle.std.proofs.Common.{◌≡◌, ℕ, ◌≤◌, Bool, true, false, cond, not, ◌&&◌, eqb, List, ◌∷◌, ◌++◌, [], length, map, refl, sym, ap, subst, ◌∙◌, append_assoc, arith, Ok}
+use Rattle.std.proofs.Common.{rules, ◌≡◌, ℕ, ◌≤◌, Bool, true, false, cond, not, ◌&&◌, eqb, List, ◌∷◌, ◌++◌, [], length, map, refl, sym, ap, subst, ◌∙◌, append_assoc, arith, Ok}
 use Rattle.std.specs.List.{flat_map, AllByRecursion}
 use Rattle.std.proofs.lemmas.Bool.{eqb-true}
 use Rattle.std.proofs.lemmas.List.{append-nil, length-append}
@@ -30,19 +30,12 @@ abbrev ordered : Bool → Bool → Nonogram → Nonogram → Nonogram
 ordered own other p q = cond (not own && other) q p
 
 -- with equal sizes there is one order
-one_order : (own other : Bool) (p : Nonogram) → ordered own other p p ≡ p
-one_order true other p = refl
-one_order false true p = refl
-one_order false false p = refl
-
 own_order : (same own other : Bool) (p q : Nonogram) → (same ≡ true → q ≡ p) → (not same && not own && other) ≡ false
     → ordered own other p q ≡ p
-own_order true own other p q alike clear = rw (alike refl) (one_order own other p)
-own_order false own other p q alike clear = rw clear refl
+own_order same own other p q alike clear = search rules
 
 other_order : (same own other : Bool) (p q : Nonogram) → (not same && not own && other) ≡ true → ordered own other p q ≡ q
-other_order true own other p q ambiguous = absurd cc
-other_order false own other p q ambiguous = rw ambiguous refl
+other_order same own other p q ambiguous = search rules
 
 module _ (limit : ℕ) (p : Nonogram) (wide : limit ≤ 256) (lawful : IsNonogramWithin limit p) where
   abbrev clues : List (List ℕ)
@@ -89,12 +82,8 @@ module _ (limit : ℕ) (p : Nonogram) (wide : limit ≤ 256) (lawful : IsNonogra
   -- the text is short enough to be read
   pub length_nin : length (text_nin p) ≤ 1048576
   length_nin =
-      omega (
-        arith,
-        length-append {A = ℕ},
-        length_within limit p.width p.height p.rows p.columns wide lawful.size.width_to lawful.size.height_to lawful.rows lawful.columns
-            (omega (arith, lawful.size.height_to, lawful.size.width_to, lawful.clues.0, lawful.clues.1)),
-      )
+      let whole = length_within limit p.width p.height p.rows p.columns wide lawful.size.width_to lawful.size.height_to lawful.rows in
+      omega (arith, length-append {A = ℕ}, whole lawful.columns (omega arith))
 
   -- the text is read as the likelier reading of the clues
   likelier_read : read_nin limit (text_nin p) ≡ Ok (likelier p.width p.height clues)

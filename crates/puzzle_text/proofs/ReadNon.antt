@@ -1,5 +1,5 @@
 -- What is written in .non is read again.
-use Rattle.std.proofs.Common.{◌≡◌, ℕ, ◌+◌, ◌*◌, ◌<◌, ◌≤◌, ◌^◌, Bool, true, false, cond, not, eqb, leb, ltb, List, [], ◌∷◌, ◌++◌, length, map, codes, refl, sym, ap, ◌∙◌, arith, Option, Some, None, Ok}
+use Rattle.std.proofs.Common.{rules, ◌≡◌, ℕ, ◌+◌, ◌*◌, ◌<◌, ◌≤◌, ◌^◌, Bool, true, false, cond, not, eqb, leb, ltb, List, [], ◌∷◌, ◌++◌, length, map, codes, refl, sym, ap, ◌∙◌, arith, Option, Some, None, Ok}
 use Rattle.std.specs.Prelude.{decimal}
 use Rattle.std.specs.List.{filter, list_all, AllByRecursion}
 use Rattle.std.specs.Str.{bytes_eq}
@@ -44,7 +44,7 @@ content_clue (n ∷ ns) h =
     let numeral = (decimal_is_IsNumeral n h.0).0 in
     let digit = digit_at (decimal n) 0 numeral.1 numeral.0 in
     let same = get_or_append_left (decimal n) (flat_map (λ other. 44 ∷ decimal other) ns) 0 0 numeral.0 in
-    content_digit (clue_text 44 (n ∷ ns)) (omega (arith, same, digit.0)) (omega (arith, same, digit.1))
+    content_digit (clue_text 44 (n ∷ ns)) (omega arith) (omega arith)
 
 content_clues : (limit : ℕ) (clues : List (List ℕ)) → limit < 2 ^ 64 → AllByRecursion (λ clue. is_clue limit clue ≡ true) clues
     → AllByRecursion IsContent (map (clue_text 44) clues)
@@ -70,11 +70,6 @@ with-one word name None true h = refl
 with-one word name None false h = refl
 with-one word name (Some text) same h = rw (h text) refl
 
-one_part : (ts : Description) (same : Bool) (f : Field) (fs : List Field)
-    → cond same (part ts f) [] ++ flat_map (part ts) fs ≡ flat_map (part ts) (cond same (f ∷ fs) fs)
-one_part ts true f fs = refl
-one_part ts false f fs = refl
-
 -- the fields with this keyword
 abbrev fields_with : List ℕ → List Field → List Field
 fields_with word fs = filter (λ f. bytes_eq (field_word f) word) fs
@@ -83,11 +78,9 @@ with-parts : (word : List ℕ) (ts : Description) (fs : List Field)
     → texts_with word (flat_map (part ts) fs) ≡ flat_map (part ts) (fields_with word fs)
 with-parts word ts [] = refl
 with-parts word ts (f ∷ fs) =
-    rw (
-      filter-append (λ text. bytes_eq (word_at text) word) (part ts f) (flat_map (part ts) fs),
-      with-one word (field_word f) (text_of ts f) (bytes_eq (field_word f) word) (λ text. rw ((facts f).word text) refl),
-      with-parts word ts fs,
-    ) (one_part ts (bytes_eq (field_word f) word) f (fields_with word fs))
+    let here = with-one word (field_word f) (text_of ts f) (bytes_eq (field_word f) word) (λ text. rw ((facts f).word text) refl) in
+    rw (filter-append (λ text. bytes_eq (word_at text) word) (part ts f) (flat_map (part ts) fs), here, with-parts word ts fs)
+    (search rules)
 
 module _ (limit : ℕ) (p : Nonogram) (wide : limit < 2 ^ 64) (lawful : IsNonogramWithin limit p) where
   content_rows : AllByRecursion IsContent (row_part p)
@@ -109,39 +102,25 @@ module _ (limit : ℕ) (p : Nonogram) (wide : limit < 2 ^ 64) (lawful : IsNonogr
   whole word goal some in_goal =
       let has = λ (text : List ℕ). bytes_eq (word_at text) word in
       let head = size_text (codes "width") p.width ∷ size_text (codes "height") p.height ∷ [] ∷ codes "rows" ∷ [] in
-      rw (
-        filter-append has (fields p.texts) (after_fields p),
-        with-parts word p.texts all_fields,
-        filter-append has head (row_part p ++ after_rows p),
-        filter-append has (row_part p) (after_rows p),
-        with-content word (row_part p) some content_rows,
-        filter-append has (codes "columns" ∷ []) (column_part p ++ goal_part p),
-        filter-append has (column_part p) (goal_part p),
-        with-content word (column_part p) some content_columns,
-        with-one word (codes "goal") (goal_text p.goal) goal in_goal,
-      ) refl
+      rw (filter-append has (fields p.texts) (after_fields p), with-parts word p.texts all_fields)
+      (rw (filter-append has head (row_part p ++ after_rows p), filter-append has (row_part p) (after_rows p))
+      (rw (with-content word (row_part p) some content_rows, filter-append has (codes "columns" ∷ []) (column_part p ++ goal_part p))
+      (rw (filter-append has (column_part p) (goal_part p), with-content word (column_part p) some content_columns)
+      (rw (with-one word (codes "goal") (goal_text p.goal) goal in_goal) refl))))
 
   own_only : (f : Field) → flat_map (part p.texts) (f ∷ []) ++ [] ≡ part p.texts f
   own_only f = append-nil (part p.texts f ++ []) ∙ append-nil (part p.texts f)
 
   field_only : (f : Field) → texts_with (field_word f) (texts_non p) ≡ part p.texts f
   field_only Catalogue = whole (codes "catalogue") false refl (λ text. refl) ∙ own_only Catalogue
-  field_only Title = whole (codes "title") false refl (λ text. refl) ∙ own_only Title
-  field_only By = whole (codes "by") false refl (λ text. refl) ∙ own_only By
-  field_only Copyright = whole (codes "copyright") false refl (λ text. refl) ∙ own_only Copyright
-  field_only License = whole (codes "license") false refl (λ text. refl) ∙ own_only License
+  field_only f = whole (field_word f) false refl (λ text. refl) ∙ own_only f
 
 -- ---- from texts to lines
 
-texts_numbered : (k : ℕ) (texts : List (List ℕ)) → map (λ (line : Line). line.text) (numbered k texts) ≡ texts
-texts_numbered k [] = refl
-texts_numbered k (text ∷ texts) = rw (texts_numbered (k + 1) texts) refl
-
 lines_with : (word : List ℕ) (k : ℕ) (texts : List (List ℕ))
     → map (λ (line : Line). line.text) (with_keyword word (numbered k texts)) ≡ texts_with word texts
-lines_with word k texts =
-    sym (filter-map (λ text. bytes_eq (word_at text) word) (λ (line : Line). line.text) (numbered k texts))
-    ∙ ap (texts_with word) (texts_numbered k texts)
+lines_with word k [] = refl
+lines_with word k (text ∷ texts) = let others = lines_with word (k + 1) texts in search rules
 
 none_seen : (xs : List Line) → map (λ (line : Line). line.text) xs ≡ [] → xs ≡ []
 none_seen [] e = refl
@@ -152,9 +131,8 @@ abbrev IsOne : List Line → List ℕ → Type 0
 IsOne xs text = (line : Line) × (xs ≡ line ∷ []) × (line.text ≡ text)
 
 one_seen : (xs : List Line) (text : List ℕ) → map (λ (line : Line). line.text) xs ≡ text ∷ [] → IsOne xs text
-one_seen [] text e = absurd cc
 one_seen (x ∷ []) text e = (x, refl, cc)
-one_seen (x ∷ y ∷ xs) text e = absurd cc
+one_seen xs text e = absurd cc
 
 one_line : (word text : List ℕ) (k : ℕ) (texts : List (List ℕ)) → texts_with word texts ≡ text ∷ []
     → IsOne (with_keyword word (numbered k texts)) text
@@ -259,20 +237,15 @@ part_again : (limit k : ℕ) (clues gap : List (List ℕ)) → limit < 2 ^ 64 �
 part_again limit k clues gap wide lawful blank =
     let said = say_clues 44 limit k clues comma wide lawful in
     let texts = map (clue_text 44) clues in
-    rw (
-      numbered-append k texts gap,
-      filter-append is_full (numbered k texts) (numbered (k + length texts) gap),
-      filter_all is_full (numbered k texts) said.full,
-      filter_none is_full (numbered (k + length texts) gap) (blank (k + length texts)),
-      append-nil (numbered k texts),
-    ) said
+    let after = numbered (k + length texts) gap in
+    rw (numbered-append k texts gap, filter-append is_full (numbered k texts) after, filter_all is_full (numbered k texts) said.full)
+    (rw (filter_none is_full after (blank (k + length texts)), append-nil (numbered k texts)) said)
 
 -- ---- the goal
 
 each_cells : (cells : List Bool) → each_some cell_of (map goal_byte cells) ≡ Some cells
 each_cells [] = refl
-each_cells (true ∷ cells) = rw (each_cells cells) refl
-each_cells (false ∷ cells) = rw (each_cells cells) refl
+each_cells (cell ∷ cells) = rw (each_cells cells) (search rules)
 
 cells_again : (count : ℕ) (cells : List Bool) → is_goal count (Some cells) ≡ true → goal_cells count (map goal_byte cells) ≡ Some cells
 cells_again count cells lawful =
@@ -320,16 +293,11 @@ module _ (limit : ℕ) (p : Nonogram) (wide : limit < 2 ^ 64) (lawful : IsNonogr
 
   sizes_read : sizes_of limit all_lines ≡ Ok (p.width, p.height)
   sizes_read =
-      let wide_text : rest width_line.0 ≡ decimal p.width = ap rest_of width_line.2 ∙ trimmed p.width lawful.size.width_to in
-      let high_text : rest height_line.0 ≡ decimal p.height = ap rest_of height_line.2 ∙ trimmed p.height lawful.size.height_to in
-      rw (
-        width_line.1,
-        height_line.1,
-        wide_text,
-        high_text,
-        size_again limit p.width wide lawful.size.width_from lawful.size.width_to,
-        size_again limit p.height wide lawful.size.height_from lawful.size.height_to,
-      ) refl
+      let size = lawful.size in
+      let wide_text : rest width_line.0 ≡ decimal p.width = ap rest_of width_line.2 ∙ trimmed p.width size.width_to in
+      let high_text : rest height_line.0 ≡ decimal p.height = ap rest_of height_line.2 ∙ trimmed p.height size.height_to in
+      let widths = size_again limit p.width wide size.width_from size.width_to in
+      rw (width_line.1, height_line.1, wide_text, high_text, widths, size_again limit p.height wide size.height_from size.height_to) refl
 
   abbrev order : Bool
   order = ltb rows_line.0.number columns_line.0.number
@@ -339,17 +307,8 @@ module _ (limit : ℕ) (p : Nonogram) (wide : limit < 2 ^ 64) (lawful : IsNonogr
 
   lines_checked : check_lines None all_lines ≡ Ok tt
   lines_checked =
-      rw (
-        long_at Catalogue,
-        long_at Title,
-        long_at By,
-        long_at Copyright,
-        long_at License,
-        width_line.1,
-        height_line.1,
-        rows_line.1,
-        columns_line.1,
-      ) refl
+      rw (long_at Catalogue, long_at Title, long_at By, long_at Copyright, long_at License)
+      (rw (width_line.1, height_line.1, rows_line.1, columns_line.1) refl)
 
   goal_read : goal_of (p.width * p.height) (first_with (codes "goal") all_lines) ≡ Ok p.goal
   goal_read = goal_again (p.width * p.height) p.goal all_lines goal_field lawful.goal

@@ -92,16 +92,10 @@ pub mk_lines : (limit width height : ℕ) (first cut : Line) (row_lines column_l
     → SayAll limit row_lines rows → SayAll limit column_lines columns → length rows ≡ height → length columns ≡ width
     → mk_of limit (first ∷ (row_lines ++ cut ∷ column_lines)) ≡ Ok (plain width height rows columns)
 mk_lines limit width height first cut row_lines column_lines rows columns sizes full here p q high wide =
-    rw (
-      full,
-      sizes,
-      at_hash_is row_lines cut column_lines p.hash here,
-      before_hash_is column_lines q.hash,
-      all_chosen limit height row_lines rows p high,
-      all_chosen limit width column_lines columns q wide,
-      puzzle_of_both limit width height row_lines column_lines rows columns
-          (both_said limit true row_lines column_lines rows columns p q) high,
-    ) refl
+    let both = both_said limit true row_lines column_lines rows columns p q in
+    rw (full, sizes, at_hash_is row_lines cut column_lines p.hash here, before_hash_is column_lines q.hash)
+    (rw (all_chosen limit height row_lines rows p high, all_chosen limit width column_lines columns q wide)
+    (rw (puzzle_of_both limit width height row_lines column_lines rows columns both high) refl))
 
 -- in .nin: a size line and clues
 pub nin_lines : (limit a b : ℕ) (first : Line) (found : List Line) (clues : List (List ℕ)) → two_sizes limit (pieces first.text) ≡ Ok (a, b)
@@ -117,10 +111,5 @@ pub non_lines : (limit : ℕ) (sections : Sections) (kept : List Line) (width he
     → length rows ≡ height → length columns ≡ width → puzzle_of_clues (width, height) (rows, columns) kept ≡ Ok p
     → puzzle_said limit sections kept ≡ Ok p
 non_lines limit sections kept width height order rows columns p stray in_rows in_columns outline high wide said =
-    rw (
-      stray,
-      outline,
-      chosen limit height sections.rows rows in_rows high,
-      chosen limit width sections.columns columns in_columns wide,
-      both_said limit order (filter is_full sections.rows) (filter is_full sections.columns) rows columns in_rows in_columns,
-    ) said
+    rw (stray, outline, chosen limit height sections.rows rows in_rows high, chosen limit width sections.columns columns in_columns wide)
+    (rw (both_said limit order _ _ rows columns in_rows in_columns) said)

@@ -1,5 +1,5 @@
 -- Lemmas on the choice of clue lines.
-use Rattle.std.proofs.Common.{◌≡◌, ℕ, suc, append-nil, ◌≤◌, Bool, true, false, cond, not, ◌&&◌, eqb, leb, List, [], ◌∷◌, length, take, drop, map, refl, sym, ap, ◌∙◌, arith, Some, None}
+use Rattle.std.proofs.Common.{rules, ◌≡◌, ℕ, suc, append-nil, ◌≤◌, Bool, true, false, cond, not, ◌&&◌, eqb, leb, List, [], ◌∷◌, length, take, drop, map, refl, sym, ap, ◌∙◌, arith, Some, None}
 use Rattle.std.specs.List.{count_by, filter, list_all}
 use Rattle.std.proofs.lemmas.Bool.{eqb-true, ne_eqb, eq-eqb, le-leb, leb-true}
 use Rattle.std.proofs.lemmas.List.{take-map, drop-map, length-map, length-take-le, take-append-drop}
@@ -11,16 +11,11 @@ use Rattle.puzzle_text.specs.Lines.{Line, is_full, is_blank_line}
 use Rattle.puzzle_text.specs.Sections.{choice}
 use Rattle.puzzle_text.specs.steps.Sections.{front}
 
-kept : {X Y : Type 0} (view : X → Y) (b : Bool) (x : X) (xs : List X) (ys : List Y) → ys ≡ map view xs
-    → cond b (view x ∷ ys) ys ≡ map view (cond b (x ∷ xs) xs)
-kept {X} {Y} view true x xs ys e = rw e refl
-kept view false x xs ys e = e
-
 -- what a filter keeps of a list seen by a view
 pub filter-map : {X Y : Type 0} (p : Y → Bool) (view : X → Y) (xs : List X)
     → filter p (map view xs) ≡ map view (filter (λ x. p (view x)) xs)
 filter-map p view [] = refl
-filter-map p view (x ∷ xs) = kept view (p (view x)) x (filter (λ y. p (view y)) xs) (filter p (map view xs)) (filter-map p view xs)
+filter-map p view (x ∷ xs) = rw (filter-map p view xs) (search rules)
 
 module _ {X : Type 0} (view : X → Line) where
   -- the lines of a section that aren't blank
@@ -45,20 +40,12 @@ module _ {X : Type 0} (view : X → Line) where
   -- ---- the first lines
 
   -- the first lines are the clue lines if all after them are blank
-  pub front_first : (count : ℕ) (section : List X) → count ≤ length section
-      → list_all (λ x. is_blank_line (view x)) (drop count section) ≡ true
-      → front count (map view section) ≡ Some (map view (take count section))
-  front_first count section long blank =
+  pub front_is : (count : ℕ) (section : List X) → count ≤ length section
+      → front count (map view section)
+      ≡ cond (list_all (λ x. is_blank_line (view x)) (drop count section)) (Some (map view (take count section))) None
+  front_is count section long =
       let within : leb count (length (map view section)) ≡ true = le-leb _ _ (omega (arith, length-map section view)) in
-      rw (within, drop-map view count section, list_all-map is_blank_line view (drop count section), blank, take-map view count section)
-      refl
-
-  -- the first lines are no clue lines if one after them isn't blank
-  pub front_mixed : (count : ℕ) (section : List X) → count ≤ length section
-      → list_all (λ x. is_blank_line (view x)) (drop count section) ≡ false → front count (map view section) ≡ None
-  front_mixed count section long blank =
-      let within : leb count (length (map view section)) ≡ true = le-leb _ _ (omega (arith, length-map section view)) in
-      rw (within, drop-map view count section, list_all-map is_blank_line view (drop count section), blank) refl
+      rw (within, drop-map view count section, list_all-map is_blank_line view (drop count section), take-map view count section) refl
 
   -- there are no clue lines if neither the first lines nor those that aren't blank will do
   pub choice_none : (count : ℕ) (section : List X) → front count (map view section) ≡ None
@@ -69,11 +56,6 @@ module _ {X : Type 0} (view : X → Line) where
 
 -- ---- the first lines are the choice, if they are there at all
 
-kept_some : (b : Bool) (line : Line) (full : List Line) (n : ℕ) → length (cond b (line ∷ full) full) ≡ suc n → length full ≤ n
-    → (b ≡ true) × (length full ≡ n)
-kept_some true line full n e le = (refl, omega arith)
-kept_some false line full n e le = absurd (omega arith)
-
 no_more : (lines : List Line) → length (filter is_full lines) ≤ length lines
 no_more lines = omega (arith, length-filter is_full lines, count_by-le-length is_full lines)
 
@@ -81,8 +63,9 @@ no_more lines = omega (arith, length-filter is_full lines, count_by-le-length is
 all_kept : (lines : List Line) → length (filter is_full lines) ≡ length lines → filter is_full lines ≡ lines
 all_kept [] e = refl
 all_kept (line ∷ lines) e =
-    let parts = kept_some (is_full line) line (filter is_full lines) (length lines) e (no_more lines) in
-    rw parts.0 (ap (λ (full : List Line). line ∷ full) (all_kept lines parts.1))
+    let fewer = no_more lines in
+    let others = all_kept lines in
+    search rules
 
 none_kept : (lines : List Line) → list_all is_blank_line lines ≡ true → filter is_full lines ≡ []
 none_kept lines blank =
@@ -99,18 +82,8 @@ front_kept count lines within blank enough =
     ∙ rw (filter-append is_full first (drop count lines), none_kept (drop count lines) blank) (append-nil (filter is_full first)) in
     whole ∙ all_kept first (ap length (sym whole) ∙ enough ∙ sym (length-take-le count lines within))
 
-front_choice : (enough within blank : Bool) (full first found : List Line) → (enough ≡ true → within ≡ true → blank ≡ true → full ≡ first)
-    → cond (within && blank) (Some first) None ≡ Some found
-    → cond enough (Some full) (cond (within && blank) (Some first) None) ≡ Some found
-front_choice true true true full first found same e = ap Some (same refl refl refl) ∙ e
-front_choice true true false full first found same e = absurd cc
-front_choice true false blank full first found same e = absurd cc
-front_choice false within blank full first found same e = e
-
 -- the first lines are the choice, if all after them are blank
 pub front_chosen : (count : ℕ) (lines found : List Line) → front count lines ≡ Some found → choice count lines ≡ Some found
 front_chosen count lines found e =
-    let full = filter is_full lines in
-    front_choice (eqb (length full) count) (leb count (length lines)) (list_all is_blank_line (drop count lines)) full
-    (take count lines) found
-    (λ enough within blank. front_kept count lines (leb-true _ _ within) blank (eqb-true _ _ enough)) e
+    let same = front_kept count lines in
+    search rules

@@ -1,5 +1,5 @@
 -- The sections of a text, put together on one walk from the top.
-use Rattle.std.proofs.Common.{◌≡◌, ℕ, ◌≤◌, arith, ◌+◌, ◌<◌, drop, get_or, length, Bool, true, false, cond, eqb, ◌&&◌, List, [], ◌∷◌, ◌++◌, codes, refl, sym, ap, ◌∙◌, append_assoc, Option, Some, None, map}
+use Rattle.std.proofs.Common.{rules, ◌≡◌, ℕ, ◌≤◌, arith, ◌+◌, ◌<◌, drop, get_or, length, Bool, true, false, cond, eqb, ◌&&◌, List, [], ◌∷◌, ◌++◌, codes, refl, sym, ap, ◌∙◌, append_assoc, Option, Some, None, map}
 use Rattle.std.specs.List.{find}
 use Rattle.std.specs.Option.{option_map}
 use Rattle.std.specs.Prelude.{take_while}
@@ -39,10 +39,7 @@ number_at found = option_map (λ (place : List ℕ × Line). place.1.number) fou
 noted : (b : Bool) (old : Option ℕ) (place : List ℕ × Line) (found : Option (List ℕ × Line))
     → or_else old (number_at (cond (b && true) (Some place) found))
     ≡ or_else (or_else old (cond b (Some place.1.number) None)) (number_at found)
-noted true None place found = refl
-noted true (Some m) place found = refl
-noted false None place found = refl
-noted false (Some m) place found = refl
+noted b old place found = search rules
 
 -- one line more
 pub one_more : (under : Under) (word : List ℕ) (above : Sections) (line : Line) (others : List (List ℕ × Line)) → IsUnder word under

@@ -1,5 +1,5 @@
 -- The first stray line of a collection, found on one walk from the top.
-use Rattle.std.proofs.Common.{◌≡◌, ℕ, ◌+◌, Bool, true, false, cond, not, ◌&&◌, ◌||◌, List, [], ◌∷◌, ◌++◌, length, take, refl, sym, ◌∙◌, append_assoc, Option, Some, None}
+use Rattle.std.proofs.Common.{rules, ◌≡◌, ℕ, ◌+◌, Bool, true, false, cond, not, ◌&&◌, ◌||◌, List, [], ◌∷◌, ◌++◌, length, take, refl, sym, ◌∙◌, append_assoc, Option, Some, None}
 use Rattle.std.specs.List.{enumerate_from, find, list_any}
 use Rattle.std.specs.Option.{option_map}
 use Rattle.std.proofs.Math.Bool.{or-false}
@@ -33,11 +33,7 @@ at_line : (marker nameless blank inside : Bool) (place : ℕ) (raw : List ℕ) (
     → later ≡ option_map (λ one. one.0 + 1) found
     → cond marker (cond nameless (Some (place + 1)) later) (cond (inside || blank) later (Some (place + 1)))
     ≡ option_map (λ one. one.0 + 1) (cond (cond marker nameless (not inside && not blank)) (Some (place, raw)) found)
-at_line true true blank inside place raw found later e = refl
-at_line true false blank inside place raw found later e = e
-at_line false nameless blank true place raw found later e = e
-at_line false nameless true false place raw found later e = e
-at_line false nameless false false place raw found later e = refl
+at_line marker nameless blank inside place raw found later e = search rules
 
 -- the walk below some lines
 walk_below : (front raws : List (List ℕ))
@@ -54,7 +50,7 @@ walk_below front (raw ∷ raws) =
       or-false (is_marker raw),
     ) at (walk_below (front ++ raw ∷ []) raws) in
     rw (take-append_seam front (raw ∷ raws))
-    (at_line (is_marker raw) (is_empty (name_of raw)) (is_empty (trim (without_ending raw))) (list_any is_marker front) (length front) raw
+    (at_line (is_marker raw) (is_empty (name_of raw)) _ (list_any is_marker front) (length front) raw
     (find (stray_in whole) (enumerate_from (length front + 1) raws)) _ next)
 
 -- the walk from the top finds the first stray line
@@ -63,21 +59,11 @@ first_stray_found raws = walk_below [] raws
 
 -- ---- if each entry has a name
 
-named_line : (marker blank : Bool) (number : ℕ) (later : Option ℕ) (entry : Entry) (others : List Entry)
-    → (are_named others ≡ true → later ≡ None)
-    → are_named (cond marker (entry ∷ others) others) ≡ true
-    → cond marker (cond (is_empty entry.name) (Some number) later) (cond (true || blank) later (Some number)) ≡ None
-named_line true blank number later entry others none named =
-    let parts = and_parts (not (is_empty entry.name)) (are_named others) named in
-    rw (not-true (is_empty entry.name) parts.0) (none parts.1)
-named_line false blank number later entry others none named = none named
-
 -- no line below a marker line is stray
 none_below : (number : ℕ) (raws : List (List ℕ)) → are_named (entries_of raws) ≡ true → stray_from number true raws ≡ None
 none_below number [] named = refl
 none_below number (raw ∷ raws) named =
-    named_line (is_marker raw) (is_empty (trim (without_ending raw))) number (stray_from (number + 1) true raws)
-    (record { name = name_of raw; body = body_of raws }) (entries_of raws) (none_below (number + 1) raws) named
+    let later = none_below (number + 1) raws in search rules
 
 from_first : (number : ℕ) (raws : List (List ℕ)) → begins_with_marker raws ≡ true → are_named (entries_of raws) ≡ true
     → stray_from number false raws ≡ None

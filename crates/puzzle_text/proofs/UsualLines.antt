@@ -58,14 +58,7 @@ module _ (piece : List ℕ) (n : ℕ) (numeral : IsNumeral piece n) where
       number_is LONGEST_SIDE piece some_piece numeral.digits low ∙ ap (λ (m : ℕ). Some m) (sym numeral.value)
 
   size_said : size_of LONGEST_SIDE piece ≡ Ok n
-  size_said =
-      rw (number_said, le-leb 1 n numeral.positive) refl
-
-  abbrev after_number : List (List ℕ) → Option (List ℕ)
-  after_number parts = option_map (λ ys. n ∷ ys) (numbers_within LONGEST_SIDE parts)
-
-  numbers_after : (parts : List (List ℕ)) → numbers_within LONGEST_SIDE (piece ∷ parts) ≡ after_number parts
-  numbers_after parts = rw number_said refl
+  size_said = rw (number_said, le-leb 1 n numeral.positive) refl
 
   pieces_alone : pieces piece ≡ piece ∷ []
   pieces_alone =
@@ -81,20 +74,14 @@ module _ (piece : List ℕ) (n : ℕ) (numeral : IsNumeral piece n) where
 
   -- a number says itself
   pub number_alone : SaysNumbers piece (n ∷ [])
-  number_alone = record {
-    tidy = tidy_piece;
-    digit = first_digit;
-    said = ap (numbers_within LONGEST_SIDE) pieces_alone ∙ numbers_after [];
-  }
+  number_alone = record { tidy = tidy_piece; digit = first_digit; said = rw (pieces_alone, number_said) refl }
 
   -- a number before other numbers
   pub number_before : (s : ℕ) (more ns : List ℕ) → IsSpacing s → SaysNumbers more ns → SaysNumbers (piece ++ s ∷ more) (n ∷ ns)
   number_before s more ns spacing said = record {
     tidy = tidy-join s piece more spacing tidy_piece said.tidy;
     digit = rw (get_or_append_left piece (s ∷ more) 0 0 some_piece) first_digit;
-    said =
-        ap (numbers_within LONGEST_SIDE) (pieces_more s more spacing) ∙ numbers_after (pieces more)
-        ∙ ap (option_map (λ (ys : List ℕ). n ∷ ys)) said.said;
+    said = rw (pieces_more s more spacing, number_said, said.said) refl;
   }
 
 -- ---- the numbers of a line, one after the other
@@ -127,39 +114,29 @@ module _ (front rest : List ℕ) (tidy : IsTidy front) where
   kept = kept_tidy front tidy
 
   at_feed : BeginsWith (front ++ 10 ∷ rest) front rest
-  at_feed number =
-      rw (raw_lines-feed front rest kept.no_feed, line_kept front kept) refl
+  at_feed number = rw (raw_lines-feed front rest kept.no_feed, line_kept front kept) refl
 
   at_return : BeginsWith (front ++ 13 ∷ 10 ∷ rest) front rest
   at_return number =
       let text = front ++ 13 ∷ [] in
       let none : AllByRecursion (λ byte. eqb byte 10 ≡ false) text =
       all-append (λ byte. eqb byte 10 ≡ false) front (13 ∷ []) kept.no_feed (refl, tt) in
-      rw (
-        ← append_assoc front (13 ∷ []) (10 ∷ rest),
-        raw_lines-feed text rest none,
-        strip_last_is 10 text,
-        strip_last_is 13 front,
-        kept.trimmed,
-      ) refl
+      rw (← append_assoc front (13 ∷ []) (10 ∷ rest), raw_lines-feed text rest none, strip_last_is 10 text)
+      (rw (strip_last_is 13 front, kept.trimmed) refl)
 
 -- a tidy text before the end of a line is that line
 pub line_ends : (front bytes rest : List ℕ) → IsTidy front → EndsLine bytes rest → BeginsWith (front ++ bytes) front rest
 line_ends front bytes rest tidy e =
-    elim e [
-      | inl feed ↦ rw feed (at_feed front rest tidy)
-      | inr return ↦ rw return (at_return front rest tidy)
-    ]
+    elim e [ inl feed ↦ rw feed (at_feed front rest tidy) | inr return ↦ rw return (at_return front rest tidy) ]
 
 -- ---- what the first line says
 
 -- a slice of two bytes and more, of which the first is known
 pub headed : (text : List ℕ) (byte : ℕ) → 2 ≤ length text → get_or text 0 0 ≡ byte
     → text ≡ byte ∷ get_or text 1 0 ∷ take (length text - 2) (drop 2 text)
-headed [] byte some is = absurd (omega arith)
-headed (a ∷ []) byte some is = absurd (omega arith)
 headed (a ∷ b ∷ rest) byte some is =
     ap (λ (first : ℕ). first ∷ b ∷ rest) is ∙ ap (λ (r : List ℕ). byte ∷ b ∷ r) (sym (take_all (length (a ∷ b ∷ rest) - 2) rest (omega arith)))
+headed text byte some is = absurd (omega arith)
 
 -- the last number of a line ends its clue
 pub clue_ends : (text rest after next numbers clue : List ℕ) (n : ℕ) → PassesNumbers text rest numbers → BeginsWithNumber rest n after

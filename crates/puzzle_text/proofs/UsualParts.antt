@@ -27,17 +27,16 @@ clue_content line clue said = let range = digit_range (get_or line.text 0 0) sai
 -- lines of clues say these clues
 pub say_all : (found : List Line) (clues : List (List ℕ)) → AreClueLines found clues → SayAll LONGEST_SIDE found clues
 say_all [] [] said = record { full = tt; hash = tt; count = refl; said = refl }
-say_all [] (clue ∷ clues) said = absurd said
-say_all (line ∷ found) [] said = absurd said
 say_all (line ∷ found) (clue ∷ clues) said =
     say_more LONGEST_SIDE line clue found clues (some_text line.text (digit_range _ said.0.1).0) (clue_content line clue said.0).hash
     said.0.0 (say_all found clues said.1)
+say_all found clues said = absurd said
 
 -- none of them is a keyword line or a comment
 all_content : (found : List Line) (clues : List (List ℕ)) → AreClueLines found clues → AllByRecursion (λ line. IsContent line.text) found
 all_content [] clues said = tt
-all_content (line ∷ found) [] said = absurd said
 all_content (line ∷ found) (clue ∷ clues) said = (clue_content line clue said.0, all_content found clues said.1)
+all_content found clues said = absurd said
 
 no_keywords : (found todo : List Line) (clues : List (List ℕ)) → AreClueLines found clues
     → filter is_keyword_line (found ++ todo) ≡ filter is_keyword_line todo
@@ -51,9 +50,8 @@ no_keywords found todo clues said =
 pub said_after : (found more : List Line) (clues others : List (List ℕ)) → AreClueLines found clues → AreClueLines more others
     → AreClueLines (found ++ more) (clues ++ others)
 said_after [] more [] others said next = next
-said_after [] more (clue ∷ clues) others said next = absurd said
-said_after (line ∷ found) more [] others said next = absurd said
 said_after (line ∷ found) more (clue ∷ clues) others said next = (said.0, said_after found more clues others said.1 next)
+said_after found more clues others said next = absurd said
 
 -- one line more
 pub one_said : (bytes rest next clue : List ℕ) (clues more : List (List ℕ)) → SayClues bytes clues rest → SaysClue rest clue next
@@ -107,25 +105,15 @@ same_full found line blank =
 
 blank_more : (under : Under) (above : Sections) (line : Line) (rows columns : List (List ℕ)) → HaveClues above rows columns
     → is_full line ≡ false → HaveClues (with_line above under line) rows columns
-blank_more Rows above line rows columns clues blank = record {
-  stray = clues.stray;
-  rows_said = rw (same_full above.rows line blank) clues.rows_said;
-  columns_said = clues.columns_said;
-}
-blank_more Columns above line rows columns clues blank = record {
-  stray = clues.stray;
-  rows_said = clues.rows_said;
-  columns_said = rw (same_full above.columns line blank) clues.columns_said;
-}
-blank_more Other above line rows columns clues blank = record {
-  stray = rw (clues.stray, blank) refl;
-  rows_said = clues.rows_said;
-  columns_said = clues.columns_said;
-}
+blank_more Rows above line rows columns clues blank =
+    record { stray = clues.stray; rows_said = rw (same_full above.rows line blank) clues.rows_said; columns_said = clues.columns_said }
+blank_more Columns above line rows columns clues blank =
+    record { stray = clues.stray; rows_said = clues.rows_said; columns_said = rw (same_full above.columns line blank) clues.columns_said }
+blank_more Other above line rows columns clues blank =
+    record { stray = rw (clues.stray, blank) refl; rows_said = clues.rows_said; columns_said = clues.columns_said }
 
 no_first : (text : List ℕ) → is_empty text ≡ true → eqb (get_or text 0 0) 35 ≡ false
-no_first [] blank = refl
-no_first (byte ∷ bytes) blank = absurd (let none = eqb-true (length (byte ∷ bytes)) 0 blank in omega arith)
+no_first text blank = let none = eqb-true (length text) 0 blank in rw (nil_from_length text none) refl
 
 -- past a blank line
 pub past_blank : (under : Under) (whole todo : List Line) (line : Line) (rows columns : List (List ℕ))
@@ -149,19 +137,13 @@ section_more : (under : Under) (above : Sections) (found : List Line) (old_rows 
     → HaveClues above old_rows old_columns → KeepsOthers under old_rows old_columns rows columns
     → AreClueLines found (clues_under under rows columns) → HaveClues (with_lines under above found) rows columns
 section_more Rows above found old_rows old_columns rows columns clues kept said =
-    rw (with_rows above found, kept.1) (record {
-      stray = clues.stray;
-      rows_said = more_said above.rows found rows (rw (nil_from_length old_rows kept.0) at clues.rows_said) said;
-      columns_said = clues.columns_said;
-    })
+    let more = more_said above.rows found rows (rw (nil_from_length old_rows kept.0) at clues.rows_said) said in
+    rw (with_rows above found, kept.1) (record { stray = clues.stray; rows_said = more; columns_said = clues.columns_said })
 section_more Columns above found old_rows old_columns rows columns clues kept said =
-    rw (with_columns above found, kept.1) (record {
-      stray = clues.stray;
-      rows_said = clues.rows_said;
-      columns_said = more_said above.columns found columns (rw (nil_from_length old_columns kept.0) at clues.columns_said) said;
-    })
+    let more = more_said above.columns found columns (rw (nil_from_length old_columns kept.0) at clues.columns_said) said in
+    rw (with_columns above found, kept.1) (record { stray = clues.stray; rows_said = clues.rows_said; columns_said = more })
 section_more Other above [] old_rows old_columns rows columns clues kept said = rw (kept.0, kept.1) clues
-section_more Other above (line ∷ found) old_rows old_columns rows columns clues kept said = absurd said
+section_more Other above found old_rows old_columns rows columns clues kept said = absurd said
 
 module _ (next : Under) (line : Line) (number place : ℕ) (after rest : List ℕ) (rows columns : List (List ℕ))
     (says : SayClues after (clues_under next rows columns) rest) (counted : place ≡ number + length (clues_under next rows columns)) where

@@ -66,16 +66,11 @@ mk_said bytes after middle below_it rest width height rows columns short sizes r
     let row_found = row_part 2 in
     let place = 2 + length rows in
     let column_found = column_part (place + 1) in
-    rw (
-      short_lines bytes short,
-      sizes.1 1,
-      row_found.1,
-      hash place,
-      lines_to_end below_it rest (place + 1) (length columns) column_found.0 none column_found.1,
-    )
+    rw (short_lines bytes short, sizes.1 1, row_found.1, hash place)
+    (rw (lines_to_end below_it rest (place + 1) (length columns) column_found.0 none column_found.1)
     (mk_lines LONGEST_SIDE width height (record { number = 1; text = sizes.0 }) (record { number = place; text = 35 ∷ [] }) row_found.0
     column_found.0 rows columns sizes.2 (some_text sizes.0 (digit_range _ sizes.3).0) refl (say_all row_found.0 rows row_found.2)
-    (say_all column_found.0 columns column_found.2) high wide)
+    (say_all column_found.0 columns column_found.2) high wide))
 
 -- what a size line and clues say, the text says
 pub nin_said : (bytes after rest : List ℕ) (a b : ℕ) (clues : List (List ℕ)) → length bytes ≤ 1048576 → SaysSizes bytes (a, b) after

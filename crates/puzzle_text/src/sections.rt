@@ -47,7 +47,7 @@ fn are_blank(lines: &[Line<'_>]) -> bool
 }
 
 /// The first `count` lines of a section, if all after them are blank.
-#[tactic(auto, using(crate::proofs::SectionsLemmas::front_first, crate::proofs::SectionsLemmas::front_mixed))]
+#[tactic(auto, using(crate::proofs::SectionsLemmas::front_is))]
 fn front<'a, 'b>(count: usize, section: &'b [Line<'a>]) -> Option<&'b [Line<'a>]>
     ensures { option_map (λ first. map shown_line first.now) result ≡ front count (map shown_line section.now) }
 {
