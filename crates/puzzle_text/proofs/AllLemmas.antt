@@ -1,7 +1,5 @@
 -- What holds of each element of a list, and what a filter keeps of it then.
-use Rattle.std.proofs.Common.{◌≡◌, Bool, true, false, List, [], ◌∷◌, ◌++◌, filter, map, refl, ap}
-use Rattle.std.specs.List.{flat_map, list_all, AllByRecursion}
-use Rattle.std.proofs.lemmas.Bool.{and_parts}
+use Rattle.puzzle_text.proofs.Names.{◌≡◌, Bool, true, false, List, [], ◌∷◌, ◌++◌, filter, map, refl, ap, flat_map, list_all, AllByRecursion, and_parts}
 
 module _ {X : Type 0} (P : X → Type 0) where
   -- what holds of the elements of two lists holds of those of both together

@@ -1,8 +1,5 @@
 -- A step for each element of a list, as a loop makes it: front is what came of the elements before i.
-use Rattle.std.proofs.Common.{◌≡◌, List, [], ◌∷◌, ◌++◌, drop, map, refl, sym, ap, ◌∙◌, Option, Result, Ok, Err}
-use Rattle.std.specs.Option.{option_map}
-use Rattle.puzzle_text.specs.declared.faults.TextFault.{TextFault}
-use Rattle.puzzle_text.specs.Answers.{◌>>=◌, each}
+use Rattle.puzzle_text.proofs.Names.{◌≡◌, List, [], ◌∷◌, ◌++◌, drop, map, refl, sym, ap, ◌∙◌, Option, Result, Ok, Err, option_map, TextFault, ◌>>=◌, each}
 
 -- what comes of all elements, if `front` came of the first ones
 abbrev pub with_front : {Y : Type 0} → List Y → Result (List Y) TextFault → Result (List Y) TextFault

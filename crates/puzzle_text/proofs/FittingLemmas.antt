@@ -1,10 +1,5 @@
 -- Lemmas on the sums of clues, and on the parts of a puzzle with its sizes exchanged.
-use Rattle.std.proofs.Common.{◌≡◌, ℕ, ◌*◌, ◌≤◌, true, leb, List, [], ◌∷◌, length, arith}
-use Rattle.std.specs.Prelude.{sum}
-use Rattle.std.specs.List.{list_all}
-use Rattle.std.proofs.lemmas.Bool.{and_parts, leb-true}
-use Rattle.std.proofs.lemmas.List.Sums.{sum_by-cons}
-use Rattle.grid_core.specs.Clues.{is_clue, is_run}
+use Rattle.puzzle_text.proofs.Names.{◌≡◌, ℕ, ◌*◌, ◌≤◌, true, leb, List, [], ◌∷◌, length, arith, sum, list_all, and_parts, leb-true, sum_by-cons, is_clue, is_run}
 
 runs_sum : (numbers : List ℕ) → list_all (is_run 256) numbers ≡ true → sum numbers ≤ 256 * length numbers
 runs_sum [] runs = omega arith

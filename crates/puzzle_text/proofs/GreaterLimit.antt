@@ -1,20 +1,5 @@
 -- A greater limit keeps what a text says.
-use Rattle.std.proofs.Common.{◌≡◌, ℕ, zero, suc, ◌≤◌, Bool, true, false, cond, leb, List, [], ◌∷◌, length, refl, ap, ◌∙◌, arith, Option, Some, None, Result, Ok, Err}
-use Rattle.std.specs.Prelude.{option_and_then}
-use Rattle.std.specs.List.{list_all}
-use Rattle.std.specs.Option.{option_map}
-use Rattle.std.proofs.lemmas.Bool.{and_parts, le-leb, leb-true}
-use Rattle.puzzle_text.specs.declared.faults.TextFault.{TextFault}
-use Rattle.puzzle_text.specs.declared.faults.TextFault.TheVariants.{BadSize, BadNumber}
-use Rattle.grid_core.specs.Clues.{is_run, is_clue}
-use Rattle.puzzle_text.specs.Lines.{Line}
-use Rattle.puzzle_text.specs.Numbers.{number_within, pieces}
-use Rattle.puzzle_text.specs.Answers.{◌>>=◌, or_fault, each, each_some}
-use Rattle.puzzle_text.specs.ClueLines.{clue_of_numbers, clue_of, clues_of}
-use Rattle.puzzle_text.specs.Sizes.{size_of, two_sizes, size_line}
-use Rattle.puzzle_text.specs.Nin.{read_nin}
-use Rattle.puzzle_text.specs.Mk.{read_mk}
-use Rattle.puzzle_text.specs.Non.{sizes_of, both_clues, read_non}
+use Rattle.puzzle_text.proofs.Names.{◌≡◌, ℕ, zero, ◌≤◌, Bool, true, false, cond, leb, List, [], ◌∷◌, length, refl, ap, ◌∙◌, arith, Option, Some, None, Result, Ok, Err, option_and_then, list_all, option_map, and_parts, le-leb, leb-true, TextFault, BadSize, BadNumber, is_run, is_clue, Line, number_within, pieces, ◌>>=◌, or_fault, each, each_some, clue_of_numbers, clue_of, clues_of, size_of, two_sizes, size_line, read_nin, read_mk, sizes_of, both_clues, read_non}
 use Rattle.puzzle_text.specs.Laws.{GreaterLimitKeeps, KeepsAnswer}
 
 -- ---- options

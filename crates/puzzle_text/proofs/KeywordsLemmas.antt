@@ -1,12 +1,6 @@
 -- Lemmas on lines with a keyword.
-use Rattle.std.proofs.Common.{rules, ◌≡◌, ℕ, Bool, true, false, cond, not, List, [], ◌∷◌, codes, refl, sym, ◌∙◌, inl, inr}
-use Rattle.std.specs.List.{filter}
-use Rattle.std.specs.Str.{bytes_eq}
-use Rattle.std.proofs.lemmas.Bool.{cases_Bool, cond-false}
+use Rattle.puzzle_text.proofs.Names.{rules, ◌≡◌, ℕ, Bool, true, not, List, [], ◌∷◌, codes, refl, filter, bytes_eq, Line, is_empty, has_keyword, is_keyword_line, keyword, with_keyword, Sections, puzzle_said}
 use Rattle.std.proofs.lemmas.Slice.Eq.{bytes_eq-Decides}
-use Rattle.puzzle_text.specs.Lines.{Line, is_empty}
-use Rattle.puzzle_text.specs.Keywords.{has_keyword, is_keyword_line, keyword, with_keyword}
-use Rattle.puzzle_text.specs.Non.{Sections, puzzle_said}
 
 -- ---- the keyword lines alone
 

@@ -1,4 +1,5 @@
 -- Lemmas on puzzles' texts and on collections.
+pub mod Names
 pub mod AllLemmas
 pub mod LinesLemmas
 pub mod NumbersLemmas

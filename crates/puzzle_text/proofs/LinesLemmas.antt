@@ -1,13 +1,7 @@
 -- Lemmas on lines.
-use Rattle.std.proofs.Common.{◌≡◌, ℕ, suc, ◌+◌, ◌-◌, ◌<◌, ◌≤◌, Bool, true, false, cond, eqb, ltb, List, [], ◌∷◌, length, take, drop, get_or, refl, sym, arith, inl, inr, Option, Some, None}
-use Rattle.std.specs.List.{position_or_len, position}
-use Rattle.std.proofs.lemmas.Bool.{cases_Bool, false_from_ne_true, le-ltb, lt-ltb, ltb-true, ltb-false}
-use Rattle.std.proofs.lemmas.List.{take_all, drop_all, get_or-take, length-take-le, take-take}
-use Rattle.std.proofs.lemmas.List.Sums.{fails_before_first, position_or_len_is}
-use Rattle.std.proofs.lemmas.Option.{cond_some}
+use Rattle.puzzle_text.proofs.Names.{◌≡◌, ℕ, suc, ◌+◌, ◌-◌, ◌<◌, ◌≤◌, Bool, true, false, cond, eqb, ltb, List, [], ◌∷◌, length, take, drop, get_or, refl, sym, arith, inl, inr, Option, Some, None, position_or_len, position, cases_Bool, false_from_ne_true, le-ltb, lt-ltb, ltb-true, ltb-false, take_all, drop_all, get_or-take, length-take-le, take-take, fails_before_first, position_or_len_is, cond_some, numbered_from, raw_lines, strip_last, trim}
 use Rattle.std.proofs.lemmas.List.Quantifiers.{position-Some}
 use Rattle.memchr.specs.Find.{IsFirstByte, is_byte}
-use Rattle.puzzle_text.specs.Lines.{numbered_from, raw_lines, strip_last, trim}
 
 abbrev pub first_end : List ℕ → ℕ
 first_end bytes = position_or_len (λ byte. eqb byte 10) bytes

@@ -1,19 +1,5 @@
 -- Lemmas on the lines round a line that begins with #, and on the clues of both sections.
-use Rattle.std.proofs.Common.{◌≡◌, ℕ, ◌+◌, ◌-◌, Bool, cond, not, ltb, List, [], ◌∷◌, ◌++◌, length, take, drop, map, true, refl, sym, ap, Option, Some, None, Result, Ok, Err}
-use Rattle.std.specs.List.{position, position_or_len, prefix_len}
-use Rattle.std.proofs.lemmas.Bool.{ltb-false}
-use Rattle.std.proofs.lemmas.Option.{cond_some}
-use Rattle.std.proofs.lemmas.List.{take-map, drop-map, length-map, take_all, take_rest}
-use Rattle.std.proofs.Math.Seq.{take-append_seam, drop-append_seam}
-use Rattle.grid_core.specs.Nonogram.{Nonogram, plain}
-use Rattle.puzzle_text.specs.declared.faults.TextFault.{TextFault}
-use Rattle.puzzle_text.specs.declared.faults.TextFault.TheVariants.{BadNumber}
-use Rattle.puzzle_text.specs.Answers.{◌>>=◌, each, or_fault}
-use Rattle.puzzle_text.specs.ClueLines.{clue_of, clues_of}
-use Rattle.puzzle_text.specs.Lines.{Line, is_hash}
-use Rattle.puzzle_text.specs.Mk.{at_hash, before_hash, puzzle_of}
-use Rattle.puzzle_text.specs.Non.{both_clues}
-use Rattle.puzzle_text.specs.Readings.{reading}
+use Rattle.puzzle_text.proofs.Names.{◌≡◌, ℕ, ◌+◌, ◌-◌, Bool, cond, not, ltb, List, [], ◌∷◌, ◌++◌, length, take, drop, map, true, refl, sym, ap, Option, Some, None, Result, Ok, Err, position, position_or_len, prefix_len, ltb-false, cond_some, take-map, drop-map, length-map, take_all, take_rest, take-append_seam, drop-append_seam, Nonogram, plain, TextFault, BadNumber, ◌>>=◌, each, or_fault, clue_of, clues_of, Line, is_hash, at_hash, before_hash, puzzle_of, both_clues, reading}
 use Rattle.puzzle_text.proofs.LinesLemmas.{not_chosen}
 
 pub prefix_len-map : {X Y : Type 0} (p : Y → Bool) (view : X → Y) (xs : List X)

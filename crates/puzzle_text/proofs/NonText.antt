@@ -1,23 +1,9 @@
 -- The text of a puzzle in .non as lines.
-use Rattle.std.proofs.Common.{rules, ◌≡◌, drop, reverse, ℕ, ◌*◌, ◌-◌, ◌<◌, ◌≤◌, ◌^◌, Bool, true, false, not, eqb, leb, List, [], ◌∷◌, ◌++◌, length, get_or, map, codes, refl, sym, ap, ◌∙◌, append_assoc, arith, Option, Some, None}
-use Rattle.std.specs.Prelude.{decimal}
-use Rattle.std.specs.List.{flat_map, list_all, AllByRecursion}
-use Rattle.std.proofs.lemmas.Bool.{not-true, and_parts, leb-true, eqb-true}
-use Rattle.std.proofs.lemmas.List.{reverse-append, reverse-reverse, append-nil, get_or_at, length-append, length-map}
-use Rattle.std.proofs.lemmas.List.Concat.{flat_map-append}
+use Rattle.puzzle_text.proofs.Names.{rules, ◌≡◌, drop, reverse, ℕ, ◌*◌, ◌-◌, ◌<◌, ◌≤◌, ◌^◌, Bool, true, false, not, eqb, leb, List, [], ◌∷◌, ◌++◌, length, get_or, map, codes, refl, sym, ap, ◌∙◌, append_assoc, arith, Option, Some, None, decimal, flat_map, list_all, AllByRecursion, not-true, and_parts, leb-true, eqb-true, reverse-append, reverse-reverse, append-nil, get_or_at, length-append, length-map, flat_map-append, length-decimal-le, prefix_len, is_ascii_alphabetic, is_empty, trim, trim_end, trim_start, Nonogram, IsNonogramWithin, is_goal, Description, IsDescription, is_field, text_of, lines, all_fields, field_word, clue_text, quoted_line, goal_byte, goal_lines, text_non}
 use Rattle.std.proofs.lemmas.Nat.{mul-le}
-use Rattle.std.proofs.lemmas.Fmt.{length-decimal-le}
-use Rattle.std.specs.List.{prefix_len}
-use Rattle.std.specs.Char.{is_ascii_alphabetic}
-use Rattle.puzzle_text.specs.Lines.{is_empty, trim, trim_end, trim_start}
 use Rattle.puzzle_text.proofs.SectionsWalk.{word_at}
-use Rattle.grid_core.specs.Nonogram.{Nonogram, IsNonogramWithin, is_goal}
-use Rattle.grid_core.specs.Description.{Description, IsDescription, is_field, text_of}
 use Rattle.grid_core.specs.declared.fields.Field.{Field}
 use Rattle.grid_core.specs.declared.fields.Field.TheVariants.{Catalogue, Title, By, Copyright, License}
-use Rattle.puzzle_text.specs.Lines.{lines}
-use Rattle.puzzle_text.specs.Keywords.{all_fields, field_word}
-use Rattle.puzzle_text.specs.Written.{clue_text, quoted_line, goal_byte, goal_lines, text_non}
 use Rattle.puzzle_text.proofs.ReadBack.{IsTidy, IsKept, kept_tidy, tidy_word, kept_edged, with_feed, numbered, lines_kept}
 use Rattle.puzzle_text.proofs.ReadClue.{space, comma}
 use Rattle.puzzle_text.proofs.AllLemmas.{all-append, all-flat_map, all-weaker, all_pass}

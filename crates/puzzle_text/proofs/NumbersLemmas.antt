@@ -1,24 +1,8 @@
 -- Lemmas on numbers in a line.
-use Rattle.std.proofs.Common.{rules, ◌≡◌, ℕ, zero, suc, ◌+◌, ◌-◌, ◌*◌, ◌<◌, ◌≤◌, true, false, not, ◌&&◌, leb, ltb, List, [], ◌∷◌, length, take, drop, filter, get_or, All, refl, sym, ap, ◌∙◌, arith, inl, inr, Option, Some, None, lit≤}
-use Rattle.std.specs.Prelude.{option_and_then}
-use Rattle.std.specs.Option.{option_map}
-use Rattle.std.specs.List.{list_all, position, position_or_len, slice_split}
-use Rattle.std.specs.Char.{is_ascii_digit, digit_value}
-use Rattle.std.specs.Str.Parse.{digits_value}
-use Rattle.std.proofs.Math.Bool.{and-false}
-use Rattle.std.proofs.lemmas.Bool.{cases_Bool, le-leb, lt-leb, lt-ltb, ltb-true, ltb-false, ne_eqb}
-use Rattle.std.proofs.lemmas.Bool.Decides.{nat_tests}
-use Rattle.std.proofs.lemmas.List.{drop_more, get_or-take, get_or_default, length-take-le, take-append-drop, take_all, drop_all, take-take}
+use Rattle.puzzle_text.proofs.Names.{rules, ◌≡◌, ℕ, zero, suc, ◌+◌, ◌-◌, ◌*◌, ◌<◌, ◌≤◌, true, false, not, leb, ltb, List, [], ◌∷◌, length, take, drop, filter, get_or, All, refl, sym, ap, ◌∙◌, arith, inl, inr, Option, Some, None, lit≤, option_and_then, option_map, list_all, position, position_or_len, slice_split, is_ascii_digit, digit_value, digits_value, and-false, cases_Bool, le-leb, lt-leb, lt-ltb, ltb-true, ltb-false, ne_eqb, nat_tests, drop_more, get_or-take, get_or_default, length-take-le, take-append-drop, take_all, drop_all, take-take, slice_split_at, slice_split_none, AllPass-from_list_all, fails_before_first, position_or_len_is, prefix_len-le-length, list_all_at, list_all_more, digits_value-take-le, numbers_within, is_empty, is_separator, number_within, pieces}
 use Rattle.std.proofs.lemmas.List.Quantifiers.{position-Some}
-use Rattle.std.proofs.lemmas.List.Splits.{slice_split_at, slice_split_none}
-use Rattle.std.proofs.lemmas.List.Sums.{AllPass-from_list_all, fails_before_first, position_or_len_is, prefix_len-le-length}
-use Rattle.std.proofs.lemmas.List.Folds.{list_all_at, list_all_more}
 use borrow.Author.Count.{below_more}
 use Rattle.std.proofs.lemmas.Int.Digits.{digits_value_more}
-use Rattle.std.proofs.lemmas.Str.Parse.{digits_value-take-le}
-use Rattle.puzzle_text.specs.ClueLines.{numbers_within}
-use Rattle.puzzle_text.specs.Lines.{is_empty}
-use Rattle.puzzle_text.specs.Numbers.{is_separator, number_within, pieces}
 use Rattle.puzzle_text.proofs.LinesLemmas.{not_chosen}
 
 digit_value_is : (c : ℕ) → is_ascii_digit c ≡ true → digit_value c ≡ c - 48

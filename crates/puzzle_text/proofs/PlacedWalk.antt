@@ -1,13 +1,5 @@
 -- The last keyword line above each line, found on one walk from the top.
-use Rattle.std.proofs.Common.{rules, ◌≡◌, ℕ, ◌+◌, Bool, true, false, cond, not, List, [], ◌∷◌, ◌++◌, length, map, take, refl, ap, append_assoc, append-nil, Option, Some, None, unwrap_or}
-use Rattle.std.specs.List.{enumerate_from, filter, last_or}
-use Rattle.std.specs.Option.{option_map}
-use Rattle.std.proofs.Math.Seq.{take-append_seam}
-use Rattle.std.proofs.lemmas.List.{length-append}
-use Rattle.std.proofs.lemmas.List.Elements.{filter-append}
-use Rattle.puzzle_text.specs.Lines.{Line, is_empty}
-use Rattle.puzzle_text.specs.Keywords.{is_keyword_line, keyword}
-use Rattle.puzzle_text.specs.Non.{is_content, last_keyword, placed}
+use Rattle.puzzle_text.proofs.Names.{rules, ◌≡◌, ℕ, ◌+◌, Bool, true, false, cond, not, List, [], ◌∷◌, ◌++◌, length, map, take, refl, ap, append_assoc, append-nil, Option, Some, None, unwrap_or, enumerate_from, filter, last_or, option_map, take-append_seam, length-append, filter-append, Line, is_empty, is_keyword_line, keyword, is_content, last_keyword, placed}
 
 -- each content line, beside the nearest keyword before it; under is the keyword before all
 abbrev pub walked : List ℕ → List Line → List (List ℕ × Line)

@@ -1,12 +1,5 @@
 -- Lines of a collection that begin no entry, passed over many at a time.
-use Rattle.std.proofs.Common.{rules, ◌≡◌, ℕ, zero, suc, ◌-◌, ◌<◌, ◌≤◌, Bool, true, false, cond, not, eqb, List, [], ◌∷◌, ◌++◌, length, take, get_or, refl, sym, ap, ◌∙◌, append_assoc, arith}
-use Rattle.std.specs.List.{list_all, onto_first}
-use Rattle.std.proofs.lemmas.Bool.{cond_both, false_from_ne_true, not_from_false, not-true, and_parts, ne_eqb}
-use Rattle.std.proofs.lemmas.List.{get_or-take, get_or_default, length-take-le}
-use Rattle.std.proofs.lemmas.List.Sums.{list_all-from_AllPass}
-use Rattle.puzzle_text.specs.Lines.{raw_lines, strip_last, without_ending}
-use Rattle.puzzle_text.specs.Collections.{Entry, body_of, entries_of, is_marker, is_marker_text}
-use Rattle.puzzle_text.specs.steps.Collections.{FollowsPlain, ends_line}
+use Rattle.puzzle_text.proofs.Names.{rules, ◌≡◌, ℕ, suc, ◌-◌, ◌<◌, ◌≤◌, Bool, true, false, cond, not, eqb, List, [], ◌∷◌, ◌++◌, length, take, get_or, refl, sym, ap, ◌∙◌, append_assoc, arith, list_all, onto_first, cond_both, false_from_ne_true, not_from_false, not-true, and_parts, ne_eqb, get_or-take, get_or_default, length-take-le, list_all-from_AllPass, raw_lines, strip_last, without_ending, Entry, body_of, entries_of, is_marker, is_marker_text, FollowsPlain, ends_line}
 
 -- there is no @ among these bytes
 abbrev pub HasNoAt : List ℕ → Type 0

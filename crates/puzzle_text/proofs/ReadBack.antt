@@ -1,12 +1,6 @@
 -- What is written is read again: lines.
-use Rattle.std.proofs.Common.{◌≡◌, true, leb, ℕ, ◌+◌, ◌-◌, ◌<◌, ◌≤◌, false, eqb, List, [], ◌∷◌, ◌++◌, length, get_or, reverse, refl, ap, ◌∙◌, append_assoc, arith}
-use Rattle.std.specs.List.{list_all, flat_map, AllByRecursion}
-use Rattle.std.proofs.lemmas.Bool.{leb-true, cond-false, ne_eqb, eq-eqb}
-use Rattle.std.proofs.lemmas.List.{take_at, get_or_at, get_or-reverse, length-append, reverse-reverse}
-use Rattle.std.proofs.lemmas.Bool.Decides.{nat_tests}
-use Rattle.std.proofs.lemmas.List.Elements.{All-from_recursion, All-get_or}
+use Rattle.puzzle_text.proofs.Names.{◌≡◌, true, leb, ℕ, ◌+◌, ◌-◌, ◌<◌, ◌≤◌, false, eqb, List, [], ◌∷◌, ◌++◌, length, get_or, reverse, refl, ap, ◌∙◌, append_assoc, arith, list_all, flat_map, AllByRecursion, leb-true, cond-false, ne_eqb, eq-eqb, take_at, get_or_at, get_or-reverse, length-append, reverse-reverse, nat_tests, All-from_recursion, All-get_or, Line, raw_lines, numbered_from, trim, trim_start, trim_end, strip_last, without_ending, is_blank}
 use Rattle.puzzle_text.proofs.AllLemmas.{all-weaker, all_pass}
-use Rattle.puzzle_text.specs.Lines.{Line, raw_lines, numbered_from, trim, trim_start, trim_end, strip_last, without_ending, is_blank}
 
 -- a line's text as it is written: no byte below a space, and no blank at either end
 pub record IsTidy (text : List ℕ) : Type 0 where

@@ -1,21 +1,6 @@
 -- What is written is read again: numbers and clues.
-use Rattle.std.proofs.Common.{◌≡◌, ℕ, zero, suc, ◌<◌, ◌≤◌, ◌^◌, true, false, not, List, [], ◌∷◌, length, get_or, map, filter, All, refl, ap, ◌∙◌, arith, Some}
-use Rattle.std.specs.Prelude.{decimal}
-use Rattle.std.specs.List.{list_all, slice_split, AllByRecursion}
-use Rattle.std.specs.Char.{is_ascii_digit}
-use Rattle.std.specs.Str.Parse.{AllDigits}
-use Rattle.std.proofs.lemmas.Bool.{ne_eqb, and_parts, le-leb, leb-true}
-use Rattle.std.proofs.lemmas.Bool.Decides.{nat_tests}
-use Rattle.std.proofs.lemmas.List.{append-nil, get_or_default}
-use Rattle.std.proofs.lemmas.List.Splits.{slice_split_none, slice_split_at}
-use Rattle.std.proofs.lemmas.Str.Parse.{digit_at, digit_from_value}
-use Rattle.std.proofs.lemmas.Fmt.{decimal_is_IsNumeral, decimal_nonempty}
-use Rattle.grid_core.specs.Clues.{is_run, is_clue}
+use Rattle.puzzle_text.proofs.Names.{◌≡◌, ℕ, zero, suc, ◌<◌, ◌≤◌, ◌^◌, true, false, not, List, [], ◌∷◌, length, get_or, map, filter, All, refl, ap, ◌∙◌, arith, Some, decimal, list_all, slice_split, AllByRecursion, is_ascii_digit, AllDigits, ne_eqb, and_parts, le-leb, leb-true, nat_tests, append-nil, get_or_default, slice_split_none, slice_split_at, digit_at, digit_from_value, decimal_is_IsNumeral, decimal_nonempty, is_run, is_clue, is_empty, is_separator, pieces, number_of, number_within, numbers_within, clue_of_numbers, clue_of, clue_text}
 use Rattle.puzzle_text.proofs.AllLemmas.{all-map, all-weaker, all_pass, filter_all}
-use Rattle.puzzle_text.specs.Lines.{is_empty}
-use Rattle.puzzle_text.specs.Numbers.{is_separator, pieces, number_of, number_within}
-use Rattle.puzzle_text.specs.ClueLines.{numbers_within, clue_of_numbers, clue_of}
-use Rattle.puzzle_text.specs.Written.{clue_text}
 
 -- what decimal can write
 abbrev pub IsWord : ℕ → Type 0

@@ -1,18 +1,5 @@
 -- What is written is read again: the lines of clues.
-use Rattle.std.proofs.Common.{◌≡◌, ℕ, suc, ◌+◌, ◌*◌, ◌-◌, ◌<◌, ◌≤◌, ◌^◌, true, not, leb, List, [], ◌∷◌, ◌++◌, length, get_or, map, refl, ap, arith, Ok}
-use Rattle.std.specs.Prelude.{decimal}
-use Rattle.std.specs.List.{flat_map, list_all, AllByRecursion}
-use Rattle.std.specs.Str.Parse.{AllDigits}
-use Rattle.std.proofs.lemmas.List.Folds.{flat_map-map}
-use Rattle.std.proofs.lemmas.Bool.{ne_eqb, le-leb, leb-true, and_parts}
-use Rattle.std.proofs.lemmas.List.{append-nil, length-append, get_or_append_left, get_or-append_right}
-use Rattle.std.proofs.lemmas.Str.Parse.{digit_at, digit_from_value}
-use Rattle.std.proofs.lemmas.Fmt.{decimal_is_IsNumeral, length-decimal-le}
-use Rattle.grid_core.specs.Clues.{is_clue, is_run}
-use Rattle.puzzle_text.specs.Lines.{is_empty}
-use Rattle.puzzle_text.specs.Numbers.{pieces}
-use Rattle.puzzle_text.specs.Sizes.{size_of, two_sizes}
-use Rattle.puzzle_text.specs.Written.{clue_text, clue_line, clue_lines, two_numbers}
+use Rattle.puzzle_text.proofs.Names.{◌≡◌, ℕ, suc, ◌+◌, ◌*◌, ◌-◌, ◌<◌, ◌≤◌, ◌^◌, true, not, leb, List, [], ◌∷◌, ◌++◌, length, get_or, map, refl, ap, arith, Ok, decimal, flat_map, list_all, AllByRecursion, AllDigits, flat_map-map, ne_eqb, le-leb, leb-true, and_parts, append-nil, length-append, get_or_append_left, get_or-append_right, digit_at, digit_from_value, decimal_is_IsNumeral, length-decimal-le, is_clue, is_run, is_empty, pieces, size_of, two_sizes, clue_text, clue_line, clue_lines, two_numbers}
 use Rattle.puzzle_text.proofs.AllLemmas.{all-append, all-map, all-weaker}
 use Rattle.puzzle_text.proofs.SaidLines.{SayAll, say_more}
 use Rattle.puzzle_text.proofs.ReadBack.{IsTidy, with_feed, numbered, some_byte, tidy_solid}

@@ -1,11 +1,5 @@
 -- What is written in .mk is read again.
-use Rattle.std.proofs.Common.{◌≡◌, ℕ, ◌+◌, ◌≤◌, List, [], ◌∷◌, ◌++◌, length, map, refl, append_assoc, arith, Ok}
-use Rattle.std.specs.List.{flat_map, AllByRecursion}
-use Rattle.std.proofs.lemmas.List.{append-nil, length-append}
-use Rattle.std.proofs.lemmas.List.Concat.{flat_map-append}
-use Rattle.grid_core.specs.Nonogram.{Nonogram, plain, IsNonogramWithin}
-use Rattle.puzzle_text.specs.Mk.{mk_of, read_mk}
-use Rattle.puzzle_text.specs.Written.{clue_text, text_mk}
+use Rattle.puzzle_text.proofs.Names.{◌≡◌, ℕ, ◌+◌, ◌≤◌, List, [], ◌∷◌, ◌++◌, length, map, refl, append_assoc, arith, Ok, flat_map, AllByRecursion, append-nil, length-append, flat_map-append, Nonogram, plain, IsNonogramWithin, mk_of, read_mk, clue_text, text_mk}
 use Rattle.puzzle_text.proofs.AllLemmas.{all-append}
 use Rattle.puzzle_text.proofs.SaidLines.{mk_lines, short_lines}
 use Rattle.puzzle_text.proofs.ReadBack.{IsTidy, with_feed, numbered, lines_are}

@@ -1,14 +1,5 @@
 -- What is written in .nin is read again.
-use Rattle.std.proofs.Common.{rules, ◌≡◌, ℕ, ◌≤◌, Bool, true, false, cond, not, ◌&&◌, eqb, List, ◌∷◌, ◌++◌, [], length, map, refl, sym, ap, subst, ◌∙◌, append_assoc, arith, Ok}
-use Rattle.std.specs.List.{flat_map, AllByRecursion}
-use Rattle.std.proofs.lemmas.Bool.{eqb-true}
-use Rattle.std.proofs.lemmas.List.{append-nil, length-append}
-use Rattle.std.proofs.lemmas.List.Concat.{flat_map-append}
-use Rattle.grid_core.specs.Clues.{is_clue}
-use Rattle.grid_core.specs.Nonogram.{Nonogram, plain, IsNonogramWithin}
-use Rattle.puzzle_text.specs.Readings.{is_admissible, reading, likelier}
-use Rattle.puzzle_text.specs.Nin.{nin_of, read_nin}
-use Rattle.puzzle_text.specs.Written.{clue_text, clue_line, text_nin, is_ambiguous}
+use Rattle.puzzle_text.proofs.Names.{rules, ◌≡◌, ℕ, ◌≤◌, Bool, true, false, cond, not, ◌&&◌, eqb, List, ◌∷◌, ◌++◌, [], length, map, refl, sym, ap, subst, ◌∙◌, append_assoc, arith, Ok, flat_map, AllByRecursion, eqb-true, append-nil, length-append, flat_map-append, is_clue, Nonogram, plain, IsNonogramWithin, is_admissible, reading, likelier, nin_of, read_nin, clue_text, clue_line, text_nin, is_ambiguous}
 use Rattle.puzzle_text.proofs.AllLemmas.{all-append}
 use Rattle.puzzle_text.proofs.MkLemmas.{reading_parts}
 use Rattle.puzzle_text.proofs.SaidLines.{nin_lines, short_lines}

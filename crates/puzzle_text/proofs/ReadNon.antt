@@ -1,28 +1,8 @@
 -- What is written in .non is read again.
-use Rattle.std.proofs.Common.{rules, ◌≡◌, ℕ, ◌+◌, ◌*◌, ◌<◌, ◌≤◌, ◌^◌, Bool, true, false, cond, not, eqb, leb, ltb, List, [], ◌∷◌, ◌++◌, length, map, codes, refl, sym, ap, ◌∙◌, arith, Option, Some, None, Ok}
-use Rattle.std.specs.Prelude.{decimal}
-use Rattle.std.specs.List.{filter, list_all, AllByRecursion}
-use Rattle.std.specs.Str.{bytes_eq}
-use Rattle.std.proofs.lemmas.Bool.{eq-eqb, eqb-true, le-ltb, leb-true, and_parts}
-use Rattle.std.proofs.lemmas.List.{append-nil, reverse-append, reverse-reverse, length-map, get_or_append_left}
-use Rattle.std.proofs.lemmas.List.Elements.{filter-append}
-use Rattle.std.specs.List.{flat_map}
-use Rattle.std.proofs.lemmas.Str.Parse.{digit_at}
-use Rattle.std.proofs.lemmas.Fmt.{decimal_is_IsNumeral}
-use Rattle.grid_core.specs.Clues.{is_clue}
-use Rattle.grid_core.specs.Nonogram.{Nonogram, IsNonogramWithin, is_goal}
+use Rattle.puzzle_text.proofs.Names.{rules, ◌≡◌, ℕ, ◌+◌, ◌*◌, ◌<◌, ◌≤◌, ◌^◌, Bool, true, false, cond, not, eqb, leb, ltb, List, [], ◌∷◌, ◌++◌, length, map, codes, refl, sym, ap, ◌∙◌, arith, Option, Some, None, Ok, decimal, filter, list_all, AllByRecursion, bytes_eq, eq-eqb, eqb-true, le-ltb, leb-true, and_parts, append-nil, reverse-append, reverse-reverse, length-map, get_or_append_left, filter-append, flat_map, digit_at, decimal_is_IsNumeral, is_clue, Nonogram, IsNonogramWithin, is_goal, text_of, Description, is_field, Line, lines, is_full, is_empty, trim, each_some, rest, with_keyword, first_with, all_fields, field_word, quoted, quoted_text, placed, sections_of, number_of_line, long_text, cell_of, goal_cells, goal_of, field_text, texts_of, sizes_of, rows_first, check_lines, outline_of, non_of, read_non, clue_text, goal_byte, text_non, Sections, puzzle_said, Rows, Columns}
 use Rattle.grid_core.specs.declared.fields.Field.{Field}
 use Rattle.grid_core.specs.declared.fields.Field.TheVariants.{Catalogue, Title, By, Copyright, License}
-use Rattle.grid_core.specs.Description.{text_of, Description, is_field}
-use Rattle.puzzle_text.specs.Lines.{Line, lines, is_full, is_empty, trim}
-use Rattle.puzzle_text.specs.Answers.{each_some}
-use Rattle.puzzle_text.specs.Keywords.{rest, with_keyword, first_with, all_fields, field_word, quoted, quoted_text}
-use Rattle.puzzle_text.specs.Non.{placed, sections_of, number_of_line, long_text, cell_of, goal_cells, goal_of, field_text, texts_of, sizes_of, rows_first, check_lines, outline_of, non_of, read_non}
-use Rattle.puzzle_text.specs.Written.{clue_text, goal_byte, text_non}
-use Rattle.puzzle_text.specs.Non.{Sections, puzzle_said}
-use Rattle.puzzle_text.specs.declared.places.Under.TheVariants.{Rows, Columns}
 use Rattle.puzzle_text.proofs.AllLemmas.{all-append, all-flat_map, all-map, all-weaker, filter_all, filter_none}
-use Rattle.puzzle_text.proofs.SectionsLemmas.{filter-map}
 use Rattle.puzzle_text.proofs.SaidLines.{SayAll, non_lines, short_lines}
 use Rattle.puzzle_text.proofs.SectionsWalk.{IsContent, below, below_keyword, content_digit, join, join_content, nothing_above, with_columns, with_lines, with_rows, word_at}
 use Rattle.puzzle_text.proofs.ReadBack.{numbered, kept_tidy}

@@ -1,19 +1,6 @@
 -- What the lines of a text say, if some of them say its sizes and others its clues.
-use Rattle.std.proofs.Common.{◌≡◌, ℕ, suc, ◌+◌, ◌≤◌, Bool, true, false, ltb, List, [], ◌∷◌, ◌++◌, length, drop, filter, refl, sym, ap, ◌∙◌, append_assoc, arith, Some, None, Ok, Err}
-use Rattle.std.specs.List.{position_or_len, AllByRecursion}
-use Rattle.std.proofs.lemmas.Bool.{cond-false, eq-eqb, le-ltb, lt-ltb}
-use Rattle.std.proofs.lemmas.List.{take_all, take_at, drop_at, length-append}
-use Rattle.grid_core.specs.Nonogram.{Nonogram, plain}
-use Rattle.puzzle_text.specs.declared.faults.TextFault.TheVariants.{TooLong}
-use Rattle.puzzle_text.specs.Lines.{Line, is_full, is_hash, lines}
-use Rattle.puzzle_text.specs.Numbers.{pieces}
-use Rattle.puzzle_text.specs.ClueLines.{clue_of, clues_of}
+use Rattle.puzzle_text.proofs.Names.{◌≡◌, ℕ, suc, ◌+◌, ◌≤◌, Bool, true, false, ltb, List, [], ◌∷◌, ◌++◌, length, drop, filter, refl, sym, ap, ◌∙◌, append_assoc, arith, Some, None, Ok, Err, position_or_len, AllByRecursion, cond-false, eq-eqb, le-ltb, lt-ltb, take_all, take_at, drop_at, length-append, Nonogram, plain, TooLong, Line, is_full, is_hash, lines, pieces, clue_of, clues_of, text_lines, two_sizes, at_hash, before_hash, mk_of, nin_of, likelier, Sections, both_clues, outline_of, puzzle_of_clues, puzzle_said}
 use Rattle.puzzle_text.specs.Sections.{choice}
-use Rattle.puzzle_text.specs.Sizes.{text_lines, two_sizes}
-use Rattle.puzzle_text.specs.Mk.{at_hash, before_hash, mk_of}
-use Rattle.puzzle_text.specs.Nin.{nin_of}
-use Rattle.puzzle_text.specs.Readings.{likelier}
-use Rattle.puzzle_text.specs.Non.{Sections, both_clues, outline_of, puzzle_of_clues, puzzle_said}
 use Rattle.puzzle_text.proofs.AllLemmas.{filter_all}
 use Rattle.puzzle_text.proofs.MkLemmas.{puzzle_of_both}
 

@@ -1,13 +1,6 @@
 -- Lemmas on the choice of clue lines.
-use Rattle.std.proofs.Common.{rules, ◌≡◌, ℕ, suc, append-nil, ◌≤◌, Bool, true, false, cond, not, ◌&&◌, eqb, leb, List, [], ◌∷◌, length, take, drop, map, refl, sym, ap, ◌∙◌, arith, Some, None}
-use Rattle.std.specs.List.{count_by, filter, list_all}
-use Rattle.std.proofs.lemmas.Bool.{eqb-true, ne_eqb, eq-eqb, le-leb, leb-true}
-use Rattle.std.proofs.lemmas.List.{take-map, drop-map, length-map, length-take-le, take-append-drop}
-use Rattle.std.proofs.lemmas.List.Elements.{filter-append}
-use Rattle.std.proofs.lemmas.List.Folds.{list_all-map}
-use Rattle.std.proofs.lemmas.List.Sums.{count_by-le-length, length-filter}
+use Rattle.puzzle_text.proofs.Names.{rules, ◌≡◌, ℕ, append-nil, ◌≤◌, Bool, true, false, cond, not, eqb, leb, List, [], ◌∷◌, length, take, drop, map, refl, sym, ap, ◌∙◌, arith, Some, None, count_by, filter, list_all, ne_eqb, eq-eqb, le-leb, take-map, drop-map, length-map, length-take-le, take-append-drop, filter-append, list_all-map, count_by-le-length, length-filter, Line, is_full, is_blank_line}
 use Rattle.puzzle_text.proofs.AllLemmas.{all-weaker, all_pass, filter_none}
-use Rattle.puzzle_text.specs.Lines.{Line, is_full, is_blank_line}
 use Rattle.puzzle_text.specs.Sections.{choice}
 use Rattle.puzzle_text.specs.steps.Sections.{front}
 

@@ -1,24 +1,6 @@
 -- The sections of a text, put together on one walk from the top.
-use Rattle.std.proofs.Common.{rules, ◌≡◌, ℕ, ◌≤◌, arith, ◌+◌, ◌<◌, drop, get_or, length, Bool, true, false, cond, eqb, ◌&&◌, List, [], ◌∷◌, ◌++◌, codes, refl, sym, ap, ◌∙◌, append_assoc, Option, Some, None, map}
-use Rattle.std.specs.List.{find}
-use Rattle.std.specs.Option.{option_map}
-use Rattle.std.specs.Prelude.{take_while}
-use Rattle.std.specs.List.{AllByRecursion}
-use Rattle.std.proofs.lemmas.Bool.{ne_eqb}
-use Rattle.std.proofs.lemmas.Bool.Decides.{nat_tests}
-use Rattle.std.specs.Char.{is_ascii_alphabetic, to_ascii_lowercase}
-use Rattle.std.specs.Str.{str_to_ascii_lowercase}
-use Rattle.std.proofs.Math.Bool.{and-false}
-use Rattle.std.proofs.lemmas.List.{append-nil, drop_more, length-map}
+use Rattle.puzzle_text.proofs.Names.{rules, ◌≡◌, ℕ, ◌≤◌, arith, ◌+◌, ◌<◌, drop, get_or, length, Bool, true, false, cond, eqb, ◌&&◌, List, [], ◌∷◌, ◌++◌, codes, refl, sym, ap, ◌∙◌, append_assoc, Option, Some, None, map, find, option_map, take_while, AllByRecursion, ne_eqb, nat_tests, is_ascii_alphabetic, to_ascii_lowercase, str_to_ascii_lowercase, and-false, append-nil, drop_more, length-map, Under, Rows, Columns, Other, Line, is_empty, is_full, is_hash, keyword, or_else, Sections, is_outside_sections, section, placed, sections_of, IsUnder, with_line, shown_line}
 use Rattle.puzzle_text.specs.declared.lines.Line.{Line as KeptLine}
-use Rattle.puzzle_text.specs.declared.places.Under.{Under}
-use Rattle.puzzle_text.specs.declared.places.Under.TheVariants.{Rows, Columns, Other}
-use Rattle.puzzle_text.specs.Lines.{Line, is_empty, is_full, is_hash}
-use Rattle.puzzle_text.specs.Keywords.{keyword}
-use Rattle.puzzle_text.specs.Mk.{or_else}
-use Rattle.puzzle_text.specs.Non.{Sections, is_outside_sections, section, placed, sections_of}
-use Rattle.puzzle_text.specs.steps.Places.{IsUnder, with_line}
-use Rattle.puzzle_text.specs.steps.Shown.{shown_line}
 use Rattle.puzzle_text.proofs.PlacedWalk.{walked, walked-placed}
 
 -- sections, and then those of lines below them

@@ -1,15 +1,5 @@
 -- The first stray line of a collection, found on one walk from the top.
-use Rattle.std.proofs.Common.{rules, ◌≡◌, ℕ, ◌+◌, Bool, true, false, cond, not, ◌&&◌, ◌||◌, List, [], ◌∷◌, ◌++◌, length, take, refl, sym, ◌∙◌, append_assoc, Option, Some, None}
-use Rattle.std.specs.List.{enumerate_from, find, list_any}
-use Rattle.std.specs.Option.{option_map}
-use Rattle.std.proofs.Math.Bool.{or-false}
-use Rattle.std.proofs.Math.Seq.{take-append_seam}
-use Rattle.std.proofs.lemmas.Bool.{and_parts, not-true}
-use Rattle.std.proofs.lemmas.List.{length-append}
-use Rattle.std.proofs.lemmas.List.Folds.{list_any-append}
-use Rattle.puzzle_text.specs.Lines.{is_empty, trim, without_ending}
-use Rattle.puzzle_text.specs.Collections.{Entry, body_of, entries_of, first_stray, is_marker, is_stray, name_of}
-use Rattle.puzzle_text.specs.steps.Collections.{are_named, begins_with_marker}
+use Rattle.puzzle_text.proofs.Names.{rules, ◌≡◌, ℕ, ◌+◌, Bool, true, false, cond, not, ◌&&◌, ◌||◌, List, [], ◌∷◌, ◌++◌, length, take, refl, sym, ◌∙◌, append_assoc, Option, Some, None, enumerate_from, find, list_any, option_map, or-false, take-append_seam, length-append, list_any-append, is_empty, trim, without_ending, entries_of, first_stray, is_marker, is_stray, name_of, are_named, begins_with_marker}
 
 -- the number of the first stray line: `raws` are the lines from `number` on,
 -- and `inside` tells whether a marker line stands above

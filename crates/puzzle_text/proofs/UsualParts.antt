@@ -1,17 +1,5 @@
 -- The parts of a usual .non text, found on one walk from the top.
-use Rattle.std.proofs.Common.{◌≡◌, ℕ, ◌+◌, true, false, not, eqb, List, [], ◌∷◌, ◌++◌, length, filter, get_or, refl, sym, ap, ◌∙◌, append_assoc, arith, None}
-use Rattle.std.proofs.lemmas.Bool.{eqb-true}
-use Rattle.std.specs.List.{AllByRecursion}
-use Rattle.grid_core.specs.declared.limits.TheConstants.{LONGEST_SIDE}
-use Rattle.std.proofs.lemmas.List.{nil_from_length, append-nil, length-append}
-use Rattle.std.proofs.lemmas.List.Elements.{filter-append}
-use Rattle.puzzle_text.specs.declared.places.Under.{Under}
-use Rattle.puzzle_text.specs.declared.places.Under.TheVariants.{Rows, Columns, Other}
-use Rattle.puzzle_text.specs.Lines.{Line, is_empty, is_full, is_hash, numbered_from, raw_lines}
-use Rattle.puzzle_text.specs.Keywords.{is_keyword_line, keyword}
-use Rattle.puzzle_text.specs.Non.{Sections, placed, sections_of}
-use Rattle.puzzle_text.specs.steps.Places.{IsUnder, with_line}
-use Rattle.puzzle_text.specs.steps.Usual.{AreClueLines, HaveClues, IsClueText, KeepsOthers, SayClues, SaysClue, clues_under}
+use Rattle.puzzle_text.proofs.Names.{◌≡◌, ℕ, ◌+◌, true, false, not, eqb, List, [], ◌∷◌, ◌++◌, length, filter, get_or, refl, sym, ap, ◌∙◌, append_assoc, arith, None, eqb-true, AllByRecursion, LONGEST_SIDE, nil_from_length, append-nil, length-append, filter-append, Under, Rows, Columns, Other, Line, is_empty, is_full, is_hash, numbered_from, raw_lines, is_keyword_line, keyword, Sections, placed, sections_of, IsUnder, with_line, AreClueLines, HaveClues, IsClueText, KeepsOthers, SayClues, SaysClue, clues_under}
 use Rattle.puzzle_text.proofs.ReadClues.{some_text}
 use Rattle.puzzle_text.proofs.AllLemmas.{all-weaker, filter_all, filter_none}
 use Rattle.puzzle_text.proofs.SaidLines.{SayAll, say_more}

@@ -1,20 +1,7 @@
 -- What the parts of a usual text say is what the text says.
-use Rattle.std.proofs.Common.{◌≡◌, ℕ, ◌+◌, ◌≤◌, List, [], ◌∷◌, ◌++◌, length, filter, refl, sym, subst, Result, Ok, Err}
-use Rattle.std.specs.Prelude.{IfOk, IfSome}
+use Rattle.puzzle_text.proofs.Names.{◌≡◌, ℕ, ◌+◌, ◌≤◌, List, [], ◌∷◌, ◌++◌, length, filter, refl, sym, subst, Result, Ok, Err, IfOk, IfSome, append-nil, LONGEST_SIDE, Nonogram, plain, TextFault, Gives, is_keyword_line, Line, lines, numbered_from, raw_lines, read_mk, read_nin, placed, puzzle_said, read_non, sections_of, likelier, BeginsWith, SayClues, SaysSizes}
 use Rattle.std.specs.Result.{result_ok}
-use Rattle.std.proofs.lemmas.List.{append-nil}
-use Rattle.grid_core.specs.declared.limits.TheConstants.{LONGEST_SIDE}
-use Rattle.grid_core.specs.Nonogram.{Nonogram, plain}
-use Rattle.puzzle_text.specs.declared.faults.TextFault.{TextFault}
-use Rattle.puzzle_text.specs.Answers.{Gives}
-use Rattle.puzzle_text.specs.Keywords.{is_keyword_line}
-use Rattle.puzzle_text.specs.Lines.{Line, lines, numbered_from, raw_lines}
-use Rattle.puzzle_text.specs.Mk.{read_mk}
-use Rattle.puzzle_text.specs.Nin.{read_nin}
-use Rattle.puzzle_text.specs.Non.{placed, puzzle_said, read_non, sections_of}
-use Rattle.puzzle_text.specs.Readings.{likelier}
 use Rattle.puzzle_text.specs.steps.Lines.{HaveNoFeed}
-use Rattle.puzzle_text.specs.steps.Usual.{BeginsWith, SayClues, SaysSizes}
 use Rattle.puzzle_text.proofs.FeedsLemmas.{clean_filter, lines_have_no_feed}
 use Rattle.puzzle_text.proofs.KeywordsLemmas.{said_of_kept}
 use Rattle.puzzle_text.proofs.ReadClues.{some_text}

@@ -1,5 +1,5 @@
 -- `before_at`: no byte before the first `@` is one.
-use Rattle.std.proofs.Common.{arith, length}
+use Rattle.puzzle_text.proofs.Names.{arith, length}
 use Rattle.puzzle_text.proofs.PlainLines.{no_at_before}
 use Rattle.puzzle_text.proofs.collections.before_at.Goals as goal
 

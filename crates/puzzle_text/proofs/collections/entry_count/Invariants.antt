@@ -1,7 +1,5 @@
 -- What the loop of `entry_count` keeps: the count so far, and the entries of the rest, are all entries.
-use Rattle.std.proofs.Common.{◌≡◌, ◌+◌, ◌≤◌, length}
-use Rattle.puzzle_text.specs.Lines.{raw_lines}
-use Rattle.puzzle_text.specs.Collections.{entries_of}
+use Rattle.puzzle_text.proofs.Names.{◌≡◌, ◌+◌, ◌≤◌, length, raw_lines, entries_of}
 use Rattle.puzzle_text.proofs.collections.entry_count.Given as goal
 
 abbrev pub invariant-lines : goal.invariant-lines

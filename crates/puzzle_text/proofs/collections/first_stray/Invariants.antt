@@ -1,7 +1,5 @@
 -- What the loop of `first_stray` keeps: the first stray line stands in the rest, if there is one.
-use Rattle.std.proofs.Common.{◌≡◌, ◌+◌, ◌≤◌, length}
-use Rattle.puzzle_text.specs.Lines.{raw_lines}
-use Rattle.puzzle_text.specs.Collections.{first_stray}
+use Rattle.puzzle_text.proofs.Names.{◌≡◌, ◌+◌, ◌≤◌, length, raw_lines, first_stray}
 use Rattle.puzzle_text.proofs.StrayWalk.{stray_from}
 use Rattle.puzzle_text.proofs.collections.first_stray.Given as goal
 

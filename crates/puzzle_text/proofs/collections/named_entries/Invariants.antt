@@ -1,11 +1,8 @@
 -- What the loop of `named_entries` keeps: the entries so far, and then those of the rest, are those of the
 -- collection, and each one passed has a name.
-use Rattle.std.proofs.Common.{◌≡◌, ◌++◌, ◌≤◌, map, length}
-use Rattle.puzzle_text.specs.Lines.{raw_lines}
-use Rattle.puzzle_text.specs.Collections.{entries_of}
+use Rattle.puzzle_text.proofs.Names.{◌≡◌, ◌++◌, ◌≤◌, map, length, raw_lines, entries_of, are_named}
 use Rattle.puzzle_text.specs.declared.limits.TheConstants.{MOST_ENTRIES}
 use Rattle.puzzle_text.specs.Shown.{shown_entry}
-use Rattle.puzzle_text.specs.steps.Collections.{are_named}
 use Rattle.puzzle_text.proofs.collections.named_entries.Given as goal
 
 abbrev pub invariant-lines : goal.invariant-lines

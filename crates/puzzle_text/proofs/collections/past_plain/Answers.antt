@@ -1,5 +1,5 @@
 -- `past_plain`: nothing follows the front without `@`, or a line does, or the end of one and then others.
-use Rattle.std.proofs.Common.{rules, sym}
+use Rattle.puzzle_text.proofs.Names.{rules, sym}
 use Rattle.puzzle_text.proofs.PlainLines.{follows_amid, follows_line, follows_none}
 use Rattle.puzzle_text.proofs.collections.past_plain.Goals as goal
 

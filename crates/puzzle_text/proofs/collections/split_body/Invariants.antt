@@ -1,6 +1,5 @@
 -- What the loop of `split_body` keeps: what it passed goes into the body.
-use Rattle.std.proofs.Common.{length}
-use Rattle.puzzle_text.specs.steps.Collections.{FollowsPlain}
+use Rattle.puzzle_text.proofs.Names.{length, FollowsPlain}
 use Rattle.puzzle_text.proofs.collections.split_body.Given as goal
 
 -- some lines went into the body, what is left is the rest, and no entry began

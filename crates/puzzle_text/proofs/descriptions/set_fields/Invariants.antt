@@ -1,8 +1,7 @@
 -- What the loop of `set_fields` keeps: the texts so far, with the fields to come set,
 -- are the texts with all set.
-use Rattle.std.proofs.Common.{◌≡◌, drop, map}
+use Rattle.puzzle_text.proofs.Names.{◌≡◌, drop, map, shown_keyword}
 use Rattle.puzzle_text.specs.steps.Non.{with_all_found}
-use Rattle.puzzle_text.specs.steps.Shown.{shown_keyword}
 use Rattle.puzzle_text.proofs.descriptions.set_fields.Given as goal
 
 abbrev pub invariant-loop-field : goal.invariant-loop-field

@@ -1,7 +1,5 @@
 -- What the loop of `sum_within` keeps: each clue passed fits; their sum, and its bound.
-use Rattle.std.proofs.Common.{◌≡◌, ◌*◌, ◌≤◌, take, true}
-use Rattle.std.specs.List.{list_all}
-use Rattle.puzzle_text.specs.Readings.{fits, sum_all}
+use Rattle.puzzle_text.proofs.Names.{◌≡◌, ◌*◌, ◌≤◌, take, true, list_all, fits, sum_all}
 use Rattle.puzzle_text.proofs.fitting.sum_within.Given as goal
 
 abbrev pub invariant-loop-clue : goal.invariant-loop-clue

@@ -1,6 +1,5 @@
 -- What the loop of `after_quote` keeps: no quote was passed, so the rest says what all bytes say.
-use Rattle.std.proofs.Common.{◌≡◌, length}
-use Rattle.puzzle_text.specs.Keywords.{after_quote}
+use Rattle.puzzle_text.proofs.Names.{◌≡◌, length, after_quote}
 use Rattle.puzzle_text.proofs.keywords.after_quote.Given as goal
 
 abbrev pub invariant-loop-rest : goal.invariant-loop-rest

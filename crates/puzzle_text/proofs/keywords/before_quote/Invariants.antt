@@ -1,6 +1,5 @@
 -- What the loop of `before_quote` keeps: no quote was dropped, so the rest says what all bytes say.
-use Rattle.std.proofs.Common.{◌≡◌, length}
-use Rattle.puzzle_text.specs.Keywords.{before_quote}
+use Rattle.puzzle_text.proofs.Names.{◌≡◌, length, before_quote}
 use Rattle.puzzle_text.proofs.keywords.before_quote.Given as goal
 
 abbrev pub invariant-loop-rest : goal.invariant-loop-rest

@@ -1,7 +1,5 @@
 -- What the loop of `keyword_lines` keeps: the keyword lines so far, and then those to come, are all of them.
-use Rattle.std.proofs.Common.{◌≡◌, ◌++◌, drop, filter, map}
-use Rattle.puzzle_text.specs.Keywords.{is_keyword_line}
-use Rattle.puzzle_text.specs.steps.Shown.{shown_keyword, shown_line}
+use Rattle.puzzle_text.proofs.Names.{◌≡◌, ◌++◌, drop, filter, map, is_keyword_line, shown_keyword, shown_line}
 use Rattle.puzzle_text.proofs.keywords.keyword_lines.Given as goal
 
 abbrev pub invariant-loop-line : goal.invariant-loop-line

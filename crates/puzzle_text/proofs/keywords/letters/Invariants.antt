@@ -1,8 +1,6 @@
 -- What the loop of `letters` keeps: the letters passed and those at the start of the rest are those
 -- of the text.
-use Rattle.std.proofs.Common.{◌≡◌, ◌+◌, drop}
-use Rattle.std.specs.List.{prefix_len}
-use Rattle.std.specs.Char.{is_ascii_alphabetic}
+use Rattle.puzzle_text.proofs.Names.{◌≡◌, ◌+◌, drop, prefix_len, is_ascii_alphabetic}
 use Rattle.puzzle_text.proofs.keywords.letters.Given as goal
 
 abbrev pub invariant-loop-place : goal.invariant-loop-place

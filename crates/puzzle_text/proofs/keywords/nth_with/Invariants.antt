@@ -1,9 +1,5 @@
 -- What the loop of `nth_with` keeps: the line is among those to come, at the place that is left.
-use Rattle.std.proofs.Common.{◌≡◌, length, map}
-use Rattle.std.specs.Prelude.{slice_get}
-use Rattle.std.specs.Str.{str_to_ascii_lowercase}
-use Rattle.puzzle_text.specs.Keywords.{with_keyword}
-use Rattle.puzzle_text.specs.steps.Shown.{shown_keyword}
+use Rattle.puzzle_text.proofs.Names.{◌≡◌, length, map, slice_get, str_to_ascii_lowercase, with_keyword, shown_keyword}
 use Rattle.puzzle_text.proofs.keywords.nth_with.Given as goal
 
 abbrev pub invariant-loop-rest : goal.invariant-loop-rest

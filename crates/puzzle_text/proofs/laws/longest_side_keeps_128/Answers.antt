@@ -1,5 +1,5 @@
 -- The law `longest_side_keeps_128` holds: 128 is no more than the limit.
-use Rattle.std.proofs.Common.{arith}
+use Rattle.puzzle_text.proofs.Names.{arith}
 use Rattle.puzzle_text.proofs.GreaterLimit.{keeps}
 use Rattle.puzzle_text.proofs.laws.longest_side_keeps_128.Goals as goal
 

@@ -1,7 +1,5 @@
 -- What the loop of `all_lines` keeps: the lines so far, and then those of the rest, are those of the text.
-use Rattle.std.proofs.Common.{◌≡◌, ◌+◌, ◌++◌, ◌≤◌, length, map}
-use Rattle.puzzle_text.specs.Lines.{raw_lines, numbered_from, lines}
-use Rattle.puzzle_text.specs.steps.Shown.{shown_line}
+use Rattle.puzzle_text.proofs.Names.{◌≡◌, ◌+◌, ◌++◌, ◌≤◌, length, map, raw_lines, numbered_from, lines, shown_line}
 use Rattle.puzzle_text.proofs.lines.all_lines.Given as goal
 
 abbrev pub invariant-loop-rest : goal.invariant-loop-rest

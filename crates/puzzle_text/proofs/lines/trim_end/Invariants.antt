@@ -1,6 +1,5 @@
 -- What the loop of `trim_end` keeps: what it dropped was blank.
-use Rattle.std.proofs.Common.{◌≡◌, length}
-use Rattle.puzzle_text.specs.Lines.{trim_end}
+use Rattle.puzzle_text.proofs.Names.{◌≡◌, length, trim_end}
 use Rattle.puzzle_text.proofs.lines.trim_end.Given as goal
 
 abbrev pub invariant-loop-bytes : goal.invariant-loop-bytes

@@ -1,6 +1,5 @@
 -- What the loop of `trim_start` keeps: what it dropped was blank.
-use Rattle.std.proofs.Common.{◌≡◌, length}
-use Rattle.puzzle_text.specs.Lines.{trim_start}
+use Rattle.puzzle_text.proofs.Names.{◌≡◌, length, trim_start}
 use Rattle.puzzle_text.proofs.lines.trim_start.Given as goal
 
 abbrev pub invariant-loop-bytes : goal.invariant-loop-bytes

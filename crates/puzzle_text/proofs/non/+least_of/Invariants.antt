@@ -1,5 +1,5 @@
 -- What gets less with each call of `least_of` by itself: the numbers that are left.
-use Rattle.std.proofs.Common.{length}
+use Rattle.puzzle_text.proofs.Names.{length}
 use Rattle.puzzle_text.proofs.non.+least_of.Given as goal
 
 abbrev pub decreases-least_of : goal.decreases-least_of

@@ -1,6 +1,5 @@
 -- `first_number`: a piece ends at a separator or with the line; a value past the limit refuses it.
-use Rattle.std.proofs.Common.{◌+◌, arith, sym}
-use Rattle.std.proofs.lemmas.List.{drop_all, take_rest}
+use Rattle.puzzle_text.proofs.Names.{◌+◌, arith, sym, drop_all, take_rest}
 use Rattle.puzzle_text.proofs.NumbersLemmas.{next_digits, next_value, number_ends, number_past}
 use Rattle.puzzle_text.proofs.numbers.first_number.Goals as goal
 

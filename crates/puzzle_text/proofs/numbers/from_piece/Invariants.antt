@@ -1,6 +1,5 @@
 -- What the loop of `from_piece` keeps: what it dropped were separators, so the pieces are the same.
-use Rattle.std.proofs.Common.{◌≡◌, ◌≤◌, length}
-use Rattle.puzzle_text.specs.Numbers.{pieces}
+use Rattle.puzzle_text.proofs.Names.{◌≡◌, ◌≤◌, length, pieces}
 use Rattle.puzzle_text.proofs.numbers.from_piece.Given as goal
 
 abbrev pub invariant-loop-text : goal.invariant-loop-text

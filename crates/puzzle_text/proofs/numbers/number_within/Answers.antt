@@ -1,5 +1,5 @@
 -- `number_within`: a front that is past the limit makes a number past it.
-use Rattle.std.proofs.Common.{sym, ◌+◌, arith}
+use Rattle.puzzle_text.proofs.Names.{sym, ◌+◌, arith}
 use Rattle.puzzle_text.proofs.NumbersLemmas.{next_value, past_limit}
 use Rattle.puzzle_text.proofs.numbers.number_within.Goals as goal
 

@@ -1,8 +1,5 @@
 -- `sections_of`: each of the three kinds of lines leaves the sections of the text as they are to be.
-use Rattle.std.proofs.Common.{◌+◌, [], drop, ap, map, refl, sym, ◌∙◌}
-use Rattle.std.specs.Str.{str_to_ascii_lowercase}
-use Rattle.puzzle_text.specs.Non.{Sections, placed, sections_of}
-use Rattle.puzzle_text.specs.steps.Shown.{shown_line, shown_sections}
+use Rattle.puzzle_text.proofs.Names.{◌+◌, [], drop, ap, map, refl, sym, ◌∙◌, str_to_ascii_lowercase, Sections, placed, sections_of, shown_line, shown_sections}
 use Rattle.puzzle_text.proofs.SectionsWalk.{below, join, next_comment, next_content, next_keyword, nothing_above}
 use Rattle.puzzle_text.proofs.places.sections_of.Goals as goal
 use Rattle.puzzle_text.proofs.places.sections_of.Goals.{then-not-is_empty, else-not-is_empty+then-not-is_hash+in_ok-put, else-not-is_empty+else-not-is_hash}

@@ -1,8 +1,5 @@
 -- What the loop of `sections_of` keeps: the sections so far, and then those of the lines to come.
-use Rattle.std.proofs.Common.{◌≡◌, ℕ, List, drop, map}
-use Rattle.puzzle_text.specs.Non.{placed, sections_of}
-use Rattle.puzzle_text.specs.steps.Places.{IsUnder}
-use Rattle.puzzle_text.specs.steps.Shown.{shown_line, shown_sections}
+use Rattle.puzzle_text.proofs.Names.{◌≡◌, ℕ, List, drop, map, placed, sections_of, IsUnder, shown_line, shown_sections}
 use Rattle.puzzle_text.proofs.SectionsWalk.{below, join}
 use Rattle.puzzle_text.proofs.places.sections_of.Given as goal
 

@@ -1,11 +1,6 @@
 -- `puzzle_said`: the parts say the puzzle, if there are as many clues as the sizes say.
-use Rattle.std.proofs.Common.{List, None, Ok, ap, map, rules, sym, ◌≡◌, ◌∙◌}
-use Rattle.grid_core.specs.declared.limits.TheConstants.{LONGEST_SIDE}
-use Rattle.grid_core.specs.Nonogram.{Nonogram}
+use Rattle.puzzle_text.proofs.Names.{List, None, Ok, ap, map, rules, sym, ◌≡◌, ◌∙◌, LONGEST_SIDE, Nonogram, Sections, outline_of, puzzle_of_clues, puzzle_said, shown_keyword, HaveClues}
 use Rattle.puzzle_text.specs.declared.keyword_line.KeywordLine.{KeywordLine}
-use Rattle.puzzle_text.specs.Non.{Sections, outline_of, puzzle_of_clues, puzzle_said}
-use Rattle.puzzle_text.specs.steps.Shown.{shown_keyword}
-use Rattle.puzzle_text.specs.steps.Usual.{HaveClues}
 use Rattle.puzzle_text.proofs.SaidLines.{non_lines}
 use Rattle.puzzle_text.proofs.UsualParts.{say_all}
 use Rattle.puzzle_text.proofs.UsualReads.{ok_of_gives}

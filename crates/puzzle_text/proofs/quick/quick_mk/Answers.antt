@@ -1,6 +1,5 @@
 -- `quick_mk`: what the size line, the rows, the line `#` and the columns say, the text says.
-use Rattle.std.proofs.Common.{Ok, ap, arith, rules, sym, ◌∙◌}
-use Rattle.grid_core.specs.Nonogram.{Nonogram}
+use Rattle.puzzle_text.proofs.Names.{Ok, ap, arith, rules, sym, ◌∙◌, Nonogram}
 use Rattle.puzzle_text.proofs.UsualReads.{mk_said}
 use Rattle.puzzle_text.proofs.quick.quick_mk.Goals as goal
 

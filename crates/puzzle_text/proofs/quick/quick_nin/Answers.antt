@@ -1,8 +1,5 @@
 -- `quick_nin`: what the size line and the clues say, the text says.
-use Rattle.std.proofs.Common.{Ok, arith, rules, ◌≡◌}
-use Rattle.grid_core.specs.declared.limits.TheConstants.{LONGEST_SIDE}
-use Rattle.puzzle_text.specs.Nin.{read_nin}
-use Rattle.puzzle_text.specs.Readings.{likelier}
+use Rattle.puzzle_text.proofs.Names.{Ok, arith, rules, ◌≡◌, LONGEST_SIDE, read_nin, likelier}
 use Rattle.puzzle_text.proofs.UsualReads.{nin_said, some_of_ok}
 use Rattle.puzzle_text.proofs.quick.quick_nin.Goals as goal
 

@@ -1,10 +1,5 @@
 -- `quick_non`: what the parts of the text say, the text says.
-use Rattle.std.proofs.Common.{Ok, arith, map, ◌≡◌}
-use Rattle.grid_core.specs.declared.limits.TheConstants.{LONGEST_SIDE}
-use Rattle.puzzle_text.specs.Lines.{lines}
-use Rattle.puzzle_text.specs.Non.{Sections, placed, puzzle_said, read_non, sections_of}
-use Rattle.puzzle_text.specs.steps.Shown.{shown_keyword}
-use Rattle.puzzle_text.specs.steps.Usual.{HaveClues}
+use Rattle.puzzle_text.proofs.Names.{Ok, arith, map, ◌≡◌, LONGEST_SIDE, lines, Sections, placed, puzzle_said, read_non, sections_of, shown_keyword, HaveClues}
 use Rattle.puzzle_text.proofs.UsualReads.{kept_clean, non_said, some_of_ok}
 use Rattle.puzzle_text.proofs.quick.quick_non.Goals as goal
 

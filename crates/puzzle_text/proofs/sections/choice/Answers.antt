@@ -1,6 +1,5 @@
 -- `choice`: there are as many lines that aren't blank as were counted.
-use Rattle.std.proofs.Common.{sym, ◌∙◌}
-use Rattle.puzzle_text.specs.steps.Shown.{shown_line}
+use Rattle.puzzle_text.proofs.Names.{sym, ◌∙◌, shown_line}
 use Rattle.puzzle_text.proofs.SectionsLemmas.{length_full}
 use Rattle.puzzle_text.proofs.sections.choice.Goals as goal
 

@@ -1,7 +1,5 @@
 -- What the loop of `first_full` keeps: the lines passed are blank.
-use Rattle.std.proofs.Common.{◌≡◌, length, map}
-use Rattle.puzzle_text.specs.Sizes.{first_full}
-use Rattle.puzzle_text.specs.steps.Shown.{shown_line}
+use Rattle.puzzle_text.proofs.Names.{◌≡◌, length, map, first_full, shown_line}
 use Rattle.puzzle_text.proofs.sizes.first_full.Given as goal
 
 abbrev pub invariant-loop-rest : goal.invariant-loop-rest

@@ -1,5 +1,5 @@
 -- What the loop of `read_clue_line` keeps: the line has said the numbers so far, and goes on; with none it is at its start.
-use Rattle.std.proofs.Common.{◌≡◌, ◌≤◌, [], length}
+use Rattle.puzzle_text.proofs.Names.{◌≡◌, ◌≤◌, [], length}
 use Rattle.puzzle_text.proofs.UsualLines.{PassesNumbers}
 use Rattle.puzzle_text.proofs.usual_lines.read_clue_line.Given as goal
 

@@ -1,6 +1,5 @@
 -- What the loop of `read_clue_lines` keeps: the lines passed say the clues so far.
-use Rattle.std.proofs.Common.{◌≡◌, ◌+◌, ◌-◌, ◌≤◌, length, vec_capacity, vec_len}
-use Rattle.puzzle_text.specs.steps.Usual.{SayClues}
+use Rattle.puzzle_text.proofs.Names.{◌≡◌, ◌+◌, ◌-◌, ◌≤◌, length, vec_capacity, vec_len, SayClues}
 use Rattle.puzzle_text.proofs.usual_lines.read_clue_lines.Given as goal
 
 abbrev pub invariant-lines : goal.invariant-lines

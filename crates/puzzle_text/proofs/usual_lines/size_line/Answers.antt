@@ -1,5 +1,5 @@
 -- `size_line`: two numbers, with a separator between them.
-use Rattle.std.proofs.Common.{rules}
+use Rattle.puzzle_text.proofs.Names.{rules}
 use Rattle.puzzle_text.proofs.UsualLines.{sizes_end}
 use Rattle.puzzle_text.proofs.usual_lines.size_line.Goals as goal
 

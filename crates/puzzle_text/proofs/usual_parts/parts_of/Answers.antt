@@ -1,10 +1,5 @@
 -- `parts_of`: past a blank line, a comment, or a keyword line with the clues below it.
-use Rattle.std.proofs.Common.{◌≡◌, ◌+◌, ◌∷◌, arith, filter, length, map, rules, sym, ◌∙◌}
-use Rattle.puzzle_text.specs.declared.places.Under.TheVariants.{Other}
-use Rattle.puzzle_text.specs.Keywords.{is_keyword_line}
-use Rattle.puzzle_text.specs.Lines.{Line, lines, numbered_from, raw_lines}
-use Rattle.puzzle_text.specs.steps.Shown.{shown_keyword}
-use Rattle.puzzle_text.specs.steps.Usual.{clues_under}
+use Rattle.puzzle_text.proofs.Names.{◌≡◌, ◌+◌, ◌∷◌, arith, filter, length, map, rules, sym, ◌∙◌, Other, is_keyword_line, Line, lines, numbered_from, raw_lines, shown_keyword, clues_under}
 use Rattle.puzzle_text.proofs.SectionsWalk.{none_is}
 use Rattle.puzzle_text.proofs.UsualParts.{above_all, kept_none, kept_one, past_blank, past_comment, past_section}
 use Rattle.puzzle_text.proofs.usual_parts.parts_of.Goals as goal

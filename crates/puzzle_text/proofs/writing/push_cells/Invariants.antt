@@ -1,6 +1,5 @@
 -- What the loop of `push_cells` keeps: the bytes of the cells passed are written.
-use Rattle.std.proofs.Common.{◌≡◌, ◌++◌, map, take}
-use Rattle.puzzle_text.specs.Written.{goal_byte}
+use Rattle.puzzle_text.proofs.Names.{◌≡◌, ◌++◌, map, take, goal_byte}
 use Rattle.puzzle_text.proofs.writing.push_cells.Given as goal
 
 abbrev pub invariant-loop-cell : goal.invariant-loop-cell

@@ -1,6 +1,5 @@
 -- `push_clue`: the first number, and then each other with the separator before it.
-use Rattle.std.proofs.Common.{ℕ, ◌++◌, ◌∙◌, ap, arith}
-use Rattle.std.specs.Prelude.{decimal}
+use Rattle.puzzle_text.proofs.Names.{ℕ, ◌++◌, ◌∙◌, ap, arith, decimal}
 use Rattle.puzzle_text.proofs.WritingLemmas.{clue_is_written}
 use Rattle.puzzle_text.proofs.writing.push_clue.Goals as goal
 

@@ -1,7 +1,5 @@
 -- What the loop of `push_clue` keeps: the numbers passed are written, each with the separator before it.
-use Rattle.std.proofs.Common.{◌≡◌, ◌++◌, ◌∷◌, take}
-use Rattle.std.specs.Prelude.{decimal}
-use Rattle.std.specs.List.{flat_map}
+use Rattle.puzzle_text.proofs.Names.{◌≡◌, ◌++◌, ◌∷◌, take, decimal, flat_map}
 use Rattle.puzzle_text.proofs.writing.push_clue.Given as goal
 
 abbrev pub invariant-loop-number : goal.invariant-loop-number

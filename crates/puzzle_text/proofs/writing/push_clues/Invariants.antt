@@ -1,6 +1,5 @@
 -- What the loop of `push_clues` keeps: the lines of the clues passed are written.
-use Rattle.std.proofs.Common.{◌≡◌, ◌++◌, take}
-use Rattle.puzzle_text.specs.Written.{clue_lines}
+use Rattle.puzzle_text.proofs.Names.{◌≡◌, ◌++◌, take, clue_lines}
 use Rattle.puzzle_text.proofs.writing.push_clues.Given as goal
 
 abbrev pub invariant-loop-clue : goal.invariant-loop-clue
