@@ -1,4 +1,5 @@
 -- What holds of a line holds of the text of a field: no line has a line feed in it, so nor has the text; and a short line has a short text.
+use Rattle.std.proofs.lemmas.List.Elements.{All-cons, All-nil}
 use Rattle.puzzle_text.proofs.Names.{rules, ◌≡◌, ℕ, zero, suc, ◌+◌, ◌-◌, ◌<◌, ◌≤◌, Bool, true, false, cond, not, eqb, leb, ltb, List, [], ◌∷◌, length, take, drop, get_or, reverse, codes, All, refl, ap, ◌∙◌, arith, inl, inr, Option, Some, None, IfSome, Ok, Err, map, option_and_then, slice_get, unwrap_or, filter, list_all, onto_first, prefix_len, AllByRecursion, option_map, is_ascii_alphabetic, cond_both, and_from, and_parts, cases_Bool, le-leb, leb-true, ltb-true, ltb-false, get_or_default, get_or-reverse, get_or-take, length-drop, length-take-le, length-reverse, All-take, All-drop, All-filter, All-from_recursion, recursion_from_All, AllPass-from_list_all, list_all-from_AllPass, IsDescription, is_field, LONGEST_TEXT, TooLong, text_lines, Line, is_blank, lines, numbered_from, raw_lines, strip_last, trim, trim_start, without_ending, after_quote, before_quote, first_with, has_keyword, rest, quoted_text, with_keyword, shown_keyword, bad_line, field_text, least, least_of, long_text, number_of_line, text_words, texts_of}
 use Rattle.puzzle_text.specs.declared.limits.TheConstants.{LONGEST_PUZZLE}
 use Rattle.puzzle_text.specs.declared.keyword_line.KeywordLine.{KeywordLine}
@@ -72,51 +73,36 @@ clean_text line h =
 
 -- ---- lines
 
--- no byte but the last is a line feed
+-- a line without its line feed has none
 abbrev IsRaw : List ℕ → Type 0
-IsRaw raw = (k : ℕ) → k + 1 < length raw → not (eqb (get_or raw k 0) 10) ≡ true
+IsRaw raw = IsClean (strip_last 10 raw)
 
-longer : (byte : ℕ) (part : List ℕ) → not (eqb byte 10) ≡ true → IsRaw part → IsRaw (byte ∷ part)
-longer byte part other h zero lt = other
-longer byte part other h (suc k) lt = h k (omega arith)
+strip_more : (byte next : ℕ) (part : List ℕ) → strip_last 10 (byte ∷ next ∷ part) ≡ byte ∷ strip_last 10 (next ∷ part)
+strip_more byte next part =
+    let last : length (byte ∷ next ∷ part) - 1 ≡ suc (length (next ∷ part) - 1) = omega arith in
+    rw last (search rules)
 
-raw_onto : (byte : ℕ) (parts : List (List ℕ)) → not (eqb byte 10) ≡ true → AllByRecursion IsRaw parts
+raw_one : (byte : ℕ) → eqb byte 10 ≡ false → IsRaw (byte ∷ [])
+raw_one byte other = rw other (All-cons IsOther byte [] (ap not other) (All-nil IsOther))
+
+raw_onto : (byte : ℕ) (parts : List (List ℕ)) → eqb byte 10 ≡ false → AllByRecursion IsRaw parts
     → AllByRecursion IsRaw (onto_first byte parts)
-raw_onto byte [] other h = (λ k lt. absurd (omega arith), tt)
-raw_onto byte (part ∷ parts) other h = (longer byte part other h.0, h.1)
+raw_onto byte [] other h = (raw_one byte other, tt)
+raw_onto byte ([] ∷ parts) other h = (raw_one byte other, h.1)
+raw_onto byte ((next ∷ part) ∷ parts) other h = (rw (strip_more byte next part) (All-cons IsOther byte _ (ap not other) h.0), h.1)
 
 all_raw : (bytes : List ℕ) → AllByRecursion IsRaw (raw_lines bytes)
 all_raw [] = tt
 all_raw (byte ∷ bytes) =
     let others = raw_lines bytes in
     cond_both (eqb byte 10) ((byte ∷ []) ∷ others) (onto_first byte others) (AllByRecursion IsRaw)
-    (λ feed. (λ k lt. absurd (omega arith), all_raw bytes)) (λ other. raw_onto byte others (ap not other) (all_raw bytes))
-
-clean_front : (raw : List ℕ) → IsRaw raw → IsClean (take (length raw - 1) raw)
-clean_front raw h k d lt =
-    let low : k < length raw - 1 = omega (arith, length-take-le (length raw - 1) raw) in
-    ap (λ (byte : ℕ). not (eqb byte 10)) (get_or_default (take (length raw - 1) raw) k d 0 lt ∙ get_or-take (length raw - 1) raw k 0 low)
-    ∙ h k (omega arith)
-
-clean_whole : (raw : List ℕ) → IsRaw raw → eqb (get_or raw (length raw - 1) 0) 10 ≡ false → IsClean raw
-clean_whole raw h last k d lt =
-    let place = λ (byte : ℕ). not (eqb byte 10) in
-    elim (cases_Bool (ltb (k + 1) (length raw))) [
-      | inl before ↦ ap place (get_or_default raw k d 0 lt) ∙ h k (ltb-true _ _ before)
-      | inr at ↦ let end : k ≡ length raw - 1 = omega (arith, ltb-false _ _ at) in
-          ap place (get_or_default raw k d 0 lt) ∙ ap (λ (j : ℕ). place (get_or raw j 0)) end ∙ ap not last
-    ]
-
-clean_line : (raw : List ℕ) → IsRaw raw → IsClean (strip_last 10 raw)
-clean_line raw h =
-    cond_both (eqb (get_or raw (length raw - 1) 0) 10) (take (length raw - 1) raw) raw IsClean (λ _. clean_front raw h)
-    (λ other. clean_whole raw h other)
+    (λ feed. (rw feed (All-nil IsOther), all_raw bytes)) (λ other. raw_onto byte others other (all_raw bytes))
 
 clean_lines : (number : ℕ) (raws : List (List ℕ)) → AllByRecursion IsRaw raws → HaveNoFeed (numbered_from number raws)
 clean_lines number [] h = tt
 clean_lines number (raw ∷ raws) h = (
   list_all-from_AllPass _ (trim (without_ending raw))
-      (of_trim IsClean clean_drop clean_reverse (without_ending raw) (clean_strip 13 (strip_last 10 raw) (clean_line raw h.0))),
+      (of_trim IsClean clean_drop clean_reverse (without_ending raw) (clean_strip 13 (strip_last 10 raw) h.0)),
   clean_lines (number + 1) raws h.1,
 )
 
@@ -190,8 +176,7 @@ abbrev IsShort : List ℕ → Type 0
 IsShort bytes = length bytes ≤ LONGEST_TEXT
 
 short_text : (line : Line) → IsShort line.text → IsShort (quoted_text line)
-short_text =
-    of_text IsShort (λ n bytes h. omega (arith, length-drop n bytes)) (λ bytes h. omega (arith, length-reverse bytes))
+short_text = of_text IsShort (λ n bytes h. omega (arith, length-drop n bytes)) (λ bytes h. omega (arith, length-reverse bytes))
 
 short_here : (b : Bool) (line : Line) (others : List Line) → IsShort line.text → long_of (slice_get others 0) ≡ None
     → long_of (slice_get (cond b (line ∷ others) others) 0) ≡ None

@@ -63,8 +63,7 @@ no_feed bytes before =
 -- what a search for a line feed gives
 pub feed_found : (bytes : List ℕ) (found : Option ℕ) → IsFirstByte (is_byte 10) bytes found → found ≡ position (λ byte. eqb byte 10) bytes
 feed_found bytes None none = sym (no_feed bytes (λ k low. false_from_ne_true _ (none k (omega arith) low)))
-feed_found bytes (Some i) at =
-    sym (feed_at bytes i at.0.high (λ k low. false_from_ne_true _ (at.0.before k (omega arith) low)) at.1)
+feed_found bytes (Some i) at = sym (feed_at bytes i at.0.high (λ k low. false_from_ne_true _ (at.0.before k (omega arith) low)) at.1)
 
 -- ---- the first line without its ending
 
@@ -93,5 +92,4 @@ keeps_end bytes some e =
 -- a text without a line feed is one line
 pub line_at_end : (number : ℕ) (bytes : List ℕ) → 0 < length bytes → position (λ byte. eqb byte 10) bytes ≡ None
     → numbered_from number (raw_lines bytes) ≡ record { number = number; text = trim (strip_last 13 bytes) } ∷ []
-line_at_end number bytes some e =
-    rw (cut_at_end bytes some e, keeps_end bytes some e) refl
+line_at_end number bytes some e = rw (cut_at_end bytes some e, keeps_end bytes some e) refl

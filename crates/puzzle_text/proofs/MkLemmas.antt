@@ -62,8 +62,7 @@ joined_more r a b = refl
 
 each-append : {X Y : Type 0} (step : X → Result Y TextFault) (xs ys : List X) → each step (xs ++ ys) ≡ joined (each step xs) (each step ys)
 each-append step [] ys = sym (joined_none (each step ys))
-each-append {X} {Y} step (x ∷ xs) ys =
-    rw (each-append step xs ys) (joined_more (step x) (each step xs) (each step ys))
+each-append {X} {Y} step (x ∷ xs) ys = rw (each-append step xs ys) (joined_more (step x) (each step xs) (each step ys))
 
 joined_clues : (width height : ℕ) (a b : Result (List (List ℕ)) TextFault)
     → joined a b >>= (λ clues. Ok (reading width height clues)) ≡ (a >>= λ rows. b >>= λ columns. Ok (rows, columns))

@@ -33,8 +33,7 @@ none_before text i h before k d lt =
 
 pub keeps_piece : (piece : List ℕ) (parts : List (List ℕ)) → 0 < length piece
     → filter (λ part. not (is_empty part)) (piece ∷ parts) ≡ piece ∷ filter (λ part. not (is_empty part)) parts
-keeps_piece piece parts h =
-    rw (ne_eqb (length piece) 0 (λ e. omega arith)) refl
+keeps_piece piece parts h = rw (ne_eqb (length piece) 0 (λ e. omega arith)) refl
 
 -- the bytes up to the first separator are the first piece, if there are any
 pub first_piece : (text : List ℕ) (end : ℕ) → position is_separator text ≡ Some end → is_separator (get_or text 0 0) ≡ false
@@ -107,8 +106,7 @@ number_is limit piece some digits low =
 
 no_number : (limit : ℕ) (piece : List ℕ) (i : ℕ) → i < length piece → is_ascii_digit (get_or piece i 0) ≡ false
     → number_within limit piece ≡ None
-no_number limit piece i h other =
-    rw (list_all_at is_ascii_digit piece i 0 h other, and-false (not (is_empty piece))) refl
+no_number limit piece i h other = rw (list_all_at is_ascii_digit piece i 0 h other, and-false (not (is_empty piece))) refl
 
 module _ (limit : ℕ) (text : List ℕ) (some : 0 < length text) (first : is_separator (get_or text 0 0) ≡ false) where
   -- the numbers of all pieces, by that of the first

@@ -29,8 +29,7 @@ no_marker_text [] other = refl
 no_marker_text (first ∷ others) other = search rules
 
 no_marker : (raw : List ℕ) → eqb (get_or raw 0 0) 64 ≡ false → is_marker raw ≡ false
-no_marker raw other =
-    no_marker_text (without_ending raw) (strip_first 13 (strip_last 10 raw) (strip_first 10 raw other))
+no_marker raw other = no_marker_text (without_ending raw) (strip_first 13 (strip_last 10 raw) (strip_first 10 raw other))
 
 -- ---- if the first line begins no entry
 

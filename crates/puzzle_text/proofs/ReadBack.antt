@@ -21,8 +21,7 @@ pub record IsKept (text : List ℕ) : Type 0 where
 pub raw_lines-feed : (text rest : List ℕ) → AllByRecursion (λ byte. eqb byte 10 ≡ false) text
     → raw_lines (text ++ 10 ∷ rest) ≡ with_feed text ∷ raw_lines rest
 raw_lines-feed [] rest inked = refl
-raw_lines-feed (byte ∷ bytes) rest inked =
-    rw (inked.0, raw_lines-feed bytes rest inked.1) refl
+raw_lines-feed (byte ∷ bytes) rest inked = rw (inked.0, raw_lines-feed bytes rest inked.1) refl
 
 pub strip_last_is : (byte : ℕ) (text : List ℕ) → strip_last byte (text ++ byte ∷ []) ≡ text
 strip_last_is byte text =

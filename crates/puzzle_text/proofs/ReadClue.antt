@@ -62,14 +62,12 @@ number_again n h =
 
 -- a number that is written is read again, if it is no more than the limit
 pub number_within_again : (limit n : ℕ) → limit < 2 ^ 64 → n ≤ limit → number_within limit (decimal n) ≡ Some n
-number_within_again limit n wide le =
-    rw (number_again n (omega arith), le-leb n limit le) refl
+number_within_again limit n wide le = rw (number_again n (omega arith), le-leb n limit le) refl
 
 pub numbers_again : (limit : ℕ) (ns : List ℕ) → limit < 2 ^ 64 → AllByRecursion (λ n. n ≤ limit) ns
     → numbers_within limit (map decimal ns) ≡ Some ns
 numbers_again limit [] wide h = refl
-numbers_again limit (n ∷ ns) wide h =
-    rw (number_within_again limit n wide h.0, numbers_again limit ns wide h.1) refl
+numbers_again limit (n ∷ ns) wide h = rw (number_within_again limit n wide h.0, numbers_again limit ns wide h.1) refl
 
 -- the numbers of a clue are no more than the limit
 pub runs : (limit : ℕ) (ns : List ℕ) → list_all (is_run limit) ns ≡ true → AllByRecursion (λ n. n ≤ limit) ns

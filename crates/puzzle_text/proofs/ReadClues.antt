@@ -30,8 +30,7 @@ digits_inked (c ∷ cs) h = let r = digit_from_value c h.0 in (omega (arith, r.0
 
 -- a number is a tidy text
 pub tidy_decimal : (n : ℕ) → IsWord n → IsTidy (decimal n)
-tidy_decimal n h =
-    let numeral = (decimal_is_IsNumeral n h).0 in tidy_solid (decimal n) numeral.0 (digits_inked (decimal n) numeral.1)
+tidy_decimal n h = let numeral = (decimal_is_IsNumeral n h).0 in tidy_solid (decimal n) numeral.0 (digits_inked (decimal n) numeral.1)
 
 -- a clue is a tidy text
 pub tidy_clue : (s : ℕ) (numbers : List ℕ) → IsSpacing s → AllByRecursion IsWord numbers → IsTidy (clue_text s numbers)
@@ -86,8 +85,7 @@ tidy_clues s limit clues spacing wide h =
 
 -- a size that is written is read again
 pub size_again : (limit n : ℕ) → limit < 2 ^ 64 → 1 ≤ n → n ≤ limit → size_of limit (decimal n) ≡ Ok n
-size_again limit n wide low high =
-    rw (number_within_again limit n wide high, le-leb 1 n low) refl
+size_again limit n wide low high = rw (number_within_again limit n wide high, le-leb 1 n low) refl
 
 -- ---- how long the text is
 

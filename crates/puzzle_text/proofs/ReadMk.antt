@@ -48,5 +48,4 @@ module _ (limit : ℕ) (p : Nonogram) (wide : limit ≤ 256) (lawful : IsNonogra
 
   -- a written puzzle is read again, without its texts and its goal
   pub read_again : read_mk limit (text_mk p) ≡ Ok (plain p.width p.height p.rows p.columns)
-  read_again =
-      rw (short_lines (text_mk p) length_text, ← text_is p, lines_are 1 (texts_mk p) tidy_mk) mk_again
+  read_again = rw (short_lines (text_mk p) length_text, ← text_is p, lines_are 1 (texts_mk p) tidy_mk) mk_again

@@ -6,8 +6,7 @@ use Rattle.puzzle_text.proofs.MkLemmas.{puzzle_of_both}
 
 -- the lines of a text that isn't too long
 pub short_lines : (bytes : List ℕ) → length bytes ≤ 1048576 → text_lines bytes ≡ Ok (lines bytes)
-short_lines bytes short =
-    cond-false (ltb 1048576 (length bytes)) (Err TooLong) (Ok (lines bytes)) (le-ltb 1048576 (length bytes) short)
+short_lines bytes short = cond-false (ltb 1048576 (length bytes)) (Err TooLong) (Ok (lines bytes)) (le-ltb 1048576 (length bytes) short)
 
 -- ---- lines round a line that begins with #
 
@@ -63,8 +62,7 @@ chosen limit count section clues all many = rw (eq-eqb (length (filter is_full s
 -- and those are all, if none is blank
 all_chosen : (limit count : ℕ) (found : List Line) (clues : List (List ℕ)) → SayAll limit found clues → length clues ≡ count
     → choice count found ≡ Some found
-all_chosen limit count found clues all many =
-    rw (filter_all is_full found all.full, eq-eqb (length found) count (all.count ∙ many)) refl
+all_chosen limit count found clues all many = rw (filter_all is_full found all.full, eq-eqb (length found) count (all.count ∙ many)) refl
 
 both_said : (limit : ℕ) (order : Bool) (a b : List Line) (x y : List (List ℕ)) → SayAll limit a x → SayAll limit b y
     → both_clues limit order a b ≡ Ok (x, y)
@@ -88,8 +86,7 @@ mk_lines limit width height first cut row_lines column_lines rows columns sizes 
 pub nin_lines : (limit a b : ℕ) (first : Line) (found : List Line) (clues : List (List ℕ)) → two_sizes limit (pieces first.text) ≡ Ok (a, b)
     → is_full first ≡ true → SayAll limit found clues → length clues ≡ a + b
     → nin_of limit (first ∷ found) ≡ Ok (likelier a b clues)
-nin_lines limit a b first found clues sizes full all many =
-    rw (full, sizes, all_chosen limit (a + b) found clues all many, all.said) refl
+nin_lines limit a b first found clues sizes full all many = rw (full, sizes, all_chosen limit (a + b) found clues all many, all.said) refl
 
 -- in .non: keyword lines, and the lines of both sections
 pub non_lines : (limit : ℕ) (sections : Sections) (kept : List Line) (width height : ℕ) (order : Bool) (rows columns : List (List ℕ))

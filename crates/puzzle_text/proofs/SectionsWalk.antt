@@ -47,8 +47,7 @@ below_comment word line lines e h = rw (e, h) refl
 pub below_content : (under : Under) (word : List ℕ) (above : Sections) (line : Line) (lines : List Line) → IsUnder word under
     → is_empty (keyword line) ≡ true → is_hash line ≡ false
     → join above (below word (line ∷ lines)) ≡ join (with_line above under line) (below word lines)
-below_content under word above line lines is e h =
-    rw (e, h) (one_more under word above line (walked word lines) is)
+below_content under word above line lines is e h = rw (e, h) (one_more under word above line (walked word lines) is)
 
 -- ---- many lines of one kind
 
@@ -128,5 +127,4 @@ module _ (lines : List KeptLine) (i : ℕ) (d : KeptLine) (word own : List ℕ) 
   -- past a line that goes into the section of the keyword above it
   pub next_content : (under : Under) → IsUnder word under → eqb (length own) 0 ≡ true → is_hash line ≡ false
       → join (with_line above under line) (below word others) ≡ whole
-  next_content under is none other =
-      sym (below_content under word above line others is (none_is own _ true e none) other) ∙ at_line_here
+  next_content under is none other = sym (below_content under word above line others is (none_is own _ true e none) other) ∙ at_line_here

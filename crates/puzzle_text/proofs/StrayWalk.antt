@@ -52,8 +52,7 @@ first_stray_found raws = walk_below [] raws
 -- no line below a marker line is stray
 none_below : (number : ℕ) (raws : List (List ℕ)) → are_named (entries_of raws) ≡ true → stray_from number true raws ≡ None
 none_below number [] named = refl
-none_below number (raw ∷ raws) named =
-    let later = none_below (number + 1) raws in search rules
+none_below number (raw ∷ raws) named = let later = none_below (number + 1) raws in search rules
 
 from_first : (number : ℕ) (raws : List (List ℕ)) → begins_with_marker raws ≡ true → are_named (entries_of raws) ≡ true
     → stray_from number false raws ≡ None

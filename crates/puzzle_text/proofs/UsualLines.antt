@@ -45,8 +45,7 @@ module _ (piece : List ℕ) (n : ℕ) (numeral : IsNumeral piece n) where
   size_said = rw (number_said, le-leb 1 n numeral.positive) refl
 
   pieces_alone : pieces piece ≡ piece ∷ []
-  pieces_alone =
-      ap (filter (λ part. not (is_empty part))) (slice_split_none is_separator piece unbroken) ∙ keeps_piece piece [] some_piece
+  pieces_alone = ap (filter (λ part. not (is_empty part))) (slice_split_none is_separator piece unbroken) ∙ keeps_piece piece [] some_piece
 
   pieces_more : (s : ℕ) (more : List ℕ) → IsSpacing s → pieces (piece ++ s ∷ more) ≡ piece ∷ pieces more
   pieces_more s more spacing =

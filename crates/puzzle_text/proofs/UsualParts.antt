@@ -88,8 +88,7 @@ past_comment under whole todo line rows columns is none hash = record {
 }
 
 same_full : (found : List Line) (line : Line) → is_full line ≡ false → filter is_full (found ++ line ∷ []) ≡ filter is_full found
-same_full found line blank =
-    rw (filter-append is_full found (line ∷ []), blank) (append-nil (filter is_full found))
+same_full found line blank = rw (filter-append is_full found (line ∷ []), blank) (append-nil (filter is_full found))
 
 blank_more : (under : Under) (above : Sections) (line : Line) (rows columns : List (List ℕ)) → HaveClues above rows columns
     → is_full line ≡ false → HaveClues (with_line above under line) rows columns
@@ -168,11 +167,6 @@ module _ (next : Under) (line : Line) (number place : ℕ) (after rest : List �
       let same : filter is_keyword_line (numbered_from number (raw_lines after)) ≡ filter is_keyword_line later =
       ap (filter is_keyword_line) parts ∙ no_keywords found later (clues_under next rows columns) (says number).2 in
       rw (append_assoc kept (line ∷ []) (filter is_keyword_line later), ← same) (rw some at e)
-
--- no keyword line is passed
-pub kept_none : (kept all todo : List Line) (line : Line) → kept ++ filter is_keyword_line (line ∷ todo) ≡ all
-    → is_empty (keyword line) ≡ true → kept ++ filter is_keyword_line todo ≡ all
-kept_none kept all todo line e none = rw none at e
 
 -- no bytes have no lines
 pub no_lines : (rest : List ℕ) (number : ℕ) → length rest ≡ 0 → numbered_from number (raw_lines rest) ≡ []

@@ -41,8 +41,7 @@ non_said bytes kept p short e said =
 lines_to_end : (bytes rest : List ℕ) (number count : ℕ) (found : List Line) → length rest ≡ 0
     → numbered_from number (raw_lines bytes) ≡ found ++ numbered_from (number + count) (raw_lines rest)
     → numbered_from number (raw_lines bytes) ≡ found
-lines_to_end bytes rest number count found none parts =
-    rw (parts, no_lines rest (number + count) none) (append-nil found)
+lines_to_end bytes rest number count found none parts = rw (parts, no_lines rest (number + count) none) (append-nil found)
 
 -- what a size line, rows, a line # and columns say, the text says
 pub mk_said : (bytes after middle below_it rest : List ℕ) (width height : ℕ) (rows columns : List (List ℕ)) → length bytes ≤ 1048576

@@ -1,7 +1,7 @@
 -- `parts_of`: past a blank line, a comment, or a keyword line with the clues below it.
 use Rattle.puzzle_text.proofs.Names.{◌≡◌, ◌+◌, ◌∷◌, arith, filter, length, map, rules, sym, ◌∙◌, Other, is_keyword_line, Line, lines, numbered_from, raw_lines, shown_keyword, clues_under}
 use Rattle.puzzle_text.proofs.SectionsWalk.{none_is}
-use Rattle.puzzle_text.proofs.UsualParts.{above_all, kept_none, kept_one, past_blank, past_comment, past_section}
+use Rattle.puzzle_text.proofs.UsualParts.{above_all, kept_one, past_blank, past_comment, past_section}
 use Rattle.puzzle_text.proofs.usual_parts.parts_of.Goals as goal
 use Rattle.puzzle_text.proofs.usual_parts.parts_of.Goals.{else-not-is_empty-2-via-then-not-is_empty-2+else-not-is_hash, else-not-is_empty-2-via-else-not-is_empty-2}
 
@@ -9,10 +9,7 @@ pub lines-init : goal.lines-init
 lines-init c = record {
   room = omega arith;
   keywords = search rules;
-  walk = (
-    Other,
-    above_all (lines c.args.text.now) c.new.result.items c.new-2.result.items c.new.ensures.items c.new-2.ensures.items,
-  );
+  walk = (Other, above_all (lines c.args.text.now) c.new.result.items c.new-2.result.items c.new.ensures.items c.new-2.ensures.items);
 }
 
 pub lines-preserved-then-not-is_empty : goal.lines-preserved-then-not-is_empty
@@ -59,9 +56,7 @@ lines-preserved c =
     let none = none_is c.keyword-word.result.now _ _ c.keyword-word.ensures (sym c.is_empty-in-lines.ensures ∙ c.if-not-is_empty.false) in
     record {
       room = omega (arith, c.next_line.ensures.shorter, c.lines.invariant.room);
-      keywords =
-          kept_none (map shown_keyword c.lines.parts.keyword_lines.items) (filter is_keyword_line whole) todo line
-          (rw first at c.lines.invariant.keywords) none;
+      keywords = rw none at (rw first at c.lines.invariant.keywords);
       walk = (
         under,
         elim c.else-not-is_empty-2.branch [
