@@ -24,10 +24,10 @@ all-flat_map P f each [] = tt
 all-flat_map P f each (x ∷ xs) = all-append P (f x) (flat_map f xs) (each x) (all-flat_map P f each xs)
 
 module _ {X : Type 0} (p : X → Bool) where
-  -- each element of a list passes a test that all pass
-  pub all_pass : (xs : List X) → list_all p xs ≡ true → AllByRecursion (λ x. p x ≡ true) xs
-  all_pass [] h = tt
-  all_pass (x ∷ xs) h = let parts = and_parts (p x) (list_all p xs) h in (parts.0, all_pass xs parts.1)
+  -- what follows from a test holds of each element of a list if all pass
+  pub all_pass : (Q : X → Type 0) → ((x : X) → p x ≡ true → Q x) → (xs : List X) → list_all p xs ≡ true → AllByRecursion Q xs
+  all_pass Q next [] h = tt
+  all_pass Q next (x ∷ xs) h = let parts = and_parts (p x) (list_all p xs) h in (next x parts.0, all_pass Q next xs parts.1)
 
   -- a filter keeps all elements if all pass, and none if none does
   pub filter_all : (xs : List X) → AllByRecursion (λ x. p x ≡ true) xs → filter p xs ≡ xs

@@ -14,7 +14,7 @@ pub each-map : {A X Y : Type 0} (step : X → Result Y TextFault) (view : A → 
 each-map step view [] = refl
 each-map step view (x ∷ xs) = ap (λ others. step (view x) >>= λ y. others >>= λ ys. Ok (y ∷ ys)) (each-map step view xs)
 
-with_front-none : {Y : Type 0} (rest : Result (List Y) TextFault) → with_front [] rest ≡ rest
+pub with_front-none : {Y : Type 0} (rest : Result (List Y) TextFault) → with_front [] rest ≡ rest
 with_front-none (Ok ys) = refl
 with_front-none (Err fault) = refl
 

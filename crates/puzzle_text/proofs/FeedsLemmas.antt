@@ -1,6 +1,6 @@
 -- What holds of a line holds of the text of a field: no line has a line feed in it, so nor has the text; and a short line has a short text.
 use Rattle.std.proofs.lemmas.List.Elements.{All-cons, All-nil}
-use Rattle.puzzle_text.proofs.Names.{rules, ◌≡◌, ℕ, zero, suc, ◌+◌, ◌-◌, ◌<◌, ◌≤◌, Bool, true, false, cond, not, eqb, leb, ltb, List, [], ◌∷◌, length, take, drop, get_or, reverse, codes, All, refl, ap, ◌∙◌, arith, inl, inr, Option, Some, None, IfSome, Ok, Err, map, option_and_then, slice_get, unwrap_or, filter, list_all, onto_first, prefix_len, AllByRecursion, option_map, is_ascii_alphabetic, cond_both, and_from, and_parts, cases_Bool, le-leb, leb-true, ltb-true, ltb-false, get_or_default, get_or-reverse, get_or-take, length-drop, length-take-le, length-reverse, All-take, All-drop, All-filter, All-from_recursion, recursion_from_All, AllPass-from_list_all, list_all-from_AllPass, IsDescription, is_field, LONGEST_TEXT, TooLong, text_lines, Line, is_blank, lines, numbered_from, raw_lines, strip_last, trim, trim_start, without_ending, after_quote, before_quote, first_with, has_keyword, rest, quoted_text, with_keyword, shown_keyword, bad_line, field_text, least, least_of, long_text, number_of_line, text_words, texts_of}
+use Rattle.puzzle_text.proofs.Names.{rules, ◌≡◌, ℕ, suc, ◌+◌, ◌-◌, ◌<◌, ◌≤◌, Bool, true, false, cond, not, eqb, leb, ltb, List, [], ◌∷◌, length, take, drop, get_or, reverse, codes, All, refl, ap, ◌∙◌, arith, Option, Some, None, IfSome, Ok, Err, map, option_and_then, slice_get, unwrap_or, filter, list_all, onto_first, prefix_len, AllByRecursion, option_map, is_ascii_alphabetic, cond_both, and_from, and_parts, le-leb, leb-true, ltb-false, get_or-reverse, length-drop, length-reverse, All-take, All-drop, All-filter, All-from_recursion, recursion_from_All, AllPass-from_list_all, list_all-from_AllPass, IsDescription, is_field, LONGEST_TEXT, TooLong, text_lines, Line, is_blank, lines, numbered_from, raw_lines, strip_last, trim, trim_start, without_ending, after_quote, before_quote, first_with, has_keyword, rest, quoted_text, with_keyword, shown_keyword, bad_line, field_text, least, least_of, long_text, number_of_line, text_words, texts_of}
 use Rattle.puzzle_text.specs.declared.limits.TheConstants.{LONGEST_PUZZLE}
 use Rattle.puzzle_text.specs.declared.keyword_line.KeywordLine.{KeywordLine}
 use Rattle.puzzle_text.specs.steps.Lines.{HaveNoFeed, has_no_feed}

@@ -1,5 +1,6 @@
 -- Lemmas on the lines round a line that begins with #, and on the clues of both sections.
-use Rattle.puzzle_text.proofs.Names.{◌≡◌, ℕ, ◌+◌, ◌-◌, Bool, cond, not, ltb, List, [], ◌∷◌, ◌++◌, length, take, drop, map, true, refl, sym, ap, Option, Some, None, Result, Ok, Err, position, position_or_len, prefix_len, ltb-false, cond_some, take-map, drop-map, length-map, take_all, take_rest, take-append_seam, drop-append_seam, Nonogram, plain, TextFault, BadNumber, ◌>>=◌, each, or_fault, clue_of, clues_of, Line, is_hash, at_hash, before_hash, puzzle_of, both_clues, reading}
+use Rattle.puzzle_text.proofs.EachLemmas.{with_front, with_front-none}
+use Rattle.puzzle_text.proofs.Names.{◌≡◌, ℕ, ◌+◌, ◌-◌, Bool, cond, not, ltb, List, [], ◌∷◌, ◌++◌, length, take, drop, map, true, refl, sym, ap, Option, Some, None, Result, Ok, position, position_or_len, prefix_len, ltb-false, cond_some, take-map, drop-map, length-map, take_all, take_rest, take-append_seam, drop-append_seam, Nonogram, plain, TextFault, BadNumber, ◌>>=◌, each, or_fault, clue_of, clues_of, Line, is_hash, at_hash, before_hash, puzzle_of, both_clues, reading}
 use Rattle.puzzle_text.proofs.LinesLemmas.{not_chosen}
 
 pub prefix_len-map : {X Y : Type 0} (p : Y → Bool) (view : X → Y) (xs : List X)
@@ -47,13 +48,7 @@ with_clues width height clues = Ok (reading width height (clues.0 ++ clues.1))
 
 -- what two checks give, one after the other
 abbrev joined : {Y : Type 0} → Result (List Y) TextFault → Result (List Y) TextFault → Result (List Y) TextFault
-joined (Ok xs) (Ok ys) = Ok (xs ++ ys)
-joined (Ok xs) (Err fault) = Err fault
-joined (Err fault) other = Err fault
-
-joined_none : {Y : Type 0} (r : Result (List Y) TextFault) → joined (Ok []) r ≡ r
-joined_none (Ok ys) = refl
-joined_none (Err fault) = refl
+joined a b = a >>= λ xs. with_front xs b
 
 joined_more : {Y : Type 0} (r : Result Y TextFault) (a b : Result (List Y) TextFault)
     → r >>= (λ y. joined a b >>= λ all. Ok (y ∷ all)) ≡ joined (r >>= (λ y. a >>= λ ys. Ok (y ∷ ys))) b
@@ -61,7 +56,7 @@ joined_more (Ok y) (Ok xs) (Ok ys) = refl
 joined_more r a b = refl
 
 each-append : {X Y : Type 0} (step : X → Result Y TextFault) (xs ys : List X) → each step (xs ++ ys) ≡ joined (each step xs) (each step ys)
-each-append step [] ys = sym (joined_none (each step ys))
+each-append step [] ys = sym (with_front-none (each step ys))
 each-append {X} {Y} step (x ∷ xs) ys = rw (each-append step xs ys) (joined_more (step x) (each step xs) (each step ys))
 
 joined_clues : (width height : ℕ) (a b : Result (List (List ℕ)) TextFault)

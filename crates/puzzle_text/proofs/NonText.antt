@@ -93,9 +93,7 @@ non_is p =
 -- ---- no line is cut or trimmed
 
 no_feeds : (text : List ℕ) → list_all (λ byte. not (eqb byte 10)) text ≡ true → AllByRecursion (λ byte. eqb byte 10 ≡ false) text
-no_feeds text h =
-    all-weaker (λ byte. not (eqb byte 10) ≡ true) _ (λ byte other. not-true (eqb byte 10) other) text
-    (all_pass (λ byte. not (eqb byte 10)) text h)
+no_feeds text h = all_pass (λ byte. not (eqb byte 10)) _ (λ byte other. not-true (eqb byte 10) other) text h
 
 kept_field : (word text : List ℕ) → list_all (λ byte. not (eqb byte 10)) word ≡ true → list_all (λ byte. not (eqb byte 10)) text ≡ true
     → 33 ≤ get_or (field_line word text) 0 0 → IsKept (field_line word text)
@@ -119,9 +117,9 @@ kept_one word (Some text) name lawful first =
 kept_blank : IsKept []
 kept_blank = record { no_feed = tt; no_return = refl; trimmed = refl }
 
-kept_gap : (o : Option (List Bool)) → AllByRecursion IsKept (goal_gap o)
-kept_gap None = tt
-kept_gap (Some cells) = (kept_blank, tt)
+pub all_gap : (P : List ℕ → Type 0) → P [] → (o : Option (List Bool)) → AllByRecursion P (goal_gap o)
+all_gap P blank None = tt
+all_gap P blank (Some cells) = (blank, tt)
 
 clean_goal : (cells : List Bool) → list_all (λ byte. not (eqb byte 10)) (map goal_byte cells) ≡ true
 clean_goal [] = refl
@@ -174,7 +172,7 @@ kept_non limit p wide lawful =
     all-weaker IsTidy IsKept kept_tidy (map (clue_text 44) p.columns) (tidy_clues 44 limit p.columns comma wide lawful.columns) in
     let after =
     all-append IsKept (column_part p) (goal_part p)
-    (all-append IsKept (map (clue_text 44) p.columns) (goal_gap p.goal) columns (kept_gap p.goal)) (kept_goal p.goal) in
+    (all-append IsKept (map (clue_text 44) p.columns) (goal_gap p.goal) columns (all_gap IsKept kept_blank p.goal)) (kept_goal p.goal) in
     let behind =
     all-append IsKept (row_part p) (after_rows p) (all-append IsKept (map (clue_text 44) p.rows) ([] ∷ []) rows (kept_blank, tt))
     (kept_tidy (codes "columns") (tidy_word (codes "columns") refl (omega arith)), after) in

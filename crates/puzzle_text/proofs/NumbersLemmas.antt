@@ -1,5 +1,7 @@
 -- Lemmas on numbers in a line.
-use Rattle.puzzle_text.proofs.Names.{rules, ◌≡◌, ℕ, zero, suc, ◌+◌, ◌-◌, ◌*◌, ◌<◌, ◌≤◌, true, false, not, leb, ltb, List, [], ◌∷◌, length, take, drop, filter, get_or, All, refl, sym, ap, ◌∙◌, arith, inl, inr, Option, Some, None, lit≤, option_and_then, option_map, list_all, position, position_or_len, slice_split, is_ascii_digit, digit_value, digits_value, and-false, cases_Bool, le-leb, lt-leb, lt-ltb, ltb-true, ltb-false, ne_eqb, nat_tests, drop_more, get_or-take, get_or_default, length-take-le, take-append-drop, take_all, drop_all, take-take, slice_split_at, slice_split_none, AllPass-from_list_all, fails_before_first, position_or_len_is, prefix_len-le-length, list_all_at, list_all_more, digits_value-take-le, numbers_within, is_empty, is_separator, number_within, pieces}
+use Rattle.std.proofs.lemmas.Option.{cond_some}
+use Rattle.std.proofs.lemmas.List.Splits.{slice_split_first}
+use Rattle.puzzle_text.proofs.Names.{rules, ◌≡◌, ℕ, zero, suc, ◌+◌, ◌-◌, ◌*◌, ◌<◌, ◌≤◌, true, false, not, leb, ltb, List, [], ◌∷◌, length, take, drop, filter, get_or, All, refl, sym, ap, ◌∙◌, arith, inl, inr, Option, Some, None, lit≤, option_and_then, option_map, list_all, position, position_or_len, slice_split, is_ascii_digit, digit_value, digits_value, and-false, cases_Bool, le-leb, lt-leb, lt-ltb, ltb-true, ltb-false, ne_eqb, nat_tests, get_or-take, get_or_default, length-take-le, take_all, drop_all, take-take, slice_split_none, AllPass-from_list_all, fails_before_first, position_or_len_is, prefix_len-le-length, list_all_at, list_all_more, digits_value-take-le, numbers_within, is_empty, is_separator, number_within, pieces}
 use Rattle.std.proofs.lemmas.List.Quantifiers.{position-Some}
 use borrow.Author.Count.{below_more}
 use Rattle.std.proofs.lemmas.Int.Digits.{digits_value_more}
@@ -25,11 +27,9 @@ past_limit limit piece i h =
 
 -- ---- the first piece
 
-none_before : (text : List ℕ) (i : ℕ) → i < length text → ((k : ℕ) → k < i → is_separator (get_or text k 0) ≡ false)
-    → All (λ byte. is_separator byte ≡ false) (take i text)
-none_before text i h before k d lt =
-    let low : k < i = omega (arith, length-take-le i text) in
-    ap is_separator (get_or_default (take i text) k d 0 lt ∙ get_or-take i text k 0 low) ∙ before k low
+-- the first separator's place, or the length
+abbrev end_of : List ℕ → ℕ
+end_of text = position_or_len is_separator text
 
 pub keeps_piece : (piece : List ℕ) (parts : List (List ℕ)) → 0 < length piece
     → filter (λ part. not (is_empty part)) (piece ∷ parts) ≡ piece ∷ filter (λ part. not (is_empty part)) parts
@@ -42,12 +42,10 @@ first_piece text zero found first =
     absurd (let at : is_separator (get_or text 0 0) ≡ true = (position-Some is_separator text 0 0 found).1 in cc)
 first_piece text (suc k) found first =
     let end = suc k in
-    let here = position-Some is_separator text end 0 found in
-    let parts = take-append-drop end text in
-    let cut : slice_split is_separator text ≡ take end text ∷ slice_split is_separator (drop (end + 1) text) =
-    ap (slice_split is_separator) (sym (rw (drop_more text end 0 here.0) at parts))
-    ∙ slice_split_at is_separator (take end text) (get_or text end 0) (drop (end + 1) text) (none_before text end here.0 here.2) here.1 in
-    rw cut (keeps_piece (take end text) (slice_split is_separator (drop (end + 1) text)) (omega (arith, length-take-le end text, here.0)))
+    let here = cond_some (ltb (end_of text) (length text)) (end_of text) end found in
+    let inside : end_of text < length text = ltb-true _ _ here.0 in
+    let cut = rw here.1 at (slice_split_first is_separator text 0 inside) in
+    rw cut (keeps_piece (take end text) (slice_split is_separator (drop (end + 1) text)) (omega (arith, length-take-le end text)))
 
 -- without a separator it is the whole
 pub only_piece : (text : List ℕ) → 0 < length text → position is_separator text ≡ None → pieces text ≡ text ∷ []
@@ -59,10 +57,6 @@ only_piece text h none =
     rw (slice_split_none is_separator text clear) (keeps_piece text [] h)
 
 -- ---- the number of the first piece
-
--- the first separator's place, or the length
-abbrev end_of : List ℕ → ℕ
-end_of text = position_or_len is_separator text
 
 cut : (text : List ℕ) → 0 < length text → is_separator (get_or text 0 0) ≡ false
     → pieces text ≡ take (end_of text) text ∷ pieces (drop (end_of text + 1) text)

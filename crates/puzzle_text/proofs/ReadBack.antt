@@ -79,8 +79,7 @@ tidy_solid text some high =
 
 -- so is a word
 pub tidy_word : (text : List ℕ) → list_all (leb 33) text ≡ true → 0 < length text → IsTidy text
-tidy_word text high some =
-    tidy_solid text some (all-weaker (λ byte. leb 33 byte ≡ true) _ (λ byte h. leb-true 33 byte h) text (all_pass (leb 33) text high))
+tidy_word text high some = tidy_solid text some (all_pass (leb 33) (λ byte. 33 ≤ byte) (λ byte h. leb-true 33 byte h) text high)
 
 -- texts as lines, numbered from here
 abbrev pub numbered : ℕ → List (List ℕ) → List Line

@@ -71,8 +71,7 @@ numbers_again limit (n ∷ ns) wide h = rw (number_within_again limit n wide h.0
 
 -- the numbers of a clue are no more than the limit
 pub runs : (limit : ℕ) (ns : List ℕ) → list_all (is_run limit) ns ≡ true → AllByRecursion (λ n. n ≤ limit) ns
-runs limit ns h =
-    all-weaker (λ n. is_run limit n ≡ true) _ (λ n run. leb-true n limit (and_parts _ _ run).1) ns (all_pass (is_run limit) ns h)
+runs limit ns h = all_pass (is_run limit) (λ n. n ≤ limit) (λ n run. leb-true n limit (and_parts _ _ run).1) ns h
 
 -- numbers within a limit can be written
 pub words : (limit : ℕ) (ns : List ℕ) → limit < 2 ^ 64 → AllByRecursion (λ n. n ≤ limit) ns → AllByRecursion IsWord ns

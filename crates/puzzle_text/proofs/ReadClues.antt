@@ -55,12 +55,13 @@ pub word_clue : (limit : ℕ) (clue : List ℕ) → limit < 2 ^ 64 → is_clue l
 word_clue limit clue wide h = words limit clue wide (runs limit clue (and_parts _ _ h).1)
 
 -- what the line of a clue begins with
-pub first_digit : (s : ℕ) (clue : List ℕ) → AllByRecursion IsWord clue → 48 ≤ get_or (clue_text s clue) 0 0
-first_digit s [] h = omega arith
+pub first_digit : (s : ℕ) (clue : List ℕ) → AllByRecursion IsWord clue
+    → (48 ≤ get_or (clue_text s clue) 0 0) × (get_or (clue_text s clue) 0 0 ≤ 57)
+first_digit s [] h = (omega arith, omega arith)
 first_digit s (n ∷ ns) h =
     let numeral = (decimal_is_IsNumeral n h.0).0 in
     let digit = digit_at (decimal n) 0 numeral.1 numeral.0 in
-    rw (get_or_append_left (decimal n) (flat_map (λ other. s ∷ decimal other) ns) 0 0 numeral.0) (omega (arith, digit.0))
+    rw (get_or_append_left (decimal n) (flat_map (λ other. s ∷ decimal other) ns) 0 0 numeral.0) (omega arith, omega arith)
 
 pub some_text : (text : List ℕ) → 48 ≤ get_or text 0 0 → not (is_empty text) ≡ true
 some_text [] h = absurd (omega arith)
@@ -72,7 +73,7 @@ pub say_clues : (s limit k : ℕ) (clues : List (List ℕ)) → IsSpacing s → 
 say_clues s limit k [] spacing wide h = record { full = tt; hash = tt; count = refl; said = refl }
 say_clues s limit k (clue ∷ clues) spacing wide h =
     let digit = first_digit s clue (word_clue limit clue wide h.0) in
-    say_more limit (record { number = k; text = clue_text s clue }) clue _ clues (some_text (clue_text s clue) digit)
+    say_more limit (record { number = k; text = clue_text s clue }) clue _ clues (some_text (clue_text s clue) digit.0)
     (ne_eqb (get_or (clue_text s clue) 0 0) 35 (λ e. omega arith)) (clue_again s limit clue spacing wide h.0)
     (say_clues s limit (k + 1) clues spacing wide h.1)
 
@@ -122,7 +123,7 @@ module _ (limit a b : ℕ) (wide : limit < 2 ^ 64) (first : (1 ≤ a) × (a ≤ 
   tidy_sizes = tidy_clue 32 (a ∷ b ∷ []) space size_words
 
   pub some_sizes : not (is_empty (clue_text 32 (a ∷ b ∷ []))) ≡ true
-  some_sizes = some_text (clue_text 32 (a ∷ b ∷ [])) (first_digit 32 (a ∷ b ∷ []) size_words)
+  some_sizes = some_text (clue_text 32 (a ∷ b ∷ [])) (first_digit 32 (a ∷ b ∷ []) size_words).0
 
   -- sizes that are written are read again
   pub sizes_are : two_sizes limit (pieces (clue_text 32 (a ∷ b ∷ []))) ≡ Ok (a, b)

@@ -11,7 +11,9 @@ abbrev pub texts_mk : Nonogram → List (List ℕ)
 texts_mk p = clue_text 32 (p.height ∷ p.width ∷ []) ∷ (map (clue_text 32) p.rows ++ (35 ∷ []) ∷ map (clue_text 32) p.columns)
 
 text_is : (p : Nonogram) → flat_map with_feed (texts_mk p) ≡ text_mk p
-text_is p = rw (flat_map-append with_feed (map (clue_text 32) p.rows), fed_clues 32 p.rows, fed_clues 32 p.columns) (simp (append_assoc, append-nil))
+text_is p =
+    rw (flat_map-append with_feed (map (clue_text 32) p.rows), fed_clues 32 p.rows, fed_clues 32 p.columns)
+    (simp (append_assoc, append-nil))
 
 module _ (limit : ℕ) (p : Nonogram) (wide : limit ≤ 256) (lawful : IsNonogramWithin limit p) where
   abbrev pub high : (1 ≤ p.height) × (p.height ≤ limit)

@@ -1,14 +1,14 @@
 -- What is written in .non is read again.
-use Rattle.puzzle_text.proofs.Names.{rules, ◌≡◌, ℕ, ◌+◌, ◌*◌, ◌<◌, ◌≤◌, ◌^◌, Bool, true, false, cond, not, eqb, leb, ltb, List, [], ◌∷◌, ◌++◌, length, map, codes, refl, sym, ap, ◌∙◌, arith, Option, Some, None, Ok, decimal, filter, list_all, AllByRecursion, bytes_eq, eq-eqb, eqb-true, le-ltb, leb-true, and_parts, append-nil, reverse-append, reverse-reverse, length-map, get_or_append_left, filter-append, flat_map, digit_at, decimal_is_IsNumeral, is_clue, Nonogram, IsNonogramWithin, is_goal, text_of, Description, is_field, Line, lines, is_full, is_empty, trim, each_some, rest, with_keyword, first_with, all_fields, field_word, quoted, quoted_text, placed, sections_of, number_of_line, long_text, cell_of, goal_cells, goal_of, field_text, texts_of, sizes_of, rows_first, check_lines, outline_of, non_of, read_non, clue_text, goal_byte, text_non, Sections, puzzle_said, Rows, Columns}
+use Rattle.puzzle_text.proofs.Names.{rules, ◌≡◌, ℕ, ◌+◌, ◌*◌, ◌<◌, ◌≤◌, ◌^◌, Bool, true, false, cond, not, ltb, List, [], ◌∷◌, ◌++◌, length, map, codes, refl, sym, ap, ◌∙◌, arith, Option, Some, None, Ok, decimal, filter, AllByRecursion, bytes_eq, eq-eqb, eqb-true, append-nil, reverse-append, reverse-reverse, length-map, filter-append, flat_map, is_clue, Nonogram, IsNonogramWithin, is_goal, text_of, Description, is_field, Line, lines, is_full, is_empty, trim, each_some, rest, with_keyword, first_with, all_fields, field_word, quoted, quoted_text, placed, sections_of, number_of_line, long_text, cell_of, goal_cells, goal_of, field_text, texts_of, sizes_of, rows_first, check_lines, outline_of, non_of, read_non, clue_text, goal_byte, text_non, Sections, puzzle_said, Rows, Columns}
 use Rattle.grid_core.specs.declared.fields.Field.{Field}
 use Rattle.grid_core.specs.declared.fields.Field.TheVariants.{Catalogue, Title, By, Copyright, License}
 use Rattle.puzzle_text.proofs.AllLemmas.{all-append, all-flat_map, all-map, all-weaker, filter_all, filter_none}
 use Rattle.puzzle_text.proofs.SaidLines.{SayAll, non_lines, short_lines}
 use Rattle.puzzle_text.proofs.SectionsWalk.{IsContent, below, below_keyword, content_digit, join, join_content, nothing_above, with_columns, with_lines, with_rows, word_at}
 use Rattle.puzzle_text.proofs.ReadBack.{numbered, kept_tidy}
-use Rattle.puzzle_text.proofs.ReadClue.{IsWord, comma}
-use Rattle.puzzle_text.proofs.ReadClues.{numbered-append, say_clues, word_clue, size_again, tidy_decimal}
-use Rattle.puzzle_text.proofs.NonText.{facts, field_line, lawful_field, one, size_text, goal_text, goal_gap, part, fields, row_part, column_part, goal_part, after_rows, after_fields, texts_non, lines_non, length_non, quote_kept, rest_of}
+use Rattle.puzzle_text.proofs.ReadClue.{comma}
+use Rattle.puzzle_text.proofs.ReadClues.{numbered-append, say_clues, word_clue, size_again, tidy_decimal, first_digit}
+use Rattle.puzzle_text.proofs.NonText.{facts, field_line, lawful_field, one, size_text, goal_text, goal_gap, part, fields, row_part, column_part, goal_part, after_rows, after_fields, texts_non, lines_non, length_non, quote_kept, rest_of, all_gap}
 
 abbrev texts_with : List ℕ → List (List ℕ) → List (List ℕ)
 texts_with word texts = filter (λ text. bytes_eq (word_at text) word) texts
@@ -18,23 +18,11 @@ texts_with word texts = filter (λ text. bytes_eq (word_at text) word) texts
 content_blank : IsContent []
 content_blank = record { word = refl; hash = refl }
 
-content_clue : (clue : List ℕ) → AllByRecursion IsWord clue → IsContent (clue_text 44 clue)
-content_clue [] h = record { word = refl; hash = refl }
-content_clue (n ∷ ns) h =
-    let numeral = (decimal_is_IsNumeral n h.0).0 in
-    let digit = digit_at (decimal n) 0 numeral.1 numeral.0 in
-    let same = get_or_append_left (decimal n) (flat_map (λ other. 44 ∷ decimal other) ns) 0 0 numeral.0 in
-    content_digit (clue_text 44 (n ∷ ns)) (omega arith) (omega arith)
-
 content_clues : (limit : ℕ) (clues : List (List ℕ)) → limit < 2 ^ 64 → AllByRecursion (λ clue. is_clue limit clue ≡ true) clues
     → AllByRecursion IsContent (map (clue_text 44) clues)
 content_clues limit clues wide h =
-    all-map (λ clue. is_clue limit clue ≡ true) IsContent (clue_text 44) (λ clue is. content_clue clue (word_clue limit clue wide is))
-    clues h
-
-content_gap : (o : Option (List Bool)) → AllByRecursion IsContent (goal_gap o)
-content_gap None = tt
-content_gap (Some cells) = (content_blank, tt)
+    all-map (λ clue. is_clue limit clue ≡ true) IsContent (clue_text 44)
+    (λ clue is. let digit = first_digit 44 clue (word_clue limit clue wide is) in content_digit (clue_text 44 clue) digit.0 digit.1) clues h
 
 -- ---- the lines with a keyword
 
@@ -46,8 +34,7 @@ with-content word texts other h =
 
 with-one : (word name : List ℕ) (o : Option (List ℕ)) (same : Bool)
     → ((text : List ℕ) → bytes_eq (word_at (field_line name text)) word ≡ same) → texts_with word (one name o) ≡ cond same (one name o) []
-with-one word name None true h = refl
-with-one word name None false h = refl
+with-one word name None same h = search rules
 with-one word name (Some text) same h = rw (h text) refl
 
 -- the fields with this keyword
@@ -70,7 +57,7 @@ module _ (limit : ℕ) (p : Nonogram) (wide : limit < 2 ^ 64) (lawful : IsNonogr
   content_columns : AllByRecursion IsContent (column_part p)
   content_columns =
       all-append IsContent (map (clue_text 44) p.columns) (goal_gap p.goal) (content_clues limit p.columns wide lawful.columns)
-      (content_gap p.goal)
+      (all_gap IsContent content_blank p.goal)
 
   -- the lines with a keyword: those of its fields, of the sizes, of the sections and of the goal
   whole : (word : List ℕ) (goal : Bool) → bytes_eq [] word ≡ false
@@ -114,10 +101,6 @@ one_seen : (xs : List Line) (text : List ℕ) → map (λ (line : Line). line.te
 one_seen (x ∷ []) text e = (x, refl, cc)
 one_seen xs text e = absurd cc
 
-one_line : (word text : List ℕ) (k : ℕ) (texts : List (List ℕ)) → texts_with word texts ≡ text ∷ []
-    → IsOne (with_keyword word (numbered k texts)) text
-one_line word text k texts e = one_seen (with_keyword word (numbered k texts)) text (lines_with word k texts ∙ e)
-
 -- ---- what stands between quotes
 
 quoted_is : (text : List ℕ) → quoted (34 ∷ (text ++ 34 ∷ [])) ≡ text
@@ -135,7 +118,7 @@ field_is : (word : List ℕ) (o : Option (List ℕ)) (k : ℕ) (texts : List (Li
     → FieldIs word (numbered k texts) o
 field_is word None k texts after e = none_seen (with_keyword word (numbered k texts)) (lines_with word k texts ∙ e)
 field_is word (Some text) k texts after e =
-    let found = one_line word (field_line word text) k texts e in
+    let found = one_seen (with_keyword word (numbered k texts)) (field_line word text) (lines_with word k texts ∙ e) in
     (found.0, found.1, ap (λ (x : List ℕ). quoted (rest_of x)) found.2 ∙ ap quoted (after text) ∙ quoted_is text)
 
 field_again : (word : List ℕ) (lines : List Line) (o : Option (List ℕ)) → FieldIs word lines o → field_text word lines ≡ o
@@ -145,9 +128,7 @@ field_again word lines (Some text) is = rw (is.1, is.2) refl
 long_none : (word : List ℕ) (lines : List Line) (o : Option (List ℕ)) → FieldIs word lines o → is_field o ≡ true
     → number_of_line (long_text lines word) ≡ None
 long_none word lines None is lawful = rw is refl
-long_none word lines (Some text) is lawful =
-    let within = leb-true (length text) 65536 (and_parts (leb (length text) 65536) (list_all (λ byte. not (eqb byte 10)) text) lawful).0 in
-    rw (is.1, is.2, le-ltb 65536 (length text) within) refl
+long_none word lines (Some text) is lawful = rw (is.1, is.2) (search rules)
 
 -- ---- sections
 
@@ -206,20 +187,16 @@ laid_out limit p wide lawful =
           refl,
     )
 
-gap_blank : (k : ℕ) (o : Option (List Bool)) → AllByRecursion (λ line. is_full line ≡ false) (numbered k (goal_gap o))
-gap_blank k None = tt
-gap_blank k (Some cells) = (refl, tt)
-
 -- the lines of a section that aren't blank say its clues
 part_again : (limit k : ℕ) (clues gap : List (List ℕ)) → limit < 2 ^ 64 → AllByRecursion (λ clue. is_clue limit clue ≡ true) clues
-    → ((m : ℕ) → AllByRecursion (λ line. is_full line ≡ false) (numbered m gap))
+    → AllByRecursion (λ text. not (is_empty text) ≡ false) gap
     → SayAll limit (filter is_full (numbered k (map (clue_text 44) clues ++ gap))) clues
 part_again limit k clues gap wide lawful blank =
     let said = say_clues 44 limit k clues comma wide lawful in
     let texts = map (clue_text 44) clues in
     let after = numbered (k + length texts) gap in
     rw (numbered-append k texts gap, filter-append is_full (numbered k texts) after, filter_all is_full (numbered k texts) said.full)
-    (rw (filter_none is_full after (blank (k + length texts)), append-nil (numbered k texts)) said)
+    (rw (filter_none is_full after (numbered_all (λ text. not (is_empty text) ≡ false) (k + length texts) gap blank), append-nil) said)
 
 -- ---- the goal
 
@@ -246,16 +223,18 @@ module _ (limit : ℕ) (p : Nonogram) (wide : limit < 2 ^ 64) (lawful : IsNonogr
   OneLine word text = IsOne (with_keyword word all_lines) text
 
   width_line : OneLine (codes "width") (size_text (codes "width") p.width)
-  width_line = one_line (codes "width") _ 1 (texts_non p) (whole limit p wide lawful (codes "width") false refl (λ text. refl))
+  width_line = one_seen _ _ (lines_with (codes "width") 1 (texts_non p) ∙ whole limit p wide lawful (codes "width") false refl (λ _. refl))
 
   height_line : OneLine (codes "height") (size_text (codes "height") p.height)
-  height_line = one_line (codes "height") _ 1 (texts_non p) (whole limit p wide lawful (codes "height") false refl (λ text. refl))
+  height_line =
+      one_seen _ _ (lines_with (codes "height") 1 (texts_non p) ∙ whole limit p wide lawful (codes "height") false refl (λ _. refl))
 
   rows_line : OneLine (codes "rows") (codes "rows")
-  rows_line = one_line (codes "rows") _ 1 (texts_non p) (whole limit p wide lawful (codes "rows") false refl (λ text. refl))
+  rows_line = one_seen _ _ (lines_with (codes "rows") 1 (texts_non p) ∙ whole limit p wide lawful (codes "rows") false refl (λ _. refl))
 
   columns_line : OneLine (codes "columns") (codes "columns")
-  columns_line = one_line (codes "columns") _ 1 (texts_non p) (whole limit p wide lawful (codes "columns") false refl (λ text. refl))
+  columns_line =
+      one_seen _ _ (lines_with (codes "columns") 1 (texts_non p) ∙ whole limit p wide lawful (codes "columns") false refl (λ _. refl))
 
   goal_field : FieldIs (codes "goal") all_lines (goal_text p.goal)
   goal_field =
@@ -279,19 +258,10 @@ module _ (limit : ℕ) (p : Nonogram) (wide : limit < 2 ^ 64) (lawful : IsNonogr
       let widths = size_again limit p.width wide size.width_from size.width_to in
       rw (width_line.1, height_line.1, wide_text, high_text, widths, size_again limit p.height wide size.height_from size.height_to) refl
 
-  abbrev order : Bool
-  order = ltb rows_line.0.number columns_line.0.number
-
-  order_read : rows_first all_lines ≡ Ok order
-  order_read = rw (rows_line.1, columns_line.1) refl
-
   lines_checked : check_lines None all_lines ≡ Ok tt
   lines_checked =
       rw (long_at Catalogue, long_at Title, long_at By, long_at Copyright, long_at License)
       (rw (width_line.1, height_line.1, rows_line.1, columns_line.1) refl)
-
-  goal_read : goal_of (p.width * p.height) (first_with (codes "goal") all_lines) ≡ Ok p.goal
-  goal_read = goal_again (p.width * p.height) p.goal all_lines goal_field lawful.goal
 
   field_read : (f : Field) → field_text (field_word f) all_lines ≡ text_of p.texts f
   field_read f = field_again (field_word f) all_lines (text_of p.texts f) (field_at f)
@@ -303,11 +273,14 @@ module _ (limit : ℕ) (p : Nonogram) (wide : limit < 2 ^ 64) (lawful : IsNonogr
   non_again : non_of limit all_lines ≡ Ok p
   non_again =
       let laid = laid_out limit p wide lawful in
+      let order = ltb rows_line.0.number columns_line.0.number in
+      let order_read : rows_first all_lines ≡ Ok order = rw (rows_line.1, columns_line.1) refl in
       let outline : outline_of limit None all_lines ≡ Ok ((p.width, p.height), order) = rw (sizes_read, order_read, lines_checked) refl in
+      let goal_read = goal_again (p.width * p.height) p.goal all_lines goal_field lawful.goal in
       ap (λ (sections : Sections). puzzle_said limit sections all_lines) laid.2
       ∙ non_lines limit (these p laid.0 laid.1) all_lines p.width p.height order p.rows p.columns p refl
-      (part_again limit laid.0 p.rows ([] ∷ []) wide lawful.rows (λ m. (refl, tt)))
-      (part_again limit laid.1 p.columns (goal_gap p.goal) wide lawful.columns (λ m. gap_blank m p.goal)) outline
+      (part_again limit laid.0 p.rows ([] ∷ []) wide lawful.rows (refl, tt))
+      (part_again limit laid.1 p.columns (goal_gap p.goal) wide lawful.columns (all_gap _ refl p.goal)) outline
       lawful.clues.0 lawful.clues.1 (rw (goal_read, texts_read) refl)
 
 -- a written puzzle is read again, texts and goal included

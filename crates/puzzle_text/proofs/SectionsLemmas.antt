@@ -1,6 +1,6 @@
 -- Lemmas on the choice of clue lines.
 use Rattle.puzzle_text.proofs.Names.{rules, ◌≡◌, ℕ, append-nil, ◌≤◌, Bool, true, false, cond, not, eqb, leb, List, [], ◌∷◌, length, take, drop, map, refl, sym, ap, ◌∙◌, arith, Some, None, count_by, filter, list_all, ne_eqb, eq-eqb, le-leb, take-map, drop-map, length-map, length-take-le, take-append-drop, filter-append, list_all-map, count_by-le-length, length-filter, Line, is_full, is_blank_line}
-use Rattle.puzzle_text.proofs.AllLemmas.{all-weaker, all_pass, filter_none}
+use Rattle.puzzle_text.proofs.AllLemmas.{all_pass, filter_none}
 use Rattle.puzzle_text.specs.Sections.{choice}
 use Rattle.puzzle_text.specs.steps.Sections.{front}
 
@@ -61,10 +61,7 @@ all_kept (line ∷ lines) e =
     search rules
 
 none_kept : (lines : List Line) → list_all is_blank_line lines ≡ true → filter is_full lines ≡ []
-none_kept lines blank =
-    filter_none is_full lines
-    (all-weaker (λ line. is_blank_line line ≡ true) (λ line. is_full line ≡ false) (λ line e. ap not e) lines
-    (all_pass is_blank_line lines blank))
+none_kept lines blank = filter_none is_full lines (all_pass is_blank_line (λ line. is_full line ≡ false) (λ line e. ap not e) lines blank)
 
 front_kept : (count : ℕ) (lines : List Line) → count ≤ length lines → list_all is_blank_line (drop count lines) ≡ true
     → length (filter is_full lines) ≡ count → filter is_full lines ≡ take count lines

@@ -3,7 +3,7 @@ use Rattle.puzzle_text.proofs.Names.{◌≡◌, ℕ, ◌-◌, ◌<◌, ◌≤◌
 use Rattle.puzzle_text.proofs.NumbersLemmas.{digit_clear, keeps_piece, number_is}
 use Rattle.puzzle_text.proofs.ReadBack.{IsKept, IsTidy, kept_tidy, line_kept, tidy_solid, raw_lines-feed, strip_last_is}
 use Rattle.puzzle_text.proofs.ReadClue.{IsSpacing, clue_is, comma, space}
-use Rattle.puzzle_text.proofs.AllLemmas.{all-append, all-weaker, all_pass}
+use Rattle.puzzle_text.proofs.AllLemmas.{all-append, all_pass}
 use Rattle.puzzle_text.proofs.ReadClues.{tidy-join}
 
 pub digit_range : (c : ℕ) → is_ascii_digit c ≡ true → (48 ≤ c) × (c ≤ 57)
@@ -18,9 +18,7 @@ pub record SaysNumbers (text : List ℕ) (numbers : List ℕ) : Type 0 where
   pub said : numbers_within LONGEST_SIDE (pieces text) ≡ Some numbers
 
 digits_high : (ds : List ℕ) → list_all is_ascii_digit ds ≡ true → AllByRecursion (λ byte. 33 ≤ byte) ds
-digits_high ds h =
-    all-weaker (λ d. is_ascii_digit d ≡ true) (λ d. 33 ≤ d) (λ d digit. omega (arith, (digit_range d digit).0)) ds
-    (all_pass is_ascii_digit ds h)
+digits_high ds h = all_pass is_ascii_digit (λ d. 33 ≤ d) (λ d digit. omega (arith, (digit_range d digit).0)) ds h
 
 some_digits : (piece : List ℕ) (n : ℕ) → n ≡ digits_value 10 piece → 1 ≤ n → 0 < length piece
 some_digits [] n e h = absurd (omega (arith, e))
@@ -118,7 +116,8 @@ line_ends front bytes rest tidy e =
 pub headed : (text : List ℕ) (byte : ℕ) → 2 ≤ length text → get_or text 0 0 ≡ byte
     → text ≡ byte ∷ get_or text 1 0 ∷ take (length text - 2) (drop 2 text)
 headed (a ∷ b ∷ rest) byte some is =
-    ap (λ (first : ℕ). first ∷ b ∷ rest) is ∙ ap (λ (r : List ℕ). byte ∷ b ∷ r) (sym (take_all (length (a ∷ b ∷ rest) - 2) rest (omega arith)))
+    ap (λ (first : ℕ). first ∷ b ∷ rest) is
+    ∙ ap (λ (r : List ℕ). byte ∷ b ∷ r) (sym (take_all (length (a ∷ b ∷ rest) - 2) rest (omega arith)))
 headed text byte some is = absurd (omega arith)
 
 -- the last number of a line ends its clue

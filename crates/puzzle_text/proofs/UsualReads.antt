@@ -1,5 +1,5 @@
 -- What the parts of a usual text say is what the text says.
-use Rattle.puzzle_text.proofs.Names.{◌≡◌, ℕ, ◌+◌, ◌≤◌, List, [], ◌∷◌, ◌++◌, length, filter, refl, sym, subst, Result, Ok, Err, IfOk, IfSome, append-nil, LONGEST_SIDE, Nonogram, plain, TextFault, Gives, is_keyword_line, Line, lines, numbered_from, raw_lines, read_mk, read_nin, placed, puzzle_said, read_non, sections_of, likelier, BeginsWith, SayClues, SaysSizes}
+use Rattle.puzzle_text.proofs.Names.{◌≡◌, ℕ, ◌+◌, ◌≤◌, List, [], ◌∷◌, ◌++◌, length, filter, refl, Result, Ok, Err, IfOk, IfSome, append-nil, LONGEST_SIDE, Nonogram, plain, TextFault, Gives, is_keyword_line, Line, lines, numbered_from, raw_lines, read_mk, read_nin, placed, puzzle_said, read_non, sections_of, likelier, BeginsWith, SayClues, SaysSizes}
 use Rattle.std.specs.Result.{result_ok}
 use Rattle.puzzle_text.specs.steps.Lines.{HaveNoFeed}
 use Rattle.puzzle_text.proofs.FeedsLemmas.{clean_filter, lines_have_no_feed}
@@ -26,7 +26,7 @@ ok_of_gives P (Err fault) answer gives f = tt
 pub kept_clean : (bytes : List ℕ) (kept : List Line) → length bytes ≤ 1048576 → kept ≡ filter is_keyword_line (lines bytes)
     → HaveNoFeed kept
 kept_clean bytes kept short e =
-    subst HaveNoFeed (sym e) (clean_filter is_keyword_line (lines bytes) (lines_have_no_feed bytes (lines bytes) (short_lines bytes short)))
+    rw e (clean_filter is_keyword_line (lines bytes) (lines_have_no_feed bytes (lines bytes) (short_lines bytes short)))
 
 -- what the parts of a .non text say, the text says
 pub non_said : (bytes : List ℕ) (kept : List Line) (p : Nonogram) → length bytes ≤ 1048576 → kept ≡ filter is_keyword_line (lines bytes)

@@ -4,11 +4,13 @@ use Rattle.puzzle_text.proofs.PlainLines.{follows_amid, follows_line, follows_no
 use Rattle.puzzle_text.proofs.collections.past_plain.Goals as goal
 
 pub returns-then-is_empty : goal.returns-then-is_empty
-returns-then-is_empty c = follows_none _ _ _ c.split_at.ensures.by_index.0 (rw (← c.split_at.ensures.front) at c.before_at.ensures.other) (search rules)
+returns-then-is_empty c =
+    follows_none _ _ _ c.split_at.ensures.by_index.0 (rw (← c.split_at.ensures.front) at c.before_at.ensures.other) (search rules)
 
 pub returns-then-ends_line : goal.returns-then-ends_line
 returns-then-ends_line c =
-    follows_line _ _ _ c.split_at.ensures.by_index.0 (rw (← c.split_at.ensures.front) at c.before_at.ensures.other) (sym c.if-ends_line.ensures)
+    follows_line _ _ _ c.split_at.ensures.by_index.0 (rw (← c.split_at.ensures.front) at c.before_at.ensures.other)
+    (sym c.if-ends_line.ensures)
 
 pub returns : goal.returns
 returns c =

@@ -5,4 +5,5 @@ use Rattle.puzzle_text.proofs.sections.choice.Goals as goal
 
 pub returns-clause-length : goal.returns-clause-length
 returns-clause-length c =
-    length_full shown_line c.args.section.now c.in_ok-full.full.items c.in_ok-full.ensures ∙ sym c.full_count.ensures ∙ c.if-full_count-count.false
+    length_full shown_line c.args.section.now c.in_ok-full.full.items c.in_ok-full.ensures
+    ∙ sym c.full_count.ensures ∙ c.if-full_count-count.false

@@ -11,11 +11,6 @@ lines-preserved c = record {
   capacity = search rules;
   count = search rules;
   room =
-      omega (
-        arith,
-        ap length c.push_reserved.ensures.items,
-        length-append c.lines.clues.items (c.read_clue_line.new.clue ∷ []),
-        c.in_ok-rest.ensures.shorter,
-        c.lines.invariant.room,
-      );
+      let more = ap length c.push_reserved.ensures.items in
+      omega (arith, length-append c.lines.clues.items (c.read_clue_line.new.clue ∷ []), c.in_ok-rest.ensures.shorter);
 }

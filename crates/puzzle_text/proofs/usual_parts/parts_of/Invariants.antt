@@ -9,7 +9,8 @@ invariant-lines l = record {
   room : l.number + length l.below ≤ length l.text;
   keywords : map shown_keyword l.parts.keyword_lines.items ++ filter is_keyword_line (numbered_from (l.number + 1) (raw_lines l.below))
       ≡ filter is_keyword_line (lines l.text);
-  walk : (under : Under) × IsAbove under (lines l.text) (numbered_from (l.number + 1) (raw_lines l.below)) l.parts.rows.items l.parts.columns.items;
+  walk : (under : Under)
+      × IsAbove under (lines l.text) (numbered_from (l.number + 1) (raw_lines l.below)) l.parts.rows.items l.parts.columns.items;
 }
 
 abbrev pub decreases-lines : goal.decreases-lines
