@@ -1,9 +1,6 @@
 -- Lemmas on surveys: entries read and graded, jobs dealt and answered lane by lane, and progress.
-pub mod PartsLemmas
 pub mod ProgressLemmas
 pub mod ReadingLemmas
 pub mod ListingLemmas
-pub mod SurveyLemmas
-pub mod JobsLemmas
 pub mod DealtLemmas
 pub mod CollectedLemmas

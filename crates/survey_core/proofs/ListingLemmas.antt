@@ -19,37 +19,21 @@ graded_is : (guesses : Guessing) (name : List ℕ) (p q : Nonogram) (outcome : R
     → IsOutcome p guesses.limit guesses.pick outcome → if_graded name q outcome ≡ Some entry
     → entry ≡ record { name = name; result = reported guesses (Ok p) }
 graded_is guesses name p q (Err refused) entry same is_outcome listed = cc
-graded_is guesses name p q (Ok findings) entry same is_outcome listed =
-    let head : entry ≡ record { name = name; result = Ok (q, findings) } = cc in
-    head ∙ ap (λ (r : Nonogram). record { name = name; result = Ok (r, findings) }) same
-    ∙ ap (λ (found : Findings). record { name = name; result = Ok (p, found) }) is_outcome
+graded_is guesses name p q (Ok findings) entry same is_outcome listed = cc
 
 -- entries that were all listed with their faults and answers, which others may follow, are the graded ones
 pub listed_graded : (guesses : Guessing) (entries : List Entry) (read others : List (Result Nonogram EntryFault)) (answers : List Answer)
     (all : List GradedEntry) → read ≡ readings entries ++ others → AreGraded guesses read answers
     → answered entries (map fault_of read) answers ≡ map Some all → all ≡ map (graded guesses) (map shown_entry entries)
 listed_graded guesses [] read others answers [] same graded_so listed = refl
-listed_graded guesses [] read others answers (last ∷ all) same graded_so listed = cc
-listed_graded guesses (entry ∷ entries) [] others answers all same graded_so listed = cc
-listed_graded guesses (entry ∷ entries) (Err fault ∷ read) others answers [] same graded_so listed = cc
 listed_graded guesses (entry ∷ entries) (Err fault ∷ read) others answers (next ∷ all) same graded_so listed =
     let here : Err fault ≡ reading entry = cc in
-    let behind : read ≡ readings entries ++ others = cc in
-    let head : next ≡ refused entry.name.now fault = cc in
-    let left : answered entries (map fault_of read) answers ≡ map Some all = cc in
-    ap (λ (x : GradedEntry). x ∷ all)
-    (head ∙ ap (λ (r : Result Nonogram EntryFault). record { name = entry.name.now; result = reported guesses r }) here)
-    ∙ ap (λ (xs : List GradedEntry). graded guesses (shown_entry entry) ∷ xs)
-    (listed_graded guesses entries read others answers all behind graded_so left)
-listed_graded guesses (entry ∷ entries) (Ok p ∷ read) others [] all same graded_so listed = absurd graded_so
-listed_graded guesses (entry ∷ entries) (Ok p ∷ read) others (answer ∷ answers) [] same graded_so listed = cc
+    let rest = listed_graded guesses entries read others answers all (cc) graded_so (cc) in
+    rw (← here) (cc)
 listed_graded guesses (entry ∷ entries) (Ok p ∷ read) others (answer ∷ answers) (next ∷ all) same graded_so listed =
     let here : Ok p ≡ reading entry = cc in
-    let behind : read ≡ readings entries ++ others = cc in
-    let head : if_graded entry.name.now answer.puzzle answer.outcome ≡ Some next = cc in
-    let left : answered entries (map fault_of read) answers ≡ map Some all = cc in
-    ap (λ (x : GradedEntry). x ∷ all)
-    (graded_is guesses entry.name.now p answer.puzzle answer.outcome next graded_so.0 graded_so.1 head
-    ∙ ap (λ (r : Result Nonogram EntryFault). record { name = entry.name.now; result = reported guesses r }) here)
-    ∙ ap (λ (xs : List GradedEntry). graded guesses (shown_entry entry) ∷ xs)
-    (listed_graded guesses entries read others answers all behind graded_so.2 left)
+    let head = graded_is guesses entry.name.now p answer.puzzle answer.outcome next graded_so.0 graded_so.1 (cc) in
+    let rest = listed_graded guesses entries read others answers all (cc) graded_so.2 (cc) in
+    rw (← here) (cc)
+listed_graded guesses (entry ∷ entries) (Ok p ∷ read) others [] all same graded_so listed = absurd graded_so
+listed_graded guesses entries read others answers all same graded_so listed = cc

@@ -9,13 +9,11 @@ use Rattle.survey_core.proofs.grading.PrintingWorkEntry.both.Goals as goal
 pub returns : goal.returns
 returns c = λ first xs ys front behind.
     let printing = c.args.self.now in
-    let show = printing.settings.now.show in
     let these = graded_of printing xs in
     let those = graded_of printing ys in
+    let number : first + 1 + length these ≡ first + length xs + 1 = omega (arith, graded_count printing xs) in
     when_ok _ _ c.followed_by.result (λ are.
-    let number : first + length xs + 1 ≡ first + 1 + length these = omega (arith, graded_count printing xs) in
     let few : length (these ++ those) < 2 ^ 31 =
     omega (arith, are.few, graded_count printing (xs ++ ys), ap length (graded_both printing xs ys)) in
-    subst (λ (all : List GradedEntry). IfOk c.followed_by.result (λ parts. AreParts show (first + 1) parts all)) (sym (graded_both printing xs ys))
-    (c.followed_by.ensures show (first + 1) these those (front (answers_in_front printing first xs ys are))
-    (subst (λ (n : ℕ). AreParts show n c.args.behind those) number (behind (answers_behind printing first xs ys are))) few))
+    rw (graded_both printing xs ys) (c.followed_by.ensures printing.settings.now.show (first + 1) these those
+    (front (answers_in_front printing first xs ys are)) (rw number (behind (answers_behind printing first xs ys are))) few))

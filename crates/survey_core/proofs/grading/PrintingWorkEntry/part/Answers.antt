@@ -16,14 +16,7 @@ of-requires c =
 
 pub returns : goal.returns
 returns c =
-    let printing = c.args.self.now in
-    let before : c.split_at.result.0.now ≡ take (min c.args.first (length printing.faults.now)) printing.faults.now =
-    first_of (search rules, grind (arith, common_steps)) in
-    let faults : c.split_at.result.1.now ≡ drop (min c.args.first (length printing.faults.now)) printing.faults.now =
-    first_of (search rules, grind (arith, common_steps)) in
-    let answers : c.split_at-2.result.1.now ≡ drop (min (puzzle_count c.split_at.result.0.now) (length printing.answers.now)) printing.answers.now =
-    first_of (search rules, grind (arith, common_steps)) in
     IfOk-weaker c.of.result _ _ (λ parts listed are.
-    subst (λ (all : List GradedEntry). AreParts printing.settings.now.show (c.args.first + 1) parts all)
-    (part_graded printing c.args.first c.args.entries.now c.split_at.result.0.now c.split_at.result.1.now c.split_at-2.result.1.now listed.0 are
-    before faults answers listed.1) listed.2) c.of.ensures
+    rw (← part_graded c.args.self.now c.args.first c.args.entries.now c.split_at.result.0.now c.split_at.result.1.now c.split_at-2.result.1.now
+    listed.0 are (first_of (search rules, grind (arith, common_steps))) (first_of (search rules, grind (arith, common_steps)))
+    (first_of (search rules, grind (arith, common_steps))) listed.1) listed.2) c.of.ensures

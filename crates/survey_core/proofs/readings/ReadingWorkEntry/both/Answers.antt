@@ -1,14 +1,19 @@
 -- `both` of reading: what was read of two parts is what is read of both.
-use Rattle.std.proofs.Common.{◌≡◌, ℕ, ◌+◌, length, subst, arith}
+use Rattle.std.proofs.Common.{◌≡◌, ◌+◌, length, map, arith}
+use Rattle.std.proofs.lemmas.List.{length-append, map-append}
 use Rattle.survey_core.specs.Guessing.{guessing}
-use Rattle.survey_core.specs.steps.Readings.{IsReadingOf}
-use Rattle.survey_core.proofs.ReadingLemmas.{both_read}
+use Rattle.survey_core.specs.steps.Readings.{shown_job}
+use Rattle.survey_core.proofs.ReadingLemmas.{faults-append, jobs_from-append}
 use Rattle.survey_core.proofs.readings.ReadingWorkEntry.both.Goals as goal
 
 pub returns : goal.returns
 returns c = λ first xs ys front behind.
     let guesses = guessing c.args.self.now.settings.now in
-    let number : first + length xs + 1 ≡ first + 1 + length xs = omega arith in
+    let number : first + 1 + length xs ≡ first + length xs + 1 = omega arith in
     let added = c.in_ok-append.ensures in
-    both_read guesses (first + 1) xs ys c.args.front c.args.behind _ front
-    (subst (λ (n : ℕ). IsReadingOf guesses n ys c.args.behind) number behind) added.jobs added.few added.faults
+    record {
+      jobs = rw (added.jobs, map-append shown_job c.args.front.jobs.items c.args.behind.jobs.items, jobs_from-append guesses (first + 1) xs ys, number,
+      front.jobs, behind.jobs);
+      few = omega (arith, front.few, behind.few, added.few, length-append xs ys);
+      faults = rw (added.faults, faults-append xs ys, front.faults, behind.faults);
+    }
