@@ -1,5 +1,5 @@
 -- Entries that are listed with what was found of them are the graded ones.
-use Rattle.std.proofs.Common.{◌≡◌, ℕ, List, [], ◌∷◌, ◌++◌, map, Some, Result, Ok, Err, ap, refl, ◌∙◌}
+use Rattle.std.proofs.Common.{◌≡◌, ℕ, List, [], ◌∷◌, ◌++◌, map, Some, Result, Ok, Err, refl}
 use Rattle.grid_core.specs.Nonogram.{Nonogram}
 use Rattle.grid_core.specs.declared.memory.NoMemory.{NoMemory}
 use Rattle.solve_core.specs.declared.findings.Findings.{Findings}

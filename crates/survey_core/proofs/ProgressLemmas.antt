@@ -26,5 +26,10 @@ pub told_text-more : (files : Option ℕ) (looks : List ℕ) (look told : ℕ) �
     → told_text files (looks ++ look ∷ []) ≡ told_text files looks ++ progress_line look files
 told_text-more files looks look told last more =
     let test : nat_lt told look ≡ true = grind (arith, nat_tests) in
-    rw (risen-push 0 looks look, ← last, test, flat_map-append (λ (begun : ℕ). progress_line begun files) (risen 0 looks) (look ∷ []),
-    append-nil (progress_line look files))
+    rw (
+      risen-push 0 looks look,
+      ← last,
+      test,
+      flat_map-append (λ (begun : ℕ). progress_line begun files) (risen 0 looks) (look ∷ []),
+      append-nil (progress_line look files),
+    )

@@ -1,16 +1,13 @@
 -- Entries that are read, and the answers beside them.
-use Rattle.std.proofs.Common.{◌≡◌, ℕ, suc, ◌+◌, ◌<◌, ◌≤◌, min, zero, List, [], ◌∷◌, ◌++◌, length, map, take, drop, get_or, cond, is_none, vec_len, IfOk, Option, None, Some, Result, Ok, Err, sym, ap, subst, ◌∙◌, append-nil, append_assoc, arith}
+use Rattle.std.proofs.Common.{◌≡◌, ℕ, suc, ◌+◌, ◌<◌, ◌≤◌, min, List, [], ◌∷◌, ◌++◌, length, map, take, drop, get_or, cond, is_none, IfOk, Option, None, Some, Result, Ok, Err, ap, ◌∙◌, append-nil, append_assoc, arith}
 use Rattle.std.proofs.Math.Seq.{take-add}
-use Rattle.std.proofs.lemmas.List.{drop-drop, drop_all, drop_at, length-append, length-map, map-append, map_more, take_at, map_push, take_min, drop_min}
+use Rattle.std.proofs.lemmas.List.{drop-drop, drop_at, length-append, length-map, map-append, map_more, take_at, map_push, take_min, drop_min}
 use Rattle.std.proofs.lemmas.List.Sums.{sum_by-append}
 use Rattle.grid_core.specs.Nonogram.{Nonogram}
-use Rattle.solve_core.specs.declared.picks.Pick.{Pick}
-use Rattle.puzzle_text.specs.Shown.{shown_entry}
 use Rattle.puzzle_text.specs.declared.collections.Entry.{Entry}
 use Rattle.puzzle_text.specs.declared.faults.EntryFault.{EntryFault}
 use Rattle.puzzle_text.specs.declared.limits.TheConstants.{MOST_ENTRIES}
 use Rattle.lane_core.specs.Answers.{AreAnswersTo}
-use Rattle.lane_core.specs.Outcome.{IsOutcome}
 use Rattle.lane_core.specs.declared.answers.Answer.{Answer}
 use Rattle.lane_core.specs.declared.jobs.Job.{Job}
 use Rattle.survey_text.proofs.NumberedLemmas.{made-more, numbered-append}
@@ -20,9 +17,8 @@ use Rattle.survey_text.specs.Survey.{Guessing, graded}
 use Rattle.survey_core.proofs.ListingLemmas.{listed_graded}
 use Rattle.survey_core.specs.Guessing.{guessing}
 use Rattle.survey_core.specs.steps.Graded.{AreAnswersAt, AreGraded, graded_of, puzzle_count}
-use Rattle.survey_core.specs.steps.Readings.{IsReadingOf, NumberedPuzzle, fault_of, job_of, jobs_from, reading, readings, shown_job}
+use Rattle.survey_core.specs.steps.Readings.{NumberedPuzzle, fault_of, job_of, jobs_from, reading, readings, shown_job}
 use Rattle.survey_core.specs.declared.grading.Printing.{Printing}
-use Rattle.survey_core.specs.declared.readings.Readings.{Readings}
 
 -- one more entry adds its job, if it is a puzzle
 pub jobs_from-more : (guesses : Guessing) (first : ℕ) (entries : List Entry) (i : ℕ) (d : Entry) → i < length entries

@@ -3,7 +3,7 @@ use Rattle.std.proofs.Common.{◌≡◌, ℕ, suc, ◌+◌, ◌-◌, ◌*◌, �
 use Rattle.std.specs.List.{AllByRecursion, list_all}
 use Rattle.std.proofs.lemmas.Bool.{and_parts, and_from}
 use Rattle.std.proofs.lemmas.Bool.Decides.{Decides-eqb}
-use Rattle.std.proofs.lemmas.List.{get_or-drop, get_or-map, get_or-take, length-drop, length-map, length-take-le}
+use Rattle.std.proofs.lemmas.List.{ext_get_or, get_or-drop, get_or-map, get_or-take, length-drop, length-map, length-take-le}
 use Rattle.std.proofs.lemmas.List.Elements.{recursion_from_All, All-from_recursion}
 use Rattle.std.proofs.Math.Nat.{mod-lt}
 use Rattle.std.proofs.lemmas.Nat.{div-add-mod', mul-add-lt, row-Below}
@@ -49,22 +49,16 @@ by_test p values false word.Absent decides some meets = absurd (some refl)
 by_test p values false word.Meets decides some meets = let bad = decides.1 (meets.0 refl) in cc
 by_test p values false word.Misses decides some meets = refl
 
+-- a word that is not Absent, and Meets exactly if the values meet the clues, is the word of these
+pub said_of : (p : Nonogram) (values : List Bool) (said : GoalWord) → (said ≡ word.Absent → ⊥) → (said ≡ word.Meets) ↔ Meets p values
+    → said ≡ word_of_goal p (Some values)
+said_of p values said some meets = by_test p values (meets_clues p values) said (meets_decide p values) some meets
+
 -- a word that is Absent exactly without a goal, and Meets exactly if it meets the clues, is the goal's word
 pub word_of_goal_is : (p : Nonogram) (goal : Option (List Bool)) (said : GoalWord) → (said ≡ word.Absent) ↔ (goal ≡ None)
     → (said ≡ word.Meets) ↔ GivenMeets p goal → said ≡ word_of_goal p goal
 word_of_goal_is p None said absent meets = absent.1 refl
-word_of_goal_is p (Some values) said absent meets =
-    by_test p values (meets_clues p values) said (meets_decide p values) (λ e. let bad = absent.0 e in cc) meets
-
--- lists that are the same at each place
-same_lists : (xs ys : List Bool) → length xs ≡ length ys → ((i : ℕ) → i < length xs → get_or xs i false ≡ get_or ys i false) → xs ≡ ys
-same_lists [] [] e h = refl
-same_lists [] (y ∷ ys) e h = absurd (omega arith)
-same_lists (x ∷ xs) [] e h = absurd (omega arith)
-same_lists (x ∷ xs) (y ∷ ys) e h =
-    let first : x ≡ y = h 0 (omega arith) in
-    ap (λ (v : Bool). v ∷ xs) first ∙ ap (λ (left : List Bool). y ∷ left)
-    (same_lists xs ys (omega arith) (λ i within. h (suc i) (omega arith)))
+word_of_goal_is p (Some values) said absent meets = said_of p values said (λ e. let bad = absent.0 e in cc) meets
 
 -- the values of a row are the colours of its cells exactly if the goal's are in that row
 pub row_shown : (grid : PartialGrid) (values : List Bool) (y first width last : ℕ) (row : List Cell) → row ≡ row_of grid y
@@ -92,31 +86,24 @@ row_count values y first width height last count row some size start end is =
     let left : length (drop first values) ≡ length values - first = length-drop first values in
     length-take-le (last - first) (drop first values) (omega (arith, left, inside)) ∙ omega arith
 
-filled_at : (cells : List Cell) (i : ℕ) → i < length cells → get_or (map is_filled cells) i false ≡ is_filled (get_or cells i Unknown)
-filled_at cells i h = get_or-map is_filled cells i Unknown false h
-
--- the place in row order of a column and a row
-at_place : (i w h : ℕ) → 0 < w → i < w * h → (i % w < w) × (i / w < h) × (i / w * w + i % w ≡ i)
-at_place i w h some within = (mod-lt i some, (row-Below i w w h within (omega arith)).1, div-add-mod' i w)
-
 -- values that are the colours of all rows are those of the cells
 shown_values : (grid : PartialGrid) (values : List Bool) → 0 < grid.width → length grid.cells ≡ grid.width * grid.height →
     length values ≡ grid.width * grid.height
     → ((y : ℕ) → y < grid.height → IsRowShown grid values y) → map is_filled grid.cells ≡ values
 shown_values grid values some cells size shown =
-    same_lists (map is_filled grid.cells) values (length-map grid.cells is_filled ∙ cells ∙ sym size) (λ i within.
+    ext_get_or false (map is_filled grid.cells) values (length-map grid.cells is_filled ∙ cells ∙ sym size) (λ i within.
     let inside : i < length grid.cells = omega (arith, length-map grid.cells is_filled) in
-    let at = at_place i grid.width grid.height some (omega arith) in
-    let same = shown (i / grid.width) at.1 (i % grid.width) at.0 in
-    filled_at grid.cells i inside
-    ∙ sym (subst (λ (k : ℕ). get_or values k false ≡ is_filled (get_or grid.cells k Unknown)) at.2 same))
+    let row = (row-Below i grid.width grid.width grid.height (omega arith) (omega arith)).1 in
+    get_or-map is_filled grid.cells i Unknown false inside
+    ∙ sym (rw (div-add-mod' i grid.width) at (shown (i / grid.width) row (i % grid.width) (mod-lt i some))))
 
 -- the colours of the cells are those of all rows
 values_shown : (grid : PartialGrid) (values : List Bool) → length grid.cells ≡ grid.width * grid.height → map is_filled grid.cells ≡ values
     → (y : ℕ) → y < grid.height → IsRowShown grid values y
 values_shown grid values cells same y row = λ x column.
     let inside : y * grid.width + x < length grid.cells = omega (arith, mul-add-lt y grid.width x grid.height row column) in
-    ap (λ (vs : List Bool). get_or vs (y * grid.width + x) false) (sym same) ∙ filled_at grid.cells (y * grid.width + x) inside
+    ap (λ (vs : List Bool). get_or vs (y * grid.width + x) false) (sym same)
+    ∙ get_or-map is_filled grid.cells (y * grid.width + x) Unknown false inside
 
 colours_filled : (values : List Bool) → map is_filled (map colour values) ≡ values
 colours_filled [] = refl
@@ -153,13 +140,3 @@ meets_where_shown p solution values only wide_enough cells size =
       λ shown. subst (Meets p) (shown_values solution values (omega arith) cells same shown) only.solves.meets,
       λ meets. values_shown solution values cells (only_met p solution values only meets),
     )
-
--- the word for a goal that meets the clues is Meets
-pub meets_said : (p : Nonogram) (values : List Bool) → Meets p values → word.Meets ≡ word_of_goal p (Some values)
-meets_said p values meets =
-    by_test p values (meets_clues p values) word.Meets (meets_decide p values) (λ e. cc) (λ _. meets, λ _. refl)
-
--- the word for a goal that doesn't meet the clues is Misses
-pub misses_said : (p : Nonogram) (values : List Bool) → (Meets p values → ⊥) → word.Misses ≡ word_of_goal p (Some values)
-misses_said p values misses =
-    by_test p values (meets_clues p values) word.Misses (meets_decide p values) (λ e. cc) (λ e. cc, λ meets. absurd (misses meets))

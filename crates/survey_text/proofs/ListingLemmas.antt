@@ -11,19 +11,12 @@ use Rattle.survey_text.specs.declared.outcomes.Outcome.{Outcome}
 -- outcomes that were all listed
 pub listed_in_hand : (outcomes : List Outcome) (all : List GradedEntry) → in_hand outcomes ≡ map Some all → all ≡ map shown_outcome outcomes
 listed_in_hand [] [] listed = refl
-listed_in_hand [] (entry ∷ all) listed = cc
-listed_in_hand (outcome ∷ outcomes) [] listed = cc
-listed_in_hand (outcome ∷ outcomes) (entry ∷ all) listed =
-    let head : entry ≡ shown_outcome outcome = cc in
-    let others : in_hand outcomes ≡ map Some all = cc in
-    ap (λ (x : GradedEntry). x ∷ all) head
-    ∙ ap (λ (xs : List GradedEntry). shown_outcome outcome ∷ xs) (listed_in_hand outcomes all others)
+listed_in_hand (outcome ∷ outcomes) (entry ∷ all) listed = let others = listed_in_hand outcomes all (cc) in cc
+listed_in_hand outcomes all listed = cc
 
 -- no more are listed than there are entries
 pub few_answered : (entries : List Entry) (faults : List (Option EntryFault)) (answers : List Answer)
     → length (answered entries faults answers) ≤ length entries
-few_answered [] faults answers = omega arith
-few_answered (entry ∷ entries) [] answers = omega arith
 few_answered (entry ∷ entries) (Some fault ∷ faults) answers = omega (arith, few_answered entries faults answers)
-few_answered (entry ∷ entries) (None ∷ faults) [] = omega arith
 few_answered (entry ∷ entries) (None ∷ faults) (answer ∷ answers) = omega (arith, few_answered entries faults answers)
+few_answered entries faults answers = omega arith

@@ -1,32 +1,25 @@
 -- What is made of numbered items, one after the other.
-use Rattle.std.proofs.Common.{◌≡◌, ℕ, suc, zero, ◌+◌, ◌<◌, List, [], ◌∷◌, ◌++◌, length, map, take, get_or, sym, ap, ◌∙◌, append_assoc, append-nil, arith}
+use Rattle.std.proofs.Common.{◌≡◌, ℕ, suc, zero, ◌+◌, ◌<◌, List, [], ◌∷◌, ◌++◌, length, map, take, get_or, append_assoc, append-nil, arith}
 use Rattle.std.proofs.lemmas.List.{length-map, length-take, map_more}
 use Rattle.std.specs.List.{enumerate_from, flat_map}
 
 -- what is made of two lists, of which the second is numbered behind the first
 pub numbered-append : {X Y : Type 0} (f : ℕ × X → List Y) (n : ℕ) (xs ys : List X)
     → flat_map f (enumerate_from n (xs ++ ys)) ≡ flat_map f (enumerate_from n xs) ++ flat_map f (enumerate_from (n + length xs) ys)
-numbered-append f n [] ys =
-    let number : n ≡ n + zero = omega arith in
-    ap (λ (k : ℕ). flat_map f (enumerate_from k ys)) number
+numbered-append f n [] ys = let number : n + zero ≡ n = omega arith in rw number
 numbered-append f n (x ∷ xs) ys =
-    let number : n + 1 + length xs ≡ n + suc (length xs) = omega arith in
-    ap (λ rest. f (n, x) ++ rest) (numbered-append f (n + 1) xs ys
-    ∙ ap (λ (k : ℕ). flat_map f (enumerate_from (n + 1) xs) ++ flat_map f (enumerate_from k ys)) number)
-    ∙ sym (append_assoc (f (n, x)) (flat_map f (enumerate_from (n + 1) xs)) (flat_map f (enumerate_from (n + suc (length xs)) ys)))
+    let number : n + suc (length xs) ≡ n + 1 + length xs = omega arith in
+    rw (numbered-append f (n + 1) xs ys, number, append_assoc)
 
 -- one more item adds what is made of it and its number
 pub numbered-push : {X Y : Type 0} (f : ℕ × X → List Y) (n : ℕ) (xs : List X) (x : X)
     → flat_map f (enumerate_from n (xs ++ x ∷ [])) ≡ flat_map f (enumerate_from n xs) ++ f (n + length xs, x)
-numbered-push f n xs x =
-    numbered-append f n xs (x ∷ []) ∙ ap (λ last. flat_map f (enumerate_from n xs) ++ last) (append-nil (f (n + length xs, x)))
+numbered-push f n xs x = rw (numbered-append f n xs (x ∷ []), append-nil (f (n + length xs, x)))
 
 -- the same if each item comes from another
 pub made-more : {X Y Z : Type 0} (f : ℕ × Y → List Z) (h : X → Y) (n : ℕ) (xs : List X) (i : ℕ) (d : X) → i < length xs
     → flat_map f (enumerate_from n (map h (take (i + 1) xs))) ≡ flat_map f (enumerate_from n (map h (take i xs))) ++
     f (n + i, h (get_or xs i d))
-made-more {Y = Y} f h n xs i d within =
+made-more f h n xs i d within =
     let count : length (map h (take i xs)) ≡ i = omega (arith, length-map (take i xs) h, length-take i xs) in
-    ap (λ (ys : List Y). flat_map f (enumerate_from n ys)) (map_more h xs i d within)
-    ∙ numbered-push f n (map h (take i xs)) (h (get_or xs i d))
-    ∙ ap (λ (k : ℕ). flat_map f (enumerate_from n (map h (take i xs))) ++ f (n + k, h (get_or xs i d))) count
+    rw (map_more h xs i d within, numbered-push f n (map h (take i xs)) (h (get_or xs i d)), count)

@@ -14,21 +14,16 @@ range-more a zero j e = let start : a ≡ j = omega arith in ap (λ (k : ℕ). k
 range-more a (suc n) j e = ap (λ (others : List ℕ). a ∷ others) (range-more (a + 1) n j (omega arith))
 
 -- one more row adds its text
-pub rows_text-more : (grid : PartialGrid) (count : ℕ) → rows_text grid (count + 1) ≡ rows_text grid count ++ row_text grid count
-rows_text-more grid count =
-    ap (flat_map (row_text grid)) (ap (range_with_len 0) (add-one count) ∙ range-more 0 count count (omega arith)) ∙
-    flat_map-append (row_text grid) (range_with_len 0 count) (count ∷ [])
-    ∙ ap (λ (last : List ℕ). rows_text grid count ++ last) (append-nil (row_text grid count))
+pub rows_text_more : (grid : PartialGrid) (count : ℕ) → rows_text grid (count + 1) ≡ rows_text grid count ++ row_text grid count
+rows_text_more grid count =
+    ap (flat_map (row_text grid)) (ap (range_with_len 0) (add-one count) ∙ range-more 0 count count (omega arith))
+    ∙ rw (flat_map-append (row_text grid) (range_with_len 0 count) (count ∷ []), append-nil (row_text grid count))
 
--- the text of entries, with that of one more entry behind it, is the text of all
-pub added_text : (show : Bool) (first : ℕ) (entries : List GradedEntry) (entry : GradedEntry) (old new : List ℕ) (count : ℕ)
-    → old ≡ texts_from show first entries → count ≡ length entries → new ≡ old ++ entry_text show (first + count) entry
-    → new ≡ texts_from show first (entries ++ entry ∷ [])
-added_text show first entries entry old new count so_far counted more =
-    more
-    ∙ ap (λ (n : ℕ). old ++ entry_text show (first + n) entry) counted
-    ∙ ap (λ (front : List ℕ). front ++ entry_text show (first + length entries) entry) so_far
-    ∙ sym (numbered-push (λ (numbered : ℕ × GradedEntry). entry_text show numbered.0 numbered.1) first entries entry)
+-- the text of entries with one more behind them
+pub texts_from-push : (show : Bool) (first : ℕ) (entries : List GradedEntry) (entry : GradedEntry)
+    → texts_from show first (entries ++ entry ∷ []) ≡ texts_from show first entries ++ entry_text show (first + length entries) entry
+texts_from-push show first entries entry =
+    numbered-push (λ (numbered : ℕ × GradedEntry). entry_text show numbered.0 numbered.1) first entries entry
 
 -- the texts of entries and of those behind them
 pub texts_from-append : (show : Bool) (first : ℕ) (entries behind : List GradedEntry)

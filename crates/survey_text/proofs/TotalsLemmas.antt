@@ -13,7 +13,3 @@ pub count_more : {X : Type 0} (p : X → Bool) (xs : List X) (x : X) (old new : 
 count_more {X = X} p xs x old new counted more =
     more ∙ ap (one_more_where (p x)) counted
     ∙ sym (sum_by-append (λ (y : X). cond (p y) 1 0) xs (x ∷ []) ∙ one_more_is (p x) (count_by p xs))
-
--- if one more element is counted, the count is the number of all elements
-pub one_more : {X : Type 0} (xs : List X) (x : X) (old new : ℕ) → old ≡ length xs → new ≡ old + 1 → new ≡ length (xs ++ x ∷ [])
-one_more xs x old new counted more = omega (arith, length-append xs (x ∷ []))

@@ -69,6 +69,7 @@ fn push_row(text: &mut Vec<u8>, grid: &Grid, y: u16) -> Result<(), NoMemory>
 
 /// Adds the rows of a grid as lines, from the top: `#` for a filled cell, `.` for a blank one, `?` for an
 /// unknown one. `NoMemory` if the text can't grow.
+#[tactic(auto, using(crate::proofs::PrintedLemmas::rows_text_more, std::proofs::lemmas::Grind::common_steps))]
 pub fn push_grid(text: &mut Vec<u8>, grid: &Grid) -> Result<(), NoMemory>
     ensures { OnOk result (text.new.items ≡ text.old.items ++ grid_text grid.now) }
 {

@@ -9,14 +9,27 @@ use Rattle.survey_core.proofs.collecting.collect_some.Goals as goal
 
 pub gather-requires-clause-lanes : goal.gather-requires-clause-lanes
 gather-requires-clause-lanes g c =
-    omega (arith, EachAnswered-length _ _ c.in_ok-queues.ensures.1, ap length c.in_ok-lists.ensures,
-    length-map c.in_ok-queues.queues.items (λ q. q.items), length-map c.in_ok-deal_out.field-0.items (λ q. q.items),
-    c.in_ok-queues.queues.ok.0, c.in_ok-deal_out.field-0.ok.0, c.in_ok-deal_out.ensures.lanes)
+    omega (
+      arith,
+      EachAnswered-length _ _ c.in_ok-queues.ensures.1,
+      ap length c.in_ok-lists.ensures,
+      length-map c.in_ok-queues.queues.items (λ q. q.items),
+      length-map c.in_ok-deal_out.field-0.items (λ q. q.items),
+      c.in_ok-queues.queues.ok.0,
+      c.in_ok-deal_out.field-0.ok.0,
+      c.in_ok-deal_out.ensures.lanes,
+    )
 
 pub gather-requires-clause-answered : goal.gather-requires-clause-answered
 gather-requires-clause-answered g c = λ k within.
     subst (λ (js : List Job). AreAnswersTo js (get_or (map (λ q. q.items) c.in_ok-queues.queues.items) k [])) (ap (λ l. get_or l k []) c.in_ok-lists.ensures ∙ c.in_ok-deal_out.ensures.dealt k within
     ∙ ap (λ v. dealt v.items c.args.lanes k) (sym c.of-all.ensures))
     (EachAnswered-at _ _ k c.in_ok-queues.ensures.1
-    (omega (arith, within, ap length c.in_ok-lists.ensures, length-map c.in_ok-deal_out.field-0.items (λ q. q.items),
-    c.in_ok-deal_out.field-0.ok.0, c.in_ok-deal_out.ensures.lanes)))
+    (omega (
+      arith,
+      within,
+      ap length c.in_ok-lists.ensures,
+      length-map c.in_ok-deal_out.field-0.items (λ q. q.items),
+      c.in_ok-deal_out.field-0.ok.0,
+      c.in_ok-deal_out.ensures.lanes,
+    )))

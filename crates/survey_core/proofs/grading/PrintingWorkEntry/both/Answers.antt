@@ -1,8 +1,6 @@
 -- `both` of printing: two parts, one behind the other, are the parts of both lists of entries.
-use Rattle.std.proofs.Common.{◌≡◌, ℕ, ◌+◌, ◌++◌, ◌<◌, ◌^◌, IfOk, List, length, ap, subst, sym, arith}
-use Rattle.survey_text.specs.Entries.{GradedEntry}
+use Rattle.std.proofs.Common.{◌≡◌, ◌+◌, ◌++◌, ◌<◌, ◌^◌, length, ap, arith}
 use Rattle.survey_core.specs.steps.Graded.{graded_of}
-use Rattle.survey_text.specs.Parts.{AreParts}
 use Rattle.survey_core.proofs.ReadingLemmas.{answers_behind, answers_in_front, graded_both, graded_count, when_ok}
 use Rattle.survey_core.proofs.grading.PrintingWorkEntry.both.Goals as goal
 

@@ -1,10 +1,7 @@
 -- `part` of printing: what is listed are the entries, graded.
-use Rattle.std.proofs.Common.{rules, ◌≡◌, ◌+◌, List, drop, length, min, subst, take, arith}
+use Rattle.std.proofs.Common.{rules, arith}
 use Rattle.std.proofs.lemmas.Grind.{common_steps}
 use Rattle.std.proofs.lemmas.Result.{IfOk-weaker}
-use Rattle.survey_text.specs.Entries.{GradedEntry}
-use Rattle.survey_core.specs.steps.Graded.{puzzle_count}
-use Rattle.survey_text.specs.Parts.{AreParts}
 use Rattle.survey_text.proofs.ListingLemmas.{few_answered}
 use Rattle.survey_core.proofs.ReadingLemmas.{part_graded}
 use Rattle.survey_core.proofs.grading.PrintingWorkEntry.part.Goals as goal

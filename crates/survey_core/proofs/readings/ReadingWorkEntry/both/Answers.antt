@@ -1,5 +1,5 @@
 -- `both` of reading: what was read of two parts is what is read of both.
-use Rattle.std.proofs.Common.{◌≡◌, ◌+◌, length, map, arith}
+use Rattle.std.proofs.Common.{◌≡◌, ◌+◌, length, arith}
 use Rattle.std.proofs.lemmas.List.{length-append, map-append}
 use Rattle.survey_core.specs.Guessing.{guessing}
 use Rattle.survey_core.specs.steps.Readings.{shown_job}
@@ -12,8 +12,14 @@ returns c = λ first xs ys front behind.
     let number : first + 1 + length xs ≡ first + length xs + 1 = omega arith in
     let added = c.in_ok-append.ensures in
     record {
-      jobs = rw (added.jobs, map-append shown_job c.args.front.jobs.items c.args.behind.jobs.items, jobs_from-append guesses (first + 1) xs ys, number,
-      front.jobs, behind.jobs);
+      jobs = rw (
+        added.jobs,
+        map-append shown_job c.args.front.jobs.items c.args.behind.jobs.items,
+        jobs_from-append guesses (first + 1) xs ys,
+        number,
+        front.jobs,
+        behind.jobs,
+      );
       few = omega (arith, front.few, behind.few, added.few, length-append xs ys);
       faults = rw (added.faults, faults-append xs ys, front.faults, behind.faults);
     }

@@ -1,7 +1,8 @@
 -- `Part::add`: the entry's text is added, and it is counted in each total of its words.
+use Rattle.std.proofs.Common.{◌∷◌, [], length-append, arith}
 use Rattle.survey_text.specs.steps.Entries.{shown_listed}
-use Rattle.survey_text.proofs.PrintedLemmas.{added_text}
-use Rattle.survey_text.proofs.TotalsLemmas.{count_more, one_more}
+use Rattle.survey_text.proofs.PrintedLemmas.{texts_from-push}
+use Rattle.survey_text.proofs.TotalsLemmas.{count_more}
 use Rattle.survey_text.proofs.printing.Part.add.Goals as goal
 
 pub returns : goal.returns
@@ -10,9 +11,9 @@ returns c = λ entries so_far.
     let before = so_far.totals in
     let counts = c.count.ensures in
     record {
-      text = added_text c.args.show c.args.first entries entry _ _ _ so_far.text before.all c.in_ok-push_entry.ensures;
+      text = rw (c.in_ok-push_entry.ensures, texts_from-push c.args.show c.args.first entries entry, so_far.text, before.all);
       totals = record {
-        all = one_more entries entry _ _ before.all counts.entries;
+        all = omega (arith, before.all, counts.entries, length-append entries (entry ∷ []));
         refused = count_more _ entries entry _ _ before.refused counts.refused;
         none = count_more _ entries entry _ _ before.none counts.none;
         one = count_more _ entries entry _ _ before.one counts.one;
