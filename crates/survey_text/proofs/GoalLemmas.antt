@@ -1,5 +1,5 @@
 -- What is said of a goal, from what `grid_core` promises of it.
-use Rattle.std.proofs.Common.{◌≡◌, ℕ, suc, ◌+◌, ◌-◌, ◌*◌, ◌/◌, ◌%◌, ◌<◌, ◌≤◌, Bool, true, false, List, [], ◌∷◌, Option, Some, None, Decides, ◌↔◌, ◌==◌, length, map, take, drop, get_or, refl, sym, ap, subst, ◌∙◌, if◌then◌else◌, arith}
+use Rattle.std.proofs.Common.{◌≡◌, ℕ, ◌+◌, ◌-◌, ◌*◌, ◌/◌, ◌%◌, ◌<◌, ◌≤◌, Bool, true, false, List, [], ◌∷◌, Option, Some, None, Decides, ◌↔◌, ◌==◌, length, map, take, drop, get_or, refl, sym, ap, subst, ◌∙◌, if◌then◌else◌, arith}
 use Rattle.std.specs.List.{AllByRecursion, list_all}
 use Rattle.std.proofs.lemmas.Bool.{and_parts, and_from}
 use Rattle.std.proofs.lemmas.Bool.Decides.{Decides-eqb}
@@ -133,10 +133,7 @@ pub meets_where_shown : (p : Nonogram) (solution : PartialGrid) (values : List B
     → 1 ≤ solution.width → length solution.cells ≡ solution.width * solution.height → length values ≡ p.width * p.height
     → ((y : ℕ) → y < solution.height → IsRowShown solution values y) ↔ Meets p values
 meets_where_shown p solution values only wide_enough cells size =
-    let wide = only.solves.width in
-    let high = only.solves.height in
-    let same : length values ≡ solution.width * solution.height =
-    size ∙ ap (λ (w : ℕ). w * p.height) (sym wide) ∙ ap (λ (h : ℕ). solution.width * h) (sym high) in (
+    let same : length values ≡ solution.width * solution.height = rw (only.solves.width, only.solves.height) size in (
       λ shown. subst (Meets p) (shown_values solution values (omega arith) cells same shown) only.solves.meets,
       λ meets. values_shown solution values cells (only_met p solution values only meets),
     )

@@ -1,12 +1,13 @@
 -- Printed texts, one piece longer.
-use Rattle.std.proofs.Common.{◌≡◌, ℕ, zero, suc, ◌+◌, Bool, List, [], ◌∷◌, ◌++◌, length, ap, sym, ◌∙◌, append-nil, add-one, arith}
+use Rattle.std.proofs.Common.{◌≡◌, ℕ, zero, suc, ◌+◌, Bool, List, [], ◌∷◌, ◌++◌, length, ap, ◌∙◌, append-nil, append_assoc, add-one, arith}
 use Rattle.std.specs.List.{flat_map, range_with_len}
 use Rattle.std.proofs.lemmas.Grind.{flat_map-append}
 use Rattle.grid_core.specs.PartialGrid.{PartialGrid}
 use Rattle.survey_text.proofs.NumberedLemmas.{numbered-append, numbered-push}
 use Rattle.survey_text.specs.Entries.{GradedEntry, entry_text}
 use Rattle.survey_text.specs.Grids.{row_text, rows_text}
-use Rattle.survey_text.specs.Parts.{texts_from}
+use Rattle.survey_text.specs.Parts.{AreParts, IsTotals, texts_from}
+use Rattle.survey_text.specs.declared.texts.Parts.{Parts}
 
 -- a range with one more number
 range-more : (a n j : ℕ) → a + n ≡ j → range_with_len a (suc n) ≡ range_with_len a n ++ j ∷ []
@@ -30,3 +31,14 @@ pub texts_from-append : (show : Bool) (first : ℕ) (entries behind : List Grade
     → texts_from show first (entries ++ behind) ≡ texts_from show first entries ++ texts_from show (first + length entries) behind
 texts_from-append show first entries behind =
     numbered-append (λ (numbered : ℕ × GradedEntry). entry_text show numbered.0 numbered.1) first entries behind
+
+-- parts, and behind them those of the entries that follow, are the parts of all
+pub both_parts : (show : Bool) (first : ℕ) (entries behind : List GradedEntry) (these those both : Parts)
+    → AreParts show first these entries → AreParts show (first + length entries) those behind
+    → both.front.items ≡ (these.front.items ++ these.last ∷ []) ++ those.front.items → both.last ≡ those.last
+    → IsTotals both.totals (entries ++ behind) → AreParts show first both (entries ++ behind)
+both_parts show first entries behind these those both are_these are_those front last totals = record {
+  text = rw (front, last, texts_from-append show first entries behind, ← are_these.text, ← are_those.text)
+      (simp (flat_map-append, append_assoc, append-nil));
+  totals = totals;
+}
