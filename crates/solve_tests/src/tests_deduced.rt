@@ -11,7 +11,7 @@ use std::test::Fail;
 /// A line, a clue, and what is to come out: no cells if there is no placing.
 type Row = (&'static [u8], &'static [u16], &'static [u8]);
 
-static ROWS: [Row; 14] = [
+static ROWS: [Row; 20] = [
     (b"?????", &[3], b"??#??"),
     (b"?#???", &[3], b"?##?."),
     (b"??.???", &[3], b"...###"),
@@ -22,6 +22,12 @@ static ROWS: [Row; 14] = [
     (b"?#?", &[], b""),
     (b"?.?#??.", &[1, 2], b"#.?#?.."),
     (b"#", &[1], b"#"),
+    (b"#.##.", &[1, 2], b"#.##."),
+    (b"#.##.", &[1, 1], b""),
+    (b"#.##.", &[1, 3], b""),
+    (b"#.#.#", &[1, 1], b""),
+    (b"#.#.#", &[1, 1, 1, 1], b""),
+    (b"....", &[], b"...."),
     (b"??????????", &[3, 4], b"??#???##??"),
     (b"??????????", &[65], b""),
     (b"??????????", &[1, 129], b""),
@@ -104,6 +110,38 @@ fn holds_both_ends(alloc: Global, len: u16) -> Result<bool, Fail>
 fn lines_of_all_widths_are_held_at_both_ends(rt: HostRuntime) -> Result<(), Fail> {
     for len in [63u16, 64, 65, 127, 128, 129, 255, 256] {
         assert!(rt; holds_both_ends(rt.alloc(), len)?, "{len}");
+    }
+    Ok(())
+}
+
+/// Whether a line of single filled cells with a blank one between any two stays as it is by the clue of its runs,
+/// and has no placing by one of a run less.
+fn stripes_are_compared(alloc: Global, len: u16) -> Result<bool, Fail>
+    requires { (1 ≤ len) × (len ≤ 256) }
+{
+    let mut text = Vec::new(alloc);
+    for i in 0..len {
+        text.push(if i % 2 == 0 { b'#' } else { b'.' })?;
+    }
+    let Some(line) = line_of(&text) else {
+        return Ok(false);
+    };
+    let ones = [1; 128];
+    let runs = usize::from(len.div_ceil(2));
+    let clue = Clue::from_numbers(alloc, &ones[..runs])?;
+    let short = Clue::from_numbers(alloc, &ones[1..runs])?;
+    let mut tables = Tables::new(alloc, 256)?;
+    let same = match deduce(&mut tables, &line, &clue) {
+        Some(answer) => is_line(&answer, &text),
+        None => false,
+    };
+    Ok(same && deduce(&mut tables, &line, &short).is_none())
+}
+
+#[test]
+fn lines_of_all_widths_are_compared_with_their_runs(rt: HostRuntime) -> Result<(), Fail> {
+    for len in [1u16, 63, 64, 65, 127, 128, 129, 255, 256] {
+        assert!(rt; stripes_are_compared(rt.alloc(), len)?, "{len}");
     }
     Ok(())
 }
