@@ -23,12 +23,12 @@ use std::alloc::Global;
 use std::marker::Model;
 
 /// The cells that are filled in some placing, and those that are blank in some.
-fn possible_colours<W: PlaceSet>(span: &Span<W>, clue: &[u16], gaps: &[W; GAPS]) -> (W, W)
+fn possible_colours<W: PlaceSet>(span: &Span<W>, clue: &[u16], gaps: &[W::Kept; GAPS]) -> (W, W)
     ghost line: { List Cell }
     requires span { IsSpanOf W.WIDTH line span.now.len (W.number span.now.free) (W.number span.now.room) }
     requires clue { AreLengths W.WIDTH clue.now }
     requires count { length clue.now ≤ MOST_RUNS }
-    requires ahead { AreGapsAhead line clue.now (map W.number gaps.now) }
+    requires ahead { AreGapsAhead line clue.now (map W.kept_number gaps.now) }
     ensures filled { IsMaskOf (IsFillable line clue.now) (W.number result.0) }
     ensures blank { IsMaskOf (IsBlankable line clue.now) (W.number result.1) }
 {
@@ -57,7 +57,7 @@ fn possible_colours<W: PlaceSet>(span: &Span<W>, clue: &[u16], gaps: &[W; GAPS])
 
 /// The cells that are filled in some placing, and those that are blank in some,
 /// with room for the gaps of the runs.
-fn known_colours<W: PlaceSet>(span: &Span<W>, clue: &[u16], gaps: &mut [W; GAPS]) -> (W, W)
+fn known_colours<W: PlaceSet>(span: &Span<W>, clue: &[u16], gaps: &mut [W::Kept; GAPS]) -> (W, W)
     ghost line: { List Cell }
     requires span { IsSpanOf W.WIDTH line span.now.len (W.number span.now.free) (W.number span.now.room) }
     requires clue { AreLengths W.WIDTH clue.now }
@@ -73,7 +73,7 @@ fn known_colours<W: PlaceSet>(span: &Span<W>, clue: &[u16], gaps: &mut [W; GAPS]
 }
 
 /// The same, of which a line whose cells are all unknown, or all known, needs no pass, and others are padded.
-pub fn colours<W: PlaceSet>(span: &Span<W>, clue: &[u16], gaps: &mut [W; GAPS]) -> (W, W)
+pub fn colours<W: PlaceSet>(span: &Span<W>, clue: &[u16], gaps: &mut [W::Kept; GAPS]) -> (W, W)
     ghost line: { List Cell }
     requires span { IsSpanOf W.WIDTH line span.now.len (W.number span.now.free) (W.number span.now.room) }
     requires clue { AreLengths W.WIDTH clue.now }
@@ -108,7 +108,7 @@ fn certain<W: PlaceSet>(len: u16, fillable: W, blankable: W) -> Option<LineOf<W>
 /// What is certain of a line, given the numbers of its clue, with room for the gaps of the runs:
 /// what all placings share, or none if there is no placing.
 fn deduce_numbers<W: PlaceSet>(
-    room: &mut Vec<[W; GAPS]>,
+    room: &mut Vec<[W::Kept; GAPS]>,
     line: &LineOf<W>,
     clue: &[u16],
 ) -> Option<LineOf<W>>
@@ -120,14 +120,18 @@ fn deduce_numbers<W: PlaceSet>(
     ensures answer { result ≡ deduced cells clue.now }
     ensures room { 0 < vec_capacity room.new }
 {
-    make_ready(room);
+    make_ready::<W>(room);
     let span = Span::of(line);
     let (fillable, blankable) = colours(&span, clue, &mut room[0]);
     certain(span.len, fillable, blankable)
 }
 
 /// What is certain of a line, in sets of a width that has room for the line and for the clue's numbers.
-fn deduce_at<W: PlaceSet>(room: &mut Vec<[W; GAPS]>, line: &Line, clue: &[u16]) -> Option<Line>
+fn deduce_at<W: PlaceSet>(
+    room: &mut Vec<[W::Kept; GAPS]>,
+    line: &Line,
+    clue: &[u16],
+) -> Option<Line>
     requires line { length line.now ≤ W.WIDTH }
     requires clue { AreLengths W.WIDTH clue.now }
     requires count { length clue.now ≤ MOST_RUNS }
@@ -135,7 +139,7 @@ fn deduce_at<W: PlaceSet>(room: &mut Vec<[W; GAPS]>, line: &Line, clue: &[u16]) 
     ensures answer { result ≡ deduced line.now clue.now }
     ensures room { 0 < vec_capacity room.new }
 {
-    match deduce_numbers(room, &line.cells.resized(), clue) {
+    match deduce_numbers::<W>(room, &line.cells.resized(), clue) {
         None => None,
         Some(certain) => Some(Line {
             cells: certain.widened(),
@@ -150,9 +154,9 @@ fn deduce_with(line: &Line, clue: &[u16], rooms: &mut Rooms) -> Option<Line>
     ensures { result ≡ deduced line.now clue.now }
 {
     match Width::of(places_needed(line.len(), clue)) {
-        Width::Narrow => deduce_at(&mut rooms.narrow, line, clue),
-        Width::Middle => deduce_at(&mut rooms.middle, line, clue),
-        Width::Wide => deduce_at(&mut rooms.wide, line, clue),
+        Width::Narrow => deduce_at::<u64>(&mut rooms.narrow, line, clue),
+        Width::Middle => deduce_at::<u128>(&mut rooms.middle, line, clue),
+        Width::Wide => deduce_at::<Wide>(&mut rooms.wide, line, clue),
     }
 }
 
@@ -195,7 +199,7 @@ pub fn deduce(tables: &mut Tables, line: &Line, clue: &Clue) -> Option<Line>
 
 /// What is certain of a line, given its clue, whose numbers are no greater than its sets have places.
 fn deduce_within<W: PlaceSet>(
-    room: &mut Vec<[W; GAPS]>,
+    room: &mut Vec<[W::Kept; GAPS]>,
     line: &LineOf<W>,
     clue: &Clue,
 ) -> Option<LineOf<W>>

@@ -17,56 +17,56 @@ pub const GAPS: usize = MOST_RUNS + 1;
 
 /// Writes the gaps before each run and after the last one, as the cells before allow them,
 /// of a line and a clue that are both seen from their other end.
-fn write_reversed_gaps<W: PlaceSet>(span: &Span<W>, clue: &[u16], gaps: &mut [W; GAPS])
+fn write_reversed_gaps<W: PlaceSet>(span: &Span<W>, clue: &[u16], gaps: &mut [W::Kept; GAPS])
     ghost line: { List Cell }
     requires span { IsSpanOf W.WIDTH line span.now.len (W.number span.now.free) (W.number span.now.room) }
     requires clue { AreLengths W.WIDTH clue.now }
     requires count { length clue.now ≤ MOST_RUNS }
-    ensures gaps { AreReversedGaps line clue.now (map W.number gaps.new) }
+    ensures gaps { AreReversedGaps line clue.now (map W.kept_number gaps.new) }
     ensures count { length gaps.new ≡ GAPS }
 {
     let reversed = reversed(span);
     let windows = windows_within(reversed.room);
     let mut pass = Pass::new(&reversed);
-    gaps[0] = pass.gap();
+    gaps[0] = pass.gap().kept();
     let count = clue.len();
     for j in 0..count {
         pass.step(&windows, clue[count - 1 - j]);
-        gaps[j + 1] = pass.gap();
+        gaps[j + 1] = pass.gap().kept();
     }
 }
 
 /// Sees each of the masks from a line's other end.
-fn reverse_all<W: PlaceSet>(masks: &mut [W], len: u16)
+fn reverse_all<W: PlaceSet>(masks: &mut [W::Kept], len: u16)
     requires { (0 < len) × (len ≤ W.WIDTH) }
-    ensures { AreReversedMasks len (map W.number masks.old) (map W.number masks.new) }
+    ensures { AreReversedMasks len (map W.kept_number masks.old) (map W.kept_number masks.new) }
 {
     for i in 0..masks.len() {
-        masks[i] = reversed_within(masks[i], len);
+        masks[i] = reversed_within(W::of_kept(masks[i]), len).kept();
     }
 }
 
 /// Writes the gaps before each run and after the last one, as the cells after allow them, the last one first.
-pub fn write_gaps_ahead<W: PlaceSet>(span: &Span<W>, clue: &[u16], gaps: &mut [W; GAPS])
+pub fn write_gaps_ahead<W: PlaceSet>(span: &Span<W>, clue: &[u16], gaps: &mut [W::Kept; GAPS])
     ghost line: { List Cell }
     requires span { IsSpanOf W.WIDTH line span.now.len (W.number span.now.free) (W.number span.now.room) }
     requires clue { AreLengths W.WIDTH clue.now }
     requires count { length clue.now ≤ MOST_RUNS }
-    ensures { AreGapsAhead line clue.now (map W.number gaps.new) }
+    ensures { AreGapsAhead line clue.now (map W.kept_number gaps.new) }
 {
     write_reversed_gaps(span, clue, gaps);
-    reverse_all(&mut gaps[..clue.len() + 1], span.len);
+    reverse_all::<W>(&mut gaps[..clue.len() + 1], span.len);
 }
 
 /// The gaps before run j, or after the last one, as the cells after allow them.
-pub fn gap_ahead<W: PlaceSet>(clue: &[u16], gaps: &[W; GAPS], j: usize) -> W
+pub fn gap_ahead<W: PlaceSet>(clue: &[u16], gaps: &[W::Kept; GAPS], j: usize) -> W
     ghost line: { List Cell }
     requires count { length clue.now ≤ MOST_RUNS }
     requires j { j ≤ length clue.now }
-    requires ahead { AreGapsAhead line clue.now (map W.number gaps.now) }
+    requires ahead { AreGapsAhead line clue.now (map W.kept_number gaps.now) }
     ensures { IsMaskOf (IsGapAhead line clue.now j) (W.number result) }
 {
-    gaps[clue.len() - j]
+    W::of_kept(gaps[clue.len() - j])
 }
 
 /// The last cell of a line, if the run that may end there is the last one; else none.

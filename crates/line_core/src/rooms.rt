@@ -4,7 +4,7 @@ ghost use Rattle.std.specs.Prelude.{◌<◌, vec_capacity, vec_len};
 
 use crate::reach::GAPS;
 use grid_core::NoMemory;
-use place_sets::{PlaceSet, Wide};
+use place_sets::{PlaceSet, Wide, Words};
 use std::alloc::Global;
 
 /// Room for the gaps in sets of 64, 128 and 256 places, each written only once it is needed.
@@ -12,7 +12,7 @@ pub struct Rooms {
     /// Sets of 64 places.
     pub narrow: Vec<[u64; GAPS]>,
     /// Sets of 128 places.
-    pub middle: Vec<[u128; GAPS]>,
+    pub middle: Vec<[Words; GAPS]>,
     /// Sets of 256 places.
     pub wide: Vec<[Wide; GAPS]>,
     ghost narrow_fits: { 0 < vec_capacity narrow },
@@ -43,12 +43,12 @@ impl Rooms {
 }
 
 /// Clears the room of one width, if it was not yet used.
-pub fn make_ready<W: PlaceSet>(room: &mut Vec<[W; GAPS]>)
+pub fn make_ready<W: PlaceSet>(room: &mut Vec<[W::Kept; GAPS]>)
     requires { 0 < vec_capacity room.old }
     ensures ready { 0 < vec_len room.new }
     ensures fits { 0 < vec_capacity room.new }
 {
     if room.is_empty() {
-        room.push_reserved([W::empty(); GAPS]);
+        room.push_reserved([W::empty().kept(); GAPS]);
     }
 }

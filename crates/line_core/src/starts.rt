@@ -16,7 +16,7 @@ use crate::rooms::{Rooms, make_ready};
 use crate::spans::Span;
 use crate::widths::{Width, places_needed};
 use grid_core::{Clue, LONGEST_SIDE, LineOf, MOST_RUNS, NoMemory};
-use place_sets::{PlaceSet, windows_within};
+use place_sets::{PlaceSet, Wide, windows_within};
 use std::alloc::Global;
 use std::marker::Model;
 
@@ -41,11 +41,11 @@ fn outermost_place<W: PlaceSet>(side: Side, places: W) -> u16
 }
 
 /// Whether a line has a placing with no run: its first cell is blank in one.
-fn may_have_no_run<W: PlaceSet>(span: &Span<W>, clue: &[u16], gaps: &[W; GAPS]) -> bool
+fn may_have_no_run<W: PlaceSet>(span: &Span<W>, clue: &[u16], gaps: &[W::Kept; GAPS]) -> bool
     ghost line: { List Cell }
     requires span { IsSpanOf W.WIDTH line span.now.len (W.number span.now.free) (W.number span.now.room) }
     requires clue { length clue.now ≡ 0 }
-    requires ahead { AreGapsAhead line clue.now (map W.number gaps.now) }
+    requires ahead { AreGapsAhead line clue.now (map W.kept_number gaps.now) }
     ensures { MatchBool result (HasPlacing line clue.now) (HasPlacing line clue.now → ⊥) }
 {
     let gap = first_gap(span.free);
@@ -65,14 +65,14 @@ fn write_starts<W: PlaceSet>(
     side: Side,
     span: &Span<W>,
     clue: &[u16],
-    gaps: &[W; GAPS],
+    gaps: &[W::Kept; GAPS],
     list: &mut StartList,
 ) -> bool
     ghost line: { List Cell }
     requires span { IsSpanOf W.WIDTH line span.now.len (W.number span.now.free) (W.number span.now.room) }
     requires clue { AreLengths W.WIDTH clue.now }
     requires count { (0 < length clue.now) × (length clue.now ≤ MOST_RUNS) }
-    requires ahead { AreGapsAhead line clue.now (map W.number gaps.now) }
+    requires ahead { AreGapsAhead line clue.now (map W.kept_number gaps.now) }
     ensures starts { MatchBool result
         ((j : ℕ) → j < length clue.now → IsOuterStart side line clue.now j (slice_index list.new.starts j))
         (HasPlacing line clue.now → ⊥) }
@@ -98,7 +98,7 @@ fn find_starts<W: PlaceSet>(
     side: Side,
     line: &LineOf<W>,
     clue: &[u16],
-    room: &mut Vec<[W; GAPS]>,
+    room: &mut Vec<[W::Kept; GAPS]>,
     list: &mut StartList,
 ) -> bool
     ghost cells: { List Cell }
@@ -111,7 +111,7 @@ fn find_starts<W: PlaceSet>(
         (outermost side cells clue.now ≡ None) }
     ensures room { 0 < vec_capacity room.new }
 {
-    make_ready(room);
+    make_ready::<W>(room);
     let span = Span::of(line);
     let gaps = &mut room[0];
     write_gaps_ahead(&span, clue, gaps);
@@ -138,9 +138,27 @@ fn find_by_width(
         (outermost side line.now clue.now ≡ None) }
 {
     match Width::of(places_needed(line.len(), clue)) {
-        Width::Narrow => find_starts(side, &line.cells.resized(), clue, &mut rooms.narrow, list),
-        Width::Middle => find_starts(side, &line.cells.resized(), clue, &mut rooms.middle, list),
-        Width::Wide => find_starts(side, &line.cells.resized(), clue, &mut rooms.wide, list),
+        Width::Narrow => find_starts::<u64>(
+            side,
+            &line.cells.resized(),
+            clue,
+            &mut rooms.narrow,
+            list,
+        ),
+        Width::Middle => find_starts::<u128>(
+            side,
+            &line.cells.resized(),
+            clue,
+            &mut rooms.middle,
+            list,
+        ),
+        Width::Wide => find_starts::<Wide>(
+            side,
+            &line.cells.resized(),
+            clue,
+            &mut rooms.wide,
+            list,
+        ),
     }
 }
 

@@ -10,6 +10,7 @@ mod wide;
 mod windows;
 
 pub use levels::{add_spread, spread, spread_levels};
+pub use narrow::Words;
 pub use prefixes::{complement_within, first_places, reversed_within};
 pub use searching::first_from;
 pub use sets::PlaceSet;

@@ -8,6 +8,13 @@ ghost use Rattle.place_sets.specs.steps.Masks.{IsPairing, swapped_place};
 
 use crate::{PlaceSet, Wide};
 
+/// A set of 128 places, in two words.
+#[derive(Clone, Copy, Debug)]
+pub struct Words {
+    pub low: u64,
+    pub high: u64,
+}
+
 /// Swaps the two groups of each pair: groups of `by` places, of which `low` has the lower ones.
 fn swap_pairs(mask: u64, low: u64, by: u16) -> u64
     requires by { by < 64 }
@@ -18,7 +25,11 @@ fn swap_pairs(mask: u64, low: u64, by: u16) -> u64
 }
 
 impl PlaceSet for u64 {
+    type Kept = u64;
+
     ghost number = { λ word. word };
+
+    ghost kept_number = { λ word. word };
 
     ghost WIDTH = { 64 };
 
@@ -120,6 +131,14 @@ impl PlaceSet for u64 {
         }
     }
 
+    fn kept(self) -> u64 {
+        self
+    }
+
+    fn of_kept(kept: u64) -> u64 {
+        kept
+    }
+
     fn folded(self) -> u64 {
         self
     }
@@ -127,10 +146,16 @@ impl PlaceSet for u64 {
     ghost width_is = { refl };
 
     ghost top_is = { (Prim.omega arith, Prim.omega arith) };
+
+    ghost small = { Prim.omega arith };
 }
 
 impl PlaceSet for u128 {
+    type Kept = Words;
+
     ghost number = { λ word. word };
+
+    ghost kept_number = { λ words. words.high * 2 ^ 64 + words.low };
 
     ghost WIDTH = { 128 };
 
@@ -226,6 +251,17 @@ impl PlaceSet for u128 {
         Wide { low: self, high: 0 }
     }
 
+    fn kept(self) -> Words {
+        Words {
+            low: (self & 0xffffffffffffffff) as u64,
+            high: (self >> 64) as u64,
+        }
+    }
+
+    fn of_kept(kept: Words) -> u128 {
+        ((kept.high as u128) << 64) | kept.low as u128
+    }
+
     fn folded(self) -> u64 {
         ((self >> 64) as u64) ^ ((self & 0xffffffffffffffff) as u64)
     }
@@ -233,4 +269,6 @@ impl PlaceSet for u128 {
     ghost width_is = { refl };
 
     ghost top_is = { (Prim.omega arith, Prim.omega arith) };
+
+    ghost small = { Prim.omega arith };
 }

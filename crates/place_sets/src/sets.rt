@@ -2,14 +2,21 @@
 
 ghost use Rattle.std.specs.Prelude.{◌≡◌, ◌≢◌, ◌+◌, ◌*◌, ◌^◌, ◌<◌, ◌≤◌, ◌==◌, ◌⊎◌, ℕ, false, refl};
 ghost use Rattle.std.proofs.Common.{arith};
+ghost use Rattle.std.specs.Mem.{type_size};
 ghost use Rattle.place_sets.specs.Masks.{Has, has, IsFlooded, IsMarked, IsMaskOf, IsShifted, IsReversed, number_of};
 
 use crate::Wide;
 
 /// A set of places, a bit a place.
 pub trait PlaceSet: Copy {
+    /// A set as lists keep it: in words that the processor takes two at a time.
+    type Kept: Copy;
+
     /// The bits as a number.
     ghost number: { Self → ℕ };
+
+    /// The bits of a set as lists keep it, as a number.
+    ghost kept_number: { Self.Kept → ℕ };
 
     /// How many places there are.
     ghost WIDTH: { ℕ };
@@ -106,6 +113,14 @@ pub trait PlaceSet: Copy {
     fn widened(self) -> Wide
         ensures { number_of result ≡ number self };
 
+    /// The same places, as lists keep them.
+    fn kept(self) -> Self::Kept
+        ensures { kept_number result ≡ number self };
+
+    /// The places that a list kept.
+    fn of_kept(kept: Self::Kept) -> Self
+        ensures { number result ≡ kept_number kept };
+
     /// All places in one word, for hashes: sets with the same places share it.
     fn folded(self) -> u64;
 
@@ -114,4 +129,7 @@ pub trait PlaceSet: Copy {
 
     /// There are places enough for a level, and no more than in a wide word.
     ghost top_is: { (1 ≤ TOP) × (TOP ≤ 8) };
+
+    /// A set takes 32 bytes at most.
+    ghost small: { type_size Self.row ≤ 32 };
 }

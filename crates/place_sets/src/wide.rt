@@ -15,7 +15,11 @@ pub struct Wide {
 }
 
 impl PlaceSet for Wide {
+    type Kept = Wide;
+
     ghost number = { number_of };
+
+    ghost kept_number = { number_of };
 
     ghost WIDTH = { 256 };
 
@@ -171,6 +175,14 @@ impl PlaceSet for Wide {
         self
     }
 
+    fn kept(self) -> Wide {
+        self
+    }
+
+    fn of_kept(kept: Wide) -> Wide {
+        kept
+    }
+
     fn folded(self) -> u64 {
         self.low.folded() ^ self.high.folded().rotate_left(17)
     }
@@ -178,4 +190,6 @@ impl PlaceSet for Wide {
     ghost width_is = { refl };
 
     ghost top_is = { (Prim.omega arith, Prim.omega arith) };
+
+    ghost small = { Prim.omega arith };
 }

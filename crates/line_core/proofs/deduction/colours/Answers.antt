@@ -8,9 +8,9 @@ pub returns-clause-filled : goal.returns-clause-filled
 returns-clause-filled g c =
     let clue = c.args.clue.now in
     fillable_alone g.line clue (g.W.PlaceSet.WIDTH - length g.line) _
-    (recursion_from_All (λ (n : ℕ). 0 < n) clue c.requires.1.1.1.0.positive) c.known_colours-fillable.ensures.filled
+    (recursion_from_All (λ (n : ℕ). 0 < n) clue c.requires.1.1.1.1.0.positive) c.known_colours-fillable.ensures.filled
 
 pub returns-clause-blank : goal.returns-clause-blank
 returns-clause-blank g c =
     blankable_alone g.line c.args.clue.now (g.W.PlaceSet.WIDTH - length g.line) _ _ _ c.known_colours-fillable.ensures.blank
-    (rw c.requires.1.1.0.len_is at c.first_places.ensures) c.intersection.ensures
+    (rw c.requires.1.1.1.0.len_is at c.first_places.ensures) c.intersection.ensures

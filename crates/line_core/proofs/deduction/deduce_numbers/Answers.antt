@@ -11,5 +11,5 @@ returns-clause-answer g c =
     let span = c.of-span.ensures in
     c.certain.ensures
     ∙ told-deduced g.cells clue c.of-span.result.len (number c.colours-fillable.result.0) (number c.colours-fillable.result.1)
-    (recursion_from_All (λ (n : ℕ). 0 < n) clue c.requires.1.1.1.0.positive) (omega (arith, span.some, ap length c.requires.1.1.0))
-    (sym (span.len_is ∙ ap length c.requires.1.1.0)) c.colours-fillable.ensures.filled c.colours-fillable.ensures.blank
+    (recursion_from_All (λ (n : ℕ). 0 < n) clue c.requires.1.1.1.1.0.positive) (omega (arith, span.some, ap length c.requires.1.1.1.0))
+    (sym (span.len_is ∙ ap length c.requires.1.1.1.0)) c.colours-fillable.ensures.filled c.colours-fillable.ensures.blank

@@ -13,7 +13,7 @@ loop-j-init g c =
     let number = g.W.PlaceSet.number in
     let line = g.line in
     let clue = c.args.clue.now in
-    let pass = c.new-pass.ensures line (map number c.windows_within-windows.result) c.requires.1.1.0 c.windows_within-windows.ensures in
+    let pass = c.new-pass.ensures line (map number c.windows_within-windows.result) c.requires.1.1.1.0 c.windows_within-windows.ensures in
     let gap : IsMaskOf (IsGap line clue 0) (number c.gap.result) = rw c.gap.ensures pass.gap_is in
     record {
       pass = pass;
@@ -26,7 +26,7 @@ loop-j-init g c =
 pub inner_ends-whole-requires : goal.inner_ends-whole-requires
 inner_ends-whole-requires g c = λ κs within.
     let ends = c.step-ends.ensures.ends g.line (behind 0 c.args.clue.now c.loop-j.j) c.loop-j.invariant.pass in
-    (within, (c.requires.1.1.1.0, (omega (arith, c.loop-j-test.true), (ends, c.gap_ahead-ahead.ensures))))
+    (within.0, (within.1, (c.requires.1.1.1.1.0, (omega (arith, c.loop-j-test.true), (ends, c.gap_ahead-ahead.ensures)))))
 
 pub loop-j-preserved : goal.loop-j-preserved
 loop-j-preserved g c =
@@ -57,7 +57,7 @@ whole_ends-last_whole-requires g c = λ κs within.
     let all : length clue ≡ last + 1 = omega arith in
     let ends = c.step-last_ends.ensures.ends line (behind 0 clue last) (rw e at c.loop-j.invariant.pass) in
     let after = subst (λ n. IsMaskOf (IsGapAhead line clue n) (number c.gap_ahead-after.result)) all c.gap_ahead-after.ensures in
-    (within, (c.requires.1.1.0, (c.requires.1.1.1.0, (omega arith, (ends, after)))))
+    (within.0, (within.1, (c.requires.1.1.1.0, (c.requires.1.1.1.1.0, (omega arith, (ends, after))))))
 
 pub returns-then-is_empty-clause-blank : goal.returns-then-is_empty-clause-blank
 returns-then-is_empty-clause-blank g c =
@@ -65,7 +65,7 @@ returns-then-is_empty-clause-blank g c =
     let line = g.line in
     let clue = c.args.clue.now in
     let none : length clue ≡ 0 = eqb-true (length clue) 0 (sym c.is_empty.ensures ∙ c.if-is_empty.true) in
-    let pass = c.new-pass.ensures line (map number c.windows_within-windows.result) c.requires.1.1.0 c.windows_within-windows.ensures in
+    let pass = c.new-pass.ensures line (map number c.windows_within-windows.result) c.requires.1.1.1.0 c.windows_within-windows.ensures in
     let gap : IsMaskOf (IsGap line clue 0) (number c.gap.result) = rw c.gap.ensures pass.gap_is in
     subst (λ n. IsMaskOf (λ i. (q : ℕ) × (q ≤ n) × IsGap line clue q i × IsGapAhead line clue q i) (number c.intersection-blankable.result))
     (sym none)

@@ -23,7 +23,7 @@ pub loop-number-preserved : goal.loop-number-preserved
 loop-number-preserved g c =
     let first = c.first_place-start.ensures in
     walk_more g.cells c.args.clue.now _ _ _ _ _ _ _ c.loop-number-test.true
-    (length_at _ c.args.clue.now c.loop-number.number-index c.requires.1.1 c.loop-number-test.true).0 first.in_mask first.least
+    (length_at _ c.args.clue.now c.loop-number.number-index c.requires.1.1.1 c.loop-number-test.true).0 first.in_mask first.least
     c.if-start-least.false c.shifted_down.ensures c.first_places.ensures c.symmetric_difference-left.ensures c.loop-number.invariant
 
 pub returns : goal.returns

@@ -21,17 +21,17 @@ returns g c =
     let clue = c.args.clue.now in
     let j = c.args.j in
     let len = c.args.span.now.len in
-    let size = c.requires.1.0.len_is in
-    let some = c.requires.1.0.some in
+    let size = c.requires.1.1.0.len_is in
+    let some = c.requires.1.1.0.some in
     let ends = number c.args.ends in
     let ahead = number c.args.ahead in
     let end = number c.last_end-last.result in
-    let pos : ArePositive clue = recursion_from_All (λ (n : ℕ). 0 < n) clue c.requires.1.1.0.positive in
+    let pos : ArePositive clue = recursion_from_All (λ (n : ℕ). 0 < n) clue c.requires.1.1.1.0.positive in
     let last : IsMaskOf (λ i. (i ≡ length line - 1) × (j + 1 ≡ length clue)) end =
     mask_same (λ i. (i ≡ len - 1) × (nat_eq (j + 1) (length clue) ≡ true)) _ end c.last_end-last.ensures
     (λ i h. let e : i ≡ len - 1 = h.0 in (omega arith, eqb-true (j + 1) (length clue) h.1))
     (λ i h. let e : i ≡ length line - 1 = h.0 in (omega arith, eq-eqb (j + 1) (length clue) h.1)) in
-    whole_is line clue j ends ahead end _ c.requires.1.1.1.0 (positive_at clue pos j c.requires.1.1.1.0) c.requires.1.1.1.1.0
-    c.requires.1.1.1.1.1 last
+    whole_is line clue j ends ahead end _ c.requires.1.1.1.1.0 (positive_at clue pos j c.requires.1.1.1.1.0) c.requires.1.1.1.1.1.0
+    c.requires.1.1.1.1.1.1 last
     (meet_of (Has ends) (λ i. Has ahead (i + 1) ⊎ Has end i) ends _ _ (has_of ends)
     (join_of (λ i. Has ahead (i + 1)) (Has end) _ end _ c.shifted_down.ensures (has_of end) c.union.ensures) c.intersection.ensures)

@@ -13,5 +13,5 @@ invariant-loop-j g l = record {
   size : length l.gaps ≡ 129;
   pass : IsPassOver g.W.PlaceSet.WIDTH g.W.PlaceSet.TOP (reverse g.line) (behind 0 (reverse l.clue) l.j) (g.W.PlaceSet.number l.pass.free)
       (map g.W.PlaceSet.number l.windows) (g.W.PlaceSet.number l.pass.opening) (g.W.PlaceSet.number l.pass.gap);
-  gaps : (k : ℕ) → k ≤ l.j → IsMaskOf (IsGap (reverse g.line) (reverse l.clue) k) (get_or (map g.W.PlaceSet.number l.gaps) k 0);
+  gaps : (k : ℕ) → k ≤ l.j → IsMaskOf (IsGap (reverse g.line) (reverse l.clue) k) (get_or (map g.W.PlaceSet.kept_number l.gaps) k 0);
 }

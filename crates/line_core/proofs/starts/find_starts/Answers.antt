@@ -12,7 +12,7 @@ pub returns-then-is_empty-clause-found : goal.returns-then-is_empty-clause-found
 returns-then-is_empty-clause-found g c =
     let line = g.cells in
     let clue = c.args.clue.now in
-    let pos : ArePositive clue = recursion_from_All (λ (n : ℕ). 0 < n) clue c.requires.1.1.1.0.positive in
+    let pos : ArePositive clue = recursion_from_All (λ (n : ℕ). 0 < n) clue c.requires.1.1.1.1.0.positive in
     let none : length clue ≡ 0 = eqb-true (length clue) 0 (sym c.is_empty.ensures ∙ c.if-is_empty.true) in
     answered c.args.side line clue c.args.list.now.starts c.may_have_no_run.result pos (omega arith)
     (match_more c.may_have_no_run.result (HasPlacing line clue) (HasPlacing line clue → ⊥)
@@ -24,9 +24,9 @@ pub returns-else-is_empty-clause-found : goal.returns-else-is_empty-clause-found
 returns-else-is_empty-clause-found g c =
     let line = g.cells in
     let clue = c.args.clue.now in
-    let pos : ArePositive clue = recursion_from_All (λ (n : ℕ). 0 < n) clue c.requires.1.1.1.0.positive in
+    let pos : ArePositive clue = recursion_from_All (λ (n : ℕ). 0 < n) clue c.requires.1.1.1.1.0.positive in
     let list = c.write_starts.new.list.starts in
-    let few = c.requires.1.1.1.1.0 in
+    let few = c.requires.1.1.1.1.1.0 in
     let some : 0 < length clue = (let ne = eqb-false (length clue) 0 (sym c.is_empty.ensures ∙ c.if-is_empty.false) in omega arith) in
     answered c.args.side line clue list c.write_starts.result pos (omega (arith, c.write_starts.ensures.len))
     (match_more c.write_starts.result ((j : ℕ) → j < length clue → IsOuterStart c.args.side line clue j (get_or list j 0))

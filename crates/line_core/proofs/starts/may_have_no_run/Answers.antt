@@ -15,8 +15,8 @@ pub returns : goal.returns
 returns g c =
     let line = g.line in
     let clue = c.args.clue.now in
-    let span = c.requires.1.1.0 in
+    let span = c.requires.1.1.1.0 in
     let gap = gap_none_is line _ _ span.free_is c.first_gap-gap.ensures in
     told _ _ (HasPlacing line clue) c.contains.ensures
     (no_run_to line clue _ _ _ gap c.gap_ahead.ensures c.intersection-blankable.ensures)
-    (no_run_from line clue _ _ _ c.requires.1.1.1.0 span.some gap c.gap_ahead.ensures c.intersection-blankable.ensures)
+    (no_run_from line clue _ _ _ c.requires.1.1.1.1.0 span.some gap c.gap_ahead.ensures c.intersection-blankable.ensures)

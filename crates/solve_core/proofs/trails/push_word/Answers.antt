@@ -19,6 +19,14 @@ loop-k-init g c = record {
   capacity = refl;
 }
 
+pub overflow_add-first : goal.overflow_add-first
+overflow_add-first g c =
+    let x = c.first_place-k.result in
+    let changes = g.W.PlaceSet.number c.args.changes in
+    let inside = c.loop-k.invariant.inside x c.first_place-k.ensures.in_mask in
+    let is = of_word changes c.args.from c.word_from-left.result x c.word_from-left.ensures inside in
+    let place = c.requires.places (c.args.from + x) is.0 in rw c.from.ensures (omega (arith, place))
+
 pub loop-k-preserved : goal.loop-k-preserved
 loop-k-preserved g c =
     let before = c.loop-k.invariant in

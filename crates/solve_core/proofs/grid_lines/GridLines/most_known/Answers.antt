@@ -50,3 +50,9 @@ loop-y-preserved g c =
                 ap (least_after (sure_neighbours c.len-width.result c.args.self.now.cells)) same;
           })
     ]
+
+pub returns : goal.returns
+returns g c =
+    let width : c.args.self.now.width ≡ c.len-width.result = grind arith in
+    let all : c.loop-y.y * c.len-width.result ≡ length c.args.self.now.cells = grind arith in
+    rw (sym all, width) c.loop-y.invariant.best_is
