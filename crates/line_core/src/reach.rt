@@ -10,7 +10,7 @@ ghost use Rattle.line_core.specs.steps.Reach.{AreLengths, AreReversedGaps, AreRe
 use crate::passes::Pass;
 use crate::spans::{Span, reversed};
 use grid_core::MOST_RUNS;
-use place_sets::{PlaceSet, reversed_within, windows_within};
+use place_sets::{PlaceSet, windows_within};
 
 /// How many masks of gaps a clue needs at most: one before each run, and one after the last.
 pub const GAPS: usize = MOST_RUNS + 1;
@@ -42,7 +42,7 @@ fn reverse_all<W: PlaceSet>(masks: &mut [W::Kept], len: u16)
     ensures { AreReversedMasks len (map W.kept_number masks.old) (map W.kept_number masks.new) }
 {
     for i in 0..masks.len() {
-        masks[i] = reversed_within(W::of_kept(masks[i]), len).kept();
+        masks[i] = W::reversed_kept(masks[i], len);
     }
 }
 

@@ -1,10 +1,10 @@
 -- A mask seen from its other end.
-use Rattle.std.proofs.Common.{◌≡◌, ℕ, zero, suc, ◌+◌, ◌-◌, ◌<◌, ◌≤◌, ◌⊎◌, inl, inr, arith, subst, Bool, true}
+use Rattle.std.proofs.Common.{◌≡◌, ℕ, zero, suc, ◌+◌, ◌-◌, ◌*◌, ◌^◌, ◌<◌, ◌≤◌, ◌⊎◌, inl, inr, ◌∙◌, sym, arith, subst, Bool, true}
 use Rattle.std.specs.Int.{bit_at}
 use Rattle.std.proofs.lemmas.Bool.{cases_lt, and_parts}
 use Rattle.std.proofs.lemmas.Bool.Decides.{nat_tests}
-use Rattle.std.proofs.lemmas.Nat.Bits.{bit_at-lt}
-use Rattle.place_sets.specs.Masks.{Has, IsMaskOf}
+use Rattle.std.proofs.lemmas.Nat.Bits.{bit_at-lt, bit_at_cat_low, bit_at_cat_high}
+use Rattle.place_sets.specs.Masks.{Has, IsMaskOf, IsReversed}
 use Rattle.place_sets.specs.steps.Masks.{all_below, swapped_place, is_pairing_at, IsPairing}
 
 pub below_all : (n : ℕ) (p : ℕ → Bool) → all_below n p ≡ true → (i : ℕ) → i < n → p i ≡ true
@@ -33,4 +33,42 @@ pub step : (x r s : ℕ) (f : ℕ → ℕ) (low by : ℕ) → IsPairing 64 low b
 step x r s f low by h p q = record {
   to = λ i h. let a = q.to i h in (a.0, (p.to _ a.1).1);
   from = λ i a. q.from i (a.0, p.from _ ((pairing low by h i a.0).within, a.1));
+}
+
+-- places reversed in their word end with the word: shifted down they are the first ones reversed
+pub within_first : (w len n r m : ℕ) → 0 < len → len ≤ w → IsMaskOf (IsReversed w (Has n)) r → IsMaskOf (λ i. Has r (i + (w - len))) m
+    → IsMaskOf (λ i. (i < len) × Has n (len - 1 - i)) m
+within_first w len n r m some fits p q = record {
+  to = λ i h.
+      let a = p.to _ (q.to i h) in
+      let e : w - 1 - (i + (w - len)) ≡ len - 1 - i = omega (arith, a.0) in (omega (arith, a.0), subst (Has n) e a.1);
+  from = λ i h.
+      let e : len - 1 - i ≡ w - 1 - (i + (w - len)) = omega (arith, h.0) in
+      q.from i (p.from _ (omega (arith, h.0), subst (Has n) e h.1));
+}
+
+-- both words reversed, and exchanged
+pub words_reversed : (low high rl rh : ℕ) → low < 2 ^ 64 → rh < 2 ^ 64 → IsMaskOf (IsReversed 64 (Has low)) rl
+    → IsMaskOf (IsReversed 64 (Has high)) rh → IsMaskOf (λ i. (i < 128) × Has (high * 2 ^ 64 + low) (128 - 1 - i)) (rl * 2 ^ 64 + rh)
+words_reversed low high rl rh fl fr of_low of_high = record {
+  to = λ i h. elim (cases_lt i 64) [
+    | inl l ↦
+        (let a = of_high.to i (sym (bit_at_cat_low rl 64 rh i l) ∙ h) in
+        let e : 127 - i - 64 ≡ 63 - i = omega arith in
+        (omega arith, bit_at_cat_high high 64 low (127 - i) fl (omega arith) ∙ subst (Has high) (sym e) a.1))
+    | inr l ↦
+        (let a = of_low.to (i - 64) (sym (bit_at_cat_high rl 64 rh i fr l) ∙ h) in
+        let e : 63 - (i - 64) ≡ 127 - i = omega arith in
+        (omega (arith, a.0), bit_at_cat_low high 64 low (127 - i) (omega (arith, a.0, l)) ∙ subst (Has low) e a.1))
+  ];
+  from = λ i h. elim (cases_lt i 64) [
+    | inl l ↦
+        (let e : 127 - i - 64 ≡ 63 - i = omega arith in
+        let a = sym (bit_at_cat_high high 64 low (127 - i) fl (omega arith)) ∙ h.1 in
+        bit_at_cat_low rl 64 rh i l ∙ of_high.from i (l, subst (Has high) e a))
+    | inr l ↦
+        (let e : 127 - i ≡ 63 - (i - 64) = omega (arith, h.0) in
+        let a = sym (bit_at_cat_low high 64 low (127 - i) (omega (arith, h.0, l))) ∙ h.1 in
+        bit_at_cat_high rl 64 rh i fr l ∙ of_low.from (i - 64) (omega (arith, h.0), subst (Has low) e a))
+  ];
 }

@@ -139,6 +139,10 @@ impl PlaceSet for u64 {
         kept
     }
 
+    fn reversed_kept(kept: u64, len: u16) -> u64 {
+        kept.reversed().shifted_down(64 - len)
+    }
+
     fn folded(self) -> u64 {
         self
     }
@@ -260,6 +264,17 @@ impl PlaceSet for u128 {
 
     fn of_kept(kept: Words) -> u128 {
         ((kept.high as u128) << 64) | kept.low as u128
+    }
+
+    /// A list of whole words is turned two words at a time.
+    fn reversed_kept(kept: Words, len: u16) -> Words {
+        if len == 128 {
+            return Words {
+                low: kept.high.reversed(),
+                high: kept.low.reversed(),
+            };
+        }
+        u128::of_kept(kept).reversed().shifted_down(128 - len).kept()
     }
 
     fn folded(self) -> u64 {

@@ -1,6 +1,6 @@
 //! Sets of places.
 
-ghost use Rattle.std.specs.Prelude.{◌≡◌, ◌≢◌, ◌+◌, ◌*◌, ◌^◌, ◌<◌, ◌≤◌, ◌==◌, ◌⊎◌, ℕ, false, refl};
+ghost use Rattle.std.specs.Prelude.{◌≡◌, ◌≢◌, ◌+◌, ◌-◌, ◌*◌, ◌^◌, ◌<◌, ◌≤◌, ◌==◌, ◌⊎◌, ℕ, false, refl};
 ghost use Rattle.std.proofs.Common.{arith};
 ghost use Rattle.std.specs.Mem.{type_size};
 ghost use Rattle.place_sets.specs.Masks.{Has, has, IsFlooded, IsMarked, IsMaskOf, IsShifted, IsReversed, number_of};
@@ -120,6 +120,11 @@ pub trait PlaceSet: Copy {
     /// The places that a list kept.
     fn of_kept(kept: Self::Kept) -> Self
         ensures { number result ≡ kept_number kept };
+
+    /// The places of a kept set among the first `len`, seen from the other end of these.
+    fn reversed_kept(kept: Self::Kept, len: u16) -> Self::Kept
+        requires { (0 < len) × (len ≤ WIDTH) }
+        ensures { IsMaskOf (λ i. (i < len) × Has (kept_number kept) (len - 1 - i)) (kept_number result) };
 
     /// All places in one word, for hashes: sets with the same places share it.
     fn folded(self) -> u64;

@@ -183,6 +183,10 @@ impl PlaceSet for Wide {
         kept
     }
 
+    fn reversed_kept(kept: Wide, len: u16) -> Wide {
+        kept.reversed().shifted_down(256 - len)
+    }
+
     fn folded(self) -> u64 {
         self.low.folded() ^ self.high.folded().rotate_left(17)
     }

@@ -104,6 +104,14 @@ fn windows_and_spreads_of_one_length(rt: HostRuntime) -> Result<(), Fail> {
 }
 
 #[test]
+fn lists_keep_128_places_in_two_words(rt: HostRuntime) -> Result<(), Fail> {
+    let words = 0x0005_0000_0000_0000_0003u128.kept();
+    assert!(rt; words.low == 3 && words.high == 5, "its words");
+    assert!(rt; u128::of_kept(words) == 0x0005_0000_0000_0000_0003, "the set");
+    Ok(())
+}
+
+#[test]
 fn unknown_cells_are_settled(rt: HostRuntime) -> Result<(), Fail> {
     let mut line = LineOf::<u64>::unknown(3);
     line.settle(0, Cell::Filled);

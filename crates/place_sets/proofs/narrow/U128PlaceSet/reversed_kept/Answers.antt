@@ -1,0 +1,15 @@
+-- `u128::reversed_kept`: two whole words are reversed and exchanged; else the set is reversed, and shifted down.
+use Rattle.std.proofs.Common.{◌≡◌, arith, rules}
+use Rattle.place_sets.proofs.Reversing.{within_first, words_reversed}
+use Rattle.place_sets.proofs.narrow.U128PlaceSet.reversed_kept.Goals as goal
+
+pub returns-then-len-eq128 : goal.returns-then-len-eq128
+returns-then-len-eq128 c =
+    let all : c.args.len ≡ 128 = omega (arith, c.if-len-eq128.true) in
+    rw all (words_reversed c.args.kept.low c.args.kept.high _ _ (search rules) c.reversed.type_inv
+    c.reversed-then-len-eq128.ensures c.reversed.ensures)
+
+pub returns : goal.returns
+returns c =
+    rw c.kept.ensures (rw c.of_kept.ensures at
+    (within_first 128 c.args.len _ _ _ (omega arith) (omega arith) c.reversed-2.ensures c.shifted_down.ensures))
