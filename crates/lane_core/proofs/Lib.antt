@@ -5,4 +5,3 @@ pub mod LaneLemmas
 pub mod SettlingLemmas
 pub mod DealingLemmas
 pub mod WorkLemmas
-pub mod BackLemmas

@@ -1,5 +1,5 @@
 -- Lemmas on lists of messages.
-use Rattle.std.proofs.Common.{◌≡◌, ◌∙◌, true, false, List, [], ◌∷◌, ◌++◌, refl, ap}
+use Rattle.std.proofs.Common.{◌≡◌, ◌∙◌, true, false, List, [], ◌∷◌, ◌++◌, refl, ap, rules}
 use Rattle.std.proofs.lemmas.List.{append-nil}
 use Rattle.lane_core.specs.Messages.{jobs_of, has_finish, finish_is_last}
 use Rattle.lane_core.specs.declared.jobs.Job.{Job}
@@ -28,26 +28,13 @@ has_finish-push_finish (Finish ∷ xs) = refl
 
 -- one more message, while no finish is among them
 pub finish_is_last-push : (xs : List Message) (message : Message) → has_finish xs ≡ false → finish_is_last (xs ++ message ∷ []) ≡ true
-finish_is_last-push [] (Work job) h = refl
-finish_is_last-push [] Finish h = refl
 finish_is_last-push (Work job ∷ xs) message h = finish_is_last-push xs message h
-finish_is_last-push (Finish ∷ xs) message h = cc
+finish_is_last-push xs message h = search rules
 
 -- nothing follows a finish that was taken
 pub nothing_follows : (taken rest : List Message) → finish_is_last (taken ++ rest) ≡ true → has_finish taken ≡ true → rest ≡ []
-nothing_follows [] rest last finished = cc
 nothing_follows (Work job ∷ taken) rest last finished = nothing_follows taken rest last finished
 nothing_follows (Finish ∷ []) [] last finished = refl
-nothing_follows (Finish ∷ []) (next ∷ rest) last finished = cc
-nothing_follows (Finish ∷ (next ∷ taken)) rest last finished = cc
+nothing_follows taken rest last finished = cc
 
 pub ruleset messages = (jobs_of-append, jobs_of-push_finish, has_finish-push_work, has_finish-push_finish, finish_is_last-push)
-
--- once the finish is taken, it is among the messages
-pub has_finish-took_finish : (after before : List Message) → after ≡ before ++ Finish ∷ [] → has_finish after ≡ true
-has_finish-took_finish after before e = ap has_finish e ∙ has_finish-push_finish before
-
--- a job that is taken is no finish
-pub has_finish-took_work : (after before : List Message) (job : Job) → after ≡ before ++ Work job ∷ []
-    → has_finish after ≡ has_finish before
-has_finish-took_work after before job e = ap has_finish e ∙ has_finish-push_work before job

@@ -90,6 +90,7 @@ impl Answer {
 
     /// The report of the answer's own puzzle under its own limit on guesses and by its own rule:
     /// its verdict holds of all grids. `NoMemory` if a growth was refused while the job was graded.
+    #[tactic(auto, using(crate::proofs::AnswersLemmas::found))]
     pub fn outcome(&self) -> Result<&Findings, NoMemory>
         ensures value { MatchResult result (λ found. self.now.outcome ≡ Ok found.now) (λ refused. self.now.outcome ≡ Err refused) }
         ensures report { IfOk result (λ found. found.now

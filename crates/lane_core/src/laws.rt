@@ -16,6 +16,7 @@ ghost use Rattle.lane_core.specs.declared.dealing.TheConstants.{MOST_TAKEN};
 
 /// What was put and what is held answers the jobs that were taken, place by place.
 /// So what was received answers the first of the jobs that were sent. No message follows the finish.
+#[tactic(auto, using(crate::proofs::SettlingLemmas::lawful))]
 pub fn answers_in_order()
     ensures answered { (capacity : ℕ) (events : List Event) (lane : Lane) → Run (opening capacity) events lane → IsAnswered lane.back }
     ensures taken { (capacity : ℕ) (events : List Event) (lane : Lane) → Run (opening capacity) events lane
@@ -29,6 +30,7 @@ pub fn answers_in_order()
 {}
 
 /// What a finished and drained lane received answers the jobs that were sent, place by place.
+#[tactic(auto, using(crate::proofs::SettlingLemmas::lawful))]
 pub fn drained_lanes_are_answered()
     ensures { (capacity : ℕ) (events : List Event) (lane : Lane) → Run (opening capacity) events lane
         → IsFinished lane.back → IsDrained lane.front lane.back → AreAnswersTo (jobs_of lane.front.sent) lane.front.received }
@@ -36,6 +38,7 @@ pub fn drained_lanes_are_answered()
 
 /// Each worker's end that there is keeps this too: what it put and what it holds answers the jobs
 /// that it took, place by place.
+#[tactic(auto, using(crate::proofs::AnswersLemmas::back_is_answered))]
 pub fn backs_are_answered()
     ensures { (back : LaneBack) → IsAnswered (back_lists back) }
 {}

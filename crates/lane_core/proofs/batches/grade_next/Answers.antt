@@ -6,7 +6,7 @@ use Rattle.lane_core.proofs.batches.grade_next.Goals as goal
 
 pub returns-in-Graded-clause-more : goal.returns-in-Graded-clause-more
 returns-in-Graded-clause-more g c = λ _.
-    graded_more (back_capacity c.args.back.now) (back_capacity c.has_work.new.back) (front_lists c.args.front.now)
+    graded_more (back_capacity c.args.back.now) (front_lists c.args.front.now)
     (back_lists c.args.back.now) (back_lists c.has_work.new.back) _ _
     c.has_work.ensures.back.1 c.in-Graded.ensures.lists c.has_work.ensures.waiting (c.if-not-has_work.ensures.some refl)
 
