@@ -1,6 +1,5 @@
 -- Lemmas on answers beside their jobs.
-use Rattle.std.proofs.Common.{◌≡◌, ℕ, List, [], ◌∷◌, ◌++◌, length, take, Result, Ok, Err}
-use Rattle.std.proofs.Math.Logic.{∥∥₁_elim}
+use Rattle.lane_core.proofs.Names.{◌≡◌, ℕ, List, [], ◌∷◌, ◌++◌, length, take, Result, Ok, Err, ∥∥₁_elim, IsAnswerTo, AreAnswersTo, IsAnswered, back_lists, Job, Answer}
 use Rattle.std.specs.Coded.{×_prop, Unit-prop, Coded-set, coded_ℕ}
 use Rattle.grid_core.specs.Nonogram.{Nonogram, IsNonogram}
 use Rattle.grid_core.specs.declared.memory.NoMemory.{NoMemory}
@@ -15,11 +14,6 @@ use Rattle.solve_core.specs.contracts.findings.Findings.{the_row}
 use Rattle.solve_core.proofs.PickLaws.{picked-IsPick}
 use Rattle.solve_core.proofs.AnswerLaws.{verdict-Holds}
 use Rattle.lane_core.specs.Outcome.{IsOutcome}
-use Rattle.lane_core.specs.Answers.{IsAnswerTo, AreAnswersTo}
-use Rattle.lane_core.specs.Lane.{IsAnswered}
-use Rattle.lane_core.specs.Ends.{back_lists}
-use Rattle.lane_core.specs.declared.jobs.Job.{Job}
-use Rattle.lane_core.specs.declared.answers.Answer.{Answer}
 use Rattle.lane_core.specs.declared.backs.LaneBack.{LaneBack}
 
 IsOutcome-prop : (puzzle : Nonogram) (guesses : ℕ) (pick : Pick) (outcome : Result Findings NoMemory)

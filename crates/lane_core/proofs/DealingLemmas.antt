@@ -1,14 +1,6 @@
 -- Lemmas on one turn of a collector at a lane.
-use Rattle.std.proofs.Common.{◌≡◌, ◌⊎◌, inl, inr, ℕ, List, [], ◌∷◌, ◌++◌, length, refl, ◌∙◌, append_assoc, length-append, arith}
-use mathlib.Core.List.{IsPrefix}
-use Rattle.lane_core.specs.Messages.{jobs_of, has_finish}
-use Rattle.lane_core.specs.Lane.{FrontLists, PutsMessage}
-use Rattle.lane_core.specs.Dealing.{MayRefuse, Deals, Grows}
+use Rattle.lane_core.proofs.Names.{◌≡◌, ◌⊎◌, inl, inr, ℕ, List, [], ◌∷◌, ◌++◌, length, refl, ◌∙◌, append_assoc, length-append, arith, IsPrefix, jobs_of, has_finish, FrontLists, PutsMessage, MayRefuse, Deals, Grows, Job, Answer, Message, Work}
 use Rattle.lane_core.specs.steps.Dealing.{Sends, Asks, Takes}
-use Rattle.lane_core.specs.declared.jobs.Job.{Job}
-use Rattle.lane_core.specs.declared.answers.Answer.{Answer}
-use Rattle.lane_core.specs.declared.messages.Message.{Message}
-use Rattle.lane_core.specs.declared.messages.Message.TheVariants.{Work}
 use Rattle.lane_core.proofs.MessagesLemmas.{jobs_of-append, jobs_of-push_finish, has_finish-push_work, has_finish-push_finish}
 use Rattle.lane_core.proofs.LaneLemmas.{prefix_more}
 

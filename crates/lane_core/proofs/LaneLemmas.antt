@@ -1,19 +1,6 @@
 -- Each event of a lane keeps that what was put and is held answers what was taken.
-use Rattle.std.proofs.Common.{◌≡◌, inl, inr, ℕ, true, List, [], ◌∷◌, ◌++◌, refl, ap, sym, ◌∙◌, append_assoc}
-use Rattle.std.proofs.lemmas.List.{append-nil}
-use Rattle.std.specs.Prelude.{Option, Some, None, option_to_list}
-use mathlib.Core.List.{IsPrefix}
-use Rattle.lane_core.specs.Messages.{jobs_of, finish_is_last}
-use Rattle.lane_core.specs.Answers.{IsAnswerTo, AreAnswersTo}
-use Rattle.lane_core.specs.Lane.{BackLists, Lane, Event, Put_message, Take_message, Put_answer, Receive_answer, IsHeldFor, TakesMessage, Happens, Run, opening, IsAnswered}
-use Rattle.lane_core.specs.Stepping.{StepsBeforeFinish}
+use Rattle.lane_core.proofs.Names.{◌≡◌, inl, inr, ℕ, true, List, [], ◌∷◌, ◌++◌, refl, ap, sym, ◌∙◌, append_assoc, append-nil, Option, Some, None, option_to_list, IsPrefix, jobs_of, finish_is_last, IsAnswerTo, AreAnswersTo, BackLists, Lane, Event, Put_message, Take_message, Put_answer, Receive_answer, IsHeldFor, TakesMessage, Happens, Run, opening, IsAnswered, StepsBeforeFinish, Job, Answer, Message, Work, Finish, Step, Graded, Waiting}
 use Rattle.lane_core.specs.steps.Offer.{IsOffered}
-use Rattle.lane_core.specs.declared.jobs.Job.{Job}
-use Rattle.lane_core.specs.declared.answers.Answer.{Answer}
-use Rattle.lane_core.specs.declared.messages.Message.{Message}
-use Rattle.lane_core.specs.declared.messages.Message.TheVariants.{Work, Finish}
-use Rattle.lane_core.specs.declared.steps.Step.{Step}
-use Rattle.lane_core.specs.declared.steps.Step.TheVariants.{Graded, Waiting}
 use Rattle.lane_core.proofs.MessagesLemmas.{jobs_of-append, jobs_of-push_finish, finish_is_last-push}
 use Rattle.lane_core.proofs.AnswersLemmas.{AreAnswersTo-push}
 

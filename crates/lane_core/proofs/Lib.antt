@@ -1,4 +1,5 @@
 -- Lemmas on jobs, answers and lanes.
+pub mod Names
 pub mod MessagesLemmas
 pub mod AnswersLemmas
 pub mod LaneLemmas

@@ -1,10 +1,5 @@
 -- Lemmas on lists of messages.
-use Rattle.std.proofs.Common.{◌≡◌, ◌∙◌, true, false, List, [], ◌∷◌, ◌++◌, refl, ap, rules}
-use Rattle.std.proofs.lemmas.List.{append-nil}
-use Rattle.lane_core.specs.Messages.{jobs_of, has_finish, finish_is_last}
-use Rattle.lane_core.specs.declared.jobs.Job.{Job}
-use Rattle.lane_core.specs.declared.messages.Message.{Message}
-use Rattle.lane_core.specs.declared.messages.Message.TheVariants.{Work, Finish}
+use Rattle.lane_core.proofs.Names.{◌≡◌, ◌∙◌, true, false, List, [], ◌∷◌, ◌++◌, refl, ap, rules, append-nil, jobs_of, has_finish, finish_is_last, Job, Message, Work, Finish}
 
 -- the jobs of two lists of messages, one after the other
 pub jobs_of-append : (xs ys : List Message) → jobs_of (xs ++ ys) ≡ jobs_of xs ++ jobs_of ys

@@ -1,12 +1,5 @@
 -- What is known with both ends of a lane in hand.
-use Rattle.std.proofs.Common.{◌≡◌, true, ◌++◌, length, take, refl, append_assoc, append-nil}
-use Rattle.std.proofs.lemmas.List.{nil_from_length}
-use Rattle.std.specs.Prelude.{Option, Some, None, option_to_list, is_none}
-use mathlib.Core.List.{IsPrefix}
-use Rattle.lane_core.specs.Messages.{jobs_of, has_finish, finish_is_last}
-use Rattle.lane_core.specs.Answers.{AreAnswersTo}
-use Rattle.lane_core.specs.Lane.{FrontLists, BackLists, IsAnswered, IsDrained}
-use Rattle.lane_core.specs.declared.answers.Answer.{Answer}
+use Rattle.lane_core.proofs.Names.{◌≡◌, true, ◌++◌, length, take, refl, append_assoc, append-nil, nil_from_length, Option, Some, None, option_to_list, is_none, IsPrefix, jobs_of, has_finish, finish_is_last, AreAnswersTo, FrontLists, BackLists, IsAnswered, IsDrained, Answer}
 use Rattle.lane_core.proofs.MessagesLemmas.{jobs_of-append, nothing_follows}
 use Rattle.lane_core.proofs.AnswersLemmas.{AreAnswersTo-front}
 use Rattle.lane_core.proofs.LaneLemmas.{IsLawful-run}

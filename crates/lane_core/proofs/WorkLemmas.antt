@@ -1,13 +1,5 @@
 -- Lemmas on a batch lane's work.
-use Rattle.std.proofs.Common.{◌≡◌, ◌≢◌, ◌<◌, ◌↔◌, inl, inr, ℕ, List, [], ◌∷◌, ◌++◌, length, refl, length-append, arith}
-use Rattle.std.proofs.lemmas.List.{append-nil, nil_from_length}
-use Rattle.std.specs.Prelude.{None}
-use Rattle.lane_core.specs.Lane.{FrontLists, BackLists, IsFinished}
-use Rattle.lane_core.specs.Stepping.{Steps, StepRun, Works, IsWorkDone}
-use Rattle.lane_core.specs.steps.WorkLeft.{work_left}
-use Rattle.lane_core.specs.declared.messages.Message.{Message}
-use Rattle.lane_core.specs.declared.steps.Step.{Step}
-use Rattle.lane_core.specs.declared.steps.Step.TheVariants.{Idle, Graded, Waiting, Done}
+use Rattle.lane_core.proofs.Names.{◌≡◌, ◌≢◌, ◌<◌, ◌↔◌, inl, inr, ℕ, List, [], ◌∷◌, ◌++◌, length, refl, length-append, arith, append-nil, nil_from_length, None, FrontLists, BackLists, IsFinished, Steps, StepRun, Works, IsWorkDone, work_left, Message, Step, Idle, Graded, Waiting, Done}
 
 graded_less : (capacity : ℕ) (front : FrontLists) (old new : BackLists) (known : List Message) →
     Steps capacity Graded old new → old.taken ++ known ≡ front.sent → (old.held ≡ None → 0 < length known)

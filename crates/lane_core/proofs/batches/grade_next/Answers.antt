@@ -1,6 +1,5 @@
 -- `grade_next`: the step, in the words from before the look at both ends of the ring.
-use Rattle.std.proofs.Common.{refl}
-use Rattle.lane_core.specs.Ends.{front_lists, back_lists, back_capacity}
+use Rattle.lane_core.proofs.Names.{refl, front_lists, back_lists, back_capacity}
 use Rattle.lane_core.proofs.WorkLemmas.{graded_more, work_last}
 use Rattle.lane_core.proofs.batches.grade_next.Goals as goal
 

@@ -1,7 +1,6 @@
 -- What the loop of `send_waiting` keeps: what was sent so far, and what is left, is what waited.
-use Rattle.std.proofs.Common.{◌≡◌, ◌↔◌, IsTrue}
+use Rattle.lane_core.proofs.Names.{◌≡◌, ◌↔◌, IsTrue, Grows}
 use Rattle.std.specs.VecDeque.{deque_capacity, deque_len}
-use Rattle.lane_core.specs.Dealing.{Grows}
 use Rattle.lane_core.proofs.DealingLemmas.{SentSoFar}
 use Rattle.lane_core.proofs.dealing.send_waiting.Given as goal
 

@@ -1,8 +1,5 @@
 -- `settle`: a look at both ends of a ring shows that nothing lies in it, and so the lane is drained.
-use Rattle.std.proofs.Common.{arith}
-use Rattle.rtrb.specs.Ring.{known_items}
-use Rattle.lane_core.specs.Lane.{IsDrained}
-use Rattle.lane_core.specs.Ends.{front_lists, back_lists}
+use Rattle.lane_core.proofs.Names.{arith, known_items, IsDrained, front_lists, back_lists}
 use Rattle.lane_core.proofs.AnswersLemmas.{back_is_answered}
 use Rattle.lane_core.proofs.SettlingLemmas.{first_are_answered, finished_is_drained, drained_answers}
 use Rattle.lane_core.proofs.settling.settle.Goals as goal

@@ -1,9 +1,6 @@
 -- `LaneBack::step`: what was put and is held still answers what was taken,
 -- and the lists change as a step may.
-use Rattle.std.proofs.Common.{refl, inr}
-use Rattle.std.proofs.Math.Logic.{∥∥₁_map}
-use Rattle.rtrb.specs.Ring.{received}
-use Rattle.lane_core.specs.Ends.{back_lists}
+use Rattle.lane_core.proofs.Names.{refl, inr, ∥∥₁_map, received, back_lists}
 use Rattle.lane_core.proofs.LaneLemmas.{StepsBeforeFinish-offer_held, StepsBeforeFinish-offer_taken, offered_is_answered}
 use Rattle.lane_core.proofs.backs.LaneBack.step.Goals as goal
 

@@ -1,7 +1,5 @@
 -- `BatchLane::work`: each step that puts an answer leaves less work, and the one that puts none is the last.
-use Rattle.std.proofs.Common.{refl, rules}
-use Rattle.lane_core.specs.declared.steps.Step.TheVariants.{Graded}
-use Rattle.lane_core.specs.Ends.{back_capacity, SameFront-trans, SameBack-trans}
+use Rattle.lane_core.proofs.Names.{refl, rules, Graded, back_capacity, SameFront-trans, SameBack-trans}
 use Rattle.lane_core.proofs.WorkLemmas.{Works-more, Works-one}
 use Rattle.lane_core.proofs.batches.BatchLane.work.Goals as goal
 

@@ -1,8 +1,6 @@
 -- What the loop of `BatchLane::work` keeps: the lane and its front are the same;
 -- what gets less is the work left.
-use Rattle.std.proofs.Common.{◌≡◌}
-use Rattle.lane_core.specs.Stepping.{Works}
-use Rattle.lane_core.specs.steps.WorkLeft.{work_left}
+use Rattle.lane_core.proofs.Names.{◌≡◌, Works, work_left}
 use Rattle.lane_core.specs.Batch.{batch_front, batch_back, batch_capacity, SameEnds}
 use Rattle.lane_core.proofs.batches.BatchLane.work.Given as goal
 
