@@ -1,66 +1,75 @@
 -- The first unknown cell of a list.
-use Rattle.std.proofs.Common.{◌≡◌, ℕ, ◌+◌, ◌-◌, ◌*◌, ◌<◌, ◌≤◌, Bool, true, false, List, [], ◌∷◌, length, get_or, Some, None, is_some, ◌⊎◌, inl, inr, not, refl, sym, ap, ◌∙◌, arith, true≢false}
+use Rattle.std.proofs.Common.{◌≡◌, ℕ, ◌+◌, ◌-◌, ◌*◌, ◌/◌, ◌%◌, ◌<◌, ◌≤◌, true, false, List, [], ◌∷◌, length, get_or, Option, Some, None, is_some, inl, inr, not, ◌⊎◌, refl, ap, arith}
 use Rattle.std.specs.Option.{option_map}
 use Rattle.std.specs.List.{list_all, position, position_or_len}
 use Rattle.std.proofs.lemmas.Bool.{cases_lt, lt-ltb, le-ltb}
+use Rattle.std.proofs.lemmas.Bool.Decides.{nat_tests}
+use Rattle.std.proofs.lemmas.Grind.{rows}
 use Rattle.std.proofs.lemmas.List.Sums.{position_or_len_is}
 use Rattle.grid_core.specs.declared.cells.Cell.{Cell}
-use Rattle.grid_core.specs.declared.cells.Cell.TheVariants.{Unknown, Filled, Blank}
+use Rattle.grid_core.specs.declared.cells.Cell.TheVariants.{Unknown}
 use Rattle.grid_core.specs.Cells.{is_known, is_unknown}
+use Rattle.grid_core.specs.Lines.{IsUnknownFrom}
 use Rattle.grid_core.specs.PartialGrid.{PartialGrid}
 use Rattle.grid_core.specs.Rows.{row_of}
-use Rattle.grid_core.proofs.RowLists.{get_or-row_of}
-
-found_at : (xs : List Cell) (i : ℕ) → position_or_len is_unknown xs ≡ i → i < length xs → position is_unknown xs ≡ Some i
-found_at xs i e h = rw (e, lt-ltb i (length xs) h) refl
+use Rattle.grid_core.proofs.LineLaws.{place-within}
+use Rattle.grid_core.proofs.RowLists.{get_or-row_of, length-row_of}
 
 -- a cell is the first unknown one if it is unknown and none before it is
 pub position_some : (xs : List Cell) (i : ℕ) → i < length xs → get_or xs i Unknown ≡ Unknown →
     ((k : ℕ) → k < i → is_unknown (get_or xs k Unknown) ≡ false) → position is_unknown xs ≡ Some i
-position_some xs i h here before = found_at xs i
-    (position_or_len_is is_unknown xs i Unknown (omega arith) before (λ l. ap is_unknown here)) h
+position_some xs i h here before =
+    rw (position_or_len_is is_unknown xs i Unknown (omega arith) before (λ l. ap is_unknown here), lt-ltb i (length xs) h) refl
 
 -- if no cell is unknown, there is no first unknown one
 pub position_none : (xs : List Cell) → ((k : ℕ) → k < length xs → is_unknown (get_or xs k Unknown) ≡ false) → position is_unknown xs ≡ None
 position_none xs known =
-    let all : position_or_len is_unknown xs ≡ length xs =
-    position_or_len_is is_unknown xs (length xs) Unknown (omega arith) known (λ l. absurd (omega arith)) in
-    rw (all, le-ltb (length xs) (length xs) (omega arith)) refl
+    rw (
+      position_or_len_is is_unknown xs (length xs) Unknown (omega arith) known (λ l. absurd (omega arith)),
+      le-ltb (length xs) (length xs) (omega arith),
+    ) refl
 
--- either all cells are known, or one is not
-all_or_not : (xs : List Cell)
-    → ((list_all is_known xs ≡ true) × (position_or_len is_unknown xs ≡ length xs)) ⊎
-    ((list_all is_known xs ≡ false) × (position_or_len is_unknown xs < length xs))
-all_or_not [] = inl (refl, refl)
-all_or_not (Unknown ∷ xs) = inr (refl, omega arith)
-all_or_not (Filled ∷ xs) = elim (all_or_not xs) [ inl a ↦ inl (a.0, omega (arith, a.1)) | inr n ↦ inr (n.0, omega (arith, n.1)) ]
-all_or_not (Blank ∷ xs) = elim (all_or_not xs) [ inl a ↦ inl (a.0, omega (arith, a.1)) | inr n ↦ inr (n.0, omega (arith, n.1)) ]
+-- a place is the first unknown one's, or all cells are known
+first_or_all : (xs : List Cell) → (position_or_len is_unknown xs ≡ length xs) × (list_all is_known xs ≡ true)
+    ⊎ (position_or_len is_unknown xs < length xs) × (list_all is_known xs ≡ false)
+first_or_all [] = inl (refl, refl)
+first_or_all (Unknown ∷ xs) = inr (omega arith, refl)
+first_or_all (cell ∷ xs) = grind (arith, first_or_all xs)
 
 -- there is a first unknown cell exactly if not all are known
-pub unknown_or_all : {X : Type 0} (f : ℕ → X) (xs : List Cell) → is_some (option_map f (position is_unknown xs)) ≡
-    not (list_all is_known xs)
-unknown_or_all {X} f xs =
-    elim (all_or_not xs) [
-      | inl a ↦ rw (a.0, a.1, le-ltb (length xs) (length xs) (omega arith)) refl
-      | inr n ↦ rw (n.0, lt-ltb (position_or_len is_unknown xs) (length xs) n.1) refl
-    ]
-
--- if the negation of a test is false, the test is true
-pub is_not : (b : Bool) → not b ≡ false → b ≡ true
-is_not true h = refl
-is_not false h = absurd (true≢false h)
+pub unknown_or_all : {X : Type 0} (f : ℕ → X) (found : Option X) (xs : List Cell) → found ≡ option_map f (position is_unknown xs)
+    → is_some found ≡ not (list_all is_known xs)
+unknown_or_all f found xs e = rw e (grind (arith, nat_tests, first_or_all xs))
 
 -- ---- rows of a grid
 
 -- if no cell of the rows above is unknown, nor one of the first `x` of row `y`, none up to there is
-pub known-more : (g : PartialGrid) (y x : ℕ) → x ≤ g.width → ((k : ℕ) → k < y * g.width → is_unknown (get_or g.cells k Unknown) ≡ false)
+known-more : (g : PartialGrid) (y x : ℕ) → x ≤ g.width → ((k : ℕ) → k < y * g.width → is_unknown (get_or g.cells k Unknown) ≡ false)
     → ((k : ℕ) → k < x → is_unknown (get_or (row_of g y) k Unknown) ≡ false) → (k : ℕ) → k < y * g.width + x →
     is_unknown (get_or g.cells k Unknown) ≡ false
 known-more g y x h above here k l = elim (cases_lt k (y * g.width)) [
   | inl low ↦ above k low
   | inr from ↦
       (let at : y * g.width + (k - y * g.width) ≡ k = omega arith in
-      let lx : k - y * g.width < x = omega arith in
-      ap is_unknown (ap (λ (q : ℕ). get_or g.cells q Unknown) (sym at) ∙ sym (get_or-row_of g (k - y * g.width) y (omega arith)))
-      ∙ here (k - y * g.width) lx)
+      rw (get_or-row_of g (k - y * g.width) y (omega arith), at) at (here (k - y * g.width) (omega arith)))
 ]
+
+-- if a row has no unknown cell, none is unknown up to its end
+pub known-row : (g : PartialGrid) (y : ℕ) (row : List Cell) → row ≡ row_of g y → IsUnknownFrom row 0 None
+    → ((k : ℕ) → k < y * g.width → is_unknown (get_or g.cells k Unknown) ≡ false) → (k : ℕ) → k < (y + 1) * g.width
+    → is_unknown (get_or g.cells k Unknown) ≡ false
+known-row g y row e none above k l =
+    known-more g y g.width (omega arith) above (λ x h. rw (← e) (none x (omega arith) (rw (e, length-row_of) h))) k (omega arith)
+
+-- the first unknown cell of a row is that of the grid, if no cell of the rows above is unknown
+pub first_in_row : (g : PartialGrid) (y x : ℕ) (row : List Cell) → row ≡ row_of g y → y < g.height → length g.cells ≡ g.width * g.height
+    → ((k : ℕ) → k < y * g.width → is_unknown (get_or g.cells k Unknown) ≡ false) → IsUnknownFrom row 0 (Some x)
+    → option_map {U = ℕ × ℕ} (λ k. (k % g.width, k / g.width)) (position is_unknown g.cells) ≡ Some (x, y)
+first_in_row g y x row e ly count above found =
+    let lx : x < g.width = rw (e, length-row_of) at found.1 in
+    let here = rw (e, get_or-row_of g x y lx) at found.2 in
+    let column : (y * g.width + x) % g.width ≡ x = grind (arith, rows) in
+    let line : (y * g.width + x) / g.width ≡ y = grind (arith, rows) in
+    let first = position_some g.cells (y * g.width + x) (omega (arith, place-within g.width g.height x y lx ly)) here
+    (known-more g y x (omega arith) above (λ k l. rw (← e) (found.3 k (omega arith) l))) in
+    rw first (λ i. Some (column i, line i))

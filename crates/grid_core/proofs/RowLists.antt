@@ -1,9 +1,8 @@
 -- The rows of a grid, one after the other.
-use Rattle.std.proofs.Common.{◌≡◌, ℕ, zero, suc, ◌+◌, ◌-◌, ◌*◌, ◌/◌, ◌%◌, ◌<◌, List, [], ◌∷◌, ◌++◌, length, map, take, drop, get_or, set, replicate, sym, ap, ◌∙◌, arith, zero-add, length-append, ext_get_or}
+use Rattle.std.proofs.Common.{◌≡◌, ℕ, zero, suc, ◌+◌, ◌-◌, ◌*◌, ◌<◌, List, [], ◌∷◌, ◌++◌, length, map, take, drop, get_or, set, replicate, refl, sym, ◌∙◌, arith, zero-add, length-append, ext_get_or}
 use Rattle.std.proofs.Math.Seq.{take-append-add, drop-append-add}
 use Rattle.std.proofs.lemmas.List.{append_assoc, get_or_append_left, get_or-append_right, replicate-append-replicate}
 use Rattle.std.proofs.lemmas.List.FromFn.{length-map-range_with_len, get_or-map-range_with_len}
-use Rattle.std.proofs.lemmas.Nat.{div_below}
 use Rattle.grid_core.specs.declared.cells.Cell.{Cell}
 use Rattle.grid_core.specs.declared.cells.Cell.TheVariants.{Unknown}
 use Rattle.grid_core.specs.PartialGrid.{PartialGrid, cell_at}
@@ -16,12 +15,8 @@ AreLong w rows = (y : ℕ) → y < length rows → length (get_or rows y []) ≡
 -- if each row has `w` cells, all rows together have `w` cells times the number of rows
 pub length-rows : (w : ℕ) (rows : List (List Cell)) → AreLong w rows → length (cells_of_rows rows) ≡ length rows * w
 length-rows w [] h = omega arith
-length-rows w (row ∷ rows) h = omega (
-  arith,
-  length-append row (cells_of_rows rows),
-  h 0 (omega arith),
-  length-rows w rows (λ y l. h (suc y) (omega arith)),
-)
+length-rows w (row ∷ rows) h =
+    rw (length-append, h 0 (omega arith), length-rows w rows (λ y l. h (suc y) (omega arith))) (omega arith)
 
 -- each cell of a row is among the cells
 pub get_or-rows : (w : ℕ) (rows : List (List Cell)) (y x : ℕ) → AreLong w rows → y < length rows → x < w
@@ -29,47 +24,42 @@ pub get_or-rows : (w : ℕ) (rows : List (List Cell)) (y x : ℕ) → AreLong w 
 get_or-rows w [] y x h l m = absurd (omega arith)
 get_or-rows w (row ∷ rows) zero x h l m =
     let at : 0 * w + x ≡ x = omega arith in
-    ap (λ (k : ℕ). get_or (row ++ cells_of_rows rows) k Unknown) at ∙
-    get_or_append_left row (cells_of_rows rows) Unknown x (omega (arith, h 0 (omega arith)))
+    rw (at, get_or_append_left row (cells_of_rows rows) Unknown x (omega (arith, h 0 (omega arith)))) refl
 get_or-rows w (row ∷ rows) (suc y) x h l m =
-    let long : length row ≡ w = h 0 (omega arith) in
     let next : suc y * w + x - w ≡ y * w + x = omega arith in
-    get_or-append_right row (cells_of_rows rows) w (suc y * w + x) Unknown long (omega arith)
-    ∙ ap (λ (k : ℕ). get_or (cells_of_rows rows) k Unknown) next
-    ∙ get_or-rows w rows y x (λ k n. h (suc k) (omega arith)) (omega arith) m
+    rw (get_or-append_right row (cells_of_rows rows) w (suc y * w + x) Unknown (h 0 (omega arith)) (omega arith), next)
+    (get_or-rows w rows y x (λ k n. h (suc k) (omega arith)) (omega arith) m)
 
 -- with another row, the cells are those before it, its own, and those after it
 pub cells-set_row : (w : ℕ) (rows : List (List Cell)) (y : ℕ) (row : List Cell) → AreLong w rows → y < length rows →
     cells_of_rows (set rows y row) ≡ take (y * w) (cells_of_rows rows) ++ row ++ drop (y * w + w) (cells_of_rows rows)
 cells-set_row w [] y row h l = absurd (omega arith)
 cells-set_row w (r ∷ rows) zero row h l =
-    let cells = r ++ cells_of_rows rows in
     let none : 0 * w ≡ 0 = omega arith in
     let past : 0 * w + w ≡ length r + 0 = omega (arith, h 0 (omega arith)) in
-    sym (ap (λ (n : ℕ). take n cells ++ row ++ drop (0 * w + w) cells) none
-    ∙ ap (λ (n : ℕ). row ++ drop n cells) past ∙ ap (λ (rest : List Cell). row ++ rest) (drop-append-add r (cells_of_rows rows) 0))
+    rw (past, none, drop-append-add) refl
 cells-set_row w (r ∷ rows) (suc y) row h l =
     let long : length r ≡ w = h 0 (omega arith) in
-    let rest = cells_of_rows rows in
-    let before : suc y * w ≡ length r + y * w = omega (arith, long) in
-    let past : suc y * w + w ≡ length r + (y * w + w) = omega (arith, long) in
-    ap (λ (more : List Cell). r ++ more) (cells-set_row w rows y row (λ k n. h (suc k) (omega arith)) (omega arith))
-    ∙ sym (ap (λ (n : ℕ). take n (r ++ rest) ++ row ++ drop (suc y * w + w) (r ++ rest)) before
-    ∙ ap (λ (n : ℕ). take (length r + y * w) (r ++ rest) ++ row ++ drop n (r ++ rest)) past
-    ∙ ap (λ (xs : List Cell). xs ++ row ++ drop (length r + (y * w + w)) (r ++ rest)) (take-append-add r rest (y * w))
-    ∙ ap (λ (ys : List Cell). r ++ take (y * w) rest ++ row ++ ys) (drop-append-add r rest (y * w + w))
-    ∙ ap (λ (xs : List Cell). xs ++ drop (y * w + w) rest) (append_assoc r (take (y * w) rest) row)
-    ∙ append_assoc r (take (y * w) rest ++ row) (drop (y * w + w) rest))
+    let before : suc y * w ≡ length r + y * w = omega arith in
+    let past : suc y * w + w ≡ length r + (y * w + w) = omega arith in
+    rw (
+      past,
+      before,
+      take-append-add,
+      drop-append-add,
+      append_assoc r (take (y * w) (cells_of_rows rows)) row,
+      append_assoc,
+      cells-set_row w rows y row (λ k n. h (suc k) (omega arith)) (omega arith),
+      append_assoc,
+    ) refl
 
 -- the cells of rows of which nothing is known
 pub cells-unknown : {X : Type 0} (cells : X → List Cell) (row : X) (w h : ℕ) → cells row ≡ replicate w Unknown →
     cells_of_rows (map cells (replicate h row)) ≡ replicate (w * h) Unknown
-cells-unknown cells row w zero e = let none : 0 ≡ w * 0 = omega arith in ap (λ (n : ℕ). replicate n Unknown) none
+cells-unknown cells row w zero e = let none : w * 0 ≡ 0 = omega arith in rw none refl
 cells-unknown cells row w (suc h) e =
     let sum : w + w * h ≡ w * suc h = omega arith in
-    ap (λ (xs : List Cell). xs ++ cells_of_rows (map cells (replicate h row))) e
-    ∙ ap (λ (ys : List Cell). replicate w Unknown ++ ys) (cells-unknown cells row w h e)
-    ∙ replicate-append-replicate w (w * h) Unknown ∙ ap (λ (n : ℕ). replicate n Unknown) sum
+    rw (e, cells-unknown cells row w h e, replicate-append-replicate, sum) refl
 
 -- a row of a grid has as many cells as the grid is wide
 pub length-row_of : (g : PartialGrid) (y : ℕ) → length (row_of g y) ≡ g.width
@@ -79,15 +69,12 @@ length-row_of g y = length-map-range_with_len (λ (x : ℕ). cell_at g x y) 0 g.
 pub get_or-row_of : (g : PartialGrid) (x y : ℕ) → x < g.width → get_or (row_of g y) x Unknown ≡ cell_at g x y
 get_or-row_of g x y l = get_or-map-range_with_len (λ (k : ℕ). cell_at g k y) 0 g.width x x Unknown l (zero-add x)
 
+pub ruleset rows_read = (length-row_of, get_or-row_of)
+
 -- if a grid has the cells of rows, each row of the grid is one of them
 pub row_of-rows : (g : PartialGrid) (rows : List (List Cell)) (y : ℕ) → AreLong g.width rows → y < length rows →
     g.cells ≡ cells_of_rows rows → get_or rows y [] ≡ row_of g y
 row_of-rows g rows y long l same =
-    ext_get_or Unknown (get_or rows y []) (row_of g y) (long y l ∙ sym (length-row_of g y))
-    (λ x h. let lx : x < g.width = omega (arith, h, long y l) in
-    sym (get_or-row_of g x y lx ∙ ap (λ (cells : List Cell). get_or cells (y * g.width + x) Unknown) same
-    ∙ get_or-rows g.width rows y x long l lx))
-
--- the column and the row of a place, in a grid of `w` columns and `h` rows
-pub place_in : (w h k : ℕ) → 0 < w → k < w * h → (k % w < w) × (k / w < h) × (k / w * w + k % w ≡ k)
-place_in w h k some l = (omega arith, div_below k w h some (omega arith), omega arith)
+    ext_get_or Unknown (get_or rows y []) (row_of g y) (long y l ∙ sym (length-row_of g y)) (λ x h.
+    let lx : x < g.width = rw (long y l) at h in
+    rw (get_or-row_of g x y lx, same) (sym (get_or-rows g.width rows y x long l lx)))

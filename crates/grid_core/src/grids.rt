@@ -83,6 +83,7 @@ impl Grid {
     }
 
     /// How many cells a row has.
+    #[tactic(auto, using(crate::proofs::KeptRows::counted))]
     pub fn width(&self) -> u16
         ensures width { result ≡ self.now.width }
         ensures size { IsSize self.now.width self.now.height }
@@ -99,6 +100,7 @@ impl Grid {
     }
 
     /// The cells of row y, from 0 at the top.
+    #[tactic(auto, using(crate::proofs::KeptRows::counted))]
     pub fn row(&self, y: u16) -> LineOf<Wide>
         requires { y < self.now.height }
         ensures row { result ≡ row_of self.now y }
@@ -111,6 +113,7 @@ impl Grid {
     }
 
     /// What is known of the cell in column x, from 0 at the left, and row y, from 0 at the top.
+    #[tactic(auto, using(crate::proofs::RowLists::rows_read))]
     pub fn get(&self, x: u16, y: u16) -> Cell
         requires column { x < self.now.width }
         requires row { y < self.now.height }
@@ -160,6 +163,7 @@ impl Grid {
     }
 
     /// Changes what is known of the cells of row y, which become those of a line, and nothing else.
+    #[tactic(auto, using(crate::proofs::KeptRows::counted))]
     pub fn write_row<W: PlaceSet>(&mut self, y: u16, line: &LineOf<W>)
         requires row { y < self.old.height }
         requires width { self.old.width ≡ length line.now }
@@ -181,6 +185,7 @@ impl Grid {
     }
 
     /// Takes over the cells of row y into a line, which has as many.
+    #[tactic(auto, using(crate::proofs::RowLists::rows_read))]
     pub fn read_row<W: PlaceSet>(&self, y: u16, line: &mut LineOf<W>)
         requires row { y < self.now.height }
         requires width { self.now.width ≡ length line.old }

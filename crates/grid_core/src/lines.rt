@@ -42,6 +42,7 @@ fn is_blank(cell: Cell) -> bool
 
 impl<W: PlaceSet> LineOf<W> {
     /// A line of `len` cells, of which nothing is known.
+    #[tactic(auto, using(crate::proofs::LineCells::none_known))]
     pub fn unknown(len: u16) -> LineOf<W>
         requires { (1 ≤ len) × (len ≤ W.WIDTH) }
         ensures { result ≡ replicate len Unknown }
@@ -78,6 +79,7 @@ impl<W: PlaceSet> LineOf<W> {
     }
 
     /// Becomes the same as another line of the same length, in place.
+    #[tactic(auto, using(crate::proofs::LineCells::length_seen))]
     pub fn copy_from(&mut self, other: &LineOf<W>)
         requires { length other.now ≡ length self.old }
         ensures { self.new ≡ other.now }
@@ -100,7 +102,7 @@ impl<W: PlaceSet> LineOf<W> {
     }
 
     /// What is known of the cell at a place, counted from 0.
-    #[tactic(auto, using(crate::proofs::LineCells::length_seen))]
+    #[tactic(auto, using(crate::proofs::LineCells::seen))]
     pub fn get(&self, i: u16) -> Cell
         requires { i < length self.now }
         ensures { result ≡ slice_index_or self.now i Unknown }
@@ -125,6 +127,7 @@ impl<W: PlaceSet> LineOf<W> {
     }
 
     /// A set with those of its places whose cells are filled.
+    #[tactic(auto, using(crate::proofs::LineCells::seen))]
     pub fn filled(&self) -> W
         ensures { (i : ℕ) → i < length self.now → has (W.number result) i ≡ is_filled (slice_index_or self.now i Unknown) }
     {
@@ -132,6 +135,7 @@ impl<W: PlaceSet> LineOf<W> {
     }
 
     /// A set with those of its places whose cells are blank.
+    #[tactic(auto, using(crate::proofs::LineCells::seen))]
     pub fn blank(&self) -> W
         ensures { (i : ℕ) → i < length self.now → has (W.number result) i ≡ is_blank (slice_index_or self.now i Unknown) }
     {
@@ -156,7 +160,7 @@ impl<W: PlaceSet> LineOf<W> {
     }
 
     /// Settles the unknown cell at a place, counted from 0.
-    #[tactic(auto, using(crate::proofs::LineCells::length_seen))]
+    #[tactic(auto, using(crate::proofs::LineCells::seen))]
     pub fn settle(&mut self, i: u16, cell: Cell)
         requires i { i < length self.old }
         requires unknown { slice_index_or self.old i Unknown ≡ Unknown }
@@ -185,6 +189,7 @@ impl<W: PlaceSet> LineOf<W> {
     }
 
     /// Whether another line has the same cells.
+    #[tactic(auto, using(crate::proofs::Changing::alike))]
     pub fn is_same(&self, other: &LineOf<W>) -> bool
         ensures { IsTrue result ↔ (self.now ≡ other.now) }
     {
@@ -208,6 +213,7 @@ impl<W: PlaceSet> LineOf<W> {
     }
 
     /// The same line in sets of another width that has room for it.
+    #[tactic(auto, using(crate::proofs::LineCells::seen))]
     pub fn resized<V: PlaceSet>(&self) -> LineOf<V>
         requires { length self.now ≤ V.WIDTH }
         ensures { result ≡ self.now }
