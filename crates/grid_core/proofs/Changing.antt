@@ -1,19 +1,7 @@
 -- At which places two lines differ, told of their masks.
-use Rattle.std.proofs.Common.{◌≡◌, ◌≢◌, ℕ, ◌<◌, ◌⊎◌, inl, inr, Bool, true, nat_eq, List, length, get_or, refl, sym, ap, arith, IsTrue, ext_get_or}
-use Rattle.std.proofs.lemmas.Bool.{cases_lt, eq-eqb}
-use Rattle.std.proofs.lemmas.Bool.Decides.{nat_tests}
-use Rattle.std.proofs.lemmas.Nat.Bits.{bit_at-zero}
-use Rattle.grid_core.specs.declared.cells.Cell.{Cell}
-use Rattle.grid_core.specs.declared.cells.Cell.TheVariants.{Unknown, Filled, Blank}
-use Rattle.place_sets.specs.Masks.{Has, has, IsMaskOf}
+use Rattle.grid_core.proofs.Names.{◌≡◌, ◌≢◌, ℕ, ◌<◌, ◌⊎◌, nat_eq, List, length, refl, sym, arith, IsTrue, ext_get_or, nat_tests, bit_at-zero, Cell, Unknown, Filled, Blank, Has, has, IsMaskOf, line_cells, IsChanged}
 use Rattle.place_sets.proofs.WordSteps.{some_place}
-use Rattle.grid_core.specs.Lines.{cell_with, line_cells, IsChanged}
 use Rattle.grid_core.proofs.LineCells.{length_seen, seen_at}
-
--- two cells that are the same are told by the same tests
-told_alike : (f b g d : Bool) → (f ≡ true → b ≡ true → ⊥) → (g ≡ true → d ≡ true → ⊥) → cell_with g d ≡ cell_with f b
-    → (f ≡ g) × (b ≡ d)
-told_alike f b g d n k e = grind arith
 
 -- the places of either mask's difference, within the line
 pub changed_is : (len f b more g d x y z all m : ℕ) (l other : List Cell) → line_cells len f b ≡ l → line_cells more g d ≡ other
@@ -49,15 +37,7 @@ pub same_without_change : (line other : List Cell) (m : ℕ) → length other �
 same_without_change line other m e p = (
   (λ t. ext_get_or Unknown line other (sym e)
       (λ k l. sym (same_cells _ _ (λ n. absurd (grind (arith, nat_tests, bit_at-zero k, p.from k (l, n))))))),
-  (λ s. elim (cases_lt 0 m) [
-    | inl some ↦ absurd (let at = some_place m some in (p.to at.0 at.1).1 (ap (λ (l : List Cell). get_or l at.0 Unknown) (sym s)))
-    | inr none ↦ eq-eqb m 0 (omega arith)
-  ]),
+  λ s. grind (arith, nat_tests, some_place m, p.to),
 )
-
--- nor are lines of two lengths
-pub other_by_length : (len more : ℕ) (line other : List Cell) → length line ≡ len → length other ≡ more → more ≢ len
-    → (IsTrue (nat_eq more len) → line ≡ other) × (line ≡ other → IsTrue (nat_eq more len))
-other_by_length len more line other e f n = grind (arith, nat_tests)
 
 pub ruleset alike = (length_seen, same_without_change, nat_tests)

@@ -1,17 +1,8 @@
 -- The first unknown cell of a list.
-use Rattle.std.proofs.Common.{◌≡◌, ℕ, ◌+◌, ◌-◌, ◌*◌, ◌/◌, ◌%◌, ◌<◌, ◌≤◌, true, false, List, [], ◌∷◌, length, get_or, Option, Some, None, is_some, inl, inr, not, ◌⊎◌, refl, ap, arith}
+use Rattle.grid_core.proofs.Names.{◌≡◌, ℕ, ◌+◌, ◌-◌, ◌*◌, ◌/◌, ◌%◌, ◌<◌, ◌≤◌, true, false, List, [], ◌∷◌, length, get_or, Option, Some, None, is_some, inl, inr, not, ◌⊎◌, refl, ap, arith, list_all, position, position_or_len, nat_tests, rows, Cell, Unknown, is_known, is_unknown, IsUnknownFrom, PartialGrid, row_of}
 use Rattle.std.specs.Option.{option_map}
-use Rattle.std.specs.List.{list_all, position, position_or_len}
 use Rattle.std.proofs.lemmas.Bool.{cases_lt, lt-ltb, le-ltb}
-use Rattle.std.proofs.lemmas.Bool.Decides.{nat_tests}
-use Rattle.std.proofs.lemmas.Grind.{rows}
 use Rattle.std.proofs.lemmas.List.Sums.{position_or_len_is}
-use Rattle.grid_core.specs.declared.cells.Cell.{Cell}
-use Rattle.grid_core.specs.declared.cells.Cell.TheVariants.{Unknown}
-use Rattle.grid_core.specs.Cells.{is_known, is_unknown}
-use Rattle.grid_core.specs.Lines.{IsUnknownFrom}
-use Rattle.grid_core.specs.PartialGrid.{PartialGrid}
-use Rattle.grid_core.specs.Rows.{row_of}
 use Rattle.grid_core.proofs.LineLaws.{place-within}
 use Rattle.grid_core.proofs.RowLists.{get_or-row_of, length-row_of}
 

@@ -1,12 +1,5 @@
 -- The rows that a grid keeps.
-use Rattle.std.proofs.Common.{◌≡◌, ℕ, ◌+◌, ◌-◌, ◌*◌, ◌<◌, ◌≤◌, List, [], length, replicate, get_or, set, refl, sym, ◌∙◌, arith, length-set, ext_get_or}
-use Rattle.std.proofs.lemmas.List.{length-map, get_or-map, length-append, length-replicate, get_or_append_left, get_or-append_right, get_or-replicate, append_assoc, append-nil, map-set, replicate-append-replicate, set-append_left}
-use Rattle.grid_core.specs.declared.cells.Cell.{Cell}
-use Rattle.grid_core.specs.declared.cells.Cell.TheVariants.{Unknown}
-use Rattle.grid_core.specs.declared.rows.Row.{Row}
-use Rattle.grid_core.specs.KeptRows.{AreRowsOf, all_rows, row_cells, rows_cells, unknown_row}
-use Rattle.grid_core.specs.PartialGrid.{PartialGrid}
-use Rattle.grid_core.specs.Rows.{cells_of_rows, row_of, with_row}
+use Rattle.grid_core.proofs.Names.{◌≡◌, ℕ, ◌+◌, ◌-◌, ◌*◌, ◌<◌, ◌≤◌, List, [], length, replicate, get_or, set, refl, sym, ◌∙◌, arith, length-set, ext_get_or, length-map, get_or-map, length-append, length-replicate, get_or_append_left, get_or-append_right, get_or-replicate, append_assoc, append-nil, map-set, replicate-append-replicate, set-append_left, Cell, Unknown, Row, AreRowsOf, all_rows, row_cells, rows_cells, unknown_row, PartialGrid, cells_of_rows, row_of, with_row}
 use Rattle.grid_core.proofs.LineCells.{cells-none, length_line}
 use Rattle.grid_core.proofs.RowLists.{AreLong, cells-set_row, cells-unknown, length-rows, row_of-rows}
 
@@ -26,7 +19,8 @@ length-all h rows l = rw (length-append, length-replicate) (omega arith)
 -- all rows together have as many cells as the grid is wide times their number
 pub count-cells : (w h : ℕ) (rows : List Row) → length rows ≤ h → length (cells_of_rows (rows_cells w (all_rows h rows))) ≡ w * h
 count-cells w h rows l =
-    rw (length-rows w (rows_cells w (all_rows h rows)) (rows-long w (all_rows h rows)), length-map, length-all h rows l) (omega arith)
+    let all = all_rows h rows in
+    rw (length-rows w (rows_cells w all) (rows-long w all), length-map, length-all h rows l) (omega arith)
 
 -- the row of a grid is that one of all
 row-is : (w h : ℕ) (rows : List Row) (y : ℕ) (row : Row) → length rows ≤ h → y < h → get_or (all_rows h rows) y row ≡ row →
@@ -66,12 +60,17 @@ filled-up h n rows l =
 
 -- with one row written, the grid has a line's cells there
 pub one_written : (w h : ℕ) (rows filled : List Row) (y : ℕ) (row : Row) (line : List Cell) → length rows ≤ h → y < h →
-    filled ≡ all_rows (y + 1) rows → row_cells w row ≡ line → kept_grid w h (set filled y row) ≡ with_row (kept_grid w h rows) y line
+    filled ≡ all_rows (y + 1) rows → row_cells w row ≡ line →
+    kept_grid w h (set filled y row) ≡ with_row (kept_grid w h rows) y line
 one_written w h rows filled y row line few l is cells =
     let within : y < length filled = rw (is, length-append, length-replicate) (omega arith) in
     let all : all_rows h (set filled y row) ≡ set (all_rows h rows) y row =
-    rw (length-set, ← set-append_left filled (replicate (h - length filled) unknown_row) y row within, is, filled-up h (y + 1) rows (omega arith))
-    refl in
+    rw (
+      length-set,
+      ← set-append_left filled (replicate (h - length filled) unknown_row) y row within,
+      is,
+      filled-up h (y + 1) rows (omega arith),
+    ) refl in
     rw (
       all,
       map-set,
@@ -81,14 +80,15 @@ one_written w h rows filled y row line few l is cells =
     ) refl
 
 -- with a row for each line, the grid has the lines' cells
-pub all_written : (w h : ℕ) (rows : List Row) (lines : List (List Cell)) → length lines ≡ h → AreLong w lines → AreRowsOf lines rows →
-    kept_grid w h rows ≡ record { width = w; height = h; cells = cells_of_rows lines }
+pub all_written : (w h : ℕ) (rows : List Row) (lines : List (List Cell)) → length lines ≡ h → AreLong w lines
+    → AreRowsOf lines rows → kept_grid w h rows ≡ record { width = w; height = h; cells = cells_of_rows lines }
 all_written w h rows lines tall wide are =
     let none : h - length rows ≡ 0 = omega (arith, are.count) in
     let same : rows_cells w rows ≡ lines =
     ext_get_or [] (rows_cells w rows) lines (rw length-map are.count) (λ y l.
     let within : y < length rows = rw length-map at l in
-    rw (get_or-map (row_cells w) rows y unknown_row [] within) (rw (wide y (omega (arith, are.count))) at (are.cells y within unknown_row))) in
+    rw (get_or-map (row_cells w) rows y unknown_row [] within)
+    (rw (wide y (omega (arith, are.count))) at (are.cells y within unknown_row))) in
     rw (none, append-nil, same) refl
 
 pub ruleset counted = (count-cells)

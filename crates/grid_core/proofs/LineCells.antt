@@ -1,15 +1,5 @@
 -- The cells of a line that is kept as two sets.
-use Rattle.std.proofs.Common.{◌≡◌, ℕ, ◌<◌, ◌≤◌, Bool, true, false, nat_eq, cond, List, length, get_or, set, refl, sym, ◌∙◌, arith, zero-add, ext_get_or, length-set, replicate}
-use Rattle.std.proofs.lemmas.Bool.Decides.{nat_tests}
-use Rattle.std.proofs.lemmas.Grind.{common_steps}
-use Rattle.std.proofs.lemmas.List.{length-replicate, get_or-replicate}
-use Rattle.std.proofs.lemmas.Nat.Bits.{bit_at-zero}
-use Rattle.std.proofs.lemmas.List.FromFn.{length-map-range_with_len, get_or-map-range_with_len}
-use Rattle.grid_core.specs.declared.cells.Cell.{Cell}
-use Rattle.grid_core.specs.declared.cells.Cell.TheVariants.{Unknown}
-use Rattle.grid_core.specs.Cells.{is_filled, is_known}
-use Rattle.place_sets.specs.Masks.{Has, has, IsMarked, IsMaskOf}
-use Rattle.grid_core.specs.Lines.{cell_with, line_cells, is_blank}
+use Rattle.grid_core.proofs.Names.{◌≡◌, ℕ, ◌<◌, ◌≤◌, Bool, true, false, nat_eq, cond, List, length, get_or, set, refl, sym, ◌∙◌, arith, zero-add, ext_get_or, length-set, replicate, nat_tests, common_steps, length-replicate, get_or-replicate, bit_at-zero, length-map-range_with_len, get_or-map-range_with_len, Cell, Unknown, is_filled, is_known, Has, has, IsMarked, IsMaskOf, cell_with, line_cells, is_blank}
 
 -- the cell at a place, by the masks
 pub cell_at : (len filled blank i : ℕ) → i < len → get_or (line_cells len filled blank) i Unknown ≡ cell_with (has filled i) (has blank i)
@@ -51,7 +41,8 @@ pub has_by : (m i : ℕ) (b : Bool) → (Has m i → b ≡ true) → (b ≡ true
 has_by m i b to from = grind (arith, nat_tests)
 
 -- a mask with one place marked
-pub has_marked : (m n p i : ℕ) (wanted : Bool) → IsMaskOf (IsMarked (Has m) p wanted) n → has n i ≡ cond (nat_eq i p) wanted (has m i)
+pub has_marked : (m n p i : ℕ) (wanted : Bool) → IsMaskOf (IsMarked (Has m) p wanted) n
+    → has n i ≡ cond (nat_eq i p) wanted (has m i)
 has_marked m n p i wanted h = grind (arith, nat_tests, h.to i, h.from i)
 
 -- a cell is told by whether it is filled and whether it is blank
@@ -68,26 +59,14 @@ cells-set len f b nf nb p c h mf mb =
     rw (has_marked f nf p i (is_filled c) mf, has_marked b nb p i (is_blank c) mb)
     (grind (arith, common_steps, cell_at len f b, length_line len f b, cell_itself)))
 
--- and they stay apart
-pub apart-set : (f b nf nb p : ℕ) (c : Cell) → ((i : ℕ) → Has f i → Has b i → ⊥) → IsMaskOf (IsMarked (Has f) p (is_filled c)) nf
-    → IsMaskOf (IsMarked (Has b) p (is_blank c)) nb → (i : ℕ) → Has nf i → Has nb i → ⊥
-apart-set f b nf nb p c apart mf mb i x y = grind (arith, mf.to i x, mb.to i y)
-
 -- a set that lacks a place is the same with that place unwanted
 pub unmarked : (m p : ℕ) (wanted : Bool) → has m p ≡ false → wanted ≡ false → IsMaskOf (IsMarked (Has m) p wanted) m
-unmarked m p wanted lacks un = record {
-  to = λ i h. grind (arith, nat_tests);
-  from = λ i h. grind (arith, nat_tests);
-}
-
--- if a cell is unknown, neither test passes
-pub neither : (f b : Bool) → cell_with f b ≡ Unknown → (f ≡ false) × (b ≡ false)
-neither f b e = grind arith
+unmarked m p wanted lacks un = record { to = λ i h. grind (arith, nat_tests); from = λ i h. grind (arith, nat_tests) }
 
 -- both masks lack the place of an unknown cell
 pub unknown_at : (len f b p : ℕ) (l : List Cell) → line_cells len f b ≡ l → p < length l → get_or l p Unknown ≡ Unknown
     → (has f p ≡ false) × (has b p ≡ false)
-unknown_at len f b p l e h u = neither (has f p) (has b p) (sym (seen_at len f b p l e h) ∙ u)
+unknown_at len f b p l e h u = let at = seen_at len f b p l e h in grind arith
 
 -- a known cell is filled or blank
 pub blank_unless_filled : (c : Cell) → is_filled c ≡ true → is_blank c ≡ false
@@ -112,12 +91,6 @@ cells-resized width len f b wf wb nf nb fits ef eb pf pb =
   where
     same : (w m n i : ℕ) → i < width → w ≡ m → IsMaskOf (λ i. (i < width) × Has w i) n → has n i ≡ has m i
     same w m n i l e p = grind (arith, nat_tests, p.to i, p.from i)
-
--- masks of another width stay apart
-pub apart-resized : (width f b wf wb nf nb : ℕ) → wf ≡ f → wb ≡ b → IsMaskOf (λ i. (i < width) × Has wf i) nf
-    → IsMaskOf (λ i. (i < width) × Has wb i) nb
-    → ((i : ℕ) → Has f i → Has b i → ⊥) → (i : ℕ) → Has nf i → Has nb i → ⊥
-apart-resized width f b wf wb nf nb ef eb pf pb apart i x y = apart i (rw (← ef) (pf.to i x).1) (rw (← eb) (pb.to i y).1)
 
 pub ruleset none_known = (cells-none)
 

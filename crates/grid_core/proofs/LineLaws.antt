@@ -1,15 +1,8 @@
 -- The lines of a puzzle by number, and the cells along a line.
-use Rattle.std.proofs.Common.{◌≡◌, refl, sym, ap, ℕ, zero, suc, ◌+◌, ◌*◌, ◌<◌, ◌≤◌, false, List, [], length, map, get_or, take, drop, arith, zero-add, ext_get_or, length-drop, get_or-drop, get_or-take}
-use Rattle.std.proofs.Math.Nat.{mul-le-mul_right}
-use Rattle.std.proofs.Math.Seq.{drop-append_seam, take-append_seam}
-use Rattle.std.proofs.lemmas.List.{get_or-map, length-map, length-take-le}
-use Rattle.std.proofs.lemmas.List.FromFn.{length-enumerate_from, get_or-enumerate_from}
+use Rattle.grid_core.proofs.Names.{◌≡◌, refl, sym, ap, ℕ, zero, suc, ◌+◌, ◌*◌, ◌<◌, ◌≤◌, false, List, [], length, map, get_or, take, drop, arith, zero-add, ext_get_or, length-drop, get_or-drop, get_or-take, mul-le-mul_right, drop-append_seam, take-append_seam, get_or-map, length-map, length-take-le, length-enumerate_from, get_or-enumerate_from, All, enumerate_from, Rows, Columns, GridLine, Nonogram, cells_at, clues_on, crossing, line_on, lines_of, numbered_line, places_from, places_on}
 use Rattle.std.proofs.lemmas.List.Elements.{All-append, All-drop, All-from_get_or, All-get_or, All-map, All-take}
-use Rattle.std.specs.List.{All, enumerate_from}
 use Rattle.grid_core.specs.declared.sides.Side.{Side}
-use Rattle.grid_core.specs.declared.sides.Side.TheVariants.{Rows, Columns}
 use Rattle.grid_core.specs.Reading.{RowIsRange}
-use Rattle.grid_core.specs.Nonogram.{GridLine, Nonogram, cells_at, clues_on, crossing, line_on, lines_of, numbered_line, places_from, places_on}
 use Rattle.grid_core.specs.steps.Sides.{count_on, place_on}
 
 abbrev lines_on : Side → Nonogram → List GridLine
@@ -79,7 +72,8 @@ cells-along d cells line first step count e h =
     let places = places_from first step count in
     ext_get_or d line (cells_at d cells places) (rw (length-cells_at, length-places_from) e) (λ k l.
     let within : k < count = rw e at l in
-    rw (get_or-cells_at d cells places k (rw length-places_from within), get_or-places_from first step count k within) (h k within))
+    rw (get_or-cells_at d cells places k (rw length-places_from within), get_or-places_from first step count k within)
+    (h k within))
 
 -- row y ends within a grid of w columns and h rows, if y < h
 pub row-within : (w h y : ℕ) → y < h → y * w + w ≤ w * h

@@ -1,12 +1,5 @@
 -- The rows of a grid, one after the other.
-use Rattle.std.proofs.Common.{◌≡◌, ℕ, zero, suc, ◌+◌, ◌-◌, ◌*◌, ◌<◌, List, [], ◌∷◌, ◌++◌, length, map, take, drop, get_or, set, replicate, refl, sym, ◌∙◌, arith, zero-add, length-append, ext_get_or}
-use Rattle.std.proofs.Math.Seq.{take-append-add, drop-append-add}
-use Rattle.std.proofs.lemmas.List.{append_assoc, get_or_append_left, get_or-append_right, replicate-append-replicate}
-use Rattle.std.proofs.lemmas.List.FromFn.{length-map-range_with_len, get_or-map-range_with_len}
-use Rattle.grid_core.specs.declared.cells.Cell.{Cell}
-use Rattle.grid_core.specs.declared.cells.Cell.TheVariants.{Unknown}
-use Rattle.grid_core.specs.PartialGrid.{PartialGrid, cell_at}
-use Rattle.grid_core.specs.Rows.{cells_of_rows, row_of}
+use Rattle.grid_core.proofs.Names.{◌≡◌, ℕ, zero, suc, ◌+◌, ◌-◌, ◌*◌, ◌<◌, List, [], ◌∷◌, ◌++◌, length, map, take, drop, get_or, set, replicate, refl, sym, ◌∙◌, arith, zero-add, length-append, length-drop, length-set, ap, get_or-drop, get_or-take, ext_get_or, ◌≤◌, take-append-add, drop-append-add, append_assoc, drop-drop, length-take-le, set-append_left, set-append_right, take-append-drop, get_or_append_left, get_or-append_right, replicate-append-replicate, length-map-range_with_len, get_or-map-range_with_len, Cell, Unknown, PartialGrid, cell_at, cells_of_rows, row_of, with_row}
 
 -- each of the rows has `w` cells
 abbrev pub AreLong : ℕ → List (List Cell) → Type 0
@@ -69,7 +62,7 @@ length-row_of g y = length-map-range_with_len (λ (x : ℕ). cell_at g x y) 0 g.
 pub get_or-row_of : (g : PartialGrid) (x y : ℕ) → x < g.width → get_or (row_of g y) x Unknown ≡ cell_at g x y
 get_or-row_of g x y l = get_or-map-range_with_len (λ (k : ℕ). cell_at g k y) 0 g.width x x Unknown l (zero-add x)
 
-pub ruleset rows_read = (length-row_of, get_or-row_of)
+pub ruleset rows_read = (length-row_of, get_or-row_of, length-set)
 
 -- if a grid has the cells of rows, each row of the grid is one of them
 pub row_of-rows : (g : PartialGrid) (rows : List (List Cell)) (y : ℕ) → AreLong g.width rows → y < length rows →
@@ -78,3 +71,32 @@ row_of-rows g rows y long l same =
     ext_get_or Unknown (get_or rows y []) (row_of g y) (long y l ∙ sym (length-row_of g y)) (λ x h.
     let lx : x < g.width = rw (long y l) at h in
     rw (get_or-row_of g x y lx, same) (sym (get_or-rows g.width rows y x long l lx)))
+
+-- ---- a row with another cell
+
+-- a row is a part of the cells
+row_of-part : (g : PartialGrid) (y : ℕ) → y * g.width + g.width ≤ length g.cells
+    → row_of g y ≡ take g.width (drop (y * g.width) g.cells)
+row_of-part g y fits =
+    let from = drop (y * g.width) g.cells in
+    let long = length-take-le g.width from (omega (arith, length-drop (y * g.width) g.cells)) in
+    ext_get_or Unknown (row_of g y) (take g.width from) (length-row_of g y ∙ sym long) (λ x h.
+    let within : x < g.width = rw length-row_of at h in
+    rw (get_or-row_of g x y within, get_or-take, get_or-drop) refl)
+
+-- a grid whose row has another cell
+pub row-set : (g : PartialGrid) (x y : ℕ) (c : Cell) → x < g.width → y * g.width + g.width ≤ length g.cells →
+    with_row g y (set (row_of g y) x c) ≡ record g { cells = set g.cells (y * g.width + x) c }
+row-set g x y c l fits =
+    let a = y * g.width in
+    let front = take a g.cells in
+    let rest = drop (a + g.width) g.cells in
+    let long : length front ≡ a = length-take-le a g.cells (omega arith) in
+    let wide : x < length (row_of g y) = rw length-row_of l in
+    let at : a + x - a ≡ x = omega arith in
+    let whole : front ++ (row_of g y ++ rest) ≡ g.cells =
+    rw (row_of-part g y fits, ← drop-drop g.width a g.cells, take-append-drop, take-append-drop) refl in
+    let cells : set g.cells (a + x) c ≡ front ++ set (row_of g y) x c ++ rest =
+    ap (λ (cells : List Cell). set cells (a + x) c) (sym whole)
+    ∙ rw (set-append_right front (row_of g y ++ rest) a (a + x) c long (omega arith), at, set-append_left, append_assoc) refl in
+    λ i. record { width = g.width; height = g.height; cells = sym cells i }

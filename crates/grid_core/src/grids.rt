@@ -143,6 +143,7 @@ impl Grid {
     }
 
     /// Changes what is known of the cell in column x and row y, and nothing else.
+    #[tactic(auto, using(crate::proofs::RowLists::rows_read))]
     pub fn set(&mut self, x: u16, y: u16, cell: Cell)
         requires column { x < self.old.width }
         requires row { y < self.old.height }

@@ -25,6 +25,7 @@ impl Row {
     }
 
     /// The cells of a line.
+    #[tactic(auto, using(crate::proofs::LineCells::length_seen))]
     pub(crate) fn of<W: PlaceSet>(line: &LineOf<W>) -> Row
         ensures cells { row_cells (length line.now) result ≡ line.now }
         ensures row { IsRow result }

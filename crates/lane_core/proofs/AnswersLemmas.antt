@@ -56,6 +56,7 @@ found_is_report answer found is = ∥∥₁_elim answer.reported (Coded-set the_
 pub found_holds : (answer : Answer) (found : Findings) → answer.outcome ≡ Ok found → IsNonogram answer.puzzle
     → Holds (picked answer.pick answer.puzzle.width) answer.puzzle answer.guesses found.verdict
 found_holds answer found is lawful =
-    rw (found_is_report answer found is) (verdict-Holds _ (picked-IsPick answer.pick answer.puzzle.width) answer.puzzle lawful answer.guesses)
+    rw (found_is_report answer found is)
+    (verdict-Holds _ (picked-IsPick answer.pick answer.puzzle.width) answer.puzzle lawful answer.guesses)
 
 pub ruleset found = (found_is_report, found_holds)

@@ -13,7 +13,8 @@ pub record SentSoFar (old now : FrontLists) (waiting left : List Job) : Type 0 w
 
 -- the job at the front is sent, and so something was
 pub SentSoFar-more : (old now new : FrontLists) (waiting all left : List Job) (job : Job) →
-    SentSoFar old now waiting all → all ≡ job ∷ left → PutsMessage (Work job) now new → SentSoFar old new waiting left × Grows old new
+    SentSoFar old now waiting all → all ≡ job ∷ left → PutsMessage (Work job) now new
+    → SentSoFar old new waiting left × Grows old new
 SentSoFar-more old now new waiting all left job s e p = (
   record {
     jobs = rw (p.sent, jobs_of-append, append_assoc) (rw e at s.jobs);

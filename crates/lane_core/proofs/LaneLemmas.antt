@@ -61,7 +61,8 @@ IsLawful-after (event ∷ events) old new l r = IsLawful-after events r.0 new (I
 -- it holds after any events from the opening
 pub IsLawful-run : (capacity : ℕ) (events : List Event) (lane : Lane) → Run (opening capacity) events lane → IsLawful lane
 IsLawful-run capacity events lane =
-    IsLawful-after events (opening capacity) lane (record { answered = tt; taken = ([], refl); received = ([], refl); last = refl })
+    IsLawful-after events (opening capacity) lane
+    (record { answered = tt; taken = ([], refl); received = ([], refl); last = refl })
 
 -- an answer that was held is offered
 pub StepsBeforeFinish-offer_held : (capacity : ℕ) (answer : Answer) (result : Step) (old new : BackLists) →

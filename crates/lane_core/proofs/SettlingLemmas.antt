@@ -8,16 +8,17 @@ use Rattle.lane_core.proofs.LaneLemmas.{IsLawful-run}
 pub first_are_answered : (front : FrontLists) (back : BackLists) → IsPrefix back.taken front.sent → IsPrefix front.received back.put →
     IsAnswered back → AreAnswersTo (take (length front.received) (jobs_of front.sent)) front.received
 first_are_answered front back m a h =
-    rw (← m.1, jobs_of-append) (AreAnswersTo-front (jobs_of back.taken) (jobs_of m.0) front.received (a.0 ++ option_to_list back.held)
-    (rw (← a.1, append_assoc) at h))
+    rw (← m.1, jobs_of-append)
+    (AreAnswersTo-front (jobs_of back.taken) (jobs_of m.0) front.received (a.0 ++ option_to_list back.held) (rw (← a.1, append_assoc) at h))
 
 none_of : (held : Option Answer) → is_none held ≡ true → held ≡ None
 none_of None h = refl
 none_of (Some answer) h = cc
 
 -- a lane whose finish was taken, and in whose ring no answer lies
-pub finished_is_drained : (front : FrontLists) (back : BackLists) (m : IsPrefix back.taken front.sent) (a : IsPrefix front.received back.put) →
-    length a.0 ≡ 0 → finish_is_last front.sent ≡ true → has_finish back.taken ≡ true → is_none back.held ≡ true → IsDrained front back
+pub finished_is_drained : (front : FrontLists) (back : BackLists) (m : IsPrefix back.taken front.sent)
+    (a : IsPrefix front.received back.put) → length a.0 ≡ 0 → finish_is_last front.sent ≡ true → has_finish back.taken ≡ true
+    → is_none back.held ≡ true → IsDrained front back
 finished_is_drained front back m a empty last finished free = record {
   taken = rw (← m.1, nothing_follows back.taken m.0 (rw m.1 last) finished, append-nil) refl;
   held = none_of back.held free;

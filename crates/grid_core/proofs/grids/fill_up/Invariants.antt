@@ -1,6 +1,5 @@
 -- What the loop of `fill_up` keeps: rows of which nothing is known were added, in the room that was there.
-use Rattle.std.proofs.Common.{◌≡◌, ◌++◌, replicate, vec_capacity}
-use Rattle.grid_core.specs.KeptRows.{unknown_row}
+use Rattle.grid_core.proofs.Names.{◌≡◌, ◌++◌, replicate, vec_capacity, unknown_row}
 use Rattle.grid_core.proofs.grids.fill_up.Given as goal
 
 abbrev pub invariant-loop : goal.invariant-loop

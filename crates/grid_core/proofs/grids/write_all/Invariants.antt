@@ -1,7 +1,5 @@
 -- What the loop of `write_all` keeps: the lines passed have their rows, in the room that was there.
-use Rattle.std.proofs.Common.{◌≡◌, ◌<◌, ℕ, [], length, get_or, vec_capacity}
-use Rattle.grid_core.specs.declared.rows.Row.{Row}
-use Rattle.grid_core.specs.KeptRows.{IsRow, row_cells}
+use Rattle.grid_core.proofs.Names.{◌≡◌, ◌<◌, ℕ, [], length, get_or, vec_capacity, Row, IsRow, row_cells}
 use Rattle.grid_core.proofs.grids.write_all.Given as goal
 
 abbrev pub invariant-loop-line : goal.invariant-loop-line

@@ -1,8 +1,5 @@
 -- What the loop of `are_columns_met` keeps: the picture meets the clues of the columns passed.
-use Rattle.std.proofs.Common.{◌<◌, ℕ}
-use Rattle.grid_core.specs.declared.sides.Side.TheVariants.{Columns}
-use Rattle.grid_core.specs.Nonogram.{MeetsLine, line_on}
-use Rattle.grid_core.specs.steps.Pictures.{values_of}
+use Rattle.grid_core.proofs.Names.{◌<◌, ℕ, Columns, MeetsLine, line_on, values_of}
 use Rattle.grid_core.proofs.pictures.are_columns_met.Given as goal
 
 abbrev pub invariant-loop-x : goal.invariant-loop-x

@@ -1,6 +1,5 @@
 -- `read_line`: a list that has the cells of a line, place by place, is the cells along it.
-use Rattle.std.proofs.Common.{false, length, arith}
-use Rattle.grid_core.specs.steps.Pictures.{values_of}
+use Rattle.grid_core.proofs.Names.{false, length, arith, values_of}
 use Rattle.grid_core.proofs.LineLaws.{cells-along}
 use Rattle.grid_core.proofs.pictures.read_line.Goals as goal
 

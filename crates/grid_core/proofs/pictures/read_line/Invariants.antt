@@ -1,6 +1,5 @@
 -- What the loop of `read_line` keeps: the length of the line; the cells passed are read.
-use Rattle.std.proofs.Common.{◌≡◌, ◌<◌, ◌+◌, ◌*◌, ℕ, false, get_or, length}
-use Rattle.grid_core.specs.steps.Pictures.{values_of}
+use Rattle.grid_core.proofs.Names.{◌≡◌, ◌<◌, ◌+◌, ◌*◌, ℕ, false, get_or, length, values_of}
 use Rattle.grid_core.proofs.pictures.read_line.Given as goal
 
 abbrev pub invariant-loop-i : goal.invariant-loop-i

@@ -1,6 +1,5 @@
 -- What the loop of `see_clues` keeps: all clues are lawful if those that are left are, which get fewer.
-use Rattle.std.proofs.Common.{◌≡◌, true, length}
-use Rattle.std.specs.List.{AllByRecursion}
+use Rattle.grid_core.proofs.Names.{◌≡◌, true, length, AllByRecursion}
 use Rattle.grid_core.specs.Clues.{is_clue}
 use Rattle.grid_core.specs.declared.limits.TheConstants.{LONGEST_SIDE}
 use Rattle.grid_core.proofs.puzzles.see_clues.Given as goal

@@ -24,4 +24,5 @@ pub returns-clause-cases : goal.returns-clause-cases
 returns-clause-cases c = (cc, is_drained c)
 
 pub returns-clause-answers : goal.returns-clause-answers
-returns-clause-answers c = drained_answers (front_lists c.args.front) (back_lists c.args.back) (is_drained c) (back_is_answered c.args.back)
+returns-clause-answers c =
+    drained_answers (front_lists c.args.front) (back_lists c.args.back) (is_drained c) (back_is_answered c.args.back)

@@ -1,7 +1,5 @@
 -- `Grid::first_unknown`: the first unknown cell of the first row that has one is that of the grid.
-use Rattle.std.proofs.Common.{◌≡◌, ◌≤◌, ◌*◌, ap, length, refl, sym, arith}
-use Rattle.std.proofs.Math.Nat.{mul-le-mul_left}
-use Rattle.grid_core.specs.PartialGrid.{PartialGrid}
+use Rattle.grid_core.proofs.Names.{◌≡◌, ◌≤◌, ◌*◌, ap, length, refl, sym, arith, mul-le-mul_left, PartialGrid}
 use Rattle.grid_core.proofs.FirstUnknown.{first_in_row, known-row, position_none}
 use Rattle.grid_core.proofs.KeptRows.{count-cells}
 use Rattle.grid_core.proofs.grids.Grid.first_unknown.Goals as goal
@@ -9,8 +7,8 @@ use Rattle.grid_core.proofs.grids.Grid.first_unknown.Goals as goal
 pub returns-in-Some : goal.returns-in-Some
 returns-in-Some c =
     let tall = ap (λ (g : PartialGrid). g.height) c.self.view_is in
-    sym (first_in_row c.args.self.now c.loop-y.y c.in-Some.x _ c.row.ensures.row (omega arith) c.row.ensures.count c.loop-y.invariant
-    c.in-Some.ensures)
+    sym (first_in_row c.args.self.now c.loop-y.y c.in-Some.x _ c.row.ensures.row (omega arith) c.row.ensures.count
+    c.loop-y.invariant c.in-Some.ensures)
 
 pub loop-y-preserved : goal.loop-y-preserved
 loop-y-preserved c = known-row c.args.self.now c.loop-y.y _ c.row.ensures.row c.in_default.ensures c.loop-y.invariant

@@ -1,7 +1,5 @@
 -- What the loop of `Grid::first_unknown` keeps: no cell of the rows passed is unknown.
-use Rattle.std.proofs.Common.{◌≡◌, ◌*◌, ◌<◌, ℕ, false, get_or}
-use Rattle.grid_core.specs.declared.cells.Cell.TheVariants.{Unknown}
-use Rattle.grid_core.specs.Cells.{is_unknown}
+use Rattle.grid_core.proofs.Names.{◌≡◌, ◌*◌, ◌<◌, ℕ, false, get_or, Unknown, is_unknown}
 use Rattle.grid_core.proofs.grids.Grid.first_unknown.Given as goal
 
 abbrev pub invariant-loop-y : goal.invariant-loop-y

@@ -1,7 +1,5 @@
 -- What the loop of `Grid::known` keeps: the known ones of the cells passed are counted.
-use Rattle.std.proofs.Common.{◌≡◌, take}
-use Rattle.std.specs.List.{count_by}
-use Rattle.grid_core.specs.Cells.{is_known}
+use Rattle.grid_core.proofs.Names.{◌≡◌, take, count_by, is_known}
 use Rattle.grid_core.proofs.grids.Grid.known.Given as goal
 
 abbrev pub invariant-loop-place : goal.invariant-loop-place

@@ -1,13 +1,13 @@
 -- `Grid::row`: a written row has the cells of the grid's row, and of one below nothing is known.
-use Rattle.std.proofs.Common.{ap, arith}
-use Rattle.grid_core.specs.PartialGrid.{PartialGrid}
+use Rattle.grid_core.proofs.Names.{ap, arith, PartialGrid}
 use Rattle.grid_core.proofs.KeptRows.{row_unknown, row_written}
 use Rattle.grid_core.proofs.grids.Grid.row.Goals as goal
 
 pub returns-in-Some-clause-row : goal.returns-in-Some-clause-row
 returns-in-Some-clause-row c =
     let kept = rw (c.from.ensures, c.deref.ensures.value) at c.in-Some.ensures.lookup in
-    rw (← c.self.view_is, c.line.ensures) (row_written _ _ _ c.args.y c.in-Some.row.now c.self.invariant.1.written (omega arith) kept.1)
+    rw (← c.self.view_is, c.line.ensures)
+    (row_written _ _ _ c.args.y c.in-Some.row.now c.self.invariant.1.written (omega arith) kept.1)
 
 pub returns-in-None-clause-row : goal.returns-in-None-clause-row
 returns-in-None-clause-row c =

@@ -1,6 +1,5 @@
 -- `Grid::write_rows`: with a row for each line, the grid has the lines' cells.
-use Rattle.std.proofs.Common.{ap}
-use Rattle.grid_core.specs.PartialGrid.{PartialGrid}
+use Rattle.grid_core.proofs.Names.{ap, PartialGrid}
 use Rattle.grid_core.proofs.KeptRows.{all_written}
 use Rattle.grid_core.proofs.grids.Grid.write_rows.Goals as goal
 

@@ -1,6 +1,5 @@
 -- `LineOf::is_same`: lines of two lengths are not the same.
-use Rattle.std.proofs.Common.{arith, ap, length}
-use Rattle.std.proofs.lemmas.Bool.Decides.{nat_tests}
+use Rattle.grid_core.proofs.Names.{arith, ap, length, nat_tests}
 use Rattle.grid_core.proofs.LineCells.{length_seen}
 use Rattle.grid_core.proofs.lines.LineOf.is_same.Goals as goal
 

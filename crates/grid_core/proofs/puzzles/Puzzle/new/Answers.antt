@@ -1,6 +1,5 @@
 -- `Puzzle::new`: a side that is out of range is told first.
-use Rattle.std.proofs.Common.{arith}
-use Rattle.std.proofs.lemmas.Grind.{common_steps}
+use Rattle.grid_core.proofs.Names.{arith, common_steps}
 use Rattle.grid_core.proofs.puzzles.Puzzle.new.Goals as goal
 
 pub returns-then-not-contains-clause-bad_size : goal.returns-then-not-contains-clause-bad_size

@@ -14,7 +14,8 @@ pub invariant_of-self-in-Work-clause-answered : goal.invariant_of-self-in-Work-c
 invariant_of-self-in-Work-clause-answered g c =
     ∥∥₁_map c.args.self.now.answered
     (offered_is_answered _ c.in-Work.job c.grade_by-answer.result _ (back_lists c.args.self.now)
-    (record { taken = received c.pop_known.new.self; held = _; put = _ }) (cc) (cc) c.grade_by-answer.ensures c.offer-in-Work.ensures.offered)
+    (record { taken = received c.pop_known.new.self; held = _; put = _ }) (cc) (cc)
+    c.grade_by-answer.ensures c.offer-in-Work.ensures.offered)
 
 pub returns-in-Work-clause-lists : goal.returns-in-Work-clause-lists
 returns-in-Work-clause-lists g c = inr (
