@@ -71,6 +71,7 @@ fn write_all<W: PlaceSet>(rows: &mut Vec<Row>, lines: &[LineOf<W>])
 
 impl Grid {
     /// A grid of this size of which nothing is known.
+    #[tactic(auto, using(crate::proofs::KeptRows::none_written))]
     pub fn unknown(alloc: Global, width: u16, height: u16) -> Result<Grid, NoMemory>
         requires { IsSize width height }
         ensures { IfOk result (λ g. g ≡ record { width = width; height = height; cells = replicate (width * height) Unknown }) }
