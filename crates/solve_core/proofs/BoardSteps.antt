@@ -1,16 +1,5 @@
 -- What settling a cell and going back do to a board.
-use Rattle.std.proofs.Common.{subst, ◌≡◌, ℕ, ◌+◌, ◌*◌, ◌<◌, ◌≤◌, true, List, [], ◌∷◌, ◌++◌, length, get_or, set, sym, ap, ◌∙◌, arith, length-append, length-set, replicate}
-use Rattle.std.proofs.lemmas.List.{length-replicate}
-use Rattle.grid_core.specs.declared.cells.Cell.{Cell}
-use Rattle.grid_core.specs.declared.cells.Cell.TheVariants.{Unknown}
-use Rattle.grid_core.specs.Cells.{is_known}
-use Rattle.grid_core.specs.declared.limits.TheConstants.{LONGEST_SIDE}
-use Rattle.grid_core.specs.declared.sides.Side.{Side}
-use Rattle.grid_core.specs.Nonogram.{crossing}
-use Rattle.grid_core.specs.steps.Sides.{count_on, place_on}
-use Rattle.grid_core.specs.PartialGrid.{PartialGrid, IsSize}
-use Rattle.solve_core.specs.steps.Boards.{IsBoard}
-use Rattle.solve_core.specs.steps.Trails.{IsTrailed, TrailedGrid}
+use Rattle.solve_core.proofs.Names.{subst, ◌≡◌, ℕ, ◌+◌, ◌*◌, ◌<◌, ◌≤◌, true, List, [], ◌∷◌, ◌++◌, length, get_or, set, sym, ap, ◌∙◌, arith, length-append, length-set, replicate, length-replicate, Cell, Unknown, is_known, LONGEST_SIDE, Side, crossing, count_on, place_on, PartialGrid, IsSize, IsBoard, IsTrailed, TrailedGrid}
 use Rattle.solve_core.proofs.SideLines.{cell_within}
 use Rattle.solve_core.proofs.Closing.{unknown_count-le}
 use Rattle.solve_core.proofs.TrailSteps.{count-settled, length-cleared}

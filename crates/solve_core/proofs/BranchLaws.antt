@@ -1,15 +1,5 @@
 -- The branches of a search: what settled cells, a filled guess and a blank one make of them.
-use Rattle.std.proofs.Common.{◌≡◌, ℕ, zero, suc, ◌+◌, ◌<◌, ◌≤◌, List, [], ◌∷◌, ◌++◌, length, set, take, drop, refl, sym, ap, ◌∙◌, arith, length-append, append-nil, append_assoc, Option, Some, None}
-use Rattle.std.specs.List.{AllByRecursion}
-use Rattle.std.proofs.Math.Seq.{drop-length}
-use Rattle.std.proofs.lemmas.List.{drop-append-le, length-take-le, take-append-drop}
-use Rattle.grid_core.specs.declared.cells.Cell.{Cell}
-use Rattle.grid_core.specs.declared.cells.Cell.TheVariants.{Unknown, Filled, Blank}
-use Rattle.grid_core.specs.Nonogram.{GridLine}
-use Rattle.solve_core.specs.declared.branches.Branch.{Branch}
-use Rattle.solve_core.specs.Search.{Guess, events}
-use Rattle.solve_core.specs.steps.Trails.{TrailedGrid, unknown_count, cleared, IsTrailed}
-use Rattle.solve_core.specs.steps.Branches.{cells_before, IsNext, IsBranch, AreInOrder, AreBefore, AreOlder, IsWork, pending, open_events, ready_events}
+use Rattle.solve_core.proofs.Names.{◌≡◌, ℕ, zero, suc, ◌+◌, ◌<◌, ◌≤◌, List, [], ◌∷◌, ◌++◌, length, set, take, drop, refl, sym, ap, ◌∙◌, arith, length-append, append-nil, append_assoc, Option, Some, None, AllByRecursion, drop-length, drop-append-le, length-take-le, take-append-drop, Cell, Unknown, Filled, Blank, GridLine, Branch, Guess, events, TrailedGrid, unknown_count, cleared, IsTrailed, cells_before, IsNext, IsBranch, AreInOrder, AreBefore, AreOlder, IsWork, pending, open_events, ready_events}
 use Rattle.solve_core.proofs.TrailSteps.{cleared-append}
 
 -- each place that is cleared leaves at most one more unknown

@@ -1,9 +1,5 @@
 -- A line that is written cell by cell, at the places where it changes.
-use Rattle.std.proofs.Common.{◌≡◌, ◌≢◌, ℕ, zero, suc, ◌<◌, ◌⊎◌, inl, inr, List, [], ◌∷◌, length, get_or, ap, arith}
-use Rattle.std.specs.Int.{bit_at}
-use Rattle.std.proofs.lemmas.Nat.Bits.{bit_at-zero}
-use Rattle.std.proofs.lemmas.Bool.{cases_eq}
-use Rattle.place_sets.specs.Masks.{Has}
+use Rattle.solve_core.proofs.Names.{◌≡◌, ◌≢◌, ℕ, zero, suc, ◌<◌, ◌⊎◌, inl, inr, List, [], ◌∷◌, length, get_or, ap, arith, bit_at, bit_at-zero, cases_eq, Has}
 
 -- no place is in a mask that is 0
 pub none_in : (m : ℕ) → m ≡ 0 → (k : ℕ) → Has m k → ⊥

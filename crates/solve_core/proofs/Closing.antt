@@ -1,11 +1,5 @@
 -- Repeating a step that only adds to what is known: what bounds the result, and when it is closed.
-use Rattle.std.proofs.Common.{◌≡◌, ℕ, zero, suc, ◌<◌, ◌≤◌, ◌⊎◌, inl, inr, List, [], ◌∷◌, length, Option, Some, None, refl, ap, arith, option_and_then}
-use Rattle.grid_core.specs.declared.cells.Cell.{Cell}
-use Rattle.grid_core.specs.declared.cells.Cell.TheVariants.{Unknown, Filled, Blank}
-use Rattle.grid_core.specs.Cells.{Extends}
-use Rattle.solve_core.specs.Closure.{repeat}
-pub use Rattle.solve_core.specs.steps.Trails.{unknown_count}
-use Rattle.solve_core.proofs.Order.{AtMost, AtMost-trans, Extends-refl}
+use Rattle.solve_core.proofs.Names.{◌≡◌, ℕ, zero, suc, ◌<◌, ◌≤◌, ◌⊎◌, inl, inr, List, [], ◌∷◌, length, Option, Some, None, refl, ap, arith, option_and_then, Cell, Unknown, Filled, Blank, Extends, repeat, unknown_count, AtMost, AtMost-trans, Extends-refl}
 
 -- a step that only adds to what is known, and gives no less if more is known
 pub record IsDeduction (f : List Cell → Option (List Cell)) : Type 0 where

@@ -1,19 +1,7 @@
 -- The closure is the least line-closed grid, and loses no solution.
-use Rattle.std.proofs.Common.{◌≡◌, ℕ, zero, suc, ◌+◌, ◌<◌, Bool, false, List, [], ◌∷◌, length, get_or, set, map, Option, Some, None, refl, sym, ap, ◌∙◌, arith, length-set, option_map}
-use Rattle.std.specs.List.{AllByRecursion}
-use Rattle.std.proofs.Math.ListN.{get_or-map}
-use Rattle.std.proofs.lemmas.List.{set-get_or}
-use Rattle.grid_core.specs.declared.cells.Cell.{Cell}
-use Rattle.grid_core.specs.declared.cells.Cell.TheVariants.{Unknown, Blank}
-use Rattle.grid_core.specs.Cells.{CellExtends, Extends, colour}
-use Rattle.grid_core.specs.Runs.{runs}
-use Rattle.grid_core.specs.Nonogram.{GridLine, cells_at}
-use Rattle.line_core.specs.Deduction.{deduced}
-use Rattle.solve_core.specs.Closure.{with_cells, deduce_line, round, repeat, closure}
-use Rattle.solve_core.proofs.Order.{AtMost, AtMost-trans, Extends-refl, Extends-trans, Extends-antisym, HasLength, join_all-above, join_all-least}
-pub use Rattle.solve_core.specs.LeastClosed.{IsLeastClosed}
+use Rattle.solve_core.proofs.Names.{◌≡◌, ℕ, zero, suc, ◌+◌, ◌<◌, Bool, false, List, [], ◌∷◌, length, get_or, set, map, Option, Some, None, refl, sym, ap, ◌∙◌, arith, length-set, option_map, AllByRecursion, get_or-map, set-get_or, Cell, Unknown, Blank, CellExtends, Extends, colour, runs, GridLine, cells_at, deduced, with_cells, deduce_line, round, repeat, closure, AtMost, AtMost-trans, Extends-refl, Extends-trans, Extends-antisym, IsLeastClosed, deduced-below, deduced-monotone, deduced-full, get_or-map_colour}
+use Rattle.solve_core.proofs.Order.{HasLength, join_all-above, join_all-least}
 use Rattle.solve_core.proofs.Closing.{IsDeduction, repeat-above, repeat-below, repeat-least, repeat-closed, unknown_count-le}
-use Rattle.line_core.proofs.DeductionLaws.{deduced-below, deduced-monotone, deduced-full, get_or-map_colour}
 
 -- if a grid knows no less, its cell does neither, whatever stands for one outside
 at_more : (g z : List Cell) (k : ℕ) (d : Cell) → Extends g z → CellExtends (get_or g k Unknown) (get_or z k d)

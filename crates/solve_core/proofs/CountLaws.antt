@@ -1,15 +1,7 @@
 -- In how many sets a place is, and what that says of a row's neighbours.
-use Rattle.std.proofs.Common.{◌≡◌, ℕ, ◌+◌, ◌-◌, ◌<◌, ◌≤◌, ◌⊎◌, inl, inr, Bool, true, false, nat_eq, List, length, get_or, Option, Some, None, IfSome, IfNone, refl, sym, ◌∙◌, arith, subst, true≢false}
-use Rattle.std.proofs.lemmas.Bool.{cases_eq, cases_lt, eqb-true, eq-eqb, or_cases}
-use Rattle.grid_core.specs.declared.cells.Cell.{Cell}
-use Rattle.grid_core.specs.declared.cells.Cell.TheVariants.{Unknown}
-use Rattle.grid_core.specs.Cells.{is_known}
-use Rattle.place_sets.specs.Masks.{Has, has, IsMaskOf, IsShifted}
+use Rattle.solve_core.proofs.Names.{◌≡◌, ℕ, ◌+◌, ◌-◌, ◌<◌, ◌≤◌, ◌⊎◌, inl, inr, Bool, true, false, nat_eq, List, length, get_or, Option, Some, None, IfSome, IfNone, refl, sym, ◌∙◌, arith, subst, true≢false, cases_eq, cases_lt, eqb-true, eq-eqb, or_cases, Cell, Unknown, is_known, Has, has, IsMaskOf, IsShifted, IsUnknownCell, AreCounts, IsKnownCell, IsMostInRow, row_score, two_of, is_sure}
 use Rattle.place_sets.proofs.HasLemmas.{true_has, has_true}
-use Rattle.grid_core.specs.Lines.{IsUnknownCell}
 use Rattle.grid_core.proofs.LineCells.{has_by}
-use Rattle.solve_core.specs.steps.Counts.{AreCounts, IsKnownCell, IsMostInRow, row_score, two_of}
-use Rattle.solve_core.specs.Picks.{is_sure}
 
 lacking : (m i : ℕ) → has m i ≡ false → Has m i → ⊥
 lacking m i e h = true≢false (sym (has_true m i h) ∙ e)

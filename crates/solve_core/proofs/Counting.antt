@@ -1,14 +1,5 @@
 -- How many cells are known.
-use Rattle.std.proofs.Common.{take, ◌≤◌, ◌≡◌, ℕ, zero, suc, inl, inr, ◌+◌, ◌<◌, true, false, List, [], ◌∷◌, length, get_or, cond, nat_eq, refl, sym, ap, ◌∙◌, arith, true≢false}
-use Rattle.std.specs.List.{count_by, list_all}
-use Rattle.std.proofs.lemmas.Bool.{cases_Bool, eq-eqb, ne_eqb}
-use Rattle.std.proofs.lemmas.List.Sums.{count_by_more_yes, sum_by-cons}
-use Rattle.grid_core.specs.declared.cells.Cell.{Cell}
-use Rattle.grid_core.specs.declared.cells.Cell.TheVariants.{Unknown}
-use Rattle.grid_core.specs.Cells.{is_known, is_unknown}
-use Rattle.grid_core.specs.Nonogram.{GridLine}
-use Rattle.solve_core.specs.steps.Trails.{unknown_count}
-use Rattle.solve_core.specs.Trials.{IsTried}
+use Rattle.solve_core.proofs.Names.{take, ◌≤◌, ◌≡◌, ℕ, zero, suc, inl, inr, ◌+◌, ◌<◌, true, false, List, [], ◌∷◌, length, get_or, cond, nat_eq, refl, sym, ap, ◌∙◌, arith, true≢false, list_all, cases_Bool, eq-eqb, ne_eqb, count_by_more_yes, sum_by-cons, Cell, Unknown, is_known, is_unknown, GridLine, unknown_count, IsTried, count_by}
 
 -- each cell is known or unknown
 pub known-and-unknown : (cells : List Cell) → count_by is_known cells + unknown_count cells ≡ length cells

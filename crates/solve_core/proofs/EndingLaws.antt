@@ -1,9 +1,5 @@
 -- How a search ends, told by the event that comes next.
-use Rattle.std.proofs.Common.{◌≡◌, ℕ, suc, ◌+◌, ◌-◌, add-one, ◌<◌, List, [], ◌∷◌, length, refl, sym, ap, ◌∙◌, arith}
-use Rattle.grid_core.specs.PartialGrid.{PartialGrid}
-use Rattle.grid_core.specs.Nonogram.{Nonogram}
-use Rattle.solve_core.specs.Search.{Event, Guess}
-use Rattle.solve_core.specs.steps.Endings.{Ending, ending}
+use Rattle.solve_core.proofs.Names.{◌≡◌, ℕ, suc, ◌+◌, ◌-◌, add-one, ◌<◌, List, [], ◌∷◌, length, refl, sym, ap, ◌∙◌, arith, PartialGrid, Nonogram, Event, Guess, Ending, ending}
 
 -- a guess that the limit allows is spent
 pub ending-guess : (p : Nonogram) (found : List PartialGrid) (spent limit : ℕ) (es : List Event) → length found < 2 → spent < limit

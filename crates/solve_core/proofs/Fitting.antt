@@ -1,14 +1,6 @@
 -- The clues of a puzzle that fits sets of some width.
-use Rattle.std.proofs.Common.{◌≡◌, ℕ, ◌≤◌, List, [], length, get_or, inl, inr, true, leb, arith, sym, subst, All}
-use Rattle.std.proofs.Math.ListN.{get_or-eq_default}
-use Rattle.std.specs.List.{list_all}
-use Rattle.std.proofs.lemmas.Bool.{cases_lt, and_parts, leb-true}
-use Rattle.std.proofs.lemmas.List.Sums.{AllPass-from_list_all}
+use Rattle.solve_core.proofs.Names.{◌≡◌, ℕ, ◌≤◌, List, [], length, get_or, inl, inr, true, leb, arith, sym, subst, get_or-eq_default, list_all, cases_lt, and_parts, leb-true, AllPass-from_list_all, MOST_RUNS, Side, Rows, Columns, Nonogram, line_on, All}
 use Rattle.grid_core.specs.Clues.{is_clue, is_run}
-use Rattle.grid_core.specs.declared.limits.TheConstants.{MOST_RUNS}
-use Rattle.grid_core.specs.declared.sides.Side.{Side}
-use Rattle.grid_core.specs.declared.sides.Side.TheVariants.{Rows, Columns}
-use Rattle.grid_core.specs.Nonogram.{Nonogram, line_on}
 use Rattle.solve_core.specs.steps.Widths.{FitsIn}
 
 clue_fits : (width : ℕ) (clues : List (List ℕ)) (i : ℕ) → All (All (λ k. k ≤ width)) clues → All (λ k. k ≤ width) (get_or clues i [])

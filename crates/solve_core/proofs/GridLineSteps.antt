@@ -1,21 +1,5 @@
 -- A grid as its rows and its columns: its cells, and what changing one of them does.
-use Rattle.std.proofs.Common.{◌≡◌, ◌≢◌, ℕ, ◌+◌, ◌-◌, ◌*◌, ◌/◌, ◌%◌, ◌<◌, ◌≤◌, inl, inr, false, Some, None, List, [], ◌∷◌, length, get_or, set, refl, sym, ap, ◌∙◌, arith, below_more, length-set, get_or-set_same, get_or-set_other, replicate}
-use Rattle.std.proofs.lemmas.List.{ext_get_or, get_or_default, get_or-replicate, length-replicate}
-use Rattle.std.proofs.lemmas.Nat.{div_below}
-use Rattle.grid_core.specs.declared.cells.Cell.{Cell}
-use Rattle.grid_core.specs.declared.cells.Cell.TheVariants.{Unknown}
-use Rattle.grid_core.specs.Cells.{is_unknown}
-use Rattle.grid_core.specs.PartialGrid.{PartialGrid, IsSize}
-use Rattle.grid_core.specs.declared.sides.Side.{Side}
-use Rattle.grid_core.specs.declared.sides.Side.TheVariants.{Rows, Columns}
-use Rattle.grid_core.specs.Nonogram.{places_from, cells_at, crossing, places_on}
-use Rattle.grid_core.specs.steps.Sides.{count_on, place_on}
-use Rattle.grid_core.proofs.LineLaws.{length-places_from, get_or-places_from, length-places_on, get_or-places_on, length-cells_at, get_or-cells_at}
-use Rattle.grid_core.specs.Lines.{IsUnknownFrom}
-use Rattle.solve_core.specs.steps.GridLines.{AreLinesOf}
-use Rattle.grid_core.specs.Rows.{cells_of_rows, row_of}
-use Rattle.grid_core.proofs.RowLists.{get_or-row_of, get_or-rows, length-row_of, length-rows}
-use Rattle.std.proofs.lemmas.Bool.{cases_eq}
+use Rattle.solve_core.proofs.Names.{◌≡◌, ◌≢◌, ℕ, ◌+◌, ◌-◌, ◌*◌, ◌/◌, ◌%◌, ◌<◌, ◌≤◌, inl, inr, false, Some, None, List, [], ◌∷◌, length, get_or, set, refl, sym, ap, ◌∙◌, arith, below_more, length-set, get_or-set_same, get_or-set_other, replicate, ext_get_or, get_or_default, get_or-replicate, length-replicate, div_below, Cell, Unknown, is_unknown, PartialGrid, IsSize, Side, Rows, Columns, places_from, cells_at, crossing, places_on, count_on, place_on, length-places_from, get_or-places_from, length-places_on, get_or-places_on, length-cells_at, get_or-cells_at, IsUnknownFrom, AreLinesOf, cells_of_rows, row_of, get_or-row_of, get_or-rows, length-row_of, length-rows, cases_eq}
 use Rattle.solve_core.proofs.SideLines.{along, distinct_places, same_place, row_within}
 use Rattle.solve_core.proofs.LineSteps.{AreDistinct, cells_at-same, distinct_same, get_or-replicated}
 

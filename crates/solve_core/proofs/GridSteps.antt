@@ -1,22 +1,6 @@
 -- What deducing a line, or settling a cell, does to the marks of the lines and to the grid's closure.
-use Rattle.std.proofs.Common.{◌≡◌, ◌≢◌, ℕ, ◌+◌, ◌*◌, ◌/◌, ◌%◌, ◌<◌, ◌≤◌, inl, inr, true, false, List, length, get_or, set, Option, Some, refl, sym, ap, ◌∙◌, arith, length-set, true≢false}
-use Rattle.std.proofs.lemmas.Bool.{cases_eq}
-use Rattle.std.proofs.lemmas.Nat.{div_below}
-use Rattle.grid_core.specs.declared.cells.Cell.{Cell}
-use Rattle.grid_core.specs.declared.cells.Cell.TheVariants.{Unknown}
-use Rattle.grid_core.specs.Nonogram.{Nonogram, IsNonogram, GridLine, lines_of, line_on, crossing, places_on}
-use Rattle.grid_core.specs.steps.Sides.{count_on, place_on}
+use Rattle.solve_core.proofs.Names.{◌≡◌, ◌≢◌, ℕ, ◌+◌, ◌*◌, ◌/◌, ◌%◌, ◌<◌, ◌≤◌, inl, inr, true, false, List, length, get_or, set, Option, Some, refl, sym, ap, ◌∙◌, arith, length-set, true≢false, cases_eq, div_below, Cell, Unknown, Nonogram, IsNonogram, GridLine, lines_of, line_on, crossing, places_on, count_on, place_on, Dead, Same, Changed, round, closure, deduce_line, LineMarks, marks_on, IsMarkedOn, AreUnmarked, AreMarksWithin, Has, IsMarked, IsMaskOf, Side, Rows, Columns, IsDeduced, IsLearned, MarksChanges, HasMarks, MarksAfter, Progresses, IsAtRest, Closing, IsIdle, unknown_count, Extends-refl, length-Extends}
 use Rattle.solve_core.specs.declared.closures.Progress.{Progress}
-use Rattle.solve_core.specs.declared.closures.Progress.TheVariants.{Dead, Same, Changed}
-use Rattle.solve_core.specs.Closure.{round, closure, deduce_line}
-use Rattle.solve_core.specs.steps.LineMarks.{LineMarks, marks_on, IsMarkedOn, AreUnmarked, AreMarksWithin}
-use Rattle.place_sets.specs.Masks.{Has, IsMarked, IsMaskOf}
-use Rattle.grid_core.specs.declared.sides.Side.{Side}
-use Rattle.grid_core.specs.declared.sides.Side.TheVariants.{Rows, Columns}
-use Rattle.solve_core.specs.steps.Marks.{IsDeduced, IsLearned, MarksChanges, HasMarks, MarksAfter, Progresses, IsAtRest}
-use Rattle.solve_core.specs.steps.Closers.{Closing, IsIdle}
-use Rattle.solve_core.specs.steps.Trails.{unknown_count}
-use Rattle.solve_core.proofs.Order.{Extends-refl, length-Extends}
 use Rattle.solve_core.proofs.ClosureLaws.{closure-IsLeastClosed}
 use Rattle.solve_core.proofs.StepLaws.{IsOneOf, done_within}
 use Rattle.solve_core.proofs.LineSteps.{closed_settled, cells_at-same, settled-elsewhere, AreDistinct, AreBelow, settled_line, written_line, written-extends, written-settled, written-elsewhere, line_keeps, line_dead}

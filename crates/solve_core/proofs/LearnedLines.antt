@@ -1,31 +1,8 @@
 -- The lines of a grid after one of them was written whole, and each that crosses it where it changes.
-use Rattle.std.proofs.Common.{◌≡◌, ◌≢◌, ◌∙◌, refl, ℕ, ◌*◌, ◌<◌, ◌≤◌, inl, inr, List, [], length, get_or, set, sym, ap, subst, arith, length-set, get_or-set_same, get_or-set_other, ext_get_or}
-use Rattle.std.specs.Int.{bit_at}
-use Rattle.std.proofs.lemmas.Bool.{cases_eq}
-use Rattle.std.proofs.lemmas.List.{set-get_or}
-use Rattle.grid_core.specs.declared.cells.Cell.{Cell}
-use Rattle.grid_core.specs.declared.cells.Cell.TheVariants.{Unknown}
-use Rattle.grid_core.specs.declared.sides.Side.{Side}
-use Rattle.grid_core.specs.declared.sides.Side.TheVariants.{Rows, Columns}
-use Rattle.grid_core.specs.Cells.{Extends}
-use Rattle.grid_core.specs.Lines.{IsChanged}
-use Rattle.grid_core.specs.Nonogram.{cells_at, crossing, places_on}
-use Rattle.grid_core.specs.PartialGrid.{IsSize, PartialGrid}
-use Rattle.grid_core.specs.Rows.{cells_of_rows}
-use Rattle.grid_core.specs.steps.Sides.{count_on, place_on}
-use Rattle.grid_core.proofs.Changing.{same_cells}
-use Rattle.grid_core.proofs.LineLaws.{get_or-cells_at, length-cells_at, length-places_on, get_or-places_on}
-use Rattle.line_core.proofs.DeductionLaws.{Extends-at}
-use Rattle.place_sets.specs.Masks.{Has, IsMaskOf}
-use Rattle.solve_core.specs.Closure.{with_cells}
-use Rattle.solve_core.specs.steps.GridLines.{AreLinesOf}
-use Rattle.solve_core.specs.steps.Learning.{CanLearn, IsLearning}
-use Rattle.solve_core.specs.steps.Boards.{cells_along, IsBoard}
-use Rattle.solve_core.specs.steps.Trails.{TrailedGrid}
+use Rattle.solve_core.proofs.Names.{◌≡◌, ◌≢◌, ◌∙◌, refl, ℕ, ◌*◌, ◌<◌, ◌≤◌, inl, inr, List, [], length, get_or, set, sym, ap, subst, arith, length-set, get_or-set_same, get_or-set_other, bit_at, cases_eq, set-get_or, Cell, Unknown, Side, Rows, Columns, Extends, IsChanged, cells_at, crossing, places_on, IsSize, PartialGrid, cells_of_rows, count_on, place_on, same_cells, get_or-cells_at, length-cells_at, length-places_on, get_or-places_on, Extends-at, Has, IsMaskOf, with_cells, AreLinesOf, CanLearn, IsLearning, cells_along, IsBoard, TrailedGrid, length-Extends, ext_get_or}
 use Rattle.solve_core.proofs.ClosureLaws.{length-with_cells}
 use Rattle.solve_core.proofs.GridLineSteps.{grid_of_lines, lines-cells}
 use Rattle.solve_core.proofs.LineSteps.{cells_at-same, cells_at-with_cells, get_or-with_cells, learned_cell}
-use Rattle.solve_core.proofs.Order.{length-Extends}
 use Rattle.solve_core.proofs.SideLines.{across, along, below_places, cell_within, column_within, row_within, crossing_twice, distinct_places, longest_sides_fit, same_place}
 
 -- line i of a side gets these cells, of which some change

@@ -1,20 +1,8 @@
 -- The trail while a line is written into a grid cell by cell.
-use Rattle.std.proofs.Common.{◌≡◌, ◌≢◌, ◌∙◌, refl, ℕ, ◌+◌, ◌*◌, ◌<◌, ◌++◌, ◌∷◌, [], inl, inr, List, length, length-set, get_or, set, get_or-set_same, get_or-set_other, ext_get_or, sym, ap, arith}
-use Rattle.std.proofs.lemmas.Bool.{cases_eq}
-use Rattle.grid_core.proofs.Changing.{same_cells}
-use Rattle.grid_core.specs.declared.cells.Cell.{Cell}
-use Rattle.grid_core.specs.declared.cells.Cell.TheVariants.{Unknown}
-use Rattle.grid_core.specs.Nonogram.{cells_at, places_from}
-use Rattle.grid_core.proofs.LineLaws.{get_or-cells_at, get_or-places_from, length-cells_at, length-places_from}
-use Rattle.line_core.proofs.DeductionLaws.{Extends-at}
-use Rattle.place_sets.specs.Masks.{Has}
-use Rattle.solve_core.specs.Closure.{with_cells}
-use Rattle.solve_core.specs.steps.Learning.{IsLearning, LeadsBackBut}
-use Rattle.solve_core.specs.steps.Trails.{IsTrailed, TrailedGrid}
+use Rattle.solve_core.proofs.Names.{◌≡◌, ◌≢◌, ◌∙◌, refl, ℕ, ◌+◌, ◌*◌, ◌<◌, ◌++◌, ◌∷◌, [], inl, inr, List, length, length-set, get_or, set, get_or-set_same, get_or-set_other, sym, ap, arith, cases_eq, same_cells, Cell, Unknown, cells_at, places_from, get_or-cells_at, get_or-places_from, length-cells_at, length-places_from, Extends-at, Has, with_cells, IsLearning, LeadsBackBut, IsTrailed, TrailedGrid, length-Extends, ext_get_or}
 use Rattle.solve_core.proofs.Changes.{is_among}
 use Rattle.solve_core.proofs.ClosureLaws.{length-with_cells}
 use Rattle.solve_core.proofs.LineSteps.{below_from, cells_at-with_cells, distinct_from, distinct_same, get_or-with_cells, learned_cell}
-use Rattle.solve_core.proofs.Order.{length-Extends}
 use Rattle.solve_core.proofs.TrailSteps.{trailed-one, trailed-refl, trailed-trans}
 
 -- what is left is told in other words

@@ -1,19 +1,7 @@
 -- Writing a line into a grid: which cells change, and what the closure is afterwards.
-use Rattle.std.proofs.Common.{◌≡◌, ◌≢◌, ℕ, zero, suc, ◌+◌, ◌*◌, ◌<◌, inl, inr, true, List, [], ◌∷◌, length, get_or, set, Option, Some, None, option_map, refl, sym, ap, ◌∙◌, arith, length-set, get_or-set_same, replicate}
-use Rattle.std.specs.List.{AllByRecursion}
-use Rattle.grid_core.specs.declared.cells.Cell.{Cell}
-use Rattle.grid_core.specs.declared.cells.Cell.TheVariants.{Unknown, Filled, Blank}
-use Rattle.grid_core.specs.Cells.{CellExtends, Extends, is_known}
-use Rattle.grid_core.specs.Nonogram.{GridLine, places_from, cells_at}
-use Rattle.line_core.specs.Deduction.{deduced}
-use Rattle.grid_core.proofs.LineLaws.{length-places_from, get_or-places_from, length-cells_at, get_or-cells_at}
-use Rattle.solve_core.specs.Closure.{with_cells, deduce_line, round, closure}
-use Rattle.solve_core.specs.steps.Marks.{IsDeduced, IsWritten}
-use Rattle.solve_core.specs.steps.Trails.{unknown_count}
-use Rattle.solve_core.proofs.Order.{AtMost, Extends-refl, Extends-trans, Extends-antisym, length-Extends}
+use Rattle.solve_core.proofs.Names.{◌≡◌, ◌≢◌, ℕ, zero, suc, ◌+◌, ◌*◌, ◌<◌, inl, inr, true, List, [], ◌∷◌, length, get_or, set, Option, Some, None, option_map, refl, sym, ap, ◌∙◌, arith, length-set, get_or-set_same, replicate, AllByRecursion, Cell, Unknown, Filled, Blank, CellExtends, Extends, is_known, GridLine, places_from, cells_at, deduced, length-places_from, get_or-places_from, length-cells_at, get_or-cells_at, with_cells, deduce_line, round, closure, IsDeduced, IsWritten, unknown_count, AtMost, Extends-refl, Extends-trans, Extends-antisym, length-Extends, deduced-above, deduced-settled, IsLeastClosed}
 use Rattle.solve_core.proofs.Closing.{fewer_unknown}
-use Rattle.line_core.proofs.DeductionLaws.{deduced-above, deduced-settled}
-use Rattle.solve_core.proofs.ClosureLaws.{IsLeastClosed, IsLeastClosed-unique, closure-IsLeastClosed, with_cells-monotone, with_cells-read}
+use Rattle.solve_core.proofs.ClosureLaws.{IsLeastClosed-unique, closure-IsLeastClosed, with_cells-monotone, with_cells-read}
 use Rattle.solve_core.proofs.StepLaws.{IsOneOf, closed_line, step_within, dead_within}
 
 set_elsewhere : (g : List Cell) (p : ℕ) (c : Cell) (k : ℕ) → (p ≡ k → c ≡ get_or g k Unknown) →

@@ -1,12 +1,5 @@
 -- What grids know together, in the order of what is known.
-use Rattle.std.proofs.Common.{◌≡◌, ℕ, zero, suc, List, [], ◌∷◌, length, get_or, set, Option, Some, None, refl, sym, arith, option_and_then}
-use Rattle.std.specs.List.{AllByRecursion}
-use Rattle.grid_core.specs.declared.cells.Cell.{Cell}
-use Rattle.grid_core.specs.declared.cells.Cell.TheVariants.{Unknown, Filled, Blank}
-use Rattle.grid_core.specs.Cells.{CellExtends, Extends}
-use Rattle.solve_core.specs.Closure.{join_cells, join, join_all, option_cons}
-pub use Rattle.line_core.specs.Order.{AtMost}
-pub use Rattle.line_core.proofs.DeductionLaws.{Extends-refl, Extends-trans, Extends-antisym, length-Extends, AtMost-trans}
+use Rattle.solve_core.proofs.Names.{◌≡◌, ℕ, zero, suc, List, [], ◌∷◌, length, get_or, set, Option, Some, None, refl, sym, arith, option_and_then, AllByRecursion, Cell, Unknown, Filled, Blank, CellExtends, Extends, join_cells, join, join_all, option_cons, AtMost, Extends-refl, length-Extends, AtMost-trans}
 
 -- at one cell
 abbrev pub CellAtMost : Cell → Option Cell → Type 0

@@ -1,14 +1,8 @@
 -- What the rule of most known neighbours picks.
-use Rattle.std.proofs.Common.{◌≡◌, ℕ, zero, suc, ◌<◌, ◌≤◌, inl, inr, Bool, true, false, cond, List, length, get_or, Option, Some, None, refl, sym, ap, ◌∙◌, subst, arith, true≢false}
-use Rattle.std.proofs.lemmas.Bool.{cases_eq, cases_lt, le-ltb, lt-ltb}
-use Rattle.grid_core.specs.declared.cells.Cell.{Cell}
-use Rattle.grid_core.specs.declared.cells.Cell.TheVariants.{Unknown}
-use Rattle.grid_core.specs.Cells.{is_unknown}
+use Rattle.solve_core.proofs.Names.{◌≡◌, ℕ, zero, suc, ◌<◌, ◌≤◌, inl, inr, Bool, true, false, cond, List, length, get_or, Option, Some, None, refl, sym, ap, ◌∙◌, subst, arith, true≢false, cases_eq, cases_lt, le-ltb, lt-ltb, Cell, Unknown, is_unknown, better, first_most, most_known, picked, sure_neighbours, IsPick}
 use Rattle.solve_core.specs.declared.picks.Pick.{Pick}
 use Rattle.solve_core.specs.declared.picks.Pick.TheVariants.{First, Most}
 use Rattle.solve_core.specs.MostKnown.{IsMostKnown}
-use Rattle.solve_core.specs.Picks.{better, first_most, most_known, picked, sure_neighbours}
-use Rattle.solve_core.specs.Search.{IsPick}
 use Rattle.solve_core.proofs.SearchLaws.{first_unknown-IsPick, unknown_is}
 
 -- of the first `n` places, the place passes the test, no other one that passes scores more, and those before

@@ -1,16 +1,5 @@
 -- The cell to guess, found row by row.
-use Rattle.std.proofs.Common.{◌≡◌, ◌≢◌, ℕ, zero, suc, ◌+◌, ◌-◌, ◌*◌, ◌%◌, ◌<◌, ◌≤◌, Bool, true, false, cond, nat_eq, nat_lt, nat_le, inl, inr, List, [], length, get_or, Option, Some, None, refl, sym, ap, ◌∙◌, arith, true≢false, add-one, add-zero}
-use Rattle.std.proofs.lemmas.Bool.{cases_Bool, cases_eq, cases_lt, eq-eqb, ne_eqb, eqb-false, lt-ltb, le-ltb, le-leb, lt-leb}
-use Rattle.std.proofs.lemmas.Nat.{mod-mul-add}
-use Rattle.grid_core.specs.declared.cells.Cell.{Cell}
-use Rattle.grid_core.specs.declared.cells.Cell.TheVariants.{Unknown}
-use Rattle.grid_core.specs.Cells.{is_unknown}
-use Rattle.grid_core.specs.Lines.{IsUnknownCell}
-use Rattle.solve_core.specs.steps.Counts.{IsMostInRow, row_score, two_of}
-use Rattle.solve_core.specs.Picks.{is_sure}
-use Rattle.solve_core.specs.steps.GridLines.{AreLinesOf}
-use Rattle.grid_core.specs.Rows.{cells_of_rows}
-use Rattle.solve_core.specs.Picks.{better, first_most, is_left_sure, is_right_sure, is_above_sure, is_below_sure, sure_neighbours}
+use Rattle.solve_core.proofs.Names.{◌≡◌, ◌≢◌, ℕ, zero, suc, ◌+◌, ◌-◌, ◌*◌, ◌%◌, ◌<◌, ◌≤◌, Bool, true, false, cond, nat_eq, nat_lt, nat_le, inl, inr, List, [], length, get_or, Option, Some, None, refl, sym, ap, ◌∙◌, arith, true≢false, add-one, add-zero, cases_Bool, cases_eq, cases_lt, eq-eqb, ne_eqb, eqb-false, lt-ltb, le-ltb, le-leb, lt-leb, mod-mul-add, Cell, Unknown, is_unknown, IsUnknownCell, IsMostInRow, row_score, two_of, is_sure, AreLinesOf, cells_of_rows, better, first_most, is_left_sure, is_right_sure, is_above_sure, is_below_sure, sure_neighbours}
 use Rattle.solve_core.proofs.GridLineSteps.{cell-read, lines-long}
 use Rattle.solve_core.proofs.SideLines.{row_within}
 use Rattle.solve_core.proofs.SearchLaws.{unknown_is}

@@ -1,21 +1,8 @@
 -- What a search finds: every solution that extends the grid, nothing else, and none twice.
-use Rattle.std.proofs.Common.{◌≡◌, ℕ, zero, suc, ◌+◌, ◌<◌, ◌≤◌, ◌⊎◌, inl, inr, Bool, true, false, List, [], ◌∷◌, ◌++◌, length, get_or, set, map, Option, Some, None, refl, sym, ap, ◌∙◌, arith, length-set, true≢false, add-one, take}
-use Rattle.std.specs.List.{position_or_len}
-use Rattle.std.proofs.lemmas.Bool.{cases_lt, lt-ltb}
-use Rattle.std.proofs.lemmas.List.Sums.{fails_before_first}
-use Rattle.std.proofs.lemmas.List.Quantifiers.{position-Some}
-use Rattle.std.proofs.Math.ListN.{length-map}
-use Rattle.grid_core.specs.declared.cells.Cell.{Cell}
-use Rattle.grid_core.specs.declared.cells.Cell.TheVariants.{Unknown, Filled, Blank}
-use Rattle.grid_core.specs.Cells.{CellExtends, Extends, colour, is_unknown, is_filled}
-use Rattle.grid_core.specs.Nonogram.{GridLine}
-use Rattle.solve_core.specs.Closure.{closure}
-use Rattle.solve_core.specs.Search.{Event, Guess, Solution, IsPick, first_unknown, guess_at, search_from, events_within, events}
-use Rattle.solve_core.specs.Report.{solutions_in, through_solution}
-use Rattle.solve_core.proofs.Order.{AtMost, Extends-refl, Extends-trans, length-Extends, Extends-antisym, set_extends, set_within}
-use Rattle.solve_core.proofs.Closing.{unknown_count, unknown_count-le, fewer_unknown}
+use Rattle.solve_core.proofs.Names.{◌≡◌, ℕ, zero, suc, ◌+◌, ◌<◌, ◌≤◌, ◌⊎◌, inl, inr, Bool, true, false, List, [], ◌∷◌, ◌++◌, length, get_or, set, map, Option, Some, None, refl, sym, ap, ◌∙◌, arith, length-set, true≢false, add-one, take, position_or_len, cases_lt, lt-ltb, fails_before_first, position-Some, length-map, Cell, Unknown, Filled, Blank, CellExtends, Extends, colour, is_unknown, is_filled, GridLine, closure, Event, Guess, Solution, IsPick, first_unknown, guess_at, search_from, events_within, events, solutions_in, through_solution, AtMost, Extends-refl, Extends-trans, length-Extends, Extends-antisym, unknown_count, Extends-at, Extends-from_places, get_or-map_colour}
+use Rattle.solve_core.proofs.Order.{set_extends, set_within}
+use Rattle.solve_core.proofs.Closing.{unknown_count-le, fewer_unknown}
 use Rattle.solve_core.proofs.TrailSteps.{count-settled}
-use Rattle.line_core.proofs.DeductionLaws.{Extends-at, Extends-from_places, get_or-map_colour}
 use Rattle.solve_core.proofs.ClosureLaws.{MeetsLines, AreInRange, full-meets, closure-below, closure-IsLeastClosed}
 
 -- a grid is one of several

@@ -1,18 +1,5 @@
 -- What happens below a guess, and at which cell the next one is made.
-use Rattle.std.proofs.Common.{◌≡◌, ◌≢◌, ℕ, ◌+◌, ◌<◌, ◌≤◌, inl, inr, List, [], ◌++◌, length, get_or, set, refl, sym, ap, ◌∙◌, arith, subst, Option, Some, None, IfSome, true, false, get_or-set_other}
-use Rattle.std.proofs.lemmas.Bool.{cases_lt}
-use Rattle.std.proofs.lemmas.List.Quantifiers.{position-Some}
-use Rattle.grid_core.specs.declared.cells.Cell.{Cell}
-use Rattle.grid_core.specs.declared.cells.Cell.TheVariants.{Unknown, Filled}
-use Rattle.grid_core.specs.Cells.{is_unknown, is_known, Extends}
-use Rattle.grid_core.specs.Nonogram.{GridLine}
-use Rattle.solve_core.specs.declared.branches.Branch.{Branch}
-use Rattle.solve_core.specs.Closure.{round, closure}
-use Rattle.solve_core.specs.Search.{Event, IsPick, guess_at, search_from, events, first_unknown}
-use Rattle.solve_core.specs.steps.Trails.{unknown_count}
-use Rattle.solve_core.specs.steps.Branches.{AreKnownBefore, IsClosed, IsNext, IsOpen, IsWork, AreOlder}
-use Rattle.line_core.proofs.DeductionLaws.{Extends-at}
-use Rattle.grid_core.specs.Lines.{IsUnknownFrom}
+use Rattle.solve_core.proofs.Names.{◌≡◌, ◌≢◌, ℕ, ◌+◌, ◌<◌, ◌≤◌, inl, inr, List, [], ◌++◌, length, get_or, set, refl, sym, ap, ◌∙◌, arith, subst, Option, Some, None, IfSome, true, false, get_or-set_other, cases_lt, position-Some, Cell, Unknown, Filled, is_unknown, is_known, Extends, GridLine, Branch, round, closure, Event, IsPick, guess_at, search_from, events, first_unknown, unknown_count, AreKnownBefore, IsClosed, IsNext, IsOpen, IsWork, AreOlder, Extends-at, IsUnknownFrom}
 use Rattle.grid_core.proofs.FirstUnknown.{position_none, position_some}
 use Rattle.solve_core.proofs.Closing.{repeat-fixed}
 use Rattle.solve_core.proofs.ClosureLaws.{closure-IsLeastClosed}

@@ -1,15 +1,6 @@
 -- The lines of a grid by side and number.
-use Rattle.std.proofs.Common.{◌≡◌, ℕ, zero, suc, ◌+◌, ◌*◌, ◌<◌, ◌≤◌, inl, inr, List, [], ◌∷◌, ◌/◌, ◌%◌, ◌∙◌, sym, length, get_or, refl, ap, arith}
-use Rattle.std.specs.List.{AllByRecursion}
+use Rattle.solve_core.proofs.Names.{◌≡◌, ℕ, zero, suc, ◌+◌, ◌*◌, ◌<◌, ◌≤◌, inl, inr, List, [], ◌∷◌, ◌/◌, ◌%◌, ◌∙◌, sym, length, get_or, refl, ap, arith, AllByRecursion, div-mul-add, mod-mul-add, recursion_from_All, Side, Rows, Columns, IsSize, Nonogram, IsNonogram, GridLine, lines_of, clues_on, crossing, line_on, places_on, column_on, count_on, place_on, row_on, all_lines, each_line, place-within, length-places_on, get_or-places_on}
 use Rattle.std.proofs.Math.Nat.{mul-le-mul_left}
-use Rattle.std.proofs.lemmas.Nat.{div-mul-add, mod-mul-add}
-use Rattle.std.proofs.lemmas.List.Elements.{recursion_from_All}
-use Rattle.grid_core.specs.declared.sides.Side.{Side}
-use Rattle.grid_core.specs.declared.sides.Side.TheVariants.{Rows, Columns}
-use Rattle.grid_core.specs.PartialGrid.{IsSize}
-use Rattle.grid_core.specs.Nonogram.{Nonogram, IsNonogram, GridLine, lines_of, clues_on, crossing, line_on, places_on}
-use Rattle.grid_core.specs.steps.Sides.{column_on, count_on, place_on, row_on}
-use Rattle.grid_core.proofs.LineLaws.{all_lines, each_line, place-within, length-places_on, get_or-places_on}
 use Rattle.solve_core.proofs.StepLaws.{IsOneOf}
 use Rattle.solve_core.proofs.LineSteps.{AreDistinct, AreBelow, distinct_from, below_from}
 

@@ -1,11 +1,6 @@
 -- Deducing one line after the other stays below the closure, and ends in it.
-use Rattle.std.proofs.Common.{◌≡◌, ◌⊎◌, inl, inr, List, [], ◌∷◌, map, Option, Some, None, refl, subst}
-use Rattle.std.specs.List.{AllByRecursion}
-use Rattle.grid_core.specs.declared.cells.Cell.{Cell}
-use Rattle.grid_core.specs.Cells.{Extends}
-use Rattle.grid_core.specs.Nonogram.{GridLine}
-use Rattle.solve_core.specs.Closure.{deduce_line, round, closure}
-use Rattle.solve_core.proofs.Order.{AtMost, AtMost-trans, Extends-refl, join_all-least}
+use Rattle.solve_core.proofs.Names.{◌≡◌, ◌⊎◌, inl, inr, List, [], ◌∷◌, map, Option, Some, None, refl, subst, AllByRecursion, Cell, Extends, GridLine, deduce_line, round, closure, AtMost, AtMost-trans, Extends-refl}
+use Rattle.solve_core.proofs.Order.{join_all-least}
 use Rattle.solve_core.proofs.ClosureLaws.{closure-IsLeastClosed, deduce_line-monotone, round-above, same_at_most, round-above_each}
 
 -- a line is one of several

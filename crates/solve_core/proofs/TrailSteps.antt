@@ -1,10 +1,5 @@
 -- How the trail of settled cells grows.
-use Rattle.std.proofs.Common.{◌≡◌, ℕ, zero, suc, ◌+◌, ◌<◌, true, List, [], ◌∷◌, ◌++◌, length, get_or, set, refl, sym, ap, ◌∙◌, arith, subst, length-append, length-set, append-nil, append_assoc, true≢false}
-use Rattle.std.specs.List.{AllByRecursion}
-use Rattle.grid_core.specs.declared.cells.Cell.{Cell}
-use Rattle.grid_core.specs.declared.cells.Cell.TheVariants.{Unknown, Filled, Blank}
-use Rattle.grid_core.specs.Cells.{is_known}
-use Rattle.solve_core.specs.steps.Trails.{TrailedGrid, unknown_count, cleared, IsTrailed}
+use Rattle.solve_core.proofs.Names.{◌≡◌, ℕ, zero, suc, ◌+◌, ◌<◌, true, List, [], ◌∷◌, ◌++◌, length, get_or, set, refl, sym, ap, ◌∙◌, arith, subst, length-append, length-set, append-nil, append_assoc, true≢false, AllByRecursion, Cell, Unknown, Filled, Blank, is_known, TrailedGrid, unknown_count, cleared, IsTrailed}
 
 -- clearing the places of two lists clears those of the second one first
 pub cleared-append : (cells : List Cell) (ks js : List ℕ) → cleared cells (ks ++ js) ≡ cleared (cleared cells js) ks

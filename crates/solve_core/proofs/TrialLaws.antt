@@ -1,18 +1,9 @@
 -- Trials end in the least trial-closed grid, and lose no solution.
-use Rattle.std.proofs.Common.{◌≡◌, ℕ, zero, suc, ◌+◌, ◌<◌, Bool, true, false, List, [], ◌∷◌, length, get_or, set, map, Option, Some, None, is_none, option_and_then, refl, sym, ◌∙◌, arith, slice_index_or, true≢false, add-zero, zero-add}
-use Rattle.std.specs.List.{range_with_len}
-use Rattle.std.proofs.Math.ListN.{length-map}
-use Rattle.grid_core.specs.declared.cells.Cell.{Cell}
-use Rattle.grid_core.specs.declared.cells.Cell.TheVariants.{Unknown, Filled, Blank}
-use Rattle.grid_core.specs.Cells.{CellExtends, Extends, colour}
-use Rattle.grid_core.specs.Nonogram.{GridLine}
-use Rattle.solve_core.specs.Closure.{option_cons, round, closure}
-use Rattle.solve_core.specs.Trials.{is_refuted, left_over, tried, all_present, trial_round, trials}
+use Rattle.solve_core.proofs.Names.{◌≡◌, ℕ, zero, suc, ◌+◌, ◌<◌, Bool, true, false, List, [], ◌∷◌, length, get_or, set, map, Option, Some, None, is_none, option_and_then, refl, sym, ◌∙◌, arith, slice_index_or, true≢false, add-zero, zero-add, range_with_len, length-map, Cell, Unknown, Filled, Blank, CellExtends, Extends, colour, GridLine, option_cons, round, closure, is_refuted, left_over, tried, all_present, trial_round, trials, AtMost, Extends-trans, length-Extends, Extends-at, get_or-map_colour, IsLeastClosed}
 use Rattle.solve_core.proofs.SearchLaws.{same_known}
-use Rattle.solve_core.proofs.Order.{AtMost, CellAtMost, cons_at_most, Extends-trans, length-Extends, set_within}
+use Rattle.solve_core.proofs.Order.{CellAtMost, cons_at_most, set_within}
 use Rattle.solve_core.proofs.Closing.{IsDeduction, repeat-fixed, and_then-above, and_then-below}
-use Rattle.line_core.proofs.DeductionLaws.{Extends-at, get_or-map_colour}
-use Rattle.solve_core.proofs.ClosureLaws.{IsLeastClosed, closure-IsLeastClosed, repeat-IsLeastClosed, MeetsLines, round-solution, same_at_most, set-monotone}
+use Rattle.solve_core.proofs.ClosureLaws.{closure-IsLeastClosed, repeat-IsLeastClosed, MeetsLines, round-solution, same_at_most, set-monotone}
 
 -- what trials say of each cell of a grid
 abbrev pub tried_cells : List GridLine → List Cell → Option (List Cell)

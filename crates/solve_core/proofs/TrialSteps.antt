@@ -1,20 +1,10 @@
 -- What a trial's outcome says of a cell, and what settling the cell leaves of the trials' end.
-use Rattle.std.proofs.Common.{◌≡◌, ℕ, zero, suc, ◌+◌, ◌<◌, inl, inr, Bool, true, false, List, [], ◌∷◌, length, get_or, set, Option, Some, None, is_none, refl, sym, ap, ◌∙◌, arith, subst, zero-add, true≢false}
-use Rattle.grid_core.specs.declared.cells.Cell.{Cell}
-use Rattle.grid_core.specs.declared.cells.Cell.TheVariants.{Unknown, Filled, Blank}
-use Rattle.grid_core.specs.Cells.{CellExtends, Extends, is_known}
-use Rattle.grid_core.specs.Nonogram.{GridLine}
+use Rattle.solve_core.proofs.Names.{◌≡◌, ℕ, zero, suc, ◌+◌, ◌<◌, inl, inr, Bool, true, false, List, [], ◌∷◌, length, get_or, set, Option, Some, None, is_none, refl, sym, ap, ◌∙◌, arith, subst, zero-add, true≢false, Cell, Unknown, Filled, Blank, CellExtends, Extends, is_known, GridLine, Changed, round, closure, is_refuted, left_over, tried, trial_round, trials, IsTried, Progresses, IsTrialOf, unknown_count, AtMost, Extends-refl, Extends-trans, length-Extends, Extends-at, IsLeastClosed}
 use Rattle.solve_core.specs.declared.trials.Trial.{Trial}
 use Rattle.solve_core.specs.declared.trials.Trial.TheVariants.{Refuted, Open, Closed}
-use Rattle.solve_core.specs.declared.closures.Progress.TheVariants.{Changed}
-use Rattle.solve_core.specs.Closure.{round, closure}
-use Rattle.solve_core.specs.Trials.{is_refuted, left_over, tried, trial_round, trials, IsTried}
-use Rattle.solve_core.specs.steps.Marks.{Progresses, IsTrialOf}
-use Rattle.solve_core.specs.steps.Trails.{unknown_count}
-use Rattle.solve_core.proofs.Order.{AtMost, Extends-refl, Extends-trans, length-Extends, set_extends, set_within}
+use Rattle.solve_core.proofs.Order.{set_extends, set_within}
 use Rattle.solve_core.proofs.Closing.{repeat-fixed, fewer_unknown}
-use Rattle.line_core.proofs.DeductionLaws.{Extends-at}
-use Rattle.solve_core.proofs.ClosureLaws.{IsLeastClosed, closure-IsLeastClosed, same_at_most}
+use Rattle.solve_core.proofs.ClosureLaws.{closure-IsLeastClosed, same_at_most}
 use Rattle.solve_core.proofs.TrialLaws.{OptionBelow, tried_cells, tried_cells-above, all_below, each_below, tried-below, after_trials, trials-IsLeastClosed}
 use Rattle.solve_core.proofs.LineSteps.{least_between}
 

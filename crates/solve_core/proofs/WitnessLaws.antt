@@ -1,27 +1,8 @@
 -- What an alive trial of a grid tells of a grid that has learned more.
-use Rattle.std.proofs.Common.{◌≡◌, ◌≢◌, ℕ, zero, suc, ◌*◌, ◌/◌, ◌%◌, ◌<◌, ◌≤◌, ◌⊎◌, inl, inr, Bool, true, false, List, [], ◌∷◌, ◌++◌, length, take, replicate, get_or, set, Some, refl, sym, ap, ◌∙◌, arith, true≢false, get_or-set_same, get_or-set_other, length-append, length-set}
-use Rattle.std.proofs.lemmas.Bool.{cases_Bool, cases_eq, cases_lt, false_from_ne_true}
-use Rattle.std.proofs.lemmas.Nat.{div-mul-add, mod-mul-add}
-use Rattle.std.proofs.Math.ListN.{get_or-map}
-use Rattle.std.proofs.lemmas.List.{get_or_append_left, get_or_past, get_or-take, length-take-le, length-map}
-use Rattle.std.proofs.Math.Seq.{get_or-append_seam}
-use Rattle.grid_core.specs.declared.cells.Cell.{Cell}
-use Rattle.grid_core.specs.declared.cells.Cell.TheVariants.{Unknown, Filled, Blank}
-use Rattle.grid_core.specs.Cells.{CellExtends, Extends, is_unknown}
-use Rattle.grid_core.specs.Nonogram.{Nonogram, IsNonogram, lines_of, line_on}
-use Rattle.grid_core.specs.steps.Sides.{count_on}
-use Rattle.line_core.proofs.DeductionLaws.{Extends-at}
-use Rattle.solve_core.specs.Closure.{round, closure}
-use Rattle.grid_core.specs.declared.sides.Side.{Side}
-use Rattle.grid_core.specs.declared.sides.Side.TheVariants.{Rows, Columns}
-use Rattle.solve_core.specs.steps.Marks.{IsDeduced, AreOpen}
-use Rattle.solve_core.specs.steps.Trails.{cleared}
+use Rattle.solve_core.proofs.Names.{◌≡◌, ◌≢◌, ℕ, zero, suc, ◌*◌, ◌/◌, ◌%◌, ◌<◌, ◌≤◌, ◌⊎◌, inl, inr, Bool, true, false, List, [], ◌∷◌, ◌++◌, length, take, replicate, get_or, set, Some, refl, sym, ap, ◌∙◌, arith, true≢false, get_or-set_same, get_or-set_other, length-append, length-set, cases_Bool, cases_eq, cases_lt, false_from_ne_true, div-mul-add, mod-mul-add, get_or-map, get_or_append_left, get_or_past, get_or-take, length-take-le, get_or-append_seam, Cell, Unknown, Filled, Blank, CellExtends, Extends, is_unknown, Nonogram, IsNonogram, lines_of, line_on, count_on, Extends-at, round, closure, Side, Rows, Columns, IsDeduced, AreOpen, cleared, Witness, WitnessLists, no_witness, witness_at, met_by, open_marks, has_side, IsCrossed, DifferWithin, ShareNoLine, IsWitness, AreWitnesses, AreNumbered, IsKept, AddsMet, Extends-refl, Extends-antisym, length-Extends, length-map}
 use Rattle.solve_core.specs.steps.Overlaid.{over, overlaid}
 use Rattle.solve_core.specs.declared.witnesses.Crossed.{Crossed}
-use Rattle.solve_core.specs.declared.witnesses.Witness.{Witness}
-use Rattle.solve_core.specs.steps.WitnessLists.{WitnessLists, no_witness, witness_at, met_by, open_marks}
-use Rattle.solve_core.specs.steps.Witnesses.{has_side, IsCrossed, DifferWithin, ShareNoLine, IsWitness, AreWitnesses, AreNumbered, IsKept, AddsMet}
-use Rattle.solve_core.proofs.Order.{Extends-refl, Extends-antisym, length-Extends, set_within}
+use Rattle.solve_core.proofs.Order.{set_within}
 use Rattle.solve_core.proofs.ClosureLaws.{closure-IsLeastClosed}
 use Rattle.solve_core.proofs.SearchLaws.{same_known}
 use Rattle.solve_core.proofs.TrialSteps.{met_open}

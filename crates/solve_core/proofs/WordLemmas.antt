@@ -1,7 +1,5 @@
 -- The places of a set that are in one of its words.
-use Rattle.std.proofs.Common.{◌≢◌, ◌+◌, ◌-◌, ◌<◌, ℕ, false, inl, inr, sym, arith, subst, true≢false}
-use Rattle.place_sets.specs.Masks.{Has, IsMarked, IsMaskOf}
-use Rattle.solve_core.specs.steps.Learning.{IsIn}
+use Rattle.solve_core.proofs.Names.{◌≢◌, ◌+◌, ◌-◌, ◌<◌, ℕ, false, inl, inr, sym, arith, subst, true≢false, Has, IsMarked, IsMaskOf, IsIn}
 
 -- the places of a set that are in the word from `from` on
 abbrev WordFrom : ℕ → ℕ → ℕ → Type 0

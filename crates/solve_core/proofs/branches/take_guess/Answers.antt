@@ -1,6 +1,5 @@
 -- `take_guess`: a branch that is made, or gone back to, leaves what is still to happen as it was.
-use Rattle.std.proofs.Common.{ap, ◌∙◌, arith, length, drop}
-use Rattle.solve_core.specs.steps.Trails.{TrailedGrid}
+use Rattle.solve_core.proofs.Names.{ap, ◌∙◌, arith, length, drop, TrailedGrid}
 use Rattle.solve_core.proofs.BranchLaws.{fork-work, fork-events, back-work, back-events, back-ready}
 use Rattle.solve_core.proofs.TrailSteps.{length-cleared}
 use Rattle.solve_core.proofs.SearchSteps.{unknown_count-positive}

@@ -1,23 +1,5 @@
 -- `learn_line`: what is certain of a line is written, and the lines that cross where it changes are marked.
-use Rattle.std.proofs.Common.{true≢false, ◌≡◌, ◌∙◌, ◌*◌, ◌<◌, ◌⊎◌, inl, inr, ℕ, sym, arith, ap, subst, length, get_or, refl, List, Some}
-use Rattle.grid_core.specs.declared.cells.Cell.{Cell}
-use Rattle.grid_core.specs.declared.cells.Cell.TheVariants.{Unknown}
-use Rattle.grid_core.specs.declared.sides.Side.{Side}
-use Rattle.grid_core.specs.Nonogram.{Nonogram, cells_at, crossing, line_on, places_on}
-use Rattle.grid_core.specs.steps.Sides.{count_on, place_on}
-use Rattle.grid_core.specs.Cells.{Extends}
-use Rattle.grid_core.specs.PartialGrid.{IsSize}
-use Rattle.place_sets.specs.Masks.{Has, IsMaskOf}
-use Rattle.line_core.specs.Deduction.{deduced}
-use Rattle.grid_core.specs.Lines.{IsChanged}
-use Rattle.grid_core.proofs.Changing.{same_cells, same_without_change}
-use Rattle.grid_core.proofs.LineLaws.{length-cells_at, get_or-cells_at, length-places_on, get_or-places_on}
-use Rattle.line_core.proofs.DeductionLaws.{deduced-above, length-deduced}
-use Rattle.solve_core.specs.steps.Boards.{IsBoardOf, cells_along}
-use Rattle.solve_core.specs.steps.LineMarks.{marks_on}
-use Rattle.solve_core.specs.Closure.{with_cells}
-use Rattle.solve_core.specs.steps.Marks.{IsWritten}
-use Rattle.solve_core.specs.steps.Trails.{TrailedGrid}
+use Rattle.solve_core.proofs.Names.{true≢false, ◌≡◌, ◌∙◌, ◌*◌, ◌<◌, ◌⊎◌, inl, inr, ℕ, sym, arith, ap, subst, length, get_or, refl, List, Some, Cell, Unknown, Side, Nonogram, cells_at, crossing, line_on, places_on, count_on, place_on, Extends, IsSize, Has, IsMaskOf, deduced, IsChanged, same_cells, same_without_change, length-cells_at, get_or-cells_at, length-places_on, get_or-places_on, deduced-above, length-deduced, IsBoardOf, cells_along, marks_on, with_cells, IsWritten, TrailedGrid}
 use Rattle.solve_core.proofs.ClosureLaws.{length-with_cells}
 use Rattle.solve_core.proofs.LineSteps.{written-fewer, written-read}
 use Rattle.solve_core.proofs.SideLines.{below_places, crossing_twice, distinct_places}

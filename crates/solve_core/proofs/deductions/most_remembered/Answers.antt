@@ -1,6 +1,5 @@
 -- `most_remembered`: the quotient is at least 1, since sets have no more than 256 places.
-use Rattle.std.proofs.Common.{◌≡◌, ◌∙◌, ℕ, zero, suc, ◌+◌, ◌*◌, ◌/◌, ◌%◌, ◌<◌, ◌≤◌, arith}
-use Rattle.place_sets.proofs.Doubling.{one_within, width_most}
+use Rattle.solve_core.proofs.Names.{◌≡◌, ◌∙◌, ℕ, zero, suc, ◌+◌, ◌*◌, ◌/◌, ◌%◌, ◌<◌, ◌≤◌, arith, one_within, width_most}
 use Rattle.solve_core.proofs.deductions.most_remembered.Goals as goal
 
 positive : (q w r n : ℕ) → n ≡ q * w + r → r < w → w ≤ 256 → 256 ≤ n → 1 ≤ q

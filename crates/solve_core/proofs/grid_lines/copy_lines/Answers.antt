@@ -1,6 +1,5 @@
 -- `copy_lines`: each line is copied over one of its length, and with all copied the lines are the others.
-use Rattle.std.proofs.Common.{◌∙◌, [], sym, arith}
-use Rattle.std.proofs.lemmas.List.{ext_get_or}
+use Rattle.solve_core.proofs.Names.{◌∙◌, [], sym, arith, ext_get_or}
 use Rattle.solve_core.proofs.grid_lines.copy_lines.Goals as goal
 
 pub returns : goal.returns

@@ -1,5 +1,5 @@
 -- What the loop of `copy_lines` keeps: the lines passed are copied, the others as they were.
-use Rattle.std.proofs.Common.{ℕ, [], get_or}
+use Rattle.solve_core.proofs.Names.{ℕ, [], get_or}
 use Rattle.solve_core.proofs.GridLineSteps.{IsWrittenTo}
 use Rattle.solve_core.proofs.grid_lines.copy_lines.Given as goal
 

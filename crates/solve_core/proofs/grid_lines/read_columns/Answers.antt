@@ -1,5 +1,5 @@
 -- `read_columns`: each row is written across columns that reach below it.
-use Rattle.std.proofs.Common.{◌∙◌}
+use Rattle.solve_core.proofs.Names.{◌∙◌}
 use Rattle.solve_core.proofs.GridLineSteps.{across-more, line_read}
 use Rattle.solve_core.proofs.grid_lines.read_columns.Goals as goal
 

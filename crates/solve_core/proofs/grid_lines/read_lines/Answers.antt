@@ -1,7 +1,5 @@
 -- `read_lines`: rows that are those of the grid, and columns with the cells of the rows, are its lines.
-use Rattle.std.proofs.Common.{◌≡◌, ◌*◌, ◌∙◌, length, ap, sym, arith}
-use Rattle.grid_core.specs.PartialGrid.{IsSize}
-use Rattle.grid_core.proofs.RowLists.{length-row_of}
+use Rattle.solve_core.proofs.Names.{◌≡◌, ◌*◌, ◌∙◌, length, ap, sym, arith, IsSize, length-row_of}
 use Rattle.solve_core.proofs.GridLineSteps.{lines-long, lines-read}
 use Rattle.solve_core.proofs.grid_lines.read_lines.Goals as goal
 

@@ -1,5 +1,5 @@
 -- `read_rows`: each row is read over one of the grid's width.
-use Rattle.std.proofs.Common.{arith}
+use Rattle.solve_core.proofs.Names.{arith}
 use Rattle.solve_core.proofs.GridLineSteps.{one-written}
 use Rattle.solve_core.proofs.grid_lines.read_rows.Goals as goal
 

@@ -1,6 +1,5 @@
 -- What the loop of `read_rows` keeps: the rows passed are those of the grid, the others are as they were.
-use Rattle.std.proofs.Common.{◌≡◌, ◌*◌, ◌<◌, length}
-use Rattle.grid_core.specs.Rows.{row_of}
+use Rattle.solve_core.proofs.Names.{◌≡◌, ◌*◌, ◌<◌, length, row_of}
 use Rattle.solve_core.proofs.GridLineSteps.{IsWrittenTo}
 use Rattle.solve_core.proofs.grid_lines.read_rows.Given as goal
 

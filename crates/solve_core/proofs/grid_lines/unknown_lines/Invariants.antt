@@ -1,6 +1,5 @@
 -- What the loop of `unknown_lines` keeps: nothing is known of the lines so far, and there is room for all.
-use Rattle.std.proofs.Common.{◌≡◌, ◌≤◌, replicate, vec_capacity}
-use Rattle.grid_core.specs.declared.cells.Cell.TheVariants.{Unknown}
+use Rattle.solve_core.proofs.Names.{◌≡◌, ◌≤◌, replicate, vec_capacity, Unknown}
 use Rattle.solve_core.proofs.grid_lines.unknown_lines.Given as goal
 
 abbrev pub invariant-loop : goal.invariant-loop

@@ -1,6 +1,5 @@
 -- What the loop of `write_across` keeps: the columns passed have the row's cell, the others are as they were.
-use Rattle.std.proofs.Common.{ℕ, [], get_or, set}
-use Rattle.grid_core.specs.declared.cells.Cell.TheVariants.{Unknown}
+use Rattle.solve_core.proofs.Names.{ℕ, [], get_or, set, Unknown}
 use Rattle.solve_core.proofs.GridLineSteps.{IsWrittenTo}
 use Rattle.solve_core.proofs.grid_lines.write_across.Given as goal
 

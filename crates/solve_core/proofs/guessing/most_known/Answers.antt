@@ -1,8 +1,5 @@
 -- `most_known`: one more cell is the best so far or changes nothing, and the best of all cells is the rule's.
-use Rattle.std.proofs.Common.{◌≡◌, ◌∙◌, ◌+◌, ◌*◌, ℕ, Bool, length, get_or, ap, sym, arith, true≢false}
-use Rattle.grid_core.specs.declared.cells.Cell.TheVariants.{Unknown}
-use Rattle.grid_core.specs.Cells.{is_unknown}
-use Rattle.solve_core.specs.Picks.{first_most, sure_neighbours}
+use Rattle.solve_core.proofs.Names.{◌≡◌, ◌∙◌, ◌+◌, ◌*◌, ℕ, Bool, length, get_or, ap, sym, arith, true≢false, Unknown, is_unknown, first_most, sure_neighbours}
 use Rattle.solve_core.proofs.PickRows.{cell-none, cell-some, least_after, score-few}
 use Rattle.solve_core.proofs.guessing.most_known.Goals as goal
 use Rattle.solve_core.proofs.guessing.most_known.Goals.{then-is_unknown+then-sure-least, then-is_unknown+else-sure-least, else-is_unknown}

@@ -1,8 +1,5 @@
 -- What the loop of `most_known` keeps: the best place so far, and the least count that betters it.
-use Rattle.std.proofs.Common.{◌≡◌, ◌≤◌, get_or}
-use Rattle.grid_core.specs.Cells.{is_unknown}
-use Rattle.grid_core.specs.declared.cells.Cell.TheVariants.{Unknown}
-use Rattle.solve_core.specs.Picks.{first_most, sure_neighbours}
+use Rattle.solve_core.proofs.Names.{◌≡◌, ◌≤◌, get_or, is_unknown, Unknown, first_most, sure_neighbours}
 use Rattle.solve_core.proofs.PickRows.{least_after}
 use Rattle.solve_core.proofs.guessing.most_known.Given as goal
 

@@ -1,7 +1,5 @@
 -- `next_guess`: the row of the picked place is one of the grid, so its number fits 16 bits.
-use Rattle.std.proofs.Common.{◌≡◌, ◌∙◌, ◌<◌, ◌/◌, Some, sym, arith}
-use Rattle.std.proofs.lemmas.Nat.{div_below}
-use Rattle.solve_core.specs.Picks.{most_known}
+use Rattle.solve_core.proofs.Names.{◌≡◌, ◌∙◌, ◌<◌, ◌/◌, Some, sym, arith, div_below, most_known}
 use Rattle.solve_core.proofs.PickLaws.{most_known-IsPick}
 use Rattle.solve_core.proofs.guessing.next_guess.Goals as goal
 

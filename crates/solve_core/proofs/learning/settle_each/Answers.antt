@@ -1,8 +1,5 @@
 -- `settle_each`: each word's places are settled by its turn.
-use Rattle.std.proofs.Common.{◌∙◌, ◌+◌, ◌<◌, inl, inr, List, set, ap, arith}
-use Rattle.std.proofs.lemmas.Bool.{cases_lt}
-use Rattle.grid_core.specs.declared.cells.Cell.{Cell}
-use Rattle.place_sets.proofs.Doubling.{width_most}
+use Rattle.solve_core.proofs.Names.{◌∙◌, ◌+◌, ◌<◌, inl, inr, List, set, ap, arith, cases_lt, Cell, width_most}
 use Rattle.solve_core.proofs.learning.settle_each.Goals as goal
 
 pub loop-from-smaller : goal.loop-from-smaller

@@ -1,7 +1,6 @@
 -- What the loop of `settle_each` keeps: the lines at the places before `from` have the colour, and the others are as
 -- they were.
-use Rattle.std.proofs.Common.{◌≡◌, ℕ, ◌-◌, ◌*◌, ◌<◌, ◌≤◌, [], get_or, set}
-use Rattle.place_sets.specs.Masks.{Has}
+use Rattle.solve_core.proofs.Names.{◌≡◌, ℕ, ◌-◌, ◌*◌, ◌<◌, ◌≤◌, [], get_or, set, Has}
 use Rattle.solve_core.proofs.learning.settle_each.Given as goal
 
 abbrev pub invariant-loop-from : goal.invariant-loop-from

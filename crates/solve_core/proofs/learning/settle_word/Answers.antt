@@ -1,9 +1,5 @@
 -- `settle_word`: a place of the word is met once, so its line was as before.
-use Rattle.std.proofs.Common.{rules, ◌≡◌, ◌≢◌, ◌∙◌, refl, ◌+◌, ◌-◌, ◌<◌, ℕ, inl, inr, List, [], length, get_or, set, sym, ap, arith, get_or-set_same, get_or-set_other, subst}
-use Rattle.std.proofs.lemmas.Bool.{cases_eq, eqb-true}
-use Rattle.grid_core.specs.declared.cells.Cell.{Cell}
-use Rattle.place_sets.specs.Masks.{Has}
-use Rattle.place_sets.proofs.Doubling.{width_most}
+use Rattle.solve_core.proofs.Names.{rules, ◌≡◌, ◌≢◌, ◌∙◌, refl, ◌+◌, ◌-◌, ◌<◌, ℕ, inl, inr, List, [], length, get_or, set, sym, ap, arith, get_or-set_same, get_or-set_other, subst, cases_eq, eqb-true, Cell, Has, width_most}
 use Rattle.solve_core.proofs.Changes.{none_in}
 use Rattle.solve_core.proofs.WordLemmas.{in_word, of_word, stays}
 use Rattle.solve_core.proofs.GridLineSteps.{line_read}

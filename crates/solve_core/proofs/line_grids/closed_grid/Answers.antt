@@ -1,5 +1,5 @@
 -- `closed_grid`: the closed board's cells are those of the line grid.
-use Rattle.std.proofs.Common.{rules}
+use Rattle.solve_core.proofs.Names.{rules}
 use Rattle.solve_core.proofs.line_grids.closed_grid.Goals as goal
 
 pub returns-then-propagate_all : goal.returns-then-propagate_all

@@ -1,5 +1,5 @@
 -- `line_grid_within`: nothing is remembered yet, and so all that is remembered is right.
-use Rattle.std.proofs.Common.{arith}
+use Rattle.solve_core.proofs.Names.{arith}
 use Rattle.solve_core.proofs.line_grids.line_grid_within.Goals as goal
 
 pub closed_grid-requires-clause-memory : goal.closed_grid-requires-clause-memory

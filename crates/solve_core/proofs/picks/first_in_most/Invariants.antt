@@ -1,6 +1,5 @@
 -- What the loop of `first_in_most` keeps: each of the places is in fewer than `count` of the four sets.
-use Rattle.std.proofs.Common.{◌+◌, ◌-◌, ◌<◌, ◌≤◌, ℕ}
-use Rattle.place_sets.specs.Masks.{Has}
+use Rattle.solve_core.proofs.Names.{◌+◌, ◌-◌, ◌<◌, ◌≤◌, ℕ, Has}
 use Rattle.solve_core.proofs.picks.first_in_most.Given as goal
 
 abbrev pub ghost-in_so_many : goal.ghost-in_so_many

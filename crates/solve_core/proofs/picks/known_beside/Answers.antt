@@ -1,8 +1,5 @@
 -- `known_beside`: the two sets say of each cell of the row which neighbours in it are known or outside the grid.
-use Rattle.std.proofs.Common.{◌≡◌, ◌∙◌, ◌-◌, ℕ, length, subst}
-use Rattle.place_sets.specs.Masks.{Has, IsMaskOf, IsShifted}
-use Rattle.place_sets.proofs.Doubling.{one_within}
-use Rattle.solve_core.specs.steps.Counts.{two_of}
+use Rattle.solve_core.proofs.Names.{◌≡◌, ◌∙◌, ◌-◌, ℕ, length, subst, Has, IsMaskOf, IsShifted, one_within, two_of}
 use Rattle.solve_core.proofs.CountLaws.{counts_by, counts_own, left_is, right_is}
 use Rattle.solve_core.proofs.picks.known_beside.Goals as goal
 

@@ -1,6 +1,5 @@
 -- `most_in_row`: the four sets say of each cell of the row which neighbours are known or outside the grid.
-use Rattle.std.proofs.Common.{◌+◌}
-use Rattle.place_sets.specs.Masks.{has}
+use Rattle.solve_core.proofs.Names.{◌+◌, has}
 use Rattle.solve_core.proofs.CountLaws.{counts_by, counts_own, most_by}
 use Rattle.solve_core.proofs.picks.most_in_row.Goals as goal
 

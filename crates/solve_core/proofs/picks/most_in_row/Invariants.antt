@@ -1,5 +1,5 @@
 -- The counts that `most_in_row` tells `first_in_most`: in how many of two sets each place is.
-use Rattle.solve_core.specs.steps.Counts.{told_by}
+use Rattle.solve_core.proofs.Names.{told_by}
 use Rattle.solve_core.proofs.picks.most_in_row.Given as goal
 
 abbrev pub ghost-first_in_most : goal.ghost-first_in_most

@@ -1,5 +1,5 @@
 -- The counts that `near_known` tells `in_so_many`: in how many of two sets each place is.
-use Rattle.solve_core.specs.steps.Counts.{told_by}
+use Rattle.solve_core.proofs.Names.{told_by}
 use Rattle.solve_core.proofs.picks.near_known.Given as goal
 
 abbrev pub ghost-in_so_many : goal.ghost-in_so_many

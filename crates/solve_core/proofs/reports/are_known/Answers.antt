@@ -1,6 +1,5 @@
 -- `are_known`: all cells are known exactly if as many are known as there are.
-use Rattle.std.proofs.Common.{◌≡◌, ◌∙◌, length, nat_eq, ap}
-use Rattle.grid_core.specs.PartialGrid.{PartialGrid}
+use Rattle.solve_core.proofs.Names.{◌≡◌, ◌∙◌, length, nat_eq, ap, PartialGrid}
 use Rattle.solve_core.proofs.Counting.{all-known}
 use Rattle.solve_core.proofs.reports.are_known.Goals as goal
 

@@ -1,9 +1,5 @@
 -- `count_known`: between two unknown cells, and behind the last one, all are known.
-use Rattle.std.proofs.Common.{◌≡◌, ◌∙◌, ◌+◌, ◌-◌, arith, length, refl, ap, take, take_all, count_by}
-use Rattle.std.proofs.lemmas.List.Sums.{count_by_more_no}
-use Rattle.grid_core.specs.Cells.{is_known}
-use Rattle.grid_core.specs.declared.cells.Cell.TheVariants.{Unknown}
-use Rattle.grid_core.specs.PartialGrid.{PartialGrid}
+use Rattle.solve_core.proofs.Names.{◌≡◌, ◌∙◌, ◌+◌, ◌-◌, arith, length, refl, ap, take, take_all, count_by, count_by_more_no, is_known, Unknown, PartialGrid}
 use Rattle.solve_core.proofs.Counting.{count-run}
 use Rattle.solve_core.proofs.reports.count_known.Goals as goal
 

@@ -1,6 +1,5 @@
 -- What the loop of `count_known` keeps: of the cells passed, all but the unknown ones counted are known.
-use Rattle.std.proofs.Common.{◌≡◌, ◌+◌, ◌-◌, ◌≤◌, length, take, count_by}
-use Rattle.grid_core.specs.Cells.{is_known}
+use Rattle.solve_core.proofs.Names.{◌≡◌, ◌+◌, ◌-◌, ◌≤◌, length, take, count_by, is_known}
 use Rattle.solve_core.proofs.reports.count_known.Given as goal
 
 abbrev pub invariant-loop-place : goal.invariant-loop-place

@@ -1,7 +1,5 @@
 -- `findings`: the report is the defined one, whether lines end dead, trials end dead, or there is a search.
-use Rattle.std.proofs.Common.{true, ap, ◌∙◌}
-use Rattle.solve_core.specs.Report.{grade_by}
-use Rattle.solve_core.specs.Picks.{picked}
+use Rattle.solve_core.proofs.Names.{true, ap, ◌∙◌, grade_by, picked}
 use Rattle.solve_core.proofs.ReportLaws.{report-alive, report-dead, report-refuted}
 use Rattle.solve_core.proofs.reports.findings.Goals as goal
 

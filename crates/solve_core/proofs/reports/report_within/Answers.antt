@@ -1,9 +1,5 @@
 -- `report_within`: the defined report's verdict holds of all grids, and it spends no more than `guesses`.
-use Rattle.std.proofs.Common.{◌≤◌, sym, subst}
-use Rattle.solve_core.specs.declared.findings.Findings.{Findings}
-use Rattle.solve_core.specs.Picks.{picked}
-use Rattle.solve_core.specs.Report.{search_of}
-use Rattle.solve_core.specs.Verdicts.{Holds}
+use Rattle.solve_core.proofs.Names.{◌≤◌, sym, subst, Findings, picked, search_of, Holds}
 use Rattle.solve_core.proofs.PickLaws.{picked-IsPick}
 use Rattle.solve_core.proofs.AnswerLaws.{verdict-Holds, guesses-within}
 use Rattle.solve_core.proofs.reports.report_within.Goals as goal

@@ -1,6 +1,5 @@
 -- `try_unless_full`: trials leave a full board at rest as it is.
-use Rattle.std.proofs.Common.{◌∙◌, sym}
-use Rattle.grid_core.specs.Nonogram.{lines_of}
+use Rattle.solve_core.proofs.Names.{◌∙◌, sym, lines_of}
 use Rattle.solve_core.proofs.Counting.{full-tried}
 use Rattle.solve_core.proofs.GridSteps.{rest_closed}
 use Rattle.solve_core.proofs.TrialSteps.{tried_ends}

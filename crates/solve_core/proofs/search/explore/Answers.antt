@@ -1,10 +1,5 @@
 -- `explore`: if the guess ends dead, the branches' events are left; else its closed cells' come before them.
-use Rattle.std.proofs.Common.{◌≡◌, ◌++◌, length, set, ap, sym, ◌∙◌, arith}
-use Rattle.grid_core.specs.Nonogram.{lines_of}
-use Rattle.solve_core.specs.Search.{guess_at, events}
-use Rattle.solve_core.specs.steps.Endings.{ending}
-use Rattle.solve_core.specs.steps.Guesses.{owed_by}
-use Rattle.solve_core.specs.Picks.{picked}
+use Rattle.solve_core.proofs.Names.{◌≡◌, ◌++◌, length, set, ap, sym, ◌∙◌, arith, lines_of, guess_at, events, ending, owed_by, picked}
 use Rattle.solve_core.proofs.PickLaws.{picked-IsPick}
 use Rattle.solve_core.proofs.BranchLaws.{trailed-work, trailed-pending, trailed-older}
 use Rattle.solve_core.proofs.SearchSteps.{dead-events, alive-events, closure-closed, next-unknown, alive-fewer, known-before}

@@ -1,7 +1,5 @@
 -- `next_place`: if no cell before `start` is unknown, the first unknown one from there is the first of all.
-use Rattle.std.proofs.Common.{ap, refl, sym, ◌∙◌}
-use Rattle.grid_core.specs.PartialGrid.{PartialGrid}
-use Rattle.solve_core.specs.Picks.{picked}
+use Rattle.solve_core.proofs.Names.{ap, refl, sym, ◌∙◌, PartialGrid, picked}
 use Rattle.solve_core.proofs.SearchSteps.{first-from}
 use Rattle.solve_core.proofs.search.next_place.Goals as goal
 

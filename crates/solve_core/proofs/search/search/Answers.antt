@@ -1,10 +1,5 @@
 -- `search`: a guess and what is owed after it end as what was owed before, and fewer events are left.
-use Rattle.std.proofs.Common.{append-nil, ◌≡◌, ◌+◌, ◌-◌, ◌≤◌, ◌++◌, [], refl, ap, sym, ◌∙◌, arith, length, slice_set}
-use Rattle.grid_core.specs.Nonogram.{lines_of}
-use Rattle.solve_core.specs.Search.{events}
-use Rattle.solve_core.specs.steps.Endings.{ending}
-use Rattle.solve_core.specs.steps.Guesses.{owed, owed_by}
-use Rattle.solve_core.specs.Picks.{picked}
+use Rattle.solve_core.proofs.Names.{append-nil, ◌≡◌, ◌+◌, ◌-◌, ◌≤◌, ◌++◌, [], refl, ap, sym, ◌∙◌, arith, length, slice_set, lines_of, events, ending, owed, owed_by, picked}
 use Rattle.solve_core.proofs.PickLaws.{picked-IsPick}
 use Rattle.solve_core.proofs.EndingLaws.{ending-next}
 use Rattle.solve_core.proofs.BranchLaws.{start-work}

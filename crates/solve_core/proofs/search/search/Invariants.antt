@@ -1,14 +1,7 @@
 -- What the loop of `search` keeps: what was found and spent, with what is owed, ends as the whole search.
-use Rattle.std.proofs.Common.{◌≡◌, ◌-◌, ◌≤◌, [], length, vec_capacity}
-use Rattle.grid_core.specs.Nonogram.{lines_of}
-use Rattle.solve_core.specs.Search.{events}
+use Rattle.solve_core.proofs.Names.{◌≡◌, ◌-◌, ◌≤◌, [], length, vec_capacity, lines_of, events, ending, IsBoardOf, IsIdle, owed, IsUnderWay, picked}
 use Rattle.solve_core.specs.Sizes.{IsSizeOf}
-use Rattle.solve_core.specs.steps.Endings.{ending}
-use Rattle.solve_core.specs.steps.Boards.{IsBoardOf}
-use Rattle.solve_core.specs.steps.Closers.{IsIdle}
-use Rattle.solve_core.specs.steps.Guesses.{owed, IsUnderWay}
 use Rattle.solve_core.proofs.search.search.Given as goal
-use Rattle.solve_core.specs.Picks.{picked}
 
 -- the search so far and what is still to happen end as the whole search
 abbrev pub invariant-loop-pick : goal.invariant-loop-pick

@@ -1,6 +1,5 @@
 -- `push_changes`: each word's changes are put on the trail by its turn.
-use Rattle.std.proofs.Common.{◌∙◌, refl, ◌+◌, ◌<◌, arith}
-use Rattle.place_sets.proofs.Doubling.{width_most}
+use Rattle.solve_core.proofs.Names.{◌∙◌, refl, ◌+◌, ◌<◌, arith, width_most}
 use Rattle.solve_core.proofs.LearnedTrails.{leads-end, leads-init, leads-same}
 use Rattle.solve_core.proofs.trails.push_changes.Goals as goal
 

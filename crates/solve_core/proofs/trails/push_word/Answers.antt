@@ -1,7 +1,5 @@
 -- `push_word`: a change of the word is put on the trail once.
-use Rattle.std.proofs.Common.{◌∙◌, ◌+◌, ◌-◌, ◌*◌, ◌<◌, ◌++◌, ◌∷◌, inl, inr, [], length, ap, arith, length-append, subst, sym, refl}
-use Rattle.std.proofs.lemmas.Bool.{cases_lt, eqb-true}
-use Rattle.place_sets.specs.Masks.{Has}
+use Rattle.solve_core.proofs.Names.{◌∙◌, ◌+◌, ◌-◌, ◌*◌, ◌<◌, ◌++◌, ◌∷◌, inl, inr, [], length, ap, arith, length-append, subst, sym, refl, cases_lt, eqb-true, Has}
 use Rattle.solve_core.proofs.Changes.{none_in}
 use Rattle.solve_core.proofs.WordLemmas.{in_word, of_word, stays}
 use Rattle.solve_core.proofs.LearnedTrails.{leads-same, leads-step}

@@ -1,10 +1,6 @@
 -- What the loop of `push_word` keeps: the trail leads back from the grid that has the changes of the word but those
 -- left.
-use Rattle.std.proofs.Common.{◌≡◌, ℕ, ◌+◌, ◌-◌, ◌<◌, ◌≤◌, List, length, vec_capacity}
-use Rattle.grid_core.specs.declared.cells.Cell.{Cell}
-use Rattle.place_sets.specs.Masks.{Has}
-use Rattle.solve_core.specs.steps.Learning.{IsLearning, LeadsBackBut}
-use Rattle.solve_core.specs.steps.Trails.{TrailedGrid}
+use Rattle.solve_core.proofs.Names.{◌≡◌, ℕ, ◌+◌, ◌-◌, ◌<◌, ◌≤◌, List, length, vec_capacity, Cell, Has, IsLearning, LeadsBackBut, TrailedGrid}
 use Rattle.solve_core.proofs.trails.push_word.Given as goal
 
 abbrev pub invariant-loop-k : goal.invariant-loop-k

@@ -1,8 +1,5 @@
 -- `try_colour`: a copy that closes alive is line-closed and knows all that the board does: it is a witness.
-use Rattle.std.proofs.Common.{List, set, sym, subst, arith}
-use Rattle.grid_core.specs.declared.cells.Cell.{Cell}
-use Rattle.grid_core.specs.Cells.{Extends}
-use Rattle.grid_core.specs.Nonogram.{lines_of}
+use Rattle.solve_core.proofs.Names.{List, set, sym, subst, arith, Cell, Extends, lines_of}
 use Rattle.solve_core.proofs.ClosureLaws.{closure-IsLeastClosed}
 use Rattle.solve_core.proofs.TrialSteps.{settled-extends}
 use Rattle.solve_core.proofs.WitnessLaws.{places_for}

@@ -1,10 +1,6 @@
 -- `places_for_clues`: with one more clue the places are no fewer, and they have room for its numbers too.
-use Rattle.std.proofs.Common.{◌≡◌, ◌∙◌, ◌≤◌, [], get_or, sym, take_all, subst, arith}
-use Rattle.std.specs.List.{All}
-use Rattle.std.proofs.lemmas.List.{get_or_default}
-use Rattle.std.proofs.lemmas.List.Elements.{All-more}
+use Rattle.solve_core.proofs.Names.{◌≡◌, ◌∙◌, ◌≤◌, [], get_or, sym, take_all, subst, arith, All, get_or_default, All-more, LONGEST_SIDE}
 use Rattle.solve_core.proofs.Fitting.{clue_short}
-use Rattle.grid_core.specs.declared.limits.TheConstants.{LONGEST_SIDE}
 use Rattle.solve_core.proofs.widths.places_for_clues.Goals as goal
 
 pub returns-clause-clues : goal.returns-clause-clues

@@ -1,8 +1,6 @@
 -- What the loop of `places_for_clues` keeps: the places have room for the numbers of the clues passed, and no
 -- fewer have room for those of all.
-use Rattle.std.proofs.Common.{◌≤◌, ℕ, take}
-use Rattle.std.specs.List.{All}
-use Rattle.grid_core.specs.declared.limits.TheConstants.{LONGEST_SIDE}
+use Rattle.solve_core.proofs.Names.{◌≤◌, ℕ, take, All, LONGEST_SIDE}
 use Rattle.solve_core.proofs.widths.places_for_clues.Given as goal
 
 abbrev pub invariant-loop-clue : goal.invariant-loop-clue

@@ -1,5 +1,5 @@
 -- What the loop of `fill_with_none` keeps: a zero for each turn.
-use Rattle.std.proofs.Common.{◌≡◌, replicate, vec_capacity}
+use Rattle.solve_core.proofs.Names.{◌≡◌, replicate, vec_capacity}
 use Rattle.solve_core.proofs.witnesses.fill_with_none.Given as goal
 
 abbrev pub invariant-loop : goal.invariant-loop

@@ -1,7 +1,5 @@
 -- What the loop of `keep_each` keeps: the witnesses passed are kept or dropped, the others as they were.
-use Rattle.std.proofs.Common.{◌≡◌, ℕ, ◌<◌, ◌≤◌}
-use Rattle.solve_core.specs.steps.WitnessLists.{witness_at}
-use Rattle.solve_core.specs.steps.Witnesses.{IsKept}
+use Rattle.solve_core.proofs.Names.{◌≡◌, ℕ, ◌<◌, ◌≤◌, witness_at, IsKept}
 use Rattle.solve_core.proofs.witnesses.keep_each.Given as goal
 
 abbrev pub invariant-loop-i : goal.invariant-loop-i

@@ -1,9 +1,5 @@
 -- `without_first`: one less than a word has the places behind its first one, and not that one.
-use Rattle.std.proofs.Common.{◌≡◌, ◌≢◌, ◌∙◌, ℕ, zero, suc, ◌-◌, ◌/◌, ◌<◌, inl, inr, refl, sym, ap, arith, true≢false}
-use Rattle.std.specs.Int.{bit_at}
-use Rattle.std.proofs.lemmas.Bool.{cases_eq}
-use Rattle.std.proofs.lemmas.Nat.Bits.{bit_at_and, bit_at-lt, bit_at_lowest, bit_at-suc}
-use Rattle.place_sets.specs.Masks.{Has}
+use Rattle.solve_core.proofs.Names.{◌≡◌, ◌≢◌, ◌∙◌, ℕ, zero, suc, ◌-◌, ◌/◌, ◌<◌, inl, inr, refl, sym, ap, arith, true≢false, bit_at, cases_eq, bit_at_and, bit_at-lt, bit_at_lowest, bit_at-suc, Has}
 use Rattle.solve_core.proofs.words.without_first.Goals as goal
 
 gone : (k n : ℕ) → Has n k → ((i : ℕ) → i < k → Has n i → ⊥) → bit_at (n - 1) k ≡ 0

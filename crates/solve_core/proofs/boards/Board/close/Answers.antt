@@ -1,6 +1,5 @@
 -- `Board::close`: the closed board has the puzzle's size, as before, and an empty trail.
-use Rattle.std.proofs.Common.{◌∙◌, ap, length, sym}
-use Rattle.solve_core.specs.steps.Trails.{TrailedGrid}
+use Rattle.solve_core.proofs.Names.{◌∙◌, ap, length, sym, TrailedGrid}
 use Rattle.solve_core.proofs.BoardSteps.{board-fresh, trailed}
 use Rattle.solve_core.proofs.boards.Board.close.Goals as goal
 

@@ -1,7 +1,5 @@
 -- `Board::go_back`: with one more cell undone, the cells and the trail as they were at `mark` are the same.
-use Rattle.std.proofs.Common.{◌-◌, ◌≤◌, ◌∙◌, length, take, ap, arith}
-use Rattle.solve_core.specs.steps.Trails.{TrailedGrid}
-use Rattle.solve_core.specs.steps.Branches.{cells_before}
+use Rattle.solve_core.proofs.Names.{◌-◌, ◌≤◌, ◌∙◌, length, take, ap, arith, TrailedGrid, cells_before}
 use Rattle.solve_core.proofs.BranchLaws.{before-back, take_least}
 use Rattle.solve_core.proofs.boards.Board.go_back.Goals as goal
 

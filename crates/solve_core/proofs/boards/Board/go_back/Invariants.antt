@@ -1,6 +1,5 @@
 -- What the loop of `Board::go_back` keeps: the cells and the trail as they were at `mark`; the trail shrinks.
-use Rattle.std.proofs.Common.{◌≡◌, length, take}
-use Rattle.solve_core.specs.steps.Branches.{cells_before}
+use Rattle.solve_core.proofs.Names.{◌≡◌, length, take, cells_before}
 use Rattle.solve_core.proofs.boards.Board.go_back.Given as goal
 
 abbrev pub invariant-loop-self : goal.invariant-loop-self

@@ -1,7 +1,5 @@
 -- `Board::read`: with the grid's cells and nothing on the trail, the board is a lawful one.
-use Rattle.std.proofs.Common.{◌≡◌, ◌∙◌, ◌*◌, length, ap, sym}
-use Rattle.grid_core.specs.PartialGrid.{PartialGrid}
-use Rattle.solve_core.specs.steps.Trails.{TrailedGrid}
+use Rattle.solve_core.proofs.Names.{◌≡◌, ◌∙◌, ◌*◌, length, ap, sym, PartialGrid, TrailedGrid}
 use Rattle.solve_core.proofs.BoardSteps.{board-fresh, trailed}
 use Rattle.solve_core.proofs.boards.Board.read.Goals as goal
 

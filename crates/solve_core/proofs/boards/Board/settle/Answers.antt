@@ -1,10 +1,5 @@
 -- `Board::settle`: since the cell was unknown, the trail has room for its place, and then leads back.
-use Rattle.std.proofs.Common.{◌≡◌, ◌∙◌, ◌+◌, ◌*◌, ◌++◌, ◌∷◌, ◌<◌, [], ℕ, length, get_or, set, subst, ap, arith}
-use Rattle.grid_core.specs.declared.cells.Cell.TheVariants.{Unknown}
-use Rattle.grid_core.specs.declared.sides.Side.TheVariants.{Rows}
-use Rattle.grid_core.specs.PartialGrid.{PartialGrid}
-use Rattle.solve_core.specs.steps.Boards.{IsBoard}
-use Rattle.solve_core.specs.steps.Trails.{TrailedGrid}
+use Rattle.solve_core.proofs.Names.{◌≡◌, ◌∙◌, ◌+◌, ◌*◌, ◌++◌, ◌∷◌, ◌<◌, [], ℕ, length, get_or, set, subst, ap, arith, Unknown, Rows, PartialGrid, IsBoard, TrailedGrid}
 use Rattle.solve_core.proofs.BoardSteps.{board-settled, place-within, trailed}
 use Rattle.solve_core.proofs.TrailSteps.{trailed-one}
 use Rattle.solve_core.proofs.boards.Board.settle.Goals as goal

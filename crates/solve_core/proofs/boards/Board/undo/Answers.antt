@@ -1,6 +1,5 @@
 -- `Board::undo`: without the trail's last place, and with the cell there unknown, the board is a lawful one.
-use Rattle.std.proofs.Common.{◌≡◌, ◌∙◌, ◌+◌, ◌*◌, ◌/◌, ◌%◌, set}
-use Rattle.grid_core.specs.declared.cells.Cell.TheVariants.{Unknown}
+use Rattle.solve_core.proofs.Names.{◌≡◌, ◌∙◌, ◌+◌, ◌*◌, ◌/◌, ◌%◌, set, Unknown}
 use Rattle.solve_core.proofs.BoardSteps.{board-undone, trailed}
 use Rattle.solve_core.proofs.GridSteps.{place_again}
 use Rattle.solve_core.proofs.boards.Board.undo.Goals as goal

@@ -1,6 +1,5 @@
 -- `Board::unknown`: with all cells unknown and room on the trail for each, the board is a lawful one.
-use Rattle.std.proofs.Common.{arith, ap}
-use Rattle.solve_core.specs.steps.Boards.{BoardSpace}
+use Rattle.solve_core.proofs.Names.{arith, ap, BoardSpace}
 use Rattle.solve_core.proofs.BoardSteps.{board-unknown}
 use Rattle.solve_core.proofs.boards.Board.unknown.Goals as goal
 

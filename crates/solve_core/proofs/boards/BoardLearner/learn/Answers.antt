@@ -1,12 +1,7 @@
 -- `learn` of `Board`: the trail leads back from the cells that the line learned, and its room is left.
-use Rattle.std.proofs.Common.{◌∙◌, ◌*◌, arith, refl, subst, sym}
-use Rattle.grid_core.specs.declared.sides.Side.TheVariants.{Rows, Columns}
-use Rattle.grid_core.specs.Nonogram.{places_from, places_on}
-use Rattle.solve_core.specs.Closure.{with_cells}
-use Rattle.solve_core.specs.steps.Trails.{IsTrailed, TrailedGrid}
+use Rattle.solve_core.proofs.Names.{◌∙◌, ◌*◌, arith, refl, subst, sym, Rows, Columns, places_from, places_on, with_cells, IsTrailed, TrailedGrid, length-Extends}
 use Rattle.solve_core.proofs.BoardSteps.{board-learned, trail-learned, trailed}
 use Rattle.solve_core.proofs.LearnedLines.{column_learning, learns_in, place_fits, row_learning}
-use Rattle.solve_core.proofs.Order.{length-Extends}
 use Rattle.solve_core.proofs.boards.BoardLearner.learn.Given.{Over}
 use Rattle.solve_core.proofs.boards.BoardLearner.learn.Goals as goal
 

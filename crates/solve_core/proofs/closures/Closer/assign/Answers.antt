@@ -1,10 +1,5 @@
 -- `Closer::assign`: only the row and the column of `place` can have more to give, and both get a mark.
-use Rattle.std.proofs.Common.{refl, ◌≡◌, ◌∙◌, ◌+◌, ◌*◌, ◌/◌, ◌%◌, ℕ, true, get_or, set, ap, sym, subst, List}
-use Rattle.grid_core.specs.declared.cells.Cell.{Cell}
-use Rattle.grid_core.specs.declared.cells.Cell.TheVariants.{Unknown}
-use Rattle.place_sets.specs.Masks.{Has, IsMarked, IsMaskOf}
-use Rattle.solve_core.specs.steps.Closers.{Closing, IsMemoryOf}
-use Rattle.solve_core.specs.steps.Marks.{HasMarks}
+use Rattle.solve_core.proofs.Names.{refl, ◌≡◌, ◌∙◌, ◌+◌, ◌*◌, ◌/◌, ◌%◌, ℕ, true, get_or, set, ap, sym, subst, List, Cell, Unknown, Has, IsMarked, IsMaskOf, Closing, IsMemoryOf, HasMarks}
 use Rattle.solve_core.proofs.GridSteps.{place_marks, place_split}
 use Rattle.solve_core.proofs.TrailSteps.{trailed-trans}
 use Rattle.solve_core.proofs.closures.Closer.assign.Goals as goal

@@ -1,9 +1,5 @@
 -- `Closer::deduce_line`: deducing a line is a step towards the closure, and the line needs no mark then.
-use Rattle.std.proofs.Common.{◌∙◌, false, ap, subst}
-use Rattle.grid_core.specs.Nonogram.{crossing, line_on, lines_of}
-use Rattle.place_sets.specs.Masks.{Has, IsMarked, IsMaskOf}
-use Rattle.solve_core.specs.steps.LineMarks.{marks_on}
-use Rattle.solve_core.specs.steps.Closers.{Closing}
+use Rattle.solve_core.proofs.Names.{◌∙◌, false, ap, subst, crossing, line_on, lines_of, Has, IsMarked, IsMaskOf, marks_on, Closing}
 use Rattle.solve_core.proofs.SideLines.{line_is_one}
 use Rattle.solve_core.proofs.GridSteps.{learned-progress, marks-after}
 use Rattle.solve_core.proofs.closures.Closer.deduce_line.Goals as goal

@@ -1,11 +1,5 @@
 -- `Closer::deduce_marked`: if a pass over the columns learns nothing, no mark is left: the board is closed.
-use Rattle.std.proofs.Common.{◌∙◌, ℕ, sym, refl, subst, true≢false}
-use Rattle.grid_core.specs.declared.sides.Side.TheVariants.{Columns}
-use Rattle.place_sets.specs.Masks.{Has}
-use Rattle.solve_core.specs.steps.LineMarks.{AreUnmarked, IsUnmarkedOn}
-use Rattle.grid_core.specs.Nonogram.{lines_of}
-use Rattle.solve_core.specs.Closure.{closure}
-use Rattle.solve_core.specs.steps.Trails.{IsTrailed, TrailedGrid}
+use Rattle.solve_core.proofs.Names.{◌∙◌, ℕ, sym, refl, subst, true≢false, Columns, Has, AreUnmarked, IsUnmarkedOn, lines_of, closure, IsTrailed, TrailedGrid}
 use Rattle.solve_core.proofs.TrailSteps.{trailed-trans}
 use Rattle.solve_core.proofs.GridSteps.{closed_after, progress-keeps}
 use Rattle.solve_core.proofs.SideLines.{by_side}

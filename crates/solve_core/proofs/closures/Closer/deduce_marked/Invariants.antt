@@ -1,10 +1,5 @@
 -- What the loop of `Closer::deduce_marked` keeps: the cells' closure; each turn that goes on settles some.
-use Rattle.std.proofs.Common.{◌≡◌, true}
-use Rattle.grid_core.specs.Nonogram.{lines_of}
-use Rattle.solve_core.specs.Closure.{closure}
-use Rattle.solve_core.specs.steps.Marks.{HasWork}
-use Rattle.solve_core.specs.steps.Trails.{IsTrailed, unknown_count}
-use Rattle.solve_core.specs.steps.Boards.{IsBoardOf}
+use Rattle.solve_core.proofs.Names.{◌≡◌, true, lines_of, closure, HasWork, IsTrailed, unknown_count, IsBoardOf}
 use Rattle.solve_core.proofs.closures.Closer.deduce_marked.Given as goal
 
 abbrev pub invariant-loop-self : goal.invariant-loop-self

@@ -1,8 +1,5 @@
 -- `Closer::deduce_side`: the lines passed have no mark, and deducing another of the side gives them none.
-use Rattle.std.proofs.Common.{rules, ◌≡◌, true, ◌∙◌, ◌+◌, ◌<◌, ℕ, refl, true≢false, sym, subst, inl, inr, arith}
-use Rattle.std.proofs.lemmas.Bool.{cases_lt}
-use Rattle.solve_core.specs.steps.Closers.{Closing}
-use Rattle.solve_core.specs.steps.LineMarks.{IsMarkedOn}
+use Rattle.solve_core.proofs.Names.{rules, ◌≡◌, true, ◌∙◌, ◌+◌, ◌<◌, ℕ, refl, true≢false, sym, subst, inl, inr, arith, cases_lt, Closing, IsMarkedOn}
 use Rattle.solve_core.proofs.TrailSteps.{trailed-trans}
 use Rattle.solve_core.proofs.closures.Closer.deduce_side.Goals as goal
 use Rattle.solve_core.proofs.closures.Closer.deduce_side.Goals.{in-Same, in-Changed}

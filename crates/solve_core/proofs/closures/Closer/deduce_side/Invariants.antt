@@ -1,12 +1,5 @@
 -- What the loop of `Closer::deduce_side` keeps: what `progress` says, and that no line passed has a mark.
-use Rattle.std.proofs.Common.{◌≡◌, ◌≢◌, ◌-◌, ◌<◌, ◌≤◌, ℕ, true}
-use Rattle.grid_core.specs.Nonogram.{crossing, lines_of}
-use Rattle.solve_core.specs.declared.closures.Progress.TheVariants.{Dead, Same}
-use Rattle.solve_core.specs.Closure.{closure}
-use Rattle.solve_core.specs.steps.LineMarks.{marks_on, IsMarkedOn}
-use Rattle.solve_core.specs.steps.Marks.{HasWork, Progresses}
-use Rattle.solve_core.specs.steps.Trails.{IsTrailed}
-use Rattle.solve_core.specs.steps.Boards.{IsBoardOf}
+use Rattle.solve_core.proofs.Names.{◌≡◌, ◌≢◌, ◌-◌, ◌<◌, ◌≤◌, ℕ, true, crossing, lines_of, Dead, Same, closure, marks_on, IsMarkedOn, HasWork, Progresses, IsTrailed, IsBoardOf}
 use Rattle.solve_core.proofs.closures.Closer.deduce_side.Given as goal
 
 abbrev pub invariant-loop-i : goal.invariant-loop-i

@@ -1,11 +1,5 @@
 -- `Deductions::deduce`: what is remembered of a line is what is certain of it, and what is kept then is too.
-use Rattle.std.proofs.Common.{◌≡◌, ◌∙◌, ◌<◌, ℕ, List, length, get_or, inl, inr, All, ap, sym, subst, arith}
-use Rattle.std.proofs.lemmas.List.{get_or_default}
-use Rattle.std.proofs.lemmas.List.Elements.{All-contains}
-use Rattle.grid_core.specs.declared.cells.Cell.{Cell}
-use Rattle.grid_core.specs.declared.sides.Side.{Side}
-use Rattle.grid_core.specs.Nonogram.{Nonogram, line_on}
-use Rattle.line_core.specs.Deduction.{deduced}
+use Rattle.solve_core.proofs.Names.{◌≡◌, ◌∙◌, ◌<◌, ℕ, List, length, get_or, inl, inr, ap, sym, subst, arith, get_or_default, All-contains, Cell, Side, Nonogram, line_on, deduced, All}
 use Rattle.solve_core.specs.steps.Deductions.{IsDeductionOf, KnownLine}
 use Rattle.solve_core.proofs.Fitting.{fits_line}
 use Rattle.solve_core.proofs.deductions.Deductions.deduce.Goals as goal

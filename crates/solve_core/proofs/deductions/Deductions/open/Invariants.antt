@@ -1,5 +1,5 @@
 -- What the loop of `Deductions::open` keeps: all but the slots; those that are missing get fewer.
-use Rattle.std.proofs.Common.{◌≡◌, ◌*◌, ◌-◌, vec_len, vec_capacity}
+use Rattle.solve_core.proofs.Names.{◌≡◌, ◌*◌, ◌-◌, vec_len, vec_capacity}
 use Rattle.solve_core.proofs.deductions.Deductions.open.Given as goal
 
 abbrev pub invariant-loop-self : goal.invariant-loop-self

@@ -1,8 +1,5 @@
 -- `GridLines::at`: the cell at `place` is that of row `place / width` in column `place % width`.
-use Rattle.std.proofs.Common.{◌∙◌, ◌/◌, ◌%◌, length, get_or, ap, sym, arith}
-use Rattle.grid_core.specs.declared.cells.Cell.TheVariants.{Unknown}
-use Rattle.grid_core.specs.PartialGrid.{PartialGrid}
-use Rattle.grid_core.specs.Rows.{cells_of_rows}
+use Rattle.solve_core.proofs.Names.{◌∙◌, ◌/◌, ◌%◌, length, get_or, ap, sym, arith, Unknown, PartialGrid, cells_of_rows}
 use Rattle.solve_core.proofs.GridLineSteps.{cell-read, line_read, lines-long, place_in}
 use Rattle.solve_core.proofs.grid_lines.GridLines.at.Goals as goal
 

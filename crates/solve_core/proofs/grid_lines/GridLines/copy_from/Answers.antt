@@ -1,6 +1,5 @@
 -- `GridLines::copy_from`: the lines of two grids of one size are as long.
-use Rattle.std.proofs.Common.{◌∙◌}
-use Rattle.std.proofs.lemmas.List.{with_items_is}
+use Rattle.solve_core.proofs.Names.{◌∙◌, with_items_is}
 use Rattle.solve_core.proofs.GridLineSteps.{lines-alike}
 use Rattle.solve_core.proofs.grid_lines.GridLines.copy_from.Goals as goal
 

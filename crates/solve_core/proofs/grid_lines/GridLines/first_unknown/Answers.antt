@@ -1,8 +1,5 @@
 -- `GridLines::first_unknown`: all cells passed are known, so a row's first unknown cell is the grid's.
-use Rattle.std.proofs.Common.{◌≡◌, ◌∙◌, ◌+◌, ◌*◌, ◌<◌, ◌≤◌, inl, inr, length, ap, sym, arith}
-use Rattle.std.proofs.lemmas.Bool.{cases_lt}
-use Rattle.grid_core.specs.PartialGrid.{PartialGrid}
-use Rattle.grid_core.specs.Rows.{cells_of_rows}
+use Rattle.solve_core.proofs.Names.{◌≡◌, ◌∙◌, ◌+◌, ◌*◌, ◌<◌, ◌≤◌, inl, inr, length, ap, sym, arith, cases_lt, PartialGrid, cells_of_rows}
 use Rattle.solve_core.proofs.GridLineSteps.{cell_in, cell-read, lines-long, row-known, row-unknown}
 use Rattle.solve_core.proofs.grid_lines.GridLines.first_unknown.Goals as goal
 

@@ -1,7 +1,5 @@
 -- What the loop of `GridLines::first_unknown` keeps: the cells passed, from `from` on, are known, if `least` is 0.
-use Rattle.std.proofs.Common.{◌≡◌, ◌+◌, ◌*◌, ◌<◌, ◌≤◌, ℕ, false, get_or}
-use Rattle.grid_core.specs.Cells.{is_unknown}
-use Rattle.grid_core.specs.declared.cells.Cell.TheVariants.{Unknown}
+use Rattle.solve_core.proofs.Names.{◌≡◌, ◌+◌, ◌*◌, ◌<◌, ◌≤◌, ℕ, false, get_or, is_unknown, Unknown}
 use Rattle.solve_core.proofs.grid_lines.GridLines.first_unknown.Given as goal
 
 abbrev pub invariant-loop-y : goal.invariant-loop-y

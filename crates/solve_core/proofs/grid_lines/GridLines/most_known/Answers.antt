@@ -1,10 +1,5 @@
 -- `GridLines::most_known`: with one more row, the best place is that of the rows above and of this one.
-use Rattle.std.proofs.Common.{◌≡◌, ◌∙◌, ◌+◌, ◌-◌, ◌*◌, ◌<◌, [], Some, length, get_or, nat_eq, ap, sym, arith}
-use Rattle.grid_core.specs.declared.cells.Cell.TheVariants.{Unknown}
-use Rattle.grid_core.specs.PartialGrid.{PartialGrid}
-use Rattle.place_sets.specs.Masks.{has}
-use Rattle.solve_core.specs.Picks.{is_sure}
-use Rattle.solve_core.specs.Picks.{sure_neighbours}
+use Rattle.solve_core.proofs.Names.{◌≡◌, ◌∙◌, ◌+◌, ◌-◌, ◌*◌, ◌<◌, [], Some, length, get_or, nat_eq, ap, sym, arith, Unknown, PartialGrid, has, is_sure, sure_neighbours}
 use Rattle.solve_core.proofs.GridLineSteps.{line_read, lines-long}
 use Rattle.solve_core.proofs.PickRows.{best_after, least_after, least_then, row-step}
 use Rattle.solve_core.proofs.grid_lines.GridLines.most_known.Goals as goal

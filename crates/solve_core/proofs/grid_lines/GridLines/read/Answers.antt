@@ -1,7 +1,5 @@
 -- `GridLines::read`: the lines that are read are those of the grid, so the cells of the rows are its cells.
-use Rattle.std.proofs.Common.{◌≡◌, ◌∙◌, length, ap, sym, refl}
-use Rattle.std.proofs.lemmas.List.{with_items_is}
-use Rattle.grid_core.specs.PartialGrid.{PartialGrid}
+use Rattle.solve_core.proofs.Names.{◌≡◌, ◌∙◌, length, ap, sym, refl, with_items_is, PartialGrid}
 use Rattle.solve_core.proofs.GridLineSteps.{lines-cells}
 use Rattle.solve_core.proofs.grid_lines.GridLines.read.Goals as goal
 

@@ -1,6 +1,5 @@
 -- `GridLines::unknown`: the rows and the columns of unknown cells are the lines of the unknown grid.
-use Rattle.std.proofs.Common.{refl}
-use Rattle.std.proofs.lemmas.List.{length-replicate}
+use Rattle.solve_core.proofs.Names.{refl, length-replicate}
 use Rattle.solve_core.proofs.GridLineSteps.{lines-unknown}
 use Rattle.solve_core.proofs.grid_lines.GridLines.unknown.Goals as goal
 

@@ -1,7 +1,5 @@
 -- `GridLines::write`: each row is as long as the grid is wide.
-use Rattle.std.proofs.Common.{◌<◌, ◌∙◌, [], List, ap, arith, get_or, length, sym}
-use Rattle.grid_core.specs.declared.cells.Cell.{Cell}
-use Rattle.grid_core.specs.PartialGrid.{PartialGrid}
+use Rattle.solve_core.proofs.Names.{◌<◌, ◌∙◌, [], List, ap, arith, get_or, length, sym, Cell, PartialGrid}
 use Rattle.solve_core.proofs.GridLineSteps.{lines-long}
 use Rattle.solve_core.proofs.grid_lines.GridLines.write.Goals as goal
 

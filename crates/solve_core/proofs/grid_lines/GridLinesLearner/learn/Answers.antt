@@ -1,8 +1,5 @@
 -- `learn` of `GridLines`: written whole, and into each line that crosses it at a change, the line is in the lines of one grid.
-use Rattle.std.proofs.Common.{◌∙◌, ap, refl}
-use Rattle.std.proofs.lemmas.List.{with_items_is}
-use Rattle.grid_core.specs.declared.sides.Side.TheVariants.{Rows, Columns}
-use Rattle.grid_core.specs.PartialGrid.{PartialGrid}
+use Rattle.solve_core.proofs.Names.{◌∙◌, ap, refl, with_items_is, Rows, Columns, PartialGrid}
 use Rattle.solve_core.proofs.GridLineSteps.{line_read}
 use Rattle.solve_core.proofs.LearnedLines.{can_learn, learned_columns, learned_rows, learns_of, long_line}
 use Rattle.solve_core.proofs.grid_lines.GridLinesLearner.learn.Goals as goal

@@ -1,5 +1,5 @@
 -- `Marks::mark_all`: the first places of each side are marked.
-use Rattle.std.proofs.Common.{rules}
+use Rattle.solve_core.proofs.Names.{rules}
 use Rattle.solve_core.proofs.marks.Marks.mark_all.Goals as goal
 
 pub returns : goal.returns

@@ -1,5 +1,5 @@
 -- `Reporter::report`: it is the report in sets of the width.
-use Rattle.std.proofs.Common.{rules}
+use Rattle.solve_core.proofs.Names.{rules}
 use Rattle.solve_core.proofs.reports.Reporter.report.Goals as goal
 
 pub returns-in-Narrow-clause-findings : goal.returns-in-Narrow-clause-findings

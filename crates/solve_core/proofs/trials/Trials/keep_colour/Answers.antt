@@ -1,6 +1,5 @@
 -- `Trials::keep_colour`: `colour` takes the board no further than trials do, so closing it is progress.
-use Rattle.std.proofs.Common.{set, sym}
-use Rattle.grid_core.specs.Nonogram.{lines_of}
+use Rattle.solve_core.proofs.Names.{set, sym, lines_of}
 use Rattle.solve_core.proofs.TrialSteps.{settle-changed, settle-dead}
 use Rattle.solve_core.proofs.trials.Trials.keep_colour.Goals as goal
 

@@ -1,7 +1,5 @@
 -- `Trials::try_at_rest`: without witnesses each that counts is alive.
-use Rattle.std.proofs.Common.{◌∙◌, ap, sym, subst}
-use Rattle.solve_core.specs.steps.Marks.{IsAtRest}
-use Rattle.solve_core.specs.steps.Tried.{Tried}
+use Rattle.solve_core.proofs.Names.{◌∙◌, ap, sym, subst, IsAtRest, Tried}
 use Rattle.solve_core.proofs.trials.Trials.try_at_rest.Goals as goal
 
 pub try_until_same-requires-clause-ready : goal.try_until_same-requires-clause-ready

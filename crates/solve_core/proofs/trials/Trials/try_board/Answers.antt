@@ -1,6 +1,5 @@
 -- `Trials::try_board`: trials of the board and of its closure end alike, and dead if the closure is dead.
-use Rattle.std.proofs.Common.{◌∙◌, sym}
-use Rattle.grid_core.specs.Nonogram.{lines_of}
+use Rattle.solve_core.proofs.Names.{◌∙◌, sym, lines_of}
 use Rattle.solve_core.proofs.TrialSteps.{closure_dead, closure_trials}
 use Rattle.solve_core.proofs.trials.Trials.try_board.Goals as goal
 

@@ -1,12 +1,5 @@
 -- `Trials::try_each`: cells before the next unknown one are tried or known, so if there is none all are tried.
-use Rattle.std.proofs.Common.{◌≡◌, ◌∙◌, ◌+◌, ◌≤◌, List, inl, inr, sym, refl, ap, subst, arith, below_more, length, get_or}
-use Rattle.std.proofs.lemmas.Bool.{cases_lt}
-use Rattle.grid_core.specs.Cells.{is_unknown}
-use Rattle.grid_core.specs.declared.cells.Cell.{Cell}
-use Rattle.grid_core.specs.declared.cells.Cell.TheVariants.{Unknown}
-use Rattle.grid_core.specs.Nonogram.{lines_of}
-use Rattle.grid_core.specs.PartialGrid.{PartialGrid}
-use Rattle.solve_core.specs.Trials.{trials, IsTried}
+use Rattle.solve_core.proofs.Names.{◌≡◌, ◌∙◌, ◌+◌, ◌≤◌, List, inl, inr, sym, refl, ap, subst, arith, below_more, length, get_or, cases_lt, is_unknown, Cell, Unknown, lines_of, PartialGrid, trials, IsTried}
 use Rattle.solve_core.proofs.Counting.{known-tried}
 use Rattle.solve_core.proofs.GridSteps.{progress-same, progress-changed}
 use Rattle.solve_core.proofs.trials.Trials.try_each.Goals as goal

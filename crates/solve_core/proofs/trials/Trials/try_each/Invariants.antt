@@ -1,12 +1,6 @@
 -- What the loop of `Trials::try_each` keeps: what `progress` says; if it is `Same`, those passed are tried, unless
 -- only those near known ones are.
-use Rattle.std.proofs.Common.{◌≡◌, ◌≢◌, ◌-◌, ◌<◌, ◌≤◌, ℕ, length}
-use Rattle.grid_core.specs.Nonogram.{lines_of}
-use Rattle.solve_core.specs.declared.closures.Progress.TheVariants.{Dead, Same}
-use Rattle.solve_core.specs.Trials.{trials, IsTried}
-use Rattle.solve_core.specs.steps.Boards.{IsBoardOf}
-use Rattle.solve_core.specs.steps.Marks.{Progresses}
-use Rattle.solve_core.specs.steps.Tried.{HasRoomFor, IsReady}
+use Rattle.solve_core.proofs.Names.{◌≡◌, ◌≢◌, ◌-◌, ◌<◌, ◌≤◌, ℕ, length, lines_of, Dead, Same, trials, IsTried, IsBoardOf, Progresses, HasRoomFor, IsReady}
 use Rattle.solve_core.proofs.trials.Trials.try_each.Given as goal
 
 abbrev pub invariant-loop-place : goal.invariant-loop-place

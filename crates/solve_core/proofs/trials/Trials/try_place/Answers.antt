@@ -1,8 +1,5 @@
 -- `Trials::try_place`: a refuted colour leaves the other, whose closed copy, if there is one, is the step.
-use Rattle.std.proofs.Common.{◌∙◌, ap, refl, sym, true≢false}
-use Rattle.grid_core.specs.Nonogram.{lines_of}
-use Rattle.grid_core.specs.declared.cells.Cell.TheVariants.{Filled, Blank}
-use Rattle.solve_core.specs.steps.Trails.{TrailedGrid}
+use Rattle.solve_core.proofs.Names.{◌∙◌, ap, refl, sym, true≢false, lines_of, Filled, Blank, TrailedGrid}
 use Rattle.solve_core.proofs.TrialSteps.{blank_below, filled_below, trial-refuted, trial-closed, trial-open, settle-changed}
 use Rattle.solve_core.proofs.trials.Trials.try_place.Goals as goal
 

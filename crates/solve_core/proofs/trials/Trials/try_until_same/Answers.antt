@@ -1,7 +1,5 @@
 -- `Trials::try_until_same`: a board at rest of which no colour is refuted is what trials leave of it.
-use Rattle.std.proofs.Common.{◌∙◌, sym, ap, refl}
-use Rattle.grid_core.specs.Nonogram.{lines_of}
-use Rattle.solve_core.specs.Trials.{trials}
+use Rattle.solve_core.proofs.Names.{◌∙◌, sym, ap, refl, lines_of, trials}
 use Rattle.solve_core.proofs.TrialSteps.{tried_ends}
 use Rattle.solve_core.proofs.GridSteps.{rest_closed}
 use Rattle.solve_core.proofs.trials.Trials.try_until_same.Goals as goal

@@ -1,10 +1,5 @@
 -- What the loop of `Trials::try_until_same` keeps: the board is ready, and trials of it end as at first.
-use Rattle.std.proofs.Common.{◌≡◌, ◌+◌, ◌*◌, ◌≤◌}
-use Rattle.grid_core.specs.Nonogram.{lines_of}
-use Rattle.solve_core.specs.Trials.{trials}
-use Rattle.solve_core.specs.steps.Boards.{IsBoardOf}
-use Rattle.solve_core.specs.steps.Tried.{HasRoomFor, IsReady}
-use Rattle.solve_core.specs.steps.Trails.{unknown_count}
+use Rattle.solve_core.proofs.Names.{◌≡◌, ◌+◌, ◌*◌, ◌≤◌, lines_of, trials, IsBoardOf, HasRoomFor, IsReady, unknown_count}
 use Rattle.solve_core.proofs.trials.Trials.try_until_same.Given as goal
 
 abbrev pub invariant-loop-least : goal.invariant-loop-least

@@ -1,6 +1,5 @@
 -- What the loop of `Crossed::of_places` keeps: the sets have the row and the column of each place passed.
-use Rattle.std.proofs.Common.{ℕ, ◌<◌, get_or}
-use Rattle.solve_core.specs.steps.Witnesses.{IsCrossed}
+use Rattle.solve_core.proofs.Names.{ℕ, ◌<◌, get_or, IsCrossed}
 use Rattle.solve_core.proofs.witnesses.Crossed.of_places.Given as goal
 
 abbrev pub invariant-loop-i : goal.invariant-loop-i

@@ -1,10 +1,5 @@
 -- `Witnesses::add`: the trial is a witness for the cells that its trail leads back to, as the others are.
-use Rattle.std.proofs.Common.{◌≡◌, ◌∙◌, ◌++◌, [], ◌∷◌, length, ap, arith, sym, subst, true}
-use Rattle.solve_core.specs.steps.Trails.{cleared}
-use Rattle.solve_core.specs.steps.WitnessLists.{WitnessLists}
-use Rattle.solve_core.specs.steps.Witnesses.{AddsMet, AreWitnesses, DifferWithin}
-use Rattle.solve_core.specs.declared.witnesses.Witness.{Witness}
-use Rattle.solve_core.proofs.Order.{length-Extends}
+use Rattle.solve_core.proofs.Names.{◌≡◌, ◌∙◌, ◌++◌, [], ◌∷◌, length, ap, arith, sym, subst, true, cleared, WitnessLists, AddsMet, AreWitnesses, DifferWithin, Witness, length-Extends}
 use Rattle.solve_core.proofs.WitnessLaws.{cleared_within, added_numbered, added_witnesses, places_for}
 use Rattle.solve_core.proofs.witnesses.Witnesses.add.Goals as goal
 

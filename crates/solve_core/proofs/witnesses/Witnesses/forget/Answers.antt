@@ -1,7 +1,5 @@
 -- `Witnesses::forget`: only witness 0 is left, which doesn't count, and so there is none for any cells.
-use Rattle.std.proofs.Common.{◌∙◌, ℕ, length, sym, ap, arith}
-use Rattle.std.proofs.lemmas.List.{length-replicate, length-take}
-use Rattle.solve_core.specs.steps.WitnessLists.{WitnessLists}
+use Rattle.solve_core.proofs.Names.{◌∙◌, ℕ, length, sym, ap, arith, length-replicate, length-take, WitnessLists}
 use Rattle.solve_core.proofs.WitnessLaws.{forgotten, no_witnesses}
 use Rattle.solve_core.proofs.witnesses.Witnesses.forget.Goals as goal
 

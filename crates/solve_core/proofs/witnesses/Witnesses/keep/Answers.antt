@@ -1,9 +1,5 @@
 -- `Witnesses::keep`: a witness that met `colour`, or is apart from what was learned, is one for the board.
-use Rattle.std.proofs.Common.{◌∙◌, length, drop, ap, arith}
-use Rattle.std.proofs.lemmas.List.{take_rest, with_items_is}
-use Rattle.grid_core.specs.Nonogram.{lines_of}
-use Rattle.solve_core.specs.steps.Branches.{cells_before}
-use Rattle.solve_core.proofs.Order.{length-Extends}
+use Rattle.solve_core.proofs.Names.{◌∙◌, length, drop, ap, arith, take_rest, with_items_is, lines_of, cells_before, length-Extends}
 use Rattle.solve_core.proofs.TrialSteps.{settled-extends}
 use Rattle.solve_core.proofs.WitnessLaws.{cleared_within, kept_numbered, kept_witnesses, places_for}
 use Rattle.solve_core.proofs.witnesses.Witnesses.keep.Goals as goal

@@ -1,5 +1,5 @@
 -- `Witnesses::meet`: with `number` at the place, in either colour, each cell's number is that of a witness.
-use Rattle.std.proofs.Common.{◌∙◌, sym, arith}
+use Rattle.solve_core.proofs.Names.{◌∙◌, sym, arith}
 use Rattle.solve_core.proofs.WitnessLaws.{meets-blank, meets-filled, more_numbered}
 use Rattle.solve_core.proofs.witnesses.Witnesses.meet.Goals as goal
 

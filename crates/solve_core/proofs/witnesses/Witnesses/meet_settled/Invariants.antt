@@ -1,5 +1,5 @@
 -- What the loop of `Witnesses::meet_settled` keeps: a number changes only to `number`, by the trial's colour.
-use Rattle.solve_core.specs.steps.Witnesses.{AddsMet}
+use Rattle.solve_core.proofs.Names.{AddsMet}
 use Rattle.solve_core.proofs.witnesses.Witnesses.meet_settled.Given as goal
 
 abbrev pub invariant-loop-settled : goal.invariant-loop-settled

@@ -1,0 +1,58 @@
+-- The names that most proofs cite, passed on from one place. Declares nothing.
+pub use Rattle.std.proofs.Common.{Bool, IfNone, IfSome, List, None, Option, Some, [], add-one, add-zero, ap, append-nil, append_assoc, arith, below_more, cond, count_by, drop, false, get_or, get_or-set_other, get_or-set_same, inl, inr, is_none, leb, length, length-append, length-set, ltb-false, ltb-true, map, nat_eq, nat_le, nat_lt, option_and_then, option_map, refl, replicate, rules, set, slice_index_or, slice_set, subst, suc, sym, take, take_all, true, true≢false, vec_capacity, vec_len, zero, zero-add, ℕ, ◌%◌, ◌*◌, ◌++◌, ◌+◌, ◌-◌, ◌/◌, ◌<◌, ◌∙◌, ◌∷◌, ◌≡◌, ◌≢◌, ◌≤◌, ◌⊎◌}
+pub use Rattle.std.proofs.Math.ListN.{get_or-eq_default, get_or-map, length-map}
+pub use Rattle.std.proofs.Math.Seq.{drop-length, get_or-append_seam}
+pub use Rattle.std.proofs.lemmas.Bool.{and_parts, cases_Bool, cases_eq, cases_lt, eq-eqb, eqb-false, eqb-true, false_from_ne_true, le-leb, le-ltb, leb-true, lt-leb, lt-ltb, ne_eqb, or_cases}
+pub use Rattle.std.proofs.lemmas.List.{drop-append-le, ext_get_or, get_or-replicate, get_or-take, get_or_append_left, get_or_default, get_or_past, length-replicate, length-take, length-take-le, set-get_or, take-append-drop, take_rest, with_items_is}
+pub use Rattle.std.proofs.lemmas.List.Elements.{All-contains, All-from_recursion, All-more, recursion_from_All}
+pub use Rattle.std.proofs.lemmas.List.Quantifiers.{position-Some}
+pub use Rattle.std.proofs.lemmas.List.Sums.{AllPass-from_list_all, count_by_more_no, count_by_more_yes, fails_before_first, sum_by-cons}
+pub use Rattle.std.proofs.lemmas.Nat.{div-mul-add, div_below, mod-mul-add}
+pub use Rattle.std.proofs.lemmas.Nat.Bits.{bit_at-lt, bit_at-suc, bit_at-zero, bit_at_and, bit_at_lowest}
+pub use Rattle.std.specs.Int.{bit_at}
+pub use Rattle.std.specs.List.{All, AllByRecursion, list_all, position_or_len, range_with_len}
+pub use Rattle.place_sets.proofs.Doubling.{one_within, width_most}
+pub use Rattle.place_sets.specs.Masks.{Has, IsMarked, IsMaskOf, IsShifted, has}
+pub use Rattle.grid_core.proofs.Changing.{same_cells, same_without_change}
+pub use Rattle.grid_core.proofs.LineLaws.{all_lines, each_line, get_or-cells_at, get_or-places_from, get_or-places_on, length-cells_at, length-places_from, length-places_on, place-within}
+pub use Rattle.grid_core.proofs.RowLists.{get_or-row_of, get_or-rows, length-row_of, length-rows}
+pub use Rattle.grid_core.specs.Cells.{CellExtends, Extends, colour, is_filled, is_known, is_unknown}
+pub use Rattle.grid_core.specs.Lines.{IsChanged, IsUnknownCell, IsUnknownFrom}
+pub use Rattle.grid_core.specs.Nonogram.{GridLine, IsNonogram, Nonogram, Solves, cells_at, clues_on, crossing, line_on, lines_of, places_from, places_on}
+pub use Rattle.grid_core.specs.PartialGrid.{IsSize, PartialGrid}
+pub use Rattle.grid_core.specs.Rows.{cells_of_rows, row_of}
+pub use Rattle.grid_core.specs.Runs.{runs}
+pub use Rattle.grid_core.specs.declared.cells.Cell.{Cell}
+pub use Rattle.grid_core.specs.declared.cells.Cell.TheVariants.{Blank, Filled, Unknown}
+pub use Rattle.grid_core.specs.declared.limits.TheConstants.{LONGEST_SIDE, MOST_RUNS}
+pub use Rattle.grid_core.specs.declared.sides.Side.{Side}
+pub use Rattle.grid_core.specs.declared.sides.Side.TheVariants.{Columns, Rows}
+pub use Rattle.grid_core.specs.steps.Sides.{column_on, count_on, place_on, row_on}
+pub use Rattle.line_core.proofs.DeductionLaws.{AtMost-trans, Extends-antisym, Extends-at, Extends-from_places, Extends-refl, Extends-trans, deduced-above, deduced-below, deduced-full, deduced-monotone, deduced-settled, get_or-map_colour, length-Extends, length-deduced}
+pub use Rattle.line_core.specs.Deduction.{deduced}
+pub use Rattle.line_core.specs.Order.{AtMost}
+pub use Rattle.solve_core.specs.Closure.{closure, deduce_line, join, join_all, join_cells, option_cons, repeat, round, with_cells}
+pub use Rattle.solve_core.specs.LeastClosed.{IsLeastClosed}
+pub use Rattle.solve_core.specs.Picks.{better, first_most, is_above_sure, is_below_sure, is_left_sure, is_right_sure, is_sure, most_known, picked, sure_neighbours}
+pub use Rattle.solve_core.specs.Report.{events_from, grade_by, grid_of, guesses_in, guesses_of, is_decided, known_in, limited_search, line_closure, report_of, search_of, solutions_in, through_solution, trial_closure, unknown_grid, verdict_by, verdict_of, whole_search, within_guesses}
+pub use Rattle.solve_core.specs.Search.{Event, Guess, IsPick, Solution, events, events_within, first_unknown, guess_at, search_from}
+pub use Rattle.solve_core.specs.Trials.{IsTried, all_present, is_refuted, left_over, trial_round, trials, tried}
+pub use Rattle.solve_core.specs.Verdicts.{Holds, IsFinal}
+pub use Rattle.solve_core.specs.declared.branches.Branch.{Branch}
+pub use Rattle.solve_core.specs.declared.closures.Progress.TheVariants.{Changed, Dead, Same}
+pub use Rattle.solve_core.specs.declared.findings.Findings.{Findings}
+pub use Rattle.solve_core.specs.declared.witnesses.Witness.{Witness}
+pub use Rattle.solve_core.specs.steps.Boards.{BoardSpace, IsBoard, IsBoardOf, cells_along}
+pub use Rattle.solve_core.specs.steps.Branches.{AreBefore, AreInOrder, AreKnownBefore, AreOlder, IsBranch, IsClosed, IsNext, IsOpen, IsWork, cells_before, open_events, pending, ready_events}
+pub use Rattle.solve_core.specs.steps.Closers.{Closing, IsIdle, IsMemoryOf}
+pub use Rattle.solve_core.specs.steps.Counts.{AreCounts, IsKnownCell, IsMostInRow, row_score, told_by, two_of}
+pub use Rattle.solve_core.specs.steps.Endings.{Ending, ending}
+pub use Rattle.solve_core.specs.steps.GridLines.{AreLinesOf}
+pub use Rattle.solve_core.specs.steps.Guesses.{IsUnderWay, owed, owed_by}
+pub use Rattle.solve_core.specs.steps.Learning.{CanLearn, IsIn, IsLearning, LeadsBackBut}
+pub use Rattle.solve_core.specs.steps.LineMarks.{AreMarksWithin, AreUnmarked, IsMarkedOn, IsUnmarkedOn, LineMarks, marks_on}
+pub use Rattle.solve_core.specs.steps.Marks.{AreOpen, HasMarks, HasWork, IsAtRest, IsDeduced, IsLearned, IsTrialOf, IsWritten, MarksAfter, MarksChanges, Progresses}
+pub use Rattle.solve_core.specs.steps.Trails.{IsTrailed, TrailedGrid, cleared, unknown_count}
+pub use Rattle.solve_core.specs.steps.Tried.{HasRoomFor, IsReady, Tried}
+pub use Rattle.solve_core.specs.steps.WitnessLists.{WitnessLists, met_by, no_witness, open_marks, witness_at}
+pub use Rattle.solve_core.specs.steps.Witnesses.{AddsMet, AreNumbered, AreWitnesses, DifferWithin, IsCrossed, IsKept, IsWitness, ShareNoLine, has_side}
