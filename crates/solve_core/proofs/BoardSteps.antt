@@ -2,8 +2,8 @@
 use Rattle.solve_core.proofs.Names.{subst, ◌≡◌, ℕ, ◌+◌, ◌*◌, ◌<◌, ◌≤◌, true, List, [], ◌∷◌, ◌++◌, length, get_or, set, sym, ap, ◌∙◌, arith, length-append, length-set, replicate, length-replicate, Cell, Unknown, is_known, LONGEST_SIDE, Side, crossing, count_on, place_on, PartialGrid, IsSize, IsBoard, IsTrailed, TrailedGrid}
 use Rattle.solve_core.proofs.SideLines.{cell_within}
 use Rattle.solve_core.proofs.Closing.{unknown_count-le}
-use Rattle.solve_core.proofs.TrailSteps.{count-settled, length-cleared}
-use Rattle.solve_core.proofs.BranchLaws.{unknown_count-cleared_one, all_append, all_split}
+use Rattle.solve_core.proofs.TrailSteps.{count-settled, length-cleared, all_append}
+use Rattle.solve_core.proofs.BranchLaws.{unknown_count-cleared_one, all_split}
 
 -- a grid with a trail
 abbrev pub trailed : PartialGrid → List ℕ → TrailedGrid

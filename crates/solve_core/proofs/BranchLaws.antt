@@ -1,6 +1,6 @@
 -- The branches of a search: what settled cells, a filled guess and a blank one make of them.
 use Rattle.solve_core.proofs.Names.{◌≡◌, ℕ, zero, suc, ◌+◌, ◌<◌, ◌≤◌, List, [], ◌∷◌, ◌++◌, length, set, take, drop, refl, sym, ap, ◌∙◌, arith, length-append, append-nil, append_assoc, Option, Some, None, AllByRecursion, drop-length, drop-append-le, length-take-le, take-append-drop, Cell, Unknown, Filled, Blank, GridLine, Branch, Guess, events, TrailedGrid, unknown_count, cleared, IsTrailed, cells_before, IsNext, IsBranch, AreInOrder, AreBefore, AreOlder, IsWork, pending, open_events, ready_events}
-use Rattle.solve_core.proofs.TrailSteps.{cleared-append}
+use Rattle.solve_core.proofs.TrailSteps.{cleared-append, all_append}
 
 -- each place that is cleared leaves at most one more unknown
 pub unknown_count-cleared_one : (cells : List Cell) (k : ℕ) → unknown_count (set cells k Unknown) ≤ unknown_count cells + 1
@@ -15,14 +15,6 @@ drop_take zero n xs h = take-append-drop n xs
 drop_take (suc m) zero xs h = absurd (omega arith)
 drop_take (suc m) (suc n) [] h = refl
 drop_take (suc m) (suc n) (x ∷ xs) h = drop_take m n xs (omega arith)
-
--- the first `m` of the first `n` items are the first `m`, if `m` is at most `n`
-pub take_least : {X : Type 0} (xs : List X) (m n : ℕ) → m ≤ n → take m (take n xs) ≡ take m xs
-take_least xs zero n h = refl
-take_least [] (suc m) zero h = absurd (omega arith)
-take_least [] (suc m) (suc n) h = refl
-take_least (x ∷ xs) (suc m) zero h = absurd (omega arith)
-take_least (x ∷ xs) (suc m) (suc n) h = ap (λ ys. x ∷ ys) (take_least xs m n (omega arith))
 
 -- the cells before a mark stay the same if undoing what the trail gained gives the old cells
 pub before-longer : (cells now : List Cell) (trail added : List ℕ) (mark : ℕ) → cleared now added ≡ cells → mark ≤ length trail
@@ -55,11 +47,6 @@ trailed-before old new t mark h =
 
 trailed-length : (old new : TrailedGrid) (t : IsTrailed old new) → length new.trail ≡ length old.trail + length t.added
 trailed-length old new t = ap length t.kept ∙ length-append old.trail t.added
-
--- what holds of all items of two lists holds of all items of the joined list
-pub all_append : {X : Type 0} (P : X → Type 0) (xs ys : List X) → AllByRecursion P xs → AllByRecursion P ys → AllByRecursion P (xs ++ ys)
-all_append P [] ys h k = k
-all_append P (x ∷ xs) ys h k = (h.0, all_append P xs ys h.1 k)
 
 -- what holds of all items of a list holds of the last one, and of all before it
 pub all_split : {X : Type 0} (P : X → Type 0) (xs : List X) (x : X) → AllByRecursion P (xs ++ (x ∷ [])) → P x × AllByRecursion P xs

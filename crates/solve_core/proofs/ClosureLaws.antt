@@ -1,6 +1,6 @@
 -- The closure is the least line-closed grid, and loses no solution.
 use Rattle.solve_core.proofs.Names.{◌≡◌, ℕ, zero, suc, ◌+◌, ◌<◌, Bool, false, List, [], ◌∷◌, length, get_or, set, map, Option, Some, None, refl, sym, ap, ◌∙◌, arith, length-set, option_map, AllByRecursion, get_or-map, set-get_or, Cell, Unknown, Blank, CellExtends, Extends, colour, runs, GridLine, cells_at, deduced, with_cells, deduce_line, round, repeat, closure, AtMost, AtMost-trans, Extends-refl, Extends-trans, Extends-antisym, IsLeastClosed, deduced-below, deduced-monotone, deduced-full, get_or-map_colour}
-use Rattle.solve_core.proofs.Order.{HasLength, join_all-above, join_all-least}
+use Rattle.solve_core.proofs.Order.{HasLength, join_all-above, join_all-least, below_each}
 use Rattle.solve_core.proofs.Closing.{IsDeduction, repeat-above, repeat-below, repeat-least, repeat-closed, unknown_count-le}
 
 -- if a grid knows no less, its cell does neither, whatever stands for one outside
@@ -72,26 +72,19 @@ pub round-above_each : (lines : List GridLine) (g : List Cell) → AllByRecursio
 round-above_each lines g = (join_all-above g (map (deduce_line g) lines) (lengths g lines)).1
 
 -- the round of the greater grid, if it's not dead, is above each of the smaller grid's deductions
-below_each : (lines : List GridLine) (g z w : List Cell) → Extends g z →
+lines_above : (lines : List GridLine) (g z w : List Cell) → Extends g z →
     AllByRecursion (λ o. AtMost o (Some w)) (map (deduce_line z) lines) →
     AllByRecursion (λ o. AtMost o (Some w)) (map (deduce_line g) lines)
-below_each [] g z w h k = tt
-below_each (line ∷ lines) g z w h k =
-    (AtMost-trans (deduce_line g line) (deduce_line z line) (Some w) (deduce_line-monotone line g z h) k.0, below_each lines g z w h k.1)
-
-monotone_to : (lines : List GridLine) (g z : List Cell) → Extends g z → (o : Option (List Cell)) → round lines z ≡ o →
-    AtMost (round lines g) o
-monotone_to lines g z h None is = tt
-monotone_to lines g z h (Some w) is =
-    let above : AtMost (Some z) (Some w) = rw is at (round-above lines z) in
-    let each : AllByRecursion (λ o. AtMost o (Some w)) (map (deduce_line z) lines) =
-    rw is at (round-above_each lines z) in
-    join_all-least g w (map (deduce_line g) lines) (Extends-trans g z w h above) (below_each lines g z w h each)
+lines_above [] g z w h k = tt
+lines_above (line ∷ lines) g z w h k =
+    (AtMost-trans (deduce_line g line) (deduce_line z line) (Some w) (deduce_line-monotone line g z h) k.0, lines_above lines g z w h k.1)
 
 pub round-deduction : (lines : List GridLine) → IsDeduction (round lines)
 round-deduction lines = record {
   above = round-above lines;
-  monotone = λ g z h. monotone_to lines g z h (round lines z) refl;
+  monotone = λ g z h. below_each (round lines g) (round lines z) (λ w is.
+      join_all-least g w (map (deduce_line g) lines) (Extends-trans g z w h (rw is at (round-above lines z)))
+      (lines_above lines g z w h (rw is at (round-above_each lines z))));
 }
 
 -- a deduction, repeated once more than there are cells, gives the least closed grid above the first one

@@ -1,5 +1,5 @@
 -- How many cells are known.
-use Rattle.solve_core.proofs.Names.{take, ◌≤◌, ◌≡◌, ℕ, zero, suc, inl, inr, ◌+◌, ◌<◌, true, false, List, [], ◌∷◌, length, get_or, cond, nat_eq, refl, sym, ap, ◌∙◌, arith, true≢false, list_all, cases_Bool, eq-eqb, ne_eqb, count_by_more_yes, sum_by-cons, Cell, Unknown, is_known, is_unknown, GridLine, unknown_count, IsTried, count_by}
+use Rattle.solve_core.proofs.Names.{take, ◌≤◌, ◌≡◌, ℕ, zero, suc, inl, inr, ◌+◌, ◌<◌, true, false, List, [], ◌∷◌, length, get_or, cond, nat_eq, refl, sym, ap, ◌∙◌, arith, true≢false, list_all, cases_Bool, eq-eqb, ne_eqb, count_by_more_yes, sum_by-cons, Cell, Unknown, is_known, is_unknown, GridLine, unknown_count, IsTried, count_by, AllPass-from_list_all}
 
 -- each cell is known or unknown
 pub known-and-unknown : (cells : List Cell) → count_by is_known cells + unknown_count cells ≡ length cells
@@ -44,16 +44,10 @@ all-known cells = elim (cases_Bool (list_all is_known cells)) [
       (λ whole. true≢false (sym (all-of-none cells (omega (arith, known-and-unknown cells, whole))) ∙ e)) ∙ sym e
 ]
 
-known-at : (cells : List Cell) (k : ℕ) → list_all is_known cells ≡ true → k < length cells → is_known (get_or cells k Unknown) ≡ true
-known-at [] k h l = absurd (omega arith)
-known-at (Unknown ∷ cells) k h l = absurd (true≢false (sym h))
-known-at (_ ∷ cells) zero h l = refl
-known-at (_ ∷ cells) (suc k) h l = known-at cells k h (omega arith)
-
 -- if all cells are known, there is none to try
 pub full-tried : (lines : List GridLine) (cells : List Cell) → list_all is_known cells ≡ true → (k : ℕ) → k < length cells →
     IsTried lines cells k
-full-tried lines cells h k l e = absurd (true≢false (sym (known-at cells k h l) ∙ ap is_known e))
+full-tried lines cells h k l e = absurd (true≢false (sym (AllPass-from_list_all is_known cells h k Unknown l) ∙ ap is_known e))
 
 -- at a known cell there is nothing to try
 pub known-tried : (lines : List GridLine) (cells : List Cell) (k : ℕ) → is_unknown (get_or cells k Unknown) ≡ false → IsTried lines cells k

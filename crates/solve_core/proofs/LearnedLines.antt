@@ -13,32 +13,17 @@ pub record Learns (side : Side) (w h i m : ℕ) (cells new : List Cell) : Type 0
   pub more : Extends (cells_at Unknown cells (places_on side w h i)) new
   pub changes : IsMaskOf (IsChanged (cells_at Unknown cells (places_on side w h i)) new) m
 
--- what a line of a grid learns, by the lines of the grid
-pub learns_of : (side own : Side) (i m : ℕ) (new : List Cell) (rows columns : List (List Cell)) (g : PartialGrid) →
-    AreLinesOf (cells_of_rows rows) rows columns → grid_of_lines rows columns ≡ g → side ≡ own → i < count_on side g.width g.height →
+-- what a line of a grid learns, in a grid that is seen as it
+pub learns_at : (side own : Side) (i m : ℕ) (new : List Cell) (b g : PartialGrid) → 0 < b.width → length b.cells ≡ b.width * b.height →
+    b ≡ g → side ≡ own → i < count_on side g.width g.height →
     Extends (cells_at Unknown g.cells (places_on side g.width g.height i)) new →
-    IsMaskOf (IsChanged (cells_at Unknown g.cells (places_on side g.width g.height i)) new) m →
-    Learns own (length columns) (length rows) i m (cells_of_rows rows) new
-learns_of side own i m new rows columns g a seen e line more changes =
-    subst (λ (s : Side). Learns s (length columns) (length rows) i m (cells_of_rows rows) new) e
+    IsMaskOf (IsChanged (cells_at Unknown g.cells (places_on side g.width g.height i)) new) m → Learns own b.width b.height i m b.cells new
+learns_at side own i m new b g some count seen e line more changes =
+    subst (λ (s : Side). Learns s b.width b.height i m b.cells new) e
     (subst (λ (g : PartialGrid). Learns side g.width g.height i m g.cells new) (sym seen) (record {
-      some = rw (← seen) a.size.width_from;
+      some = rw (← seen) some;
       line = line;
-      count = rw (← seen) a.count;
-      more = more;
-      changes = changes;
-    }))
-
--- what a line of a board learns
-pub learns_in : (side own : Side) (i m room : ℕ) (new : List Cell) (g b : TrailedGrid) → IsBoard g room → g ≡ b → side ≡ own →
-    i < count_on side b.width b.height → Extends (cells_along b side i) new → IsMaskOf (IsChanged (cells_along b side i) new) m →
-    Learns own g.width g.height i m g.cells new
-learns_in side own i m room new g b is seen e line more changes =
-    subst (λ (s : Side). Learns s g.width g.height i m g.cells new) e
-    (subst (λ (b : TrailedGrid). Learns side b.width b.height i m b.cells new) (sym seen) (record {
-      some = rw (← seen) is.size.width_from;
-      line = line;
-      count = rw (← seen) is.count;
+      count = rw (← seen) count;
       more = more;
       changes = changes;
     }))

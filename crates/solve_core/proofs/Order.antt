@@ -86,6 +86,16 @@ join_all-above g (Some d ∷ os) h =
     ]
     (join-left g d (sym h.0)) (join-right g d (sym h.0))
 
+-- what is below each grid that an outcome may be is below the outcome
+pub below_each : (x o : Option (List Cell)) → ((w : List Cell) → o ≡ Some w → AtMost x (Some w)) → AtMost x o
+below_each x None h = tt
+below_each x (Some w) h = h w refl
+
+-- only a dead grid is above a dead one
+pub none_only : (o : Option (List Cell)) → AtMost None o → o ≡ None
+none_only None h = refl
+none_only (Some z) h = absurd h
+
 -- a grid with a cell that another one has is below that one
 pub set_within : (a b : List Cell) (i : ℕ) (d : Cell) → Extends a b → CellExtends d (get_or b i Unknown) → Extends (set a i d) b
 set_within [] [] i d e f = tt

@@ -62,10 +62,13 @@ pub report-is : (pick : List Cell → Option ℕ) (p : Nonogram) (limit : ℕ) �
     report_by pick p limit (line_closure p) (trial_closure p) ≡ report_of pick p limit
 report-is pick p limit = rw (ending-none p 0 limit (whole_search pick p), zero-add (guesses_of pick p limit)) refl
 
--- if the two closures are known, so is the report
-pub report-by : (pick : List Cell → Option ℕ) (p : Nonogram) (limit : ℕ) (closed tried : Option (List Cell)) → closed ≡ line_closure p →
-    tried ≡ trial_closure p → report_by pick p limit closed tried ≡ report_of pick p limit
-report-by pick p limit closed tried c t = (λ i. report_by pick p limit (c i) (t i)) ∙ report-is pick p limit
+-- if what lines and then trials leave of a grid of which nothing is known is told, so is the report
+pub report-told : (pick : List Cell → Option ℕ) (p : Nonogram) (limit : ℕ) (start : List Cell) (closed tried : Option (List Cell)) →
+    start ≡ unknown_grid p → closed ≡ closure (lines_of p) start → tried ≡ option_and_then (trials (lines_of p)) closed →
+    report_by pick p limit closed tried ≡ report_of pick p limit
+report-told pick p limit start closed tried s c t =
+    let lines : closed ≡ line_closure p = c ∙ ap (closure (lines_of p)) s in
+    (λ i. report_by pick p limit (lines i) ((t ∙ ap (option_and_then (trials (lines_of p))) lines) i)) ∙ report-is pick p limit
 
 -- a search whose verdict is final was not cut short
 ending-final : (p : Nonogram) (found : List PartialGrid) (spent left : ℕ) (es : List Event)
@@ -97,36 +100,3 @@ report-greater pick p limit greater l h =
     let same : report_by pick p greater (line_closure p) (trial_closure p) ≡ report_by pick p limit (line_closure p) (trial_closure p) =
     rw e refl in
     sym (report-is pick p greater) ∙ same ∙ report-is pick p limit
-
--- the report on a puzzle that neither closure finds dead, by how its search ends
-pub report-alive : (pick : List Cell → Option ℕ) (p : Nonogram) (start closed tried : List Cell) (limit : ℕ)
-    (found : List PartialGrid) (cut : Bool) (spent : ℕ) (verdict : Verdict) (grade : Grade) (line_known trial_known : ℕ)
-    → start ≡ unknown_grid p
-    → Some closed ≡ closure (lines_of p) start → Some tried ≡ trials (lines_of p) closed
-    → record { found = found; cut = cut; spent = spent } ≡ ending p [] 0 limit (events pick (lines_of p) tried)
-    → verdict ≡ verdict_by found cut → grade ≡ grade_by (list_all is_known closed) (list_all is_known tried)
-    → line_known ≡ count_by is_known closed → trial_known ≡ count_by is_known tried
-    → record { verdict = verdict; grade = grade; line_known = line_known; trial_known = trial_known; spent = spent } ≡
-    report_of pick p limit
-report-alive pick p start closed tried limit found cut spent verdict grade line_known trial_known s c d e v g l k =
-    let c' : Some closed ≡ line_closure p = c ∙ ap (closure (lines_of p)) s in
-    let d' : Some tried ≡ trial_closure p = d ∙ ap (option_and_then (trials (lines_of p))) c' in
-    rw (v, g, l, k) (rw (← e) at (report-by pick p limit (Some closed) (Some tried) c' d'))
-
--- the report on a puzzle that trials find dead
-pub report-refuted : (pick : List Cell → Option ℕ) (p : Nonogram) (start closed : List Cell) (limit : ℕ) (grade : Grade) (line_known : ℕ)
-    → start ≡ unknown_grid p → Some closed ≡ closure (lines_of p) start → None ≡ trials (lines_of p) closed
-    → grade ≡ grade_by (list_all is_known closed) true → line_known ≡ count_by is_known closed
-    → record { verdict = Nothing; grade = grade; line_known = line_known; trial_known = 0; spent = 0 } ≡ report_of pick p limit
-report-refuted pick p start closed limit grade line_known s c d g l =
-    let c' : Some closed ≡ line_closure p = c ∙ ap (closure (lines_of p)) s in
-    let d' : None ≡ trial_closure p = d ∙ ap (option_and_then (trials (lines_of p))) c' in
-    rw (g, l) (report-by pick p limit (Some closed) None c' d')
-
--- the report on a puzzle that lines find dead
-pub report-dead : (pick : List Cell → Option ℕ) (p : Nonogram) (start : List Cell) (limit : ℕ) → start ≡ unknown_grid p →
-    None ≡ closure (lines_of p) start
-    → record { verdict = Nothing; grade = Lines; line_known = 0; trial_known = 0; spent = 0 } ≡ report_of pick p limit
-report-dead pick p start limit s c =
-    let c' : None ≡ line_closure p = c ∙ ap (closure (lines_of p)) s in
-    report-by pick p limit None None c' (ap (option_and_then (trials (lines_of p))) c')

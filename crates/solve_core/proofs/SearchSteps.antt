@@ -7,16 +7,10 @@ use Rattle.solve_core.proofs.SearchLaws.{events-unfold, same_known, unknown_is, 
 use Rattle.solve_core.proofs.TrailSteps.{count-settled}
 use Rattle.solve_core.proofs.BranchLaws.{branch-count}
 
--- nothing happens below a guess that closing refutes
-pub dead-events : (pick : List Cell → Option ℕ) (lawful : IsPick pick) (lines : List GridLine) (g : List Cell) (rest : List Event)
-    → None ≡ closure lines g → rest ≡ events pick lines g ++ rest
-dead-events pick lawful lines g rest closed =
-    ap (λ es. es ++ rest) (ap (search_from pick (events pick lines)) closed ∙ sym (events-unfold pick lawful lines g))
-
--- below a guess that closing doesn't refute the search goes on in the closed cells
-pub alive-events : (pick : List Cell → Option ℕ) (lawful : IsPick pick) (lines : List GridLine) (g now : List Cell) (rest : List Event)
-    → Some now ≡ closure lines g → guess_at (events pick lines) now (pick now) ++ rest ≡ events pick lines g ++ rest
-alive-events pick lawful lines g now rest closed =
+-- below a guess the search goes on in the closed cells, and if closing refutes the guess, nothing happens
+pub closed-events : (pick : List Cell → Option ℕ) (lawful : IsPick pick) (lines : List GridLine) (g : List Cell) (o : Option (List Cell))
+    (rest : List Event) → o ≡ closure lines g → search_from pick (events pick lines) o ++ rest ≡ events pick lines g ++ rest
+closed-events pick lawful lines g o rest closed =
     ap (λ es. es ++ rest) (ap (search_from pick (events pick lines)) closed ∙ sym (events-unfold pick lawful lines g))
 
 -- closed cells are their own closure

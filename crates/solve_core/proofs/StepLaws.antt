@@ -1,6 +1,6 @@
 -- Deducing one line after the other stays below the closure, and ends in it.
 use Rattle.solve_core.proofs.Names.{◌≡◌, ◌⊎◌, inl, inr, List, [], ◌∷◌, map, Option, Some, None, refl, subst, AllByRecursion, Cell, Extends, GridLine, deduce_line, round, closure, AtMost, AtMost-trans, Extends-refl}
-use Rattle.solve_core.proofs.Order.{join_all-least}
+use Rattle.solve_core.proofs.Order.{join_all-least, below_each, none_only}
 use Rattle.solve_core.proofs.ClosureLaws.{closure-IsLeastClosed, deduce_line-monotone, round-above, same_at_most, round-above_each}
 
 -- a line is one of several
@@ -19,26 +19,17 @@ pub closed_line : (lines : List GridLine) (c : List Cell) (line : GridLine) → 
     AtMost (deduce_line c line) (Some c)
 closed_line lines c line e m = at_one (λ o. AtMost o (Some c)) c lines line (rw e at (round-above_each lines c)) m
 
-step_to : (lines : List GridLine) (g : List Cell) (line : GridLine) (o : Option (List Cell)) →
-    ((z : List Cell) → o ≡ Some z → round lines z ≡ Some z) → IsOneOf line lines → AtMost (Some g) o → AtMost (deduce_line g line) o
-step_to lines g line None closed m h = tt
-step_to lines g line (Some c) closed m h =
-    AtMost-trans (deduce_line g line) (deduce_line c line) (Some c) (deduce_line-monotone line g c h)
-    (closed_line lines c line (closed c refl) m)
-
 -- whichever line is deduced next, the grid stays below the closure of the first one
 pub step_within : (lines : List GridLine) (first g : List Cell) (line : GridLine) → IsOneOf line lines →
     AtMost (Some g) (closure lines first) → AtMost (deduce_line g line) (closure lines first)
-step_within lines first g line m h = step_to lines g line (closure lines first) (closure-IsLeastClosed lines first).closed m h
+step_within lines first g line m h = below_each (deduce_line g line) (closure lines first) (λ c e.
+    AtMost-trans (deduce_line g line) (deduce_line c line) (Some c) (deduce_line-monotone line g c (rw e at h))
+    (closed_line lines c line ((closure-IsLeastClosed lines first).closed c e) m))
 
 -- a line that dies on the way means that the closure is dead
 pub dead_within : (lines : List GridLine) (first g : List Cell) (line : GridLine) → IsOneOf line lines →
     AtMost (Some g) (closure lines first) → deduce_line g line ≡ None → closure lines first ≡ None
-dead_within lines first g line m h e = only (closure lines first) (rw e at (step_within lines first g line m h))
-  where
-    only : (o : Option (List Cell)) → AtMost None o → o ≡ None
-    only None k = refl
-    only (Some z) k = absurd k
+dead_within lines first g line m h e = none_only (closure lines first) (rw e at (step_within lines first g line m h))
 
 each_same : (g : List Cell) (lines : List GridLine) → AllByRecursion (λ line. deduce_line g line ≡ Some g) lines →
     AllByRecursion (λ o. AtMost o (Some g)) (map (deduce_line g) lines)

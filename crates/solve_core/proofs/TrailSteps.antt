@@ -1,5 +1,5 @@
 -- How the trail of settled cells grows.
-use Rattle.solve_core.proofs.Names.{◌≡◌, ℕ, zero, suc, ◌+◌, ◌<◌, true, List, [], ◌∷◌, ◌++◌, length, get_or, set, refl, sym, ap, ◌∙◌, arith, subst, length-append, length-set, append-nil, append_assoc, true≢false, AllByRecursion, Cell, Unknown, Filled, Blank, is_known, TrailedGrid, unknown_count, cleared, IsTrailed}
+use Rattle.solve_core.proofs.Names.{◌≡◌, ℕ, zero, suc, ◌+◌, ◌<◌, true, List, [], ◌∷◌, ◌++◌, length, get_or, set, refl, sym, ap, ◌∙◌, arith, subst, length-append, length-set, append-nil, append_assoc, true≢false, AllByRecursion, Cell, Unknown, Filled, Blank, is_known, TrailedGrid, unknown_count, cleared, IsTrailed, set-set, set-get_or}
 
 -- clearing the places of two lists clears those of the second one first
 pub cleared-append : (cells : List Cell) (ks js : List ℕ) → cleared cells (ks ++ js) ≡ cleared (cleared cells js) ks
@@ -11,10 +11,10 @@ pub length-cleared : (cells : List Cell) (ks : List ℕ) → length (cleared cel
 length-cleared cells [] = refl
 length-cleared cells (k ∷ ks) = length-set (cleared cells ks) k Unknown ∙ length-cleared cells ks
 
-within-append : (size : ℕ) (ks js : List ℕ) → AllByRecursion (λ k. k < size) ks → AllByRecursion (λ k. k < size) js →
-    AllByRecursion (λ k. k < size) (ks ++ js)
-within-append size [] js h k = k
-within-append size (x ∷ ks) js h k = (h.0, within-append size ks js h.1 k)
+-- what holds of all items of two lists holds of all items of the joined list
+pub all_append : {X : Type 0} (P : X → Type 0) (xs ys : List X) → AllByRecursion P xs → AllByRecursion P ys → AllByRecursion P (xs ++ ys)
+all_append P [] ys h k = k
+all_append P (x ∷ xs) ys h k = (h.0, all_append P xs ys h.1 k)
 
 -- nothing was settled
 pub trailed-refl : (g : TrailedGrid) → IsTrailed g g
@@ -38,15 +38,9 @@ trailed-trans a b c x y =
       height = y.height ∙ x.height;
       kept = y.kept ∙ ap (λ (places : List ℕ). places ++ y.added) x.kept ∙ append_assoc a.trail x.added y.added;
       undo = cleared-append c.cells x.added y.added ∙ ap (λ (r : List Cell). cleared r x.added) y.undo ∙ x.undo;
-      within = within-append (length c.cells) x.added y.added (subst (λ (n : ℕ). AllByRecursion (λ k. k < n) x.added) (sym size) x.within)
-          y.within;
+      within = all_append (λ k. k < length c.cells) x.added y.added (rw size x.within) y.within;
       count = omega (arith, length-append x.added y.added, x.count, y.count);
     }
-
-set-back : (g : List Cell) (k : ℕ) (c : Cell) → get_or g k Unknown ≡ Unknown → set (set g k c) k Unknown ≡ g
-set-back [] k c e = refl
-set-back (x ∷ g) zero c e = ap (λ (r : Cell). r ∷ g) (sym e)
-set-back (x ∷ g) (suc k) c e = ap (λ (r : List Cell). x ∷ r) (set-back g k c e)
 
 -- settling an unknown cell leaves one unknown cell fewer
 pub count-settled : (g : List Cell) (k : ℕ) (c : Cell) → k < length g → get_or g k Unknown ≡ Unknown → is_known c ≡ true →
@@ -67,7 +61,7 @@ trailed-one g after k c h e n w t a b = record {
   width = w;
   height = t;
   kept = b;
-  undo = ap (λ (r : List Cell). set r k Unknown) a ∙ set-back g.cells k c e;
+  undo = rw (a, set-set) (rw e at (set-get_or g.cells k Unknown));
   within = ((omega (arith, ap length a, length-set g.cells k c)), tt);
   count = rw a (count-settled g.cells k c h e n);
 }

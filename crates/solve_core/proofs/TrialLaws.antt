@@ -1,7 +1,7 @@
 -- Trials end in the least trial-closed grid, and lose no solution.
 use Rattle.solve_core.proofs.Names.{◌≡◌, ℕ, zero, suc, ◌+◌, ◌<◌, Bool, true, false, List, [], ◌∷◌, length, get_or, set, map, Option, Some, None, is_none, option_and_then, refl, sym, ◌∙◌, arith, slice_index_or, true≢false, add-zero, zero-add, range_with_len, length-map, Cell, Unknown, Filled, Blank, CellExtends, Extends, colour, GridLine, option_cons, round, closure, is_refuted, left_over, tried, all_present, trial_round, trials, AtMost, Extends-trans, length-Extends, Extends-at, get_or-map_colour, IsLeastClosed}
 use Rattle.solve_core.proofs.SearchLaws.{same_known}
-use Rattle.solve_core.proofs.Order.{CellAtMost, cons_at_most, set_within}
+use Rattle.solve_core.proofs.Order.{CellAtMost, cons_at_most, set_within, below_each}
 use Rattle.solve_core.proofs.Closing.{IsDeduction, repeat-fixed, and_then-above, and_then-below}
 use Rattle.solve_core.proofs.ClosureLaws.{closure-IsLeastClosed, repeat-IsLeastClosed, MeetsLines, round-solution, same_at_most, set-monotone}
 
@@ -78,11 +78,9 @@ refuted_not_there lines g w k c closed h refuted there l = true≢false (sym (no
 
 -- a grid that knows more has a closure that knows no less
 pub closure-monotone : (lines : List GridLine) (g z : List Cell) → Extends g z → AtMost (closure lines g) (closure lines z)
-closure-monotone lines g z h = to (closure lines z) (closure-IsLeastClosed lines z)
-  where
-    to : (o : Option (List Cell)) → IsLeastClosed (round lines) z o → AtMost (closure lines g) o
-    to None l = tt
-    to (Some w) l = (closure-IsLeastClosed lines g).least w (l.closed w refl) (Extends-trans g z w h l.above)
+closure-monotone lines g z h = below_each (closure lines g) (closure lines z) (λ w e.
+    let law = closure-IsLeastClosed lines z in
+    (closure-IsLeastClosed lines g).least w (law.closed w e) (Extends-trans g z w h (rw e at law.above)))
 
 pub is_refuted-monotone : (lines : List GridLine) (g z : List Cell) (k : ℕ) (c : Cell) → CellExtends c c → Extends g z →
     is_refuted lines g k c ≡ true → is_refuted lines z k c ≡ true
@@ -90,18 +88,24 @@ is_refuted-monotone lines g z k c s h e =
     none_if (closure lines (set g k c)) (closure lines (set z k c))
     (closure-monotone lines (set g k c) (set z k c) (set-monotone g z k c c h s)) e
 
+pub left_blank_below : (b : Bool) (w : Cell) → OptionBelow (left_over true b) w → CellExtends Blank w
+left_blank_below true w h = absurd h
+left_blank_below false w h = h
+
+pub left_filled_below : (b : Bool) (w : Cell) → OptionBelow (left_over b true) w → CellExtends Filled w
+left_filled_below true w h = absurd h
+left_filled_below false w h = h
+
 -- if filled is refuted, the settled cell is blank
 left_blank : (lines : List GridLine) (z : List Cell) (k : ℕ) (c w : Cell) → CellExtends c w → OptionBelow (tried lines z k c) w →
     is_refuted lines z k Filled ≡ true → (CellExtends Filled w → ⊥) → w ≡ Blank
-left_blank lines z k Unknown w h b r n = same_known Blank w refl (elim (is_refuted lines z k Blank) as (λ s. OptionBelow (left_over true s) w →
-    CellExtends Blank w) [ true ↦ (λ e. absurd e) | false ↦ (λ e. e) ] (rw r at b))
+left_blank lines z k Unknown w h b r n = same_known Blank w refl (left_blank_below (is_refuted lines z k Blank) w (rw r at b))
 left_blank lines z k Filled w h b r n = absurd (n h)
 left_blank lines z k Blank w h b r n = same_known Blank w refl h
 
 left_filled : (lines : List GridLine) (z : List Cell) (k : ℕ) (c w : Cell) → CellExtends c w → OptionBelow (tried lines z k c) w →
     is_refuted lines z k Blank ≡ true → (CellExtends Blank w → ⊥) → w ≡ Filled
-left_filled lines z k Unknown w h b r n = same_known Filled w refl (elim (is_refuted lines z k Filled) as (λ s. OptionBelow (left_over s true) w →
-    CellExtends Filled w) [ true ↦ (λ e. absurd e) | false ↦ (λ e. e) ] (rw r at b))
+left_filled lines z k Unknown w h b r n = same_known Filled w refl (left_filled_below (is_refuted lines z k Filled) w (rw r at b))
 left_filled lines z k Filled w h b r n = same_known Filled w refl h
 left_filled lines z k Blank w h b r n = absurd (n h)
 
@@ -149,19 +153,13 @@ after_trials lines z w (Some t) e =
     let law = closure-IsLeastClosed lines t in
     ((rw e at law.above), law.closed w e)
 
-trial_round-to : (lines : List GridLine) (g z : List Cell) → Extends g z → (o : Option (List Cell)) → trial_round lines z ≡ o →
-    AtMost (trial_round lines g) o
-trial_round-to lines g z h None e = tt
-trial_round-to lines g z h (Some w) e =
-    let after = after_trials lines z w (tried_cells lines z) e in
-    let zw : Extends z w = rw e at (trial_round-above lines z) in
-    and_then-below (closure lines) w (λ t k. (closure-IsLeastClosed lines t).least w after.1 k) (tried_cells lines g)
-    (tried_cells-below lines g z w h zw after.1 after.0)
-
 pub trial_round-deduction : (lines : List GridLine) → IsDeduction (trial_round lines)
 trial_round-deduction lines = record {
   above = trial_round-above lines;
-  monotone = λ g z h. trial_round-to lines g z h (trial_round lines z) refl;
+  monotone = λ g z h. below_each (trial_round lines g) (trial_round lines z) (λ w e.
+      let after = after_trials lines z w (tried_cells lines z) e in
+      and_then-below (closure lines) w (λ t k. (closure-IsLeastClosed lines t).least w after.1 k) (tried_cells lines g)
+      (tried_cells-below lines g z w h (rw e at (trial_round-above lines z)) after.1 after.0));
 }
 
 -- the grid after trials is the least trial-closed grid that knows what the grid knows

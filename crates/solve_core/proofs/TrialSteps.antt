@@ -2,11 +2,12 @@
 use Rattle.solve_core.proofs.Names.{◌≡◌, ℕ, zero, suc, ◌+◌, ◌<◌, inl, inr, Bool, true, false, List, [], ◌∷◌, length, get_or, set, Option, Some, None, is_none, refl, sym, ap, ◌∙◌, arith, subst, zero-add, true≢false, Cell, Unknown, Filled, Blank, CellExtends, Extends, is_known, GridLine, Changed, round, closure, is_refuted, left_over, tried, trial_round, trials, IsTried, Progresses, IsTrialOf, unknown_count, AtMost, Extends-refl, Extends-trans, length-Extends, Extends-at, IsLeastClosed}
 use Rattle.solve_core.specs.declared.trials.Trial.{Trial}
 use Rattle.solve_core.specs.declared.trials.Trial.TheVariants.{Refuted, Open, Closed}
-use Rattle.solve_core.proofs.Order.{set_extends, set_within}
+use Rattle.solve_core.proofs.Order.{set_extends, set_within, below_each, none_only}
 use Rattle.solve_core.proofs.Closing.{repeat-fixed, fewer_unknown}
 use Rattle.solve_core.proofs.ClosureLaws.{closure-IsLeastClosed, same_at_most}
-use Rattle.solve_core.proofs.TrialLaws.{OptionBelow, tried_cells, tried_cells-above, all_below, each_below, tried-below, after_trials, trials-IsLeastClosed}
+use Rattle.solve_core.proofs.TrialLaws.{OptionBelow, tried_cells, tried_cells-above, all_below, each_below, tried-below, after_trials, trials-IsLeastClosed, left_blank_below, left_filled_below}
 use Rattle.solve_core.proofs.LineSteps.{least_between}
+use Rattle.solve_core.proofs.TrailSteps.{count-settled}
 
 -- from a grid between one and its trials the trials end alike
 pub trials_between : (lines : List GridLine) (g z : List Cell) → Extends g z → AtMost (Some z) (trials lines g) →
@@ -19,32 +20,17 @@ pub trial_closed-round : (lines : List GridLine) (z : List Cell) → trial_round
 trial_closed-round lines z e = (after_trials lines z z (tried_cells lines z) e).1
 
 pub closure_below : (lines : List GridLine) (g : List Cell) → AtMost (closure lines g) (trials lines g)
-closure_below lines g = to (trials lines g) (trials-IsLeastClosed lines g)
-  where
-    to : (o : Option (List Cell)) → IsLeastClosed (trial_round lines) g o → AtMost (closure lines g) o
-    to None l = tt
-    to (Some w) l = (closure-IsLeastClosed lines g).least w (trial_closed-round lines w (l.closed w refl)) l.above
+closure_below lines g = below_each (closure lines g) (trials lines g) (λ w e. let law = trials-IsLeastClosed lines g in
+    (closure-IsLeastClosed lines g).least w (trial_closed-round lines w (law.closed w e)) (rw e at law.above))
 
 -- trials from the closure of a grid end as they do from the grid
 pub closure_trials : (lines : List GridLine) (g new : List Cell) → closure lines g ≡ Some new → trials lines new ≡ trials lines g
 closure_trials lines g new e = trials_between lines g new (rw e at ((closure-IsLeastClosed lines g).above))
     (rw e at (closure_below lines g))
 
-none_only : (o : Option (List Cell)) → AtMost None o → o ≡ None
-none_only None h = refl
-none_only (Some z) h = absurd h
-
 -- if the closure of a grid is dead, its trials end dead
 pub closure_dead : (lines : List GridLine) (g : List Cell) → closure lines g ≡ None → trials lines g ≡ None
 closure_dead lines g e = none_only (trials lines g) (rw e at (closure_below lines g))
-
-left_blank_below : (b : Bool) (w : Cell) → OptionBelow (left_over true b) w → CellExtends Blank w
-left_blank_below true w h = absurd h
-left_blank_below false w h = h
-
-left_filled_below : (b : Bool) (w : Cell) → OptionBelow (left_over b true) w → CellExtends Filled w
-left_filled_below true w h = absurd h
-left_filled_below false w h = h
 
 -- what trials say of one cell is below where they all end
 tried_at_end : (lines : List GridLine) (g w : List Cell) (k : ℕ) → trial_round lines w ≡ Some w → Extends g w → k < length w →
@@ -57,26 +43,22 @@ tried_at_end lines g w k closed gw l =
     tried-below lines g w w k Unknown gw (Extends-refl w) after.1 l tt here
 
 left_below : (lines : List GridLine) (g : List Cell) (k : ℕ) (colour : Cell) → k < length g →
-    ((w : Cell) → OptionBelow (tried lines g k Unknown) w → CellExtends colour w)
-    → (o : Option (List Cell)) → IsLeastClosed (trial_round lines) g o → AtMost (Some (set g k colour)) o
-left_below lines g k colour l below None law = tt
-left_below lines g k colour l below (Some w) law =
-    set_within g w k colour law.above (below (get_or w k Unknown)
-    (tried_at_end lines g w k (law.closed w refl) law.above (omega (arith, length-Extends g w law.above))))
+    ((w : Cell) → OptionBelow (tried lines g k Unknown) w → CellExtends colour w) → AtMost (Some (set g k colour)) (trials lines g)
+left_below lines g k colour l below = below_each (Some (set g k colour)) (trials lines g) (λ w e.
+    let law = trials-IsLeastClosed lines g in
+    let above : Extends g w = rw e at law.above in
+    set_within g w k colour above (below (get_or w k Unknown)
+    (tried_at_end lines g w k (law.closed w e) above (omega (arith, length-Extends g w above)))))
 
 -- if filled is refuted, the grid with the cell blank is below the trials' end
 pub blank_below : (lines : List GridLine) (g : List Cell) (k : ℕ) → k < length g → is_refuted lines g k Filled ≡ true →
     AtMost (Some (set g k Blank)) (trials lines g)
-blank_below lines g k l r =
-    left_below lines g k Blank l (λ w h. left_blank_below (is_refuted lines g k Blank) w (rw r at h))
-    (trials lines g) (trials-IsLeastClosed lines g)
+blank_below lines g k l r = left_below lines g k Blank l (λ w h. left_blank_below (is_refuted lines g k Blank) w (rw r at h))
 
 -- if blank is refuted, the grid with the cell filled is below the trials' end
 pub filled_below : (lines : List GridLine) (g : List Cell) (k : ℕ) → k < length g → is_refuted lines g k Blank ≡ true →
     AtMost (Some (set g k Filled)) (trials lines g)
-filled_below lines g k l r =
-    left_below lines g k Filled l (λ w h. left_filled_below (is_refuted lines g k Filled) w (rw r at h))
-    (trials lines g) (trials-IsLeastClosed lines g)
+filled_below lines g k l r = left_below lines g k Filled l (λ w h. left_filled_below (is_refuted lines g k Filled) w (rw r at h))
 
 tried_stays : (lines : List GridLine) (z : List Cell) (k : ℕ) (c : Cell) →
     (c ≡ Unknown → (is_refuted lines z k Filled ≡ false) × (is_refuted lines z k Blank ≡ false)) → OptionBelow (tried lines z k c) c
@@ -132,16 +114,6 @@ settled-extends lines g z k c unknown e =
     let above : Extends (set g k c) z = rw e at ((closure-IsLeastClosed lines (set g k c)).above) in
     Extends-trans g (set g k c) z (set_extends g k c unknown) above
 
-count-set : (g : List Cell) (k : ℕ) (c : Cell) → k < length g → get_or g k Unknown ≡ Unknown → is_known c ≡ true →
-    unknown_count (set g k c) < unknown_count g
-count-set [] k c h e n = absurd (omega arith)
-count-set (x ∷ g) zero Unknown h e n = absurd (true≢false (sym n))
-count-set (x ∷ g) zero Filled h e n = rw e (omega arith)
-count-set (x ∷ g) zero Blank h e n = rw e (omega arith)
-count-set (Unknown ∷ g) (suc k) c h e n = let rest = count-set g k c (omega arith) e n in omega (arith, rest)
-count-set (Filled ∷ g) (suc k) c h e n = let rest = count-set g k c (omega arith) e n in omega (arith, rest)
-count-set (Blank ∷ g) (suc k) c h e n = let rest = count-set g k c (omega arith) e n in omega (arith, rest)
-
 -- settling a cell as trials do is progress
 pub settle-changed : (lines : List GridLine) (g new : List Cell) (k : ℕ) (c : Cell) → k < length g → get_or g k Unknown ≡ Unknown →
     is_known c ≡ true → AtMost (Some (set g k c)) (trials lines g) → closure lines (set g k c) ≡ Some new
@@ -149,7 +121,7 @@ pub settle-changed : (lines : List GridLine) (g new : List Cell) (k : ℕ) (c : 
 settle-changed lines g new k c l unknown n below e =
     let z = set g k c in
     let above : Extends z new = rw e at ((closure-IsLeastClosed lines z).above) in
-    let fewer = count-set g k c l unknown n in (
+    let fewer = count-settled g k c l unknown n in (
       closure_trials lines z new e ∙ trials_between lines g z (set_extends g k c unknown) below,
       elim (fewer_unknown z new above) [ inl s ↦ omega (arith, ap unknown_count s, fewer) | inr m ↦ omega (arith, m, fewer) ],
     )

@@ -1,8 +1,8 @@
 -- `explore`: if the guess ends dead, the branches' events are left; else its closed cells' come before them.
-use Rattle.solve_core.proofs.Names.{◌≡◌, ◌++◌, length, set, ap, sym, ◌∙◌, arith, lines_of, guess_at, events, ending, owed_by, picked}
+use Rattle.solve_core.proofs.Names.{◌≡◌, ◌++◌, length, set, ap, sym, ◌∙◌, arith, lines_of, guess_at, events, ending, owed_by, picked, None, Some}
 use Rattle.solve_core.proofs.PickLaws.{picked-IsPick}
 use Rattle.solve_core.proofs.BranchLaws.{trailed-work, trailed-pending, trailed-older}
-use Rattle.solve_core.proofs.SearchSteps.{dead-events, alive-events, closure-closed, next-unknown, alive-fewer, known-before}
+use Rattle.solve_core.proofs.SearchSteps.{closure-closed, next-unknown, alive-fewer, known-before, closed-events}
 use Rattle.solve_core.proofs.search.explore.Goals as goal
 
 pub assign-requires-clause-cell : goal.assign-requires-clause-cell
@@ -23,7 +23,7 @@ returns-then-not-assign-clause-goes_on g c =
     λ branches w.
     let same : owed_by rule p branches new ≡ events rule lines given ++ owed_by rule p branches old =
     trailed-pending rule lines old new branches c.assign.ensures.trail w
-    ∙ dead-events rule (picked-IsPick c.args.pick p.width) lines given (owed_by rule p branches old) c.if-not-assign.ensures.closed in
+    ∙ closed-events rule (picked-IsPick c.args.pick p.width) lines given None (owed_by rule p branches old) c.if-not-assign.ensures.closed in
     record {
       under_way = record { work = trailed-work rule lines old new branches c.assign.ensures.trail w; older = tt; next_open = tt };
       ends = λ spent left. ap (ending p c.args.solutions.now.grids spent left) same;
@@ -47,7 +47,7 @@ returns-clause-goes_on g c =
     λ branches w.
     let same : guess_at (events rule lines) new.cells (rule new.cells) ++ owed_by rule p branches new ≡
     events rule lines given ++ owed_by rule p branches old =
-    alive-events rule (picked-IsPick c.args.pick p.width) lines given new.cells (owed_by rule p branches new)
+    closed-events rule (picked-IsPick c.args.pick p.width) lines given (Some new.cells) (owed_by rule p branches new)
     c.if-not-assign.ensures.closed
     ∙ ap (λ es. events rule lines given ++ es) (trailed-pending rule lines old new branches c.assign.ensures.trail w) in
     record {

@@ -1,9 +1,9 @@
 -- `search`: a guess and what is owed after it end as what was owed before, and fewer events are left.
-use Rattle.solve_core.proofs.Names.{append-nil, ◌≡◌, ◌+◌, ◌-◌, ◌≤◌, ◌++◌, [], refl, ap, sym, ◌∙◌, arith, length, slice_set, lines_of, events, ending, owed, owed_by, picked}
+use Rattle.solve_core.proofs.Names.{append-nil, ◌≡◌, ◌+◌, ◌-◌, ◌≤◌, ◌++◌, [], refl, ap, sym, ◌∙◌, arith, length, slice_set, lines_of, events, ending, owed, owed_by, picked, Some}
 use Rattle.solve_core.proofs.PickLaws.{picked-IsPick}
 use Rattle.solve_core.proofs.EndingLaws.{ending-next}
 use Rattle.solve_core.proofs.BranchLaws.{start-work}
-use Rattle.solve_core.proofs.SearchSteps.{alive-events, closed-closure, open-unknown, open-older, older-none}
+use Rattle.solve_core.proofs.SearchSteps.{closed-closure, open-unknown, open-older, older-none, closed-events}
 use Rattle.solve_core.proofs.GridSteps.{closed_rest, rest_closed}
 use Rattle.solve_core.proofs.search.search.Goals as goal
 
@@ -27,7 +27,7 @@ loop-pick-init g c =
       ends = ap (λ n. ending p c.look_at-next.new.solutions.grids 0 n (owed rule p branches board c.look_at-next.result)) all
           ∙ (rw c.requires.board.0 at c.look_at-next.ensures.ending) p c.requires.size 0 limit (owed_by rule p branches board)
           ∙ ap (ending p c.args.solutions.now.grids 0 limit)
-          (alive-events rule (picked-IsPick c.args.pick p.width) lines board.cells board.cells (owed_by rule p branches board)
+          (closed-events rule (picked-IsPick c.args.pick p.width) lines board.cells (Some board.cells) (owed_by rule p branches board)
           (sym (closed-closure lines board.cells closed))
           ∙ ap (λ es. events rule lines board.cells ++ es) none
           ∙ append-nil (events rule lines board.cells))

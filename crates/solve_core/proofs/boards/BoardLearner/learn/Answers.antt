@@ -1,15 +1,18 @@
 -- `learn` of `Board`: the trail leads back from the cells that the line learned, and its room is left.
-use Rattle.solve_core.proofs.Names.{◌∙◌, ◌*◌, arith, refl, subst, sym, Rows, Columns, places_from, places_on, with_cells, IsTrailed, TrailedGrid, length-Extends}
+use Rattle.solve_core.proofs.Names.{◌∙◌, ◌*◌, arith, refl, subst, sym, Rows, Columns, places_from, places_on, with_cells, IsTrailed, TrailedGrid, length-Extends, PartialGrid}
 use Rattle.solve_core.proofs.BoardSteps.{board-learned, trail-learned, trailed}
-use Rattle.solve_core.proofs.LearnedLines.{column_learning, learns_in, place_fits, row_learning}
+use Rattle.solve_core.proofs.LearnedLines.{column_learning, place_fits, row_learning, learns_at}
 use Rattle.solve_core.proofs.boards.BoardLearner.learn.Given.{Over}
 use Rattle.solve_core.proofs.boards.BoardLearner.learn.Goals as goal
+
+abbrev grid_at : TrailedGrid → PartialGrid
+grid_at t = record { width = t.width; height = t.height; cells = t.cells }
 
 pub push_changes-requires : goal.push_changes-requires
 push_changes-requires g c =
     let b = trailed c.self.inside.lines c.self.inside.trail.items in
-    let is = learns_in c.args.side Rows c.args.i _ _ c.args.new.now b _ c.self.invariant c.self.view_is c.in-Rows.is c.requires.i
-    c.requires.more c.requires.changes in
+    let is = learns_at c.args.side Rows c.args.i _ c.args.new.now c.self.inside.lines _ c.self.invariant.size.width_from c.self.invariant.count
+    (λ j. grid_at (c.self.view_is j)) c.in-Rows.is c.requires.i c.requires.more c.requires.changes in
     record {
       within = λ k has. omega (arith, (is.changes.to k has).0, length-Extends _ c.args.new.now is.more, c.requires.fits);
       places = λ k has.
@@ -22,8 +25,8 @@ trailed-in-Rows : (g : Over) (c : goal.After-push_changes g) → IsTrailed (trai
     (trailed c.learn.new.self c.push_changes.new.trail.items)
 trailed-in-Rows g c =
     let b = trailed c.self.inside.lines c.self.inside.trail.items in
-    let is = learns_in c.args.side Rows c.args.i _ _ c.args.new.now b _ c.self.invariant c.self.view_is c.in-Rows.is c.requires.i
-    c.requires.more c.requires.changes in
+    let is = learns_at c.args.side Rows c.args.i _ c.args.new.now c.self.inside.lines _ c.self.invariant.size.width_from c.self.invariant.count
+    (λ j. grid_at (c.self.view_is j)) c.in-Rows.is c.requires.i c.requires.more c.requires.changes in
     trail-learned c.learn.new.self b _ _ (c.push_changes.ensures.trail c.args.new.now b b.width
     (row_learning b _ _ _ _ _ _ _ is refl (λ j. c.from-place.ensures j * c.width-width.ensures.width j)) refl)
     (c.learn.ensures.cells ∙ (λ j. with_cells b.cells (places_on (c.in-Rows.is j) b.width b.height c.args.i) c.args.new.now) ∙
@@ -41,8 +44,8 @@ returns-in-Rows-clause-trail g c = λ keeps.
 pub push_changes-requires-in-Columns : goal.push_changes-requires-in-Columns
 push_changes-requires-in-Columns g c =
     let b = trailed c.self.inside.lines c.self.inside.trail.items in
-    let is = learns_in c.args.side Columns c.args.i _ _ c.args.new.now b _ c.self.invariant c.self.view_is c.in-Columns.is c.requires.i
-    c.requires.more c.requires.changes in
+    let is = learns_at c.args.side Columns c.args.i _ c.args.new.now c.self.inside.lines _ c.self.invariant.size.width_from c.self.invariant.count
+    (λ j. grid_at (c.self.view_is j)) c.in-Columns.is c.requires.i c.requires.more c.requires.changes in
     record {
       within = λ k has. omega (arith, (is.changes.to k has).0, length-Extends _ c.args.new.now is.more, c.requires.fits);
       places = λ k has.
@@ -55,8 +58,8 @@ trailed-in-Columns : (g : Over) (c : goal.After-push_changes-in-Columns g) → I
     (trailed c.learn.new.self c.push_changes-in-Columns.new.trail.items)
 trailed-in-Columns g c =
     let b = trailed c.self.inside.lines c.self.inside.trail.items in
-    let is = learns_in c.args.side Columns c.args.i _ _ c.args.new.now b _ c.self.invariant c.self.view_is c.in-Columns.is c.requires.i
-    c.requires.more c.requires.changes in
+    let is = learns_at c.args.side Columns c.args.i _ c.args.new.now c.self.inside.lines _ c.self.invariant.size.width_from c.self.invariant.count
+    (λ j. grid_at (c.self.view_is j)) c.in-Columns.is c.requires.i c.requires.more c.requires.changes in
     trail-learned c.learn.new.self b _ _ (c.push_changes-in-Columns.ensures.trail c.args.new.now b b.height
     (column_learning b _ _ _ _ _ _ _ _ is refl c.from-place.ensures c.width-width.ensures.width) refl)
     (c.learn.ensures.cells ∙ (λ j. with_cells b.cells (places_on (c.in-Columns.is j) b.width b.height c.args.i) c.args.new.now) ∙

@@ -1,19 +1,19 @@
 -- `learn` of `GridLines`: written whole, and into each line that crosses it at a change, the line is in the lines of one grid.
 use Rattle.solve_core.proofs.Names.{◌∙◌, ap, refl, with_items_is, Rows, Columns, PartialGrid}
-use Rattle.solve_core.proofs.GridLineSteps.{line_read}
-use Rattle.solve_core.proofs.LearnedLines.{can_learn, learned_columns, learned_rows, learns_of, long_line}
+use Rattle.solve_core.proofs.GridLineSteps.{line_read, grid_of_lines}
+use Rattle.solve_core.proofs.LearnedLines.{can_learn, learned_columns, learned_rows, long_line, learns_at}
 use Rattle.solve_core.proofs.grid_lines.GridLinesLearner.learn.Goals as goal
 
 pub settle_across-requires-clause-changes : goal.settle_across-requires-clause-changes
 settle_across-requires-clause-changes g c =
-    let is = learns_of c.args.side Rows c.args.i _ c.args.new.now _ _ _ c.self.invariant c.self.view_is c.in-Rows.is
-    c.requires.i c.requires.more c.requires.changes in
+    let is = learns_at c.args.side Rows c.args.i _ c.args.new.now (grid_of_lines c.self.inside.rows.items c.self.inside.columns.items) _
+    c.self.invariant.size.width_from c.self.invariant.count c.self.view_is c.in-Rows.is c.requires.i c.requires.more c.requires.changes in
     rw c.deref_mut.ensures.value (can_learn Rows _ _ _ _ _ _ is c.self.inside.columns.items (refl, c.self.invariant.columns_are))
 
 pub invariant_of-self : goal.invariant_of-self
 invariant_of-self g c =
-    let is = learns_of c.args.side Rows c.args.i _ c.args.new.now _ _ _ c.self.invariant c.self.view_is c.in-Rows.is
-    c.requires.i c.requires.more c.requires.changes in
+    let is = learns_at c.args.side Rows c.args.i _ c.args.new.now (grid_of_lines c.self.inside.rows.items c.self.inside.columns.items) _
+    c.self.invariant.size.width_from c.self.invariant.count c.self.view_is c.in-Rows.is c.requires.i c.requires.more c.requires.changes in
     let learned = learned_rows _ _ _ _ _ _ c.settle_across.new.lines c.self.invariant is c.deref_mut.ensures.value
     c.settle_across.ensures.len c.settle_across.ensures.changed c.settle_across.ensures.others in
     let kept = with_items_is c.self.inside.columns c.settle_across.new.lines (c.settle_across.ensures.len ∙ c.deref_mut.ensures.len) in
@@ -21,29 +21,29 @@ invariant_of-self g c =
 
 pub returns-in-Rows-clause-cells : goal.returns-in-Rows-clause-cells
 returns-in-Rows-clause-cells g c =
-    let is = learns_of c.args.side Rows c.args.i _ c.args.new.now _ _ _ c.self.invariant c.self.view_is c.in-Rows.is
-    c.requires.i c.requires.more c.requires.changes in
+    let is = learns_at c.args.side Rows c.args.i _ c.args.new.now (grid_of_lines c.self.inside.rows.items c.self.inside.columns.items) _
+    c.self.invariant.size.width_from c.self.invariant.count c.self.view_is c.in-Rows.is c.requires.i c.requires.more c.requires.changes in
     let learned = learned_rows _ _ _ _ _ _ c.settle_across.new.lines c.self.invariant is c.deref_mut.ensures.value
     c.settle_across.ensures.len c.settle_across.ensures.changed c.settle_across.ensures.others in
     rw (← c.self.view_is, c.in-Rows.is, c.from-place.ensures, c.copy_from.ensures) (ap (λ (p : PartialGrid). p.cells) learned.0)
 
 pub copy_from-requires-in-Columns : goal.copy_from-requires-in-Columns
 copy_from-requires-in-Columns g c =
-    let is = learns_of c.args.side Columns c.args.i _ c.args.new.now _ _ _ c.self.invariant c.self.view_is c.in-Columns.is
-    c.requires.i c.requires.more c.requires.changes in
+    let is = learns_at c.args.side Columns c.args.i _ c.args.new.now (grid_of_lines c.self.inside.rows.items c.self.inside.columns.items) _
+    c.self.invariant.size.width_from c.self.invariant.count c.self.view_is c.in-Columns.is c.requires.i c.requires.more c.requires.changes in
     rw (c.index_mut-in-Columns.ensures.value, c.from-place.ensures, line_read c.self.inside.columns.items c.args.i _ is.line)
     (long_line Columns _ _ _ _ _ _ c.self.inside.columns.items is (refl, c.self.invariant.columns_are))
 
 pub settle_across-requires-in-Columns-clause-changes : goal.settle_across-requires-in-Columns-clause-changes
 settle_across-requires-in-Columns-clause-changes g c =
-    let is = learns_of c.args.side Columns c.args.i _ c.args.new.now _ _ _ c.self.invariant c.self.view_is c.in-Columns.is
-    c.requires.i c.requires.more c.requires.changes in
+    let is = learns_at c.args.side Columns c.args.i _ c.args.new.now (grid_of_lines c.self.inside.rows.items c.self.inside.columns.items) _
+    c.self.invariant.size.width_from c.self.invariant.count c.self.view_is c.in-Columns.is c.requires.i c.requires.more c.requires.changes in
     rw c.deref_mut-in-Columns.ensures.value (can_learn Columns _ _ _ _ _ _ is c.self.inside.rows.items (refl, c.self.invariant.rows_are))
 
 pub invariant_of-self-in-Columns : goal.invariant_of-self-in-Columns
 invariant_of-self-in-Columns g c =
-    let is = learns_of c.args.side Columns c.args.i _ c.args.new.now _ _ _ c.self.invariant c.self.view_is c.in-Columns.is
-    c.requires.i c.requires.more c.requires.changes in
+    let is = learns_at c.args.side Columns c.args.i _ c.args.new.now (grid_of_lines c.self.inside.rows.items c.self.inside.columns.items) _
+    c.self.invariant.size.width_from c.self.invariant.count c.self.view_is c.in-Columns.is c.requires.i c.requires.more c.requires.changes in
     let learned = learned_columns _ _ _ _ _ _ c.settle_across-in-Columns.new.lines c.self.invariant is c.deref_mut-in-Columns.ensures.value
     c.settle_across-in-Columns.ensures.len c.settle_across-in-Columns.ensures.changed c.settle_across-in-Columns.ensures.others in
     let kept = with_items_is c.self.inside.rows c.settle_across-in-Columns.new.lines (c.settle_across-in-Columns.ensures.len ∙ c.deref_mut-in-Columns.ensures.len) in
@@ -51,8 +51,8 @@ invariant_of-self-in-Columns g c =
 
 pub returns-in-Columns-clause-cells : goal.returns-in-Columns-clause-cells
 returns-in-Columns-clause-cells g c =
-    let is = learns_of c.args.side Columns c.args.i _ c.args.new.now _ _ _ c.self.invariant c.self.view_is c.in-Columns.is
-    c.requires.i c.requires.more c.requires.changes in
+    let is = learns_at c.args.side Columns c.args.i _ c.args.new.now (grid_of_lines c.self.inside.rows.items c.self.inside.columns.items) _
+    c.self.invariant.size.width_from c.self.invariant.count c.self.view_is c.in-Columns.is c.requires.i c.requires.more c.requires.changes in
     let learned = learned_columns _ _ _ _ _ _ c.settle_across-in-Columns.new.lines c.self.invariant is c.deref_mut-in-Columns.ensures.value
     c.settle_across-in-Columns.ensures.len c.settle_across-in-Columns.ensures.changed c.settle_across-in-Columns.ensures.others in
     let kept = with_items_is c.self.inside.rows c.settle_across-in-Columns.new.lines (c.settle_across-in-Columns.ensures.len ∙ c.deref_mut-in-Columns.ensures.len) in
