@@ -1,5 +1,5 @@
 -- In how many sets a place is, and what that says of a row's neighbours.
-use Rattle.solve_core.proofs.Names.{◌≡◌, ℕ, ◌+◌, ◌-◌, ◌<◌, ◌≤◌, ◌⊎◌, inl, inr, Bool, true, false, nat_eq, List, length, get_or, Option, Some, None, IfSome, IfNone, refl, sym, ◌∙◌, arith, subst, true≢false, cases_eq, cases_lt, eqb-true, eq-eqb, or_cases, Cell, Unknown, is_known, Has, has, IsMaskOf, IsShifted, IsUnknownCell, AreCounts, IsKnownCell, IsMostInRow, row_score, two_of, is_sure}
+use Rattle.solve_core.proofs.Names.{◌≡◌, ℕ, ◌+◌, ◌-◌, ◌<◌, ◌≤◌, ◌⊎◌, inl, inr, Bool, true, false, nat_eq, List, length, get_or, Option, Some, None, IfSome, IfNone, refl, sym, ◌∙◌, arith, true≢false, cases_eq, cases_lt, eqb-true, eq-eqb, or_cases, Cell, Unknown, is_known, Has, has, IsMaskOf, IsShifted, IsUnknownCell, AreCounts, IsKnownCell, IsMostInRow, row_score, two_of, is_sure}
 use Rattle.place_sets.proofs.HasLemmas.{true_has, has_true}
 use Rattle.grid_core.proofs.LineCells.{has_by}
 
@@ -21,10 +21,6 @@ counts_by f e b c i = by (has e i) (has b i) refl refl
       | inl some ↦ absurd (lacking e i p (c.either_is.from i (omega arith)))
       | inr none ↦ omega (arith, none)
     ]
-
--- two sets that tell a count also tell the count that is read off them
-pub counts_own : (f : ℕ → ℕ) (e b : ℕ) → AreCounts f e b → AreCounts (λ i. two_of (has e i) (has b i)) e b
-counts_own f e b c = subst (λ (count : ℕ → ℕ). AreCounts count e b) (λ j i. sym (counts_by f e b c i) j) c
 
 sure_by : (outside : Bool) (c : Cell) → (outside ≡ true) ⊎ (is_known c ≡ true) → is_sure outside c ≡ true
 sure_by true c h = refl

@@ -48,7 +48,3 @@ all-known cells = elim (cases_Bool (list_all is_known cells)) [
 pub full-tried : (lines : List GridLine) (cells : List Cell) → list_all is_known cells ≡ true → (k : ℕ) → k < length cells →
     IsTried lines cells k
 full-tried lines cells h k l e = absurd (true≢false (sym (AllPass-from_list_all is_known cells h k Unknown l) ∙ ap is_known e))
-
--- at a known cell there is nothing to try
-pub known-tried : (lines : List GridLine) (cells : List Cell) (k : ℕ) → is_unknown (get_or cells k Unknown) ≡ false → IsTried lines cells k
-known-tried lines cells k h e = absurd (true≢false (sym (ap is_unknown e) ∙ h))

@@ -105,23 +105,6 @@ pub record HaveAcross (columns rows : List (List Cell)) (y : ℕ) : Type 0 where
   pub cells : (x k : ℕ) → x < length columns → k < y → get_or (get_or columns x []) k Unknown ≡ get_or (get_or rows k []) x Unknown
   pub lengths : (x : ℕ) → x < length columns → length (get_or columns x []) ≡ length rows
 
--- and after row y was written those of it too
-pub across-more : (columns more rows : List (List Cell)) (y : ℕ) (row : List Cell) → y < length rows → row ≡ get_or rows y [] →
-    length more ≡ length columns → ((x : ℕ) → x < length columns → get_or more x [] ≡ set (get_or columns x []) y (get_or row x Unknown)) →
-    HaveAcross columns rows y → HaveAcross more rows (y + 1)
-across-more columns more rows y row l e long set_at is = record {
-  cells = λ x k lx lk.
-      let below : x < length columns = omega (arith, lx, long) in
-      ap (λ (column : List Cell). get_or column k Unknown) (set_at x below) ∙ elim (cases_eq k y) [
-        | inl here ↦ rw here (get_or-set_same (get_or columns x []) y (get_or row x Unknown) Unknown (omega (arith, l, is.lengths x below)) ∙
-            ap (λ (r : List Cell). get_or r x Unknown) e)
-        | inr other ↦ get_or-set_other (get_or columns x []) y k (get_or row x Unknown) Unknown other ∙ is.cells x k below (omega arith)
-      ];
-  lengths = λ x lx.
-      let below : x < length columns = omega (arith, lx, long) in
-      ap length (set_at x below) ∙ length-set (get_or columns x []) y (get_or row x Unknown) ∙ is.lengths x below;
-}
-
 -- ---- the cells of rows
 
 -- a row and a column read at a cell
@@ -202,23 +185,6 @@ lines-unknown w h rows columns size er el =
     } in
     let same = lines-cells (replicate (w * h) Unknown) rows columns are in
     (same, rw same are)
-
--- the rows and the columns of two grids of one size are as many, and as long
-pub lines-alike : (rows columns others beside : List (List Cell)) (g h : PartialGrid) → AreLinesOf (cells_of_rows rows) rows columns →
-    AreLinesOf (cells_of_rows others) others beside → grid_of_lines rows columns ≡ g → grid_of_lines others beside ≡ h →
-    h.width ≡ g.width → h.height ≡ g.height → (length others ≡ length rows) × (length beside ≡ length columns)
-    × ((y : ℕ) → y < length rows → length (get_or others y []) ≡ length (get_or rows y []))
-    × ((x : ℕ) → x < length columns → length (get_or beside x []) ≡ length (get_or columns x []))
-lines-alike rows columns others beside g h a b seen other wide high =
-    let tall : length others ≡ length rows = rw (← other, ← seen) at high in
-    let broad : length beside ≡ length columns = rw (← other, ← seen) at wide in (
-      tall,
-      broad,
-      λ y l. (lines-long others beside 0 y b b.size.width_from (omega (arith, l, tall))).0 ∙ broad ∙
-          sym (lines-long rows columns 0 y a a.size.width_from l).0,
-      λ x l. (lines-long others beside x 0 b (omega (arith, l, broad)) b.size.height_from).1 ∙ tall ∙
-          sym (lines-long rows columns x 0 a l a.size.height_from).1,
-    )
 
 -- ---- unknown cells
 

@@ -1,5 +1,5 @@
 -- What deducing a line, or settling a cell, does to the marks of the lines and to the grid's closure.
-use Rattle.solve_core.proofs.Names.{◌≡◌, ◌≢◌, ℕ, ◌+◌, ◌*◌, ◌/◌, ◌%◌, ◌<◌, ◌≤◌, inl, inr, true, false, List, length, get_or, set, Option, Some, refl, sym, ap, ◌∙◌, arith, length-set, true≢false, cases_eq, div_below, Cell, Unknown, Nonogram, IsNonogram, GridLine, lines_of, line_on, crossing, places_on, count_on, place_on, Dead, Same, Changed, round, closure, deduce_line, LineMarks, marks_on, IsMarkedOn, AreUnmarked, AreMarksWithin, Has, IsMarked, IsMaskOf, Side, Rows, Columns, IsDeduced, IsLearned, MarksChanges, HasMarks, MarksAfter, Progresses, IsAtRest, Closing, IsIdle, unknown_count, Extends-refl, length-Extends}
+use Rattle.solve_core.proofs.Names.{◌≡◌, ◌≢◌, ℕ, ◌+◌, ◌*◌, ◌/◌, ◌%◌, ◌<◌, inl, inr, true, false, List, length, get_or, set, Option, Some, refl, sym, ap, ◌∙◌, arith, length-set, true≢false, cases_eq, div_below, Cell, Unknown, Nonogram, IsNonogram, GridLine, lines_of, line_on, crossing, places_on, count_on, place_on, Dead, Same, Changed, round, closure, deduce_line, LineMarks, marks_on, IsMarkedOn, AreUnmarked, AreMarksWithin, Has, IsMarked, IsMaskOf, Side, Rows, Columns, IsDeduced, IsLearned, MarksChanges, HasMarks, MarksAfter, Progresses, IsAtRest, Closing, IsIdle, Extends-refl, length-Extends}
 use Rattle.solve_core.specs.declared.closures.Progress.{Progress}
 use Rattle.solve_core.proofs.ClosureLaws.{closure-IsLeastClosed}
 use Rattle.solve_core.proofs.StepLaws.{IsOneOf, done_within}
@@ -100,22 +100,6 @@ pub progress-keeps : (f : List Cell → Option (List Cell)) (r : Progress) (old 
 progress-keeps f Dead old new n h = absurd (n refl)
 progress-keeps f Same old new n h = ap f h
 progress-keeps f Changed old new n h = h.0
-
-pub progress-count : (f : List Cell → Option (List Cell)) (r : Progress) (old new : List Cell) → r ≢ Dead → Progresses f r old new →
-    unknown_count new ≤ unknown_count old
-progress-count f Dead old new n h = absurd (n refl)
-progress-count f Same old new n h = omega (arith, ap unknown_count h)
-progress-count f Changed old new n h = omega (arith, h.1)
-
--- a change after a step that isn't dead is a change of both
-pub progress-changed : (f : List Cell → Option (List Cell)) (r : Progress) (old middle new : List Cell) → r ≢ Dead →
-    Progresses f r old middle → Progresses f Changed middle new → Progresses f Changed old new
-progress-changed f r old middle new n h k = (k.0 ∙ progress-keeps f r old middle n h, omega (arith, k.1, progress-count f r old middle n h))
-
--- progress to some cells is progress to cells that are the same
-pub progress-same : (f : List Cell → Option (List Cell)) (r : Progress) (old middle new : List Cell) → Progresses f r old middle →
-    new ≡ middle → Progresses f r old new
-progress-same f r old middle new h e = rw e h
 
 -- if no line is marked after steps that keep the closure, the cells are the closure of the first ones
 pub closed_after : (p : Nonogram) (marks : LineMarks) (first cells middle new : List Cell) (r : Progress) → r ≢ Dead →

@@ -1,5 +1,5 @@
 -- The lines of a grid after one of them was written whole, and each that crosses it where it changes.
-use Rattle.solve_core.proofs.Names.{◌≡◌, ◌≢◌, ◌∙◌, refl, ℕ, ◌*◌, ◌<◌, ◌≤◌, inl, inr, List, [], length, get_or, set, sym, ap, subst, arith, length-set, get_or-set_same, get_or-set_other, bit_at, cases_eq, set-get_or, Cell, Unknown, Side, Rows, Columns, Extends, IsChanged, cells_at, crossing, places_on, IsSize, PartialGrid, cells_of_rows, count_on, place_on, same_cells, get_or-cells_at, length-cells_at, length-places_on, get_or-places_on, Extends-at, Has, IsMaskOf, with_cells, AreLinesOf, CanLearn, IsLearning, cells_along, IsBoard, TrailedGrid, length-Extends, ext_get_or}
+use Rattle.solve_core.proofs.Names.{◌≡◌, ◌≢◌, ◌∙◌, refl, ℕ, ◌*◌, ◌<◌, ◌≤◌, inl, inr, List, [], length, get_or, set, sym, ap, subst, arith, length-set, get_or-set_same, get_or-set_other, bit_at, cases_eq, set-get_or, Cell, Unknown, Side, Rows, Columns, Extends, IsChanged, cells_at, crossing, places_on, IsSize, PartialGrid, cells_of_rows, count_on, place_on, same_cells, get_or-cells_at, length-cells_at, length-places_on, get_or-places_on, Extends-at, Has, IsMaskOf, with_cells, AreLinesOf, CanLearn, IsLearning, TrailedGrid, length-Extends, ext_get_or}
 use Rattle.solve_core.proofs.ClosureLaws.{length-with_cells}
 use Rattle.solve_core.proofs.GridLineSteps.{grid_of_lines, lines-cells}
 use Rattle.solve_core.proofs.LineSteps.{cells_at-same, cells_at-with_cells, get_or-with_cells, learned_cell}

@@ -211,11 +211,3 @@ row-step rows columns y width cells row above below best least found a ly wide s
               omega (arith, few, same z within, counted)))),
           omega (arith, counted),
         )
-
-one_at_most : (b : Bool) → cond b 1 0 ≤ 1
-one_at_most true = omega arith
-one_at_most false = omega arith
-
--- at most four neighbours of a cell are known or outside the grid
-pub score-few : (w : ℕ) (cells : List Cell) (k : ℕ) → sure_neighbours w cells k ≤ 4
-score-few w cells k = omega (arith, one_at_most)

@@ -1,9 +1,5 @@
 -- The report on a puzzle, by its two closures and by how its search ends.
-use Rattle.solve_core.proofs.Names.{◌≡◌, ℕ, zero, suc, ◌+◌, ◌≤◌, Bool, true, false, List, [], ◌∷◌, ◌++◌, length, map, Option, Some, None, nat_lt, refl, sym, ap, ◌∙◌, arith, subst, true≢false, zero-add, add-zero, inl, inr, option_and_then, count_by, cases_lt, le-ltb, lt-ltb, list_all, is_known, closure, trials, Cell, PartialGrid, Nonogram, lines_of, Findings, Event, Guess, Solution, events, through_solution, within_guesses, solutions_in, guesses_in, verdict_by, grid_of, whole_search, events_from, guesses_of, unknown_grid, line_closure, trial_closure, is_decided, known_in, grade_by, report_of, IsFinal, Ending, ending}
-use Rattle.solve_core.specs.declared.findings.Grade.{Grade}
-use Rattle.solve_core.specs.declared.findings.Grade.TheVariants.{Lines}
-use Rattle.solve_core.specs.declared.findings.Verdict.{Verdict}
-use Rattle.solve_core.specs.declared.findings.Verdict.TheVariants.{Nothing}
+use Rattle.solve_core.proofs.Names.{◌≡◌, ℕ, zero, suc, ◌+◌, ◌≤◌, true, false, List, [], ◌∷◌, ◌++◌, length, map, Option, nat_lt, refl, sym, ap, ◌∙◌, arith, subst, true≢false, zero-add, add-zero, inl, inr, option_and_then, cases_lt, le-ltb, lt-ltb, closure, trials, Cell, PartialGrid, Nonogram, lines_of, Findings, Event, Guess, Solution, through_solution, within_guesses, solutions_in, guesses_in, verdict_by, grid_of, whole_search, events_from, guesses_of, unknown_grid, line_closure, trial_closure, is_decided, known_in, grade_by, report_of, IsFinal, Ending, ending}
 
 nat_lt-more : (m n : ℕ) → nat_lt m n ≡ nat_lt (suc m) (suc n)
 nat_lt-more m n = elim (cases_lt m n) [

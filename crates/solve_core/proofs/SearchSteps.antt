@@ -1,5 +1,5 @@
 -- What happens below a guess, and at which cell the next one is made.
-use Rattle.solve_core.proofs.Names.{◌≡◌, ◌≢◌, ℕ, ◌+◌, ◌<◌, ◌≤◌, inl, inr, List, [], ◌++◌, length, get_or, set, refl, sym, ap, ◌∙◌, arith, subst, Option, Some, None, IfSome, true, false, get_or-set_other, cases_lt, position-Some, Cell, Unknown, Filled, is_unknown, is_known, Extends, GridLine, Branch, round, closure, Event, IsPick, guess_at, search_from, events, first_unknown, unknown_count, AreKnownBefore, IsClosed, IsNext, IsOpen, IsWork, AreOlder, Extends-at, IsUnknownFrom}
+use Rattle.solve_core.proofs.Names.{◌≡◌, ◌≢◌, ℕ, ◌+◌, ◌<◌, ◌≤◌, inl, inr, List, [], ◌++◌, length, get_or, set, refl, sym, ap, ◌∙◌, arith, subst, Option, Some, None, IfSome, true, false, get_or-set_other, cases_lt, position-Some, Cell, Unknown, Filled, is_unknown, is_known, Extends, GridLine, Branch, round, closure, Event, IsPick, search_from, events, first_unknown, unknown_count, AreKnownBefore, IsClosed, IsNext, IsOpen, IsWork, AreOlder, Extends-at, IsUnknownFrom}
 use Rattle.grid_core.proofs.FirstUnknown.{position_none, position_some}
 use Rattle.solve_core.proofs.Closing.{repeat-fixed}
 use Rattle.solve_core.proofs.ClosureLaws.{closure-IsLeastClosed}

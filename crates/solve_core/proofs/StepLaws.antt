@@ -1,5 +1,5 @@
 -- Deducing one line after the other stays below the closure, and ends in it.
-use Rattle.solve_core.proofs.Names.{◌≡◌, ◌⊎◌, inl, inr, List, [], ◌∷◌, map, Option, Some, None, refl, subst, AllByRecursion, Cell, Extends, GridLine, deduce_line, round, closure, AtMost, AtMost-trans, Extends-refl}
+use Rattle.solve_core.proofs.Names.{◌≡◌, ◌⊎◌, inl, inr, List, [], ◌∷◌, map, Option, Some, None, subst, AllByRecursion, Cell, Extends, GridLine, deduce_line, round, closure, AtMost, AtMost-trans, Extends-refl}
 use Rattle.solve_core.proofs.Order.{join_all-least, below_each, none_only}
 use Rattle.solve_core.proofs.ClosureLaws.{closure-IsLeastClosed, deduce_line-monotone, round-above, same_at_most, round-above_each}
 

@@ -1,5 +1,5 @@
 -- What a trial's outcome says of a cell, and what settling the cell leaves of the trials' end.
-use Rattle.solve_core.proofs.Names.{◌≡◌, ℕ, zero, suc, ◌+◌, ◌<◌, inl, inr, Bool, true, false, List, [], ◌∷◌, length, get_or, set, Option, Some, None, is_none, refl, sym, ap, ◌∙◌, arith, subst, zero-add, true≢false, Cell, Unknown, Filled, Blank, CellExtends, Extends, is_known, GridLine, Changed, round, closure, is_refuted, left_over, tried, trial_round, trials, IsTried, Progresses, IsTrialOf, unknown_count, AtMost, Extends-refl, Extends-trans, length-Extends, Extends-at, IsLeastClosed}
+use Rattle.solve_core.proofs.Names.{◌≡◌, ℕ, ◌+◌, ◌<◌, inl, inr, Bool, true, false, List, [], ◌∷◌, length, get_or, set, Option, Some, None, is_none, refl, sym, ap, ◌∙◌, arith, subst, zero-add, Cell, Unknown, Filled, Blank, CellExtends, Extends, is_known, GridLine, Changed, round, closure, is_refuted, left_over, tried, trial_round, trials, IsTried, Progresses, IsTrialOf, unknown_count, AtMost, Extends-refl, Extends-trans, length-Extends, Extends-at}
 use Rattle.solve_core.specs.declared.trials.Trial.{Trial}
 use Rattle.solve_core.specs.declared.trials.Trial.TheVariants.{Refuted, Open, Closed}
 use Rattle.solve_core.proofs.Order.{set_extends, set_within, below_each, none_only}
@@ -138,13 +138,6 @@ pub trial-refuted : (r : Trial) (lines : List GridLine) (g trial : List Cell) (k
 trial-refuted Refuted lines g trial k c e h = ap is_none h
 trial-refuted Open lines g trial k c e h = cc
 trial-refuted Closed lines g trial k c e h = cc
-
--- a trial that came to anything else doesn't
-pub trial-open : (r : Trial) (lines : List GridLine) (g trial : List Cell) (k : ℕ) (c : Cell) → (r ≡ Refuted → ⊥) →
-    IsTrialOf r lines g k c trial → is_refuted lines g k c ≡ false
-trial-open Refuted lines g trial k c n h = absurd (n refl)
-trial-open Open lines g trial k c n h = h
-trial-open Closed lines g trial k c n h = ap is_none h
 
 -- the grid of a trial that came to `Closed` is the closure of the cells with its colour
 pub trial-closed : (r : Trial) (lines : List GridLine) (g trial : List Cell) (k : ℕ) (c : Cell) → r ≡ Closed →

@@ -1,5 +1,5 @@
 -- `learn_line`: what is certain of a line is written, and the lines that cross where it changes are marked.
-use Rattle.solve_core.proofs.Names.{true≢false, ◌≡◌, ◌∙◌, ◌*◌, ◌<◌, ◌⊎◌, inl, inr, ℕ, sym, arith, ap, subst, length, get_or, refl, List, Some, Cell, Unknown, Side, Nonogram, cells_at, crossing, line_on, places_on, count_on, place_on, Extends, IsSize, Has, IsMaskOf, deduced, IsChanged, same_cells, same_without_change, length-cells_at, get_or-cells_at, length-places_on, get_or-places_on, deduced-above, length-deduced, IsBoardOf, cells_along, marks_on, with_cells, IsWritten, TrailedGrid}
+use Rattle.solve_core.proofs.Names.{true≢false, ◌≡◌, ◌∙◌, ◌*◌, ◌<◌, ◌⊎◌, inl, inr, ℕ, sym, arith, ap, subst, length, get_or, refl, List, Some, Cell, Unknown, Side, Nonogram, cells_at, crossing, line_on, places_on, count_on, place_on, Extends, IsSize, Has, IsMaskOf, deduced, IsChanged, same_cells, same_without_change, length-cells_at, get_or-cells_at, length-places_on, get_or-places_on, deduced-above, length-deduced, IsBoardOf, cells_along, marks_on, with_cells, IsWritten, TrailedGrid, rules}
 use Rattle.solve_core.proofs.ClosureLaws.{length-with_cells}
 use Rattle.solve_core.proofs.LineSteps.{written-fewer, written-read}
 use Rattle.solve_core.proofs.SideLines.{below_places, crossing_twice, distinct_places}
@@ -61,32 +61,8 @@ unchanged p old new certain side i k m positive l size w e changes lk n =
     (λ d. n (changes.from k (omega (arith, here, length-cells_at Unknown old places), d))) ∙
     get_or-cells_at Unknown old places k here ∙ ap (λ (q : ℕ). get_or old q Unknown) at
 
-pub returns-clause-learned : goal.returns-clause-learned
-returns-clause-learned g c =
-    let p = c.args.puzzle.now in
-    let b = g.B.Learner.board c.args.board.now in
-    let side = c.args.side in
-    let line = line_on side p c.args.i in
-    let new = (g.B.Learner.board c.learn.new.self).cells in
-    let read = c.line-old.ensures.cells ∙ seen p b side c.args.i c.requires.board in
-    let same = same_without_change c.line-old.result.now c.in-Some.new (g.W.PlaceSet.number c.changes-changes.result)
-    (length-deduced c.line-old.result.now c.in-Some.new line.clue (sym c.in-Some.is ∙ c.deduce.ensures.answer))
-    c.changes-changes.ensures.changes in
-    let w : IsWritten line b.cells new = record {
-      certain = c.in-Some.new;
-      is_certain = ap (λ (r : List Cell). deduced r line.clue) (sym read) ∙ sym c.deduce.ensures.answer ∙ c.in-Some.is;
-      written = c.learn.ensures.cells ∙ (λ j. with_cells b.cells
-          (places_on side (c.requires.board.0 j) (c.requires.board.1 j) c.args.i) c.in-Some.new);
-    } in
-    let size : IsSize p.width p.height = rw (← c.requires.board.0, ← c.requires.board.1) c.line-old.ensures.whole.0 in (
-      w,
-      written-fewer line b.cells new w (λ e. true≢false (sym (same.1 (read ∙ sym e)) ∙ sym c.is_empty.ensures ∙ c.if-is_empty.false))
-          (distinct_places side p.width p.height c.args.i (omega (arith, size.width_from)))
-          (rw c.requires.board.2 (below_places side p.width p.height c.args.i c.requires.i)),
-    )
-
-pub returns-clause-marks : goal.returns-clause-marks
-returns-clause-marks g c =
+pub returns : goal.returns
+returns g c =
     let p = c.args.puzzle.now in
     let b = g.B.Learner.board c.args.board.now in
     let side = c.args.side in
@@ -104,25 +80,36 @@ returns-clause-marks g c =
           (places_on side (c.requires.board.0 j) (c.requires.board.1 j) i) c.in-Some.new);
     } in
     let size : IsSize p.width p.height = rw (← c.requires.board.0, ← c.requires.board.1) c.line-old.ensures.whole.0 in
+    let same = same_without_change c.line-old.result.now c.in-Some.new m
+    (length-deduced c.line-old.result.now c.in-Some.new line.clue (sym c.in-Some.is ∙ c.deduce.ensures.answer))
+    c.changes-changes.ensures.changes in
     let added = subst (λ (s : Side). IsMaskOf (λ k. Has (marks_on s before) k ⊎ Has m k) (marks_on s after)) c.crossing.ensures
     c.add.ensures.own in
     let changes = subst (λ (r : List Cell). IsMaskOf (IsChanged r c.in-Some.new) m) read c.changes-changes.ensures.changes in
     let within : (k : ℕ) → Has m k → k < count_on (crossing side) p.width p.height = λ k h.
     omega (arith, (changes.to k h).0, length-cells_at Unknown b.cells line.places, length-places_on side p.width p.height i) in
     record {
-      own = subst (λ (s : Side). marks_on s after ≡ marks_on s before) (ap crossing c.crossing.ensures ∙ crossing_twice side)
-          c.add.ensures.other;
-      kept = λ k h. added.from k (inl h);
-      crossing_it = λ k h. elim (added.to k h) [ inl old ↦ inl old | inr cell ↦ inr (within k cell) ];
-      same = λ k l n. unchanged p b.cells new c.in-Some.new side i k m (omega (arith, size.width_from)) c.requires.i c.requires.board.2
-          w refl changes l (λ h. n (added.from k (inr h)));
+      learned = (
+        w,
+        written-fewer line b.cells new w (λ e. true≢false (sym (same.1 (read ∙ sym e)) ∙ sym c.is_empty.ensures ∙ c.if-is_empty.false))
+            (distinct_places side p.width p.height i (omega (arith, size.width_from)))
+            (rw c.requires.board.2 (below_places side p.width p.height i c.requires.i)),
+      );
+      marks = record {
+        own = subst (λ (s : Side). marks_on s after ≡ marks_on s before) (ap crossing c.crossing.ensures ∙ crossing_twice side)
+            c.add.ensures.other;
+        kept = λ k h. added.from k (inl h);
+        crossing_it = λ k h. elim (added.to k h) [ inl old ↦ inl old | inr cell ↦ inr (within k cell) ];
+        same = λ k l n. unchanged p b.cells new c.in-Some.new side i k m (omega (arith, size.width_from)) c.requires.i c.requires.board.2
+            w refl changes l (λ h. n (added.from k (inr h)));
+      };
+      same = search rules;
+      trail = search rules;
+      size = (
+        c.learn.ensures.width ∙ c.requires.board.0,
+        c.learn.ensures.height ∙ c.requires.board.1,
+        ap length c.learn.ensures.cells ∙
+            length-with_cells b.cells (places_on side b.width b.height i) c.in-Some.new ∙ c.requires.board.2,
+      );
+      memory = search rules;
     }
-
-pub returns-clause-size : goal.returns-clause-size
-returns-clause-size g c =
-    let b = g.B.Learner.board c.args.board.now in (
-      c.learn.ensures.width ∙ c.requires.board.0,
-      c.learn.ensures.height ∙ c.requires.board.1,
-      ap length c.learn.ensures.cells ∙
-          length-with_cells b.cells (places_on c.args.side b.width b.height c.args.i) c.in-Some.new ∙ c.requires.board.2,
-    )

@@ -1,15 +1,8 @@
 -- `most_known`: one more cell is the best so far or changes nothing, and the best of all cells is the rule's.
-use Rattle.solve_core.proofs.Names.{◌≡◌, ◌∙◌, ◌+◌, ◌*◌, ℕ, Bool, length, get_or, ap, sym, arith, true≢false, Unknown, is_unknown, first_most, sure_neighbours}
-use Rattle.solve_core.proofs.PickRows.{cell-none, cell-some, least_after, score-few}
+use Rattle.solve_core.proofs.Names.{◌≡◌, ◌∙◌, ◌+◌, ℕ, Bool, get_or, ap, sym, arith, true≢false, Unknown, is_unknown, sure_neighbours}
+use Rattle.solve_core.proofs.PickRows.{cell-none, cell-some, least_after}
 use Rattle.solve_core.proofs.guessing.most_known.Goals as goal
 use Rattle.solve_core.proofs.guessing.most_known.Goals.{then-is_unknown+then-sure-least, then-is_unknown+else-sure-least, else-is_unknown}
-
-pub overflow_add-least : goal.overflow_add-least
-overflow_add-least c = omega (
-  arith,
-  c.sure_neighbours-sure.ensures,
-  score-few c.args.grid.now.width c.args.grid.now.cells c.loop-place.place,
-)
 
 pub loop-place-preserved : goal.loop-place-preserved
 loop-place-preserved c =
@@ -42,13 +35,3 @@ loop-place-preserved c =
             least_is = w.least-is ∙ before.least_is ∙ sym (ap (least_after score) w.best-is);
           }
     ]
-
-pub returns : goal.returns
-returns c =
-    let cells = c.args.grid.now.cells in
-    let score = sure_neighbours c.args.grid.now.width cells in
-    let passes : ℕ → Bool = λ k. is_unknown (get_or cells k Unknown) in
-    let count : c.from.result * c.from-2.result ≡ length cells =
-    (λ i. (c.from.ensures ∙ c.width.ensures.width) i * (c.from-2.ensures ∙ c.height.ensures) i) ∙ sym c.width.ensures.cells in
-    let last : c.loop-place.place ≡ length cells = omega (arith, c.loop-place-test.false, c.loop-place.invariant.within, count) in
-    c.loop-place.invariant.best_is ∙ ap (first_most score passes) last

@@ -1,6 +1,6 @@
 -- `known_beside`: the two sets say of each cell of the row which neighbours in it are known or outside the grid.
 use Rattle.solve_core.proofs.Names.{◌≡◌, ◌∙◌, ◌-◌, ℕ, length, subst, Has, IsMaskOf, IsShifted, one_within, two_of}
-use Rattle.solve_core.proofs.CountLaws.{counts_by, counts_own, left_is, right_is}
+use Rattle.solve_core.proofs.CountLaws.{counts_by, left_is, right_is}
 use Rattle.solve_core.proofs.picks.known_beside.Goals as goal
 
 pub shifted_up-requires : goal.shifted_up-requires
@@ -9,8 +9,8 @@ shifted_up-requires g c = one_within g.W.PlaceSet.WIDTH g.W.PlaceSet.TOP g.met.W
 pub shifted_down-requires : goal.shifted_down-requires
 shifted_down-requires g c = one_within g.W.PlaceSet.WIDTH g.W.PlaceSet.TOP g.met.W.PlaceSet.top_is.0 g.met.W.PlaceSet.width_is
 
-pub returns : goal.returns
-returns g c =
+pub returns-clause-beside : goal.returns-clause-beside
+returns-clause-beside g c =
     let number = g.W.PlaceSet.number in
     let row = c.args.row.now in
     let long : c.len.result ≡ length row = c.len.ensures.len in
@@ -22,7 +22,4 @@ returns g c =
     let right = right_is row g.W.PlaceSet.WIDTH (number c.known_cells-known.result) (number c.shifted_down.result) (number c.first-2.result)
     (number c.shifted_up-2.result) (number c.union-right.result) c.len.ensures.fits c.len.ensures.some
     c.known_cells-known.ensures c.shifted_down.ensures c.first-2.ensures last c.union-right.ensures in
-    record {
-      counts = counts_own _ _ _ c.of.ensures;
-      beside = λ x h. counts_by _ _ _ c.of.ensures x ∙ (λ i. two_of (left x h i) (right x h i));
-    }
+    λ x h. counts_by _ _ _ c.of.ensures x ∙ (λ i. two_of (left x h i) (right x h i))

@@ -1,11 +1,7 @@
 -- `most_in_row`: the four sets say of each cell of the row which neighbours are known or outside the grid.
 use Rattle.solve_core.proofs.Names.{◌+◌, has}
-use Rattle.solve_core.proofs.CountLaws.{counts_by, counts_own, most_by}
+use Rattle.solve_core.proofs.CountLaws.{counts_by, most_by}
 use Rattle.solve_core.proofs.picks.most_in_row.Goals as goal
-
-pub first_in_most-requires : goal.first_in_most-requires
-first_in_most-requires g c κs within =
-    (within.0, (within.1, (c.known_beside-beside.ensures.counts, counts_own _ _ _ c.of-across.ensures)))
 
 pub returns : goal.returns
 returns g c =

@@ -1,20 +1,7 @@
 -- `findings`: the report is the defined one, whether lines end dead, trials end dead, or there is a search.
-use Rattle.solve_core.proofs.Names.{true, ap, ◌∙◌, grade_by, picked, Some, None, refl}
+use Rattle.solve_core.proofs.Names.{◌∙◌, grade_by, picked, Some}
 use Rattle.solve_core.proofs.ReportLaws.{report-told}
 use Rattle.solve_core.proofs.reports.findings.Goals as goal
-
-pub returns-then-not-close : goal.returns-then-not-close
-returns-then-not-close g c =
-    report-told (picked c.args.pick c.args.puzzle.now.width) c.args.puzzle.now c.args.guesses c.args.board.now.cells None None
-    c.requires.unknown c.if-not-close.ensures.closed refl
-
-pub returns-then-not-alive : goal.returns-then-not-alive
-returns-then-not-alive g c =
-    let p = c.args.puzzle.now in
-    let graded = c.grade.ensures ∙ ap (λ b. grade_by b true) c.are_known-by_lines.ensures in
-    rw (graded, c.count_known-line_known.ensures)
-    (report-told (picked c.args.pick p.width) p c.args.guesses c.args.board.now.cells (Some c.close.new.self.cells) None
-    c.requires.unknown c.if-not-close.ensures.closed (rw c.if-not-alive.true at c.try_unless_full-alive.ensures.tried))
 
 pub returns : goal.returns
 returns g c =

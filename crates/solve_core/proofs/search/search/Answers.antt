@@ -41,18 +41,15 @@ loop-pick-init g c =
       found = c.look_at-next.ensures.found;
     }
 
-pub take_guess-requires : goal.take_guess-requires
-take_guess-requires g c =
-    let p = c.args.puzzle.now in
-    let rule = picked c.args.pick p.width in
-    let now = c.loop-pick.board in
-    let kept = c.loop-pick.invariant in
-    record {
-      next = open-unknown rule (picked-IsPick c.args.pick p.width) (lines_of p) now.cells c.loop-pick.next kept.under_way.next_open;
-      older = open-older rule (lines_of p) now.cells now.trail c.loop-pick.branches.items c.loop-pick.next kept.under_way.work
-          kept.under_way.older;
-      room = omega (arith, kept.room, kept.cells);
-    }
+pub take_guess-requires-clause-next : goal.take_guess-requires-clause-next
+take_guess-requires-clause-next g c =
+    open-unknown (picked c.args.pick c.args.puzzle.now.width) (picked-IsPick c.args.pick c.args.puzzle.now.width)
+    (lines_of c.args.puzzle.now) c.loop-pick.board.cells c.loop-pick.next c.loop-pick.invariant.under_way.next_open
+
+pub take_guess-requires-clause-older : goal.take_guess-requires-clause-older
+take_guess-requires-clause-older g c =
+    let work = c.loop-pick.invariant.under_way in
+    open-older _ _ _ c.loop-pick.board.trail c.loop-pick.branches.items c.loop-pick.next work.work work.older
 
 pub explore-next-requires-clause-next : goal.explore-next-requires-clause-next
 explore-next-requires-clause-next g c =

@@ -1,17 +1,8 @@
 -- `try_colour`: a copy that closes alive is line-closed and knows all that the board does: it is a witness.
-use Rattle.solve_core.proofs.Names.{List, set, sym, subst, arith, Cell, Extends, lines_of}
+use Rattle.solve_core.proofs.Names.{List, set, sym, subst, Cell, Extends, lines_of}
 use Rattle.solve_core.proofs.ClosureLaws.{closure-IsLeastClosed}
 use Rattle.solve_core.proofs.TrialSteps.{settled-extends}
-use Rattle.solve_core.proofs.WitnessLaws.{places_for}
 use Rattle.solve_core.proofs.trials.try_colour.Goals as goal
-
-pub has_met-requires : goal.has_met-requires
-has_met-requires g c = omega (
-  arith,
-  c.requires.cell.within,
-  places_for c.args.puzzle.now c.args.witnesses.now c.args.board.now.cells
-      c.requires.witnesses,
-)
 
 pub add-requires-clause-closed : goal.add-requires-clause-closed
 add-requires-clause-closed g c =

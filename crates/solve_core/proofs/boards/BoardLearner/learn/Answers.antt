@@ -1,5 +1,5 @@
 -- `learn` of `Board`: the trail leads back from the cells that the line learned, and its room is left.
-use Rattle.solve_core.proofs.Names.{◌∙◌, ◌*◌, arith, refl, subst, sym, Rows, Columns, places_from, places_on, with_cells, IsTrailed, TrailedGrid, length-Extends, PartialGrid}
+use Rattle.solve_core.proofs.Names.{◌∙◌, ◌*◌, arith, refl, subst, sym, Rows, Columns, places_from, places_on, with_cells, IsTrailed, TrailedGrid, length-Extends, PartialGrid, rules}
 use Rattle.solve_core.proofs.BoardSteps.{board-learned, trail-learned, trailed}
 use Rattle.solve_core.proofs.LearnedLines.{column_learning, place_fits, row_learning, learns_at}
 use Rattle.solve_core.proofs.boards.BoardLearner.learn.Given.{Over}
@@ -8,18 +8,13 @@ use Rattle.solve_core.proofs.boards.BoardLearner.learn.Goals as goal
 abbrev grid_at : TrailedGrid → PartialGrid
 grid_at t = record { width = t.width; height = t.height; cells = t.cells }
 
-pub push_changes-requires : goal.push_changes-requires
-push_changes-requires g c =
+pub push_changes-requires-clause-places : goal.push_changes-requires-clause-places
+push_changes-requires-clause-places g c = λ k has.
     let b = trailed c.self.inside.lines c.self.inside.trail.items in
     let is = learns_at c.args.side Rows c.args.i _ c.args.new.now c.self.inside.lines _ c.self.invariant.size.width_from c.self.invariant.count
     (λ j. grid_at (c.self.view_is j)) c.in-Rows.is c.requires.i c.requires.more c.requires.changes in
-    record {
-      within = λ k has. omega (arith, (is.changes.to k has).0, length-Extends _ c.args.new.now is.more, c.requires.fits);
-      places = λ k has.
-          let fits = place_fits Rows _ _ _ _ _ _ c.self.invariant.size is k has in
-          rw (c.from-place.ensures, c.width-width.ensures.width) (omega (arith, fits));
-      room = omega (arith, c.self.invariant.grid.settled, c.self.invariant.room_is);
-    }
+    let fits = place_fits Rows _ _ _ _ _ _ c.self.invariant.size is k has in
+    rw (c.from-place.ensures, c.width-width.ensures.width) (omega (arith, fits))
 
 trailed-in-Rows : (g : Over) (c : goal.After-push_changes g) → IsTrailed (trailed c.self.inside.lines c.self.inside.trail.items)
     (trailed c.learn.new.self c.push_changes.new.trail.items)
@@ -51,7 +46,7 @@ push_changes-requires-in-Columns g c =
       places = λ k has.
           let fits = place_fits Columns _ _ _ _ _ _ c.self.invariant.size is k has in
           rw (c.from-place.ensures, c.width-width.ensures.width) (omega (arith, fits));
-      room = omega (arith, c.self.invariant.grid.settled, c.self.invariant.room_is);
+      room = search rules;
     }
 
 trailed-in-Columns : (g : Over) (c : goal.After-push_changes-in-Columns g) → IsTrailed (trailed c.self.inside.lines c.self.inside.trail.items)

@@ -25,12 +25,6 @@ returns-in-Same-clause-closed g c =
     (λ e. true≢false (sym (c.is_dead.ensures.1 e) ∙ c.if-is_dead.false)) c.deduce_side.ensures.progress c.in-Same.ensures.progress
     c.in-Same.ensures.work.marks (unmarked g c) c.loop-self.invariant.closed
 
-pub returns-in-Same-clause-rest : goal.returns-in-Same-clause-rest
-returns-in-Same-clause-rest g c = λ alive. record {
-  marks = c.in-Same.ensures.work.marks;
-  idle = record { memory = c.deduce_side-in-loop-self.ensures.work.memory; unmarked = unmarked g c };
-}
-
 pub returns-then-is_dead-clause-trail : goal.returns-then-is_dead-clause-trail
 returns-then-is_dead-clause-trail g c = λ keeps.
     let board = g.B.Learner.board in

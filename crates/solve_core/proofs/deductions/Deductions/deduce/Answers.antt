@@ -1,22 +1,12 @@
 -- `Deductions::deduce`: what is remembered of a line is what is certain of it, and what is kept then is too.
-use Rattle.solve_core.proofs.Names.{◌≡◌, ◌∙◌, ◌<◌, ℕ, List, length, get_or, inl, inr, ap, sym, subst, arith, get_or_default, All-contains, Cell, Side, Nonogram, line_on, deduced, All}
+use Rattle.solve_core.proofs.Names.{◌≡◌, ◌∙◌, ◌<◌, ℕ, List, length, get_or, inl, inr, ap, sym, subst, get_or_default, All-contains, Cell, Side, Nonogram, line_on, deduced, All}
 use Rattle.solve_core.specs.steps.Deductions.{IsDeductionOf, KnownLine}
 use Rattle.solve_core.proofs.Fitting.{fits_line}
 use Rattle.solve_core.proofs.deductions.Deductions.deduce.Goals as goal
 
-pub deduce-requires : goal.deduce-requires
-deduce-requires g c =
-    rw c.clue_of_line-clue.ensures (fits_line c.args.side g.W.PlaceSet.WIDTH c.args.puzzle.now c.args.i c.requires.memory.fits)
-
 pub deduce-answer-requires : goal.deduce-answer-requires
 deduce-answer-requires g c =
     rw c.clue_of_line-clue.ensures (fits_line c.args.side g.W.PlaceSet.WIDTH c.args.puzzle.now c.args.i c.requires.memory.fits)
-
-pub returns-in_default-clause-answer : goal.returns-in_default-clause-answer
-returns-in_default-clause-answer g c = c.deduce.ensures.answer ∙ ap (deduced c.args.line.now) c.clue_of_line-clue.ensures
-
-pub returns-clause-answer : goal.returns-clause-answer
-returns-clause-answer g c = c.deduce-answer.ensures.answer ∙ ap (deduced c.args.line.now) c.clue_of_line-clue.ensures
 
 -- what is remembered of a line is what is certain of it
 remembered : (p : Nonogram) (kept : List KnownLine) (k : ℕ) (side : Side) (i : ℕ) (line : List Cell) (d e : KnownLine) →
@@ -26,15 +16,6 @@ remembered p kept k side i line d e right l x y is =
     let same : d ≡ e = x ∙ get_or_default kept k d e l ∙ sym y in
     let own : d.answer ≡ deduced d.line (line_on d.side p d.number).clue = subst (IsDeductionOf p) (sym x) (right k d l) in
     own ∙ ap (λ z. deduced z.line (line_on z.side p z.number).clue) same ∙ (λ j. deduced (is.2 j) (line_on (is.0 j) p (is.1 j)).clue)
-
-pub returns-then-is_of-clause-answer : goal.returns-then-is_of-clause-answer
-returns-then-is_of-clause-answer g c =
-    c.copy_answer.ensures ∙ ap (λ (d : KnownLine). d.answer) c.behind-self.view_is
-    ∙ remembered c.args.puzzle.now c.self.inside.kept.items c.from-index.result c.args.side c.args.i c.args.line.now
-    c.index-then-is_of.result.now c.index-then-index-len.result.now
-    (rw (← c.self.view_is) at c.requires.memory).right
-    (omega (arith, c.if-index-len.true, c.len.ensures)) c.index-then-is_of.ensures c.index-then-index-len.ensures
-    (c.is_of.ensures c.if-is_of.true)
 
 pub returns-clause-memory : goal.returns-clause-memory
 returns-clause-memory g c =
