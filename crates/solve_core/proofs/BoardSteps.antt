@@ -1,5 +1,5 @@
 -- What settling a cell and going back do to a board.
-use Rattle.solve_core.proofs.Names.{subst, ◌≡◌, ℕ, ◌+◌, ◌*◌, ◌<◌, ◌≤◌, true, List, [], ◌∷◌, ◌++◌, length, get_or, set, sym, ap, ◌∙◌, arith, length-append, length-set, replicate, length-replicate, Cell, Unknown, is_known, LONGEST_SIDE, Side, crossing, count_on, place_on, PartialGrid, IsSize, IsBoard, IsTrailed, TrailedGrid}
+use Rattle.solve_core.proofs.Names.{◌≡◌, ℕ, ◌+◌, ◌*◌, ◌<◌, ◌≤◌, true, List, [], ◌∷◌, ◌++◌, length, get_or, set, sym, ap, ◌∙◌, arith, length-append, length-set, replicate, length-replicate, Cell, Unknown, is_known, LONGEST_SIDE, Side, crossing, count_on, place_on, PartialGrid, IsSize, IsBoard, IsTrailed, TrailedGrid, rules}
 use Rattle.solve_core.proofs.SideLines.{cell_within}
 use Rattle.solve_core.proofs.Closing.{unknown_count-le}
 use Rattle.solve_core.proofs.TrailSteps.{count-settled, length-cleared, all_append}
@@ -13,12 +13,7 @@ trailed g trail = record { width = g.width; height = g.height; cells = g.cells; 
 pub board-fresh : (g : PartialGrid) (old : TrailedGrid) (trail : List ℕ) (room left : ℕ) → IsBoard old room → g.width ≡ old.width →
     g.height ≡ old.height → length g.cells ≡ length old.cells
     → trail ≡ [] → left ≡ room → IsBoard (trailed g trail) left
-board-fresh g old trail room left b w h long t s = record {
-  size = rw (w, h) b.size;
-  count = long ∙ b.count ∙ (λ i. sym w i * sym h i);
-  grid = record { inside = rw t tt; settled = rw t (omega (arith, unknown_count-le g.cells)) };
-  room_is = omega (arith, long, b.room_is);
-}
+board-fresh g old trail room left b w h long t s = search (rules, unknown_count-le)
 
 -- a board in which one more cell is settled
 pub board-settled : (g : PartialGrid) (old : TrailedGrid) (more : List ℕ) (room left k : ℕ) (c : Cell) → IsBoard old room →
@@ -57,8 +52,7 @@ board-learned g old more room left b w h t s =
 pub trail-learned : (g : PartialGrid) (old : TrailedGrid) (cells : List Cell) (more : List ℕ) →
     IsTrailed old (record old { cells = cells; trail = more }) → g.cells ≡ cells → g.width ≡ old.width → g.height ≡ old.height →
     IsTrailed old (trailed g more)
-trail-learned g old cells more t same w h =
-    subst (IsTrailed old) (λ j. record { width = sym w j; height = sym h j; cells = sym same j; trail = more }) t
+trail-learned g old cells more t same w h = search (rules)
 
 -- a board in which the last settled cell is unknown again
 pub board-undone : (g : PartialGrid) (old : TrailedGrid) (less : List ℕ) (room left k : ℕ) → IsBoard old room → old.trail ≡ less ++ k ∷ []
@@ -80,12 +74,7 @@ board-undone g old less room left k b t e s =
 pub board-unknown : (w h room : ℕ) (g : PartialGrid) (trail : List ℕ) → IsSize w h →
     g ≡ record { width = w; height = h; cells = replicate (w * h) Unknown } → trail ≡ [] → w * h + LONGEST_SIDE ≤ room
     → IsBoard (trailed g trail) room
-board-unknown w h room g trail size e t fits = record {
-  size = rw e size;
-  count = rw e (length-replicate (w * h) Unknown);
-  grid = record { inside = rw t tt; settled = rw t (omega (arith, unknown_count-le g.cells)) };
-  room_is = rw (e, length-replicate (w * h) Unknown) fits;
-}
+board-unknown w h room g trail size e t fits = search (rules, length-replicate, unknown_count-le)
 
 -- a cell of a line is one of the board's
 pub place-within : (g : TrailedGrid) (room : ℕ) (side : Side) (i k : ℕ) → IsBoard g room → i < count_on side g.width g.height →

@@ -1,5 +1,5 @@
 -- The branches of a search: what settled cells, a filled guess and a blank one make of them.
-use Rattle.solve_core.proofs.Names.{◌≡◌, ℕ, zero, suc, ◌+◌, ◌<◌, ◌≤◌, List, [], ◌∷◌, ◌++◌, length, set, take, drop, refl, sym, ap, ◌∙◌, arith, length-append, append-nil, append_assoc, Option, Some, None, AllByRecursion, drop-length, drop-append-le, length-take-le, take-append-drop, Cell, Unknown, Filled, Blank, GridLine, Branch, Guess, events, TrailedGrid, unknown_count, cleared, IsTrailed, cells_before, IsNext, IsBranch, AreInOrder, AreBefore, AreOlder, IsWork, pending, open_events, ready_events}
+use Rattle.solve_core.proofs.Names.{◌≡◌, ℕ, zero, suc, ◌+◌, ◌<◌, ◌≤◌, List, [], ◌∷◌, ◌++◌, length, set, take, drop, refl, sym, ap, ◌∙◌, arith, length-append, append-nil, append_assoc, Option, Some, None, AllByRecursion, drop-length, drop-append-le, length-take-le, take-append-drop, Cell, Unknown, Filled, Blank, GridLine, Branch, Guess, events, TrailedGrid, unknown_count, cleared, IsTrailed, cells_before, IsNext, IsBranch, AreInOrder, AreBefore, AreOlder, IsWork, pending, open_events, ready_events, rules}
 use Rattle.solve_core.proofs.TrailSteps.{cleared-append, all_append}
 
 -- each place that is cleared leaves at most one more unknown
@@ -19,10 +19,7 @@ drop_take (suc m) (suc n) (x ∷ xs) h = drop_take m n xs (omega arith)
 -- the cells before a mark stay the same if undoing what the trail gained gives the old cells
 pub before-longer : (cells now : List Cell) (trail added : List ℕ) (mark : ℕ) → cleared now added ≡ cells → mark ≤ length trail
     → cells_before now (trail ++ added) mark ≡ cells_before cells trail mark
-before-longer cells now trail added mark e h =
-    ap (cleared now) (drop-append-le mark trail added h)
-    ∙ cleared-append now (drop mark trail) added
-    ∙ ap (λ cs. cleared cs (drop mark trail)) e
+before-longer cells now trail added mark e h = search (rules, drop-append-le, cleared-append)
 
 -- going back to a mark leaves what was before each earlier one
 pub before-back : (cells : List Cell) (trail : List ℕ) (earlier mark : ℕ) → earlier ≤ mark
@@ -41,9 +38,7 @@ before-more limit more (b ∷ branches) l h = (omega (arith, h.0), before-more l
 -- what each branch was made in is the same after more was settled
 trailed-before : (old new : TrailedGrid) → IsTrailed old new → (mark : ℕ) → mark < length old.trail + 1 →
     cells_before new.cells new.trail mark ≡ cells_before old.cells old.trail mark
-trailed-before old new t mark h =
-    ap (λ (places : List ℕ). cells_before new.cells places mark) t.kept ∙
-    before-longer old.cells new.cells old.trail t.added mark t.undo (omega arith)
+trailed-before old new t mark h = search (rules, before-longer)
 
 trailed-length : (old new : TrailedGrid) (t : IsTrailed old new) → length new.trail ≡ length old.trail + length t.added
 trailed-length old new t = ap length t.kept ∙ length-append old.trail t.added
@@ -106,15 +101,13 @@ module _ (pick : List Cell → Option ℕ) (lines : List GridLine) where
   pub trailed-pending : (old new : TrailedGrid) (branches : List Branch) → IsTrailed old new →
       IsWork pick lines old.cells old.trail branches →
       pending pick lines new.cells new.trail branches ≡ pending pick lines old.cells old.trail branches
-  trailed-pending old new branches t w =
-      pending-same old.cells new.cells old.trail new.trail (length old.trail + 1) (trailed-before old new t) branches w.before
+  trailed-pending old new branches t w = search (rules, pending-same, trailed-before)
 
   -- if fewer cells are unknown than before, something was settled since each branch was made
   pub trailed-older : (old new : TrailedGrid) (branches : List Branch) (next : Option ℕ) → IsTrailed old new →
       unknown_count new.cells < unknown_count old.cells → IsWork pick lines old.cells old.trail branches → AreOlder new.trail branches next
   trailed-older old new branches None t l w = tt
-  trailed-older old new branches (Some k) t l w =
-      before-more (length old.trail + 1) (length new.trail) branches (omega (arith, trailed-length old new t, t.count)) w.before
+  trailed-older old new branches (Some k) t l w = search (rules, before-more, trailed-length)
 
   pending-last : (cells : List Cell) (trail : List ℕ) (branches : List Branch) (b : Branch) →
       pending pick lines cells trail (branches ++ (b ∷ [])) ≡ Guess ∷
@@ -127,11 +120,7 @@ module _ (pick : List Cell → Option ℕ) (lines : List GridLine) where
     -- a filled guess: its branch is kept
     pub fork-work : IsWork pick lines cells trail branches → AreBefore (length trail) branches → IsNext pick lines cells b.place →
         IsWork pick lines cells trail made
-    fork-work w older n = rw e (record {
-      before = all_append (λ (x : Branch). x.mark < length trail + 1) branches (b ∷ []) w.before ((omega (arith, m)), tt);
-      order = order-more branches b w.order (rw m older);
-      made = all_append (IsBranch pick lines cells trail) branches (b ∷ []) w.made (rw (m, before-now cells trail) n, tt);
-    })
+    fork-work w older n = search (rules, all_append, order-more, made, before-now)
 
     -- the two guesses of a cell are the filled one, made at once, and the blank one, owed by a new last branch
     pub fork-events : open_events pick lines cells (Some b.place) (pending pick lines cells trail branches) ≡
@@ -152,14 +141,7 @@ module _ (pick : List Cell → Option ℕ) (lines : List GridLine) where
 
     -- a blank guess: the cells settled since its branch was made are unknown again
     pub back-work : IsWork pick lines now after rest
-    back-work =
-        let early = all_split (λ (x : Branch). x.mark < length trail + 1) rest b (rw e at w.before) in
-        let long = length-take-le b.mark trail (omega (arith, early.0)) in
-        record {
-          before = before-more b.mark (length after + 1) rest (omega (arith, long, ap length g)) last.0;
-          order = last.1;
-          made = branches-same cells now trail after b.mark same rest last.0 made.1;
-        }
+    back-work = search (rules, all_split, length-take-le, before-more, last, made, branches-same, same)
 
     -- what happens from the branches is the last one's blank guess, made at once, and what the others owe
     pub back-events : pending pick lines cells trail all ≡ ready_events pick lines now (Some (b.place, Blank)) (pending pick lines now after rest)

@@ -1,5 +1,5 @@
 -- Repeating a step that only adds to what is known: what bounds the result, and when it is closed.
-use Rattle.solve_core.proofs.Names.{◌≡◌, ℕ, zero, suc, ◌<◌, ◌≤◌, ◌⊎◌, inl, inr, List, [], ◌∷◌, length, Option, Some, None, refl, ap, arith, option_and_then, Cell, Unknown, Filled, Blank, Extends, repeat, unknown_count, AtMost, AtMost-trans, Extends-refl}
+use Rattle.solve_core.proofs.Names.{◌≡◌, ℕ, zero, suc, ◌<◌, ◌≤◌, ◌⊎◌, inl, inr, List, [], ◌∷◌, length, Option, Some, None, refl, ap, arith, option_and_then, Cell, Unknown, Filled, Blank, Extends, repeat, unknown_count, AtMost, AtMost-trans, Extends-refl, rules}
 
 -- a step that only adds to what is known, and gives no less if more is known
 pub record IsDeduction (f : List Cell → Option (List Cell)) : Type 0 where
@@ -49,13 +49,10 @@ unknown_count-le (_ ∷ g) = omega (arith, unknown_count-le g)
 -- a grid that knows all of another one is the same, or has fewer unknown cells
 pub fewer_unknown : (g z : List Cell) → Extends g z → (z ≡ g) ⊎ (unknown_count z < unknown_count g)
 fewer_unknown [] [] h = inl refl
-fewer_unknown (Unknown ∷ g) (Unknown ∷ z) h =
-    elim (fewer_unknown g z h.1) [ inl e ↦ inl (ap (λ (r : List Cell). Unknown ∷ r) e) | inr l ↦ inr (omega arith) ]
-fewer_unknown (Filled ∷ g) (Filled ∷ z) h =
-    elim (fewer_unknown g z h.1) [ inl e ↦ inl (ap (λ (r : List Cell). Filled ∷ r) e) | inr l ↦ inr l ]
+fewer_unknown (Unknown ∷ g) (Unknown ∷ z) h = search (rules, (fewer_unknown g z h.1))
+fewer_unknown (Filled ∷ g) (Filled ∷ z) h = search (rules, (fewer_unknown g z h.1))
 fewer_unknown (Blank ∷ g) (Blank ∷ z) h = elim (fewer_unknown g z h.1) [ inl e ↦ inl (ap (λ (r : List Cell). Blank ∷ r) e) | inr l ↦ inr l ]
-fewer_unknown (Unknown ∷ g) (_ ∷ z) h =
-    inr (elim (fewer_unknown g z h.1) [ inl e ↦ omega (arith, ap unknown_count e) | inr l ↦ omega arith ])
+fewer_unknown (Unknown ∷ g) (_ ∷ z) h = search (rules, unknown_count, (fewer_unknown g z h.1))
 fewer_unknown (_ ∷ g) (_ ∷ z) h = absurd h.0
 fewer_unknown _ _ h = absurd h
 
@@ -63,14 +60,7 @@ closed_after : (f : List Cell → Option (List Cell)) (n : ℕ) (g c : List Cell
     option_and_then (repeat f n) o ≡ Some c
     → ((g' : List Cell) → unknown_count g' < unknown_count g → repeat f n g' ≡ Some c → f c ≡ Some c) → f c ≡ Some c
 closed_after f n g c None is k e next = cc
-closed_after f n g c (Some g') is k e next = elim (fewer_unknown g g' k) [
-  | inl same ↦
-      (let fixed : f g' ≡ Some g' = rw same (rw same at is) in
-      let ends = repeat-fixed f n g' fixed in
-      let end : g' ≡ c = cc in
-      rw (← end) fixed)
-  | inr less ↦ next g' less e
-]
+closed_after f n g c (Some g') is k e next = search (rules, fewer_unknown, repeat-fixed)
 
 -- with more steps than unknown cells, the result is closed
 pub repeat-closed : (f : List Cell → Option (List Cell)) → ((g : List Cell) → AtMost (Some g) (f g)) → (n : ℕ) (g c : List Cell) →

@@ -1,5 +1,5 @@
 -- The closure is the least line-closed grid, and loses no solution.
-use Rattle.solve_core.proofs.Names.{◌≡◌, ℕ, zero, suc, ◌+◌, ◌<◌, Bool, false, List, [], ◌∷◌, length, get_or, set, map, Option, Some, None, refl, sym, ap, ◌∙◌, arith, length-set, option_map, AllByRecursion, get_or-map, set-get_or, Cell, Unknown, Blank, CellExtends, Extends, colour, runs, GridLine, cells_at, deduced, with_cells, deduce_line, round, repeat, closure, AtMost, AtMost-trans, Extends-refl, Extends-trans, Extends-antisym, IsLeastClosed, deduced-below, deduced-monotone, deduced-full, get_or-map_colour}
+use Rattle.solve_core.proofs.Names.{◌≡◌, ℕ, zero, suc, ◌+◌, ◌<◌, Bool, false, List, [], ◌∷◌, length, get_or, set, map, Option, Some, None, refl, sym, ap, ◌∙◌, arith, length-set, option_map, AllByRecursion, get_or-map, set-get_or, Cell, Unknown, Blank, CellExtends, Extends, colour, runs, GridLine, cells_at, deduced, with_cells, deduce_line, round, repeat, closure, AtMost, AtMost-trans, Extends-refl, Extends-trans, Extends-antisym, IsLeastClosed, deduced-below, deduced-monotone, deduced-full, get_or-map_colour, rules}
 use Rattle.solve_core.proofs.Order.{HasLength, join_all-above, join_all-least, below_each}
 use Rattle.solve_core.proofs.Closing.{IsDeduction, repeat-above, repeat-below, repeat-least, repeat-closed, unknown_count-le}
 
@@ -43,10 +43,7 @@ written-monotone g z places (Some cs) (Some ds) h e = with_cells-monotone g z pl
 
 -- if a grid knows more, no less is deduced from a line
 pub deduce_line-monotone : (line : GridLine) (g z : List Cell) → Extends g z → AtMost (deduce_line g line) (deduce_line z line)
-deduce_line-monotone line g z h =
-    written-monotone g z line.places (deduced (cells_at Unknown g line.places) line.clue)
-    (deduced (cells_at Unknown z line.places) line.clue) h
-    (deduced-monotone (cells_at Unknown g line.places) (cells_at Unknown z line.places) line.clue (cells_at-monotone g z Unknown line.places h))
+deduce_line-monotone line g z h = search (rules, written-monotone, deduced-monotone, cells_at-monotone)
 
 -- a grid with cells written at some places is as long as before
 pub length-with_cells : (g : List Cell) (places : List ℕ) (cs : List Cell) → length (with_cells g places cs) ≡ length g

@@ -1,5 +1,5 @@
 -- In how many sets a place is, and what that says of a row's neighbours.
-use Rattle.solve_core.proofs.Names.{◌≡◌, ℕ, ◌+◌, ◌-◌, ◌<◌, ◌≤◌, ◌⊎◌, inl, inr, Bool, true, false, nat_eq, List, length, get_or, Option, Some, None, IfSome, IfNone, refl, sym, ◌∙◌, arith, true≢false, cases_eq, cases_lt, eqb-true, eq-eqb, or_cases, Cell, Unknown, is_known, Has, has, IsMaskOf, IsShifted, IsUnknownCell, AreCounts, IsKnownCell, IsMostInRow, row_score, two_of, is_sure}
+use Rattle.solve_core.proofs.Names.{◌≡◌, ℕ, ◌+◌, ◌-◌, ◌<◌, ◌≤◌, ◌⊎◌, inl, inr, Bool, true, false, nat_eq, List, length, get_or, Option, Some, None, IfSome, IfNone, refl, sym, ◌∙◌, arith, true≢false, cases_eq, cases_lt, eqb-true, eq-eqb, or_cases, Cell, Unknown, is_known, Has, has, IsMaskOf, IsShifted, IsUnknownCell, AreCounts, IsKnownCell, IsMostInRow, row_score, two_of, is_sure, rules}
 use Rattle.place_sets.proofs.HasLemmas.{true_has, has_true}
 use Rattle.grid_core.proofs.LineCells.{has_by}
 
@@ -8,19 +8,7 @@ lacking m i e h = true≢false (sym (has_true m i h) ∙ e)
 
 -- a count is told by the two sets
 pub counts_by : (f : ℕ → ℕ) (e b : ℕ) → AreCounts f e b → (i : ℕ) → two_of (has e i) (has b i) ≡ f i
-counts_by f e b c i = by (has e i) (has b i) refl refl
-  where
-    by : (x y : Bool) → has e i ≡ x → has b i ≡ y → two_of x y ≡ f i
-    by true true p q = let two : 2 ≤ f i = c.both_is.to i (true_has b i q) in omega (arith, two, c.most i)
-    by true false p q =
-        let one : 1 ≤ f i = c.either_is.to i (true_has e i p) in
-        elim (cases_lt 1 (f i)) [ inl two ↦ absurd (lacking b i q (c.both_is.from i (omega arith))) | inr few ↦ omega (arith, one, few) ]
-    by false true p q = let two : 2 ≤ f i = c.both_is.to i (true_has b i q) in
-        absurd (lacking e i p (c.either_is.from i (omega (arith, two))))
-    by false false p q = elim (cases_lt 0 (f i)) [
-      | inl some ↦ absurd (lacking e i p (c.either_is.from i (omega arith)))
-      | inr none ↦ omega (arith, none)
-    ]
+counts_by f e b c i = search (rules, true_has, cases_lt, lacking)
 
 sure_by : (outside : Bool) (c : Cell) → (outside ≡ true) ⊎ (is_known c ≡ true) → is_sure outside c ≡ true
 sure_by true c h = refl
@@ -31,22 +19,8 @@ sure_by false c (inr e) = e
 pub left_is : (row : List Cell) (w known up first left : ℕ) → length row ≤ w → IsMaskOf (IsKnownCell row) known →
     IsMaskOf (IsShifted w (Has known) 1) up → IsMaskOf (λ i. i ≡ 0) first → IsMaskOf (λ i. Has up i ⊎ Has first i) left → (x : ℕ) →
     x < length row → has left x ≡ is_sure (nat_eq x 0) (get_or row (x - 1) Unknown)
-left_is row w known up first left fits k u f l x h = has_by left x (is_sure (nat_eq x 0) (get_or row (x - 1) Unknown)) to from
-  where
-    to : Has left x → is_sure (nat_eq x 0) (get_or row (x - 1) Unknown) ≡ true
-    to y = elim (l.to x y) [
-      | inl shifted ↦ sure_by (nat_eq x 0) (get_or row (x - 1) Unknown) (inr (k.to (x - 1) (u.to x shifted).2).1)
-      | inr start ↦ sure_by (nat_eq x 0) (get_or row (x - 1) Unknown) (inl (eq-eqb x 0 (f.to x start)))
-    ]
-
-    from : is_sure (nat_eq x 0) (get_or row (x - 1) Unknown) ≡ true → Has left x
-    from e = elim (or_cases (nat_eq x 0) (is_known (get_or row (x - 1) Unknown)) e) [
-      | inl start ↦ l.from x (inr (f.from x (eqb-true x 0 start)))
-      | inr sure ↦ elim (cases_eq x 0) [
-        | inl start ↦ l.from x (inr (f.from x start))
-        | inr later ↦ l.from x (inl (u.from x (omega (arith, h, fits), omega (arith, later), k.from (x - 1) (omega (arith, h), sure))))
-      ]
-    ]
+left_is row w known up first left fits k u f l x h =
+    grind (arith, has_by, nat_eq, sure_by, eq-eqb, or_cases, eqb-true, cases_eq)
 
 -- the cells with a known cell to their right, and the last one
 pub right_is : (row : List Cell) (w known down first last right : ℕ) → length row ≤ w → 1 ≤ length row →
@@ -84,13 +58,5 @@ pub most_by : (row : List Cell) (above below : ℕ → Bool) (least cells : ℕ)
     IfSome result (λ found. Has cells found.1 × (found.0 ≡ f found.1 + g found.1) × (least ≤ found.0)) →
     IfSome result (λ found. (i : ℕ) → Has cells i → f i + g i ≤ found.0) →
     IfSome result (λ found. (i : ℕ) → Has cells i → i < found.1 → f i + g i < found.0) → IsMostInRow row above below least result
-most_by row above below least cells f g None m score none found most earliest =
-    λ x u. (let few = none x (m.from x u) in omega (arith, few, score x u.0))
-most_by row above below least cells f g (Some (n, k)) m score none found most earliest =
-    let at = m.to k found.0 in (
-      at,
-      omega (arith, found.1, score k at.0),
-      found.2,
-      λ x u. (let few = most x (m.from x u) in omega (arith, few, score x u.0)),
-      λ x l u. (let few = earliest x (m.from x u) l in omega (arith, few, score x u.0)),
-    )
+most_by row above below least cells f g None m score none found most earliest = search (rules)
+most_by row above below least cells f g (Some (n, k)) m score none found most earliest = grind (arith)

@@ -1,5 +1,5 @@
 -- How many cells are known.
-use Rattle.solve_core.proofs.Names.{take, ◌≤◌, ◌≡◌, ℕ, zero, suc, inl, inr, ◌+◌, ◌<◌, true, false, List, [], ◌∷◌, length, get_or, cond, nat_eq, refl, sym, ap, ◌∙◌, arith, true≢false, list_all, cases_Bool, eq-eqb, ne_eqb, count_by_more_yes, sum_by-cons, Cell, Unknown, is_known, is_unknown, GridLine, unknown_count, IsTried, count_by, AllPass-from_list_all}
+use Rattle.solve_core.proofs.Names.{take, ◌≤◌, ◌≡◌, ℕ, zero, suc, ◌+◌, ◌<◌, true, false, List, [], ◌∷◌, length, get_or, cond, nat_eq, refl, sym, ap, ◌∙◌, arith, true≢false, list_all, cases_Bool, eq-eqb, ne_eqb, count_by_more_yes, sum_by-cons, Cell, Unknown, is_known, is_unknown, GridLine, unknown_count, IsTried, count_by, AllPass-from_list_all, rules}
 
 -- each cell is known or unknown
 pub known-and-unknown : (cells : List Cell) → count_by is_known cells + unknown_count cells ≡ length cells
@@ -16,9 +16,7 @@ known-if _ h = refl
 pub count-run : (cells : List Cell) (n from to : ℕ) → from + n ≡ to → to ≤ length cells →
     ((k : ℕ) → from ≤ k → k < to → is_unknown (get_or cells k Unknown) ≡ false) →
     count_by is_known (take to cells) ≡ count_by is_known (take from cells) + n
-count-run cells zero from to e l h =
-    let same : to ≡ from = omega (arith, e) in
-    ap (λ (m : ℕ). count_by is_known (take m cells)) same ∙ omega arith
+count-run cells zero from to e l h = search (rules, count_by)
 count-run cells (suc n) from to e l h =
     let last : to ≡ (from + n) + 1 = omega (arith, e) in
     let before = count-run cells n from (from + n) refl (omega (arith, l, last)) (λ k a b. h k a (omega (arith, b, last))) in
@@ -38,11 +36,7 @@ all-of-none (_ ∷ cells) h = all-of-none cells h
 
 -- all cells are known exactly if as many are known as there are
 pub all-known : (cells : List Cell) → nat_eq (count_by is_known cells) (length cells) ≡ list_all is_known cells
-all-known cells = elim (cases_Bool (list_all is_known cells)) [
-  | inl e ↦ eq-eqb (count_by is_known cells) (length cells) (omega (arith, known-and-unknown cells, none-unknown cells e)) ∙ sym e
-  | inr e ↦ ne_eqb (count_by is_known cells) (length cells)
-      (λ whole. true≢false (sym (all-of-none cells (omega (arith, known-and-unknown cells, whole))) ∙ e)) ∙ sym e
-]
+all-known cells = search (rules, cases_Bool, eq-eqb, count_by, known-and-unknown, none-unknown, ne_eqb, true≢false, all-of-none)
 
 -- if all cells are known, there is none to try
 pub full-tried : (lines : List GridLine) (cells : List Cell) → list_all is_known cells ≡ true → (k : ℕ) → k < length cells →

@@ -1,13 +1,10 @@
 -- The clues of a puzzle that fits sets of some width.
-use Rattle.solve_core.proofs.Names.{◌≡◌, ℕ, ◌≤◌, List, [], length, get_or, inl, inr, true, leb, arith, sym, subst, get_or-eq_default, list_all, cases_lt, and_parts, leb-true, AllPass-from_list_all, MOST_RUNS, Side, Rows, Columns, Nonogram, line_on, All}
+use Rattle.solve_core.proofs.Names.{◌≡◌, ℕ, ◌≤◌, List, [], length, get_or, true, leb, get_or-eq_default, list_all, cases_lt, and_parts, leb-true, AllPass-from_list_all, MOST_RUNS, Side, Rows, Columns, Nonogram, line_on, All, rules}
 use Rattle.grid_core.specs.Clues.{is_clue, is_run}
 use Rattle.solve_core.specs.steps.Widths.{FitsIn}
 
 clue_fits : (width : ℕ) (clues : List (List ℕ)) (i : ℕ) → All (All (λ k. k ≤ width)) clues → All (λ k. k ≤ width) (get_or clues i [])
-clue_fits width clues i f = elim (cases_lt i (length clues)) [
-  | inl l ↦ f i [] l
-  | inr out ↦ subst (λ (clue : List ℕ). All (λ k. k ≤ width) clue) (sym (get_or-eq_default clues [] out)) (λ k d l. absurd (omega arith))
-]
+clue_fits width clues i f = search (rules, cases_lt, get_or-eq_default)
 
 -- each line's clue has numbers that fit
 pub fits_line : (side : Side) (width : ℕ) (p : Nonogram) (i : ℕ) → FitsIn width p → All (λ k. k ≤ width) (line_on side p i).clue

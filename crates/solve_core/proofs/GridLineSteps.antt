@@ -1,5 +1,5 @@
 -- A grid as its rows and its columns: its cells, and what changing one of them does.
-use Rattle.solve_core.proofs.Names.{◌≡◌, ◌≢◌, ℕ, ◌+◌, ◌-◌, ◌*◌, ◌/◌, ◌%◌, ◌<◌, ◌≤◌, inl, inr, false, Some, None, List, [], ◌∷◌, length, get_or, set, refl, sym, ap, ◌∙◌, arith, below_more, length-set, get_or-set_same, get_or-set_other, replicate, ext_get_or, get_or_default, get_or-replicate, length-replicate, div_below, Cell, Unknown, is_unknown, PartialGrid, IsSize, Side, Rows, Columns, places_from, cells_at, crossing, places_on, count_on, place_on, length-places_from, get_or-places_from, length-places_on, get_or-places_on, length-cells_at, get_or-cells_at, IsUnknownFrom, AreLinesOf, cells_of_rows, row_of, get_or-row_of, get_or-rows, length-row_of, length-rows, cases_eq}
+use Rattle.solve_core.proofs.Names.{◌≡◌, ℕ, ◌+◌, ◌-◌, ◌*◌, ◌/◌, ◌%◌, ◌<◌, ◌≤◌, inl, inr, false, Some, None, List, [], ◌∷◌, length, get_or, set, refl, sym, ap, ◌∙◌, arith, below_more, length-set, get_or-set_same, get_or-set_other, replicate, ext_get_or, get_or_default, get_or-replicate, length-replicate, div_below, Cell, Unknown, is_unknown, PartialGrid, IsSize, Side, Rows, Columns, places_from, cells_at, crossing, places_on, count_on, place_on, length-places_from, get_or-places_from, length-places_on, get_or-places_on, length-cells_at, get_or-cells_at, IsUnknownFrom, AreLinesOf, cells_of_rows, row_of, get_or-row_of, get_or-rows, length-row_of, length-rows, cases_eq, rules}
 use Rattle.solve_core.proofs.SideLines.{along, distinct_places, same_place, row_within}
 use Rattle.solve_core.proofs.LineSteps.{AreDistinct, cells_at-same, distinct_same, get_or-replicated}
 
@@ -8,9 +8,7 @@ length-along cells first step n = length-cells_at Unknown cells (places_from fir
 
 get_or-along : (cells : List Cell) (first step n i k : ℕ) → i < n → first + i * step ≡ k →
     get_or (cells_at Unknown cells (places_from first step n)) i Unknown ≡ get_or cells k Unknown
-get_or-along cells first step n i k h e =
-    get_or-cells_at Unknown cells (places_from first step n) i (omega (arith, length-places_from first step n)) ∙
-    ap (λ (q : ℕ). get_or cells q Unknown) (get_or-places_from first step n i h ∙ e)
+get_or-along cells first step n i k h e = search (rules, get_or-cells_at, length-places_from, get_or-places_from)
 
 -- a written cell is written in a line at the number of its place, if no place is there twice
 along-set : (cells : List Cell) (places : List ℕ) (k at : ℕ) (c : Cell) → AreDistinct places → k < length places →
@@ -33,26 +31,14 @@ line-written : (side : Side) (w h i k j at : ℕ) (cells line : List Cell) (line
     length lines ≡ count_on side w h → i < length lines → k < count_on (crossing side) w h → at ≡ place_on side w i k → at < length cells →
     ((m : ℕ) → m < length lines → get_or lines m [] ≡ cells_at Unknown cells (places_on side w h m)) → line ≡ set (get_or lines i []) k c →
     j < length lines → get_or (set lines i line) j [] ≡ cells_at Unknown (set cells at c) (places_on side w h j)
-line-written side w h i k j at cells line lines c positive count li lk e l are is lj = elim (cases_eq j i) [
-  | inl same ↦ rw same (get_or-set_same lines i line [] li ∙ is ∙ ap (λ (cs : List Cell). set cs k c) (are i li) ∙
-      sym (along-set cells (places_on side w h i) k at c (distinct_places side w h i positive)
-      (omega (arith, lk, length-places_on side w h i)) (e ∙ sym (get_or-places_on side w h i k lk)) l))
-  | inr other ↦ get_or-set_other lines i j line [] other ∙ are j lj ∙
-      sym (cells_at-same (set cells at c) cells (places_on side w h j) (λ m lm.
-      let there = along side w h j m lm in
-      get_or-set_other cells at (get_or (places_on side w h j) m 0) c Unknown
-      (λ x. other ((same_place side w h j m i k (omega (arith, lj, count)) there.0 (omega (arith, li, count)) lk
-      (sym there.1 ∙ x ∙ e)).0))))
-]
+line-written side w h i k j at cells line lines c positive count li lk e l are is lj =
+    grind (arith, cases_eq, get_or-set_same, along-set, distinct_places, length-places_on, get_or-places_on, get_or-set_other, cells_at-same, along, same_place)
 
 -- the column and the row of a place
 pub place_in : (cells : List Cell) (rows columns : List (List Cell)) (k : ℕ) → AreLinesOf cells rows columns → k < length cells
     → (0 < length columns) × (k % length columns < length columns) × (k / length columns < length rows) ×
     (k ≡ k / length columns * length columns + k % length columns)
-place_in cells rows columns k a l =
-    let positive : 0 < length columns = omega (arith, a.size.width_from) in
-    let within : k < length rows * length columns = omega (arith, a.count) in
-    (positive, omega arith, div_below k (length columns) (length rows) positive within, omega arith)
+place_in cells rows columns k a l = search (rules, div_below)
 
 -- a cell in a column and a row is one of the board's
 pub cell_in : (cells : List Cell) (rows columns : List (List Cell)) (x y : ℕ) → AreLinesOf cells rows columns → x < length columns →
@@ -93,12 +79,7 @@ pub record IsWrittenTo (old : List (List Cell)) (new : ℕ → List Cell) (n : �
 
 pub one-written : (old : List (List Cell)) (new : ℕ → List Cell) (n : ℕ) (lines : List (List Cell)) (line : List Cell) → n < length lines →
     line ≡ new n → IsWrittenTo old new n lines → IsWrittenTo old new (n + 1) (set lines n line)
-one-written old new n lines line l e is = record {
-  written = below_more (λ (k : ℕ). get_or (set lines n line) k [] ≡ new k) n
-      (λ k h. let apart : k ≢ n = omega arith in get_or-set_other lines n k line [] apart ∙ is.written k h)
-      (get_or-set_same lines n line [] l ∙ e);
-  left = λ k h. let apart : k ≢ n = omega arith in get_or-set_other lines n k line [] apart ∙ is.left k (omega arith);
-}
+one-written old new n lines line l e is = search (rules, below_more, get_or-set_other, get_or-set_same)
 
 -- the columns have the cells of the rows above row y
 pub record HaveAcross (columns rows : List (List Cell)) (y : ℕ) : Type 0 where
@@ -111,10 +92,7 @@ pub record HaveAcross (columns rows : List (List Cell)) (y : ℕ) : Type 0 where
 pub cell-read : {cells : List Cell} (rows columns : List (List Cell)) (x y : ℕ) → AreLinesOf cells rows columns → x < length columns →
     y < length rows → (get_or (get_or rows y []) x Unknown ≡ get_or cells (y * length columns + x) Unknown) ×
     (get_or (get_or columns x []) y Unknown ≡ get_or cells (y * length columns + x) Unknown)
-cell-read {cells} rows columns x y a lx ly = (
-  rw (a.rows_are y ly) (get_or-along cells (y * length columns) 1 (length columns) x (y * length columns + x) lx (omega arith)),
-  rw (a.columns_are x lx) (get_or-along cells x (length columns) (length rows) y (y * length columns + x) ly (omega arith)),
-)
+cell-read {cells} rows columns x y a lx ly = search (rules, get_or-along)
 
 -- the cells of the rows of a grid are its cells
 pub lines-cells : (cells : List Cell) (rows columns : List (List Cell)) → AreLinesOf cells rows columns → cells_of_rows rows ≡ cells
@@ -129,10 +107,7 @@ lines-cells cells rows columns a =
 -- how long a row and a column are
 pub lines-long : (rows columns : List (List Cell)) (x y : ℕ) → AreLinesOf (cells_of_rows rows) rows columns → x < length columns →
     y < length rows → (length (get_or rows y []) ≡ length columns) × (length (get_or columns x []) ≡ length rows)
-lines-long rows columns x y a lx ly = (
-  ap length (a.rows_are y ly) ∙ length-along (cells_of_rows rows) (y * length columns) 1 (length columns),
-  ap length (a.columns_are x lx) ∙ length-along (cells_of_rows rows) x (length columns) (length rows),
-)
+lines-long rows columns x y a lx ly = search (rules, length-along)
 
 -- the grid that rows and columns are
 abbrev pub grid_of_lines : List (List Cell) → List (List Cell) → PartialGrid

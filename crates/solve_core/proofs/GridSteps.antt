@@ -1,5 +1,5 @@
 -- What deducing a line, or settling a cell, does to the marks of the lines and to the grid's closure.
-use Rattle.solve_core.proofs.Names.{◌≡◌, ◌≢◌, ℕ, ◌+◌, ◌*◌, ◌/◌, ◌%◌, ◌<◌, inl, inr, true, false, List, length, get_or, set, Option, Some, refl, sym, ap, ◌∙◌, arith, length-set, true≢false, cases_eq, div_below, Cell, Unknown, Nonogram, IsNonogram, GridLine, lines_of, line_on, crossing, places_on, count_on, place_on, Dead, Same, Changed, round, closure, deduce_line, LineMarks, marks_on, IsMarkedOn, AreUnmarked, AreMarksWithin, Has, IsMarked, IsMaskOf, Side, Rows, Columns, IsDeduced, IsLearned, MarksChanges, HasMarks, MarksAfter, Progresses, IsAtRest, Closing, IsIdle, Extends-refl, length-Extends}
+use Rattle.solve_core.proofs.Names.{◌≡◌, ◌≢◌, ℕ, ◌+◌, ◌*◌, ◌/◌, ◌%◌, ◌<◌, inl, inr, true, false, List, length, get_or, set, Option, Some, refl, sym, ap, ◌∙◌, arith, length-set, true≢false, cases_eq, div_below, Cell, Unknown, Nonogram, IsNonogram, GridLine, lines_of, line_on, crossing, places_on, count_on, place_on, Dead, Same, Changed, round, closure, deduce_line, LineMarks, marks_on, IsMarkedOn, AreUnmarked, AreMarksWithin, Has, IsMarked, IsMaskOf, Side, Rows, Columns, IsDeduced, IsLearned, MarksChanges, HasMarks, MarksAfter, Progresses, IsAtRest, Closing, IsIdle, Extends-refl, length-Extends, rules}
 use Rattle.solve_core.specs.declared.closures.Progress.{Progress}
 use Rattle.solve_core.proofs.ClosureLaws.{closure-IsLeastClosed}
 use Rattle.solve_core.proofs.StepLaws.{IsOneOf, done_within}
@@ -18,9 +18,7 @@ line-below p size side i l e = rw e (below_places side p.width p.height i l)
 -- each line of a closed grid is settled
 pub line_settled : (p : Nonogram) (g : List Cell) (side : Side) (i : ℕ) → IsNonogram p → length g ≡ p.width * p.height →
     round (lines_of p) g ≡ Some g → i < count_on side p.width p.height → IsDeduced g (line_on side p i)
-line_settled p g side i is size closed l =
-    closed_settled (lines_of p) g (line_on side p i) closed (line_is_one side p i is l) (line-distinct p side i is)
-    (line-below p (length g) side i l size)
+line_settled p g side i is size closed l = search (rules, closed_settled, line_is_one, line-distinct, line-below)
 
 -- a line stays settled if none of its cells changed
 pub settled-same : (g new : List Cell) (line : GridLine) → IsDeduced g line →
@@ -137,10 +135,7 @@ place_marks p cells marks after k y x c m hy hx at rows columns = record {
 -- the column and the row of a place
 pub place_split : (p : Nonogram) (cells : List Cell) (k : ℕ) → IsNonogram p → length cells ≡ p.width * p.height → k < length cells
     → (k % p.width < p.width) × (k / p.width < p.height) × (k / p.width * p.width + k % p.width ≡ k)
-place_split p cells k is size l =
-    let positive : 0 < p.width = omega (arith, is.size.width_from) in
-    let within : k < p.height * p.width = omega (arith, size) in
-    (omega arith, div_below k p.width p.height positive within, omega arith)
+place_split p cells k is size l = search (rules, div_below)
 
 -- cells at rest are line-closed
 pub rest_closed : (p : Nonogram) (c : Closing) (cells : List Cell) → IsAtRest p c cells → round (lines_of p) cells ≡ Some cells
@@ -153,20 +148,11 @@ place_again k width other e h = rw e (omega arith)
 -- a closed grid is at rest if no line is marked
 pub closed_rest : (p : Nonogram) (c : Closing) (cells : List Cell) → IsNonogram p → length cells ≡ p.width * p.height →
     round (lines_of p) cells ≡ Some cells → IsIdle p c → IsAtRest p c cells
-closed_rest p c cells is size closed idle = record {
-  marks = record {
-    puzzle = is;
-    size = size;
-    within = λ side i h. absurd (idle.unmarked side i h);
-    settled = λ side i l n. line_settled p cells side i is size closed l;
-  };
-  idle = idle;
-}
+closed_rest p c cells is size closed idle = search (rules, line_settled)
 
 -- learning one of the lines is progress towards the closure
 pub learned-progress : (lines : List GridLine) (line : GridLine) (g new : List Cell) (r : Progress) → IsOneOf line lines →
     IsLearned r line g new → Progresses (closure lines) r g new
 learned-progress lines line g new Dead m h = line_dead lines g line m h
 learned-progress lines line g new Same m h = h.0
-learned-progress lines line g new Changed m h =
-    (line_keeps lines g new line m (written-extends line g new h.0) (written_line line g new h.0), h.1)
+learned-progress lines line g new Changed m h = search (rules, line_keeps, written-extends, written_line)

@@ -1,5 +1,5 @@
 -- The lines of a grid after one of them was written whole, and each that crosses it where it changes.
-use Rattle.solve_core.proofs.Names.{◌≡◌, ◌≢◌, ◌∙◌, refl, ℕ, ◌*◌, ◌<◌, ◌≤◌, inl, inr, List, [], length, get_or, set, sym, ap, subst, arith, length-set, get_or-set_same, get_or-set_other, bit_at, cases_eq, set-get_or, Cell, Unknown, Side, Rows, Columns, Extends, IsChanged, cells_at, crossing, places_on, IsSize, PartialGrid, cells_of_rows, count_on, place_on, same_cells, get_or-cells_at, length-cells_at, length-places_on, get_or-places_on, Extends-at, Has, IsMaskOf, with_cells, AreLinesOf, CanLearn, IsLearning, TrailedGrid, length-Extends, ext_get_or}
+use Rattle.solve_core.proofs.Names.{◌≡◌, ◌≢◌, ◌∙◌, refl, ℕ, ◌*◌, ◌<◌, ◌≤◌, inl, inr, List, [], length, get_or, set, sym, ap, arith, length-set, get_or-set_same, get_or-set_other, bit_at, cases_eq, set-get_or, Cell, Unknown, Side, Rows, Columns, Extends, IsChanged, cells_at, crossing, places_on, IsSize, PartialGrid, cells_of_rows, count_on, place_on, same_cells, get_or-cells_at, length-cells_at, length-places_on, get_or-places_on, Extends-at, Has, IsMaskOf, with_cells, AreLinesOf, CanLearn, IsLearning, TrailedGrid, length-Extends, ext_get_or, rules}
 use Rattle.solve_core.proofs.ClosureLaws.{length-with_cells}
 use Rattle.solve_core.proofs.GridLineSteps.{grid_of_lines, lines-cells}
 use Rattle.solve_core.proofs.LineSteps.{cells_at-same, cells_at-with_cells, get_or-with_cells, learned_cell}
@@ -18,35 +18,17 @@ pub learns_at : (side own : Side) (i m : ℕ) (new : List Cell) (b g : PartialGr
     b ≡ g → side ≡ own → i < count_on side g.width g.height →
     Extends (cells_at Unknown g.cells (places_on side g.width g.height i)) new →
     IsMaskOf (IsChanged (cells_at Unknown g.cells (places_on side g.width g.height i)) new) m → Learns own b.width b.height i m b.cells new
-learns_at side own i m new b g some count seen e line more changes =
-    subst (λ (s : Side). Learns s b.width b.height i m b.cells new) e
-    (subst (λ (g : PartialGrid). Learns side g.width g.height i m g.cells new) (sym seen) (record {
-      some = rw (← seen) some;
-      line = line;
-      count = rw (← seen) count;
-      more = more;
-      changes = changes;
-    }))
+learns_at side own i m new b g some count seen e line more changes = search (rules)
 
 -- what a row learns, in a grid with a trail
 pub row_learning : (b : TrailedGrid) (first w h i m : ℕ) (cells new : List Cell) → Learns Rows w h i m cells new → b.cells ≡ cells →
     first ≡ i * w → IsLearning b first 1 w m new
-row_learning b first w h i m cells new is same e = record {
-  apart = omega arith;
-  within = λ k l. rw (same, e) (omega (arith, row_within w h i k is.line l, is.count));
-  more = rw (same, e) is.more;
-  changed = rw (same, e) is.changes;
-}
+row_learning b first w h i m cells new is same e = search (rules, row_within)
 
 -- and what a column does
 pub column_learning : (b : TrailedGrid) (first step w h i m : ℕ) (cells new : List Cell) → Learns Columns w h i m cells new → b.cells ≡ cells →
     first ≡ i → step ≡ w → IsLearning b first step h m new
-column_learning b first step w h i m cells new is same e s = record {
-  apart = rw s (omega (arith, is.some));
-  within = λ k l. rw (same, e, s) (omega (arith, column_within w h i k is.line l, is.count));
-  more = rw (same, e, s) is.more;
-  changed = rw (same, e, s) is.changes;
-}
+column_learning b first step w h i m cells new is same e s = search (rules, column_within)
 
 -- the lines of a side have the cells of a grid
 abbrev pub AreOn : Side → ℕ → ℕ → List Cell → List (List Cell) → Type 0
@@ -59,47 +41,29 @@ after side w h i cells new = with_cells cells (places_on side w h i) new
 -- the cell of the line at k
 at_own : (side : Side) (w h i k : ℕ) (cells : List Cell) → k < count_on (crossing side) w h →
     get_or (cells_at Unknown cells (places_on side w h i)) k Unknown ≡ get_or cells (place_on side w i k) Unknown
-at_own side w h i k cells l =
-    get_or-cells_at Unknown cells (places_on side w h i) k (omega (arith, l, length-places_on side w h i)) ∙
-    ap (λ (p : ℕ). get_or cells p Unknown) (get_or-places_on side w h i k l)
+at_own side w h i k cells l = search (rules, get_or-cells_at, length-places_on, get_or-places_on)
 
 -- the cell of a line that crosses
 at_across : (side : Side) (w h k t : ℕ) (cells : List Cell) → k < count_on (crossing side) w h → t < count_on side w h →
     (t < length (cells_at Unknown cells (places_on (crossing side) w h k))) ×
     (get_or (cells_at Unknown cells (places_on (crossing side) w h k)) t Unknown ≡ get_or cells (place_on side w t k) Unknown)
 at_across side w h k t cells lk lt =
-    let places = places_on (crossing side) w h k in
-    let here : t < length places = rw (length-places_on (crossing side) w h k, crossing_twice side) lt in
-    (rw length-cells_at here, get_or-cells_at Unknown cells places t here ∙ ap (λ (p : ℕ). get_or cells p Unknown) (across side w h k t here).1)
+    search (rules, length-places_on, crossing_twice, length-cells_at, get_or-cells_at, across)
 
 module _ (side : Side) (w h i m : ℕ) (cells new : List Cell) (is : Learns side w h i m cells new) where
   -- the cells of the line are the new ones
   own_read : cells_at Unknown (after side w h i cells new) (places_on side w h i) ≡ new
-  own_read = cells_at-with_cells cells (places_on side w h i) new (distinct_places side w h i is.some)
-      (rw is.count (below_places side w h i is.line))
-      (sym (length-Extends (cells_at Unknown cells (places_on side w h i)) new is.more) ∙ length-cells_at Unknown cells (places_on side w h i))
+  own_read = search (rules, cells_at-with_cells, distinct_places, below_places, length-Extends, length-cells_at)
 
   -- a cell of another line of the side stays
   at_other : (j k : ℕ) → j ≢ i → j < count_on side w h → k < count_on (crossing side) w h →
       get_or (after side w h i cells new) (place_on side w j k) Unknown ≡ get_or cells (place_on side w j k) Unknown
-  at_other j k other lj lk = get_or-with_cells cells (places_on side w h i) new (place_on side w j k) (λ t lt e.
-      let there = along side w h i t lt in
-      absurd (other (sym (same_place side w h i t j k is.line there.0 lj lk (sym there.1 ∙ e)).0)))
+  at_other j k other lj lk = search (rules, get_or-with_cells, along, same_place)
 
   -- the lines of its side
   own_learned : (own : List (List Cell)) → AreOn side w h cells own → AreOn side w h (after side w h i cells new) (set own i new)
-  own_learned own are = (
-    length-set own i new ∙ are.0,
-    λ j lj.
-        let below : j < length own = omega (arith, lj, length-set own i new) in
-        elim (cases_eq j i) [
-          | inl same ↦ rw same (get_or-set_same own i new [] (omega (arith, is.line, are.0)) ∙ sym own_read)
-          | inr other ↦ get_or-set_other own i j new [] other ∙ are.1 j below ∙
-              sym (cells_at-same (after side w h i cells new) cells (places_on side w h j) (λ k lk.
-              let there = along side w h j k lk in
-              rw there.1 (at_other j k other (omega (arith, below, are.0)) there.0)))
-        ],
-  )
+  own_learned own are =
+      grind (arith, length-set, cases_eq, get_or-set_same, own_read, get_or-set_other, cells_at-same, along, at_other)
 
   -- where a cell of the line changes
   change_in : (k : ℕ) → Has m k → k < count_on (crossing side) w h
@@ -170,15 +134,7 @@ module _ (side : Side) (w h i m : ℕ) (cells new : List Cell) (is : Learns side
 whole : (w h : ℕ) (cells : List Cell) (rows columns : List (List Cell)) → IsSize w h → length cells ≡ w * h → AreOn Rows w h cells rows →
     AreOn Columns w h cells columns → (grid_of_lines rows columns ≡ record { width = w; height = h; cells = cells })
     × AreLinesOf (cells_of_rows rows) rows columns
-whole w h cells rows columns size count high wide =
-    let are : AreLinesOf cells rows columns = record {
-      size = rw (wide.0, high.0) size;
-      count = rw (wide.0, high.0) count;
-      rows_are = λ y l. high.1 y l ∙ (λ j. cells_at Unknown cells (places_on Rows (sym wide.0 j) (sym high.0 j) y));
-      columns_are = λ x l. wide.1 x l ∙ (λ j. cells_at Unknown cells (places_on Columns (sym wide.0 j) (sym high.0 j) x));
-    } in
-    let same = lines-cells cells rows columns are in
-    (λ j. record { width = wide.0 j; height = high.0 j; cells = same j }, subst (λ (r : List Cell). AreLinesOf r rows columns) (sym same) are)
+whole w h cells rows columns size count high wide = search (rules, lines-cells)
 
 -- the lines after a row was written
 pub learned_rows : (i m : ℕ) (new : List Cell) (rows columns lines more : List (List Cell)) → AreLinesOf (cells_of_rows rows) rows columns →
@@ -216,12 +172,9 @@ learned_columns i m new rows columns lines more a is e long changed others =
 -- the line has as many cells as before
 pub long_line : (side : Side) (w h i m : ℕ) (cells new : List Cell) (own : List (List Cell)) → Learns side w h i m cells new →
     AreOn side w h cells own → length new ≡ length (get_or own i [])
-long_line side w h i m cells new own is are =
-    sym (length-Extends (cells_at Unknown cells (places_on side w h i)) new is.more) ∙
-    sym (ap length (are.1 i (omega (arith, is.line, are.0))))
+long_line side w h i m cells new own is are = search (rules, length-Extends)
 
 -- the place of a change fits 16 bits
 pub place_fits : (side : Side) (w h i m : ℕ) (cells new : List Cell) → IsSize w h → Learns side w h i m cells new → (k : ℕ) → Has m k →
     place_on side w i k ≤ 65535
-place_fits side w h i m cells new size is k has =
-    omega (arith, cell_within side w h i k is.line (change_in side w h i m cells new is k has), longest_sides_fit w h size)
+place_fits side w h i m cells new size is k has = search (rules, cell_within, change_in, longest_sides_fit)

@@ -1,5 +1,5 @@
 -- The trail while a line is written into a grid cell by cell.
-use Rattle.solve_core.proofs.Names.{◌≡◌, ◌≢◌, ◌∙◌, refl, ℕ, ◌+◌, ◌*◌, ◌<◌, ◌++◌, ◌∷◌, [], inl, inr, List, length, length-set, get_or, set, get_or-set_same, get_or-set_other, sym, ap, arith, cases_eq, same_cells, Cell, Unknown, cells_at, places_from, get_or-cells_at, get_or-places_from, length-cells_at, length-places_from, Extends-at, Has, with_cells, IsLearning, LeadsBackBut, IsTrailed, TrailedGrid, length-Extends, ext_get_or}
+use Rattle.solve_core.proofs.Names.{◌≡◌, ◌≢◌, ◌∙◌, refl, ℕ, ◌+◌, ◌*◌, ◌<◌, ◌++◌, ◌∷◌, [], inl, inr, List, length, length-set, get_or, set, get_or-set_same, get_or-set_other, sym, ap, arith, cases_eq, same_cells, Cell, Unknown, cells_at, places_from, get_or-cells_at, get_or-places_from, length-cells_at, length-places_from, Extends-at, Has, with_cells, IsLearning, LeadsBackBut, IsTrailed, TrailedGrid, length-Extends, ext_get_or, rules}
 use Rattle.solve_core.proofs.Changes.{is_among}
 use Rattle.solve_core.proofs.ClosureLaws.{length-with_cells}
 use Rattle.solve_core.proofs.LineSteps.{below_from, cells_at-with_cells, distinct_from, distinct_same, get_or-with_cells, learned_cell}
@@ -8,18 +8,7 @@ use Rattle.solve_core.proofs.TrailSteps.{trailed-one, trailed-refl, trailed-tran
 -- what is left is told in other words
 pub leads-same : (b : TrailedGrid) (first step n : ℕ) (new : List Cell) (trail : List ℕ) (Left Same : ℕ → Type 0) → ((k : ℕ) → Left k → Same k) →
     ((k : ℕ) → Same k → Left k) → LeadsBackBut b first step n new Left trail → LeadsBackBut b first step n new Same trail
-leads-same b first step n new trail Left Same to from before =
-    let p = before.1 in (
-      before.0,
-      record {
-        changed = λ k h. p.changed k (from k h);
-        as_old = λ k l h. p.as_old k l (from k h);
-        as_new = λ k l none. p.as_new k l (λ h. none (to k h));
-        others = p.others;
-        size = p.size;
-      },
-      before.2,
-    )
+leads-same b first step n new trail Left Same to from before = search (rules)
 
 module _ (b : TrailedGrid) (first step n m : ℕ) (new : List Cell) (is : IsLearning b first step n m new) where
   abbrev places : List ℕ

@@ -1,5 +1,5 @@
 -- Writing a line into a grid: which cells change, and what the closure is afterwards.
-use Rattle.solve_core.proofs.Names.{◌≡◌, ◌≢◌, ℕ, zero, suc, ◌+◌, ◌*◌, ◌<◌, inl, inr, true, List, [], ◌∷◌, length, get_or, set, Option, Some, None, option_map, refl, sym, ap, ◌∙◌, arith, length-set, get_or-set_same, replicate, AllByRecursion, Cell, Unknown, Filled, Blank, CellExtends, Extends, is_known, GridLine, places_from, cells_at, deduced, length-places_from, get_or-places_from, length-cells_at, get_or-cells_at, with_cells, deduce_line, round, closure, IsDeduced, IsWritten, unknown_count, AtMost, Extends-refl, Extends-trans, Extends-antisym, length-Extends, deduced-above, deduced-settled, IsLeastClosed}
+use Rattle.solve_core.proofs.Names.{◌≡◌, ◌≢◌, ℕ, zero, suc, ◌+◌, ◌*◌, ◌<◌, true, List, [], ◌∷◌, length, get_or, set, Option, Some, None, option_map, refl, sym, ap, ◌∙◌, arith, length-set, get_or-set_same, replicate, AllByRecursion, Cell, Unknown, Filled, Blank, CellExtends, Extends, is_known, GridLine, places_from, cells_at, deduced, length-places_from, get_or-places_from, length-cells_at, get_or-cells_at, with_cells, deduce_line, round, closure, IsDeduced, IsWritten, unknown_count, AtMost, Extends-refl, Extends-trans, Extends-antisym, length-Extends, deduced-above, deduced-settled, IsLeastClosed, rules}
 use Rattle.solve_core.proofs.Closing.{fewer_unknown}
 use Rattle.solve_core.proofs.ClosureLaws.{IsLeastClosed-unique, closure-IsLeastClosed, with_cells-monotone, with_cells-read}
 use Rattle.solve_core.proofs.StepLaws.{IsOneOf, closed_line, step_within, dead_within}
@@ -98,9 +98,7 @@ module _ (line : GridLine) (g new : List Cell) (w : IsWritten line g new) where
   module _ (a : AreDistinct line.places) (b : AreBelow (length g) line.places) where
     -- what was written is read
     pub written-read : cells_at Unknown new line.places ≡ w.certain
-    written-read =
-        ap (λ (r : List Cell). cells_at Unknown r line.places) w.written ∙ cells_at-with_cells g line.places w.certain a b
-        (sym (length-Extends (cells_at Unknown g line.places) w.certain above) ∙ length-cells_at Unknown g line.places)
+    written-read = search (rules, cells_at-with_cells, length-Extends, above, length-cells_at)
 
     -- the line that was written is settled
     pub written-settled : IsDeduced new line
@@ -110,19 +108,12 @@ module _ (line : GridLine) (g new : List Cell) (w : IsWritten line g new) where
     pub written-elsewhere : (k : ℕ) →
         ((i : ℕ) → i < length line.places → get_or line.places i 0 ≡ k → get_or new k Unknown ≡ get_or g k Unknown) →
         get_or new k Unknown ≡ get_or g k Unknown
-    written-elsewhere k h =
-        rw w.written
-        (get_or-with_cells g line.places w.certain k (λ i l e.
-        ap (λ (r : List Cell). get_or r i Unknown) (sym written-read) ∙ get_or-cells_at Unknown new line.places i l
-        ∙ ap (λ (q : ℕ). get_or new q Unknown) e ∙ h i l e))
+    written-elsewhere k h = search (rules, get_or-with_cells, written-read, get_or-cells_at)
 
   -- fewer cells are unknown if a line learned something
   pub written-fewer : w.certain ≢ cells_at Unknown g line.places → AreDistinct line.places → AreBelow (length g) line.places →
       unknown_count new < unknown_count g
-  written-fewer n a b = elim (fewer_unknown g new written-extends) [
-    | inl same ↦ absurd (n (sym (written-read a b) ∙ ap (λ (r : List Cell). cells_at Unknown r line.places) same))
-    | inr less ↦ less
-  ]
+  written-fewer n a b = search (rules, fewer_unknown, written-extends, written-read)
 
 -- from a grid between one and its closure the closure is the same
 pub least_between : (f : List Cell → Option (List Cell)) (g z : List Cell) (c d : Option (List Cell)) → IsLeastClosed f g c →
@@ -141,8 +132,7 @@ line_keeps lines g new line m h e =
 -- if one of the lines is dead, so is the closure
 pub line_dead : (lines : List GridLine) (g : List Cell) (line : GridLine) → IsOneOf line lines →
     deduced (cells_at Unknown g line.places) line.clue ≡ None → closure lines g ≡ None
-line_dead lines g line m e =
-    dead_within lines g g line m (closure-IsLeastClosed lines g).above (ap (option_map (with_cells g line.places)) e)
+line_dead lines g line m e = search (rules, dead_within, closure-IsLeastClosed, option_map)
 
 -- each place of a list is a different one
 pub distinct_same : (places : List ℕ) (k i : ℕ) → AreDistinct places → k < length places → i < length places →
@@ -164,10 +154,7 @@ learned_cell _ _ h n = absurd h
 -- a line stays settled if a cell that isn't its own is written
 pub settled-elsewhere : (g : List Cell) (k : ℕ) (c : Cell) (line : GridLine) → IsDeduced g line →
     ((b : ℕ) → b < length line.places → k ≢ get_or line.places b 0) → IsDeduced (set g k c) line
-settled-elsewhere g k c line settled apart =
-    let same : cells_at Unknown (set g k c) line.places ≡ cells_at Unknown g line.places =
-    cells_at-same (set g k c) g line.places (λ b l. set_elsewhere g k c (get_or line.places b 0) (λ e. absurd (apart b l e))) in
-    rw same settled
+settled-elsewhere g k c line settled apart = search (rules, cells_at-same, set_elsewhere)
 
 -- a line of a closed grid knows all that is certain of it
 pub closed_settled : (lines : List GridLine) (g : List Cell) (line : GridLine) → round lines g ≡ Some g → IsOneOf line lines →

@@ -1,5 +1,5 @@
 -- What the rule of most known neighbours picks.
-use Rattle.solve_core.proofs.Names.{◌≡◌, ℕ, zero, suc, ◌<◌, ◌≤◌, inl, inr, Bool, true, false, cond, List, length, get_or, Option, Some, None, refl, sym, ap, ◌∙◌, subst, arith, true≢false, cases_eq, cases_lt, le-ltb, lt-ltb, Cell, Unknown, is_unknown, better, first_most, most_known, picked, sure_neighbours, IsPick}
+use Rattle.solve_core.proofs.Names.{◌≡◌, ℕ, zero, suc, ◌<◌, ◌≤◌, Bool, true, false, List, length, get_or, Option, Some, None, ap, arith, true≢false, cases_eq, cases_lt, le-ltb, lt-ltb, Cell, Unknown, is_unknown, better, first_most, most_known, picked, sure_neighbours, IsPick, rules}
 use Rattle.solve_core.specs.declared.picks.Pick.{Pick}
 use Rattle.solve_core.specs.declared.picks.Pick.TheVariants.{First, Most}
 use Rattle.solve_core.specs.MostKnown.{IsMostKnown}
@@ -17,38 +17,12 @@ IsFirstMost score passes n (Some k) =
 -- the first place with the highest score is that, or no place passes
 pub first_most-is : (score : ℕ → ℕ) (passes : ℕ → Bool) (n : ℕ) → IsFirstMost score passes n (first_most score passes n)
 first_most-is score passes zero = λ j l. absurd (omega arith)
-first_most-is score passes (suc n) = by (passes n) refl (first_most score passes n) (first_most-is score passes n)
-  where
-    take : passes n ≡ true → ((j : ℕ) → j < n → passes j ≡ true → score j < score n) → IsFirstMost score passes (suc n) (Some n)
-    take o less = (
-      omega arith,
-      o,
-      λ j l p. elim (cases_eq j n) [ inl own ↦ rw own (omega arith) | inr other ↦ (let few = less j (omega arith) p in omega (arith, few)) ],
-      less,
-    )
-
-    stay : (k : ℕ) → (passes n ≡ true → score n ≤ score k) → IsFirstMost score passes n (Some k) → IsFirstMost score passes (suc n) (Some k)
-    stay k few most = (
-      omega (arith, most.0),
-      most.1,
-      λ j l p. elim (cases_eq j n) [ inl own ↦ rw own (few (rw own at p)) | inr other ↦ most.2 j (omega arith) p ],
-      most.3,
-    )
-
-    by : (b : Bool) → passes n ≡ b → (best : Option ℕ) → IsFirstMost score passes n best →
-        IsFirstMost score passes (suc n) (cond b (better score best n) best)
-    by true o None none = take o (λ j l p. absurd (true≢false (sym p ∙ none j l)))
-    by true o (Some k) most = elim (cases_lt (score k) (score n)) [
-      | inl more ↦ rw (lt-ltb (score k) (score n) more) (take o (λ j l p. let less = most.2 j l p in omega (arith, less)))
-      | inr few ↦ rw (le-ltb (score k) (score n) few) (stay k (λ p. few) most)
-    ]
-    by false o None none = λ j l. elim (cases_eq j n) [ inl own ↦ rw own o | inr other ↦ none j (omega arith) ]
-    by false o (Some k) most = stay k (λ p. absurd (true≢false (sym p ∙ o))) most
+first_most-is score passes (suc n) =
+    search (rules, first_most, cases_eq, better, true≢false, cases_lt, lt-ltb, le-ltb, (first_most-is score passes n))
 
 picked-most : (width : ℕ) (grid : List Cell) (best : Option ℕ) → most_known width grid ≡ best
     → IsFirstMost (sure_neighbours width grid) (λ j. is_unknown (get_or grid j Unknown)) (length grid) best
-picked-most width grid best e = subst (IsFirstMost (sure_neighbours width grid) (λ j. is_unknown (get_or grid j Unknown)) (length grid)) e
-    (first_most-is (sure_neighbours width grid) (λ j. is_unknown (get_or grid j Unknown)) (length grid))
+picked-most width grid best e = search (rules, first_most-is)
 
 -- the cell that the rule picks is what the rule says
 pub most_known-is : (width : ℕ) (grid : List Cell) (k : ℕ) → most_known width grid ≡ Some k → IsMostKnown width grid k

@@ -1,5 +1,5 @@
 -- The cell to guess, found row by row.
-use Rattle.solve_core.proofs.Names.{◌≡◌, ◌≢◌, ℕ, zero, suc, ◌+◌, ◌-◌, ◌*◌, ◌%◌, ◌<◌, ◌≤◌, Bool, true, false, cond, nat_eq, nat_lt, nat_le, inl, inr, List, [], length, get_or, Option, Some, None, refl, sym, ap, ◌∙◌, arith, true≢false, add-one, add-zero, cases_Bool, cases_eq, cases_lt, eq-eqb, ne_eqb, eqb-false, lt-ltb, le-ltb, le-leb, lt-leb, mod-mul-add, Cell, Unknown, is_unknown, IsUnknownCell, IsMostInRow, row_score, two_of, is_sure, AreLinesOf, cells_of_rows, better, first_most, is_left_sure, is_right_sure, is_above_sure, is_below_sure, sure_neighbours}
+use Rattle.solve_core.proofs.Names.{◌≡◌, ◌≢◌, ℕ, zero, suc, ◌+◌, ◌-◌, ◌*◌, ◌%◌, ◌<◌, ◌≤◌, Bool, true, false, nat_eq, nat_lt, nat_le, inl, inr, List, [], length, get_or, Option, Some, None, refl, sym, ap, ◌∙◌, arith, true≢false, add-one, add-zero, cases_Bool, cases_eq, cases_lt, eq-eqb, ne_eqb, eqb-false, lt-ltb, le-ltb, le-leb, lt-leb, mod-mul-add, Cell, Unknown, is_unknown, IsUnknownCell, IsMostInRow, row_score, two_of, is_sure, AreLinesOf, cells_of_rows, first_most, is_left_sure, is_right_sure, is_above_sure, is_below_sure, sure_neighbours, rules}
 use Rattle.solve_core.proofs.GridLineSteps.{cell-read, lines-long}
 use Rattle.solve_core.proofs.SideLines.{row_within}
 use Rattle.solve_core.proofs.SearchLaws.{unknown_is}
@@ -80,24 +80,12 @@ module _ (score : ℕ → ℕ) (passes : ℕ → Bool) where
   -- a place that doesn't pass, or for which not enough counts, changes nothing
   pub cell-none : (s : ℕ) (best : Option ℕ) → best ≡ first_most score passes s → (passes s ≡ true → score s < least_after score best) →
       best ≡ first_most score passes (s + 1)
-  cell-none s best e few = by (passes s) refl best few ∙ (λ i. cond (passes s) (better score (e i) s) (e i)) ∙
-      ap (first_most score passes) (sym (add-one s))
-    where
-      by : (b : Bool) → passes s ≡ b → (best : Option ℕ) → (passes s ≡ true → score s < least_after score best) →
-          best ≡ cond b (better score best s) best
-      by true o None few = (let less = few o in absurd (omega arith))
-      by true o (Some j) few = let less = few o in rw (le-ltb (score j) (score s) (omega (arith, less))) refl
-      by false o best few = refl
+  cell-none s best e few = search (rules, add-one, le-ltb)
 
   -- a place that passes, and for which enough counts, is the best
   pub cell-some : (s : ℕ) (best : Option ℕ) → best ≡ first_most score passes s → passes s ≡ true → least_after score best ≤ score s →
       Some s ≡ first_most score passes (s + 1)
-  cell-some s best e o enough = by best enough ∙ (λ i. cond (sym o i) (better score (e i) s) (e i)) ∙
-      ap (first_most score passes) (sym (add-one s))
-    where
-      by : (best : Option ℕ) → least_after score best ≤ score s → Some s ≡ better score best s
-      by None l = refl
-      by (Some j) l = rw (lt-ltb (score j) (score s) (omega arith)) refl
+  cell-some s best e o enough = search (rules, add-one, lt-ltb)
 
   -- if no place of a row counts for enough, the best one stays
   row-none : (s w : ℕ) (best : Option ℕ) → best ≡ first_most score passes s →

@@ -1,11 +1,8 @@
 -- The report on a puzzle, by its two closures and by how its search ends.
-use Rattle.solve_core.proofs.Names.{◌≡◌, ℕ, zero, suc, ◌+◌, ◌≤◌, true, false, List, [], ◌∷◌, ◌++◌, length, map, Option, nat_lt, refl, sym, ap, ◌∙◌, arith, subst, true≢false, zero-add, add-zero, inl, inr, option_and_then, cases_lt, le-ltb, lt-ltb, closure, trials, Cell, PartialGrid, Nonogram, lines_of, Findings, Event, Guess, Solution, through_solution, within_guesses, solutions_in, guesses_in, verdict_by, grid_of, whole_search, events_from, guesses_of, unknown_grid, line_closure, trial_closure, is_decided, known_in, grade_by, report_of, IsFinal, Ending, ending}
+use Rattle.solve_core.proofs.Names.{◌≡◌, ℕ, zero, suc, ◌+◌, ◌≤◌, true, false, List, [], ◌∷◌, ◌++◌, length, map, Option, nat_lt, refl, sym, ap, ◌∙◌, arith, subst, true≢false, zero-add, add-zero, option_and_then, cases_lt, le-ltb, lt-ltb, closure, trials, Cell, PartialGrid, Nonogram, lines_of, Findings, Event, Guess, Solution, through_solution, within_guesses, solutions_in, guesses_in, verdict_by, grid_of, whole_search, events_from, guesses_of, unknown_grid, line_closure, trial_closure, is_decided, known_in, grade_by, report_of, IsFinal, Ending, ending, rules}
 
 nat_lt-more : (m n : ℕ) → nat_lt m n ≡ nat_lt (suc m) (suc n)
-nat_lt-more m n = elim (cases_lt m n) [
-  | inl l ↦ lt-ltb m n l ∙ sym (lt-ltb (suc m) (suc n) (omega arith))
-  | inr l ↦ le-ltb m n l ∙ sym (le-ltb (suc m) (suc n) (omega arith))
-]
+nat_lt-more m n = search (rules, cases_lt, lt-ltb, le-ltb)
 
 nat_lt-positive : (n : ℕ) → nat_lt 0 (suc n) ≡ true
 nat_lt-positive n = lt-ltb 0 (suc n) (omega arith)
@@ -30,10 +27,7 @@ ending-one p a spent (suc left) (Guess ∷ es) =
 
 ending-none : (p : Nonogram) (spent left : ℕ) (es : List Event) → ending p [] spent left es ≡ defined p [] 2 spent left es
 ending-none p spent left [] = rw add-zero refl
-ending-none p spent left (Solution c ∷ es) = rw (
-  ending-one p (grid_of p c) spent left es,
-  nat_lt-more (length (within_guesses left (through_solution 1 es))) (length (through_solution 1 es)),
-) refl
+ending-none p spent left (Solution c ∷ es) = search (rules, ending-one, nat_lt-more)
 ending-none p spent zero (Guess ∷ es) = rw (add-zero, nat_lt-positive (length (through_solution 2 es))) refl
 ending-none p spent (suc left) (Guess ∷ es) =
     let part = within_guesses left (through_solution 2 es) in

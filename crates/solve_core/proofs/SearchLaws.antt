@@ -1,5 +1,5 @@
 -- What a search finds: every solution that extends the grid, nothing else, and none twice.
-use Rattle.solve_core.proofs.Names.{◌≡◌, ℕ, zero, suc, ◌+◌, ◌<◌, ◌≤◌, ◌⊎◌, inl, inr, Bool, true, false, List, [], ◌∷◌, ◌++◌, length, get_or, set, map, Option, Some, None, refl, sym, ap, ◌∙◌, arith, length-set, true≢false, add-one, take, position_or_len, cases_lt, lt-ltb, fails_before_first, position-Some, length-map, Cell, Unknown, Filled, Blank, CellExtends, Extends, colour, is_unknown, is_filled, GridLine, closure, Event, Guess, Solution, IsPick, first_unknown, guess_at, search_from, events_within, events, solutions_in, through_solution, AtMost, Extends-refl, Extends-trans, length-Extends, Extends-antisym, unknown_count, Extends-at, Extends-from_places, get_or-map_colour}
+use Rattle.solve_core.proofs.Names.{◌≡◌, ℕ, zero, suc, ◌+◌, ◌<◌, ◌≤◌, ◌⊎◌, inl, inr, Bool, true, false, List, [], ◌∷◌, ◌++◌, length, get_or, set, map, Option, Some, None, refl, sym, ap, ◌∙◌, arith, length-set, true≢false, add-one, take, position_or_len, cases_lt, lt-ltb, fails_before_first, position-Some, length-map, Cell, Unknown, Filled, Blank, CellExtends, Extends, colour, is_unknown, is_filled, GridLine, closure, Event, Guess, Solution, IsPick, first_unknown, guess_at, search_from, events_within, events, solutions_in, through_solution, Extends-refl, Extends-trans, length-Extends, Extends-antisym, unknown_count, Extends-at, Extends-from_places, get_or-map_colour, rules}
 use Rattle.solve_core.proofs.Order.{set_extends, set_within}
 use Rattle.solve_core.proofs.Closing.{unknown_count-le, fewer_unknown}
 use Rattle.solve_core.proofs.TrailSteps.{count-settled}
@@ -45,10 +45,7 @@ same_known Unknown d e h = cc
 same_known _ _ e h = absurd h
 
 none_is : (grid : List Cell) → first_unknown grid ≡ None → length grid ≤ position_or_len is_unknown grid
-none_is grid e = elim (cases_lt (position_or_len is_unknown grid) (length grid)) [
-  | inl l ↦ (let no = rw (lt-ltb (position_or_len is_unknown grid) (length grid) l) at e in cc)
-  | inr l ↦ l
-]
+none_is grid e = search (rules, cases_lt, lt-ltb)
 
 -- a grid that knows no less has no more unknown cells
 pub unknown_count-more : (g z : List Cell) → Extends g z → unknown_count z ≤ unknown_count g
@@ -187,22 +184,8 @@ module _ (pick : List Cell → Option ℕ) (lawful : IsPick pick) (lines : List 
   search_from-agree : (p q : List Cell → List Event) (g : List Cell) →
       ((z : List Cell) → length z ≡ length g → unknown_count z < unknown_count g → p z ≡ q z) →
       search_from pick p (closure lines g) ≡ search_from pick q (closure lines g)
-  search_from-agree p q g agree = from (closure lines g) ((closure-IsLeastClosed lines g).above)
-    where
-      at : (c : List Cell) → Extends g c → (o : Option ℕ) → pick c ≡ o → guess_at p c o ≡ guess_at q c o
-      at c h None e = refl
-      at c h (Some k) e =
-          let place = lawful.within c k e in
-          let unknown = unknown_is (get_or c k Unknown) place.1 in
-          let fewer = unknown_count-more g c h in
-          let less = λ (d : Cell). length-set c k d ∙ sym (length-Extends g c h) in
-          let filled = agree (set c k Filled) (less Filled) (omega (arith, count-settled c k Filled place.0 unknown refl)) in
-          let blank = agree (set c k Blank) (less Blank) (omega (arith, count-settled c k Blank place.0 unknown refl)) in
-          λ i. (Guess ∷ filled i) ++ (Guess ∷ blank i)
-
-      from : (o : Option (List Cell)) → AtMost (Some g) o → search_from pick p o ≡ search_from pick q o
-      from None h = refl
-      from (Some c) h = at c h (pick c) refl
+  search_from-agree p q g agree =
+      search (rules, closure-IsLeastClosed, unknown_is, unknown_count-more, length-set, length-Extends, count-settled)
 
   -- any depth above the number of unknown cells does
   events_within-enough : (n m : ℕ) (g : List Cell) → unknown_count g < n → unknown_count g < m →
@@ -214,10 +197,7 @@ module _ (pick : List Cell → Option ℕ) (lawful : IsPick pick) (lines : List 
 
   -- the whole search goes on below each guess as a whole search
   pub events-unfold : (g : List Cell) → events pick lines g ≡ search_from pick (events pick lines) (closure lines g)
-  events-unfold g =
-      ap (λ (n : ℕ). events_within pick n lines g) (add-one (length g))
-      ∙ search_from-agree (events_within pick (length g) lines) (events pick lines) g (λ z l u.
-      events_within-enough (length g) (length z + 1) z (omega (arith, unknown_count-le g)) (omega (arith, unknown_count-le z)))
+  events-unfold g = search (rules, add-one, search_from-agree, events_within-enough, unknown_count-le)
 
 -- the solutions among the events up to the `n`-th solution are the first `n`
 pub solutions_through : (n : ℕ) (es : List Event) → solutions_in (through_solution n es) ≡ take n (solutions_in es)
@@ -228,7 +208,4 @@ solutions_through (suc n) (Solution s ∷ es) = λ i. s ∷ solutions_through n 
 
 -- the first unknown cell is a lawful pick
 pub first_unknown-IsPick : IsPick first_unknown
-first_unknown-IsPick = record {
-  within = λ grid k e. let at = position-Some is_unknown grid k Unknown e in (at.0, at.1);
-  only_full = λ grid e k l. fails_before_first is_unknown grid k Unknown (omega (arith, l, none_is grid e));
-}
+first_unknown-IsPick = search (rules, position-Some, fails_before_first, none_is)

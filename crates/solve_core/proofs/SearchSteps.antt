@@ -1,5 +1,5 @@
 -- What happens below a guess, and at which cell the next one is made.
-use Rattle.solve_core.proofs.Names.{◌≡◌, ◌≢◌, ℕ, ◌+◌, ◌<◌, ◌≤◌, inl, inr, List, [], ◌++◌, length, get_or, set, refl, sym, ap, ◌∙◌, arith, subst, Option, Some, None, IfSome, true, false, get_or-set_other, cases_lt, position-Some, Cell, Unknown, Filled, is_unknown, is_known, Extends, GridLine, Branch, round, closure, Event, IsPick, search_from, events, first_unknown, unknown_count, AreKnownBefore, IsClosed, IsNext, IsOpen, IsWork, AreOlder, Extends-at, IsUnknownFrom}
+use Rattle.solve_core.proofs.Names.{◌≡◌, ◌≢◌, ℕ, ◌+◌, ◌<◌, ◌≤◌, List, [], ◌++◌, length, get_or, set, refl, sym, arith, subst, Option, Some, None, IfSome, true, false, get_or-set_other, cases_lt, position-Some, Cell, Unknown, Filled, is_unknown, is_known, Extends, GridLine, Branch, round, closure, Event, IsPick, search_from, events, first_unknown, unknown_count, AreKnownBefore, IsClosed, IsNext, IsOpen, IsWork, AreOlder, Extends-at, IsUnknownFrom, rules}
 use Rattle.grid_core.proofs.FirstUnknown.{position_none, position_some}
 use Rattle.solve_core.proofs.Closing.{repeat-fixed}
 use Rattle.solve_core.proofs.ClosureLaws.{closure-IsLeastClosed}
@@ -10,8 +10,7 @@ use Rattle.solve_core.proofs.BranchLaws.{branch-count}
 -- below a guess the search goes on in the closed cells, and if closing refutes the guess, nothing happens
 pub closed-events : (pick : List Cell → Option ℕ) (lawful : IsPick pick) (lines : List GridLine) (g : List Cell) (o : Option (List Cell))
     (rest : List Event) → o ≡ closure lines g → search_from pick (events pick lines) o ++ rest ≡ events pick lines g ++ rest
-closed-events pick lawful lines g o rest closed =
-    ap (λ es. es ++ rest) (ap (search_from pick (events pick lines)) closed ∙ sym (events-unfold pick lawful lines g))
+closed-events pick lawful lines g o rest closed = search (rules, events-unfold)
 
 -- closed cells are their own closure
 pub closed-closure : (lines : List GridLine) (cells : List Cell) → IsClosed lines cells → closure lines cells ≡ Some cells
@@ -67,9 +66,4 @@ known-before lines cells now place c first closed k l =
 -- if no cell before a place is unknown, the first unknown one from there on is the first of all
 pub first-from : (cells seen : List Cell) (start : ℕ) (found : Option ℕ) → seen ≡ cells → AreKnownBefore start cells →
     IsUnknownFrom seen start found → found ≡ first_unknown cells
-first-from cells seen start found e before h = by found (subst (λ (r : List Cell). IsUnknownFrom r start found) e h)
-  where
-    by : (found : Option ℕ) → IsUnknownFrom cells start found → found ≡ first_unknown cells
-    by None none = sym (position_none cells (λ j l. elim (cases_lt j start) [ inl early ↦ before j early | inr late ↦ none j late l ]))
-    by (Some place) at = sym (position_some cells place at.1 at.2
-        (λ j l. elim (cases_lt j start) [ inl early ↦ before j early | inr late ↦ at.3 j late l ]))
+first-from cells seen start found e before h = search (rules, position_none, cases_lt, position_some)

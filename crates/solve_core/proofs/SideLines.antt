@@ -1,14 +1,12 @@
 -- The lines of a grid by side and number.
-use Rattle.solve_core.proofs.Names.{◌≡◌, ℕ, zero, suc, ◌+◌, ◌*◌, ◌<◌, ◌≤◌, inl, inr, List, [], ◌∷◌, ◌/◌, ◌%◌, ◌∙◌, sym, length, get_or, refl, ap, arith, AllByRecursion, div-mul-add, mod-mul-add, recursion_from_All, Side, Rows, Columns, IsSize, Nonogram, IsNonogram, GridLine, lines_of, clues_on, crossing, line_on, places_on, column_on, count_on, place_on, row_on, all_lines, each_line, place-within, length-places_on, get_or-places_on}
+use Rattle.solve_core.proofs.Names.{◌≡◌, ℕ, zero, suc, ◌+◌, ◌*◌, ◌<◌, ◌≤◌, inl, inr, List, [], ◌∷◌, ◌/◌, ◌%◌, ◌∙◌, sym, length, get_or, refl, ap, arith, AllByRecursion, div-mul-add, mod-mul-add, recursion_from_All, Side, Rows, Columns, IsSize, Nonogram, IsNonogram, GridLine, lines_of, clues_on, crossing, line_on, places_on, column_on, count_on, place_on, row_on, all_lines, each_line, place-within, length-places_on, get_or-places_on, rules}
 use Rattle.std.proofs.Math.Nat.{mul-le-mul_left}
 use Rattle.solve_core.proofs.StepLaws.{IsOneOf}
 use Rattle.solve_core.proofs.LineSteps.{AreDistinct, AreBelow, distinct_from, below_from}
 
 -- the places of a grid fit 16 bits
 pub longest_sides_fit : (w h : ℕ) → IsSize w h → w * h ≤ 65536
-longest_sides_fit w h size =
-    let by_height : w * h ≤ w * 256 = mul-le-mul_left w (omega (arith, size.height_to)) in
-    omega (arith, by_height, size.width_to)
+longest_sides_fit w h size = search (rules, mul-le-mul_left)
 
 -- a place has only one row and only one column
 pub unique_place : (w y j a b : ℕ) → a < w → b < w → y * w + a ≡ j * w + b → (y ≡ j) × (a ≡ b)
@@ -57,9 +55,7 @@ same_place Columns w h i k j m li lk lj lm e = let same = unique_place w k m i j
 -- a place of a line, by its number along the line
 pub along : (side : Side) (w h i k : ℕ) → k < length (places_on side w h i) →
     (k < count_on (crossing side) w h) × (get_or (places_on side w h i) k 0 ≡ place_on side w i k)
-along side w h i k l =
-    let short : k < count_on (crossing side) w h = omega (arith, length-places_on side w h i) in
-    (short, get_or-places_on side w h i k short)
+along side w h i k l = search (rules, length-places_on, get_or-places_on)
 
 -- a place of a line that crosses those of a side, by its number along it
 pub across : (side : Side) (w h i k : ℕ) → k < length (places_on (crossing side) w h i) →

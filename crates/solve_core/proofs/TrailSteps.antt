@@ -1,5 +1,5 @@
 -- How the trail of settled cells grows.
-use Rattle.solve_core.proofs.Names.{◌≡◌, ℕ, zero, suc, ◌+◌, ◌<◌, true, List, [], ◌∷◌, ◌++◌, length, get_or, set, refl, sym, ap, ◌∙◌, arith, length-append, length-set, append-nil, append_assoc, true≢false, AllByRecursion, Cell, Unknown, Filled, Blank, is_known, TrailedGrid, unknown_count, cleared, IsTrailed, set-set, set-get_or}
+use Rattle.solve_core.proofs.Names.{◌≡◌, ℕ, zero, suc, ◌+◌, ◌<◌, true, List, [], ◌∷◌, ◌++◌, length, get_or, set, refl, sym, ap, ◌∙◌, arith, length-append, length-set, append-nil, append_assoc, true≢false, AllByRecursion, Cell, Unknown, Filled, Blank, is_known, TrailedGrid, unknown_count, cleared, IsTrailed, set-set, set-get_or, rules}
 
 -- clearing the places of two lists clears those of the second one first
 pub cleared-append : (cells : List Cell) (ks js : List ℕ) → cleared cells (ks ++ js) ≡ cleared (cleared cells js) ks
@@ -18,15 +18,7 @@ all_append P (x ∷ xs) ys h k = (h.0, all_append P xs ys h.1 k)
 
 -- nothing was settled
 pub trailed-refl : (g : TrailedGrid) → IsTrailed g g
-trailed-refl g = record {
-  added = [];
-  width = refl;
-  height = refl;
-  kept = sym (append-nil g.trail);
-  undo = refl;
-  within = tt;
-  count = omega arith;
-}
+trailed-refl g = search (rules, append-nil)
 
 -- first some cells were settled, and then others
 pub trailed-trans : (a b c : TrailedGrid) → IsTrailed a b → IsTrailed b c → IsTrailed a c
@@ -56,12 +48,4 @@ count-settled (Blank ∷ g) (suc k) c h e n = count-settled g k c (omega arith) 
 -- one cell was settled
 pub trailed-one : (g after : TrailedGrid) (k : ℕ) (c : Cell) → k < length g.cells → get_or g.cells k Unknown ≡ Unknown → is_known c ≡ true
     → after.width ≡ g.width → after.height ≡ g.height → after.cells ≡ set g.cells k c → after.trail ≡ g.trail ++ k ∷ [] → IsTrailed g after
-trailed-one g after k c h e n w t a b = record {
-  added = k ∷ [];
-  width = w;
-  height = t;
-  kept = b;
-  undo = rw (a, set-set) (rw e at (set-get_or g.cells k Unknown));
-  within = ((omega (arith, ap length a, length-set g.cells k c)), tt);
-  count = rw a (count-settled g.cells k c h e n);
-}
+trailed-one g after k c h e n w t a b = search (rules, set-set, set-get_or, length-set, count-settled)

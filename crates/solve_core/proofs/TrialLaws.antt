@@ -1,5 +1,5 @@
 -- Trials end in the least trial-closed grid, and lose no solution.
-use Rattle.solve_core.proofs.Names.{◌≡◌, ℕ, zero, suc, ◌+◌, ◌<◌, Bool, true, false, List, [], ◌∷◌, length, get_or, set, map, Option, Some, None, is_none, option_and_then, refl, sym, ◌∙◌, arith, slice_index_or, true≢false, add-zero, zero-add, range_with_len, length-map, Cell, Unknown, Filled, Blank, CellExtends, Extends, colour, GridLine, option_cons, round, closure, is_refuted, left_over, tried, all_present, trial_round, trials, AtMost, Extends-trans, length-Extends, Extends-at, get_or-map_colour, IsLeastClosed}
+use Rattle.solve_core.proofs.Names.{◌≡◌, ℕ, zero, suc, ◌+◌, ◌<◌, Bool, true, false, List, [], ◌∷◌, length, get_or, map, Option, Some, None, is_none, option_and_then, refl, sym, ◌∙◌, arith, slice_index_or, true≢false, add-zero, zero-add, range_with_len, length-map, Cell, Unknown, Filled, Blank, CellExtends, Extends, colour, GridLine, option_cons, round, closure, is_refuted, left_over, tried, all_present, trial_round, trials, AtMost, Extends-trans, length-Extends, Extends-at, get_or-map_colour, IsLeastClosed, rules}
 use Rattle.solve_core.proofs.SearchLaws.{same_known}
 use Rattle.solve_core.proofs.Order.{CellAtMost, cons_at_most, set_within, below_each}
 use Rattle.solve_core.proofs.Closing.{IsDeduction, repeat-fixed, and_then-above, and_then-below}
@@ -15,8 +15,7 @@ OptionBelow None c = ⊥
 OptionBelow (Some d) c = CellExtends d c
 
 tried-above : (lines : List GridLine) (grid : List Cell) (k : ℕ) (c : Cell) → CellAtMost c (tried lines grid k c)
-tried-above lines grid k Unknown =
-    elim (left_over (is_refuted lines grid k Filled) (is_refuted lines grid k Blank)) as (λ o. CellAtMost Unknown o) [ None ↦ tt | Some d ↦ tt ]
+tried-above lines grid k Unknown = search (rules)
 tried-above lines grid k Filled = tt
 tried-above lines grid k Blank = tt
 
@@ -30,12 +29,10 @@ all_above f n (c ∷ g) h =
 
 -- what trials say of the cells of a grid only adds to what is known
 pub tried_cells-above : (lines : List GridLine) (g : List Cell) → AtMost (Some g) (tried_cells lines g)
-tried_cells-above lines g =
-    all_above (λ k. tried lines g k (get_or g k Unknown)) 0 g (λ k l. rw (zero-add k) (tried-above lines g k (get_or g k Unknown)))
+tried_cells-above lines g = search (rules, all_above, zero-add, tried-above)
 
 pub trial_round-above : (lines : List GridLine) (g : List Cell) → AtMost (Some g) (trial_round lines g)
-trial_round-above lines g =
-    and_then-above (closure lines) (λ z. (closure-IsLeastClosed lines z).above) g (tried_cells lines g) (tried_cells-above lines g)
+trial_round-above lines g = search (rules, and_then-above, closure-IsLeastClosed, tried_cells-above)
 
 cons_below : (o : Option Cell) (os : Option (List Cell)) (c : Cell) (w : List Cell) → OptionBelow o c → AtMost os (Some w) →
     AtMost (option_cons o os) (Some (c ∷ w))
@@ -73,8 +70,7 @@ none_if (Some g) (Some w) h e = e
 -- a colour that is refuted in a grid is not that of a line-closed grid that knows more
 refuted_not_there : (lines : List GridLine) (g w : List Cell) (k : ℕ) (c : Cell) → round lines w ≡ Some w → Extends g w →
     is_refuted lines g k c ≡ true → CellExtends c (get_or w k Unknown) → k < length w → ⊥
-refuted_not_there lines g w k c closed h refuted there l = true≢false (sym (none_if (closure lines (set g k c)) (Some w)
-    ((closure-IsLeastClosed lines (set g k c)).least w closed (set_within g w k c h there)) refuted))
+refuted_not_there lines g w k c closed h refuted there l = search (rules, true≢false, none_if, closure-IsLeastClosed, set_within)
 
 -- a grid that knows more has a closure that knows no less
 pub closure-monotone : (lines : List GridLine) (g z : List Cell) → Extends g z → AtMost (closure lines g) (closure lines z)
@@ -84,9 +80,7 @@ closure-monotone lines g z h = below_each (closure lines g) (closure lines z) (�
 
 pub is_refuted-monotone : (lines : List GridLine) (g z : List Cell) (k : ℕ) (c : Cell) → CellExtends c c → Extends g z →
     is_refuted lines g k c ≡ true → is_refuted lines z k c ≡ true
-is_refuted-monotone lines g z k c s h e =
-    none_if (closure lines (set g k c)) (closure lines (set z k c))
-    (closure-monotone lines (set g k c) (set z k c) (set-monotone g z k c c h s)) e
+is_refuted-monotone lines g z k c s h e = search (rules, none_if, closure-monotone, set-monotone)
 
 pub left_blank_below : (b : Bool) (w : Cell) → OptionBelow (left_over true b) w → CellExtends Blank w
 left_blank_below true w h = absurd h
@@ -121,12 +115,7 @@ pub tried-below : (lines : List GridLine) (g z w : List Cell) (k : ℕ) (c : Cel
     k < length w → CellExtends c (get_or w k Unknown) → OptionBelow (tried lines z k (get_or z k Unknown)) (get_or w k Unknown) →
     OptionBelow (tried lines g k c) (get_or w k Unknown)
 tried-below lines g z w k Unknown gz zw closed l h b =
-    let at : CellExtends (get_or z k Unknown) (get_or w k Unknown) = Extends-at z w k zw in
-    left_over-below (is_refuted lines g k Filled) (is_refuted lines g k Blank) (get_or w k Unknown)
-    (λ r. left_blank lines z k (get_or z k Unknown) (get_or w k Unknown) at b (is_refuted-monotone lines g z k Filled tt gz r)
-    (λ e. refuted_not_there lines g w k Filled closed (Extends-trans g z w gz zw) r e l))
-    (λ r. left_filled lines z k (get_or z k Unknown) (get_or w k Unknown) at b (is_refuted-monotone lines g z k Blank tt gz r)
-    (λ e. refuted_not_there lines g w k Blank closed (Extends-trans g z w gz zw) r e l))
+    search (rules, left_over-below, left_blank, is_refuted-monotone, refuted_not_there, left_filled)
 tried-below lines g z w k Filled gz zw closed l h b = h
 tried-below lines g z w k Blank gz zw closed l h b = h
 
@@ -149,18 +138,11 @@ tried_cells-below lines g z w gz zw closed below =
 pub after_trials : (lines : List GridLine) (z w : List Cell) (o : Option (List Cell)) → option_and_then (closure lines) o ≡ Some w →
     AtMost o (Some w) × (round lines w ≡ Some w)
 after_trials lines z w None e = cc
-after_trials lines z w (Some t) e =
-    let law = closure-IsLeastClosed lines t in
-    ((rw e at law.above), law.closed w e)
+after_trials lines z w (Some t) e = search (rules, closure-IsLeastClosed)
 
 pub trial_round-deduction : (lines : List GridLine) → IsDeduction (trial_round lines)
-trial_round-deduction lines = record {
-  above = trial_round-above lines;
-  monotone = λ g z h. below_each (trial_round lines g) (trial_round lines z) (λ w e.
-      let after = after_trials lines z w (tried_cells lines z) e in
-      and_then-below (closure lines) w (λ t k. (closure-IsLeastClosed lines t).least w after.1 k) (tried_cells lines g)
-      (tried_cells-below lines g z w h (rw e at (trial_round-above lines z)) after.1 after.0));
-}
+trial_round-deduction lines =
+    search (rules, trial_round-above, below_each, after_trials, and_then-below, closure-IsLeastClosed, tried_cells-below)
 
 -- the grid after trials is the least trial-closed grid that knows what the grid knows
 pub trials-IsLeastClosed : (lines : List GridLine) (g : List Cell) → IsLeastClosed (trial_round lines) g (trials lines g)
@@ -174,13 +156,7 @@ known_below lines z k false c e = rw e tt
 pub trial_round-solution : (lines : List GridLine) (full : List Bool) → MeetsLines lines full →
     trial_round lines (map colour full) ≡ Some (map colour full)
 trial_round-solution lines full m =
-    let z = map colour full in
-    let at = λ (k : ℕ). tried lines z k (get_or z k Unknown) in
-    let settled : tried_cells lines z ≡ Some z =
-    same_at_most z (tried_cells lines z) (tried_cells-above lines z)
-    (all_below at 0 z (λ k l. rw (zero-add k) (known_below lines z k (get_or full k false) (get_or z k Unknown)
-    (get_or-map_colour full k (omega (arith, length-map full colour)))))) in
-    rw settled (repeat-fixed (round lines) (length z + 1) z (round-solution lines full m))
+    search (rules, same_at_most, tried_cells-above, all_below, zero-add, known_below, get_or-map_colour, length-map, repeat-fixed, round-solution)
 
 -- every solution that extends a grid extends it after trials, which so isn't dead
 pub trials-below : (lines : List GridLine) (full : List Bool) → MeetsLines lines full → (g : List Cell) → Extends g (map colour full) →

@@ -1,5 +1,5 @@
 -- What a trial's outcome says of a cell, and what settling the cell leaves of the trials' end.
-use Rattle.solve_core.proofs.Names.{◌≡◌, ℕ, ◌+◌, ◌<◌, inl, inr, Bool, true, false, List, [], ◌∷◌, length, get_or, set, Option, Some, None, is_none, refl, sym, ap, ◌∙◌, arith, subst, zero-add, Cell, Unknown, Filled, Blank, CellExtends, Extends, is_known, GridLine, Changed, round, closure, is_refuted, left_over, tried, trial_round, trials, IsTried, Progresses, IsTrialOf, unknown_count, AtMost, Extends-refl, Extends-trans, length-Extends, Extends-at}
+use Rattle.solve_core.proofs.Names.{◌≡◌, ℕ, ◌+◌, ◌<◌, inl, inr, Bool, true, false, List, length, get_or, set, Option, Some, None, is_none, refl, ap, ◌∙◌, arith, zero-add, Cell, Unknown, Filled, Blank, CellExtends, Extends, is_known, GridLine, Changed, round, closure, is_refuted, left_over, tried, trial_round, trials, IsTried, Progresses, IsTrialOf, unknown_count, AtMost, Extends-refl, Extends-trans, length-Extends, rules}
 use Rattle.solve_core.specs.declared.trials.Trial.{Trial}
 use Rattle.solve_core.specs.declared.trials.Trial.TheVariants.{Refuted, Open, Closed}
 use Rattle.solve_core.proofs.Order.{set_extends, set_within, below_each, none_only}
@@ -20,13 +20,11 @@ pub trial_closed-round : (lines : List GridLine) (z : List Cell) → trial_round
 trial_closed-round lines z e = (after_trials lines z z (tried_cells lines z) e).1
 
 pub closure_below : (lines : List GridLine) (g : List Cell) → AtMost (closure lines g) (trials lines g)
-closure_below lines g = below_each (closure lines g) (trials lines g) (λ w e. let law = trials-IsLeastClosed lines g in
-    (closure-IsLeastClosed lines g).least w (trial_closed-round lines w (law.closed w e)) (rw e at law.above))
+closure_below lines g = search (rules, below_each, trials-IsLeastClosed, closure-IsLeastClosed, trial_closed-round)
 
 -- trials from the closure of a grid end as they do from the grid
 pub closure_trials : (lines : List GridLine) (g new : List Cell) → closure lines g ≡ Some new → trials lines new ≡ trials lines g
-closure_trials lines g new e = trials_between lines g new (rw e at ((closure-IsLeastClosed lines g).above))
-    (rw e at (closure_below lines g))
+closure_trials lines g new e = search (rules, trials_between, closure-IsLeastClosed, closure_below)
 
 -- if the closure of a grid is dead, its trials end dead
 pub closure_dead : (lines : List GridLine) (g : List Cell) → closure lines g ≡ None → trials lines g ≡ None
@@ -44,11 +42,7 @@ tried_at_end lines g w k closed gw l =
 
 left_below : (lines : List GridLine) (g : List Cell) (k : ℕ) (colour : Cell) → k < length g →
     ((w : Cell) → OptionBelow (tried lines g k Unknown) w → CellExtends colour w) → AtMost (Some (set g k colour)) (trials lines g)
-left_below lines g k colour l below = below_each (Some (set g k colour)) (trials lines g) (λ w e.
-    let law = trials-IsLeastClosed lines g in
-    let above : Extends g w = rw e at law.above in
-    set_within g w k colour above (below (get_or w k Unknown)
-    (tried_at_end lines g w k (law.closed w e) above (omega (arith, length-Extends g w above)))))
+left_below lines g k colour l below = search (rules, below_each, trials-IsLeastClosed, set_within, tried_at_end, length-Extends)
 
 -- if filled is refuted, the grid with the cell blank is below the trials' end
 pub blank_below : (lines : List GridLine) (g : List Cell) (k : ℕ) → k < length g → is_refuted lines g k Filled ≡ true →
@@ -62,21 +56,14 @@ filled_below lines g k l r = left_below lines g k Filled l (λ w h. left_filled_
 
 tried_stays : (lines : List GridLine) (z : List Cell) (k : ℕ) (c : Cell) →
     (c ≡ Unknown → (is_refuted lines z k Filled ≡ false) × (is_refuted lines z k Blank ≡ false)) → OptionBelow (tried lines z k c) c
-tried_stays lines z k Unknown h =
-    let both = h refl in
-    rw (both.0, both.1) tt
+tried_stays lines z k Unknown h = search (rules)
 tried_stays lines z k Filled h = tt
 tried_stays lines z k Blank h = tt
 
 -- a line-closed grid in which no unknown cell has a refuted colour is trial-closed
 pub tried-closed : (lines : List GridLine) (z : List Cell) → round lines z ≡ Some z → ((k : ℕ) → k < length z → IsTried lines z k) →
     trial_round lines z ≡ Some z
-tried-closed lines z e h =
-    let at = λ (k : ℕ). tried lines z k (get_or z k Unknown) in
-    let settled : tried_cells lines z ≡ Some z =
-    same_at_most z (tried_cells lines z) (tried_cells-above lines z)
-    (all_below at 0 z (λ k l. rw (zero-add k) (tried_stays lines z k (get_or z k Unknown) (h k l)))) in
-    rw settled (repeat-fixed (round lines) (length z + 1) z e)
+tried-closed lines z e h = search (rules, same_at_most, tried_cells-above, all_below, zero-add, tried_stays, repeat-fixed)
 
 both_open : (a b : Bool) → OptionBelow (left_over a b) Unknown → (a ≡ false) × (b ≡ false)
 both_open true true h = absurd h
@@ -102,10 +89,7 @@ not_none (Some g) z h = refl
 -- the colour of a cell of a line-closed grid isn't refuted in a grid that knows no more
 pub met_open : (lines : List GridLine) (g z : List Cell) (k : ℕ) (d : Cell) → round lines z ≡ Some z → Extends g z →
     get_or z k Unknown ≡ d → is_refuted lines g k d ≡ false
-met_open lines g z k d closed h at =
-    let same : CellExtends d d = Extends-at (d ∷ []) (d ∷ []) 0 (Extends-refl (d ∷ [])) in
-    let with_it : Extends (set g k d) z = set_within g z k d h (subst (λ (q : Cell). CellExtends d q) (sym at) same) in
-    not_none (closure lines (set g k d)) z ((closure-IsLeastClosed lines (set g k d)).least z closed with_it)
+met_open lines g z k d closed h at = search (rules, set_within, not_none, closure-IsLeastClosed)
 
 -- a grid that a cell was settled in and that was closed knows more
 pub settled-extends : (lines : List GridLine) (g z : List Cell) (k : ℕ) (c : Cell) → get_or g k Unknown ≡ Unknown →
@@ -129,8 +113,7 @@ settle-changed lines g new k c l unknown n below e =
 -- if settling a cell as trials do leads to a dead closure, the trials end dead
 pub settle-dead : (lines : List GridLine) (g : List Cell) (k : ℕ) (c : Cell) → get_or g k Unknown ≡ Unknown →
     AtMost (Some (set g k c)) (trials lines g) → closure lines (set g k c) ≡ None → trials lines g ≡ None
-settle-dead lines g k c unknown below e = sym (trials_between lines g (set g k c) (set_extends g k c unknown) below) ∙
-    closure_dead lines (set g k c) e
+settle-dead lines g k c unknown below e = search (rules, trials_between, set_extends, closure_dead)
 
 -- a trial that came to `Refuted` refutes its colour
 pub trial-refuted : (r : Trial) (lines : List GridLine) (g trial : List Cell) (k : ℕ) (c : Cell) → r ≡ Refuted →

@@ -1,5 +1,5 @@
 -- What an alive trial of a grid tells of a grid that has learned more.
-use Rattle.solve_core.proofs.Names.{◌≡◌, ◌≢◌, ℕ, zero, suc, ◌*◌, ◌/◌, ◌%◌, ◌<◌, ◌≤◌, ◌⊎◌, inl, inr, Bool, true, false, List, [], ◌∷◌, ◌++◌, length, take, replicate, get_or, set, Some, refl, sym, ap, ◌∙◌, arith, true≢false, get_or-set_same, get_or-set_other, length-append, length-set, cases_Bool, cases_eq, cases_lt, false_from_ne_true, div-mul-add, mod-mul-add, get_or-map, get_or_append_left, get_or_past, get_or-take, length-take-le, get_or-append_seam, Cell, Unknown, Filled, Blank, CellExtends, Extends, is_unknown, Nonogram, IsNonogram, lines_of, line_on, count_on, Extends-at, round, closure, Side, Rows, Columns, IsDeduced, AreOpen, cleared, Witness, WitnessLists, no_witness, witness_at, met_by, open_marks, has_side, IsCrossed, DifferWithin, ShareNoLine, IsWitness, AreWitnesses, AreNumbered, IsKept, AddsMet, Extends-refl, Extends-antisym, length-Extends, length-map}
+use Rattle.solve_core.proofs.Names.{◌≡◌, ◌≢◌, ℕ, zero, suc, ◌*◌, ◌/◌, ◌%◌, ◌<◌, ◌≤◌, ◌⊎◌, inl, inr, Bool, true, false, List, [], ◌∷◌, ◌++◌, length, take, replicate, get_or, set, Some, refl, sym, ap, ◌∙◌, arith, true≢false, get_or-set_same, get_or-set_other, length-append, length-set, cases_Bool, cases_eq, cases_lt, false_from_ne_true, div-mul-add, mod-mul-add, get_or-map, get_or_append_left, get_or_past, get_or-take, length-take-le, get_or-append_seam, Cell, Unknown, Filled, Blank, CellExtends, Extends, is_unknown, Nonogram, IsNonogram, lines_of, line_on, count_on, Extends-at, round, closure, Side, Rows, Columns, IsDeduced, AreOpen, cleared, Witness, WitnessLists, no_witness, witness_at, met_by, open_marks, has_side, IsCrossed, DifferWithin, ShareNoLine, IsWitness, AreWitnesses, AreNumbered, IsKept, AddsMet, Extends-refl, Extends-antisym, length-Extends, length-map, rules}
 use Rattle.solve_core.specs.steps.Overlaid.{over, overlaid}
 use Rattle.solve_core.specs.declared.witnesses.Crossed.{Crossed}
 use Rattle.solve_core.proofs.Order.{set_within}
@@ -122,10 +122,7 @@ elsewhere cells (q ∷ ks) k h =
 -- a grid and the one that some places lead back to differ only in the lines of these places
 pub cleared_within : (width : ℕ) (cells : List Cell) (ks : List ℕ) (lines : Crossed) →
     ((j : ℕ) → j < length ks → IsCrossed lines width (get_or ks j 0)) → DifferWithin width (cleared cells ks) cells lines
-cleared_within width cells ks lines crossed = record {
-  rows = λ k e. elsewhere cells ks k (λ j l s. true≢false (sym ((crossed j l).0) ∙ rw s e));
-  columns = λ k e. elsewhere cells ks k (λ j l s. true≢false (sym ((crossed j l).1) ∙ rw s e));
-}
+cleared_within width cells ks lines crossed = search (rules, elsewhere, true≢false)
 
 -- ---- the steps of the program
 
@@ -156,10 +153,7 @@ places_for p w cells are = sym are.colours.filled_count ∙ length-map w.fillabl
 
 -- a witness that counts is in the list
 inside : (witnesses : List Witness) (number : ℕ) → (witness_at witnesses number).counts ≡ true → number < length witnesses
-inside witnesses number counts = elim (cases_lt number (length witnesses)) [
-  | inl l ↦ l
-  | inr l ↦ absurd (true≢false (sym (rw (get_or_past witnesses number no_witness l) at counts)))
-]
+inside witnesses number counts = search (rules, cases_lt, true≢false, get_or_past, at)
 
 -- numbers stay those of witnesses
 pub kept_numbered : (w : WitnessLists) (after : List Witness) (learned : Crossed) (holder : ℕ) → AreNumbered w →
@@ -233,44 +227,22 @@ added_numbered w last n = record {
 noted : (list : List ℕ) (place number : ℕ) (trial : List Cell) (colour : Cell) → place < length list → get_or trial place Unknown ≡ colour
     → (k : ℕ) → (get_or (set list place number) k 0 ≡ get_or list k 0) ⊎
     ((get_or (set list place number) k 0 ≡ number) × (get_or trial k Unknown ≡ colour))
-noted list place number trial colour h e k = elim (cases_eq k place) [
-  | inl same ↦ inr (rw same (get_or-set_same list place number 0 h), rw same e)
-  | inr other ↦ inl (get_or-set_other list place k number 0 other)
-]
+noted list place number trial colour h e k = search (rules, cases_eq, get_or-set_same, get_or-set_other)
 
 -- a number is noted for filled at a place where the trial is filled
 pub meets-filled : (w : WitnessLists) (place number : ℕ) (trial : List Cell) → place < length w.fillable →
     get_or trial place Unknown ≡ Filled → AddsMet w (record w { fillable = set w.fillable place number }) number trial
-meets-filled w place number trial h e = record {
-  witnesses = refl;
-  room = refl;
-  filled_count = length-set w.fillable place number;
-  blank_count = refl;
-  met = λ k. elim [ Unknown ↦ inl refl | Filled ↦ noted w.fillable place number trial Filled h e k | Blank ↦ inl refl ];
-}
+meets-filled w place number trial h e = search (rules, length-set, noted)
 
 -- a number is noted for blank at a place where the trial is blank
 pub meets-blank : (w : WitnessLists) (place number : ℕ) (trial : List Cell) → place < length w.blankable →
     get_or trial place Unknown ≡ Blank → AddsMet w (record w { blankable = set w.blankable place number }) number trial
-meets-blank w place number trial h e = record {
-  witnesses = refl;
-  room = refl;
-  filled_count = refl;
-  blank_count = length-set w.blankable place number;
-  met = λ k. elim [ Unknown ↦ inl refl | Filled ↦ inl refl | Blank ↦ noted w.blankable place number trial Blank h e k ];
-}
+meets-blank w place number trial h e = search (rules, length-set, noted)
 
 -- noted numbers of a witness are those of witnesses
 pub more_numbered : (w new : WitnessLists) (number : ℕ) (trial : List Cell) → AreNumbered w → number < length w.witnesses →
     AddsMet w new number trial → AreNumbered new
-more_numbered w new number trial n l adds = record {
-  count = adds.blank_count ∙ n.count ∙ sym adds.filled_count;
-  none = rw adds.witnesses n.none;
-  within = λ k c. elim (adds.met k c) [
-    | inl old ↦ (let before = n.within k c in omega (arith, before, old, ap length adds.witnesses))
-    | inr met ↦ omega (arith, met.0, ap length adds.witnesses)
-  ];
-}
+more_numbered w new number trial n l adds = search (rules)
 
 -- the witnesses with one more, which met colours
 pub added_witnesses : (p : Nonogram) (w new : WitnessLists) (g trial : List Cell) (last : Witness) → AreNumbered w →

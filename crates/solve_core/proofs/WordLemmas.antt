@@ -1,5 +1,5 @@
 -- The places of a set that are in one of its words.
-use Rattle.solve_core.proofs.Names.{◌≢◌, ◌+◌, ◌-◌, ◌<◌, ℕ, false, inl, inr, sym, arith, subst, true≢false, Has, IsMarked, IsMaskOf, IsIn}
+use Rattle.solve_core.proofs.Names.{◌≢◌, ◌+◌, ◌-◌, ◌<◌, ℕ, false, inl, inr, sym, arith, subst, true≢false, Has, IsMarked, IsMaskOf, IsIn, rules}
 
 -- the places of a set that are in the word from `from` on
 abbrev WordFrom : ℕ → ℕ → ℕ → Type 0
@@ -9,9 +9,7 @@ pub in_word : (places from word k : ℕ) → WordFrom places from word → IsIn 
 in_word places from word k mask is = mask.from (k - from) (omega (arith, is), subst (Has places) (omega (arith, is)) is.0)
 
 pub of_word : (places from word x : ℕ) → WordFrom places from word → Has word x → IsIn places from (from + x)
-of_word places from word x mask has =
-    let at = mask.to x has in
-    (subst (Has places) (omega arith) at.1, omega arith, omega (arith, at.0))
+of_word places from word x mask has = search (rules)
 
 -- what is left when a place was taken away is elsewhere
 pub stays : (left next k : ℕ) → IsMaskOf (IsMarked (Has left) k false) next → (j : ℕ) → Has next j → Has left j × (j ≢ k)
