@@ -1,5 +1,5 @@
 -- `take_guess`: a branch that is made, or gone back to, leaves what is still to happen as it was.
-use Rattle.solve_core.proofs.Names.{ap, ◌∙◌, arith, length, drop, TrailedGrid}
+use Rattle.solve_core.proofs.Names.{ap, arith, length, TrailedGrid, rules}
 use Rattle.solve_core.proofs.BranchLaws.{fork-work, fork-events, back-work, back-events, back-ready}
 use Rattle.solve_core.proofs.TrailSteps.{length-cleared}
 use Rattle.solve_core.proofs.SearchSteps.{unknown_count-positive}
@@ -16,9 +16,8 @@ returns-in-Some-clause-work g c = λ rule lines w older n.
     (rw c.in-Some.is at older) (rw c.in-Some.is at n)
 
 pub returns-in-Some-pop-clause-events : goal.returns-in-Some-pop-clause-events
-returns-in-Some-pop-clause-events g c = λ rule lines w. rw c.in-None.is
-    (back-events rule lines _ c.go_back.new.self.cells _ c.go_back.new.self.trail _ _ c.in-Some-pop.branch c.in-Some-pop.ensures.items
-    (ap (λ (g : TrailedGrid). g.cells) c.go_back.ensures) (ap (λ (g : TrailedGrid). g.trail) c.go_back.ensures) w)
+returns-in-Some-pop-clause-events g c =
+    search (rules, c.in-None.is, back-events, c.in-Some-pop.branch, c.go_back.ensures)
 
 pub returns-in-Some-pop-clause-work : goal.returns-in-Some-pop-clause-work
 returns-in-Some-pop-clause-work g c = λ rule lines w older n.
@@ -31,12 +30,16 @@ returns-in-Some-pop-clause-ready g c = λ rule lines w n.
     (ap (λ (g : TrailedGrid). g.trail) c.go_back.ensures) w
 
 pub returns-in-Some-pop-clause-count : goal.returns-in-Some-pop-clause-count
-returns-in-Some-pop-clause-count g c =
-    ap (λ (g : TrailedGrid). length g.cells) c.go_back.ensures ∙
-    length-cleared c.args.board.now.cells (drop c.in-Some-pop.branch.mark c.args.board.now.trail)
+returns-in-Some-pop-clause-count g c = search (rules, c.go_back.ensures, length-cleared, c.in-Some-pop.branch.mark)
 
 pub push_reserved-requires : goal.push_reserved-requires
 push_reserved-requires g c =
-    let next = rw c.in-Some.is at c.requires.next in
-    let some = unknown_count-positive c.args.board.now.cells c.in-Some.place next.0 next.1 in
-    omega (arith, c.requires.older (λ e. cc), c.requires.room, c.trail-mark.ensures.grid.settled, some)
+    search (
+      rules,
+      c.in-Some.is,
+      c.requires.next,
+      unknown_count-positive,
+      c.requires.older,
+      c.requires.room,
+      c.trail-mark.ensures.grid.settled,
+    )

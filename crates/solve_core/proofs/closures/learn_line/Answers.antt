@@ -1,5 +1,5 @@
 -- `learn_line`: what is certain of a line is written, and the lines that cross where it changes are marked.
-use Rattle.solve_core.proofs.Names.{true≢false, ◌≡◌, ◌∙◌, ◌*◌, ◌<◌, ◌⊎◌, inl, inr, ℕ, sym, arith, ap, subst, length, get_or, refl, List, Some, Cell, Unknown, Side, Nonogram, cells_at, crossing, line_on, places_on, count_on, place_on, Extends, IsSize, Has, IsMaskOf, deduced, IsChanged, same_cells, same_without_change, length-cells_at, get_or-cells_at, length-places_on, get_or-places_on, deduced-above, length-deduced, IsBoardOf, cells_along, marks_on, with_cells, IsWritten, TrailedGrid, rules}
+use Rattle.solve_core.proofs.Names.{true≢false, ◌≡◌, ◌∙◌, ◌*◌, ◌<◌, ◌⊎◌, inl, inr, ℕ, sym, arith, ap, subst, length, get_or, refl, List, Cell, Unknown, Side, Nonogram, cells_at, crossing, line_on, places_on, count_on, place_on, IsSize, Has, IsMaskOf, deduced, IsChanged, same_cells, same_without_change, length-cells_at, get_or-cells_at, length-places_on, get_or-places_on, deduced-above, length-deduced, IsBoardOf, cells_along, marks_on, with_cells, IsWritten, TrailedGrid, rules}
 use Rattle.solve_core.proofs.ClosureLaws.{length-with_cells}
 use Rattle.solve_core.proofs.LineSteps.{written-fewer, written-read}
 use Rattle.solve_core.proofs.SideLines.{below_places, crossing_twice, distinct_places}
@@ -15,31 +15,27 @@ changes-changes-requires g c = length-deduced c.line-old.result.now c.in-Some.ne
     (sym c.in-Some.is ∙ c.deduce.ensures.answer)
 
 pub learn-requires-clause-fits : goal.learn-requires-clause-fits
-learn-requires-clause-fits g c = omega (
-  arith,
-  length-deduced c.line-old.result.now c.in-Some.new (line_on c.args.side c.args.puzzle.now c.args.i).clue
-      (sym c.in-Some.is ∙ c.deduce.ensures.answer),
-  c.changes-changes.ensures.fits,
-)
+learn-requires-clause-fits g c =
+    search (rules, length-deduced, c.in-Some.is, c.deduce.ensures.answer, c.changes-changes.ensures.fits)
 
 pub learn-requires-clause-more : goal.learn-requires-clause-more
 learn-requires-clause-more g c =
-    subst (λ (r : List Cell). Extends r c.in-Some.new) c.line-old.ensures.cells
-    (rw (sym c.deduce.ensures.answer ∙ c.in-Some.is) at
-    (deduced-above c.line-old.result.now (line_on c.args.side c.args.puzzle.now c.args.i).clue))
+    search (rules, c.line-old.ensures.cells, c.deduce.ensures.answer, c.in-Some.is, deduced-above)
 
 pub returns-then-is_empty-clause-learned : goal.returns-then-is_empty-clause-learned
 returns-then-is_empty-clause-learned g c =
-    let p = c.args.puzzle.now in
-    let line = line_on c.args.side p c.args.i in
-    let read = c.line-old.ensures.cells ∙ seen p (g.B.Learner.board c.args.board.now) c.args.side c.args.i c.requires.board in
-    let same : c.line-old.result.now ≡ c.in-Some.new =
-    (same_without_change c.line-old.result.now c.in-Some.new (g.W.PlaceSet.number c.changes-changes.result)
-    (length-deduced c.line-old.result.now c.in-Some.new line.clue (sym c.in-Some.is ∙ c.deduce.ensures.answer))
-    c.changes-changes.ensures.changes).0 (sym c.is_empty.ensures ∙ c.if-is_empty.true) in (
-      refl,
-      ap (λ (r : List Cell). deduced r line.clue) (sym read) ∙ sym c.deduce.ensures.answer ∙ c.in-Some.is ∙
-          ap (λ (r : List Cell). Some r) (sym same ∙ read),
+    search (
+      rules,
+      c.line-old.ensures.cells,
+      seen,
+      c.requires.board,
+      same_without_change,
+      length-deduced,
+      c.in-Some.is,
+      c.deduce.ensures.answer,
+      c.changes-changes.ensures.changes,
+      c.is_empty.ensures,
+      c.if-is_empty.true,
     )
 
 -- a cell at a place that isn't among the changes of a line stays as it was

@@ -3,9 +3,7 @@ use Rattle.solve_core.proofs.Names.{◌∙◌, ◌+◌, ◌<◌, inl, inr, List,
 use Rattle.solve_core.proofs.learning.settle_each.Goals as goal
 
 pub loop-from-smaller : goal.loop-from-smaller
-loop-from-smaller g c =
-    let most = width_most g.W.PlaceSet.WIDTH g.W.PlaceSet.TOP g.met.W.PlaceSet.top_is.1 g.met.W.PlaceSet.width_is in
-    omega (arith, c.loop-from-test.true, c.WIDTH.ensures, most)
+loop-from-smaller g c = grind (arith, width_most, c.loop-from-test.true, c.WIDTH.ensures)
 
 pub loop-from-preserved : goal.loop-from-preserved
 loop-from-preserved g c =

@@ -6,9 +6,7 @@ use Rattle.solve_core.proofs.GridLineSteps.{line_read}
 use Rattle.solve_core.proofs.learning.settle_word.Goals as goal
 
 pub overflow_add-from : goal.overflow_add-from
-overflow_add-from g c =
-    let most = width_most g.W.PlaceSet.WIDTH g.W.PlaceSet.TOP g.met.W.PlaceSet.top_is.1 g.met.W.PlaceSet.width_is in
-    omega (arith, most, c.requires.from, c.first_place-k.ensures.within)
+overflow_add-from g c = grind (arith, width_most, c.requires.from, c.first_place-k.ensures.within)
 
 pub offset_bounds-lines-from : goal.offset_bounds-lines-from
 offset_bounds-lines-from g c =

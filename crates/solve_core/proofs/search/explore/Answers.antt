@@ -1,5 +1,5 @@
 -- `explore`: if the guess ends dead, the branches' events are left; else its closed cells' come before them.
-use Rattle.solve_core.proofs.Names.{◌≡◌, ◌++◌, length, set, ap, sym, ◌∙◌, arith, lines_of, guess_at, events, ending, owed_by, picked, None, Some}
+use Rattle.solve_core.proofs.Names.{◌≡◌, ◌++◌, length, set, ap, ◌∙◌, arith, lines_of, guess_at, events, ending, owed_by, picked, None, Some, rules}
 use Rattle.solve_core.proofs.PickLaws.{picked-IsPick}
 use Rattle.solve_core.proofs.BranchLaws.{trailed-work, trailed-pending, trailed-older}
 use Rattle.solve_core.proofs.SearchSteps.{closure-closed, next-unknown, alive-fewer, known-before, closed-events}
@@ -31,9 +31,7 @@ returns-then-not-assign-clause-goes_on g c =
     }
 
 pub look_at-requires-clause-known : goal.look_at-requires-clause-known
-look_at-requires-clause-known g c = λ e.
-    known-before (lines_of c.args.puzzle.now) c.args.board.now.cells c.assign.new.board.cells c.args.place c.args.colour
-    ((λ i. picked (sym e i) c.args.puzzle.now.width c.args.board.now.cells) ∙ c.requires.next.0) c.if-not-assign.ensures.closed
+look_at-requires-clause-known g c = search (rules, known-before, c.requires.next, c.if-not-assign.ensures.closed)
 
 pub returns-clause-goes_on : goal.returns-clause-goes_on
 returns-clause-goes_on g c =

@@ -1,5 +1,5 @@
 -- `search`: a guess and what is owed after it end as what was owed before, and fewer events are left.
-use Rattle.solve_core.proofs.Names.{append-nil, ◌≡◌, ◌+◌, ◌-◌, ◌≤◌, ◌++◌, [], refl, ap, sym, ◌∙◌, arith, length, slice_set, lines_of, events, ending, owed, owed_by, picked, Some}
+use Rattle.solve_core.proofs.Names.{append-nil, ◌≡◌, ◌+◌, ◌-◌, ◌≤◌, ◌++◌, [], refl, ap, sym, ◌∙◌, arith, length, slice_set, lines_of, events, ending, owed, owed_by, picked, Some, rules}
 use Rattle.solve_core.proofs.PickLaws.{picked-IsPick}
 use Rattle.solve_core.proofs.EndingLaws.{ending-next}
 use Rattle.solve_core.proofs.BranchLaws.{start-work}
@@ -43,19 +43,13 @@ loop-pick-init g c =
 
 pub take_guess-requires-clause-next : goal.take_guess-requires-clause-next
 take_guess-requires-clause-next g c =
-    open-unknown (picked c.args.pick c.args.puzzle.now.width) (picked-IsPick c.args.pick c.args.puzzle.now.width)
-    (lines_of c.args.puzzle.now) c.loop-pick.board.cells c.loop-pick.next c.loop-pick.invariant.under_way.next_open
+    search (rules, open-unknown, picked-IsPick, c.loop-pick.invariant.under_way.next_open)
 
 pub take_guess-requires-clause-older : goal.take_guess-requires-clause-older
-take_guess-requires-clause-older g c =
-    let work = c.loop-pick.invariant.under_way in
-    open-older _ _ _ c.loop-pick.board.trail c.loop-pick.branches.items c.loop-pick.next work.work work.older
+take_guess-requires-clause-older g c = search (rules, c.loop-pick.invariant.under_way, open-older)
 
 pub explore-next-requires-clause-next : goal.explore-next-requires-clause-next
-explore-next-requires-clause-next g c =
-    let p = c.args.puzzle.now in
-    let kept = c.loop-pick.invariant in
-    c.in-Some.ensures.ready (picked c.args.pick p.width) (lines_of p) kept.under_way.work kept.under_way.next_open
+explore-next-requires-clause-next g c = search (rules, c.loop-pick.invariant, c.in-Some.ensures.ready)
 
 pub explore-next-requires-clause-rest : goal.explore-next-requires-clause-rest
 explore-next-requires-clause-rest g c =

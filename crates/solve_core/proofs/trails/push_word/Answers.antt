@@ -19,11 +19,14 @@ loop-k-init g c = record {
 
 pub overflow_add-first : goal.overflow_add-first
 overflow_add-first g c =
-    let x = c.first_place-k.result in
-    let changes = g.W.PlaceSet.number c.args.changes in
-    let inside = c.loop-k.invariant.inside x c.first_place-k.ensures.in_mask in
-    let is = of_word changes c.args.from c.word_from-left.result x c.word_from-left.ensures inside in
-    let place = c.requires.places (c.args.from + x) is.0 in rw c.from.ensures (omega (arith, place))
+    grind (
+      arith,
+      c.first_place-k.ensures.in_mask,
+      of_word,
+      c.word_from-left.ensures,
+      c.requires.places,
+      c.from.ensures,
+    )
 
 pub loop-k-preserved : goal.loop-k-preserved
 loop-k-preserved g c =

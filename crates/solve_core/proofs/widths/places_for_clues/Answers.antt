@@ -1,12 +1,10 @@
 -- `places_for_clues`: with one more clue the places are no fewer, and they have room for its numbers too.
-use Rattle.solve_core.proofs.Names.{◌≡◌, ◌∙◌, ◌≤◌, [], get_or, sym, take_all, subst, arith, All, get_or_default, All-more, LONGEST_SIDE}
+use Rattle.solve_core.proofs.Names.{◌≡◌, ◌∙◌, ◌≤◌, [], get_or, sym, take_all, subst, arith, All, get_or_default, All-more, LONGEST_SIDE, rules}
 use Rattle.solve_core.proofs.Fitting.{clue_short}
 use Rattle.solve_core.proofs.widths.places_for_clues.Goals as goal
 
 pub returns-clause-clues : goal.returns-clause-clues
-returns-clause-clues c =
-    subst (All (All (λ number. number ≤ c.loop-clue.needed))) (take_all c.loop-clue.clue-index c.args.clues.now (omega arith))
-    c.loop-clue.invariant.passed
+returns-clause-clues c = search (rules, take_all, c.loop-clue.invariant.passed)
 
 pub loop-clue-preserved : goal.loop-clue-preserved
 loop-clue-preserved c =

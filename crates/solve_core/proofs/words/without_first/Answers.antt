@@ -1,5 +1,5 @@
 -- `without_first`: one less than a word has the places behind its first one, and not that one.
-use Rattle.solve_core.proofs.Names.{◌≡◌, ◌≢◌, ◌∙◌, ℕ, zero, suc, ◌-◌, ◌/◌, ◌<◌, inl, inr, refl, sym, ap, arith, true≢false, bit_at, cases_eq, bit_at_and, bit_at-lt, bit_at_lowest, bit_at-suc, Has}
+use Rattle.solve_core.proofs.Names.{◌≡◌, ◌≢◌, ◌∙◌, ℕ, zero, suc, ◌-◌, ◌/◌, ◌<◌, inl, inr, refl, sym, ap, arith, true≢false, bit_at, cases_eq, bit_at_and, bit_at-lt, bit_at_lowest, bit_at-suc, Has, rules}
 use Rattle.solve_core.proofs.words.without_first.Goals as goal
 
 gone : (k n : ℕ) → Has n k → ((i : ℕ) → i < k → Has n i → ⊥) → bit_at (n - 1) k ≡ 0
@@ -17,9 +17,7 @@ gone (suc k) n h first =
 
 same : (k j n : ℕ) → Has n k → ((i : ℕ) → i < k → Has n i → ⊥) → j ≢ k → Has n j → Has (n - 1) j
 same zero zero n h first other has = absurd (other refl)
-same zero (suc j) n h first other has =
-    let half : (n - 1) / 2 ≡ n / 2 = omega (arith, sym (bit_at_lowest n) ∙ h) in
-    bit_at-suc (n - 1) j ∙ ap (λ (m : ℕ). bit_at m j) half ∙ sym (bit_at-suc n j) ∙ has
+same zero (suc j) n h first other has = search (rules, bit_at_lowest, bit_at-suc)
 same (suc k) zero n h first other has = absurd (first 0 (omega arith) has)
 same (suc k) (suc j) n h first other has =
     let even : bit_at n 0 ≡ 0 = elim (cases_eq (bit_at n 0) 1) [
@@ -32,13 +30,4 @@ same (suc k) (suc j) n h first other has =
     (sym (bit_at-suc n j) ∙ has)
 
 pub returns-clause-rest : goal.returns-clause-rest
-returns-clause-rest g k has first =
-    let word = g.args.word in record {
-      to = λ j h.
-          let both = sym (bit_at_and word (word - 1) j) ∙ h in
-          inl (omega (arith, both, bit_at-lt word j), λ e. absurd (omega (arith, both, ap (λ (i : ℕ). bit_at (word - 1) i) e, gone k word has first)));
-      from = λ j h. elim h [
-        | inl kept ↦ bit_at_and word (word - 1) j ∙ omega (arith, kept.0, same k j word has first kept.1 kept.0)
-        | inr none ↦ absurd (true≢false (sym none.1))
-      ];
-    }
+returns-clause-rest g k has first = grind (arith, bit_at_and, bit_at-lt, gone, same, true≢false)

@@ -1,5 +1,5 @@
 -- `learn` of `Board`: the trail leads back from the cells that the line learned, and its room is left.
-use Rattle.solve_core.proofs.Names.{◌∙◌, ◌*◌, arith, refl, subst, sym, Rows, Columns, places_from, places_on, with_cells, IsTrailed, TrailedGrid, length-Extends, PartialGrid, rules}
+use Rattle.solve_core.proofs.Names.{arith, subst, Rows, Columns, IsTrailed, TrailedGrid, length-Extends, PartialGrid, rules}
 use Rattle.solve_core.proofs.BoardSteps.{board-learned, trail-learned, trailed}
 use Rattle.solve_core.proofs.LearnedLines.{column_learning, place_fits, row_learning, learns_at}
 use Rattle.solve_core.proofs.boards.BoardLearner.learn.Given.{Over}
@@ -18,14 +18,7 @@ push_changes-requires-clause-places g c = λ k has.
 
 trailed-in-Rows : (g : Over) (c : goal.After-push_changes g) → IsTrailed (trailed c.self.inside.lines c.self.inside.trail.items)
     (trailed c.learn.new.self c.push_changes.new.trail.items)
-trailed-in-Rows g c =
-    let b = trailed c.self.inside.lines c.self.inside.trail.items in
-    let is = learns_at c.args.side Rows c.args.i _ c.args.new.now c.self.inside.lines _ c.self.invariant.size.width_from c.self.invariant.count
-    (λ j. grid_at (c.self.view_is j)) c.in-Rows.is c.requires.i c.requires.more c.requires.changes in
-    trail-learned c.learn.new.self b _ _ (c.push_changes.ensures.trail c.args.new.now b b.width
-    (row_learning b _ _ _ _ _ _ _ is refl (λ j. c.from-place.ensures j * c.width-width.ensures.width j)) refl)
-    (c.learn.ensures.cells ∙ (λ j. with_cells b.cells (places_on (c.in-Rows.is j) b.width b.height c.args.i) c.args.new.now) ∙
-    (λ j. with_cells b.cells (places_from (sym c.from-place.ensures j * sym c.width-width.ensures.width j) 1 b.width) c.args.new.now)) c.learn.ensures.width c.learn.ensures.height
+trailed-in-Rows g c = search (rules, learns_at, trail-learned, row_learning)
 
 pub invariant_of-self : goal.invariant_of-self
 invariant_of-self g c =
@@ -51,14 +44,7 @@ push_changes-requires-in-Columns g c =
 
 trailed-in-Columns : (g : Over) (c : goal.After-push_changes-in-Columns g) → IsTrailed (trailed c.self.inside.lines c.self.inside.trail.items)
     (trailed c.learn.new.self c.push_changes-in-Columns.new.trail.items)
-trailed-in-Columns g c =
-    let b = trailed c.self.inside.lines c.self.inside.trail.items in
-    let is = learns_at c.args.side Columns c.args.i _ c.args.new.now c.self.inside.lines _ c.self.invariant.size.width_from c.self.invariant.count
-    (λ j. grid_at (c.self.view_is j)) c.in-Columns.is c.requires.i c.requires.more c.requires.changes in
-    trail-learned c.learn.new.self b _ _ (c.push_changes-in-Columns.ensures.trail c.args.new.now b b.height
-    (column_learning b _ _ _ _ _ _ _ _ is refl c.from-place.ensures c.width-width.ensures.width) refl)
-    (c.learn.ensures.cells ∙ (λ j. with_cells b.cells (places_on (c.in-Columns.is j) b.width b.height c.args.i) c.args.new.now) ∙
-    (λ j. with_cells b.cells (places_from (sym c.from-place.ensures j) (sym c.width-width.ensures.width j) b.height) c.args.new.now)) c.learn.ensures.width c.learn.ensures.height
+trailed-in-Columns g c = search (rules, learns_at, trail-learned, column_learning)
 
 pub invariant_of-self-in-Columns : goal.invariant_of-self-in-Columns
 invariant_of-self-in-Columns g c =

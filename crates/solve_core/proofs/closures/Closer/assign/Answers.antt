@@ -1,20 +1,21 @@
 -- `Closer::assign`: only the row and the column of `place` can have more to give, and both get a mark.
-use Rattle.solve_core.proofs.Names.{refl, ◌≡◌, ◌∙◌, ◌+◌, ◌*◌, ◌/◌, ◌%◌, ℕ, true, get_or, set, ap, sym, subst, List, Cell, Unknown, Has, IsMarked, IsMaskOf, Closing, IsMemoryOf, HasMarks}
+use Rattle.solve_core.proofs.Names.{refl, ◌≡◌, ◌∙◌, ◌+◌, ◌*◌, ◌/◌, ◌%◌, ℕ, true, set, ap, sym, subst, List, Cell, Has, IsMarked, IsMaskOf, Closing, IsMemoryOf, HasMarks, rules}
 use Rattle.solve_core.proofs.GridSteps.{place_marks, place_split}
 use Rattle.solve_core.proofs.TrailSteps.{trailed-trans}
 use Rattle.solve_core.proofs.closures.Closer.assign.Goals as goal
 
 pub settle-requires-clause-unknown : goal.settle-requires-clause-unknown
 settle-requires-clause-unknown g c =
-    let p = c.args.puzzle.now in
-    let old = c.args.board.now.cells in
-    let place = c.args.place in
-    let width = c.from-width.result in
-    let wide : width ≡ p.width = c.from-width.ensures ∙ c.width.ensures.width in
-    let split = place_split p old place c.width.ensures.puzzle c.requires.size.2 c.requires.cell.within in
-    let at : place / width * p.width + place % width ≡ place = rw wide split.2 in
-    (λ i. get_or old (place / width * c.requires.size.0 i + place % width) Unknown) ∙
-    ap (λ (k : ℕ). get_or old k Unknown) at ∙ c.requires.cell.unknown
+    search (
+      rules,
+      c.from-width.ensures,
+      c.width.ensures.width,
+      place_split,
+      c.width.ensures.puzzle,
+      c.requires.size,
+      c.requires.cell.within,
+      c.requires.cell.unknown,
+    )
 
 pub propagate-requires-clause-work : goal.propagate-requires-clause-work
 propagate-requires-clause-work g c =

@@ -1,5 +1,5 @@
 -- `Closer::deduce_marked`: if a pass over the columns learns nothing, no mark is left: the board is closed.
-use Rattle.solve_core.proofs.Names.{◌∙◌, ℕ, sym, refl, subst, true≢false, Columns, Has, AreUnmarked, IsUnmarkedOn, lines_of, closure, IsTrailed, TrailedGrid}
+use Rattle.solve_core.proofs.Names.{◌∙◌, sym, true≢false, AreUnmarked, IsTrailed, TrailedGrid, rules}
 use Rattle.solve_core.proofs.TrailSteps.{trailed-trans}
 use Rattle.solve_core.proofs.GridSteps.{closed_after, progress-keeps}
 use Rattle.solve_core.proofs.SideLines.{by_side}
@@ -11,11 +11,7 @@ twice : (a b c d : TrailedGrid) → IsTrailed a b → IsTrailed b c → IsTraile
 twice a b c d x y z = trailed-trans a c d (trailed-trans a b c x y) z
 
 unmarked : (g : Over) (c : In-Same g) → AreUnmarked c.deduce_side-in-loop-self.new.self.marks
-unmarked g c =
-    by_side (IsUnmarkedOn c.deduce_side-in-loop-self.new.self.marks) Columns
-    (c.in-Same.ensures.unmarked (λ e. cc))
-    (λ k h. c.deduce_side.ensures.unmarked (λ e. true≢false (sym (c.is_dead.ensures.1 e) ∙ c.if-is_dead.false)) k
-    (subst (λ (n : ℕ). Has n k) (c.in-Same.ensures.same refl) h))
+unmarked g c = search (rules, by_side, true≢false)
 
 pub returns-in-Same-clause-closed : goal.returns-in-Same-clause-closed
 returns-in-Same-clause-closed g c =
@@ -26,36 +22,45 @@ returns-in-Same-clause-closed g c =
     c.in-Same.ensures.work.marks (unmarked g c) c.loop-self.invariant.closed
 
 pub returns-then-is_dead-clause-trail : goal.returns-then-is_dead-clause-trail
-returns-then-is_dead-clause-trail g c = λ keeps.
-    let board = g.B.Learner.board in
-    trailed-trans (board c.args.board.now) (board c.loop-self.board) (board c.deduce_side.new.board) (c.loop-self.invariant.trail keeps)
-    (c.deduce_side.ensures.trail keeps)
+returns-then-is_dead-clause-trail g c =
+    search (rules, trailed-trans, c.loop-self.invariant.trail, c.deduce_side.ensures.trail)
 
 pub returns-in-Dead-clause-trail : goal.returns-in-Dead-clause-trail
-returns-in-Dead-clause-trail g c = λ keeps.
-    let board = g.B.Learner.board in
-    twice (board c.args.board.now) (board c.loop-self.board) (board c.deduce_side.new.board) (board c.deduce_side-in-loop-self.new.board)
-    (c.loop-self.invariant.trail keeps) (c.deduce_side.ensures.trail keeps) (c.deduce_side-in-loop-self.ensures.trail keeps)
+returns-in-Dead-clause-trail g c =
+    search (
+      rules,
+      twice,
+      c.loop-self.invariant.trail,
+      c.deduce_side.ensures.trail,
+      c.deduce_side-in-loop-self.ensures.trail,
+    )
 
 pub returns-in-Same-clause-trail : goal.returns-in-Same-clause-trail
-returns-in-Same-clause-trail g c = λ keeps.
-    let board = g.B.Learner.board in
-    twice (board c.args.board.now) (board c.loop-self.board) (board c.deduce_side.new.board) (board c.deduce_side-in-loop-self.new.board)
-    (c.loop-self.invariant.trail keeps) (c.deduce_side.ensures.trail keeps) (c.deduce_side-in-loop-self.ensures.trail keeps)
+returns-in-Same-clause-trail g c =
+    search (
+      rules,
+      twice,
+      c.loop-self.invariant.trail,
+      c.deduce_side.ensures.trail,
+      c.deduce_side-in-loop-self.ensures.trail,
+    )
 
 pub loop-self-preserved : goal.loop-self-preserved
 loop-self-preserved g c =
-    let p = c.args.puzzle.now in
-    let board = g.B.Learner.board in
-    record {
-      work = record { marks = c.in-Changed.ensures.work.marks; memory = c.deduce_side-in-loop-self.ensures.work.memory };
-      trail = λ keeps.
-          twice (board c.args.board.now) (board c.loop-self.board) (board c.deduce_side.new.board) (board c.deduce_side-in-loop-self.new.board)
-          (c.loop-self.invariant.trail keeps) (c.deduce_side.ensures.trail keeps) (c.deduce_side-in-loop-self.ensures.trail keeps);
-      size = c.deduce_side-in-loop-self.ensures.size;
-      closed =
-          c.in-Changed.ensures.progress.0
-          ∙ progress-keeps (closure (lines_of p)) c.deduce_side.result (board c.loop-self.board).cells (board c.deduce_side.new.board).cells
-          (λ e. true≢false (sym (c.is_dead.ensures.1 e) ∙ c.if-is_dead.false)) c.deduce_side.ensures.progress
-          ∙ c.loop-self.invariant.closed;
-    }
+    search (
+      rules,
+      c.in-Changed.ensures.work.marks,
+      c.deduce_side-in-loop-self.ensures.work.memory,
+      twice,
+      c.loop-self.invariant.trail,
+      c.deduce_side.ensures.trail,
+      c.deduce_side-in-loop-self.ensures.trail,
+      c.deduce_side-in-loop-self.ensures.size,
+      c.in-Changed.ensures.progress,
+      progress-keeps,
+      true≢false,
+      c.is_dead.ensures,
+      c.if-is_dead.false,
+      c.deduce_side.ensures.progress,
+      c.loop-self.invariant.closed,
+    )

@@ -1,5 +1,5 @@
 -- `GridLines::at`: the cell at `place` is that of row `place / width` in column `place % width`.
-use Rattle.solve_core.proofs.Names.{◌∙◌, ◌/◌, ◌%◌, length, get_or, ap, sym, arith, Unknown, PartialGrid, cells_of_rows}
+use Rattle.solve_core.proofs.Names.{◌∙◌, ◌/◌, ◌%◌, length, ap, arith, PartialGrid, cells_of_rows, rules}
 use Rattle.solve_core.proofs.GridLineSteps.{cell-read, line_read, lines-long, place_in}
 use Rattle.solve_core.proofs.grid_lines.GridLines.at.Goals as goal
 
@@ -15,13 +15,15 @@ get-requires g c =
 
 pub returns : goal.returns
 returns g c =
-    let rows = c.self.inside.rows.items in
-    let columns = c.self.inside.columns.items in
-    let k = c.args.place in
-    let w = length columns in
-    let wide = c.len-width.ensures ∙ c.self.inside.columns.ok.0 in
-    let at = place_in (cells_of_rows rows) rows columns k c.self.invariant
-    (omega (arith, c.requires, ap (λ (g : PartialGrid). length g.cells) c.self.view_is)) in
-    let row = c.index.ensures ∙ (λ i. get_or rows (k / wide i) c.index.result.now) ∙ line_read rows (k / w) c.index.result.now at.2 in
-    c.get.ensures ∙ (λ i. get_or (row i) (k % wide i) Unknown) ∙ (cell-read rows columns (k % w) (k / w) c.self.invariant at.1 at.2).0
-    ∙ (λ i. get_or (c.self.view_is i).cells (sym at.3 i) Unknown)
+    search (
+      rules,
+      c.len-width.ensures,
+      place_in,
+      c.self.invariant,
+      c.requires,
+      c.self.view_is,
+      c.index.ensures,
+      line_read,
+      c.get.ensures,
+      cell-read,
+    )

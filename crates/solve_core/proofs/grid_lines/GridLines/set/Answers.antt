@@ -1,4 +1,5 @@
 -- `GridLines::set`: the cell is written into its row and its column.
+use Rattle.solve_core.proofs.Names.{rules}
 use Rattle.solve_core.proofs.GridLineSteps.{cell-changed, column-at, row-at}
 use Rattle.solve_core.proofs.grid_lines.GridLines.set.Goals as goal
 
@@ -17,6 +18,15 @@ invariant_of-self g c =
 
 pub returns : goal.returns
 returns g c =
-    rw (← c.self.view_is)
-    (cell-changed _ _ _ _ _ _ c.args.x c.args.y c.args.cell c.self.invariant (rw (← c.self.view_is) at c.requires.column)
-    (rw (← c.self.view_is) at c.requires.row) c.index_mut.ensures.value c.set.ensures c.index_mut-2.ensures.value c.set-2.ensures).1
+    search (
+      rules,
+      c.self.view_is,
+      cell-changed,
+      c.self.invariant,
+      c.requires.column,
+      c.requires.row,
+      c.index_mut.ensures.value,
+      c.set.ensures,
+      c.index_mut-2.ensures.value,
+      c.set-2.ensures,
+    )

@@ -1,5 +1,5 @@
 -- `GridLines::unknown`: the rows and the columns of unknown cells are the lines of the unknown grid.
-use Rattle.solve_core.proofs.Names.{refl, length-replicate}
+use Rattle.solve_core.proofs.Names.{length-replicate, rules}
 use Rattle.solve_core.proofs.GridLineSteps.{lines-unknown}
 use Rattle.solve_core.proofs.grid_lines.GridLines.unknown.Goals as goal
 
@@ -10,10 +10,11 @@ invariant_of-result g c =
 
 pub returns : goal.returns
 returns g c =
-    rw (
-      (lines-unknown c.args.width c.args.height _ _ c.requires.size c.unknown_lines.ensures c.unknown_lines-2.ensures).0,
-      c.unknown_lines-2.ensures,
+    search (
+      rules,
+      lines-unknown,
+      c.requires.size,
       c.unknown_lines.ensures,
-      length-replicate c.args.width,
-      length-replicate c.args.height,
-    ) refl
+      c.unknown_lines-2.ensures,
+      length-replicate,
+    )

@@ -1,5 +1,5 @@
 -- `learn` of `GridLines`: written whole, and into each line that crosses it at a change, the line is in the lines of one grid.
-use Rattle.solve_core.proofs.Names.{◌∙◌, ap, refl, with_items_is, Rows, Columns, PartialGrid}
+use Rattle.solve_core.proofs.Names.{◌∙◌, ap, refl, with_items_is, Rows, Columns, PartialGrid, arith}
 use Rattle.solve_core.proofs.GridLineSteps.{line_read, grid_of_lines}
 use Rattle.solve_core.proofs.LearnedLines.{can_learn, learned_columns, learned_rows, long_line, learns_at}
 use Rattle.solve_core.proofs.grid_lines.GridLinesLearner.learn.Goals as goal
@@ -29,10 +29,22 @@ returns-in-Rows-clause-cells g c =
 
 pub copy_from-requires-in-Columns : goal.copy_from-requires-in-Columns
 copy_from-requires-in-Columns g c =
-    let is = learns_at c.args.side Columns c.args.i _ c.args.new.now (grid_of_lines c.self.inside.rows.items c.self.inside.columns.items) _
-    c.self.invariant.size.width_from c.self.invariant.count c.self.view_is c.in-Columns.is c.requires.i c.requires.more c.requires.changes in
-    rw (c.index_mut-in-Columns.ensures.value, c.from-place.ensures, line_read c.self.inside.columns.items c.args.i _ is.line)
-    (long_line Columns _ _ _ _ _ _ c.self.inside.columns.items is (refl, c.self.invariant.columns_are))
+    grind (
+      arith,
+      learns_at,
+      c.self.invariant.size.width_from,
+      c.self.invariant.count,
+      c.self.view_is,
+      c.in-Columns.is,
+      c.requires.i,
+      c.requires.more,
+      c.requires.changes,
+      c.index_mut-in-Columns.ensures.value,
+      c.from-place.ensures,
+      line_read,
+      long_line,
+      c.self.invariant.columns_are,
+    )
 
 pub settle_across-requires-in-Columns-clause-changes : goal.settle_across-requires-in-Columns-clause-changes
 settle_across-requires-in-Columns-clause-changes g c =

@@ -1,19 +1,31 @@
 -- `Trials::try_place`: a refuted colour leaves the other, whose closed copy, if there is one, is the step.
-use Rattle.solve_core.proofs.Names.{ap, refl, lines_of, Filled, Blank, TrailedGrid}
+use Rattle.solve_core.proofs.Names.{ap, refl, lines_of, Filled, Blank, TrailedGrid, rules}
 use Rattle.solve_core.proofs.TrialSteps.{blank_below, filled_below, trial-refuted, trial-closed, settle-changed}
 use Rattle.solve_core.proofs.trials.Trials.try_place.Goals as goal
 
 pub keep_colour-requires-clause-below : goal.keep_colour-requires-clause-below
 keep_colour-requires-clause-below g c =
-    blank_below (lines_of c.args.puzzle.now) c.args.board.now.cells c.args.place c.requires.place
-    (trial-refuted c.try_colour-filled.result (lines_of c.args.puzzle.now) c.args.board.now.cells c.try_colour-filled.new.trial.cells
-    c.args.place Filled (c.is_refuted.ensures.0 c.if-is_refuted.true) c.try_colour-filled.ensures.tried)
+    search (
+      rules,
+      blank_below,
+      c.requires.place,
+      trial-refuted,
+      c.is_refuted.ensures,
+      c.if-is_refuted.true,
+      c.try_colour-filled.ensures.tried,
+    )
 
 pub keep_colour-requires-2-clause-below : goal.keep_colour-requires-2-clause-below
 keep_colour-requires-2-clause-below g c =
-    filled_below (lines_of c.args.puzzle.now) c.args.board.now.cells c.args.place c.requires.place
-    (trial-refuted c.try_colour-blank.result (lines_of c.args.puzzle.now) c.args.board.now.cells c.try_colour-blank.new.trial.cells
-    c.args.place Blank (c.is_refuted-2.ensures.0 c.if-not-is_refuted.false) c.try_colour-blank.ensures.tried)
+    search (
+      rules,
+      filled_below,
+      c.requires.place,
+      trial-refuted,
+      c.is_refuted-2.ensures,
+      c.if-not-is_refuted.false,
+      c.try_colour-blank.ensures.tried,
+    )
 
 pub returns-then-is_closed-clause-progress : goal.returns-then-is_closed-clause-progress
 returns-then-is_closed-clause-progress g c =

@@ -1,5 +1,5 @@
 -- `Witnesses::add`: the trial is a witness for the cells that its trail leads back to, as the others are.
-use Rattle.solve_core.proofs.Names.{◌≡◌, ◌∙◌, ◌++◌, [], ◌∷◌, length, ap, arith, sym, subst, true, cleared, WitnessLists, AddsMet, AreWitnesses, DifferWithin, Witness, length-Extends}
+use Rattle.solve_core.proofs.Names.{◌≡◌, ◌∙◌, ◌++◌, [], ◌∷◌, length, ap, arith, sym, subst, true, cleared, WitnessLists, AddsMet, AreWitnesses, DifferWithin, Witness, length-Extends, rules}
 use Rattle.solve_core.proofs.WitnessLaws.{cleared_within, added_numbered, added_witnesses, places_for}
 use Rattle.solve_core.proofs.witnesses.Witnesses.add.Goals as goal
 
@@ -51,6 +51,11 @@ returns-clause-witnesses g c =
 
 pub returns-then-number-capacity-clause-witnesses : goal.returns-then-number-capacity-clause-witnesses
 returns-then-number-capacity-clause-witnesses g c =
-    let before = cleared c.args.trial.now.cells c.args.trial.now.trail in
-    c.forget.ensures.witnesses c.args.puzzle.now before
-    (length-Extends before c.args.trial.now.cells c.requires.extends ∙ c.requires.size.2 ∙ sym c.requires.room)
+    search (
+      rules,
+      c.forget.ensures.witnesses,
+      length-Extends,
+      c.requires.extends,
+      c.requires.size,
+      c.requires.room,
+    )
