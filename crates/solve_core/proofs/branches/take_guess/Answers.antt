@@ -34,12 +34,4 @@ returns-in-Some-pop-clause-count g c = search (rules, c.go_back.ensures, length-
 
 pub push_reserved-requires : goal.push_reserved-requires
 push_reserved-requires g c =
-    search (
-      rules,
-      c.in-Some.is,
-      c.requires.next,
-      unknown_count-positive,
-      c.requires.older,
-      c.requires.room,
-      c.trail-mark.ensures.grid.settled,
-    )
+    search (rules, unknown_count-positive)

@@ -6,17 +6,4 @@ use Rattle.solve_core.proofs.guessing.most_known.Goals.{then-is_unknown+then-sur
 
 pub loop-place-preserved : goal.loop-place-preserved
 loop-place-preserved c =
-    search (
-      rules,
-      c.loop-place.invariant,
-      c.is_unknown.ensures,
-      c.at.ensures,
-      c.if-is_unknown.branch,
-      then-is_unknown+then-sure-least,
-      c.loop-place-test.true,
-      cell-some,
-      then-is_unknown+else-sure-least,
-      cell-none,
-      else-is_unknown,
-      true≢false,
-    )
+    search (rules, then-is_unknown+then-sure-least, cell-some, then-is_unknown+else-sure-least, cell-none, else-is_unknown, true≢false)

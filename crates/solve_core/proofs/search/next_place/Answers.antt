@@ -5,11 +5,4 @@ use Rattle.solve_core.proofs.search.next_place.Goals as goal
 
 pub returns-in-First : goal.returns-in-First
 returns-in-First g c =
-    search (
-      rules,
-      first-from,
-      c.lines.ensures.lines,
-      c.requires.known,
-      c.in-First.is,
-      c.first_unknown.ensures.each,
-    )
+    search (rules, first-from)

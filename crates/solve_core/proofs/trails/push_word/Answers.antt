@@ -19,14 +19,7 @@ loop-k-init g c = record {
 
 pub overflow_add-first : goal.overflow_add-first
 overflow_add-first g c =
-    grind (
-      arith,
-      c.first_place-k.ensures.in_mask,
-      of_word,
-      c.word_from-left.ensures,
-      c.requires.places,
-      c.from.ensures,
-    )
+    grind (arith, of_word)
 
 pub loop-k-preserved : goal.loop-k-preserved
 loop-k-preserved g c =

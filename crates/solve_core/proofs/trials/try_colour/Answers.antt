@@ -9,10 +9,4 @@ add-requires-clause-closed g c = search (rules, closure-IsLeastClosed, c.if-not-
 
 pub add-requires-clause-extends : goal.add-requires-clause-extends
 add-requires-clause-extends g c =
-    search (
-      rules,
-      c.assign_copy.ensures.back,
-      settled-extends,
-      c.requires.cell.unknown,
-      c.if-not-assign_copy.ensures.closed,
-    )
+    search (rules, settled-extends)

@@ -5,12 +5,4 @@ use Rattle.solve_core.proofs.boards.Board.go_back.Goals as goal
 
 pub loop-self-preserved : goal.loop-self-preserved
 loop-self-preserved g c =
-    search (
-      rules,
-      c.loop-self.invariant,
-      c.trail.ensures.trail,
-      c.loop-self-test.true,
-      c.undo.ensures,
-      before-back,
-      take-take,
-    )
+    search (rules, before-back, take-take)

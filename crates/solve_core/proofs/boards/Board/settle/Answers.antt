@@ -21,16 +21,4 @@ invariant_of-self g c =
 
 pub returns-clause-trail : goal.returns-clause-trail
 returns-clause-trail g c =
-    search (
-      rules,
-      c.self.view_is,
-      here,
-      c.self.invariant,
-      c.requires.column,
-      c.requires.row,
-      c.requires.unknown,
-      trailed-one,
-      c.requires.known,
-      c.set.ensures,
-      c.width.ensures.width,
-    )
+    search (rules, here, trailed-one)

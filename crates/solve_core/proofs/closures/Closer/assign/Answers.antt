@@ -6,16 +6,7 @@ use Rattle.solve_core.proofs.closures.Closer.assign.Goals as goal
 
 pub settle-requires-clause-unknown : goal.settle-requires-clause-unknown
 settle-requires-clause-unknown g c =
-    search (
-      rules,
-      c.from-width.ensures,
-      c.width.ensures.width,
-      place_split,
-      c.width.ensures.puzzle,
-      c.requires.size,
-      c.requires.cell.within,
-      c.requires.cell.unknown,
-    )
+    search (rules, place_split)
 
 pub propagate-requires-clause-work : goal.propagate-requires-clause-work
 propagate-requires-clause-work g c =

@@ -27,40 +27,12 @@ returns-then-is_dead-clause-trail g c =
 
 pub returns-in-Dead-clause-trail : goal.returns-in-Dead-clause-trail
 returns-in-Dead-clause-trail g c =
-    search (
-      rules,
-      twice,
-      c.loop-self.invariant.trail,
-      c.deduce_side.ensures.trail,
-      c.deduce_side-in-loop-self.ensures.trail,
-    )
+    search (rules, twice)
 
 pub returns-in-Same-clause-trail : goal.returns-in-Same-clause-trail
 returns-in-Same-clause-trail g c =
-    search (
-      rules,
-      twice,
-      c.loop-self.invariant.trail,
-      c.deduce_side.ensures.trail,
-      c.deduce_side-in-loop-self.ensures.trail,
-    )
+    search (rules, twice)
 
 pub loop-self-preserved : goal.loop-self-preserved
 loop-self-preserved g c =
-    search (
-      rules,
-      c.in-Changed.ensures.work.marks,
-      c.deduce_side-in-loop-self.ensures.work.memory,
-      twice,
-      c.loop-self.invariant.trail,
-      c.deduce_side.ensures.trail,
-      c.deduce_side-in-loop-self.ensures.trail,
-      c.deduce_side-in-loop-self.ensures.size,
-      c.in-Changed.ensures.progress,
-      progress-keeps,
-      true≢false,
-      c.is_dead.ensures,
-      c.if-is_dead.false,
-      c.deduce_side.ensures.progress,
-      c.loop-self.invariant.closed,
-    )
+    search (rules, twice, progress-keeps, true≢false)

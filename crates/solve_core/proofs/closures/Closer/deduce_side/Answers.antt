@@ -6,22 +6,7 @@ use Rattle.solve_core.proofs.closures.Closer.deduce_side.Goals.{in-Same, in-Chan
 
 pub loop-i-preserved : goal.loop-i-preserved
 loop-i-preserved g c =
-    grind (
-      arith,
-      c.loop-i.invariant,
-      c.in-Some.ensures,
-      trailed-trans,
-      c.deduce_line.ensures.trail,
-      c.self.view_is,
-      c.deduce_line.ensures.own.to,
-      cases_lt,
-      true≢false,
-      c.match-deduce_line.branch,
-      in-Same,
-      c.deduce_line.ensures.work.memory,
-      c.deduce_line.ensures.size,
-      in-Changed,
-    )
+    grind (arith, trailed-trans, cases_lt, true≢false, in-Same, in-Changed)
 
 pub returns-in-Dead-clause-trail : goal.returns-in-Dead-clause-trail
 returns-in-Dead-clause-trail g c =

@@ -15,15 +15,4 @@ get-requires g c =
 
 pub returns : goal.returns
 returns g c =
-    search (
-      rules,
-      c.len-width.ensures,
-      place_in,
-      c.self.invariant,
-      c.requires,
-      c.self.view_is,
-      c.index.ensures,
-      line_read,
-      c.get.ensures,
-      cell-read,
-    )
+    search (rules, place_in, line_read, cell-read)

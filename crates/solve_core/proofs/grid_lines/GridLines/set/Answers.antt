@@ -18,15 +18,4 @@ invariant_of-self g c =
 
 pub returns : goal.returns
 returns g c =
-    search (
-      rules,
-      c.self.view_is,
-      cell-changed,
-      c.self.invariant,
-      c.requires.column,
-      c.requires.row,
-      c.index_mut.ensures.value,
-      c.set.ensures,
-      c.index_mut-2.ensures.value,
-      c.set-2.ensures,
-    )
+    search (rules, cell-changed)

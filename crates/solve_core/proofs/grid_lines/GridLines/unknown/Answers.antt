@@ -10,11 +10,4 @@ invariant_of-result g c =
 
 pub returns : goal.returns
 returns g c =
-    search (
-      rules,
-      lines-unknown,
-      c.requires.size,
-      c.unknown_lines.ensures,
-      c.unknown_lines-2.ensures,
-      length-replicate,
-    )
+    search (rules, lines-unknown, length-replicate)

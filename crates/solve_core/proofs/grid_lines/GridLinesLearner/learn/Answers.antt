@@ -29,22 +29,7 @@ returns-in-Rows-clause-cells g c =
 
 pub copy_from-requires-in-Columns : goal.copy_from-requires-in-Columns
 copy_from-requires-in-Columns g c =
-    grind (
-      arith,
-      learns_at,
-      c.self.invariant.size.width_from,
-      c.self.invariant.count,
-      c.self.view_is,
-      c.in-Columns.is,
-      c.requires.i,
-      c.requires.more,
-      c.requires.changes,
-      c.index_mut-in-Columns.ensures.value,
-      c.from-place.ensures,
-      line_read,
-      long_line,
-      c.self.invariant.columns_are,
-    )
+    grind (arith, learns_at, line_read, long_line)
 
 pub settle_across-requires-in-Columns-clause-changes : goal.settle_across-requires-in-Columns-clause-changes
 settle_across-requires-in-Columns-clause-changes g c =

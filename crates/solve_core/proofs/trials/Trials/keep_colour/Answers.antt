@@ -1,5 +1,5 @@
 -- `Trials::keep_colour`: `colour` takes the board no further than trials do, so closing it is progress.
-use Rattle.solve_core.proofs.Names.{rules}
+use Rattle.solve_core.proofs.Names.{rules, sym, lines_of}
 use Rattle.solve_core.proofs.TrialSteps.{settle-changed, settle-dead}
 use Rattle.solve_core.proofs.trials.Trials.keep_colour.Goals as goal
 
@@ -9,12 +9,5 @@ returns-then-not-assign-clause-progress g c =
 
 pub returns-clause-progress : goal.returns-clause-progress
 returns-clause-progress g c =
-    search (
-      rules,
-      settle-changed,
-      c.requires.cell.within,
-      c.requires.cell.unknown,
-      c.requires.cell.known,
-      c.requires.below,
-      c.if-not-assign.ensures.closed,
-    )
+    settle-changed (lines_of c.args.puzzle.now) c.args.board.now.cells c.assign.new.board.cells c.args.place c.args.colour
+    c.requires.cell.within c.requires.cell.unknown c.requires.cell.known c.requires.below (sym c.if-not-assign.ensures.closed)

@@ -5,27 +5,11 @@ use Rattle.solve_core.proofs.trials.Trials.try_place.Goals as goal
 
 pub keep_colour-requires-clause-below : goal.keep_colour-requires-clause-below
 keep_colour-requires-clause-below g c =
-    search (
-      rules,
-      blank_below,
-      c.requires.place,
-      trial-refuted,
-      c.is_refuted.ensures,
-      c.if-is_refuted.true,
-      c.try_colour-filled.ensures.tried,
-    )
+    search (rules, blank_below, trial-refuted)
 
 pub keep_colour-requires-2-clause-below : goal.keep_colour-requires-2-clause-below
 keep_colour-requires-2-clause-below g c =
-    search (
-      rules,
-      filled_below,
-      c.requires.place,
-      trial-refuted,
-      c.is_refuted-2.ensures,
-      c.if-not-is_refuted.false,
-      c.try_colour-blank.ensures.tried,
-    )
+    search (rules, filled_below, trial-refuted)
 
 pub returns-then-is_closed-clause-progress : goal.returns-then-is_closed-clause-progress
 returns-then-is_closed-clause-progress g c =

@@ -51,11 +51,4 @@ returns-clause-witnesses g c =
 
 pub returns-then-number-capacity-clause-witnesses : goal.returns-then-number-capacity-clause-witnesses
 returns-then-number-capacity-clause-witnesses g c =
-    search (
-      rules,
-      c.forget.ensures.witnesses,
-      length-Extends,
-      c.requires.extends,
-      c.requires.size,
-      c.requires.room,
-    )
+    search (rules, length-Extends)

@@ -5,35 +5,8 @@ use Rattle.solve_core.proofs.witnesses.Witnesses.meet.Goals as goal
 
 pub invariant_of-self : goal.invariant_of-self
 invariant_of-self g c =
-    search (
-      rules,
-      more_numbered,
-      c.self.invariant.numbered,
-      c.self.view_is,
-      c.requires.number,
-      meets-filled,
-      c.requires.place,
-      c.requires.cells,
-      c.at-colour.ensures,
-      c.in-Filled.is,
-      c.self.invariant.fillable,
-      c.self.invariant.blankable,
-    )
+    search (rules, more_numbered, meets-filled)
 
 pub invariant_of-self-in-Blank : goal.invariant_of-self-in-Blank
 invariant_of-self-in-Blank g c =
-    search (
-      rules,
-      more_numbered,
-      c.self.invariant.numbered,
-      c.self.view_is,
-      c.requires.number,
-      meets-blank,
-      c.requires.place,
-      c.self.invariant.numbered.count,
-      c.requires.cells,
-      c.at-colour.ensures,
-      c.in-Blank.is,
-      c.self.invariant.fillable,
-      c.self.invariant.blankable,
-    )
+    search (rules, more_numbered, meets-blank)
