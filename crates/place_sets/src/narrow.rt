@@ -274,7 +274,10 @@ impl PlaceSet for u128 {
                 high: kept.low.reversed(),
             };
         }
-        u128::of_kept(kept).reversed().shifted_down(128 - len).kept()
+        u128::of_kept(kept)
+            .reversed()
+            .shifted_down(128 - len)
+            .kept()
     }
 
     fn folded(self) -> u64 {
