@@ -33,5 +33,4 @@ pub returns-in-Some-pop-clause-count : goal.returns-in-Some-pop-clause-count
 returns-in-Some-pop-clause-count g c = search (rules, c.go_back.ensures, length-cleared, c.in-Some-pop.branch.mark)
 
 pub push_reserved-requires : goal.push_reserved-requires
-push_reserved-requires g c =
-    search (rules, unknown_count-positive)
+push_reserved-requires g c = search (rules, unknown_count-positive)

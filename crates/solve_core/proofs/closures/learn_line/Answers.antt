@@ -23,8 +23,7 @@ learn-requires-clause-more g c =
     search (rules, c.line-old.ensures.cells, c.deduce.ensures.answer, c.in-Some.is, deduced-above)
 
 pub returns-then-is_empty-clause-learned : goal.returns-then-is_empty-clause-learned
-returns-then-is_empty-clause-learned g c =
-    search (rules, seen, same_without_change, length-deduced)
+returns-then-is_empty-clause-learned g c = search (rules, seen, same_without_change, length-deduced)
 
 -- a cell at a place that isn't among the changes of a line stays as it was
 unchanged : (p : Nonogram) (old new certain : List Cell) (side : Side) (i k m : ℕ) → 0 < p.width → i < count_on side p.width p.height →

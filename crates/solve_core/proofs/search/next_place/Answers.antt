@@ -4,5 +4,4 @@ use Rattle.solve_core.proofs.SearchSteps.{first-from}
 use Rattle.solve_core.proofs.search.next_place.Goals as goal
 
 pub returns-in-First : goal.returns-in-First
-returns-in-First g c =
-    search (rules, first-from)
+returns-in-First g c = search (rules, first-from)

@@ -18,8 +18,7 @@ loop-k-init g c = record {
 }
 
 pub overflow_add-first : goal.overflow_add-first
-overflow_add-first g c =
-    grind (arith, of_word)
+overflow_add-first g c = grind (arith, of_word)
 
 pub loop-k-preserved : goal.loop-k-preserved
 loop-k-preserved g c =

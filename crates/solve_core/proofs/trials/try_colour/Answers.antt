@@ -8,5 +8,4 @@ pub add-requires-clause-closed : goal.add-requires-clause-closed
 add-requires-clause-closed g c = search (rules, closure-IsLeastClosed, c.if-not-assign_copy.ensures.closed)
 
 pub add-requires-clause-extends : goal.add-requires-clause-extends
-add-requires-clause-extends g c =
-    search (rules, settled-extends)
+add-requires-clause-extends g c = search (rules, settled-extends)

@@ -4,5 +4,4 @@ use Rattle.solve_core.proofs.BranchLaws.{before-back}
 use Rattle.solve_core.proofs.boards.Board.go_back.Goals as goal
 
 pub loop-self-preserved : goal.loop-self-preserved
-loop-self-preserved g c =
-    search (rules, before-back, take-take)
+loop-self-preserved g c = search (rules, before-back, take-take)

@@ -20,5 +20,4 @@ invariant_of-self g c =
     c.push_reserved.ensures.capacity
 
 pub returns-clause-trail : goal.returns-clause-trail
-returns-clause-trail g c =
-    search (rules, here, trailed-one)
+returns-clause-trail g c = search (rules, here, trailed-one)

@@ -5,8 +5,7 @@ use Rattle.solve_core.proofs.TrailSteps.{trailed-trans}
 use Rattle.solve_core.proofs.closures.Closer.assign.Goals as goal
 
 pub settle-requires-clause-unknown : goal.settle-requires-clause-unknown
-settle-requires-clause-unknown g c =
-    search (rules, place_split)
+settle-requires-clause-unknown g c = search (rules, place_split)
 
 pub propagate-requires-clause-work : goal.propagate-requires-clause-work
 propagate-requires-clause-work g c =

@@ -26,13 +26,10 @@ returns-then-is_dead-clause-trail g c =
     search (rules, trailed-trans, c.loop-self.invariant.trail, c.deduce_side.ensures.trail)
 
 pub returns-in-Dead-clause-trail : goal.returns-in-Dead-clause-trail
-returns-in-Dead-clause-trail g c =
-    search (rules, twice)
+returns-in-Dead-clause-trail g c = search (rules, twice)
 
 pub returns-in-Same-clause-trail : goal.returns-in-Same-clause-trail
-returns-in-Same-clause-trail g c =
-    search (rules, twice)
+returns-in-Same-clause-trail g c = search (rules, twice)
 
 pub loop-self-preserved : goal.loop-self-preserved
-loop-self-preserved g c =
-    search (rules, twice, progress-keeps, true≢false)
+loop-self-preserved g c = search (rules, twice, progress-keeps, true≢false)

@@ -5,8 +5,7 @@ use Rattle.solve_core.proofs.closures.Closer.deduce_side.Goals as goal
 use Rattle.solve_core.proofs.closures.Closer.deduce_side.Goals.{in-Same, in-Changed}
 
 pub loop-i-preserved : goal.loop-i-preserved
-loop-i-preserved g c =
-    grind (arith, trailed-trans, cases_lt, true≢false, in-Same, in-Changed)
+loop-i-preserved g c = grind (arith, trailed-trans, cases_lt, true≢false, in-Same, in-Changed)
 
 pub returns-in-Dead-clause-trail : goal.returns-in-Dead-clause-trail
 returns-in-Dead-clause-trail g c =

@@ -14,5 +14,4 @@ get-requires g c =
     (omega (arith, at.1, (lines-long rows columns (c.args.place % length columns) (c.args.place / length columns) c.self.invariant at.1 at.2).0))
 
 pub returns : goal.returns
-returns g c =
-    search (rules, place_in, line_read, cell-read)
+returns g c = search (rules, place_in, line_read, cell-read)

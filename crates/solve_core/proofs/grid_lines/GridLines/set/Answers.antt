@@ -17,5 +17,4 @@ invariant_of-self g c =
     (rw (← c.self.view_is) at c.requires.row) c.index_mut.ensures.value c.set.ensures c.index_mut-2.ensures.value c.set-2.ensures).0
 
 pub returns : goal.returns
-returns g c =
-    search (rules, cell-changed)
+returns g c = search (rules, cell-changed)

@@ -9,5 +9,4 @@ invariant_of-result g c =
     c.unknown_lines.ensures c.unknown_lines-2.ensures).1
 
 pub returns : goal.returns
-returns g c =
-    search (rules, lines-unknown, length-replicate)
+returns g c = search (rules, lines-unknown, length-replicate)

@@ -28,8 +28,7 @@ returns-in-Rows-clause-cells g c =
     rw (← c.self.view_is, c.in-Rows.is, c.from-place.ensures, c.copy_from.ensures) (ap (λ (p : PartialGrid). p.cells) learned.0)
 
 pub copy_from-requires-in-Columns : goal.copy_from-requires-in-Columns
-copy_from-requires-in-Columns g c =
-    grind (arith, learns_at, line_read, long_line)
+copy_from-requires-in-Columns g c = grind (arith, learns_at, line_read, long_line)
 
 pub settle_across-requires-in-Columns-clause-changes : goal.settle_across-requires-in-Columns-clause-changes
 settle_across-requires-in-Columns-clause-changes g c =

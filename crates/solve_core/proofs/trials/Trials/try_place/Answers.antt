@@ -4,12 +4,10 @@ use Rattle.solve_core.proofs.TrialSteps.{blank_below, filled_below, trial-refute
 use Rattle.solve_core.proofs.trials.Trials.try_place.Goals as goal
 
 pub keep_colour-requires-clause-below : goal.keep_colour-requires-clause-below
-keep_colour-requires-clause-below g c =
-    search (rules, blank_below, trial-refuted)
+keep_colour-requires-clause-below g c = search (rules, blank_below, trial-refuted)
 
 pub keep_colour-requires-2-clause-below : goal.keep_colour-requires-2-clause-below
-keep_colour-requires-2-clause-below g c =
-    search (rules, filled_below, trial-refuted)
+keep_colour-requires-2-clause-below g c = search (rules, filled_below, trial-refuted)
 
 pub returns-then-is_closed-clause-progress : goal.returns-then-is_closed-clause-progress
 returns-then-is_closed-clause-progress g c =

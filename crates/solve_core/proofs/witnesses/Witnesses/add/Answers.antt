@@ -50,5 +50,4 @@ returns-clause-witnesses g c =
     added_witnesses p w c.meet_settled.new.self g cells last c.self.invariant.numbered c.requires.closed c.requires.extends differ are adds
 
 pub returns-then-number-capacity-clause-witnesses : goal.returns-then-number-capacity-clause-witnesses
-returns-then-number-capacity-clause-witnesses g c =
-    search (rules, length-Extends)
+returns-then-number-capacity-clause-witnesses g c = search (rules, length-Extends)
