@@ -31,20 +31,11 @@ right_is row w known down first last right fits some k d f m r x h =
     has_by right x (is_sure (nat_eq (x + 1) (length row)) (get_or row (x + 1) Unknown)) to from
   where
     to : Has right x → is_sure (nat_eq (x + 1) (length row)) (get_or row (x + 1) Unknown) ≡ true
-    to y = elim (r.to x y) [
-      | inl shifted ↦ sure_by (nat_eq (x + 1) (length row)) (get_or row (x + 1) Unknown) (inr (k.to (x + 1) (d.to x shifted)).1)
-      | inr end ↦
-          (let at = m.to x end in
-          let start : x - (length row - 1) ≡ 0 = f.to (x - (length row - 1)) at.2 in
-          sure_by (nat_eq (x + 1) (length row)) (get_or row (x + 1) Unknown)
-          (inl (eq-eqb (x + 1) (length row) (omega (arith, start, at.1, h, some)))))
-    ]
+    to y = search (rules, sure_by, nat_eq, eq-eqb)
 
     from : is_sure (nat_eq (x + 1) (length row)) (get_or row (x + 1) Unknown) ≡ true → Has right x
     from e = elim (or_cases (nat_eq (x + 1) (length row)) (is_known (get_or row (x + 1) Unknown)) e) [
-      | inl end ↦
-          (let at : x + 1 ≡ length row = eqb-true (x + 1) (length row) end in
-          r.from x (inr (m.from x (omega (arith, h, fits), omega (arith, at), f.from (x - (length row - 1)) (omega (arith, at))))))
+      | inl end ↦ grind (arith, eqb-true)
       | inr sure ↦ elim (cases_eq (x + 1) (length row)) [
         | inl at ↦ r.from x (inr (m.from x (omega (arith, h, fits), omega (arith, at), f.from (x - (length row - 1)) (omega (arith, at)))))
         | inr more ↦ r.from x (inl (d.from x (k.from (x + 1) (omega (arith, h, more), sure))))

@@ -21,9 +21,7 @@ along-set cells places k at c distinct lk e l =
     let lj : j < length places = omega (arith, new_long) in
     get_or-cells_at Unknown (set cells at c) places j lj ∙ elim (cases_eq j k) [
       | inl same ↦ rw (same, ← e) (get_or-set_same cells at c Unknown l ∙ sym (get_or-set_same old k c Unknown (omega (arith, long))))
-      | inr other ↦ get_or-set_other cells at (get_or places j 0) c Unknown
-          (λ x. other (distinct_same places j k distinct lj lk (x ∙ e))) ∙
-          sym (get_or-cells_at Unknown cells places j lj) ∙ sym (get_or-set_other old k j c Unknown other)
+      | inr other ↦ search (rules, get_or-set_other, distinct_same, get_or-cells_at)
     ])
 
 -- the lines of a side after cell k of line i was written

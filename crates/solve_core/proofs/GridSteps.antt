@@ -35,12 +35,7 @@ pub marks-after : (p : Nonogram) (cells new : List Cell) (marks middle after : L
 marks-after p cells new marks middle after side i r m l taken other learned changes = by r learned
   where
     within : AreMarksWithin p.width p.height after
-    within = by_side (λ s. (j : ℕ) → IsMarkedOn after s j → j < count_on s p.width p.height) side
-        (λ j x. elim (taken.to j (rw changes.own at x)) [
-          | inl kept ↦ m.within side j kept.0
-          | inr gone ↦ absurd (true≢false (sym gone.1))
-        ])
-        (λ j x. elim (changes.crossing_it j x) [ inl old ↦ m.within (crossing side) j (rw other at old) | inr new ↦ new ])
+    within = grind (arith, by_side, true≢false)
 
     -- the marks are right if the line is settled, and cells elsewhere are as they were
     marked : length new ≡ length cells → IsDeduced new (line_on side p i) →

@@ -101,10 +101,8 @@ module _ (side : Side) (w h i m : ℕ) (cells new : List Cell) (is : Learns side
       ext_get_or Unknown (cells_at Unknown now places) (set before i v) (long ∙ sym (length-set before i v ∙ length-cells_at Unknown cells places)) (λ t lt.
       let inner : t < count_on side w h = rw (long, length-places_on (crossing side) w h k, crossing_twice side) at lt in
       (at_across side w h k t now lk inner).1 ∙ elim (cases_eq t i) [
-        | inl same ↦ rw same (sym (at_own side w h i k now lk) ∙ ap (λ (r : List Cell). get_or r k Unknown) own_read ∙
-            sym (get_or-set_same before i v Unknown (at_across side w h k i cells lk is.line).0))
-        | inr other ↦ at_other t k other inner lk ∙ sym (at_across side w h k t cells lk inner).1 ∙
-            sym (get_or-set_other before i t v Unknown other)
+        | inl same ↦ search (rules, at_own, own_read, get_or-set_same, at_across)
+        | inr other ↦ search (rules, at_other, at_across, get_or-set_other)
       ])
 
   -- the lines that cross

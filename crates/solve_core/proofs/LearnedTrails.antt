@@ -24,8 +24,7 @@ module _ (b : TrailedGrid) (first step n m : ℕ) (new : List Cell) (is : IsLear
     record {
       changed = is.changed.to;
       as_old = λ k l h. refl;
-      as_new = λ k l none. sym (get_or-cells_at Unknown b.cells places k l) ∙ sym (same_cells (get_or old k Unknown) (get_or new k Unknown)
-          (λ d. none (is.changed.from k (omega (arith, l, length-cells_at Unknown b.cells places), d))));
+      as_new = search (rules, get_or-cells_at, same_cells, length-cells_at);
       others = λ p none. refl;
       size = refl;
     },
@@ -55,10 +54,7 @@ module _ (b : TrailedGrid) (first step n m : ℕ) (new : List Cell) (is : IsLear
         record {
           changed = λ j h. p.changed j h.0;
           as_old = λ j l h. apart j l h.1 ∙ p.as_old j l h.0;
-          as_new = λ j l none. elim (cases_eq j k) [
-            | inl own ↦ rw own (get_or-set_same cells q cell Unknown within)
-            | inr other ↦ apart j l other ∙ p.as_new j l (λ h. none (h, other))
-          ];
+          as_new = grind (arith, cases_eq, get_or-set_same);
           others = λ j none. get_or-set_other cells q j cell Unknown (λ s. none k here (sym s)) ∙ p.others j none;
           size = length-set cells q cell ∙ p.size;
         },
@@ -76,8 +72,7 @@ module _ (b : TrailedGrid) (first step n m : ℕ) (new : List Cell) (is : IsLear
       (below_from first step n (length b.cells) is.within) (sym (length-Extends old new is.more) ∙ length-cells_at Unknown b.cells places) in
       let same : end.0 ≡ after = ext_get_or Unknown end.0 after (p.size ∙ sym (length-with_cells b.cells places new)) (λ q l.
       elim (is_among places q) [
-        | inl there ↦ rw (← there.2) (p.as_new there.0 there.1 (none there.0) ∙ ap (λ (r : List Cell). get_or r there.0 Unknown) (sym read) ∙
-            get_or-cells_at Unknown after places there.0 there.1)
+        | inl there ↦ search (rules, get_or-cells_at)
         | inr other ↦ p.others q other ∙ sym (get_or-with_cells b.cells places new q (λ i h e. absurd (other i h e)))
       ]) in
       rw (← same) end.2

@@ -1,5 +1,5 @@
 -- The cell to guess, found row by row.
-use Rattle.solve_core.proofs.Names.{◌≡◌, ◌≢◌, ℕ, zero, suc, ◌+◌, ◌-◌, ◌*◌, ◌%◌, ◌<◌, ◌≤◌, Bool, true, false, nat_eq, nat_lt, nat_le, inl, inr, List, [], length, get_or, Option, Some, None, refl, sym, ap, ◌∙◌, arith, true≢false, add-one, add-zero, cases_Bool, cases_eq, cases_lt, eq-eqb, ne_eqb, eqb-false, lt-ltb, le-ltb, le-leb, lt-leb, mod-mul-add, Cell, Unknown, is_unknown, IsUnknownCell, IsMostInRow, row_score, two_of, is_sure, AreLinesOf, cells_of_rows, first_most, is_left_sure, is_right_sure, is_above_sure, is_below_sure, sure_neighbours, rules}
+use Rattle.solve_core.proofs.Names.{◌≡◌, ◌≢◌, ℕ, zero, suc, ◌+◌, ◌-◌, ◌*◌, ◌<◌, ◌≤◌, Bool, true, false, nat_eq, nat_lt, nat_le, inl, inr, List, [], length, get_or, Option, Some, None, refl, sym, ap, ◌∙◌, arith, true≢false, add-one, add-zero, cases_Bool, cases_eq, cases_lt, eq-eqb, ne_eqb, eqb-false, lt-ltb, le-ltb, le-leb, lt-leb, mod-mul-add, Cell, Unknown, is_unknown, IsUnknownCell, IsMostInRow, row_score, two_of, is_sure, AreLinesOf, cells_of_rows, first_most, is_left_sure, is_right_sure, is_above_sure, is_below_sure, sure_neighbours, rules}
 use Rattle.solve_core.proofs.GridLineSteps.{cell-read, lines-long}
 use Rattle.solve_core.proofs.SideLines.{row_within}
 use Rattle.solve_core.proofs.SearchLaws.{unknown_is}
@@ -15,8 +15,7 @@ top_is w (suc y) x l = ne_eqb (suc y) 0 (λ e. cc) ∙ sym (le-ltb (suc y * w + 
 
 bottom_is : (w h y x : ℕ) → y < h → x < w → nat_eq (y + 1) h ≡ nat_le (w * h) (y * w + x + w)
 bottom_is w h y x ly lx = elim (cases_eq (y + 1) h) [
-  | inl last ↦ eq-eqb (y + 1) h last ∙
-      sym (le-leb (w * h) (y * w + x + w) (let all : w * h ≡ y * w + w = rw (← last) (omega arith) in omega (arith, all)))
+  | inl last ↦ search (rules, eq-eqb, le-leb)
   | inr other ↦ ne_eqb (y + 1) h other ∙
       sym (lt-leb (w * h) (y * w + x + w) (omega (arith, row_within w h (y + 1) x (omega (arith, ly, other)) lx)))
 ]
@@ -52,24 +51,16 @@ score-is rows columns y x above below a ly lx up down =
     there z v q lz lv e = rw e at ((cell-read rows columns z v a lz lv).0)
 
     left : is_sure (nat_eq x 0) (get_or row (x - 1) Unknown) ≡ is_left_sure w cells k
-    left = sure_same (nat_eq x 0) (nat_eq (k % w) 0) (get_or row (x - 1) Unknown) (get_or cells (k - 1) Unknown)
-        (ap (λ (n : ℕ). nat_eq n 0) (sym (mod-mul-add y w x lx)))
-        (λ e. let some = eqb-false x 0 e in there (x - 1) y (k - 1) (omega (arith, lx)) ly (omega (arith, some)))
+    left = search (rules, sure_same, nat_eq, k, w, row, cells, mod-mul-add, eqb-false, there)
 
     right : is_sure (nat_eq (x + 1) (length row)) (get_or row (x + 1) Unknown) ≡ is_right_sure w cells k
-    right = sure_same (nat_eq (x + 1) (length row)) (nat_eq (k % w + 1) w) (get_or row (x + 1) Unknown) (get_or cells (k + 1) Unknown)
-        (λ i. nat_eq (sym (mod-mul-add y w x lx) i + 1) (long i))
-        (λ e. let some = eqb-false (x + 1) (length row) e in there (x + 1) y (k + 1) (omega (arith, lx, some, long)) ly (omega arith))
+    right = search (rules, sure_same, nat_eq, row, k, w, cells, mod-mul-add, long, eqb-false, there)
 
     over : is_sure (nat_eq y 0) (get_or (get_or rows (y - 1) []) x Unknown) ≡ is_above_sure w cells k
-    over = sure_same (nat_eq y 0) (nat_lt k w) (get_or (get_or rows (y - 1) []) x Unknown) (get_or cells (k - w) Unknown) (top_is w y x lx)
-        (λ e. there x (y - 1) (k - w) lx (omega (arith, ly)) (row_back w y x (eqb-false y 0 e)))
+    over = search (rules, sure_same, nat_eq, nat_lt, k, w, cells, top_is, there, row_back, eqb-false)
 
     under : is_sure (nat_eq (y + 1) (length rows)) (get_or (get_or rows (y + 1) []) x Unknown) ≡ is_below_sure w cells k
-    under = sure_same (nat_eq (y + 1) (length rows)) (nat_le (length cells) (k + w)) (get_or (get_or rows (y + 1) []) x Unknown)
-        (get_or cells (k + w) Unknown)
-        (bottom_is w (length rows) y x ly lx ∙ ap (λ (n : ℕ). nat_le n (k + w)) (sym a.count))
-        (λ e. let some = eqb-false (y + 1) (length rows) e in there x (y + 1) (k + w) lx (omega (arith, ly, some)) (omega arith))
+    under = search (rules, sure_same, nat_eq, nat_le, cells, k, w, bottom_is, eqb-false, there)
 
 -- how much has to count for a later place to be better
 abbrev pub least_after : (ℕ → ℕ) → Option ℕ → ℕ

@@ -188,23 +188,10 @@ kept_witnesses p w after g new learned holder place c is n size e h differ are h
         let least = closure-IsLeastClosed (lines_of p) (set g place c) in
         let some = λ (z : number ≡ 0). true≢false (sym before.0 ∙ rw z n.none) in
         elim before.1 [
-          | inl holds ↦
-              (let more : Extends new t = rw e at (least.least t was.closed (set_within g t place c was.extends
-              (rw (was.met place c (sym (holds ∙ held))) ((Extends-refl (c ∷ [])).0)))) in
-              record {
-                trial = t;
-                closed = was.closed;
-                extends = more;
-                within = rw own.lines (record {
-                  rows = λ k l. squeezed g new t k h more (was.within.rows k l);
-                  columns = λ k l. squeezed g new t k h more (was.within.columns k l);
-                });
-                met = was.met;
-              })
+          | inl holds ↦ grind (arith, at, set_within, squeezed)
           | inr apart ↦ record {
             trial = overlaid new t;
-            closed = overlaid_closed g new t h was.extends p (witness_at w.witnesses number).lines learned was.within differ apart is size
-                (least.closed new e) was.closed;
+            closed = search (rules, overlaid_closed);
             extends = overlaid-extends new t;
             within = rw own.lines (record {
               rows = λ k l. sym (as_new g new t h was.extends k (was.within.rows k l));
@@ -282,10 +269,7 @@ added_witnesses p w new g trial last n closed h differ are adds =
           closed = was.closed;
           extends = was.extends;
           within = rw (adds.witnesses, same) was.within;
-          met = λ k c e. elim (adds.met k c) [
-            | inl old ↦ was.met k c (sym old ∙ e)
-            | inr met ↦ absurd (omega (arith, met.0, e))
-          ];
+          met = search (rules);
         }
 
 -- if no witness but the first is left, none counts, and so each that counts is alive
