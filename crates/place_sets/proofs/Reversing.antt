@@ -47,28 +47,28 @@ within_first w len n r m some fits p q = record {
       q.from i (p.from _ (omega (arith, h.0), subst (Has n) e h.1));
 }
 
--- both words reversed, and exchanged
-pub words_reversed : (low high rl rh : ℕ) → low < 2 ^ 64 → rh < 2 ^ 64 → IsMaskOf (IsReversed 64 (Has low)) rl
-    → IsMaskOf (IsReversed 64 (Has high)) rh → IsMaskOf (λ i. (i < 128) × Has (high * 2 ^ 64 + low) (128 - 1 - i)) (rl * 2 ^ 64 + rh)
-words_reversed low high rl rh fl fr of_low of_high = record {
-  to = λ i h. elim (cases_lt i 64) [
+-- of two words of `n` places both are reversed, and exchanged
+pub words_reversed : (n low high rl rh : ℕ) → low < 2 ^ n → rh < 2 ^ n → IsMaskOf (IsReversed n (Has low)) rl
+    → IsMaskOf (IsReversed n (Has high)) rh → IsMaskOf (IsReversed (n + n) (Has (high * 2 ^ n + low))) (rl * 2 ^ n + rh)
+words_reversed n low high rl rh fl fr of_low of_high = record {
+  to = λ i h. elim (cases_lt i n) [
     | inl l ↦
-        (let a = of_high.to i (sym (bit_at_cat_low rl 64 rh i l) ∙ h) in
-        let e : 127 - i - 64 ≡ 63 - i = omega arith in
-        (omega arith, bit_at_cat_high high 64 low (127 - i) fl (omega arith) ∙ subst (Has high) (sym e) a.1))
+        (let a = of_high.to i (sym (bit_at_cat_low rl n rh i l) ∙ h) in
+        let e : n - 1 - i ≡ n + n - 1 - i - n = omega (arith, l) in
+        (omega (arith, l), bit_at_cat_high high n low (n + n - 1 - i) fl (omega (arith, l)) ∙ subst (Has high) e a.1))
     | inr l ↦
-        (let a = of_low.to (i - 64) (sym (bit_at_cat_high rl 64 rh i fr l) ∙ h) in
-        let e : 63 - (i - 64) ≡ 127 - i = omega arith in
-        (omega (arith, a.0), bit_at_cat_low high 64 low (127 - i) (omega (arith, a.0, l)) ∙ subst (Has low) e a.1))
+        (let a = of_low.to (i - n) (sym (bit_at_cat_high rl n rh i fr l) ∙ h) in
+        let e : n - 1 - (i - n) ≡ n + n - 1 - i = omega (arith, a.0) in
+        (omega (arith, a.0), bit_at_cat_low high n low (n + n - 1 - i) (omega (arith, a.0, l)) ∙ subst (Has low) e a.1))
   ];
-  from = λ i h. elim (cases_lt i 64) [
+  from = λ i h. elim (cases_lt i n) [
     | inl l ↦
-        (let e : 127 - i - 64 ≡ 63 - i = omega arith in
-        let a = sym (bit_at_cat_high high 64 low (127 - i) fl (omega arith)) ∙ h.1 in
-        bit_at_cat_low rl 64 rh i l ∙ of_high.from i (l, subst (Has high) e a))
+        (let e : n + n - 1 - i - n ≡ n - 1 - i = omega (arith, l) in
+        let a = sym (bit_at_cat_high high n low (n + n - 1 - i) fl (omega (arith, l))) ∙ h.1 in
+        bit_at_cat_low rl n rh i l ∙ of_high.from i (l, subst (Has high) e a))
     | inr l ↦
-        (let e : 127 - i ≡ 63 - (i - 64) = omega (arith, h.0) in
-        let a = sym (bit_at_cat_low high 64 low (127 - i) (omega (arith, h.0, l))) ∙ h.1 in
-        bit_at_cat_high rl 64 rh i fr l ∙ of_low.from (i - 64) (omega (arith, h.0), subst (Has low) e a))
+        (let e : n + n - 1 - i ≡ n - 1 - (i - n) = omega (arith, h.0) in
+        let a = sym (bit_at_cat_low high n low (n + n - 1 - i) (omega (arith, h.0, l))) ∙ h.1 in
+        bit_at_cat_high rl n rh i fr l ∙ of_low.from (i - n) (omega (arith, h.0), subst (Has low) e a))
   ];
 }

@@ -6,7 +6,7 @@ use Rattle.place_sets.proofs.narrow.U128PlaceSet.reversed_kept.Goals as goal
 pub returns-then-len-eq128 : goal.returns-then-len-eq128
 returns-then-len-eq128 c =
     let all : c.args.len ≡ 128 = omega (arith, c.if-len-eq128.true) in
-    rw all (words_reversed c.args.kept.low c.args.kept.high _ _ (search rules) c.reversed.type_inv
+    rw all (words_reversed 64 c.args.kept.low c.args.kept.high _ _ (search rules) c.reversed.type_inv
     c.reversed-then-len-eq128.ensures c.reversed.ensures)
 
 pub returns : goal.returns
