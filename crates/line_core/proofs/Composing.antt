@@ -1,11 +1,7 @@
 -- The masks of gaps and of ends, each made of those before it.
-use Rattle.std.proofs.Common.{rules, ◌≡◌, ℕ, ◌+◌, ◌-◌, ◌<◌, ◌≤◌, true, false, List, [], ◌∷◌, length, get_or, reverse, sym, subst, arith, ◌⊎◌, inl, inr}
-use Rattle.std.proofs.lemmas.Bool.{cases_lt}
-use Rattle.grid_core.specs.declared.cells.Cell.{Cell}
-use Rattle.place_sets.specs.Masks.{Has, IsMaskOf, IsShifted, IsFlooded, AllFrom, SomeFrom, SomeLevel, AreLevelsOf}
-use Rattle.place_sets.proofs.Steps.{mask_same}
-use Rattle.place_sets.proofs.Uses.{flood_same, meet_of, join_of}
-use Rattle.line_core.specs.steps.Reach.{MayBe, IsGapAfter, IsStartAfter, IsEndAfter, IsGap, IsEnd, IsGapAhead, IsWholeEnd}
+use Rattle.line_core.proofs.Names.{rules, ◌≡◌, ℕ, ◌+◌, ◌-◌, ◌<◌, ◌≤◌, true, false, List, [], ◌∷◌, length, get_or, reverse, sym, subst, arith, ◌⊎◌, inl, inr, cases_lt, Cell, Has, IsMaskOf, IsShifted, IsFlooded, AllFrom, SomeFrom, SomeLevel, AreLevelsOf, mask_same, meet_of, join_of, MayBe, IsGapAfter, IsStartAfter, IsEndAfter, IsGap, IsGapAhead, IsWholeEnd}
+use Rattle.place_sets.proofs.Uses.{flood_same}
+use Rattle.line_core.specs.steps.Reach.{IsEnd}
 use Rattle.line_core.proofs.Reaching.{After, first_gap_to, first_gap_from, gap_after_to, gap_after_from}
 use Rattle.line_core.proofs.Joining.{closed_behind_to, closed_behind_from, closed_ahead_to, closed_ahead_from, reversed_gap}
 

@@ -1,18 +1,7 @@
 -- What the leftmost and the rightmost starts are.
-use Rattle.std.proofs.Common.{rules, ◌≡◌, ℕ, zero, suc, ◌<◌, Bool, true, false, List, [], ◌∷◌, length, map, Some, refl, sym, ap, ◌∙◌, subst, arith, inl, inr, ◌⊎◌, get_or, nat_le, filter}
-use Rattle.std.proofs.lemmas.List.Elements.{All-head, All-tail}
-use Rattle.std.specs.List.{All, list_all, find, range_with_len}
-use Rattle.std.proofs.lemmas.Bool.{cases_lt, leb-true, le-leb}
-use Rattle.std.proofs.lemmas.List.FromFn.{length-map-range_with_len, get_or-map-range_with_len}
-use Rattle.grid_core.specs.declared.cells.Cell.{Cell}
-use Rattle.grid_core.specs.Runs.{runs, is_positive, stretches}
-use Rattle.line_core.specs.Placings.{placings}
-use Rattle.line_core.specs.Ends.{run_starts, all_starts, AreStarts}
-use Rattle.line_core.proofs.RunLaws.{ArePositive}
+use Rattle.line_core.proofs.Names.{rules, ◌≡◌, ℕ, zero, suc, ◌<◌, Bool, true, false, List, [], ◌∷◌, length, map, Some, refl, sym, ap, ◌∙◌, subst, arith, inl, inr, ◌⊎◌, get_or, nat_le, filter, All-head, All-tail, All, list_all, find, range_with_len, cases_lt, leb-true, le-leb, length-map-range_with_len, get_or-map-range_with_len, Cell, runs, is_positive, stretches, placings, run_starts, all_starts, ArePositive, Side, Left, Right, outermost, IsAsFar}
+use Rattle.line_core.specs.Ends.{AreStarts}
 use Rattle.line_core.proofs.DeductionLaws.{IsPlacing, placings_listed, test_IsPlacing, IsPlacing_test}
-use Rattle.line_core.specs.declared.starts.Side.{Side}
-use Rattle.line_core.specs.declared.starts.Side.TheVariants.{Left, Right}
-use Rattle.line_core.specs.steps.Outermost.{outermost, IsAsFar}
 use Rattle.line_core.proofs.Outermost.{all_as_far, laid_placing, outermost_found, outermost_of, placed, pass_all}
 
 -- the first that passes is a member, and passes

@@ -1,21 +1,9 @@
 -- A line whose cells are all known: one full line agrees with it, whose runs a walk compares with the clue.
-use Rattle.std.proofs.Common.{rules, ◌≡◌, ◌≢◌, ◌↔◌, ℕ, zero, suc, ◌+◌, ◌<◌, ◌≤◌, Bool, true, false, not, cond, List, [], ◌∷◌, length, map, Option, Some, None, refl, sym, ap, ◌∙◌, subst, arith, add-one, zero-add, add_comm, true≢false, drop, get_or, drop-cons, drop_of_length-le, ext_get_or, inl, inr}
-use Rattle.std.proofs.lemmas.Bool.{cases_lt, false_from_ne_true}
+use Rattle.line_core.proofs.Names.{rules, ◌≡◌, ◌≢◌, ◌↔◌, ℕ, zero, suc, ◌+◌, ◌<◌, ◌≤◌, Bool, true, false, not, cond, List, [], ◌∷◌, length, map, Option, Some, None, refl, sym, ap, ◌∙◌, subst, arith, add-one, zero-add, true≢false, drop, get_or, drop-cons, drop_of_length-le, ext_get_or, inl, inr, cases_lt, false_from_ne_true, Cell, Unknown, Filled, Blank, allows, agrees, is_filled, runs, has_by, runs_after, Has, has, IsMaskOf, has_true, true_has, mask_same, MayBe, runs_after-zero, runs_after-true, runs_after-close, runs_after-nil, none_has, none_in}
+use Rattle.std.proofs.Common.{add_comm}
 use Rattle.std.proofs.lemmas.List.{get_or-drop}
-use Rattle.grid_core.specs.declared.cells.Cell.{Cell}
-use Rattle.grid_core.specs.declared.cells.Cell.TheVariants.{Unknown, Filled, Blank}
-use Rattle.grid_core.specs.Cells.{allows, agrees, is_filled}
-use Rattle.grid_core.specs.Runs.{runs}
-use Rattle.grid_core.proofs.LineCells.{has_by}
-use Rattle.grid_core.proofs.RunsLemmas.{runs_after}
-use Rattle.place_sets.specs.Masks.{Has, has, IsMaskOf}
-use Rattle.place_sets.proofs.HasLemmas.{has_true, true_has}
-use Rattle.place_sets.proofs.Steps.{mask_same}
 use Rattle.line_core.specs.steps.Full.{IsFull, IsFilled}
-use Rattle.line_core.specs.steps.Reach.{MayBe}
-use Rattle.line_core.proofs.RunLaws.{runs_after-zero, runs_after-true, runs_after-close, runs_after-nil}
 use Rattle.line_core.proofs.Certain.{CanBe}
-use Rattle.line_core.proofs.LineCells.{none_has, none_in}
 use Rattle.line_core.proofs.Joining.{length-agrees}
 use Rattle.line_core.proofs.RunStarts.{covered}
 use Rattle.line_core.proofs.Painting.{agrees_at}

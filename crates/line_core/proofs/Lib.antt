@@ -1,4 +1,5 @@
 -- Lemmas on one line: its placings, what is deduced of it, and the masks that tell it.
+pub mod Names
 pub mod DeductionLaws
 pub mod RunLaws
 pub mod Reaching

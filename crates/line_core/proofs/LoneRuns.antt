@@ -1,16 +1,6 @@
 -- A clue of one run: its starts tell which cells can be filled and which can be blank.
-use Rattle.std.proofs.Common.{rules, ◌≡◌, ℕ, ◌+◌, ◌-◌, ◌<◌, ◌≤◌, Bool, true, false, List, [], ◌∷◌, length, refl, sym, ap, ◌∙◌, subst, arith, true≢false, ◌⊎◌, inl, inr, get_or}
-use Rattle.std.proofs.lemmas.Bool.{cases_lt}
-use Rattle.grid_core.specs.declared.cells.Cell.{Cell}
-use Rattle.grid_core.specs.Cells.{agrees}
-use Rattle.grid_core.specs.Runs.{runs}
-use Rattle.place_sets.specs.Masks.{Has, has, IsMaskOf, IsShifted, AllFrom, SomeFrom}
-use Rattle.place_sets.proofs.HasLemmas.{has_true}
-use Rattle.place_sets.proofs.Steps.{mask_same}
-use Rattle.line_core.specs.steps.Reach.{MayBe, IsFillable, IsBlankable}
+use Rattle.line_core.proofs.Names.{rules, ◌≡◌, ℕ, ◌+◌, ◌-◌, ◌<◌, ◌≤◌, Bool, true, false, List, [], ◌∷◌, length, refl, sym, ap, ◌∙◌, subst, arith, true≢false, ◌⊎◌, inl, inr, get_or, cases_lt, Cell, agrees, runs, Has, has, IsMaskOf, IsShifted, AllFrom, SomeFrom, has_true, mask_same, MayBe, IsFillable, IsBlankable, ArePositive, lacks, none_has, none_is}
 use Rattle.line_core.specs.steps.Lone.{IsLoneStart}
-use Rattle.line_core.proofs.RunLaws.{ArePositive}
-use Rattle.line_core.proofs.LineCells.{lacks, none_has, none_is}
 use Rattle.line_core.proofs.Joining.{blankable_to, blankable_from}
 use Rattle.line_core.proofs.WholeEnds.{fillable_to, fillable_from}
 use Rattle.line_core.proofs.RunStarts.{starts_from, in_run, covered}

@@ -1,22 +1,6 @@
 -- The placing whose starts are all least, and the one whose starts are all greatest.
-use Rattle.std.proofs.Common.{rules, ◌≡◌, ℕ, zero, suc, ◌+◌, ◌-◌, ◌<◌, ◌≤◌, Bool, true, false, not, ◌&&◌, List, [], ◌∷◌, length, map, Some, None, refl, sym, ap, ◌∙◌, subst, arith, get_or, ext_get_or, nat_le, set, take, MatchBool}
-use Rattle.std.specs.List.{All, list_all, find}
-use Rattle.std.proofs.lemmas.List.Elements.{All-head, All-tail, All-weaker}
-use Rattle.std.proofs.lemmas.Bool.{and_parts, leb-true, le-leb}
-use Rattle.std.proofs.lemmas.List.Folds.{list_all-map}
-use Rattle.std.proofs.lemmas.List.{length-take-le, get_or-take}
+use Rattle.line_core.proofs.Names.{rules, ◌≡◌, ℕ, zero, suc, ◌+◌, ◌-◌, ◌<◌, ◌≤◌, Bool, true, false, not, ◌&&◌, List, [], ◌∷◌, length, map, Some, None, refl, sym, ap, ◌∙◌, subst, arith, get_or, ext_get_or, nat_le, set, take, MatchBool, All, list_all, find, All-head, All-tail, All-weaker, and_parts, leb-true, le-leb, list_all-map, length-take-le, get_or-take, Cell, placings, run_starts, all_starts, Side, Left, Right, outermost, IsAsFar, IsOuterStart, Has, IsMaskOf, meet_of, written_more, IsWholeEnd, IsGap, IsGapAhead, HasPlacing, ArePositive}
 use lib.Pointwise.{pointwise}
-use Rattle.grid_core.specs.declared.cells.Cell.{Cell}
-use Rattle.line_core.specs.Placings.{placings}
-use Rattle.line_core.specs.Ends.{run_starts, all_starts}
-use Rattle.line_core.specs.declared.starts.Side.{Side}
-use Rattle.line_core.specs.declared.starts.Side.TheVariants.{Left, Right}
-use Rattle.line_core.specs.steps.Outermost.{outermost, IsAsFar, IsOuterStart}
-use Rattle.place_sets.specs.Masks.{Has, IsMaskOf}
-use Rattle.place_sets.proofs.Uses.{meet_of}
-use Rattle.line_core.proofs.LineCells.{written_more}
-use Rattle.line_core.specs.steps.Reach.{IsWholeEnd, IsGap, IsGapAhead, HasPlacing}
-use Rattle.line_core.proofs.RunLaws.{ArePositive}
 use Rattle.line_core.proofs.Joining.{positive_at, blankable_to, blankable_from}
 use Rattle.line_core.proofs.WholeEnds.{whole_of, placing_with}
 use Rattle.line_core.proofs.DeductionLaws.{IsPlacing, placings_listed, none_listed, not_all, agrees-Extends, Extends-agrees}

@@ -1,12 +1,5 @@
 -- How far the runs reach: gaps and ends as floods tell them, and as placings of the cells before do.
-use Rattle.std.proofs.Common.{below_more, ◌≡◌, ℕ, zero, suc, ◌+◌, ◌-◌, ◌<◌, ◌≤◌, Bool, true, false, List, [], ◌∷◌, ◌++◌, length, replicate, refl, sym, ap, ◌∙◌, subst, arith, ◌⊎◌, inl, inr, get_or}
-use Rattle.std.proofs.lemmas.Bool.{and_from, and_parts}
-use Rattle.grid_core.specs.declared.cells.Cell.{Cell}
-use Rattle.grid_core.specs.declared.cells.Cell.TheVariants.{Unknown}
-use Rattle.grid_core.specs.Cells.{allows, agrees}
-use Rattle.grid_core.specs.Runs.{runs}
-use Rattle.place_sets.specs.Masks.{IsFlooded, AllFrom}
-use Rattle.line_core.specs.steps.Reach.{behind, HasPlacing, MayBe, IsGapAfter, IsEndAfter}
+use Rattle.line_core.proofs.Names.{below_more, ◌≡◌, ℕ, zero, suc, ◌+◌, ◌-◌, ◌<◌, ◌≤◌, Bool, true, false, List, [], ◌∷◌, ◌++◌, length, replicate, refl, sym, ap, ◌∙◌, subst, arith, ◌⊎◌, inl, inr, get_or, and_from, and_parts, Cell, Unknown, allows, agrees, runs, IsFlooded, AllFrom, behind, HasPlacing, MayBe, IsGapAfter, IsEndAfter}
 use Rattle.line_core.proofs.Joining.{begins, begins_some, runs_about, first_closed}
 
 -- one more blank cell before a placing

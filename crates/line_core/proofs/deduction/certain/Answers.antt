@@ -1,6 +1,5 @@
 -- `certain`: what one mask has and the other lacks; dead if the first cell can have no colour.
-use Rattle.std.proofs.Common.{◌∙◌, List, Some, ap, sym}
-use Rattle.grid_core.specs.declared.cells.Cell.{Cell}
+use Rattle.line_core.proofs.Names.{◌∙◌, List, Some, ap, sym, Cell}
 use Rattle.line_core.proofs.Telling.{told_dead, told_some}
 use Rattle.line_core.proofs.deduction.certain.Goals as goal
 

@@ -1,6 +1,5 @@
 -- `colours`: of the padded line the cells of the line alone count.
-use Rattle.std.proofs.Common.{◌-◌, ◌<◌, ℕ, length}
-use Rattle.std.proofs.lemmas.List.Elements.{recursion_from_All}
+use Rattle.line_core.proofs.Names.{◌-◌, ◌<◌, ℕ, length, recursion_from_All}
 use Rattle.line_core.proofs.Padding.{blankable_alone, fillable_alone}
 use Rattle.line_core.proofs.deduction.colours.Goals as goal
 

@@ -1,6 +1,5 @@
 -- `deduce_numbers`: the masks of both colours tell the deduction.
-use Rattle.std.proofs.Common.{◌∙◌, ℕ, ◌<◌, length, sym, ap, arith}
-use Rattle.std.proofs.lemmas.List.Elements.{recursion_from_All}
+use Rattle.line_core.proofs.Names.{◌∙◌, ℕ, ◌<◌, length, sym, ap, arith, recursion_from_All}
 use Rattle.line_core.proofs.Telling.{told-deduced}
 use Rattle.line_core.proofs.deduction.deduce_numbers.Goals as goal
 

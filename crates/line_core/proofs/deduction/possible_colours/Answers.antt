@@ -1,10 +1,6 @@
 -- `possible_colours`: run by run the pass goes on, and each run and the gap after it join the masks.
-use Rattle.std.proofs.Common.{add-one, ◌-◌, ◌∙◌, ◌≡◌, ◌+◌, ◌<◌, ◌≤◌, length, map, get_or, ℕ, arith, sym, subst}
-use Rattle.std.proofs.lemmas.Bool.{eqb-true, eqb-false}
-use Rattle.place_sets.specs.Masks.{IsMaskOf, SomeFrom, SomeLevel}
-use Rattle.line_core.specs.steps.Reach.{behind, IsGap, IsGapAhead, IsWholeEnd, IsFillable}
+use Rattle.line_core.proofs.Names.{add-one, ◌-◌, ◌∙◌, ◌≡◌, ◌+◌, ◌<◌, ◌≤◌, length, map, get_or, ℕ, arith, sym, subst, eqb-true, eqb-false, IsMaskOf, SomeFrom, SomeLevel, behind, IsGap, IsGapAhead, IsWholeEnd, IsFillable, mask_same}
 use Rattle.place_sets.proofs.LevelSteps.{levels_none, none_at}
-use Rattle.place_sets.proofs.Steps.{mask_same}
 use Rattle.line_core.proofs.Composing.{blank_first, blank_more, fill_more}
 use Rattle.line_core.proofs.deduction.possible_colours.Goals as goal
 

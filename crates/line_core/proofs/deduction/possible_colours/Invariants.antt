@@ -1,8 +1,5 @@
 -- What the loop of `possible_colours` keeps: the pass over the runs so far, and the cells that they colour.
-use Rattle.std.proofs.Common.{ℕ, ◌<◌, ◌≤◌, get_or, map}
-use Rattle.place_sets.specs.Masks.{IsMaskOf, SomeFrom, AreLevelsOf}
-use Rattle.line_core.specs.steps.Reach.{behind, IsGap, IsGapAhead, IsWholeEnd}
-use Rattle.line_core.specs.steps.Passes.{IsPassOver}
+use Rattle.line_core.proofs.Names.{ℕ, ◌<◌, ◌≤◌, get_or, map, IsMaskOf, SomeFrom, AreLevelsOf, behind, IsGap, IsGapAhead, IsWholeEnd, IsPassOver}
 use Rattle.line_core.proofs.deduction.possible_colours.Given as goal
 
 abbrev pub ghost-gap_ahead : goal.ghost-gap_ahead

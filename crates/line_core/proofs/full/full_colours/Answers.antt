@@ -1,9 +1,5 @@
 -- `full_colours`: the line is its own placing, or has none.
-use Rattle.std.proofs.Common.{ℕ, ◌<◌, true, false, sym, ◌∙◌, true≢false}
-use Rattle.std.proofs.lemmas.List.Elements.{recursion_from_All}
-use Rattle.place_sets.proofs.Steps.{mask_same}
-use Rattle.line_core.proofs.RunLaws.{ArePositive}
-use Rattle.line_core.proofs.LineCells.{none_is}
+use Rattle.line_core.proofs.Names.{ℕ, ◌<◌, true, false, sym, ◌∙◌, true≢false, recursion_from_All, mask_same, ArePositive, none_is}
 use Rattle.line_core.proofs.Joining.{filled_agrees, blankable_to, blankable_from}
 use Rattle.line_core.proofs.WholeEnds.{fillable_to, fillable_from}
 use Rattle.line_core.proofs.FullLines.{may_be, can_be, placing_runs}

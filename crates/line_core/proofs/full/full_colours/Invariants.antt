@@ -1,6 +1,5 @@
 -- The line that `full_colours` is about, as the cells that are told to `has_runs`.
-use Rattle.std.proofs.Common.{map}
-use Rattle.grid_core.specs.Cells.{is_filled}
+use Rattle.line_core.proofs.Names.{map, is_filled}
 use Rattle.line_core.proofs.full.full_colours.Given as goal
 
 abbrev pub ghost-has_runs : goal.ghost-has_runs

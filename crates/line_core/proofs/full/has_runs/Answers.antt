@@ -1,7 +1,5 @@
 -- `has_runs`: run by run the walk goes on, and each number has a run exactly if at the end none is left.
-use Rattle.std.proofs.Common.{◌∙◌, sym, true≢false}
-use Rattle.std.proofs.lemmas.Bool.{eqb-true, eq-eqb}
-use Rattle.line_core.proofs.LineCells.{length_at}
+use Rattle.line_core.proofs.Names.{◌∙◌, sym, true≢false, eqb-true, eq-eqb, length_at}
 use Rattle.line_core.proofs.FullLines.{walk_more, walk_near, walk_none, walk_last}
 use Rattle.line_core.proofs.full.has_runs.Goals as goal
 

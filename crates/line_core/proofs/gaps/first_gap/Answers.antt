@@ -1,7 +1,5 @@
 -- `first_gap`: a flood from the first place over the free ones.
-use Rattle.std.proofs.Common.{◌≡◌}
-use Rattle.place_sets.specs.Masks.{Has}
-use Rattle.place_sets.proofs.Uses.{flood_from, meet_of, has_of}
+use Rattle.line_core.proofs.Names.{◌≡◌, Has, flood_from, meet_of, has_of}
 use Rattle.line_core.proofs.gaps.first_gap.Goals as goal
 
 pub returns : goal.returns

@@ -1,7 +1,5 @@
 -- `gap_after`: a flood over the free places from those after the ends.
-use Rattle.place_sets.specs.Masks.{Has, IsShifted}
-use Rattle.place_sets.proofs.Uses.{flood_from, meet_of, has_of}
-use Rattle.place_sets.proofs.Doubling.{one_within}
+use Rattle.line_core.proofs.Names.{Has, IsShifted, flood_from, meet_of, has_of, one_within}
 use Rattle.line_core.proofs.gaps.gap_after.Goals as goal
 
 pub shifted_up-requires : goal.shifted_up-requires

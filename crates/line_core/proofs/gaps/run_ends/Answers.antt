@@ -1,8 +1,6 @@
 -- `run_ends`: the starts after a gap or at the opening, within the window, shifted to their ends.
-use Rattle.std.proofs.Common.{ℕ, ◌-◌, ◌⊎◌}
-use Rattle.place_sets.specs.Masks.{Has, IsMaskOf, IsShifted}
-use Rattle.place_sets.proofs.Uses.{meet_of, join_of, shifted_of, has_of}
-use Rattle.place_sets.proofs.Doubling.{one_within}
+use Rattle.line_core.proofs.Names.{ℕ, ◌-◌, ◌⊎◌, Has, IsMaskOf, IsShifted, meet_of, join_of, has_of, one_within}
+use Rattle.place_sets.proofs.Uses.{shifted_of}
 use Rattle.line_core.proofs.gaps.run_ends.Goals as goal
 
 -- the ends of runs that begin behind a gap or at the opening, and that a window has room for

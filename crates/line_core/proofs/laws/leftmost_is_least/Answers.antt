@@ -1,5 +1,5 @@
 -- The law `leftmost_is_least` holds: the definition's search finds the least starts.
-use Rattle.line_core.specs.declared.starts.Side.TheVariants.{Left}
+use Rattle.line_core.proofs.Names.{Left}
 use Rattle.line_core.proofs.EndLaws.{outermost-furthest}
 use Rattle.line_core.proofs.laws.leftmost_is_least.Goals as goal
 

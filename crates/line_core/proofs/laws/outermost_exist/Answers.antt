@@ -1,5 +1,5 @@
 -- The law `outermost_exist` holds: the least starts of each run lay the clue, and so do the greatest.
-use Rattle.line_core.specs.declared.starts.Side.TheVariants.{Left, Right}
+use Rattle.line_core.proofs.Names.{Left, Right}
 use Rattle.line_core.proofs.EndLaws.{outermost-exists}
 use Rattle.line_core.proofs.DeductionLaws.{test_IsPlacing}
 use Rattle.line_core.proofs.laws.outermost_exist.Goals as goal

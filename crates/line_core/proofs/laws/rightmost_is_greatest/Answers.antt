@@ -1,5 +1,5 @@
 -- The law `rightmost_is_greatest` holds: the definition's search finds the greatest starts.
-use Rattle.line_core.specs.declared.starts.Side.TheVariants.{Right}
+use Rattle.line_core.proofs.Names.{Right}
 use Rattle.line_core.proofs.EndLaws.{outermost-furthest}
 use Rattle.line_core.proofs.laws.rightmost_is_greatest.Goals as goal
 

@@ -1,8 +1,5 @@
 -- `lone_colours`: the run fills a cell from some start, or leaves it blank from some start.
-use Rattle.std.proofs.Common.{◌<◌, ℕ, arith, sym, ◌∙◌}
-use Rattle.std.proofs.lemmas.Bool.{eqb-true}
-use Rattle.std.proofs.lemmas.List.Elements.{recursion_from_All}
-use Rattle.line_core.proofs.RunLaws.{ArePositive}
+use Rattle.line_core.proofs.Names.{◌<◌, ℕ, arith, sym, ◌∙◌, eqb-true, recursion_from_All, ArePositive}
 use Rattle.line_core.proofs.Joining.{positive_at}
 use Rattle.line_core.proofs.LoneRuns.{lone_unfillable, lone_unblankable, lone_fillable, lone_blankable}
 use Rattle.line_core.proofs.lone.lone_colours.Goals as goal

@@ -1,7 +1,6 @@
 -- `lone_starts`: the run has the first and the last cell that must be filled,
 -- or starts anywhere if none must be.
-use Rattle.std.proofs.Common.{sym, ◌∙◌}
-use Rattle.std.proofs.lemmas.Bool.{eqb-true}
+use Rattle.line_core.proofs.Names.{sym, ◌∙◌, eqb-true}
 use Rattle.line_core.proofs.LoneRuns.{starts_anywhere, starts_about}
 use Rattle.line_core.proofs.lone.lone_starts.Goals as goal
 

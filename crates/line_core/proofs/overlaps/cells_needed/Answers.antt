@@ -1,5 +1,5 @@
 -- `cells_needed`: the runs of a clue need no more than a word has room for.
-use Rattle.std.proofs.Common.{arith}
+use Rattle.line_core.proofs.Names.{arith}
 use Rattle.line_core.proofs.Packing.{start_few}
 use Rattle.line_core.proofs.overlaps.cells_needed.Goals as goal
 

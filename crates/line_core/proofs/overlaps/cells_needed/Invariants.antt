@@ -1,6 +1,5 @@
 -- What the loop of `cells_needed` keeps: what the runs passed need.
-use Rattle.std.proofs.Common.{◌≡◌}
-use Rattle.line_core.specs.steps.Overlaps.{least_start}
+use Rattle.line_core.proofs.Names.{◌≡◌, least_start}
 use Rattle.line_core.proofs.overlaps.cells_needed.Given as goal
 
 abbrev pub invariant-loop-number : goal.invariant-loop-number

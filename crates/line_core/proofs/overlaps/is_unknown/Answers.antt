@@ -1,6 +1,5 @@
 -- `is_unknown`: nothing is known exactly if the masks of both colours are the same.
-use Rattle.std.proofs.Common.{◌∙◌, sym}
-use Rattle.std.proofs.lemmas.Bool.{eqb-true, eq-eqb}
+use Rattle.line_core.proofs.Names.{◌∙◌, sym, eqb-true, eq-eqb}
 use Rattle.line_core.proofs.Packing.{unknown_to, unknown_from}
 use Rattle.line_core.proofs.overlaps.is_unknown.Goals as goal
 

@@ -1,8 +1,6 @@
 -- `overlaps`: a run that is longer than the slack fills its overlap, and no other run has one.
-use Rattle.std.proofs.Common.{◌≡◌, ◌+◌, ◌∙◌, suc, get_or, sym, ap, add-one, arith, subst}
-use Rattle.place_sets.specs.Masks.{IsMaskOf}
+use Rattle.line_core.proofs.Names.{◌≡◌, ◌+◌, ◌∙◌, suc, get_or, sym, ap, add-one, arith, subst, IsMaskOf, least_start, IsOverlapBefore}
 use Rattle.place_sets.proofs.Doubling.{width_most}
-use Rattle.line_core.specs.steps.Overlaps.{least_start, IsOverlapBefore}
 use Rattle.line_core.proofs.Packing.{start_next, start_within, overlap_more, overlap_same}
 use Rattle.line_core.proofs.overlaps.overlaps.Goals as goal
 use Rattle.line_core.proofs.overlaps.overlaps.Goals.{then-number-slack, else-number-slack}

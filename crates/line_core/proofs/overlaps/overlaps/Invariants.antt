@@ -1,7 +1,5 @@
 -- What the loop of `overlaps` keeps: the greatest start of the next run, and the overlaps of the runs passed.
-use Rattle.std.proofs.Common.{◌≡◌, ◌+◌}
-use Rattle.place_sets.specs.Masks.{IsMaskOf}
-use Rattle.line_core.specs.steps.Overlaps.{least_start, IsOverlapBefore}
+use Rattle.line_core.proofs.Names.{◌≡◌, ◌+◌, IsMaskOf, least_start, IsOverlapBefore}
 use Rattle.line_core.proofs.overlaps.overlaps.Given as goal
 
 abbrev pub invariant-loop-number : goal.invariant-loop-number

@@ -1,13 +1,5 @@
 -- `unknown_colours`: a cell that is no overlap can be blank; each can be filled if a run can move.
-use Rattle.std.proofs.Common.{◌≡◌, ◌+◌, ◌-◌, ◌<◌, ◌∙◌, ◌⊎◌, inl, inr, ℕ, length, replicate, arith, sym, subst, true≢false}
-use Rattle.std.proofs.lemmas.Bool.{eqb-true, eqb-false, eq-eqb}
-use Rattle.std.proofs.lemmas.List.{length-replicate}
-use Rattle.std.proofs.lemmas.List.Elements.{recursion_from_All}
-use Rattle.grid_core.specs.declared.cells.Cell.TheVariants.{Unknown}
-use Rattle.place_sets.specs.Masks.{IsMaskOf}
-use Rattle.line_core.specs.steps.Overlaps.{needed}
-use Rattle.line_core.specs.steps.Reach.{IsFillable}
-use Rattle.line_core.proofs.RunLaws.{ArePositive}
+use Rattle.line_core.proofs.Names.{◌≡◌, ◌+◌, ◌-◌, ◌<◌, ◌∙◌, ◌⊎◌, inl, inr, ℕ, length, replicate, arith, sym, subst, true≢false, eqb-true, eqb-false, eq-eqb, length-replicate, recursion_from_All, Unknown, IsMaskOf, needed, IsFillable, ArePositive}
 use Rattle.line_core.proofs.Packing.{unknown_any, unfit_fillable, unfit_blankable, blankable_is, all_fillable, overlaps_fillable}
 use Rattle.line_core.proofs.overlaps.unknown_colours.Goals as goal
 use Rattle.line_core.proofs.overlaps.unknown_colours.Goals.{then-is_empty, else-is_empty, then-slack-eq0, else-slack-eq0}

@@ -1,15 +1,8 @@
 -- `inner_ends`: a run that isn't the last ends before a gap ahead.
-use Rattle.std.proofs.Common.{◌≡◌, ◌+◌, ◌-◌, ◌⊎◌, inl, inr, ℕ, ◌<◌, length, arith}
-use Rattle.std.proofs.lemmas.Nat.Bits.{bit_at-zero}
-use Rattle.std.proofs.lemmas.List.Elements.{recursion_from_All}
-use Rattle.place_sets.specs.Masks.{Has, IsMaskOf}
-use Rattle.place_sets.proofs.Steps.{mask_same}
-use Rattle.line_core.proofs.RunLaws.{ArePositive}
+use Rattle.line_core.proofs.Names.{◌≡◌, ◌+◌, ◌-◌, ◌⊎◌, inl, inr, ℕ, ◌<◌, length, arith, bit_at-zero, recursion_from_All, Has, IsMaskOf, mask_same, ArePositive, meet_of, has_of, one_within}
 use Rattle.line_core.proofs.Joining.{positive_at}
 use Rattle.line_core.proofs.Composing.{whole_is}
 use Rattle.place_sets.proofs.WordSteps.{none_is}
-use Rattle.place_sets.proofs.Uses.{meet_of, has_of}
-use Rattle.place_sets.proofs.Doubling.{one_within}
 use Rattle.line_core.proofs.reach.inner_ends.Goals as goal
 
 pub shifted_down-requires : goal.shifted_down-requires

@@ -1,10 +1,7 @@
 -- `reverse_all`: one more mask is reversed.
-use Rattle.std.proofs.Common.{◌≡◌, ◌-◌, ◌∙◌, ℕ, ◌<◌, List, length, get_or, map, ap, sym, subst, arith, get_or-set_other}
-use Rattle.std.proofs.Math.ListN.{length-set}
-use Rattle.std.proofs.lemmas.List.{map-set, length-map}
-use Rattle.place_sets.specs.Masks.{Has, IsMaskOf}
+use Rattle.line_core.proofs.Names.{◌≡◌, ◌-◌, ◌∙◌, ℕ, ◌<◌, List, length, get_or, map, ap, sym, subst, arith, length-set, map-set, length-map, Has, IsMaskOf, written_more}
+use Rattle.std.proofs.Common.{get_or-set_other}
 use Rattle.place_sets.proofs.LevelSteps.{number_at}
-use Rattle.line_core.proofs.LineCells.{written_more}
 use Rattle.line_core.proofs.reach.reverse_all.Goals as goal
 
 pub loop-i-preserved : goal.loop-i-preserved

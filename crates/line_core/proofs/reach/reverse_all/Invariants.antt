@@ -1,6 +1,5 @@
 -- What the loop of `reverse_all` keeps: the masks passed are reversed, the others as they were.
-use Rattle.std.proofs.Common.{◌≡◌, ◌-◌, ℕ, ◌<◌, ◌≤◌, length, get_or, map}
-use Rattle.place_sets.specs.Masks.{Has, IsMaskOf}
+use Rattle.line_core.proofs.Names.{◌≡◌, ◌-◌, ℕ, ◌<◌, ◌≤◌, length, get_or, map, Has, IsMaskOf}
 use Rattle.line_core.proofs.reach.reverse_all.Given as goal
 
 abbrev pub invariant-loop-i : goal.invariant-loop-i

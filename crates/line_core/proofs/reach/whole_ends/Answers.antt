@@ -1,14 +1,8 @@
 -- `whole_ends`: a run ends before a gap ahead, or with the line if it is the last.
-use Rattle.std.proofs.Common.{◌≡◌, ◌+◌, ◌-◌, ◌⊎◌, ℕ, ◌<◌, length, arith, nat_eq, true}
-use Rattle.std.proofs.lemmas.Bool.{eqb-true, eq-eqb}
-use Rattle.std.proofs.lemmas.List.Elements.{recursion_from_All}
-use Rattle.place_sets.specs.Masks.{Has, IsMaskOf}
-use Rattle.place_sets.proofs.Steps.{mask_same}
-use Rattle.line_core.proofs.RunLaws.{ArePositive}
+use Rattle.line_core.proofs.Names.{◌≡◌, ◌+◌, ◌-◌, ◌⊎◌, ℕ, ◌<◌, length, arith, true, eqb-true, eq-eqb, recursion_from_All, Has, IsMaskOf, mask_same, ArePositive, meet_of, join_of, has_of, one_within}
+use Rattle.std.proofs.Common.{nat_eq}
 use Rattle.line_core.proofs.Joining.{positive_at}
 use Rattle.line_core.proofs.Composing.{whole_is}
-use Rattle.place_sets.proofs.Uses.{meet_of, join_of, has_of}
-use Rattle.place_sets.proofs.Doubling.{one_within}
 use Rattle.line_core.proofs.reach.whole_ends.Goals as goal
 
 pub shifted_down-requires : goal.shifted_down-requires

@@ -1,6 +1,6 @@
 -- `write_gaps_ahead`: the gaps of the reversed line, reversed again, are the gaps ahead.
-use Rattle.std.proofs.Common.{◌≡◌, ℕ, ◌+◌, ◌-◌, ◌<◌, ◌∙◌, ◌++◌, List, length, map, take, drop, get_or, ap, sym, arith}
-use Rattle.std.proofs.lemmas.List.{map-append, take-map, length-map, get_or_append_left, get_or-take, length-take-le}
+use Rattle.line_core.proofs.Names.{◌≡◌, ℕ, ◌+◌, ◌-◌, ◌<◌, ◌∙◌, ◌++◌, List, length, map, take, drop, get_or, ap, sym, arith, length-map, get_or_append_left, get_or-take, length-take-le}
+use Rattle.std.proofs.lemmas.List.{map-append, take-map}
 use Rattle.line_core.proofs.Composing.{ahead_of}
 use Rattle.line_core.proofs.reach.write_gaps_ahead.Goals as goal
 

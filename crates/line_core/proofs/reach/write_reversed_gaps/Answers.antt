@@ -1,10 +1,5 @@
 -- `write_reversed_gaps`: run by run the pass over the reversed line gives the next gap.
-use Rattle.std.proofs.Common.{add-one, ℕ, ◌+◌, ◌<◌, ◌∙◌, List, length, map, reverse, get_or, sym, subst, arith}
-use Rattle.std.proofs.Math.ListN.{length-set}
-use Rattle.std.proofs.lemmas.List.{map-set, length-map, get_or-reverse}
-use Rattle.place_sets.specs.Masks.{IsMaskOf}
-use Rattle.line_core.specs.steps.Reach.{behind, IsGap}
-use Rattle.line_core.proofs.LineCells.{written_more}
+use Rattle.line_core.proofs.Names.{add-one, ℕ, ◌+◌, ◌<◌, ◌∙◌, List, length, map, reverse, get_or, sym, subst, arith, length-set, map-set, length-map, get_or-reverse, IsMaskOf, behind, IsGap, written_more}
 use Rattle.line_core.proofs.reach.write_reversed_gaps.Goals as goal
 
 pub loop-j-init : goal.loop-j-init

@@ -1,8 +1,5 @@
 -- What the loop of `write_reversed_gaps` keeps: the pass over the reversed line, and the gaps so far.
-use Rattle.std.proofs.Common.{◌≡◌, ℕ, ◌≤◌, length, get_or, reverse, map}
-use Rattle.place_sets.specs.Masks.{IsMaskOf}
-use Rattle.line_core.specs.steps.Reach.{behind, IsGap}
-use Rattle.line_core.specs.steps.Passes.{IsPassOver}
+use Rattle.line_core.proofs.Names.{◌≡◌, ℕ, ◌≤◌, length, get_or, reverse, map, IsMaskOf, behind, IsGap, IsPassOver}
 use Rattle.line_core.proofs.reach.write_reversed_gaps.Given as goal
 
 abbrev pub ghost-reversed : goal.ghost-reversed

@@ -1,10 +1,5 @@
 -- `find_starts`: the starts that were written are those of the outermost placing, or there is none.
-use Rattle.std.proofs.Common.{◌≡◌, ◌<◌, ℕ, length, get_or, arith, sym, ◌∙◌}
-use Rattle.std.proofs.lemmas.Bool.{eqb-true, eqb-false}
-use Rattle.std.proofs.lemmas.List.Elements.{recursion_from_All}
-use Rattle.line_core.specs.steps.Reach.{HasPlacing}
-use Rattle.line_core.specs.steps.Outermost.{IsOuterStart}
-use Rattle.line_core.proofs.RunLaws.{ArePositive}
+use Rattle.line_core.proofs.Names.{◌≡◌, ◌<◌, ℕ, length, get_or, arith, sym, ◌∙◌, eqb-true, eqb-false, recursion_from_All, HasPlacing, IsOuterStart, ArePositive}
 use Rattle.line_core.proofs.Outermost.{match_more, answered, some_placing}
 use Rattle.line_core.proofs.starts.find_starts.Goals as goal
 

@@ -1,8 +1,5 @@
 -- `may_have_no_run`: the first cell is blank in a placing exactly if there is a placing with no run.
-use Rattle.std.proofs.Common.{◌≡◌, Bool, true, false, ℕ, sym, ◌∙◌, true≢false, MatchBool}
-use Rattle.place_sets.specs.Masks.{Has, has}
-use Rattle.place_sets.proofs.HasLemmas.{has_true, true_has}
-use Rattle.line_core.specs.steps.Reach.{HasPlacing}
+use Rattle.line_core.proofs.Names.{◌≡◌, Bool, true, false, ℕ, sym, ◌∙◌, true≢false, MatchBool, Has, has, has_true, true_has, HasPlacing}
 use Rattle.line_core.proofs.Composing.{gap_none_is}
 use Rattle.line_core.proofs.Outermost.{no_run_to, no_run_from}
 use Rattle.line_core.proofs.starts.may_have_no_run.Goals as goal

@@ -1,10 +1,6 @@
 -- `write_starts`: run by run, the outermost of its ends in whole placings tells its start.
-use Rattle.std.proofs.Common.{add-one, ◌≡◌, ◌+◌, ◌-◌, ◌<◌, ℕ, get_or, length-set, refl, sym, ◌∙◌, arith}
-use Rattle.std.proofs.lemmas.Bool.{eqb-true}
-use Rattle.std.proofs.lemmas.List.Elements.{recursion_from_All}
-use Rattle.line_core.specs.steps.Reach.{behind}
-use Rattle.line_core.proofs.RunLaws.{ArePositive}
-use Rattle.line_core.proofs.LineCells.{none_has}
+use Rattle.line_core.proofs.Names.{add-one, ◌≡◌, ◌+◌, ◌-◌, ◌<◌, ℕ, get_or, refl, sym, ◌∙◌, arith, eqb-true, recursion_from_All, behind, ArePositive, none_has}
+use Rattle.std.proofs.Common.{length-set}
 use Rattle.line_core.proofs.Outermost.{some_end, outer_more}
 use Rattle.line_core.proofs.starts.write_starts.Goals as goal
 

@@ -1,8 +1,5 @@
 -- What the loop of `write_starts` keeps: the pass over the runs so far, and their outermost starts.
-use Rattle.std.proofs.Common.{◌≡◌, ℕ, ◌<◌, get_or, length, map}
-use Rattle.line_core.specs.steps.Reach.{behind}
-use Rattle.line_core.specs.steps.Passes.{IsPassOver}
-use Rattle.line_core.specs.steps.Outermost.{IsOuterStart}
+use Rattle.line_core.proofs.Names.{◌≡◌, ℕ, ◌<◌, get_or, length, map, behind, IsPassOver, IsOuterStart}
 use Rattle.line_core.proofs.starts.write_starts.Given as goal
 
 abbrev pub ghost-gap_ahead : goal.ghost-gap_ahead

@@ -1,6 +1,6 @@
 -- `places_needed`: the greatest so far, with one more number.
-use Rattle.std.proofs.Common.{◌≤◌, take_all, subst, arith}
-use Rattle.std.specs.List.{All}
+use Rattle.line_core.proofs.Names.{◌≤◌, subst, arith, All}
+use Rattle.std.proofs.Common.{take_all}
 use Rattle.std.proofs.lemmas.List.Elements.{All-more}
 use Rattle.line_core.proofs.widths.places_needed.Goals as goal
 

@@ -1,6 +1,5 @@
 -- What the loop of `places_needed` keeps: the greatest of the length and of the numbers passed.
-use Rattle.std.proofs.Common.{◌≤◌, ℕ, take}
-use Rattle.std.specs.List.{All}
+use Rattle.line_core.proofs.Names.{◌≤◌, ℕ, take, All}
 use Rattle.line_core.proofs.widths.places_needed.Given as goal
 
 abbrev pub invariant-loop-number : goal.invariant-loop-number

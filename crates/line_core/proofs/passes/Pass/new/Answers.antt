@@ -1,5 +1,5 @@
 -- `Pass::new`: before the first run the gap is from the first cell on, as long as all may be blank.
-use Rattle.std.proofs.Common.{refl}
+use Rattle.line_core.proofs.Names.{refl}
 use Rattle.line_core.proofs.Composing.{gap_none_is}
 use Rattle.line_core.proofs.passes.Pass.new.Goals as goal
 

@@ -1,5 +1,5 @@
 -- `Width::of`: the widest sets have room for each line.
-use Rattle.std.proofs.Common.{arith}
+use Rattle.line_core.proofs.Names.{arith}
 use Rattle.line_core.proofs.widths.Width.of.Goals as goal
 
 pub returns-else-places-le128-clause-room : goal.returns-else-places-le128-clause-room
