@@ -1,13 +1,10 @@
 -- `colours`: of the padded line the cells of the line alone count.
-use Rattle.line_core.proofs.Names.{◌-◌, ◌<◌, ℕ, length, recursion_from_All}
+use Rattle.line_core.proofs.Names.{rules, ◌-◌, length, recursion_from_All}
 use Rattle.line_core.proofs.Padding.{blankable_alone, fillable_alone}
 use Rattle.line_core.proofs.deduction.colours.Goals as goal
 
 pub returns-clause-filled : goal.returns-clause-filled
-returns-clause-filled g c =
-    let clue = c.args.clue.now in
-    fillable_alone g.line clue (g.W.PlaceSet.WIDTH - length g.line) _
-    (recursion_from_All (λ (n : ℕ). 0 < n) clue c.requires.1.1.1.1.0.positive) c.known_colours-fillable.ensures.filled
+returns-clause-filled g c = search (rules, recursion_from_All, fillable_alone)
 
 pub returns-clause-blank : goal.returns-clause-blank
 returns-clause-blank g c =

@@ -1,5 +1,5 @@
 -- `run_ends`: the starts after a gap or at the opening, within the window, shifted to their ends.
-use Rattle.line_core.proofs.Names.{ℕ, ◌-◌, ◌⊎◌, Has, IsMaskOf, IsShifted, meet_of, join_of, has_of, one_within}
+use Rattle.line_core.proofs.Names.{rules, ℕ, ◌-◌, ◌⊎◌, Has, IsMaskOf, IsShifted, meet_of, join_of, has_of, one_within}
 use Rattle.place_sets.proofs.Uses.{shifted_of}
 use Rattle.line_core.proofs.gaps.run_ends.Goals as goal
 
@@ -16,7 +16,7 @@ run_ends_are w gap opening window by after starts some ends p q r s =
     shifted_of w (λ i. (IsShifted w (Has gap) 1 i ⊎ Has opening i) × Has window i) starts by ends within s
 
 pub shifted_up-requires : goal.shifted_up-requires
-shifted_up-requires g c = one_within g.W.PlaceSet.WIDTH g.W.PlaceSet.TOP g.met.W.PlaceSet.top_is.0 g.met.W.PlaceSet.width_is
+shifted_up-requires g c = search (rules, one_within)
 
 pub returns : goal.returns
 returns g c =

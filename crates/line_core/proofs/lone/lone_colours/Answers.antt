@@ -1,20 +1,14 @@
 -- `lone_colours`: the run fills a cell from some start, or leaves it blank from some start.
-use Rattle.line_core.proofs.Names.{◌<◌, ℕ, arith, sym, ◌∙◌, eqb-true, recursion_from_All, ArePositive}
+use Rattle.line_core.proofs.Names.{rules, ◌<◌, ℕ, arith, eqb-true, recursion_from_All, ArePositive}
 use Rattle.line_core.proofs.Joining.{positive_at}
 use Rattle.line_core.proofs.LoneRuns.{lone_unfillable, lone_unblankable, lone_fillable, lone_blankable}
 use Rattle.line_core.proofs.lone.lone_colours.Goals as goal
 
 pub returns-then-is_empty-clause-filled : goal.returns-then-is_empty-clause-filled
-returns-then-is_empty-clause-filled g c =
-    let clue = c.args.clue.now in
-    let pos : ArePositive clue = recursion_from_All (λ (n : ℕ). 0 < n) clue c.requires.1.1.1.0.positive in
-    lone_unfillable g.line clue _ _ pos c.requires.1.1.1.1 c.lone_starts-starts.ensures
-    (eqb-true _ 0 (sym c.is_empty.ensures ∙ c.if-is_empty.true)) c.empty.ensures
+returns-then-is_empty-clause-filled g c = search (rules, eqb-true, recursion_from_All, lone_unfillable)
 
 pub returns-then-is_empty-clause-blank : goal.returns-then-is_empty-clause-blank
-returns-then-is_empty-clause-blank g c =
-    lone_unblankable g.line c.args.clue.now _ _ c.requires.1.1.1.1 c.lone_starts-starts.ensures
-    (eqb-true _ 0 (sym c.is_empty.ensures ∙ c.if-is_empty.true)) c.empty-then-is_empty.ensures
+returns-then-is_empty-clause-blank g c = search (rules, eqb-true, lone_unblankable)
 
 pub returns-clause-filled : goal.returns-clause-filled
 returns-clause-filled g c =

@@ -1,5 +1,5 @@
 -- `overlaps`: a run that is longer than the slack fills its overlap, and no other run has one.
-use Rattle.line_core.proofs.Names.{◌≡◌, ◌+◌, ◌∙◌, suc, get_or, sym, ap, add-one, arith, subst, IsMaskOf, least_start, IsOverlapBefore}
+use Rattle.line_core.proofs.Names.{rules, ◌≡◌, ◌+◌, ◌∙◌, suc, get_or, sym, ap, add-one, arith, subst, IsMaskOf, least_start, IsOverlapBefore}
 use Rattle.place_sets.proofs.Doubling.{width_most}
 use Rattle.line_core.proofs.Packing.{start_next, start_within, overlap_more, overlap_same}
 use Rattle.line_core.proofs.overlaps.overlaps.Goals as goal
@@ -12,13 +12,7 @@ shifted_up-requires g c =
     omega (arith, c.requires.fits, c.loop-number.invariant.start, start_next clue j c.loop-number-test.true, start_within clue (suc j))
 
 pub overflow_add-greatest_start-in-loop-number : goal.overflow_add-greatest_start-in-loop-number
-overflow_add-greatest_start-in-loop-number g c =
-    let clue = c.args.clue.now in
-    let j = c.loop-number.number-index in
-    let next = start_next clue j c.loop-number-test.true in
-    let last = start_within clue (suc j) in
-    let most = width_most g.W.PlaceSet.WIDTH g.W.PlaceSet.TOP g.met.W.PlaceSet.top_is.1 g.met.W.PlaceSet.width_is in
-    omega (arith, c.requires.fits, c.loop-number.invariant.start)
+overflow_add-greatest_start-in-loop-number g c = search (rules, width_most, start_next, start_within)
 
 pub loop-number-preserved : goal.loop-number-preserved
 loop-number-preserved g c =

@@ -1,20 +1,14 @@
 -- `unknown_colours`: a cell that is no overlap can be blank; each can be filled if a run can move.
-use Rattle.line_core.proofs.Names.{◌≡◌, ◌+◌, ◌-◌, ◌<◌, ◌∙◌, ◌⊎◌, inl, inr, ℕ, length, replicate, arith, sym, subst, true≢false, eqb-true, eqb-false, eq-eqb, length-replicate, recursion_from_All, Unknown, IsMaskOf, needed, IsFillable, ArePositive}
+use Rattle.line_core.proofs.Names.{rules, ◌≡◌, ◌+◌, ◌-◌, ◌<◌, ◌∙◌, ◌⊎◌, inl, inr, ℕ, length, replicate, arith, sym, subst, true≢false, eqb-true, eqb-false, eq-eqb, length-replicate, recursion_from_All, Unknown, IsMaskOf, needed, IsFillable, ArePositive}
 use Rattle.line_core.proofs.Packing.{unknown_any, unfit_fillable, unfit_blankable, blankable_is, all_fillable, overlaps_fillable}
 use Rattle.line_core.proofs.overlaps.unknown_colours.Goals as goal
 use Rattle.line_core.proofs.overlaps.unknown_colours.Goals.{then-is_empty, else-is_empty, then-slack-eq0, else-slack-eq0}
 
 pub returns-then-len-needed-clause-filled : goal.returns-then-len-needed-clause-filled
-returns-then-len-needed-clause-filled g c =
-    let long = length-replicate c.args.len Unknown in
-    unfit_fillable (replicate c.args.len Unknown) c.args.clue.now _ (recursion_from_All (λ (n : ℕ). 0 < n) _ c.requires.clue.positive)
-    (omega (arith, c.cells_needed-needed.ensures)) c.empty.ensures
+returns-then-len-needed-clause-filled g c = search (rules, length-replicate, recursion_from_All, unfit_fillable)
 
 pub returns-then-len-needed-clause-blank : goal.returns-then-len-needed-clause-blank
-returns-then-len-needed-clause-blank g c =
-    let long = length-replicate c.args.len Unknown in
-    unfit_blankable (replicate c.args.len Unknown) c.args.clue.now _ (recursion_from_All (λ (n : ℕ). 0 < n) _ c.requires.clue.positive)
-    (omega (arith, c.cells_needed-needed.ensures)) c.empty-then-len-needed.ensures
+returns-then-len-needed-clause-blank g c = search (rules, length-replicate, recursion_from_All, unfit_blankable)
 
 pub returns-clause-filled : goal.returns-clause-filled
 returns-clause-filled g c =

@@ -1,19 +1,10 @@
 -- `find_starts`: the starts that were written are those of the outermost placing, or there is none.
-use Rattle.line_core.proofs.Names.{◌≡◌, ◌<◌, ℕ, length, get_or, arith, sym, ◌∙◌, eqb-true, eqb-false, recursion_from_All, HasPlacing, IsOuterStart, ArePositive}
+use Rattle.line_core.proofs.Names.{rules, ◌<◌, ℕ, length, get_or, arith, sym, ◌∙◌, eqb-true, eqb-false, recursion_from_All, HasPlacing, IsOuterStart, ArePositive}
 use Rattle.line_core.proofs.Outermost.{match_more, answered, some_placing}
 use Rattle.line_core.proofs.starts.find_starts.Goals as goal
 
 pub returns-then-is_empty-clause-found : goal.returns-then-is_empty-clause-found
-returns-then-is_empty-clause-found g c =
-    let line = g.cells in
-    let clue = c.args.clue.now in
-    let pos : ArePositive clue = recursion_from_All (λ (n : ℕ). 0 < n) clue c.requires.1.1.1.1.0.positive in
-    let none : length clue ≡ 0 = eqb-true (length clue) 0 (sym c.is_empty.ensures ∙ c.if-is_empty.true) in
-    answered c.args.side line clue c.args.list.now.starts c.may_have_no_run.result pos (omega arith)
-    (match_more c.may_have_no_run.result (HasPlacing line clue) (HasPlacing line clue → ⊥)
-    (HasPlacing line clue × ((j : ℕ) → j < length clue → IsOuterStart c.args.side line clue j (get_or c.args.list.now.starts j 0)))
-    (HasPlacing line clue → ⊥)
-    (λ p. (p, λ j h. absurd (omega arith))) (λ n. n) c.may_have_no_run.ensures)
+returns-then-is_empty-clause-found g c = search (rules, eqb-true, recursion_from_All, match_more, answered)
 
 pub returns-else-is_empty-clause-found : goal.returns-else-is_empty-clause-found
 returns-else-is_empty-clause-found g c =

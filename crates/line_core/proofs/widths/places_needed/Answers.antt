@@ -1,5 +1,5 @@
 -- `places_needed`: the greatest so far, with one more number.
-use Rattle.line_core.proofs.Names.{◌≤◌, subst, arith, All}
+use Rattle.line_core.proofs.Names.{rules, ◌≤◌, arith}
 use Rattle.std.proofs.Common.{take_all}
 use Rattle.std.proofs.lemmas.List.Elements.{All-more}
 use Rattle.line_core.proofs.widths.places_needed.Goals as goal
@@ -21,6 +21,4 @@ loop-number-preserved c =
     }
 
 pub returns-clause-clue : goal.returns-clause-clue
-returns-clause-clue c =
-    subst (All (λ n. n ≤ c.loop-number.needed))
-    (take_all c.loop-number.number-index c.args.clue.now (omega arith)) c.loop-number.invariant.passed
+returns-clause-clue c = search (rules, take_all)
