@@ -1,5 +1,5 @@
 -- Two tests at each cell, whether it can be filled and whether it can be blank, tell the deduction.
-use Rattle.line_core.proofs.Names.{◌≡◌, ℕ, ◌<◌, Bool, true, false, not, List, [], ◌∷◌, length, get_or, map, Some, None, refl, sym, ap, ◌∙◌, arith, true≢false, zero-add, ext_get_or, range_with_len, false_from_ne_true, length-map-range_with_len, get_or-map-range_with_len, Cell, Unknown, placings, shared, shared_at, deduced, agrees, runs, certain_by}
+use Rattle.line_core.proofs.Names.{rules, ◌≡◌, ℕ, ◌<◌, Bool, true, false, not, List, [], ◌∷◌, length, get_or, map, Some, None, refl, sym, ap, ◌∙◌, arith, true≢false, zero-add, ext_get_or, range_with_len, false_from_ne_true, length-map-range_with_len, get_or-map-range_with_len, Cell, Unknown, placings, shared, shared_at, deduced, agrees, runs, certain_by}
 use Rattle.std.proofs.lemmas.Bool.{true_from_ne_false}
 use Rattle.line_core.proofs.DeductionLaws.{IsPlacing, ListsPlacings, placings_listed, no_placing, none_listed, not_all, filled_at, blank_at, agrees-Extends, Extends-agrees}
 
@@ -22,20 +22,9 @@ certain_is l clue ps k listed y p true true tf tb =
       not_all l clue ps listed (filled_at k) z.0 (record { extends = agrees-Extends l z.0 z.1; runs_are = z.2 }) z.3,
       not_all l clue ps listed (blank_at k) x.0 (record { extends = agrees-Extends l x.0 x.1; runs_are = x.2 }) (ap not x.3),
     ) refl
-certain_is l clue ps k listed y p true false tf tb =
-    rw (listed.every (filled_at k) (λ x q.
-    true_from_ne_false (get_or x k false) (λ e. true≢false (sym (tb.from (x, Extends-agrees l x q.extends, q.runs_are, e)))))) refl
-certain_is l clue ps k listed y p false true tf tb =
-    let z = tb.to refl in
-    rw (
-      not_all l clue ps listed (filled_at k) z.0 (record { extends = agrees-Extends l z.0 z.1; runs_are = z.2 }) z.3,
-      listed.every (blank_at k) (λ x q. ap not
-          (false_from_ne_true (get_or x k false) (λ e. true≢false (sym (tf.from (x, Extends-agrees l x q.extends, q.runs_are, e)))))),
-    ) refl
-certain_is l clue ps k listed y p false false tf tb =
-    let filled : get_or y k false ≡ true =
-    true_from_ne_false (get_or y k false) (λ e. true≢false (sym (tb.from (y, Extends-agrees l y p.extends, p.runs_are, e)))) in
-    absurd (true≢false (sym (tf.from (y, Extends-agrees l y p.extends, p.runs_are, filled))))
+certain_is l clue ps k listed y p true false tf tb = search (rules, true≢false, true_from_ne_false, filled_at, Extends-agrees)
+certain_is l clue ps k listed y p false true tf tb = search (rules, true≢false, false_from_ne_true, not_all, filled_at, blank_at, agrees-Extends, Extends-agrees)
+certain_is l clue ps k listed y p false false tf tb = search (rules, true≢false, true_from_ne_false, Extends-agrees)
 
 -- cells that are as two tests tell are the deduction of a line with a placing
 pub deduced-told : (l : List Cell) (clue : List ℕ) (d : List Cell) (f b : ℕ → Bool)

@@ -16,12 +16,7 @@ may_be l x v i agree h e = (h, subst (λ (b : Bool). allows (get_or l i Unknown)
 
 -- and no others
 only_be : (l : List Cell) (x : List Bool) (v : Bool) (i : ℕ) → IsFull l → agrees l x ≡ true → MayBe l v i → get_or x i false ≡ v
-only_be l x v i full agree m = by v (get_or x i false) refl m
-  where
-    by : (v b : Bool) → get_or x i false ≡ b → MayBe l v i → b ≡ v
-    by true false e m = absurd (full i (may_be l x false i agree m.0 e) m)
-    by false true e m = absurd (full i m (may_be l x true i agree m.0 e))
-    by v b e m = search rules
+only_be l x v i full agree m = search (rules, may_be)
 
 -- the line's filled cells, as a full line
 agrees_filled : (l : List Cell) → agrees l (map is_filled l) ≡ true
@@ -121,8 +116,7 @@ crossed_is n y filled ones next p q r =
 longer : (m k : ℕ) (y : List Bool) (ns : List ℕ) → runs_after (suc m) y ≡ k ∷ ns → m < k
 longer m k [] ns e = let h : suc m ∷ [] ≡ k ∷ ns = sym (runs_after-nil m) ∙ e in let same : suc m ≡ k = cc in omega arith
 longer m k (true ∷ y) ns e = let h = longer (suc m) k y ns (sym (runs_after-true (suc m) y) ∙ e) in omega arith
-longer m k (false ∷ y) ns e =
-    let h : suc m ∷ runs_after 0 y ≡ k ∷ ns = sym (runs_after-close m y) ∙ e in let same : suc m ≡ k = cc in omega arith
+longer m k (false ∷ y) ns e = search (rules, runs_after, runs_after-close)
 
 -- a run has a length exactly if as many cells in the other colour, and the next one, are blank
 cross : (m n k : ℕ) (y : List Bool) (ns : List ℕ) → suc m + n ≡ k
@@ -164,8 +158,7 @@ walk_more cells clue j least left start shifted ones next h some at first far s 
 -- it ends where a cell is left among the first
 pub walk_near : (cells : List Bool) (clue : List ℕ) (j least left start : ℕ) → start < least → Has left start → IsWalked cells clue j least left
     → runs cells ≡ clue → ⊥
-walk_near cells clue j least left start h at p is =
-    let none = past_filled least start p.rest h (p.rest_is.to start at) in let some = p.to is in cc
+walk_near cells clue j least left start h at p is = search (rules, past_filled)
 
 -- and where none is left for a further number
 pub walk_none : (cells : List Bool) (clue : List ℕ) (j least left : ℕ) → j < length clue → left ≡ 0 → IsWalked cells clue j least left

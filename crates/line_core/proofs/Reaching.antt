@@ -1,5 +1,5 @@
 -- How far the runs reach: gaps and ends as floods tell them, and as placings of the cells before do.
-use Rattle.line_core.proofs.Names.{below_more, ◌≡◌, ℕ, zero, suc, ◌+◌, ◌-◌, ◌<◌, ◌≤◌, Bool, true, false, List, [], ◌∷◌, ◌++◌, length, replicate, refl, sym, ap, ◌∙◌, subst, arith, ◌⊎◌, inl, inr, get_or, and_from, and_parts, Cell, Unknown, allows, agrees, runs, IsFlooded, AllFrom, behind, HasPlacing, MayBe, IsGapAfter, IsEndAfter}
+use Rattle.line_core.proofs.Names.{rules, below_more, ◌≡◌, ℕ, zero, suc, ◌+◌, ◌-◌, ◌<◌, ◌≤◌, Bool, true, false, List, [], ◌∷◌, ◌++◌, length, replicate, refl, sym, ap, ◌∙◌, subst, arith, ◌⊎◌, inl, inr, get_or, and_from, and_parts, Cell, Unknown, allows, agrees, runs, IsFlooded, AllFrom, behind, HasPlacing, MayBe, IsGapAfter, IsEndAfter}
 use Rattle.line_core.proofs.Joining.{begins, begins_some, runs_about, first_closed}
 
 -- one more blank cell before a placing
@@ -14,8 +14,7 @@ BeginsWithRun cells cs = (n : ℕ) × (y : List Bool) × (0 < n) × (agrees cell
 first_cell : (c : Cell) (cells : List Cell) (cs : List ℕ) → HasPlacing (c ∷ cells) cs
     → ((allows c false ≡ true) × HasPlacing cells cs) ⊎ BeginsWithRun (c ∷ cells) cs
 first_cell c cells cs ([], agree, is) = cc
-first_cell c cells cs (false ∷ y, agree, is) =
-    inl ((and_parts (allows c false) (agrees cells y) agree).0, (y, (and_parts (allows c false) (agrees cells y) agree).1, is))
+first_cell c cells cs (false ∷ y, agree, is) = search (rules, and_parts)
 first_cell c cells cs (true ∷ y, agree, is) =
     let b = begins (true ∷ y) in
     let some : 0 < b.count = begins_some (true ∷ y) b refl in
@@ -65,8 +64,7 @@ run_open l (suc m) (suc p) q rest e cells h =
 -- a run of `n` cells that goes back from the next cell, with a blank one or none before it, ends here
 end_from_run : (l : List Cell) (cs : List ℕ) (n i q : ℕ) (rest : List Bool) → i < length l → q + n ≡ suc i → AllFrom (MayFill l) n q
     → agrees (behind Unknown l q) rest ≡ true → runs rest ≡ cs → get_or rest 0 false ≡ false → IsEndAfter l cs n i
-end_from_run l cs n i q rest within e cells h is closed =
-    let at : i + 1 - n ≡ q = omega arith in (omega arith, rw at ((rest, h, is, closed), (λ z b. (omega arith, cells z b))))
+end_from_run l cs n i q rest within e cells h is closed = search rules
 
 run_from_end : (l : List Cell) (cs : List ℕ) (n i : ℕ) → 0 < n → IsEndAfter l cs n i → HasPlacing (behind Unknown l (suc i)) (n ∷ cs)
 run_from_end l cs n i some x =

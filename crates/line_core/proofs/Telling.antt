@@ -1,5 +1,5 @@
 -- What masks of the cells that can be filled, and of those that can be blank, tell of a line.
-use Rattle.line_core.proofs.Names.{rules, ◌≡◌, ℕ, ◌<◌, ◌⊎◌, inl, inr, Bool, true, false, not, cond, ◌&&◌, List, length, get_or, map, Some, None, refl, sym, ap, ◌∙◌, arith, true≢false, zero-add, ext_get_or, range_with_len, length-map-range_with_len, get_or-map-range_with_len, Cell, Unknown, Has, has, IsMaskOf, has_true, true_has, deduced, certain_by, IsFillable, IsBlankable, ArePositive, has_by}
+use Rattle.line_core.proofs.Names.{rules, ◌≡◌, ℕ, ◌<◌, ◌⊎◌, inl, inr, Bool, true, false, not, cond, ◌&&◌, List, length, get_or, map, Some, None, refl, sym, ◌∙◌, arith, true≢false, zero-add, ext_get_or, range_with_len, length-map-range_with_len, get_or-map-range_with_len, Cell, Unknown, Has, has, IsMaskOf, has_true, true_has, deduced, certain_by, IsFillable, IsBlankable, ArePositive, has_by}
 use Rattle.std.proofs.Common.{◌||◌}
 use Rattle.std.proofs.lemmas.Bool.{cases_Bool, or_cases, or_left, or_right}
 use Rattle.grid_core.specs.Lines.{cell_with}
@@ -34,16 +34,7 @@ told_cell x y = search rules
 pub told_some : (len f b m nf nb : ℕ) → IsMaskOf (λ i. Has f i ⊎ Has b i) m → has m 0 ≡ true
     → IsMaskOf (λ i. Has f i × (has b i ≡ false)) nf → IsMaskOf (λ i. Has b i × (has f i ≡ false)) nb
     → Some (line_cells len nf nb) ≡ told_by len f b
-told_some len f b m nf nb p some pf pb =
-    let all = map (λ (i : ℕ). certain_by (has f i) (has b i)) (range_with_len 0 len) in
-    let same : line_cells len nf nb ≡ all =
-    ext_get_or Unknown (line_cells len nf nb) all (length_line len nf nb ∙ sym (length-map-range_with_len _ 0 len)) (λ k i.
-    let within : k < len = omega (arith, length_line len nf nb) in
-    cell_at len nf nb k within ∙ ap (λ (z : Bool). cell_with z (has nb k)) (without_at f b nf k pf)
-    ∙ ap (cell_with (has f k && not (has b k))) (without_at b f nb k pb)
-    ∙ told_cell (has f k) (has b k)
-    ∙ sym (get_or-map-range_with_len (λ (i : ℕ). certain_by (has f i) (has b i)) 0 len k k Unknown within (zero-add k))) in
-    ap (λ (cells : List Cell). Some cells) same ∙ ap (λ (t : Bool). cond t (Some all) None) (sym (either_first f b m p ∙ some))
+told_some len f b m nf nb p some pf pb = search (rules, zero-add, ext_get_or, length-map-range_with_len, get_or-map-range_with_len, cell_at, length_line, either_first, without_at, told_cell)
 
 -- ---- the deduction
 
