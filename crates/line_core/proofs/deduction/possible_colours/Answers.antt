@@ -1,22 +1,18 @@
 -- `possible_colours`: run by run the pass goes on, and each run and the gap after it join the masks.
-use Rattle.line_core.proofs.Names.{add-one, ◌-◌, ◌∙◌, ◌≡◌, ◌+◌, ◌<◌, ◌≤◌, length, map, get_or, ℕ, arith, sym, subst, eqb-true, eqb-false, IsMaskOf, SomeFrom, SomeLevel, behind, IsGap, IsGapAhead, IsWholeEnd, IsFillable, mask_same}
+use Rattle.line_core.proofs.Names.{IsBlankable, add-one, ◌-◌, ◌∙◌, ◌≡◌, ◌+◌, ◌<◌, length, arith, sym, subst, eqb-true, eqb-false, IsMaskOf, behind, IsGap, IsGapAhead, mask_same}
 use Rattle.place_sets.proofs.LevelSteps.{levels_none, none_at}
 use Rattle.line_core.proofs.Composing.{blank_first, blank_more, fill_more}
 use Rattle.line_core.proofs.deduction.possible_colours.Goals as goal
 
 pub loop-j-init : goal.loop-j-init
 loop-j-init g c =
-    let number = g.W.PlaceSet.number in
-    let line = g.line in
     let clue = c.args.clue.now in
-    let pass = c.new-pass.ensures line (map number c.windows_within-windows.result) c.requires.1.1.1.0 c.windows_within-windows.ensures in
-    let gap : IsMaskOf (IsGap line clue 0) (number c.gap.result) = rw c.gap.ensures pass.gap_is in
-    record {
+    let pass = c.new-pass.ensures g.line _ c.requires.1.1.1.0 c.windows_within-windows.ensures in
+    let gap : IsMaskOf (IsGap g.line clue 0) (g.W.PlaceSet.number c.gap.result) = rw c.gap.ensures pass.gap_is in record {
       pass = pass;
-      blank = blank_first line clue _ _ _ gap c.gap_ahead.ensures c.intersection-blankable.ensures;
-      filled =
-          levels_none (λ i. (q : ℕ) × (q < 0) × SomeFrom (IsWholeEnd line clue q) (get_or clue q 0) i) g.W.PlaceSet.TOP _
-          (none_at number c.empty-spread.result c.empty-spread.ensures 9) (λ i h. let b : h.0 < 0 = h.1 in absurd (omega arith));
+      blank = blank_first g.line clue _ _ _ gap c.gap_ahead.ensures c.intersection-blankable.ensures;
+      filled = levels_none _ g.W.PlaceSet.TOP _ (none_at g.W.PlaceSet.number c.empty-spread.result c.empty-spread.ensures 9)
+          (λ i h. let b : h.0 < 0 = h.1 in absurd (omega arith));
     }
 
 pub inner_ends-whole-requires : goal.inner_ends-whole-requires
@@ -26,76 +22,55 @@ inner_ends-whole-requires g c = λ κs within.
 
 pub loop-j-preserved : goal.loop-j-preserved
 loop-j-preserved g c =
-    let number = g.W.PlaceSet.number in
-    let line = g.line in
     let clue = c.args.clue.now in
     let j = c.loop-j.j in
     let invariant = c.loop-j.invariant in
-    let passed = c.step-ends.ensures.passed line (behind 0 clue j) invariant.pass in
-    let gap : IsMaskOf (IsGap line clue (j + 1)) (number c.gap-in-loop-j.result) =
-    rw (c.gap-in-loop-j.ensures, add-one j) passed.gap_is in
-    record {
+    let passed = c.step-ends.ensures.passed g.line (behind 0 clue j) invariant.pass in
+    let gap : IsMaskOf (IsGap g.line clue (j + 1)) (g.W.PlaceSet.number c.gap-in-loop-j.result) =
+    rw (c.gap-in-loop-j.ensures, add-one j) passed.gap_is in record {
       pass = rw (add-one j) passed;
-      blank = blank_more line clue j _ _ _ _ _ gap c.gap_ahead-ahead.ensures invariant.blank c.intersection.ensures
+      blank = blank_more g.line clue j _ _ _ _ _ gap c.gap_ahead-ahead.ensures invariant.blank c.intersection.ensures
           c.union-blankable.ensures;
-      filled =
-          fill_more line clue g.W.PlaceSet.TOP j _ _ _ c.inner_ends-whole.ensures c.add_spread.ensures invariant.filled;
+      filled = fill_more g.line clue g.W.PlaceSet.TOP j _ _ _ c.inner_ends-whole.ensures c.add_spread.ensures invariant.filled;
     }
 
 pub whole_ends-last_whole-requires : goal.whole_ends-last_whole-requires
 whole_ends-last_whole-requires g c = λ κs within.
-    let number = g.W.PlaceSet.number in
-    let line = g.line in
     let clue = c.args.clue.now in
     let last = length clue - 1 in
-    let some : 0 < length clue = (let ne = eqb-false (length clue) 0 (sym c.is_empty.ensures ∙ c.if-is_empty.false) in omega arith) in
+    let all : length clue ≡ last + 1 = (let ne = eqb-false (length clue) 0 (sym c.is_empty.ensures ∙ c.if-is_empty.false) in omega arith) in
     let e : c.loop-j.j ≡ last = (let test = c.loop-j-test.false in omega arith) in
-    let all : length clue ≡ last + 1 = omega arith in
-    let ends = c.step-last_ends.ensures.ends line (behind 0 clue last) (rw e at c.loop-j.invariant.pass) in
-    let after = subst (λ n. IsMaskOf (IsGapAhead line clue n) (number c.gap_ahead-after.result)) all c.gap_ahead-after.ensures in
+    let ends = c.step-last_ends.ensures.ends g.line (behind 0 clue last) (rw e at c.loop-j.invariant.pass) in
+    let after = subst (λ n. IsMaskOf (IsGapAhead g.line clue n) (g.W.PlaceSet.number c.gap_ahead-after.result)) all c.gap_ahead-after.ensures in
     (within.0, (within.1, (c.requires.1.1.1.0, (c.requires.1.1.1.1.0, (omega arith, (ends, after))))))
 
 pub returns-then-is_empty-clause-blank : goal.returns-then-is_empty-clause-blank
 returns-then-is_empty-clause-blank g c =
-    let number = g.W.PlaceSet.number in
-    let line = g.line in
     let clue = c.args.clue.now in
     let none : length clue ≡ 0 = eqb-true (length clue) 0 (sym c.is_empty.ensures ∙ c.if-is_empty.true) in
-    let pass = c.new-pass.ensures line (map number c.windows_within-windows.result) c.requires.1.1.1.0 c.windows_within-windows.ensures in
-    let gap : IsMaskOf (IsGap line clue 0) (number c.gap.result) = rw c.gap.ensures pass.gap_is in
-    subst (λ n. IsMaskOf (λ i. (q : ℕ) × (q ≤ n) × IsGap line clue q i × IsGapAhead line clue q i) (number c.intersection-blankable.result))
-    (sym none)
-    (blank_first line clue _ _ _ gap c.gap_ahead.ensures c.intersection-blankable.ensures)
+    let pass = c.new-pass.ensures g.line _ c.requires.1.1.1.0 c.windows_within-windows.ensures in
+    let gap : IsMaskOf (IsGap g.line clue 0) (g.W.PlaceSet.number c.gap.result) = rw c.gap.ensures pass.gap_is in
+    rw (none, IsBlankable) (blank_first g.line clue _ _ _ gap c.gap_ahead.ensures c.intersection-blankable.ensures)
 
 pub returns-clause-filled : goal.returns-clause-filled
 returns-clause-filled g c =
-    let number = g.W.PlaceSet.number in
-    let line = g.line in
     let clue = c.args.clue.now in
     let last = length clue - 1 in
-    let some : 0 < length clue = (let ne = eqb-false (length clue) 0 (sym c.is_empty.ensures ∙ c.if-is_empty.false) in omega arith) in
+    let all : length clue ≡ last + 1 = (let ne = eqb-false (length clue) 0 (sym c.is_empty.ensures ∙ c.if-is_empty.false) in omega arith) in
     let e : c.loop-j.j ≡ last = (let test = c.loop-j-test.false in omega arith) in
-    let filled =
-    fill_more line clue g.W.PlaceSet.TOP last _ _ _ c.whole_ends-last_whole.ensures c.add_spread-2.ensures
+    let filled = fill_more g.line clue g.W.PlaceSet.TOP last _ _ _ c.whole_ends-last_whole.ensures c.add_spread-2.ensures
     (rw e at c.loop-j.invariant.filled) in
-    mask_same (SomeLevel g.W.PlaceSet.TOP (map number c.add_spread-2.new.levels)) (IsFillable line clue)
-    (number c.spread_levels.result) c.spread_levels.ensures
-    (λ i x. let h = filled.to i x in let b : h.0 < last + 1 = h.1 in (h.0, omega arith, h.2))
+    mask_same _ _ _ c.spread_levels.ensures (λ i x. let h = filled.to i x in let b : h.0 < last + 1 = h.1 in (h.0, omega arith, h.2))
     (λ i h. let b : h.0 < length clue = h.1 in filled.from i (h.0, omega arith, h.2))
 
 pub returns-clause-blank : goal.returns-clause-blank
 returns-clause-blank g c =
-    let number = g.W.PlaceSet.number in
-    let line = g.line in
     let clue = c.args.clue.now in
     let last = length clue - 1 in
-    let some : 0 < length clue = (let ne = eqb-false (length clue) 0 (sym c.is_empty.ensures ∙ c.if-is_empty.false) in omega arith) in
+    let all : length clue ≡ last + 1 = (let ne = eqb-false (length clue) 0 (sym c.is_empty.ensures ∙ c.if-is_empty.false) in omega arith) in
     let e : c.loop-j.j ≡ last = (let test = c.loop-j-test.false in omega arith) in
-    let passed = c.step-last_ends.ensures.passed line (behind 0 clue last) (rw e at c.loop-j.invariant.pass) in
-    let gap : IsMaskOf (IsGap line clue (last + 1)) (number c.gap-2.result) = rw (c.gap-2.ensures, add-one last) passed.gap_is in
-    let all : length clue ≡ last + 1 = omega arith in
-    let ahead = subst (λ n. IsMaskOf (IsGapAhead line clue n) (number c.gap_ahead-after.result)) all c.gap_ahead-after.ensures in
-    subst (λ n. IsMaskOf (λ i. (q : ℕ) × (q ≤ n) × IsGap line clue q i × IsGapAhead line clue q i) (number c.union-blankable-2.result))
-    (sym all)
-    (blank_more line clue last _ _ _ _ _ gap ahead (rw e at c.loop-j.invariant.blank)
-    c.intersection-2.ensures c.union-blankable-2.ensures)
+    let passed = c.step-last_ends.ensures.passed g.line (behind 0 clue last) (rw e at c.loop-j.invariant.pass) in
+    let gap : IsMaskOf (IsGap g.line clue (last + 1)) (g.W.PlaceSet.number c.gap-2.result) = rw (c.gap-2.ensures, add-one last) passed.gap_is in
+    let after = subst (λ n. IsMaskOf (IsGapAhead g.line clue n) (g.W.PlaceSet.number c.gap_ahead-after.result)) all c.gap_ahead-after.ensures in
+    rw (all, IsBlankable) (blank_more g.line clue last _ _ _ _ _ gap after (rw e at c.loop-j.invariant.blank) c.intersection-2.ensures
+    c.union-blankable-2.ensures)

@@ -1,9 +1,8 @@
 -- `first_gap`: a flood from the first place over the free ones.
-use Rattle.line_core.proofs.Names.{◌≡◌, Has, flood_from, meet_of, has_of}
+use Rattle.line_core.proofs.Names.{Has, flood_from, meet_of, has_of}
 use Rattle.line_core.proofs.gaps.first_gap.Goals as goal
 
 pub returns : goal.returns
 returns g c =
     let free = g.W.PlaceSet.number c.args.free in
-    flood_from (λ k. Has free k × (k ≡ 0)) (Has free) _ _
-    (meet_of (Has free) (λ k. k ≡ 0) free _ _ (has_of free) c.first.ensures c.intersection.ensures) c.flood.ensures
+    flood_from _ (Has free) _ _ (meet_of (Has free) _ free _ _ (has_of free) c.first.ensures c.intersection.ensures) c.flood.ensures

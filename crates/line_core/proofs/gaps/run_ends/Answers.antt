@@ -11,9 +11,8 @@ run_ends_are : (w gap opening window by after starts some ends : ℕ)
     → IsMaskOf (IsShifted w (Has starts) by) ends
     → IsMaskOf (IsShifted w (λ s. (IsShifted w (Has gap) 1 s ⊎ Has opening s) × Has window s) by) ends
 run_ends_are w gap opening window by after starts some ends p q r s =
-    let either = join_of (IsShifted w (Has gap) 1) (Has opening) after opening some p (has_of opening) q in
-    let within = meet_of (λ i. IsShifted w (Has gap) 1 i ⊎ Has opening i) (Has window) some window starts either (has_of window) r in
-    shifted_of w (λ i. (IsShifted w (Has gap) 1 i ⊎ Has opening i) × Has window i) starts by ends within s
+    let either = join_of _ (Has opening) after opening some p (has_of opening) q in
+    shifted_of w _ starts by ends (meet_of _ (Has window) some window starts either (has_of window) r) s
 
 pub shifted_up-requires : goal.shifted_up-requires
 shifted_up-requires g c = search (rules, one_within)

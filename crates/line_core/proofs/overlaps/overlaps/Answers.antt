@@ -1,5 +1,5 @@
 -- `overlaps`: a run that is longer than the slack fills its overlap, and no other run has one.
-use Rattle.line_core.proofs.Names.{rules, ◌≡◌, ◌+◌, ◌∙◌, suc, get_or, sym, ap, add-one, arith, subst, IsMaskOf, least_start, IsOverlapBefore}
+use Rattle.line_core.proofs.Names.{rules, ◌≡◌, ◌+◌, suc, get_or, add-one, arith, least_start}
 use Rattle.place_sets.proofs.Doubling.{width_most}
 use Rattle.line_core.proofs.Packing.{start_next, start_within, overlap_more, overlap_same}
 use Rattle.line_core.proofs.overlaps.overlaps.Goals as goal
@@ -7,32 +7,25 @@ use Rattle.line_core.proofs.overlaps.overlaps.Goals.{then-number-slack, else-num
 
 pub shifted_up-requires : goal.shifted_up-requires
 shifted_up-requires g c =
-    let clue = c.args.clue.now in
-    let j = c.loop-number.number-index in
-    omega (arith, c.requires.fits, c.loop-number.invariant.start, start_next clue j c.loop-number-test.true, start_within clue (suc j))
+    omega (arith, c.requires.fits, c.loop-number.invariant.start, start_next _ _ c.loop-number-test.true,
+    start_within c.args.clue.now (suc c.loop-number.number-index))
 
 pub overflow_add-greatest_start-in-loop-number : goal.overflow_add-greatest_start-in-loop-number
 overflow_add-greatest_start-in-loop-number g c = search (rules, width_most, start_next, start_within)
 
 pub loop-number-preserved : goal.loop-number-preserved
 loop-number-preserved g c =
-    let number = g.W.PlaceSet.number in
     let clue = c.args.clue.now in
     let j = c.loop-number.number-index in
     let slack = c.args.slack in
     let invariant = c.loop-number.invariant in
-    let next : least_start clue (j + 1) ≡ least_start clue j + get_or clue j 0 + 1 =
-    ap (least_start clue) (add-one j) ∙ start_next clue j c.loop-number-test.true in
+    let next : least_start clue (j + 1) ≡ least_start clue j + get_or clue j 0 + 1 = rw add-one (start_next clue j c.loop-number-test.true) in
     record {
       start = omega (arith, invariant.start);
       found = elim c.if-number-slack.branch [
-        | then-number-slack w ↦
-            subst (λ m. IsMaskOf (IsOverlapBefore (j + 1) clue slack) (number m)) (sym w.certain-is)
-            (overlap_more clue g.W.PlaceSet.WIDTH slack j c.loop-number.greatest_start _ _ _ _ c.requires.fits c.loop-number-test.true
-            w.if-number-slack.true invariant.start invariant.found w.first_places.ensures
+        | then-number-slack w ↦ rw w.certain-is (overlap_more clue g.W.PlaceSet.WIDTH slack j c.loop-number.greatest_start _ _ _ _
+            c.requires.fits c.loop-number-test.true w.if-number-slack.true invariant.start invariant.found w.first_places.ensures
             w.shifted_up.ensures w.union-certain.ensures)
-        | else-number-slack w ↦
-            subst (λ m. IsMaskOf (IsOverlapBefore (j + 1) clue slack) (number m)) (sym w.certain-is)
-            (overlap_same clue slack j _ w.if-number-slack.false invariant.found)
+        | else-number-slack w ↦ rw w.certain-is (overlap_same clue slack j _ w.if-number-slack.false invariant.found)
       ];
     }

@@ -1,5 +1,5 @@
 -- `unknown_colours`: a cell that is no overlap can be blank; each can be filled if a run can move.
-use Rattle.line_core.proofs.Names.{rules, ◌≡◌, ◌+◌, ◌-◌, ◌<◌, ◌∙◌, ◌⊎◌, inl, inr, ℕ, length, replicate, arith, sym, subst, true≢false, eqb-true, eqb-false, eq-eqb, length-replicate, recursion_from_All, Unknown, IsMaskOf, needed, IsFillable, ArePositive}
+use Rattle.line_core.proofs.Names.{rules, ◌≡◌, ◌+◌, ◌-◌, ◌<◌, ◌∙◌, ◌⊎◌, inl, inr, length, replicate, arith, sym, true≢false, eqb-true, eqb-false, eq-eqb, length-replicate, recursion_from_All, Unknown, IsMaskOf, needed, ArePositive}
 use Rattle.line_core.proofs.Packing.{unknown_any, unfit_fillable, unfit_blankable, blankable_is, all_fillable, overlaps_fillable}
 use Rattle.line_core.proofs.overlaps.unknown_colours.Goals as goal
 use Rattle.line_core.proofs.overlaps.unknown_colours.Goals.{then-is_empty, else-is_empty, then-slack-eq0, else-slack-eq0}
@@ -12,44 +12,37 @@ returns-then-len-needed-clause-blank g c = search (rules, length-replicate, recu
 
 pub returns-clause-filled : goal.returns-clause-filled
 returns-clause-filled g c =
-    let number = g.W.PlaceSet.number in
     let len = c.args.len in
     let line = replicate len Unknown in
     let clue = c.args.clue.now in
     let long = length-replicate len Unknown in
     let slack = len + 1 - c.cells_needed-needed.result in
-    let pos : ArePositive clue = recursion_from_All (λ (n : ℕ). 0 < n) clue c.requires.clue.positive in
+    let pos : ArePositive clue = recursion_from_All _ clue c.requires.clue.positive in
     let fits : needed clue + slack ≡ length line + 1 = omega (arith, c.cells_needed-needed.ensures) in
     elim c.if-is_empty.branch [
       | then-is_empty w ↦
-          (let still : (slack ≡ 0) ⊎ (length clue ≡ 0) =
-          elim c.if-slack-eq0.branch [
+          (let still : (slack ≡ 0) ⊎ (length clue ≡ 0) = elim c.if-slack-eq0.branch [
             | then-slack-eq0 v ↦ inl (omega (arith, v.if-slack-eq0.true))
             | else-slack-eq0 v ↦ inr (eqb-true (length clue) 0 (sym v.is_empty.ensures ∙ sym v.value-is ∙ w.if-is_empty.true))
           ] in
-          subst (λ m. IsMaskOf (IsFillable line clue) (number m)) (sym w.fillable-is)
-          (overlaps_fillable line clue slack _ (unknown_any len) pos fits still c.overlaps-certain.ensures))
+          rw w.fillable-is (overlaps_fillable line clue slack _ (unknown_any len) pos fits still c.overlaps-certain.ensures))
       | else-is_empty w ↦
-          (let moves : (0 < slack) × (0 < length clue) =
-          elim c.if-slack-eq0.branch [
+          (let moves : (0 < slack) × (0 < length clue) = elim c.if-slack-eq0.branch [
             | then-slack-eq0 v ↦ absurd (true≢false (sym (eq-eqb slack 0 v.if-slack-eq0.true) ∙ sym v.value-is ∙ w.if-is_empty.false))
             | else-slack-eq0 v ↦
                 (let no = eqb-false (length clue) 0 (sym v.is_empty.ensures ∙ sym v.value-is ∙ w.if-is_empty.false) in
-                let some = v.if-slack-eq0.false in
-                (omega arith, omega arith))
+                (omega (arith, v.if-slack-eq0.false), omega arith))
           ] in
-          subst (λ m. IsMaskOf (IsFillable line clue) (number m)) (sym w.fillable-is)
-          (all_fillable line clue slack _ (unknown_any len) pos fits moves.0 moves.1 (rw (sym long) at c.first_places-line.ensures)))
+          rw w.fillable-is (all_fillable line clue slack _ (unknown_any len) pos fits moves.0 moves.1
+          (rw (sym long) at c.first_places-line.ensures)))
     ]
 
 pub returns-clause-blank : goal.returns-clause-blank
 returns-clause-blank g c =
     let len = c.args.len in
     let line = replicate len Unknown in
-    let clue = c.args.clue.now in
     let long = length-replicate len Unknown in
-    let slack = len + 1 - c.cells_needed-needed.result in
-    let pos : ArePositive clue = recursion_from_All (λ (n : ℕ). 0 < n) clue c.requires.clue.positive in
-    let fits : needed clue + slack ≡ length line + 1 = omega (arith, c.cells_needed-needed.ensures) in
     let cells : IsMaskOf (λ i. i < length line) (g.W.PlaceSet.number c.first_places-line.result) = rw long c.first_places-line.ensures in
-    blankable_is line clue slack _ _ _ (unknown_any len) pos fits c.overlaps-certain.ensures cells c.difference.ensures
+    blankable_is line c.args.clue.now (len + 1 - c.cells_needed-needed.result) _ _ _ (unknown_any len)
+    (recursion_from_All _ _ c.requires.clue.positive) (omega (arith, c.cells_needed-needed.ensures)) c.overlaps-certain.ensures
+    cells c.difference.ensures

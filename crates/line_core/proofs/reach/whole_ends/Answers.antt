@@ -1,6 +1,5 @@
 -- `whole_ends`: a run ends before a gap ahead, or with the line if it is the last.
-use Rattle.line_core.proofs.Names.{◌≡◌, ◌+◌, ◌-◌, ◌⊎◌, ℕ, ◌<◌, length, arith, true, eqb-true, eq-eqb, recursion_from_All, Has, IsMaskOf, mask_same, ArePositive, meet_of, join_of, has_of, one_within}
-use Rattle.std.proofs.Common.{nat_eq}
+use Rattle.line_core.proofs.Names.{◌≡◌, ◌+◌, ◌-◌, length, arith, eqb-true, eq-eqb, recursion_from_All, Has, IsMaskOf, mask_same, meet_of, join_of, has_of, one_within}
 use Rattle.line_core.proofs.Joining.{positive_at}
 use Rattle.line_core.proofs.Composing.{whole_is}
 use Rattle.line_core.proofs.reach.whole_ends.Goals as goal
@@ -10,22 +9,15 @@ shifted_down-requires g c = one_within g.W.PlaceSet.WIDTH g.W.PlaceSet.TOP g.met
 
 pub returns : goal.returns
 returns g c =
-    let number = g.W.PlaceSet.number in
-    let line = g.line in
-    let clue = c.args.clue.now in
-    let j = c.args.j in
-    let len = c.args.span.now.len in
+    let ends = g.W.PlaceSet.number c.args.ends in
+    let end = g.W.PlaceSet.number c.last_end-last.result in
     let size = c.requires.1.1.0.len_is in
-    let some = c.requires.1.1.0.some in
-    let ends = number c.args.ends in
-    let ahead = number c.args.ahead in
-    let end = number c.last_end-last.result in
-    let pos : ArePositive clue = recursion_from_All (λ (n : ℕ). 0 < n) clue c.requires.1.1.1.0.positive in
-    let last : IsMaskOf (λ i. (i ≡ length line - 1) × (j + 1 ≡ length clue)) end =
-    mask_same (λ i. (i ≡ len - 1) × (nat_eq (j + 1) (length clue) ≡ true)) _ end c.last_end-last.ensures
-    (λ i h. let e : i ≡ len - 1 = h.0 in (omega arith, eqb-true (j + 1) (length clue) h.1))
-    (λ i h. let e : i ≡ length line - 1 = h.0 in (omega arith, eq-eqb (j + 1) (length clue) h.1)) in
-    whole_is line clue j ends ahead end _ c.requires.1.1.1.1.0 (positive_at clue pos j c.requires.1.1.1.1.0) c.requires.1.1.1.1.1.0
-    c.requires.1.1.1.1.1.1 last
-    (meet_of (Has ends) (λ i. Has ahead (i + 1) ⊎ Has end i) ends _ _ (has_of ends)
-    (join_of (λ i. Has ahead (i + 1)) (Has end) _ end _ c.shifted_down.ensures (has_of end) c.union.ensures) c.intersection.ensures)
+    let clue = c.args.clue.now in
+    let given = c.requires.1.1.1.1 in
+    let last : IsMaskOf (λ i. (i ≡ length g.line - 1) × (c.args.j + 1 ≡ length clue)) end =
+    mask_same _ _ end c.last_end-last.ensures
+    (λ i h. let e : i ≡ c.args.span.now.len - 1 = h.0 in (omega arith, eqb-true (c.args.j + 1) (length clue) h.1))
+    (λ i h. let e : i ≡ length g.line - 1 = h.0 in (omega arith, eq-eqb (c.args.j + 1) (length clue) h.1)) in
+    whole_is g.line clue _ ends _ end _ given.0 (positive_at _ (recursion_from_All _ _ c.requires.1.1.1.0.positive) _ given.0)
+    given.1.0 given.1.1 last (meet_of (Has ends) _ ends _ _ (has_of ends)
+    (join_of _ (Has end) _ end _ c.shifted_down.ensures (has_of end) c.union.ensures) c.intersection.ensures)

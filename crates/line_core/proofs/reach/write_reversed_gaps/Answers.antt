@@ -1,45 +1,37 @@
 -- `write_reversed_gaps`: run by run the pass over the reversed line gives the next gap.
-use Rattle.line_core.proofs.Names.{add-one, ℕ, ◌+◌, ◌<◌, ◌∙◌, List, length, map, reverse, get_or, sym, subst, arith, length-set, map-set, length-map, get_or-reverse, IsMaskOf, behind, IsGap, written_more}
+use Rattle.line_core.proofs.Names.{add-one, ◌+◌, ◌∙◌, map, reverse, sym, arith, length-set, map-set, length-map, get_or-reverse, IsMaskOf, behind, IsGap, written_more}
 use Rattle.line_core.proofs.reach.write_reversed_gaps.Goals as goal
 
 pub loop-j-init : goal.loop-j-init
 loop-j-init g c =
-    let number = g.W.PlaceSet.kept_number in
     let line = reverse g.line in
     let clue = reverse c.args.clue.now in
     let gaps = c.args.gaps.now in
-    let pass =
-    c.new-pass.ensures line (map g.W.PlaceSet.number c.windows_within-windows.result) c.reversed-reversed.ensures c.windows_within-windows.ensures in
-    let gap : IsMaskOf (IsGap line clue 0) (number c.kept.result) = rw (c.kept.ensures, c.gap.ensures) pass.gap_is in
-    let some : 0 < length (map number gaps) = omega (arith, length-map gaps number, c.told-gaps) in
+    let pass = c.new-pass.ensures line _ c.reversed-reversed.ensures c.windows_within-windows.ensures in
+    let gap : IsMaskOf (IsGap line clue 0) (g.W.PlaceSet.kept_number c.kept.result) = rw (c.kept.ensures, c.gap.ensures) pass.gap_is in
     record {
       size = length-set gaps _ _ ∙ c.told-gaps;
       pass = pass;
-      gaps = λ k h.
-          subst (λ (t : List ℕ). IsMaskOf (IsGap line clue k) (get_or t k 0)) (sym (map-set number gaps 0 c.kept.result))
-          (written_more (λ k m. IsMaskOf (IsGap line clue k) m) (map number gaps) 0 (number c.kept.result) some gap
-          (λ k h. absurd (omega arith)) k (omega arith));
+      gaps = λ k h. rw map-set (written_more (λ k m. IsMaskOf (IsGap line clue k) m) (map g.W.PlaceSet.kept_number gaps) 0 _
+          (omega (arith, length-map gaps g.W.PlaceSet.kept_number, c.told-gaps)) gap (λ k h. absurd (omega arith)) k (omega arith));
     }
 
 pub loop-j-preserved : goal.loop-j-preserved
 loop-j-preserved g c =
-    let number = g.W.PlaceSet.kept_number in
     let line = reverse g.line in
     let clue = reverse c.args.clue.now in
     let gaps = c.loop-j.gaps in
     let j = c.loop-j.j in
     let e = sym (get_or-reverse c.args.clue.now j 0 c.loop-j-test.true) in
     let passed = rw e at (c.step.ensures.passed line (behind 0 clue j) c.loop-j.invariant.pass) in
-    let gap : IsMaskOf (IsGap line clue (j + 1)) (number c.kept-in-loop-j.result) =
+    let gap : IsMaskOf (IsGap line clue (j + 1)) (g.W.PlaceSet.kept_number c.kept-in-loop-j.result) =
     rw (c.kept-in-loop-j.ensures, c.gap-in-loop-j.ensures, add-one j) passed.gap_is in
     let size = c.loop-j.invariant.size in
     let test = c.loop-j-test.true in
-    let some : j + 1 < length (map number gaps) = omega (arith, length-map gaps number, c.requires.1.1.1.1) in
     record {
       size = length-set gaps _ _ ∙ size;
       pass = rw (add-one j) passed;
-      gaps = λ k h.
-          subst (λ (t : List ℕ). IsMaskOf (IsGap line clue k) (get_or t k 0)) (sym (map-set number gaps (j + 1) c.kept-in-loop-j.result))
-          (written_more (λ k m. IsMaskOf (IsGap line clue k) m) (map number gaps) (j + 1) (number c.kept-in-loop-j.result) some gap
+      gaps = λ k h. rw map-set (written_more (λ k m. IsMaskOf (IsGap line clue k) m) (map g.W.PlaceSet.kept_number gaps) (j + 1) _
+          (omega (arith, length-map gaps g.W.PlaceSet.kept_number, c.requires.1.1.1.1)) gap
           (λ k h. c.loop-j.invariant.gaps k (omega arith)) k (omega arith));
     }

@@ -10,10 +10,8 @@ told false m P e to from = λ p. true≢false (sym (has_true m 0 (from p)) ∙ s
 
 pub returns : goal.returns
 returns g c =
-    let line = g.line in
-    let clue = c.args.clue.now in
     let span = c.requires.1.1.1.0 in
-    let gap = gap_none_is line _ _ span.free_is c.first_gap-gap.ensures in
-    told _ _ (HasPlacing line clue) c.contains.ensures
-    (no_run_to line clue _ _ _ gap c.gap_ahead.ensures c.intersection-blankable.ensures)
-    (no_run_from line clue _ _ _ c.requires.1.1.1.1.0 span.some gap c.gap_ahead.ensures c.intersection-blankable.ensures)
+    let gap = gap_none_is g.line _ _ span.free_is c.first_gap-gap.ensures in
+    told _ _ (HasPlacing g.line c.args.clue.now) c.contains.ensures
+    (no_run_to g.line _ _ _ _ gap c.gap_ahead.ensures c.intersection-blankable.ensures)
+    (no_run_from g.line _ _ _ _ c.requires.1.1.1.1.0 span.some gap c.gap_ahead.ensures c.intersection-blankable.ensures)
