@@ -122,16 +122,10 @@ fill_more l clue top j whole old new w s f = record { to = λ i x. to i (s.to i 
 
     from : (i : ℕ) → (q : ℕ) × (q < j + 1) × SomeFrom (IsWholeEnd l clue q) (get_or clue q 0) i
         → SomeLevel top old i ⊎ SomeFrom (Has whole) (get_or clue j 0) i
-    from i x =
-        elim (cases_lt x.0 j) [
-          | inl low ↦ inl (f.from i (x.0, low, x.2))
-          | inr high ↦
-              (let below : x.0 < j + 1 = x.1 in
-              let e : x.0 ≡ j = omega arith in
-              let y : SomeFrom (IsWholeEnd l clue j) (get_or clue j 0) i =
-              subst (λ (q : ℕ). SomeFrom (IsWholeEnd l clue q) (get_or clue q 0) i) e x.2 in
-              inr (y.0, y.1, w.from (i + y.0) y.2))
-        ]
+    from i (q, h, x) = elim (cases_lt q j) [
+      | inl low ↦ inl (f.from i (q, low, x))
+      | inr high ↦ (let e : q ≡ j = omega arith in let y = rw e at x in inr (y.0, y.1, w.from (i + y.0) y.2))
+    ]
 
 -- one more place for a blank cell
 pub blank_first : (l : List Cell) (clue : List ℕ) (gap ahead m : ℕ) → IsMaskOf (IsGap l clue 0) gap → IsMaskOf (IsGapAhead l clue 0) ahead
@@ -156,14 +150,10 @@ blank_more l clue j gap ahead blank part m g a b p r =
 
     from : (i : ℕ) → (q : ℕ) × (q ≤ j + 1) × IsGap l clue q i × IsGapAhead l clue q i
         → ((q : ℕ) × (q ≤ j) × IsGap l clue q i × IsGapAhead l clue q i) ⊎ (IsGap l clue (j + 1) i × IsGapAhead l clue (j + 1) i)
-    from i x =
-        elim (cases_lt x.0 (j + 1)) [
-          | inl low ↦ inl (x.0, omega arith, x.2, x.3)
-          | inr high ↦
-              (let b : x.0 ≤ j + 1 = x.1 in
-              let e : x.0 ≡ j + 1 = omega arith in
-              inr (subst (λ (q : ℕ). IsGap l clue q i × IsGapAhead l clue q i) e (x.2, x.3)))
-        ]
+    from i (q, h, g, a) = elim (cases_lt q (j + 1)) [
+      | inl low ↦ inl (q, omega arith, g, a)
+      | inr high ↦ (let e : q ≡ j + 1 = omega arith in inr (rw e at g, rw e at a))
+    ]
 
 -- the gaps ahead, from the reversed line's gaps
 pub ahead_of : (l : List Cell) (clue : List ℕ) (j p : ℕ) (reversed : List ℕ) (len m : ℕ) → length l ≡ len → p + j ≡ length clue
@@ -172,6 +162,4 @@ pub ahead_of : (l : List Cell) (clue : List ℕ) (j p : ℕ) (reversed : List �
     → IsMaskOf (λ i. (i < len) × Has (get_or reversed p 0) (len - 1 - i)) m → IsMaskOf (IsGapAhead l clue j) m
 ahead_of l clue j p reversed len m e s jl g h =
     let same : length clue - j ≡ p = omega arith in
-    ahead_is l clue j (get_or reversed p 0) m jl
-    (subst (λ (k : ℕ). IsMaskOf (IsGap (reverse l) (reverse clue) k) (get_or reversed p 0)) (sym same) (g p (omega arith)))
-    (subst (λ (n : ℕ). IsMaskOf (λ i. (i < n) × Has (get_or reversed p 0) (n - 1 - i)) m) (sym e) h)
+    ahead_is l clue j (get_or reversed p 0) m jl (rw same (g p (omega arith))) (rw e h)

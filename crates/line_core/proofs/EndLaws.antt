@@ -1,4 +1,5 @@
 -- What the leftmost and the rightmost starts are.
+use Rattle.std.proofs.lemmas.Bool.{cases_Bool}
 use Rattle.line_core.proofs.Names.{rules, ◌≡◌, ℕ, zero, suc, ◌<◌, Bool, true, false, List, [], ◌∷◌, length, map, Some, refl, sym, ap, ◌∙◌, subst, arith, inl, inr, ◌⊎◌, get_or, nat_le, filter, All-head, All-tail, All, list_all, find, range_with_len, cases_lt, leb-true, le-leb, length-map-range_with_len, get_or-map-range_with_len, Cell, runs, is_positive, stretches, placings, run_starts, all_starts, ArePositive, Side, Left, Right, outermost, IsAsFar}
 use Rattle.line_core.specs.Ends.{AreStarts}
 use Rattle.line_core.proofs.DeductionLaws.{IsPlacing, placings_listed, test_IsPlacing, IsPlacing_test}
@@ -8,16 +9,13 @@ use Rattle.line_core.proofs.Outermost.{all_as_far, laid_placing, outermost_found
 found : (P : List Bool → Type 0) (p : List ℕ → Bool) (m : List ℕ) (ps : List (List Bool)) → All P ps
     → find p (map run_starts ps) ≡ Some m → (p m ≡ true) × ((x : List Bool) × P x × (run_starts x ≡ m))
 found P p m [] all e = cc
-found P p m (x ∷ ps) all e = by (p (run_starts x)) refl (found P p m ps (All-tail P x ps all))
-  where
-    by : (b : Bool) → p (run_starts x) ≡ b
-        → (find p (map run_starts ps) ≡ Some m → (p m ≡ true) × ((x : List Bool) × P x × (run_starts x ≡ m)))
-        → (p m ≡ true) × ((x : List Bool) × P x × (run_starts x ≡ m))
-    by true t rest =
-        let here : Some (run_starts x) ≡ Some m = rw t at e in
-        let same : run_starts x ≡ m = cc in
-        (subst (λ (z : List ℕ). p z ≡ true) same t, (x, All-head P x ps all, same))
-    by false t rest = rest (rw t at e)
+found P p m (x ∷ ps) all e = elim (cases_Bool (p (run_starts x))) [
+  | inl t ↦
+      (let here : Some (run_starts x) ≡ Some m = rw t at e in
+      let same : run_starts x ≡ m = cc in
+      (rw same at t, (x, All-head P x ps all, same)))
+  | inr t ↦ found P p m ps (All-tail P x ps all) (rw t at e)
+]
 
 -- the outermost starts are those of a placing, and each is as far as the same of any placing
 pub outermost-furthest : (side : Side) (l : List Cell) (clue m : List ℕ) → outermost side l clue ≡ Some m

@@ -1,5 +1,5 @@
 -- A clue of one run: its starts tell which cells can be filled and which can be blank.
-use Rattle.line_core.proofs.Names.{rules, ◌≡◌, ℕ, ◌+◌, ◌-◌, ◌<◌, ◌≤◌, Bool, true, false, List, [], ◌∷◌, length, refl, sym, ap, ◌∙◌, subst, arith, true≢false, ◌⊎◌, inl, inr, get_or, cases_lt, Cell, agrees, runs, Has, has, IsMaskOf, IsShifted, AllFrom, SomeFrom, has_true, mask_same, MayBe, IsFillable, IsBlankable, ArePositive, lacks, none_has, none_is}
+use Rattle.line_core.proofs.Names.{false_from_ne_true, rules, ◌≡◌, ℕ, ◌+◌, ◌-◌, ◌<◌, ◌≤◌, Bool, true, false, List, [], ◌∷◌, length, refl, sym, ap, ◌∙◌, subst, arith, true≢false, ◌⊎◌, inl, inr, get_or, cases_lt, Cell, agrees, runs, Has, has, IsMaskOf, IsShifted, AllFrom, SomeFrom, has_true, mask_same, MayBe, IsFillable, IsBlankable, ArePositive, lacks, none_has, none_is}
 use Rattle.line_core.specs.steps.Lone.{IsLoneStart}
 use Rattle.line_core.proofs.Joining.{blankable_to, blankable_from}
 use Rattle.line_core.proofs.WholeEnds.{fillable_to, fillable_from}
@@ -65,29 +65,21 @@ pub leaves_to : (l : List Cell) (clue : List ℕ) (i : ℕ) → length clue ≡ 
 leaves_to l clue i one h =
     let x = blankable_to l clue i h in
     let s = get_or (starts_from 0 false x.0) 0 0 in
-    let out : (i < s) ⊎ (s + get_or clue 0 0 ≤ i) = elim (cases_lt i s) [
+    (s, lone_start l clue x.0 one x.1 x.2, elim (cases_lt i s) [
       | inl before ↦ inl before
       | inr from ↦ elim (cases_lt i (s + get_or clue 0 0)) [
-        | inl inside ↦ absurd (true≢false (sym (in_run x.0 clue 0 i x.2 (omega arith) from inside) ∙ x.3))
+        | inl inside ↦ (let e = in_run x.0 clue 0 i x.2 (omega arith) from inside in let no = x.3 in cc)
         | inr after ↦ inr after
       ]
-    ] in
-    (s, lone_start l clue x.0 one x.1 x.2, out)
+    ])
 
 pub leaves_from : (l : List Cell) (clue : List ℕ) (i s : ℕ) → ArePositive clue → length clue ≡ 1 → i < length l
     → IsLoneStart l (get_or clue 0 0) s → (i < s) ⊎ (s + get_or clue 0 0 ≤ i) → IsBlankable l clue i
 leaves_from l clue i s pos one within start out =
     let p = lone_placing l clue s pos one start in
-    blankable_from l clue i within (p.0, p.1, p.2, blank (get_or p.0 i false) p refl)
-  where
-    blank : (b : Bool) → (p : LonePlacing l clue s) → get_or p.0 i false ≡ b → get_or p.0 i false ≡ false
-    blank false p e = e
-    blank true p e =
-        let r = of_run clue p.0 i one p.2 e in
-        let low = r.0 in
-        let high = r.1 in
-        let at = p.3 in
-        elim out [ inl x ↦ absurd (omega arith) | inr y ↦ absurd (omega arith) ]
+    blankable_from l clue i within (p.0, p.1, p.2, false_from_ne_true (get_or p.0 i false) (λ e.
+    let r = of_run clue p.0 i one p.2 e in
+    elim out [ inl x ↦ omega (arith, r.0, r.1, p.3) | inr y ↦ omega (arith, r.0, r.1, p.3) ]))
 
 -- ---- the masks
 

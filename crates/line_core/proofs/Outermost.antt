@@ -1,5 +1,6 @@
 -- The placing whose starts are all least, and the one whose starts are all greatest.
-use Rattle.line_core.proofs.Names.{rules, ◌≡◌, ℕ, zero, suc, ◌+◌, ◌-◌, ◌<◌, ◌≤◌, Bool, true, false, not, ◌&&◌, List, [], ◌∷◌, length, map, Some, None, refl, sym, ap, ◌∙◌, subst, arith, get_or, ext_get_or, nat_le, set, take, MatchBool, All, list_all, find, All-head, All-tail, All-weaker, and_parts, leb-true, le-leb, list_all-map, length-take-le, get_or-take, Cell, placings, run_starts, all_starts, Side, Left, Right, outermost, IsAsFar, IsOuterStart, Has, IsMaskOf, meet_of, written_more, IsWholeEnd, IsGap, IsGapAhead, HasPlacing, ArePositive}
+use Rattle.std.proofs.lemmas.Bool.{cases_Bool}
+use Rattle.line_core.proofs.Names.{inl, inr, false_from_ne_true, rules, ◌≡◌, ℕ, zero, suc, ◌+◌, ◌-◌, ◌<◌, ◌≤◌, Bool, true, false, not, ◌&&◌, List, [], ◌∷◌, length, map, Some, None, refl, sym, ap, ◌∙◌, subst, arith, get_or, ext_get_or, nat_le, set, take, MatchBool, All, list_all, find, All-head, All-tail, All-weaker, and_parts, leb-true, le-leb, list_all-map, length-take-le, get_or-take, Cell, placings, run_starts, all_starts, Side, Left, Right, outermost, IsAsFar, IsOuterStart, Has, IsMaskOf, meet_of, written_more, IsWholeEnd, IsGap, IsGapAhead, HasPlacing, ArePositive}
 use lib.Pointwise.{pointwise}
 use Rattle.line_core.proofs.Joining.{positive_at, blankable_to, blankable_from}
 use Rattle.line_core.proofs.WholeEnds.{whole_of, placing_with}
@@ -63,14 +64,10 @@ find_only : (p : List ℕ → Bool) (m : List ℕ) (ps : List (List Bool)) → A
     → list_all (λ x. not (p (run_starts x))) ps ≡ false → find p (map run_starts ps) ≡ Some m
 find_only p m [] only h = cc
 find_only p m (x ∷ ps) only h =
-    let P = λ (y : List Bool). p (run_starts y) ≡ true → run_starts y ≡ m in
-    by (p (run_starts x)) refl (All-head P x ps only) (find_only p m ps (All-tail P x ps only))
-  where
-    by : (b : Bool) → p (run_starts x) ≡ b → (p (run_starts x) ≡ true → run_starts x ≡ m)
-        → (list_all (λ x. not (p (run_starts x))) ps ≡ false → find p (map run_starts ps) ≡ Some m)
-        → find p (run_starts x ∷ map run_starts ps) ≡ Some m
-    by true e here rest = rw e (ap (λ (z : List ℕ). Some z) (here e))
-    by false e here rest = rw e (rest (sym (ap (λ (v : Bool). not v && list_all (λ x. not (p (run_starts x))) ps) e) ∙ h))
+    let P = λ (y : List Bool). p (run_starts y) ≡ true → run_starts y ≡ m in elim (cases_Bool (p (run_starts x))) [
+      | inl e ↦ rw e (ap (λ (z : List ℕ). Some z) (All-head P x ps only e))
+      | inr e ↦ rw e (find_only p m ps (All-tail P x ps only) (rw e at h))
+    ]
 
 -- the starts of a placing lay the clue
 pub laid_placing : (l : List Cell) (clue : List ℕ) (x : List Bool) → IsPlacing l clue x → IsLaid l clue (run_starts x)
@@ -184,16 +181,12 @@ no_run_to l clue gap ahead m g a p h =
 pub no_run_from : (l : List Cell) (clue : List ℕ) (gap ahead m : ℕ) → length clue ≡ 0 → 0 < length l → IsMaskOf (IsGap l clue 0) gap
     → IsMaskOf (IsGapAhead l clue 0) ahead
     → IsMaskOf (λ i. Has gap i × Has ahead i) m → HasPlacing l clue → Has m 0
-no_run_from l clue gap ahead m none some g a q p = by (get_or p.0 0 false) refl
-  where
-    by : (v : Bool) → get_or p.0 0 false ≡ v → Has m 0
-    by true e = let c = covered p.0 clue 0 p.2 e in let bad : c.index < length clue = c.inside in absurd (omega arith)
-    by false e =
-        let b = blankable_from l clue 0 some (p.0, p.1, p.2, e) in
-        let low : b.0 ≤ length clue = b.1 in
-        let at : b.0 ≡ 0 = omega arith in
-        (meet_of (IsGap l clue 0) (IsGapAhead l clue 0) gap ahead m g a q).from 0
-        (subst (λ (k : ℕ). IsGap l clue k 0 × IsGapAhead l clue k 0) at (b.2, b.3))
+no_run_from l clue gap ahead m none some g a q p =
+    let blank = false_from_ne_true (get_or p.0 0 false) (λ e. let c = covered p.0 clue 0 p.2 e in omega (arith, c.inside)) in
+    let b = blankable_from l clue 0 some (p.0, p.1, p.2, blank) in
+    let first : b.0 ≡ 0 = omega (arith, b.1) in
+    (meet_of (IsGap l clue 0) (IsGapAhead l clue 0) gap ahead m g a q).from 0
+    (subst (λ (k : ℕ). IsGap l clue k 0 × IsGapAhead l clue k 0) first (b.2, b.3))
 
 -- ---- what the two searches answer
 

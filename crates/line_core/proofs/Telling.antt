@@ -13,8 +13,7 @@ use Rattle.grid_core.proofs.LineCells.{cell_at, length_line}
 
 either_first : (f b m : ℕ) → IsMaskOf (λ i. Has f i ⊎ Has b i) m → (has f 0 || has b 0) ≡ has m 0
 either_first f b m p =
-    sym (has_by m 0 (has f 0 || has b 0)
-    (λ h. elim (p.to 0 h) [
+    sym (has_by m 0 (has f 0 || has b 0) (λ h. elim (p.to 0 h) [
       | inl x ↦ or_left (has f 0) (has b 0) (has_true f 0 x)
       | inr x ↦ or_right (has f 0) (has b 0) (has_true b 0 x)
     ]) (λ e. p.from 0 (elim (or_cases (has f 0) (has b 0) e) [ inl x ↦ inl (true_has f 0 x) | inr x ↦ inr (true_has b 0 x) ])))

@@ -62,9 +62,6 @@ fillable_to l clue i pos (j, jl, (z, zb, w)) =
 pub fillable_from : (l : List Cell) (clue : List ℕ) (i : ℕ) → CanBe l clue true i → IsFillable l clue i
 fillable_from l clue i (x, agree, is, at) =
     let c = covered x clue i is at in
-    let low = c.from in
-    let high = c.to in
-    let e = get_or (starts_from 0 false x) c.index 0 + get_or clue c.index 0 - 1 in
-    let far : e ≡ i + (e - i) = omega arith in
-    let end = subst (IsWholeEnd l clue c.index) far (whole_of l clue x c.index e agree is c.inside (omega arith)) in
-    (c.index, c.inside, (e - i, omega arith, end))
+    let z = get_or (starts_from 0 false x) c.index 0 + get_or clue c.index 0 - 1 - i in
+    let end = whole_of l clue x c.index (i + z) agree is c.inside (omega (arith, c.from, c.to)) in
+    (c.index, c.inside, (z, omega (arith, c.from, c.to), end))
