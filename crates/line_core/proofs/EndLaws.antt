@@ -1,6 +1,6 @@
 -- What the leftmost and the rightmost starts are.
 use Rattle.std.proofs.lemmas.Bool.{cases_Bool}
-use Rattle.line_core.proofs.Names.{rules, ◌≡◌, ℕ, zero, suc, ◌<◌, Bool, true, false, List, [], ◌∷◌, length, map, Some, refl, sym, ap, ◌∙◌, subst, arith, inl, inr, ◌⊎◌, get_or, nat_le, filter, All-head, All-tail, All, list_all, find, range_with_len, cases_lt, leb-true, le-leb, length-map-range_with_len, get_or-map-range_with_len, Cell, runs, is_positive, stretches, placings, run_starts, all_starts, ArePositive, Side, Left, Right, outermost, IsAsFar}
+use Rattle.line_core.proofs.Names.{rules, ◌≡◌, ℕ, zero, suc, ◌<◌, Bool, true, List, [], ◌∷◌, length, map, Some, refl, sym, ap, ◌∙◌, subst, arith, inl, inr, ◌⊎◌, get_or, nat_le, filter, All-head, All-tail, All, list_all, find, range_with_len, cases_lt, leb-true, le-leb, length-map-range_with_len, get_or-map-range_with_len, Cell, runs, is_positive, stretches, placings, run_starts, all_starts, ArePositive, Side, Left, Right, outermost, IsAsFar}
 use Rattle.line_core.specs.Ends.{AreStarts}
 use Rattle.line_core.proofs.DeductionLaws.{IsPlacing, placings_listed, test_IsPlacing, IsPlacing_test}
 use Rattle.line_core.proofs.Outermost.{all_as_far, laid_placing, outermost_found, outermost_of, placed, pass_all}
@@ -47,9 +47,6 @@ is_far side i other h = search (rules, leb-true)
 far_is : (side : Side) (i other : ℕ) → IsAsFar side i other → as_far side i other ≡ true
 far_is side i other h = search (rules, le-leb)
 
-far_same : (side : Side) (i : ℕ) → IsAsFar side i i
-far_same side i = search rules
-
 far_then : (side : Side) (i j k : ℕ) → IsAsFar side i j → IsAsFar side j k → IsAsFar side i k
 far_then side i j k a b = search rules
 
@@ -60,7 +57,7 @@ either_far Right i j = elim (cases_lt i j) [ inl low ↦ inr (omega arith) | inr
 -- a member at which a number is furthest to a side
 outer_member : (side : Side) (P : List Bool → Type 0) (f : List Bool → ℕ) (x : List Bool) (ps : List (List Bool)) → P x →
     All P ps → (z : List Bool) × P z × IsAsFar side (f z) (f x) × (list_all (λ y. as_far side (f z) (f y)) ps ≡ true)
-outer_member side P f x [] p all = (x, p, far_same side (f x), refl)
+outer_member side P f x [] p all = (x, p, search rules, refl)
 outer_member side P f x (y ∷ ps) p all =
     elim (either_far side (f x) (f y)) [
       | inl far ↦

@@ -1,5 +1,5 @@
 -- The cells of a line that may have a colour, and the lengths of runs.
-use Rattle.std.proofs.Common.{◌≡◌, ℕ, ◌+◌, ◌<◌, ◌≤◌, Bool, true, false, List, length, get_or, set, sym, subst, arith, rules, inl, inr}
+use Rattle.std.proofs.Common.{◌≡◌, ℕ, ◌+◌, ◌<◌, ◌≤◌, true, false, List, length, get_or, set, sym, subst, arith, rules, inl, inr}
 use Rattle.grid_core.specs.declared.cells.Cell.{Cell}
 use Rattle.grid_core.specs.declared.cells.Cell.TheVariants.{Unknown}
 use Rattle.grid_core.specs.Cells.{allows, is_filled}
@@ -16,18 +16,10 @@ free_to c e = search rules
 free_from : (c : Cell) → allows c false ≡ true → is_filled c ≡ false
 free_from c e = search rules
 
--- a set of the places that another lacks, which has a line's cells of one colour, has those that may have the
--- other colour
-may_be_is : (line : List Cell) (set_of m : ℕ) (test : Cell → Bool) (filled : Bool)
-    → ((c : Cell) → test c ≡ false → allows c filled ≡ true) → ((c : Cell) → allows c filled ≡ true → test c ≡ false)
-    → ((i : ℕ) → i < length line → has set_of i ≡ test (get_or line i Unknown))
-    → IsMaskOf (λ i. (i < length line) × (has set_of i ≡ false)) m → IsMaskOf (MayBe line filled) m
-may_be_is line set_of m test filled to from same lacking = search rules
-
 -- the cells that may be blank are those that the set of filled ones lacks
 pub free_is : (line : List Cell) (filled m : ℕ) → ((i : ℕ) → i < length line → has filled i ≡ is_filled (get_or line i Unknown))
     → IsMaskOf (λ i. (i < length line) × (has filled i ≡ false)) m → IsMaskOf (MayBe line false) m
-free_is line filled m = may_be_is line filled m is_filled false free_to free_from
+free_is line filled m same lacking = search (rules, free_to, free_from)
 
 -- a mask of nothing
 pub none_is : (P : ℕ → Type 0) (m : ℕ) → m ≡ 0 → ((i : ℕ) → P i → ⊥) → IsMaskOf P m

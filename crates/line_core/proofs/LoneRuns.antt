@@ -1,5 +1,5 @@
 -- A clue of one run: its starts tell which cells can be filled and which can be blank.
-use Rattle.line_core.proofs.Names.{false_from_ne_true, rules, ◌≡◌, ℕ, ◌+◌, ◌-◌, ◌<◌, ◌≤◌, Bool, true, false, List, [], ◌∷◌, length, refl, sym, ap, ◌∙◌, subst, arith, true≢false, ◌⊎◌, inl, inr, get_or, cases_lt, Cell, agrees, runs, Has, has, IsMaskOf, IsShifted, AllFrom, SomeFrom, has_true, mask_same, MayBe, IsFillable, IsBlankable, ArePositive, lacks, none_has, none_is}
+use Rattle.line_core.proofs.Names.{false_from_ne_true, rules, ◌≡◌, ℕ, ◌+◌, ◌-◌, ◌<◌, ◌≤◌, Bool, true, false, List, [], ◌∷◌, length, sym, ap, ◌∙◌, subst, arith, true≢false, ◌⊎◌, inl, inr, get_or, cases_lt, Cell, agrees, runs, Has, has, IsMaskOf, IsShifted, AllFrom, SomeFrom, has_true, mask_same, MayBe, IsFillable, IsBlankable, ArePositive, lacks, none_has, none_is}
 use Rattle.line_core.specs.steps.Lone.{IsLoneStart}
 use Rattle.line_core.proofs.Joining.{blankable_to, blankable_from}
 use Rattle.line_core.proofs.WholeEnds.{fillable_to, fillable_from}
@@ -201,15 +201,10 @@ lone_blankable l clue w len line starts first last certain m pos one e short s a
     out : (i : ℕ) → LeavesFrom l (get_or clue 0 0) i → Has certain i → ⊥
     out i f h =
         let x = c.to i h in
-        let low : last ≤ i = x.1 in
-        let high : i < first + get_or clue 0 0 = x.2 in
         let most = greatest f.0 (s.from f.0 f.1) in
         let few = least f.0 (s.from f.0 f.1) in
-        elim f.2 [ inl y ↦ absurd (omega arith) | inr y ↦ absurd (omega arith) ]
+        elim f.2 [ inl y ↦ omega (arith, x.1, x.2) | inr y ↦ omega (arith, x.1, x.2) ]
 
     from : (i : ℕ) → IsBlankable l clue i → Has line i × (has certain i ≡ false)
     from i h =
-        let within : i < length l = h.2.0.0 in (
-          a.from i (omega arith),
-          lacks certain i (out i (leaves_to l clue i one h)),
-        )
+        let within : i < length l = h.2.0.0 in (a.from i (omega arith), lacks certain i (out i (leaves_to l clue i one h)))

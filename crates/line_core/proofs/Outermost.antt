@@ -1,6 +1,6 @@
 -- The placing whose starts are all least, and the one whose starts are all greatest.
 use Rattle.std.proofs.lemmas.Bool.{cases_Bool}
-use Rattle.line_core.proofs.Names.{inl, inr, false_from_ne_true, rules, ◌≡◌, ℕ, zero, suc, ◌+◌, ◌-◌, ◌<◌, ◌≤◌, Bool, true, false, not, ◌&&◌, List, [], ◌∷◌, length, map, Some, None, refl, sym, ap, ◌∙◌, subst, arith, get_or, ext_get_or, nat_le, set, take, MatchBool, All, list_all, find, All-head, All-tail, All-weaker, and_parts, leb-true, le-leb, list_all-map, length-take-le, get_or-take, Cell, placings, run_starts, all_starts, Side, Left, Right, outermost, IsAsFar, IsOuterStart, Has, IsMaskOf, meet_of, written_more, IsWholeEnd, IsGap, IsGapAhead, HasPlacing, ArePositive}
+use Rattle.line_core.proofs.Names.{inl, inr, false_from_ne_true, rules, ◌≡◌, ℕ, zero, suc, ◌+◌, ◌-◌, ◌<◌, ◌≤◌, Bool, true, false, not, List, [], ◌∷◌, length, map, Some, None, refl, sym, ap, ◌∙◌, subst, arith, get_or, ext_get_or, nat_le, set, take, MatchBool, All, list_all, find, All-head, All-tail, All-weaker, and_parts, leb-true, le-leb, list_all-map, length-take-le, get_or-take, Cell, placings, run_starts, all_starts, Side, Left, Right, outermost, IsAsFar, IsOuterStart, Has, IsMaskOf, meet_of, written_more, IsWholeEnd, IsGap, IsGapAhead, HasPlacing, ArePositive}
 use lib.Pointwise.{pointwise}
 use Rattle.line_core.proofs.Joining.{positive_at, blankable_to, blankable_from}
 use Rattle.line_core.proofs.WholeEnds.{whole_of, placing_with}
@@ -120,17 +120,15 @@ outermost_of side l clue m pos f =
 pub some_end : (l : List Cell) (clue : List ℕ) (j : ℕ) → ArePositive clue → HasPlacing l clue → j < length clue
     → (e : ℕ) × IsWholeEnd l clue j e
 some_end l clue j pos p h =
-    let some : 0 < get_or clue j 0 = positive_at clue pos j h in
     let e = get_or (starts_from 0 false p.0) j 0 + get_or clue j 0 - 1 in
-    (e, whole_of l clue p.0 j e p.1 p.2 h (omega arith))
+    (e, whole_of l clue p.0 j e p.1 p.2 h (omega (arith, positive_at clue pos j h)))
 
 laid_end : (l : List Cell) (clue ss : List ℕ) (j : ℕ) → ArePositive clue → IsLaid l clue ss → j < length clue
     → IsWholeEnd l clue j (get_or ss j 0 + get_or clue j 0 - 1)
 laid_end l clue ss j pos d h =
-    let some : 0 < get_or clue j 0 = positive_at clue pos j h in
     let x = placing_of l clue ss pos d in
-    let at : get_or (starts_from 0 false x.0) j 0 ≡ get_or ss j 0 = ap (λ (z : List ℕ). get_or z j 0) x.3 in
-    whole_of l clue x.0 j (get_or ss j 0 + get_or clue j 0 - 1) x.1 x.2 h (omega arith)
+    let same : get_or (starts_from 0 false x.0) j 0 ≡ get_or ss j 0 = rw x.3 refl in
+    whole_of l clue x.0 j (get_or ss j 0 + get_or clue j 0 - 1) x.1 x.2 h (omega (arith, positive_at clue pos j h))
 
 as_far_start : (side : Side) (some end other start : ℕ) → 0 < some → start ≡ end + 1 - some → IsAsFar side end (other + some - 1)
     → IsAsFar side start other

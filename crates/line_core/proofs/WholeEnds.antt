@@ -37,19 +37,15 @@ placing_with l clue k e pos h w =
     let first : s + 0 < length l = (cells 0 some).0 in
     let a = w.0.1.0 in
     let b = w.1 in
-    let here : agrees (drop s l) (replicate c true ++ b.0) ≡ true =
-    agrees_span l true c s (e + 1) b.0 (omega arith) cells b.1 in
+    let here = agrees_span l true c s (e + 1) b.0 (omega arith) cells b.1 in
     let long : length a.0 ≡ s = length-agrees (behind Unknown l s) a.0 a.1 ∙ length_behind Unknown l s in
-    let x = onto a.0 (replicate c true ++ b.0) in
-    let clue_at : c ∷ drop (k + 1) clue ≡ drop k clue = ap (λ (n : ℕ). c ∷ drop n clue) (add-one k) ∙ sym (drop-cons clue k 0 h) in
+    let y = replicate c true ++ b.0 in
+    let clue_at : c ∷ drop (k + 1) clue ≡ drop k clue = rw add-one (sym (drop-cons clue k 0 h)) in
     let index : length (runs a.0) ≡ k = ap length a.2 ∙ length_behind 0 clue k in (
-      x,
-      subst (λ (t : List Cell). agrees t x ≡ true) (onto_behind Unknown l s (omega arith))
-          (agrees_onto (behind Unknown l s) (drop s l) a.0 (replicate c true ++ b.0) a.1 here),
-      runs_about a.0 c b.0 some a.3 b.3 ∙ ap (λ (p : List ℕ). onto p (c ∷ runs b.0)) a.2
-          ∙ ap (λ (q : List ℕ). onto (behind 0 clue k) (c ∷ q)) b.2
-          ∙ ap (onto (behind 0 clue k)) clue_at ∙ onto_behind 0 clue k (omega arith),
-      ap (λ (n : ℕ). get_or (starts_from 0 false x) n 0) (sym index) ∙ start_of_cut a.0 c b.0 some a.3 ∙ long,
+      onto a.0 y,
+      rw (onto_behind Unknown l s (omega arith)) at (agrees_onto (behind Unknown l s) (drop s l) a.0 y a.1 here),
+      runs_about a.0 c b.0 some a.3 b.3 ∙ rw (a.2, b.2, clue_at) (onto_behind 0 clue k (omega arith)),
+      ap (λ (n : ℕ). get_or (starts_from 0 false (onto a.0 y)) n 0) (sym index) ∙ start_of_cut a.0 c b.0 some a.3 ∙ long,
     )
 
 -- a cell that the masks tell filled is filled in a placing
