@@ -22,9 +22,8 @@ certain_is l clue ps k listed y p true true tf tb =
       not_all l clue ps listed (filled_at k) z.0 (record { extends = agrees-Extends l z.0 z.1; runs_are = z.2 }) z.3,
       not_all l clue ps listed (blank_at k) x.0 (record { extends = agrees-Extends l x.0 x.1; runs_are = x.2 }) (ap not x.3),
     ) refl
-certain_is l clue ps k listed y p true false tf tb = search (rules, true≢false, true_from_ne_false, filled_at, Extends-agrees)
-certain_is l clue ps k listed y p false true tf tb = search (rules, true≢false, false_from_ne_true, not_all, filled_at, blank_at, agrees-Extends, Extends-agrees)
-certain_is l clue ps k listed y p false false tf tb = search (rules, true≢false, true_from_ne_false, Extends-agrees)
+certain_is l clue ps k listed y p f b tf tb =
+    search (rules, true≢false, true_from_ne_false, false_from_ne_true, not_all, filled_at, blank_at, agrees-Extends, Extends-agrees)
 
 -- cells that are as two tests tell are the deduction of a line with a placing
 pub deduced-told : (l : List Cell) (clue : List ℕ) (d : List Cell) (f b : ℕ → Bool)

@@ -38,10 +38,12 @@ pub whole_ends-last_whole-requires : goal.whole_ends-last_whole-requires
 whole_ends-last_whole-requires g c = λ κs within.
     let clue = c.args.clue.now in
     let last = length clue - 1 in
-    let all : length clue ≡ last + 1 = (let ne = eqb-false (length clue) 0 (sym c.is_empty.ensures ∙ c.if-is_empty.false) in omega arith) in
+    let some = eqb-false (length clue) 0 (sym c.is_empty.ensures ∙ c.if-is_empty.false) in
+    let all : length clue ≡ last + 1 = omega arith in
     let e : c.loop-j.j ≡ last = (let test = c.loop-j-test.false in omega arith) in
     let ends = c.step-last_ends.ensures.ends g.line (behind 0 clue last) (rw e at c.loop-j.invariant.pass) in
-    let after = subst (λ n. IsMaskOf (IsGapAhead g.line clue n) (g.W.PlaceSet.number c.gap_ahead-after.result)) all c.gap_ahead-after.ensures in
+    let after = subst (λ n. IsMaskOf (IsGapAhead g.line clue n) (g.W.PlaceSet.number c.gap_ahead-after.result)) all
+    c.gap_ahead-after.ensures in
     (within.0, (within.1, (c.requires.1.1.1.0, (c.requires.1.1.1.1.0, (omega arith, (ends, after))))))
 
 pub returns-then-is_empty-clause-blank : goal.returns-then-is_empty-clause-blank
@@ -56,7 +58,8 @@ pub returns-clause-filled : goal.returns-clause-filled
 returns-clause-filled g c =
     let clue = c.args.clue.now in
     let last = length clue - 1 in
-    let all : length clue ≡ last + 1 = (let ne = eqb-false (length clue) 0 (sym c.is_empty.ensures ∙ c.if-is_empty.false) in omega arith) in
+    let some = eqb-false (length clue) 0 (sym c.is_empty.ensures ∙ c.if-is_empty.false) in
+    let all : length clue ≡ last + 1 = omega arith in
     let e : c.loop-j.j ≡ last = (let test = c.loop-j-test.false in omega arith) in
     let filled = fill_more g.line clue g.W.PlaceSet.TOP last _ _ _ c.whole_ends-last_whole.ensures c.add_spread-2.ensures
     (rw e at c.loop-j.invariant.filled) in
@@ -67,10 +70,13 @@ pub returns-clause-blank : goal.returns-clause-blank
 returns-clause-blank g c =
     let clue = c.args.clue.now in
     let last = length clue - 1 in
-    let all : length clue ≡ last + 1 = (let ne = eqb-false (length clue) 0 (sym c.is_empty.ensures ∙ c.if-is_empty.false) in omega arith) in
+    let some = eqb-false (length clue) 0 (sym c.is_empty.ensures ∙ c.if-is_empty.false) in
+    let all : length clue ≡ last + 1 = omega arith in
     let e : c.loop-j.j ≡ last = (let test = c.loop-j-test.false in omega arith) in
     let passed = c.step-last_ends.ensures.passed g.line (behind 0 clue last) (rw e at c.loop-j.invariant.pass) in
-    let gap : IsMaskOf (IsGap g.line clue (last + 1)) (g.W.PlaceSet.number c.gap-2.result) = rw (c.gap-2.ensures, add-one last) passed.gap_is in
-    let after = subst (λ n. IsMaskOf (IsGapAhead g.line clue n) (g.W.PlaceSet.number c.gap_ahead-after.result)) all c.gap_ahead-after.ensures in
+    let gap : IsMaskOf (IsGap g.line clue (last + 1)) (g.W.PlaceSet.number c.gap-2.result) =
+    rw (c.gap-2.ensures, add-one last) passed.gap_is in
+    let after = subst (λ n. IsMaskOf (IsGapAhead g.line clue n) (g.W.PlaceSet.number c.gap_ahead-after.result)) all
+    c.gap_ahead-after.ensures in
     rw (all, IsBlankable) (blank_more g.line clue last _ _ _ _ _ gap after (rw e at c.loop-j.invariant.blank) c.intersection-2.ensures
     c.union-blankable-2.ensures)
