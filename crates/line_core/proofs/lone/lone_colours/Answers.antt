@@ -1,5 +1,5 @@
 -- `lone_colours`: the run fills a cell from some start, or leaves it blank from some start.
-use Rattle.line_core.proofs.Names.{rules, ◌<◌, ℕ, arith, eqb-true, recursion_from_All, ArePositive}
+use Rattle.line_core.proofs.Names.{rules, arith, eqb-true, recursion_from_All, ArePositive}
 use Rattle.line_core.proofs.Joining.{positive_at}
 use Rattle.line_core.proofs.LoneRuns.{lone_unfillable, lone_unblankable, lone_fillable, lone_blankable}
 use Rattle.line_core.proofs.lone.lone_colours.Goals as goal
@@ -12,19 +12,16 @@ returns-then-is_empty-clause-blank g c = search (rules, eqb-true, lone_unblankab
 
 pub returns-clause-filled : goal.returns-clause-filled
 returns-clause-filled g c =
-    let clue = c.args.clue.now in
     let one = c.requires.1.1.1.1 in
-    let pos : ArePositive clue = recursion_from_All (λ (n : ℕ). 0 < n) clue c.requires.1.1.1.0.positive in
-    lone_fillable g.line clue _ _ _ _ pos one (positive_at clue pos 0 (omega arith)) c.requires.1.1.0.short c.lone_starts-starts.ensures
+    let pos : ArePositive c.args.clue.now = recursion_from_All _ _ c.requires.1.1.1.0.positive in
+    lone_fillable g.line _ _ _ _ _ pos one (positive_at _ pos 0 (omega arith)) c.requires.1.1.0.short c.lone_starts-starts.ensures
     c.shifted_up.ensures c.spread-fillable.ensures
 
 pub returns-clause-blank : goal.returns-clause-blank
 returns-clause-blank g c =
-    let clue = c.args.clue.now in
     let span = c.requires.1.1.0 in
-    let first = c.first_place in
-    let last = c.last_place in
-    let pos : ArePositive clue = recursion_from_All (λ (n : ℕ). 0 < n) clue c.requires.1.1.1.0.positive in
-    lone_blankable g.line clue _ _ _ _ _ _ _ _ pos c.requires.1.1.1.1 span.len_is span.short c.lone_starts-starts.ensures
-    first.ensures.in_mask first.ensures.least last.ensures.in_mask last.ensures.greatest c.lone_overlap-certain.ensures
+    let first = c.first_place.ensures in
+    let last = c.last_place.ensures in
+    lone_blankable g.line _ _ _ _ _ _ _ _ _ (recursion_from_All _ _ c.requires.1.1.1.0.positive) c.requires.1.1.1.1 span.len_is
+    span.short c.lone_starts-starts.ensures first.in_mask first.least last.in_mask last.greatest c.lone_overlap-certain.ensures
     c.first_places.ensures c.difference.ensures
