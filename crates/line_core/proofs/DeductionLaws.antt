@@ -63,8 +63,7 @@ Extends-allows c b h = search rules
 
 -- a full line agrees with a line exactly if it extends it
 pub agrees-Extends : (l : List Cell) (x : List Bool) → agrees l x ≡ true → Extends l (map colour x)
-agrees-Extends (c ∷ l) (b ∷ x) h =
-    (allows-Extends c b (and_parts (allows c b) (agrees l x) h).0, agrees-Extends l x ((and_parts (allows c b) (agrees l x) h).1))
+agrees-Extends (c ∷ l) (b ∷ x) h = search (rules, allows-Extends, agrees-Extends l x, and_parts)
 agrees-Extends l x h = search rules
 
 -- and a full line that extends a line agrees with it
@@ -110,10 +109,7 @@ each_full n q h x e = search rules
 
 list_all-filter : (p q : List Bool → Bool) (xs : List (List Bool)) → list_all q (filter p xs) ≡ list_all (λ x. cond (p x) (q x) true) xs
 list_all-filter p q [] = refl
-list_all-filter p q (x ∷ xs) =
-    elim (p x) as
-    (λ b. list_all q (cond b (x ∷ filter p xs) (filter p xs)) ≡ (cond b (q x) true && list_all (λ y. cond (p y) (q y) true) xs))
-    [ true ↦ ap (λ (b : Bool). q x && b) (list_all-filter p q xs) | false ↦ list_all-filter p q xs ]
+list_all-filter p q (x ∷ xs) = search (rules, list_all-filter p q xs)
 
 -- the placings of the definition are all placings
 pub placings_listed : (l : List Cell) (clue : List ℕ) → ListsPlacings l clue (placings l clue)
@@ -179,9 +175,6 @@ below_cell c filled blank f b = search rules
 
 filled_of : (x : Bool) → CellExtends Filled (colour x) → x ≡ true
 filled_of x h = search rules
-
-blank_of : (x : Bool) → CellExtends Blank (colour x) → x ≡ false
-blank_of x h = search rules
 
 length-shared : (n : ℕ) (ps : List (List Bool)) → length (map (shared_at ps) (range_with_len 0 n)) ≡ n
 length-shared n ps = length-map-range_with_len (shared_at ps) 0 n
@@ -250,7 +243,7 @@ colour_inj a b h = search rules
 
 full_same : (x y : List Bool) → Extends (map colour x) (map colour y) → y ≡ x
 full_same [] [] h = refl
-full_same (a ∷ x) (b ∷ y) h = λ i. colour_inj a b h.0 i ∷ full_same x y h.1 i
+full_same (a ∷ x) (b ∷ y) h = search (rules, colour_inj, full_same x y)
 full_same x y h = search rules
 
 -- a full line that isn't dead has the clue's runs
@@ -277,6 +270,4 @@ deduced-settled l d clue e =
 
 -- the deduced line is as long as the line
 pub length-deduced : (l d : List Cell) (clue : List ℕ) → Some d ≡ deduced l clue → length d ≡ length l
-length-deduced l d clue e =
-    let h : Extends l d = rw (sym e) at (deduced-above l clue) in
-    sym (length-Extends l d h)
+length-deduced l d clue e = sym (length-Extends l d (rw (sym e) at (deduced-above l clue)))

@@ -10,7 +10,7 @@ use Rattle.grid_core.specs.Cells.{allows, agrees}
 use Rattle.grid_core.specs.Runs.{runs}
 use Rattle.place_sets.specs.Masks.{AllFrom}
 use Rattle.line_core.specs.steps.Reach.{behind, HasPlacing, MayBeginBlank, MayBe, IsGapAfter, IsGap, IsGapAhead, IsBlankable}
-use Rattle.line_core.proofs.RunLaws.{ArePositive, runs_after-zero, runs_after-true, runs_after-false, runs_after-close, runs_after-nil}
+use Rattle.line_core.proofs.RunLaws.{ArePositive, runs_after-zero, runs_after-true, runs_after-close, runs_after-nil}
 use Rattle.line_core.proofs.Certain.{CanBe}
 
 -- a full line that agrees with a line is as long
@@ -20,9 +20,7 @@ length-agrees l x h = search rules
 
 -- a filled cell is on the line
 pub filled_within : (x : List Bool) (i : ℕ) → get_or x i false ≡ true → i < length x
-filled_within [] i h = cc
-filled_within (b ∷ x) zero h = omega arith
-filled_within (b ∷ x) (suc i) h = omega (arith, filled_within x i h)
+filled_within x i h = grind (arith, common_steps)
 
 pub filled_agrees : (l : List Cell) (x : List Bool) (i : ℕ) → agrees l x ≡ true → get_or x i false ≡ true → i < length l
 filled_agrees l x i agree filled = omega (arith, filled_within x i filled, length-agrees l x agree)
@@ -83,14 +81,6 @@ onto_split (r ∷ p) q clue e =
 
 -- ---- the runs of a line that is cut at a blank cell
 
-abbrev first_run : ℕ → List ℕ → List ℕ
-first_run zero rs = rs
-first_run (suc n) rs = suc n ∷ rs
-
-runs_after-cut : (n : ℕ) (b : List Bool) → runs_after n (false ∷ b) ≡ first_run n (runs b)
-runs_after-cut zero b = runs_after-false b ∙ runs_after-zero b
-runs_after-cut (suc n) b = runs_after-close n b ∙ ap (λ (rs : List ℕ). suc n ∷ rs) (runs_after-zero b)
-
 runs_after-more : (m n : ℕ) (y : List Bool) → runs_after m (replicate n true ++ y) ≡ runs_after (m + n) y
 runs_after-more m zero y = ap (λ (k : ℕ). runs_after k y) (sym (add-zero m))
 runs_after-more m (suc n) y =
@@ -100,24 +90,6 @@ runs_after-more m (suc n) y =
 -- the runs of a line that begins with a run
 pub runs_run : (n : ℕ) (y : List Bool) → runs (replicate n true ++ y) ≡ runs_after n y
 runs_run n y = sym (runs_after-zero (replicate n true ++ y)) ∙ runs_after-more 0 n y ∙ ap (λ (k : ℕ). runs_after k y) (zero-add n)
-
-runs_onto : (a : List Bool) (n : ℕ) (b : List Bool) → runs (onto a (replicate n true ++ (false ∷ b))) ≡ onto (runs_after n a) (runs b)
-runs_onto [] n b = runs_run n (false ∷ b) ∙ runs_after-cut n b ∙ by n
-  where
-    by : (n : ℕ) → first_run n (runs b) ≡ onto (runs_after n []) (runs b)
-    by zero = ap (λ (p : List ℕ). onto p (runs b)) (sym (runs_after-zero []))
-    by (suc n) = ap (λ (p : List ℕ). onto p (runs b)) (sym (runs_after-nil n))
-runs_onto (true ∷ a) n b = runs_onto a (suc n) b ∙ ap (λ (p : List ℕ). onto p (runs b)) (sym (runs_after-true n a))
-runs_onto (false ∷ a) n b =
-    runs_onto a 0 (replicate n true ++ (false ∷ b)) ∙ ap (onto (runs_after 0 a)) (runs_run n (false ∷ b) ∙ runs_after-cut n b) ∙ by n
-  where
-    by : (n : ℕ) → onto (runs_after 0 a) (first_run n (runs b)) ≡ onto (runs_after n (false ∷ a)) (runs b)
-    by zero = ap (λ (p : List ℕ). onto p (runs b)) (sym (runs_after-false a))
-    by (suc n) = ap (λ (p : List ℕ). onto p (runs b)) (sym (runs_after-close n a))
-
--- the runs of a line that is cut at a blank cell are those of both parts
-pub runs_cut : (a b : List Bool) → runs (onto a (false ∷ b)) ≡ onto (runs a) (runs b)
-runs_cut a b = runs_onto a 0 b ∙ ap (λ (p : List ℕ). onto p (runs b)) (runs_after-zero a)
 
 -- a run, if it doesn't go on after its cells
 pub runs_closed : (n : ℕ) (b : List Bool) → get_or b 0 false ≡ false → runs_after (suc n) b ≡ suc n ∷ runs b
@@ -129,6 +101,19 @@ runs_closed n (false ∷ b) h = runs_after-close n b ∙ ap (λ (rs : List ℕ).
 pub runs_first : (c : ℕ) (b : List Bool) → 0 < c → get_or b 0 false ≡ false → runs (replicate c true ++ b) ≡ c ∷ runs b
 runs_first zero b p k = absurd (omega arith)
 runs_first (suc n) b p k = runs_run (suc n) b ∙ runs_closed n b k
+
+runs_onto : (a : List Bool) (n : ℕ) (b : List Bool) → runs (onto a (replicate n true ++ (false ∷ b))) ≡ onto (runs_after n a) (runs b)
+runs_onto [] zero b = refl
+runs_onto [] (suc n) b = rw (runs_after-nil n) (runs_first (suc n) (false ∷ b) (omega arith) refl)
+runs_onto (true ∷ a) n b = rw (runs_after-true n a) (runs_onto a (suc n) b)
+runs_onto (false ∷ a) zero b = runs_onto a 0 (false ∷ b) ∙ ap (λ (p : List ℕ). onto p (runs b)) (runs_after-zero a)
+runs_onto (false ∷ a) (suc n) b =
+    runs_onto a 0 (replicate (suc n) true ++ (false ∷ b)) ∙ ap (onto (runs_after 0 a)) (runs_first (suc n) (false ∷ b) (omega arith) refl)
+    ∙ rw (runs_after-close n a) refl
+
+-- the runs of a line that is cut at a blank cell are those of both parts
+pub runs_cut : (a b : List Bool) → runs (onto a (false ∷ b)) ≡ onto (runs a) (runs b)
+runs_cut a b = runs_onto a 0 b ∙ ap (λ (p : List ℕ). onto p (runs b)) (runs_after-zero a)
 
 -- the runs of a line that is cut round a run
 pub runs_about : (a : List Bool) (c : ℕ) (b : List Bool) → 0 < c → get_or a 0 false ≡ false → get_or b 0 false ≡ false
@@ -193,10 +178,9 @@ pub record Begins (y : List Bool) : Type 0 where
 
 -- each line begins so
 pub begins : (y : List Bool) → Begins y
-begins [] = record { count = 0; rest = []; whole = refl; closed = refl }
-begins (false ∷ y) = record { count = 0; rest = false ∷ y; whole = refl; closed = refl }
 begins (true ∷ y) =
     let b = begins y in record { count = suc b.count; rest = b.rest; whole = ap (λ (t : List Bool). true ∷ t) b.whole; closed = b.closed }
+begins y = record { count = 0; rest = y; whole = refl; closed = search rules }
 
 -- a line whose first cell is filled begins with a run
 pub begins_some : (y : List Bool) (b : Begins y) → get_or y 0 false ≡ true → 0 < b.count
@@ -263,13 +247,8 @@ closed_behind_to l runs (suc s) sl h = search rules
 -- and back
 pub closed_behind_from : (l : List Cell) (runs : List ℕ) (s : ℕ) → ((s ≡ 0) × (length runs ≡ 0)) ⊎ ((1 ≤ s) × IsGapAfter l runs (s - 1))
     → MayBeginBlank (behind Unknown l s) runs
-closed_behind_from l runs zero (inl h) = none_closed runs h.1
-closed_behind_from l runs (suc s) (inr h) =
-    let e : suc s - 1 ≡ s = omega arith in
-    let gap = subst (IsGapAfter l runs) e h.1 in
-    first_closed (get_or l s Unknown) (behind Unknown l s) runs gap.0.1 gap.1
-closed_behind_from l runs zero (inr h) = absurd (omega (arith, h.0))
-closed_behind_from l runs (suc s) (inl h) = absurd (omega (arith, h.0))
+closed_behind_from l runs zero h = search (rules, none_closed)
+closed_behind_from l runs (suc s) h = search (rules, first_closed)
 
 -- ---- a line and a clue seen from the other end
 

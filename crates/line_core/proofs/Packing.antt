@@ -3,12 +3,12 @@ use Rattle.std.proofs.lemmas.Grind.{common_steps}
 use Rattle.std.proofs.Common.{rules, ◌≡◌, ℕ, zero, suc, ◌+◌, ◌-◌, ◌*◌, ◌<◌, ◌≤◌, ◌≢◌, Bool, true, false, cond, List, [], ◌∷◌, length, replicate, map, nat_le, nat_lt, refl, sym, ap, ◌∙◌, subst, arith, add-one, true≢false, ◌⊎◌, inl, inr, get_or, ext_get_or}
 use Rattle.std.specs.List.{range_with_len}
 use Rattle.std.proofs.lemmas.Bool.Decides.{nat_tests}
-use Rattle.std.proofs.lemmas.Bool.{false_from_ne_true, false≢true, cases_lt}
+use Rattle.std.proofs.lemmas.Bool.{false_from_ne_true, cases_lt}
 use Rattle.std.proofs.lemmas.List.{take_all, length-replicate, get_or-replicate}
 use Rattle.std.proofs.lemmas.List.FromFn.{length-map-range_with_len, get_or-map-range_with_len}
 use Rattle.std.proofs.lemmas.List.Sums.{sum_by_more, sum_by-take-le}
 use Rattle.grid_core.specs.declared.cells.Cell.{Cell}
-use Rattle.grid_core.specs.declared.cells.Cell.TheVariants.{Unknown, Filled, Blank}
+use Rattle.grid_core.specs.declared.cells.Cell.TheVariants.{Unknown}
 use Rattle.grid_core.specs.Cells.{agrees}
 use Rattle.grid_core.specs.Runs.{runs}
 use Rattle.place_sets.specs.Masks.{Has, has, IsMaskOf, IsShifted}
@@ -152,8 +152,7 @@ reaches clue slack i zero some h to = (0, h, omega arith, to)
 reaches clue slack i (suc j) some h to =
     let next = start_next clue j (omega arith) in
     elim (cases_lt i (least_start clue (suc j))) [
-      | inl low ↦ reaches clue slack i j some (omega arith) (omega arith)
-      | inr high ↦ (suc j, h, high, to)
+      inl low ↦ reaches clue slack i j some (omega arith) (omega arith) | inr high ↦ (suc j, h, high, to)
     ]
 
 filled_by : (l : List Cell) (clue : List ℕ) (slack i : ℕ) → AnyColour l → ArePositive clue → needed clue + slack ≡ length l + 1
@@ -259,10 +258,9 @@ overlap_more clue w slack j start old some shifted new within h long at o p q r 
         elim (cases_lt x.0 j) [
           | inl low ↦ inl (o.from i (x.0, low, x.2, x.3))
           | inr high ↦
-              (let below : x.0 < j + 1 = x.1 in
-              let e : x.0 ≡ j = omega arith in
-              let low : least_start clue j + slack ≤ i = subst (λ (k : ℕ). least_start clue k + slack ≤ i) e x.2 in
-              let end : i < least_start clue j + get_or clue j 0 = subst (λ (k : ℕ). i < least_start clue k + get_or clue k 0) e x.3 in
+              (let e : x.0 ≡ j = omega (arith, x.1) in
+              let low : least_start clue j + slack ≤ i = rw e at x.2 in
+              let end : i < least_start clue j + get_or clue j 0 = rw e at x.3 in
               inr (q.from i (omega (arith, start_next clue j h, start_within clue (suc j)), omega arith, p.from (i - start) (omega arith))))
         ]
 
@@ -295,13 +293,7 @@ unknown_to l len free room known long f r p e =
     (λ i h. by i h (get_or l i Unknown) refl ∙ sym (get_or-replicate len i Unknown Unknown (omega arith)))
   where
     by : (i : ℕ) → i < length l → (c : Cell) → get_or l i Unknown ≡ c → c ≡ Unknown
-    by i h Unknown at = refl
-    by i h Filled at =
-        absurd (none_has known i e (p.from i (λ same.
-        false≢true (rw at at (f.to i (true_has free i (same ∙ has_true room i (r.from i (h, rw at refl))))).1))))
-    by i h Blank at =
-        absurd (none_has known i e (p.from i (λ same.
-        false≢true (rw at at (r.to i (true_has room i (sym same ∙ has_true free i (f.from i (h, rw at refl))))).1))))
+    by i h c at = grind (arith, none_has known i e, p.from i, f.to i, r.to i, f.from i, r.from i, has_true, true_has, has_by)
 
 -- and if nothing is known, they are the same
 pub unknown_from : (l : List Cell) (len free room known : ℕ) → IsMaskOf (MayBe l false) free → IsMaskOf (MayBe l true) room

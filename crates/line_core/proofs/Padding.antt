@@ -1,6 +1,6 @@
 -- A line with blank cells behind it has the placings of the line alone.
 use Rattle.std.proofs.lemmas.Grind.{common_steps}
-use Rattle.std.proofs.Common.{rules, ◌≡◌, ℕ, zero, suc, ◌<◌, Bool, true, false, List, [], ◌∷◌, ◌++◌, length, replicate, get_or, refl, sym, ap, ◌∙◌, arith, true≢false, length-append}
+use Rattle.std.proofs.Common.{rules, ◌≡◌, ℕ, zero, suc, ◌<◌, Bool, true, false, List, [], ◌∷◌, ◌++◌, length, replicate, get_or, refl, sym, ap, ◌∙◌, arith, length-append}
 use Rattle.std.proofs.lemmas.Bool.{and_from, and_parts}
 use Rattle.std.proofs.lemmas.List.{get_or_append_left}
 use Rattle.grid_core.specs.declared.cells.Cell.{Cell}
@@ -21,16 +21,10 @@ use Rattle.line_core.proofs.WholeEnds.{fillable_to, fillable_from}
 runs_after-blanks : (x : List Bool) (n m : ℕ) → runs_after n (x ++ replicate m false) ≡ runs_after n x
 runs_after-blanks [] n zero = refl
 runs_after-blanks [] zero (suc m) = runs_after-false (replicate m false) ∙ runs_after-blanks [] zero m
-runs_after-blanks [] (suc n) (suc m) =
-    runs_after-close n (replicate m false) ∙ ap (λ (ns : List ℕ). suc n ∷ ns) (runs_after-blanks [] zero m ∙ runs_after-zero [])
-    ∙ sym (runs_after-nil n)
-runs_after-blanks (true ∷ x) n m =
-    runs_after-true n (x ++ replicate m false) ∙ runs_after-blanks x (suc n) m ∙ sym (runs_after-true n x)
-runs_after-blanks (false ∷ x) zero m =
-    runs_after-false (x ++ replicate m false) ∙ runs_after-blanks x zero m ∙ sym (runs_after-false x)
-runs_after-blanks (false ∷ x) (suc n) m =
-    runs_after-close n (x ++ replicate m false) ∙ ap (λ (ns : List ℕ). suc n ∷ ns) (runs_after-blanks x zero m)
-    ∙ sym (runs_after-close n x)
+runs_after-blanks [] (suc n) (suc m) = grind (arith, runs_after-close, runs_after-blanks [] zero m, runs_after-zero, runs_after-nil)
+runs_after-blanks (true ∷ x) n m = grind (arith, runs_after-true, runs_after-blanks x (suc n) m)
+runs_after-blanks (false ∷ x) zero m = grind (arith, runs_after-false, runs_after-blanks x zero m)
+runs_after-blanks (false ∷ x) (suc n) m = grind (arith, runs_after-close, runs_after-blanks x zero m)
 
 -- blank cells behind a full line are no run
 runs-blanks : (x : List Bool) (m : ℕ) → runs (x ++ replicate m false) ≡ runs x
@@ -47,9 +41,7 @@ agree_blanks m y h = search rules
 agrees_more : (l : List Cell) (x : List Bool) (m : ℕ) → agrees l x ≡ true
     → agrees (l ++ replicate m Blank) (x ++ replicate m false) ≡ true
 agrees_more [] [] m h = blanks_agree m
-agrees_more (c ∷ l) (b ∷ x) m h =
-    let parts = and_parts (allows c b) (agrees l x) h in
-    and_from (allows c b) (agrees (l ++ replicate m Blank) (x ++ replicate m false)) parts.0 (agrees_more l x m parts.1)
+agrees_more (c ∷ l) (b ∷ x) m h = search (rules, and_from, and_parts, agrees_more l x m)
 agrees_more l x m h = search rules
 
 agrees_cut : (l : List Cell) (y : List Bool) (m : ℕ) → agrees (l ++ replicate m Blank) y ≡ true
@@ -65,9 +57,7 @@ blank_at : (m k : ℕ) → get_or (replicate m false) k false ≡ false
 blank_at m k = grind (arith, common_steps)
 
 filled_within : (x : List Bool) (m k : ℕ) → get_or (x ++ replicate m false) k false ≡ true → k < length x
-filled_within [] m k e = absurd (true≢false (sym e ∙ blank_at m k))
-filled_within (b ∷ x) m zero e = omega arith
-filled_within (b ∷ x) m (suc k) e = omega (arith, filled_within x m k e)
+filled_within x m k e = grind (arith, common_steps, blank_at)
 
 module _ (l : List Cell) (clue : List ℕ) (m : ℕ) where
   abbrev longer : List Cell

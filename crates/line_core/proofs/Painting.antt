@@ -32,10 +32,9 @@ pub record IsLaid (l : List Cell) (clue ss : List ℕ) : Type 0 where
 
 pub agrees_at : (l : List Cell) (x : List Bool) (i : ℕ) → agrees l x ≡ true → i < length l
     → allows (get_or l i Unknown) (get_or x i false) ≡ true
-agrees_at [] x i a h = absurd (omega arith)
-agrees_at (c ∷ l) [] i a h = cc
 agrees_at (c ∷ l) (b ∷ x) zero a h = (and_parts (allows c b) (agrees l x) a).0
 agrees_at (c ∷ l) (b ∷ x) (suc i) a h = agrees_at l x i (and_parts (allows c b) (agrees l x) a).1 (omega arith)
+agrees_at l x i a h = search rules
 
 -- the starts of a placing lay the clue
 pub laid : (l : List Cell) (clue : List ℕ) (x : List Bool) → agrees l x ≡ true → runs x ≡ clue → IsLaid l clue (starts_from 0 false x)
@@ -83,8 +82,7 @@ starts_first m (suc n) p s y ss e h k r =
   where
     closed : (p : ℕ) (y : List Bool) → get_or y 0 false ≡ false → starts_from p true y ≡ starts_from p false y
     closed p [] h = refl
-    closed p (true ∷ y) h = cc
-    closed p (false ∷ y) h = refl
+    closed p (b ∷ y) h = search rules
 
 blank_head : (m : ℕ) (y : List Bool) → (0 < length y → 0 < m) → get_or (replicate m false ++ y) 0 false ≡ false
 blank_head zero [] h = refl
@@ -113,8 +111,6 @@ paint l p [] [] pos h e first windows apart blanks =
       starts_are = starts_past false m p (length l) [] (omega arith);
       head = λ h. blank_head m [] (λ k. absurd (omega arith));
     }
-paint l p [] (s ∷ ss) pos h e first windows apart blanks = absurd (omega arith)
-paint l p (c ∷ clue) [] pos h e first windows apart blanks = absurd (omega arith)
 paint l p (c ∷ clue) (s ∷ ss) pos h e first windows apart blanks =
     let some : 0 < c = pos.0 in
     let start : p ≤ s = first (omega arith) in
@@ -139,6 +135,7 @@ paint l p (c ∷ clue) (s ∷ ss) pos h e first windows apart blanks =
     by : (i : ℕ) → s + c ≤ i → IsFree clue ss i → IsFree (c ∷ clue) (s ∷ ss) i
     by i a free zero h from to = absurd (omega arith)
     by i a free (suc j) h from to = free j (omega arith) from to
+paint l p clue ss pos h e first windows apart blanks = absurd (omega arith)
 
 -- starts that lay a clue are those of a placing
 pub placing_of : (l : List Cell) (clue ss : List ℕ) → ArePositive clue → IsLaid l clue ss
@@ -154,10 +151,9 @@ ends_before : (clue ss : List ℕ) → StandApart clue ss → (i j : ℕ) → i 
     → get_or ss i 0 + get_or clue i 0 < get_or ss j 0
 ends_before clue ss apart i zero h k = absurd (omega arith)
 ends_before clue ss apart i (suc j) h k =
-    let next = apart j k in
     elim (cases_lt i j) [
-      | inl low ↦ (let rest = ends_before clue ss apart i j low (omega arith) in omega arith)
-      | inr high ↦ (let e : j ≡ i = omega arith in subst (λ (q : ℕ). get_or ss q 0 + get_or clue q 0 < get_or ss (suc j) 0) e next)
+      | inl low ↦ omega (arith, apart j k, ends_before clue ss apart i j low (omega arith))
+      | inr high ↦ (let e : i ≡ j = omega arith in rw e (apart j k))
     ]
 
 -- some starts that lay the clue, with a given start of one run

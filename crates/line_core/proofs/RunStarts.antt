@@ -1,5 +1,5 @@
 -- At which places the runs of a full line start.
-use Rattle.std.proofs.Common.{rules, ◌≡◌, ℕ, zero, suc, ◌+◌, ◌-◌, ◌<◌, ◌≤◌, Bool, true, false, not, cond, ◌&&◌, List, [], ◌∷◌, ◌++◌, length, replicate, filter, refl, sym, ap, ◌∙◌, subst, arith, add-zero, zero-add, add-one, true≢false, inl, inr, drop, get_or, drop-cons, append_assoc}
+use Rattle.std.proofs.Common.{rules, ◌≡◌, ℕ, zero, suc, ◌+◌, ◌-◌, ◌<◌, ◌≤◌, Bool, true, false, not, ◌&&◌, List, [], ◌∷◌, ◌++◌, length, replicate, filter, refl, sym, ap, ◌∙◌, subst, arith, add-zero, zero-add, add-one, true≢false, inl, inr, drop, get_or, drop-cons, append_assoc}
 use Rattle.std.proofs.Math.Seq.{get_or-append_seam}
 use Rattle.std.proofs.lemmas.Bool.{cases_lt}
 use Rattle.std.specs.List.{range_with_len}
@@ -30,12 +30,8 @@ starts-filter : (whole rest : List Bool) (p : ℕ) (after : Bool) → ((k : ℕ)
 starts-filter whole [] p after h = refl
 starts-filter whole (b ∷ rest) p after h =
     let here : starts_run whole p ≡ (b && not after) = ap (starts_run whole) (sym (add-zero p)) ∙ h 0 in
-    rw (add-one p, here, starts-filter whole rest (suc p) b next) (by b after)
+    rw (add-one p, here, starts-filter whole rest (suc p) b next) (search rules)
   where
-    by : (b after : Bool)
-        → cond (b && not after) (p ∷ starts_from (suc p) b rest) (starts_from (suc p) b rest) ≡ starts_from p after (b ∷ rest)
-    by b after = search rules
-
     next : (k : ℕ) → starts_run whole (suc p + k) ≡ starts_at b rest k
     next zero = let e : suc p + 0 ≡ p + 1 = omega arith in ap (starts_run whole) e ∙ h 1
     next (suc k) = let e : suc p + suc k ≡ p + suc (suc k) = omega arith in ap (starts_run whole) e ∙ h (suc (suc k))
@@ -44,11 +40,8 @@ starts-filter whole (b ∷ rest) p after h =
 pub run_starts-from : (x : List Bool) → run_starts x ≡ starts_from 0 false x
 run_starts-from x = starts-filter x x 0 false (λ k. ap (starts_run x) (zero-add k) ∙ by k)
   where
-    and_true : (b : Bool) → b ≡ (b && true)
-    and_true b = search rules
-
     by : (k : ℕ) → starts_run x k ≡ starts_at false x k
-    by zero = and_true (get_or x 0 false)
+    by zero = search rules
     by (suc k) = refl
 
 -- ---- how many there are, and their order
@@ -180,11 +173,7 @@ run_at x clue s is filled first =
 
 same_index : (x : List Bool) (i j : ℕ) → i < length (starts_from 0 false x) → j < length (starts_from 0 false x)
     → get_or (starts_from 0 false x) i 0 ≡ get_or (starts_from 0 false x) j 0 → i ≡ j
-same_index x i j hi hj e =
-    elim (cases_lt i j) [
-      | inl low ↦ absurd (omega (arith, starts_increase x 0 i j false low hj))
-      | inr high ↦ elim (cases_lt j i) [ inl low ↦ absurd (omega (arith, starts_increase x 0 j i false low hi)) | inr both ↦ omega arith ]
-    ]
+same_index x i j hi hj e = grind (arith, starts_increase x 0 i j false, starts_increase x 0 j i false)
 
 -- each run of a line
 pub run_of : (x : List Bool) (clue : List ℕ) (k : ℕ) → runs x ≡ clue → k < length clue → Run x clue k
@@ -199,8 +188,7 @@ run_of x clue k is h =
 pub filled_in_run : (x : List Bool) (clue : List ℕ) (k : ℕ) → Run x clue k → (z : ℕ) → z < get_or clue k 0
     → get_or x (get_or (starts_from 0 false x) k 0 + z) false ≡ true
 filled_in_run x clue k r z h =
-    ap (λ (n : ℕ). get_or x (n + z) false) (sym r.start) ∙ ap (λ (y : List Bool). get_or y (length r.front + z) false) (sym r.whole)
-    ∙ get_or-onto false r.front (replicate (get_or clue k 0) true ++ r.back) z ∙ get_or-run (get_or clue k 0) r.back z h
+    rw (r.whole, r.start) at (get_or-onto false r.front (replicate (get_or clue k 0) true ++ r.back) z ∙ get_or-run _ r.back z h)
 
 pub in_run : (x : List Bool) (clue : List ℕ) (k i : ℕ) → runs x ≡ clue → k < length clue → get_or (starts_from 0 false x) k 0 ≤ i
     → i < get_or (starts_from 0 false x) k 0 + get_or clue k 0 → get_or x i false ≡ true
@@ -213,10 +201,8 @@ in_run x clue k i is h low high =
 pub blank_after_run : (x : List Bool) (clue : List ℕ) (k : ℕ) → Run x clue k
     → get_or x (get_or (starts_from 0 false x) k 0 + get_or clue k 0) false ≡ false
 blank_after_run x clue k r =
-    ap (λ (n : ℕ). get_or x (n + get_or clue k 0) false) (sym r.start)
-    ∙ ap (λ (y : List Bool). get_or y (length r.front + get_or clue k 0) false) (sym r.whole)
-    ∙ get_or-onto false r.front (replicate (get_or clue k 0) true ++ r.back) (get_or clue k 0) ∙ past (get_or clue k 0) r.back
-    ∙ r.back_closed
+    let at = get_or-onto false r.front (replicate (get_or clue k 0) true ++ r.back) (get_or clue k 0) in
+    rw (r.whole, r.start) at (at ∙ past (get_or clue k 0) r.back ∙ r.back_closed)
   where
     past : (n : ℕ) (w : List Bool) → get_or (replicate n true ++ w) n false ≡ get_or w 0 false
     past zero w = refl
@@ -241,11 +227,10 @@ runs_apart x clue k is h =
         → ((z : ℕ) → z < c → get_or x (s + z) false ≡ true) → get_or x (s + c) false ≡ false → ⊥
     close s zero c more near filled first run after = absurd (omega arith)
     close s (suc t) c more near filled first run after =
+        let e : s + (t - s) ≡ t = omega arith in
         elim (cases_lt (suc t) (s + c)) [
-          | inl low ↦
-              (let e : s + (t - s) ≡ t = omega arith in
-              true≢false (sym (ap (λ (n : ℕ). get_or x n false) (sym e) ∙ run (t - s) (omega arith)) ∙ first))
-          | inr high ↦ (let e : suc t ≡ s + c = omega arith in true≢false (sym filled ∙ ap (λ (n : ℕ). get_or x n false) e ∙ after))
+          | inl low ↦ true≢false (sym (rw e at (run (t - s) (omega arith))) ∙ first)
+          | inr high ↦ (let e : suc t ≡ s + c = omega arith in true≢false (sym filled ∙ rw e after))
         ]
 
 -- each filled cell is in a run
@@ -277,11 +262,5 @@ covered x clue i is h =
       index = r.0;
       inside = r.1;
       from = omega arith;
-      to = elim (cases_lt i (get_or (starts_from 0 false x) r.0 0 + get_or clue r.0 0)) [
-        | inl low ↦ low
-        | inr high ↦
-            absurd (true≢false
-            (sym (t.2 (get_or (starts_from 0 false x) r.0 0 + get_or clue r.0 0) (omega arith) high)
-            ∙ blank_after_run x clue r.0 r.3))
-      ];
+      to = grind (arith, true≢false, t.2 (get_or (starts_from 0 false x) r.0 0 + get_or clue r.0 0), blank_after_run x clue r.0 r.3);
     }
