@@ -19,23 +19,14 @@ pub use Rattle.line_core.specs.Order.{AtMost}
 
 -- ---- the order of what is known
 
-cell_refl : (c : Cell) → CellExtends c c
-cell_refl c = search rules
-
-cell_trans : (a b c : Cell) → CellExtends a b → CellExtends b c → CellExtends a c
-cell_trans a b c h k = search rules
-
-cell_antisym : (a b : Cell) → CellExtends a b → CellExtends b a → a ≡ b
-cell_antisym a b h k = search rules
-
 -- a line extends itself
 pub Extends-refl : (g : List Cell) → Extends g g
 Extends-refl [] = tt
-Extends-refl (c ∷ g) = (cell_refl c, Extends-refl g)
+Extends-refl (c ∷ g) = (search rules, Extends-refl g)
 
 -- a line that extends one that extends another extends that other
 pub Extends-trans : (a b c : List Cell) → Extends a b → Extends b c → Extends a c
-Extends-trans (x ∷ a) (y ∷ b) (z ∷ c) h k = (cell_trans x y z h.0 k.0, Extends-trans a b c h.1 k.1)
+Extends-trans (x ∷ a) (y ∷ b) (z ∷ c) h k = search (rules, Extends-trans a b c)
 Extends-trans a b c h k = search rules
 
 -- lines that extend one another are of one length
@@ -50,20 +41,17 @@ AtMost-trans a b c h k = search rules
 
 -- two lines that extend each other are the same
 pub Extends-antisym : (a b : List Cell) → Extends a b → Extends b a → a ≡ b
-Extends-antisym (x ∷ a) (y ∷ b) h k = let same = cell_antisym x y h.0 k.0 in λ i. same i ∷ Extends-antisym a b h.1 k.1 i
+Extends-antisym (x ∷ a) (y ∷ b) h k = let same : x ≡ y = search rules in λ i. same i ∷ Extends-antisym a b h.1 k.1 i
 Extends-antisym a b h k = search rules
 
 -- ---- placings
-
-allows-Extends : (c : Cell) (b : Bool) → allows c b ≡ true → CellExtends c (colour b)
-allows-Extends c b h = search rules
 
 Extends-allows : (c : Cell) (b : Bool) → CellExtends c (colour b) → allows c b ≡ true
 Extends-allows c b h = search rules
 
 -- a full line agrees with a line exactly if it extends it
 pub agrees-Extends : (l : List Cell) (x : List Bool) → agrees l x ≡ true → Extends l (map colour x)
-agrees-Extends (c ∷ l) (b ∷ x) h = search (rules, allows-Extends, agrees-Extends l x, and_parts)
+agrees-Extends (c ∷ l) (b ∷ x) h = search (rules, agrees-Extends l x, and_parts)
 agrees-Extends l x h = search rules
 
 -- and a full line that extends a line agrees with it
@@ -238,12 +226,9 @@ deduced-monotone l m clue h =
     deduced-greatest m clue (deduced l clue) (λ x p.
     deduced-below l clue x (record { extends = Extends-trans l m (map colour x) h p.extends; runs_are = p.runs_are }))
 
-colour_inj : (a b : Bool) → CellExtends (colour a) (colour b) → b ≡ a
-colour_inj a b h = search rules
-
 full_same : (x y : List Bool) → Extends (map colour x) (map colour y) → y ≡ x
 full_same [] [] h = refl
-full_same (a ∷ x) (b ∷ y) h = search (rules, colour_inj, full_same x y)
+full_same (a ∷ x) (b ∷ y) h = search (rules, full_same x y)
 full_same x y h = search rules
 
 -- a full line that isn't dead has the clue's runs

@@ -211,8 +211,7 @@ blankable_from l clue i h (x, agree, is, at) =
     let long : length x ≡ length l = length-agrees l x agree in
     let a = behind false x i in
     let b = drop (suc i) x in
-    let within : i < length x = omega arith in
-    let split : drop i x ≡ false ∷ b = drop-cons x i false within ∙ ap (λ (v : Bool). v ∷ b) at in
+    let split : drop i x ≡ false ∷ b = drop-cons x i false (omega arith) ∙ ap (λ (v : Bool). v ∷ b) at in
     let whole : onto a (false ∷ b) ≡ x = ap (onto a) (sym split) ∙ onto_behind false x i (omega arith) in
     let parts = onto_split (runs a) (runs b) clue (sym (runs_cut a b) ∙ ap runs whole ∙ is) in
     let cut = onto_agrees (behind Unknown l i) (drop i l) a (false ∷ b) (length_behind Unknown l i ∙ sym (length_behind false x i))
@@ -292,8 +291,7 @@ closed_ahead_to l clue j p jl pl h = elim (cases_lt p (length l)) [
 pub closed_ahead_from : (l : List Cell) (clue : List ℕ) (j p : ℕ) → ((p ≡ length l) × (j ≡ length clue)) ⊎ IsGapAhead l clue j p
     → MayBeginBlank (drop p l) (drop j clue)
 closed_ahead_from l clue j p (inl h) =
-    let none : length (drop j clue) ≡ 0 = ap length (drop_of_length-le clue {i = j} (omega (arith, h.1))) in
-    rw (drop_of_length-le l {i = p} (omega (arith, h.0))) (none_closed (drop j clue) none)
+    rw (drop_of_length-le l {i = p} (omega (arith, h.0)), drop_of_length-le clue {i = j} (omega (arith, h.1))) (none_closed [] refl)
 closed_ahead_from l clue j p (inr g) =
     rw (drop-cons l p Unknown g.0.0)
     (first_closed (get_or l p Unknown) (drop (suc p) l) (drop j clue) g.0.1 (rw (add-one p) at g.1))

@@ -29,9 +29,7 @@ use Rattle.line_core.proofs.Certain.{CanBe}
 
 -- a run starts one blank cell after the run before it
 pub start_next : (clue : List ℕ) (j : ℕ) → j < length clue → least_start clue (suc j) ≡ least_start clue j + get_or clue j 0 + 1
-start_next clue j h =
-    let more : least_start clue (j + 1) ≡ least_start clue j + (get_or clue j 0 + 1) = sum_by_more (λ (n : ℕ). n + 1) clue j 0 h in
-    ap (least_start clue) (sym (add-one j)) ∙ more ∙ omega arith
+start_next clue j h = omega (arith, rw (add-one j) at (sum_by_more (λ (n : ℕ). n + 1) clue j 0 h))
 
 pub start_last : (clue : List ℕ) → least_start clue (length clue) ≡ needed clue
 start_last clue = ap needed (take_all (length clue) clue (omega arith))
@@ -137,8 +135,7 @@ can_be_blank l clue slack i any_cell pos e none =
         let at = x.3 c.index c.inside in
         let from = c.from in
         let to = c.to in
-        let near : least_start clue c.index + slack ≤ i = grind (arith, nat_tests) in
-        none (c.index, c.inside, near, grind (arith, nat_tests))
+        none (c.index, c.inside, grind (arith, nat_tests), grind (arith, nat_tests))
 
 -- ---- if there is a run that can move, each cell can be filled
 
@@ -159,14 +156,12 @@ filled_by : (l : List Cell) (clue : List ℕ) (slack i : ℕ) → AnyColour l �
     → Reaches clue slack i → CanBe l clue true i
 filled_by l clue slack i any_cell pos e r =
     let some = positive_at clue pos r.0 r.1 in
-    let low = r.2 in
-    let high = r.3 in
     let by = i + 1 - (least_start clue r.0 + get_or clue r.0 0) in
     let x = shifted l clue slack (λ j. cond (nat_lt j r.0) 0 by) any_cell pos e (λ j. grind (arith, nat_tests))
     (λ j h. grind (arith, nat_tests)) in
     let shift : cond (nat_lt r.0 r.0) 0 by ≡ by = grind (arith, nat_tests) in
     let at = x.3 r.0 r.1 in
-    (x.0, x.1, x.2, in_run x.0 clue r.0 i x.2 r.1 (omega arith) (omega arith))
+    (x.0, x.1, x.2, in_run x.0 clue r.0 i x.2 r.1 (omega (arith, r.2)) (omega (arith, r.2, r.3)))
 
 pub can_be_filled : (l : List Cell) (clue : List ℕ) (slack i : ℕ) → AnyColour l → ArePositive clue → needed clue + slack ≡ length l + 1
     → 0 < slack → 0 < length clue → i < length l → CanBe l clue true i
@@ -184,30 +179,19 @@ pub blankable_is : (l : List Cell) (clue : List ℕ) (slack certain line m : ℕ
     → needed clue + slack ≡ length l + 1
     → IsMaskOf (IsOverlap clue slack) certain → IsMaskOf (λ i. i < length l) line → IsMaskOf (λ i. Has line i × (has certain i ≡ false)) m
     → IsMaskOf (IsBlankable l clue) m
-blankable_is l clue slack certain line m any_cell pos e c a p = mask_same _ _ m p to from
-  where
-    to : (i : ℕ) → Has line i × (has certain i ≡ false) → IsBlankable l clue i
-    to i h =
-        blankable_from l clue i (a.to i h.0)
-        (can_be_blank l clue slack i any_cell pos e (λ o. true≢false (sym (has_true certain i (c.from i o)) ∙ h.1)))
-
-    from : (i : ℕ) → IsBlankable l clue i → Has line i × (has certain i ≡ false)
-    from i h =
-        let x = blankable_to l clue i h in (
-          a.from i h.2.0.0,
-          lacks certain i (λ o. true≢false (sym (overlap_filled l clue x.0 slack i pos x.1 x.2 e (c.to i o)) ∙ x.3)),
-        )
+blankable_is l clue slack certain line m any_cell pos e c a p =
+    mask_same _ _ m p
+    (λ i h. blankable_from l clue i (a.to i h.0)
+        (can_be_blank l clue slack i any_cell pos e (λ o. true≢false (sym (has_true certain i (c.from i o)) ∙ h.1))))
+    (λ i h. let x = blankable_to l clue i h in
+        (a.from i h.2.0.0, lacks certain i (λ o. true≢false (sym (overlap_filled l clue x.0 slack i pos x.1 x.2 e (c.to i o)) ∙ x.3))))
 
 -- each cell of the line, if there is a run that can move
 pub all_fillable : (l : List Cell) (clue : List ℕ) (slack line : ℕ) → AnyColour l → ArePositive clue → needed clue + slack ≡ length l + 1
     → 0 < slack → 0 < length clue → IsMaskOf (λ i. i < length l) line → IsMaskOf (IsFillable l clue) line
-all_fillable l clue slack line any_cell pos e some any a = mask_same (λ i. i < length l) (IsFillable l clue) line a to from
-  where
-    to : (i : ℕ) → i < length l → IsFillable l clue i
-    to i h = fillable_from l clue i (can_be_filled l clue slack i any_cell pos e some any h)
-
-    from : (i : ℕ) → IsFillable l clue i → i < length l
-    from i h = let x = fillable_to l clue i pos h in filled_agrees l x.0 i x.1 x.3
+all_fillable l clue slack line any_cell pos e some any a =
+    mask_same _ _ line a (λ i h. fillable_from l clue i (can_be_filled l clue slack i any_cell pos e some any h))
+    (λ i h. let x = fillable_to l clue i pos h in filled_agrees l x.0 i x.1 x.3)
 
 -- and else the overlaps alone
 pub overlaps_fillable : (l : List Cell) (clue : List ℕ) (slack certain : ℕ) → AnyColour l → ArePositive clue
@@ -298,12 +282,9 @@ unknown_to l len free room known long f r p e =
 -- and if nothing is known, they are the same
 pub unknown_from : (l : List Cell) (len free room known : ℕ) → IsMaskOf (MayBe l false) free → IsMaskOf (MayBe l true) room
     → IsMaskOf (λ i. has free i ≢ has room i) known → l ≡ replicate len Unknown → known ≡ 0
-unknown_from l len free room known f r p e = none_in _ known p (λ i differ. differ (same i))
+unknown_from l len free room known f r p e = none_in _ known p (λ i differ. differ
+    (has_by free i (has room i) (λ h. has_true room i (r.from i (any_cell true i (f.to i h).0)))
+    (λ h. f.from i (any_cell false i (r.to i (true_has room i h)).0))))
   where
     any_cell : (v : Bool) (i : ℕ) → i < length l → MayBe l v i
     any_cell = subst AnyColour (sym e) (unknown_any len)
-
-    same : (i : ℕ) → has free i ≡ has room i
-    same i =
-        has_by free i (has room i) (λ h. has_true room i (r.from i (any_cell true i (f.to i h).0)))
-        (λ h. f.from i (any_cell false i (r.to i (true_has room i h)).0))

@@ -30,17 +30,14 @@ runs_after-blanks (false ∷ x) (suc n) m = grind (arith, runs_after-close, runs
 runs-blanks : (x : List Bool) (m : ℕ) → runs (x ++ replicate m false) ≡ runs x
 runs-blanks x m = sym (runs_after-zero (x ++ replicate m false)) ∙ runs_after-blanks x 0 m ∙ runs_after-zero x
 
-blanks_agree : (m : ℕ) → agrees (replicate m Blank) (replicate m false) ≡ true
-blanks_agree zero = refl
-blanks_agree (suc m) = blanks_agree m
-
 agree_blanks : (m : ℕ) (y : List Bool) → agrees (replicate m Blank) y ≡ true → y ≡ replicate m false
 agree_blanks (suc m) (false ∷ y) h = ap (λ (t : List Bool). false ∷ t) (agree_blanks m y h)
 agree_blanks m y h = search rules
 
 agrees_more : (l : List Cell) (x : List Bool) (m : ℕ) → agrees l x ≡ true
     → agrees (l ++ replicate m Blank) (x ++ replicate m false) ≡ true
-agrees_more [] [] m h = blanks_agree m
+agrees_more [] [] zero h = refl
+agrees_more [] [] (suc m) h = agrees_more [] [] m h
 agrees_more (c ∷ l) (b ∷ x) m h = search (rules, and_from, and_parts, agrees_more l x m)
 agrees_more l x m h = search rules
 

@@ -42,9 +42,8 @@ laid l clue x agree is = record {
   count = length-run_starts x ∙ ap length is;
   windows = λ j h z b.
       let filled = filled_in_run x clue j (run_of x clue j is h) z b in
-      let s = get_or (starts_from 0 false x) j 0 in
-      let within : s + z < length l = filled_agrees l x (s + z) agree filled in
-      (within, subst (λ (v : Bool). allows (get_or l (s + z) Unknown) v ≡ true) filled (agrees_at l x (s + z) agree within));
+      let within = filled_agrees l x (get_or (starts_from 0 false x) j 0 + z) agree filled in
+      (within, rw filled at (agrees_at l x (get_or (starts_from 0 false x) j 0 + z) agree within));
   apart = λ j h. runs_apart x clue j is h;
   blanks = λ i h free. by i h free (get_or x i false) refl;
 }
@@ -62,11 +61,6 @@ first_least clue ss apart (suc j) h = omega (arith, first_least clue ss apart j 
 runs_blanks : (m : ℕ) (y : List Bool) → runs (replicate m false ++ y) ≡ runs y
 runs_blanks zero y = refl
 runs_blanks (suc m) y = runs_blanks m y
-
-runs_run_first : (m c : ℕ) (y : List Bool) (clue : List ℕ) → 0 < c → get_or y 0 false ≡ false → runs y ≡ clue
-    → runs (replicate m false ++ (replicate c true ++ y)) ≡ c ∷ clue
-runs_run_first m c y clue some k e =
-    runs_blanks m (replicate c true ++ y) ∙ runs_first c y some k ∙ ap (λ (z : List ℕ). c ∷ z) e
 
 starts_past : (v : Bool) (m p q : ℕ) (y : List Bool) → p + m ≡ q → starts_from p v (replicate m v ++ y) ≡ starts_from q v y
 starts_past v zero p q y e = ap (λ (k : ℕ). starts_from k v y) (sym (add-zero p) ∙ e)
@@ -127,7 +121,7 @@ paint l p (c ∷ clue) (s ∷ ss) pos h e first windows apart blanks =
           (λ z b. blanks (p + z) (omega arith) (omega arith) (λ j h from to.
           absurd (omega (arith, first_least (c ∷ clue) (s ∷ ss) apart j h))))
           (agrees_span l true c s (s + c) rest.full refl window rest.agree);
-      runs_are = runs_run_first (s - p) c rest.full clue some closed rest.runs_are;
+      runs_are = runs_blanks (s - p) y ∙ runs_first c rest.full some closed ∙ ap (λ (z : List ℕ). c ∷ z) rest.runs_are;
       starts_are = starts_first (s - p) c p s rest.full ss (omega arith) some closed rest.starts_are;
       head = λ h. blank_head (s - p) y (λ k. omega (arith, h (omega arith)));
     }

@@ -92,12 +92,11 @@ starts_at_least (false ∷ x) p k after h = let rest = starts_at_least x (suc p)
 
 pub starts_increase : (x : List Bool) (p i j : ℕ) (after : Bool) → i < j → j < length (starts_from p after x)
     → get_or (starts_from p after x) i 0 < get_or (starts_from p after x) j 0
-starts_increase [] p i j after l h = absurd (omega arith)
 starts_increase (true ∷ x) p i j true l h = starts_increase x (suc p) i j true l h
-starts_increase (true ∷ x) p i zero false l h = absurd (omega arith)
 starts_increase (true ∷ x) p zero (suc j) false l h = let rest = starts_at_least x (suc p) j true (omega arith) in omega arith
 starts_increase (true ∷ x) p (suc i) (suc j) false l h = starts_increase x (suc p) i j true (omega arith) (omega arith)
 starts_increase (false ∷ x) p i j after l h = starts_increase x (suc p) i j false l h
+starts_increase x p i j after l h = absurd (omega arith)
 
 before_more : (after b : Bool) (x : List Bool) (i : ℕ) → before b x i ≡ false → before after (b ∷ x) (suc i) ≡ false
 before_more after b x i e = search rules
@@ -193,9 +192,8 @@ filled_in_run x clue k r z h =
 pub in_run : (x : List Bool) (clue : List ℕ) (k i : ℕ) → runs x ≡ clue → k < length clue → get_or (starts_from 0 false x) k 0 ≤ i
     → i < get_or (starts_from 0 false x) k 0 + get_or clue k 0 → get_or x i false ≡ true
 in_run x clue k i is h low high =
-    let s = get_or (starts_from 0 false x) k 0 in
-    let e : s + (i - s) ≡ i = omega arith in
-    subst (λ (n : ℕ). get_or x n false ≡ true) e (filled_in_run x clue k (run_of x clue k is h) (i - s) (omega arith))
+    let e : get_or (starts_from 0 false x) k 0 + (i - get_or (starts_from 0 false x) k 0) ≡ i = omega arith in
+    rw e at (filled_in_run x clue k (run_of x clue k is h) (i - get_or (starts_from 0 false x) k 0) (omega arith))
 
 -- the cell after it isn't
 pub blank_after_run : (x : List Bool) (clue : List ℕ) (k : ℕ) → Run x clue k
@@ -227,11 +225,7 @@ runs_apart x clue k is h =
         → ((z : ℕ) → z < c → get_or x (s + z) false ≡ true) → get_or x (s + c) false ≡ false → ⊥
     close s zero c more near filled first run after = absurd (omega arith)
     close s (suc t) c more near filled first run after =
-        let e : s + (t - s) ≡ t = omega arith in
-        elim (cases_lt (suc t) (s + c)) [
-          | inl low ↦ true≢false (sym (rw e at (run (t - s) (omega arith))) ∙ first)
-          | inr high ↦ (let e : suc t ≡ s + c = omega arith in true≢false (sym filled ∙ rw e after))
-        ]
+        let e : s + (t - s) ≡ t = omega arith in grind (arith, cases_lt (suc t) (s + c), run (t - s))
 
 -- each filled cell is in a run
 pub record Covered (x : List Bool) (clue : List ℕ) (i : ℕ) : Type 0 where
