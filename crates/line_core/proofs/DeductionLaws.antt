@@ -1,6 +1,6 @@
 -- What the layers above cite of placings and of the deduced line.
 use Rattle.std.proofs.lemmas.Grind.{common_steps}
-use Rattle.std.proofs.Common.{◌≡◌, ℕ, zero, suc, ◌<◌, Bool, true, false, not, cond, ◌&&◌, List, [], ◌∷◌, length, get_or, map, filter, Option, Some, None, refl, sym, ap, ◌∙◌, arith, true≢false, bytes_eq, zero-add, rules}
+use Rattle.std.proofs.Common.{◌≡◌, ℕ, zero, suc, ◌<◌, Bool, true, false, not, cond, List, [], ◌∷◌, length, get_or, map, filter, Option, Some, None, refl, sym, ap, ◌∙◌, arith, true≢false, bytes_eq, zero-add, rules}
 use Rattle.std.specs.List.{All, list_all, range_with_len}
 use Rattle.std.proofs.lemmas.Bool.{and_parts, both_ways, false_from_ne_true, not-true}
 use Rattle.std.proofs.lemmas.List.Elements.{All-weaker, filter_passes}
@@ -87,12 +87,7 @@ pub record ListsPlacings (l : List Cell) (clue : List ℕ) (ps : List (List Bool
 -- a test that passes on every full line passes on each
 each_full : (n : ℕ) (q : List Bool → Bool) → list_all q (full_lines n) ≡ true → (x : List Bool) → length x ≡ n → q x ≡ true
 each_full zero q h [] e = (and_parts (q []) true h).0
-each_full (suc n) q h (b ∷ x) e =
-    let first = λ (b : Bool). map (λ (cells : List Bool). b ∷ cells) (full_lines n) in
-    let both : (list_all q (first true) && list_all q (first false)) ≡ true = sym (list_all-append q (first true) (first false)) ∙ h in
-    let parts = and_parts (list_all q (first true)) (list_all q (first false)) both in
-    let all : list_all q (first b) ≡ true = elim b as (λ b. list_all q (first b) ≡ true) [ true ↦ parts.0 | false ↦ parts.1 ] in
-    each_full n (λ cells. q (b ∷ cells)) (sym (list_all-map q (λ (cells : List Bool). b ∷ cells) (full_lines n)) ∙ all) x (omega arith)
+each_full (suc n) q h (b ∷ x) e = search (rules, list_all-append, and_parts, list_all-map, each_full n)
 each_full n q h x e = search rules
 
 list_all-filter : (p q : List Bool → Bool) (xs : List (List Bool)) → list_all q (filter p xs) ≡ list_all (λ x. cond (p x) (q x) true) xs
@@ -113,8 +108,7 @@ placings_listed l clue =
           let at : cond (p x) (q x) true ≡ true =
           each_full (length l) (λ y. cond (p y) (q y) true) all x (length-IsPlacing l clue x placing) in
           rw (IsPlacing_test l clue x placing) at at;
-      every = λ q h.
-          list_all-from_AllPass q (placings l clue) (All-weaker (IsPlacing l clue) (λ x. q x ≡ true) h (placings l clue) members);
+      every = search (rules, list_all-from_AllPass, members);
       members = members;
     }
 

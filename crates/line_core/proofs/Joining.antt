@@ -49,9 +49,7 @@ get_or-onto d (x ∷ a) b z = grind (arith, common_steps)
 
 -- parts that agree make a whole that agrees
 pub agrees_onto : (s t : List Cell) (a b : List Bool) → agrees s a ≡ true → agrees t b ≡ true → agrees (onto s t) (onto a b) ≡ true
-agrees_onto (c ∷ s) t (x ∷ a) b h k =
-    agrees_onto s (c ∷ t) a (x ∷ b) (and_parts (allows c x) (agrees s a) h).1
-    (and_from (allows c x) (agrees t b) (and_parts (allows c x) (agrees s a) h).0 k)
+agrees_onto (c ∷ s) t (x ∷ a) b h k = search (rules, and_parts, and_from, agrees_onto s (c ∷ t) a (x ∷ b))
 agrees_onto s t a b h k = search rules
 
 -- and the parts of a whole that agrees do so
@@ -83,9 +81,7 @@ onto_split (r ∷ p) q clue e =
 
 runs_after-more : (m n : ℕ) (y : List Bool) → runs_after m (replicate n true ++ y) ≡ runs_after (m + n) y
 runs_after-more m zero y = ap (λ (k : ℕ). runs_after k y) (sym (add-zero m))
-runs_after-more m (suc n) y =
-    let e : suc m + n ≡ m + suc n = omega arith in
-    runs_after-true m (replicate n true ++ y) ∙ runs_after-more (suc m) n y ∙ ap (λ (k : ℕ). runs_after k y) e
+runs_after-more m (suc n) y = search (rules, runs_after-true, runs_after, runs_after-more (suc m) n y)
 
 -- the runs of a line that begins with a run
 pub runs_run : (n : ℕ) (y : List Bool) → runs (replicate n true ++ y) ≡ runs_after n y
@@ -253,27 +249,12 @@ closed_behind_from l runs (suc s) h = search (rules, first_closed)
 
 behind_reversed : {A : Type 0} (d : A) (xs : List A) (p m : ℕ) → p + m ≡ length xs → behind d (reverse xs) p ≡ drop m xs
 behind_reversed {A = A} d xs zero m e = sym (drop_of_length-le xs {i = m} (omega arith))
-behind_reversed {A = A} d xs (suc p) m e =
-    let within : m < length xs = omega arith in
-    let at : get_or (reverse xs) p d ≡ get_or xs m d =
-    (let f : length xs - 1 - p ≡ m = omega arith in get_or-reverse xs p d (omega arith) ∙ ap (λ (k : ℕ). get_or xs k d) f) in
-    ap (λ (z : List A). get_or (reverse xs) p d ∷ z) (behind_reversed d xs p (suc m) (omega arith)) ∙ ap (λ (z : A). z ∷ drop (suc m) xs) at
-    ∙ sym (drop-cons xs m d within)
+behind_reversed {A = A} d xs (suc p) m e = search (rules, get_or-reverse, drop-cons, behind_reversed d xs p (suc m) (omega arith))
 
 -- a gap of the reversed line is a gap ahead, and back
 pub reversed_gap : (l : List Cell) (clue : List ℕ) (j i : ℕ) → j ≤ length clue → i < length l
     → IsGap (reverse l) (reverse clue) (length clue - j) (length l - 1 - i) ↔ IsGapAhead l clue j i
-reversed_gap l clue j i jl il =
-    let p = length l - 1 - i in
-    let back : length l - 1 - p ≡ i = omega arith in
-    let cell : get_or (reverse l) p Unknown ≡ get_or l i Unknown =
-    get_or-reverse l p Unknown (omega arith) ∙ ap (λ (k : ℕ). get_or l k Unknown) back in
-    let cells : behind Unknown (reverse l) p ≡ drop (i + 1) l = behind_reversed Unknown l p (i + 1) (omega arith) in
-    let runs : behind 0 (reverse clue) (length clue - j) ≡ drop j clue = behind_reversed 0 clue (length clue - j) j (omega arith) in
-    let within : p < length (reverse l) = omega (arith, length-reverse l) in (
-      (λ g. ((il, rw cell at g.0.1), rw (cells, runs) at g.1)),
-      (λ g. ((within, rw cell g.0.1), rw (cells, runs) g.1)),
-    )
+reversed_gap l clue j i jl il = search (rules, get_or-reverse, behind_reversed, length-reverse)
 
 -- the end of the line, or a gap, after a run's end
 pub closed_ahead_to : (l : List Cell) (clue : List ℕ) (j p : ℕ) → j ≤ length clue → p ≤ length l → MayBeginBlank (drop p l) (drop j clue)
@@ -290,8 +271,7 @@ closed_ahead_to l clue j p jl pl h = elim (cases_lt p (length l)) [
 -- and back
 pub closed_ahead_from : (l : List Cell) (clue : List ℕ) (j p : ℕ) → ((p ≡ length l) × (j ≡ length clue)) ⊎ IsGapAhead l clue j p
     → MayBeginBlank (drop p l) (drop j clue)
-closed_ahead_from l clue j p (inl h) =
-    rw (drop_of_length-le l {i = p} (omega (arith, h.0)), drop_of_length-le clue {i = j} (omega (arith, h.1))) (none_closed [] refl)
+closed_ahead_from l clue j p (inl h) = search (rules, drop_of_length-le, none_closed)
 closed_ahead_from l clue j p (inr g) =
     rw (drop-cons l p Unknown g.0.0)
     (first_closed (get_or l p Unknown) (drop (suc p) l) (drop j clue) g.0.1 (rw (add-one p) at g.1))

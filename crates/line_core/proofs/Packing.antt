@@ -41,8 +41,7 @@ start_within clue j = sum_by-take-le (λ (n : ℕ). n + 1) clue j
 -- few runs, none of them long, need few cells
 pub start_few : (clue : List ℕ) (j : ℕ) → AreLengths 256 clue → j < length clue → least_start clue j + (get_or clue j 0 + 1) ≤ 257 * (j + 1)
 start_few clue zero are h = omega (arith, (length_at 256 clue 0 are h).1)
-start_few clue (suc j) are h =
-    omega (arith, (length_at 256 clue (suc j) are h).1, start_few clue j are (omega arith), start_next clue j (omega arith))
+start_few clue (suc j) are h = search (rules, length_at, start_next, start_few clue j are (omega arith))
 
 -- ---- at which places the runs of any placing start
 
@@ -58,8 +57,7 @@ at_most l clue ss zero j pos d e =
     let end : suc j ≡ length clue = omega arith in
     let all : least_start clue (suc j) ≡ needed clue = ap (least_start clue) end ∙ start_last clue in
     omega (arith, start_next clue j h, (d.windows j h (get_or clue j 0 - 1) (omega arith)).0)
-at_most l clue ss (suc later) j pos d e =
-    omega (arith, at_most l clue ss later (suc j) pos d (omega arith), start_next clue j (omega arith), d.apart j (omega arith))
+at_most l clue ss (suc later) j pos d e = search (rules, start_next, at_most l clue ss later (suc j) pos d (omega arith))
 
 starts_within : (l : List Cell) (clue ss : List ℕ) (j : ℕ) → ArePositive clue → IsLaid l clue ss → j < length clue
     → get_or ss j 0 + needed clue ≤ length l + 1 + least_start clue j
@@ -111,8 +109,7 @@ shifted l clue slack shift any_cell pos e most up =
       count = length-map-range_with_len (λ (j : ℕ). least_start clue j + shift j) 0 (length clue);
       windows = λ j h z b. any_cell true (get_or (shifted_starts clue shift) j 0 + z)
           (omega (arith, shifted_at clue shift j h, start_next clue j h, start_within clue (suc j), most j));
-      apart = λ j h. let here = shifted_at clue shift j (omega arith) in let next = start_next clue j (omega arith) in
-          omega (arith, shifted_at clue shift (suc j) h, up j h);
+      apart = search (rules, shifted_at, start_next);
       blanks = λ i h free. any_cell false i h;
     }) in (x.0, x.1, x.2, λ j h. ap (λ (z : List ℕ). get_or z j 0) x.3 ∙ shifted_at clue shift j h)
 

@@ -74,21 +74,11 @@ module _ (l : List Cell) (clue : List ℕ) (m : ℕ) where
       )
 
   without_blanks : (c : Bool) (k : ℕ) → k < length l → CanBe longer clue c k → CanBe l clue c k
-  without_blanks c k within (y, agree, is, at) =
-      let cut = agrees_cut l y m agree in
-      let long : k < length cut.0 = omega (arith, length-agrees l cut.0 cut.2, within) in (
-        cut.0,
-        cut.2,
-        sym (ap runs cut.1 ∙ runs-blanks cut.0 m) ∙ is,
-        sym (ap (λ (t : List Bool). get_or t k false) cut.1 ∙ get_or_append_left cut.0 (replicate m false) false k long) ∙ at,
-      )
+  without_blanks c k within (y, agree, is, at) = search (rules, agrees_cut, length-agrees, runs-blanks, get_or_append_left)
 
   -- the cells behind it can't be filled
   filled_before : (k : ℕ) → CanBe longer clue true k → k < length l
-  filled_before k (y, agree, is, at) =
-      let cut = agrees_cut l y m agree in
-      let low = filled_within cut.0 m k (sym (ap (λ (t : List Bool). get_or t k false) cut.1) ∙ at) in
-      omega (arith, low, length-agrees l cut.0 cut.2)
+  filled_before k (y, agree, is, at) = search (rules, agrees_cut, filled_within, length-agrees)
 
   -- so the same cells are filled in a placing
   pub fillable_alone : (f : ℕ) → ArePositive clue → IsMaskOf (IsFillable longer clue) f → IsMaskOf (IsFillable l clue) f

@@ -98,9 +98,7 @@ paint : (l : List Cell) (p : ℕ) (clue ss : List ℕ) → ArePositive clue → 
 paint l p [] [] pos h e first windows apart blanks =
     let m = length l - p in record {
       full = replicate m false ++ [];
-      agree = agrees_span l false m p (length l) [] (omega arith)
-          (λ z b. blanks (p + z) (omega arith) (omega arith) (λ j h from to. absurd (omega arith)))
-          (rw (drop_of_length-le l {i = length l} (omega arith)) refl);
+      agree = search (rules, agrees_span, blanks, drop_of_length-le);
       runs_are = runs_blanks m [];
       starts_are = starts_past false m p (length l) [] (omega arith);
       head = λ h. blank_head m [] (λ k. absurd (omega arith));
@@ -165,8 +163,7 @@ pub record AreFurthest (side : Side) (l : List Cell) (clue m : List ℕ) : Type 
   pub furthest : (ss : List ℕ) → IsLaid l clue ss → (j : ℕ) → j < length clue → IsAsFar side (get_or m j 0) (get_or ss j 0)
 
 from_more : (P : ℕ → Type 0) (n : ℕ) → P n → ((q : ℕ) → n < q → P q) → (q : ℕ) → n ≤ q → P q
-from_more P n here later q h =
-    elim (cases_lt n q) [ inl above ↦ later q above | inr same ↦ (let e : n ≡ q = omega arith in subst P e here) ]
+from_more P n here later q h = search (rules, cases_lt)
 
 -- so many runs end before a cell, and all others start after it
 abbrev Cut : List ℕ → List ℕ → ℕ → ℕ → Type 0
@@ -178,9 +175,7 @@ cut_of : (clue ss : List ℕ) (i n : ℕ) → StandApart clue ss → IsFree clue
 cut_of clue ss i zero apart free h later = (0, h, ((λ q a. absurd (omega arith)), later))
 cut_of clue ss i (suc n) apart free h later =
     elim (cases_lt i (get_or ss n 0)) [
-      | inl low ↦
-          cut_of clue ss i n apart free (omega arith)
-          (from_more (λ q. q < length clue → i < get_or ss q 0) n (λ k. low) (λ q a b. later q (omega arith) b))
+      | inl low ↦ search (rules, apart, from_more, cut_of clue ss i n apart free (omega arith))
       | inr high ↦ elim (cases_lt i (get_or ss n 0 + get_or clue n 0)) [
         | inl inside ↦ absurd (free n (omega arith) high inside)
         | inr past ↦ (
@@ -205,9 +200,7 @@ furthest_apart Right l clue m f j h = search rules
 
 furthest_blank : (side : Side) (l : List Cell) (clue m : List ℕ) (i n : ℕ) → AreFurthest side l clue m → i < length l → n ≤ length clue
     → Cut clue m i n → MayBe l false i
-furthest_blank Left l clue m i zero f h k (before, after) =
-    blank_at l clue f.some i 0 f.some_laid h
-    ((λ q a. absurd (omega arith)), λ q a b. let start = after q a b in let low = f.furthest f.some f.some_laid q b in omega arith)
+furthest_blank Left l clue m i zero f h k (before, after) = search rules
 furthest_blank Left l clue m i (suc n) f h k (before, after) =
     let w = f.each n (omega arith) in
     let at : get_or w.starts n 0 ≡ get_or m n 0 = w.at in
@@ -227,11 +220,7 @@ furthest_blank Right l clue m i n f h k (before, after) = elim (cases_lt n (leng
         from_more (λ q. q < length clue → i < get_or w.starts q 0) n (λ b. omega arith)
             (λ q a b. let gap = ends_before clue w.starts w.laid_so.apart n q a b in omega arith),
       ))
-  | inr all ↦
-      blank_at l clue f.some i n f.some_laid h (
-        (λ q a. let end = before q a in let high = f.furthest f.some f.some_laid q (omega arith) in omega arith),
-        λ q a b. absurd (omega arith),
-      )
+  | inr all ↦ search rules
 ]
 
 -- so all of them lay the clue

@@ -53,9 +53,7 @@ starts_one p v b w = search rules
 pub starts-onto : (a w : List Bool)
     → starts_from 0 false (onto a w) ≡ starts_from 0 false (onto a []) ++ starts_from (length a) (get_or a 0 false) w
 starts-onto [] w = refl
-starts-onto (b ∷ a) w =
-    rw (starts-onto a (b ∷ w), starts-onto a (b ∷ []), starts_one (length a) (get_or a 0 false) b w) (sym (append_assoc
-    (starts_from 0 false (onto a [])) (starts_from (length a) (get_or a 0 false) (b ∷ [])) (starts_from (suc (length a)) b w)))
+starts-onto (b ∷ a) w = search (rules, starts_one, append_assoc, onto, starts-onto a (b ∷ w), starts-onto a (b ∷ []))
 
 mutual
   length-starts : (p : ℕ) (x : List Bool) → length (starts_from p false x) ≡ length (runs_after 0 x)
@@ -80,8 +78,7 @@ length-onto (x ∷ a) b = omega (arith, length-onto a (x ∷ b))
 starts_before : (a : List Bool) → get_or a 0 false ≡ false → length (starts_from 0 false (onto a [])) ≡ length (runs a)
 starts_before [] h = refl
 starts_before (true ∷ a) h = cc
-starts_before (false ∷ a) h =
-    length-run_starts (onto a (false ∷ [])) ∙ ap length (runs_cut a []) ∙ length-onto (runs a) [] ∙ add-zero (length (runs a))
+starts_before (false ∷ a) h = search (rules, length-run_starts, onto, runs_cut, length-onto, add-zero)
 
 pub starts_at_least : (x : List Bool) (p k : ℕ) (after : Bool) → k < length (starts_from p after x) → p ≤ get_or (starts_from p after x) k 0
 starts_at_least [] p k after h = absurd (omega arith)
@@ -119,9 +116,7 @@ start_is (false ∷ x) p k after h =
 pub start_of_cut : (a : List Bool) (c : ℕ) (b : List Bool) → 0 < c → get_or a 0 false ≡ false
     → get_or (starts_from 0 false (onto a (replicate c true ++ b))) (length (runs a)) 0 ≡ length a
 start_of_cut a zero b some closed = absurd (omega arith)
-start_of_cut a (suc n) b some closed =
-    rw (starts-onto a (replicate (suc n) true ++ b), closed, sym (starts_before a closed)) (get_or-append_seam
-    (starts_from 0 false (onto a [])) (length a) (starts_from (suc (length a)) true (replicate n true ++ b)) 0)
+start_of_cut a (suc n) b some closed = search (rules, starts-onto, starts_before, get_or-append_seam, onto)
 
 -- run k of a line with a clue's runs, with what comes before it, last first, and after it
 pub record Run (x : List Bool) (clue : List ℕ) (k : ℕ) : Type 0 where
@@ -186,8 +181,7 @@ run_of x clue k is h =
 -- the cells of a run are filled
 pub filled_in_run : (x : List Bool) (clue : List ℕ) (k : ℕ) → Run x clue k → (z : ℕ) → z < get_or clue k 0
     → get_or x (get_or (starts_from 0 false x) k 0 + z) false ≡ true
-filled_in_run x clue k r z h =
-    rw (r.whole, r.start) at (get_or-onto false r.front (replicate (get_or clue k 0) true ++ r.back) z ∙ get_or-run _ r.back z h)
+filled_in_run x clue k r z h = search (rules, get_or-onto, get_or-run)
 
 pub in_run : (x : List Bool) (clue : List ℕ) (k i : ℕ) → runs x ≡ clue → k < length clue → get_or (starts_from 0 false x) k 0 ≤ i
     → i < get_or (starts_from 0 false x) k 0 + get_or clue k 0 → get_or x i false ≡ true
