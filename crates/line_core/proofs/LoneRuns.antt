@@ -64,22 +64,30 @@ fills_from l clue i s pos one start low high =
 pub leaves_to : (l : List Cell) (clue : List ℕ) (i : ℕ) → length clue ≡ 1 → IsBlankable l clue i → LeavesFrom l (get_or clue 0 0) i
 leaves_to l clue i one h =
     let x = blankable_to l clue i h in
-    let s = get_or (starts_from 0 false x.0) 0 0 in
-    (s, lone_start l clue x.0 one x.1 x.2, elim (cases_lt i s) [
-      | inl before ↦ inl before
-      | inr from ↦ elim (cases_lt i (s + get_or clue 0 0)) [
-        | inl inside ↦ (let e = in_run x.0 clue 0 i x.2 (omega arith) from inside in let no = x.3 in cc)
-        | inr after ↦ inr after
-      ]
-    ])
+    let s = get_or (starts_from 0 false x.0) 0 0 in (
+      s,
+      lone_start l clue x.0 one x.1 x.2,
+      elim (cases_lt i s) [
+        | inl before ↦ inl before
+        | inr from ↦ elim (cases_lt i (s + get_or clue 0 0)) [
+          | inl inside ↦ (let e = in_run x.0 clue 0 i x.2 (omega arith) from inside in let no = x.3 in cc)
+          | inr after ↦ inr after
+        ]
+      ],
+    )
 
 pub leaves_from : (l : List Cell) (clue : List ℕ) (i s : ℕ) → ArePositive clue → length clue ≡ 1 → i < length l
     → IsLoneStart l (get_or clue 0 0) s → (i < s) ⊎ (s + get_or clue 0 0 ≤ i) → IsBlankable l clue i
 leaves_from l clue i s pos one within start out =
     let p = lone_placing l clue s pos one start in
-    blankable_from l clue i within (p.0, p.1, p.2, false_from_ne_true (get_or p.0 i false) (λ e.
-    let r = of_run clue p.0 i one p.2 e in
-    elim out [ inl x ↦ omega (arith, r.0, r.1, p.3) | inr y ↦ omega (arith, r.0, r.1, p.3) ]))
+    blankable_from l clue i within (
+      p.0,
+      p.1,
+      p.2,
+      false_from_ne_true (get_or p.0 i false) (λ e.
+          let r = of_run clue p.0 i one p.2 e in
+          elim out [ inl x ↦ omega (arith, r.0, r.1, p.3) | inr y ↦ omega (arith, r.0, r.1, p.3) ]),
+    )
 
 -- ---- the masks
 

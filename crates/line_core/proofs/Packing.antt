@@ -146,7 +146,8 @@ reaches clue slack i zero some h to = (0, h, omega arith, to)
 reaches clue slack i (suc j) some h to =
     let next = start_next clue j (omega arith) in
     elim (cases_lt i (least_start clue (suc j))) [
-      inl low ↦ reaches clue slack i j some (omega arith) (omega arith) | inr high ↦ (suc j, h, high, to)
+      | inl low ↦ reaches clue slack i j some (omega arith) (omega arith)
+      | inr high ↦ (suc j, h, high, to)
     ]
 
 filled_by : (l : List Cell) (clue : List ℕ) (slack i : ℕ) → AnyColour l → ArePositive clue → needed clue + slack ≡ length l + 1
@@ -179,9 +180,9 @@ pub blankable_is : (l : List Cell) (clue : List ℕ) (slack certain line m : ℕ
 blankable_is l clue slack certain line m any_cell pos e c a p =
     mask_same _ _ m p
     (λ i h. blankable_from l clue i (a.to i h.0)
-        (can_be_blank l clue slack i any_cell pos e (λ o. true≢false (sym (has_true certain i (c.from i o)) ∙ h.1))))
+    (can_be_blank l clue slack i any_cell pos e (λ o. true≢false (sym (has_true certain i (c.from i o)) ∙ h.1))))
     (λ i h. let x = blankable_to l clue i h in
-        (a.from i h.2.0.0, lacks certain i (λ o. true≢false (sym (overlap_filled l clue x.0 slack i pos x.1 x.2 e (c.to i o)) ∙ x.3))))
+    (a.from i h.2.0.0, lacks certain i (λ o. true≢false (sym (overlap_filled l clue x.0 slack i pos x.1 x.2 e (c.to i o)) ∙ x.3))))
 
 -- each cell of the line, if there is a run that can move
 pub all_fillable : (l : List Cell) (clue : List ℕ) (slack line : ℕ) → AnyColour l → ArePositive clue → needed clue + slack ≡ length l + 1

@@ -34,8 +34,18 @@ pub told_some : (len f b m nf nb : ℕ) → IsMaskOf (λ i. Has f i ⊎ Has b i)
     → IsMaskOf (λ i. Has f i × (has b i ≡ false)) nf → IsMaskOf (λ i. Has b i × (has f i ≡ false)) nb
     → Some (line_cells len nf nb) ≡ told_by len f b
 told_some len f b m nf nb p some pf pb =
-    search (rules, zero-add, ext_get_or, length-map-range_with_len, get_or-map-range_with_len, cell_at, length_line, either_first,
-    without_at, told_cell)
+    search (
+      rules,
+      zero-add,
+      ext_get_or,
+      length-map-range_with_len,
+      get_or-map-range_with_len,
+      cell_at,
+      length_line,
+      either_first,
+      without_at,
+      told_cell,
+    )
 
 -- ---- the deduction
 

@@ -107,7 +107,10 @@ fn windows_and_spreads_of_one_length(rt: HostRuntime) -> Result<(), Fail> {
 fn lists_keep_128_places_in_two_words(rt: HostRuntime) -> Result<(), Fail> {
     let words = 0x0005_0000_0000_0000_0003u128.kept();
     assert!(rt; words.low == 3 && words.high == 5, "its words");
-    assert!(rt; u128::of_kept(words) == 0x0005_0000_0000_0000_0003, "the set");
+    assert!(rt;
+        u128::of_kept(words) == 0x0005_0000_0000_0000_0003,
+        "the set"
+    );
     let all = u128::reversed_kept(words, 128);
     assert!(rt;
         all.low == 0xa000_0000_0000_0000 && all.high == 0xc000_0000_0000_0000,

@@ -4,12 +4,18 @@ use Rattle.line_core.proofs.FullLines.{walk_more, walk_near, walk_none, walk_las
 use Rattle.line_core.proofs.full.has_runs.Goals as goal
 
 pub returns-then-is_empty : goal.returns-then-is_empty
-returns-then-is_empty g c = ((λ t. cc), (λ is. absurd (walk_none g.cells c.args.clue.now _ _ _ c.loop-number-test.true
-    (eqb-true _ 0 (sym c.is_empty.ensures ∙ c.if-is_empty.true)) c.loop-number.invariant is)))
+returns-then-is_empty g c = (
+  (λ t. cc),
+  (λ is. absurd (walk_none g.cells c.args.clue.now _ _ _ c.loop-number-test.true
+      (eqb-true _ 0 (sym c.is_empty.ensures ∙ c.if-is_empty.true)) c.loop-number.invariant is)),
+)
 
 pub returns-then-start-least : goal.returns-then-start-least
-returns-then-start-least g c = ((λ t. cc), (λ is. absurd (walk_near g.cells c.args.clue.now _ _ _ _ c.if-start-least.true
-    c.first_place-start.ensures.in_mask c.loop-number.invariant is)))
+returns-then-start-least g c = (
+  (λ t. cc),
+  (λ is. absurd (walk_near g.cells c.args.clue.now _ _ _ _ c.if-start-least.true
+      c.first_place-start.ensures.in_mask c.loop-number.invariant is)),
+)
 
 pub loop-number-preserved : goal.loop-number-preserved
 loop-number-preserved g c =

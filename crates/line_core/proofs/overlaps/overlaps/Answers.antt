@@ -7,8 +7,13 @@ use Rattle.line_core.proofs.overlaps.overlaps.Goals.{then-number-slack, else-num
 
 pub shifted_up-requires : goal.shifted_up-requires
 shifted_up-requires g c =
-    omega (arith, c.requires.fits, c.loop-number.invariant.start, start_next _ _ c.loop-number-test.true,
-    start_within c.args.clue.now (suc c.loop-number.number-index))
+    omega (
+      arith,
+      c.requires.fits,
+      c.loop-number.invariant.start,
+      start_next _ _ c.loop-number-test.true,
+      start_within c.args.clue.now (suc c.loop-number.number-index),
+    )
 
 pub overflow_add-greatest_start-in-loop-number : goal.overflow_add-greatest_start-in-loop-number
 overflow_add-greatest_start-in-loop-number g c = search (rules, width_most, start_next, start_within)
