@@ -17,3 +17,8 @@ pub mod Packing
 pub mod Padding
 pub mod LoneRuns
 pub mod FullLines
+pub mod Pairing
+pub mod ColourMasks
+pub mod Gathering
+pub mod ColouredGaps
+pub mod GapRows

@@ -30,4 +30,4 @@ pub use Rattle.line_core.specs.steps.Outermost.{IsAsFar, IsOuterStart, outermost
 pub use Rattle.line_core.specs.steps.Overlaps.{IsOverlapBefore, least_start, needed}
 pub use Rattle.line_core.specs.steps.Passes.{IsPassOver}
 pub use Rattle.line_core.specs.steps.Reach.{HasPlacing, IsBlankable, IsEndAfter, IsFillable, IsGap, IsGapAfter, IsGapAhead, IsStartAfter, IsWholeEnd, MayBe, MayBeginBlank, behind}
-pub use Rattle.line_core.specs.steps.Told.{certain_by}
+pub use Rattle.line_core.specs.Told.{certain_by}

@@ -66,7 +66,7 @@ end_from_run : (l : List Cell) (cs : List ℕ) (n i q : ℕ) (rest : List Bool) 
     → agrees (behind Unknown l q) rest ≡ true → runs rest ≡ cs → get_or rest 0 false ≡ false → IsEndAfter l cs n i
 end_from_run l cs n i q rest within e cells h is closed = search rules
 
-run_from_end : (l : List Cell) (cs : List ℕ) (n i : ℕ) → 0 < n → IsEndAfter l cs n i → HasPlacing (behind Unknown l (suc i)) (n ∷ cs)
+pub run_from_end : (l : List Cell) (cs : List ℕ) (n i : ℕ) → 0 < n → IsEndAfter l cs n i → HasPlacing (behind Unknown l (suc i)) (n ∷ cs)
 run_from_end l cs n i some x =
     let y = x.1.0 in
     let agree = run_open l n (suc i) (i + 1 - n) y.0 (omega (arith, x.0)) (λ z b. (x.1.1 z b).1) y.1 in

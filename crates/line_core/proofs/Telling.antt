@@ -4,7 +4,7 @@ use Rattle.std.proofs.Common.{◌||◌}
 use Rattle.std.proofs.lemmas.Bool.{cases_Bool, or_cases, or_left, or_right}
 use Rattle.grid_core.specs.Lines.{cell_with}
 use Rattle.grid_core.specs.Lines.{line_cells}
-use Rattle.line_core.specs.steps.Told.{told_by}
+use Rattle.line_core.specs.Told.{told_by}
 use Rattle.line_core.proofs.DeductionLaws.{IsPlacing, agrees-Extends, Extends-agrees}
 use Rattle.line_core.proofs.Joining.{blankable_to, blankable_from}
 use Rattle.line_core.proofs.WholeEnds.{fillable_to, fillable_from}

@@ -4,4 +4,6 @@ pub mod Deduction
 pub mod Order
 pub mod Ends
 pub mod Widths
+pub mod Told
+pub mod Pairs
 pub mod steps

@@ -5,4 +5,6 @@ pub mod Outermost
 pub mod Overlaps
 pub mod Passes
 pub mod Reach
-pub mod Told
+pub mod Pairs
+pub mod Gathers
+pub mod Befores

@@ -1,17 +1,20 @@
 //! What is certain of a line.
 
-ghost use Rattle.std.specs.Prelude.{◌≡◌, ◌<◌, ◌≤◌, List, length, map, vec_capacity, IfOk, All};
+ghost use Rattle.std.specs.Prelude.{◌≡◌, ◌<◌, ◌≤◌, List, Some, length, map, vec_capacity, IfOk, All};
 ghost use Rattle.grid_core.specs.declared.cells.Cell.{Cell};
 ghost use Rattle.place_sets.specs.Masks.{IsMaskOf};
 ghost use Rattle.line_core.specs.Deduction.{deduced};
+ghost use Rattle.line_core.specs.Pairs.{IsTableOf};
 ghost use Rattle.line_core.specs.steps.Passes.{IsSpanOf, padded};
 ghost use Rattle.line_core.specs.steps.Reach.{AreLengths, AreGapsAhead, IsFillable, IsBlankable};
-ghost use Rattle.line_core.specs.steps.Told.{told_by};
+ghost use Rattle.line_core.specs.Told.{told_by};
 
 use crate::Line;
 use crate::full::{full_colours, is_full};
 use crate::lone::lone_colours;
 use crate::overlaps::{is_unknown, unknown_colours};
+use crate::pair_rooms::PairRoom;
+use crate::pairs::Pair;
 use crate::passes::Pass;
 use crate::reach::{GAPS, gap_ahead, inner_ends, whole_ends, write_gaps_ahead};
 use crate::rooms::{Rooms, make_ready};
@@ -93,7 +96,7 @@ pub fn colours<W: PlaceSet>(span: &Span<W>, clue: &[u16], gaps: &mut [W::Kept; G
 
 /// What is certain of a line, from the cells that can be filled and those that can be blank:
 /// none if the first can be neither.
-fn certain<W: PlaceSet>(len: u16, fillable: W, blankable: W) -> Option<LineOf<W>>
+pub fn certain<W: PlaceSet>(len: u16, fillable: W, blankable: W) -> Option<LineOf<W>>
     requires { (1 ≤ len) × (len ≤ W.WIDTH) }
     ensures { result ≡ told_by len (W.number fillable) (W.number blankable) }
 {
@@ -211,6 +214,28 @@ fn deduce_within<W: PlaceSet>(
     deduce_numbers(room, line, clue.numbers())
 }
 
+/// Writes for each unknown cell of a line of at most 128 cells and each colour what can be on the line with that
+/// colour there.
+fn write_pairs_within<W: PlaceSet>(
+    ahead: &mut Vec<[W::Kept; GAPS]>,
+    room: &mut PairRoom<W>,
+    line: &LineOf<W>,
+    clue: &Clue,
+    pairs: &mut [Pair<W>],
+)
+    requires clue { All (λ number. number ≤ W.WIDTH) clue.now }
+    requires short { length line.now ≤ 128 }
+    requires ahead { 0 < vec_capacity ahead.old }
+    requires room { length clue.now ≤ room.old.most_runs }
+    requires pairs { length line.now ≤ length pairs.old }
+    ensures table { IsTableOf clue.now (record { line = Some line.now; pairs = pairs.new }) }
+    ensures count { length pairs.new ≡ length pairs.old }
+    ensures ahead { 0 < vec_capacity ahead.new }
+{
+    make_ready::<W>(ahead);
+    room.write_pairs(line, clue.numbers(), &mut ahead[0], pairs);
+}
+
 /// Sets that lines are kept in and deduced by.
 pub trait LineSet: PlaceSet {
     /// What is certain of a line, given its clue, whose numbers are no greater than the sets have places:
@@ -219,11 +244,38 @@ pub trait LineSet: PlaceSet {
         requires { All (λ number. number ≤ Self.WIDTH) clue.now }
         ensures answer { result ≡ deduced line.now clue.now }
         ensures room { tables.new ≡ tables.old };
+
+    /// Writes for each unknown cell of a line of at most 128 cells and each colour what can be on the line with that
+    /// colour there, given the line's clue, whose numbers are no greater than the sets have places.
+    fn write_pairs(
+        tables: &mut Tables,
+        room: &mut PairRoom<Self>,
+        line: &LineOf<Self>,
+        clue: &Clue,
+        pairs: &mut [Pair<Self>],
+    )
+        requires clue { All (λ number. number ≤ Self.WIDTH) clue.now }
+        requires short { length line.now ≤ 128 }
+        requires room { length clue.now ≤ room.old.most_runs }
+        requires pairs { length line.now ≤ length pairs.old }
+        ensures table { IsTableOf clue.now (record { line = Some line.now; pairs = pairs.new }) }
+        ensures count { length pairs.new ≡ length pairs.old }
+        ensures room { tables.new ≡ tables.old };
 }
 
 impl LineSet for u64 {
     fn deduce(tables: &mut Tables, line: &LineOf<u64>, clue: &Clue) -> Option<LineOf<u64>> {
         deduce_within(&mut tables.rooms.narrow, line, clue)
+    }
+
+    fn write_pairs(
+        tables: &mut Tables,
+        room: &mut PairRoom<u64>,
+        line: &LineOf<u64>,
+        clue: &Clue,
+        pairs: &mut [Pair<u64>],
+    ) {
+        write_pairs_within(&mut tables.rooms.narrow, room, line, clue, pairs);
     }
 }
 
@@ -231,10 +283,30 @@ impl LineSet for u128 {
     fn deduce(tables: &mut Tables, line: &LineOf<u128>, clue: &Clue) -> Option<LineOf<u128>> {
         deduce_within(&mut tables.rooms.middle, line, clue)
     }
+
+    fn write_pairs(
+        tables: &mut Tables,
+        room: &mut PairRoom<u128>,
+        line: &LineOf<u128>,
+        clue: &Clue,
+        pairs: &mut [Pair<u128>],
+    ) {
+        write_pairs_within(&mut tables.rooms.middle, room, line, clue, pairs);
+    }
 }
 
 impl LineSet for Wide {
     fn deduce(tables: &mut Tables, line: &LineOf<Wide>, clue: &Clue) -> Option<LineOf<Wide>> {
         deduce_within(&mut tables.rooms.wide, line, clue)
+    }
+
+    fn write_pairs(
+        tables: &mut Tables,
+        room: &mut PairRoom<Wide>,
+        line: &LineOf<Wide>,
+        clue: &Clue,
+        pairs: &mut [Pair<Wide>],
+    ) {
+        write_pairs_within(&mut tables.rooms.wide, room, line, clue, pairs);
     }
 }

@@ -1,13 +1,18 @@
 //! What is certain of one line of a nonogram, of up to 256 cells.
 #![tactic(auto)]
 
+mod befores;
 mod deduction;
 mod full;
 mod gaps;
+mod gathers;
 pub mod laws;
 mod line;
 mod lone;
 mod overlaps;
+mod pair_rooms;
+mod pair_tables;
+mod pairs;
 mod passes;
 mod reach;
 mod rooms;
@@ -18,5 +23,8 @@ mod widths;
 pub use deduction::{LineSet, Tables, deduce};
 pub use grid_core::LineOf;
 pub use line::Line;
+pub use pair_rooms::PairRoom;
+pub use pair_tables::PairTable;
+pub use pairs::Pair;
 pub use starts::{Starts, leftmost, rightmost};
 pub use widths::{Width, places_needed};

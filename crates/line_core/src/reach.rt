@@ -17,6 +17,8 @@ pub const GAPS: usize = MOST_RUNS + 1;
 
 /// Writes the gaps before each run and after the last one, as the cells before allow them,
 /// of a line and a clue that are both seen from their other end.
+// Called, it would cost a deduction 30 instructions.
+#[inline(always)]
 fn write_reversed_gaps<W: PlaceSet>(span: &Span<W>, clue: &[u16], gaps: &mut [W::Kept; GAPS])
     ghost line: { List Cell }
     requires span { IsSpanOf W.WIDTH line span.now.len (W.number span.now.free) (W.number span.now.room) }
@@ -47,6 +49,7 @@ fn reverse_all<W: PlaceSet>(masks: &mut [W::Kept], len: u16)
 }
 
 /// Writes the gaps before each run and after the last one, as the cells after allow them, the last one first.
+#[inline(always)]
 pub fn write_gaps_ahead<W: PlaceSet>(span: &Span<W>, clue: &[u16], gaps: &mut [W::Kept; GAPS])
     ghost line: { List Cell }
     requires span { IsSpanOf W.WIDTH line span.now.len (W.number span.now.free) (W.number span.now.room) }

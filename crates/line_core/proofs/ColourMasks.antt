@@ -1,0 +1,145 @@
+-- Masks of both colours: what they have, and what they have once others are added.
+use Rattle.line_core.proofs.Names.{◌≡◌, ℕ, ◌+◌, ◌-◌, ◌<◌, Bool, true, false, List, length, get_or, sym, ap, subst, arith, ◌⊎◌, inl, inr, cases_lt, Has, IsMaskOf, has_of, join_of, none_has}
+use Rattle.std.proofs.lemmas.List.{get_or_read}
+use Rattle.place_sets.specs.Masks.{IsMarked}
+use Rattle.line_core.specs.Pairs.{ColourMasks, no_colours}
+use Rattle.line_core.specs.steps.Gathers.{AreBothSides, AreMasks, AreMore, HasColour}
+
+-- what the masks have, colour by colour
+pub masks_to : (P : Bool → ℕ → Type 0) (m : ColourMasks) → AreMasks P m → (d : Bool) (k : ℕ) → HasColour m d k → P d k
+masks_to P m a true k h = a.fillable_is.to k h
+masks_to P m a false k h = a.blankable_is.to k h
+
+pub masks_from : (P : Bool → ℕ → Type 0) (m : ColourMasks) → AreMasks P m → (d : Bool) (k : ℕ) → P d k → HasColour m d k
+masks_from P m a true k h = a.fillable_is.from k h
+masks_from P m a false k h = a.blankable_is.from k h
+
+pub masks_of : (P : Bool → ℕ → Type 0) (m : ColourMasks) → ((d : Bool) (k : ℕ) → HasColour m d k → P d k)
+    → ((d : Bool) (k : ℕ) → P d k → HasColour m d k) → AreMasks P m
+masks_of P m to from = record {
+  fillable_is = record { to = to true; from = from true };
+  blankable_is = record { to = to false; from = from false };
+}
+
+-- masks of what amounts to the same
+pub masks_same : (P Q : Bool → ℕ → Type 0) (m : ColourMasks) → AreMasks P m → ((d : Bool) (k : ℕ) → P d k → Q d k)
+    → ((d : Bool) (k : ℕ) → Q d k → P d k) → AreMasks Q m
+masks_same P Q m a to from = masks_of Q m (λ d k h. to d k (masks_to P m a d k h)) (λ d k h. masks_from P m a d k (from d k h))
+
+-- what amounts to the same is added
+pub more_same : (P Q : Bool → ℕ → Type 0) (old new : ColourMasks) → AreMore P old new → ((d : Bool) (k : ℕ) → P d k → Q d k)
+    → ((d : Bool) (k : ℕ) → Q d k → P d k) → AreMore Q old new
+more_same P Q old new a to from =
+    masks_same _ _ new a (λ d k h. elim h [ inl x ↦ inl x | inr x ↦ inr (to d k x) ])
+    (λ d k h. elim h [ inl x ↦ inl x | inr x ↦ inr (from d k x) ])
+
+-- and nothing is added
+pub none_more : (P : Bool → ℕ → Type 0) (m : ColourMasks) → ((d : Bool) (k : ℕ) → P d k → ⊥) → AreMore P m m
+none_more P m none = masks_of _ m (λ d k h. inl h) (λ d k h. elim h [ inl x ↦ x | inr x ↦ absurd (none d k x) ])
+
+-- two things are added, one after the other
+pub more_more : (P Q : Bool → ℕ → Type 0) (old mid new : ColourMasks) → AreMore P old mid → AreMore Q mid new → AreMore (λ d k. P d k ⊎ Q d k) old new
+more_more P Q old mid new a b =
+    masks_same _ _ new b (λ d k h. elim h [
+      | inl x ↦ elim (masks_to _ mid a d k x) [ inl y ↦ inl y | inr y ↦ inr (inl y) ]
+      | inr x ↦ inr (inr x)
+    ]) (λ d k h. elim h [
+      | inl x ↦ inl (masks_from _ mid a d k (inl x))
+      | inr x ↦ elim x [ inl y ↦ inl (masks_from _ mid a d k (inr y)) | inr y ↦ inr y ]
+    ])
+
+-- what the colours of a table tell at each of some places is added
+pub each_more : (places : ℕ) (table : List ColourMasks) (index : ℕ → ℕ) (P : ℕ → Bool → ℕ → Type 0) (old new : ColourMasks)
+    → ((i : ℕ) → Has places i → AreMasks (P i) (get_or table (index i) no_colours))
+    → AreMore (λ d k. (i : ℕ) × Has places i × HasColour (get_or table (index i) no_colours) d k) old new
+    → AreMore (λ d k. (i : ℕ) × Has places i × P i d k) old new
+each_more places table index P old new told more =
+    more_same _ _ old new more (λ d k h. (h.0, h.1, masks_to _ _ (told h.0 h.1) d k h.2))
+    (λ d k h. (h.0, h.1, masks_from _ _ (told h.0 h.1) d k h.2))
+
+-- the colours that are read from a table are those at a place of it
+pub read_more : (table : List ColourMasks) (i p : ℕ) (read old new : ColourMasks) → i ≡ p → i < length table → read ≡ get_or table i read
+    → AreMore (HasColour read) old new → AreMore (HasColour (get_or table p no_colours)) old new
+read_more table i p read old new same there is more =
+    let e : read ≡ get_or table p no_colours = rw same at (get_or_read table i read there is no_colours) in
+    subst (λ (m : ColourMasks). AreMore (HasColour m) old new) e more
+
+-- the cells of some, and those of others seen from the other end of a line
+pub both_are : (len : ℕ) (near_view near far_view far : ColourMasks) (turned_filled turned_blank filled blank : ℕ)
+    → near_view ≡ near → far_view ≡ far
+    → IsMaskOf (λ i. (i < len) × Has far_view.fillable (len - 1 - i)) turned_filled
+    → IsMaskOf (λ i. Has near_view.fillable i ⊎ Has turned_filled i) filled
+    → IsMaskOf (λ i. (i < len) × Has far_view.blankable (len - 1 - i)) turned_blank
+    → IsMaskOf (λ i. Has near_view.blankable i ⊎ Has turned_blank i) blank
+    → AreBothSides len near far (record { fillable = filled; blankable = blank })
+both_are len near_view near far_view far turned_filled turned_blank filled blank e f a b c d =
+    rw (sym e, sym f) (record {
+      fillable_is = join_of _ _ _ _ _ (has_of _) a b;
+      blankable_is = join_of _ _ _ _ _ (has_of _) c d;
+    })
+
+-- ---- one more number
+
+-- something holds of one of the first `count` numbers
+abbrev pub Below : ℕ → (ℕ → Bool → ℕ → Type 0) → Bool → ℕ → Type 0
+Below count P filled k = (j : ℕ) × (j < count) × P j filled k
+
+-- no colours have no cell
+no_colour : (m : ColourMasks) (d : Bool) (k : ℕ) → m ≡ no_colours → HasColour m d k → ⊥
+no_colour m true k e h = none_has m.fillable k (ap (λ (c : ColourMasks). c.fillable) e) h
+no_colour m false k e h = none_has m.blankable k (ap (λ (c : ColourMasks). c.blankable) e) h
+
+pub no_below : (P : ℕ → Bool → ℕ → Type 0) (m : ColourMasks) → m ≡ no_colours → AreMasks (Below 0 P) m
+no_below P m e = masks_of (Below 0 P) m (λ d k h. absurd (no_colour m d k e h)) (λ d k h. let b : h.0 < 0 = h.1 in absurd (omega arith))
+
+pub one_below : (P : ℕ → Bool → ℕ → Type 0) (j : ℕ) (old new : ColourMasks) → AreMasks (Below j P) old → AreMore (P j) old new
+    → AreMasks (Below (j + 1) P) new
+one_below P j old new a b = masks_same _ _ new b to from
+  where
+    to : (d : Bool) (k : ℕ) → HasColour old d k ⊎ P j d k → Below (j + 1) P d k
+    to d k (inl h) = let x = masks_to _ old a d k h in (x.0, omega (arith, x.1), x.2)
+    to d k (inr h) = (j, omega arith, h)
+
+    from : (d : Bool) (k : ℕ) → Below (j + 1) P d k → HasColour old d k ⊎ P j d k
+    from d k (q, h, x) = elim (cases_lt q j) [
+      | inl low ↦ inl (masks_from _ old a d k (q, low, x))
+      | inr high ↦ (let e : q ≡ j = omega arith in inr (subst (λ (n : ℕ). P n d k) e x))
+    ]
+
+-- ---- a walk over the places of a mask
+
+-- what is added at each of some places, of which some are left
+pub record AreAdded (places left : ℕ) (P : ℕ → Bool → ℕ → Type 0) (old new : ColourMasks) : Type 0 where
+  pub within : (i : ℕ) → Has left i → Has places i
+  pub to : (d : Bool) (k : ℕ) → HasColour new d k → HasColour old d k ⊎ ((i : ℕ) × Has places i × P i d k)
+  pub kept : (d : Bool) (k : ℕ) → HasColour old d k → HasColour new d k
+  pub added : (i : ℕ) (d : Bool) (k : ℕ) → Has places i → P i d k → Has left i ⊎ HasColour new d k
+
+pub added_none : (places : ℕ) (P : ℕ → Bool → ℕ → Type 0) (old : ColourMasks) → AreAdded places places P old old
+added_none places P old = record { within = λ i h. h; to = λ d k h. inl h; kept = λ d k h. h; added = λ i d k h x. inl h }
+
+pub added_more : (places left next p : ℕ) (P : ℕ → Bool → ℕ → Type 0) (old sum new : ColourMasks) → AreAdded places left P old sum → Has left p
+    → IsMaskOf (IsMarked (Has left) p false) next → AreMore (P p) sum new → AreAdded places next P old new
+added_more places left next p P old sum new a here marked more = record {
+  within = λ i h. elim (marked.to i h) [ inl x ↦ a.within i x.0 | inr x ↦ a.within i (rw x.0 here) ];
+  to = λ d k h. elim (masks_to _ new more d k h) [ inl x ↦ a.to d k x | inr x ↦ inr (p, a.within p here, x) ];
+  kept = λ d k h. masks_from _ new more d k (inl (a.kept d k h));
+  added = λ i d k h x. elim (a.added i d k h x) [
+    | inr y ↦ inr (masks_from _ new more d k (inl y))
+    | inl y ↦ elim (cases_lt i p) [
+      | inl low ↦ inl (marked.from i (inl (y, omega arith)))
+      | inr high ↦ elim (cases_lt p i) [
+        | inl low ↦ inl (marked.from i (inl (y, omega arith)))
+        | inr same ↦ (let e : i ≡ p = omega arith in inr (masks_from _ new more d k (inr (subst (λ (n : ℕ). P n d k) e x))))
+      ]
+    ]
+  ];
+}
+
+pub added_all : (places left : ℕ) (P : ℕ → Bool → ℕ → Type 0) (old new : ColourMasks) → AreAdded places left P old new → left ≡ 0
+    → AreMore (λ d k. (i : ℕ) × Has places i × P i d k) old new
+added_all places left P old new a none =
+    masks_of _ new a.to (λ d k h. elim h [
+      | inl x ↦ a.kept d k x
+      | inr x ↦ elim (a.added x.0 d k x.1 x.2) [ inl y ↦ absurd (none_has left x.0 none y) | inr y ↦ y ]
+    ])

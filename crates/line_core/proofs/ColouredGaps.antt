@@ -1,0 +1,285 @@
+-- What can be on a line before a gap, once one of its cells is coloured: step by step along the line.
+use Rattle.line_core.proofs.Names.{rules, ◌≡◌, ◌≢◌, ℕ, zero, suc, ◌+◌, ◌-◌, ◌<◌, ◌≤◌, Bool, true, false, List, [], ◌∷◌, length, refl, sym, ap, ◌∙◌, subst, arith, add-one, ◌⊎◌, inl, inr, get_or, drop, cases_lt, and_from, and_parts, Cell, Unknown, allows, agrees, behind, MayBe, IsGapAfter, IsEndAfter, IsGap, IsGapAhead, IsWholeEnd, IsFlooded, AllFrom, Has, IsMaskOf, mask_same, length-set}
+use Rattle.std.proofs.Common.{get_or-set_other, get_or-set_same, replicate, ◌++◌, drop-cons}
+use Rattle.std.proofs.lemmas.Bool.{cases_eq}
+use Rattle.grid_core.specs.Cells.{colour}
+use Rattle.line_core.specs.Pairs.{ColourMasks, no_colours, coloured}
+use Rattle.line_core.specs.steps.Pairs.{CanBeBefore, IsWholeGap}
+use Rattle.line_core.specs.steps.Befores.{IsReady}
+use Rattle.line_core.proofs.Joining.{closed_behind_to, closed_behind_from, closed_ahead_from, agrees_span, runs_first}
+use Rattle.line_core.proofs.Reaching.{gap_after_to, gap_after_from, first_gap_to, first_gap_from}
+
+pub colour_allows : (v w : Bool) → allows (colour v) w ≡ true → v ≡ w
+colour_allows v w h = search rules
+
+pub colour_same : (v : Bool) → allows (colour v) v ≡ true
+colour_same v = search rules
+
+-- a coloured cell has that colour alone
+pub coloured_one : (l : List Cell) (k : ℕ) (v w : Bool) → k < length l → MayBe (coloured l k v) w k → v ≡ w
+coloured_one l k v w h m = colour_allows v w (rw (get_or-set_same l k (colour v) Unknown h) at m.1)
+
+-- and can have it
+pub coloured_same : (l : List Cell) (k : ℕ) (v : Bool) → k < length l → MayBe (coloured l k v) v k
+coloured_same l k v h = rw (length-set l k (colour v), get_or-set_same l k (colour v) Unknown h) (h, colour_same v)
+
+-- another cell is as it was
+pub coloured_other : (l : List Cell) (k : ℕ) (v w : Bool) (x : ℕ) → x ≢ k → MayBe l w x → MayBe (coloured l k v) w x
+coloured_other l k v w x ne m = rw (length-set l k (colour v), get_or-set_other l k x (colour v) Unknown ne) m
+
+-- a cell may be no more than before another or it has a colour that it may have
+coloured_allows : (l : List Cell) (k : ℕ) (v : Bool) → MayBe l v k → (w : Bool) (x : ℕ)
+    → allows (get_or (coloured l k v) x Unknown) w ≡ true → allows (get_or l x Unknown) w ≡ true
+coloured_allows l k v here w x m = elim (cases_eq x k) [
+  | inl e ↦ (let same = colour_allows v w (rw (e, get_or-set_same l k (colour v) Unknown here.0) at m) in rw (e, sym same) here.1)
+  | inr ne ↦ rw (get_or-set_other l k x (colour v) Unknown ne) at m
+]
+
+pub coloured_less : (l : List Cell) (k : ℕ) (v : Bool) → MayBe l v k → (w : Bool) (x : ℕ) → MayBe (coloured l k v) w x → MayBe l w x
+coloured_less l k v here w x m = (omega (arith, m.0, length-set l k (colour v)), coloured_allows l k v here w x m.1)
+
+-- full cells behind a place agree with the line if they do so with the coloured one
+agrees_less : (l : List Cell) (k : ℕ) (v : Bool) → MayBe l v k → (i : ℕ) (x : List Bool)
+    → agrees (behind Unknown (coloured l k v) i) x ≡ true → agrees (behind Unknown l i) x ≡ true
+agrees_less l k v here zero x h = h
+agrees_less l k v here (suc i) [] h = cc
+agrees_less l k v here (suc i) (b ∷ x) h = search (rules, and_parts, and_from, coloured_allows, agrees_less l k v here i x)
+
+-- a gap of the coloured line is one of the line
+pub gap_less : (l : List Cell) (k : ℕ) (v : Bool) → MayBe l v k → (rs : List ℕ) (i : ℕ) → IsGapAfter (coloured l k v) rs i
+    → IsGapAfter l rs i
+gap_less l k v here rs i g = (coloured_less l k v here false i g.0, (g.1.0, agrees_less l k v here i g.1.0 g.1.1, g.1.2))
+
+-- and so is an end
+pub end_less : (l : List Cell) (k : ℕ) (v : Bool) → MayBe l v k → (rs : List ℕ) (n e : ℕ) → IsEndAfter (coloured l k v) rs n e
+    → IsEndAfter l rs n e
+end_less l k v here rs n e x =
+    let y = x.1.0 in
+    (x.0, ((y.0, agrees_less l k v here (e + 1 - n) y.0 y.1, y.2, y.3), (λ z b. coloured_less l k v here true (e + 1 - n + z) (x.1.1 z b))))
+
+-- the cells behind a place are as they were if the colour is further on
+pub behind_coloured : (l : List Cell) (k : ℕ) (v : Bool) (i : ℕ) → i ≤ k → behind Unknown (coloured l k v) i ≡ behind Unknown l i
+behind_coloured l k v zero h = refl
+behind_coloured l k v (suc i) h = let ne : i ≢ k = omega arith in
+    rw (get_or-set_other l k i (colour v) Unknown ne, behind_coloured l k v i (omega arith)) refl
+
+-- ---- one step along the line
+
+-- a gap after a run goes on, or begins after an end of it
+gap_step_to : (l : List Cell) (rs : List ℕ) (n i : ℕ) → 0 < n → IsGapAfter l (n ∷ rs) i
+    → (1 ≤ i) × (IsGapAfter l (n ∷ rs) (i - 1) ⊎ IsEndAfter l rs n (i - 1))
+gap_step_to l rs n zero some g = absurd (omega (arith, (gap_after_from l rs n zero g).1))
+gap_step_to l rs n (suc i) some g =
+    let same : suc i - 1 ≡ i = omega arith in
+    let to = gap_after_to l rs n i some in
+    (omega arith, elim (gap_after_from l rs n (suc i) g) [ inl f ↦ inr f.2 | inr f ↦ inl (rw same (to f.1)) ])
+
+gap_step_from : (l : List Cell) (rs : List ℕ) (n i : ℕ) → 0 < n → MayBe l false i → 1 ≤ i
+    → IsGapAfter l (n ∷ rs) (i - 1) ⊎ IsEndAfter l rs n (i - 1) → IsGapAfter l (n ∷ rs) i
+gap_step_from l rs n zero some m h x = absurd (omega arith)
+gap_step_from l rs n (suc i) some m h (inl g) =
+    let same : suc i - 1 ≡ i = omega arith in
+    gap_after_to l rs n (suc i) some (inr (m, gap_after_from l rs n i (rw same at g)))
+gap_step_from l rs n (suc i) some m h (inr e) = gap_after_to l rs n (suc i) some (inl (m, h, e))
+
+-- the same of a run's end on a coloured line: the colour is in the run, or before the gap before it
+abbrev pub EndWith : List Cell → List ℕ → ℕ → Bool → ℕ → ℕ → Type 0
+EndWith l rs n v e k =
+    ((v ≡ true) × (e + 1 - n ≤ k) × (k ≤ e)) ⊎ ((n ≤ e) × CanBeBefore l rs (e - n) v k)
+
+pub end_step_to : (l : List Cell) (rs : List ℕ) (n e k : ℕ) (v : Bool) → 0 < n → MayBe l v k → k ≤ e → IsEndAfter (coloured l k v) rs n e
+    → EndWith l rs n v e k
+end_step_to l rs n e k v some here le x =
+    let enough : n ≤ e + 1 = x.0 in
+    let first : e + 1 - n + 0 < length (coloured l k v) = (x.1.1 0 some).0 in
+    elim (cases_lt k (e + 1 - n)) [
+      | inl low ↦
+          (let start : e + 1 - n - 1 ≡ e - n = omega arith in
+          elim (closed_behind_to (coloured l k v) rs (e + 1 - n) (omega (arith, length-set l k (colour v))) x.1.0) [
+            | inl none ↦ absurd (omega (arith, none.0))
+            | inr gap ↦ inr (omega arith, (omega arith, here, subst (IsGapAfter (coloured l k v) rs) start gap.1))
+          ])
+      | inr high ↦
+          (let at : e + 1 - n + (k - (e + 1 - n)) ≡ k = omega arith in
+          inl (coloured_one l k v true here.0 (subst (MayBe (coloured l k v) true) at (x.1.1 (k - (e + 1 - n)) (omega arith))), high, le))
+    ]
+
+pub end_step_from : (l : List Cell) (rs : List ℕ) (n e k : ℕ) (v : Bool) → IsEndAfter l rs n e → EndWith l rs n v e k
+    → MayBe l v k × (k ≤ e) × IsEndAfter (coloured l k v) rs n e
+end_step_from l rs n e k v x (inl (true_is, from, to)) =
+    let enough : n ≤ e + 1 = x.0 in
+    let at : e + 1 - n + (k - (e + 1 - n)) ≡ k = omega arith in
+    let here : MayBe l true k = subst (MayBe l true) at (x.1.1 (k - (e + 1 - n)) (omega arith)) in
+    let cells : AllFrom (MayBe (coloured l k v) true) n (e + 1 - n) = λ z b. elim (cases_eq (e + 1 - n + z) k) [
+      | inl same ↦ rw (same, true_is) (coloured_same l k true here.0)
+      | inr ne ↦ coloured_other l k v true (e + 1 - n + z) ne (x.1.1 z b)
+    ] in
+    (rw true_is here, to, (enough, (rw (behind_coloured l k v (e + 1 - n) from) x.1.0, cells)))
+end_step_from l rs n e k v x (inr (enough, before)) =
+    let low : k ≤ e - n = before.0 in
+    let start : e - n ≡ e + 1 - n - 1 = omega arith in
+    let gap = subst (IsGapAfter (coloured l k v) rs) start before.2 in
+    let behind = closed_behind_from (coloured l k v) rs (e + 1 - n) (inr (omega arith, gap)) in
+    let cells = λ (z : ℕ) (b : z < n). coloured_other l k v true (e + 1 - n + z) (omega arith) (x.1.1 z b) in
+    (before.1, omega arith, (omega arith, (behind, cells)))
+
+-- the gap's own cell can be blank, and a cell before it what it can be one cell before, if that is a gap too,
+-- or at the end of the run before, if that is an end of it
+abbrev pub Step : List Cell → List ℕ → ℕ → ℕ → Bool → ℕ → Type 0
+Step l rs n i v k = ((k ≡ i) × (v ≡ false)) ⊎ ((1 ≤ i) × (CanBeBefore l (n ∷ rs) (i - 1) v k
+    ⊎ (IsEndAfter l rs n (i - 1) × EndWith l rs n v (i - 1) k)))
+
+pub before_to : (l : List Cell) (rs : List ℕ) (n i : ℕ) (v : Bool) (k : ℕ) → 0 < n → CanBeBefore l (n ∷ rs) i v k → Step l rs n i v k
+before_to l rs n i v k some h = elim (cases_eq k i) [
+  | inl e ↦ inl (e, coloured_one l k v false h.1.0 (rw (sym e) at h.2.0))
+  | inr ne ↦
+      (let le : k ≤ i = h.0 in
+      let s = gap_step_to (coloured l k v) rs n i some h.2 in
+      inr (
+        s.0,
+        elim s.1 [
+          | inl g ↦ inl (omega arith, h.1, g)
+          | inr x ↦ inr (end_less l k v h.1 rs n (i - 1) x, end_step_to l rs n (i - 1) k v some h.1 (omega arith) x)
+        ],
+      ))
+]
+
+pub before_from : (l : List Cell) (rs : List ℕ) (n i : ℕ) (v : Bool) (k : ℕ) → 0 < n → IsGapAfter l (n ∷ rs) i → Step l rs n i v k
+    → CanBeBefore l (n ∷ rs) i v k
+before_from l rs n i v k some g (inl (at, blank)) =
+    (omega (arith, at), rw (at, blank) g.0, rw (behind_coloured l k v i (omega (arith, at)), at, blank) (coloured_same l i false g.0.0, g.1))
+before_from l rs n i v k some g (inr (h, inl x)) =
+    (omega (arith, x.0), x.1, gap_step_from (coloured l k v) rs n i some (coloured_other l k v false i (omega (arith, x.0)) g.0) h (inl x.2))
+before_from l rs n i v k some g (inr (h, inr x)) =
+    let y = end_step_from l rs n (i - 1) k v x.0 x.1 in
+    (omega (arith, y.1), y.0, gap_step_from (coloured l k v) rs n i some (coloured_other l k v false i (omega (arith, y.1)) g.0) h (inr y.2))
+
+-- ---- before the first run
+
+-- no run is before a place if all cells up to it may be blank
+abbrev FirstGap : List Cell → ℕ → Type 0
+FirstGap l = IsFlooded (λ x. (x ≡ 0) × MayBe l false x) (MayBe l false)
+
+blank_to : (l : List Cell) (i : ℕ) → FirstGap l i → (k : ℕ) → k ≤ i → MayBe l false k
+blank_to l zero f k le = let e : k ≡ 0 = omega arith in rw e f.1
+blank_to l (suc i) (inl f) k le = absurd (omega (arith, f.0))
+blank_to l (suc i) (inr f) k le = elim (cases_lt k (suc i)) [
+  | inl low ↦ blank_to l i f.1 k (omega arith)
+  | inr high ↦ (let e : k ≡ suc i = omega arith in rw e f.0)
+]
+
+blank_from : (l : List Cell) (i : ℕ) → ((k : ℕ) → k ≤ i → MayBe l false k) → FirstGap l i
+blank_from l zero h = (refl, h 0 (omega arith))
+blank_from l (suc i) h = inr (h (suc i) (omega arith), blank_from l i (λ k b. h k (omega arith)))
+
+pub first_to : (l : List Cell) (i : ℕ) (v : Bool) (k : ℕ) → CanBeBefore l [] i v k → (k ≤ i) × (v ≡ false)
+first_to l i v k h =
+    (h.0, coloured_one l k v false h.1.0 (blank_to (coloured l k v) i (first_gap_from (coloured l k v) i h.2) k h.0))
+
+pub first_from : (l : List Cell) (i k : ℕ) → IsGapAfter l [] i → k ≤ i → CanBeBefore l [] i false k
+first_from l i k g le =
+    let cells = blank_to l i (first_gap_from l i g) in
+    let coloured_cells : (x : ℕ) → x ≤ i → MayBe (coloured l k false) false x = λ x b. elim (cases_eq x k) [
+      | inl e ↦ rw e (coloured_same l k false (cells k le).0)
+      | inr ne ↦ coloured_other l k false false x ne (cells x b)
+    ] in
+    (le, cells k le, first_gap_to (coloured l k false) i (blank_from (coloured l k false) i coloured_cells))
+
+-- ---- the gaps and ends of whole placings
+
+-- one cell before a gap of a whole placing is one too, if the cells before allow it
+pub whole_back : (l : List Cell) (clue : List ℕ) (j i : ℕ) → j ≤ length clue → 1 ≤ i → IsGapAhead l clue j i → IsGap l clue j (i - 1)
+    → IsWholeGap l clue j (i - 1)
+whole_back l clue j i jl some a g =
+    let same : i - 1 + 1 ≡ i = omega arith in
+    let b = closed_ahead_from l clue j i (inr a) in
+    (g, (g.0, (b.0, rw same b.1, b.2)))
+
+-- and so is the end of the run before
+pub whole_end_back : (l : List Cell) (clue : List ℕ) (j i : ℕ) → 1 ≤ i → IsGapAhead l clue (suc j) i
+    → IsEndAfter l (behind 0 clue j) (get_or clue j 0) (i - 1) → IsWholeEnd l clue j (i - 1)
+whole_end_back l clue j i some a e =
+    let same : i - 1 + 1 ≡ i = omega arith in
+    (e, rw (same, add-one j) (closed_ahead_from l clue (suc j) i (inr a)))
+
+-- a gap before a run of a whole placing is one of a whole placing
+pub whole_before_end : (l : List Cell) (clue : List ℕ) (j e : ℕ) → j < length clue → 0 < get_or clue j 0 → get_or clue j 0 ≤ e
+    → IsWholeEnd l clue j e → IsWholeGap l clue j (e - get_or clue j 0)
+whole_before_end l clue j e jl some far w =
+    let c = get_or clue j 0 in
+    let s = e + 1 - c in
+    let start : s - 1 ≡ e - c = omega arith in
+    let next : e - c + 1 ≡ s = omega arith in
+    let first : s + 0 < length l = (w.0.1.1 0 some).0 in
+    elim (closed_behind_to l (behind 0 clue j) s (omega arith) w.0.1.0) [
+      | inl none ↦ absurd (omega (arith, none.0))
+      | inr gap ↦
+          (let g = subst (IsGapAfter l (behind 0 clue j)) start gap.1 in
+          let b = w.1 in
+          let agree = agrees_span l true c s (e + 1) b.0 (omega arith) w.0.1.1 b.1 in
+          let clue_at : c ∷ drop (j + 1) clue ≡ drop j clue = rw add-one (sym (drop-cons clue j 0 jl)) in
+          (g, (g.0, (replicate c true ++ b.0, rw next agree, runs_first c b.0 some b.3 ∙ ap (λ (rs : List ℕ). c ∷ rs) b.2 ∙ clue_at))))
+    ]
+
+-- ---- masks of what can be before a gap, from those further back
+
+-- the masks of what can be filled
+pub filled_is : (l : List Cell) (rs : List ℕ) (n i longer ended : ℕ) (before row : List ColourMasks) (m : ℕ) → 0 < n
+    → (Has longer i → 1 ≤ i) → (Has ended i → n ≤ i) → IsReady l rs n i longer ended before row
+    → IsMaskOf (λ k. (Has longer i × Has (get_or row (i - 1) no_colours).fillable k)
+    ⊎ (Has ended i × (((i - n ≤ k) × (k < i)) ⊎ ((n < i) × Has (get_or before (i - n - 1) no_colours).fillable k)))) m
+    → IsMaskOf (CanBeBefore l (n ∷ rs) i true) m
+filled_is l rs n i longer ended before row m some far enough r p = mask_same _ _ m p to (λ k h. from k (before_to l rs n i true k some h))
+  where
+    Told : ℕ → Type 0
+    Told k = (Has longer i × Has (get_or row (i - 1) no_colours).fillable k)
+        ⊎ (Has ended i × (((i - n ≤ k) × (k < i)) ⊎ ((n < i) × Has (get_or before (i - n - 1) no_colours).fillable k)))
+
+    to : (k : ℕ) → Told k → CanBeBefore l (n ∷ rs) i true k
+    to k (inl (h, x)) = before_from l rs n i true k some r.gap (inr (far h, inl ((r.longer_to h).fillable_is.to k x)))
+    to k (inr (h, x)) =
+        let le = enough h in
+        before_from l rs n i true k some r.gap (inr (
+          omega arith,
+          inr (
+            r.ended_to h,
+            elim x [
+              | inl y ↦ inl (refl, omega (arith, y.0), omega (arith, y.1))
+              | inr y ↦ inr (omega (arith, y.0), (r.before_to h y.0).fillable_is.to k y.1)
+            ],
+          ),
+        ))
+
+    from : (k : ℕ) → Step l rs n i true k → Told k
+    from k (inl (e, f)) = cc
+    from k (inr (h, inl y)) =
+        let x = r.longer_from h (gap_less l k true y.1 (n ∷ rs) (i - 1) y.2) in
+        inl (x, (r.longer_to x).fillable_is.from k y)
+    from k (inr (h, inr (e, inl (f, a, b)))) = search rules
+    from k (inr (h, inr (e, inr (a, y)))) = search rules
+
+-- and of what can be blank
+pub blank_is : (l : List Cell) (rs : List ℕ) (n i longer ended : ℕ) (before row : List ColourMasks) (m : ℕ) → 0 < n
+    → (Has longer i → 1 ≤ i) → IsReady l rs n i longer ended before row
+    → IsMaskOf (λ k. ((k ≡ i) ⊎ (Has longer i × Has (get_or row (i - 1) no_colours).blankable k))
+    ⊎ (Has ended i × (n < i) × Has (get_or before (i - n - 1) no_colours).blankable k)) m
+    → IsMaskOf (CanBeBefore l (n ∷ rs) i false) m
+blank_is l rs n i longer ended before row m some far r p = mask_same _ _ m p to (λ k h. from k (before_to l rs n i false k some h))
+  where
+    Told : ℕ → Type 0
+    Told k = ((k ≡ i) ⊎ (Has longer i × Has (get_or row (i - 1) no_colours).blankable k))
+        ⊎ (Has ended i × (n < i) × Has (get_or before (i - n - 1) no_colours).blankable k)
+
+    to : (k : ℕ) → Told k → CanBeBefore l (n ∷ rs) i false k
+    to k (inl (inl e)) = before_from l rs n i false k some r.gap (inl (e, refl))
+    to k (inl (inr (h, x))) = before_from l rs n i false k some r.gap (inr (far h, inl ((r.longer_to h).blankable_is.to k x)))
+    to k (inr (h, a, x)) =
+        before_from l rs n i false k some r.gap (inr (omega arith, inr (r.ended_to h, inr (omega arith, (r.before_to h a).blankable_is.to k x))))
+
+    from : (k : ℕ) → Step l rs n i false k → Told k
+    from k (inl (e, f)) = inl (inl e)
+    from k (inr (h, inl y)) =
+        let x = r.longer_from h (gap_less l k false y.1 (n ∷ rs) (i - 1) y.2) in
+        inl (inr (x, (r.longer_to x).blankable_is.from k y))
+    from k (inr (h, inr (e, inl (f, a, b)))) = cc
+    from k (inr (h, inr (e, inr (a, y)))) = search rules

@@ -1,0 +1,143 @@
+-- Rows of what can be before the gaps of whole placings, written gap by gap.
+use Rattle.line_core.proofs.Names.{◌≡◌, ◌≢◌, ◌∙◌, ℕ, zero, suc, ◌+◌, ◌-◌, ◌<◌, ◌≤◌, List, ◌++◌, length, false, refl, sym, subst, arith, zero-add, inl, inr, get_or, set, take, map, Cell, Has, IsMaskOf, IsShifted, IsGapAfter, IsWholeEnd, behind}
+use Rattle.std.proofs.Common.{◌*◌, ◌/◌, get_or-set_other, get_or-set_same, true≢false, drop, [], length-drop, drop_of_length-le, append-nil}
+use Rattle.std.proofs.lemmas.List.{get_or-take, get_or-drop, get_or-append-add, get_or_append_left, length-take-le, take_all}
+use Rattle.std.proofs.lemmas.Bool.{cases_eq, cases_lt}
+use Rattle.std.proofs.lemmas.Nat.Bits.{bit_at-suc, bit_at_lowest, bit_at-lt, bit_at-zero, same_from_bits}
+use Rattle.std.specs.Int.{bit_at}
+use Rattle.place_sets.specs.Masks.{IsMarked}
+use Rattle.place_sets.proofs.LevelSteps.{number_at}
+use Rattle.line_core.specs.Pairs.{ColourMasks, no_colours}
+use Rattle.line_core.specs.steps.Pairs.{AreColoursBefore, IsWholeGap}
+use Rattle.line_core.specs.steps.Befores.{IsReady, IsRow}
+use Rattle.line_core.proofs.ColouredGaps.{whole_back, whole_end_back, whole_before_end}
+
+-- a number with one bit less is less
+bit_less : (p a b : ℕ) → bit_at a p ≡ 1 → bit_at b p ≡ 0 → ((i : ℕ) → i ≢ p → bit_at b i ≡ bit_at a i) → b < a
+bit_less zero a b h none same =
+    let half : b / 2 ≡ a / 2 =
+    same_from_bits (b / 2) (a / 2) (λ i. sym (bit_at-suc b i) ∙ same (suc i) (omega arith) ∙ bit_at-suc a i) in
+    omega (arith, sym (bit_at_lowest a) ∙ h, sym (bit_at_lowest b) ∙ none)
+bit_less (suc p) a b h none same =
+    let less = bit_less p (a / 2) (b / 2) (sym (bit_at-suc a p) ∙ h) (sym (bit_at-suc b p) ∙ none)
+    (λ i ne. sym (bit_at-suc b i) ∙ same (suc i) (omega (arith, ne)) ∙ bit_at-suc a i) in
+    omega arith
+
+-- a mask with one place taken out is less
+pub mask_less : (a b p : ℕ) → Has a p → IsMaskOf (IsMarked (Has a) p false) b → b < a
+mask_less a b p h m =
+    bit_less p a b h (grind (arith, bit_at-lt, true≢false)) (λ i ne. grind (arith, bit_at-lt, true≢false))
+
+-- of the places of `all` those that are left are still to be written in a row, and the others hold what they should
+pub record IsWalk (all left : ℕ) (Q : ℕ → ColourMasks → Type 0) (row : List ColourMasks) : Type 0 where
+  pub within : (i : ℕ) → Has left i → Has all i
+  pub done : (i : ℕ) → Has all i → (Has left i → ⊥) → Q i (get_or row i no_colours)
+
+pub walk_none : (all : ℕ) (Q : ℕ → ColourMasks → Type 0) (row : List ColourMasks) → IsWalk all all Q row
+walk_none all Q row = record { within = λ i h. h; done = λ i h none. absurd (none h) }
+
+pub walk_more : (all left next p q : ℕ) (Q : ℕ → ColourMasks → Type 0) (row : List ColourMasks) (v : ColourMasks) → p < length row → q ≡ p
+    → IsMaskOf (IsMarked (Has left) p false) next → Q p v → IsWalk all left Q row → IsWalk all next Q (set row q v)
+walk_more all left next p q Q row v inside at m here w = record {
+  within = λ i h. elim (m.to i h) [ inl x ↦ w.within i x.0 | inr x ↦ absurd (true≢false (sym x.1)) ];
+  done = λ i h none. elim (cases_eq i p) [
+    | inl e ↦ rw (at, e, get_or-set_same row p v no_colours inside) here
+    | inr ne ↦ rw (at, get_or-set_other row p i v no_colours ne) (w.done i h (λ l. none (m.from i (inl (l, ne)))))
+  ];
+}
+
+pub walk_last : (all left : ℕ) (Q : ℕ → ColourMasks → Type 0) (row : List ColourMasks) → left ≡ 0 → IsWalk all left Q row
+    → (i : ℕ) → Has all i → Q i (get_or row i no_colours)
+walk_last all left Q row e w i h = w.done i h (λ l. let z : Has 0 i = subst (λ (m : ℕ). Has m i) e l in omega (arith, z, bit_at-zero i))
+
+-- a gap that is left is within a row
+pub left_inside : (l : List Cell) (clue : List ℕ) (j gaps left p : ℕ) (Q : ℕ → ColourMasks → Type 0) (row : List ColourMasks)
+    → IsWalk gaps left Q row → Has left p → IsMaskOf (IsWholeGap l clue j) gaps → length l ≤ 128 → p < 128
+left_inside l clue j gaps left p Q row walk h m short = omega (arith, (m.to p (walk.within p h)).0.0.0)
+
+pub first_inside : (l : List Cell) (gaps left p : ℕ) (Q : ℕ → ColourMasks → Type 0) (row : List ColourMasks)
+    → IsWalk gaps left Q row → Has left p → ((i : ℕ) → Has gaps i → IsGapAfter l [] i) → p < length l
+first_inside l gaps left p Q row walk h gap = (gap p (walk.within p h)).0.0
+
+pub ruleset walks = (left_inside, first_inside, mask_less, walk_none)
+
+-- a row is within its 128 places
+pub row_front : (l : List Cell) (clue : List ℕ) (j : ℕ) (rows : List ColourMasks) → length l ≤ 128 → IsRow l clue j 0 rows
+    → IsRow l clue j 0 (take 128 rows)
+row_front l clue j rows short told i whole =
+    let inside : 0 + i < 128 = omega (arith, whole.0.0.0) in rw (get_or-take 128 rows (0 + i) no_colours inside) (told i whole)
+
+-- a gap after run j can be told by the gaps before it, in its row and in the row before
+pub ready_is : (l : List Cell) (clue : List ℕ) (j w gaps ends longer ended p : ℕ) (before row : List ColourMasks) → j < length clue
+    → 0 < get_or clue j 0 → IsMaskOf (IsWholeGap l clue (suc j)) gaps → IsMaskOf (IsWholeEnd l clue j) ends
+    → IsMaskOf (IsShifted w (Has gaps) 1) longer → IsMaskOf (IsShifted w (Has ends) 1) ended → p < w → Has gaps p → IsRow l clue j 0 before
+    → (1 ≤ p → Has gaps (p - 1) → AreColoursBefore l (behind 0 clue (suc j)) (p - 1) (get_or row (p - 1) no_colours))
+    → IsReady l (behind 0 clue j) (get_or clue j 0) p longer ended before row
+ready_is l clue j w gaps ends longer ended p before row jl some gs es lm em within here told last =
+    let whole = gs.to p here in
+    let c = get_or clue j 0 in
+    record {
+      gap = whole.0;
+      longer_to = λ h. let x = lm.to p h in last x.1 x.2;
+      longer_from = λ first g. lm.from p (within, first, gs.from (p - 1) (whole_back l clue (suc j) p (omega arith) first whole.1 g));
+      ended_to = λ h. (es.to (p - 1) (em.to p h).2).0;
+      before_to = λ h far.
+          let e : p - 1 - c ≡ p - c - 1 = omega arith in
+          rw (sym e) (rw zero-add at (told (p - 1 - c) (whole_before_end l clue j (p - 1) jl some (omega arith) (es.to (p - 1) (em.to p h).2))));
+      ended_from = λ first e. em.from p (within, first, es.from (p - 1) (whole_end_back l clue j p first whole.1 e));
+    }
+
+-- a mask that is taken from a list
+pub kept_is : {A : Type 0} (number : A → ℕ) (P : ℕ → Type 0) (xs : List A) (i : ℕ) (d : A) (m : ℕ) → i < length xs
+    → m ≡ number (get_or xs i d) → IsMaskOf P (get_or (map number xs) i 0) → IsMaskOf P m
+kept_is number P xs i d m inside e p = subst (IsMaskOf P) (sym (e ∙ number_at number xs i d inside)) p
+
+-- the rows up to that of j runs are told
+abbrev pub AreRowsTo : List Cell → List ℕ → ℕ → List ColourMasks → Type 0
+AreRowsTo l clue j table = (q : ℕ) → q ≤ j → IsRow l clue q (128 * q) table
+
+pub rows_none : (l : List Cell) (clue : List ℕ) (table : List ColourMasks)
+    → ((i : ℕ) → IsWholeGap l clue 0 i → AreColoursBefore l [] i (get_or table i no_colours)) → AreRowsTo l clue 0 table
+rows_none l clue table told q h i whole =
+    let e : q ≡ 0 = omega arith in
+    rw (e, zero-add i) (told i (rw e at whole))
+
+-- a part of a list up to its end is what is left of it, and is put back behind the first part
+pub part_is : (a : ℕ) (xs : List ColourMasks) → take (length xs - a) (drop a xs) ≡ drop a xs
+part_is a xs = take_all (length xs - a) (drop a xs) (omega (arith, length-drop a xs))
+
+pub put_back : (a : ℕ) (xs ys : List ColourMasks) → take a xs ++ (ys ++ drop (length xs - a) (drop a xs)) ≡ take a xs ++ ys
+put_back a xs ys =
+    let none : length (drop a xs) ≤ length xs - a = omega (arith, length-drop a xs) in
+    rw (drop_of_length-le (drop a xs) {i = length xs - a} none, append-nil) refl
+
+-- the last of them, seen from its place
+pub row_at : (l : List Cell) (clue : List ℕ) (j : ℕ) (table : List ColourMasks) → AreRowsTo l clue j table
+    → IsRow l clue j 0 (drop (128 * j) table)
+row_at l clue j table told i whole =
+    let e : 128 * j + (0 + i) ≡ 128 * j + i = omega arith in
+    rw (get_or-drop (128 * j) table (0 + i) no_colours, e) (told j (omega arith) i whole)
+
+-- one more row, written behind the last of them
+pub rows_more : (l : List Cell) (clue : List ℕ) (j : ℕ) (table new : List ColourMasks) → length l ≤ 128 → 128 * j ≤ length table
+    → AreRowsTo l clue j table → IsRow l clue (j + 1) 128 new
+    → ((k : ℕ) → k < 128 → get_or new k no_colours ≡ get_or (drop (128 * j) table) k no_colours)
+    → AreRowsTo l clue (j + 1) (take (128 * j) table ++ new)
+rows_more l clue j table new short room told next same q le i whole =
+    let front = take (128 * j) table in
+    let size : length front ≡ 128 * j = length-take-le (128 * j) table room in
+    let within : i < 128 = omega (arith, whole.0.0.0) in
+    let back : (k : ℕ) → get_or (front ++ new) (128 * j + k) no_colours ≡ get_or new k no_colours = λ k. rw size at (get_or-append-add front new k no_colours) in
+    elim (cases_lt q j) [
+      | inl low ↦
+          (let inside : 128 * q + i < 128 * j = omega arith in
+          rw (get_or_append_left front new no_colours (128 * q + i) (omega arith), get_or-take (128 * j) table (128 * q + i) no_colours inside)
+          (told q (omega arith) i whole))
+      | inr high ↦ elim (cases_eq q j) [
+        | inl e ↦ rw (e, back i, same i within, get_or-drop (128 * j) table i no_colours) (told j (omega arith) i (rw e at whole))
+        | inr ne ↦
+            (let e : q ≡ j + 1 = omega arith in
+            let at : 128 * (j + 1) + i ≡ 128 * j + (128 + i) = omega arith in
+            rw (e, at, back (128 + i)) (next i (rw e at whole)))
+      ]
+    ]

@@ -1,0 +1,16 @@
+-- What the loop of `write_before` keeps: the rows of the runs so far are told.
+use Rattle.line_core.proofs.Names.{◌≡◌, length}
+use Rattle.line_core.proofs.GapRows.{AreRowsTo}
+use Rattle.line_core.proofs.befores.write_before.Given as goal
+
+abbrev pub ghost-write_first : goal.ghost-write_first
+ghost-write_first g a = g.line
+
+abbrev pub ghost-write_row : goal.ghost-write_row
+ghost-write_row g a = g.line
+
+abbrev pub invariant-loop-j : goal.invariant-loop-j
+invariant-loop-j g l = record {
+  size : length l.table ≡ length l.fn.table;
+  told : AreRowsTo g.line l.clue l.j l.table;
+}

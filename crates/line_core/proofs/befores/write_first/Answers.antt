@@ -1,0 +1,27 @@
+-- `write_first`: the cells up to a gap with no run before it are blank.
+use Rattle.line_core.proofs.Names.{rules, true, false, ◌∙◌, ◌<◌, length, sym, arith, eqb-true, mask_same, none_is}
+use Rattle.std.proofs.Common.{true≢false}
+use Rattle.line_core.proofs.ColouredGaps.{first_to, first_from}
+use Rattle.line_core.proofs.GapRows.{walk_more, walk_last}
+use Rattle.line_core.proofs.befores.write_first.Goals as goal
+
+pub offset_bounds-row-from : goal.offset_bounds-row-from
+offset_bounds-row-from g c =
+    let gap = c.requires.1.1.1.0 _ (c.loop-left.invariant.within _ c.first_place-place.ensures.in_mask) in
+    let here : c.from.result < length c.args.row.now = omega (arith, gap.0.0, c.requires.1.1.1.1, c.from.ensures) in
+    search rules
+
+pub loop-left-preserved : goal.loop-left-preserved
+loop-left-preserved g c =
+    let place = c.first_place-place.result in
+    let gap = c.requires.1.1.1.0 place (c.loop-left.invariant.within place c.first_place-place.ensures.in_mask) in
+    walk_more _ _ _ place _ _ _ _ (omega (arith, gap.0.0, c.requires.1.1.1.1, c.loop-left.auto.row)) c.from.ensures c.marked-left.ensures
+    (record {
+      fillable_is = none_is _ _ c.empty.ensures (λ k h. true≢false (first_to g.line place true k h).1);
+      blankable_is = mask_same _ _ _ c.first_places.ensures (λ k h. first_from g.line place k gap (omega arith))
+          (λ k h. omega (arith, (first_to g.line place false k h).0));
+    })
+    c.loop-left.invariant
+
+pub returns-clause-row : goal.returns-clause-row
+returns-clause-row g c = walk_last _ _ _ _ (eqb-true _ 0 (sym c.is_empty.ensures ∙ c.loop-left-test.false)) c.loop-left.invariant

@@ -1,0 +1,22 @@
+-- What the loop of `gather_pairs` keeps: the pair of each unknown cell but those that are left is written.
+use Rattle.line_core.proofs.Names.{◌≡◌, ℕ, ◌⊎◌, length, get_or, Has}
+use Rattle.line_core.specs.Pairs.{no_pair}
+use Rattle.line_core.specs.steps.Pairs.{IsPairAt}
+use Rattle.line_core.specs.steps.Gathers.{IsUnknownAt}
+use Rattle.line_core.proofs.gathers.gather_pairs.Given as goal
+
+abbrev pub ghost-colours_if_filled : goal.ghost-colours_if_filled
+ghost-colours_if_filled g a = g.line
+
+abbrev pub ghost-colours_if_blank : goal.ghost-colours_if_blank
+ghost-colours_if_blank g a = g.line
+
+abbrev pub invariant-loop-left : goal.invariant-loop-left
+invariant-loop-left g l = record {
+  size : length l.pairs ≡ length l.fn.pairs;
+  unknown : (x : ℕ) → Has (g.W.PlaceSet.number l.left) x → IsUnknownAt g.line x;
+  written : (x : ℕ) → IsUnknownAt g.line x → Has (g.W.PlaceSet.number l.left) x ⊎ IsPairAt g.line l.clue x (get_or l.pairs x no_pair);
+}
+
+abbrev pub decreases-loop-left : goal.decreases-loop-left
+decreases-loop-left g l = g.W.PlaceSet.number l.left

@@ -1,0 +1,11 @@
+-- The line that `write_pairs` is about, as it is told to the functions that it calls.
+use Rattle.line_core.proofs.pair_rooms.write_pairs.Given as goal
+
+abbrev pub ghost-write_told : goal.ghost-write_told
+ghost-write_told g a = g.line
+
+abbrev pub ghost-write_told_turned : goal.ghost-write_told_turned
+ghost-write_told_turned g a = g.line
+
+abbrev pub ghost-gather_pairs : goal.ghost-gather_pairs
+ghost-gather_pairs g a = g.line

@@ -1,0 +1,8 @@
+-- The line that `write_told` is about, as it is told to the functions that it calls.
+use Rattle.line_core.proofs.pair_rooms.write_told.Given as goal
+
+abbrev pub ghost-write_wholes : goal.ghost-write_wholes
+ghost-write_wholes g a = g.line
+
+abbrev pub ghost-write_before : goal.ghost-write_before
+ghost-write_before g a = g.line

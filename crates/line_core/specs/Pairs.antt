@@ -1,0 +1,54 @@
+-- What is certain of a line once one more of its cells is known.
+use Rattle.std.specs.Prelude.{◌≡◌, ℕ, ◌<◌, ◌≤◌, Bool, true, false, List, [], length, Option, Some, None, slice_set, slice_index_or}
+use Rattle.grid_core.specs.declared.cells.Cell.{Cell}
+use Rattle.grid_core.specs.declared.cells.Cell.TheVariants.{Unknown}
+use Rattle.grid_core.specs.Cells.{colour}
+use Rattle.line_core.specs.Deduction.{deduced}
+use Rattle.line_core.specs.Told.{told_by}
+
+-- masks of cells that can be filled, and of cells that can be blank
+pub record ColourMasks : Type 0 where
+  pub fillable : ℕ
+  pub blankable : ℕ
+
+abbrev pub no_colours : ColourMasks
+no_colours = record { fillable = 0; blankable = 0 }
+
+-- what can be if a cell is filled, and if it is blank
+pub record PairMasks : Type 0 where
+  pub if_filled : ColourMasks
+  pub if_blank : ColourMasks
+
+abbrev pub no_pair : PairMasks
+no_pair = record { if_filled = no_colours; if_blank = no_colours }
+
+-- what can be if a cell has a colour
+abbrev pub masks_if : Bool → PairMasks → ColourMasks
+masks_if true pair = pair.if_filled
+masks_if false pair = pair.if_blank
+
+-- the line with a colour at a place
+abbrev pub coloured : List Cell → ℕ → Bool → List Cell
+coloured line k filled = slice_set line k (colour filled)
+
+-- a table: its line, if it has one, and for each cell what can be with a colour there
+pub record Table : Type 0 where
+  pub line : Option (List Cell)
+  pub pairs : List PairMasks
+
+-- a table without a line
+abbrev pub no_table : Table
+no_table = record { line = None; pairs = [] }
+
+-- a table has room for lines of `width` cells, and what can be with each cell of its line
+pub record IsTableIn (width : ℕ) (table : Table) (room : ℕ) : Type 0 where
+  pub fits : width ≤ room
+  pub written : (line : List Cell) → table.line ≡ Some line → length line ≤ length table.pairs
+
+-- for each unknown cell of the table's line and each colour it tells what is certain of the line
+-- with that colour there
+pub record IsTableOf (clue : List ℕ) (table : Table) : Type 0 where
+  pub tells : (line : List Cell) (x : ℕ) (filled : Bool) → table.line ≡ Some line → x < length line
+      → slice_index_or line x Unknown ≡ Unknown
+      → (let masks = masks_if filled (slice_index_or table.pairs x no_pair) in
+      told_by (length line) masks.fillable masks.blankable ≡ deduced (coloured line x filled) clue)

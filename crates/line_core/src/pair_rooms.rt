@@ -1,0 +1,198 @@
+//! All pairs of a line, in room that is made once.
+
+ghost use Rattle.std.specs.Prelude.{◌≡◌, ◌+◌, ◌*◌, ◌<◌, ◌≤◌, List, Some, length, map, reverse, vec_capacity, vec_len};
+ghost use Rattle.grid_core.specs.declared.cells.Cell.{Cell};
+ghost use Rattle.line_core.specs.Pairs.{IsTableOf};
+ghost use Rattle.grid_core.specs.declared.limits.TheConstants.{MOST_RUNS};
+ghost use Rattle.line_core.specs.steps.Passes.{IsSpanOf};
+ghost use Rattle.line_core.specs.steps.Pairs.{ArePairs, AreTold, AreWholeEnds, AreWholeGaps};
+ghost use Rattle.line_core.specs.steps.Reach.{AreLengths};
+
+use crate::befores::{ROW, write_before, write_wholes};
+use crate::gathers::gather_pairs;
+use crate::pairs::{Colours, Pair};
+use crate::reach::GAPS;
+use crate::rooms::make_ready;
+use crate::spans::{Span, reversed};
+use grid_core::{LineOf, MOST_RUNS, NoMemory};
+use place_sets::PlaceSet;
+use std::alloc::Global;
+
+/// Makes the rows of a table that a clue of `runs` runs takes: one for each gap.
+fn make_rows<W: PlaceSet>(table: &mut Vec<Colours<W>>, runs: usize)
+    requires runs { runs ≤ MOST_RUNS }
+    requires fits { 128 * (runs + 1) ≤ vec_capacity table.old }
+    ensures rows { 128 * (runs + 1) ≤ vec_len table.new }
+    ensures fits { vec_capacity table.new ≡ vec_capacity table.old }
+{
+    while table.len() < ROW * (runs + 1) {
+        table.push_reserved(Colours::none());
+    }
+}
+
+/// Writes the gaps and the ends of runs in whole placings, and the colours before each of those gaps.
+fn write_told<W: PlaceSet>(
+    span: &Span<W>,
+    clue: &[u16],
+    ahead: &mut [W::Kept; GAPS],
+    gaps: &mut [W::Kept; GAPS],
+    ends: &mut [W::Kept; GAPS],
+    table: &mut [Colours<W>],
+)
+    ghost line: { List Cell }
+    requires span { IsSpanOf W.WIDTH line span.now.len (W.number span.now.free) (W.number span.now.room) }
+    requires clue { AreLengths W.WIDTH clue.now }
+    requires count { length clue.now ≤ MOST_RUNS }
+    requires short { length line ≤ 128 }
+    requires room { 128 * (length clue.now + 1) ≤ length table.old }
+    ensures gaps { AreWholeGaps line clue.now (map W.kept_number gaps.new) }
+    ensures ends { AreWholeEnds line clue.now (map W.kept_number ends.new) }
+    ensures table { AreTold line clue.now table.new }
+    ensures count { length table.new ≡ length table.old }
+{
+    write_wholes(span, clue, ahead, gaps, ends);
+    write_before(clue, gaps, ends, table);
+}
+
+/// Writes the same of the line and of the clue as they are seen from their other end.
+fn write_told_turned<W: PlaceSet>(
+    span: &Span<W>,
+    clue: &[u16],
+    ahead: &mut [W::Kept; GAPS],
+    gaps: &mut [W::Kept; GAPS],
+    ends: &mut [W::Kept; GAPS],
+    table: &mut [Colours<W>],
+)
+    ghost line: { List Cell }
+    requires span { IsSpanOf W.WIDTH line span.now.len (W.number span.now.free) (W.number span.now.room) }
+    requires clue { AreLengths W.WIDTH clue.now }
+    requires count { length clue.now ≤ MOST_RUNS }
+    requires short { length line ≤ 128 }
+    requires room { 128 * (length clue.now + 1) ≤ length table.old }
+    ensures table { AreTold (reverse line) (reverse clue.now) table.new }
+    ensures count { length table.new ≡ length table.old }
+{
+    let mut numbers = [0; MOST_RUNS];
+    let turned = &mut numbers[..clue.len()];
+    turned.copy_from_slice(clue);
+    turned.reverse();
+    write_told(&reversed(span), turned, ahead, gaps, ends, table);
+}
+
+/// Writes for each unknown cell of a line and each colour what can be on the line with that colour there, with room
+/// for gaps and ends, and for the colours before and after gaps.
+fn write_pairs<W: PlaceSet>(
+    span: &Span<W>,
+    clue: &[u16],
+    ahead: &mut [W::Kept; GAPS],
+    gaps: &mut [W::Kept; GAPS],
+    ends: &mut [W::Kept; GAPS],
+    before: &mut [Colours<W>],
+    after: &mut [Colours<W>],
+    pairs: &mut [Pair<W>],
+)
+    ghost line: { List Cell }
+    requires span { IsSpanOf W.WIDTH line span.now.len (W.number span.now.free) (W.number span.now.room) }
+    requires clue { AreLengths W.WIDTH clue.now }
+    requires count { length clue.now ≤ MOST_RUNS }
+    requires short { length line ≤ 128 }
+    requires before { 128 * (length clue.now + 1) ≤ length before.old }
+    requires after { 128 * (length clue.now + 1) ≤ length after.old }
+    requires pairs { length line ≤ length pairs.old }
+    ensures pairs { ArePairs line clue.now pairs.new }
+    ensures count { length pairs.new ≡ length pairs.old }
+{
+    write_told_turned(span, clue, ahead, gaps, ends, after);
+    write_told(span, clue, ahead, gaps, ends, before);
+    gather_pairs(span, clue, gaps, ends, before, after, pairs);
+}
+
+/// The room that pairs of lines take, each part of it written only once it is needed.
+pub struct PairRoom<W: PlaceSet> {
+    /// The gaps in whole placings.
+    gaps: Vec<[W::Kept; GAPS]>,
+    /// The ends of runs in whole placings.
+    ends: Vec<[W::Kept; GAPS]>,
+    /// The colours before each gap.
+    before: Vec<Colours<W>>,
+    /// The colours before each gap as seen from the other end of the line.
+    after: Vec<Colours<W>>,
+    /// How many runs there is room for.
+    most_runs: usize,
+    ghost gaps_fit: { 0 < vec_capacity gaps },
+    ghost ends_fit: { 0 < vec_capacity ends },
+    ghost before_fits: { 128 * (most_runs + 1) ≤ vec_capacity before },
+    ghost after_fits: { 128 * (most_runs + 1) ≤ vec_capacity after },
+    ghost few: { most_runs ≤ MOST_RUNS },
+}
+
+/// A call of its own, so that a proof takes it as one step.
+impl<W: PlaceSet> Drop for PairRoom<W> {
+    fn drop(self) {
+        let PairRoom {
+            gaps: _,
+            ends: _,
+            before: _,
+            after: _,
+            most_runs: _,
+        } = self;
+    }
+}
+
+impl<W: PlaceSet> PairRoom<W> {
+    /// Makes the room, for clues of at most `most_runs` runs, 0 to 128.
+    pub fn new(alloc: Global, most_runs: usize) -> Result<PairRoom<W>, NoMemory>
+        requires { most_runs ≤ MOST_RUNS }
+    {
+        let entries = ROW * (most_runs + 1);
+        Ok(PairRoom {
+            gaps: Vec::with_capacity(alloc, 1)?,
+            ends: Vec::with_capacity(alloc, 1)?,
+            before: Vec::with_capacity(alloc, entries)?,
+            after: Vec::with_capacity(alloc, entries)?,
+            most_runs,
+        })
+    }
+
+    /// For clues of how many runs there is room.
+    pub fn most_runs(&self) -> usize
+        ensures { result ≡ self.now.most_runs }
+    {
+        self.most_runs
+    }
+
+    /// Writes for each unknown cell of a line and each colour what can be on the line with that colour there,
+    /// with room for the gaps of the runs.
+    pub(crate) fn write_pairs(
+        &mut self,
+        line: &LineOf<W>,
+        clue: &[u16],
+        ahead: &mut [W::Kept; GAPS],
+        pairs: &mut [Pair<W>],
+    )
+        ghost cells: { List Cell }
+        requires cells { line.now ≡ cells }
+        requires clue { AreLengths W.WIDTH clue.now }
+        requires count { length clue.now ≤ MOST_RUNS }
+        requires short { length cells ≤ 128 }
+        requires room { length clue.now ≤ self.old.most_runs }
+        requires pairs { length cells ≤ length pairs.old }
+        ensures table { IsTableOf clue.now (record { line = Some cells; pairs = pairs.new }) }
+        ensures count { length pairs.new ≡ length pairs.old }
+    {
+        make_ready::<W>(&mut self.gaps);
+        make_ready::<W>(&mut self.ends);
+        make_rows(&mut self.before, clue.len());
+        make_rows(&mut self.after, clue.len());
+        write_pairs(
+            &Span::of(line),
+            clue,
+            ahead,
+            &mut self.gaps[0],
+            &mut self.ends[0],
+            &mut self.before,
+            &mut self.after,
+            pairs,
+        );
+    }
+}

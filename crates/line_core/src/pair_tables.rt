@@ -1,0 +1,160 @@
+//! Tables of what is certain of a line once one more of its cells is known.
+
+ghost use Rattle.std.specs.Prelude.{◌≡◌, ◌<◌, ◌≤◌, ℕ, List, None, Some, length, vec_capacity, vec_len, All, IfOk, IfSome, IsTrue};
+ghost use Rattle.place_sets.specs.Masks.{IsMaskOf};
+ghost use Rattle.line_core.specs.Deduction.{deduced};
+ghost use Rattle.line_core.specs.Pairs.{IsTableOf};
+ghost use Rattle.line_core.specs.declared.pairs.TheConstants.{LONGEST_PAIRED};
+
+use crate::deduction::{LineSet, Tables};
+use crate::pair_rooms::PairRoom;
+use crate::pairs::{LONGEST_PAIRED, Pair};
+use grid_core::{Cell, Clue, LineOf, NoMemory};
+use place_sets::PlaceSet;
+use std::alloc::Global;
+use std::marker::Model;
+
+/// For one line, if it has one, what is certain of it once an unknown cell has a colour, for each such cell and
+/// both colours, in room that is made once.
+pub struct PairTable<W: LineSet> {
+    line: Option<LineOf<W>>,
+    pairs: Vec<Pair<W>>,
+}
+
+/// A call of its own, so that a proof takes it as one step.
+impl<W: LineSet> Drop for PairTable<W> {
+    fn drop(self) {
+        let PairTable { line: _, pairs: _ } = self;
+    }
+}
+
+impl<W: LineSet> Model for PairTable<W> {
+    ghost use Rattle.std.specs.Prelude.{vec_capacity};
+    ghost use Rattle.line_core.specs.Pairs.{Table};
+    ghost use Rattle.line_core.specs.Pairs.{IsTableIn};
+
+    ghost Value = { Table };
+
+    ghost view = { λ t. record { line = t.line; pairs = t.pairs.items } };
+
+    ghost invariant = { λ t. IsTableIn W.WIDTH (record { line = t.line; pairs = t.pairs.items }) (vec_capacity t.pairs) };
+}
+
+/// The place of a set that has just one.
+fn only_place<W: PlaceSet>(places: W) -> Option<u16>
+    ensures { IfSome result (λ place. (place < W.WIDTH) × IsMaskOf (λ i. i ≡ place) (W.number places)) }
+{
+    if places.is_empty() {
+        return None;
+    }
+    let place = places.first_place();
+    if places.marked(place, false).is_empty() {
+        Some(place)
+    } else {
+        None
+    }
+}
+
+/// Makes entries for the cells of a line of `len` cells.
+fn make_entries<W: LineSet>(pairs: &mut Vec<Pair<W>>, len: u16)
+    requires { len ≤ vec_capacity pairs.old }
+    ensures entries { len ≤ vec_len pairs.new }
+    ensures room { vec_capacity pairs.new ≡ vec_capacity pairs.old }
+{
+    while pairs.len() < usize::from(len) {
+        pairs.push_reserved(Pair::none());
+    }
+}
+
+impl<W: LineSet> PairTable<W> {
+    /// A table without a line, with all the room that it takes.
+    #[tactic(auto, using(crate::proofs::Pairing::empty_table))]
+    pub fn new(alloc: Global) -> Result<PairTable<W>, NoMemory>
+        ensures line { IfOk result (λ table. table.line ≡ None) }
+        ensures table { IfOk result (λ table. (clue : List ℕ) → IsTableOf clue table) }
+    {
+        Ok(PairTable {
+            line: None,
+            pairs: Vec::with_capacity(alloc, usize::from(W::WIDTH))?,
+        })
+    }
+
+    /// Takes its line away.
+    pub fn forget(&mut self)
+        ensures { self.new.line ≡ None }
+    {
+        self.line = None;
+    }
+
+    /// Whether its line is this one.
+    fn is_of(&self, line: &LineOf<W>) -> bool
+        ensures { IsTrue result → self.now.line ≡ Some line.now }
+    {
+        match &self.line {
+            Some(old) => old.is_same(line),
+            None => false,
+        }
+    }
+
+    /// Makes the table of a line of at most 128 cells.
+    fn write_new(
+        &mut self,
+        tables: &mut Tables,
+        room: &mut PairRoom<W>,
+        line: &LineOf<W>,
+        clue: &Clue,
+    )
+        requires clue { All (λ number. number ≤ W.WIDTH) clue.now }
+        requires short { length line.now ≤ LONGEST_PAIRED }
+        requires room { length clue.now ≤ room.old.most_runs }
+        ensures { IsTableOf clue.now self.new }
+    {
+        make_entries(&mut self.pairs, line.len());
+        W::write_pairs(tables, room, line, clue, &mut self.pairs);
+        self.line = Some(line.copy());
+    }
+
+    /// Makes the table of a line, given its clue, whose numbers are no greater than its sets have places,
+    /// if it isn't the table of it already. It takes the old one away, and makes none if there is no room for it.
+    #[tactic(auto, using(crate::proofs::Pairing::empty_table))]
+    pub fn write(
+        &mut self,
+        tables: &mut Tables,
+        room: &mut PairRoom<W>,
+        line: &LineOf<W>,
+        clue: &Clue,
+    )
+        requires clue { All (λ number. number ≤ W.WIDTH) clue.now }
+        requires table { IsTableOf clue.now self.old }
+        ensures { IsTableOf clue.now self.new }
+    {
+        if self.is_of(line) {
+            return;
+        }
+        self.line = None;
+        if line.len() <= LONGEST_PAIRED && clue.numbers().len() <= room.most_runs() {
+            self.write_new(tables, room, line, clue);
+        }
+    }
+
+    /// What is certain of a line that is the table's but for one unknown cell that got a colour: none if it has
+    /// no placing. `None` for another line.
+    pub fn deduce(&self, line: &LineOf<W>) -> Option<Option<LineOf<W>>>
+        ensures { IfSome result (λ answer. (clue : List ℕ) → IsTableOf clue self.now → answer ≡ deduced line.now clue) }
+    {
+        let base = self.line.as_ref()?;
+        if base.len() != line.len() {
+            return None;
+        }
+        let place = only_place(base.changes(line))?;
+        if base.get(place).is_known() {
+            return None;
+        }
+        let pair = &self.pairs[usize::from(place)];
+        match line.get(place) {
+            Cell::Unknown => None,
+            Cell::Filled => Some(pair.if_filled.certain(line.len())),
+            Cell::Blank => Some(pair.if_blank.certain(line.len())),
+        }
+    }
+}

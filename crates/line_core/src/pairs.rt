@@ -1,0 +1,81 @@
+//! What is certain of a line once one more of its cells is known.
+
+ghost use Rattle.std.specs.Prelude.{◌≡◌, ◌<◌, ◌≤◌, List, length, slice_index_or, true};
+ghost use Rattle.grid_core.specs.declared.cells.Cell.{Cell};
+ghost use Rattle.line_core.specs.steps.Passes.{IsSpanOf};
+ghost use Rattle.line_core.specs.steps.Pairs.{AreColours, ArePairs, IsPairAt};
+ghost use Rattle.grid_core.specs.Cells.{colour};
+ghost use Rattle.grid_core.specs.declared.cells.Cell.TheVariants.{Unknown};
+ghost use Rattle.line_core.specs.steps.Reach.{AreLengths};
+ghost use Rattle.line_core.specs.Pairs.{no_colours};
+ghost use Rattle.line_core.specs.Told.{told_by};
+
+use crate::deduction::{certain, colours};
+use crate::reach::GAPS;
+use crate::spans::Span;
+use grid_core::{LineOf, MOST_RUNS};
+use place_sets::PlaceSet;
+use std::marker::Model;
+
+/// The longest line of which pairs are kept.
+pub const LONGEST_PAIRED: u16 = 128;
+
+/// The cells that are filled in some placing, and those that are blank in some.
+#[derive(Drop)]
+pub struct Colours<W: PlaceSet> {
+    pub fillable: W,
+    pub blankable: W,
+}
+
+impl<W: PlaceSet> Model for Colours<W> {
+    ghost use Rattle.line_core.specs.Pairs.{ColourMasks};
+
+    ghost Value = { ColourMasks };
+
+    ghost view = { λ c. record { fillable = W.number c.fillable; blankable = W.number c.blankable } };
+}
+
+impl<W: PlaceSet> Colours<W> {
+    /// No cell of either colour.
+    pub fn none() -> Colours<W>
+        ensures { result ≡ no_colours }
+    {
+        Colours {
+            fillable: W::empty(),
+            blankable: W::empty(),
+        }
+    }
+
+    /// What is certain of a line of `len` cells: none if its first cell can have no colour.
+    pub fn certain(&self, len: u16) -> Option<LineOf<W>>
+        requires { (1 ≤ len) × (len ≤ W.WIDTH) }
+        ensures { result ≡ told_by len self.now.fillable self.now.blankable }
+    {
+        certain(len, self.fillable, self.blankable)
+    }
+}
+
+/// What can be on a line if one of its cells is filled, and if it is blank.
+#[derive(Drop)]
+pub struct Pair<W: PlaceSet> {
+    pub if_filled: Colours<W>,
+    pub if_blank: Colours<W>,
+}
+
+impl<W: PlaceSet> Model for Pair<W> {
+    ghost use Rattle.line_core.specs.Pairs.{PairMasks};
+
+    ghost Value = { PairMasks };
+
+    ghost view = { λ p. record { if_filled = p.if_filled; if_blank = p.if_blank } };
+}
+
+impl<W: PlaceSet> Pair<W> {
+    /// What stands where nothing was written.
+    pub fn none() -> Pair<W> {
+        Pair {
+            if_filled: Colours::none(),
+            if_blank: Colours::none(),
+        }
+    }
+}
