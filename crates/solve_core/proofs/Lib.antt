@@ -29,3 +29,5 @@ pub mod CountLaws
 pub mod PickRows
 pub mod StatedLaws
 pub mod WordLemmas
+pub mod TableSteps
+pub mod Remembering

@@ -17,3 +17,4 @@ pub mod Tried
 pub mod Widths
 pub mod WitnessLists
 pub mod Witnesses
+pub mod LinePairs

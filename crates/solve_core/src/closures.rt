@@ -50,7 +50,13 @@ impl Progress {
 pub struct Closer<W: LineSet> {
     deductions: Deductions<W>,
     marks: Marks<W>,
+    /// How many copies in succession were alive, at most 16.
+    calm: u8,
 }
+
+/// How many copies in succession are alive before tables are made: while colours are refuted, lines change too
+/// often.
+const CALM: u8 = 16;
 
 impl<W: LineSet> Model for Closer<W> {
     ghost use Rattle.solve_core.specs.steps.Closers.{Closing};
@@ -100,6 +106,7 @@ impl<W: LineSet> Closer<W> {
         Closer {
             deductions,
             marks: Marks::none(),
+            calm: 0,
         }
     }
 
@@ -214,6 +221,37 @@ impl<W: LineSet> Closer<W> {
         self.propagate(puzzle, lines)
     }
 
+    /// Makes the table of line i of a side.
+    fn prepare_line(&mut self, puzzle: &Puzzle, side: Side, i: u16, board: &Board<W>)
+        requires i { i < count_on side puzzle.now.width puzzle.now.height }
+        requires rest { IsAtRest puzzle.now self.old board.now.cells }
+        requires size { IsBoardOf puzzle.now board.now }
+        ensures rest { IsAtRest puzzle.now self.new board.now.cells }
+    {
+        self.deductions
+            .prepare(puzzle, side, i, board.lines().line(side, i));
+    }
+
+    /// Makes the tables of the row and of the column of a cell.
+    fn prepare(&mut self, puzzle: &Puzzle, board: &Board<W>, place: usize)
+        requires rest { IsAtRest puzzle.now self.old board.now.cells }
+        requires size { IsBoardOf puzzle.now board.now }
+        requires place { place < length board.now.cells }
+        ensures rest { IsAtRest puzzle.now self.new board.now.cells }
+    {
+        let width = usize::from(puzzle.width());
+        self.prepare_line(puzzle, Side::Rows, (place / width) as u16, board);
+        self.prepare_line(puzzle, Side::Columns, (place % width) as u16, board);
+    }
+
+    /// Takes away the tables of lines.
+    pub fn forget_tables(&mut self)
+        ensures memory { (p : Nonogram) → IsMemoryOf p self.old → IsMemoryOf p self.new }
+        ensures marks { self.new.marks ≡ self.old.marks }
+    {
+        self.deductions.forget_tables();
+    }
+
     /// Gives an unknown cell of a board at rest a colour, and closes the board by what that says of the
     /// cell's row and its column. Returns whether it is alive; dead cells are open. No line is marked then,
     /// and the board leads back to where it was.
@@ -243,7 +281,7 @@ impl<W: LineSet> Closer<W> {
 
     /// Gives an unknown cell of a board at rest a colour, on a copy. Returns whether the copy is alive, which
     /// then is closed.
-    pub fn assign_copy(
+    fn assign_on(
         &mut self,
         puzzle: &Puzzle,
         board: &Board<W>,
@@ -264,5 +302,37 @@ impl<W: LineSet> Closer<W> {
         self.deductions.open();
         trial.restart_from(board);
         self.assign(puzzle, trial, place, colour)
+    }
+
+    /// Gives an unknown cell of a board at rest a colour, on a copy. Returns whether the copy is alive, which
+    /// then is closed. Once 16 copies in succession were alive, tables are made of the lines that are asked first.
+    pub fn assign_copy(
+        &mut self,
+        puzzle: &Puzzle,
+        board: &Board<W>,
+        trial: &mut Board<W>,
+        place: usize,
+        colour: Cell,
+    ) -> bool
+        requires rest { IsAtRest puzzle.now self.old board.now.cells }
+        requires size { IsBoardOf puzzle.now board.now }
+        requires trial { IsBoardOf puzzle.now trial.old }
+        requires cell { CanSettle board.now.cells place colour }
+        ensures closed { if_alive result trial.new.cells ≡ closure (lines_of puzzle.now) (slice_set board.now.cells place colour) }
+        ensures rest { IsAtRest puzzle.now self.new board.now.cells }
+        ensures closed_rest { IsTrue result → IsAtRest puzzle.now self.new trial.new.cells }
+        ensures back { cleared trial.new.cells trial.new.trail ≡ board.now.cells }
+        ensures trial { IsBoardOf puzzle.now trial.new }
+    {
+        if self.calm == CALM {
+            self.prepare(puzzle, board, place);
+        }
+        let alive = self.assign_on(puzzle, board, trial, place, colour);
+        self.calm = if alive {
+            self.calm.saturating_add(1).min(CALM)
+        } else {
+            0
+        };
+        alive
     }
 }

@@ -1,11 +1,13 @@
 //! Deductions of a puzzle's lines, remembered.
-ghost use Rattle.std.specs.Prelude.{[], ◌≡◌, ◌+◌, ◌*◌, ◌<◌, ◌≤◌, ◌↔◌, length, vec_capacity, IsTrue, IfOk, IfSome, All};
+ghost use Rattle.std.specs.Prelude.{[], ℕ, ◌≡◌, ◌+◌, ◌*◌, ◌<◌, ◌≤◌, ◌↔◌, length, vec_capacity, IsTrue, IfOk, IfSome, All};
 ghost use Rattle.line_core.specs.Deduction.{deduced};
 ghost use Rattle.solve_core.specs.steps.Deductions.{AreRight, IsKeptFrom};
-ghost use Rattle.grid_core.specs.Nonogram.{line_on};
+ghost use Rattle.grid_core.specs.Nonogram.{Nonogram, line_on};
+ghost use Rattle.solve_core.specs.steps.LinePairs.{AreTablesOf};
 ghost use Rattle.grid_core.specs.steps.Sides.{count_on};
 ghost use Rattle.solve_core.specs.steps.Widths.{FitsIn};
 
+use crate::line_pairs::LinePairs;
 use crate::places::clue_of_line;
 use crate::rooms::emptied;
 use grid_core::{LONGEST_SIDE, NoMemory, Puzzle, Side};
@@ -147,6 +149,7 @@ pub struct Deductions<W: LineSet> {
     room: usize,
     slots: Vec<[u16; GROUP]>,
     kept: Vec<Deduction<W>>,
+    pairs: LinePairs<W>,
 }
 
 /// A call of its own, so that a proof takes it as one step.
@@ -157,6 +160,7 @@ impl<W: LineSet> Drop for Deductions<W> {
             room: _,
             slots: _,
             kept: _,
+            pairs: _,
         } = self;
     }
 }
@@ -164,25 +168,26 @@ impl<W: LineSet> Drop for Deductions<W> {
 impl<W: LineSet> Model for Deductions<W> {
     ghost use Rattle.std.specs.Prelude.{vec_capacity};
     ghost use Rattle.std.specs.Prelude.{List};
-    ghost use Rattle.solve_core.specs.steps.Deductions.{HasRoom, KnownLine};
+    ghost use Rattle.solve_core.specs.steps.Deductions.{HasRoom, Memory};
 
-    ghost Value = { List KnownLine };
+    ghost Value = { Memory };
 
-    ghost view = { λ d. d.kept.items };
+    ghost view = { λ d. record { kept = d.kept.items; tables = d.pairs } };
 
     ghost invariant = { λ d. HasRoom d.room (vec_capacity d.slots) (vec_capacity d.kept) };
 }
 
 impl<W: LineSet> Deductions<W> {
-    /// Its tables, its slots and what it keeps.
-    fn into_parts(self) -> (Tables, Vec<[u16; GROUP]>, Vec<Deduction<W>>) {
+    /// Its tables, its slots, what it keeps and its pairs.
+    fn into_parts(self) -> (Tables, Vec<[u16; GROUP]>, Vec<Deduction<W>>, LinePairs<W>) {
         let Deductions {
             tables,
             room: _,
             slots,
             kept,
+            pairs,
         } = self;
-        (tables, slots, kept)
+        (tables, slots, kept, pairs)
     }
 
     /// Makes all the room that it takes, in proportion to the puzzle, of that of others, if there are any.
@@ -195,25 +200,34 @@ impl<W: LineSet> Deductions<W> {
         requires { FitsIn W.WIDTH puzzle.now }
         ensures { IfOk result (λ deductions. AreRight W.WIDTH puzzle.now deductions) }
     {
-        let cells = usize::from(puzzle.width()) * usize::from(puzzle.height());
-        Deductions::with_room(alloc, others, room_for::<W>(cells))
+        let (width, height) = (puzzle.width(), puzzle.height());
+        let room = room_for::<W>(usize::from(width) * usize::from(height));
+        Deductions::with_room(alloc, others, room, width, height)
     }
 
-    /// Makes the room for `room` deductions, 1 to 16,384, of that of others, if there are any.
+    /// Makes the room for `room` deductions, 1 to 16,384, and for tables of `width` columns and `height` rows,
+    /// of that of others, if there are any.
     pub fn with_room(
         alloc: Global,
         others: Option<Deductions<W>>,
         room: usize,
+        width: u16,
+        height: u16,
     ) -> Result<Deductions<W>, NoMemory>
         requires { (1 ≤ room) × (room ≤ MOST_REMEMBERED) }
-        ensures { IfOk result (λ deductions. deductions ≡ []) }
+        ensures kept { IfOk result (λ deductions. deductions.kept ≡ []) }
+        ensures pairs { IfOk result (λ deductions. (p : Nonogram) → AreTablesOf p deductions.tables) }
     {
-        let (tables, slots, kept) = match others {
-            Some(others) => others.into_parts(),
+        let (tables, slots, kept, pairs) = match others {
+            Some(others) => {
+                let (tables, slots, kept, pairs) = others.into_parts();
+                (tables, slots, kept, Some(pairs))
+            }
             None => (
                 Tables::new(alloc, LONGEST_SIDE)?,
                 Vec::new(alloc),
                 Vec::new(alloc),
+                None,
             ),
         };
         let slots = emptied(alloc, slots, room.div_ceil(GROUP))?;
@@ -223,7 +237,24 @@ impl<W: LineSet> Deductions<W> {
             room,
             slots,
             kept,
+            pairs: LinePairs::new(alloc, pairs, width, height)?,
         })
+    }
+
+    /// Makes the table of line i of a side of the puzzle with these cells, if it isn't made.
+    pub fn prepare(&mut self, puzzle: &Puzzle, side: Side, i: u16, line: &LineOf<W>)
+        requires i { i < count_on side puzzle.now.width puzzle.now.height }
+        requires memory { AreRight W.WIDTH puzzle.now self.old }
+        ensures memory { AreRight W.WIDTH puzzle.now self.new }
+    {
+        self.pairs.write(&mut self.tables, puzzle, side, i, line);
+    }
+
+    /// Takes away the tables of lines.
+    pub fn forget_tables(&mut self)
+        ensures { (width : ℕ) (p : Nonogram) → AreRight width p self.old → AreRight width p self.new }
+    {
+        self.pairs.forget();
     }
 
     /// Remembers from here on. It takes no memory, and does nothing to what is open.
@@ -251,6 +282,11 @@ impl<W: LineSet> Deductions<W> {
         ensures answer { result ≡ deduced line.now (line_on side puzzle.now i).clue }
         ensures memory { AreRight W.WIDTH puzzle.now self.new }
     {
+        if self.pairs.is_written() {
+            if let Some(answer) = self.pairs.deduce(side, i, line) {
+                return answer;
+            }
+        }
         let clue = clue_of_line(puzzle, side, i);
         let runs = clue.numbers().len();
         let Some((group, place)) = slot_of(&self.slots, self.room, side, i, line, runs) else {

@@ -12,6 +12,7 @@ pub mod laws;
 mod learners;
 mod learning;
 mod line_grids;
+mod line_pairs;
 mod marks;
 mod picks;
 mod places;

@@ -47,7 +47,7 @@ fn line_grid_within<W: LineSet>(alloc: Global, puzzle: &Puzzle) -> Result<Option
     let grid = Grid::unknown(alloc, width, height)?;
     let rows = emptied(alloc, Vec::new(alloc), usize::from(height))?;
     let columns = emptied(alloc, Vec::new(alloc), usize::from(width))?;
-    let deductions = Deductions::with_room(alloc, None, 1)?;
+    let deductions = Deductions::with_room(alloc, None, 1, 0, 0)?;
     let mut closer = Closer::<W>::new(deductions);
     let mut lines = GridLines::unknown(rows, columns, width, height);
     Ok(closed_grid(&mut closer, puzzle, &mut lines, grid))

@@ -345,7 +345,9 @@ impl<W: LineSet> Trials<W> {
         ensures room { HasRoomFor puzzle.now self.new }
     {
         self.witnesses.forget();
-        self.try_until_same(puzzle, board)
+        let alive = self.try_until_same(puzzle, board);
+        self.closer.forget_tables();
+        alive
     }
 
     /// Closes a board under trials. Returns whether it is alive.

@@ -1,13 +1,13 @@
 -- What closing by lines keeps.
-use Rattle.std.specs.Prelude.{ℕ, List}
+use Rattle.std.specs.Prelude.{ℕ}
 use Rattle.grid_core.specs.Nonogram.{Nonogram}
-use Rattle.solve_core.specs.steps.Deductions.{AreRight, KnownLine}
+use Rattle.solve_core.specs.steps.Deductions.{AreRight, Memory}
 use Rattle.solve_core.specs.steps.LineMarks.{LineMarks, AreUnmarked}
 
 -- what is remembered of lines in sets of `width` places, and which lines may have more to give
 pub record Closing : Type 0 where
   pub width : ℕ
-  pub kept : List KnownLine
+  pub kept : Memory
   pub marks : LineMarks
 
 -- there is room for the puzzle, and what is remembered of its lines is right

@@ -5,6 +5,7 @@ use Rattle.grid_core.specs.declared.cells.Cell.{Cell}
 use Rattle.grid_core.specs.declared.sides.Side.{Side}
 use Rattle.grid_core.specs.Nonogram.{Nonogram, line_on}
 use Rattle.line_core.specs.Deduction.{deduced}
+use Rattle.solve_core.specs.steps.LinePairs.{LineTables, AreTablesOf}
 use Rattle.solve_core.specs.steps.Widths.{FitsIn}
 use Rattle.solve_core.specs.declared.deductions.TheConstants.{MOST_REMEMBERED}
 
@@ -19,10 +20,16 @@ pub record KnownLine : Type 0 where
 abbrev pub IsDeductionOf : Nonogram → KnownLine → Type 0
 IsDeductionOf p d = d.answer ≡ deduced d.line (line_on d.side p d.number).clue
 
+-- what is remembered of lines, and tables of them
+pub record Memory : Type 0 where
+  pub kept : List KnownLine
+  pub tables : LineTables
+
 -- sets of `width` places have room for the puzzle, and what is remembered of its lines is right
-pub record AreRight (width : ℕ) (p : Nonogram) (kept : List KnownLine) : Type 0 where
+pub record AreRight (width : ℕ) (p : Nonogram) (memory : Memory) : Type 0 where
   pub fits : FitsIn width p
-  pub right : All (IsDeductionOf p) kept
+  pub right : All (IsDeductionOf p) memory.kept
+  pub tables_are : AreTablesOf p memory.tables
 
 -- a deduction is the new one, or one of the old ones
 abbrev pub IsKeptFrom : List KnownLine → KnownLine → KnownLine → Type 0

@@ -1,7 +1,13 @@
 -- `findings`: the report is the defined one, whether lines end dead, trials end dead, or there is a search.
-use Rattle.solve_core.proofs.Names.{◌∙◌, grade_by, picked, Some}
+use Rattle.solve_core.proofs.Names.{◌∙◌, grade_by, picked, refl, Some}
 use Rattle.solve_core.proofs.ReportLaws.{report-told}
 use Rattle.solve_core.proofs.reports.findings.Goals as goal
+
+pub try_unless_full-alive-requires-clause-rest : goal.try_unless_full-alive-requires-clause-rest
+try_unless_full-alive-requires-clause-rest g c = c.if-not-close.ensures.rest refl
+
+pub search-end-requires-clause-rest : goal.search-end-requires-clause-rest
+search-end-requires-clause-rest g c = c.try_unless_full-alive.ensures.rest (rw c.if-not-alive.false refl)
 
 pub returns : goal.returns
 returns g c =

@@ -7,6 +7,7 @@ invariant-loop-self g l = record {
   tables : l.self-inside.tables ≡ l.initial.self-inside.tables;
   room : l.self-inside.room ≡ l.initial.self-inside.room;
   kept : l.self-inside.kept ≡ l.initial.self-inside.kept;
+  pairs : l.self-inside.pairs ≡ l.initial.self-inside.pairs;
   slots_room : vec_capacity l.self-inside.slots ≡ vec_capacity l.initial.self-inside.slots;
 }
 

@@ -1,0 +1,11 @@
+-- `Deductions::prepare`: all but the tables stays.
+use Rattle.solve_core.proofs.deductions.Deductions.prepare.Goals as goal
+
+pub returns : goal.returns
+returns g c = record {
+  memory = record {
+    fits = c.requires.memory.fits;
+    right = rw (← c.self.view_is) at c.requires.memory.right;
+    tables_are = c.write.ensures;
+  };
+}

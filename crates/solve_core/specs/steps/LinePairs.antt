@@ -1,0 +1,28 @@
+-- Tables of what is certain of a puzzle's lines once one more cell is known.
+use Rattle.std.specs.Prelude.{◌≡◌, ℕ, Bool, false, List, None, slice_index_or}
+use Rattle.grid_core.specs.declared.sides.Side.{Side}
+use Rattle.grid_core.specs.declared.sides.Side.TheVariants.{Rows, Columns}
+use Rattle.grid_core.specs.Nonogram.{Nonogram, line_on}
+use Rattle.line_core.specs.Pairs.{Table, IsTableOf, no_table}
+
+-- a table for each row, and one for each column
+pub record LineTables : Type 0 where
+  pub rows : List Table
+  pub columns : List Table
+
+-- the table of line i of a side
+abbrev pub table_on : Side → ℕ → LineTables → Table
+table_on Rows i tables = slice_index_or tables.rows i no_table
+table_on Columns i tables = slice_index_or tables.columns i no_table
+
+-- each is one of the puzzle's line
+pub record AreTablesOf (p : Nonogram) (tables : LineTables) : Type 0 where
+  pub each : (side : Side) (i : ℕ) → IsTableOf (line_on side p i).clue (table_on side i tables)
+
+-- none of some tables has a line
+pub record AreEmpty (tables : List Table) : Type 0 where
+  pub each : (i : ℕ) → (slice_index_or tables i no_table).line ≡ None
+
+-- none has a line before the first is written
+abbrev pub AreForgotten : Bool → LineTables → Type 0
+AreForgotten written tables = written ≡ false → AreEmpty tables.rows × AreEmpty tables.columns

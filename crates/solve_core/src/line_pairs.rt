@@ -1,0 +1,223 @@
+//! Tables of what is certain of a puzzle's lines once one more cell is known.
+
+ghost use Rattle.std.specs.Prelude.{◌≡◌, ◌≢◌, ◌<◌, ◌≤◌, ℕ, length, slice_index_or, All, IfOk, IfSome};
+ghost use Rattle.grid_core.specs.Nonogram.{Nonogram, line_on};
+ghost use Rattle.grid_core.specs.steps.Sides.{count_on};
+ghost use Rattle.line_core.specs.Deduction.{deduced};
+ghost use Rattle.line_core.specs.Pairs.{IsTableOf, no_table};
+ghost use Rattle.solve_core.specs.steps.LinePairs.{AreEmpty, AreTablesOf};
+ghost use Rattle.solve_core.specs.steps.Widths.{FitsIn};
+
+use crate::places::clue_of_line;
+use grid_core::{Clue, MOST_RUNS, NoMemory, Puzzle, Side};
+use line_core::{LineOf, LineSet, PairRoom, PairTable, Tables};
+use std::alloc::Global;
+use std::marker::Model;
+
+/// How many places the widest sets have of whose lines there are tables.
+const WIDEST: u16 = 128;
+
+/// How many of `count` lines have a table: none if the sets are too wide.
+fn tables_for<W: LineSet>(count: u16) -> usize {
+    if W::WIDTH <= WIDEST {
+        usize::from(count)
+    } else {
+        0
+    }
+}
+
+/// At least `count` tables, of those that there are and others.
+#[tactic(auto, using(crate::proofs::TableSteps::one_more_empty))]
+fn with_tables<W: LineSet>(
+    alloc: Global,
+    tables: Vec<PairTable<W>>,
+    count: usize,
+) -> Result<Vec<PairTable<W>>, NoMemory>
+    requires { AreEmpty tables.items }
+    ensures { IfOk result (λ tables. AreEmpty tables.items) }
+{
+    let mut tables = tables;
+    for _ in tables.len()..count {
+        tables.push(PairTable::new(alloc)?)?;
+    }
+    Ok(tables)
+}
+
+/// Room for clues of `most_runs` runs, that which there is if it is enough.
+fn with_room<W: LineSet>(
+    alloc: Global,
+    room: PairRoom<W>,
+    most_runs: usize,
+) -> Result<PairRoom<W>, NoMemory>
+    requires { most_runs ≤ MOST_RUNS }
+{
+    if most_runs <= room.most_runs() {
+        return Ok(room);
+    }
+    PairRoom::new(alloc, most_runs)
+}
+
+/// Takes the lines of tables away.
+fn forget_all<W: LineSet>(tables: &mut [PairTable<W>])
+    ensures { AreEmpty tables.new }
+{
+    for i in 0..tables.len() {
+        tables[i].forget();
+    }
+}
+
+/// Makes the table of line i, given its clue, if there is room for one.
+fn write_at<W: LineSet>(
+    tables: &mut [PairTable<W>],
+    i: u16,
+    lines: &mut Tables,
+    room: &mut PairRoom<W>,
+    line: &LineOf<W>,
+    clue: &Clue,
+)
+    requires clue { All (λ number. number ≤ W.WIDTH) clue.now }
+    requires table { IsTableOf clue.now (slice_index_or tables.old i no_table) }
+    ensures table { IsTableOf clue.now (slice_index_or tables.new i no_table) }
+    ensures others { (k : ℕ) → k ≢ i → slice_index_or tables.new k no_table ≡ slice_index_or tables.old k no_table }
+    ensures count { length tables.new ≡ length tables.old }
+{
+    let place = usize::from(i);
+    if place < tables.len() {
+        tables[place].write(lines, room, line, clue);
+    }
+}
+
+/// A table for each row and each column of a puzzle, in room that is made once.
+pub struct LinePairs<W: LineSet> {
+    room: PairRoom<W>,
+    rows: Vec<PairTable<W>>,
+    columns: Vec<PairTable<W>>,
+    /// Whether one of them may have a line.
+    written: bool,
+}
+
+/// A call of its own, so that a proof takes it as one step.
+impl<W: LineSet> Drop for LinePairs<W> {
+    fn drop(self) {
+        let LinePairs {
+            room: _,
+            rows: _,
+            columns: _,
+            written: _,
+        } = self;
+    }
+}
+
+impl<W: LineSet> Model for LinePairs<W> {
+    ghost use Rattle.solve_core.specs.steps.LinePairs.{AreForgotten, LineTables};
+
+    ghost Value = { LineTables };
+
+    ghost view = { λ t. record { rows = t.rows.items; columns = t.columns.items } };
+
+    ghost invariant = { λ t. AreForgotten t.written (record { rows = t.rows.items; columns = t.columns.items }) };
+}
+
+impl<W: LineSet> LinePairs<W> {
+    /// Without a table.
+    #[tactic(auto, using(crate::proofs::TableSteps::none_empty))]
+    fn none(alloc: Global) -> Result<LinePairs<W>, NoMemory> {
+        Ok(LinePairs {
+            room: PairRoom::new(alloc, 0)?,
+            rows: Vec::new(alloc),
+            columns: Vec::new(alloc),
+            written: false,
+        })
+    }
+
+    /// Its room, and the tables of its rows and of its columns.
+    fn into_parts(self) -> (PairRoom<W>, Vec<PairTable<W>>, Vec<PairTable<W>>)
+        ensures rows { result.1.items ≡ self.rows }
+        ensures columns { result.2.items ≡ self.columns }
+    {
+        let LinePairs {
+            room,
+            rows,
+            columns,
+            written: _,
+        } = self;
+        (room, rows, columns)
+    }
+
+    /// Whether a table may have a line.
+    pub fn is_written(&self) -> bool {
+        self.written
+    }
+
+    /// Takes the lines of all tables away.
+    pub fn forget(&mut self)
+        ensures rows { AreEmpty self.new.rows }
+        ensures columns { AreEmpty self.new.columns }
+    {
+        if self.written {
+            forget_all(&mut self.rows);
+            forget_all(&mut self.columns);
+            self.written = false;
+        }
+    }
+
+    /// Makes the tables of a puzzle of this size, of those of others, if there are any. None has a line.
+    #[tactic(auto, using(crate::proofs::TableSteps::empty_tables))]
+    pub fn new(
+        alloc: Global,
+        others: Option<LinePairs<W>>,
+        width: u16,
+        height: u16,
+    ) -> Result<LinePairs<W>, NoMemory>
+        ensures { IfOk result (λ tables. (p : Nonogram) → AreTablesOf p tables) }
+    {
+        let mut pairs = match others {
+            Some(others) => others,
+            None => LinePairs::none(alloc)?,
+        };
+        pairs.forget();
+        let (room, rows, columns) = pairs.into_parts();
+        let most_runs = tables_for::<W>(width.max(height)).div_ceil(2);
+        Ok(LinePairs {
+            room: with_room(alloc, room, most_runs.min(MOST_RUNS))?,
+            rows: with_tables(alloc, rows, tables_for::<W>(height))?,
+            columns: with_tables(alloc, columns, tables_for::<W>(width))?,
+            written: false,
+        })
+    }
+
+    /// Makes the table of line i of a side of the puzzle with these cells, if it isn't made.
+    #[tactic(auto, using(crate::proofs::TableSteps::row_written, crate::proofs::TableSteps::column_written))]
+    pub fn write(
+        &mut self,
+        lines: &mut Tables,
+        puzzle: &Puzzle,
+        side: Side,
+        i: u16,
+        line: &LineOf<W>,
+    )
+        requires i { i < count_on side puzzle.now.width puzzle.now.height }
+        requires fits { FitsIn W.WIDTH puzzle.now }
+        requires tables { AreTablesOf puzzle.now self.old }
+        ensures { AreTablesOf puzzle.now self.new }
+    {
+        self.written = true;
+        let clue = clue_of_line(puzzle, side, i);
+        match side {
+            Side::Rows => write_at(&mut self.rows, i, lines, &mut self.room, line, clue),
+            Side::Columns => write_at(&mut self.columns, i, lines, &mut self.room, line, clue),
+        }
+    }
+
+    /// What is certain of line i of a side with these cells, if they are those of its table with one cell more:
+    /// none if it has no placing.
+    pub fn deduce(&self, side: Side, i: u16, line: &LineOf<W>) -> Option<Option<LineOf<W>>>
+        ensures { IfSome result (λ answer. (p : Nonogram) → AreTablesOf p self.now → answer ≡ deduced line.now (line_on side p i).clue) }
+    {
+        let tables = match side {
+            Side::Rows => &self.rows,
+            Side::Columns => &self.columns,
+        };
+        tables.get(usize::from(i))?.deduce(line)
+    }
+}
