@@ -28,6 +28,8 @@ mod tests_oracle_search;
 #[cfg(test)]
 mod tests_overlaps;
 #[cfg(test)]
+mod tests_pairs;
+#[cfg(test)]
 mod tests_refused;
 #[cfg(test)]
 mod tests_refused_lines;

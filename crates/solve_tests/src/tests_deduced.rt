@@ -35,7 +35,7 @@ static ROWS: [Row; 20] = [
 ];
 
 /// The cell that a character stands for: `#` filled, `.` blank, any other unknown.
-fn cell_drawn(byte: u8) -> Cell {
+pub(crate) fn cell_drawn(byte: u8) -> Cell {
     match byte {
         b'#' => Cell::Filled,
         b'.' => Cell::Blank,
