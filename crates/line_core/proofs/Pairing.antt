@@ -1,11 +1,11 @@
 -- A line that is another one but for one cell, and what a table tells of it.
-use Rattle.line_core.proofs.Names.{rules, false, true, subst, Filled, Blank, ArePositive, ◌≡◌, ℕ, ◌<◌, ◌∙◌, Bool, inl, inr, List, Option, None, Some, deduced, length, get_or, set, sym, arith, refl, ext_get_or, length-set, Cell, Unknown, IsMaskOf}
+use Rattle.line_core.proofs.Names.{rules, false, true, subst, Filled, Blank, ArePositive, ◌≡◌, ℕ, ◌<◌, ◌∙◌, Bool, inl, inr, List, Option, None, Some, deduced, length, get_or, set, sym, arith, refl, ap, ext_get_or, length-set, Cell, Unknown, IsMaskOf}
 use Rattle.std.proofs.lemmas.List.{get_or-set_same, get_or-set_other, get_or_default}
 use Rattle.std.proofs.lemmas.Bool.{cases_eq}
 use Rattle.grid_core.proofs.Changing.{same_cells}
 use Rattle.grid_core.specs.Cells.{colour, is_known}
 use Rattle.grid_core.specs.Lines.{IsChanged}
-use Rattle.line_core.specs.Pairs.{ColourMasks, PairMasks, Table, IsTableOf, coloured, masks_if, no_pair}
+use Rattle.line_core.specs.Pairs.{ColourMasks, PairMasks, Table, IsOneMore, IsTableOf, coloured, masks_if, no_pair}
 use Rattle.line_core.proofs.Telling.{told-deduced}
 use Rattle.line_core.specs.steps.Pairs.{AreColours, ArePairs}
 use Rattle.line_core.specs.Told.{told_by}
@@ -22,6 +22,20 @@ one_more base line x m filled long changed only at =
       | inr n ↦ same_cells _ _ (λ d. n (only.to i (changed.from i (omega arith, d)))) ∙ sym (get_or-set_other base x i (colour filled) Unknown n)
     ]
 
+-- a line is a table's with one cell more if only an unknown cell differs, and has a colour
+pub is_one_more : (t u : Table) (base line : List Cell) (x m : ℕ) (filled : Bool) → u ≡ t → u.line ≡ Some base → length line ≡ length base
+    → IsMaskOf (IsChanged base line) m → IsMaskOf (λ i. i ≡ x) m → get_or base x Unknown ≡ Unknown → get_or line x Unknown ≡ colour filled
+    → IsOneMore t line
+is_one_more t u base line x m filled same is long changed only unknown known = record {
+  base = base;
+  x = x;
+  filled = filled;
+  base_is = rw (sym same) is;
+  inside = (changed.to x (only.from x refl)).0;
+  unknown = unknown;
+  line_is = one_more base line x m filled long changed only known;
+}
+
 -- an answer that a table tells of its line with one cell more is what is certain of that line
 pub told_as : (t u : Table) (clue : List ℕ) (base line : List Cell) (x n m : ℕ) (filled : Bool) (pair : PairMasks)
     (answer : Option (List Cell)) → IsTableOf clue t → u ≡ t → u.line ≡ Some base → get_or u.pairs x pair ≡ pair → x < length u.pairs
@@ -29,9 +43,30 @@ pub told_as : (t u : Table) (clue : List ℕ) (base line : List Cell) (x n m : �
     → IsMaskOf (IsChanged base line) m → IsMaskOf (λ i. i ≡ x) m → get_or base x Unknown ≡ Unknown → get_or line x Unknown ≡ colour filled
     → answer ≡ deduced line clue
 told_as t u clue base line x n m filled pair answer table same is at inside told size long changed only unknown known =
-    let cells = one_more base line x m filled long changed only known in
     let tells = (rw (sym same) at table).tells base x filled is (changed.to x (only.from x refl)).0 unknown in
-    told ∙ rw (size, cells) (rw (get_or_default u.pairs x no_pair pair inside ∙ at) at tells)
+    told ∙ rw (size, one_more base line x m filled long changed only known) (rw (get_or_default u.pairs x no_pair pair inside ∙ at) at tells)
+
+-- only the cell that got a colour differs
+pub only_changed : (t u : Table) (base line : List Cell) (m : ℕ) → u ≡ t → u.line ≡ Some base → (one : IsOneMore t line)
+    → IsMaskOf (IsChanged base line) m → IsMaskOf (λ i. i ≡ one.x) m
+only_changed t u base line m same is one changed = (let b = base_is in record {
+  to = λ i h. elim (cases_eq i one.x) [
+    | inl e ↦ e
+    | inr n ↦ absurd ((changed.to i h).1 (rw (one.line_is, b) (get_or-set_other one.base one.x i (colour one.filled) Unknown n)))
+  ];
+  from = λ i e. changed.from i (
+    rw (e, b) one.inside,
+    λ alike. differs one.filled
+        (sym (get_or-set_same one.base one.x (colour one.filled) Unknown one.inside) ∙ (rw (e, one.line_is, b) at alike) ∙ one.unknown),
+  );
+})
+  where
+    base_is : base ≡ one.base
+    base_is = (let e = ap (λ (t : Table). t.line) same ∙ one.base_is in cc)
+
+    differs : (filled : Bool) → colour filled ≡ Unknown → ⊥
+    differs true e = cc
+    differs false e = cc
 
 -- a cell that isn't known is unknown
 pub not_known : (c : Cell) → false ≡ is_known c → c ≡ Unknown

@@ -52,3 +52,13 @@ pub record IsTableOf (clue : List ℕ) (table : Table) : Type 0 where
       → slice_index_or line x Unknown ≡ Unknown
       → (let masks = masks_if filled (slice_index_or table.pairs x no_pair) in
       told_by (length line) masks.fillable masks.blankable ≡ deduced (coloured line x filled) clue)
+
+-- a line is that of a table but for one unknown cell, which has a colour
+pub record IsOneMore (table : Table) (line : List Cell) : Type 0 where
+  pub base : List Cell
+  pub x : ℕ
+  pub filled : Bool
+  pub base_is : table.line ≡ Some base
+  pub inside : x < length base
+  pub unknown : slice_index_or base x Unknown ≡ Unknown
+  pub line_is : line ≡ coloured base x filled

@@ -231,6 +231,7 @@ fn write_pairs_within<W: PlaceSet>(
     ensures table { IsTableOf clue.now (record { line = Some line.now; pairs = pairs.new }) }
     ensures count { length pairs.new ≡ length pairs.old }
     ensures ahead { 0 < vec_capacity ahead.new }
+    ensures room { room.new.most_runs ≡ room.old.most_runs }
 {
     make_ready::<W>(ahead);
     room.write_pairs(line, clue.numbers(), &mut ahead[0], pairs);
@@ -260,7 +261,8 @@ pub trait LineSet: PlaceSet {
         requires pairs { length line.now ≤ length pairs.old }
         ensures table { IsTableOf clue.now (record { line = Some line.now; pairs = pairs.new }) }
         ensures count { length pairs.new ≡ length pairs.old }
-        ensures room { tables.new ≡ tables.old };
+        ensures tables { tables.new ≡ tables.old }
+        ensures room { room.new.most_runs ≡ room.old.most_runs };
 }
 
 impl LineSet for u64 {

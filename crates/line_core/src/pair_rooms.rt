@@ -179,6 +179,7 @@ impl<W: PlaceSet> PairRoom<W> {
         requires pairs { length cells ≤ length pairs.old }
         ensures table { IsTableOf clue.now (record { line = Some cells; pairs = pairs.new }) }
         ensures count { length pairs.new ≡ length pairs.old }
+        ensures room { self.new.most_runs ≡ self.old.most_runs }
     {
         make_ready::<W>(&mut self.gaps);
         make_ready::<W>(&mut self.ends);

@@ -1,9 +1,9 @@
 //! Tables of what is certain of a line once one more of its cells is known.
 
-ghost use Rattle.std.specs.Prelude.{◌≡◌, ◌<◌, ◌≤◌, ℕ, List, None, Some, length, vec_capacity, vec_len, All, IfOk, IfSome, IsTrue};
+ghost use Rattle.std.specs.Prelude.{◌≡◌, ◌≢◌, ◌↔◌, ◌<◌, ◌≤◌, ℕ, List, None, Some, length, vec_capacity, vec_len, All, IfOk, IfSome, IsTrue};
 ghost use Rattle.place_sets.specs.Masks.{IsMaskOf};
 ghost use Rattle.line_core.specs.Deduction.{deduced};
-ghost use Rattle.line_core.specs.Pairs.{IsTableOf};
+ghost use Rattle.line_core.specs.Pairs.{IsOneMore, IsTableOf};
 ghost use Rattle.line_core.specs.declared.pairs.TheConstants.{LONGEST_PAIRED};
 
 use crate::deduction::{LineSet, Tables};
@@ -42,7 +42,8 @@ impl<W: LineSet> Model for PairTable<W> {
 
 /// The place of a set that has just one.
 fn only_place<W: PlaceSet>(places: W) -> Option<u16>
-    ensures { IfSome result (λ place. (place < W.WIDTH) × IsMaskOf (λ i. i ≡ place) (W.number places)) }
+    ensures place { IfSome result (λ place. (place < W.WIDTH) × IsMaskOf (λ i. i ≡ place) (W.number places)) }
+    ensures found { (x : ℕ) → IsMaskOf (λ i. i ≡ x) (W.number places) → result ≢ None }
 {
     if places.is_empty() {
         return None;
@@ -107,7 +108,9 @@ impl<W: LineSet> PairTable<W> {
         requires clue { All (λ number. number ≤ W.WIDTH) clue.now }
         requires short { length line.now ≤ LONGEST_PAIRED }
         requires room { length clue.now ≤ room.old.most_runs }
-        ensures { IsTableOf clue.now self.new }
+        ensures table { IsTableOf clue.now self.new }
+        ensures line { self.new.line ≡ Some line.now }
+        ensures room { room.new.most_runs ≡ room.old.most_runs }
     {
         make_entries(&mut self.pairs, line.len());
         W::write_pairs(tables, room, line, clue, &mut self.pairs);
@@ -115,7 +118,8 @@ impl<W: LineSet> PairTable<W> {
     }
 
     /// Makes the table of a line, given its clue, whose numbers are no greater than its sets have places,
-    /// if it isn't the table of it already. It takes the old one away, and makes none if there is no room for it.
+    /// if it isn't the table of it already. It takes the old one away, and makes none if the line is longer than 128
+    /// cells, or if there is no room for the clue's runs.
     #[tactic(auto, using(crate::proofs::Pairing::empty_table))]
     pub fn write(
         &mut self,
@@ -126,7 +130,9 @@ impl<W: LineSet> PairTable<W> {
     )
         requires clue { All (λ number. number ≤ W.WIDTH) clue.now }
         requires table { IsTableOf clue.now self.old }
-        ensures { IsTableOf clue.now self.new }
+        ensures table { IsTableOf clue.now self.new }
+        ensures line { length line.now ≤ LONGEST_PAIRED → length clue.now ≤ room.old.most_runs → self.new.line ≡ Some line.now }
+        ensures room { room.new.most_runs ≡ room.old.most_runs }
     {
         if self.is_of(line) {
             return;
@@ -140,7 +146,8 @@ impl<W: LineSet> PairTable<W> {
     /// What is certain of a line that is the table's but for one unknown cell that got a colour: none if it has
     /// no placing. `None` for another line.
     pub fn deduce(&self, line: &LineOf<W>) -> Option<Option<LineOf<W>>>
-        ensures { IfSome result (λ answer. (clue : List ℕ) → IsTableOf clue self.now → answer ≡ deduced line.now clue) }
+        ensures answer { IfSome result (λ answer. (clue : List ℕ) → IsTableOf clue self.now → answer ≡ deduced line.now clue) }
+        ensures asked { (result ≢ None) ↔ IsOneMore self.now line.now }
     {
         let base = self.line.as_ref()?;
         if base.len() != line.len() {
@@ -150,11 +157,12 @@ impl<W: LineSet> PairTable<W> {
         if base.get(place).is_known() {
             return None;
         }
+        let filled = match line.get(place) {
+            Cell::Unknown => return None,
+            Cell::Filled => true,
+            Cell::Blank => false,
+        };
         let pair = &self.pairs[usize::from(place)];
-        match line.get(place) {
-            Cell::Unknown => None,
-            Cell::Filled => Some(pair.if_filled.certain(line.len())),
-            Cell::Blank => Some(pair.if_blank.certain(line.len())),
-        }
+        Some(pair.colours_if(filled).certain(line.len()))
     }
 }

@@ -7,7 +7,7 @@ ghost use Rattle.line_core.specs.steps.Pairs.{AreColours, ArePairs, IsPairAt};
 ghost use Rattle.grid_core.specs.Cells.{colour};
 ghost use Rattle.grid_core.specs.declared.cells.Cell.TheVariants.{Unknown};
 ghost use Rattle.line_core.specs.steps.Reach.{AreLengths};
-ghost use Rattle.line_core.specs.Pairs.{no_colours};
+ghost use Rattle.line_core.specs.Pairs.{no_colours, masks_if};
 ghost use Rattle.line_core.specs.Told.{told_by};
 
 use crate::deduction::{certain, colours};
@@ -76,6 +76,17 @@ impl<W: PlaceSet> Pair<W> {
         Pair {
             if_filled: Colours::none(),
             if_blank: Colours::none(),
+        }
+    }
+
+    /// What can be on the line if the cell has a colour.
+    pub fn colours_if(&self, filled: bool) -> &Colours<W>
+        ensures { result.now ≡ masks_if filled self.now }
+    {
+        if filled {
+            &self.if_filled
+        } else {
+            &self.if_blank
         }
     }
 }

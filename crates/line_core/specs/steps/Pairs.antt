@@ -1,10 +1,10 @@
 -- What the masks of a table of pairs mean.
-use Rattle.std.specs.Prelude.{◌≡◌, ℕ, ◌+◌, ◌*◌, ◌<◌, ◌≤◌, Bool, true, false, List, length, slice_index_or, Some}
+use Rattle.std.specs.Prelude.{◌≡◌, ℕ, ◌+◌, ◌*◌, ◌<◌, ◌≤◌, Bool, true, false, List, length, slice_index_or}
 use Rattle.grid_core.specs.declared.cells.Cell.{Cell}
 use Rattle.grid_core.specs.declared.cells.Cell.TheVariants.{Unknown}
 use Rattle.grid_core.specs.Cells.{colour}
 use Rattle.place_sets.specs.Masks.{IsMaskOf}
-use Rattle.line_core.specs.Pairs.{ColourMasks, PairMasks, Table, no_colours, no_pair, coloured}
+use Rattle.line_core.specs.Pairs.{ColourMasks, PairMasks, no_colours, no_pair, coloured}
 use Rattle.line_core.specs.steps.Reach.{behind, MayBe, IsGapAfter, IsGap, IsGapAhead, IsWholeEnd, IsFillable, IsBlankable}
 
 -- the masks of what can be on a line

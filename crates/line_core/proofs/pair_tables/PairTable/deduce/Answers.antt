@@ -1,31 +1,39 @@
 -- `PairTable::deduce`: the line is the table's with one more cell, of which the table tells.
-use Rattle.line_core.proofs.Names.{refl, sym, true, false, arith, ◌∙◌, ◌≡◌, subst}
-use Rattle.line_core.proofs.Pairing.{not_known, told_as}
-use Rattle.line_core.specs.Pairs.{PairMasks}
-use Rattle.line_core.specs.Told.{told_by}
+use Rattle.line_core.proofs.Names.{refl, sym, arith, ◌∙◌, ◌≡◌, length, get_or, Unknown}
+use Rattle.grid_core.specs.Cells.{colour}
+use Rattle.line_core.proofs.Pairing.{is_one_more, not_known, only_changed, told_as}
+use Rattle.line_core.proofs.pair_tables.PairTable.deduce.Goals.{in-Filled, in-Blank}
 use Rattle.line_core.proofs.pair_tables.PairTable.deduce.Goals as goal
 
+pub returns-in_err-place-clause-asked : goal.returns-in_err-place-clause-asked
+returns-in_err-place-clause-asked g c = (
+  λ some. absurd (some c.from_residual-in_err-place.ensures),
+  λ one none. c.only_place.ensures.found one.x
+      (only_changed c.args.self.now _ _ c.args.line.now _ c.self.view_is (sym c.in_ok-base.ensures.value) one c.changes.ensures.changes) c.in_err-place.was,
+)
+
 pub get-requires : goal.get-requires
-get-requires g c = (c.changes.ensures.changes.to _ (c.in_ok-place.ensures.1.from _ refl)).0
+get-requires g c = (c.changes.ensures.changes.to _ (c.in_ok-place.ensures.place.1.from _ refl)).0
 
-pub returns-in-Filled : goal.returns-in-Filled
-returns-in-Filled g c = λ clue table.
-    let within = (c.changes.ensures.changes.to _ (c.in_ok-place.ensures.1.from _ refl)).0 in
-    let line = sym c.in_ok-base.ensures.value in
-    told_as c.args.self.now _ clue c.in_ok-base.base.now c.args.line.now c.in_ok-place.place c.len-in-Filled.result _ true c.index-pair.result.now
-    _ table c.self.view_is line (rw c.from.ensures at (sym c.index-pair.ensures)) (omega (arith, within, c.self.invariant.written _ line))
-    (subst (λ (p : PairMasks). c.certain.result ≡ told_by c.len-in-Filled.result p.if_filled.fillable p.if_filled.blankable) c.pair.view_is c.certain.ensures)
-    (omega (arith, c.len-in-Filled.ensures.len, c.len.ensures.len, c.len-2.ensures.len, c.if-len.false))
-    (omega (arith, c.len.ensures.len, c.len-2.ensures.len, c.if-len.false)) c.changes.ensures.changes c.in_ok-place.ensures.1
-    (sym c.get.ensures ∙ not_known _ c.if-is_known.ensures) (sym c.in-Filled.ensures)
-
-pub returns-in-Blank : goal.returns-in-Blank
-returns-in-Blank g c = λ clue table.
-    let within = (c.changes.ensures.changes.to _ (c.in_ok-place.ensures.1.from _ refl)).0 in
-    let line = sym c.in_ok-base.ensures.value in
-    told_as c.args.self.now _ clue c.in_ok-base.base.now c.args.line.now c.in_ok-place.place c.len-in-Blank.result _ false c.index-pair.result.now
-    _ table c.self.view_is line (rw c.from.ensures at (sym c.index-pair.ensures)) (omega (arith, within, c.self.invariant.written _ line))
-    (subst (λ (p : PairMasks). c.certain-in-Blank.result ≡ told_by c.len-in-Blank.result p.if_blank.fillable p.if_blank.blankable) c.pair.view_is c.certain-in-Blank.ensures)
-    (omega (arith, c.len-in-Blank.ensures.len, c.len.ensures.len, c.len-2.ensures.len, c.if-len.false))
-    (omega (arith, c.len.ensures.len, c.len-2.ensures.len, c.if-len.false)) c.changes.ensures.changes c.in_ok-place.ensures.1
-    (sym c.get.ensures ∙ not_known _ c.if-is_known.ensures) (sym c.in-Blank.ensures)
+pub returns : goal.returns
+returns g c =
+    let base = sym c.in_ok-base.ensures.value in
+    let only = c.in_ok-place.ensures.place.1 in
+    let long : length c.args.line.now ≡ length c.in_ok-base.base.now = omega (arith, c.len.ensures.len, c.len-2.ensures.len, c.if-len.false) in
+    let unknown = sym c.get.ensures ∙ not_known _ c.if-is_known.ensures in
+    let known : get_or c.args.line.now c.in_ok-place.place Unknown ≡ colour c.match-get.filled = elim c.match-get.branch [
+      | in-Filled w ↦ rw w.filled-is (sym w.in-Filled.ensures)
+      | in-Blank w ↦ rw w.filled-is (sym w.in-Blank.ensures)
+    ] in
+    let within = (c.changes.ensures.changes.to _ (only.from _ refl)).0 in
+    record {
+      answer = λ clue table. told_as c.args.self.now _ clue c.in_ok-base.base.now c.args.line.now c.in_ok-place.place c.len-3.result _
+          c.match-get.filled c.index-pair.result.now _ table c.self.view_is base
+          (rw c.from.ensures at (sym c.index-pair.ensures)) (omega (arith, within, c.self.invariant.written _ base))
+          (rw c.colours_if.ensures at c.certain.ensures) (c.len-3.ensures.len ∙ long) long c.changes.ensures.changes only unknown known;
+      asked = (
+        λ some. is_one_more c.args.self.now _ c.in_ok-base.base.now c.args.line.now c.in_ok-place.place _ c.match-get.filled c.self.view_is base long
+            c.changes.ensures.changes only unknown known,
+        λ one none. cc,
+      );
+    }
