@@ -1,5 +1,5 @@
 -- What deducing a line, or settling a cell, does to the marks of the lines and to the grid's closure.
-use Rattle.solve_core.proofs.Names.{◌≡◌, ◌≢◌, ℕ, ◌+◌, ◌*◌, ◌/◌, ◌%◌, ◌<◌, inl, inr, true, false, List, length, get_or, set, Option, Some, refl, sym, ap, ◌∙◌, arith, length-set, true≢false, cases_eq, div_below, Cell, Unknown, Nonogram, IsNonogram, GridLine, lines_of, line_on, crossing, places_on, count_on, place_on, Dead, Same, Changed, round, closure, deduce_line, LineMarks, marks_on, IsMarkedOn, AreUnmarked, AreMarksWithin, Has, IsMarked, IsMaskOf, Side, Rows, Columns, IsDeduced, IsLearned, MarksChanges, HasMarks, MarksAfter, Progresses, IsAtRest, Closing, IsIdle, Extends-refl, length-Extends, rules}
+use Rattle.solve_core.proofs.Names.{◌≡◌, ◌≢◌, ℕ, ◌+◌, ◌*◌, ◌/◌, ◌%◌, ◌<◌, inl, inr, true, false, List, length, get_or, set, Option, Some, refl, sym, ap, ◌∙◌, arith, length-set, true≢false, cases_eq, div_below, Cell, Unknown, TrailedGrid, IsBoardOf, cells_along, cells_at, Nonogram, IsNonogram, GridLine, lines_of, line_on, crossing, places_on, count_on, place_on, Dead, Same, Changed, round, closure, deduce_line, LineMarks, marks_on, IsMarkedOn, AreUnmarked, AreMarksWithin, Has, IsMarked, IsMaskOf, Side, Rows, Columns, IsDeduced, IsLearned, MarksChanges, HasMarks, MarksAfter, Progresses, IsAtRest, Closing, IsIdle, Extends-refl, length-Extends, rules}
 use Rattle.solve_core.specs.declared.closures.Progress.{Progress}
 use Rattle.solve_core.proofs.ClosureLaws.{closure-IsLeastClosed}
 use Rattle.solve_core.proofs.StepLaws.{IsOneOf, done_within}
@@ -74,6 +74,11 @@ marks-after p cells new marks middle after side i r m l taken other learned chan
         marked (sym (length-Extends cells new (written-extends line cells new learned.0)))
         (written-settled line cells new learned.0 distinct below) (written-elsewhere line cells new learned.0 distinct below)
 
+-- a board's line has the cells at the places of the puzzle's line
+pub seen : (p : Nonogram) (g : TrailedGrid) (side : Side) (i : ℕ) → IsBoardOf p g → cells_along g side i ≡
+    cells_at Unknown g.cells ((line_on side p i).places)
+seen p g side i b = λ j. cells_at Unknown g.cells (places_on side (b.0 j) (b.1 j) i)
+
 -- if no line has more to give, the cells are their own closure
 pub settled_closed : (p : Nonogram) (cells : List Cell) → IsNonogram p →
     ((side : Side) (i : ℕ) → i < count_on side p.width p.height → IsDeduced cells (line_on side p i)) →
@@ -102,6 +107,15 @@ closed_after p marks first cells middle new r n h e m unmarked same =
     sym (unmarked_closed p marks new m unmarked) ∙ ap (closure (lines_of p)) e ∙
     progress-keeps (closure (lines_of p)) r cells middle n h ∙ same
 
+-- a line stays settled if a cell of another line of its side is written
+pub apart_settled : (p : Nonogram) (cells : List Cell) (side : Side) (i b k j : ℕ) (c : Cell) → i < count_on side p.width p.height →
+    b < count_on (crossing side) p.width p.height → k ≡ place_on side p.width i b → j < count_on side p.width p.height → j ≢ i →
+    IsDeduced cells (line_on side p j) → IsDeduced (set cells k c) (line_on side p j)
+apart_settled p cells side i b k j c li lb e lj ne deduced =
+    settled-elsewhere cells k c (line_on side p j) deduced (λ d ld s.
+    let there = along side p.width p.height j d ld in
+    ne (sym (same_place side p.width p.height i b j d li lb lj there.0 (sym e ∙ s ∙ there.1)).0))
+
 -- if the cell in row y and column x is given a colour, marking these two lines keeps the marks right
 pub place_marks : (p : Nonogram) (cells : List Cell) (marks after : LineMarks) (k y x : ℕ) (c : Cell) → HasMarks p marks cells →
     y < p.height → x < p.width → k ≡ y * p.width + x → IsMaskOf (IsMarked (Has marks.rows) y true) after.rows →
@@ -123,9 +137,7 @@ place_marks p cells marks after k y x c m hy hx at rows columns = record {
         (j : ℕ) → j < count_on side p.width p.height → (IsMarkedOn after side j → ⊥) → IsDeduced (set cells k c) (line_on side p j)
     settled side i b li lb e mask j lj n =
         let ne : j ≢ i = λ same. n (mask.from j (inr (same, refl))) in
-        settled-elsewhere cells k c (line_on side p j) (m.settled side j lj (λ h. n (mask.from j (inl (h, ne))))) (λ d ld s.
-        let there = along side p.width p.height j d ld in
-        ne (sym (same_place side p.width p.height i b j d li lb lj there.0 (sym e ∙ s ∙ there.1)).0))
+        apart_settled p cells side i b k j c li lb e lj ne (m.settled side j lj (λ h. n (mask.from j (inl (h, ne)))))
 
 -- the column and the row of a place
 pub place_split : (p : Nonogram) (cells : List Cell) (k : ℕ) → IsNonogram p → length cells ≡ p.width * p.height → k < length cells

@@ -1,5 +1,6 @@
 -- Lemmas on a whole puzzle: its closure, its trials, its search, and the steps of the program that make them.
 pub mod Names
+pub mod NeutralCells
 pub mod Order
 pub mod TrailSteps
 pub mod Closing

@@ -77,6 +77,19 @@ cells_at-same a b (p ∷ ps) h =
     let rest : cells_at Unknown a ps ≡ cells_at Unknown b ps = cells_at-same a b ps (λ i l. h (suc i) (omega arith)) in
     λ i. first i ∷ rest i
 
+-- a cell that is written at one of some places is read there
+pub cells_at-set : (g : List Cell) (places : List ℕ) (b : ℕ) (c : Cell) → AreDistinct places → AreBelow (length g) places → b < length places →
+    cells_at Unknown (set g (get_or places b 0) c) places ≡ set (cells_at Unknown g places) b c
+cells_at-set g [] b c distinct below l = absurd (omega arith)
+cells_at-set g (p ∷ ps) zero c distinct below l =
+    let first = get_or-set_same g p c Unknown below.0 in
+    let rest = cells_at-same (set g p c) g ps (λ i li. set_elsewhere g p c (get_or ps i 0) (λ e. absurd (distinct.0 i li (sym e)))) in
+    λ i. first i ∷ rest i
+cells_at-set g (p ∷ ps) (suc b) c distinct below l =
+    let first = set_elsewhere g (get_or ps b 0) c p (λ e. absurd (distinct.0 b (omega arith) e)) in
+    let rest = cells_at-set g ps b c distinct.1 below.1 (omega arith) in
+    λ i. first i ∷ rest i
+
 -- a settled line gives nothing
 pub settled_line : (g : List Cell) (line : GridLine) → IsDeduced g line → deduce_line g line ≡ Some g
 settled_line g line h = ap (option_map (with_cells g line.places)) h ∙ ap (λ (r : List Cell). Some r) (with_cells-read Unknown g line.places)

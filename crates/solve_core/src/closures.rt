@@ -281,7 +281,7 @@ impl<W: LineSet> Closer<W> {
 
     /// Gives an unknown cell of a board at rest a colour, on a copy. Returns whether the copy is alive, which
     /// then is closed.
-    fn assign_on(
+    pub fn assign_copy(
         &mut self,
         puzzle: &Puzzle,
         board: &Board<W>,
@@ -301,38 +301,41 @@ impl<W: LineSet> Closer<W> {
     {
         self.deductions.open();
         trial.restart_from(board);
-        self.assign(puzzle, trial, place, colour)
-    }
-
-    /// Gives an unknown cell of a board at rest a colour, on a copy. Returns whether the copy is alive, which
-    /// then is closed. Once 16 copies in succession were alive, tables are made of the lines that are asked first.
-    pub fn assign_copy(
-        &mut self,
-        puzzle: &Puzzle,
-        board: &Board<W>,
-        trial: &mut Board<W>,
-        place: usize,
-        colour: Cell,
-    ) -> bool
-        requires rest { IsAtRest puzzle.now self.old board.now.cells }
-        requires size { IsBoardOf puzzle.now board.now }
-        requires trial { IsBoardOf puzzle.now trial.old }
-        requires cell { CanSettle board.now.cells place colour }
-        ensures closed { if_alive result trial.new.cells ≡ closure (lines_of puzzle.now) (slice_set board.now.cells place colour) }
-        ensures rest { IsAtRest puzzle.now self.new board.now.cells }
-        ensures closed_rest { IsTrue result → IsAtRest puzzle.now self.new trial.new.cells }
-        ensures back { cleared trial.new.cells trial.new.trail ≡ board.now.cells }
-        ensures trial { IsBoardOf puzzle.now trial.new }
-    {
-        if self.calm == CALM {
-            self.prepare(puzzle, board, place);
-        }
-        let alive = self.assign_on(puzzle, board, trial, place, colour);
+        let alive = self.assign(puzzle, trial, place, colour);
         self.calm = if alive {
             self.calm.saturating_add(1).min(CALM)
         } else {
             0
         };
         alive
+    }
+
+    /// Whether tables show that nothing else is certain once an unknown cell of a board at rest has a colour. Once
+    /// 16 copies in succession were alive, the tables of its row and of its column are made.
+    pub fn is_neutral(
+        &mut self,
+        puzzle: &Puzzle,
+        board: &Board<W>,
+        place: usize,
+        colour: Cell,
+    ) -> bool
+        requires rest { IsAtRest puzzle.now self.old board.now.cells }
+        requires size { IsBoardOf puzzle.now board.now }
+        requires cell { CanSettle board.now.cells place colour }
+        ensures rest { IsAtRest puzzle.now self.new board.now.cells }
+        ensures neutral { IsTrue result → closure (lines_of puzzle.now) (slice_set board.now.cells place colour)
+            ≡ Some (slice_set board.now.cells place colour) }
+    {
+        if self.calm < CALM {
+            return false;
+        }
+        self.prepare(puzzle, board, place);
+        let width = usize::from(puzzle.width());
+        let (x, y) = ((place % width) as u16, (place / width) as u16);
+        let (row, column) = (board.line(Side::Rows, y), board.line(Side::Columns, x));
+        self.deductions.is_neutral(Side::Rows, y, row, x, colour)
+            && self
+                .deductions
+                .is_neutral(Side::Columns, x, column, y, colour)
     }
 }

@@ -1,7 +1,8 @@
 //! Deductions of a puzzle's lines, remembered.
 ghost use Rattle.std.specs.Prelude.{[], ℕ, ◌≡◌, ◌+◌, ◌*◌, ◌<◌, ◌≤◌, ◌↔◌, length, vec_capacity, IsTrue, IfOk, IfSome, All};
 ghost use Rattle.line_core.specs.Deduction.{deduced};
-ghost use Rattle.solve_core.specs.steps.Deductions.{AreRight, IsKeptFrom};
+ghost use Rattle.solve_core.specs.steps.Deductions.{AreRight, IsKeptFrom, IsNeutral};
+ghost use Rattle.solve_core.specs.steps.Trails.{CanSettle};
 ghost use Rattle.grid_core.specs.Nonogram.{Nonogram, line_on};
 ghost use Rattle.solve_core.specs.steps.LinePairs.{AreTablesOf};
 ghost use Rattle.grid_core.specs.steps.Sides.{count_on};
@@ -10,7 +11,7 @@ ghost use Rattle.solve_core.specs.steps.Widths.{FitsIn};
 use crate::line_pairs::LinePairs;
 use crate::places::clue_of_line;
 use crate::rooms::emptied;
-use grid_core::{LONGEST_SIDE, NoMemory, Puzzle, Side};
+use grid_core::{Cell, LONGEST_SIDE, NoMemory, Puzzle, Side};
 use line_core::{LineOf, LineSet, Tables};
 use std::alloc::Global;
 use std::marker::Model;
@@ -257,6 +258,32 @@ impl<W: LineSet> Deductions<W> {
         self.pairs.forget();
     }
 
+    /// What is certain of line i of a side with these cells, if they are those of its table with one cell more:
+    /// none if it has no placing.
+    #[inline(always)]
+    pub fn look_up(&self, side: Side, i: u16, line: &LineOf<W>) -> Option<Option<LineOf<W>>>
+        ensures { IfSome result (λ answer. (width : ℕ) (p : Nonogram) → AreRight width p self.now → answer ≡ deduced line.now (line_on side p i).clue) }
+    {
+        if !self.pairs.is_written() {
+            return None;
+        }
+        self.pairs.deduce(side, i, line)
+    }
+
+    /// Whether the table of line i of a side, if these are its cells, shows that nothing else is certain of it once an
+    /// unknown cell has a colour.
+    pub fn is_neutral(&self, side: Side, i: u16, line: &LineOf<W>, cell: u16, colour: Cell) -> bool
+        requires cell { CanSettle line.now cell colour }
+        ensures { IsTrue result → (width : ℕ) (p : Nonogram) → AreRight width p self.now → IsNeutral (line_on side p i).clue line.now cell colour }
+    {
+        let mut coloured = line.copy();
+        coloured.settle(cell, colour);
+        match self.look_up(side, i, &coloured) {
+            Some(Some(certain)) => certain.is_same(&coloured),
+            _ => false,
+        }
+    }
+
     /// Remembers from here on. It takes no memory, and does nothing to what is open.
     pub fn open(&mut self)
         ensures { self.new ≡ self.old }
@@ -282,10 +309,8 @@ impl<W: LineSet> Deductions<W> {
         ensures answer { result ≡ deduced line.now (line_on side puzzle.now i).clue }
         ensures memory { AreRight W.WIDTH puzzle.now self.new }
     {
-        if self.pairs.is_written() {
-            if let Some(answer) = self.pairs.deduce(side, i, line) {
-                return answer;
-            }
+        if let Some(answer) = self.look_up(side, i, line) {
+            return answer;
         }
         let clue = clue_of_line(puzzle, side, i);
         let runs = clue.numbers().len();

@@ -33,7 +33,7 @@ use std::mem;
 pub enum Trial {
     /// The colour leads to a contradiction.
     Refuted,
-    /// It doesn't, as another trial has shown.
+    /// It doesn't, as another trial has shown, or tables.
     Open,
     /// It doesn't: the copy is the closed grid.
     Closed,
@@ -53,8 +53,8 @@ impl Trial {
     }
 }
 
-/// Tries a colour at an unknown cell, on a copy, unless a witness has met it there. If the copy closes alive,
-/// it is a witness.
+/// Tries a colour at an unknown cell, on a copy, unless a witness has met it there, or tables show that nothing else
+/// is certain with it. If the copy closes alive, it is a witness.
 fn try_colour<W: LineSet>(
     closer: &mut Closer<W>,
     witnesses: &mut Witnesses,
@@ -78,7 +78,7 @@ fn try_colour<W: LineSet>(
     ensures back { result ≡ Closed → cleared trial.new.cells trial.new.trail ≡ board.now.cells }
     ensures trial { IsBoardOf puzzle.now trial.new }
 {
-    if witnesses.has_met(place, colour) {
+    if witnesses.has_met(place, colour) || closer.is_neutral(puzzle, board, place, colour) {
         return Trial::Open;
     }
     if !closer.assign_copy(puzzle, board, trial, place, colour) {

@@ -1,14 +1,10 @@
 -- `learn_line`: what is certain of a line is written, and the lines that cross where it changes are marked.
 use Rattle.solve_core.proofs.Names.{true≢false, ◌≡◌, ◌∙◌, ◌*◌, ◌<◌, ◌⊎◌, inl, inr, ℕ, sym, arith, ap, subst, length, get_or, refl, List, Cell, Unknown, Side, Nonogram, cells_at, crossing, line_on, places_on, count_on, place_on, IsSize, Has, IsMaskOf, deduced, IsChanged, same_cells, same_without_change, length-cells_at, get_or-cells_at, length-places_on, get_or-places_on, deduced-above, length-deduced, IsBoardOf, cells_along, marks_on, with_cells, IsWritten, TrailedGrid, rules}
 use Rattle.solve_core.proofs.ClosureLaws.{length-with_cells}
+use Rattle.solve_core.proofs.GridSteps.{seen}
 use Rattle.solve_core.proofs.LineSteps.{written-fewer, written-read}
 use Rattle.solve_core.proofs.SideLines.{below_places, crossing_twice, distinct_places}
 use Rattle.solve_core.proofs.closures.learn_line.Goals as goal
-
--- a board's line has the cells at the places of the puzzle's line
-seen : (p : Nonogram) (g : TrailedGrid) (side : Side) (i : ℕ) → IsBoardOf p g → cells_along g side i ≡
-    cells_at Unknown g.cells ((line_on side p i).places)
-seen p g side i b = λ j. cells_at Unknown g.cells (places_on side (b.0 j) (b.1 j) i)
 
 pub changes-changes-requires : goal.changes-changes-requires
 changes-changes-requires g c = length-deduced c.line-old.result.now c.in-Some.new (line_on c.args.side c.args.puzzle.now c.args.i).clue

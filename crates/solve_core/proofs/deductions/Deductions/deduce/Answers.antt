@@ -5,8 +5,8 @@ use Rattle.solve_core.proofs.Fitting.{fits_line}
 use Rattle.solve_core.proofs.Remembering.{kept_right, remembered}
 use Rattle.solve_core.proofs.deductions.Deductions.deduce.Goals as goal
 
-pub deduce-requires-in_default-slot_of : goal.deduce-requires-in_default-slot_of
-deduce-requires-in_default-slot_of g c =
+pub deduce-requires : goal.deduce-requires
+deduce-requires g c =
     rw c.clue_of_line-clue.ensures (fits_line c.args.side g.W.PlaceSet.WIDTH c.args.puzzle.now c.args.i c.requires.memory.fits)
 
 pub deduce-answer-requires : goal.deduce-answer-requires
