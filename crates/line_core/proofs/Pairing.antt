@@ -36,15 +36,15 @@ is_one_more t u base line x m filled same is long changed only unknown known = r
   line_is = one_more base line x m filled long changed only known;
 }
 
--- an answer that a table tells of its line with one cell more is what is certain of that line
-pub told_as : (t u : Table) (clue : List ℕ) (base line : List Cell) (x n m : ℕ) (filled : Bool) (pair : PairMasks)
-    (answer : Option (List Cell)) → IsTableOf clue t → u ≡ t → u.line ≡ Some base → get_or u.pairs x pair ≡ pair → x < length u.pairs
-    → answer ≡ told_by n (masks_if filled pair).fillable (masks_if filled pair).blankable → n ≡ length base → length line ≡ length base
-    → IsMaskOf (IsChanged base line) m → IsMaskOf (λ i. i ≡ x) m → get_or base x Unknown ≡ Unknown → get_or line x Unknown ≡ colour filled
-    → answer ≡ deduced line clue
-told_as t u clue base line x n m filled pair answer table same is at inside told size long changed only unknown known =
+-- what a table tells of its line with one cell more is what is certain of that line
+pub told_as : (t u : Table) (clue : List ℕ) (base line : List Cell) (x m : ℕ) (filled : Bool) (pair : PairMasks) (masks : ColourMasks)
+    → IsTableOf clue t → u ≡ t → u.line ≡ Some base → get_or u.pairs x pair ≡ pair → x < length u.pairs → masks ≡ masks_if filled pair
+    → length line ≡ length base → IsMaskOf (IsChanged base line) m → IsMaskOf (λ i. i ≡ x) m → get_or base x Unknown ≡ Unknown
+    → get_or line x Unknown ≡ colour filled → told_by (length line) masks.fillable masks.blankable ≡ deduced line clue
+told_as t u clue base line x m filled pair masks table same is at inside told long changed only unknown known =
     let tells = (rw (sym same) at table).tells base x filled is (changed.to x (only.from x refl)).0 unknown in
-    told ∙ rw (size, one_more base line x m filled long changed only known) (rw (get_or_default u.pairs x no_pair pair inside ∙ at) at tells)
+    ap (λ (n : ℕ). told_by n masks.fillable masks.blankable) long
+    ∙ rw (told, one_more base line x m filled long changed only known) (rw (get_or_default u.pairs x no_pair pair inside ∙ at) at tells)
 
 -- only the cell that got a colour differs
 pub only_changed : (t u : Table) (base line : List Cell) (m : ℕ) → u ≡ t → u.line ≡ Some base → (one : IsOneMore t line)

@@ -25,6 +25,6 @@ pub use grid_core::LineOf;
 pub use line::Line;
 pub use pair_rooms::PairRoom;
 pub use pair_tables::PairTable;
-pub use pairs::Pair;
+pub use pairs::{Colours, Pair};
 pub use starts::{Starts, leftmost, rightmost};
 pub use widths::{Width, places_needed};

@@ -4,11 +4,12 @@ ghost use Rattle.std.specs.Prelude.{◌≡◌, ◌≢◌, ◌↔◌, ◌<◌, �
 ghost use Rattle.place_sets.specs.Masks.{IsMaskOf};
 ghost use Rattle.line_core.specs.Deduction.{deduced};
 ghost use Rattle.line_core.specs.Pairs.{IsOneMore, IsTableOf};
+ghost use Rattle.line_core.specs.Told.{told_by};
 ghost use Rattle.line_core.specs.declared.pairs.TheConstants.{LONGEST_PAIRED};
 
 use crate::deduction::{LineSet, Tables};
 use crate::pair_rooms::PairRoom;
-use crate::pairs::{LONGEST_PAIRED, Pair};
+use crate::pairs::{Colours, LONGEST_PAIRED, Pair};
 use grid_core::{Cell, Clue, LineOf, NoMemory};
 use place_sets::PlaceSet;
 use std::alloc::Global;
@@ -143,10 +144,11 @@ impl<W: LineSet> PairTable<W> {
         }
     }
 
-    /// What is certain of a line that is the table's but for one unknown cell that got a colour: none if it has
-    /// no placing. `None` for another line.
-    pub fn deduce(&self, line: &LineOf<W>) -> Option<Option<LineOf<W>>>
-        ensures answer { IfSome result (λ answer. (clue : List ℕ) → IsTableOf clue self.now → answer ≡ deduced line.now clue) }
+    /// What can be on a line that is the table's but for one unknown cell that got a colour. `None` for another
+    /// line.
+    pub fn colours_of(&self, line: &LineOf<W>) -> Option<&Colours<W>>
+        ensures colours { IfSome result (λ colours. (clue : List ℕ) → IsTableOf clue self.now
+            → told_by (length line.now) colours.now.fillable colours.now.blankable ≡ deduced line.now clue) }
         ensures asked { (result ≢ None) ↔ IsOneMore self.now line.now }
     {
         let base = self.line.as_ref()?;
@@ -162,7 +164,6 @@ impl<W: LineSet> PairTable<W> {
             Cell::Filled => true,
             Cell::Blank => false,
         };
-        let pair = &self.pairs[usize::from(place)];
-        Some(pair.colours_if(filled).certain(line.len()))
+        Some(self.pairs[usize::from(place)].colours_if(filled))
     }
 }

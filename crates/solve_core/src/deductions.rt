@@ -1,6 +1,7 @@
 //! Deductions of a puzzle's lines, remembered.
 ghost use Rattle.std.specs.Prelude.{[], ℕ, ◌≡◌, ◌+◌, ◌*◌, ◌<◌, ◌≤◌, ◌↔◌, length, vec_capacity, IsTrue, IfOk, IfSome, All};
 ghost use Rattle.line_core.specs.Deduction.{deduced};
+ghost use Rattle.line_core.specs.Told.{told_by};
 ghost use Rattle.solve_core.specs.steps.Deductions.{AreRight, IsKeptFrom, IsNeutral};
 ghost use Rattle.solve_core.specs.steps.Trails.{CanSettle};
 ghost use Rattle.grid_core.specs.Nonogram.{Nonogram, line_on};
@@ -12,7 +13,7 @@ use crate::line_pairs::LinePairs;
 use crate::places::clue_of_line;
 use crate::rooms::emptied;
 use grid_core::{Cell, LONGEST_SIDE, NoMemory, Puzzle, Side};
-use line_core::{LineOf, LineSet, Tables};
+use line_core::{Colours, LineOf, LineSet, Tables};
 use std::alloc::Global;
 use std::marker::Model;
 
@@ -258,16 +259,15 @@ impl<W: LineSet> Deductions<W> {
         self.pairs.forget();
     }
 
-    /// What is certain of line i of a side with these cells, if they are those of its table with one cell more:
-    /// none if it has no placing.
-    #[inline(always)]
-    pub fn look_up(&self, side: Side, i: u16, line: &LineOf<W>) -> Option<Option<LineOf<W>>>
-        ensures { IfSome result (λ answer. (width : ℕ) (p : Nonogram) → AreRight width p self.now → answer ≡ deduced line.now (line_on side p i).clue) }
+    /// What can be on line i of a side with these cells, if they are those of its table with one cell more.
+    fn colours_of(&self, side: Side, i: u16, line: &LineOf<W>) -> Option<&Colours<W>>
+        ensures { IfSome result (λ colours. (width : ℕ) (p : Nonogram) → AreRight width p self.now
+            → told_by (length line.now) colours.now.fillable colours.now.blankable ≡ deduced line.now (line_on side p i).clue) }
     {
         if !self.pairs.is_written() {
             return None;
         }
-        self.pairs.deduce(side, i, line)
+        self.pairs.colours_of(side, i, line)
     }
 
     /// Whether the table of line i of a side, if these are its cells, shows that nothing else is certain of it once an
@@ -278,9 +278,12 @@ impl<W: LineSet> Deductions<W> {
     {
         let mut coloured = line.copy();
         coloured.settle(cell, colour);
-        match self.look_up(side, i, &coloured) {
-            Some(Some(certain)) => certain.is_same(&coloured),
-            _ => false,
+        let Some(colours) = self.colours_of(side, i, &coloured) else {
+            return false;
+        };
+        match colours.certain(coloured.len()) {
+            None => false,
+            Some(certain) => certain.is_same(&coloured),
         }
     }
 
@@ -309,8 +312,8 @@ impl<W: LineSet> Deductions<W> {
         ensures answer { result ≡ deduced line.now (line_on side puzzle.now i).clue }
         ensures memory { AreRight W.WIDTH puzzle.now self.new }
     {
-        if let Some(answer) = self.look_up(side, i, line) {
-            return answer;
+        if let Some(colours) = self.colours_of(side, i, line) {
+            return colours.certain(line.len());
         }
         let clue = clue_of_line(puzzle, side, i);
         let runs = clue.numbers().len();

@@ -5,12 +5,13 @@ ghost use Rattle.grid_core.specs.Nonogram.{Nonogram, line_on};
 ghost use Rattle.grid_core.specs.steps.Sides.{count_on};
 ghost use Rattle.line_core.specs.Deduction.{deduced};
 ghost use Rattle.line_core.specs.Pairs.{IsTableOf, no_table};
+ghost use Rattle.line_core.specs.Told.{told_by};
 ghost use Rattle.solve_core.specs.steps.LinePairs.{AreEmpty, AreTablesOf};
 ghost use Rattle.solve_core.specs.steps.Widths.{FitsIn};
 
 use crate::places::clue_of_line;
 use grid_core::{Clue, MOST_RUNS, NoMemory, Puzzle, Side};
-use line_core::{LineOf, LineSet, PairRoom, PairTable, Tables};
+use line_core::{Colours, LineOf, LineSet, PairRoom, PairTable, Tables};
 use std::alloc::Global;
 use std::marker::Model;
 
@@ -209,15 +210,15 @@ impl<W: LineSet> LinePairs<W> {
         }
     }
 
-    /// What is certain of line i of a side with these cells, if they are those of its table with one cell more:
-    /// none if it has no placing.
-    pub fn deduce(&self, side: Side, i: u16, line: &LineOf<W>) -> Option<Option<LineOf<W>>>
-        ensures { IfSome result (λ answer. (p : Nonogram) → AreTablesOf p self.now → answer ≡ deduced line.now (line_on side p i).clue) }
+    /// What can be on line i of a side with these cells, if they are those of its table with one cell more.
+    pub fn colours_of(&self, side: Side, i: u16, line: &LineOf<W>) -> Option<&Colours<W>>
+        ensures { IfSome result (λ colours. (p : Nonogram) → AreTablesOf p self.now
+            → told_by (length line.now) colours.now.fillable colours.now.blankable ≡ deduced line.now (line_on side p i).clue) }
     {
         let tables = match side {
             Side::Rows => &self.rows,
             Side::Columns => &self.columns,
         };
-        tables.get(usize::from(i))?.deduce(line)
+        tables.get(usize::from(i))?.colours_of(line)
     }
 }

@@ -61,10 +61,12 @@ fn tells<W: LineSet>(table: &PairTable<W>, row: &Row) -> bool
         return false;
     }
     line.set(place, cell);
-    match table.deduce(&line) {
-        None => false,
-        Some(None) => wanted.is_empty(),
-        Some(Some(answer)) => is_drawn(&answer, wanted),
+    let Some(colours) = table.colours_of(&line) else {
+        return false;
+    };
+    match colours.certain(5) {
+        None => wanted.is_empty(),
+        Some(answer) => is_drawn(&answer, wanted),
     }
 }
 
@@ -92,13 +94,13 @@ fn tables_tell_what_one_more_cell_makes_certain(rt: HostRuntime) -> Result<(), F
 fn tables_tell_nothing_of_other_lines(rt: HostRuntime) -> Result<(), Fail> {
     let table = table_of_five::<u64>(rt.alloc())?;
     let mut line = LineOf::unknown(5);
-    assert!(rt; table.deduce(&line).is_none(), "the table's line");
+    assert!(rt; table.colours_of(&line).is_none(), "the table's line");
     line.set(0, Cell::Filled);
     line.set(1, Cell::Filled);
-    assert!(rt; table.deduce(&line).is_none(), "two more cells");
+    assert!(rt; table.colours_of(&line).is_none(), "two more cells");
     let mut longer = LineOf::unknown(6);
     longer.set(0, Cell::Filled);
-    assert!(rt; table.deduce(&longer).is_none(), "a longer line");
+    assert!(rt; table.colours_of(&longer).is_none(), "a longer line");
     Ok(())
 }
 
@@ -112,6 +114,6 @@ fn lines_of_more_than_128_cells_have_no_table(rt: HostRuntime) -> Result<(), Fai
     let mut line = LineOf::unknown(129);
     table.write(&mut tables, &mut room, &line, &clue);
     line.set(0, Cell::Filled);
-    assert!(rt; table.deduce(&line).is_none());
+    assert!(rt; table.colours_of(&line).is_none());
     Ok(())
 }

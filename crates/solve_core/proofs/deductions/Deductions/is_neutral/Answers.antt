@@ -1,12 +1,11 @@
--- `Deductions::is_neutral`: the table's answer is the line with the colour.
-use Rattle.solve_core.proofs.Names.{◌∙◌, ◌≡◌, Cell, List, Some, ap, deduced, line_on, sym}
+-- `Deductions::is_neutral`: what the table tells is the line with the colour.
+use Rattle.solve_core.proofs.Names.{◌∙◌, ap, Cell, List, Some, sym}
 use Rattle.solve_core.proofs.deductions.Deductions.is_neutral.Goals as goal
 
-pub returns-in-Some-Some : goal.returns-in-Some-Some
-returns-in-Some-Some g c = λ h width p right. record {
+pub returns-in-Some-certain : goal.returns-in-Some-certain
+returns-in-Some-certain g c = λ h width p right. record {
   nothing_else =
-      (let answer : Some c.in-Some-Some.certain ≡ deduced c.settle.new.self (line_on c.args.side p c.args.i).clue =
-      sym c.in-Some-Some.field-0-is ∙ (rw c.in-Some-Some.is at c.look_up.ensures) width p right in
-      let same : Some c.in-Some-Some.certain ≡ Some c.settle.new.self = ap (λ (l : List Cell). Some l) (c.is_same.ensures.0 h) in
-      rw (← (rw c.copy-coloured.ensures at c.settle.ensures)) (sym answer ∙ same));
+      rw (← (rw c.copy-coloured.ensures at c.settle.ensures))
+      (sym ((rw c.in-Some.is at c.colours_of.ensures) width p right) ∙ sym (rw c.len.ensures.len at c.certain.ensures) ∙ c.in-Some-certain.is
+      ∙ ap (λ (l : List Cell). Some l) (c.is_same.ensures.0 h));
 }

@@ -1,9 +1,9 @@
--- `PairTable::deduce`: the line is the table's with one more cell, of which the table tells.
+-- `PairTable::colours_of`: the line is the table's with one more cell, of which the table tells.
 use Rattle.line_core.proofs.Names.{refl, sym, arith, ◌∙◌, ◌≡◌, length, get_or, Unknown}
 use Rattle.grid_core.specs.Cells.{colour}
 use Rattle.line_core.proofs.Pairing.{is_one_more, not_known, only_changed, told_as}
-use Rattle.line_core.proofs.pair_tables.PairTable.deduce.Goals.{in-Filled, in-Blank}
-use Rattle.line_core.proofs.pair_tables.PairTable.deduce.Goals as goal
+use Rattle.line_core.proofs.pair_tables.PairTable.colours_of.Goals.{in-Filled, in-Blank}
+use Rattle.line_core.proofs.pair_tables.PairTable.colours_of.Goals as goal
 
 pub returns-in_err-place-clause-asked : goal.returns-in_err-place-clause-asked
 returns-in_err-place-clause-asked g c = (
@@ -27,10 +27,9 @@ returns g c =
     ] in
     let within = (c.changes.ensures.changes.to _ (only.from _ refl)).0 in
     record {
-      answer = λ clue table. told_as c.args.self.now _ clue c.in_ok-base.base.now c.args.line.now c.in_ok-place.place c.len-3.result _
-          c.match-get.filled c.index-pair.result.now _ table c.self.view_is base
-          (rw c.from.ensures at (sym c.index-pair.ensures)) (omega (arith, within, c.self.invariant.written _ base))
-          (rw c.colours_if.ensures at c.certain.ensures) (c.len-3.ensures.len ∙ long) long c.changes.ensures.changes only unknown known;
+      colours = λ clue table. told_as c.args.self.now _ clue c.in_ok-base.base.now c.args.line.now c.in_ok-place.place _ c.match-get.filled
+          c.index.result.now _ table c.self.view_is base (rw c.from.ensures at (sym c.index.ensures))
+          (omega (arith, within, c.self.invariant.written _ base)) c.colours_if.ensures long c.changes.ensures.changes only unknown known;
       asked = (
         λ some. is_one_more c.args.self.now _ c.in_ok-base.base.now c.args.line.now c.in_ok-place.place _ c.match-get.filled c.self.view_is base long
             c.changes.ensures.changes only unknown known,
