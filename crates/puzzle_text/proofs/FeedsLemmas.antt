@@ -18,13 +18,10 @@ module _ (P : List ℕ → Type 0) (cut : (n : ℕ) (bytes : List ℕ) → P byt
     (turn : (bytes : List ℕ) → P bytes → P (reverse bytes)) where
   of_start : (bytes : List ℕ) → P bytes → P (trim_start bytes)
   of_start [] h = h
-  of_start (byte ∷ bytes) h =
-      cond_both (is_blank byte) (trim_start bytes) (byte ∷ bytes) P (λ _. of_start bytes (cut 1 (byte ∷ bytes) h)) (λ _. h)
+  of_start (byte ∷ bytes) h = search (rules, of_start bytes (cut 1 (byte ∷ bytes) h), cond_both, cut)
 
   of_trim : (bytes : List ℕ) → P bytes → P (trim bytes)
-  of_trim bytes h =
-      let front = trim_start bytes in
-      turn (trim_start (reverse front)) (of_start (reverse front) (turn front (of_start bytes h)))
+  of_trim bytes h = search (of_start)
 
   of_after : (bytes : List ℕ) → P bytes → IfSome (after_quote bytes) P
   of_after [] h = tt
@@ -33,23 +30,16 @@ module _ (P : List ℕ → Type 0) (cut : (n : ℕ) (bytes : List ℕ) → P byt
       cond_both (eqb byte 34) (Some bytes) (after_quote bytes) (λ o. IfSome o P) (λ _. others) (λ _. of_after bytes others)
 
   turned : (o : Option (List ℕ)) → IfSome o P → IfSome (option_map reverse o) P
-  turned None h = tt
-  turned (Some bytes) h = turn bytes h
+  turned v0 h = search (rules)
 
   of_between : (o : Option (List ℕ)) → IfSome o P → IfSome (option_and_then before_quote o) P
-  of_between None h = tt
-  of_between (Some bytes) h = turned (after_quote (reverse bytes)) (of_after (reverse bytes) (turn bytes h))
+  of_between v0 h = search (rules, turned, of_after)
 
   of_or : (o : Option (List ℕ)) (bytes : List ℕ) → IfSome o P → P bytes → P (unwrap_or o bytes)
-  of_or None bytes h other = other
-  of_or (Some found) bytes h other = h
+  of_or v0 bytes h other = search (rules)
 
   of_text : (line : Line) → P line.text → P (quoted_text line)
-  of_text line h =
-      let letters = prefix_len is_ascii_alphabetic line.text in
-      let after = of_trim (drop letters line.text) (cut letters line.text h) in
-      of_or (option_and_then before_quote (after_quote (rest line))) (rest line)
-      (of_between (after_quote (rest line)) (of_after (rest line) after)) after
+  of_text line h = search (of_trim, cut, of_or, of_between, of_after)
 
 -- ---- parts of what has no line feed
 
@@ -57,9 +47,7 @@ clean_drop : (n : ℕ) (bytes : List ℕ) → IsClean bytes → IsClean (drop n 
 clean_drop n bytes h = All-drop IsOther n bytes h
 
 clean_reverse : (bytes : List ℕ) → IsClean bytes → IsClean (reverse bytes)
-clean_reverse bytes h k d lt =
-    let low : k < length bytes = omega (arith, length-reverse bytes) in
-    ap (λ (byte : ℕ). not (eqb byte 10)) (get_or-reverse bytes k d low) ∙ h (length bytes - 1 - k) d (omega arith)
+clean_reverse bytes h k d lt = search (rules, length-reverse, get_or-reverse)
 
 clean_strip : (byte : ℕ) (bytes : List ℕ) → IsClean bytes → IsClean (strip_last byte bytes)
 clean_strip byte bytes h =
@@ -78,9 +66,7 @@ abbrev IsRaw : List ℕ → Type 0
 IsRaw raw = IsClean (strip_last 10 raw)
 
 strip_more : (byte next : ℕ) (part : List ℕ) → strip_last 10 (byte ∷ next ∷ part) ≡ byte ∷ strip_last 10 (next ∷ part)
-strip_more byte next part =
-    let last : length (byte ∷ next ∷ part) - 1 ≡ suc (length (next ∷ part) - 1) = omega arith in
-    rw last (search rules)
+strip_more byte next part = search (rules)
 
 raw_one : (byte : ℕ) → eqb byte 10 ≡ false → IsRaw (byte ∷ [])
 raw_one byte other = rw other (All-cons IsOther byte [] (ap not other) (All-nil IsOther))
@@ -93,10 +79,7 @@ raw_onto byte ((next ∷ part) ∷ parts) other h = (rw (strip_more byte next pa
 
 all_raw : (bytes : List ℕ) → AllByRecursion IsRaw (raw_lines bytes)
 all_raw [] = tt
-all_raw (byte ∷ bytes) =
-    let others = raw_lines bytes in
-    cond_both (eqb byte 10) ((byte ∷ []) ∷ others) (onto_first byte others) (AllByRecursion IsRaw)
-    (λ feed. (rw feed (All-nil IsOther), all_raw bytes)) (λ other. raw_onto byte others other (all_raw bytes))
+all_raw (byte ∷ bytes) = search (rules, all_raw bytes, all_raw bytes, cond_both, All-nil, raw_onto)
 
 clean_lines : (number : ℕ) (raws : List (List ℕ)) → AllByRecursion IsRaw raws → HaveNoFeed (numbered_from number raws)
 clean_lines number [] h = tt
@@ -111,16 +94,13 @@ unless_long long all text h e = search rules
 
 -- no line of a text that isn't too long has a line feed
 pub lines_have_no_feed : (bytes : List ℕ) (text : List Line) → text_lines bytes ≡ Ok text → HaveNoFeed text
-lines_have_no_feed bytes text e =
-    unless_long (ltb LONGEST_PUZZLE (length bytes)) (lines bytes) text (clean_lines 1 (raw_lines bytes) (all_raw bytes)) e
+lines_have_no_feed bytes text e = search (unless_long, clean_lines, all_raw)
 
 -- ---- fields
 
 -- the lines that a filter keeps have no line feed in them either
 pub clean_filter : (p : Line → Bool) (text : List Line) → HaveNoFeed text → HaveNoFeed (filter p text)
-clean_filter p text h =
-    let clean = λ (line : Line). has_no_feed line.text ≡ true in
-    recursion_from_All clean (filter p text) (All-filter p clean text (All-from_recursion clean text h))
+clean_filter p text h = search (recursion_from_All, All-filter, All-from_recursion)
 
 -- the line's number, if its text is too long
 abbrev long_of : Option Line → Option ℕ
@@ -143,12 +123,10 @@ first_clean (found ∷ text) h line e = search rules
 
 lawful_text : (word : List ℕ) (text : List Line) → HaveNoFeed text → number_of_line (long_text text word) ≡ None
     → is_field (field_text word text) ≡ true
-lawful_text word text h fits =
-    lawful_field (first_with word text) (first_clean (filter (has_keyword word) text) (clean_filter (has_keyword word) text h)) fits
+lawful_text word text h fits = search (lawful_field, first_clean, clean_filter)
 
 least_none : (m n : Option ℕ) → least m n ≡ None → (m ≡ None) × (n ≡ None)
-least_none None n e = (refl, e)
-least_none (Some m) n e = search rules
+least_none v0 n e = search (rules)
 
 each_none : (numbers : List (Option ℕ)) → least_of numbers ≡ None → AllByRecursion (λ number. number ≡ None) numbers
 each_none [] e = tt
@@ -156,16 +134,7 @@ each_none (number ∷ numbers) e = let parts = least_none number (least_of numbe
 
 -- if no line is bad, the texts may stand in their fields
 pub lawful_texts : (stray : Option ℕ) (text : List Line) → HaveNoFeed text → bad_line stray text ≡ None → IsDescription (texts_of text)
-lawful_texts stray text h none =
-    let longs = map (λ word. number_of_line (long_text text word)) text_words in
-    let all = each_none longs (least_none stray (least_of longs) none).1 in
-    record {
-      catalogue = lawful_text (codes "catalogue") text h all.0;
-      title = lawful_text (codes "title") text h all.1.0;
-      by = lawful_text (codes "by") text h all.1.1.0;
-      copyright = lawful_text (codes "copyright") text h all.1.1.1.0;
-      license = lawful_text (codes "license") text h all.1.1.1.1.0;
-    }
+lawful_texts stray text h none = search (rules, each_none, least_none, lawful_text)
 
 -- ---- texts that are short
 
@@ -198,6 +167,4 @@ or_stray stray = search rules
 
 -- if no line is long, no text is
 pub short_lines : (stray : Option ℕ) (kept : List KeywordLine) → are_short kept ≡ true → bad_line stray (map shown_keyword kept) ≡ stray
-short_lines stray kept h =
-    rw (none_least (λ word. number_of_line (long_text (map shown_keyword kept) word)) text_words (λ word. short_first word kept h))
-    (or_stray stray)
+short_lines stray kept h = search (none_least, short_first, or_stray)

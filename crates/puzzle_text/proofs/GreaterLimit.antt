@@ -1,5 +1,5 @@
 -- A greater limit keeps what a text says.
-use Rattle.puzzle_text.proofs.Names.{◌≡◌, ℕ, zero, ◌≤◌, Bool, true, false, cond, leb, List, [], ◌∷◌, length, refl, ap, ◌∙◌, arith, Option, Some, None, Result, Ok, Err, option_and_then, list_all, option_map, and_parts, le-leb, leb-true, TextFault, BadSize, BadNumber, is_run, is_clue, Line, number_within, pieces, ◌>>=◌, or_fault, each, each_some, clue_of_numbers, clue_of, clues_of, size_of, two_sizes, size_line, read_nin, read_mk, sizes_of, both_clues, read_non}
+use Rattle.puzzle_text.proofs.Names.{rules, ◌≡◌, ℕ, zero, ◌≤◌, Bool, true, false, cond, leb, List, [], ◌∷◌, length, refl, ap, ◌∙◌, arith, Option, Some, None, Result, Ok, Err, option_and_then, list_all, option_map, and_parts, le-leb, leb-true, TextFault, BadSize, BadNumber, is_run, is_clue, Line, number_within, pieces, ◌>>=◌, or_fault, each, each_some, clue_of_numbers, clue_of, clues_of, size_of, two_sizes, size_line, read_nin, read_mk, sizes_of, both_clues, read_non}
 use Rattle.puzzle_text.specs.Laws.{GreaterLimitKeeps, KeepsAnswer}
 
 -- ---- options
@@ -10,12 +10,10 @@ KeepsSome {A} old new = (x : A) → old ≡ Some x → new ≡ Some x
 
 some-bind : {A B : Type 0} (old new : Option A) (f g : A → Option B) → KeepsSome old new → ((x : A) → KeepsSome (f x) (g x))
     → KeepsSome (option_and_then f old) (option_and_then g new)
-some-bind None new f g kept next = λ x e. absurd cc
-some-bind (Some y) new f g kept next = λ x e. ap (option_and_then g) (kept y refl) ∙ next y x e
+some-bind v0 new f g kept next = search (rules)
 
 some-map : {A B : Type 0} (h : A → B) (old new : Option A) → KeepsSome old new → KeepsSome (option_map h old) (option_map h new)
-some-map h None new kept = λ x e. absurd cc
-some-map h (Some y) new kept = λ x e. ap (option_map h) (kept y refl) ∙ e
+some-map h v1 new kept = search (rules)
 
 some-each : {X Y : Type 0} (f g : X → Option Y) (xs : List X) → ((x : X) → KeepsSome (f x) (g x))
     → KeepsSome (each_some f xs) (each_some g xs)
@@ -24,8 +22,7 @@ some-each f g (x ∷ xs) next = search (some-bind, some-map, next x, some-each f
 
 -- a test that the greater limit passes too
 some-test : {A : Type 0} (b c : Bool) (y : A) → (b ≡ true → c ≡ true) → KeepsSome (cond b (Some y) None) (cond c (Some y) None)
-some-test true c y h = λ x e. rw (h refl) e
-some-test false c y h = λ x e. absurd cc
+some-test v0 c y h = search (rules)
 
 -- ---- results
 
@@ -47,13 +44,11 @@ keeps-each f g [] next = λ _ _. refl
 keeps-each f g (x ∷ xs) next = search (keeps-bind, keeps-same, next x, keeps-each f g xs next)
 
 keeps-size : {A : Type 0} (old new : Option A) → KeepsSome old new → KeepsAnswer (or_fault BadSize old) (or_fault BadSize new)
-keeps-size None new kept = λ size number. absurd (size refl)
-keeps-size (Some x) new kept = λ size number. ap (or_fault BadSize) (kept x refl)
+keeps-size v0 new kept = search (rules)
 
 keeps-number : {A : Type 0} (n : ℕ) (old new : Option A) → KeepsSome old new
     → KeepsAnswer (or_fault (BadNumber n) old) (or_fault (BadNumber n) new)
-keeps-number n None new kept = λ size number. absurd (number n refl)
-keeps-number n (Some x) new kept = λ size number. ap (or_fault (BadNumber n)) (kept x refl)
+keeps-number n v1 new kept = search (rules)
 
 -- ---- numbers, sizes and clues
 

@@ -7,10 +7,7 @@ use Rattle.std.proofs.lemmas.Slice.Eq.{bytes_eq-Decides}
 -- what passes a second test, if all that passes it passes the first
 filter_twice : {X : Type 0} (p q : X → Bool) → ((x : X) → p x ≡ true → q x ≡ true) → (xs : List X) → filter p (filter q xs) ≡ filter p xs
 filter_twice p q le [] = refl
-filter_twice p q le (x ∷ xs) =
-    let here = le x in
-    let others = filter_twice p q le xs in
-    search rules
+filter_twice p q le (x ∷ xs) = search (rules, filter_twice p q le xs)
 
 some_word : (word own : List ℕ) → not (is_empty word) ≡ true → bytes_eq own word ≡ true → not (is_empty own) ≡ true
 some_word word own some e = rw ((bytes_eq-Decides own word).0 e) some
@@ -23,8 +20,4 @@ with_kept word some lines = filter_twice (has_keyword word) is_keyword_line (λ 
 -- the keyword lines alone say what all lines say
 pub said_of_kept : (limit : ℕ) (sections : Sections) (lines : List Line)
     → puzzle_said limit sections (filter is_keyword_line lines) ≡ puzzle_said limit sections lines
-said_of_kept limit sections lines =
-    rw (with_kept (codes "catalogue") refl lines, with_kept (codes "title") refl lines, with_kept (codes "by") refl lines)
-    (rw (with_kept (codes "copyright") refl lines, with_kept (codes "license") refl lines, with_kept (codes "width") refl lines)
-    (rw (with_kept (codes "height") refl lines, with_kept (codes "rows") refl lines, with_kept (codes "columns") refl lines)
-    (rw (with_kept (codes "goal") refl lines) refl)))
+said_of_kept limit sections lines = search (with_kept)

@@ -1,5 +1,5 @@
 -- Lemmas on lines.
-use Rattle.puzzle_text.proofs.Names.{◌≡◌, ℕ, suc, ◌+◌, ◌-◌, ◌<◌, ◌≤◌, Bool, true, false, cond, eqb, ltb, List, [], ◌∷◌, length, take, drop, get_or, refl, sym, arith, inl, inr, Option, Some, None, position_or_len, position, cases_Bool, false_from_ne_true, le-ltb, lt-ltb, ltb-true, ltb-false, take_all, drop_all, get_or-take, length-take-le, take-take, fails_before_first, position_or_len_is, cond_some, numbered_from, raw_lines, strip_last, trim}
+use Rattle.puzzle_text.proofs.Names.{rules, ◌≡◌, ℕ, suc, ◌+◌, ◌-◌, ◌<◌, ◌≤◌, Bool, true, false, cond, eqb, ltb, List, [], ◌∷◌, length, take, drop, get_or, refl, sym, arith, inl, inr, Option, Some, None, position_or_len, position, cases_Bool, false_from_ne_true, le-ltb, lt-ltb, ltb-true, ltb-false, take_all, drop_all, get_or-take, length-take-le, take-take, fails_before_first, position_or_len_is, cond_some, numbered_from, raw_lines, strip_last, trim}
 use Rattle.std.proofs.lemmas.List.Quantifiers.{position-Some}
 use Rattle.memchr.specs.Find.{IsFirstByte, is_byte}
 
@@ -13,33 +13,20 @@ CutsAt bytes n = raw_lines bytes ≡ take n bytes ∷ raw_lines (drop n bytes)
 cut_at : (bytes : List ℕ) → 0 < length bytes → CutsAt bytes (first_end bytes + 1)
 cut_at [] h = absurd (omega arith)
 cut_at (byte ∷ []) h = elim (cases_Bool (eqb byte 10)) [ inl feed ↦ rw feed refl | inr other ↦ rw other refl ]
-cut_at (byte ∷ next ∷ bytes) h =
-    elim (cases_Bool (eqb byte 10)) [
-      | inl feed ↦ rw feed refl
-      | inr other ↦
-          let end : first_end (byte ∷ next ∷ bytes) + 1 ≡ suc (first_end (next ∷ bytes) + 1) = rw other (omega arith) in
-          rw (end, other, cut_at (next ∷ bytes) (omega arith)) refl
-    ]
+cut_at (byte ∷ next ∷ bytes) h = search (rules, cut_at (next ∷ bytes) (omega arith), cases_Bool)
 
 -- the condition fails if nothing came through
 pub not_chosen : (b : Bool) (m : ℕ) → cond b (Some m) None ≡ None → b ≡ false
-not_chosen true m e = absurd cc
-not_chosen false m e = refl
+not_chosen v0 m e = search (rules)
 
 -- the first line ends at the first line feed
 pub cut_at_feed : (bytes : List ℕ) (i : ℕ) → position (λ byte. eqb byte 10) bytes ≡ Some i
     → raw_lines bytes ≡ take (i + 1) bytes ∷ raw_lines (drop (i + 1) bytes)
-cut_at_feed bytes i e =
-    let found = cond_some (ltb (first_end bytes) (length bytes)) (first_end bytes) i e in
-    let inside : 0 < length bytes = omega (arith, ltb-true _ _ found.0) in
-    rw (← found.1) (cut_at bytes inside)
+cut_at_feed bytes i e = search (rules, cond_some, ltb-true, cut_at)
 
 -- and if there is none, with the text
 pub cut_at_end : (bytes : List ℕ) → 0 < length bytes → position (λ byte. eqb byte 10) bytes ≡ None → raw_lines bytes ≡ bytes ∷ []
-cut_at_end bytes h e =
-    let past : length bytes ≤ first_end bytes + 1 =
-    omega (arith, ltb-false _ _ (not_chosen (ltb (first_end bytes) (length bytes)) (first_end bytes) e)) in
-    rw (cut_at bytes h, take_all (first_end bytes + 1) bytes past, drop_all (first_end bytes + 1) bytes past) refl
+cut_at_end bytes h e = search (rules, ltb-false, not_chosen, cut_at, take_all, drop_all)
 
 -- ---- the first line feed
 
@@ -49,9 +36,7 @@ NoFeedBefore bytes i = (k : ℕ) → k < i → eqb (get_or bytes k 0) 10 ≡ fal
 -- a line feed with none before it is the first
 feed_at : (bytes : List ℕ) (i : ℕ) → i < length bytes → NoFeedBefore bytes i → eqb (get_or bytes i 0) 10 ≡ true
     → position (λ byte. eqb byte 10) bytes ≡ Some i
-feed_at bytes i h before at =
-    let end : first_end bytes ≡ i = position_or_len_is (λ byte. eqb byte 10) bytes i 0 (omega arith) before (λ _. at) in
-    rw (end, lt-ltb i (length bytes) h) refl
+feed_at bytes i h before at = search (rules, position_or_len_is, lt-ltb)
 
 -- without a line feed there is no first one
 no_feed : (bytes : List ℕ) → NoFeedBefore bytes (length bytes) → position (λ byte. eqb byte 10) bytes ≡ None
@@ -62,16 +47,13 @@ no_feed bytes before =
 
 -- what a search for a line feed gives
 pub feed_found : (bytes : List ℕ) (found : Option ℕ) → IsFirstByte (is_byte 10) bytes found → found ≡ position (λ byte. eqb byte 10) bytes
-feed_found bytes None none = sym (no_feed bytes (λ k low. false_from_ne_true _ (none k (omega arith) low)))
-feed_found bytes (Some i) at = sym (feed_at bytes i at.0.high (λ k low. false_from_ne_true _ (at.0.before k (omega arith) low)) at.1)
+feed_found bytes v1 none = search (rules, no_feed, false_from_ne_true, feed_at)
 
 -- ---- the first line without its ending
 
 strip_feed : (bytes : List ℕ) (end : ℕ) → end < length bytes → eqb (get_or bytes end 0) 10 ≡ true
     → strip_last 10 (take (end + 1) bytes) ≡ take end bytes
-strip_feed bytes end h at =
-    let last : length (take (end + 1) bytes) - 1 ≡ end = omega (arith, length-take-le (end + 1) bytes (omega arith)) in
-    rw (last, get_or-take (end + 1) bytes end 0 (omega arith), at, take-take end (end + 1) bytes (omega arith)) refl
+strip_feed bytes end h at = search (rules, length-take-le, get_or-take, take-take)
 
 -- the lines of a text are the first one, up to the first line feed, and those of the rest
 pub line_at_feed : (number : ℕ) (bytes : List ℕ) (end : ℕ) → position (λ byte. eqb byte 10) bytes ≡ Some end
@@ -83,11 +65,7 @@ line_at_feed number bytes end e =
     rw (cut_at_feed bytes end e, strip_feed bytes end found.0 found.1) refl
 
 keeps_end : (bytes : List ℕ) → 0 < length bytes → position (λ byte. eqb byte 10) bytes ≡ None → strip_last 10 bytes ≡ bytes
-keeps_end bytes some e =
-    let past = ltb-false _ _ (not_chosen (ltb (first_end bytes) (length bytes)) (first_end bytes) e) in
-    let last : eqb (get_or bytes (length bytes - 1) 0) 10 ≡ false =
-    fails_before_first (λ byte. eqb byte 10) bytes (length bytes - 1) 0 (omega (arith, past)) in
-    rw last refl
+keeps_end bytes some e = search (rules, ltb-false, not_chosen, fails_before_first)
 
 -- a text without a line feed is one line
 pub line_at_end : (number : ℕ) (bytes : List ℕ) → 0 < length bytes → position (λ byte. eqb byte 10) bytes ≡ None

@@ -1,6 +1,6 @@
 -- Lemmas on the lines round a line that begins with #, and on the clues of both sections.
 use Rattle.puzzle_text.proofs.EachLemmas.{with_front, with_front-none}
-use Rattle.puzzle_text.proofs.Names.{◌≡◌, ℕ, ◌+◌, ◌-◌, Bool, cond, not, ltb, List, [], ◌∷◌, ◌++◌, length, take, drop, map, true, refl, sym, ap, Option, Some, None, Result, Ok, position, position_or_len, prefix_len, ltb-false, cond_some, take-map, drop-map, length-map, take_all, take_rest, take-append_seam, drop-append_seam, Nonogram, plain, TextFault, BadNumber, ◌>>=◌, each, or_fault, clue_of, clues_of, Line, is_hash, at_hash, before_hash, puzzle_of, both_clues, reading}
+use Rattle.puzzle_text.proofs.Names.{rules, ◌≡◌, ℕ, ◌+◌, ◌-◌, Bool, cond, not, ltb, List, [], ◌∷◌, ◌++◌, length, take, drop, map, true, refl, sym, ap, Option, Some, None, Result, Ok, position, position_or_len, prefix_len, ltb-false, cond_some, take-map, drop-map, length-map, take_all, take_rest, take-append_seam, drop-append_seam, Nonogram, plain, TextFault, BadNumber, ◌>>=◌, each, or_fault, clue_of, clues_of, Line, is_hash, at_hash, before_hash, puzzle_of, both_clues, reading}
 use Rattle.puzzle_text.proofs.LinesLemmas.{not_chosen}
 
 pub prefix_len-map : {X Y : Type 0} (p : Y → Bool) (view : X → Y) (xs : List X)
@@ -26,19 +26,11 @@ module _ {X : Type 0} (view : X → Line) where
 
   -- the lines before the first that begins with #
   pub before_hash_found : (xs : List X) (i : ℕ) → hash_at xs ≡ Some i → before_hash (map view xs) ≡ map view (take i xs)
-  before_hash_found xs i e =
-      let place = position_or_len (λ x. is_hash (view x)) xs in
-      let found = cond_some (ltb place (length xs)) place i e in
-      rw (prefix_len-map (λ y. not (is_hash y)) view xs, found.1, take-map view i xs) refl
+  before_hash_found xs i e = search (rules, cond_some, prefix_len-map, take-map)
 
   -- all lines, if none begins with #
   pub before_hash_none : (xs : List X) → hash_at xs ≡ None → before_hash (map view xs) ≡ map view xs
-  before_hash_none xs e =
-      let past =
-      ltb-false _ _
-      (not_chosen (ltb (position_or_len (λ x. is_hash (view x)) xs) (length xs)) (position_or_len (λ x. is_hash (view x)) xs) e) in
-      rw (prefix_len-map (λ y. not (is_hash y)) view xs, take-map view (position_or_len (λ x. is_hash (view x)) xs) xs, take_all _ xs past)
-      refl
+  before_hash_none xs e = search (ltb-false, not_chosen, prefix_len-map, take-map, take_all)
 
 -- ---- the clues of both sections
 
@@ -52,8 +44,7 @@ joined a b = a >>= λ xs. with_front xs b
 
 joined_more : {Y : Type 0} (r : Result Y TextFault) (a b : Result (List Y) TextFault)
     → r >>= (λ y. joined a b >>= λ all. Ok (y ∷ all)) ≡ joined (r >>= (λ y. a >>= λ ys. Ok (y ∷ ys))) b
-joined_more (Ok y) (Ok xs) (Ok ys) = refl
-joined_more r a b = refl
+joined_more v0 v1 v2 = search (rules)
 
 each-append : {X Y : Type 0} (step : X → Result Y TextFault) (xs ys : List X) → each step (xs ++ ys) ≡ joined (each step xs) (each step ys)
 each-append step [] ys = sym (with_front-none (each step ys))
@@ -62,15 +53,12 @@ each-append {X} {Y} step (x ∷ xs) ys = rw (each-append step xs ys) (joined_mor
 joined_clues : (width height : ℕ) (a b : Result (List (List ℕ)) TextFault)
     → joined a b >>= (λ clues. Ok (reading width height clues)) ≡ (a >>= λ rows. b >>= λ columns. Ok (rows, columns))
     >>= with_clues width height
-joined_clues width height (Ok rows) (Ok columns) = refl
-joined_clues width height a b = refl
+joined_clues width height v2 v3 = search (rules)
 
 -- the puzzle of the clue lines of both sections
 pub puzzle_of_parts : (limit width height : ℕ) (xs ys : List Line)
     → puzzle_of limit width height (xs ++ ys) ≡ both_clues limit true xs ys >>= with_clues width height
-puzzle_of_parts limit width height xs ys =
-    rw (each-append (λ line. or_fault (BadNumber line.number) (clue_of limit line.text)) xs ys)
-    (joined_clues width height (clues_of limit xs) (clues_of limit ys))
+puzzle_of_parts limit width height xs ys = search (each-append, joined_clues)
 
 -- the first of the clues are the rows', as many as the height
 pub reading_parts : (width height : ℕ) (rows columns : List (List ℕ)) → length rows ≡ height

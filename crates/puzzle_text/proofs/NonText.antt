@@ -69,18 +69,15 @@ texts_non p = fields p.texts ++ after_fields p
 -- ---- the text is these lines
 
 fed_one : (word : List ℕ) (o : Option (List ℕ)) → flat_map with_feed (one word o) ≡ quoted_line word o
-fed_one word None = refl
-fed_one word (Some text) = simp (append_assoc, append-nil)
+fed_one word v1 = search (rules, append_assoc, append-nil)
 
 fed_fields : (ts : Description) (fs : List Field)
     → flat_map with_feed (flat_map (part ts) fs) ≡ flat_map (λ f. quoted_line (field_word f) (text_of ts f)) fs
 fed_fields ts [] = refl
-fed_fields ts (f ∷ fs) =
-    rw (flat_map-append with_feed (part ts f) (flat_map (part ts) fs), fed_one (field_word f) (text_of ts f), fed_fields ts fs) refl
+fed_fields ts (f ∷ fs) = search (rules, fed_fields ts fs, flat_map-append, fed_one)
 
 fed_goal : (o : Option (List Bool)) → flat_map with_feed (goal_gap o ++ one (codes "goal") (goal_text o)) ≡ goal_lines o
-fed_goal None = refl
-fed_goal (Some cells) = rw (fed_one (codes "goal") (Some (map goal_byte cells))) refl
+fed_goal v0 = search (rules, fed_one)
 
 pub non_is : (p : Nonogram) → flat_map with_feed (texts_non p) ≡ text_non p
 non_is p =
@@ -110,16 +107,13 @@ kept_field word text name clean first =
 
 kept_one : (word : List ℕ) (o : Option (List ℕ)) → list_all (λ byte. not (eqb byte 10)) word ≡ true → is_field o ≡ true
     → ((text : List ℕ) → 33 ≤ get_or (field_line word text) 0 0) → AllByRecursion IsKept (one word o)
-kept_one word None name lawful first = tt
-kept_one word (Some text) name lawful first =
-    (kept_field word text name (and_parts (leb (length text) 65536) (list_all (λ byte. not (eqb byte 10)) text) lawful).1 (first text), tt)
+kept_one word v1 name lawful first = search (rules, kept_field, and_parts)
 
 kept_blank : IsKept []
 kept_blank = record { no_feed = tt; no_return = refl; trimmed = refl }
 
 pub all_gap : (P : List ℕ → Type 0) → P [] → (o : Option (List Bool)) → AllByRecursion P (goal_gap o)
-all_gap P blank None = tt
-all_gap P blank (Some cells) = (blank, tt)
+all_gap v0 blank v2 = search (rules)
 
 clean_goal : (cells : List Bool) → list_all (λ byte. not (eqb byte 10)) (map goal_byte cells) ≡ true
 clean_goal [] = refl
@@ -130,11 +124,7 @@ kept_goal None = tt
 kept_goal (Some cells) = (kept_field (codes "goal") (map goal_byte cells) refl (clean_goal cells) (omega arith), tt)
 
 pub lawful_field : (ts : Description) → IsDescription ts → (f : Field) → is_field (text_of ts f) ≡ true
-lawful_field ts lawful Catalogue = lawful.catalogue
-lawful_field ts lawful Title = lawful.title
-lawful_field ts lawful By = lawful.by
-lawful_field ts lawful Copyright = lawful.copyright
-lawful_field ts lawful License = lawful.license
+lawful_field ts lawful v2 = search (rules)
 
 -- what follows the keyword that a line's text begins with
 abbrev pub rest_of : List ℕ → List ℕ
@@ -160,8 +150,7 @@ facts Catalogue = record { clean = refl; short = omega arith; inked = λ _. omeg
 facts f = record { clean = refl; short = omega arith; inked = λ _. omega arith; word = λ _. refl; rest = quote_kept; some = refl }
 
 kept_size : (word : List ℕ) (n : ℕ) → list_all (leb 33) word ≡ true → 0 < length word → n < 2 ^ 64 → IsKept (size_text word n)
-kept_size word n high some wide =
-    kept_tidy (size_text word n) (tidy-join 32 word (decimal n) space (tidy_word word high some) (tidy_decimal n wide))
+kept_size word n high some wide = search (kept_tidy, tidy-join, space, tidy_word, tidy_decimal)
 
 kept_non : (limit : ℕ) (p : Nonogram) → limit < 2 ^ 64 → IsNonogramWithin limit p → AllByRecursion IsKept (texts_non p)
 kept_non limit p wide lawful =
@@ -196,17 +185,10 @@ length_field word (Some text) short lawful =
 length_fields : (ts : Description) → IsDescription ts → (fs : List Field)
     → length (flat_map (λ f. quoted_line (field_word f) (text_of ts f)) fs) ≤ 65549 * length fs
 length_fields ts lawful [] = omega arith
-length_fields ts lawful (f ∷ fs) =
-    let others = flat_map (λ (g : Field). quoted_line (field_word g) (text_of ts g)) fs in
-    let here = length_field (field_word f) (text_of ts f) (facts f).short (lawful_field ts lawful f) in
-    omega (arith, length-append (quoted_line (field_word f) (text_of ts f)) others, length_fields ts lawful fs)
+length_fields ts lawful (f ∷ fs) = search (rules, length_fields ts lawful fs, length_field, facts, lawful_field, length-append)
 
 length_goal : (w h : ℕ) (o : Option (List Bool)) → w ≤ 256 → h ≤ 256 → is_goal (w * h) o ≡ true → length (goal_lines o) ≤ 65550
-length_goal w h None wide high lawful = omega arith
-length_goal w h (Some cells) wide high lawful =
-    let count = eqb-true (length cells) (w * h) lawful in
-    let text = map goal_byte cells in
-    omega (arith, mul-le w h 256 256 wide high, length-map cells goal_byte, length-append text (codes "\"\n"))
+length_goal w h v2 wide high lawful = search (rules, eqb-true, mul-le, length-map, length-append)
 
 -- the text is short enough to be read
 pub length_non : (limit : ℕ) (p : Nonogram) → limit ≤ 256 → IsNonogramWithin limit p → length (text_non p) ≤ 1048576

@@ -21,9 +21,7 @@ next_value bytes i h digit = rw (digits_value_more 10 bytes i h, digit_value_is 
 
 -- a front that is past the limit already
 pub past_limit : (limit : ℕ) (piece : List ℕ) (i : ℕ) → limit < digits_value 10 (take i piece) → number_within limit piece ≡ None
-past_limit limit piece i h =
-    let big : leb (digits_value 10 piece) limit ≡ false = lt-leb _ _ (omega (arith, digits_value-take-le 10 piece i (lit≤ tt))) in
-    search rules
+past_limit limit piece i h = search (rules, lt-leb, digits_value-take-le)
 
 -- ---- the first piece
 
@@ -49,23 +47,13 @@ first_piece text (suc k) found first =
 
 -- without a separator it is the whole
 pub only_piece : (text : List ℕ) → 0 < length text → position is_separator text ≡ None → pieces text ≡ text ∷ []
-only_piece text h none =
-    let past =
-    ltb-false _ _ (not_chosen (ltb (position_or_len is_separator text) (length text)) (position_or_len is_separator text) none) in
-    let clear : All (λ byte. is_separator byte ≡ false) text =
-    λ k d lt. ap is_separator (get_or_default text k d 0 lt) ∙ fails_before_first is_separator text k 0 (omega (arith, past)) in
-    rw (slice_split_none is_separator text clear) (keeps_piece text [] h)
+only_piece text h none = search (rules, ltb-false, not_chosen, get_or_default, fails_before_first, slice_split_none, keeps_piece)
 
 -- ---- the number of the first piece
 
 cut : (text : List ℕ) → 0 < length text → is_separator (get_or text 0 0) ≡ false
     → pieces text ≡ take (end_of text) text ∷ pieces (drop (end_of text + 1) text)
-cut text some first = elim (cases_Bool (ltb (end_of text) (length text))) [
-  | inl inside ↦ first_piece text (end_of text) (rw inside refl) first
-  | inr past ↦
-      let at : length text ≤ end_of text = omega (arith, ltb-false _ _ past) in
-      rw (take_all (end_of text) text at, drop_all (end_of text + 1) text (omega arith)) (only_piece text some (rw past refl))
-]
+cut text some first = search (rules, cases_Bool, first_piece, ltb-false, take_all, drop_all, only_piece)
 
 end_within : (text : List ℕ) → end_of text ≤ length text
 end_within text = prefix_len-le-length (λ byte. not (is_separator byte)) text
@@ -87,16 +75,11 @@ pub digit_clear : (byte : ℕ) → is_ascii_digit byte ≡ true → is_separator
 digit_clear byte digit = grind (arith, nat_tests)
 
 digits_clear : (text : List ℕ) (i : ℕ) → i ≤ length text → list_all is_ascii_digit (take i text) ≡ true → Clear text i
-digits_clear text i within digits k low =
-    let at : k < length (take i text) = omega (arith, length-take-le i text within) in
-    digit_clear (get_or text k 0)
-    (ap is_ascii_digit (sym (get_or-take i text k 0 low)) ∙ AllPass-from_list_all is_ascii_digit (take i text) digits k 0 at)
+digits_clear text i within digits k low = search (rules, within, length-take-le, digit_clear, get_or-take, AllPass-from_list_all)
 
 pub number_is : (limit : ℕ) (piece : List ℕ) → 0 < length piece → list_all is_ascii_digit piece ≡ true → digits_value 10 piece ≤ limit
     → number_within limit piece ≡ Some (digits_value 10 piece)
-number_is limit piece some digits low =
-    let full : is_empty piece ≡ false = ne_eqb (length piece) 0 (λ e. omega arith) in
-    rw (full, digits, le-leb (digits_value 10 piece) limit low) refl
+number_is limit piece some digits low = search (rules, ne_eqb, le-leb)
 
 no_number : (limit : ℕ) (piece : List ℕ) (i : ℕ) → i < length piece → is_ascii_digit (get_or piece i 0) ≡ false
     → number_within limit piece ≡ None

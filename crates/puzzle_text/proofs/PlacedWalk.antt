@@ -23,13 +23,11 @@ last_of_more start (y ∷ xs) x = last_of_more (Some y) xs x
 word_of_last : (empty : Bool) (line : Line) (kept : List Line)
     → unwrap_or (option_map keyword (last_or None (kept ++ cond (not empty) (line ∷ []) []))) []
     ≡ cond empty (unwrap_or (option_map keyword (last_or None kept)) []) (keyword line)
-word_of_last true line kept = rw (append-nil kept) refl
-word_of_last false line kept = rw (last_of_more None kept line) refl
+word_of_last v0 line kept = search (rules, append-nil, last_of_more)
 
 last_keyword-more : (front : List Line) (line : Line)
     → last_keyword (front ++ line ∷ []) ≡ cond (is_empty (keyword line)) (last_keyword front) (keyword line)
-last_keyword-more front line =
-    rw (filter-append is_keyword_line front (line ∷ [])) (word_of_last (is_empty (keyword line)) line (filter is_keyword_line front))
+last_keyword-more front line = search (filter-append, word_of_last)
 
 -- the walk below some lines, from their last keyword on
 walk_below : (front lines : List Line)

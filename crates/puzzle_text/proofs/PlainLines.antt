@@ -16,17 +16,13 @@ no_at_before bytes i within none = list_all-from_AllPass _ (take i bytes) (λ k 
 -- ---- a line that begins with another byte than @
 
 take_first : (k : ℕ) (bytes : List ℕ) → eqb (get_or bytes 0 0) 64 ≡ false → eqb (get_or (take k bytes) 0 0) 64 ≡ false
-take_first (suc k) (byte ∷ bytes) other = other
-take_first k bytes other = refl
+take_first v0 v1 other = search (rules)
 
 strip_first : (byte : ℕ) (bytes : List ℕ) → eqb (get_or bytes 0 0) 64 ≡ false → eqb (get_or (strip_last byte bytes) 0 0) 64 ≡ false
-strip_first byte bytes other =
-    cond_both (eqb (get_or bytes (length bytes - 1) 0) byte) (take (length bytes - 1) bytes) bytes
-    (λ text. eqb (get_or text 0 0) 64 ≡ false) (λ _. take_first (length bytes - 1) bytes other) (λ _. other)
+strip_first byte bytes other = search (rules, cond_both, take_first)
 
 no_marker_text : (bytes : List ℕ) → eqb (get_or bytes 0 0) 64 ≡ false → is_marker_text bytes ≡ false
-no_marker_text [] other = refl
-no_marker_text (first ∷ others) other = search rules
+no_marker_text v0 other = search (rules)
 
 no_marker : (raw : List ℕ) → eqb (get_or raw 0 0) 64 ≡ false → is_marker raw ≡ false
 no_marker raw other = no_marker_text (without_ending raw) (strip_first 13 (strip_last 10 raw) (strip_first 10 raw other))
@@ -52,9 +48,7 @@ plain raw raws other = (rw (no_marker raw other) refl, rw (no_marker raw other) 
 
 plain_line : (feed : Bool) (byte : ℕ) (raws : List (List ℕ)) → eqb byte 64 ≡ false
     → IsPlain (cond feed ((byte ∷ []) ∷ raws) (onto_first byte raws))
-plain_line true byte raws other = plain (byte ∷ []) raws other
-plain_line false byte [] other = plain (byte ∷ []) [] other
-plain_line false byte (raw ∷ raws) other = plain (byte ∷ raw) raws other
+plain_line v0 byte raws other = search (rules, plain)
 
 -- ---- from the start of a line, or from amid one that begins no entry
 
@@ -69,8 +63,7 @@ entries_in false raws = entries_of (below_first raws)
 amid : (feed : Bool) (byte : ℕ) (raws : List (List ℕ))
     → (with_first (cond feed ((byte ∷ []) ∷ raws) (onto_first byte raws)) ≡ byte ∷ body_in feed raws)
     × (entries_of (below_first (cond feed ((byte ∷ []) ∷ raws) (onto_first byte raws))) ≡ entries_in feed raws)
-amid false byte (raw ∷ raws) = (refl, refl)
-amid feed byte raws = (refl, refl)
+amid v0 byte v2 = search (rules)
 
 -- past `front`, which has no @, the lines `raws` go on as `others`;
 -- `start` and `later` tell whether a line begins there
@@ -80,11 +73,7 @@ GoesOn start later front raws others =
 
 one_byte : (start : Bool) (byte : ℕ) (bytes : List ℕ) → eqb byte 64 ≡ false
     → GoesOn start (eqb byte 10) (byte ∷ []) (raw_lines (byte ∷ bytes)) (raw_lines bytes)
-one_byte false byte bytes other = amid (eqb byte 10) byte (raw_lines bytes)
-one_byte true byte bytes other =
-    let first = plain_line (eqb byte 10) byte (raw_lines bytes) other in
-    let others = amid (eqb byte 10) byte (raw_lines bytes) in
-    (first.0 ∙ others.0, first.1 ∙ others.1)
+one_byte v0 byte bytes other = search (rules, amid, plain_line)
 
 -- whether a line begins after these bytes, if one begins before them or not
 abbrev starts_after : Bool → List ℕ → Bool
@@ -114,8 +103,7 @@ starts_where (byte ∷ bytes) =
 -- ---- what follows
 
 nothing_in : (start : Bool) → (body_in start [] ≡ []) × (entries_in start [] ≡ [])
-nothing_in true = (refl, refl)
-nothing_in false = (refl, refl)
+nothing_in v0 = search (rules)
 
 -- nothing follows
 pub follows_none : (bytes front tail : List ℕ) → bytes ≡ front ++ tail → HasNoAt front → length tail ≡ 0 → FollowsPlain bytes tail

@@ -1,5 +1,5 @@
 -- What is written is read again: lines.
-use Rattle.puzzle_text.proofs.Names.{◌≡◌, true, leb, ℕ, ◌+◌, ◌-◌, ◌<◌, ◌≤◌, false, eqb, List, [], ◌∷◌, ◌++◌, length, get_or, reverse, refl, ap, ◌∙◌, append_assoc, arith, list_all, flat_map, AllByRecursion, leb-true, cond-false, ne_eqb, eq-eqb, take_at, get_or_at, get_or-reverse, length-append, reverse-reverse, nat_tests, All-from_recursion, All-get_or, Line, raw_lines, numbered_from, trim, trim_start, trim_end, strip_last, without_ending, is_blank}
+use Rattle.puzzle_text.proofs.Names.{rules, ◌≡◌, true, leb, ℕ, ◌+◌, ◌-◌, ◌<◌, ◌≤◌, false, eqb, List, [], ◌∷◌, ◌++◌, length, get_or, reverse, refl, ap, ◌∙◌, append_assoc, arith, list_all, flat_map, AllByRecursion, leb-true, cond-false, ne_eqb, eq-eqb, take_at, get_or_at, get_or-reverse, length-append, reverse-reverse, nat_tests, All-from_recursion, All-get_or, Line, raw_lines, numbered_from, trim, trim_start, trim_end, strip_last, without_ending, is_blank}
 use Rattle.puzzle_text.proofs.AllLemmas.{all-weaker, all_pass}
 
 -- a line's text as it is written: no byte below a space, and no blank at either end
@@ -24,9 +24,7 @@ raw_lines-feed [] rest inked = refl
 raw_lines-feed (byte ∷ bytes) rest inked = rw (inked.0, raw_lines-feed bytes rest inked.1) refl
 
 pub strip_last_is : (byte : ℕ) (text : List ℕ) → strip_last byte (text ++ byte ∷ []) ≡ text
-strip_last_is byte text =
-    let n : length text ≡ length (text ++ byte ∷ []) - 1 = omega (arith, length-append text (byte ∷ [])) in
-    rw (get_or_at text byte [] 0 _ n, eq-eqb byte byte refl, take_at text (byte ∷ []) _ n) refl
+strip_last_is byte text = search (rules, length-append, get_or_at, eq-eqb, take_at)
 
 pub strip_last_other : (byte : ℕ) (text : List ℕ) → byte < 33 → 33 ≤ get_or text (length text - 1) 0 → strip_last byte text ≡ text
 strip_last_other byte text low last = rw (ne_eqb (get_or text (length text - 1) 0) byte (λ e. omega arith)) refl
@@ -69,13 +67,7 @@ line_kept text kept = ap (λ (t : List ℕ). trim (strip_last 13 t)) (strip_last
 
 -- a text of bytes above the space is tidy
 pub tidy_solid : (text : List ℕ) → 0 < length text → AllByRecursion (λ byte. 33 ≤ byte) text → IsTidy text
-tidy_solid text some high =
-    let at = All-from_recursion (λ byte. 33 ≤ byte) text high in
-    record {
-      inked = all-weaker (λ byte. 33 ≤ byte) _ (λ byte h. omega arith) text high;
-      first = All-get_or (λ byte. 33 ≤ byte) text 0 0 some at;
-      last = All-get_or (λ byte. 33 ≤ byte) text (length text - 1) 0 (omega arith) at;
-    }
+tidy_solid text some high = search (rules, All-from_recursion, all-weaker, All-get_or)
 
 -- so is a word
 pub tidy_word : (text : List ℕ) → list_all (leb 33) text ≡ true → 0 < length text → IsTidy text
@@ -90,10 +82,7 @@ numbered number (text ∷ texts) = record { number = number; text = text } ∷ n
 pub lines_kept : (number : ℕ) (texts : List (List ℕ)) → AllByRecursion IsKept texts
     → numbered_from number (raw_lines (flat_map with_feed texts)) ≡ numbered number texts
 lines_kept number [] kept = refl
-lines_kept number (text ∷ texts) kept =
-    let rest = flat_map with_feed texts in
-    rw (append_assoc text (10 ∷ []) rest, raw_lines-feed text rest kept.0.no_feed, line_kept text kept.0)
-    (rw (lines_kept (number + 1) texts kept.1) refl)
+lines_kept number (text ∷ texts) kept = search (rules, lines_kept (number + 1) texts kept.1, append_assoc, raw_lines-feed, line_kept)
 
 -- what is written as tidy lines is those lines
 pub lines_are : (number : ℕ) (texts : List (List ℕ)) → AllByRecursion IsTidy texts

@@ -1,5 +1,5 @@
 -- What is written is read again: numbers and clues.
-use Rattle.puzzle_text.proofs.Names.{◌≡◌, ℕ, zero, suc, ◌<◌, ◌≤◌, ◌^◌, true, false, not, List, [], ◌∷◌, length, get_or, map, filter, All, refl, ap, ◌∙◌, arith, Some, decimal, list_all, slice_split, AllByRecursion, is_ascii_digit, AllDigits, ne_eqb, and_parts, le-leb, leb-true, nat_tests, append-nil, get_or_default, slice_split_none, slice_split_at, digit_at, digit_from_value, decimal_is_IsNumeral, decimal_nonempty, is_run, is_clue, is_empty, is_separator, pieces, number_of, number_within, numbers_within, clue_of_numbers, clue_of, clue_text}
+use Rattle.puzzle_text.proofs.Names.{rules, ◌≡◌, ℕ, zero, suc, ◌<◌, ◌≤◌, ◌^◌, true, false, not, List, [], ◌∷◌, length, get_or, map, filter, All, refl, ap, ◌∙◌, arith, Some, decimal, list_all, slice_split, AllByRecursion, is_ascii_digit, AllDigits, ne_eqb, and_parts, le-leb, leb-true, nat_tests, append-nil, get_or_default, slice_split_none, slice_split_at, digit_at, digit_from_value, decimal_is_IsNumeral, decimal_nonempty, is_run, is_clue, is_empty, is_separator, pieces, number_of, number_within, numbers_within, clue_of_numbers, clue_of, clue_text}
 use Rattle.puzzle_text.proofs.AllLemmas.{all-map, all-weaker, all_pass, filter_all}
 
 -- what decimal can write
@@ -31,11 +31,7 @@ comma = record { cuts = refl; high = omega arith }
 split_clue : (s n : ℕ) (ns : List ℕ) → IsSpacing s → AllByRecursion IsWord (n ∷ ns)
     → slice_split is_separator (clue_text s (n ∷ ns)) ≡ map decimal (n ∷ ns)
 split_clue s n [] spacing h = rw append-nil (slice_split_none is_separator (decimal n) (no_separator n h.0))
-split_clue s n (m ∷ ns) spacing h =
-    rw (
-      slice_split_at is_separator (decimal n) s (clue_text s (m ∷ ns)) (no_separator n h.0) spacing.cuts,
-      split_clue s m ns spacing h.1,
-    ) refl
+split_clue s n (m ∷ ns) spacing h = search (rules, split_clue s m ns spacing h.1, append-nil, slice_split_none, no_separator, slice_split_at)
 
 filled : (n : ℕ) → IsWord n → not (is_empty (decimal n)) ≡ true
 filled n h = ap not (ne_eqb (length (decimal n)) 0 (λ e. omega (arith, decimal_nonempty n h)))
@@ -56,9 +52,7 @@ all_digits [] h = refl
 all_digits (c ∷ cs) h = let r = digit_from_value c h.0 in rw (digit_true c r.0 r.1, all_digits cs h.1) refl
 
 pub number_again : (n : ℕ) → IsWord n → number_of (decimal n) ≡ Some n
-number_again n h =
-    let numeral = decimal_is_IsNumeral n h in
-    rw (filled n h, all_digits (decimal n) numeral.0.1, numeral.1) refl
+number_again n h = search (rules, decimal_is_IsNumeral, filled, all_digits)
 
 -- a number that is written is read again, if it is no more than the limit
 pub number_within_again : (limit n : ℕ) → limit < 2 ^ 64 → n ≤ limit → number_within limit (decimal n) ≡ Some n
@@ -78,10 +72,7 @@ pub words : (limit : ℕ) (ns : List ℕ) → limit < 2 ^ 64 → AllByRecursion 
 words limit ns wide h = all-weaker (λ n. n ≤ limit) IsWord (λ n low. omega arith) ns h
 
 pub clue_is : (limit : ℕ) (ns : List ℕ) → is_clue limit ns ≡ true → clue_of_numbers limit ns ≡ Some ns
-clue_is limit [] h = refl
-clue_is limit (zero ∷ []) h = absurd cc
-clue_is limit (zero ∷ m ∷ ns) h = rw h refl
-clue_is limit (suc n ∷ ns) h = rw h refl
+clue_is limit v1 h = search (rules)
 
 -- a clue that is written is read again
 pub clue_again : (s limit : ℕ) (clue : List ℕ) → IsSpacing s → limit < 2 ^ 64 → is_clue limit clue ≡ true

@@ -1,5 +1,5 @@
 -- What is written is read again: the lines of clues.
-use Rattle.puzzle_text.proofs.Names.{◌≡◌, ℕ, suc, ◌+◌, ◌*◌, ◌-◌, ◌<◌, ◌≤◌, ◌^◌, true, not, leb, List, [], ◌∷◌, ◌++◌, length, get_or, map, refl, ap, arith, Ok, decimal, flat_map, list_all, AllByRecursion, AllDigits, flat_map-map, ne_eqb, le-leb, leb-true, and_parts, append-nil, length-append, get_or_append_left, get_or-append_right, digit_at, digit_from_value, decimal_is_IsNumeral, length-decimal-le, is_clue, is_run, is_empty, pieces, size_of, two_sizes, clue_text, clue_line, clue_lines, two_numbers}
+use Rattle.puzzle_text.proofs.Names.{rules, ◌≡◌, ℕ, suc, ◌+◌, ◌*◌, ◌-◌, ◌<◌, ◌≤◌, ◌^◌, true, not, leb, List, [], ◌∷◌, ◌++◌, length, get_or, map, refl, ap, arith, Ok, decimal, flat_map, list_all, AllByRecursion, AllDigits, flat_map-map, ne_eqb, le-leb, leb-true, and_parts, append-nil, length-append, get_or_append_left, get_or-append_right, digit_at, digit_from_value, decimal_is_IsNumeral, length-decimal-le, is_clue, is_run, is_empty, pieces, size_of, two_sizes, clue_text, clue_line, clue_lines, two_numbers}
 use Rattle.puzzle_text.proofs.AllLemmas.{all-append, all-map, all-weaker}
 use Rattle.puzzle_text.proofs.SaidLines.{SayAll, say_more}
 use Rattle.puzzle_text.proofs.ReadBack.{IsTidy, with_feed, numbered, some_byte, tidy_solid}
@@ -36,8 +36,7 @@ tidy_decimal n h = let numeral = (decimal_is_IsNumeral n h).0 in tidy_solid (dec
 pub tidy_clue : (s : ℕ) (numbers : List ℕ) → IsSpacing s → AllByRecursion IsWord numbers → IsTidy (clue_text s numbers)
 tidy_clue s [] spacing h = record { inked = (omega arith, tt); first = omega arith; last = omega arith }
 tidy_clue s (n ∷ []) spacing h = rw append-nil (tidy_decimal n h.0)
-tidy_clue s (n ∷ m ∷ ns) spacing h =
-    tidy-join s (decimal n) (clue_text s (m ∷ ns)) spacing (tidy_decimal n h.0) (tidy_clue s (m ∷ ns) spacing h.1)
+tidy_clue s (n ∷ m ∷ ns) spacing h = search (rules, tidy_clue s (m ∷ ns) spacing h.1, append-nil, tidy_decimal, tidy-join)
 
 -- ---- sections
 
@@ -57,11 +56,7 @@ word_clue limit clue wide h = words limit clue wide (runs limit clue (and_parts 
 -- what the line of a clue begins with
 pub first_digit : (s : ℕ) (clue : List ℕ) → AllByRecursion IsWord clue
     → (48 ≤ get_or (clue_text s clue) 0 0) × (get_or (clue_text s clue) 0 0 ≤ 57)
-first_digit s [] h = (omega arith, omega arith)
-first_digit s (n ∷ ns) h =
-    let numeral = (decimal_is_IsNumeral n h.0).0 in
-    let digit = digit_at (decimal n) 0 numeral.1 numeral.0 in
-    rw (get_or_append_left (decimal n) (flat_map (λ other. s ∷ decimal other) ns) 0 0 numeral.0) (omega arith, omega arith)
+first_digit s v1 h = search (rules, decimal_is_IsNumeral, digit_at, get_or_append_left)
 
 pub some_text : (text : List ℕ) → 48 ≤ get_or text 0 0 → not (is_empty text) ≡ true
 some_text [] h = absurd (omega arith)
@@ -71,18 +66,12 @@ some_text (byte ∷ bytes) h = ap not (ne_eqb (suc (length bytes)) 0 (λ e. omeg
 pub say_clues : (s limit k : ℕ) (clues : List (List ℕ)) → IsSpacing s → limit < 2 ^ 64
     → AllByRecursion (λ clue. is_clue limit clue ≡ true) clues → SayAll limit (numbered k (map (clue_text s) clues)) clues
 say_clues s limit k [] spacing wide h = record { full = tt; hash = tt; count = refl; said = refl }
-say_clues s limit k (clue ∷ clues) spacing wide h =
-    let digit = first_digit s clue (word_clue limit clue wide h.0) in
-    say_more limit (record { number = k; text = clue_text s clue }) clue _ clues (some_text (clue_text s clue) digit.0)
-    (ne_eqb (get_or (clue_text s clue) 0 0) 35 (λ e. omega arith)) (clue_again s limit clue spacing wide h.0)
-    (say_clues s limit (k + 1) clues spacing wide h.1)
+say_clues s limit k (clue ∷ clues) spacing wide h = search (rules, say_clues s limit (k + 1) clues spacing wide h.1, first_digit, word_clue, say_more, some_text, ne_eqb, clue_again)
 
 -- the lines of clues are tidy
 pub tidy_clues : (s limit : ℕ) (clues : List (List ℕ)) → IsSpacing s → limit < 2 ^ 64
     → AllByRecursion (λ clue. is_clue limit clue ≡ true) clues → AllByRecursion IsTidy (map (clue_text s) clues)
-tidy_clues s limit clues spacing wide h =
-    all-map (λ clue. is_clue limit clue ≡ true) IsTidy (clue_text s) (λ clue is. tidy_clue s clue spacing (word_clue limit clue wide is))
-    clues h
+tidy_clues s limit clues spacing wide h = search (all-map, tidy_clue, word_clue)
 
 -- a size that is written is read again
 pub size_again : (limit n : ℕ) → limit < 2 ^ 64 → 1 ≤ n → n ≤ limit → size_of limit (decimal n) ≡ Ok n
@@ -127,12 +116,7 @@ module _ (limit a b : ℕ) (wide : limit < 2 ^ 64) (first : (1 ≤ a) × (a ≤ 
 
   -- sizes that are written are read again
   pub sizes_are : two_sizes limit (pieces (clue_text 32 (a ∷ b ∷ []))) ≡ Ok (a, b)
-  sizes_are =
-      rw (
-        pieces_of_clue 32 a (b ∷ []) space size_words,
-        size_again limit a wide first.0 first.1,
-        size_again limit b wide second.0 second.1,
-      ) refl
+  sizes_are = search (pieces_of_clue, space, size_words, size_again)
 
 -- a text in .mk or .nin is short enough to be read
 pub length_within : (limit a b : ℕ) (rows columns : List (List ℕ)) → limit ≤ 256 → a ≤ limit → b ≤ limit

@@ -1,5 +1,5 @@
 -- What is written in .mk is read again.
-use Rattle.puzzle_text.proofs.Names.{◌≡◌, ℕ, ◌+◌, ◌≤◌, List, [], ◌∷◌, ◌++◌, length, map, refl, append_assoc, arith, Ok, flat_map, AllByRecursion, append-nil, length-append, flat_map-append, Nonogram, plain, IsNonogramWithin, mk_of, read_mk, clue_text, text_mk}
+use Rattle.puzzle_text.proofs.Names.{rules, ◌≡◌, ℕ, ◌+◌, ◌≤◌, List, [], ◌∷◌, ◌++◌, length, map, refl, append_assoc, arith, Ok, flat_map, AllByRecursion, append-nil, length-append, flat_map-append, Nonogram, plain, IsNonogramWithin, mk_of, read_mk, clue_text, text_mk}
 use Rattle.puzzle_text.proofs.AllLemmas.{all-append}
 use Rattle.puzzle_text.proofs.SaidLines.{mk_lines, short_lines}
 use Rattle.puzzle_text.proofs.ReadBack.{IsTidy, with_feed, numbered, lines_are}
@@ -11,9 +11,7 @@ abbrev pub texts_mk : Nonogram → List (List ℕ)
 texts_mk p = clue_text 32 (p.height ∷ p.width ∷ []) ∷ (map (clue_text 32) p.rows ++ (35 ∷ []) ∷ map (clue_text 32) p.columns)
 
 text_is : (p : Nonogram) → flat_map with_feed (texts_mk p) ≡ text_mk p
-text_is p =
-    rw (flat_map-append with_feed (map (clue_text 32) p.rows), fed_clues 32 p.rows, fed_clues 32 p.columns)
-    (simp (append_assoc, append-nil))
+text_is p = search (rules, flat_map-append, fed_clues, append_assoc, append-nil)
 
 module _ (limit : ℕ) (p : Nonogram) (wide : limit ≤ 256) (lawful : IsNonogramWithin limit p) where
   abbrev pub high : (1 ≤ p.height) × (p.height ≤ limit)

@@ -39,16 +39,10 @@ module _ (limit : ℕ) (p : Nonogram) (wide : limit ≤ 256) (lawful : IsNonogra
   same = reading_parts p.width p.height p.rows p.columns lawful.clues.0
 
   likelier_is : is_ambiguous p ≡ false → likelier p.width p.height clues ≡ plain p.width p.height p.rows p.columns
-  likelier_is clear =
-      own_order (eqb p.width p.height) (is_admissible (reading p.width p.height clues)) (is_admissible swapped)
-      (reading p.width p.height clues) swapped (λ equal. rw (eqb-true p.width p.height equal) refl)
-      (subst (λ x. (not (eqb p.width p.height) && not (is_admissible x) && is_admissible swapped) ≡ false) (sym same) clear) ∙ same
+  likelier_is clear = search (rules, own_order, eqb-true, same)
 
   likelier_other : is_ambiguous p ≡ true → likelier p.width p.height clues ≡ swapped
-  likelier_other ambiguous =
-      other_order (eqb p.width p.height) (is_admissible (reading p.width p.height clues)) (is_admissible swapped)
-      (reading p.width p.height clues) swapped
-      (subst (λ x. (not (eqb p.width p.height) && not (is_admissible x) && is_admissible swapped) ≡ true) (sym same) ambiguous)
+  likelier_other ambiguous = search (rules, other_order, same)
 
   -- ---- the whole text
 

@@ -28,14 +28,11 @@ content_clues limit clues wide h =
 
 with-content : (word : List ℕ) (texts : List (List ℕ)) → bytes_eq [] word ≡ false → AllByRecursion IsContent texts
     → texts_with word texts ≡ []
-with-content word texts other h =
-    filter_none (λ text. bytes_eq (word_at text) word) texts
-    (all-weaker IsContent (λ text. bytes_eq (word_at text) word ≡ false) (λ text is. rw is.word other) texts h)
+with-content word texts other h = search (rules, filter_none, all-weaker)
 
 with-one : (word name : List ℕ) (o : Option (List ℕ)) (same : Bool)
     → ((text : List ℕ) → bytes_eq (word_at (field_line name text)) word ≡ same) → texts_with word (one name o) ≡ cond same (one name o) []
-with-one word name None same h = search rules
-with-one word name (Some text) same h = rw (h text) refl
+with-one word name v2 same h = search (rules, same)
 
 -- the fields with this keyword
 abbrev fields_with : List ℕ → List Field → List Field
@@ -51,13 +48,10 @@ with-parts word ts (f ∷ fs) =
 
 module _ (limit : ℕ) (p : Nonogram) (wide : limit < 2 ^ 64) (lawful : IsNonogramWithin limit p) where
   content_rows : AllByRecursion IsContent (row_part p)
-  content_rows =
-      all-append IsContent (map (clue_text 44) p.rows) ([] ∷ []) (content_clues limit p.rows wide lawful.rows) (content_blank, tt)
+  content_rows = search (all-append, content_clues, content_blank)
 
   content_columns : AllByRecursion IsContent (column_part p)
-  content_columns =
-      all-append IsContent (map (clue_text 44) p.columns) (goal_gap p.goal) (content_clues limit p.columns wide lawful.columns)
-      (all_gap IsContent content_blank p.goal)
+  content_columns = search (all-append, content_clues, all_gap, content_blank)
 
   -- the lines with a keyword: those of its fields, of the sizes, of the sections and of the goal
   whole : (word : List ℕ) (goal : Bool) → bytes_eq [] word ≡ false
@@ -122,13 +116,11 @@ field_is word (Some text) k texts after e =
     (found.0, found.1, ap (λ (x : List ℕ). quoted (rest_of x)) found.2 ∙ ap quoted (after text) ∙ quoted_is text)
 
 field_again : (word : List ℕ) (lines : List Line) (o : Option (List ℕ)) → FieldIs word lines o → field_text word lines ≡ o
-field_again word lines None is = rw is refl
-field_again word lines (Some text) is = rw (is.1, is.2) refl
+field_again word lines v2 is = search (rules)
 
 long_none : (word : List ℕ) (lines : List Line) (o : Option (List ℕ)) → FieldIs word lines o → is_field o ≡ true
     → number_of_line (long_text lines word) ≡ None
-long_none word lines None is lawful = rw is refl
-long_none word lines (Some text) is lawful = rw (is.1, is.2) (search rules)
+long_none word lines v2 is lawful = search (rules)
 
 -- ---- sections
 
@@ -141,8 +133,7 @@ below_keywords under k (x ∷ xs) ys h =
     (later.0, later.1, below_keyword under (record { number = k; text = x }) (numbered (k + 1) (xs ++ ys)) h.0 ∙ later.2)
 
 one_word : (f : Field) (o : Option (List ℕ)) → AllByRecursion (λ text. is_empty (word_at text) ≡ false) (one (field_word f) o)
-one_word f None = tt
-one_word f (Some text) = (rw ((facts f).word text) (facts f).some, tt)
+one_word f v1 = search (rules, facts)
 
 -- texts as lines are as they are as texts
 numbered_all : (P : List ℕ → Type 0) (k : ℕ) (texts : List (List ℕ)) → AllByRecursion P texts
@@ -154,8 +145,7 @@ abbrev no_lines : Sections
 no_lines = record { rows = []; columns = []; stray = None }
 
 below_goal : (o : Option (List Bool)) (k : ℕ) → below (codes "columns") (numbered k (one (codes "goal") (goal_text o))) ≡ no_lines
-below_goal None k = refl
-below_goal (Some cells) k = refl
+below_goal v0 k = search (rules)
 
 -- the clue lines of each section and the blank lines below them, from these numbers on
 abbrev these : Nonogram → ℕ → ℕ → Sections
@@ -205,13 +195,11 @@ each_cells [] = refl
 each_cells (cell ∷ cells) = rw (each_cells cells) (search rules)
 
 cells_again : (count : ℕ) (cells : List Bool) → is_goal count (Some cells) ≡ true → goal_cells count (map goal_byte cells) ≡ Some cells
-cells_again count cells lawful =
-    rw (eq-eqb (length (map goal_byte cells)) count (length-map cells goal_byte ∙ eqb-true (length cells) count lawful)) (each_cells cells)
+cells_again count cells lawful = search (eq-eqb, length-map, eqb-true, each_cells)
 
 goal_again : (count : ℕ) (o : Option (List Bool)) (lines : List Line) → FieldIs (codes "goal") lines (goal_text o) → is_goal count o ≡ true
     → goal_of count (first_with (codes "goal") lines) ≡ Ok o
-goal_again count None lines is lawful = rw is refl
-goal_again count (Some cells) lines is lawful = rw (is.1, is.2, cells_again count cells lawful) refl
+goal_again count v1 lines is lawful = search (rules, cells_again)
 
 -- ---- the whole text
 
@@ -251,12 +239,7 @@ module _ (limit : ℕ) (p : Nonogram) (wide : limit < 2 ^ 64) (lawful : IsNonogr
   trimmed n h = (kept_tidy (decimal n) (tidy_decimal n (omega arith))).trimmed
 
   sizes_read : sizes_of limit all_lines ≡ Ok (p.width, p.height)
-  sizes_read =
-      let size = lawful.size in
-      let wide_text : rest width_line.0 ≡ decimal p.width = ap rest_of width_line.2 ∙ trimmed p.width size.width_to in
-      let high_text : rest height_line.0 ≡ decimal p.height = ap rest_of height_line.2 ∙ trimmed p.height size.height_to in
-      let widths = size_again limit p.width wide size.width_from size.width_to in
-      rw (width_line.1, height_line.1, wide_text, high_text, widths, size_again limit p.height wide size.height_from size.height_to) refl
+  sizes_read = search (rules, trimmed, size_again)
 
   lines_checked : check_lines None all_lines ≡ Ok tt
   lines_checked =

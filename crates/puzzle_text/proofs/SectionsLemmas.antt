@@ -16,8 +16,7 @@ module _ {X : Type 0} (view : X → Line) where
   full_of section = filter (λ x. is_full (view x)) section
 
   same_count : (section : List X) → length (filter is_full (map view section)) ≡ count_by (λ x. is_full (view x)) section
-  same_count section =
-      rw (filter-map is_full view section, length-map (full_of section) view) (length-filter (λ x. is_full (view x)) section)
+  same_count section = search (filter-map, length-map, length-filter)
 
   -- there are as many lines that aren't blank as are counted
   pub length_full : (section full : List X) → full ≡ full_of section → length (map view full) ≡ count_by (λ x. is_full (view x)) section
@@ -26,9 +25,7 @@ module _ {X : Type 0} (view : X → Line) where
   -- the lines that aren't blank are the clue lines if they are `count`
   pub choice_full : (count : ℕ) (section full : List X) → full ≡ full_of section → count_by (λ x. is_full (view x)) section ≡ count
       → choice count (map view section) ≡ Some (map view full)
-  choice_full count section full e n =
-      let enough : eqb (length (filter is_full (map view section))) count ≡ true = eq-eqb _ _ (same_count section ∙ n) in
-      rw (enough, filter-map is_full view section, ← e) refl
+  choice_full count section full e n = search (rules, eq-eqb, same_count, filter-map)
 
   -- ---- the first lines
 
@@ -43,9 +40,7 @@ module _ {X : Type 0} (view : X → Line) where
   -- there are no clue lines if neither the first lines nor those that aren't blank will do
   pub choice_none : (count : ℕ) (section : List X) → front count (map view section) ≡ None
       → (count_by (λ x. is_full (view x)) section ≡ count → ⊥) → choice count (map view section) ≡ None
-  choice_none count section none n =
-      let other : eqb (length (filter is_full (map view section))) count ≡ false = ne_eqb _ _ (λ m. n (sym (same_count section) ∙ m)) in
-      rw other none
+  choice_none count section none n = search (ne_eqb, same_count)
 
 -- ---- the first lines are the choice, if they are there at all
 
@@ -55,10 +50,7 @@ no_more lines = omega (arith, length-filter is_full lines, count_by-le-length is
 -- if as many are kept as there are, all are
 all_kept : (lines : List Line) → length (filter is_full lines) ≡ length lines → filter is_full lines ≡ lines
 all_kept [] e = refl
-all_kept (line ∷ lines) e =
-    let fewer = no_more lines in
-    let others = all_kept lines in
-    search rules
+all_kept (line ∷ lines) e = search (rules, all_kept lines, no_more)
 
 none_kept : (lines : List Line) → list_all is_blank_line lines ≡ true → filter is_full lines ≡ []
 none_kept lines blank = filter_none is_full lines (all_pass is_blank_line (λ line. is_full line ≡ false) (λ line e. ap not e) lines blank)

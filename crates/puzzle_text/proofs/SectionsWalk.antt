@@ -26,12 +26,7 @@ noted b old place found = search rules
 -- one line more
 pub one_more : (under : Under) (word : List ℕ) (above : Sections) (line : Line) (others : List (List ℕ × Line)) → IsUnder word under
     → join above (sections_of ((word, line) ∷ others)) ≡ join (with_line above under line) (sections_of others)
-one_more Rows word above line others is =
-    rw (is, append_assoc above.rows (line ∷ []) (section (codes "rows") others), and-false (is_full line)) refl
-one_more Columns word above line others is =
-    rw (is, append_assoc above.columns (line ∷ []) (section (codes "columns") others), and-false (is_full line)) refl
-one_more Other word above line others is =
-    rw (is.0, is.1, noted (is_full line) above.stray (word, line) (find is_outside_sections others)) refl
+one_more v0 word above line others is = search (rules, append_assoc, and-false, noted)
 
 -- ---- the three kinds of lines
 
@@ -65,8 +60,7 @@ not_letter c low high = grind (arith, nat_tests)
 
 -- a text that begins with a digit
 pub content_digit : (text : List ℕ) → 48 ≤ get_or text 0 0 → get_or text 0 0 ≤ 57 → IsContent text
-content_digit [] low high = record { word = refl; hash = refl }
-content_digit (c ∷ cs) low high = record { word = rw (not_letter c low high) refl; hash = ne_eqb c 35 (λ e. omega arith) }
+content_digit v0 low high = search (rules, not_letter, ne_eqb)
 
 -- the sections with more lines at the end of one
 abbrev pub with_lines : Under → Sections → List Line → Sections
@@ -77,9 +71,7 @@ pub join_content : (under : Under) (word : List ℕ) (above : Sections) (found t
     → AllByRecursion (λ line. IsContent line.text) found
     → join above (below word (found ++ todo)) ≡ join (with_lines under above found) (below word todo)
 join_content under word above [] todo opens content = refl
-join_content under word above (line ∷ found) todo opens content =
-    below_content under word above line (found ++ todo) opens (ap is_empty content.0.word) content.0.hash
-    ∙ join_content under word (with_line above under line) found todo opens content.1
+join_content under word above (line ∷ found) todo opens content = search (rules, join_content under word (with_line above under line) found todo opens content.1, below_content)
 
 pub with_rows : (above : Sections) (found : List Line) → with_lines Rows above found ≡ record above { rows = above.rows ++ found }
 with_rows above [] = ap (λ (lines : List Line). record above { rows = lines }) (sym (append-nil above.rows))
@@ -88,8 +80,7 @@ with_rows above (line ∷ found) = rw (with_rows (with_line above Rows line) fou
 pub with_columns : (above : Sections) (found : List Line)
     → with_lines Columns above found ≡ record above { columns = above.columns ++ found }
 with_columns above [] = ap (λ (lines : List Line). record above { columns = lines }) (sym (append-nil above.columns))
-with_columns above (line ∷ found) =
-    rw (with_columns (with_line above Columns line) found, append_assoc above.columns (line ∷ []) found) refl
+with_columns above (line ∷ found) = search (rules, with_columns (with_line above Columns line) found, append-nil, append_assoc)
 
 -- ---- the walk over lines as the code keeps them
 
@@ -116,9 +107,7 @@ module _ (lines : List KeptLine) (i : ℕ) (d : KeptLine) (word own : List ℕ) 
 
   -- past a keyword line, which stands in no section
   pub next_keyword : eqb (length own) 0 ≡ false → join above (below (str_to_ascii_lowercase own) others) ≡ whole
-  next_keyword some =
-      ap (λ next. join above (below next others)) e
-      ∙ sym (ap (join above) (below_keyword word line others (none_is own _ false e some))) ∙ at_line_here
+  next_keyword some = search (rules, below_keyword, none_is, at_line_here)
 
   -- past a comment, which stands in no section
   pub next_comment : eqb (length own) 0 ≡ true → is_hash line ≡ true → join above (below word others) ≡ whole

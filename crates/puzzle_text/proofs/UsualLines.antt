@@ -1,5 +1,5 @@
 -- Lines in their usual form: digits, separators and endings.
-use Rattle.puzzle_text.proofs.Names.{◌≡◌, ℕ, ◌-◌, ◌<◌, ◌≤◌, true, false, drop, not, eqb, List, [], ◌∷◌, ◌++◌, length, take, filter, get_or, All, refl, sym, ap, ◌∙◌, append_assoc, arith, inl, inr, Some, Ok, list_all, slice_split, AllByRecursion, is_ascii_digit, digits_value, le-leb, nat_tests, get_or_append_left, take_all, slice_split_at, slice_split_none, AllPass-from_list_all, LONGEST_SIDE, is_clue, numbers_within, is_empty, is_separator, number_within, pieces, size_of, BeginsWith, BeginsWithNumber, EndsLine, IsNumeral, IsSeparator, SaysClue, SaysSizes}
+use Rattle.puzzle_text.proofs.Names.{rules, ◌≡◌, ℕ, ◌-◌, ◌<◌, ◌≤◌, true, false, drop, not, eqb, List, [], ◌∷◌, ◌++◌, length, take, filter, get_or, All, refl, sym, ap, ◌∙◌, append_assoc, arith, inl, inr, Some, Ok, list_all, slice_split, AllByRecursion, is_ascii_digit, digits_value, le-leb, nat_tests, get_or_append_left, take_all, slice_split_at, slice_split_none, AllPass-from_list_all, LONGEST_SIDE, is_clue, numbers_within, is_empty, is_separator, number_within, pieces, size_of, BeginsWith, BeginsWithNumber, EndsLine, IsNumeral, IsSeparator, SaysClue, SaysSizes}
 use Rattle.puzzle_text.proofs.NumbersLemmas.{digit_clear, keeps_piece, number_is}
 use Rattle.puzzle_text.proofs.ReadBack.{IsKept, IsTidy, kept_tidy, line_kept, tidy_solid, raw_lines-feed, strip_last_is}
 use Rattle.puzzle_text.proofs.ReadClue.{IsSpacing, clue_is, comma, space}
@@ -35,9 +35,7 @@ module _ (piece : List ℕ) (n : ℕ) (numeral : IsNumeral piece n) where
   unbroken k d lt = digit_clear (get_or piece k d) (AllPass-from_list_all is_ascii_digit piece numeral.digits k d lt)
 
   number_said : number_within LONGEST_SIDE piece ≡ Some n
-  number_said =
-      let low : digits_value 10 piece ≤ LONGEST_SIDE = omega (arith, numeral.value, numeral.within) in
-      number_is LONGEST_SIDE piece some_piece numeral.digits low ∙ ap (λ (m : ℕ). Some m) (sym numeral.value)
+  number_said = search (rules, number_is, some_piece)
 
   size_said : size_of LONGEST_SIDE piece ≡ Ok n
   size_said = rw (number_said, le-leb 1 n numeral.positive) refl
@@ -46,9 +44,7 @@ module _ (piece : List ℕ) (n : ℕ) (numeral : IsNumeral piece n) where
   pieces_alone = ap (filter (λ part. not (is_empty part))) (slice_split_none is_separator piece unbroken) ∙ keeps_piece piece [] some_piece
 
   pieces_more : (s : ℕ) (more : List ℕ) → IsSpacing s → pieces (piece ++ s ∷ more) ≡ piece ∷ pieces more
-  pieces_more s more spacing =
-      ap (filter (λ part. not (is_empty part))) (slice_split_at is_separator piece s more unbroken spacing.cuts)
-      ∙ keeps_piece piece (slice_split is_separator more) some_piece
+  pieces_more s more spacing = search (slice_split_at, unbroken, keeps_piece, some_piece)
 
   first_digit : is_ascii_digit (get_or piece 0 0) ≡ true
   first_digit = AllPass-from_list_all is_ascii_digit piece numeral.digits 0 0 some_piece
@@ -59,11 +55,7 @@ module _ (piece : List ℕ) (n : ℕ) (numeral : IsNumeral piece n) where
 
   -- a number before other numbers
   pub number_before : (s : ℕ) (more ns : List ℕ) → IsSpacing s → SaysNumbers more ns → SaysNumbers (piece ++ s ∷ more) (n ∷ ns)
-  number_before s more ns spacing said = record {
-    tidy = tidy-join s piece more spacing tidy_piece said.tidy;
-    digit = rw (get_or_append_left piece (s ∷ more) 0 0 some_piece) first_digit;
-    said = rw (pieces_more s more spacing, number_said, said.said) refl;
-  }
+  number_before s more ns spacing said = search (rules, tidy-join, tidy_piece, get_or_append_left, some_piece, first_digit, pieces_more, number_said)
 
 -- ---- the numbers of a line, one after the other
 
@@ -107,18 +99,14 @@ module _ (front rest : List ℕ) (tidy : IsTidy front) where
 
 -- a tidy text before the end of a line is that line
 pub line_ends : (front bytes rest : List ℕ) → IsTidy front → EndsLine bytes rest → BeginsWith (front ++ bytes) front rest
-line_ends front bytes rest tidy e =
-    elim e [ inl feed ↦ rw feed (at_feed front rest tidy) | inr return ↦ rw return (at_return front rest tidy) ]
+line_ends front bytes rest tidy e = search (rules, at_feed, at_return)
 
 -- ---- what the first line says
 
 -- a slice of two bytes and more, of which the first is known
 pub headed : (text : List ℕ) (byte : ℕ) → 2 ≤ length text → get_or text 0 0 ≡ byte
     → text ≡ byte ∷ get_or text 1 0 ∷ take (length text - 2) (drop 2 text)
-headed (a ∷ b ∷ rest) byte some is =
-    ap (λ (first : ℕ). first ∷ b ∷ rest) is
-    ∙ ap (λ (r : List ℕ). byte ∷ b ∷ r) (sym (take_all (length (a ∷ b ∷ rest) - 2) rest (omega arith)))
-headed text byte some is = absurd (omega arith)
+headed v0 byte some is = search (rules, take_all)
 
 -- the last number of a line ends its clue
 pub clue_ends : (text rest after next numbers clue : List ℕ) (n : ℕ) → PassesNumbers text rest numbers → BeginsWithNumber rest n after

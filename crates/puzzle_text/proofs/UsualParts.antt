@@ -1,5 +1,5 @@
 -- The parts of a usual .non text, found on one walk from the top.
-use Rattle.puzzle_text.proofs.Names.{◌≡◌, ℕ, ◌+◌, true, false, not, eqb, List, [], ◌∷◌, ◌++◌, length, filter, get_or, refl, sym, ap, ◌∙◌, append_assoc, arith, None, eqb-true, AllByRecursion, LONGEST_SIDE, nil_from_length, append-nil, length-append, filter-append, Under, Rows, Columns, Other, Line, is_empty, is_full, is_hash, numbered_from, raw_lines, is_keyword_line, keyword, Sections, placed, sections_of, IsUnder, with_line, AreClueLines, HaveClues, IsClueText, KeepsOthers, SayClues, SaysClue, clues_under}
+use Rattle.puzzle_text.proofs.Names.{rules, ◌≡◌, ℕ, ◌+◌, true, false, not, eqb, List, [], ◌∷◌, ◌++◌, length, filter, get_or, refl, sym, ap, ◌∙◌, append_assoc, arith, None, eqb-true, AllByRecursion, LONGEST_SIDE, nil_from_length, append-nil, length-append, filter-append, Under, Rows, Columns, Other, Line, is_empty, is_full, is_hash, numbered_from, raw_lines, is_keyword_line, keyword, Sections, placed, sections_of, IsUnder, with_line, AreClueLines, HaveClues, IsClueText, KeepsOthers, SayClues, SaysClue, clues_under}
 use Rattle.puzzle_text.proofs.ReadClues.{some_text}
 use Rattle.puzzle_text.proofs.AllLemmas.{all-weaker, filter_all, filter_none}
 use Rattle.puzzle_text.proofs.SaidLines.{SayAll, say_more}
@@ -15,9 +15,7 @@ clue_content line clue said = let range = digit_range (get_or line.text 0 0) sai
 -- lines of clues say these clues
 pub say_all : (found : List Line) (clues : List (List ℕ)) → AreClueLines found clues → SayAll LONGEST_SIDE found clues
 say_all [] [] said = record { full = tt; hash = tt; count = refl; said = refl }
-say_all (line ∷ found) (clue ∷ clues) said =
-    say_more LONGEST_SIDE line clue found clues (some_text line.text (digit_range _ said.0.1).0) (clue_content line clue said.0).hash
-    said.0.0 (say_all found clues said.1)
+say_all (line ∷ found) (clue ∷ clues) said = search (rules, say_all found clues said.1, say_more, some_text, digit_range, clue_content)
 say_all found clues said = absurd said
 
 -- none of them is a keyword line or a comment
@@ -28,11 +26,7 @@ all_content found clues said = absurd said
 
 no_keywords : (found todo : List Line) (clues : List (List ℕ)) → AreClueLines found clues
     → filter is_keyword_line (found ++ todo) ≡ filter is_keyword_line todo
-no_keywords found todo clues said =
-    let none =
-    all-weaker (λ (line : Line). IsContent line.text) (λ line. is_keyword_line line ≡ false) (λ line is. rw is.word refl) found
-    (all_content found clues said) in
-    rw (filter-append is_keyword_line found todo, filter_none is_keyword_line found none) refl
+no_keywords found todo clues said = search (rules, all-weaker, all_content, filter-append, filter_none)
 
 -- lines of clues, and then more of them
 pub said_after : (found more : List Line) (clues others : List (List ℕ)) → AreClueLines found clues → AreClueLines more others
@@ -79,25 +73,14 @@ above_all whole rows columns p q = record {
 pub past_comment : (under : Under) (whole todo : List Line) (line : Line) (rows columns : List (List ℕ))
     → IsAbove under whole (line ∷ todo) rows columns → is_empty (keyword line) ≡ true → is_hash line ≡ true
     → IsAbove under whole todo rows columns
-past_comment under whole todo line rows columns is none hash = record {
-  word = is.word;
-  above = is.above;
-  opens = is.opens;
-  joined = sym (ap (join is.above) (below_comment is.word line todo none hash)) ∙ is.joined;
-  clues = is.clues;
-}
+past_comment under whole todo line rows columns is none hash = search (rules, whole, below_comment)
 
 same_full : (found : List Line) (line : Line) → is_full line ≡ false → filter is_full (found ++ line ∷ []) ≡ filter is_full found
 same_full found line blank = rw (filter-append is_full found (line ∷ []), blank) (append-nil (filter is_full found))
 
 blank_more : (under : Under) (above : Sections) (line : Line) (rows columns : List (List ℕ)) → HaveClues above rows columns
     → is_full line ≡ false → HaveClues (with_line above under line) rows columns
-blank_more Rows above line rows columns clues blank =
-    record { stray = clues.stray; rows_said = rw (same_full above.rows line blank) clues.rows_said; columns_said = clues.columns_said }
-blank_more Columns above line rows columns clues blank =
-    record { stray = clues.stray; rows_said = clues.rows_said; columns_said = rw (same_full above.columns line blank) clues.columns_said }
-blank_more Other above line rows columns clues blank =
-    record { stray = rw (clues.stray, blank) refl; rows_said = clues.rows_said; columns_said = clues.columns_said }
+blank_more v0 above line rows columns clues blank = search (rules, same_full)
 
 no_first : (text : List ℕ) → is_empty text ≡ true → eqb (get_or text 0 0) 35 ≡ false
 no_first text blank = let none = eqb-true (length text) 0 blank in rw (nil_from_length text none) refl
@@ -116,9 +99,7 @@ past_blank under whole todo line rows columns is none blank = record {
 
 more_said : (lines found : List Line) (clues : List (List ℕ)) → AreClueLines (filter is_full lines) [] → AreClueLines found clues
     → AreClueLines (filter is_full (lines ++ found)) clues
-more_said lines found clues none said =
-    rw (filter-append is_full lines found, filter_all is_full found (say_all found clues said).full)
-    (said_after (filter is_full lines) found [] clues none said)
+more_said lines found clues none said = search (rules, filter-append, filter_all, say_all, said_after)
 
 section_more : (under : Under) (above : Sections) (found : List Line) (old_rows old_columns rows columns : List (List ℕ))
     → HaveClues above old_rows old_columns → KeepsOthers under old_rows old_columns rows columns

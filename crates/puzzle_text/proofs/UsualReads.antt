@@ -1,5 +1,5 @@
 -- What the parts of a usual text say is what the text says.
-use Rattle.puzzle_text.proofs.Names.{◌≡◌, ℕ, ◌+◌, ◌≤◌, List, [], ◌∷◌, ◌++◌, length, filter, refl, Result, Ok, Err, IfOk, IfSome, append-nil, LONGEST_SIDE, Nonogram, plain, TextFault, Gives, is_keyword_line, Line, lines, numbered_from, raw_lines, read_mk, read_nin, placed, puzzle_said, read_non, sections_of, likelier, BeginsWith, SayClues, SaysSizes}
+use Rattle.puzzle_text.proofs.Names.{rules, ◌≡◌, ℕ, ◌+◌, ◌≤◌, List, [], ◌∷◌, ◌++◌, length, filter, refl, Result, Ok, Err, IfOk, IfSome, append-nil, LONGEST_SIDE, Nonogram, plain, TextFault, Gives, is_keyword_line, Line, lines, numbered_from, raw_lines, read_mk, read_nin, placed, puzzle_said, read_non, sections_of, likelier, BeginsWith, SayClues, SaysSizes}
 use Rattle.std.specs.Result.{result_ok}
 use Rattle.puzzle_text.specs.steps.Lines.{HaveNoFeed}
 use Rattle.puzzle_text.proofs.FeedsLemmas.{clean_filter, lines_have_no_feed}
@@ -11,14 +11,12 @@ use Rattle.puzzle_text.proofs.UsualParts.{no_lines, say_all}
 
 -- what is so of a value that a call gives is so of it as an option
 pub some_of_ok : {X E : Type 0} (P Q : X → Type 0) (r : Result X E) → IfOk r P → ((x : X) → P x → Q x) → IfSome (result_ok r) Q
-some_of_ok P Q (Ok x) h f = f x h
-some_of_ok P Q (Err fault) h f = tt
+some_of_ok v0 v1 v2 h f = search (rules)
 
 -- what is so of the answer's value is so of what gives it
 pub ok_of_gives : {X : Type 0} (P : X → Type 0) (r answer : Result X TextFault) → Gives (λ x. x) r answer
     → ((x : X) → answer ≡ Ok x → P x) → IfOk r P
-ok_of_gives P (Ok x) answer gives f = f x gives
-ok_of_gives P (Err fault) answer gives f = tt
+ok_of_gives v0 v1 answer gives f = search (rules)
 
 -- ---- .non
 
@@ -31,9 +29,7 @@ kept_clean bytes kept short e =
 -- what the parts of a .non text say, the text says
 pub non_said : (bytes : List ℕ) (kept : List Line) (p : Nonogram) → length bytes ≤ 1048576 → kept ≡ filter is_keyword_line (lines bytes)
     → puzzle_said LONGEST_SIDE (sections_of (placed (lines bytes))) kept ≡ Ok p → read_non LONGEST_SIDE bytes ≡ Ok p
-non_said bytes kept p short e said =
-    let sections = sections_of (placed (lines bytes)) in
-    rw (short_lines bytes short, ← said_of_kept LONGEST_SIDE sections (lines bytes), ← e) said
+non_said bytes kept p short e said = search (rules, short, short_lines, said_of_kept)
 
 -- ---- .mk and .nin
 
