@@ -1,5 +1,5 @@
 -- A step for each element of a list, as a loop makes it: front is what came of the elements before i.
-use Rattle.puzzle_text.proofs.Names.{rules, ◌≡◌, List, [], ◌∷◌, ◌++◌, drop, map, refl, sym, ap, ◌∙◌, Option, Result, Ok, Err, option_map, TextFault, ◌>>=◌, each}
+use Rattle.puzzle_text.proofs.Names.{rules, ◌≡◌, List, [], ◌∷◌, ◌++◌, drop, map, refl, sym, ap, ◌∙◌, Option, Result, Ok, option_map, TextFault, ◌>>=◌, each}
 
 -- what comes of all elements, if `front` came of the first ones
 abbrev pub with_front : {Y : Type 0} → List Y → Result (List Y) TextFault → Result (List Y) TextFault

@@ -1,7 +1,6 @@
 -- What holds of a line holds of the text of a field: no line has a line feed in it, so nor has the text; and a short line has a short text.
 use Rattle.std.proofs.lemmas.List.Elements.{All-cons, All-nil}
-use Rattle.puzzle_text.proofs.Names.{rules, ◌≡◌, ℕ, suc, ◌+◌, ◌-◌, ◌<◌, ◌≤◌, Bool, true, false, cond, not, eqb, leb, ltb, List, [], ◌∷◌, length, take, drop, get_or, reverse, codes, All, refl, ap, ◌∙◌, arith, Option, Some, None, IfSome, Ok, Err, map, option_and_then, slice_get, unwrap_or, filter, list_all, onto_first, prefix_len, AllByRecursion, option_map, is_ascii_alphabetic, cond_both, and_from, and_parts, le-leb, leb-true, ltb-false, get_or-reverse, length-drop, length-reverse, All-take, All-drop, All-filter, All-from_recursion, recursion_from_All, AllPass-from_list_all, list_all-from_AllPass, IsDescription, is_field, LONGEST_TEXT, TooLong, text_lines, Line, is_blank, lines, numbered_from, raw_lines, strip_last, trim, trim_start, without_ending, after_quote, before_quote, first_with, has_keyword, rest, quoted_text, with_keyword, shown_keyword, bad_line, field_text, least, least_of, long_text, number_of_line, text_words, texts_of}
-use Rattle.puzzle_text.specs.declared.limits.TheConstants.{LONGEST_PUZZLE}
+use Rattle.puzzle_text.proofs.Names.{rules, ◌≡◌, ℕ, ◌+◌, ◌-◌, ◌≤◌, Bool, true, false, cond, not, eqb, leb, ltb, List, [], ◌∷◌, length, take, drop, get_or, reverse, All, refl, ap, arith, Option, Some, None, IfSome, Ok, map, option_and_then, slice_get, unwrap_or, filter, list_all, onto_first, AllByRecursion, option_map, cond_both, and_from, and_parts, le-leb, leb-true, ltb-false, get_or-reverse, length-drop, length-reverse, All-take, All-drop, All-filter, All-from_recursion, recursion_from_All, AllPass-from_list_all, list_all-from_AllPass, IsDescription, is_field, LONGEST_TEXT, text_lines, Line, numbered_from, raw_lines, strip_last, trim, trim_start, without_ending, after_quote, first_with, has_keyword, quoted_text, with_keyword, shown_keyword, bad_line, field_text, least, least_of, long_text, number_of_line, texts_of}
 use Rattle.puzzle_text.specs.declared.keyword_line.KeywordLine.{KeywordLine}
 use Rattle.puzzle_text.specs.steps.Lines.{HaveNoFeed, has_no_feed}
 
@@ -32,14 +31,11 @@ module _ (P : List ℕ → Type 0) (cut : (n : ℕ) (bytes : List ℕ) → P byt
   turned : (o : Option (List ℕ)) → IfSome o P → IfSome (option_map reverse o) P
   turned v0 h = search (rules)
 
-  of_between : (o : Option (List ℕ)) → IfSome o P → IfSome (option_and_then before_quote o) P
-  of_between v0 h = search (rules, turned, of_after)
-
   of_or : (o : Option (List ℕ)) (bytes : List ℕ) → IfSome o P → P bytes → P (unwrap_or o bytes)
   of_or v0 bytes h other = search (rules)
 
   of_text : (line : Line) → P line.text → P (quoted_text line)
-  of_text line h = search (of_trim, cut, of_or, of_between, of_after)
+  of_text line h = search (rules, of_trim, of_or, of_after, turned)
 
 -- ---- parts of what has no line feed
 
@@ -65,17 +61,12 @@ clean_text line h =
 abbrev IsRaw : List ℕ → Type 0
 IsRaw raw = IsClean (strip_last 10 raw)
 
-strip_more : (byte next : ℕ) (part : List ℕ) → strip_last 10 (byte ∷ next ∷ part) ≡ byte ∷ strip_last 10 (next ∷ part)
-strip_more byte next part = search (rules)
-
 raw_one : (byte : ℕ) → eqb byte 10 ≡ false → IsRaw (byte ∷ [])
 raw_one byte other = rw other (All-cons IsOther byte [] (ap not other) (All-nil IsOther))
 
 raw_onto : (byte : ℕ) (parts : List (List ℕ)) → eqb byte 10 ≡ false → AllByRecursion IsRaw parts
     → AllByRecursion IsRaw (onto_first byte parts)
-raw_onto byte [] other h = (raw_one byte other, tt)
-raw_onto byte ([] ∷ parts) other h = (raw_one byte other, h.1)
-raw_onto byte ((next ∷ part) ∷ parts) other h = (rw (strip_more byte next part) (All-cons IsOther byte _ (ap not other) h.0), h.1)
+raw_onto byte v1 other h = search (rules, raw_one, All-cons)
 
 all_raw : (bytes : List ℕ) → AllByRecursion IsRaw (raw_lines bytes)
 all_raw [] = tt
@@ -89,12 +80,9 @@ clean_lines number (raw ∷ raws) h = (
   clean_lines (number + 1) raws h.1,
 )
 
-unless_long : (long : Bool) (all text : List Line) → HaveNoFeed all → cond long (Err TooLong) (Ok all) ≡ Ok text → HaveNoFeed text
-unless_long long all text h e = search rules
-
 -- no line of a text that isn't too long has a line feed
 pub lines_have_no_feed : (bytes : List ℕ) (text : List Line) → text_lines bytes ≡ Ok text → HaveNoFeed text
-lines_have_no_feed bytes text e = search (unless_long, clean_lines, all_raw)
+lines_have_no_feed bytes text e = search (rules, clean_lines, all_raw)
 
 -- ---- fields
 
@@ -109,21 +97,13 @@ long_of o = number_of_line (option_and_then (λ line. cond (ltb LONGEST_TEXT (le
 short : (line : Line) (b : Bool) → number_of_line (cond b (Some line) None) ≡ None → b ≡ false
 short line b e = search rules
 
-lawful_field : (o : Option Line) → ((line : Line) → o ≡ Some line → has_no_feed line.text ≡ true) → long_of o ≡ None
-    → is_field (option_map quoted_text o) ≡ true
-lawful_field None clean fits = refl
-lawful_field (Some line) clean fits =
-    let within = ltb-false _ _ (short line (ltb LONGEST_TEXT (length (quoted_text line))) fits) in
-    and_from (leb (length (quoted_text line)) LONGEST_TEXT) (has_no_feed (quoted_text line)) (le-leb _ _ within)
-    (clean_text line (clean line refl))
-
 first_clean : (text : List Line) → HaveNoFeed text → (line : Line) → slice_get text 0 ≡ Some line → has_no_feed line.text ≡ true
 first_clean [] h line e = absurd cc
 first_clean (found ∷ text) h line e = search rules
 
 lawful_text : (word : List ℕ) (text : List Line) → HaveNoFeed text → number_of_line (long_text text word) ≡ None
     → is_field (field_text word text) ≡ true
-lawful_text word text h fits = search (lawful_field, first_clean, clean_filter)
+lawful_text word text h fits = search (rules, first_clean, clean_filter, ltb-false, short, and_from, le-leb, clean_text)
 
 least_none : (m n : Option ℕ) → least m n ≡ None → (m ≡ None) × (n ≡ None)
 least_none v0 n e = search (rules)

@@ -1,5 +1,5 @@
 -- A greater limit keeps what a text says.
-use Rattle.puzzle_text.proofs.Names.{rules, ◌≡◌, ℕ, zero, ◌≤◌, Bool, true, false, cond, leb, List, [], ◌∷◌, length, refl, ap, ◌∙◌, arith, Option, Some, None, Result, Ok, Err, option_and_then, list_all, option_map, and_parts, le-leb, leb-true, TextFault, BadSize, BadNumber, is_run, is_clue, Line, number_within, pieces, ◌>>=◌, or_fault, each, each_some, clue_of_numbers, clue_of, clues_of, size_of, two_sizes, size_line, read_nin, read_mk, sizes_of, both_clues, read_non}
+use Rattle.puzzle_text.proofs.Names.{rules, ◌≡◌, ℕ, ◌≤◌, Bool, true, false, cond, leb, List, [], ◌∷◌, refl, ap, ◌∙◌, arith, Option, Some, None, Result, Ok, Err, option_and_then, list_all, and_parts, le-leb, leb-true, TextFault, BadNumber, is_run, Line, number_within, pieces, ◌>>=◌, or_fault, each, each_some, clue_of_numbers, clue_of, clues_of, size_of, two_sizes, size_line, read_nin, read_mk, sizes_of, both_clues, read_non}
 use Rattle.puzzle_text.specs.Laws.{GreaterLimitKeeps, KeepsAnswer}
 
 -- ---- options
@@ -12,13 +12,10 @@ some-bind : {A B : Type 0} (old new : Option A) (f g : A → Option B) → Keeps
     → KeepsSome (option_and_then f old) (option_and_then g new)
 some-bind v0 new f g kept next = search (rules)
 
-some-map : {A B : Type 0} (h : A → B) (old new : Option A) → KeepsSome old new → KeepsSome (option_map h old) (option_map h new)
-some-map h v1 new kept = search (rules)
-
 some-each : {X Y : Type 0} (f g : X → Option Y) (xs : List X) → ((x : X) → KeepsSome (f x) (g x))
     → KeepsSome (each_some f xs) (each_some g xs)
 some-each f g [] next = λ x e. e
-some-each f g (x ∷ xs) next = search (some-bind, some-map, next x, some-each f g xs next)
+some-each f g (x ∷ xs) next = search (rules, some-each f g xs next, some-bind)
 
 -- a test that the greater limit passes too
 some-test : {A : Type 0} (b c : Bool) (y : A) → (b ≡ true → c ≡ true) → KeepsSome (cond b (Some y) None) (cond c (Some y) None)
@@ -43,9 +40,6 @@ keeps-each : {X Y : Type 0} (f g : X → Result Y TextFault) (xs : List X) → (
 keeps-each f g [] next = λ _ _. refl
 keeps-each f g (x ∷ xs) next = search (keeps-bind, keeps-same, next x, keeps-each f g xs next)
 
-keeps-size : {A : Type 0} (old new : Option A) → KeepsSome old new → KeepsAnswer (or_fault BadSize old) (or_fault BadSize new)
-keeps-size v0 new kept = search (rules)
-
 keeps-number : {A : Type 0} (n : ℕ) (old new : Option A) → KeepsSome old new
     → KeepsAnswer (or_fault (BadNumber n) old) (or_fault (BadNumber n) new)
 keeps-number n v1 new kept = search (rules)
@@ -60,7 +54,7 @@ module _ (a b : ℕ) (le : a ≤ b) where
   number_keeps piece = search (some-bind, some-test, within)
 
   size_keeps : (piece : List ℕ) → KeepsAnswer (size_of a piece) (size_of b piece)
-  size_keeps piece = search (keeps-size, some-bind, number_keeps)
+  size_keeps piece = search (rules, some-bind, number_keeps)
 
   runs_keep : (ns : List ℕ) → list_all (is_run a) ns ≡ true → list_all (is_run b) ns ≡ true
   runs_keep [] h = refl
@@ -69,14 +63,8 @@ module _ (a b : ℕ) (le : a ≤ b) where
       let here = and_parts (leb 1 n) (leb n a) parts.0 in
       rw (here.0, within n here.1, runs_keep ns parts.1) refl
 
-  is_clue_keeps : (ns : List ℕ) → is_clue a ns ≡ true → is_clue b ns ≡ true
-  is_clue_keeps ns h =
-      let parts = and_parts (leb (length ns) 128) (list_all (is_run a) ns) h in
-      rw (parts.0, runs_keep ns parts.1) refl
-
   numbers_keep : (ns : List ℕ) → KeepsSome (clue_of_numbers a ns) (clue_of_numbers b ns)
-  numbers_keep (zero ∷ []) = λ x e. e
-  numbers_keep ns = some-test _ _ _ (is_clue_keeps ns)
+  numbers_keep v0 = search (rules, some-test, and_parts, runs_keep)
 
   clue_keeps : (text : List ℕ) → KeepsSome (clue_of a text) (clue_of b text)
   clue_keeps text = some-bind _ _ _ _ (some-each _ _ (pieces text) number_keeps) numbers_keep

@@ -1,5 +1,5 @@
 -- Lemmas on lines with a keyword.
-use Rattle.puzzle_text.proofs.Names.{rules, ◌≡◌, ℕ, Bool, true, not, List, [], ◌∷◌, codes, refl, filter, bytes_eq, Line, is_empty, has_keyword, is_keyword_line, keyword, with_keyword, Sections, puzzle_said}
+use Rattle.puzzle_text.proofs.Names.{rules, ◌≡◌, ℕ, Bool, true, not, List, [], ◌∷◌, refl, filter, bytes_eq, Line, is_empty, is_keyword_line, Sections, puzzle_said}
 use Rattle.std.proofs.lemmas.Slice.Eq.{bytes_eq-Decides}
 
 -- ---- the keyword lines alone
@@ -12,12 +12,7 @@ filter_twice p q le (x ∷ xs) = search (rules, filter_twice p q le xs)
 some_word : (word own : List ℕ) → not (is_empty word) ≡ true → bytes_eq own word ≡ true → not (is_empty own) ≡ true
 some_word word own some e = rw ((bytes_eq-Decides own word).0 e) some
 
--- the lines with a keyword are all among the keyword lines
-with_kept : (word : List ℕ) → not (is_empty word) ≡ true → (lines : List Line)
-    → with_keyword word (filter is_keyword_line lines) ≡ with_keyword word lines
-with_kept word some lines = filter_twice (has_keyword word) is_keyword_line (λ line. some_word word (keyword line) some) lines
-
 -- the keyword lines alone say what all lines say
 pub said_of_kept : (limit : ℕ) (sections : Sections) (lines : List Line)
     → puzzle_said limit sections (filter is_keyword_line lines) ≡ puzzle_said limit sections lines
-said_of_kept limit sections lines = search (with_kept)
+said_of_kept limit sections lines = search (filter_twice, some_word)

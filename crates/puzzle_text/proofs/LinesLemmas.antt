@@ -1,5 +1,5 @@
 -- Lemmas on lines.
-use Rattle.puzzle_text.proofs.Names.{rules, ◌≡◌, ℕ, suc, ◌+◌, ◌-◌, ◌<◌, ◌≤◌, Bool, true, false, cond, eqb, ltb, List, [], ◌∷◌, length, take, drop, get_or, refl, sym, arith, inl, inr, Option, Some, None, position_or_len, position, cases_Bool, false_from_ne_true, le-ltb, lt-ltb, ltb-true, ltb-false, take_all, drop_all, get_or-take, length-take-le, take-take, fails_before_first, position_or_len_is, cond_some, numbered_from, raw_lines, strip_last, trim}
+use Rattle.puzzle_text.proofs.Names.{rules, ◌≡◌, ℕ, ◌+◌, ◌<◌, true, false, eqb, List, [], ◌∷◌, length, take, drop, get_or, refl, arith, inl, inr, Option, Some, None, position_or_len, position, cases_Bool, false_from_ne_true, le-ltb, lt-ltb, ltb-true, ltb-false, take_all, drop_all, get_or-take, length-take-le, take-take, fails_before_first, position_or_len_is, cond_some, numbered_from, raw_lines, strip_last, trim}
 use Rattle.std.proofs.lemmas.List.Quantifiers.{position-Some}
 use Rattle.memchr.specs.Find.{IsFirstByte, is_byte}
 
@@ -15,10 +15,6 @@ cut_at [] h = absurd (omega arith)
 cut_at (byte ∷ []) h = elim (cases_Bool (eqb byte 10)) [ inl feed ↦ rw feed refl | inr other ↦ rw other refl ]
 cut_at (byte ∷ next ∷ bytes) h = search (rules, cut_at (next ∷ bytes) (omega arith), cases_Bool)
 
--- the condition fails if nothing came through
-pub not_chosen : (b : Bool) (m : ℕ) → cond b (Some m) None ≡ None → b ≡ false
-not_chosen v0 m e = search (rules)
-
 -- the first line ends at the first line feed
 pub cut_at_feed : (bytes : List ℕ) (i : ℕ) → position (λ byte. eqb byte 10) bytes ≡ Some i
     → raw_lines bytes ≡ take (i + 1) bytes ∷ raw_lines (drop (i + 1) bytes)
@@ -26,17 +22,12 @@ cut_at_feed bytes i e = search (rules, cond_some, ltb-true, cut_at)
 
 -- and if there is none, with the text
 pub cut_at_end : (bytes : List ℕ) → 0 < length bytes → position (λ byte. eqb byte 10) bytes ≡ None → raw_lines bytes ≡ bytes ∷ []
-cut_at_end bytes h e = search (rules, ltb-false, not_chosen, cut_at, take_all, drop_all)
+cut_at_end bytes h e = search (rules, ltb-false, cut_at, take_all, drop_all)
 
 -- ---- the first line feed
 
 abbrev NoFeedBefore : List ℕ → ℕ → Type 0
 NoFeedBefore bytes i = (k : ℕ) → k < i → eqb (get_or bytes k 0) 10 ≡ false
-
--- a line feed with none before it is the first
-feed_at : (bytes : List ℕ) (i : ℕ) → i < length bytes → NoFeedBefore bytes i → eqb (get_or bytes i 0) 10 ≡ true
-    → position (λ byte. eqb byte 10) bytes ≡ Some i
-feed_at bytes i h before at = search (rules, position_or_len_is, lt-ltb)
 
 -- without a line feed there is no first one
 no_feed : (bytes : List ℕ) → NoFeedBefore bytes (length bytes) → position (λ byte. eqb byte 10) bytes ≡ None
@@ -47,7 +38,7 @@ no_feed bytes before =
 
 -- what a search for a line feed gives
 pub feed_found : (bytes : List ℕ) (found : Option ℕ) → IsFirstByte (is_byte 10) bytes found → found ≡ position (λ byte. eqb byte 10) bytes
-feed_found bytes v1 none = search (rules, no_feed, false_from_ne_true, feed_at)
+feed_found bytes v1 none = search (rules, no_feed, false_from_ne_true, position_or_len_is, lt-ltb)
 
 -- ---- the first line without its ending
 
@@ -65,7 +56,7 @@ line_at_feed number bytes end e =
     rw (cut_at_feed bytes end e, strip_feed bytes end found.0 found.1) refl
 
 keeps_end : (bytes : List ℕ) → 0 < length bytes → position (λ byte. eqb byte 10) bytes ≡ None → strip_last 10 bytes ≡ bytes
-keeps_end bytes some e = search (rules, ltb-false, not_chosen, fails_before_first)
+keeps_end bytes some e = search (rules, ltb-false, fails_before_first)
 
 -- a text without a line feed is one line
 pub line_at_end : (number : ℕ) (bytes : List ℕ) → 0 < length bytes → position (λ byte. eqb byte 10) bytes ≡ None

@@ -3,7 +3,7 @@ use Rattle.puzzle_text.proofs.Names.{rules, ◌≡◌, drop, reverse, ℕ, ◌*�
 use Rattle.std.proofs.lemmas.Nat.{mul-le}
 use Rattle.puzzle_text.proofs.SectionsWalk.{word_at}
 use Rattle.grid_core.specs.declared.fields.Field.{Field}
-use Rattle.grid_core.specs.declared.fields.Field.TheVariants.{Catalogue, Title, By, Copyright, License}
+use Rattle.grid_core.specs.declared.fields.Field.TheVariants.{Catalogue}
 use Rattle.puzzle_text.proofs.ReadBack.{IsTidy, IsKept, kept_tidy, tidy_word, kept_edged, with_feed, numbered, lines_kept}
 use Rattle.puzzle_text.proofs.ReadClue.{space, comma}
 use Rattle.puzzle_text.proofs.AllLemmas.{all-append, all-flat_map, all-weaker, all_pass}
@@ -68,16 +68,13 @@ texts_non p = fields p.texts ++ after_fields p
 
 -- ---- the text is these lines
 
-fed_one : (word : List ℕ) (o : Option (List ℕ)) → flat_map with_feed (one word o) ≡ quoted_line word o
-fed_one word v1 = search (rules, append_assoc, append-nil)
-
 fed_fields : (ts : Description) (fs : List Field)
     → flat_map with_feed (flat_map (part ts) fs) ≡ flat_map (λ f. quoted_line (field_word f) (text_of ts f)) fs
 fed_fields ts [] = refl
-fed_fields ts (f ∷ fs) = search (rules, fed_fields ts fs, flat_map-append, fed_one)
+fed_fields ts (f ∷ fs) = search (rules, fed_fields ts fs, flat_map-append, append_assoc, append-nil)
 
 fed_goal : (o : Option (List Bool)) → flat_map with_feed (goal_gap o ++ one (codes "goal") (goal_text o)) ≡ goal_lines o
-fed_goal v0 = search (rules, fed_one)
+fed_goal v0 = search (rules, append_assoc, append-nil)
 
 pub non_is : (p : Nonogram) → flat_map with_feed (texts_non p) ≡ text_non p
 non_is p =
@@ -176,16 +173,10 @@ lines_non limit p wide lawful = ap lines (sym (non_is p)) ∙ lines_kept 1 (text
 
 -- ---- how long the text is
 
-length_field : (word : List ℕ) (o : Option (List ℕ)) → length word ≤ 9 → is_field o ≡ true → length (quoted_line word o) ≤ 65549
-length_field word None short lawful = omega arith
-length_field word (Some text) short lawful =
-    let within = leb-true (length text) 65536 (and_parts (leb (length text) 65536) (list_all (λ byte. not (eqb byte 10)) text) lawful).0 in
-    omega (arith, length-append {A = ℕ})
-
 length_fields : (ts : Description) → IsDescription ts → (fs : List Field)
     → length (flat_map (λ f. quoted_line (field_word f) (text_of ts f)) fs) ≤ 65549 * length fs
 length_fields ts lawful [] = omega arith
-length_fields ts lawful (f ∷ fs) = search (rules, length_fields ts lawful fs, length_field, facts, lawful_field, length-append)
+length_fields ts lawful (f ∷ fs) = search (rules, length_fields ts lawful fs, facts, lawful_field, length-append, leb-true, and_parts)
 
 length_goal : (w h : ℕ) (o : Option (List Bool)) → w ≤ 256 → h ≤ 256 → is_goal (w * h) o ≡ true → length (goal_lines o) ≤ 65550
 length_goal w h v2 wide high lawful = search (rules, eqb-true, mul-le, length-map, length-append)

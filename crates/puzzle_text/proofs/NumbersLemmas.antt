@@ -1,14 +1,10 @@
 -- Lemmas on numbers in a line.
 use Rattle.std.proofs.lemmas.Option.{cond_some}
 use Rattle.std.proofs.lemmas.List.Splits.{slice_split_first}
-use Rattle.puzzle_text.proofs.Names.{rules, ◌≡◌, ℕ, zero, suc, ◌+◌, ◌-◌, ◌*◌, ◌<◌, ◌≤◌, true, false, not, leb, ltb, List, [], ◌∷◌, length, take, drop, filter, get_or, All, refl, sym, ap, ◌∙◌, arith, inl, inr, Option, Some, None, lit≤, option_and_then, option_map, list_all, position, position_or_len, slice_split, is_ascii_digit, digit_value, digits_value, and-false, cases_Bool, le-leb, lt-leb, lt-ltb, ltb-true, ltb-false, ne_eqb, nat_tests, get_or-take, get_or_default, length-take-le, take_all, drop_all, take-take, slice_split_none, AllPass-from_list_all, fails_before_first, position_or_len_is, prefix_len-le-length, list_all_at, list_all_more, digits_value-take-le, numbers_within, is_empty, is_separator, number_within, pieces}
+use Rattle.puzzle_text.proofs.Names.{rules, ◌≡◌, ℕ, zero, suc, ◌+◌, ◌-◌, ◌*◌, ◌<◌, ◌≤◌, true, false, not, ltb, List, [], ◌∷◌, length, take, drop, filter, get_or, refl, ap, ◌∙◌, arith, inl, inr, Option, Some, None, option_and_then, option_map, list_all, position, position_or_len, slice_split, is_ascii_digit, digits_value, and-false, cases_Bool, le-leb, lt-leb, lt-ltb, ltb-true, ltb-false, ne_eqb, nat_tests, get_or-take, get_or_default, length-take-le, take_all, drop_all, take-take, slice_split_none, AllPass-from_list_all, fails_before_first, position_or_len_is, prefix_len-le-length, list_all_at, list_all_more, digits_value-take-le, numbers_within, is_empty, is_separator, number_within, pieces}
 use Rattle.std.proofs.lemmas.List.Quantifiers.{position-Some}
 use borrow.Author.Count.{below_more}
 use Rattle.std.proofs.lemmas.Int.Digits.{digits_value_more}
-use Rattle.puzzle_text.proofs.LinesLemmas.{not_chosen}
-
-digit_value_is : (c : ℕ) → is_ascii_digit c ≡ true → digit_value c ≡ c - 48
-digit_value_is c digit = grind (arith, nat_tests)
 
 -- one more digit
 pub next_digits : (bytes : List ℕ) (i : ℕ) → i < length bytes → list_all is_ascii_digit (take i bytes) ≡ true
@@ -17,7 +13,7 @@ next_digits bytes i h digits digit = rw (list_all_more is_ascii_digit bytes i 0 
 
 pub next_value : (bytes : List ℕ) (i : ℕ) → i < length bytes → is_ascii_digit (get_or bytes i 0) ≡ true
     → digits_value 10 (take (i + 1) bytes) ≡ digits_value 10 (take i bytes) * 10 + (get_or bytes i 0 - 48)
-next_value bytes i h digit = rw (digits_value_more 10 bytes i h, digit_value_is (get_or bytes i 0) digit) refl
+next_value bytes i h digit = search (rules, digits_value_more, nat_tests)
 
 -- a front that is past the limit already
 pub past_limit : (limit : ℕ) (piece : List ℕ) (i : ℕ) → limit < digits_value 10 (take i piece) → number_within limit piece ≡ None
@@ -47,7 +43,7 @@ first_piece text (suc k) found first =
 
 -- without a separator it is the whole
 pub only_piece : (text : List ℕ) → 0 < length text → position is_separator text ≡ None → pieces text ≡ text ∷ []
-only_piece text h none = search (rules, ltb-false, not_chosen, get_or_default, fails_before_first, slice_split_none, keeps_piece)
+only_piece text h none = search (rules, ltb-false, get_or_default, fails_before_first, slice_split_none, keeps_piece)
 
 -- ---- the number of the first piece
 
@@ -71,11 +67,8 @@ clear_within text i within clear = elim (cases_Bool (ltb (end_of text) i)) [
   | inr at ↦ omega (arith, ltb-false _ _ at)
 ]
 
-pub digit_clear : (byte : ℕ) → is_ascii_digit byte ≡ true → is_separator byte ≡ false
-digit_clear byte digit = grind (arith, nat_tests)
-
 digits_clear : (text : List ℕ) (i : ℕ) → i ≤ length text → list_all is_ascii_digit (take i text) ≡ true → Clear text i
-digits_clear text i within digits k low = search (rules, within, length-take-le, digit_clear, get_or-take, AllPass-from_list_all)
+digits_clear text i within digits k low = search (rules, length-take-le, get_or-take, AllPass-from_list_all, nat_tests)
 
 pub number_is : (limit : ℕ) (piece : List ℕ) → 0 < length piece → list_all is_ascii_digit piece ≡ true → digits_value 10 piece ≤ limit
     → number_within limit piece ≡ Some (digits_value 10 piece)

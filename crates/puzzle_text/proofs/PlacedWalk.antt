@@ -1,5 +1,5 @@
 -- The last keyword line above each line, found on one walk from the top.
-use Rattle.puzzle_text.proofs.Names.{rules, ◌≡◌, ℕ, ◌+◌, Bool, true, false, cond, not, List, [], ◌∷◌, ◌++◌, length, map, take, refl, ap, append_assoc, append-nil, Option, Some, None, unwrap_or, enumerate_from, filter, last_or, option_map, take-append_seam, length-append, filter-append, Line, is_empty, is_keyword_line, keyword, is_content, last_keyword, placed}
+use Rattle.puzzle_text.proofs.Names.{rules, ◌≡◌, ℕ, ◌+◌, cond, List, [], ◌∷◌, ◌++◌, length, map, take, refl, ap, append_assoc, append-nil, Option, Some, enumerate_from, filter, last_or, take-append_seam, length-append, filter-append, Line, is_empty, keyword, is_content, last_keyword, placed}
 
 -- each content line, beside the nearest keyword before it; under is the keyword before all
 abbrev pub walked : List ℕ → List Line → List (List ℕ × Line)
@@ -19,15 +19,9 @@ last_of_more : {X : Type 0} (start : Option X) (xs : List X) (x : X) → last_or
 last_of_more start [] x = refl
 last_of_more start (y ∷ xs) x = last_of_more (Some y) xs x
 
--- the last keyword after one more line
-word_of_last : (empty : Bool) (line : Line) (kept : List Line)
-    → unwrap_or (option_map keyword (last_or None (kept ++ cond (not empty) (line ∷ []) []))) []
-    ≡ cond empty (unwrap_or (option_map keyword (last_or None kept)) []) (keyword line)
-word_of_last v0 line kept = search (rules, append-nil, last_of_more)
-
 last_keyword-more : (front : List Line) (line : Line)
     → last_keyword (front ++ line ∷ []) ≡ cond (is_empty (keyword line)) (last_keyword front) (keyword line)
-last_keyword-more front line = search (filter-append, word_of_last)
+last_keyword-more front line = search (rules, filter-append, append-nil, last_of_more)
 
 -- the walk below some lines, from their last keyword on
 walk_below : (front lines : List Line)

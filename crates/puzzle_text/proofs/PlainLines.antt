@@ -1,5 +1,5 @@
 -- Lines of a collection that begin no entry, passed over many at a time.
-use Rattle.puzzle_text.proofs.Names.{rules, ◌≡◌, ℕ, suc, ◌-◌, ◌<◌, ◌≤◌, Bool, true, false, cond, not, eqb, List, [], ◌∷◌, ◌++◌, length, take, get_or, refl, sym, ap, ◌∙◌, append_assoc, arith, list_all, onto_first, cond_both, false_from_ne_true, not_from_false, not-true, and_parts, ne_eqb, get_or-take, get_or_default, length-take-le, list_all-from_AllPass, raw_lines, strip_last, without_ending, Entry, body_of, entries_of, is_marker, is_marker_text, FollowsPlain, ends_line}
+use Rattle.puzzle_text.proofs.Names.{rules, ◌≡◌, ℕ, ◌-◌, ◌<◌, ◌≤◌, Bool, true, false, cond, not, eqb, List, [], ◌∷◌, ◌++◌, length, take, get_or, refl, sym, ap, ◌∙◌, append_assoc, arith, list_all, onto_first, cond_both, false_from_ne_true, not_from_false, not-true, and_parts, ne_eqb, get_or-take, get_or_default, length-take-le, list_all-from_AllPass, raw_lines, strip_last, Entry, body_of, entries_of, is_marker, FollowsPlain, ends_line}
 
 -- there is no @ among these bytes
 abbrev pub HasNoAt : List ℕ → Type 0
@@ -15,17 +15,11 @@ no_at_before bytes i within none = list_all-from_AllPass _ (take i bytes) (λ k 
 
 -- ---- a line that begins with another byte than @
 
-take_first : (k : ℕ) (bytes : List ℕ) → eqb (get_or bytes 0 0) 64 ≡ false → eqb (get_or (take k bytes) 0 0) 64 ≡ false
-take_first v0 v1 other = search (rules)
-
 strip_first : (byte : ℕ) (bytes : List ℕ) → eqb (get_or bytes 0 0) 64 ≡ false → eqb (get_or (strip_last byte bytes) 0 0) 64 ≡ false
-strip_first byte bytes other = search (rules, cond_both, take_first)
-
-no_marker_text : (bytes : List ℕ) → eqb (get_or bytes 0 0) 64 ≡ false → is_marker_text bytes ≡ false
-no_marker_text v0 other = search (rules)
+strip_first byte bytes other = search (rules, cond_both)
 
 no_marker : (raw : List ℕ) → eqb (get_or raw 0 0) 64 ≡ false → is_marker raw ≡ false
-no_marker raw other = no_marker_text (without_ending raw) (strip_first 13 (strip_last 10 raw) (strip_first 10 raw other))
+no_marker raw other = search (rules, strip_first)
 
 -- ---- if the first line begins no entry
 
@@ -60,11 +54,6 @@ abbrev entries_in : Bool → List (List ℕ) → List Entry
 entries_in true raws = entries_of raws
 entries_in false raws = entries_of (below_first raws)
 
-amid : (feed : Bool) (byte : ℕ) (raws : List (List ℕ))
-    → (with_first (cond feed ((byte ∷ []) ∷ raws) (onto_first byte raws)) ≡ byte ∷ body_in feed raws)
-    × (entries_of (below_first (cond feed ((byte ∷ []) ∷ raws) (onto_first byte raws))) ≡ entries_in feed raws)
-amid v0 byte v2 = search (rules)
-
 -- past `front`, which has no @, the lines `raws` go on as `others`;
 -- `start` and `later` tell whether a line begins there
 abbrev GoesOn : Bool → Bool → List ℕ → List (List ℕ) → List (List ℕ) → Type 0
@@ -73,7 +62,7 @@ GoesOn start later front raws others =
 
 one_byte : (start : Bool) (byte : ℕ) (bytes : List ℕ) → eqb byte 64 ≡ false
     → GoesOn start (eqb byte 10) (byte ∷ []) (raw_lines (byte ∷ bytes)) (raw_lines bytes)
-one_byte v0 byte bytes other = search (rules, amid, plain_line)
+one_byte v0 byte bytes other = search (rules, plain_line)
 
 -- whether a line begins after these bytes, if one begins before them or not
 abbrev starts_after : Bool → List ℕ → Bool

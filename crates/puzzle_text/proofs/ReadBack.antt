@@ -1,5 +1,5 @@
 -- What is written is read again: lines.
-use Rattle.puzzle_text.proofs.Names.{rules, ◌≡◌, true, leb, ℕ, ◌+◌, ◌-◌, ◌<◌, ◌≤◌, false, eqb, List, [], ◌∷◌, ◌++◌, length, get_or, reverse, refl, ap, ◌∙◌, append_assoc, arith, list_all, flat_map, AllByRecursion, leb-true, cond-false, ne_eqb, eq-eqb, take_at, get_or_at, get_or-reverse, length-append, reverse-reverse, nat_tests, All-from_recursion, All-get_or, Line, raw_lines, numbered_from, trim, trim_start, trim_end, strip_last, without_ending, is_blank}
+use Rattle.puzzle_text.proofs.Names.{rules, ◌≡◌, true, leb, ℕ, ◌+◌, ◌-◌, ◌<◌, ◌≤◌, false, eqb, List, [], ◌∷◌, ◌++◌, length, get_or, refl, ap, ◌∙◌, append_assoc, arith, list_all, flat_map, AllByRecursion, leb-true, cond-false, ne_eqb, eq-eqb, take_at, get_or_at, get_or-reverse, length-append, reverse-reverse, nat_tests, All-from_recursion, All-get_or, Line, raw_lines, numbered_from, trim, trim_start, strip_last, without_ending, is_blank}
 use Rattle.puzzle_text.proofs.AllLemmas.{all-weaker, all_pass}
 
 -- a line's text as it is written: no byte below a space, and no blank at either end
@@ -36,12 +36,6 @@ trim_start_is : (text : List ℕ) → 33 ≤ get_or text 0 0 → trim_start text
 trim_start_is [] h = refl
 trim_start_is (byte ∷ bytes) h = cond-false (is_blank byte) (trim_start bytes) (byte ∷ bytes) (is_blank_false byte h)
 
-trim_end_is : (text : List ℕ) → 0 < length text → 33 ≤ get_or text (length text - 1) 0 → trim_end text ≡ text
-trim_end_is text some h =
-    let same : length text - 1 - 0 ≡ length text - 1 = omega arith in
-    let high : 33 ≤ get_or (reverse text) 0 0 = rw (get_or-reverse text 0 0 some, same) h in
-    ap reverse (trim_start_is (reverse text) high) ∙ reverse-reverse text
-
 -- a text that begins with another byte than a blank is not empty
 pub some_byte : (text : List ℕ) → 33 ≤ get_or text 0 0 → 0 < length text
 some_byte [] h = absurd (omega arith)
@@ -50,11 +44,7 @@ some_byte (byte ∷ bytes) h = omega arith
 -- a text without line feeds, and with no blank at either end, is the whole line
 pub kept_edged : (text : List ℕ) → AllByRecursion (λ byte. eqb byte 10 ≡ false) text → 33 ≤ get_or text 0 0
     → 33 ≤ get_or text (length text - 1) 0 → IsKept text
-kept_edged text no_feed first last = record {
-  no_feed = no_feed;
-  no_return = strip_last_other 13 text (omega arith) last;
-  trimmed = ap trim_end (trim_start_is text first) ∙ trim_end_is text (some_byte text first) last;
-}
+kept_edged text no_feed first last = search (rules, strip_last_other, trim_start_is, some_byte, get_or-reverse, reverse-reverse)
 
 -- a text as it is written is the whole line
 pub kept_tidy : (text : List ℕ) → IsTidy text → IsKept text

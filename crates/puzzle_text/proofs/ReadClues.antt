@@ -3,7 +3,7 @@ use Rattle.puzzle_text.proofs.Names.{rules, ◌≡◌, ℕ, suc, ◌+◌, ◌*�
 use Rattle.puzzle_text.proofs.AllLemmas.{all-append, all-map, all-weaker}
 use Rattle.puzzle_text.proofs.SaidLines.{SayAll, say_more}
 use Rattle.puzzle_text.proofs.ReadBack.{IsTidy, with_feed, numbered, some_byte, tidy_solid}
-use Rattle.puzzle_text.proofs.ReadClue.{IsWord, IsSpacing, space, runs, words, clue_again, pieces_of_clue, number_within_again}
+use Rattle.puzzle_text.proofs.ReadClue.{IsWord, IsSpacing, space, runs, words, clue_again, pieces_of_clue, number_again}
 
 -- the texts of clues with their line feeds are the lines of clues
 pub fed_clues : (s : ℕ) (clues : List (List ℕ)) → flat_map with_feed (map (clue_text s) clues) ≡ clue_lines s clues
@@ -75,7 +75,7 @@ tidy_clues s limit clues spacing wide h = search (all-map, tidy_clue, word_clue)
 
 -- a size that is written is read again
 pub size_again : (limit n : ℕ) → limit < 2 ^ 64 → 1 ≤ n → n ≤ limit → size_of limit (decimal n) ≡ Ok n
-size_again limit n wide low high = rw (number_within_again limit n wide high, le-leb 1 n low) refl
+size_again limit n wide low high = search (rules, le-leb, number_again)
 
 -- ---- how long the text is
 

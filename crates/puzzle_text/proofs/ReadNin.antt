@@ -1,7 +1,6 @@
 -- What is written in .nin is read again.
-use Rattle.puzzle_text.proofs.Names.{rules, ◌≡◌, ℕ, ◌≤◌, Bool, true, false, cond, not, ◌&&◌, eqb, List, ◌∷◌, ◌++◌, [], length, map, refl, sym, ap, subst, ◌∙◌, append_assoc, arith, Ok, flat_map, AllByRecursion, eqb-true, append-nil, length-append, flat_map-append, is_clue, Nonogram, plain, IsNonogramWithin, is_admissible, reading, likelier, nin_of, read_nin, clue_text, clue_line, text_nin, is_ambiguous}
+use Rattle.puzzle_text.proofs.Names.{rules, ◌≡◌, ℕ, ◌≤◌, Bool, true, false, cond, not, ◌&&◌, List, ◌∷◌, ◌++◌, [], length, map, ap, ◌∙◌, append_assoc, arith, Ok, flat_map, AllByRecursion, eqb-true, append-nil, length-append, flat_map-append, is_clue, Nonogram, plain, IsNonogramWithin, reading, likelier, nin_of, read_nin, clue_text, clue_line, text_nin, is_ambiguous, take-append_seam, drop-append_seam}
 use Rattle.puzzle_text.proofs.AllLemmas.{all-append}
-use Rattle.puzzle_text.proofs.MkLemmas.{reading_parts}
 use Rattle.puzzle_text.proofs.SaidLines.{nin_lines, short_lines}
 use Rattle.puzzle_text.proofs.ReadBack.{IsTidy, with_feed, numbered, lines_are}
 use Rattle.puzzle_text.proofs.ReadClue.{space}
@@ -36,7 +35,7 @@ module _ (limit : ℕ) (p : Nonogram) (wide : limit ≤ 256) (lawful : IsNonogra
   swapped = reading p.height p.width clues
 
   same : reading p.width p.height clues ≡ plain p.width p.height p.rows p.columns
-  same = reading_parts p.width p.height p.rows p.columns lawful.clues.0
+  same = search (rules, take-append_seam, drop-append_seam)
 
   likelier_is : is_ambiguous p ≡ false → likelier p.width p.height clues ≡ plain p.width p.height p.rows p.columns
   likelier_is clear = search (rules, own_order, eqb-true, same)

@@ -1,5 +1,5 @@
 -- What is written in .non is read again.
-use Rattle.puzzle_text.proofs.Names.{rules, ◌≡◌, ℕ, ◌+◌, ◌*◌, ◌<◌, ◌≤◌, ◌^◌, Bool, true, false, cond, not, ltb, List, [], ◌∷◌, ◌++◌, length, map, codes, refl, sym, ap, ◌∙◌, arith, Option, Some, None, Ok, decimal, filter, AllByRecursion, bytes_eq, eq-eqb, eqb-true, append-nil, reverse-append, reverse-reverse, length-map, filter-append, flat_map, is_clue, Nonogram, IsNonogramWithin, is_goal, text_of, Description, is_field, Line, lines, is_full, is_empty, trim, each_some, rest, with_keyword, first_with, all_fields, field_word, quoted, quoted_text, placed, sections_of, number_of_line, long_text, cell_of, goal_cells, goal_of, field_text, texts_of, sizes_of, rows_first, check_lines, outline_of, non_of, read_non, clue_text, goal_byte, text_non, Sections, puzzle_said, Rows, Columns}
+use Rattle.puzzle_text.proofs.Names.{rules, ◌≡◌, ℕ, ◌+◌, ◌*◌, ◌<◌, ◌≤◌, ◌^◌, Bool, true, false, cond, not, ltb, List, [], ◌∷◌, ◌++◌, length, map, codes, refl, sym, ap, ◌∙◌, arith, Option, Some, None, Ok, decimal, filter, AllByRecursion, bytes_eq, eq-eqb, eqb-true, append-nil, reverse-append, reverse-reverse, length-map, filter-append, flat_map, is_clue, Nonogram, IsNonogramWithin, is_goal, text_of, Description, is_field, Line, lines, is_full, is_empty, trim, each_some, with_keyword, first_with, all_fields, field_word, quoted, quoted_text, placed, sections_of, number_of_line, long_text, cell_of, goal_cells, goal_of, field_text, texts_of, sizes_of, rows_first, check_lines, outline_of, non_of, read_non, clue_text, goal_byte, text_non, Sections, puzzle_said, Rows, Columns}
 use Rattle.grid_core.specs.declared.fields.Field.{Field}
 use Rattle.grid_core.specs.declared.fields.Field.TheVariants.{Catalogue, Title, By, Copyright, License}
 use Rattle.puzzle_text.proofs.AllLemmas.{all-append, all-flat_map, all-map, all-weaker, filter_all, filter_none}
@@ -14,9 +14,6 @@ abbrev texts_with : List ℕ → List (List ℕ) → List (List ℕ)
 texts_with word texts = filter (λ text. bytes_eq (word_at text) word) texts
 
 -- ---- lines that are neither keyword lines nor comments
-
-content_blank : IsContent []
-content_blank = record { word = refl; hash = refl }
 
 content_clues : (limit : ℕ) (clues : List (List ℕ)) → limit < 2 ^ 64 → AllByRecursion (λ clue. is_clue limit clue ≡ true) clues
     → AllByRecursion IsContent (map (clue_text 44) clues)
@@ -48,10 +45,10 @@ with-parts word ts (f ∷ fs) =
 
 module _ (limit : ℕ) (p : Nonogram) (wide : limit < 2 ^ 64) (lawful : IsNonogramWithin limit p) where
   content_rows : AllByRecursion IsContent (row_part p)
-  content_rows = search (all-append, content_clues, content_blank)
+  content_rows = search (all-append, content_clues)
 
   content_columns : AllByRecursion IsContent (column_part p)
-  content_columns = search (all-append, content_clues, all_gap, content_blank)
+  content_columns = search (all-append, content_clues, all_gap)
 
   -- the lines with a keyword: those of its fields, of the sizes, of the sections and of the goal
   whole : (word : List ℕ) (goal : Bool) → bytes_eq [] word ≡ false
@@ -114,9 +111,6 @@ field_is word None k texts after e = none_seen (with_keyword word (numbered k te
 field_is word (Some text) k texts after e =
     let found = one_seen (with_keyword word (numbered k texts)) (field_line word text) (lines_with word k texts ∙ e) in
     (found.0, found.1, ap (λ (x : List ℕ). quoted (rest_of x)) found.2 ∙ ap quoted (after text) ∙ quoted_is text)
-
-field_again : (word : List ℕ) (lines : List Line) (o : Option (List ℕ)) → FieldIs word lines o → field_text word lines ≡ o
-field_again word lines v2 is = search (rules)
 
 long_none : (word : List ℕ) (lines : List Line) (o : Option (List ℕ)) → FieldIs word lines o → is_field o ≡ true
     → number_of_line (long_text lines word) ≡ None
@@ -247,7 +241,7 @@ module _ (limit : ℕ) (p : Nonogram) (wide : limit < 2 ^ 64) (lawful : IsNonogr
       (rw (width_line.1, height_line.1, rows_line.1, columns_line.1) refl)
 
   field_read : (f : Field) → field_text (field_word f) all_lines ≡ text_of p.texts f
-  field_read f = field_again (field_word f) all_lines (text_of p.texts f) (field_at f)
+  field_read f = search (rules, field_at)
 
   texts_read : texts_of all_lines ≡ p.texts
   texts_read = rw (field_read Catalogue, field_read Title, field_read By, field_read Copyright, field_read License) refl

@@ -1,5 +1,5 @@
 -- What the lines of a text say, if some of them say its sizes and others its clues.
-use Rattle.puzzle_text.proofs.Names.{rules, ◌≡◌, ℕ, suc, ◌+◌, ◌≤◌, Bool, true, false, ltb, List, [], ◌∷◌, ◌++◌, length, drop, filter, refl, sym, ap, ◌∙◌, append_assoc, arith, Some, None, Ok, Err, position_or_len, AllByRecursion, cond-false, eq-eqb, le-ltb, lt-ltb, take_all, take_at, drop_at, length-append, Nonogram, plain, TooLong, Line, is_full, is_hash, lines, pieces, clue_of, clues_of, text_lines, two_sizes, at_hash, before_hash, mk_of, nin_of, likelier, Sections, both_clues, outline_of, puzzle_of_clues, puzzle_said}
+use Rattle.puzzle_text.proofs.Names.{rules, ◌≡◌, ℕ, ◌+◌, ◌≤◌, Bool, true, false, ltb, List, [], ◌∷◌, ◌++◌, length, drop, filter, refl, sym, ap, ◌∙◌, append_assoc, arith, Some, None, Ok, Err, position_or_len, AllByRecursion, cond-false, eq-eqb, le-ltb, lt-ltb, take_all, take_at, drop_at, length-append, Nonogram, plain, TooLong, Line, is_full, is_hash, lines, pieces, clue_of, clues_of, text_lines, two_sizes, at_hash, before_hash, mk_of, nin_of, likelier, Sections, both_clues, outline_of, puzzle_of_clues, puzzle_said}
 use Rattle.puzzle_text.specs.Sections.{choice}
 use Rattle.puzzle_text.proofs.AllLemmas.{filter_all}
 use Rattle.puzzle_text.proofs.MkLemmas.{puzzle_of_both}
@@ -49,11 +49,6 @@ pub say_more : (limit : ℕ) (line : Line) (clue : List ℕ) (found : List Line)
     → is_hash line ≡ false → clue_of limit line.text ≡ Some clue → SayAll limit found clues → SayAll limit (line ∷ found) (clue ∷ clues)
 say_more limit line clue found clues full hash said others = search (rules)
 
--- the lines of a section that aren't blank are its clue lines, if they are as many as they should be
-chosen : (limit count : ℕ) (section : List Line) (clues : List (List ℕ)) → SayAll limit (filter is_full section) clues
-    → length clues ≡ count → choice count section ≡ Some (filter is_full section)
-chosen limit count section clues all many = rw (eq-eqb (length (filter is_full section)) count (all.count ∙ many)) refl
-
 -- and those are all, if none is blank
 all_chosen : (limit count : ℕ) (found : List Line) (clues : List (List ℕ)) → SayAll limit found clues → length clues ≡ count
     → choice count found ≡ Some found
@@ -88,4 +83,4 @@ pub non_lines : (limit : ℕ) (sections : Sections) (kept : List Line) (width he
     → SayAll limit (filter is_full sections.columns) columns → outline_of limit None kept ≡ Ok ((width, height), order)
     → length rows ≡ height → length columns ≡ width → puzzle_of_clues (width, height) (rows, columns) kept ≡ Ok p
     → puzzle_said limit sections kept ≡ Ok p
-non_lines limit sections kept width height order rows columns p stray in_rows in_columns outline high wide said = search (rules, chosen, both_said)
+non_lines limit sections kept width height order rows columns p stray in_rows in_columns outline high wide said = search (rules, both_said, eq-eqb)

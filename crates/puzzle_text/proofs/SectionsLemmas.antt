@@ -1,5 +1,5 @@
 -- Lemmas on the choice of clue lines.
-use Rattle.puzzle_text.proofs.Names.{rules, ◌≡◌, ℕ, append-nil, ◌≤◌, Bool, true, false, cond, not, eqb, leb, List, [], ◌∷◌, length, take, drop, map, refl, sym, ap, ◌∙◌, arith, Some, None, count_by, filter, list_all, ne_eqb, eq-eqb, le-leb, take-map, drop-map, length-map, length-take-le, take-append-drop, filter-append, list_all-map, count_by-le-length, length-filter, Line, is_full, is_blank_line}
+use Rattle.puzzle_text.proofs.Names.{rules, ◌≡◌, ℕ, append-nil, ◌≤◌, Bool, true, false, cond, not, leb, List, [], ◌∷◌, length, take, drop, map, refl, sym, ap, ◌∙◌, arith, Some, None, count_by, filter, list_all, ne_eqb, eq-eqb, le-leb, take-map, drop-map, length-map, length-take-le, take-append-drop, filter-append, list_all-map, count_by-le-length, length-filter, Line, is_full, is_blank_line}
 use Rattle.puzzle_text.proofs.AllLemmas.{all_pass, filter_none}
 use Rattle.puzzle_text.specs.Sections.{choice}
 use Rattle.puzzle_text.specs.steps.Sections.{front}
@@ -15,9 +15,6 @@ module _ {X : Type 0} (view : X → Line) where
   abbrev full_of : List X → List X
   full_of section = filter (λ x. is_full (view x)) section
 
-  same_count : (section : List X) → length (filter is_full (map view section)) ≡ count_by (λ x. is_full (view x)) section
-  same_count section = search (filter-map, length-map, length-filter)
-
   -- there are as many lines that aren't blank as are counted
   pub length_full : (section full : List X) → full ≡ full_of section → length (map view full) ≡ count_by (λ x. is_full (view x)) section
   length_full section full e = length-map full view ∙ ap length e ∙ length-filter (λ x. is_full (view x)) section
@@ -25,7 +22,7 @@ module _ {X : Type 0} (view : X → Line) where
   -- the lines that aren't blank are the clue lines if they are `count`
   pub choice_full : (count : ℕ) (section full : List X) → full ≡ full_of section → count_by (λ x. is_full (view x)) section ≡ count
       → choice count (map view section) ≡ Some (map view full)
-  choice_full count section full e n = search (rules, eq-eqb, same_count, filter-map)
+  choice_full count section full e n = search (rules, eq-eqb, filter-map, length-map, length-filter)
 
   -- ---- the first lines
 
@@ -40,17 +37,14 @@ module _ {X : Type 0} (view : X → Line) where
   -- there are no clue lines if neither the first lines nor those that aren't blank will do
   pub choice_none : (count : ℕ) (section : List X) → front count (map view section) ≡ None
       → (count_by (λ x. is_full (view x)) section ≡ count → ⊥) → choice count (map view section) ≡ None
-  choice_none count section none n = search (ne_eqb, same_count)
+  choice_none count section none n = search (rules, ne_eqb, filter-map, length-map, length-filter)
 
 -- ---- the first lines are the choice, if they are there at all
-
-no_more : (lines : List Line) → length (filter is_full lines) ≤ length lines
-no_more lines = omega (arith, length-filter is_full lines, count_by-le-length is_full lines)
 
 -- if as many are kept as there are, all are
 all_kept : (lines : List Line) → length (filter is_full lines) ≡ length lines → filter is_full lines ≡ lines
 all_kept [] e = refl
-all_kept (line ∷ lines) e = search (rules, all_kept lines, no_more)
+all_kept (line ∷ lines) e = search (rules, all_kept lines, length-filter, count_by-le-length)
 
 none_kept : (lines : List Line) → list_all is_blank_line lines ≡ true → filter is_full lines ≡ []
 none_kept lines blank = filter_none is_full lines (all_pass is_blank_line (λ line. is_full line ≡ false) (λ line e. ap not e) lines blank)

@@ -1,5 +1,5 @@
 -- The sections of a text, put together on one walk from the top.
-use Rattle.puzzle_text.proofs.Names.{rules, ◌≡◌, ℕ, ◌≤◌, arith, ◌+◌, ◌<◌, drop, get_or, length, Bool, true, false, cond, eqb, ◌&&◌, List, [], ◌∷◌, ◌++◌, codes, refl, sym, ap, ◌∙◌, append_assoc, Option, Some, None, map, find, option_map, take_while, AllByRecursion, ne_eqb, nat_tests, is_ascii_alphabetic, to_ascii_lowercase, str_to_ascii_lowercase, and-false, append-nil, drop_more, length-map, Under, Rows, Columns, Other, Line, is_empty, is_full, is_hash, keyword, or_else, Sections, is_outside_sections, section, placed, sections_of, IsUnder, with_line, shown_line}
+use Rattle.puzzle_text.proofs.Names.{rules, ◌≡◌, ℕ, ◌≤◌, ◌+◌, ◌<◌, drop, get_or, length, Bool, true, false, eqb, List, [], ◌∷◌, ◌++◌, refl, sym, ap, ◌∙◌, append_assoc, Option, None, map, option_map, take_while, AllByRecursion, ne_eqb, nat_tests, is_ascii_alphabetic, to_ascii_lowercase, str_to_ascii_lowercase, and-false, append-nil, drop_more, length-map, Under, Rows, Columns, Line, is_empty, is_hash, keyword, or_else, Sections, placed, sections_of, IsUnder, with_line, shown_line}
 use Rattle.puzzle_text.specs.declared.lines.Line.{Line as KeptLine}
 use Rattle.puzzle_text.proofs.PlacedWalk.{walked, walked-placed}
 
@@ -18,15 +18,10 @@ of_parts rows columns stray = record { rows = rows; columns = columns; stray = s
 abbrev number_at : Option (List ℕ × Line) → Option ℕ
 number_at found = option_map (λ (place : List ℕ × Line). place.1.number) found
 
-noted : (b : Bool) (old : Option ℕ) (place : List ℕ × Line) (found : Option (List ℕ × Line))
-    → or_else old (number_at (cond (b && true) (Some place) found))
-    ≡ or_else (or_else old (cond b (Some place.1.number) None)) (number_at found)
-noted b old place found = search rules
-
 -- one line more
 pub one_more : (under : Under) (word : List ℕ) (above : Sections) (line : Line) (others : List (List ℕ × Line)) → IsUnder word under
     → join above (sections_of ((word, line) ∷ others)) ≡ join (with_line above under line) (sections_of others)
-one_more v0 word above line others is = search (rules, append_assoc, and-false, noted)
+one_more v0 word above line others is = search (rules, append_assoc, and-false)
 
 -- ---- the three kinds of lines
 
@@ -34,10 +29,6 @@ one_more v0 word above line others is = search (rules, append_assoc, and-false, 
 pub below_keyword : (word : List ℕ) (line : Line) (lines : List Line) → is_empty (keyword line) ≡ false
     → below word (line ∷ lines) ≡ below (keyword line) lines
 below_keyword word line lines e = rw e refl
-
-pub below_comment : (word : List ℕ) (line : Line) (lines : List Line) → is_empty (keyword line) ≡ true → is_hash line ≡ true
-    → below word (line ∷ lines) ≡ below word lines
-below_comment word line lines e h = rw (e, h) refl
 
 pub below_content : (under : Under) (word : List ℕ) (above : Sections) (line : Line) (lines : List Line) → IsUnder word under
     → is_empty (keyword line) ≡ true → is_hash line ≡ false
@@ -55,12 +46,9 @@ pub record IsContent (text : List ℕ) : Type 0 where
   pub word : word_at text ≡ []
   pub hash : eqb (get_or text 0 0) 35 ≡ false
 
-not_letter : (c : ℕ) → 48 ≤ c → c ≤ 57 → is_ascii_alphabetic c ≡ false
-not_letter c low high = grind (arith, nat_tests)
-
 -- a text that begins with a digit
 pub content_digit : (text : List ℕ) → 48 ≤ get_or text 0 0 → get_or text 0 0 ≤ 57 → IsContent text
-content_digit v0 low high = search (rules, not_letter, ne_eqb)
+content_digit v0 low high = search (rules, ne_eqb, nat_tests)
 
 -- the sections with more lines at the end of one
 abbrev pub with_lines : Under → Sections → List Line → Sections
@@ -111,7 +99,7 @@ module _ (lines : List KeptLine) (i : ℕ) (d : KeptLine) (word own : List ℕ) 
 
   -- past a comment, which stands in no section
   pub next_comment : eqb (length own) 0 ≡ true → is_hash line ≡ true → join above (below word others) ≡ whole
-  next_comment none hash = sym (ap (join above) (below_comment word line others (none_is own _ true e none) hash)) ∙ at_line_here
+  next_comment none hash = search (rules, none_is, at_line_here)
 
   -- past a line that goes into the section of the keyword above it
   pub next_content : (under : Under) → IsUnder word under → eqb (length own) 0 ≡ true → is_hash line ≡ false

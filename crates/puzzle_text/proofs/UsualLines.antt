@@ -1,6 +1,6 @@
 -- Lines in their usual form: digits, separators and endings.
-use Rattle.puzzle_text.proofs.Names.{rules, ◌≡◌, ℕ, ◌-◌, ◌<◌, ◌≤◌, true, false, drop, not, eqb, List, [], ◌∷◌, ◌++◌, length, take, filter, get_or, All, refl, sym, ap, ◌∙◌, append_assoc, arith, inl, inr, Some, Ok, list_all, slice_split, AllByRecursion, is_ascii_digit, digits_value, le-leb, nat_tests, get_or_append_left, take_all, slice_split_at, slice_split_none, AllPass-from_list_all, LONGEST_SIDE, is_clue, numbers_within, is_empty, is_separator, number_within, pieces, size_of, BeginsWith, BeginsWithNumber, EndsLine, IsNumeral, IsSeparator, SaysClue, SaysSizes}
-use Rattle.puzzle_text.proofs.NumbersLemmas.{digit_clear, keeps_piece, number_is}
+use Rattle.puzzle_text.proofs.Names.{rules, ◌≡◌, ℕ, ◌-◌, ◌<◌, ◌≤◌, true, false, drop, not, eqb, List, [], ◌∷◌, ◌++◌, length, take, filter, get_or, All, refl, sym, ap, ◌∙◌, append_assoc, arith, inl, inr, Some, Ok, list_all, AllByRecursion, is_ascii_digit, digits_value, le-leb, nat_tests, get_or_append_left, take_all, slice_split_at, slice_split_none, AllPass-from_list_all, LONGEST_SIDE, is_clue, numbers_within, is_empty, is_separator, number_within, pieces, size_of, BeginsWith, BeginsWithNumber, EndsLine, IsNumeral, IsSeparator, SaysClue, SaysSizes}
+use Rattle.puzzle_text.proofs.NumbersLemmas.{keeps_piece, number_is}
 use Rattle.puzzle_text.proofs.ReadBack.{IsKept, IsTidy, kept_tidy, line_kept, tidy_solid, raw_lines-feed, strip_last_is}
 use Rattle.puzzle_text.proofs.ReadClue.{IsSpacing, clue_is, comma, space}
 use Rattle.puzzle_text.proofs.AllLemmas.{all-append, all_pass}
@@ -28,11 +28,8 @@ module _ (piece : List ℕ) (n : ℕ) (numeral : IsNumeral piece n) where
   some_piece : 0 < length piece
   some_piece = some_digits piece n numeral.value numeral.positive
 
-  tidy_piece : IsTidy piece
-  tidy_piece = tidy_solid piece some_piece (digits_high piece numeral.digits)
-
   unbroken : All (λ byte. is_separator byte ≡ false) piece
-  unbroken k d lt = digit_clear (get_or piece k d) (AllPass-from_list_all is_ascii_digit piece numeral.digits k d lt)
+  unbroken k d lt = search (rules, AllPass-from_list_all, nat_tests)
 
   number_said : number_within LONGEST_SIDE piece ≡ Some n
   number_said = search (rules, number_is, some_piece)
@@ -51,11 +48,11 @@ module _ (piece : List ℕ) (n : ℕ) (numeral : IsNumeral piece n) where
 
   -- a number says itself
   pub number_alone : SaysNumbers piece (n ∷ [])
-  number_alone = record { tidy = tidy_piece; digit = first_digit; said = rw (pieces_alone, number_said) refl }
+  number_alone = search (first_digit, pieces_alone, number_said, tidy_solid, some_piece, digits_high)
 
   -- a number before other numbers
   pub number_before : (s : ℕ) (more ns : List ℕ) → IsSpacing s → SaysNumbers more ns → SaysNumbers (piece ++ s ∷ more) (n ∷ ns)
-  number_before s more ns spacing said = search (rules, tidy-join, tidy_piece, get_or_append_left, some_piece, first_digit, pieces_more, number_said)
+  number_before s more ns spacing said = search (rules, tidy-join, get_or_append_left, some_piece, first_digit, pieces_more, number_said, tidy_solid, digits_high)
 
 -- ---- the numbers of a line, one after the other
 

@@ -1,9 +1,9 @@
 -- The parts of a usual .non text, found on one walk from the top.
-use Rattle.puzzle_text.proofs.Names.{rules, ◌≡◌, ℕ, ◌+◌, true, false, not, eqb, List, [], ◌∷◌, ◌++◌, length, filter, get_or, refl, sym, ap, ◌∙◌, append_assoc, arith, None, eqb-true, AllByRecursion, LONGEST_SIDE, nil_from_length, append-nil, length-append, filter-append, Under, Rows, Columns, Other, Line, is_empty, is_full, is_hash, numbered_from, raw_lines, is_keyword_line, keyword, Sections, placed, sections_of, IsUnder, with_line, AreClueLines, HaveClues, IsClueText, KeepsOthers, SayClues, SaysClue, clues_under}
+use Rattle.puzzle_text.proofs.Names.{rules, ◌≡◌, ℕ, ◌+◌, true, false, not, eqb, List, [], ◌∷◌, ◌++◌, length, filter, get_or, refl, sym, ap, ◌∙◌, append_assoc, arith, None, eqb-true, AllByRecursion, LONGEST_SIDE, nil_from_length, append-nil, length-append, filter-append, Under, Other, Line, is_empty, is_full, is_hash, numbered_from, raw_lines, is_keyword_line, keyword, Sections, placed, sections_of, IsUnder, with_line, AreClueLines, HaveClues, IsClueText, KeepsOthers, SayClues, SaysClue, clues_under}
 use Rattle.puzzle_text.proofs.ReadClues.{some_text}
 use Rattle.puzzle_text.proofs.AllLemmas.{all-weaker, filter_all, filter_none}
 use Rattle.puzzle_text.proofs.SaidLines.{SayAll, say_more}
-use Rattle.puzzle_text.proofs.SectionsWalk.{IsContent, below, below_comment, below_content, below_keyword, content_digit, join, join_content, nothing_above, with_columns, with_lines, with_rows}
+use Rattle.puzzle_text.proofs.SectionsWalk.{IsContent, below, below_content, below_keyword, content_digit, join, join_content, nothing_above, with_columns, with_lines, with_rows}
 use Rattle.puzzle_text.proofs.UsualLines.{digit_range}
 
 -- ---- lines that say a clue
@@ -23,10 +23,6 @@ all_content : (found : List Line) (clues : List (List ℕ)) → AreClueLines fou
 all_content [] clues said = tt
 all_content (line ∷ found) (clue ∷ clues) said = (clue_content line clue said.0, all_content found clues said.1)
 all_content found clues said = absurd said
-
-no_keywords : (found todo : List Line) (clues : List (List ℕ)) → AreClueLines found clues
-    → filter is_keyword_line (found ++ todo) ≡ filter is_keyword_line todo
-no_keywords found todo clues said = search (rules, all-weaker, all_content, filter-append, filter_none)
 
 -- lines of clues, and then more of them
 pub said_after : (found more : List Line) (clues others : List (List ℕ)) → AreClueLines found clues → AreClueLines more others
@@ -73,14 +69,11 @@ above_all whole rows columns p q = record {
 pub past_comment : (under : Under) (whole todo : List Line) (line : Line) (rows columns : List (List ℕ))
     → IsAbove under whole (line ∷ todo) rows columns → is_empty (keyword line) ≡ true → is_hash line ≡ true
     → IsAbove under whole todo rows columns
-past_comment under whole todo line rows columns is none hash = search (rules, whole, below_comment)
-
-same_full : (found : List Line) (line : Line) → is_full line ≡ false → filter is_full (found ++ line ∷ []) ≡ filter is_full found
-same_full found line blank = rw (filter-append is_full found (line ∷ []), blank) (append-nil (filter is_full found))
+past_comment under whole todo line rows columns is none hash = search (rules)
 
 blank_more : (under : Under) (above : Sections) (line : Line) (rows columns : List (List ℕ)) → HaveClues above rows columns
     → is_full line ≡ false → HaveClues (with_line above under line) rows columns
-blank_more v0 above line rows columns clues blank = search (rules, same_full)
+blank_more v0 above line rows columns clues blank = search (rules, filter-append, append-nil)
 
 no_first : (text : List ℕ) → is_empty text ≡ true → eqb (get_or text 0 0) 35 ≡ false
 no_first text blank = let none = eqb-true (length text) 0 blank in rw (nil_from_length text none) refl
@@ -97,21 +90,10 @@ past_blank under whole todo line rows columns is none blank = record {
   clues = blank_more under is.above line rows columns is.clues (ap not blank);
 }
 
-more_said : (lines found : List Line) (clues : List (List ℕ)) → AreClueLines (filter is_full lines) [] → AreClueLines found clues
-    → AreClueLines (filter is_full (lines ++ found)) clues
-more_said lines found clues none said = search (rules, filter-append, filter_all, say_all, said_after)
-
 section_more : (under : Under) (above : Sections) (found : List Line) (old_rows old_columns rows columns : List (List ℕ))
     → HaveClues above old_rows old_columns → KeepsOthers under old_rows old_columns rows columns
     → AreClueLines found (clues_under under rows columns) → HaveClues (with_lines under above found) rows columns
-section_more Rows above found old_rows old_columns rows columns clues kept said =
-    let more = more_said above.rows found rows (rw (nil_from_length old_rows kept.0) at clues.rows_said) said in
-    rw (with_rows above found, kept.1) (record { stray = clues.stray; rows_said = more; columns_said = clues.columns_said })
-section_more Columns above found old_rows old_columns rows columns clues kept said =
-    let more = more_said above.columns found columns (rw (nil_from_length old_columns kept.0) at clues.columns_said) said in
-    rw (with_columns above found, kept.1) (record { stray = clues.stray; rows_said = clues.rows_said; columns_said = more })
-section_more Other above [] old_rows old_columns rows columns clues kept said = rw (kept.0, kept.1) clues
-section_more Other above found old_rows old_columns rows columns clues kept said = absurd said
+section_more v0 above found old_rows old_columns rows columns clues kept said = search (rules, nil_from_length, with_rows, with_columns, filter-append, filter_all, say_all, said_after)
 
 module _ (next : Under) (line : Line) (number place : ℕ) (after rest : List ℕ) (rows columns : List (List ℕ))
     (says : SayClues after (clues_under next rows columns) rest) (counted : place ≡ number + length (clues_under next rows columns)) where
@@ -144,10 +126,7 @@ module _ (next : Under) (line : Line) (number place : ℕ) (after rest : List �
   -- the keyword line is the only one among them
   pub kept_one : (kept all : List Line) → kept ++ filter is_keyword_line (line ∷ numbered_from number (raw_lines after)) ≡ all
       → is_empty (keyword line) ≡ false → (kept ++ line ∷ []) ++ filter is_keyword_line later ≡ all
-  kept_one kept all e some =
-      let same : filter is_keyword_line (numbered_from number (raw_lines after)) ≡ filter is_keyword_line later =
-      ap (filter is_keyword_line) parts ∙ no_keywords found later (clues_under next rows columns) (says number).2 in
-      rw (append_assoc kept (line ∷ []) (filter is_keyword_line later), ← same) (rw some at e)
+  kept_one kept all e some = search (rules, parts, append_assoc, all-weaker, all_content, filter-append, filter_none)
 
 -- no bytes have no lines
 pub no_lines : (rest : List ℕ) (number : ℕ) → length rest ≡ 0 → numbered_from number (raw_lines rest) ≡ []

@@ -1,5 +1,5 @@
 -- What the parts of a usual text say is what the text says.
-use Rattle.puzzle_text.proofs.Names.{rules, ◌≡◌, ℕ, ◌+◌, ◌≤◌, List, [], ◌∷◌, ◌++◌, length, filter, refl, Result, Ok, Err, IfOk, IfSome, append-nil, LONGEST_SIDE, Nonogram, plain, TextFault, Gives, is_keyword_line, Line, lines, numbered_from, raw_lines, read_mk, read_nin, placed, puzzle_said, read_non, sections_of, likelier, BeginsWith, SayClues, SaysSizes}
+use Rattle.puzzle_text.proofs.Names.{rules, ◌≡◌, ℕ, ◌+◌, ◌≤◌, List, [], ◌∷◌, ◌++◌, length, filter, refl, Result, Ok, IfOk, IfSome, append-nil, LONGEST_SIDE, Nonogram, plain, TextFault, Gives, is_keyword_line, Line, lines, numbered_from, raw_lines, read_mk, read_nin, placed, puzzle_said, read_non, sections_of, likelier, BeginsWith, SayClues, SaysSizes}
 use Rattle.std.specs.Result.{result_ok}
 use Rattle.puzzle_text.specs.steps.Lines.{HaveNoFeed}
 use Rattle.puzzle_text.proofs.FeedsLemmas.{clean_filter, lines_have_no_feed}
