@@ -1,5 +1,5 @@
 -- A step for each element of a list, as a loop makes it: front is what came of the elements before i.
-use Rattle.puzzle_text.proofs.Names.{rules, ◌≡◌, List, [], ◌∷◌, ◌++◌, drop, map, refl, sym, ap, ◌∙◌, Option, Result, Ok, option_map, TextFault, ◌>>=◌, each}
+use Rattle.puzzle_text.proofs.Names.{rules, ◌≡◌, List, [], ◌∷◌, ◌++◌, drop, map, refl, ap, Option, Result, Ok, option_map, TextFault, ◌>>=◌, each}
 
 -- what comes of all elements, if `front` came of the first ones
 abbrev pub with_front : {Y : Type 0} → List Y → Result (List Y) TextFault → Result (List Y) TextFault
@@ -14,10 +14,7 @@ pub each-map : {A X Y : Type 0} (step : X → Result Y TextFault) (view : A → 
 each-map step view [] = refl
 each-map step view (x ∷ xs) = ap (λ others. step (view x) >>= λ y. others >>= λ ys. Ok (y ∷ ys)) (each-map step view xs)
 
-pub with_front-none : {Y : Type 0} (rest : Result (List Y) TextFault) → with_front [] rest ≡ rest
-with_front-none v0 = search (rules)
-
 -- with no element passed, what is to come is what comes of all
 pub each_begins : {A X Y : Type 0} (step : X → Result Y TextFault) (view : A → X) (xs : List A)
     → with_front [] (each (λ a. step (view a)) (drop 0 xs)) ≡ each step (map view xs)
-each_begins step view xs = with_front-none (each (λ a. step (view a)) xs) ∙ sym (each-map step view xs)
+each_begins step view xs = search (rules, each-map)

@@ -1,6 +1,6 @@
 -- What holds of a line holds of the text of a field: no line has a line feed in it, so nor has the text; and a short line has a short text.
 use Rattle.std.proofs.lemmas.List.Elements.{All-cons, All-nil}
-use Rattle.puzzle_text.proofs.Names.{rules, ◌≡◌, ℕ, ◌+◌, ◌-◌, ◌≤◌, Bool, true, false, cond, not, eqb, leb, ltb, List, [], ◌∷◌, length, take, drop, get_or, reverse, All, refl, ap, arith, Option, Some, None, IfSome, Ok, map, option_and_then, slice_get, unwrap_or, filter, list_all, onto_first, AllByRecursion, option_map, cond_both, and_from, and_parts, le-leb, leb-true, ltb-false, get_or-reverse, length-drop, length-reverse, All-take, All-drop, All-filter, All-from_recursion, recursion_from_All, AllPass-from_list_all, list_all-from_AllPass, IsDescription, is_field, LONGEST_TEXT, text_lines, Line, numbered_from, raw_lines, strip_last, trim, trim_start, without_ending, after_quote, first_with, has_keyword, quoted_text, with_keyword, shown_keyword, bad_line, field_text, least, least_of, long_text, number_of_line, texts_of}
+use Rattle.puzzle_text.proofs.Names.{rules, ◌≡◌, ℕ, ◌+◌, ◌-◌, ◌≤◌, Bool, true, false, cond, not, eqb, leb, ltb, List, [], ◌∷◌, length, take, drop, get_or, reverse, All, refl, arith, Option, Some, None, IfSome, Ok, map, option_and_then, slice_get, unwrap_or, filter, list_all, onto_first, AllByRecursion, option_map, cond_both, and_from, and_parts, le-leb, leb-true, ltb-false, get_or-reverse, length-drop, length-reverse, All-take, All-drop, All-filter, All-from_recursion, recursion_from_All, AllPass-from_list_all, list_all-from_AllPass, IsDescription, LONGEST_TEXT, text_lines, Line, numbered_from, raw_lines, strip_last, trim, trim_start, without_ending, after_quote, first_with, has_keyword, quoted_text, with_keyword, shown_keyword, bad_line, least, least_of, number_of_line, texts_of}
 use Rattle.puzzle_text.specs.declared.keyword_line.KeywordLine.{KeywordLine}
 use Rattle.puzzle_text.specs.steps.Lines.{HaveNoFeed, has_no_feed}
 
@@ -61,12 +61,9 @@ clean_text line h =
 abbrev IsRaw : List ℕ → Type 0
 IsRaw raw = IsClean (strip_last 10 raw)
 
-raw_one : (byte : ℕ) → eqb byte 10 ≡ false → IsRaw (byte ∷ [])
-raw_one byte other = rw other (All-cons IsOther byte [] (ap not other) (All-nil IsOther))
-
 raw_onto : (byte : ℕ) (parts : List (List ℕ)) → eqb byte 10 ≡ false → AllByRecursion IsRaw parts
     → AllByRecursion IsRaw (onto_first byte parts)
-raw_onto byte v1 other h = search (rules, raw_one, All-cons)
+raw_onto byte v1 other h = search (rules, All-cons, All-nil)
 
 all_raw : (bytes : List ℕ) → AllByRecursion IsRaw (raw_lines bytes)
 all_raw [] = tt
@@ -101,10 +98,6 @@ first_clean : (text : List Line) → HaveNoFeed text → (line : Line) → slice
 first_clean [] h line e = absurd cc
 first_clean (found ∷ text) h line e = search rules
 
-lawful_text : (word : List ℕ) (text : List Line) → HaveNoFeed text → number_of_line (long_text text word) ≡ None
-    → is_field (field_text word text) ≡ true
-lawful_text word text h fits = search (rules, first_clean, clean_filter, ltb-false, short, and_from, le-leb, clean_text)
-
 least_none : (m n : Option ℕ) → least m n ≡ None → (m ≡ None) × (n ≡ None)
 least_none v0 n e = search (rules)
 
@@ -114,7 +107,7 @@ each_none (number ∷ numbers) e = let parts = least_none number (least_of numbe
 
 -- if no line is bad, the texts may stand in their fields
 pub lawful_texts : (stray : Option ℕ) (text : List Line) → HaveNoFeed text → bad_line stray text ≡ None → IsDescription (texts_of text)
-lawful_texts stray text h none = search (rules, each_none, least_none, lawful_text)
+lawful_texts stray text h none = search (rules, each_none, least_none, first_clean, clean_filter, ltb-false, short, and_from, le-leb, clean_text)
 
 -- ---- texts that are short
 
@@ -147,4 +140,4 @@ or_stray stray = search rules
 
 -- if no line is long, no text is
 pub short_lines : (stray : Option ℕ) (kept : List KeywordLine) → are_short kept ≡ true → bad_line stray (map shown_keyword kept) ≡ stray
-short_lines stray kept h = search (none_least, short_first, or_stray)
+short_lines stray kept h = search (short_first, or_stray)

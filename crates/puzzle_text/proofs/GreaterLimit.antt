@@ -1,5 +1,5 @@
 -- A greater limit keeps what a text says.
-use Rattle.puzzle_text.proofs.Names.{rules, ◌≡◌, ℕ, ◌≤◌, Bool, true, false, cond, leb, List, [], ◌∷◌, refl, ap, ◌∙◌, arith, Option, Some, None, Result, Ok, Err, option_and_then, list_all, and_parts, le-leb, leb-true, TextFault, BadNumber, is_run, Line, number_within, pieces, ◌>>=◌, or_fault, each, each_some, clue_of_numbers, clue_of, clues_of, size_of, two_sizes, size_line, read_nin, read_mk, sizes_of, both_clues, read_non}
+use Rattle.puzzle_text.proofs.Names.{rules, ◌≡◌, ℕ, ◌≤◌, Bool, true, false, leb, List, [], ◌∷◌, refl, ap, ◌∙◌, arith, Option, Some, Result, Ok, Err, option_and_then, list_all, and_parts, le-leb, leb-true, TextFault, BadNumber, is_run, Line, number_within, pieces, ◌>>=◌, or_fault, each, each_some, clue_of_numbers, clue_of, clues_of, size_of, two_sizes, size_line, read_nin, read_mk, sizes_of, both_clues, read_non}
 use Rattle.puzzle_text.specs.Laws.{GreaterLimitKeeps, KeepsAnswer}
 
 -- ---- options
@@ -16,10 +16,6 @@ some-each : {X Y : Type 0} (f g : X → Option Y) (xs : List X) → ((x : X) →
     → KeepsSome (each_some f xs) (each_some g xs)
 some-each f g [] next = λ x e. e
 some-each f g (x ∷ xs) next = search (rules, some-each f g xs next, some-bind)
-
--- a test that the greater limit passes too
-some-test : {A : Type 0} (b c : Bool) (y : A) → (b ≡ true → c ≡ true) → KeepsSome (cond b (Some y) None) (cond c (Some y) None)
-some-test v0 c y h = search (rules)
 
 -- ---- results
 
@@ -51,7 +47,7 @@ module _ (a b : ℕ) (le : a ≤ b) where
   within n h = le-leb n b (omega (arith, leb-true n a h))
 
   number_keeps : (piece : List ℕ) → KeepsSome (number_within a piece) (number_within b piece)
-  number_keeps piece = search (some-bind, some-test, within)
+  number_keeps piece = search (rules, some-bind, within)
 
   size_keeps : (piece : List ℕ) → KeepsAnswer (size_of a piece) (size_of b piece)
   size_keeps piece = search (rules, some-bind, number_keeps)
@@ -64,7 +60,7 @@ module _ (a b : ℕ) (le : a ≤ b) where
       rw (here.0, within n here.1, runs_keep ns parts.1) refl
 
   numbers_keep : (ns : List ℕ) → KeepsSome (clue_of_numbers a ns) (clue_of_numbers b ns)
-  numbers_keep v0 = search (rules, some-test, and_parts, runs_keep)
+  numbers_keep v0 = search (rules, and_parts, runs_keep)
 
   clue_keeps : (text : List ℕ) → KeepsSome (clue_of a text) (clue_of b text)
   clue_keeps text = some-bind _ _ _ _ (some-each _ _ (pieces text) number_keeps) numbers_keep

@@ -55,10 +55,7 @@ line_at_feed number bytes end e =
     let found = position-Some (λ byte. eqb byte 10) bytes end 0 e in
     rw (cut_at_feed bytes end e, strip_feed bytes end found.0 found.1) refl
 
-keeps_end : (bytes : List ℕ) → 0 < length bytes → position (λ byte. eqb byte 10) bytes ≡ None → strip_last 10 bytes ≡ bytes
-keeps_end bytes some e = search (rules, ltb-false, fails_before_first)
-
 -- a text without a line feed is one line
 pub line_at_end : (number : ℕ) (bytes : List ℕ) → 0 < length bytes → position (λ byte. eqb byte 10) bytes ≡ None
     → numbered_from number (raw_lines bytes) ≡ record { number = number; text = trim (strip_last 13 bytes) } ∷ []
-line_at_end number bytes some e = rw (cut_at_end bytes some e, keeps_end bytes some e) refl
+line_at_end number bytes some e = search (rules, cut_at_end, ltb-false, fails_before_first)

@@ -1,5 +1,5 @@
 -- Lemmas on the lines round a line that begins with #, and on the clues of both sections.
-use Rattle.puzzle_text.proofs.EachLemmas.{with_front, with_front-none}
+use Rattle.puzzle_text.proofs.EachLemmas.{with_front}
 use Rattle.puzzle_text.proofs.Names.{rules, ◌≡◌, ℕ, ◌+◌, ◌-◌, Bool, cond, List, [], ◌∷◌, ◌++◌, length, take, drop, map, true, refl, ap, Option, Some, None, Result, Ok, position, prefix_len, ltb-false, cond_some, take-map, drop-map, length-map, take_all, take_rest, take-append_seam, drop-append_seam, Nonogram, plain, TextFault, ◌>>=◌, each, Line, is_hash, at_hash, before_hash, puzzle_of, both_clues, reading}
 
 pub prefix_len-map : {X Y : Type 0} (p : Y → Bool) (view : X → Y) (xs : List X)
@@ -39,8 +39,8 @@ abbrev joined : {Y : Type 0} → Result (List Y) TextFault → Result (List Y) T
 joined a b = a >>= λ xs. with_front xs b
 
 each-append : {X Y : Type 0} (step : X → Result Y TextFault) (xs ys : List X) → each step (xs ++ ys) ≡ joined (each step xs) (each step ys)
-each-append step [] ys = search (rules, with_front-none)
-each-append {X} {Y} step (x ∷ xs) ys = search (rules, each-append step xs ys, with_front-none)
+each-append step [] ys = search (rules)
+each-append {X} {Y} step (x ∷ xs) ys = search (rules, each-append step xs ys)
 
 -- the puzzle of the clue lines of both sections
 pub puzzle_of_parts : (limit width height : ℕ) (xs ys : List Line)

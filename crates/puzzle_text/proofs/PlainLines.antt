@@ -1,5 +1,5 @@
 -- Lines of a collection that begin no entry, passed over many at a time.
-use Rattle.puzzle_text.proofs.Names.{rules, ◌≡◌, ℕ, ◌-◌, ◌<◌, ◌≤◌, Bool, true, false, cond, not, eqb, List, [], ◌∷◌, ◌++◌, length, take, get_or, refl, sym, ap, ◌∙◌, append_assoc, arith, list_all, onto_first, cond_both, false_from_ne_true, not_from_false, not-true, and_parts, ne_eqb, get_or-take, get_or_default, length-take-le, list_all-from_AllPass, raw_lines, strip_last, Entry, body_of, entries_of, is_marker, FollowsPlain, ends_line}
+use Rattle.puzzle_text.proofs.Names.{rules, ◌≡◌, ℕ, ◌-◌, ◌<◌, ◌≤◌, Bool, true, false, not, eqb, List, [], ◌∷◌, ◌++◌, length, take, get_or, refl, sym, ap, ◌∙◌, append_assoc, arith, list_all, cond_both, false_from_ne_true, not_from_false, not-true, and_parts, ne_eqb, get_or-take, get_or_default, length-take-le, list_all-from_AllPass, raw_lines, Entry, body_of, entries_of, is_marker, FollowsPlain, ends_line}
 
 -- there is no @ among these bytes
 abbrev pub HasNoAt : List ℕ → Type 0
@@ -15,11 +15,8 @@ no_at_before bytes i within none = list_all-from_AllPass _ (take i bytes) (λ k 
 
 -- ---- a line that begins with another byte than @
 
-strip_first : (byte : ℕ) (bytes : List ℕ) → eqb (get_or bytes 0 0) 64 ≡ false → eqb (get_or (strip_last byte bytes) 0 0) 64 ≡ false
-strip_first byte bytes other = search (rules, cond_both)
-
 no_marker : (raw : List ℕ) → eqb (get_or raw 0 0) 64 ≡ false → is_marker raw ≡ false
-no_marker raw other = search (rules, strip_first)
+no_marker raw other = search (rules, cond_both)
 
 -- ---- if the first line begins no entry
 
@@ -40,10 +37,6 @@ IsPlain raws = (body_of raws ≡ with_first raws) × (entries_of raws ≡ entrie
 plain : (raw : List ℕ) (raws : List (List ℕ)) → eqb (get_or raw 0 0) 64 ≡ false → IsPlain (raw ∷ raws)
 plain raw raws other = (rw (no_marker raw other) refl, rw (no_marker raw other) refl)
 
-plain_line : (feed : Bool) (byte : ℕ) (raws : List (List ℕ)) → eqb byte 64 ≡ false
-    → IsPlain (cond feed ((byte ∷ []) ∷ raws) (onto_first byte raws))
-plain_line v0 byte raws other = search (rules, plain)
-
 -- ---- from the start of a line, or from amid one that begins no entry
 
 abbrev body_in : Bool → List (List ℕ) → List ℕ
@@ -62,7 +55,7 @@ GoesOn start later front raws others =
 
 one_byte : (start : Bool) (byte : ℕ) (bytes : List ℕ) → eqb byte 64 ≡ false
     → GoesOn start (eqb byte 10) (byte ∷ []) (raw_lines (byte ∷ bytes)) (raw_lines bytes)
-one_byte v0 byte bytes other = search (rules, plain_line)
+one_byte v0 byte bytes other = search (rules, plain)
 
 -- whether a line begins after these bytes, if one begins before them or not
 abbrev starts_after : Bool → List ℕ → Bool

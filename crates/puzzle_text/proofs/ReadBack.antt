@@ -26,9 +26,6 @@ raw_lines-feed (byte ∷ bytes) rest inked = rw (inked.0, raw_lines-feed bytes r
 pub strip_last_is : (byte : ℕ) (text : List ℕ) → strip_last byte (text ++ byte ∷ []) ≡ text
 strip_last_is byte text = search (rules, length-append, get_or_at, eq-eqb, take_at)
 
-pub strip_last_other : (byte : ℕ) (text : List ℕ) → byte < 33 → 33 ≤ get_or text (length text - 1) 0 → strip_last byte text ≡ text
-strip_last_other byte text low last = rw (ne_eqb (get_or text (length text - 1) 0) byte (λ e. omega arith)) refl
-
 is_blank_false : (byte : ℕ) → 33 ≤ byte → is_blank byte ≡ false
 is_blank_false byte h = grind (arith, nat_tests)
 
@@ -44,7 +41,7 @@ some_byte (byte ∷ bytes) h = omega arith
 -- a text without line feeds, and with no blank at either end, is the whole line
 pub kept_edged : (text : List ℕ) → AllByRecursion (λ byte. eqb byte 10 ≡ false) text → 33 ≤ get_or text 0 0
     → 33 ≤ get_or text (length text - 1) 0 → IsKept text
-kept_edged text no_feed first last = search (rules, strip_last_other, trim_start_is, some_byte, get_or-reverse, reverse-reverse)
+kept_edged text no_feed first last = search (rules, trim_start_is, some_byte, get_or-reverse, reverse-reverse, ne_eqb)
 
 -- a text as it is written is the whole line
 pub kept_tidy : (text : List ℕ) → IsTidy text → IsKept text

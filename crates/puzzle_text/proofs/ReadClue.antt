@@ -1,5 +1,5 @@
 -- What is written is read again: numbers and clues.
-use Rattle.puzzle_text.proofs.Names.{rules, ◌≡◌, ℕ, ◌<◌, ◌≤◌, ◌^◌, true, false, not, List, [], ◌∷◌, length, get_or, map, filter, All, refl, ap, ◌∙◌, arith, Some, decimal, list_all, slice_split, AllByRecursion, is_ascii_digit, AllDigits, ne_eqb, and_parts, le-leb, leb-true, nat_tests, append-nil, get_or_default, slice_split_none, slice_split_at, digit_at, digit_from_value, decimal_is_IsNumeral, decimal_nonempty, is_run, is_clue, is_empty, is_separator, pieces, number_of, numbers_within, clue_of_numbers, clue_of, clue_text}
+use Rattle.puzzle_text.proofs.Names.{rules, ◌≡◌, ℕ, ◌<◌, ◌≤◌, ◌^◌, true, false, not, List, [], ◌∷◌, length, get_or, map, filter, All, refl, ap, ◌∙◌, arith, Some, decimal, list_all, slice_split, AllByRecursion, is_ascii_digit, AllDigits, ne_eqb, and_parts, le-leb, leb-true, nat_tests, append-nil, get_or_default, slice_split_none, slice_split_at, digit_at, digit_from_value, decimal_is_IsNumeral, decimal_nonempty, is_run, is_clue, is_empty, is_separator, pieces, numbers_within, clue_of_numbers, clue_of, clue_text}
 use Rattle.puzzle_text.proofs.AllLemmas.{all-map, all-weaker, all_pass, filter_all}
 
 -- what decimal can write
@@ -33,7 +33,7 @@ split_clue : (s n : ℕ) (ns : List ℕ) → IsSpacing s → AllByRecursion IsWo
 split_clue s n [] spacing h = rw append-nil (slice_split_none is_separator (decimal n) (no_separator n h.0))
 split_clue s n (m ∷ ns) spacing h = search (rules, split_clue s m ns spacing h.1, append-nil, slice_split_none, no_separator, slice_split_at)
 
-filled : (n : ℕ) → IsWord n → not (is_empty (decimal n)) ≡ true
+pub filled : (n : ℕ) → IsWord n → not (is_empty (decimal n)) ≡ true
 filled n h = ap not (ne_eqb (length (decimal n)) 0 (λ e. omega (arith, decimal_nonempty n h)))
 
 -- the pieces of a written clue are its numbers
@@ -44,17 +44,14 @@ pieces_of_clue s n ns spacing h =
     ap (filter full) (split_clue s n ns spacing h)
     ∙ filter_all full (map decimal (n ∷ ns)) (all-map IsWord (λ piece. full piece ≡ true) decimal filled (n ∷ ns) h)
 
-all_digits : (ds : List ℕ) → AllDigits 10 ds → list_all is_ascii_digit ds ≡ true
+pub all_digits : (ds : List ℕ) → AllDigits 10 ds → list_all is_ascii_digit ds ≡ true
 all_digits [] h = refl
 all_digits (c ∷ cs) h = search (rules, all_digits cs h.1, digit_from_value, nat_tests)
-
-pub number_again : (n : ℕ) → IsWord n → number_of (decimal n) ≡ Some n
-number_again n h = search (rules, decimal_is_IsNumeral, filled, all_digits)
 
 pub numbers_again : (limit : ℕ) (ns : List ℕ) → limit < 2 ^ 64 → AllByRecursion (λ n. n ≤ limit) ns
     → numbers_within limit (map decimal ns) ≡ Some ns
 numbers_again limit [] wide h = refl
-numbers_again limit (n ∷ ns) wide h = search (rules, numbers_again limit ns wide h.1, number_again, le-leb)
+numbers_again limit (n ∷ ns) wide h = search (rules, numbers_again limit ns wide h.1, le-leb, decimal_is_IsNumeral, filled, all_digits)
 
 -- the numbers of a clue are no more than the limit
 pub runs : (limit : ℕ) (ns : List ℕ) → list_all (is_run limit) ns ≡ true → AllByRecursion (λ n. n ≤ limit) ns

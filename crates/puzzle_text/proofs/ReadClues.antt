@@ -1,9 +1,9 @@
 -- What is written is read again: the lines of clues.
 use Rattle.puzzle_text.proofs.Names.{rules, ◌≡◌, ℕ, suc, ◌+◌, ◌*◌, ◌-◌, ◌<◌, ◌≤◌, ◌^◌, true, not, leb, List, [], ◌∷◌, ◌++◌, length, get_or, map, refl, ap, arith, Ok, decimal, flat_map, list_all, AllByRecursion, AllDigits, flat_map-map, ne_eqb, le-leb, leb-true, and_parts, append-nil, length-append, get_or_append_left, get_or-append_right, digit_at, digit_from_value, decimal_is_IsNumeral, length-decimal-le, is_clue, is_run, is_empty, pieces, size_of, two_sizes, clue_text, clue_line, clue_lines, two_numbers}
 use Rattle.puzzle_text.proofs.AllLemmas.{all-append, all-map, all-weaker}
-use Rattle.puzzle_text.proofs.SaidLines.{SayAll, say_more}
+use Rattle.puzzle_text.proofs.SaidLines.{SayAll}
 use Rattle.puzzle_text.proofs.ReadBack.{IsTidy, with_feed, numbered, some_byte, tidy_solid}
-use Rattle.puzzle_text.proofs.ReadClue.{IsWord, IsSpacing, space, runs, words, clue_again, pieces_of_clue, number_again}
+use Rattle.puzzle_text.proofs.ReadClue.{IsWord, IsSpacing, space, runs, words, clue_again, pieces_of_clue, filled, all_digits}
 
 -- the texts of clues with their line feeds are the lines of clues
 pub fed_clues : (s : ℕ) (clues : List (List ℕ)) → flat_map with_feed (map (clue_text s) clues) ≡ clue_lines s clues
@@ -66,7 +66,7 @@ some_text (byte ∷ bytes) h = ap not (ne_eqb (suc (length bytes)) 0 (λ e. omeg
 pub say_clues : (s limit k : ℕ) (clues : List (List ℕ)) → IsSpacing s → limit < 2 ^ 64
     → AllByRecursion (λ clue. is_clue limit clue ≡ true) clues → SayAll limit (numbered k (map (clue_text s) clues)) clues
 say_clues s limit k [] spacing wide h = record { full = tt; hash = tt; count = refl; said = refl }
-say_clues s limit k (clue ∷ clues) spacing wide h = search (rules, say_clues s limit (k + 1) clues spacing wide h.1, first_digit, word_clue, say_more, some_text, ne_eqb, clue_again)
+say_clues s limit k (clue ∷ clues) spacing wide h = search (rules, say_clues s limit (k + 1) clues spacing wide h.1, first_digit, word_clue, some_text, ne_eqb, clue_again)
 
 -- the lines of clues are tidy
 pub tidy_clues : (s limit : ℕ) (clues : List (List ℕ)) → IsSpacing s → limit < 2 ^ 64
@@ -75,7 +75,7 @@ tidy_clues s limit clues spacing wide h = search (all-map, tidy_clue, word_clue)
 
 -- a size that is written is read again
 pub size_again : (limit n : ℕ) → limit < 2 ^ 64 → 1 ≤ n → n ≤ limit → size_of limit (decimal n) ≡ Ok n
-size_again limit n wide low high = search (rules, le-leb, number_again)
+size_again limit n wide low high = search (rules, le-leb, decimal_is_IsNumeral, filled, all_digits)
 
 -- ---- how long the text is
 

@@ -19,11 +19,6 @@ nin_is p = rw (fed_clues 32 (p.rows ++ p.columns), flat_map-append (clue_line 32
 abbrev ordered : Bool → Bool → Nonogram → Nonogram → Nonogram
 ordered own other p q = cond (not own && other) q p
 
--- with equal sizes there is one order
-own_order : (same own other : Bool) (p q : Nonogram) → (same ≡ true → q ≡ p) → (not same && not own && other) ≡ false
-    → ordered own other p q ≡ p
-own_order same own other p q alike clear = search rules
-
 other_order : (same own other : Bool) (p q : Nonogram) → (not same && not own && other) ≡ true → ordered own other p q ≡ q
 other_order same own other p q ambiguous = search rules
 
@@ -38,7 +33,7 @@ module _ (limit : ℕ) (p : Nonogram) (wide : limit ≤ 256) (lawful : IsNonogra
   same = search (rules, take-append_seam, drop-append_seam)
 
   likelier_is : is_ambiguous p ≡ false → likelier p.width p.height clues ≡ plain p.width p.height p.rows p.columns
-  likelier_is clear = search (rules, own_order, eqb-true, same)
+  likelier_is clear = search (rules, eqb-true, same)
 
   likelier_other : is_ambiguous p ≡ true → likelier p.width p.height clues ≡ swapped
   likelier_other ambiguous = search (rules, other_order, same)

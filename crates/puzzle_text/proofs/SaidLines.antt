@@ -1,5 +1,5 @@
 -- What the lines of a text say, if some of them say its sizes and others its clues.
-use Rattle.puzzle_text.proofs.Names.{rules, ◌≡◌, ℕ, ◌+◌, ◌≤◌, Bool, true, false, ltb, List, [], ◌∷◌, ◌++◌, length, drop, filter, refl, sym, ap, ◌∙◌, append_assoc, arith, Some, None, Ok, Err, position_or_len, AllByRecursion, cond-false, eq-eqb, le-ltb, lt-ltb, take_all, take_at, drop_at, length-append, Nonogram, plain, TooLong, Line, is_full, is_hash, lines, pieces, clue_of, clues_of, text_lines, two_sizes, at_hash, before_hash, mk_of, nin_of, likelier, Sections, both_clues, outline_of, puzzle_of_clues, puzzle_said}
+use Rattle.puzzle_text.proofs.Names.{rules, ◌≡◌, ℕ, ◌+◌, ◌≤◌, Bool, true, false, ltb, List, [], ◌∷◌, ◌++◌, length, drop, filter, refl, sym, ap, ◌∙◌, append_assoc, arith, Some, None, Ok, Err, position_or_len, AllByRecursion, cond-false, eq-eqb, le-ltb, lt-ltb, take_all, take_at, drop_at, length-append, Nonogram, plain, TooLong, Line, is_full, is_hash, lines, pieces, clues_of, text_lines, two_sizes, at_hash, before_hash, mk_of, nin_of, likelier, Sections, both_clues, outline_of, puzzle_of_clues, puzzle_said}
 use Rattle.puzzle_text.specs.Sections.{choice}
 use Rattle.puzzle_text.proofs.AllLemmas.{filter_all}
 use Rattle.puzzle_text.proofs.MkLemmas.{puzzle_of_both}
@@ -43,11 +43,6 @@ pub record SayAll (limit : ℕ) (found : List Line) (clues : List (List ℕ)) : 
   pub hash : AllByRecursion (λ line. is_hash line ≡ false) found
   pub count : length found ≡ length clues
   pub said : clues_of limit found ≡ Ok clues
-
--- one line more
-pub say_more : (limit : ℕ) (line : Line) (clue : List ℕ) (found : List Line) (clues : List (List ℕ)) → is_full line ≡ true
-    → is_hash line ≡ false → clue_of limit line.text ≡ Some clue → SayAll limit found clues → SayAll limit (line ∷ found) (clue ∷ clues)
-say_more limit line clue found clues full hash said others = search (rules)
 
 -- and those are all, if none is blank
 all_chosen : (limit count : ℕ) (found : List Line) (clues : List (List ℕ)) → SayAll limit found clues → length clues ≡ count

@@ -18,11 +18,6 @@ of_parts rows columns stray = record { rows = rows; columns = columns; stray = s
 abbrev number_at : Option (List ℕ × Line) → Option ℕ
 number_at found = option_map (λ (place : List ℕ × Line). place.1.number) found
 
--- one line more
-pub one_more : (under : Under) (word : List ℕ) (above : Sections) (line : Line) (others : List (List ℕ × Line)) → IsUnder word under
-    → join above (sections_of ((word, line) ∷ others)) ≡ join (with_line above under line) (sections_of others)
-one_more v0 word above line others is = search (rules, append_assoc, and-false)
-
 -- ---- the three kinds of lines
 
 -- what is still to come below a line of each kind
@@ -33,7 +28,7 @@ below_keyword word line lines e = rw e refl
 pub below_content : (under : Under) (word : List ℕ) (above : Sections) (line : Line) (lines : List Line) → IsUnder word under
     → is_empty (keyword line) ≡ true → is_hash line ≡ false
     → join above (below word (line ∷ lines)) ≡ join (with_line above under line) (below word lines)
-below_content under word above line lines is e h = rw (e, h) (one_more under word above line (walked word lines) is)
+below_content under word above line lines is e h = search (rules, append_assoc, and-false)
 
 -- ---- many lines of one kind
 
@@ -90,18 +85,15 @@ module _ (lines : List KeptLine) (i : ℕ) (d : KeptLine) (word own : List ℕ) 
   abbrev others : List Line
   others = map shown_line (drop (i + 1) lines)
 
-  at_line_here : join above (below word (line ∷ others)) ≡ whole
-  at_line_here = sym (ap (λ all. join above (below word (map shown_line all))) (drop_more lines i d h)) ∙ so_far
-
   -- past a keyword line, which stands in no section
   pub next_keyword : eqb (length own) 0 ≡ false → join above (below (str_to_ascii_lowercase own) others) ≡ whole
-  next_keyword some = search (rules, below_keyword, none_is, at_line_here)
+  next_keyword some = search (rules, below_keyword, none_is, drop_more)
 
   -- past a comment, which stands in no section
   pub next_comment : eqb (length own) 0 ≡ true → is_hash line ≡ true → join above (below word others) ≡ whole
-  next_comment none hash = search (rules, none_is, at_line_here)
+  next_comment none hash = search (rules, none_is, drop_more)
 
   -- past a line that goes into the section of the keyword above it
   pub next_content : (under : Under) → IsUnder word under → eqb (length own) 0 ≡ true → is_hash line ≡ false
       → join (with_line above under line) (below word others) ≡ whole
-  next_content under is none other = sym (below_content under word above line others is (none_is own _ true e none) other) ∙ at_line_here
+  next_content under is none other = search (rules, below_content, none_is, drop_more)

@@ -1,5 +1,5 @@
 -- Lines in their usual form: digits, separators and endings.
-use Rattle.puzzle_text.proofs.Names.{rules, ◌≡◌, ℕ, ◌-◌, ◌<◌, ◌≤◌, true, false, drop, not, eqb, List, [], ◌∷◌, ◌++◌, length, take, filter, get_or, All, refl, sym, ap, ◌∙◌, append_assoc, arith, inl, inr, Some, Ok, list_all, AllByRecursion, is_ascii_digit, digits_value, le-leb, nat_tests, get_or_append_left, take_all, slice_split_at, slice_split_none, AllPass-from_list_all, LONGEST_SIDE, is_clue, numbers_within, is_empty, is_separator, number_within, pieces, size_of, BeginsWith, BeginsWithNumber, EndsLine, IsNumeral, IsSeparator, SaysClue, SaysSizes}
+use Rattle.puzzle_text.proofs.Names.{rules, ◌≡◌, ℕ, ◌-◌, ◌<◌, ◌≤◌, true, false, drop, eqb, List, [], ◌∷◌, ◌++◌, length, take, get_or, refl, sym, append_assoc, arith, inl, inr, Some, Ok, list_all, AllByRecursion, is_ascii_digit, digits_value, le-leb, nat_tests, get_or_append_left, take_all, slice_split_at, slice_split_none, AllPass-from_list_all, LONGEST_SIDE, is_clue, numbers_within, number_within, pieces, size_of, BeginsWith, BeginsWithNumber, EndsLine, IsNumeral, IsSeparator, SaysClue, SaysSizes}
 use Rattle.puzzle_text.proofs.NumbersLemmas.{keeps_piece, number_is}
 use Rattle.puzzle_text.proofs.ReadBack.{IsKept, IsTidy, kept_tidy, line_kept, tidy_solid, raw_lines-feed, strip_last_is}
 use Rattle.puzzle_text.proofs.ReadClue.{IsSpacing, clue_is, comma, space}
@@ -28,9 +28,6 @@ module _ (piece : List ℕ) (n : ℕ) (numeral : IsNumeral piece n) where
   some_piece : 0 < length piece
   some_piece = some_digits piece n numeral.value numeral.positive
 
-  unbroken : All (λ byte. is_separator byte ≡ false) piece
-  unbroken k d lt = search (rules, AllPass-from_list_all, nat_tests)
-
   number_said : number_within LONGEST_SIDE piece ≡ Some n
   number_said = search (rules, number_is, some_piece)
 
@@ -38,21 +35,18 @@ module _ (piece : List ℕ) (n : ℕ) (numeral : IsNumeral piece n) where
   size_said = rw (number_said, le-leb 1 n numeral.positive) refl
 
   pieces_alone : pieces piece ≡ piece ∷ []
-  pieces_alone = ap (filter (λ part. not (is_empty part))) (slice_split_none is_separator piece unbroken) ∙ keeps_piece piece [] some_piece
+  pieces_alone = search (rules, slice_split_none, keeps_piece, some_piece, AllPass-from_list_all, nat_tests)
 
   pieces_more : (s : ℕ) (more : List ℕ) → IsSpacing s → pieces (piece ++ s ∷ more) ≡ piece ∷ pieces more
-  pieces_more s more spacing = search (slice_split_at, unbroken, keeps_piece, some_piece)
-
-  first_digit : is_ascii_digit (get_or piece 0 0) ≡ true
-  first_digit = AllPass-from_list_all is_ascii_digit piece numeral.digits 0 0 some_piece
+  pieces_more s more spacing = search (rules, slice_split_at, keeps_piece, some_piece, AllPass-from_list_all, nat_tests)
 
   -- a number says itself
   pub number_alone : SaysNumbers piece (n ∷ [])
-  number_alone = search (first_digit, pieces_alone, number_said, tidy_solid, some_piece, digits_high)
+  number_alone = search (rules, pieces_alone, number_said, tidy_solid, some_piece, digits_high, AllPass-from_list_all)
 
   -- a number before other numbers
   pub number_before : (s : ℕ) (more ns : List ℕ) → IsSpacing s → SaysNumbers more ns → SaysNumbers (piece ++ s ∷ more) (n ∷ ns)
-  number_before s more ns spacing said = search (rules, tidy-join, get_or_append_left, some_piece, first_digit, pieces_more, number_said, tidy_solid, digits_high)
+  number_before s more ns spacing said = search (rules, tidy-join, get_or_append_left, some_piece, pieces_more, number_said, tidy_solid, digits_high, AllPass-from_list_all)
 
 -- ---- the numbers of a line, one after the other
 

@@ -2,7 +2,7 @@
 use Rattle.puzzle_text.proofs.Names.{rules, ◌≡◌, ℕ, ◌+◌, true, false, not, eqb, List, [], ◌∷◌, ◌++◌, length, filter, get_or, refl, sym, ap, ◌∙◌, append_assoc, arith, None, eqb-true, AllByRecursion, LONGEST_SIDE, nil_from_length, append-nil, length-append, filter-append, Under, Other, Line, is_empty, is_full, is_hash, numbered_from, raw_lines, is_keyword_line, keyword, Sections, placed, sections_of, IsUnder, with_line, AreClueLines, HaveClues, IsClueText, KeepsOthers, SayClues, SaysClue, clues_under}
 use Rattle.puzzle_text.proofs.ReadClues.{some_text}
 use Rattle.puzzle_text.proofs.AllLemmas.{all-weaker, filter_all, filter_none}
-use Rattle.puzzle_text.proofs.SaidLines.{SayAll, say_more}
+use Rattle.puzzle_text.proofs.SaidLines.{SayAll}
 use Rattle.puzzle_text.proofs.SectionsWalk.{IsContent, below, below_content, below_keyword, content_digit, join, join_content, nothing_above, with_columns, with_lines, with_rows}
 use Rattle.puzzle_text.proofs.UsualLines.{digit_range}
 
@@ -15,7 +15,7 @@ clue_content line clue said = let range = digit_range (get_or line.text 0 0) sai
 -- lines of clues say these clues
 pub say_all : (found : List Line) (clues : List (List ℕ)) → AreClueLines found clues → SayAll LONGEST_SIDE found clues
 say_all [] [] said = record { full = tt; hash = tt; count = refl; said = refl }
-say_all (line ∷ found) (clue ∷ clues) said = search (rules, say_all found clues said.1, say_more, some_text, digit_range, clue_content)
+say_all (line ∷ found) (clue ∷ clues) said = search (rules, say_all found clues said.1, some_text, digit_range, clue_content)
 say_all found clues said = absurd said
 
 -- none of them is a keyword line or a comment

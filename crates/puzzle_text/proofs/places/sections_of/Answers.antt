@@ -1,16 +1,11 @@
 -- `sections_of`: each of the three kinds of lines leaves the sections of the text as they are to be.
-use Rattle.puzzle_text.proofs.Names.{◌+◌, [], drop, ap, map, refl, sym, ◌∙◌, str_to_ascii_lowercase, Sections, placed, sections_of, shown_line, shown_sections}
+use Rattle.puzzle_text.proofs.Names.{rules, ◌+◌, drop, ap, map, sym, ◌∙◌, str_to_ascii_lowercase, Sections, placed, sections_of, shown_line, shown_sections}
 use Rattle.puzzle_text.proofs.SectionsWalk.{below, join, next_comment, next_content, next_keyword, nothing_above}
 use Rattle.puzzle_text.proofs.places.sections_of.Goals as goal
 use Rattle.puzzle_text.proofs.places.sections_of.Goals.{then-not-is_empty, else-not-is_empty+then-not-is_hash+in_ok-put, else-not-is_empty+else-not-is_hash}
 
 pub loop-line-init : goal.loop-line-init
-loop-line-init c = (
-  [],
-  (refl, refl),
-  nothing_above _ _ (map shown_line c.args.lines.now) (ap (map shown_line) c.in_ok-with_capacity.ensures.items)
-      (ap (map shown_line) c.in_ok-with_capacity-2.ensures.items),
-)
+loop-line-init c = search (rules, nothing_above)
 
 pub loop-line-preserved : goal.loop-line-preserved
 loop-line-preserved c =

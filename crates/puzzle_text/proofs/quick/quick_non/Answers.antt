@@ -1,12 +1,10 @@
 -- `quick_non`: what the parts of the text say, the text says.
-use Rattle.puzzle_text.proofs.Names.{Ok, arith, map, ◌≡◌, LONGEST_SIDE, lines, Sections, placed, puzzle_said, read_non, sections_of, shown_keyword, HaveClues}
+use Rattle.puzzle_text.proofs.Names.{rules, Ok, arith, map, ◌≡◌, LONGEST_SIDE, lines, Sections, placed, puzzle_said, read_non, sections_of, shown_keyword, HaveClues}
 use Rattle.puzzle_text.proofs.UsualReads.{kept_clean, non_said, some_of_ok}
 use Rattle.puzzle_text.proofs.quick.quick_non.Goals as goal
 
 pub puzzle_said-requires : goal.puzzle_said-requires
-puzzle_said-requires c =
-    kept_clean c.args.bytes.now (map shown_keyword c.in_ok-parts_of.field-0.keyword_lines.items) (omega arith)
-    c.in_ok-parts_of.ensures.keywords
+puzzle_said-requires c = search (rules, kept_clean)
 
 pub returns-clause-answer : goal.returns-clause-answer
 returns-clause-answer c =

@@ -1,16 +1,12 @@
 -- `parts_of`: past a blank line, a comment, or a keyword line with the clues below it.
-use Rattle.puzzle_text.proofs.Names.{◌≡◌, ◌+◌, ◌∷◌, arith, filter, length, map, rules, sym, ◌∙◌, Other, is_keyword_line, Line, lines, numbered_from, raw_lines, shown_keyword, clues_under}
+use Rattle.puzzle_text.proofs.Names.{◌≡◌, ◌+◌, ◌∷◌, arith, filter, length, map, rules, sym, ◌∙◌, is_keyword_line, Line, lines, numbered_from, raw_lines, shown_keyword, clues_under}
 use Rattle.puzzle_text.proofs.SectionsWalk.{none_is}
 use Rattle.puzzle_text.proofs.UsualParts.{above_all, kept_one, past_blank, past_comment, past_section}
 use Rattle.puzzle_text.proofs.usual_parts.parts_of.Goals as goal
 use Rattle.puzzle_text.proofs.usual_parts.parts_of.Goals.{else-not-is_empty-2-via-then-not-is_empty-2+else-not-is_hash, else-not-is_empty-2-via-else-not-is_empty-2}
 
 pub lines-init : goal.lines-init
-lines-init c = record {
-  room = omega arith;
-  keywords = search rules;
-  walk = (Other, above_all (lines c.args.text.now) c.new.result.items c.new-2.result.items c.new.ensures.items c.new-2.ensures.items);
-}
+lines-init c = search (rules, above_all)
 
 pub lines-preserved-then-not-is_empty : goal.lines-preserved-then-not-is_empty
 lines-preserved-then-not-is_empty c =
