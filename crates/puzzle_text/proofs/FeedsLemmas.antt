@@ -29,18 +29,15 @@ module _ (P : List ℕ → Type 0) (cut : (n : ℕ) (bytes : List ℕ) → P byt
       cond_both (eqb byte 34) (Some bytes) (after_quote bytes) (λ o. IfSome o P) (λ _. others) (λ _. of_after bytes others)
 
   turned : (o : Option (List ℕ)) → IfSome o P → IfSome (option_map reverse o) P
-  turned v0 h = search (rules)
+  turned o h = search rules
 
   of_or : (o : Option (List ℕ)) (bytes : List ℕ) → IfSome o P → P bytes → P (unwrap_or o bytes)
-  of_or v0 bytes h other = search (rules)
+  of_or o bytes h other = search rules
 
   of_text : (line : Line) → P line.text → P (quoted_text line)
   of_text line h = search (rules, of_trim, of_or, of_after, turned)
 
 -- ---- parts of what has no line feed
-
-clean_drop : (n : ℕ) (bytes : List ℕ) → IsClean bytes → IsClean (drop n bytes)
-clean_drop n bytes h = All-drop IsOther n bytes h
 
 clean_reverse : (bytes : List ℕ) → IsClean bytes → IsClean (reverse bytes)
 clean_reverse bytes h k d lt = search (rules, length-reverse, get_or-reverse)
@@ -53,7 +50,7 @@ clean_strip byte bytes h =
 clean_text : (line : Line) → has_no_feed line.text ≡ true → has_no_feed (quoted_text line) ≡ true
 clean_text line h =
     list_all-from_AllPass _ (quoted_text line)
-    (of_text IsClean clean_drop clean_reverse line (AllPass-from_list_all _ line.text h))
+    (of_text IsClean (All-drop IsOther) clean_reverse line (AllPass-from_list_all _ line.text h))
 
 -- ---- lines
 
@@ -63,7 +60,7 @@ IsRaw raw = IsClean (strip_last 10 raw)
 
 raw_onto : (byte : ℕ) (parts : List (List ℕ)) → eqb byte 10 ≡ false → AllByRecursion IsRaw parts
     → AllByRecursion IsRaw (onto_first byte parts)
-raw_onto byte v1 other h = search (rules, All-cons, All-nil)
+raw_onto byte parts other h = search (rules, All-cons, All-nil)
 
 all_raw : (bytes : List ℕ) → AllByRecursion IsRaw (raw_lines bytes)
 all_raw [] = tt
@@ -73,7 +70,7 @@ clean_lines : (number : ℕ) (raws : List (List ℕ)) → AllByRecursion IsRaw r
 clean_lines number [] h = tt
 clean_lines number (raw ∷ raws) h = (
   list_all-from_AllPass _ (trim (without_ending raw))
-      (of_trim IsClean clean_drop clean_reverse (without_ending raw) (clean_strip 13 (strip_last 10 raw) h.0)),
+      (of_trim IsClean (All-drop IsOther) clean_reverse (without_ending raw) (clean_strip 13 (strip_last 10 raw) h.0)),
   clean_lines (number + 1) raws h.1,
 )
 
@@ -99,7 +96,7 @@ first_clean [] h line e = absurd cc
 first_clean (found ∷ text) h line e = search rules
 
 least_none : (m n : Option ℕ) → least m n ≡ None → (m ≡ None) × (n ≡ None)
-least_none v0 n e = search (rules)
+least_none m n e = search rules
 
 each_none : (numbers : List (Option ℕ)) → least_of numbers ≡ None → AllByRecursion (λ number. number ≡ None) numbers
 each_none [] e = tt
@@ -130,10 +127,6 @@ short_first word (found ∷ kept) h =
     let parts = and_parts (leb (length found.line.text.now) LONGEST_TEXT) (are_short kept) h in
     short_here (has_keyword word (shown_keyword found)) (shown_keyword found) (with_keyword word (map shown_keyword kept))
     (leb-true _ _ parts.0) (short_first word kept parts.1)
-
-none_least : (f : List ℕ → Option ℕ) (words : List (List ℕ)) → ((word : List ℕ) → f word ≡ None) → least_of (map f words) ≡ None
-none_least f [] h = refl
-none_least f (word ∷ words) h = rw (h word, none_least f words h) refl
 
 or_stray : (stray : Option ℕ) → least stray None ≡ stray
 or_stray stray = search rules

@@ -10,7 +10,7 @@ KeepsSome {A} old new = (x : A) → old ≡ Some x → new ≡ Some x
 
 some-bind : {A B : Type 0} (old new : Option A) (f g : A → Option B) → KeepsSome old new → ((x : A) → KeepsSome (f x) (g x))
     → KeepsSome (option_and_then f old) (option_and_then g new)
-some-bind v0 new f g kept next = search (rules)
+some-bind old new f g kept next = search rules
 
 some-each : {X Y : Type 0} (f g : X → Option Y) (xs : List X) → ((x : X) → KeepsSome (f x) (g x))
     → KeepsSome (each_some f xs) (each_some g xs)
@@ -38,7 +38,7 @@ keeps-each f g (x ∷ xs) next = search (keeps-bind, keeps-same, next x, keeps-e
 
 keeps-number : {A : Type 0} (n : ℕ) (old new : Option A) → KeepsSome old new
     → KeepsAnswer (or_fault (BadNumber n) old) (or_fault (BadNumber n) new)
-keeps-number n v1 new kept = search (rules)
+keeps-number n old new kept = search rules
 
 -- ---- numbers, sizes and clues
 
@@ -60,7 +60,7 @@ module _ (a b : ℕ) (le : a ≤ b) where
       rw (here.0, within n here.1, runs_keep ns parts.1) refl
 
   numbers_keep : (ns : List ℕ) → KeepsSome (clue_of_numbers a ns) (clue_of_numbers b ns)
-  numbers_keep v0 = search (rules, and_parts, runs_keep)
+  numbers_keep ns = search (rules, and_parts, runs_keep)
 
   clue_keeps : (text : List ℕ) → KeepsSome (clue_of a text) (clue_of b text)
   clue_keeps text = some-bind _ _ _ _ (some-each _ _ (pieces text) number_keeps) numbers_keep

@@ -38,7 +38,7 @@ no_feed bytes before =
 
 -- what a search for a line feed gives
 pub feed_found : (bytes : List ℕ) (found : Option ℕ) → IsFirstByte (is_byte 10) bytes found → found ≡ position (λ byte. eqb byte 10) bytes
-feed_found bytes v1 none = search (rules, no_feed, false_from_ne_true, position_or_len_is, lt-ltb)
+feed_found bytes found none = search (rules, no_feed, false_from_ne_true, position_or_len_is, lt-ltb)
 
 -- ---- the first line without its ending
 

@@ -39,7 +39,7 @@ abbrev joined : {Y : Type 0} → Result (List Y) TextFault → Result (List Y) T
 joined a b = a >>= λ xs. with_front xs b
 
 each-append : {X Y : Type 0} (step : X → Result Y TextFault) (xs ys : List X) → each step (xs ++ ys) ≡ joined (each step xs) (each step ys)
-each-append step [] ys = search (rules)
+each-append step [] ys = search rules
 each-append {X} {Y} step (x ∷ xs) ys = search (rules, each-append step xs ys)
 
 -- the puzzle of the clue lines of both sections

@@ -74,7 +74,7 @@ fed_fields ts [] = refl
 fed_fields ts (f ∷ fs) = search (rules, fed_fields ts fs, flat_map-append, append_assoc, append-nil)
 
 fed_goal : (o : Option (List Bool)) → flat_map with_feed (goal_gap o ++ one (codes "goal") (goal_text o)) ≡ goal_lines o
-fed_goal v0 = search (rules, append_assoc, append-nil)
+fed_goal o = search (rules, append_assoc, append-nil)
 
 pub non_is : (p : Nonogram) → flat_map with_feed (texts_non p) ≡ text_non p
 non_is p =
@@ -87,7 +87,7 @@ non_is p =
 -- ---- no line is cut or trimmed
 
 no_feeds : (text : List ℕ) → list_all (λ byte. not (eqb byte 10)) text ≡ true → AllByRecursion (λ byte. eqb byte 10 ≡ false) text
-no_feeds text h = all_pass (λ byte. not (eqb byte 10)) _ (λ byte other. not-true (eqb byte 10) other) text h
+no_feeds text h = search (all_pass, not-true)
 
 kept_field : (word text : List ℕ) → list_all (λ byte. not (eqb byte 10)) word ≡ true → list_all (λ byte. not (eqb byte 10)) text ≡ true
     → 33 ≤ get_or (field_line word text) 0 0 → IsKept (field_line word text)
@@ -104,13 +104,13 @@ kept_field word text name clean first =
 
 kept_one : (word : List ℕ) (o : Option (List ℕ)) → list_all (λ byte. not (eqb byte 10)) word ≡ true → is_field o ≡ true
     → ((text : List ℕ) → 33 ≤ get_or (field_line word text) 0 0) → AllByRecursion IsKept (one word o)
-kept_one word v1 name lawful first = search (rules, kept_field, and_parts)
+kept_one word o name lawful first = search (rules, kept_field, and_parts)
 
 kept_blank : IsKept []
 kept_blank = record { no_feed = tt; no_return = refl; trimmed = refl }
 
 pub all_gap : (P : List ℕ → Type 0) → P [] → (o : Option (List Bool)) → AllByRecursion P (goal_gap o)
-all_gap v0 blank v2 = search (rules)
+all_gap P blank o = search rules
 
 clean_goal : (cells : List Bool) → list_all (λ byte. not (eqb byte 10)) (map goal_byte cells) ≡ true
 clean_goal [] = refl
@@ -121,7 +121,7 @@ kept_goal None = tt
 kept_goal (Some cells) = (kept_field (codes "goal") (map goal_byte cells) refl (clean_goal cells) (omega arith), tt)
 
 pub lawful_field : (ts : Description) → IsDescription ts → (f : Field) → is_field (text_of ts f) ≡ true
-lawful_field ts lawful v2 = search (rules)
+lawful_field ts lawful f = search rules
 
 -- what follows the keyword that a line's text begins with
 abbrev pub rest_of : List ℕ → List ℕ
@@ -179,7 +179,7 @@ length_fields ts lawful [] = omega arith
 length_fields ts lawful (f ∷ fs) = search (rules, length_fields ts lawful fs, facts, lawful_field, length-append, leb-true, and_parts)
 
 length_goal : (w h : ℕ) (o : Option (List Bool)) → w ≤ 256 → h ≤ 256 → is_goal (w * h) o ≡ true → length (goal_lines o) ≤ 65550
-length_goal w h v2 wide high lawful = search (rules, eqb-true, mul-le, length-map, length-append)
+length_goal w h o wide high lawful = search (rules, eqb-true, mul-le, length-map, length-append)
 
 -- the text is short enough to be read
 pub length_non : (limit : ℕ) (p : Nonogram) → limit ≤ 256 → IsNonogramWithin limit p → length (text_non p) ≤ 1048576

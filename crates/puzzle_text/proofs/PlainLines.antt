@@ -55,7 +55,7 @@ GoesOn start later front raws others =
 
 one_byte : (start : Bool) (byte : ℕ) (bytes : List ℕ) → eqb byte 64 ≡ false
     → GoesOn start (eqb byte 10) (byte ∷ []) (raw_lines (byte ∷ bytes)) (raw_lines bytes)
-one_byte v0 byte bytes other = search (rules, plain)
+one_byte start byte bytes other = search (rules, plain)
 
 -- whether a line begins after these bytes, if one begins before them or not
 abbrev starts_after : Bool → List ℕ → Bool
@@ -85,7 +85,7 @@ starts_where (byte ∷ bytes) =
 -- ---- what follows
 
 nothing_in : (start : Bool) → (body_in start [] ≡ []) × (entries_in start [] ≡ [])
-nothing_in v0 = search (rules)
+nothing_in start = search rules
 
 -- nothing follows
 pub follows_none : (bytes front tail : List ℕ) → bytes ≡ front ++ tail → HasNoAt front → length tail ≡ 0 → FollowsPlain bytes tail

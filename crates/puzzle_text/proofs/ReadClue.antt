@@ -62,7 +62,7 @@ pub words : (limit : ℕ) (ns : List ℕ) → limit < 2 ^ 64 → AllByRecursion 
 words limit ns wide h = all-weaker (λ n. n ≤ limit) IsWord (λ n low. omega arith) ns h
 
 pub clue_is : (limit : ℕ) (ns : List ℕ) → is_clue limit ns ≡ true → clue_of_numbers limit ns ≡ Some ns
-clue_is limit v1 h = search (rules)
+clue_is limit ns h = search rules
 
 -- a clue that is written is read again
 pub clue_again : (s limit : ℕ) (clue : List ℕ) → IsSpacing s → limit < 2 ^ 64 → is_clue limit clue ≡ true

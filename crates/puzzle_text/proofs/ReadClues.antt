@@ -56,7 +56,7 @@ word_clue limit clue wide h = words limit clue wide (runs limit clue (and_parts 
 -- what the line of a clue begins with
 pub first_digit : (s : ℕ) (clue : List ℕ) → AllByRecursion IsWord clue
     → (48 ≤ get_or (clue_text s clue) 0 0) × (get_or (clue_text s clue) 0 0 ≤ 57)
-first_digit s v1 h = search (rules, decimal_is_IsNumeral, digit_at, get_or_append_left)
+first_digit s clue h = search (rules, decimal_is_IsNumeral, digit_at, get_or_append_left)
 
 pub some_text : (text : List ℕ) → 48 ≤ get_or text 0 0 → not (is_empty text) ≡ true
 some_text [] h = absurd (omega arith)
@@ -66,7 +66,8 @@ some_text (byte ∷ bytes) h = ap not (ne_eqb (suc (length bytes)) 0 (λ e. omeg
 pub say_clues : (s limit k : ℕ) (clues : List (List ℕ)) → IsSpacing s → limit < 2 ^ 64
     → AllByRecursion (λ clue. is_clue limit clue ≡ true) clues → SayAll limit (numbered k (map (clue_text s) clues)) clues
 say_clues s limit k [] spacing wide h = record { full = tt; hash = tt; count = refl; said = refl }
-say_clues s limit k (clue ∷ clues) spacing wide h = search (rules, say_clues s limit (k + 1) clues spacing wide h.1, first_digit, word_clue, some_text, ne_eqb, clue_again)
+say_clues s limit k (clue ∷ clues) spacing wide h =
+    search (rules, say_clues s limit (k + 1) clues spacing wide h.1, first_digit, word_clue, some_text, ne_eqb, clue_again)
 
 -- the lines of clues are tidy
 pub tidy_clues : (s limit : ℕ) (clues : List (List ℕ)) → IsSpacing s → limit < 2 ^ 64

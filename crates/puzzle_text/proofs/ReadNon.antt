@@ -29,7 +29,7 @@ with-content word texts other h = search (rules, filter_none, all-weaker)
 
 with-one : (word name : List ℕ) (o : Option (List ℕ)) (same : Bool)
     → ((text : List ℕ) → bytes_eq (word_at (field_line name text)) word ≡ same) → texts_with word (one name o) ≡ cond same (one name o) []
-with-one word name v2 same h = search (rules, same)
+with-one word name o same h = search (rules, same)
 
 -- the fields with this keyword
 abbrev fields_with : List ℕ → List Field → List Field
@@ -67,7 +67,7 @@ module _ (limit : ℕ) (p : Nonogram) (wide : limit < 2 ^ 64) (lawful : IsNonogr
       (rw (with-one word (codes "goal") (goal_text p.goal) goal in_goal) refl))))
 
   own_only : (f : Field) → flat_map (part p.texts) (f ∷ []) ++ [] ≡ part p.texts f
-  own_only f = append-nil (part p.texts f ++ []) ∙ append-nil (part p.texts f)
+  own_only f = search (append-nil)
 
   field_only : (f : Field) → texts_with (field_word f) (texts_non p) ≡ part p.texts f
   field_only Catalogue = whole (codes "catalogue") false refl (λ text. refl) ∙ own_only Catalogue
@@ -95,7 +95,7 @@ one_seen xs text e = absurd cc
 -- ---- what stands between quotes
 
 quoted_is : (text : List ℕ) → quoted (34 ∷ (text ++ 34 ∷ [])) ≡ text
-quoted_is text = rw (reverse-append text (34 ∷ []), reverse-reverse text) refl
+quoted_is text = search (rules, reverse-append, reverse-reverse)
 
 -- ---- fields
 
@@ -107,14 +107,14 @@ FieldIs word lines (Some text) = (line : Line) × (with_keyword word lines ≡ l
 field_is : (word : List ℕ) (o : Option (List ℕ)) (k : ℕ) (texts : List (List ℕ))
     → ((text : List ℕ) → rest_of (field_line word text) ≡ 34 ∷ (text ++ 34 ∷ [])) → texts_with word texts ≡ one word o
     → FieldIs word (numbered k texts) o
-field_is word None k texts after e = none_seen (with_keyword word (numbered k texts)) (lines_with word k texts ∙ e)
+field_is word None k texts after e = search (rules, none_seen, lines_with)
 field_is word (Some text) k texts after e =
     let found = one_seen (with_keyword word (numbered k texts)) (field_line word text) (lines_with word k texts ∙ e) in
-    (found.0, found.1, ap (λ (x : List ℕ). quoted (rest_of x)) found.2 ∙ ap quoted (after text) ∙ quoted_is text)
+    (found.0, found.1, search (rules, after, reverse-append, reverse-reverse))
 
 long_none : (word : List ℕ) (lines : List Line) (o : Option (List ℕ)) → FieldIs word lines o → is_field o ≡ true
     → number_of_line (long_text lines word) ≡ None
-long_none word lines v2 is lawful = search (rules)
+long_none word lines o is lawful = search rules
 
 -- ---- sections
 
@@ -127,7 +127,7 @@ below_keywords under k (x ∷ xs) ys h =
     (later.0, later.1, below_keyword under (record { number = k; text = x }) (numbered (k + 1) (xs ++ ys)) h.0 ∙ later.2)
 
 one_word : (f : Field) (o : Option (List ℕ)) → AllByRecursion (λ text. is_empty (word_at text) ≡ false) (one (field_word f) o)
-one_word f v1 = search (rules, facts)
+one_word f o = search (rules, facts)
 
 -- texts as lines are as they are as texts
 numbered_all : (P : List ℕ → Type 0) (k : ℕ) (texts : List (List ℕ)) → AllByRecursion P texts
@@ -139,7 +139,7 @@ abbrev no_lines : Sections
 no_lines = record { rows = []; columns = []; stray = None }
 
 below_goal : (o : Option (List Bool)) (k : ℕ) → below (codes "columns") (numbered k (one (codes "goal") (goal_text o))) ≡ no_lines
-below_goal v0 k = search (rules)
+below_goal o k = search rules
 
 -- the clue lines of each section and the blank lines below them, from these numbers on
 abbrev these : Nonogram → ℕ → ℕ → Sections
@@ -193,7 +193,7 @@ cells_again count cells lawful = search (eq-eqb, length-map, eqb-true, each_cell
 
 goal_again : (count : ℕ) (o : Option (List Bool)) (lines : List Line) → FieldIs (codes "goal") lines (goal_text o) → is_goal count o ≡ true
     → goal_of count (first_with (codes "goal") lines) ≡ Ok o
-goal_again count v1 lines is lawful = search (rules, cells_again)
+goal_again count o lines is lawful = search (rules, cells_again)
 
 -- ---- the whole text
 

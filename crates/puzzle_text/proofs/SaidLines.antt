@@ -51,7 +51,7 @@ all_chosen limit count found clues all many = rw (filter_all is_full found all.f
 
 both_said : (limit : ℕ) (order : Bool) (a b : List Line) (x y : List (List ℕ)) → SayAll limit a x → SayAll limit b y
     → both_clues limit order a b ≡ Ok (x, y)
-both_said limit v1 a b x y p q = search (rules)
+both_said limit order a b x y p q = search rules
 
 -- ---- what all lines say
 

@@ -1,5 +1,5 @@
 -- The sections of a text, put together on one walk from the top.
-use Rattle.puzzle_text.proofs.Names.{rules, ◌≡◌, ℕ, ◌≤◌, ◌+◌, ◌<◌, drop, get_or, length, Bool, true, false, eqb, List, [], ◌∷◌, ◌++◌, refl, sym, ap, ◌∙◌, append_assoc, Option, None, map, option_map, take_while, AllByRecursion, ne_eqb, nat_tests, is_ascii_alphabetic, to_ascii_lowercase, str_to_ascii_lowercase, and-false, append-nil, drop_more, length-map, Under, Rows, Columns, Line, is_empty, is_hash, keyword, or_else, Sections, placed, sections_of, IsUnder, with_line, shown_line}
+use Rattle.puzzle_text.proofs.Names.{rules, ◌≡◌, ℕ, ◌≤◌, ◌+◌, ◌<◌, drop, get_or, length, Bool, true, false, eqb, List, [], ◌∷◌, ◌++◌, refl, sym, ap, ◌∙◌, append_assoc, Option, None, map, take_while, AllByRecursion, ne_eqb, nat_tests, is_ascii_alphabetic, to_ascii_lowercase, str_to_ascii_lowercase, and-false, append-nil, drop_more, length-map, Under, Rows, Columns, Line, is_empty, is_hash, keyword, or_else, Sections, placed, sections_of, IsUnder, with_line, shown_line}
 use Rattle.puzzle_text.specs.declared.lines.Line.{Line as KeptLine}
 use Rattle.puzzle_text.proofs.PlacedWalk.{walked, walked-placed}
 
@@ -14,9 +14,6 @@ below word lines = sections_of (walked word lines)
 
 abbrev of_parts : List Line → List Line → Option ℕ → Sections
 of_parts rows columns stray = record { rows = rows; columns = columns; stray = stray }
-
-abbrev number_at : Option (List ℕ × Line) → Option ℕ
-number_at found = option_map (λ (place : List ℕ × Line). place.1.number) found
 
 -- ---- the three kinds of lines
 
@@ -43,7 +40,7 @@ pub record IsContent (text : List ℕ) : Type 0 where
 
 -- a text that begins with a digit
 pub content_digit : (text : List ℕ) → 48 ≤ get_or text 0 0 → get_or text 0 0 ≤ 57 → IsContent text
-content_digit v0 low high = search (rules, ne_eqb, nat_tests)
+content_digit text low high = search (rules, ne_eqb, nat_tests)
 
 -- the sections with more lines at the end of one
 abbrev pub with_lines : Under → Sections → List Line → Sections
@@ -54,7 +51,8 @@ pub join_content : (under : Under) (word : List ℕ) (above : Sections) (found t
     → AllByRecursion (λ line. IsContent line.text) found
     → join above (below word (found ++ todo)) ≡ join (with_lines under above found) (below word todo)
 join_content under word above [] todo opens content = refl
-join_content under word above (line ∷ found) todo opens content = search (rules, join_content under word (with_line above under line) found todo opens content.1, below_content)
+join_content under word above (line ∷ found) todo opens content =
+    search (rules, join_content under word (with_line above under line) found todo opens content.1, below_content)
 
 pub with_rows : (above : Sections) (found : List Line) → with_lines Rows above found ≡ record above { rows = above.rows ++ found }
 with_rows above [] = ap (λ (lines : List Line). record above { rows = lines }) (sym (append-nil above.rows))

@@ -56,7 +56,7 @@ none_below number (raw ∷ raws) named = let later = none_below (number + 1) raw
 
 from_first : (number : ℕ) (raws : List (List ℕ)) → begins_with_marker raws ≡ true → are_named (entries_of raws) ≡ true
     → stray_from number false raws ≡ None
-from_first number v1 marker named = search (rules, none_below)
+from_first number raws marker named = search (rules, none_below)
 
 -- and none at all, if the first line is one
 pub none_stray : (raws : List (List ℕ)) → begins_with_marker raws ≡ true → are_named (entries_of raws) ≡ true → first_stray raws ≡ None

@@ -46,7 +46,8 @@ module _ (piece : List ℕ) (n : ℕ) (numeral : IsNumeral piece n) where
 
   -- a number before other numbers
   pub number_before : (s : ℕ) (more ns : List ℕ) → IsSpacing s → SaysNumbers more ns → SaysNumbers (piece ++ s ∷ more) (n ∷ ns)
-  number_before s more ns spacing said = search (rules, tidy-join, get_or_append_left, some_piece, pieces_more, number_said, tidy_solid, digits_high, AllPass-from_list_all)
+  number_before s more ns spacing said =
+      search (rules, tidy-join, get_or_append_left, some_piece, pieces_more, number_said, tidy_solid, digits_high, AllPass-from_list_all)
 
 -- ---- the numbers of a line, one after the other
 
@@ -97,7 +98,7 @@ line_ends front bytes rest tidy e = search (rules, at_feed, at_return)
 -- a slice of two bytes and more, of which the first is known
 pub headed : (text : List ℕ) (byte : ℕ) → 2 ≤ length text → get_or text 0 0 ≡ byte
     → text ≡ byte ∷ get_or text 1 0 ∷ take (length text - 2) (drop 2 text)
-headed v0 byte some is = search (rules, take_all)
+headed text byte some is = search (rules, take_all)
 
 -- the last number of a line ends its clue
 pub clue_ends : (text rest after next numbers clue : List ℕ) (n : ℕ) → PassesNumbers text rest numbers → BeginsWithNumber rest n after

@@ -1,5 +1,5 @@
 -- The parts of a usual .non text, found on one walk from the top.
-use Rattle.puzzle_text.proofs.Names.{rules, ◌≡◌, ℕ, ◌+◌, true, false, not, eqb, List, [], ◌∷◌, ◌++◌, length, filter, get_or, refl, sym, ap, ◌∙◌, append_assoc, arith, None, eqb-true, AllByRecursion, LONGEST_SIDE, nil_from_length, append-nil, length-append, filter-append, Under, Other, Line, is_empty, is_full, is_hash, numbered_from, raw_lines, is_keyword_line, keyword, Sections, placed, sections_of, IsUnder, with_line, AreClueLines, HaveClues, IsClueText, KeepsOthers, SayClues, SaysClue, clues_under}
+use Rattle.puzzle_text.proofs.Names.{rules, ◌≡◌, ℕ, ◌+◌, true, false, List, [], ◌∷◌, ◌++◌, length, filter, get_or, refl, sym, ap, ◌∙◌, append_assoc, arith, None, eqb-true, AllByRecursion, LONGEST_SIDE, nil_from_length, append-nil, length-append, filter-append, Under, Other, Line, is_empty, is_full, is_hash, numbered_from, raw_lines, is_keyword_line, keyword, Sections, placed, sections_of, IsUnder, with_line, AreClueLines, HaveClues, IsClueText, KeepsOthers, SayClues, SaysClue, clues_under, rest}
 use Rattle.puzzle_text.proofs.ReadClues.{some_text}
 use Rattle.puzzle_text.proofs.AllLemmas.{all-weaker, filter_all, filter_none}
 use Rattle.puzzle_text.proofs.SaidLines.{SayAll}
@@ -62,21 +62,18 @@ above_all whole rows columns p q = record {
   above = record { rows = []; columns = []; stray = None };
   opens = (refl, refl);
   joined = nothing_above [] [] whole refl refl;
-  clues = record { stray = refl; rows_said = rw p tt; columns_said = rw q tt };
+  clues = search rules;
 }
 
 -- past a comment
 pub past_comment : (under : Under) (whole todo : List Line) (line : Line) (rows columns : List (List ℕ))
     → IsAbove under whole (line ∷ todo) rows columns → is_empty (keyword line) ≡ true → is_hash line ≡ true
     → IsAbove under whole todo rows columns
-past_comment under whole todo line rows columns is none hash = search (rules)
+past_comment under whole todo line rows columns is none hash = search rules
 
 blank_more : (under : Under) (above : Sections) (line : Line) (rows columns : List (List ℕ)) → HaveClues above rows columns
     → is_full line ≡ false → HaveClues (with_line above under line) rows columns
-blank_more v0 above line rows columns clues blank = search (rules, filter-append, append-nil)
-
-no_first : (text : List ℕ) → is_empty text ≡ true → eqb (get_or text 0 0) 35 ≡ false
-no_first text blank = let none = eqb-true (length text) 0 blank in rw (nil_from_length text none) refl
+blank_more under above line rows columns clues blank = search (rules, filter-append, append-nil)
 
 -- past a blank line
 pub past_blank : (under : Under) (whole todo : List Line) (line : Line) (rows columns : List (List ℕ))
@@ -86,14 +83,15 @@ past_blank under whole todo line rows columns is none blank = record {
   word = is.word;
   above = with_line is.above under line;
   opens = is.opens;
-  joined = sym (below_content under is.word is.above line todo is.opens none (no_first line.text blank)) ∙ is.joined;
-  clues = blank_more under is.above line rows columns is.clues (ap not blank);
+  joined = search (rules, below_content, eqb-true, nil_from_length);
+  clues = search (rules, filter-append, append-nil);
 }
 
 section_more : (under : Under) (above : Sections) (found : List Line) (old_rows old_columns rows columns : List (List ℕ))
     → HaveClues above old_rows old_columns → KeepsOthers under old_rows old_columns rows columns
     → AreClueLines found (clues_under under rows columns) → HaveClues (with_lines under above found) rows columns
-section_more v0 above found old_rows old_columns rows columns clues kept said = search (rules, nil_from_length, with_rows, with_columns, filter-append, filter_all, say_all, said_after)
+section_more under above found old_rows old_columns rows columns clues kept said =
+    search (rules, nil_from_length, with_rows, with_columns, filter-append, filter_all, say_all, said_after)
 
 module _ (next : Under) (line : Line) (number place : ℕ) (after rest : List ℕ) (rows columns : List (List ℕ))
     (says : SayClues after (clues_under next rows columns) rest) (counted : place ≡ number + length (clues_under next rows columns)) where
@@ -130,5 +128,4 @@ module _ (next : Under) (line : Line) (number place : ℕ) (after rest : List �
 
 -- no bytes have no lines
 pub no_lines : (rest : List ℕ) (number : ℕ) → length rest ≡ 0 → numbered_from number (raw_lines rest) ≡ []
-no_lines [] number e = refl
-no_lines (byte ∷ bytes) number e = absurd (omega arith)
+no_lines rest number e = search (rules, nil_from_length)

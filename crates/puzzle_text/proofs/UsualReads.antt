@@ -11,12 +11,12 @@ use Rattle.puzzle_text.proofs.UsualParts.{no_lines, say_all}
 
 -- what is so of a value that a call gives is so of it as an option
 pub some_of_ok : {X E : Type 0} (P Q : X → Type 0) (r : Result X E) → IfOk r P → ((x : X) → P x → Q x) → IfSome (result_ok r) Q
-some_of_ok v0 v1 v2 h f = search (rules)
+some_of_ok P Q r h f = search rules
 
 -- what is so of the answer's value is so of what gives it
 pub ok_of_gives : {X : Type 0} (P : X → Type 0) (r answer : Result X TextFault) → Gives (λ x. x) r answer
     → ((x : X) → answer ≡ Ok x → P x) → IfOk r P
-ok_of_gives v0 v1 answer gives f = search (rules)
+ok_of_gives P r answer gives f = search rules
 
 -- ---- .non
 
