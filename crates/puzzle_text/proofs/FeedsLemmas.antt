@@ -88,7 +88,7 @@ clean_filter p text h = search (recursion_from_All, All-filter, All-from_recursi
 abbrev long_of : Option Line → Option ℕ
 long_of o = number_of_line (option_and_then (λ line. cond (ltb LONGEST_TEXT (length (quoted_text line))) (Some line) None) o)
 
-short : (line : Line) (b : Bool) → number_of_line (cond b (Some line) None) ≡ None → b ≡ false
+pub short : (line : Line) (b : Bool) → number_of_line (cond b (Some line) None) ≡ None → b ≡ false
 short line b e = search rules
 
 first_clean : (text : List Line) → HaveNoFeed text → (line : Line) → slice_get text 0 ≡ Some line → has_no_feed line.text ≡ true

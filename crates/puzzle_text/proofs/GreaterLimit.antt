@@ -1,5 +1,5 @@
 -- A greater limit keeps what a text says.
-use Rattle.puzzle_text.proofs.Names.{rules, ◌≡◌, ℕ, ◌≤◌, Bool, true, false, leb, List, [], ◌∷◌, refl, ap, ◌∙◌, arith, Option, Some, Result, Ok, Err, option_and_then, list_all, and_parts, le-leb, leb-true, TextFault, BadNumber, is_run, Line, number_within, pieces, ◌>>=◌, or_fault, each, each_some, clue_of_numbers, clue_of, clues_of, size_of, two_sizes, size_line, read_nin, read_mk, sizes_of, both_clues, read_non}
+use Rattle.puzzle_text.proofs.Names.{rules, ◌≡◌, ℕ, ◌≤◌, Bool, true, false, leb, List, [], ◌∷◌, refl, arith, Option, Some, Result, option_and_then, list_all, and_parts, le-leb, leb-true, TextFault, BadNumber, is_run, Line, number_within, pieces, ◌>>=◌, or_fault, each, each_some, clue_of_numbers, clue_of, clues_of, size_of, two_sizes, size_line, read_nin, read_mk, sizes_of, both_clues, read_non}
 use Rattle.puzzle_text.specs.Laws.{GreaterLimitKeeps, KeepsAnswer}
 
 -- ---- options
@@ -24,12 +24,7 @@ keeps-same r = λ _ _. refl
 
 keeps-bind : {A B : Type 0} (old new : Result A TextFault) (f g : A → Result B TextFault) → KeepsAnswer old new
     → ((x : A) → KeepsAnswer (f x) (g x)) → KeepsAnswer (old >>= f) (new >>= g)
-keeps-bind {A} (Ok x) new f g kept next = λ size number.
-    let same : new ≡ Ok x = kept (λ e. absurd cc) (λ n e. absurd cc) in
-    ap (λ (r : Result A TextFault). r >>= g) same ∙ next x size number
-keeps-bind {A} (Err fault) new f g kept next = λ size number.
-    let same : new ≡ Err fault = kept (λ e. size cc) (λ n e. number n cc) in
-    ap (λ (r : Result A TextFault). r >>= g) same
+keeps-bind {A} old new f g kept next = search rules
 
 keeps-each : {X Y : Type 0} (f g : X → Result Y TextFault) (xs : List X) → ((x : X) → KeepsAnswer (f x) (g x))
     → KeepsAnswer (each f xs) (each g xs)
@@ -54,10 +49,7 @@ module _ (a b : ℕ) (le : a ≤ b) where
 
   runs_keep : (ns : List ℕ) → list_all (is_run a) ns ≡ true → list_all (is_run b) ns ≡ true
   runs_keep [] h = refl
-  runs_keep (n ∷ ns) h =
-      let parts = and_parts (is_run a n) (list_all (is_run a) ns) h in
-      let here = and_parts (leb 1 n) (leb n a) parts.0 in
-      rw (here.0, within n here.1, runs_keep ns parts.1) refl
+  runs_keep (n ∷ ns) h = let others = runs_keep ns in search (rules, within, and_parts)
 
   numbers_keep : (ns : List ℕ) → KeepsSome (clue_of_numbers a ns) (clue_of_numbers b ns)
   numbers_keep ns = search (rules, and_parts, runs_keep)

@@ -1,7 +1,7 @@
 -- Lemmas on numbers in a line.
 use Rattle.std.proofs.lemmas.Option.{cond_some}
 use Rattle.std.proofs.lemmas.List.Splits.{slice_split_first}
-use Rattle.puzzle_text.proofs.Names.{rules, ◌≡◌, ℕ, zero, suc, ◌+◌, ◌-◌, ◌*◌, ◌<◌, ◌≤◌, true, false, not, ltb, List, [], ◌∷◌, length, take, drop, filter, get_or, refl, ap, ◌∙◌, arith, inl, inr, Option, Some, None, option_and_then, option_map, list_all, position, position_or_len, slice_split, is_ascii_digit, digits_value, and-false, cases_Bool, le-leb, lt-leb, lt-ltb, ltb-true, ltb-false, ne_eqb, nat_tests, get_or-take, get_or_default, length-take-le, take_all, drop_all, take-take, slice_split_none, AllPass-from_list_all, fails_before_first, position_or_len_is, prefix_len-le-length, list_all_at, list_all_more, digits_value-take-le, numbers_within, is_empty, is_separator, number_within, pieces}
+use Rattle.puzzle_text.proofs.Names.{rules, ◌≡◌, ℕ, zero, suc, ◌+◌, ◌-◌, ◌*◌, ◌<◌, ◌≤◌, true, false, not, ltb, List, [], ◌∷◌, length, take, drop, filter, get_or, refl, arith, inl, inr, Option, Some, None, option_and_then, option_map, list_all, position, position_or_len, is_ascii_digit, digits_value, and-false, cases_Bool, le-leb, lt-leb, lt-ltb, ltb-true, ltb-false, ne_eqb, nat_tests, get_or-take, get_or_default, length-take-le, take_all, drop_all, take-take, slice_split_none, AllPass-from_list_all, fails_before_first, position_or_len_is, prefix_len-le-length, list_all_at, list_all_more, digits_value-take-le, numbers_within, is_empty, is_separator, number_within, pieces}
 use Rattle.std.proofs.lemmas.List.Quantifiers.{position-Some}
 use borrow.Author.Count.{below_more}
 use Rattle.std.proofs.lemmas.Int.Digits.{digits_value_more}
@@ -32,14 +32,7 @@ keeps_piece piece parts h = rw (ne_eqb (length piece) 0 (λ e. omega arith)) ref
 -- the bytes up to the first separator are the first piece, if there are any
 pub first_piece : (text : List ℕ) (end : ℕ) → position is_separator text ≡ Some end → is_separator (get_or text 0 0) ≡ false
     → pieces text ≡ take end text ∷ pieces (drop (end + 1) text)
-first_piece text zero found first =
-    absurd (let at : is_separator (get_or text 0 0) ≡ true = (position-Some is_separator text 0 0 found).1 in cc)
-first_piece text (suc k) found first =
-    let end = suc k in
-    let here = cond_some (ltb (end_of text) (length text)) (end_of text) end found in
-    let inside : end_of text < length text = ltb-true _ _ here.0 in
-    let cut = rw here.1 at (slice_split_first is_separator text 0 inside) in
-    rw cut (keeps_piece (take end text) (slice_split is_separator (drop (end + 1) text)) (omega (arith, length-take-le end text)))
+first_piece text end found first = search (rules, position-Some, cond_some, ltb-true, slice_split_first, keeps_piece, length-take-le)
 
 -- without a separator it is the whole
 pub only_piece : (text : List ℕ) → 0 < length text → position is_separator text ≡ None → pieces text ≡ text ∷ []
@@ -62,8 +55,7 @@ clear_within : (text : List ℕ) (i : ℕ) → i ≤ length text → Clear text 
 clear_within text i within clear = elim (cases_Bool (ltb (end_of text) i)) [
   | inl before ↦
       let low : end_of text < i = ltb-true _ _ before in
-      let found : position is_separator text ≡ Some (end_of text) = rw (lt-ltb (end_of text) (length text) (omega arith)) refl in
-      absurd (let at = (position-Some is_separator text (end_of text) 0 found).1 in let other = clear (end_of text) low in cc)
+      let found = position-Some is_separator text (end_of text) 0 in let other = clear (end_of text) low in search (rules, found, lt-ltb)
   | inr at ↦ omega (arith, ltb-false _ _ at)
 ]
 
@@ -90,24 +82,17 @@ module _ (limit : ℕ) (text : List ℕ) (some : 0 < length text) (first : is_se
       → (i < length text → is_separator (get_or text i 0) ≡ true)
       → numbers_within limit (pieces text)
       ≡ option_map (λ others. digits_value 10 (take i text) ∷ others) (numbers_within limit (pieces (drop (i + 1) text)))
-  number_ends zero within digits low stop = absurd (let at = stop some in cc)
+  number_ends zero within digits low stop = search (rules, stop)
   number_ends (suc k) within digits low stop =
-      let i = suc k in
-      let end : end_of text ≡ i = position_or_len_is is_separator text i 0 within (digits_clear text i within digits) stop in
-      let number : number_within limit (take (end_of text) text) ≡ Some (digits_value 10 (take i text)) =
-      rw end (number_is limit (take i text) (omega (arith, length-take-le i text within)) digits low) in
-      rw end at (by_first (Some (digits_value 10 (take i text))) number)
+      let end : end_of text ≡ suc k = position_or_len_is is_separator text _ 0 within (digits_clear text _ within digits) stop in
+      rw end at (by_first (Some (digits_value 10 (take (suc k) text))) (search (rules, number_is, length-take-le)))
 
   -- a byte that is neither a digit nor a separator
   pub number_refused : (i : ℕ) → i < length text → list_all is_ascii_digit (take i text) ≡ true → is_separator (get_or text i 0) ≡ false
       → is_ascii_digit (get_or text i 0) ≡ false → numbers_within limit (pieces text) ≡ None
   number_refused i h digits inside other =
-      let clear : Clear text (i + 1) =
-      below_more (λ k. is_separator (get_or text k 0) ≡ false) i (digits_clear text i (omega arith) digits) inside in
-      let within = clear_within text (i + 1) (omega arith) clear in
-      let at : i < length (take (end_of text) text) = omega (arith, length-take-le (end_of text) text (end_within text)) in
-      by_first None
-      (no_number limit (take (end_of text) text) i at (ap is_ascii_digit (get_or-take (end_of text) text i 0 (omega arith)) ∙ other))
+      let within = clear_within text (i + 1) (omega arith) (below_more _ i (digits_clear text i (omega arith) digits) inside) in
+      by_first None (search (rules, no_number, length-take-le, end_within, get_or-take))
 
   -- digits that are past the limit already
   pub number_past : (i : ℕ) → i ≤ length text → list_all is_ascii_digit (take i text) ≡ true → limit < digits_value 10 (take i text)

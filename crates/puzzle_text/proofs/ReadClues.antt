@@ -1,5 +1,5 @@
 -- What is written is read again: the lines of clues.
-use Rattle.puzzle_text.proofs.Names.{rules, ◌≡◌, ℕ, suc, ◌+◌, ◌*◌, ◌-◌, ◌<◌, ◌≤◌, ◌^◌, true, not, leb, List, [], ◌∷◌, ◌++◌, length, get_or, map, refl, ap, arith, Ok, decimal, flat_map, list_all, AllByRecursion, AllDigits, flat_map-map, ne_eqb, le-leb, leb-true, and_parts, append-nil, length-append, get_or_append_left, get_or-append_right, digit_at, digit_from_value, decimal_is_IsNumeral, length-decimal-le, is_clue, is_run, is_empty, pieces, size_of, two_sizes, clue_text, clue_line, clue_lines, two_numbers}
+use Rattle.puzzle_text.proofs.Names.{rules, ◌≡◌, ℕ, suc, ◌+◌, ◌*◌, ◌<◌, ◌≤◌, ◌^◌, true, not, leb, List, [], ◌∷◌, ◌++◌, length, get_or, map, refl, ap, arith, Ok, decimal, flat_map, list_all, AllByRecursion, AllDigits, flat_map-map, ne_eqb, le-leb, leb-true, and_parts, append-nil, length-append, get_or_append_left, get_or-append_right, digit_at, digit_from_value, decimal_is_IsNumeral, length-decimal-le, is_clue, is_run, is_empty, pieces, size_of, two_sizes, clue_text, clue_line, clue_lines, two_numbers}
 use Rattle.puzzle_text.proofs.AllLemmas.{all-append, all-map, all-weaker}
 use Rattle.puzzle_text.proofs.SaidLines.{SayAll}
 use Rattle.puzzle_text.proofs.ReadBack.{IsTidy, with_feed, numbered, some_byte, tidy_solid}
@@ -16,13 +16,7 @@ pub tidy-join : (s : ℕ) (a b : List ℕ) → IsSpacing s → IsTidy a → IsTi
 tidy-join s a b spacing p q =
     let some_a = some_byte a p.first in
     let some_b = some_byte b q.first in
-    let whole = length-append a (s ∷ b) in
-    let place : length (a ++ s ∷ b) - 1 - length a ≡ suc (length b - 1) = omega arith in
-    record {
-      inked = all-append (λ byte. 32 ≤ byte) a (s ∷ b) p.inked (spacing.high, q.inked);
-      first = rw (get_or_append_left a (s ∷ b) 0 0 some_a) p.first;
-      last = rw (get_or-append_right a (s ∷ b) (length a) (length (a ++ s ∷ b) - 1) 0 refl (omega arith), place) q.last;
-    }
+    search (rules, all-append, get_or_append_left, get_or-append_right, length-append)
 
 digits_inked : (ds : List ℕ) → AllDigits 10 ds → AllByRecursion (λ byte. 33 ≤ byte) ds
 digits_inked [] h = tt
@@ -83,16 +77,10 @@ size_again limit n wide low high = search (rules, le-leb, decimal_is_IsNumeral, 
 length_numbers : (s : ℕ) (ns : List ℕ) → AllByRecursion (λ n. n < 1000) ns
     → length (flat_map (λ other. s ∷ decimal other) ns) ≤ 4 * length ns
 length_numbers s [] h = omega arith
-length_numbers s (n ∷ ns) h =
-    let here = length-decimal-le 3 n (omega arith) (omega arith) (omega arith) in
-    omega (arith, length-append (decimal n) (flat_map (λ other. s ∷ decimal other) ns), length_numbers s ns h.1)
+length_numbers s (n ∷ ns) h = search (rules, length_numbers s ns h.1, length-decimal-le 3 n, length-append)
 
 length_clue : (s : ℕ) (clue : List ℕ) → AllByRecursion (λ n. n < 1000) clue → length clue ≤ 128 → length (clue_line s clue) ≤ 514
-length_clue s [] h few = omega arith
-length_clue s (n ∷ ns) h few =
-    let here = length-decimal-le 3 n (omega arith) (omega arith) (omega arith) in
-    let line = length-append (decimal n) (flat_map (λ other. s ∷ decimal other) ns) in
-    omega (arith, length-append (clue_text s (n ∷ ns)) (10 ∷ []), length_numbers s ns h.1)
+length_clue s clue h few = search (rules, length_numbers, length-decimal-le 3, length-append)
 
 -- a clue's line has at most 514 bytes
 pub length_lines : (s limit : ℕ) (clues : List (List ℕ)) → limit < 1000 → AllByRecursion (λ clue. is_clue limit clue ≡ true) clues

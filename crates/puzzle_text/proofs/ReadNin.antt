@@ -1,5 +1,5 @@
 -- What is written in .nin is read again.
-use Rattle.puzzle_text.proofs.Names.{rules, ◌≡◌, ℕ, ◌≤◌, Bool, true, false, cond, not, ◌&&◌, List, ◌∷◌, ◌++◌, [], length, map, ap, ◌∙◌, append_assoc, arith, Ok, flat_map, AllByRecursion, eqb-true, append-nil, length-append, flat_map-append, is_clue, Nonogram, plain, IsNonogramWithin, reading, likelier, nin_of, read_nin, clue_text, clue_line, text_nin, is_ambiguous, take-append_seam, drop-append_seam}
+use Rattle.puzzle_text.proofs.Names.{rules, ◌≡◌, ℕ, ◌≤◌, true, false, List, ◌∷◌, ◌++◌, [], length, map, ap, ◌∙◌, append_assoc, arith, Ok, flat_map, AllByRecursion, eqb-true, append-nil, length-append, flat_map-append, is_clue, Nonogram, plain, IsNonogramWithin, reading, likelier, nin_of, read_nin, clue_text, clue_line, text_nin, is_ambiguous, take-append_seam, drop-append_seam}
 use Rattle.puzzle_text.proofs.AllLemmas.{all-append}
 use Rattle.puzzle_text.proofs.SaidLines.{nin_lines, short_lines}
 use Rattle.puzzle_text.proofs.ReadBack.{IsTidy, with_feed, numbered, lines_are}
@@ -16,12 +16,6 @@ nin_is p = rw (fed_clues 32 (p.rows ++ p.columns), flat_map-append (clue_line 32
 
 -- ---- the sizes' order
 
-abbrev ordered : Bool → Bool → Nonogram → Nonogram → Nonogram
-ordered own other p q = cond (not own && other) q p
-
-other_order : (same own other : Bool) (p q : Nonogram) → (not same && not own && other) ≡ true → ordered own other p q ≡ q
-other_order same own other p q ambiguous = search rules
-
 module _ (limit : ℕ) (p : Nonogram) (wide : limit ≤ 256) (lawful : IsNonogramWithin limit p) where
   abbrev clues : List (List ℕ)
   clues = p.rows ++ p.columns
@@ -36,7 +30,7 @@ module _ (limit : ℕ) (p : Nonogram) (wide : limit ≤ 256) (lawful : IsNonogra
   likelier_is clear = search (rules, eqb-true, same)
 
   likelier_other : is_ambiguous p ≡ true → likelier p.width p.height clues ≡ swapped
-  likelier_other ambiguous = search (rules, other_order, same)
+  likelier_other ambiguous = search (rules, same)
 
   -- ---- the whole text
 
@@ -45,8 +39,8 @@ module _ (limit : ℕ) (p : Nonogram) (wide : limit ≤ 256) (lawful : IsNonogra
 
   tidy_nin : AllByRecursion IsTidy (texts_nin p)
   tidy_nin = (
-    tidy_sizes limit p.width p.height (omega arith) (across limit p wide lawful) (high limit p wide lawful),
-    tidy_clues 32 limit clues space (omega arith) all_lawful,
+    tidy_sizes limit _ _ (omega arith) (across limit p wide lawful) (high limit p wide lawful),
+    tidy_clues 32 limit _ space (omega arith) all_lawful,
   )
 
   -- the lines of a written puzzle say the likelier reading of its clues

@@ -1,5 +1,5 @@
 -- What is written in .non is read again.
-use Rattle.puzzle_text.proofs.Names.{rules, ◌≡◌, ℕ, ◌+◌, ◌*◌, ◌<◌, ◌≤◌, ◌^◌, Bool, true, false, cond, not, ltb, List, [], ◌∷◌, ◌++◌, length, map, codes, refl, sym, ap, ◌∙◌, arith, Option, Some, None, Ok, decimal, filter, AllByRecursion, bytes_eq, eq-eqb, eqb-true, append-nil, reverse-append, reverse-reverse, length-map, filter-append, flat_map, is_clue, Nonogram, IsNonogramWithin, is_goal, text_of, Description, is_field, Line, lines, is_full, is_empty, trim, each_some, with_keyword, first_with, all_fields, field_word, quoted, quoted_text, placed, sections_of, number_of_line, long_text, cell_of, goal_cells, goal_of, field_text, texts_of, sizes_of, rows_first, check_lines, outline_of, non_of, read_non, clue_text, goal_byte, text_non, Sections, puzzle_said, Rows, Columns}
+use Rattle.puzzle_text.proofs.Names.{rules, ◌≡◌, ℕ, ◌+◌, ◌*◌, ◌<◌, ◌≤◌, ◌^◌, Bool, true, false, cond, not, ltb, List, [], ◌∷◌, ◌++◌, length, map, codes, refl, sym, ap, ◌∙◌, arith, Option, Some, None, Ok, decimal, filter, AllByRecursion, bytes_eq, eq-eqb, eqb-true, append-nil, reverse-append, reverse-reverse, length-map, filter-append, flat_map, is_clue, Nonogram, IsNonogramWithin, is_goal, text_of, Description, is_field, Line, lines, is_full, is_empty, trim, each_some, with_keyword, first_with, all_fields, field_word, quoted_text, placed, sections_of, number_of_line, long_text, cell_of, goal_cells, goal_of, field_text, texts_of, sizes_of, rows_first, check_lines, outline_of, non_of, read_non, clue_text, goal_byte, text_non, Sections, puzzle_said, Rows, Columns}
 use Rattle.grid_core.specs.declared.fields.Field.{Field}
 use Rattle.grid_core.specs.declared.fields.Field.TheVariants.{Catalogue, Title, By, Copyright, License}
 use Rattle.puzzle_text.proofs.AllLemmas.{all-append, all-flat_map, all-map, all-weaker, filter_all, filter_none}
@@ -51,7 +51,7 @@ module _ (limit : ℕ) (p : Nonogram) (wide : limit < 2 ^ 64) (lawful : IsNonogr
   content_columns = search (all-append, content_clues, all_gap)
 
   -- the lines with a keyword: those of its fields, of the sizes, of the sections and of the goal
-  whole : (word : List ℕ) (goal : Bool) → bytes_eq [] word ≡ false
+  pub whole : (word : List ℕ) (goal : Bool) → bytes_eq [] word ≡ false
       → ((text : List ℕ) → bytes_eq (word_at (field_line (codes "goal") text)) word ≡ goal)
       → texts_with word (texts_non p)
       ≡ flat_map (part p.texts) (fields_with word all_fields)
@@ -91,11 +91,6 @@ IsOne xs text = (line : Line) × (xs ≡ line ∷ []) × (line.text ≡ text)
 one_seen : (xs : List Line) (text : List ℕ) → map (λ (line : Line). line.text) xs ≡ text ∷ [] → IsOne xs text
 one_seen (x ∷ []) text e = (x, refl, cc)
 one_seen xs text e = absurd cc
-
--- ---- what stands between quotes
-
-quoted_is : (text : List ℕ) → quoted (34 ∷ (text ++ 34 ∷ [])) ≡ text
-quoted_is text = search (rules, reverse-append, reverse-reverse)
 
 -- ---- fields
 

@@ -1,5 +1,5 @@
 -- What the lines of a text say, if some of them say its sizes and others its clues.
-use Rattle.puzzle_text.proofs.Names.{rules, ◌≡◌, ℕ, ◌+◌, ◌≤◌, Bool, true, false, ltb, List, [], ◌∷◌, ◌++◌, length, drop, filter, refl, sym, ap, ◌∙◌, append_assoc, arith, Some, None, Ok, Err, position_or_len, AllByRecursion, cond-false, eq-eqb, le-ltb, lt-ltb, take_all, take_at, drop_at, length-append, Nonogram, plain, TooLong, Line, is_full, is_hash, lines, pieces, clues_of, text_lines, two_sizes, at_hash, before_hash, mk_of, nin_of, likelier, Sections, both_clues, outline_of, puzzle_of_clues, puzzle_said}
+use Rattle.puzzle_text.proofs.Names.{rules, ◌≡◌, ℕ, ◌+◌, ◌≤◌, Bool, true, false, ltb, List, [], ◌∷◌, ◌++◌, length, filter, refl, ◌∙◌, append_assoc, arith, Some, None, Ok, Err, position_or_len, AllByRecursion, cond-false, eq-eqb, le-ltb, lt-ltb, take_all, take_at, drop_at, length-append, Nonogram, plain, TooLong, Line, is_full, is_hash, lines, pieces, clues_of, text_lines, two_sizes, at_hash, before_hash, mk_of, nin_of, likelier, Sections, both_clues, outline_of, puzzle_of_clues, puzzle_said}
 use Rattle.puzzle_text.specs.Sections.{choice}
 use Rattle.puzzle_text.proofs.AllLemmas.{filter_all}
 use Rattle.puzzle_text.proofs.MkLemmas.{puzzle_of_both}
@@ -25,11 +25,8 @@ at_hash_is : (rows : List Line) (hash : Line) (after : List Line) → AllByRecur
     → is_hash hash ≡ true → at_hash (rows ++ hash ∷ after) ≡ Some (rows, after)
 at_hash_is rows hash after none here =
     let place = first_place is_hash rows hash after none here in
-    let inside : ltb (length rows) (length (rows ++ hash ∷ after)) ≡ true = lt-ltb _ _ (omega (arith, length-append rows (hash ∷ after))) in
-    let parts : rows ++ hash ∷ after ≡ (rows ++ hash ∷ []) ++ after = sym (append_assoc rows (hash ∷ []) after) in
-    let behind : drop (length rows + 1) (rows ++ hash ∷ after) ≡ after =
-    ap (drop (length rows + 1)) parts ∙ drop_at (rows ++ hash ∷ []) after (length rows + 1) (length-append rows (hash ∷ [])) in
-    rw (place, inside, take_at rows (hash ∷ after) (length rows) refl, behind) refl
+    let behind = drop_at (rows ++ hash ∷ []) after (length rows + 1) (length-append rows (hash ∷ [])) in
+    search (rules, place, behind, lt-ltb, length-append, append_assoc, take_at)
 
 -- no line is left out if none begins with #
 before_hash_is : (rows : List Line) → AllByRecursion (λ line. is_hash line ≡ false) rows → before_hash rows ≡ rows

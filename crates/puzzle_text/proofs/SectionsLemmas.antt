@@ -1,5 +1,5 @@
 -- Lemmas on the choice of clue lines.
-use Rattle.puzzle_text.proofs.Names.{rules, ◌≡◌, ℕ, append-nil, ◌≤◌, Bool, true, false, cond, not, leb, List, [], ◌∷◌, length, take, drop, map, refl, sym, ap, ◌∙◌, arith, Some, None, count_by, filter, list_all, ne_eqb, eq-eqb, le-leb, take-map, drop-map, length-map, length-take-le, take-append-drop, filter-append, list_all-map, count_by-le-length, length-filter, Line, is_full, is_blank_line}
+use Rattle.puzzle_text.proofs.Names.{rules, ◌≡◌, ℕ, append-nil, ◌≤◌, Bool, true, false, cond, not, List, [], ◌∷◌, length, take, drop, map, refl, ap, ◌∙◌, Some, None, count_by, filter, list_all, ne_eqb, eq-eqb, le-leb, take-map, drop-map, length-map, length-take-le, take-append-drop, filter-append, list_all-map, count_by-le-length, length-filter, Line, is_full, is_blank_line, lines, section}
 use Rattle.puzzle_text.proofs.AllLemmas.{all_pass, filter_none}
 use Rattle.puzzle_text.specs.Sections.{choice}
 use Rattle.puzzle_text.specs.steps.Sections.{front}
@@ -17,7 +17,7 @@ module _ {X : Type 0} (view : X → Line) where
 
   -- there are as many lines that aren't blank as are counted
   pub length_full : (section full : List X) → full ≡ full_of section → length (map view full) ≡ count_by (λ x. is_full (view x)) section
-  length_full section full e = length-map full view ∙ ap length e ∙ length-filter (λ x. is_full (view x)) section
+  length_full section full e = search (rules, length-map, length-filter)
 
   -- the lines that aren't blank are the clue lines if they are `count`
   pub choice_full : (count : ℕ) (section full : List X) → full ≡ full_of section → count_by (λ x. is_full (view x)) section ≡ count
@@ -30,9 +30,7 @@ module _ {X : Type 0} (view : X → Line) where
   pub front_is : (count : ℕ) (section : List X) → count ≤ length section
       → front count (map view section)
       ≡ cond (list_all (λ x. is_blank_line (view x)) (drop count section)) (Some (map view (take count section))) None
-  front_is count section long =
-      let within : leb count (length (map view section)) ≡ true = le-leb _ _ (omega (arith, length-map section view)) in
-      rw (within, drop-map view count section, list_all-map is_blank_line view (drop count section), take-map view count section) refl
+  front_is count section long = search (rules, le-leb, length-map, drop-map, list_all-map, take-map)
 
   -- there are no clue lines if neither the first lines nor those that aren't blank will do
   pub choice_none : (count : ℕ) (section : List X) → front count (map view section) ≡ None
@@ -53,13 +51,9 @@ front_kept : (count : ℕ) (lines : List Line) → count ≤ length lines → li
     → length (filter is_full lines) ≡ count → filter is_full lines ≡ take count lines
 front_kept count lines within blank enough =
     let first = take count lines in
-    let whole : filter is_full lines ≡ filter is_full first =
-    ap (filter is_full) (sym (take-append-drop count lines))
-    ∙ rw (filter-append is_full first (drop count lines), none_kept (drop count lines) blank) (append-nil (filter is_full first)) in
-    whole ∙ all_kept first (ap length (sym whole) ∙ enough ∙ sym (length-take-le count lines within))
+    let whole : filter is_full lines ≡ filter is_full first = search (rules, take-append-drop count lines, filter-append, none_kept, append-nil) in
+    whole ∙ all_kept first (search (rules, length-take-le))
 
 -- the first lines are the choice, if all after them are blank
 pub front_chosen : (count : ℕ) (lines found : List Line) → front count lines ≡ Some found → choice count lines ≡ Some found
-front_chosen count lines found e =
-    let same = front_kept count lines in
-    search rules
+front_chosen count lines found e = search (rules, front_kept)

@@ -1,5 +1,5 @@
 -- The parts of a usual .non text, found on one walk from the top.
-use Rattle.puzzle_text.proofs.Names.{rules, ◌≡◌, ℕ, ◌+◌, true, false, List, [], ◌∷◌, ◌++◌, length, filter, get_or, refl, sym, ap, ◌∙◌, append_assoc, arith, None, eqb-true, AllByRecursion, LONGEST_SIDE, nil_from_length, append-nil, length-append, filter-append, Under, Other, Line, is_empty, is_full, is_hash, numbered_from, raw_lines, is_keyword_line, keyword, Sections, placed, sections_of, IsUnder, with_line, AreClueLines, HaveClues, IsClueText, KeepsOthers, SayClues, SaysClue, clues_under, rest}
+use Rattle.puzzle_text.proofs.Names.{rules, ◌≡◌, ℕ, ◌+◌, true, false, List, [], ◌∷◌, ◌++◌, length, filter, get_or, refl, sym, ap, ◌∙◌, append_assoc, arith, None, eqb-true, AllByRecursion, LONGEST_SIDE, nil_from_length, append-nil, length-append, filter-append, Under, Other, Line, is_empty, is_hash, numbered_from, raw_lines, is_keyword_line, keyword, Sections, placed, sections_of, IsUnder, with_line, AreClueLines, HaveClues, IsClueText, KeepsOthers, SayClues, SaysClue, clues_under, rest}
 use Rattle.puzzle_text.proofs.ReadClues.{some_text}
 use Rattle.puzzle_text.proofs.AllLemmas.{all-weaker, filter_all, filter_none}
 use Rattle.puzzle_text.proofs.SaidLines.{SayAll}
@@ -70,10 +70,6 @@ pub past_comment : (under : Under) (whole todo : List Line) (line : Line) (rows 
     → IsAbove under whole (line ∷ todo) rows columns → is_empty (keyword line) ≡ true → is_hash line ≡ true
     → IsAbove under whole todo rows columns
 past_comment under whole todo line rows columns is none hash = search rules
-
-blank_more : (under : Under) (above : Sections) (line : Line) (rows columns : List (List ℕ)) → HaveClues above rows columns
-    → is_full line ≡ false → HaveClues (with_line above under line) rows columns
-blank_more under above line rows columns clues blank = search (rules, filter-append, append-nil)
 
 -- past a blank line
 pub past_blank : (under : Under) (whole todo : List Line) (line : Line) (rows columns : List (List ℕ))

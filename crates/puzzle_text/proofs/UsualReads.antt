@@ -1,5 +1,5 @@
 -- What the parts of a usual text say is what the text says.
-use Rattle.puzzle_text.proofs.Names.{rules, ◌≡◌, ℕ, ◌+◌, ◌≤◌, List, [], ◌∷◌, ◌++◌, length, filter, refl, Result, Ok, IfOk, IfSome, append-nil, LONGEST_SIDE, Nonogram, plain, TextFault, Gives, is_keyword_line, Line, lines, numbered_from, raw_lines, read_mk, read_nin, placed, puzzle_said, read_non, sections_of, likelier, BeginsWith, SayClues, SaysSizes}
+use Rattle.puzzle_text.proofs.Names.{rules, ◌≡◌, ℕ, ◌+◌, ◌≤◌, List, [], ◌∷◌, ◌++◌, length, filter, refl, Result, Ok, IfOk, IfSome, append-nil, LONGEST_SIDE, Nonogram, plain, TextFault, Gives, is_keyword_line, Line, lines, numbered_from, raw_lines, read_mk, read_nin, placed, puzzle_said, read_non, sections_of, likelier, BeginsWith, SayClues, SaysSizes, rest}
 use Rattle.std.specs.Result.{result_ok}
 use Rattle.puzzle_text.specs.steps.Lines.{HaveNoFeed}
 use Rattle.puzzle_text.proofs.FeedsLemmas.{clean_filter, lines_have_no_feed}
@@ -50,15 +50,12 @@ mk_said bytes after middle below_it rest width height rows columns short sizes r
     let column_found = column_part (place + 1) in
     rw (short_lines bytes short, sizes.1 1, row_found.1, hash place)
     (rw (lines_to_end below_it rest (place + 1) (length columns) column_found.0 none column_found.1)
-    (mk_lines LONGEST_SIDE width height (record { number = 1; text = sizes.0 }) (record { number = place; text = 35 ∷ [] }) row_found.0
-    column_found.0 rows columns sizes.2 (some_text sizes.0 (digit_range _ sizes.3).0) refl (say_all row_found.0 rows row_found.2)
-    (say_all column_found.0 columns column_found.2) high wide))
+    (mk_lines LONGEST_SIDE width height _ _ _ _ rows columns sizes.2 (some_text sizes.0 (digit_range _ sizes.3).0) refl
+    (say_all _ rows row_found.2) (say_all _ columns column_found.2) high wide))
 
 -- what a size line and clues say, the text says
 pub nin_said : (bytes after rest : List ℕ) (a b : ℕ) (clues : List (List ℕ)) → length bytes ≤ 1048576 → SaysSizes bytes (a, b) after
     → SayClues after clues rest → length rest ≡ 0 → length clues ≡ a + b → read_nin LONGEST_SIDE bytes ≡ Ok (likelier a b clues)
 nin_said bytes after rest a b clues short sizes part none count =
-    let said = part 2 in
-    rw (short_lines bytes short, sizes.1 1, lines_to_end after rest 2 (length clues) said.0 none said.1)
-    (nin_lines LONGEST_SIDE a b (record { number = 1; text = sizes.0 }) said.0 clues sizes.2 (some_text sizes.0 (digit_range _ sizes.3).0)
-    (say_all said.0 clues said.2) count)
+    rw (short_lines bytes short, sizes.1 1, lines_to_end after rest 2 (length clues) (part 2).0 none (part 2).1)
+    (nin_lines LONGEST_SIDE a b _ _ clues sizes.2 (some_text sizes.0 (digit_range _ sizes.3).0) (say_all _ clues (part 2).2) count)
