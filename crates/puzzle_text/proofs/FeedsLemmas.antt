@@ -1,6 +1,6 @@
 -- What holds of a line holds of the text of a field: no line has a line feed in it, so nor has the text; and a short line has a short text.
 use Rattle.std.proofs.lemmas.List.Elements.{All-cons, All-nil}
-use Rattle.puzzle_text.proofs.Names.{rules, ◌≡◌, ℕ, ◌+◌, ◌-◌, ◌≤◌, Bool, true, false, cond, not, eqb, leb, ltb, List, [], ◌∷◌, length, take, drop, get_or, reverse, All, refl, arith, Option, Some, None, IfSome, Ok, map, option_and_then, slice_get, unwrap_or, filter, list_all, onto_first, AllByRecursion, option_map, cond_both, and_from, and_parts, le-leb, leb-true, ltb-false, get_or-reverse, length-drop, length-reverse, All-take, All-drop, All-filter, All-from_recursion, recursion_from_All, AllPass-from_list_all, list_all-from_AllPass, IsDescription, LONGEST_TEXT, text_lines, Line, numbered_from, raw_lines, strip_last, trim, trim_start, without_ending, after_quote, first_with, has_keyword, quoted_text, with_keyword, shown_keyword, bad_line, least, least_of, number_of_line, texts_of}
+use Rattle.puzzle_text.proofs.Names.{rules, ◌≡◌, ℕ, ◌+◌, ◌-◌, ◌≤◌, Bool, true, false, cond, not, eqb, leb, ltb, List, [], ◌∷◌, length, take, drop, get_or, reverse, All, refl, arith, Option, Some, None, IfSome, Ok, map, option_and_then, slice_get, unwrap_or, filter, list_all, onto_first, AllByRecursion, option_map, cond_both, and_from, and_parts, le-leb, leb-true, ltb-false, get_or-reverse, length-drop, length-reverse, All-take, All-drop, All-filter, All-from_recursion, recursion_from_All, AllPass-from_list_all, list_all-from_AllPass, IsDescription, LONGEST_TEXT, text_lines, Line, numbered_from, raw_lines, strip_last, trim, trim_start, without_ending, after_quote, first_with, quoted_text, shown_keyword, bad_line, least, least_of, number_of_line, texts_of}
 use Rattle.puzzle_text.specs.declared.keyword_line.KeywordLine.{KeywordLine}
 use Rattle.puzzle_text.specs.steps.Lines.{HaveNoFeed, has_no_feed}
 
@@ -24,9 +24,7 @@ module _ (P : List ℕ → Type 0) (cut : (n : ℕ) (bytes : List ℕ) → P byt
 
   of_after : (bytes : List ℕ) → P bytes → IfSome (after_quote bytes) P
   of_after [] h = tt
-  of_after (byte ∷ bytes) h =
-      let others = cut 1 (byte ∷ bytes) h in
-      cond_both (eqb byte 34) (Some bytes) (after_quote bytes) (λ o. IfSome o P) (λ _. others) (λ _. of_after bytes others)
+  of_after (byte ∷ bytes) h = let others = cut 1 (byte ∷ bytes) h in search (rules, of_after bytes others, others)
 
   turned : (o : Option (List ℕ)) → IfSome o P → IfSome (option_map reverse o) P
   turned o h = search rules
@@ -68,11 +66,9 @@ all_raw (byte ∷ bytes) = search (rules, all_raw bytes, all_raw bytes, cond_bot
 
 clean_lines : (number : ℕ) (raws : List (List ℕ)) → AllByRecursion IsRaw raws → HaveNoFeed (numbered_from number raws)
 clean_lines number [] h = tt
-clean_lines number (raw ∷ raws) h = (
-  list_all-from_AllPass _ (trim (without_ending raw))
-      (of_trim IsClean (All-drop IsOther) clean_reverse (without_ending raw) (clean_strip 13 (strip_last 10 raw) h.0)),
-  clean_lines (number + 1) raws h.1,
-)
+clean_lines number (raw ∷ raws) h =
+    let others = clean_lines (number + 1) raws h.1 in
+    (list_all-from_AllPass _ _ (of_trim IsClean (All-drop IsOther) clean_reverse (without_ending raw) (clean_strip 13 _ h.0)), others)
 
 -- no line of a text that isn't too long has a line feed
 pub lines_have_no_feed : (bytes : List ℕ) (text : List Line) → text_lines bytes ≡ Ok text → HaveNoFeed text
@@ -88,10 +84,7 @@ clean_filter p text h = search (recursion_from_All, All-filter, All-from_recursi
 abbrev long_of : Option Line → Option ℕ
 long_of o = number_of_line (option_and_then (λ line. cond (ltb LONGEST_TEXT (length (quoted_text line))) (Some line) None) o)
 
-pub short : (line : Line) (b : Bool) → number_of_line (cond b (Some line) None) ≡ None → b ≡ false
-short line b e = search rules
-
-first_clean : (text : List Line) → HaveNoFeed text → (line : Line) → slice_get text 0 ≡ Some line → has_no_feed line.text ≡ true
+pub first_clean : (text : List Line) → HaveNoFeed text → (line : Line) → slice_get text 0 ≡ Some line → has_no_feed line.text ≡ true
 first_clean [] h line e = absurd cc
 first_clean (found ∷ text) h line e = search rules
 
@@ -104,7 +97,7 @@ each_none (number ∷ numbers) e = let parts = least_none number (least_of numbe
 
 -- if no line is bad, the texts may stand in their fields
 pub lawful_texts : (stray : Option ℕ) (text : List Line) → HaveNoFeed text → bad_line stray text ≡ None → IsDescription (texts_of text)
-lawful_texts stray text h none = search (rules, each_none, least_none, first_clean, clean_filter, ltb-false, short, and_from, le-leb, clean_text)
+lawful_texts stray text h none = search (rules, each_none, least_none, first_clean, clean_filter, ltb-false, and_from, le-leb, clean_text)
 
 -- ---- texts that are short
 
@@ -123,10 +116,7 @@ short_here b line others fits none = let within = short_text line fits in search
 
 short_first : (word : List ℕ) (kept : List KeywordLine) → are_short kept ≡ true → long_of (first_with word (map shown_keyword kept)) ≡ None
 short_first word [] h = refl
-short_first word (found ∷ kept) h =
-    let parts = and_parts (leb (length found.line.text.now) LONGEST_TEXT) (are_short kept) h in
-    short_here (has_keyword word (shown_keyword found)) (shown_keyword found) (with_keyword word (map shown_keyword kept))
-    (leb-true _ _ parts.0) (short_first word kept parts.1)
+short_first word (found ∷ kept) h = search (rules, short_first word kept, and_parts, leb-true, short_here)
 
 or_stray : (stray : Option ℕ) → least stray None ≡ stray
 or_stray stray = search rules

@@ -1,5 +1,5 @@
 -- The text of a puzzle in .non as lines.
-use Rattle.puzzle_text.proofs.Names.{rules, ◌≡◌, drop, reverse, ℕ, ◌*◌, ◌-◌, ◌<◌, ◌≤◌, ◌^◌, Bool, true, false, not, eqb, leb, List, [], ◌∷◌, ◌++◌, length, get_or, map, codes, refl, sym, ap, ◌∙◌, append_assoc, arith, Option, Some, None, decimal, flat_map, list_all, AllByRecursion, not-true, and_parts, leb-true, eqb-true, reverse-append, reverse-reverse, append-nil, get_or_at, length-append, length-map, flat_map-append, length-decimal-le, prefix_len, is_ascii_alphabetic, is_empty, trim, trim_end, trim_start, Nonogram, IsNonogramWithin, is_goal, Description, IsDescription, is_field, text_of, lines, all_fields, field_word, clue_text, quoted_line, goal_byte, goal_lines, text_non}
+use Rattle.puzzle_text.proofs.Names.{rules, ◌≡◌, drop, reverse, ℕ, ◌*◌, ◌<◌, ◌≤◌, ◌^◌, Bool, true, false, not, eqb, leb, List, [], ◌∷◌, ◌++◌, length, get_or, map, codes, refl, sym, ap, ◌∙◌, append_assoc, arith, Option, Some, None, decimal, flat_map, list_all, AllByRecursion, not-true, and_parts, leb-true, eqb-true, reverse-append, reverse-reverse, append-nil, get_or_at, length-append, length-map, flat_map-append, length-decimal-le, prefix_len, is_ascii_alphabetic, is_empty, trim, trim_end, trim_start, Nonogram, IsNonogramWithin, is_goal, Description, IsDescription, is_field, text_of, lines, all_fields, field_word, clue_text, quoted_line, goal_byte, goal_lines, text_non}
 use Rattle.std.proofs.lemmas.Nat.{mul-le}
 use Rattle.puzzle_text.proofs.SectionsWalk.{word_at}
 use Rattle.grid_core.specs.declared.fields.Field.{Field}
@@ -92,15 +92,9 @@ no_feeds text h = search (all_pass, not-true)
 kept_field : (word text : List ℕ) → list_all (λ byte. not (eqb byte 10)) word ≡ true → list_all (λ byte. not (eqb byte 10)) text ≡ true
     → 33 ≤ get_or (field_line word text) 0 0 → IsKept (field_line word text)
 kept_field word text name clean first =
-    let front = word ++ 32 ∷ 34 ∷ text in
-    let whole : front ++ 34 ∷ [] ≡ field_line word text = append_assoc word (32 ∷ 34 ∷ text) (34 ∷ []) in
-    let place : length front ≡ length (field_line word text) - 1 = omega (arith, ap length whole, length-append front (34 ∷ [])) in
-    let last : get_or (field_line word text) (length (field_line word text) - 1) 0 ≡ 34 =
-    rw whole at (get_or_at front 34 [] 0 (length (field_line word text) - 1) place) in
-    kept_edged (field_line word text)
-    (all-append (λ byte. eqb byte 10 ≡ false) word (32 ∷ 34 ∷ (text ++ 34 ∷ [])) (no_feeds word name)
-    (refl, (refl, all-append (λ byte. eqb byte 10 ≡ false) text (34 ∷ []) (no_feeds text clean) (refl, tt))))
-    first (omega (arith, last))
+    let whole = append_assoc word (32 ∷ 34 ∷ text) (34 ∷ []) in
+    rw whole at (kept_edged ((word ++ 32 ∷ 34 ∷ text) ++ 34 ∷ []) (rw whole (search (rules, all-append, no_feeds))) (rw whole first)
+    (search (rules, get_or_at, length-append)))
 
 kept_one : (word : List ℕ) (o : Option (List ℕ)) → list_all (λ byte. not (eqb byte 10)) word ≡ true → is_field o ≡ true
     → ((text : List ℕ) → 33 ≤ get_or (field_line word text) 0 0) → AllByRecursion IsKept (one word o)

@@ -40,7 +40,7 @@ only_piece text h none = search (rules, ltb-false, get_or_default, fails_before_
 
 -- ---- the number of the first piece
 
-cut : (text : List ℕ) → 0 < length text → is_separator (get_or text 0 0) ≡ false
+pub cut : (text : List ℕ) → 0 < length text → is_separator (get_or text 0 0) ≡ false
     → pieces text ≡ take (end_of text) text ∷ pieces (drop (end_of text + 1) text)
 cut text some first = search (rules, cases_Bool, first_piece, ltb-false, take_all, drop_all, only_piece)
 

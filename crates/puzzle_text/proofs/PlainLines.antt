@@ -1,5 +1,5 @@
 -- Lines of a collection that begin no entry, passed over many at a time.
-use Rattle.puzzle_text.proofs.Names.{rules, ◌≡◌, ℕ, ◌-◌, ◌<◌, ◌≤◌, Bool, true, false, not, eqb, List, [], ◌∷◌, ◌++◌, length, take, get_or, refl, sym, ap, ◌∙◌, append_assoc, arith, list_all, cond_both, false_from_ne_true, not_from_false, not-true, and_parts, ne_eqb, get_or-take, get_or_default, length-take-le, list_all-from_AllPass, raw_lines, Entry, body_of, entries_of, is_marker, FollowsPlain, ends_line}
+use Rattle.puzzle_text.proofs.Names.{rules, ◌≡◌, ℕ, ◌<◌, ◌≤◌, Bool, true, false, not, eqb, List, [], ◌∷◌, ◌++◌, length, take, get_or, refl, ap, ◌∙◌, append_assoc, arith, list_all, cond_both, false_from_ne_true, not_from_false, not-true, and_parts, ne_eqb, get_or-take, get_or_default, length-take-le, list_all-from_AllPass, raw_lines, Entry, body_of, entries_of, is_marker, FollowsPlain, ends_line, append-nil, nil_from_length}
 
 -- there is no @ among these bytes
 abbrev pub HasNoAt : List ℕ → Type 0
@@ -65,11 +65,7 @@ starts_after start (byte ∷ bytes) = starts_after (eqb byte 10) bytes
 over_front : (start : Bool) (front tail : List ℕ) → HasNoAt front
     → GoesOn start (starts_after start front) front (raw_lines (front ++ tail)) (raw_lines tail)
 over_front start [] tail h = (refl, refl)
-over_front start (byte ∷ front) tail h =
-    let parts = and_parts (not (eqb byte 64)) (list_all (λ b. not (eqb b 64)) front) h in
-    let one = one_byte start byte (front ++ tail) (not-true (eqb byte 64) parts.0) in
-    let others = over_front (eqb byte 10) front tail parts.1 in
-    (rw (one.0, others.0) refl, one.1 ∙ others.1)
+over_front start (byte ∷ front) tail h = search (rules, over_front (eqb byte 10) front tail, one_byte start byte (front ++ tail), and_parts, not-true)
 
 last_feed : (start : Bool) (byte : ℕ) (bytes : List ℕ) → starts_after start (byte ∷ bytes) ≡ eqb (get_or (byte ∷ bytes) (length bytes) 0) 10
 last_feed start byte [] = refl
@@ -77,10 +73,7 @@ last_feed start byte (next ∷ bytes) = last_feed (eqb byte 10) next bytes
 
 starts_where : (front : List ℕ) → starts_after true front ≡ ends_line front
 starts_where [] = refl
-starts_where (byte ∷ bytes) =
-    let some : eqb (length (byte ∷ bytes)) 0 ≡ false = ne_eqb _ _ (λ e. omega arith) in
-    let last : length (byte ∷ bytes) - 1 ≡ length bytes = omega arith in
-    rw (some, last) (last_feed true byte bytes)
+starts_where (byte ∷ bytes) = search (rules, ne_eqb, last_feed true byte bytes)
 
 -- ---- what follows
 
@@ -89,30 +82,22 @@ nothing_in start = search rules
 
 -- nothing follows
 pub follows_none : (bytes front tail : List ℕ) → bytes ≡ front ++ tail → HasNoAt front → length tail ≡ 0 → FollowsPlain bytes tail
-follows_none bytes front (byte ∷ tail) whole h none = absurd (omega arith)
-follows_none bytes front [] whole h none =
+follows_none bytes front tail whole h none =
     let over = over_front true front [] h in
-    let none = nothing_in (starts_after true front) in
-    (front, whole, rw (whole, over.0, none.0) refl, rw (whole, over.1, none.1) refl)
+    let none_left = nil_from_length tail none in
+    (front, search (none_left, append-nil), search (rules, over.0, nothing_in, none_left), search (rules, over.1, nothing_in, none_left))
 
 -- a line follows
 pub follows_line : (bytes front tail : List ℕ) → bytes ≡ front ++ tail → HasNoAt front → ends_line front ≡ true → FollowsPlain bytes tail
 follows_line bytes front tail whole h ends =
-    let over = over_front true front tail h in
-    let start : starts_after true front ≡ true = starts_where front ∙ ends in
-    (front, whole, rw (whole, over.0, start) refl, rw (whole, over.1, start) refl)
+    let over = over_front true front tail h in (front, whole, search (rules, over.0, starts_where), search (rules, over.1, starts_where))
 
 -- the end of a line follows, and then others
 pub follows_amid : (bytes front tail raw after : List ℕ) → bytes ≡ front ++ tail → HasNoAt front → ends_line front ≡ false
     → tail ≡ raw ++ after → raw_lines tail ≡ raw ∷ raw_lines after → FollowsPlain bytes after
 follows_amid bytes front tail raw after whole h ends parts first =
     let over = over_front true front tail h in
-    let inside : starts_after true front ≡ false = starts_where front ∙ ends in (
-      front ++ raw,
-      rw (whole, parts) (sym (append_assoc front raw after)),
-      rw (whole, over.0, inside, first) (append_assoc front raw (body_of (raw_lines after))),
-      rw (whole, over.1, inside, first) refl,
-    )
+    (front ++ raw, search (rules, append_assoc), search (rules, over.0, starts_where, append_assoc), search (rules, over.1, starts_where))
 
 -- a line that begins no entry goes into the body
 pub past_line : (rest raw after : List ℕ) → rest ≡ raw ++ after → raw_lines rest ≡ raw ∷ raw_lines after → is_marker raw ≡ false
@@ -121,9 +106,4 @@ past_line rest raw after parts first other = (raw, parts, rw (first, other) refl
 
 -- one after the other
 pub follow_on : (bytes rest next : List ℕ) → FollowsPlain bytes rest → FollowsPlain rest next → FollowsPlain bytes next
-follow_on bytes rest next one other = (
-  one.0 ++ other.0,
-  rw (one.1, other.1) (sym (append_assoc one.0 other.0 next)),
-  rw (append_assoc one.0 other.0 (body_of (raw_lines next)), other.2) one.2,
-  other.3 ∙ one.3,
-)
+follow_on bytes rest next one other = (one.0 ++ other.0, search (rules, append_assoc), search (rules, append_assoc), search rules)

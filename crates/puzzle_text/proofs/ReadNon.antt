@@ -66,12 +66,9 @@ module _ (limit : ℕ) (p : Nonogram) (wide : limit < 2 ^ 64) (lawful : IsNonogr
       (rw (filter-append has (column_part p) (goal_part p), with-content word (column_part p) some content_columns)
       (rw (with-one word (codes "goal") (goal_text p.goal) goal in_goal) refl))))
 
-  own_only : (f : Field) → flat_map (part p.texts) (f ∷ []) ++ [] ≡ part p.texts f
-  own_only f = search (append-nil)
-
   field_only : (f : Field) → texts_with (field_word f) (texts_non p) ≡ part p.texts f
-  field_only Catalogue = whole (codes "catalogue") false refl (λ text. refl) ∙ own_only Catalogue
-  field_only f = whole (field_word f) false refl (λ text. refl) ∙ own_only f
+  field_only Catalogue = whole (codes "catalogue") false refl (λ text. refl) ∙ search (append-nil)
+  field_only f = whole (field_word f) false refl (λ text. refl) ∙ search (append-nil)
 
 -- ---- from texts to lines
 

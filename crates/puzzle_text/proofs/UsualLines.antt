@@ -1,5 +1,5 @@
 -- Lines in their usual form: digits, separators and endings.
-use Rattle.puzzle_text.proofs.Names.{rules, ◌≡◌, ℕ, ◌-◌, ◌<◌, ◌≤◌, true, false, drop, eqb, List, [], ◌∷◌, ◌++◌, length, take, get_or, refl, sym, append_assoc, arith, inl, inr, Some, Ok, list_all, AllByRecursion, is_ascii_digit, digits_value, le-leb, nat_tests, get_or_append_left, take_all, slice_split_at, slice_split_none, AllPass-from_list_all, LONGEST_SIDE, is_clue, numbers_within, number_within, pieces, size_of, BeginsWith, BeginsWithNumber, EndsLine, IsNumeral, IsSeparator, SaysClue, SaysSizes}
+use Rattle.puzzle_text.proofs.Names.{rules, ◌≡◌, ℕ, ◌-◌, ◌<◌, ◌≤◌, true, false, drop, eqb, List, [], ◌∷◌, ◌++◌, length, take, get_or, refl, sym, append_assoc, arith, Some, Ok, list_all, AllByRecursion, is_ascii_digit, digits_value, le-leb, nat_tests, get_or_append_left, take_all, slice_split_at, slice_split_none, AllPass-from_list_all, LONGEST_SIDE, is_clue, numbers_within, number_within, pieces, size_of, BeginsWith, BeginsWithNumber, EndsLine, IsNumeral, IsSeparator, SaysClue, SaysSizes}
 use Rattle.puzzle_text.proofs.NumbersLemmas.{keeps_piece, number_is}
 use Rattle.puzzle_text.proofs.ReadBack.{IsKept, IsTidy, kept_tidy, line_kept, tidy_solid, raw_lines-feed, strip_last_is}
 use Rattle.puzzle_text.proofs.ReadClue.{IsSpacing, clue_is, comma, space}
@@ -18,7 +18,7 @@ pub record SaysNumbers (text : List ℕ) (numbers : List ℕ) : Type 0 where
   pub said : numbers_within LONGEST_SIDE (pieces text) ≡ Some numbers
 
 digits_high : (ds : List ℕ) → list_all is_ascii_digit ds ≡ true → AllByRecursion (λ byte. 33 ≤ byte) ds
-digits_high ds h = all_pass is_ascii_digit (λ d. 33 ≤ d) (λ d digit. omega (arith, (digit_range d digit).0)) ds h
+digits_high ds h = search (rules, all_pass, digit_range)
 
 some_digits : (piece : List ℕ) (n : ℕ) → n ≡ digits_value 10 piece → 1 ≤ n → 0 < length piece
 some_digits [] n e h = absurd (omega (arith, e))
@@ -57,20 +57,16 @@ PassesNumbers text rest numbers = (front : List ℕ) × (text ≡ front ++ rest)
     × ((more others : List ℕ) → SaysNumbers more others → SaysNumbers (front ++ more) (numbers ++ others))
 
 spaced : (s : ℕ) → IsSeparator s → IsSpacing s
-spaced s e = elim e [ inl is ↦ rw is comma | inr is ↦ rw is space ]
+spaced s e = search (rules, comma, space)
 
 -- one number more, and a separator
 pub number_and_more : (text rest others numbers more : List ℕ) (n s : ℕ) → PassesNumbers text rest numbers
     → BeginsWithNumber rest n (s ∷ others) → IsSeparator s → more ≡ numbers ++ n ∷ [] → PassesNumbers text others more
-number_and_more text rest others numbers more n s passed begins separated is =
-    let front = passed.0 in
-    let piece = begins.0 in (
-      front ++ (piece ++ s ∷ []),
-      rw (passed.1, begins.1) (simp append_assoc),
-      λ line ns said.
-          let more_said = number_before piece n begins.2 s line ns (spaced s separated) said in
-          rw is (simp append_assoc (passed.2 (piece ++ s ∷ line) (n ∷ ns) more_said)),
-    )
+number_and_more text rest others numbers more n s passed begins separated is = (
+  passed.0 ++ (begins.0 ++ s ∷ []),
+  search (rules, append_assoc),
+  λ line ns said. rw is (simp append_assoc (passed.2 _ (n ∷ ns) (number_before begins.0 n begins.2 s line ns (spaced s separated) said))),
+)
 
 -- ---- the end of a line
 
@@ -104,24 +100,15 @@ headed text byte some is = search (rules, take_all)
 pub clue_ends : (text rest after next numbers clue : List ℕ) (n : ℕ) → PassesNumbers text rest numbers → BeginsWithNumber rest n after
     → EndsLine after next → clue ≡ numbers ++ n ∷ [] → is_clue LONGEST_SIDE clue ≡ true → SaysClue text clue next
 clue_ends text rest after next numbers clue n passed begins ends is lawful =
-    let front = passed.0 in
-    let line = front ++ begins.0 in
+    let line = passed.0 ++ begins.0 in
     let said : SaysNumbers line clue = rw is (passed.2 begins.0 (n ∷ []) (number_alone begins.0 n begins.2)) in
-    let whole : text ≡ line ++ after = rw (passed.1, begins.1) (sym (append_assoc front begins.0 after)) in (
-      line,
-      rw whole (line_ends line after next said.tidy ends),
-      (rw said.said (clue_is LONGEST_SIDE clue lawful), said.digit),
-    )
+    let whole : text ≡ line ++ after = search (rules, append_assoc) in
+    (line, rw whole (line_ends line after next said.tidy ends), (rw said.said (clue_is LONGEST_SIDE clue lawful), said.digit))
 
 -- a 0 alone says the empty clue
 pub zero_ends : (text after next clue : List ℕ) → text ≡ 48 ∷ after → EndsLine after next → clue ≡ [] → SaysClue text clue next
 zero_ends text after next clue whole ends none =
-    let line : List ℕ = 48 ∷ [] in
-    let tidy : IsTidy line = record { inked = (omega arith, tt); first = omega arith; last = omega arith } in (
-      line,
-      rw whole (line_ends line after next tidy ends),
-      (rw none refl, refl),
-    )
+    (48 ∷ [], rw whole (line_ends (48 ∷ []) after next (search rules) ends), (rw none refl, refl))
 
 -- two numbers say the sizes
 pub sizes_end : (text second next rest : List ℕ) (a s b : ℕ) → BeginsWithNumber text a (s ∷ second) → IsSeparator s
