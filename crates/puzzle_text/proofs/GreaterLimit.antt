@@ -1,5 +1,5 @@
 -- A greater limit keeps what a text says.
-use Rattle.puzzle_text.proofs.Names.{rules, ◌≡◌, ℕ, ◌≤◌, Bool, true, false, leb, List, [], ◌∷◌, refl, arith, Option, Some, Result, option_and_then, list_all, and_parts, le-leb, leb-true, TextFault, BadNumber, is_run, Line, number_within, pieces, ◌>>=◌, or_fault, each, each_some, clue_of_numbers, clue_of, clues_of, size_of, two_sizes, size_line, read_nin, read_mk, sizes_of, both_clues, read_non}
+use Rattle.puzzle_text.proofs.Names.{rules, ◌≡◌, ℕ, ◌≤◌, Bool, true, false, List, [], ◌∷◌, refl, Option, Some, Result, option_and_then, list_all, and_parts, le-leb, leb-true, TextFault, BadNumber, is_run, Line, number_within, pieces, ◌>>=◌, or_fault, each, each_some, clue_of_numbers, clue_of, clues_of, size_of, two_sizes, size_line, read_nin, read_mk, sizes_of, both_clues, read_non}
 use Rattle.puzzle_text.specs.Laws.{GreaterLimitKeeps, KeepsAnswer}
 
 -- ---- options
@@ -38,18 +38,15 @@ keeps-number n old new kept = search rules
 -- ---- numbers, sizes and clues
 
 module _ (a b : ℕ) (le : a ≤ b) where
-  within : (n : ℕ) → leb n a ≡ true → leb n b ≡ true
-  within n h = le-leb n b (omega (arith, leb-true n a h))
-
   number_keeps : (piece : List ℕ) → KeepsSome (number_within a piece) (number_within b piece)
-  number_keeps piece = search (rules, some-bind, within)
+  number_keeps piece = search (rules, some-bind, le-leb, leb-true)
 
   size_keeps : (piece : List ℕ) → KeepsAnswer (size_of a piece) (size_of b piece)
   size_keeps piece = search (rules, some-bind, number_keeps)
 
   runs_keep : (ns : List ℕ) → list_all (is_run a) ns ≡ true → list_all (is_run b) ns ≡ true
   runs_keep [] h = refl
-  runs_keep (n ∷ ns) h = let others = runs_keep ns in search (rules, within, and_parts)
+  runs_keep (n ∷ ns) h = search (rules, runs_keep ns, and_parts, le-leb, leb-true)
 
   numbers_keep : (ns : List ℕ) → KeepsSome (clue_of_numbers a ns) (clue_of_numbers b ns)
   numbers_keep ns = search (rules, and_parts, runs_keep)

@@ -1,7 +1,7 @@
 -- Lemmas on numbers in a line.
 use Rattle.std.proofs.lemmas.Option.{cond_some}
 use Rattle.std.proofs.lemmas.List.Splits.{slice_split_first}
-use Rattle.puzzle_text.proofs.Names.{rules, ◌≡◌, ℕ, zero, suc, ◌+◌, ◌-◌, ◌*◌, ◌<◌, ◌≤◌, true, false, not, ltb, List, [], ◌∷◌, length, take, drop, filter, get_or, refl, arith, inl, inr, Option, Some, None, option_and_then, option_map, list_all, position, position_or_len, is_ascii_digit, digits_value, and-false, cases_Bool, le-leb, lt-leb, lt-ltb, ltb-true, ltb-false, ne_eqb, nat_tests, get_or-take, get_or_default, length-take-le, take_all, drop_all, take-take, slice_split_none, AllPass-from_list_all, fails_before_first, position_or_len_is, prefix_len-le-length, list_all_at, list_all_more, digits_value-take-le, numbers_within, is_empty, is_separator, number_within, pieces}
+use Rattle.puzzle_text.proofs.Names.{rules, ◌≡◌, ℕ, zero, suc, ◌+◌, ◌-◌, ◌*◌, ◌<◌, ◌≤◌, true, false, not, ltb, List, [], ◌∷◌, length, take, drop, get_or, refl, arith, inl, inr, Option, Some, None, option_and_then, option_map, list_all, position, position_or_len, is_ascii_digit, digits_value, and-false, cases_Bool, le-leb, lt-leb, lt-ltb, ltb-true, ltb-false, ne_eqb, nat_tests, get_or-take, get_or_default, length-take-le, take_all, drop_all, take-take, slice_split_none, AllPass-from_list_all, fails_before_first, position_or_len_is, prefix_len-le-length, list_all_at, list_all_more, digits_value-take-le, numbers_within, is_empty, is_separator, number_within, pieces}
 use Rattle.std.proofs.lemmas.List.Quantifiers.{position-Some}
 use borrow.Author.Count.{below_more}
 use Rattle.std.proofs.lemmas.Int.Digits.{digits_value_more}
@@ -25,18 +25,14 @@ past_limit limit piece i h = search (rules, lt-leb, digits_value-take-le)
 abbrev end_of : List ℕ → ℕ
 end_of text = position_or_len is_separator text
 
-pub keeps_piece : (piece : List ℕ) (parts : List (List ℕ)) → 0 < length piece
-    → filter (λ part. not (is_empty part)) (piece ∷ parts) ≡ piece ∷ filter (λ part. not (is_empty part)) parts
-keeps_piece piece parts h = rw (ne_eqb (length piece) 0 (λ e. omega arith)) refl
-
 -- the bytes up to the first separator are the first piece, if there are any
 pub first_piece : (text : List ℕ) (end : ℕ) → position is_separator text ≡ Some end → is_separator (get_or text 0 0) ≡ false
     → pieces text ≡ take end text ∷ pieces (drop (end + 1) text)
-first_piece text end found first = search (rules, position-Some, cond_some, ltb-true, slice_split_first, keeps_piece, length-take-le)
+first_piece text end found first = search (rules, position-Some, cond_some, ltb-true, slice_split_first, length-take-le, ne_eqb)
 
 -- without a separator it is the whole
 pub only_piece : (text : List ℕ) → 0 < length text → position is_separator text ≡ None → pieces text ≡ text ∷ []
-only_piece text h none = search (rules, ltb-false, get_or_default, fails_before_first, slice_split_none, keeps_piece)
+only_piece text h none = search (rules, ltb-false, get_or_default, fails_before_first, slice_split_none, ne_eqb)
 
 -- ---- the number of the first piece
 

@@ -30,13 +30,6 @@ abbrev below_first : List (List ℕ) → List (List ℕ)
 below_first [] = []
 below_first (raw ∷ raws) = raws
 
--- the first of these lines begins no entry
-abbrev IsPlain : List (List ℕ) → Type 0
-IsPlain raws = (body_of raws ≡ with_first raws) × (entries_of raws ≡ entries_of (below_first raws))
-
-plain : (raw : List ℕ) (raws : List (List ℕ)) → eqb (get_or raw 0 0) 64 ≡ false → IsPlain (raw ∷ raws)
-plain raw raws other = (rw (no_marker raw other) refl, rw (no_marker raw other) refl)
-
 -- ---- from the start of a line, or from amid one that begins no entry
 
 abbrev body_in : Bool → List (List ℕ) → List ℕ
@@ -55,7 +48,7 @@ GoesOn start later front raws others =
 
 one_byte : (start : Bool) (byte : ℕ) (bytes : List ℕ) → eqb byte 64 ≡ false
     → GoesOn start (eqb byte 10) (byte ∷ []) (raw_lines (byte ∷ bytes)) (raw_lines bytes)
-one_byte start byte bytes other = search (rules, plain)
+one_byte start byte bytes other = search (rules, no_marker)
 
 -- whether a line begins after these bytes, if one begins before them or not
 abbrev starts_after : Bool → List ℕ → Bool

@@ -23,14 +23,11 @@ module _ (limit : ℕ) (p : Nonogram) (wide : limit ≤ 256) (lawful : IsNonogra
   abbrev swapped : Nonogram
   swapped = reading p.height p.width clues
 
-  same : reading p.width p.height clues ≡ plain p.width p.height p.rows p.columns
-  same = search (rules, take-append_seam, drop-append_seam)
-
   likelier_is : is_ambiguous p ≡ false → likelier p.width p.height clues ≡ plain p.width p.height p.rows p.columns
-  likelier_is clear = search (rules, eqb-true, same)
+  likelier_is clear = search (rules, eqb-true, take-append_seam, drop-append_seam)
 
   likelier_other : is_ambiguous p ≡ true → likelier p.width p.height clues ≡ swapped
-  likelier_other ambiguous = search (rules, same)
+  likelier_other ambiguous = search (rules, take-append_seam, drop-append_seam)
 
   -- ---- the whole text
 

@@ -1,6 +1,6 @@
 -- Lines in their usual form: digits, separators and endings.
-use Rattle.puzzle_text.proofs.Names.{rules, ◌≡◌, ℕ, ◌-◌, ◌<◌, ◌≤◌, true, false, drop, eqb, List, [], ◌∷◌, ◌++◌, length, take, get_or, refl, sym, append_assoc, arith, Some, Ok, list_all, AllByRecursion, is_ascii_digit, digits_value, le-leb, nat_tests, get_or_append_left, take_all, slice_split_at, slice_split_none, AllPass-from_list_all, LONGEST_SIDE, is_clue, numbers_within, number_within, pieces, size_of, BeginsWith, BeginsWithNumber, EndsLine, IsNumeral, IsSeparator, SaysClue, SaysSizes}
-use Rattle.puzzle_text.proofs.NumbersLemmas.{keeps_piece, number_is}
+use Rattle.puzzle_text.proofs.Names.{rules, ◌≡◌, ℕ, ◌-◌, ◌<◌, ◌≤◌, true, false, drop, eqb, List, [], ◌∷◌, ◌++◌, length, take, get_or, refl, sym, append_assoc, arith, Some, Ok, list_all, AllByRecursion, is_ascii_digit, digits_value, le-leb, nat_tests, get_or_append_left, take_all, slice_split_at, slice_split_none, AllPass-from_list_all, LONGEST_SIDE, is_clue, numbers_within, pieces, size_of, BeginsWith, BeginsWithNumber, EndsLine, IsNumeral, IsSeparator, SaysClue, SaysSizes, ne_eqb}
+use Rattle.puzzle_text.proofs.NumbersLemmas.{number_is}
 use Rattle.puzzle_text.proofs.ReadBack.{IsKept, IsTidy, kept_tidy, line_kept, tidy_solid, raw_lines-feed, strip_last_is}
 use Rattle.puzzle_text.proofs.ReadClue.{IsSpacing, clue_is, comma, space}
 use Rattle.puzzle_text.proofs.AllLemmas.{all-append, all_pass}
@@ -28,26 +28,23 @@ module _ (piece : List ℕ) (n : ℕ) (numeral : IsNumeral piece n) where
   some_piece : 0 < length piece
   some_piece = some_digits piece n numeral.value numeral.positive
 
-  number_said : number_within LONGEST_SIDE piece ≡ Some n
-  number_said = search (rules, number_is, some_piece)
-
   size_said : size_of LONGEST_SIDE piece ≡ Ok n
-  size_said = rw (number_said, le-leb 1 n numeral.positive) refl
+  size_said = search (rules, le-leb, number_is, some_piece)
 
   pieces_alone : pieces piece ≡ piece ∷ []
-  pieces_alone = search (rules, slice_split_none, keeps_piece, some_piece, AllPass-from_list_all, nat_tests)
+  pieces_alone = search (rules, slice_split_none, some_piece, AllPass-from_list_all, nat_tests, ne_eqb)
 
   pieces_more : (s : ℕ) (more : List ℕ) → IsSpacing s → pieces (piece ++ s ∷ more) ≡ piece ∷ pieces more
-  pieces_more s more spacing = search (rules, slice_split_at, keeps_piece, some_piece, AllPass-from_list_all, nat_tests)
+  pieces_more s more spacing = search (rules, slice_split_at, some_piece, AllPass-from_list_all, nat_tests, ne_eqb)
 
   -- a number says itself
   pub number_alone : SaysNumbers piece (n ∷ [])
-  number_alone = search (rules, pieces_alone, number_said, tidy_solid, some_piece, digits_high, AllPass-from_list_all)
+  number_alone = search (rules, pieces_alone, tidy_solid, some_piece, digits_high, AllPass-from_list_all, number_is)
 
   -- a number before other numbers
   pub number_before : (s : ℕ) (more ns : List ℕ) → IsSpacing s → SaysNumbers more ns → SaysNumbers (piece ++ s ∷ more) (n ∷ ns)
   number_before s more ns spacing said =
-      search (rules, tidy-join, get_or_append_left, some_piece, pieces_more, number_said, tidy_solid, digits_high, AllPass-from_list_all)
+      search (rules, tidy-join, get_or_append_left, some_piece, pieces_more, tidy_solid, digits_high, AllPass-from_list_all, number_is)
 
 -- ---- the numbers of a line, one after the other
 

@@ -1,5 +1,5 @@
 -- The parts of a usual .non text, found on one walk from the top.
-use Rattle.puzzle_text.proofs.Names.{rules, ◌≡◌, ℕ, ◌+◌, true, false, List, [], ◌∷◌, ◌++◌, length, filter, get_or, refl, sym, ap, ◌∙◌, append_assoc, arith, None, eqb-true, AllByRecursion, LONGEST_SIDE, nil_from_length, append-nil, length-append, filter-append, Under, Other, Line, is_empty, is_hash, numbered_from, raw_lines, is_keyword_line, keyword, Sections, placed, sections_of, IsUnder, with_line, AreClueLines, HaveClues, IsClueText, KeepsOthers, SayClues, SaysClue, clues_under, rest}
+use Rattle.puzzle_text.proofs.Names.{rules, ◌≡◌, ℕ, ◌+◌, true, false, List, [], ◌∷◌, ◌++◌, length, filter, refl, sym, ap, ◌∙◌, append_assoc, arith, None, eqb-true, AllByRecursion, LONGEST_SIDE, nil_from_length, append-nil, length-append, filter-append, Under, Other, Line, is_empty, is_hash, numbered_from, raw_lines, is_keyword_line, keyword, Sections, placed, sections_of, IsUnder, with_line, AreClueLines, HaveClues, KeepsOthers, SayClues, SaysClue, clues_under, rest}
 use Rattle.puzzle_text.proofs.ReadClues.{some_text}
 use Rattle.puzzle_text.proofs.AllLemmas.{all-weaker, filter_all, filter_none}
 use Rattle.puzzle_text.proofs.SaidLines.{SayAll}
@@ -8,20 +8,16 @@ use Rattle.puzzle_text.proofs.UsualLines.{digit_range}
 
 -- ---- lines that say a clue
 
--- such a line is neither a keyword line nor a comment
-clue_content : (line : Line) (clue : List ℕ) → IsClueText line.text clue → IsContent line.text
-clue_content line clue said = let range = digit_range (get_or line.text 0 0) said.1 in content_digit line.text range.0 range.1
-
 -- lines of clues say these clues
 pub say_all : (found : List Line) (clues : List (List ℕ)) → AreClueLines found clues → SayAll LONGEST_SIDE found clues
 say_all [] [] said = record { full = tt; hash = tt; count = refl; said = refl }
-say_all (line ∷ found) (clue ∷ clues) said = search (rules, say_all found clues said.1, some_text, digit_range, clue_content)
+say_all (line ∷ found) (clue ∷ clues) said = search (rules, say_all found clues said.1, some_text, digit_range, content_digit)
 say_all found clues said = absurd said
 
 -- none of them is a keyword line or a comment
 all_content : (found : List Line) (clues : List (List ℕ)) → AreClueLines found clues → AllByRecursion (λ line. IsContent line.text) found
 all_content [] clues said = tt
-all_content (line ∷ found) (clue ∷ clues) said = (clue_content line clue said.0, all_content found clues said.1)
+all_content (line ∷ found) (clue ∷ clues) said = search (rules, all_content found clues said.1, digit_range, content_digit)
 all_content found clues said = absurd said
 
 -- lines of clues, and then more of them
@@ -121,7 +117,3 @@ module _ (next : Under) (line : Line) (number place : ℕ) (after rest : List �
   pub kept_one : (kept all : List Line) → kept ++ filter is_keyword_line (line ∷ numbered_from number (raw_lines after)) ≡ all
       → is_empty (keyword line) ≡ false → (kept ++ line ∷ []) ++ filter is_keyword_line later ≡ all
   kept_one kept all e some = search (rules, parts, append_assoc, all-weaker, all_content, filter-append, filter_none)
-
--- no bytes have no lines
-pub no_lines : (rest : List ℕ) (number : ℕ) → length rest ≡ 0 → numbered_from number (raw_lines rest) ≡ []
-no_lines rest number e = search (rules, nil_from_length)

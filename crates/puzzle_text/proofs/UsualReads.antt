@@ -1,5 +1,5 @@
 -- What the parts of a usual text say is what the text says.
-use Rattle.puzzle_text.proofs.Names.{rules, ◌≡◌, ℕ, ◌+◌, ◌≤◌, List, [], ◌∷◌, ◌++◌, length, filter, refl, Result, Ok, IfOk, IfSome, append-nil, LONGEST_SIDE, Nonogram, plain, TextFault, Gives, is_keyword_line, Line, lines, numbered_from, raw_lines, read_mk, read_nin, placed, puzzle_said, read_non, sections_of, likelier, BeginsWith, SayClues, SaysSizes, rest}
+use Rattle.puzzle_text.proofs.Names.{rules, ◌≡◌, ℕ, ◌+◌, ◌≤◌, List, [], ◌∷◌, ◌++◌, length, filter, refl, Result, Ok, IfOk, IfSome, append-nil, LONGEST_SIDE, Nonogram, plain, TextFault, Gives, is_keyword_line, Line, lines, numbered_from, raw_lines, read_mk, read_nin, placed, puzzle_said, read_non, sections_of, likelier, BeginsWith, SayClues, SaysSizes, rest, nil_from_length}
 use Rattle.std.specs.Result.{result_ok}
 use Rattle.puzzle_text.specs.steps.Lines.{HaveNoFeed}
 use Rattle.puzzle_text.proofs.FeedsLemmas.{clean_filter, lines_have_no_feed}
@@ -7,7 +7,7 @@ use Rattle.puzzle_text.proofs.KeywordsLemmas.{said_of_kept}
 use Rattle.puzzle_text.proofs.ReadClues.{some_text}
 use Rattle.puzzle_text.proofs.SaidLines.{mk_lines, nin_lines, short_lines}
 use Rattle.puzzle_text.proofs.UsualLines.{digit_range}
-use Rattle.puzzle_text.proofs.UsualParts.{no_lines, say_all}
+use Rattle.puzzle_text.proofs.UsualParts.{say_all}
 
 -- what is so of a value that a call gives is so of it as an option
 pub some_of_ok : {X E : Type 0} (P Q : X → Type 0) (r : Result X E) → IfOk r P → ((x : X) → P x → Q x) → IfSome (result_ok r) Q
@@ -37,7 +37,7 @@ non_said bytes kept p short e said = search (rules, short, short_lines, said_of_
 lines_to_end : (bytes rest : List ℕ) (number count : ℕ) (found : List Line) → length rest ≡ 0
     → numbered_from number (raw_lines bytes) ≡ found ++ numbered_from (number + count) (raw_lines rest)
     → numbered_from number (raw_lines bytes) ≡ found
-lines_to_end bytes rest number count found none parts = rw (parts, no_lines rest (number + count) none) (append-nil found)
+lines_to_end bytes rest number count found none parts = search (rules, append-nil, nil_from_length)
 
 -- what a size line, rows, a line # and columns say, the text says
 pub mk_said : (bytes after middle below_it rest : List ℕ) (width height : ℕ) (rows columns : List (List ℕ)) → length bytes ≤ 1048576

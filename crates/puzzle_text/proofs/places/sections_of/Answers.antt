@@ -1,5 +1,5 @@
 -- `sections_of`: each of the three kinds of lines leaves the sections of the text as they are to be.
-use Rattle.puzzle_text.proofs.Names.{rules, ◌+◌, drop, ap, map, sym, ◌∙◌, str_to_ascii_lowercase, Sections, placed, sections_of, shown_line, shown_sections}
+use Rattle.puzzle_text.proofs.Names.{rules, ◌+◌, drop, ap, map, sym, ◌∙◌, str_to_ascii_lowercase, Sections, shown_line, shown_sections}
 use Rattle.puzzle_text.proofs.SectionsWalk.{below, join, next_comment, next_content, next_keyword, nothing_above}
 use Rattle.puzzle_text.proofs.places.sections_of.Goals as goal
 use Rattle.puzzle_text.proofs.places.sections_of.Goals.{then-not-is_empty, else-not-is_empty+then-not-is_hash+in_ok-put, else-not-is_empty+else-not-is_hash}
@@ -9,34 +9,30 @@ loop-line-init c = search (rules, nothing_above)
 
 pub loop-line-preserved : goal.loop-line-preserved
 loop-line-preserved c =
-    let lines = c.args.lines.now in
     let i = c.loop-line.line-index in
     let word = c.loop-line.invariant.0 in
     let own = c.keyword-word.result.now in
-    let above = shown_sections c.loop-line.sections in
-    let whole = sections_of (placed (map shown_line lines)) in
+    let so_far = c.loop-line.invariant.2 in
+    let same = c.keyword-word.ensures in
     elim c.if-not-is_empty.branch [
       | then-not-is_empty w ↦ (
         str_to_ascii_lowercase own,
         rw w.place-is w.opened_by-place.ensures,
         rw w.sections-is
-            (next_keyword lines i _ word own above whole c.loop-line-test.true c.loop-line.invariant.2 c.keyword-word.ensures
-            (sym c.is_empty.ensures ∙ w.if-not-is_empty.true)),
+            (next_keyword _ i _ word own _ _ c.loop-line-test.true so_far same (sym c.is_empty.ensures ∙ w.if-not-is_empty.true)),
       )
       | else-not-is_empty+then-not-is_hash+in_ok-put w ↦ (
         word,
         rw w.place-is c.loop-line.invariant.1,
-        ap (λ (sections : Sections). join sections (below word (map shown_line (drop (i + 1) lines))))
+        ap (λ (sections : Sections). join sections (below word (map shown_line (drop (i + 1) c.args.lines.now))))
             (ap shown_sections w.sections-is ∙ w.in_ok-put.ensures)
-            ∙ next_content lines i _ word own above whole c.loop-line-test.true c.loop-line.invariant.2 c.keyword-word.ensures
-            c.loop-line.place c.loop-line.invariant.1 (sym c.is_empty.ensures ∙ w.if-not-is_empty.false)
-            (sym w.is_hash.ensures ∙ w.if-not-is_hash.true),
+            ∙ next_content _ i _ word own _ _ c.loop-line-test.true so_far same c.loop-line.place c.loop-line.invariant.1
+            (sym c.is_empty.ensures ∙ w.if-not-is_empty.false) (sym w.is_hash.ensures ∙ w.if-not-is_hash.true),
       )
       | else-not-is_empty+else-not-is_hash w ↦ (
         word,
         rw w.place-is c.loop-line.invariant.1,
-        rw w.sections-is
-            (next_comment lines i _ word own above whole c.loop-line-test.true c.loop-line.invariant.2 c.keyword-word.ensures
+        rw w.sections-is (next_comment _ i _ word own _ _ c.loop-line-test.true so_far same
             (sym c.is_empty.ensures ∙ w.if-not-is_empty.false) (sym w.is_hash.ensures ∙ w.if-not-is_hash.false)),
       )
     ]
