@@ -1,5 +1,5 @@
 -- What holds of each element of a list, and what a filter keeps of it then.
-use Rattle.puzzle_text.proofs.Names.{◌≡◌, Bool, true, false, List, [], ◌∷◌, ◌++◌, filter, map, refl, ap, flat_map, list_all, AllByRecursion, and_parts}
+use Rattle.puzzle_text.proofs.Names.{◌≡◌, Bool, true, false, List, [], ◌∷◌, ◌++◌, filter, map, refl, ap, flat_map, list_all, AllByRecursion, and_parts, rules}
 
 module _ {X : Type 0} (P : X → Type 0) where
   -- what holds of the elements of two lists holds of those of both together
@@ -27,7 +27,7 @@ module _ {X : Type 0} (p : X → Bool) where
   -- what follows from a test holds of each element of a list if all pass
   pub all_pass : (Q : X → Type 0) → ((x : X) → p x ≡ true → Q x) → (xs : List X) → list_all p xs ≡ true → AllByRecursion Q xs
   all_pass Q next [] h = tt
-  all_pass Q next (x ∷ xs) h = let parts = and_parts (p x) (list_all p xs) h in (next x parts.0, all_pass Q next xs parts.1)
+  all_pass Q next (x ∷ xs) h = search (rules, all_pass Q next xs, and_parts)
 
   -- a filter keeps all elements if all pass, and none if none does
   pub filter_all : (xs : List X) → AllByRecursion (λ x. p x ≡ true) xs → filter p xs ≡ xs

@@ -46,9 +46,7 @@ clean_strip byte bytes h =
     (λ _. All-take IsOther (length bytes - 1) bytes h) (λ _. h)
 
 clean_text : (line : Line) → has_no_feed line.text ≡ true → has_no_feed (quoted_text line) ≡ true
-clean_text line h =
-    list_all-from_AllPass _ (quoted_text line)
-    (of_text IsClean (All-drop IsOther) clean_reverse line (AllPass-from_list_all _ line.text h))
+clean_text line h = search (rules, list_all-from_AllPass, of_text IsClean (All-drop IsOther) clean_reverse, AllPass-from_list_all)
 
 -- ---- lines
 
@@ -112,7 +110,7 @@ short_text = of_text IsShort (λ n bytes h. omega (arith, length-drop n bytes)) 
 
 short_here : (b : Bool) (line : Line) (others : List Line) → IsShort line.text → long_of (slice_get others 0) ≡ None
     → long_of (slice_get (cond b (line ∷ others) others) 0) ≡ None
-short_here b line others fits none = let within = short_text line fits in search rules
+short_here b line others fits none = search (rules, short_text)
 
 short_first : (word : List ℕ) (kept : List KeywordLine) → are_short kept ≡ true → long_of (first_with word (map shown_keyword kept)) ≡ None
 short_first word [] h = refl

@@ -1,5 +1,5 @@
 -- Lemmas on the sums of clues, and on the parts of a puzzle with its sizes exchanged.
-use Rattle.puzzle_text.proofs.Names.{◌≡◌, ℕ, ◌*◌, ◌≤◌, true, leb, List, [], ◌∷◌, length, arith, sum, list_all, and_parts, leb-true, sum_by-cons, is_clue, is_run}
+use Rattle.puzzle_text.proofs.Names.{◌≡◌, ℕ, ◌*◌, ◌≤◌, true, leb, List, [], ◌∷◌, length, arith, sum, list_all, and_parts, leb-true, sum_by-cons, is_clue, is_run, rules}
 
 runs_sum : (numbers : List ℕ) → list_all (is_run 256) numbers ≡ true → sum numbers ≤ 256 * length numbers
 runs_sum [] runs = omega arith
@@ -10,7 +10,4 @@ runs_sum (number ∷ numbers) runs =
 
 -- how many numbers a clue has, and how many cells it fills
 pub clue_bounds : (numbers : List ℕ) → is_clue 256 numbers ≡ true → (length numbers ≤ 128) × (sum numbers ≤ 32768)
-clue_bounds numbers clue =
-    let parts = and_parts (leb (length numbers) 128) (list_all (is_run 256) numbers) clue in
-    let few = leb-true (length numbers) 128 parts.0 in
-    (few, omega (arith, few, runs_sum numbers parts.1))
+clue_bounds numbers clue = search (rules, and_parts, leb-true, runs_sum)

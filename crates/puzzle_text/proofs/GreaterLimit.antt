@@ -46,7 +46,7 @@ module _ (a b : ℕ) (le : a ≤ b) where
 
   runs_keep : (ns : List ℕ) → list_all (is_run a) ns ≡ true → list_all (is_run b) ns ≡ true
   runs_keep [] h = refl
-  runs_keep (n ∷ ns) h = search (rules, runs_keep ns, and_parts, le-leb, leb-true)
+  runs_keep (n ∷ ns) h = search (rules, runs_keep ns, and_parts, leb-true, le-leb)
 
   numbers_keep : (ns : List ℕ) → KeepsSome (clue_of_numbers a ns) (clue_of_numbers b ns)
   numbers_keep ns = search (rules, and_parts, runs_keep)

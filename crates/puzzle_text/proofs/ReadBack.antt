@@ -1,5 +1,5 @@
 -- What is written is read again: lines.
-use Rattle.puzzle_text.proofs.Names.{rules, ◌≡◌, true, leb, ℕ, ◌+◌, ◌-◌, ◌<◌, ◌≤◌, false, eqb, List, [], ◌∷◌, ◌++◌, length, get_or, refl, ap, ◌∙◌, append_assoc, arith, list_all, flat_map, AllByRecursion, leb-true, cond-false, ne_eqb, eq-eqb, take_at, get_or_at, get_or-reverse, length-append, reverse-reverse, nat_tests, All-from_recursion, All-get_or, Line, raw_lines, numbered_from, trim, trim_start, strip_last, without_ending, is_blank}
+use Rattle.puzzle_text.proofs.Names.{rules, ◌≡◌, true, leb, ℕ, ◌+◌, ◌-◌, ◌<◌, ◌≤◌, false, eqb, List, [], ◌∷◌, ◌++◌, length, get_or, refl, append_assoc, arith, list_all, flat_map, AllByRecursion, leb-true, cond-false, ne_eqb, eq-eqb, take_at, get_or_at, get_or-reverse, length-append, reverse-reverse, nat_tests, All-from_recursion, All-get_or, Line, raw_lines, numbered_from, trim, trim_start, strip_last, without_ending, is_blank}
 use Rattle.puzzle_text.proofs.AllLemmas.{all-weaker, all_pass}
 
 -- a line's text as it is written: no byte below a space, and no blank at either end
@@ -50,7 +50,7 @@ kept_tidy text tidy =
     tidy.last
 
 pub line_kept : (text : List ℕ) → IsKept text → trim (without_ending (with_feed text)) ≡ text
-line_kept text kept = ap (λ (t : List ℕ). trim (strip_last 13 t)) (strip_last_is 10 text) ∙ ap trim kept.no_return ∙ kept.trimmed
+line_kept text kept = search (rules, strip_last_is)
 
 -- a text of bytes above the space is tidy
 pub tidy_solid : (text : List ℕ) → 0 < length text → AllByRecursion (λ byte. 33 ≤ byte) text → IsTidy text

@@ -35,8 +35,7 @@ module _ (limit : ℕ) (p : Nonogram) (wide : limit ≤ 256) (lawful : IsNonogra
   mk_again =
       let place = 2 + length (map (clue_text 32) p.rows) in
       rw (numbered-append 2 (map (clue_text 32) p.rows) ((35 ∷ []) ∷ map (clue_text 32) p.columns))
-      (mk_lines limit p.width p.height (record { number = 1; text = clue_text 32 (p.height ∷ p.width ∷ []) })
-      (record { number = place; text = 35 ∷ [] }) _ _ p.rows p.columns (sizes_are limit p.height p.width (omega arith) high across)
+      (mk_lines limit p.width p.height _ _ _ _ p.rows p.columns (sizes_are limit p.height p.width (omega arith) high across)
       (some_sizes limit p.height p.width (omega arith) high across) refl (say_clues 32 limit 2 p.rows space (omega arith) lawful.rows)
       (say_clues 32 limit (place + 1) p.columns space (omega arith) lawful.columns) lawful.clues.0 lawful.clues.1)
 

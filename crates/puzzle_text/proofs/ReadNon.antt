@@ -178,7 +178,7 @@ part_again limit k clues gap wide lawful blank =
 
 each_cells : (cells : List Bool) → each_some cell_of (map goal_byte cells) ≡ Some cells
 each_cells [] = refl
-each_cells (cell ∷ cells) = rw (each_cells cells) (search rules)
+each_cells (cell ∷ cells) = search (rules, each_cells cells)
 
 cells_again : (count : ℕ) (cells : List Bool) → is_goal count (Some cells) ≡ true → goal_cells count (map goal_byte cells) ≡ Some cells
 cells_again count cells lawful = search (eq-eqb, length-map, eqb-true, each_cells)

@@ -1,5 +1,5 @@
 -- What the lines of a text say, if some of them say its sizes and others its clues.
-use Rattle.puzzle_text.proofs.Names.{rules, ◌≡◌, ℕ, ◌+◌, ◌≤◌, Bool, true, false, ltb, List, [], ◌∷◌, ◌++◌, length, filter, refl, ◌∙◌, append_assoc, arith, Some, None, Ok, Err, position_or_len, AllByRecursion, cond-false, eq-eqb, le-ltb, lt-ltb, take_all, take_at, drop_at, length-append, Nonogram, plain, TooLong, Line, is_full, is_hash, lines, pieces, clues_of, text_lines, two_sizes, at_hash, before_hash, mk_of, nin_of, likelier, Sections, both_clues, outline_of, puzzle_of_clues, puzzle_said}
+use Rattle.puzzle_text.proofs.Names.{rules, ◌≡◌, ℕ, ◌+◌, ◌≤◌, Bool, true, false, ltb, List, [], ◌∷◌, ◌++◌, length, filter, refl, append_assoc, arith, Some, None, Ok, Err, position_or_len, AllByRecursion, cond-false, eq-eqb, le-ltb, lt-ltb, take_all, take_at, drop_at, length-append, Nonogram, plain, TooLong, Line, is_full, is_hash, lines, pieces, clues_of, text_lines, two_sizes, at_hash, before_hash, mk_of, nin_of, likelier, Sections, both_clues, outline_of, puzzle_of_clues, puzzle_said}
 use Rattle.puzzle_text.specs.Sections.{choice}
 use Rattle.puzzle_text.proofs.AllLemmas.{filter_all}
 use Rattle.puzzle_text.proofs.MkLemmas.{puzzle_of_both}
@@ -44,7 +44,7 @@ pub record SayAll (limit : ℕ) (found : List Line) (clues : List (List ℕ)) : 
 -- and those are all, if none is blank
 all_chosen : (limit count : ℕ) (found : List Line) (clues : List (List ℕ)) → SayAll limit found clues → length clues ≡ count
     → choice count found ≡ Some found
-all_chosen limit count found clues all many = rw (filter_all is_full found all.full, eq-eqb (length found) count (all.count ∙ many)) refl
+all_chosen limit count found clues all many = search (rules, filter_all, eq-eqb)
 
 both_said : (limit : ℕ) (order : Bool) (a b : List Line) (x y : List (List ℕ)) → SayAll limit a x → SayAll limit b y
     → both_clues limit order a b ≡ Ok (x, y)
@@ -58,10 +58,9 @@ pub mk_lines : (limit width height : ℕ) (first cut : Line) (row_lines column_l
     → SayAll limit row_lines rows → SayAll limit column_lines columns → length rows ≡ height → length columns ≡ width
     → mk_of limit (first ∷ (row_lines ++ cut ∷ column_lines)) ≡ Ok (plain width height rows columns)
 mk_lines limit width height first cut row_lines column_lines rows columns sizes full here p q high wide =
-    let both = both_said limit true row_lines column_lines rows columns p q in
     rw (full, sizes, at_hash_is row_lines cut column_lines p.hash here, before_hash_is column_lines q.hash)
     (rw (all_chosen limit height row_lines rows p high, all_chosen limit width column_lines columns q wide)
-    (rw (puzzle_of_both limit width height row_lines column_lines rows columns both high) refl))
+    (search (rules, puzzle_of_both, both_said)))
 
 -- in .nin: a size line and clues
 pub nin_lines : (limit a b : ℕ) (first : Line) (found : List Line) (clues : List (List ℕ)) → two_sizes limit (pieces first.text) ≡ Ok (a, b)

@@ -30,18 +30,8 @@ walk_below : (front raws : List (List ℕ))
     → stray_from (length front + 1) (list_any is_marker front) raws ≡ stray_number (front ++ raws) (enumerate_from (length front) raws)
 walk_below front [] = refl
 walk_below front (raw ∷ raws) =
-    let whole = front ++ raw ∷ raws in
-    let next : stray_from (length front + 1 + 1) (list_any is_marker front || is_marker raw) raws
-    ≡ stray_number whole (enumerate_from (length front + 1) raws) =
-    rw (
-      append_assoc front (raw ∷ []) raws,
-      length-append front (raw ∷ []),
-      list_any-append is_marker front (raw ∷ []),
-      or-false (is_marker raw),
-    ) at (walk_below (front ++ raw ∷ []) raws) in
-    rw (take-append_seam front (raw ∷ raws))
-    (at_line (is_marker raw) (is_empty (name_of raw)) _ (list_any is_marker front) (length front) raw
-    (find (stray_in whole) (enumerate_from (length front + 1) raws)) _ next)
+    let next = walk_below (front ++ raw ∷ []) raws in
+    search (rules, next, append_assoc, length-append, list_any-append, or-false, take-append_seam, at_line)
 
 -- the walk from the top finds the first stray line
 pub first_stray_found : (raws : List (List ℕ)) → stray_from 1 false raws ≡ first_stray raws
@@ -52,7 +42,7 @@ first_stray_found raws = walk_below [] raws
 -- no line below a marker line is stray
 none_below : (number : ℕ) (raws : List (List ℕ)) → are_named (entries_of raws) ≡ true → stray_from number true raws ≡ None
 none_below number [] named = refl
-none_below number (raw ∷ raws) named = let later = none_below (number + 1) raws in search rules
+none_below number (raw ∷ raws) named = search (rules, none_below (number + 1) raws)
 
 from_first : (number : ℕ) (raws : List (List ℕ)) → begins_with_marker raws ≡ true → are_named (entries_of raws) ≡ true
     → stray_from number false raws ≡ None

@@ -1,5 +1,5 @@
 -- The parts of a usual .non text, found on one walk from the top.
-use Rattle.puzzle_text.proofs.Names.{rules, ◌≡◌, ℕ, ◌+◌, true, false, List, [], ◌∷◌, ◌++◌, length, filter, refl, sym, ap, ◌∙◌, append_assoc, arith, None, eqb-true, AllByRecursion, LONGEST_SIDE, nil_from_length, append-nil, length-append, filter-append, Under, Other, Line, is_empty, is_hash, numbered_from, raw_lines, is_keyword_line, keyword, Sections, placed, sections_of, IsUnder, with_line, AreClueLines, HaveClues, KeepsOthers, SayClues, SaysClue, clues_under, rest}
+use Rattle.puzzle_text.proofs.Names.{rules, ◌≡◌, ℕ, ◌+◌, true, false, List, [], ◌∷◌, ◌++◌, length, filter, refl, sym, ap, ◌∙◌, append_assoc, None, eqb-true, AllByRecursion, LONGEST_SIDE, nil_from_length, append-nil, length-append, filter-append, Under, Other, Line, is_empty, is_hash, numbered_from, raw_lines, is_keyword_line, keyword, Sections, placed, sections_of, IsUnder, with_line, AreClueLines, HaveClues, KeepsOthers, SayClues, SaysClue, clues_under, rest}
 use Rattle.puzzle_text.proofs.ReadClues.{some_text}
 use Rattle.puzzle_text.proofs.AllLemmas.{all-weaker, filter_all, filter_none}
 use Rattle.puzzle_text.proofs.SaidLines.{SayAll}
@@ -32,11 +32,9 @@ pub one_said : (bytes rest next clue : List ℕ) (clues more : List (List ℕ)) 
     → more ≡ clues ++ clue ∷ [] → SayClues bytes more next
 one_said bytes rest next clue clues more said one is = λ number.
     let first = said number in
-    let place = number + length clues in
-    let line : Line = record { number = place; text = one.0 } in
-    let count : place + 1 ≡ number + length more = omega (arith, ap length is, length-append clues (clue ∷ [])) in (
+    let line : Line = record { number = number + length clues; text = one.0 } in (
       first.0 ++ line ∷ [],
-      rw (first.1, one.1 place, count) (sym (append_assoc first.0 (line ∷ []) _)),
+      search (rules, append_assoc, one.1 (number + length clues), length-append),
       rw is (said_after first.0 (line ∷ []) clues (clue ∷ []) first.2 (one.2, tt)),
     )
 

@@ -1,5 +1,4 @@
--- What the loop of `goal_cells` keeps: the cells so far, and then those of the bytes to come,
--- are those of the text.
+-- What the loop of `goal_cells` keeps: the cells so far, and then those of the bytes to come, are those of the text.
 use Rattle.puzzle_text.proofs.Names.{◌≡◌, None, cond, drop, length, vec_capacity, vec_len, each_some, cell_of}
 use Rattle.puzzle_text.proofs.EachLemmas.{some_with_front}
 use Rattle.puzzle_text.proofs.goals.goal_cells.Given as goal

@@ -1,5 +1,4 @@
--- What the loop of `letters` keeps: the letters passed and those at the start of the rest are those
--- of the text.
+-- What the loop of `letters` keeps: the letters passed and those at the start of the rest are those of the text.
 use Rattle.puzzle_text.proofs.Names.{◌≡◌, ◌+◌, drop, prefix_len, is_ascii_alphabetic}
 use Rattle.puzzle_text.proofs.keywords.letters.Given as goal
 
