@@ -20,7 +20,7 @@ module _ (P : List ℕ → Type 0) (cut : (n : ℕ) (bytes : List ℕ) → P byt
   of_start (byte ∷ bytes) h = search (rules, of_start bytes (cut 1 (byte ∷ bytes) h), cond_both, cut)
 
   of_trim : (bytes : List ℕ) → P bytes → P (trim bytes)
-  of_trim bytes h = search (of_start)
+  of_trim bytes h = search of_start
 
   of_after : (bytes : List ℕ) → P bytes → IfSome (after_quote bytes) P
   of_after [] h = tt

@@ -67,8 +67,8 @@ module _ (limit : ℕ) (p : Nonogram) (wide : limit < 2 ^ 64) (lawful : IsNonogr
       (rw (with-one word (codes "goal") (goal_text p.goal) goal in_goal) refl))))
 
   field_only : (f : Field) → texts_with (field_word f) (texts_non p) ≡ part p.texts f
-  field_only Catalogue = whole (codes "catalogue") false refl (λ text. refl) ∙ search (append-nil)
-  field_only f = whole (field_word f) false refl (λ text. refl) ∙ search (append-nil)
+  field_only Catalogue = whole (codes "catalogue") false refl (λ text. refl) ∙ search append-nil
+  field_only f = whole (field_word f) false refl (λ text. refl) ∙ search append-nil
 
 -- ---- from texts to lines
 
