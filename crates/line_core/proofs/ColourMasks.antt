@@ -1,52 +1,38 @@
 -- Masks of both colours: what they have, and what they have once others are added.
-use Rattle.line_core.proofs.Names.{◌≡◌, ℕ, ◌+◌, ◌-◌, ◌<◌, Bool, true, false, List, length, get_or, sym, ap, subst, arith, ◌⊎◌, inl, inr, cases_lt, Has, IsMaskOf, has_of, join_of, none_has}
+use Rattle.line_core.proofs.Names.{eqb-true, rules, ◌≡◌, ◌↔◌, ℕ, ◌+◌, ◌-◌, ◌<◌, Bool, true, false, List, length, get_or, sym, ap, subst, arith, ◌⊎◌, inl, inr, cases_lt, Has, IsMaskOf, has_of, join_of, none_has}
+use Rattle.std.proofs.Common.{nat_eq}
 use Rattle.std.proofs.lemmas.List.{get_or_read}
+use Rattle.std.proofs.lemmas.Bool.{cases_eq}
 use Rattle.place_sets.specs.Masks.{IsMarked}
 use Rattle.line_core.specs.Pairs.{ColourMasks, no_colours}
 use Rattle.line_core.specs.steps.Gathers.{AreBothSides, AreMasks, AreMore, HasColour}
 
 -- what the masks have, colour by colour
-pub masks_to : (P : Bool → ℕ → Type 0) (m : ColourMasks) → AreMasks P m → (d : Bool) (k : ℕ) → HasColour m d k → P d k
-masks_to P m a true k h = a.fillable_is.to k h
-masks_to P m a false k h = a.blankable_is.to k h
+pub masks_are : (P : Bool → ℕ → Type 0) (m : ColourMasks) → AreMasks P m → (d : Bool) (k : ℕ) → HasColour m d k ↔ P d k
+masks_are P m a true k = (a.fillable_is.to k, a.fillable_is.from k)
+masks_are P m a false k = (a.blankable_is.to k, a.blankable_is.from k)
 
-pub masks_from : (P : Bool → ℕ → Type 0) (m : ColourMasks) → AreMasks P m → (d : Bool) (k : ℕ) → P d k → HasColour m d k
-masks_from P m a true k h = a.fillable_is.from k h
-masks_from P m a false k h = a.blankable_is.from k h
-
-pub masks_of : (P : Bool → ℕ → Type 0) (m : ColourMasks) → ((d : Bool) (k : ℕ) → HasColour m d k → P d k)
-    → ((d : Bool) (k : ℕ) → P d k → HasColour m d k) → AreMasks P m
-masks_of P m to from = record {
-  fillable_is = record { to = to true; from = from true };
-  blankable_is = record { to = to false; from = from false };
+pub masks_of : (P : Bool → ℕ → Type 0) (m : ColourMasks) → ((d : Bool) (k : ℕ) → HasColour m d k ↔ P d k) → AreMasks P m
+masks_of P m are = record {
+  fillable_is = record { to = λ k. (are true k).0; from = λ k. (are true k).1 };
+  blankable_is = record { to = λ k. (are false k).0; from = λ k. (are false k).1 };
 }
 
 -- masks of what amounts to the same
-pub masks_same : (P Q : Bool → ℕ → Type 0) (m : ColourMasks) → AreMasks P m → ((d : Bool) (k : ℕ) → P d k → Q d k)
-    → ((d : Bool) (k : ℕ) → Q d k → P d k) → AreMasks Q m
-masks_same P Q m a to from = masks_of Q m (λ d k h. to d k (masks_to P m a d k h)) (λ d k h. masks_from P m a d k (from d k h))
+pub masks_same : (P Q : Bool → ℕ → Type 0) (m : ColourMasks) → AreMasks P m → ((d : Bool) (k : ℕ) → P d k ↔ Q d k) → AreMasks Q m
+masks_same P Q m a same = masks_of Q m (λ d k. search (rules, masks_are P m a d k, same d k))
 
 -- what amounts to the same is added
-pub more_same : (P Q : Bool → ℕ → Type 0) (old new : ColourMasks) → AreMore P old new → ((d : Bool) (k : ℕ) → P d k → Q d k)
-    → ((d : Bool) (k : ℕ) → Q d k → P d k) → AreMore Q old new
-more_same P Q old new a to from =
-    masks_same _ _ new a (λ d k h. elim h [ inl x ↦ inl x | inr x ↦ inr (to d k x) ])
-    (λ d k h. elim h [ inl x ↦ inl x | inr x ↦ inr (from d k x) ])
+pub more_same : (P Q : Bool → ℕ → Type 0) (old new : ColourMasks) → AreMore P old new → ((d : Bool) (k : ℕ) → P d k ↔ Q d k) → AreMore Q old new
+more_same P Q old new a same = masks_same _ _ new a (λ d k. search (rules, same d k))
 
 -- and nothing is added
 pub none_more : (P : Bool → ℕ → Type 0) (m : ColourMasks) → ((d : Bool) (k : ℕ) → P d k → ⊥) → AreMore P m m
-none_more P m none = masks_of _ m (λ d k h. inl h) (λ d k h. elim h [ inl x ↦ x | inr x ↦ absurd (none d k x) ])
+none_more P m none = masks_of _ m (λ d k. search (rules, none d k))
 
 -- two things are added, one after the other
 pub more_more : (P Q : Bool → ℕ → Type 0) (old mid new : ColourMasks) → AreMore P old mid → AreMore Q mid new → AreMore (λ d k. P d k ⊎ Q d k) old new
-more_more P Q old mid new a b =
-    masks_same _ _ new b (λ d k h. elim h [
-      | inl x ↦ elim (masks_to _ mid a d k x) [ inl y ↦ inl y | inr y ↦ inr (inl y) ]
-      | inr x ↦ inr (inr x)
-    ]) (λ d k h. elim h [
-      | inl x ↦ inl (masks_from _ mid a d k (inl x))
-      | inr x ↦ elim x [ inl y ↦ inl (masks_from _ mid a d k (inr y)) | inr y ↦ inr y ]
-    ])
+more_more P Q old mid new a b = masks_same _ _ new b (λ d k. search (rules, masks_are _ mid a d k))
 
 -- what the colours of a table tell at each of some places is added
 pub each_more : (places : ℕ) (table : List ColourMasks) (index : ℕ → ℕ) (P : ℕ → Bool → ℕ → Type 0) (old new : ColourMasks)
@@ -54,8 +40,7 @@ pub each_more : (places : ℕ) (table : List ColourMasks) (index : ℕ → ℕ) 
     → AreMore (λ d k. (i : ℕ) × Has places i × HasColour (get_or table (index i) no_colours) d k) old new
     → AreMore (λ d k. (i : ℕ) × Has places i × P i d k) old new
 each_more places table index P old new told more =
-    more_same _ _ old new more (λ d k h. (h.0, h.1, masks_to _ _ (told h.0 h.1) d k h.2))
-    (λ d k h. (h.0, h.1, masks_from _ _ (told h.0 h.1) d k h.2))
+    more_same _ _ old new more (λ d k. (λ h. (h.0, h.1, (masks_are _ _ (told h.0 h.1) d k).0 h.2), λ h. (h.0, h.1, (masks_are _ _ (told h.0 h.1) d k).1 h.2)))
 
 -- the colours that are read from a table are those at a place of it
 pub read_more : (table : List ColourMasks) (i p : ℕ) (read old new : ColourMasks) → i ≡ p → i < length table → read ≡ get_or table i read
@@ -90,20 +75,19 @@ no_colour m true k e h = none_has m.fillable k (ap (λ (c : ColourMasks). c.fill
 no_colour m false k e h = none_has m.blankable k (ap (λ (c : ColourMasks). c.blankable) e) h
 
 pub no_below : (P : ℕ → Bool → ℕ → Type 0) (m : ColourMasks) → m ≡ no_colours → AreMasks (Below 0 P) m
-no_below P m e = masks_of (Below 0 P) m (λ d k h. absurd (no_colour m d k e h)) (λ d k h. let b : h.0 < 0 = h.1 in absurd (omega arith))
+no_below P m e = masks_of (Below 0 P) m (λ d k. (λ h. absurd (no_colour m d k e h), λ h. absurd (omega (arith, h.1))))
 
 pub one_below : (P : ℕ → Bool → ℕ → Type 0) (j : ℕ) (old new : ColourMasks) → AreMasks (Below j P) old → AreMore (P j) old new
     → AreMasks (Below (j + 1) P) new
-one_below P j old new a b = masks_same _ _ new b to from
+one_below P j old new a b = masks_same _ _ new b (λ d k. (to d k, from d k))
   where
     to : (d : Bool) (k : ℕ) → HasColour old d k ⊎ P j d k → Below (j + 1) P d k
-    to d k (inl h) = let x = masks_to _ old a d k h in (x.0, omega (arith, x.1), x.2)
-    to d k (inr h) = (j, omega arith, h)
+    to d k h = search (rules, masks_are _ old a d k)
 
     from : (d : Bool) (k : ℕ) → Below (j + 1) P d k → HasColour old d k ⊎ P j d k
     from d k (q, h, x) = elim (cases_lt q j) [
-      | inl low ↦ inl (masks_from _ old a d k (q, low, x))
-      | inr high ↦ (let e : q ≡ j = omega arith in inr (subst (λ (n : ℕ). P n d k) e x))
+      | inl low ↦ inl ((masks_are _ old a d k).1 (q, low, x))
+      | inr high ↦ (let e : q ≡ j = omega arith in inr (rw (sym e) x))
     ]
 
 -- ---- a walk over the places of a mask
@@ -122,24 +106,24 @@ pub added_more : (places left next p : ℕ) (P : ℕ → Bool → ℕ → Type 0
     → IsMaskOf (IsMarked (Has left) p false) next → AreMore (P p) sum new → AreAdded places next P old new
 added_more places left next p P old sum new a here marked more = record {
   within = λ i h. elim (marked.to i h) [ inl x ↦ a.within i x.0 | inr x ↦ a.within i (rw x.0 here) ];
-  to = λ d k h. elim (masks_to _ new more d k h) [ inl x ↦ a.to d k x | inr x ↦ inr (p, a.within p here, x) ];
-  kept = λ d k h. masks_from _ new more d k (inl (a.kept d k h));
+  to = λ d k h. elim ((masks_are _ new more d k).0 h) [ inl x ↦ a.to d k x | inr x ↦ inr (p, a.within p here, x) ];
+  kept = λ d k h. (masks_are _ new more d k).1 (inl (a.kept d k h));
   added = λ i d k h x. elim (a.added i d k h x) [
-    | inr y ↦ inr (masks_from _ new more d k (inl y))
-    | inl y ↦ elim (cases_lt i p) [
-      | inl low ↦ inl (marked.from i (inl (y, omega arith)))
-      | inr high ↦ elim (cases_lt p i) [
-        | inl low ↦ inl (marked.from i (inl (y, omega arith)))
-        | inr same ↦ (let e : i ≡ p = omega arith in inr (masks_from _ new more d k (inr (subst (λ (n : ℕ). P n d k) e x))))
-      ]
+    | inr y ↦ inr ((masks_are _ new more d k).1 (inl y))
+    | inl y ↦ elim (cases_eq i p) [
+      | inl e ↦ inr ((masks_are _ new more d k).1 (inr (rw (sym e) x)))
+      | inr ne ↦ inl (marked.from i (inl (y, ne)))
     ]
   ];
 }
 
-pub added_all : (places left : ℕ) (P : ℕ → Bool → ℕ → Type 0) (old new : ColourMasks) → AreAdded places left P old new → left ≡ 0
+pub added_all : (places left : ℕ) (P : ℕ → Bool → ℕ → Type 0) (old new : ColourMasks) → AreAdded places left P old new → nat_eq left 0 ≡ true
     → AreMore (λ d k. (i : ℕ) × Has places i × P i d k) old new
 added_all places left P old new a none =
-    masks_of _ new a.to (λ d k h. elim h [
-      | inl x ↦ a.kept d k x
-      | inr x ↦ elim (a.added x.0 d k x.1 x.2) [ inl y ↦ absurd (none_has left x.0 none y) | inr y ↦ y ]
-    ])
+    masks_of _ new (λ d k. (
+      a.to d k,
+      λ h. elim h [
+        | inl x ↦ a.kept d k x
+        | inr x ↦ elim (a.added x.0 d k x.1 x.2) [ inl y ↦ absurd (none_has left x.0 (eqb-true left 0 none) y) | inr y ↦ y ]
+      ],
+    ))

@@ -1,9 +1,9 @@
 -- Rows of what can be before the gaps of whole placings, written gap by gap.
-use Rattle.line_core.proofs.Names.{◌≡◌, ◌≢◌, ◌∙◌, ℕ, zero, suc, ◌+◌, ◌-◌, ◌<◌, ◌≤◌, List, ◌++◌, length, false, refl, sym, subst, arith, zero-add, inl, inr, get_or, set, take, map, Cell, Has, IsMaskOf, IsShifted, IsGapAfter, IsWholeEnd, behind}
-use Rattle.std.proofs.Common.{◌*◌, ◌/◌, get_or-set_other, get_or-set_same, true≢false, drop, [], length-drop, drop_of_length-le, append-nil}
+use Rattle.line_core.proofs.Names.{eqb-true, none_has, true, ◌≡◌, ◌≢◌, ◌∙◌, ℕ, zero, suc, ◌+◌, ◌-◌, ◌<◌, ◌≤◌, List, ◌++◌, length, false, refl, sym, subst, arith, zero-add, inl, inr, get_or, set, take, map, Cell, Has, IsMaskOf, IsShifted, IsGapAfter, IsWholeEnd, behind}
+use Rattle.std.proofs.Common.{nat_eq, ◌*◌, ◌/◌, get_or-set_other, get_or-set_same, true≢false, drop, [], length-drop, drop_of_length-le, append-nil}
 use Rattle.std.proofs.lemmas.List.{get_or-take, get_or-drop, get_or-append-add, get_or_append_left, length-take-le, take_all}
 use Rattle.std.proofs.lemmas.Bool.{cases_eq, cases_lt}
-use Rattle.std.proofs.lemmas.Nat.Bits.{bit_at-suc, bit_at_lowest, bit_at-lt, bit_at-zero, same_from_bits}
+use Rattle.std.proofs.lemmas.Nat.Bits.{bit_at-suc, bit_at_lowest, bit_at-lt, same_from_bits}
 use Rattle.std.specs.Int.{bit_at}
 use Rattle.place_sets.specs.Masks.{IsMarked}
 use Rattle.place_sets.proofs.LevelSteps.{number_at}
@@ -29,34 +29,34 @@ mask_less a b p h m =
     bit_less p a b h (grind (arith, bit_at-lt, true≢false)) (λ i ne. grind (arith, bit_at-lt, true≢false))
 
 -- of the places of `all` those that are left are still to be written in a row, and the others hold what they should
-pub record IsWalk (all left : ℕ) (Q : ℕ → ColourMasks → Type 0) (row : List ColourMasks) : Type 0 where
+pub record IsWalk {A : Type 0} (all left : ℕ) (Q : ℕ → A → Type 0) (none : A) (row : List A) : Type 0 where
   pub within : (i : ℕ) → Has left i → Has all i
-  pub done : (i : ℕ) → Has all i → (Has left i → ⊥) → Q i (get_or row i no_colours)
+  pub done : (i : ℕ) → Has all i → (Has left i → ⊥) → Q i (get_or row i none)
 
-pub walk_none : (all : ℕ) (Q : ℕ → ColourMasks → Type 0) (row : List ColourMasks) → IsWalk all all Q row
-walk_none all Q row = record { within = λ i h. h; done = λ i h none. absurd (none h) }
+pub walk_none : {A : Type 0} (all : ℕ) (Q : ℕ → A → Type 0) (none : A) (row : List A) → IsWalk all all Q none row
+walk_none all Q none row = record { within = λ i h. h; done = λ i h lacks. absurd (lacks h) }
 
-pub walk_more : (all left next p q : ℕ) (Q : ℕ → ColourMasks → Type 0) (row : List ColourMasks) (v : ColourMasks) → p < length row → q ≡ p
-    → IsMaskOf (IsMarked (Has left) p false) next → Q p v → IsWalk all left Q row → IsWalk all next Q (set row q v)
-walk_more all left next p q Q row v inside at m here w = record {
+pub walk_more : {A : Type 0} (all left next p q : ℕ) (Q : ℕ → A → Type 0) (none : A) (row : List A) (v : A) → p < length row → q ≡ p
+    → IsMaskOf (IsMarked (Has left) p false) next → Q p v → IsWalk all left Q none row → IsWalk all next Q none (set row q v)
+walk_more all left next p q Q none row v inside at m here w = record {
   within = λ i h. elim (m.to i h) [ inl x ↦ w.within i x.0 | inr x ↦ absurd (true≢false (sym x.1)) ];
-  done = λ i h none. elim (cases_eq i p) [
-    | inl e ↦ rw (at, e, get_or-set_same row p v no_colours inside) here
-    | inr ne ↦ rw (at, get_or-set_other row p i v no_colours ne) (w.done i h (λ l. none (m.from i (inl (l, ne)))))
+  done = λ i h lacks. elim (cases_eq i p) [
+    | inl e ↦ rw (at, e, get_or-set_same row p v none inside) here
+    | inr ne ↦ rw (at, get_or-set_other row p i v none ne) (w.done i h (λ l. lacks (m.from i (inl (l, ne)))))
   ];
 }
 
-pub walk_last : (all left : ℕ) (Q : ℕ → ColourMasks → Type 0) (row : List ColourMasks) → left ≡ 0 → IsWalk all left Q row
-    → (i : ℕ) → Has all i → Q i (get_or row i no_colours)
-walk_last all left Q row e w i h = w.done i h (λ l. let z : Has 0 i = subst (λ (m : ℕ). Has m i) e l in omega (arith, z, bit_at-zero i))
+pub walk_last : {A : Type 0} (all left : ℕ) (Q : ℕ → A → Type 0) (none : A) (row : List A) → nat_eq left 0 ≡ true → IsWalk all left Q none row
+    → (i : ℕ) → Has all i → Q i (get_or row i none)
+walk_last all left Q none row e w i h = w.done i h (none_has left i (eqb-true left 0 e))
 
 -- a gap that is left is within a row
 pub left_inside : (l : List Cell) (clue : List ℕ) (j gaps left p : ℕ) (Q : ℕ → ColourMasks → Type 0) (row : List ColourMasks)
-    → IsWalk gaps left Q row → Has left p → IsMaskOf (IsWholeGap l clue j) gaps → length l ≤ 128 → p < 128
+    → IsWalk gaps left Q no_colours row → Has left p → IsMaskOf (IsWholeGap l clue j) gaps → length l ≤ 128 → p < 128
 left_inside l clue j gaps left p Q row walk h m short = omega (arith, (m.to p (walk.within p h)).0.0.0)
 
 pub first_inside : (l : List Cell) (gaps left p : ℕ) (Q : ℕ → ColourMasks → Type 0) (row : List ColourMasks)
-    → IsWalk gaps left Q row → Has left p → ((i : ℕ) → Has gaps i → IsGapAfter l [] i) → p < length l
+    → IsWalk gaps left Q no_colours row → Has left p → ((i : ℕ) → Has gaps i → IsGapAfter l [] i) → p < length l
 first_inside l gaps left p Q row walk h gap = (gap p (walk.within p h)).0.0
 
 pub ruleset walks = (left_inside, first_inside, mask_less, walk_none)

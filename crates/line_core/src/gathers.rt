@@ -45,6 +45,7 @@ fn both_sides<W: PlaceSet>(near: &Colours<W>, far: &Colours<W>, len: u16) -> Col
 }
 
 /// Adds the colours of a table, from an index on, at each of some places.
+#[tactic(auto, using(crate::proofs::GapRows::mask_less))]
 fn add_each<W: PlaceSet>(sum: &mut Colours<W>, places: W, table: &[Colours<W>], base: usize)
     requires { (i : ℕ) → Has (W.number places) i → base + i < length table.now }
     ensures { AreMore (λ filled k. (i : ℕ) × Has (W.number places) i
@@ -59,6 +60,7 @@ fn add_each<W: PlaceSet>(sum: &mut Colours<W>, places: W, table: &[Colours<W>], 
 }
 
 /// Adds the colours of a table, from an index on, at each of some places, seen from the other end of a line.
+#[tactic(auto, using(crate::proofs::GapRows::mask_less))]
 fn add_each_turned<W: PlaceSet>(
     sum: &mut Colours<W>,
     places: W,

@@ -1,5 +1,5 @@
 -- `write_first`: the cells up to a gap with no run before it are blank.
-use Rattle.line_core.proofs.Names.{rules, true, false, ◌∙◌, ◌<◌, length, sym, arith, eqb-true, mask_same, none_is}
+use Rattle.line_core.proofs.Names.{rules, true, false, ◌∙◌, ◌<◌, length, sym, arith, mask_same, none_is}
 use Rattle.std.proofs.Common.{true≢false}
 use Rattle.line_core.proofs.ColouredGaps.{first_to, first_from}
 use Rattle.line_core.proofs.GapRows.{walk_more, walk_last}
@@ -15,7 +15,7 @@ pub loop-left-preserved : goal.loop-left-preserved
 loop-left-preserved g c =
     let place = c.first_place-place.result in
     let gap = c.requires.1.1.1.0 place (c.loop-left.invariant.within place c.first_place-place.ensures.in_mask) in
-    walk_more _ _ _ place _ _ _ _ (omega (arith, gap.0.0, c.requires.1.1.1.1, c.loop-left.auto.row)) c.from.ensures c.marked-left.ensures
+    walk_more _ _ _ place _ _ _ _ _ (omega (arith, gap.0.0, c.requires.1.1.1.1, c.loop-left.auto.row)) c.from.ensures c.marked-left.ensures
     (record {
       fillable_is = none_is _ _ c.empty.ensures (λ k h. true≢false (first_to g.line place true k h).1);
       blankable_is = mask_same _ _ _ c.first_places.ensures (λ k h. first_from g.line place k gap (omega arith))
@@ -24,4 +24,4 @@ loop-left-preserved g c =
     c.loop-left.invariant
 
 pub returns-clause-row : goal.returns-clause-row
-returns-clause-row g c = walk_last _ _ _ _ (eqb-true _ 0 (sym c.is_empty.ensures ∙ c.loop-left-test.false)) c.loop-left.invariant
+returns-clause-row g c = walk_last _ _ _ _ _ (sym c.is_empty.ensures ∙ c.loop-left-test.false) c.loop-left.invariant

@@ -1,13 +1,9 @@
 -- `add_each`: the colours at one more place are added.
-use Rattle.line_core.proofs.Names.{◌+◌, get_or, sym, ◌∙◌, ap, arith, eqb-true}
+use Rattle.line_core.proofs.Names.{◌+◌, get_or, sym, ◌∙◌, ap, arith}
 use Rattle.line_core.specs.Pairs.{no_colours}
 use Rattle.line_core.specs.steps.Gathers.{HasColour}
 use Rattle.line_core.proofs.ColourMasks.{added_more, added_all, read_more}
-use Rattle.line_core.proofs.GapRows.{mask_less}
 use Rattle.line_core.proofs.gathers.add_each.Goals as goal
-
-pub loop-left-smaller : goal.loop-left-smaller
-loop-left-smaller g c = mask_less _ _ _ c.first_place-place.ensures.in_mask c.marked-left.ensures
 
 pub loop-left-preserved : goal.loop-left-preserved
 loop-left-preserved g c =
@@ -21,4 +17,4 @@ loop-left-preserved g c =
     (omega (arith, c.from.ensures)) c.index-table-base.is c.add.ensures)
 
 pub returns : goal.returns
-returns g c = added_all _ _ _ _ _ c.loop-left.invariant (eqb-true _ 0 (sym c.is_empty.ensures ∙ c.loop-left-test.false))
+returns g c = added_all _ _ _ _ _ c.loop-left.invariant (sym c.is_empty.ensures ∙ c.loop-left-test.false)

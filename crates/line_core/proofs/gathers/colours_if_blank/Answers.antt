@@ -1,10 +1,11 @@
 -- `colours_if_blank`: one more gap, and at last both sides together.
-use Rattle.line_core.proofs.Names.{◌≡◌, ◌+◌, ◌-◌, ◌<◌, ◌≤◌, length, sym, ap, ◌∙◌, arith, true≢false, recursion_from_All, IsMaskOf, has_true, true_has}
+use Rattle.line_core.proofs.Names.{◌≡◌, ◌+◌, ◌-◌, ◌<◌, ◌≤◌, length, reverse, sym, ap, ◌∙◌, arith, true≢false, recursion_from_All, IsMaskOf, has_true, true_has}
 use Rattle.std.proofs.Common.{◌*◌}
+use Rattle.std.proofs.lemmas.List.{length-reverse}
 use Rattle.place_sets.proofs.LevelSteps.{number_at}
 use Rattle.line_core.specs.steps.Pairs.{IsWholeGap}
 use Rattle.line_core.proofs.ColourMasks.{no_below, one_below, none_more, read_more}
-use Rattle.line_core.proofs.Gathering.{gathered_blank, told_before, told_after}
+use Rattle.line_core.proofs.Gathering.{gathered_blank, told_more, whole_turned}
 use Rattle.line_core.proofs.gathers.colours_if_blank.Goals.{then-contains, else-contains}
 use Rattle.line_core.proofs.gathers.colours_if_blank.Goals as goal
 
@@ -27,10 +28,11 @@ loop-j-preserved g c =
     elim c.if-contains.branch [
       | then-contains w ↦
           (let whole = gap.to x (true_has _ x (sym c.contains.ensures ∙ w.if-contains.true)) in record {
-            near = rw w.near-is (one_below _ j _ _ c.loop-j.invariant.near (told_before g.line clue _ _ j x _ _ told jl whole
+            near = rw w.near-is (one_below _ j _ _ c.loop-j.invariant.near (told_more g.line _ x _ _ _ _ whole (told.before_is j x jl whole)
                 (read_more c.args.before.now _ (128 * j + x) _ _ _ (ap (λ n. 128 * j + n) w.from.ensures)
                 (omega (arith, w.from.ensures, told.before_fits, place.inside, given.0.short)) w.index-before-j.is w.add.ensures)));
-            far = rw w.far-is (one_below _ j _ _ c.loop-j.invariant.far (told_after g.line clue _ _ j x _ _ told jl whole
+            far = rw w.far-is (one_below _ j _ _ c.loop-j.invariant.far (told_more (reverse g.line) _ (length g.line - 1 - x) _ _ _ _ whole
+                (told.after_is (length clue - j) (length g.line - 1 - x) (omega (arith, length-reverse clue)) (whole_turned g.line clue j x jl place.inside whole))
                 (read_more c.args.after.now _ (128 * (length clue - j) + (length g.line - 1 - x)) _ _ _ (omega arith)
                 (omega (arith, c.from-turned.ensures, told.after_fits, place.inside, given.0.short)) w.index-after-count.is w.add-then-contains.ensures)));
           })
@@ -43,11 +45,7 @@ loop-j-preserved g c =
 
 pub returns : goal.returns
 returns g c =
-    let clue = c.args.clue.now in
     let given = c.requires.1.1.1 in
-    let line = given.0 in
-    let told = given.1.1.1.1.0 in
-    let place = given.1.1.1.1.1 in
-    let e : c.loop-j.j ≡ length clue + 1 = (let test = c.loop-j-test.false in omega arith) in
-    gathered_blank g.line clue c.args.place c.loop-j.near c.loop-j.far _ (recursion_from_All _ _ given.1.0.positive) place.inside place.unknown
-    (rw e at c.loop-j.invariant.near) (rw e at c.loop-j.invariant.far) (rw line.len_is at c.both_sides.ensures)
+    let e : c.loop-j.j ≡ length c.args.clue.now + 1 = (let test = c.loop-j-test.false in omega arith) in
+    gathered_blank g.line c.args.clue.now c.args.place _ _ _ (recursion_from_All _ _ given.1.0.positive) given.1.1.1.1.1
+    (rw e at c.loop-j.invariant.near) (rw e at c.loop-j.invariant.far) (rw given.0.len_is at c.both_sides.ensures)

@@ -1,8 +1,9 @@
 -- What the loop of `gather_pairs` keeps: the pair of each unknown cell but those that are left is written.
-use Rattle.line_core.proofs.Names.{◌≡◌, ℕ, ◌⊎◌, length, get_or, Has}
+use Rattle.line_core.proofs.Names.{◌≡◌, length, IsMaskOf}
 use Rattle.line_core.specs.Pairs.{no_pair}
 use Rattle.line_core.specs.steps.Pairs.{IsPairAt}
 use Rattle.line_core.specs.steps.Gathers.{IsUnknownAt}
+use Rattle.line_core.proofs.GapRows.{IsWalk}
 use Rattle.line_core.proofs.gathers.gather_pairs.Given as goal
 
 abbrev pub ghost-colours_if_filled : goal.ghost-colours_if_filled
@@ -14,8 +15,8 @@ ghost-colours_if_blank g a = g.line
 abbrev pub invariant-loop-left : goal.invariant-loop-left
 invariant-loop-left g l = record {
   size : length l.pairs ≡ length l.fn.pairs;
-  unknown : (x : ℕ) → Has (g.W.PlaceSet.number l.left) x → IsUnknownAt g.line x;
-  written : (x : ℕ) → IsUnknownAt g.line x → Has (g.W.PlaceSet.number l.left) x ⊎ IsPairAt g.line l.clue x (get_or l.pairs x no_pair);
+  unknown : IsMaskOf (IsUnknownAt g.line) (g.W.PlaceSet.number l.initial.left);
+  written : IsWalk (g.W.PlaceSet.number l.initial.left) (g.W.PlaceSet.number l.left) (IsPairAt g.line l.clue) no_pair l.pairs;
 }
 
 abbrev pub decreases-loop-left : goal.decreases-loop-left
