@@ -1,6 +1,5 @@
 -- Two tests at each cell, whether it can be filled and whether it can be blank, tell the deduction.
-use Rattle.line_core.proofs.Names.{rules, ◌≡◌, ℕ, ◌<◌, Bool, true, false, not, List, [], ◌∷◌, length, get_or, map, Some, None, refl, sym, ap, ◌∙◌, arith, true≢false, zero-add, ext_get_or, range_with_len, false_from_ne_true, length-map-range_with_len, get_or-map-range_with_len, Cell, Unknown, placings, shared, shared_at, deduced, agrees, runs, certain_by}
-use Rattle.std.proofs.lemmas.Bool.{true_from_ne_false}
+use Rattle.line_core.proofs.Names.{rules, ◌≡◌, ℕ, ◌<◌, Bool, true, false, not, List, [], ◌∷◌, length, get_or, map, Some, None, refl, sym, ap, ◌∙◌, arith, true≢false, zero-add, ext_get_or, range_with_len, false_from_ne_true, length-map-range_with_len, get_or-map-range_with_len, Cell, Unknown, placings, shared, shared_at, deduced, agrees, runs, certain_by, true_from_ne_false}
 use Rattle.line_core.proofs.DeductionLaws.{IsPlacing, ListsPlacings, placings_listed, no_placing, none_listed, not_all, filled_at, blank_at, agrees-Extends, Extends-agrees}
 
 -- the line has a placing with a colour at a cell

@@ -1,11 +1,5 @@
 -- Masks of both colours: what they have, and what they have once others are added.
-use Rattle.line_core.proofs.Names.{eqb-true, rules, ◌≡◌, ◌↔◌, ℕ, ◌+◌, ◌-◌, ◌<◌, Bool, true, false, List, length, get_or, sym, ap, subst, arith, ◌⊎◌, inl, inr, cases_lt, Has, IsMaskOf, has_of, join_of, none_has}
-use Rattle.std.proofs.Common.{nat_eq}
-use Rattle.std.proofs.lemmas.List.{get_or_read}
-use Rattle.std.proofs.lemmas.Bool.{cases_eq}
-use Rattle.place_sets.specs.Masks.{IsMarked}
-use Rattle.line_core.specs.Pairs.{ColourMasks, no_colours}
-use Rattle.line_core.specs.steps.Gathers.{AreBothSides, AreMasks, AreMore, HasColour}
+use Rattle.line_core.proofs.Names.{eqb-true, rules, ◌≡◌, ◌↔◌, ℕ, ◌+◌, ◌-◌, ◌<◌, Bool, true, false, List, length, get_or, sym, ap, subst, arith, ◌⊎◌, inl, inr, cases_lt, Has, IsMaskOf, has_of, join_of, none_has, nat_eq, get_or_read, cases_eq, IsMarked, ColourMasks, no_colours, AreBothSides, AreMasks, AreMore, HasColour}
 
 -- what the masks have, colour by colour
 pub masks_are : (P : Bool → ℕ → Type 0) (m : ColourMasks) → AreMasks P m → (d : Bool) (k : ℕ) → HasColour m d k ↔ P d k

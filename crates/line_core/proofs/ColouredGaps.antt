@@ -1,11 +1,5 @@
 -- What can be on a line before a gap, once one of its cells is coloured: step by step along the line.
-use Rattle.line_core.proofs.Names.{rules, ◌≡◌, ◌≢◌, ℕ, zero, suc, ◌+◌, ◌-◌, ◌<◌, ◌≤◌, Bool, true, false, List, [], ◌∷◌, length, refl, sym, ap, ◌∙◌, subst, arith, add-one, ◌⊎◌, inl, inr, get_or, drop, cases_lt, and_from, and_parts, Cell, Unknown, allows, agrees, behind, MayBe, IsGapAfter, IsEndAfter, IsGap, IsGapAhead, IsWholeEnd, IsFlooded, AllFrom, Has, IsMaskOf, mask_same, length-set}
-use Rattle.std.proofs.Common.{get_or-set_other, get_or-set_same, replicate, ◌++◌, drop-cons}
-use Rattle.std.proofs.lemmas.Bool.{cases_eq}
-use Rattle.grid_core.specs.Cells.{colour}
-use Rattle.line_core.specs.Pairs.{ColourMasks, no_colours, coloured}
-use Rattle.line_core.specs.steps.Pairs.{CanBeBefore, IsWholeGap}
-use Rattle.line_core.specs.steps.Befores.{IsReady}
+use Rattle.line_core.proofs.Names.{rules, ◌≡◌, ◌≢◌, ℕ, zero, suc, ◌+◌, ◌-◌, ◌<◌, ◌≤◌, Bool, true, false, List, [], ◌∷◌, length, refl, sym, ap, ◌∙◌, subst, arith, add-one, ◌⊎◌, inl, inr, get_or, drop, cases_lt, and_from, and_parts, Cell, Unknown, allows, agrees, behind, MayBe, IsGapAfter, IsEndAfter, IsGap, IsGapAhead, IsWholeEnd, IsFlooded, AllFrom, Has, IsMaskOf, mask_same, length-set, get_or-set_other, get_or-set_same, replicate, ◌++◌, drop-cons, cases_eq, colour, ColourMasks, no_colours, coloured, CanBeBefore, IsWholeGap, IsReady}
 use Rattle.line_core.proofs.Joining.{closed_behind_to, closed_behind_from, closed_ahead_from, agrees_span, runs_first}
 use Rattle.line_core.proofs.Reaching.{gap_after_to, gap_after_from, first_gap_to, first_gap_from}
 

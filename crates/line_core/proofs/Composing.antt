@@ -1,7 +1,5 @@
 -- The masks of gaps and of ends, each made of those before it.
-use Rattle.line_core.proofs.Names.{rules, ◌≡◌, ℕ, ◌+◌, ◌-◌, ◌<◌, ◌≤◌, true, false, List, [], ◌∷◌, length, get_or, reverse, subst, arith, ◌⊎◌, inl, inr, cases_lt, Cell, Has, IsMaskOf, IsShifted, IsFlooded, AllFrom, SomeFrom, SomeLevel, AreLevelsOf, mask_same, meet_of, join_of, MayBe, IsGapAfter, IsStartAfter, IsEndAfter, IsGap, IsGapAhead, IsWholeEnd}
-use Rattle.place_sets.proofs.Uses.{flood_same}
-use Rattle.line_core.specs.steps.Reach.{IsEnd}
+use Rattle.line_core.proofs.Names.{rules, ◌≡◌, ℕ, ◌+◌, ◌-◌, ◌<◌, ◌≤◌, true, false, List, [], ◌∷◌, length, get_or, reverse, subst, arith, ◌⊎◌, inl, inr, cases_lt, Cell, Has, IsMaskOf, IsShifted, IsFlooded, AllFrom, SomeFrom, SomeLevel, AreLevelsOf, mask_same, meet_of, join_of, MayBe, IsGapAfter, IsStartAfter, IsEndAfter, IsGap, IsGapAhead, IsWholeEnd, flood_same, IsEnd}
 use Rattle.line_core.proofs.Reaching.{After, first_gap_to, first_gap_from, gap_after_to, gap_after_from}
 use Rattle.line_core.proofs.Joining.{closed_behind_to, closed_behind_from, closed_ahead_to, closed_ahead_from, reversed_gap}
 

@@ -1,20 +1,8 @@
 -- What the layers above cite of placings and of the deduced line.
-use Rattle.std.proofs.lemmas.Grind.{common_steps}
-use Rattle.std.proofs.Common.{◌≡◌, ℕ, zero, suc, ◌<◌, Bool, true, false, not, cond, List, [], ◌∷◌, length, get_or, map, filter, Option, Some, None, refl, sym, ap, ◌∙◌, arith, true≢false, bytes_eq, zero-add, rules}
-use Rattle.std.specs.List.{All, list_all, range_with_len}
-use Rattle.std.proofs.lemmas.Bool.{and_parts, both_ways, false_from_ne_true, not-true}
-use Rattle.std.proofs.lemmas.List.Elements.{All-weaker, filter_passes}
-use Rattle.std.proofs.lemmas.List.Sums.{list_all-from_AllPass}
-use Rattle.std.proofs.lemmas.List.FromFn.{length-map-range_with_len, get_or-map-range_with_len}
+use Rattle.line_core.proofs.Names.{common_steps, ◌≡◌, ℕ, zero, suc, ◌<◌, Bool, true, false, not, cond, List, [], ◌∷◌, length, get_or, map, filter, Option, Some, None, refl, sym, ap, ◌∙◌, arith, true≢false, bytes_eq, zero-add, rules, All, list_all, range_with_len, and_parts, both_ways, false_from_ne_true, not-true, All-weaker, filter_passes, list_all-from_AllPass, length-map-range_with_len, get_or-map-range_with_len, length-map, Cell, Unknown, Filled, Blank, CellExtends, Extends, agrees, colour, allows, runs, shared, shared_at, deduced}
 use Rattle.std.proofs.lemmas.List.Folds.{list_all-append, list_all-map}
 use Rattle.std.proofs.lemmas.Slice.Eq.{bytes_eq-Decides}
-use Rattle.std.proofs.Math.ListN.{length-map}
-use Rattle.grid_core.specs.declared.cells.Cell.{Cell}
-use Rattle.grid_core.specs.declared.cells.Cell.TheVariants.{Unknown, Filled, Blank}
-use Rattle.grid_core.specs.Cells.{CellExtends, Extends, agrees, colour, allows}
-use Rattle.grid_core.specs.Runs.{runs}
 use Rattle.line_core.specs.Placings.{full_lines, is_placing, placings}
-use Rattle.line_core.specs.Deduction.{shared, shared_at, deduced}
 pub use Rattle.line_core.specs.Order.{AtMost}
 
 -- ---- the order of what is known

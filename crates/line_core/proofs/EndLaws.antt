@@ -1,7 +1,5 @@
 -- What the leftmost and the rightmost starts are.
-use Rattle.std.proofs.lemmas.Bool.{cases_Bool}
-use Rattle.line_core.proofs.Names.{rules, ◌≡◌, ℕ, zero, suc, ◌<◌, Bool, true, List, [], ◌∷◌, length, map, Some, refl, sym, ap, ◌∙◌, subst, arith, inl, inr, ◌⊎◌, get_or, nat_le, filter, All-head, All-tail, All, list_all, find, range_with_len, cases_lt, leb-true, le-leb, length-map-range_with_len, get_or-map-range_with_len, Cell, runs, is_positive, stretches, placings, run_starts, all_starts, ArePositive, Side, Left, Right, outermost, IsAsFar}
-use Rattle.line_core.specs.Ends.{AreStarts}
+use Rattle.line_core.proofs.Names.{rules, ◌≡◌, ℕ, zero, suc, ◌<◌, Bool, true, List, [], ◌∷◌, length, map, Some, refl, sym, ap, ◌∙◌, subst, arith, inl, inr, ◌⊎◌, get_or, nat_le, filter, All-head, All-tail, All, list_all, find, range_with_len, cases_lt, leb-true, le-leb, length-map-range_with_len, get_or-map-range_with_len, Cell, runs, is_positive, stretches, placings, run_starts, all_starts, ArePositive, Side, Left, Right, outermost, IsAsFar, cases_Bool, AreStarts}
 use Rattle.line_core.proofs.DeductionLaws.{IsPlacing, placings_listed, test_IsPlacing, IsPlacing_test}
 use Rattle.line_core.proofs.Outermost.{all_as_far, laid_placing, outermost_found, outermost_of, placed, pass_all}
 

@@ -1,21 +1,11 @@
 -- What can be on a line with a cell coloured, told by what can be before and after that cell, or the run that covers it.
-use Rattle.line_core.proofs.Names.{rules, ◌≡◌, ℕ, zero, suc, ◌+◌, ◌-◌, ◌<◌, ◌≤◌, Bool, true, false, List, ◌∷◌, length, map, get_or, set, drop, reverse, refl, ◌∙◌, subst, arith, add-one, ◌⊎◌, inl, inr, ◌↔◌, cases_lt, and_from, and_parts, length-set, mask_same, ext_get_or, get_or-reverse, Has, IsMaskOf, IsShifted, Cell, Unknown, agrees, runs, SomeFrom, behind, MayBe, IsGap, IsGapAhead, IsWholeEnd, ArePositive}
-use Rattle.std.proofs.Common.{◌*◌, get_or-set_other}
-use Rattle.std.proofs.lemmas.Grind.{get_or-set_at}
-use Rattle.std.proofs.lemmas.List.{get_or_default, length-reverse, reverse-reverse, drop-set-lt}
-use Rattle.grid_core.specs.Cells.{colour}
-use Rattle.line_core.specs.Pairs.{ColourMasks, no_colours, coloured}
-use Rattle.line_core.specs.steps.Pairs.{AreWholeEnds, AreColours, AreColoursBefore, CanBeBefore, IsWholeGap}
-use Rattle.line_core.specs.steps.Gathers.{IsUnknownAt, AreMasks, AreMore, AreToldOf, AreBothSides, HasColour}
+use Rattle.line_core.proofs.Names.{rules, ◌≡◌, ℕ, zero, suc, ◌+◌, ◌-◌, ◌<◌, ◌≤◌, Bool, true, false, List, ◌∷◌, length, map, get_or, set, drop, reverse, refl, ◌∙◌, subst, arith, add-one, ◌⊎◌, inl, inr, ◌↔◌, cases_lt, and_from, and_parts, length-set, mask_same, ext_get_or, get_or-reverse, Has, IsMaskOf, IsShifted, Cell, Unknown, agrees, runs, SomeFrom, behind, MayBe, IsGap, IsGapAhead, IsWholeEnd, ArePositive, ◌*◌, get_or-set_other, get_or-set_at, get_or_default, length-reverse, reverse-reverse, drop-set-lt, colour, ColourMasks, no_colours, coloured, AreWholeEnds, AreColours, AreColoursBefore, CanBeBefore, IsWholeGap, IsUnknownAt, AreMasks, AreMore, AreToldOf, AreBothSides, HasColour, AreLengths, number_at, length_at}
 use Rattle.line_core.proofs.ColourMasks.{Below, masks_are, masks_same, more_same, more_more, each_more}
 use Rattle.line_core.proofs.ColouredGaps.{EndWith, colour_allows, colour_same, coloured_less, coloured_other, behind_coloured, gap_less, end_less, end_step_to, end_step_from, whole_before_end}
 use Rattle.line_core.proofs.Certain.{CanBe}
 use Rattle.line_core.proofs.Joining.{closed_ahead_to, closed_ahead_from, filled_agrees, blankable_to, blankable_from, reversed_gap}
 use Rattle.line_core.proofs.WholeEnds.{fillable_to, fillable_from}
 use Rattle.line_core.proofs.Reaching.{run_from_end}
-use Rattle.line_core.proofs.LineCells.{length_at}
-use Rattle.line_core.specs.steps.Reach.{AreLengths}
-use Rattle.place_sets.proofs.LevelSteps.{number_at}
 
 -- ---- what goes with a gap, and with a run
 

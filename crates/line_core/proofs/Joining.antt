@@ -1,16 +1,5 @@
 -- A line cut at a cell: placings of both parts make one of the whole, and a placing falls into two.
-use Rattle.std.proofs.lemmas.Grind.{common_steps}
-use Rattle.std.proofs.Common.{rules, ◌≡◌, ◌↔◌, ℕ, zero, suc, ◌+◌, ◌-◌, ◌<◌, ◌≤◌, Bool, true, false, List, [], ◌∷◌, ◌++◌, length, replicate, refl, sym, ap, ◌∙◌, subst, arith, add-zero, zero-add, ◌⊎◌, inl, inr, drop, get_or, drop-cons, add-one, drop_of_length-le, length-drop, reverse}
-use Rattle.grid_core.proofs.RunsLemmas.{runs_after}
-use Rattle.std.proofs.lemmas.List.{get_or-reverse, length-reverse}
-use Rattle.std.proofs.lemmas.Bool.{cases_lt, and_from, and_parts}
-use Rattle.grid_core.specs.declared.cells.Cell.{Cell}
-use Rattle.grid_core.specs.declared.cells.Cell.TheVariants.{Unknown}
-use Rattle.grid_core.specs.Cells.{allows, agrees}
-use Rattle.grid_core.specs.Runs.{runs}
-use Rattle.place_sets.specs.Masks.{AllFrom}
-use Rattle.line_core.specs.steps.Reach.{behind, HasPlacing, MayBeginBlank, MayBe, IsGapAfter, IsGap, IsGapAhead, IsBlankable}
-use Rattle.line_core.proofs.RunLaws.{ArePositive, runs_after-zero, runs_after-true, runs_after-close, runs_after-nil}
+use Rattle.line_core.proofs.Names.{common_steps, rules, ◌≡◌, ◌↔◌, ℕ, zero, suc, ◌+◌, ◌-◌, ◌<◌, ◌≤◌, Bool, true, false, List, [], ◌∷◌, ◌++◌, length, replicate, refl, sym, ap, ◌∙◌, subst, arith, add-zero, zero-add, ◌⊎◌, inl, inr, drop, get_or, drop-cons, add-one, drop_of_length-le, length-drop, reverse, runs_after, get_or-reverse, length-reverse, cases_lt, and_from, and_parts, Cell, Unknown, allows, agrees, runs, AllFrom, behind, HasPlacing, MayBeginBlank, MayBe, IsGapAfter, IsGap, IsGapAhead, IsBlankable, ArePositive, runs_after-zero, runs_after-true, runs_after-close, runs_after-nil}
 use Rattle.line_core.proofs.Certain.{CanBe}
 
 -- a full line that agrees with a line is as long

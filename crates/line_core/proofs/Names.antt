@@ -1,9 +1,9 @@
 -- The names that most proofs cite, passed on from one place. Declares nothing.
-pub use Rattle.std.proofs.Common.{Bool, List, MatchBool, None, Option, Some, [], add-one, ap, arith, below_more, cond, drop, drop-cons, drop_of_length-le, ext_get_or, false, filter, get_or, inl, inr, length, map, nat_le, not, refl, replicate, reverse, rules, set, subst, suc, sym, take, true, true≢false, zero, zero-add, ℕ, ◌&&◌, ◌++◌, ◌+◌, ◌-◌, ◌<◌, ◌↔◌, ◌∙◌, ◌∷◌, ◌≡◌, ◌≢◌, ◌≤◌, ◌⊎◌}
+pub use Rattle.std.proofs.Common.{Bool, List, MatchBool, None, Option, Some, [], add-one, add-zero, add_comm, ap, append-nil, append_assoc, arith, below_more, bytes_eq, cond, drop, drop-cons, drop_of_length-le, ext_get_or, false, filter, get_or, get_or-set_other, get_or-set_same, inl, inr, length, length-append, length-drop, map, nat_eq, nat_le, nat_lt, not, refl, replicate, reverse, rules, set, subst, suc, sym, take, true, true≢false, zero, zero-add, ℕ, ◌&&◌, ◌*◌, ◌++◌, ◌+◌, ◌-◌, ◌/◌, ◌<◌, ◌||◌, ◌↔◌, ◌∙◌, ◌∷◌, ◌≡◌, ◌≢◌, ◌≤◌, ◌⊎◌}
 pub use Rattle.std.proofs.Math.ListN.{length-set}
-pub use Rattle.std.proofs.lemmas.Bool.{and_from, and_parts, cases_lt, eq-eqb, eqb-false, eqb-true, false_from_ne_true, le-leb, leb-true}
-pub use Rattle.std.proofs.lemmas.List.{get_or-reverse, get_or-take, get_or_append_left, length-map, length-replicate, length-take-le, map-set}
-pub use Rattle.std.proofs.lemmas.List.Elements.{All-head, All-tail, All-weaker, recursion_from_All}
+pub use Rattle.std.proofs.lemmas.Bool.{and_from, and_parts, both_ways, cases_Bool, cases_eq, cases_lt, eq-eqb, eqb-false, eqb-true, false_from_ne_true, le-leb, leb-true, not-true, or_cases, or_left, or_right, true_from_ne_false}
+pub use Rattle.std.proofs.lemmas.List.{drop-set-lt, get_or-append-add, get_or-drop, get_or-replicate, get_or-reverse, get_or-take, get_or_append_left, get_or_default, get_or_read, length-map, length-replicate, length-reverse, length-take-le, map-append, map-set, reverse-reverse, take-map, take_all}
+pub use Rattle.std.proofs.lemmas.List.Elements.{All-head, All-more, All-tail, All-weaker, filter_passes, recursion_from_All}
 pub use Rattle.std.proofs.lemmas.List.Folds.{list_all-map}
 pub use Rattle.std.proofs.lemmas.List.FromFn.{get_or-map-range_with_len, length-map-range_with_len}
 pub use Rattle.std.proofs.lemmas.Nat.Bits.{bit_at-zero}
@@ -11,23 +11,31 @@ pub use Rattle.std.specs.List.{All, find, list_all, range_with_len}
 pub use Rattle.place_sets.proofs.Doubling.{one_within}
 pub use Rattle.place_sets.proofs.HasLemmas.{has_true, true_has}
 pub use Rattle.place_sets.proofs.Steps.{mask_same}
-pub use Rattle.place_sets.proofs.Uses.{flood_from, has_of, join_of, meet_of}
-pub use Rattle.place_sets.specs.Masks.{AllFrom, AreLevelsOf, Has, IsFlooded, IsMaskOf, IsShifted, SomeFrom, SomeLevel, has}
-pub use Rattle.grid_core.proofs.LineCells.{has_by}
+pub use Rattle.place_sets.proofs.Uses.{flood_from, flood_same, has_of, join_of, meet_of, shifted_of}
+pub use Rattle.place_sets.specs.Masks.{AllFrom, AreLevelsOf, Has, IsFlooded, IsMarked, IsMaskOf, IsShifted, SomeFrom, SomeLevel, has}
+pub use Rattle.grid_core.proofs.LineCells.{cell_at, has_by, length_line}
 pub use Rattle.grid_core.proofs.RunsLemmas.{runs_after}
-pub use Rattle.grid_core.specs.Cells.{agrees, allows, is_filled}
+pub use Rattle.grid_core.specs.Cells.{CellExtends, Extends, agrees, allows, colour, is_filled}
 pub use Rattle.grid_core.specs.Runs.{is_positive, runs, stretches}
 pub use Rattle.grid_core.specs.declared.cells.Cell.{Cell}
 pub use Rattle.grid_core.specs.declared.cells.Cell.TheVariants.{Blank, Filled, Unknown}
 pub use Rattle.line_core.proofs.LineCells.{lacks, length_at, none_has, none_in, none_is, written_more}
-pub use Rattle.line_core.proofs.RunLaws.{ArePositive, runs_after-close, runs_after-nil, runs_after-true, runs_after-zero}
+pub use Rattle.line_core.proofs.RunLaws.{ArePositive, runs_after-close, runs_after-false, runs_after-nil, runs_after-true, runs_after-zero}
 pub use Rattle.line_core.specs.Deduction.{deduced, shared, shared_at}
-pub use Rattle.line_core.specs.Ends.{all_starts, run_starts}
+pub use Rattle.line_core.specs.Ends.{AreStarts, all_starts, run_starts, starts_run}
 pub use Rattle.line_core.specs.Placings.{placings}
 pub use Rattle.line_core.specs.declared.starts.Side.{Side}
 pub use Rattle.line_core.specs.declared.starts.Side.TheVariants.{Left, Right}
 pub use Rattle.line_core.specs.steps.Outermost.{IsAsFar, IsOuterStart, outermost}
 pub use Rattle.line_core.specs.steps.Overlaps.{IsOverlapBefore, least_start, needed}
 pub use Rattle.line_core.specs.steps.Passes.{IsPassOver}
-pub use Rattle.line_core.specs.steps.Reach.{HasPlacing, IsBlankable, IsEndAfter, IsFillable, IsGap, IsGapAfter, IsGapAhead, IsStartAfter, IsWholeEnd, MayBe, MayBeginBlank, behind}
+pub use Rattle.line_core.specs.steps.Reach.{AreLengths, HasPlacing, IsBlankable, IsEnd, IsEndAfter, IsFillable, IsGap, IsGapAfter, IsGapAhead, IsStartAfter, IsWholeEnd, MayBe, MayBeginBlank, behind}
 pub use Rattle.line_core.specs.Told.{certain_by}
+pub use Rattle.std.proofs.lemmas.Grind.{common_steps, get_or-set_at}
+pub use Rattle.line_core.specs.Pairs.{ColourMasks, coloured, no_colours, no_pair}
+pub use Rattle.line_core.specs.steps.Pairs.{AreColours, AreColoursBefore, AreWholeEnds, CanBeBefore, IsPairAt, IsWholeGap}
+pub use Rattle.line_core.specs.steps.Gathers.{AreBothSides, AreMasks, AreMore, AreToldOf, HasColour, IsUnknownAt}
+pub use Rattle.place_sets.proofs.LevelSteps.{levels_none, none_at, number_at}
+pub use Rattle.line_core.specs.steps.Befores.{IsReady, IsRow}
+pub use Rattle.std.proofs.lemmas.List.Sums.{list_all-from_AllPass, sum_by-take-le, sum_by_more}
+pub use Rattle.std.specs.Int.{bit_at}

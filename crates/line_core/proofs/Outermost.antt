@@ -1,6 +1,5 @@
 -- The placing whose starts are all least, and the one whose starts are all greatest.
-use Rattle.std.proofs.lemmas.Bool.{cases_Bool}
-use Rattle.line_core.proofs.Names.{inl, inr, false_from_ne_true, rules, ◌≡◌, ℕ, zero, suc, ◌+◌, ◌-◌, ◌<◌, ◌≤◌, Bool, true, false, not, List, [], ◌∷◌, length, map, Some, None, refl, sym, ap, ◌∙◌, subst, arith, get_or, ext_get_or, nat_le, set, take, MatchBool, All, list_all, find, All-head, All-tail, All-weaker, and_parts, leb-true, le-leb, list_all-map, length-take-le, get_or-take, Cell, placings, run_starts, all_starts, Side, Left, Right, outermost, IsAsFar, IsOuterStart, Has, IsMaskOf, meet_of, written_more, IsWholeEnd, IsGap, IsGapAhead, HasPlacing, ArePositive}
+use Rattle.line_core.proofs.Names.{inl, inr, false_from_ne_true, rules, ◌≡◌, ℕ, zero, suc, ◌+◌, ◌-◌, ◌<◌, ◌≤◌, Bool, true, false, not, List, [], ◌∷◌, length, map, Some, None, refl, sym, ap, ◌∙◌, subst, arith, get_or, ext_get_or, nat_le, set, take, MatchBool, All, list_all, find, All-head, All-tail, All-weaker, and_parts, leb-true, le-leb, list_all-map, length-take-le, get_or-take, Cell, placings, run_starts, all_starts, Side, Left, Right, outermost, IsAsFar, IsOuterStart, Has, IsMaskOf, meet_of, written_more, IsWholeEnd, IsGap, IsGapAhead, HasPlacing, ArePositive, cases_Bool}
 use lib.Pointwise.{pointwise}
 use Rattle.line_core.proofs.Joining.{positive_at, blankable_to, blankable_from}
 use Rattle.line_core.proofs.WholeEnds.{whole_of, placing_with}

@@ -1,24 +1,7 @@
 -- Placings on a line of which nothing is known: the runs packed to the left, and from one on moved right.
-use Rattle.std.proofs.lemmas.Grind.{common_steps}
-use Rattle.std.proofs.Common.{rules, ◌≡◌, ℕ, zero, suc, ◌+◌, ◌-◌, ◌*◌, ◌<◌, ◌≤◌, ◌≢◌, Bool, true, false, cond, List, [], ◌∷◌, length, replicate, map, nat_le, nat_lt, refl, sym, ap, ◌∙◌, subst, arith, add-one, true≢false, ◌⊎◌, inl, inr, get_or, ext_get_or}
-use Rattle.std.specs.List.{range_with_len}
+use Rattle.line_core.proofs.Names.{common_steps, rules, ◌≡◌, ℕ, zero, suc, ◌+◌, ◌-◌, ◌*◌, ◌<◌, ◌≤◌, ◌≢◌, Bool, true, false, cond, List, [], ◌∷◌, length, replicate, map, nat_le, nat_lt, refl, sym, ap, ◌∙◌, subst, arith, add-one, true≢false, ◌⊎◌, inl, inr, get_or, ext_get_or, range_with_len, false_from_ne_true, cases_lt, take_all, length-replicate, get_or-replicate, length-map-range_with_len, get_or-map-range_with_len, sum_by_more, sum_by-take-le, Cell, Unknown, agrees, runs, Has, has, IsMaskOf, IsShifted, has_true, true_has, mask_same, AreLengths, MayBe, IsFillable, IsBlankable, has_by, ArePositive, length_at, lacks, none_has, none_in, none_is}
 use Rattle.std.proofs.lemmas.Bool.Decides.{nat_tests}
-use Rattle.std.proofs.lemmas.Bool.{false_from_ne_true, cases_lt}
-use Rattle.std.proofs.lemmas.List.{take_all, length-replicate, get_or-replicate}
-use Rattle.std.proofs.lemmas.List.FromFn.{length-map-range_with_len, get_or-map-range_with_len}
-use Rattle.std.proofs.lemmas.List.Sums.{sum_by_more, sum_by-take-le}
-use Rattle.grid_core.specs.declared.cells.Cell.{Cell}
-use Rattle.grid_core.specs.declared.cells.Cell.TheVariants.{Unknown}
-use Rattle.grid_core.specs.Cells.{agrees}
-use Rattle.grid_core.specs.Runs.{runs}
-use Rattle.place_sets.specs.Masks.{Has, has, IsMaskOf, IsShifted}
-use Rattle.place_sets.proofs.HasLemmas.{has_true, true_has}
-use Rattle.place_sets.proofs.Steps.{mask_same}
 use Rattle.line_core.specs.steps.Overlaps.{needed, least_start, IsOverlapBefore, IsOverlap}
-use Rattle.line_core.specs.steps.Reach.{AreLengths, MayBe, IsFillable, IsBlankable}
-use Rattle.line_core.proofs.RunLaws.{ArePositive}
-use Rattle.grid_core.proofs.LineCells.{has_by}
-use Rattle.line_core.proofs.LineCells.{length_at, lacks, none_has, none_in, none_is}
 use Rattle.line_core.proofs.Joining.{positive_at, filled_agrees, blankable_to, blankable_from}
 use Rattle.line_core.proofs.WholeEnds.{fillable_to, fillable_from}
 use Rattle.line_core.proofs.RunStarts.{starts_from, in_run, covered}

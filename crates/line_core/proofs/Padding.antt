@@ -1,17 +1,5 @@
 -- A line with blank cells behind it has the placings of the line alone.
-use Rattle.std.proofs.lemmas.Grind.{common_steps}
-use Rattle.std.proofs.Common.{rules, ◌≡◌, ℕ, zero, suc, ◌<◌, Bool, true, false, List, [], ◌∷◌, ◌++◌, length, replicate, get_or, refl, sym, ap, ◌∙◌, arith, length-append}
-use Rattle.std.proofs.lemmas.Bool.{and_from, and_parts}
-use Rattle.std.proofs.lemmas.List.{get_or_append_left}
-use Rattle.grid_core.specs.declared.cells.Cell.{Cell}
-use Rattle.grid_core.specs.declared.cells.Cell.TheVariants.{Blank}
-use Rattle.grid_core.specs.Cells.{allows, agrees}
-use Rattle.grid_core.specs.Runs.{runs}
-use Rattle.grid_core.proofs.RunsLemmas.{runs_after}
-use Rattle.place_sets.specs.Masks.{Has, IsMaskOf}
-use Rattle.place_sets.proofs.Steps.{mask_same}
-use Rattle.line_core.specs.steps.Reach.{IsBlankable, IsFillable}
-use Rattle.line_core.proofs.RunLaws.{ArePositive, runs_after-zero, runs_after-true, runs_after-false, runs_after-close, runs_after-nil}
+use Rattle.line_core.proofs.Names.{common_steps, rules, ◌≡◌, ℕ, zero, suc, ◌<◌, Bool, true, false, List, [], ◌∷◌, ◌++◌, length, replicate, get_or, refl, sym, ap, ◌∙◌, arith, length-append, and_from, and_parts, get_or_append_left, Cell, Blank, allows, agrees, runs, runs_after, Has, IsMaskOf, mask_same, IsBlankable, IsFillable, ArePositive, runs_after-zero, runs_after-true, runs_after-false, runs_after-close, runs_after-nil}
 use Rattle.line_core.proofs.Certain.{CanBe}
 use Rattle.line_core.proofs.Joining.{length-agrees, filled_agrees, blankable_to, blankable_from}
 use Rattle.line_core.proofs.WholeEnds.{fillable_to, fillable_from}

@@ -1,16 +1,5 @@
 -- Full lines made of starts.
-use Rattle.std.proofs.Common.{◌≡◌, ℕ, zero, suc, ◌+◌, ◌-◌, ◌<◌, ◌≤◌, Bool, true, false, List, [], ◌∷◌, ◌++◌, length, replicate, refl, sym, ap, ◌∙◌, subst, arith, inl, inr, add-zero, below_more, drop, get_or, drop_of_length-le, rules}
-use Rattle.std.proofs.lemmas.Bool.{cases_lt, and_parts}
-use Rattle.grid_core.specs.declared.cells.Cell.{Cell}
-use Rattle.grid_core.specs.declared.cells.Cell.TheVariants.{Unknown}
-use Rattle.grid_core.specs.Cells.{allows, agrees}
-use Rattle.grid_core.specs.Runs.{runs}
-use Rattle.place_sets.specs.Masks.{AllFrom}
-use Rattle.line_core.specs.declared.starts.Side.{Side}
-use Rattle.line_core.specs.declared.starts.Side.TheVariants.{Left, Right}
-use Rattle.line_core.specs.steps.Outermost.{IsAsFar}
-use Rattle.line_core.specs.steps.Reach.{MayBe}
-use Rattle.line_core.proofs.RunLaws.{ArePositive}
+use Rattle.line_core.proofs.Names.{◌≡◌, ℕ, zero, suc, ◌+◌, ◌-◌, ◌<◌, ◌≤◌, Bool, true, false, List, [], ◌∷◌, ◌++◌, length, replicate, refl, sym, ap, ◌∙◌, subst, arith, inl, inr, add-zero, below_more, drop, get_or, drop_of_length-le, rules, cases_lt, and_parts, Cell, Unknown, allows, agrees, runs, AllFrom, Side, Left, Right, IsAsFar, MayBe, ArePositive}
 use Rattle.line_core.proofs.Joining.{filled_agrees, agrees_span, runs_first}
 use Rattle.line_core.proofs.RunStarts.{starts_from, length-run_starts, run_of, filled_in_run, runs_apart, covered}
 

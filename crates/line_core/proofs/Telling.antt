@@ -1,7 +1,5 @@
 -- What masks of the cells that can be filled, and of those that can be blank, tell of a line.
-use Rattle.line_core.proofs.Names.{rules, ◌≡◌, ℕ, ◌<◌, ◌⊎◌, inl, inr, Bool, true, false, not, cond, ◌&&◌, List, length, get_or, map, Some, None, refl, sym, ◌∙◌, arith, true≢false, zero-add, ext_get_or, range_with_len, length-map-range_with_len, get_or-map-range_with_len, Cell, Unknown, Has, has, IsMaskOf, has_true, true_has, deduced, certain_by, IsFillable, IsBlankable, ArePositive, has_by}
-use Rattle.std.proofs.Common.{◌||◌}
-use Rattle.std.proofs.lemmas.Bool.{cases_Bool, or_cases, or_left, or_right}
+use Rattle.line_core.proofs.Names.{rules, ◌≡◌, ℕ, ◌<◌, ◌⊎◌, inl, inr, Bool, true, false, not, cond, ◌&&◌, List, length, get_or, map, Some, None, refl, sym, ◌∙◌, arith, true≢false, zero-add, ext_get_or, range_with_len, length-map-range_with_len, get_or-map-range_with_len, Cell, Unknown, Has, has, IsMaskOf, has_true, true_has, deduced, certain_by, IsFillable, IsBlankable, ArePositive, has_by, ◌||◌, cases_Bool, or_cases, or_left, or_right, cell_at, length_line}
 use Rattle.grid_core.specs.Lines.{cell_with}
 use Rattle.grid_core.specs.Lines.{line_cells}
 use Rattle.line_core.specs.Told.{told_by}
@@ -9,7 +7,6 @@ use Rattle.line_core.proofs.DeductionLaws.{IsPlacing, agrees-Extends, Extends-ag
 use Rattle.line_core.proofs.Joining.{blankable_to, blankable_from}
 use Rattle.line_core.proofs.WholeEnds.{fillable_to, fillable_from}
 use Rattle.line_core.proofs.Certain.{CanBe, Tells, deduced-told, dead-told}
-use Rattle.grid_core.proofs.LineCells.{cell_at, length_line}
 
 either_first : (f b m : ℕ) → IsMaskOf (λ i. Has f i ⊎ Has b i) m → (has f 0 || has b 0) ≡ has m 0
 either_first f b m p =

@@ -1,6 +1,5 @@
 -- `colours_before`: the masks of both parts, joined.
-use Rattle.line_core.proofs.Names.{ap, subst, sym, IsMaskOf, join_of}
-use Rattle.line_core.specs.Pairs.{ColourMasks}
+use Rattle.line_core.proofs.Names.{ap, subst, sym, IsMaskOf, join_of, ColourMasks}
 use Rattle.line_core.proofs.ColouredGaps.{filled_is, blank_is}
 use Rattle.line_core.proofs.befores.colours_before.Goals as goal
 

@@ -1,7 +1,5 @@
 -- `colours_in_gap`: the cells that the row has, and the gap's own.
-use Rattle.line_core.proofs.Names.{arith, ◌≡◌, ◌-◌, ◌∙◌, ℕ, sym, subst, ap, get_or, inl, inr, Has, mask_same, true_has}
-use Rattle.std.proofs.lemmas.List.{get_or_read}
-use Rattle.line_core.specs.Pairs.{ColourMasks, no_colours}
+use Rattle.line_core.proofs.Names.{arith, ◌≡◌, ◌-◌, ◌∙◌, ℕ, sym, subst, ap, get_or, inl, inr, Has, mask_same, true_has, get_or_read, ColourMasks, no_colours}
 use Rattle.line_core.proofs.befores.colours_in_gap.Goals as goal
 
 pub returns-clause-blankable : goal.returns-clause-blankable

@@ -1,7 +1,5 @@
 -- `colours_to_run`: the cells that the row before has, and the run's own.
-use Rattle.line_core.proofs.Names.{arith, ◌≡◌, ◌-◌, ◌<◌, ◌∙◌, ℕ, sym, subst, ap, get_or, inl, inr, Has, mask_same, true_has}
-use Rattle.std.proofs.lemmas.List.{get_or_read}
-use Rattle.line_core.specs.Pairs.{ColourMasks, no_colours}
+use Rattle.line_core.proofs.Names.{arith, ◌≡◌, ◌-◌, ◌<◌, ◌∙◌, ℕ, sym, subst, ap, get_or, inl, inr, Has, mask_same, true_has, get_or_read, ColourMasks, no_colours}
 use Rattle.line_core.proofs.befores.colours_to_run.Goals as goal
 
 pub returns-clause-fillable : goal.returns-clause-fillable

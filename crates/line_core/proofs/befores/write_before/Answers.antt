@@ -1,18 +1,14 @@
 -- `write_before`: row by row the table is told.
-use Rattle.line_core.proofs.Names.{◌∙◌, ◌+◌, List, length, get_or, sym, ap, subst, arith, IsWholeEnd}
-use Rattle.std.proofs.Common.{◌*◌, take, length-append, length-take-le, length-drop}
-use Rattle.line_core.specs.Pairs.{ColourMasks, no_colours}
-use Rattle.line_core.specs.steps.Pairs.{IsWholeGap}
-use Rattle.line_core.specs.steps.Befores.{IsRow}
+use Rattle.line_core.proofs.Names.{rules, ℕ, Has, ◌∙◌, ◌+◌, List, length, get_or, sym, ap, subst, arith, IsWholeEnd, ◌*◌, take, length-append, length-take-le, length-drop, ColourMasks, no_colours, IsWholeGap, IsRow}
 use Rattle.line_core.proofs.GapRows.{kept_is, rows_none, rows_more, row_at, part_is, put_back}
 use Rattle.line_core.proofs.befores.write_before.Goals as goal
 
 pub write_first-requires : goal.write_first-requires
 write_first-requires g c = λ κs within.
-    let p = c.requires.1.1.1 in
     let gap = kept_is g.W.PlaceSet.kept_number (IsWholeGap g.line c.args.clue.now 0) c.args.gaps.now 0 _ _ (omega (arith, c.told-gaps))
-    c.of_kept.ensures (p.1.1.1.0 0 (omega arith)) in
-    (within.0, (within.1, (p.1.1.0, ((λ i h. (gap.to i h).0), omega (arith, p.1.1.0, p.1.1.1.1.1)))))
+    c.of_kept.ensures (c.requires.1.1.1.1.1.1.0 0 (omega arith)) in
+    let gaps = λ (i : ℕ) (h : Has (g.W.PlaceSet.number c.of_kept.result) i). (gap.to i h).0 in
+    search rules
 
 pub loop-j-init : goal.loop-j-init
 loop-j-init g c =
@@ -30,50 +26,23 @@ write_row-requires g c = λ κs within.
     let clue = c.args.clue.now in
     let j = c.loop-j.j in
     let table = c.loop-j.table in
-    let inside = c.loop-j-test.true in
-    let few = p.1.0 in
     let gap = kept_is kept (IsWholeGap g.line clue (j + 1)) c.args.gaps.now (j + 1) _ _ (omega (arith, c.told-gaps)) c.of_kept-next.ensures (p.1.1.1.0 (j + 1) (omega arith)) in
-    let end = kept_is kept (IsWholeEnd g.line clue j) c.args.ends.now j _ _ (omega (arith, c.told-ends)) c.of_kept-run_ends.ensures (p.1.1.1.1.0 j inside) in
-    let row = subst (IsRow g.line clue j 0) (sym (part_is (128 * j) table)) (row_at g.line clue j table c.loop-j.invariant.told) in (
-      within.0,
-      (
-        within.1,
-        (
-          p.0,
-          (
-            inside,
-            (
-              p.1.1.0,
-              (
-                gap,
-                (
-                  end,
-                  (
-                    row,
-                    omega (arith, ap length (part_is (128 * j) table), length-drop (128 * j) table, p.1.1.1.1.1, c.loop-j.invariant.size),
-                  ),
-                ),
-              ),
-            ),
-          ),
-        ),
-      ),
-    )
+    let end = kept_is kept (IsWholeEnd g.line clue j) c.args.ends.now j _ _ (omega (arith, c.told-ends)) c.of_kept-run_ends.ensures (p.1.1.1.1.0 j c.loop-j-test.true) in
+    let row = subst (IsRow g.line clue j 0) (sym (part_is (128 * j) table)) (row_at g.line clue j table c.loop-j.invariant.told) in
+    let size = ap length (part_is (128 * j) table) in
+    search (rules, length-drop (128 * j) table)
 
 pub loop-j-preserved : goal.loop-j-preserved
 loop-j-preserved g c =
-    let p = c.requires.1.1.1 in
     let j = c.loop-j.j in
     let table = c.loop-j.table in
-    let new = c.write_row.new.rows in
     let rows = c.write_row.ensures in
     let part = part_is (128 * j) table in
-    let test = c.loop-j-test.true in
-    let all = c.loop-j.invariant.size in
-    let room = p.1.1.1.1.1 in
+    let within = c.loop-j-test.true in
+    let room = c.requires.1.1.1.1.1.1.1.1 in
     record {
-      size = ap length (put_back (128 * j) table new) ∙ length-append (take (128 * j) table) new ∙
+      size = ap length (put_back (128 * j) table c.write_row.new.rows) ∙ length-append (take (128 * j) table) c.write_row.new.rows ∙
           omega (arith, rows.count, ap length part, length-drop (128 * j) table, length-take-le (128 * j) table (omega arith));
-      told = rw put_back (rows_more g.line _ j table new p.1.1.0 (omega arith) c.loop-j.invariant.told rows.row
+      told = rw put_back (rows_more g.line _ j table _ c.requires.1.1.1.1.1.0 (omega arith) c.loop-j.invariant.told rows.row
           (λ k h. rows.before k h ∙ ap (λ (xs : List ColourMasks). get_or xs k no_colours) part));
     }

@@ -1,6 +1,5 @@
 -- `write_first`: the cells up to a gap with no run before it are blank.
-use Rattle.line_core.proofs.Names.{rules, true, false, ◌∙◌, ◌<◌, length, sym, arith, mask_same, none_is}
-use Rattle.std.proofs.Common.{true≢false}
+use Rattle.line_core.proofs.Names.{rules, true, false, ◌∙◌, ◌<◌, length, sym, arith, mask_same, none_is, true≢false}
 use Rattle.line_core.proofs.ColouredGaps.{first_to, first_from}
 use Rattle.line_core.proofs.GapRows.{walk_more, walk_last}
 use Rattle.line_core.proofs.befores.write_first.Goals as goal

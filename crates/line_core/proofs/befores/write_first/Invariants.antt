@@ -1,7 +1,5 @@
 -- What the loop of `write_first` keeps: the gaps that are not left are written.
-use Rattle.line_core.proofs.Names.{[]}
-use Rattle.line_core.specs.Pairs.{no_colours}
-use Rattle.line_core.specs.steps.Pairs.{AreColoursBefore}
+use Rattle.line_core.proofs.Names.{[], no_colours, AreColoursBefore}
 use Rattle.line_core.proofs.GapRows.{IsWalk}
 use Rattle.line_core.proofs.befores.write_first.Given as goal
 

@@ -1,9 +1,6 @@
 -- `write_row`
-use Rattle.line_core.proofs.Names.{rules, ◌∙◌, ◌-◌, ◌<◌, ◌≤◌, length, sym, subst, arith, add-one, one_within, behind, length_at}
+use Rattle.line_core.proofs.Names.{rules, ◌∙◌, ◌-◌, ◌<◌, ◌≤◌, length, sym, subst, arith, add-one, one_within, behind, length_at, get_or-append-add, no_colours, IsRow}
 use Rattle.line_core.proofs.GapRows.{left_inside, walk_more, walk_last, row_front, ready_is}
-use Rattle.std.proofs.lemmas.List.{get_or-append-add}
-use Rattle.line_core.specs.Pairs.{no_colours}
-use Rattle.line_core.specs.steps.Befores.{IsRow}
 use Rattle.line_core.proofs.befores.write_row.Goals as goal
 
 pub shifted_up-longer-requires : goal.shifted_up-longer-requires

@@ -1,7 +1,5 @@
 -- What the loop of `write_row` keeps: the gaps that are not left are written.
-use Rattle.line_core.proofs.Names.{◌+◌, behind}
-use Rattle.line_core.specs.Pairs.{no_colours}
-use Rattle.line_core.specs.steps.Pairs.{AreColoursBefore}
+use Rattle.line_core.proofs.Names.{◌+◌, behind, no_colours, AreColoursBefore}
 use Rattle.line_core.proofs.GapRows.{IsWalk}
 use Rattle.line_core.proofs.befores.write_row.Given as goal
 

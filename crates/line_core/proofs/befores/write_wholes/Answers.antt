@@ -1,6 +1,5 @@
 -- `write_wholes`: run by run the pass gives the ends and the next gap, and those ahead tell which are whole.
-use Rattle.line_core.proofs.Names.{add-one, ◌+◌, ◌∙◌, map, arith, length-set, map-set, length-map, IsMaskOf, behind, IsGap, IsWholeEnd, meet_of, written_more}
-use Rattle.line_core.specs.steps.Pairs.{IsWholeGap}
+use Rattle.line_core.proofs.Names.{add-one, ◌+◌, ◌∙◌, map, arith, length-set, map-set, length-map, IsMaskOf, behind, IsGap, IsWholeEnd, meet_of, written_more, IsWholeGap}
 use Rattle.line_core.proofs.befores.write_wholes.Goals as goal
 
 pub loop-j-init : goal.loop-j-init

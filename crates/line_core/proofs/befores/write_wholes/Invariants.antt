@@ -1,6 +1,5 @@
 -- What the loop of `write_wholes` keeps: the pass over the runs so far, and their gaps and ends.
-use Rattle.line_core.proofs.Names.{◌≡◌, ℕ, ◌<◌, ◌≤◌, length, get_or, map, IsMaskOf, behind, IsWholeEnd, IsPassOver}
-use Rattle.line_core.specs.steps.Pairs.{IsWholeGap}
+use Rattle.line_core.proofs.Names.{◌≡◌, ℕ, ◌<◌, ◌≤◌, length, get_or, map, IsMaskOf, behind, IsWholeEnd, IsPassOver, IsWholeGap}
 use Rattle.line_core.proofs.befores.write_wholes.Given as goal
 
 abbrev pub ghost-write_gaps_ahead : goal.ghost-write_gaps_ahead

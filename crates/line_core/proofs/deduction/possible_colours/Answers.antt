@@ -1,6 +1,5 @@
 -- `possible_colours`: run by run the pass goes on, and each run and the gap after it join the masks.
-use Rattle.line_core.proofs.Names.{IsBlankable, add-one, ◌-◌, ◌∙◌, ◌≡◌, ◌+◌, ◌<◌, length, arith, sym, subst, eqb-true, eqb-false, IsMaskOf, behind, IsGap, IsGapAhead, mask_same}
-use Rattle.place_sets.proofs.LevelSteps.{levels_none, none_at}
+use Rattle.line_core.proofs.Names.{IsBlankable, add-one, ◌-◌, ◌∙◌, ◌≡◌, ◌+◌, ◌<◌, length, arith, sym, subst, eqb-true, eqb-false, IsMaskOf, behind, IsGap, IsGapAhead, mask_same, levels_none, none_at}
 use Rattle.line_core.proofs.Composing.{blank_first, blank_more, fill_more}
 use Rattle.line_core.proofs.deduction.possible_colours.Goals as goal
 

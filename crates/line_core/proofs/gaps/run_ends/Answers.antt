@@ -1,6 +1,5 @@
 -- `run_ends`: the starts after a gap or at the opening, within the window, shifted to their ends.
-use Rattle.line_core.proofs.Names.{rules, ℕ, ◌-◌, ◌⊎◌, Has, IsMaskOf, IsShifted, meet_of, join_of, has_of, one_within}
-use Rattle.place_sets.proofs.Uses.{shifted_of}
+use Rattle.line_core.proofs.Names.{rules, ℕ, ◌-◌, ◌⊎◌, Has, IsMaskOf, IsShifted, meet_of, join_of, has_of, one_within, shifted_of}
 use Rattle.line_core.proofs.gaps.run_ends.Goals as goal
 
 -- the ends of runs that begin behind a gap or at the opening, and that a window has room for

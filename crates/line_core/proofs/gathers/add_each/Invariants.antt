@@ -1,7 +1,5 @@
 -- What the loop of `add_each` keeps: the colours at the places passed are added.
-use Rattle.line_core.specs.Pairs.{no_colours}
-use Rattle.line_core.proofs.Names.{◌+◌, get_or}
-use Rattle.line_core.specs.steps.Gathers.{HasColour}
+use Rattle.line_core.proofs.Names.{◌+◌, get_or, no_colours, HasColour}
 use Rattle.line_core.proofs.ColourMasks.{AreAdded}
 use Rattle.line_core.proofs.gathers.add_each.Given as goal
 

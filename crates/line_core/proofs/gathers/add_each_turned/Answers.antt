@@ -1,7 +1,5 @@
 -- `add_each_turned`: the colours at one more place are added.
-use Rattle.line_core.proofs.Names.{◌+◌, ◌-◌, get_or, sym, ◌∙◌, ap, arith}
-use Rattle.line_core.specs.Pairs.{no_colours}
-use Rattle.line_core.specs.steps.Gathers.{HasColour}
+use Rattle.line_core.proofs.Names.{◌+◌, ◌-◌, get_or, sym, ◌∙◌, ap, arith, no_colours, HasColour}
 use Rattle.line_core.proofs.ColourMasks.{added_more, added_all, read_more}
 use Rattle.line_core.proofs.gathers.add_each_turned.Goals as goal
 

@@ -1,9 +1,5 @@
 -- `colours_if_blank`: one more gap, and at last both sides together.
-use Rattle.line_core.proofs.Names.{◌≡◌, ◌+◌, ◌-◌, ◌<◌, ◌≤◌, length, reverse, sym, ap, ◌∙◌, arith, true≢false, recursion_from_All, IsMaskOf, has_true, true_has}
-use Rattle.std.proofs.Common.{◌*◌}
-use Rattle.std.proofs.lemmas.List.{length-reverse}
-use Rattle.place_sets.proofs.LevelSteps.{number_at}
-use Rattle.line_core.specs.steps.Pairs.{IsWholeGap}
+use Rattle.line_core.proofs.Names.{◌≡◌, ◌+◌, ◌-◌, ◌<◌, ◌≤◌, length, reverse, sym, ap, ◌∙◌, arith, true≢false, recursion_from_All, IsMaskOf, has_true, true_has, ◌*◌, length-reverse, number_at, IsWholeGap}
 use Rattle.line_core.proofs.ColourMasks.{no_below, one_below, none_more, read_more}
 use Rattle.line_core.proofs.Gathering.{gathered_blank, told_more, whole_turned}
 use Rattle.line_core.proofs.gathers.colours_if_blank.Goals.{then-contains, else-contains}

@@ -1,5 +1,5 @@
 -- What the loop of `colours_if_blank` keeps: what goes with the blank cell if fewer than j runs are before it.
-use Rattle.line_core.specs.steps.Gathers.{AreMasks}
+use Rattle.line_core.proofs.Names.{AreMasks}
 use Rattle.line_core.proofs.ColourMasks.{Below}
 use Rattle.line_core.proofs.Gathering.{IsBeforeGap, IsAfterGap}
 use Rattle.line_core.proofs.gathers.colours_if_blank.Given as goal

@@ -1,6 +1,5 @@
 -- `colours_if_filled`: one more run, with its ends that cover the cell, and at last both sides together.
-use Rattle.line_core.proofs.Names.{◌≡◌, ℕ, length, sym, ◌∙◌, arith, inl, inr, recursion_from_All, none_has, one_within, eqb-true}
-use Rattle.line_core.proofs.LineCells.{length_at}
+use Rattle.line_core.proofs.Names.{◌≡◌, ℕ, length, sym, ◌∙◌, arith, inl, inr, recursion_from_All, none_has, one_within, eqb-true, length_at}
 use Rattle.line_core.proofs.ColourMasks.{one_below, none_more}
 use Rattle.line_core.proofs.Gathering.{IsEndOver, gathered_filled, end_over_is, gaps_before_are, gap_before_is, run_before_more, run_after_more}
 use Rattle.line_core.proofs.gathers.colours_if_filled.Goals.{then-not-is_empty, else-not-is_empty}

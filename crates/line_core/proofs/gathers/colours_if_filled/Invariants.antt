@@ -1,5 +1,5 @@
 -- What the loop of `colours_if_filled` keeps: what goes with the filled cell if one of the first j runs covers it.
-use Rattle.line_core.specs.steps.Gathers.{AreMasks}
+use Rattle.line_core.proofs.Names.{AreMasks}
 use Rattle.line_core.proofs.ColourMasks.{Below}
 use Rattle.line_core.proofs.Gathering.{IsBeforeRun, IsAfterRun}
 use Rattle.line_core.proofs.gathers.colours_if_filled.Given as goal

@@ -1,8 +1,5 @@
 -- What the loop of `gather_pairs` keeps: the pair of each unknown cell but those that are left is written.
-use Rattle.line_core.proofs.Names.{◌≡◌, length, IsMaskOf}
-use Rattle.line_core.specs.Pairs.{no_pair}
-use Rattle.line_core.specs.steps.Pairs.{IsPairAt}
-use Rattle.line_core.specs.steps.Gathers.{IsUnknownAt}
+use Rattle.line_core.proofs.Names.{◌≡◌, length, IsMaskOf, no_pair, IsPairAt, IsUnknownAt}
 use Rattle.line_core.proofs.GapRows.{IsWalk}
 use Rattle.line_core.proofs.gathers.gather_pairs.Given as goal
 

@@ -1,7 +1,5 @@
 -- `reverse_all`: one more mask is reversed.
-use Rattle.line_core.proofs.Names.{◌-◌, ◌∙◌, ◌<◌, length, get_or, map, ap, arith, length-set, map-set, length-map, Has, IsMaskOf, written_more}
-use Rattle.std.proofs.Common.{get_or-set_other}
-use Rattle.place_sets.proofs.LevelSteps.{number_at}
+use Rattle.line_core.proofs.Names.{◌-◌, ◌∙◌, ◌<◌, length, get_or, map, ap, arith, length-set, map-set, length-map, Has, IsMaskOf, written_more, get_or-set_other, number_at}
 use Rattle.line_core.proofs.reach.reverse_all.Goals as goal
 
 pub loop-i-preserved : goal.loop-i-preserved

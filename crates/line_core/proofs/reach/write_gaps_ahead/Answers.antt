@@ -1,6 +1,5 @@
 -- `write_gaps_ahead`: the gaps of the reversed line, reversed again, are the gaps ahead.
-use Rattle.line_core.proofs.Names.{◌≡◌, ◌+◌, ◌-◌, ◌∙◌, ◌++◌, length, map, take, drop, get_or, sym, arith, length-map, get_or_append_left, get_or-take, length-take-le}
-use Rattle.std.proofs.lemmas.List.{map-append, take-map}
+use Rattle.line_core.proofs.Names.{◌≡◌, ◌+◌, ◌-◌, ◌∙◌, ◌++◌, length, map, take, drop, get_or, sym, arith, length-map, get_or_append_left, get_or-take, length-take-le, map-append, take-map}
 use Rattle.line_core.proofs.Composing.{ahead_of}
 use Rattle.line_core.proofs.reach.write_gaps_ahead.Goals as goal
 

@@ -1,6 +1,5 @@
 -- `write_starts`: run by run, the outermost of its ends in whole placings tells its start.
-use Rattle.line_core.proofs.Names.{add-one, refl, sym, ◌∙◌, arith, eqb-true, recursion_from_All, behind, none_has}
-use Rattle.std.proofs.Common.{length-set}
+use Rattle.line_core.proofs.Names.{add-one, refl, sym, ◌∙◌, arith, eqb-true, recursion_from_All, behind, none_has, length-set}
 use Rattle.line_core.proofs.Outermost.{some_end, outer_more}
 use Rattle.line_core.proofs.starts.write_starts.Goals as goal
 

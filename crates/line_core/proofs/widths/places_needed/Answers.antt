@@ -1,7 +1,5 @@
 -- `places_needed`: the greatest so far, with one more number.
-use Rattle.line_core.proofs.Names.{rules, ◌≤◌, arith}
-use Rattle.std.proofs.Common.{take_all}
-use Rattle.std.proofs.lemmas.List.Elements.{All-more}
+use Rattle.line_core.proofs.Names.{rules, ◌≤◌, arith, take_all, All-more}
 use Rattle.line_core.proofs.widths.places_needed.Goals as goal
 
 pub loop-number-preserved : goal.loop-number-preserved

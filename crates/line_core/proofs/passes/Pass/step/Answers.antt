@@ -1,6 +1,5 @@
 -- `Pass::step`: the ends of the run, from the gap before it, and the gap after it, from its ends.
-use Rattle.line_core.proofs.Names.{ℕ, ap, arith, bit_at-zero}
-use Rattle.std.specs.Int.{bit_at}
+use Rattle.line_core.proofs.Names.{ℕ, ap, arith, bit_at-zero, bit_at}
 use Rattle.line_core.proofs.Composing.{ends_are, gap_next_is}
 use Rattle.line_core.proofs.passes.Pass.step.Goals as goal
 
