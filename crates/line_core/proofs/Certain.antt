@@ -11,9 +11,8 @@ pub record Tells (P : Type 0) (b : Bool) : Type 0 where
   pub to : b ≡ true → P
   pub from : P → b ≡ true
 
-certain_is : (l : List Cell) (clue : List ℕ) (ps : List (List Bool)) (k : ℕ) → ListsPlacings l clue ps → (y : List Bool)
-    → IsPlacing l clue y → (f b : Bool)
-    → Tells (CanBe l clue true k) f → Tells (CanBe l clue false k) b → shared_at ps k ≡ certain_by f b
+certain_is : (l : List Cell) (clue : List ℕ) (ps : List (List Bool)) (k : ℕ) → ListsPlacings l clue ps → (y : List Bool) → IsPlacing l clue y
+    → (f b : Bool) → Tells (CanBe l clue true k) f → Tells (CanBe l clue false k) b → shared_at ps k ≡ certain_by f b
 certain_is l clue ps k listed y p true true tf tb =
     let x = tf.to refl in
     let z = tb.to refl in
@@ -25,9 +24,8 @@ certain_is l clue ps k listed y p f b tf tb =
     search (rules, true≢false, true_from_ne_false, false_from_ne_true, not_all, filled_at, blank_at, agrees-Extends, Extends-agrees)
 
 -- cells that are as two tests tell are the deduction of a line with a placing
-pub deduced-told : (l : List Cell) (clue : List ℕ) (d : List Cell) (f b : ℕ → Bool)
-    → ((k : ℕ) → k < length l → Tells (CanBe l clue true k) (f k)) → ((k : ℕ) → k < length l → Tells (CanBe l clue false k) (b k))
-    → (y : List Bool) → IsPlacing l clue y → length d ≡ length l
+pub deduced-told : (l : List Cell) (clue : List ℕ) (d : List Cell) (f b : ℕ → Bool) → ((k : ℕ) → k < length l → Tells (CanBe l clue true k) (f k))
+    → ((k : ℕ) → k < length l → Tells (CanBe l clue false k) (b k)) → (y : List Bool) → IsPlacing l clue y → length d ≡ length l
     → ((k : ℕ) → k < length l → get_or d k Unknown ≡ certain_by (f k) (b k)) → Some d ≡ deduced l clue
 deduced-told l clue d f b tf tb y p e each = by (placings l clue) (placings_listed l clue)
   where
@@ -36,8 +34,7 @@ deduced-told l clue d f b tf tb y p e each = by (placings l clue) (placings_list
     by (x ∷ ys) listed =
         let ps = x ∷ ys in
         let all = map (shared_at ps) (range_with_len 0 (length l)) in
-        ap (λ (cells : List Cell). Some cells)
-        (ext_get_or Unknown d all (e ∙ sym (length-map-range_with_len (shared_at ps) 0 (length l))) (λ k i.
+        ap (λ (cells : List Cell). Some cells) (ext_get_or Unknown d all (e ∙ sym (length-map-range_with_len (shared_at ps) 0 (length l))) (λ k i.
         let within : k < length l = omega (arith, e) in
         each k within ∙ sym (certain_is l clue ps k listed y p (f k) (b k) (tf k within) (tb k within))
         ∙ sym (get_or-map-range_with_len (shared_at ps) 0 (length l) k k Unknown within (zero-add k))))

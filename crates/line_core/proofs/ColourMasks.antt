@@ -45,8 +45,7 @@ read_more table i p read old new same there is more =
 
 -- the cells of some, and those of others seen from the other end of a line
 pub both_are : (len : ℕ) (near_view near far_view far : ColourMasks) (turned_filled turned_blank filled blank : ℕ)
-    → near_view ≡ near → far_view ≡ far
-    → IsMaskOf (λ i. (i < len) × Has far_view.fillable (len - 1 - i)) turned_filled
+    → near_view ≡ near → far_view ≡ far → IsMaskOf (λ i. (i < len) × Has far_view.fillable (len - 1 - i)) turned_filled
     → IsMaskOf (λ i. Has near_view.fillable i ⊎ Has turned_filled i) filled
     → IsMaskOf (λ i. (i < len) × Has far_view.blankable (len - 1 - i)) turned_blank
     → IsMaskOf (λ i. Has near_view.blankable i ⊎ Has turned_blank i) blank

@@ -40,13 +40,11 @@ agrees_less l k v here (suc i) [] h = cc
 agrees_less l k v here (suc i) (b ∷ x) h = search (rules, and_parts, and_from, coloured_allows, agrees_less l k v here i x)
 
 -- a gap of the coloured line is one of the line
-pub gap_less : (l : List Cell) (k : ℕ) (v : Bool) → MayBe l v k → (rs : List ℕ) (i : ℕ) → IsGapAfter (coloured l k v) rs i
-    → IsGapAfter l rs i
+pub gap_less : (l : List Cell) (k : ℕ) (v : Bool) → MayBe l v k → (rs : List ℕ) (i : ℕ) → IsGapAfter (coloured l k v) rs i → IsGapAfter l rs i
 gap_less l k v here rs i g = (coloured_less l k v here false i g.0, (g.1.0, agrees_less l k v here i g.1.0 g.1.1, g.1.2))
 
 -- and so is an end
-pub end_less : (l : List Cell) (k : ℕ) (v : Bool) → MayBe l v k → (rs : List ℕ) (n e : ℕ) → IsEndAfter (coloured l k v) rs n e
-    → IsEndAfter l rs n e
+pub end_less : (l : List Cell) (k : ℕ) (v : Bool) → MayBe l v k → (rs : List ℕ) (n e : ℕ) → IsEndAfter (coloured l k v) rs n e → IsEndAfter l rs n e
 end_less l k v here rs n e x =
     let y = x.1.0 in
     (x.0, ((y.0, agrees_less l k v here (e + 1 - n) y.0 y.1, y.2, y.3), (λ z b. coloured_less l k v here true (e + 1 - n + z) (x.1.1 z b))))
@@ -78,8 +76,7 @@ gap_step_from l rs n (suc i) some m h (inr e) = gap_after_to l rs n (suc i) some
 
 -- the same of a run's end on a coloured line: the colour is in the run, or before the gap before it
 abbrev pub EndWith : List Cell → List ℕ → ℕ → Bool → ℕ → ℕ → Type 0
-EndWith l rs n v e k =
-    ((v ≡ true) × (e + 1 - n ≤ k) × (k ≤ e)) ⊎ ((n ≤ e) × CanBeBefore l rs (e - n) v k)
+EndWith l rs n v e k = ((v ≡ true) × (e + 1 - n ≤ k) × (k ≤ e)) ⊎ ((n ≤ e) × CanBeBefore l rs (e - n) v k)
 
 pub end_step_to : (l : List Cell) (rs : List ℕ) (n e k : ℕ) (v : Bool) → 0 < n → MayBe l v k → k ≤ e → IsEndAfter (coloured l k v) rs n e
     → EndWith l rs n v e k
@@ -167,8 +164,7 @@ blank_from l zero h = (refl, h 0 (omega arith))
 blank_from l (suc i) h = inr (h (suc i) (omega arith), blank_from l i (λ k b. h k (omega arith)))
 
 pub first_to : (l : List Cell) (i : ℕ) (v : Bool) (k : ℕ) → CanBeBefore l [] i v k → (k ≤ i) × (v ≡ false)
-first_to l i v k h =
-    (h.0, coloured_one l k v false h.1.0 (blank_to (coloured l k v) i (first_gap_from (coloured l k v) i h.2) k h.0))
+first_to l i v k h = (h.0, coloured_one l k v false h.1.0 (blank_to (coloured l k v) i (first_gap_from (coloured l k v) i h.2) k h.0))
 
 pub first_from : (l : List Cell) (i k : ℕ) → IsGapAfter l [] i → k ≤ i → CanBeBefore l [] i false k
 first_from l i k g le =
@@ -256,8 +252,7 @@ filled_is l rs n i longer ended before row m some far enough r p = mask_same _ _
 pub blank_is : (l : List Cell) (rs : List ℕ) (n i longer ended : ℕ) (before row : List ColourMasks) (m : ℕ) → 0 < n
     → (Has longer i → 1 ≤ i) → IsReady l rs n i longer ended before row
     → IsMaskOf (λ k. ((k ≡ i) ⊎ (Has longer i × Has (get_or row (i - 1) no_colours).blankable k))
-    ⊎ (Has ended i × (n < i) × Has (get_or before (i - n - 1) no_colours).blankable k)) m
-    → IsMaskOf (CanBeBefore l (n ∷ rs) i false) m
+    ⊎ (Has ended i × (n < i) × Has (get_or before (i - n - 1) no_colours).blankable k)) m → IsMaskOf (CanBeBefore l (n ∷ rs) i false) m
 blank_is l rs n i longer ended before row m some far r p = mask_same _ _ m p to (λ k h. from k (before_to l rs n i false k some h))
   where
     Told : ℕ → Type 0

@@ -7,18 +7,15 @@ use Rattle.line_core.proofs.Joining.{closed_behind_to, closed_behind_from, close
 pub gap_none_is : (l : List Cell) (free m : ℕ) → IsMaskOf (MayBe l false) free
     → IsMaskOf (IsFlooded (λ k. Has free k × (k ≡ 0)) (Has free)) m → IsMaskOf (IsGapAfter l []) m
 gap_none_is l free m f p =
-    mask_same _ _ m
-    (flood_same (λ k. Has free k × (k ≡ 0)) (Has free) (λ k. (k ≡ 0) × MayBe l false k) (MayBe l false) m (λ i h. (h.1, f.to i h.0))
-    (λ i h. (f.from i h.1, h.0)) f.to f.from p)
-    (first_gap_to l) (first_gap_from l)
+    mask_same _ _ m (flood_same (λ k. Has free k × (k ≡ 0)) (Has free) (λ k. (k ≡ 0) × MayBe l false k) (MayBe l false) m (λ i h. (h.1, f.to i h.0))
+    (λ i h. (f.from i h.1, h.0)) f.to f.from p) (first_gap_to l) (first_gap_from l)
 
 -- the mask of the gaps after a run, from that of its ends
 pub gap_next_is : (l : List Cell) (runs : List ℕ) (w n free ends m : ℕ) → length l ≤ w → 0 < n → IsMaskOf (MayBe l false) free
     → IsMaskOf (IsEndAfter l runs n) ends
     → IsMaskOf (IsFlooded (λ k. IsShifted w (Has ends) 1 k × Has free k) (Has free)) m → IsMaskOf (IsGapAfter l (n ∷ runs)) m
 gap_next_is l runs w n free ends m short pos f e p =
-    mask_same _ _ m
-    (flood_same (λ k. IsShifted w (Has ends) 1 k × Has free k) (Has free) (After l n runs) (MayBe l false) m
+    mask_same _ _ m (flood_same (λ k. IsShifted w (Has ends) 1 k × Has free k) (Has free) (After l n runs) (MayBe l false) m
     (λ i h. (f.to i h.1, h.0.1, e.to (i - 1) h.0.2))
     (λ i h. let within : i < length l = h.0.0 in ((omega arith, h.1, e.from (i - 1) h.2), f.from i h.0)) f.to f.from p)
     (λ i h. gap_after_to l runs n i pos h) (gap_after_from l runs n)
@@ -28,9 +25,8 @@ abbrev pub EndsAt : ℕ → ℕ → ℕ → ℕ → ℕ → ℕ → Type 0
 EndsAt w gap opening window n = IsShifted w (λ s. (IsShifted w (Has gap) 1 s ⊎ Has opening s) × Has window s) (n - 1)
 
 -- the mask of a run's ends, from that of the gaps before it
-pub ends_are : (l : List Cell) (runs : List ℕ) (w n gap room opening window m : ℕ) → length l ≤ w → 0 < n
-    → IsMaskOf (IsGapAfter l runs) gap → IsMaskOf (λ i. (i ≡ 0) × (length runs ≡ 0)) opening → IsMaskOf (MayBe l true) room
-    → IsMaskOf (AllFrom (Has room) n) window
+pub ends_are : (l : List Cell) (runs : List ℕ) (w n gap room opening window m : ℕ) → length l ≤ w → 0 < n → IsMaskOf (IsGapAfter l runs) gap
+    → IsMaskOf (λ i. (i ≡ 0) × (length runs ≡ 0)) opening → IsMaskOf (MayBe l true) room → IsMaskOf (AllFrom (Has room) n) window
     → IsMaskOf (EndsAt w gap opening window n) m → IsMaskOf (IsEndAfter l runs n) m
 ends_are l runs w n gap room opening window m short some g f a v p = mask_same _ _ m p to from
   where
@@ -64,17 +60,15 @@ ends_are l runs w n gap room opening window m short some g f a v p = mask_same _
         (omega arith, omega arith, start_from (e - (n - 1)) (subst (IsStartAfter l runs n) same h.1))
 
 -- the mask of the gaps ahead of a run, from that of the reversed line
-pub ahead_is : (l : List Cell) (clue : List ℕ) (j gap m : ℕ) → j ≤ length clue
-    → IsMaskOf (IsGap (reverse l) (reverse clue) (length clue - j)) gap
+pub ahead_is : (l : List Cell) (clue : List ℕ) (j gap m : ℕ) → j ≤ length clue → IsMaskOf (IsGap (reverse l) (reverse clue) (length clue - j)) gap
     → IsMaskOf (λ i. (i < length l) × Has gap (length l - 1 - i)) m → IsMaskOf (IsGapAhead l clue j) m
 ahead_is l clue j gap m jl g p =
     mask_same _ _ m p (λ i h. (reversed_gap l clue j i jl h.0).0 (g.to (length l - 1 - i) h.1))
     (λ i h. let within : i < length l = h.0.0 in (within, g.from (length l - 1 - i) ((reversed_gap l clue j i jl within).1 h)))
 
 -- the mask of the ends of a run in whole placings
-pub whole_is : (l : List Cell) (clue : List ℕ) (j ends ahead last m : ℕ) → j < length clue → 0 < get_or clue j 0
-    → IsMaskOf (IsEnd l clue j) ends → IsMaskOf (IsGapAhead l clue (j + 1)) ahead
-    → IsMaskOf (λ i. (i ≡ length l - 1) × (j + 1 ≡ length clue)) last
+pub whole_is : (l : List Cell) (clue : List ℕ) (j ends ahead last m : ℕ) → j < length clue → 0 < get_or clue j 0 → IsMaskOf (IsEnd l clue j) ends
+    → IsMaskOf (IsGapAhead l clue (j + 1)) ahead → IsMaskOf (λ i. (i ≡ length l - 1) × (j + 1 ≡ length clue)) last
     → IsMaskOf (λ i. Has ends i × (Has ahead (i + 1) ⊎ Has last i)) m → IsMaskOf (IsWholeEnd l clue j) m
 whole_is l clue j ends ahead last m jl cp e a z p =
     mask_same (λ i. Has ends i × (Has ahead (i + 1) ⊎ Has last i)) (IsWholeEnd l clue j) m p to from
@@ -127,16 +121,13 @@ fill_more l clue top j whole old new w s f = record { to = λ i x. to i (s.to i 
 
 -- one more place for a blank cell
 pub blank_first : (l : List Cell) (clue : List ℕ) (gap ahead m : ℕ) → IsMaskOf (IsGap l clue 0) gap → IsMaskOf (IsGapAhead l clue 0) ahead
-    → IsMaskOf (λ i. Has gap i × Has ahead i) m
-    → IsMaskOf (λ i. (q : ℕ) × (q ≤ 0) × IsGap l clue q i × IsGapAhead l clue q i) m
+    → IsMaskOf (λ i. Has gap i × Has ahead i) m → IsMaskOf (λ i. (q : ℕ) × (q ≤ 0) × IsGap l clue q i × IsGapAhead l clue q i) m
 blank_first l clue gap ahead m g a p = search rules
 
 -- one more gap, and the cells that are blank in it
 pub blank_more : (l : List Cell) (clue : List ℕ) (j gap ahead blank part m : ℕ) → IsMaskOf (IsGap l clue (j + 1)) gap
-    → IsMaskOf (IsGapAhead l clue (j + 1)) ahead
-    → IsMaskOf (λ i. (q : ℕ) × (q ≤ j) × IsGap l clue q i × IsGapAhead l clue q i) blank
-    → IsMaskOf (λ i. Has gap i × Has ahead i) part
-    → IsMaskOf (λ i. Has blank i ⊎ Has part i) m
+    → IsMaskOf (IsGapAhead l clue (j + 1)) ahead → IsMaskOf (λ i. (q : ℕ) × (q ≤ j) × IsGap l clue q i × IsGapAhead l clue q i) blank
+    → IsMaskOf (λ i. Has gap i × Has ahead i) part → IsMaskOf (λ i. Has blank i ⊎ Has part i) m
     → IsMaskOf (λ i. (q : ℕ) × (q ≤ j + 1) × IsGap l clue q i × IsGapAhead l clue q i) m
 blank_more l clue j gap ahead blank part m g a b p r =
     mask_same _ _ m (join_of _ _ blank part m b (meet_of _ _ gap ahead part g a p) r) to from
@@ -154,8 +145,7 @@ blank_more l clue j gap ahead blank part m g a b p r =
     ]
 
 -- the gaps ahead, from the reversed line's gaps
-pub ahead_of : (l : List Cell) (clue : List ℕ) (j p : ℕ) (reversed : List ℕ) (len m : ℕ) → length l ≡ len → p + j ≡ length clue
-    → j ≤ length clue
+pub ahead_of : (l : List Cell) (clue : List ℕ) (j p : ℕ) (reversed : List ℕ) (len m : ℕ) → length l ≡ len → p + j ≡ length clue → j ≤ length clue
     → ((k : ℕ) → k ≤ length clue → IsMaskOf (IsGap (reverse l) (reverse clue) k) (get_or reversed k 0))
     → IsMaskOf (λ i. (i < len) × Has (get_or reversed p 0) (len - 1 - i)) m → IsMaskOf (IsGapAhead l clue j) m
 ahead_of l clue j p reversed len m e s jl g h =

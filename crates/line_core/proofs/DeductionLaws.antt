@@ -91,10 +91,8 @@ placings_listed l clue =
     (filter_passes p (full_lines (length l))) in
     record {
       each = λ q h x placing.
-          let all : list_all (λ y. cond (p y) (q y) true) (full_lines (length l)) ≡ true =
-          sym (list_all-filter p q (full_lines (length l))) ∙ h in
-          let at : cond (p x) (q x) true ≡ true =
-          each_full (length l) (λ y. cond (p y) (q y) true) all x (length-IsPlacing l clue x placing) in
+          let all : list_all (λ y. cond (p y) (q y) true) (full_lines (length l)) ≡ true = sym (list_all-filter p q (full_lines (length l))) ∙ h in
+          let at : cond (p x) (q x) true ≡ true = each_full (length l) (λ y. cond (p y) (q y) true) all x (length-IsPlacing l clue x placing) in
           rw (IsPlacing_test l clue x placing) at at;
       every = search (rules, list_all-from_AllPass, members);
       members = members;
@@ -149,14 +147,12 @@ filled_of x h = search rules
 length-shared : (n : ℕ) (ps : List (List Bool)) → length (map (shared_at ps) (range_with_len 0 n)) ≡ n
 length-shared n ps = length-map-range_with_len (shared_at ps) 0 n
 
-get_or-shared : (n : ℕ) (ps : List (List Bool)) (k : ℕ) → k < n
-    → get_or (map (shared_at ps) (range_with_len 0 n)) k Unknown ≡ shared_at ps k
+get_or-shared : (n : ℕ) (ps : List (List Bool)) (k : ℕ) → k < n → get_or (map (shared_at ps) (range_with_len 0 n)) k Unknown ≡ shared_at ps k
 get_or-shared n ps k h = get_or-map-range_with_len (shared_at ps) 0 n k k Unknown h (zero-add k)
 
 -- a cell that each placing has
-greatest_at : (l : List Cell) (clue : List ℕ) (ps : List (List Bool)) (k : ℕ) → ListsPlacings l clue ps → (y : List Bool)
-    → IsPlacing l clue y → (c : Cell) → ((x : List Bool) → IsPlacing l clue x → CellExtends c (colour (get_or x k false)))
-    → CellExtends c (shared_at ps k)
+greatest_at : (l : List Cell) (clue : List ℕ) (ps : List (List Bool)) (k : ℕ) → ListsPlacings l clue ps → (y : List Bool) → IsPlacing l clue y
+    → (c : Cell) → ((x : List Bool) → IsPlacing l clue x → CellExtends c (colour (get_or x k false))) → CellExtends c (shared_at ps k)
 greatest_at l clue ps k listed y p Unknown h = tt
 greatest_at l clue ps k listed y p Filled h = rw (listed.every (filled_at k) (λ x q. filled_of (get_or x k false) (h x q))) tt
 greatest_at l clue ps k listed y p Blank h = search rules
@@ -168,11 +164,9 @@ greatest_listed l clue (y ∷ ys) listed None h = absurd (h y (listed.members 0 
 greatest_listed l clue (y ∷ ys) listed (Some d) h =
     let ps = y ∷ ys in
     let p : IsPlacing l clue y = listed.members 0 y (omega arith) in
-    let long : length d ≡ length l =
-    length-Extends d (map colour y) (h y p) ∙ length-map y colour ∙ length-IsPlacing l clue y p in
+    let long : length d ≡ length l = length-Extends d (map colour y) (h y p) ∙ length-map y colour ∙ length-IsPlacing l clue y p in
     Extends-from_places d (map (shared_at ps) (range_with_len 0 (length l))) (long ∙ sym (length-shared (length l) ps)) (λ k i.
-    rw (get_or-shared (length l) ps k (omega arith))
-    (greatest_at l clue ps k listed y p (get_or d k Unknown) (λ x q.
+    rw (get_or-shared (length l) ps k (omega arith)) (greatest_at l clue ps k listed y p (get_or d k Unknown) (λ x q.
     rw (get_or-map_colour x k (omega (arith, length-IsPlacing l clue x q))) at (Extends-at d (map colour x) k (h x q)))))
 
 -- what each placing has is deduced
@@ -199,8 +193,7 @@ deduced-below l clue x p = by (placings l clue) (placings_listed l clue)
         let within : k < n = omega (arith, length-shared n ps) in
         rw (get_or-shared n ps k within, get_or-map_colour x k (omega arith))
         (below_cell (colour (get_or x k false)) (list_all (filled_at k) ps) (list_all (blank_at k) ps)
-        (λ e. ap colour (listed.each (filled_at k) e x p))
-        (λ e. ap colour (not-true (get_or x k false) (listed.each (blank_at k) e x p)))))
+        (λ e. ap colour (listed.each (filled_at k) e x p)) (λ e. ap colour (not-true (get_or x k false) (listed.each (blank_at k) e x p)))))
 
 -- if more is known, no less is deduced
 pub deduced-monotone : (l m : List Cell) (clue : List ℕ) → Extends l m → AtMost (deduced l clue) (deduced m clue)
@@ -230,10 +223,8 @@ AtMost-antisym None d h k = absurd h
 -- deducing what was deduced changes nothing: each placing of the line is one of the deduced line
 pub deduced-settled : (l d : List Cell) (clue : List ℕ) → deduced l clue ≡ Some d → deduced d clue ≡ Some d
 deduced-settled l d clue e =
-    AtMost-antisym (deduced d clue) d
-    (rw e at (deduced-greatest l clue (deduced d clue) (λ x p.
-    deduced-below d clue x (record { extends = rw e at (deduced-below l clue x p); runs_are = p.runs_are }))))
-    (deduced-above d clue)
+    AtMost-antisym (deduced d clue) d (rw e at (deduced-greatest l clue (deduced d clue) (λ x p.
+    deduced-below d clue x (record { extends = rw e at (deduced-below l clue x p); runs_are = p.runs_are })))) (deduced-above d clue)
 
 -- the deduced line is as long as the line
 pub length-deduced : (l d : List Cell) (clue : List ℕ) → Some d ≡ deduced l clue → length d ≡ length l

@@ -53,8 +53,7 @@ pub record IsWalked (cells : List Bool) (clue : List ℕ) (j least left : ℕ) :
   pub from : runs_past least rest ≡ Some (drop j clue) → runs cells ≡ clue
 
 -- runs after blank cells
-past_blanks : (least n : ℕ) (y : List Bool) → least ≤ n → ((i : ℕ) → i < n → get_or y i false ≡ false)
-    → runs_past least y ≡ Some (runs (drop n y))
+past_blanks : (least n : ℕ) (y : List Bool) → least ≤ n → ((i : ℕ) → i < n → get_or y i false ≡ false) → runs_past least y ≡ Some (runs (drop n y))
 past_blanks zero (suc n) [] h blank = refl
 past_blanks least (suc n) (true ∷ y) h blank = absurd (true≢false (blank 0 (omega arith)))
 past_blanks zero (suc n) (false ∷ y) h blank = past_blanks zero n y (omega arith) (λ i b. blank (suc i) (omega arith))
@@ -73,8 +72,7 @@ past_runs least y ns e = search rules
 
 past_none : (least left : ℕ) (y : List Bool) → IsMaskOf (IsFilled y) left → left ≡ 0 → runs_past least y ≡ Some []
 past_none least left y p e =
-    past_blanks least (least + length y) y (omega arith)
-    (λ i h. false_from_ne_true (get_or y i false) (λ f. none_has left i e (p.from i f)))
+    past_blanks least (least + length y) y (omega arith) (λ i h. false_from_ne_true (get_or y i false) (λ f. none_has left i e (p.from i f)))
     ∙ ap (λ (t : List Bool). Some (runs t)) (drop_of_length-le y {i = least + length y} (omega arith))
 
 -- cells further on
@@ -117,8 +115,7 @@ longer m k (true ∷ y) ns e = let h = longer (suc m) k y ns (sym (runs_after-tr
 longer m k (false ∷ y) ns e = search (rules, runs_after, runs_after-close)
 
 -- a run has a length exactly if as many cells in the other colour, and the next one, are blank
-cross : (m n k : ℕ) (y : List Bool) (ns : List ℕ) → suc m + n ≡ k
-    → (runs_after (suc m) y ≡ k ∷ ns) ↔ (runs_past (suc n) (crossed n y) ≡ Some ns)
+cross : (m n k : ℕ) (y : List Bool) (ns : List ℕ) → suc m + n ≡ k → (runs_after (suc m) y ≡ k ∷ ns) ↔ (runs_past (suc n) (crossed n y) ≡ Some ns)
 cross m zero k [] ns e = grind (arith, runs_after-nil m)
 cross m zero k (true ∷ y) ns e = ((λ h. absurd (omega (arith, longer (suc m) k y ns (sym (runs_after-true (suc m) y) ∙ h)))), λ h. cc)
 cross m zero k (false ∷ y) ns e = grind (arith, runs_after-close m y, runs_after-zero y)

@@ -6,8 +6,7 @@ use Rattle.line_core.proofs.ColouredGaps.{whole_back, whole_end_back, whole_befo
 -- a number with one bit less is less
 bit_less : (p a b : ℕ) → bit_at a p ≡ 1 → bit_at b p ≡ 0 → ((i : ℕ) → i ≢ p → bit_at b i ≡ bit_at a i) → b < a
 bit_less zero a b h none same =
-    let half : b / 2 ≡ a / 2 =
-    same_from_bits (b / 2) (a / 2) (λ i. sym (bit_at-suc b i) ∙ same (suc i) (omega arith) ∙ bit_at-suc a i) in
+    let half : b / 2 ≡ a / 2 = same_from_bits (b / 2) (a / 2) (λ i. sym (bit_at-suc b i) ∙ same (suc i) (omega arith) ∙ bit_at-suc a i) in
     omega (arith, sym (bit_at_lowest a) ∙ h, sym (bit_at_lowest b) ∙ none)
 bit_less (suc p) a b h none same =
     let less = bit_less p (a / 2) (b / 2) (sym (bit_at-suc a p) ∙ h) (sym (bit_at-suc b p) ∙ none)
@@ -16,8 +15,7 @@ bit_less (suc p) a b h none same =
 
 -- a mask with one place taken out is less
 pub mask_less : (a b p : ℕ) → Has a p → IsMaskOf (IsMarked (Has a) p false) b → b < a
-mask_less a b p h m =
-    bit_less p a b h (grind (arith, bit_at-lt, true≢false)) (λ i ne. grind (arith, bit_at-lt, true≢false))
+mask_less a b p h m = bit_less p a b h (grind (arith, bit_at-lt, true≢false)) (λ i ne. grind (arith, bit_at-lt, true≢false))
 
 -- of the places of `all` those that are left are still to be written in a row, and the others hold what they should
 pub record IsWalk {A : Type 0} (all left : ℕ) (Q : ℕ → A → Type 0) (none : A) (row : List A) : Type 0 where
@@ -103,8 +101,7 @@ put_back a xs ys =
     rw (drop_of_length-le (drop a xs) {i = length xs - a} none, append-nil) refl
 
 -- the last of them, seen from its place
-pub row_at : (l : List Cell) (clue : List ℕ) (j : ℕ) (table : List ColourMasks) → AreRowsTo l clue j table
-    → IsRow l clue j 0 (drop (128 * j) table)
+pub row_at : (l : List Cell) (clue : List ℕ) (j : ℕ) (table : List ColourMasks) → AreRowsTo l clue j table → IsRow l clue j 0 (drop (128 * j) table)
 row_at l clue j table told i whole =
     let e : 128 * j + (0 + i) ≡ 128 * j + i = omega arith in
     rw (get_or-drop (128 * j) table (0 + i) no_colours, e) (told j (omega arith) i whole)

@@ -16,8 +16,7 @@ IsBeforeGap line clue x j filled k = IsWholeGap line clue j x × CanBeBefore lin
 -- and a cell from x on, seen from the other end
 abbrev pub IsAfterGap : List Cell → List ℕ → ℕ → ℕ → Bool → ℕ → Type 0
 IsAfterGap line clue x j filled k =
-    IsWholeGap line clue j x
-    × CanBeBefore (reverse line) (behind 0 (reverse clue) (length clue - j)) (length line - 1 - x) filled k
+    IsWholeGap line clue j x × CanBeBefore (reverse line) (behind 0 (reverse clue) (length clue - j)) (length line - 1 - x) filled k
 
 -- run j can end at e, and then covers x
 abbrev pub IsEndOver : List Cell → List ℕ → ℕ → ℕ → ℕ → Type 0
@@ -117,8 +116,7 @@ GoesWith l clue x c d k = MayBe l d k × CanBe (coloured l k d) clue c x
 colours_of : (l : List Cell) (clue : List ℕ) (x : ℕ) (c : Bool) (m : ColourMasks) → ArePositive clue → IsUnknownAt l x
     → AreMasks (GoesWith l clue x c) m → AreColours (coloured l x c) clue m
 colours_of l clue x c m pos unknown a = record {
-  fillable_is = mask_same _ _ m.fillable a.fillable_is (λ k h. fillable_from (coloured l x c) clue k (back k true h))
-      (λ k h.
+  fillable_is = mask_same _ _ m.fillable a.fillable_is (λ k h. fillable_from (coloured l x c) clue k (back k true h)) (λ k h.
       let (y, agree, is, at) = fillable_to (coloured l x c) clue k pos h in
       let within = rw (length-set l x (colour c)) at (filled_agrees (coloured l x c) y k agree at) in there k true within (y, agree, is, at));
   blankable_is = mask_same _ _ m.blankable a.blankable_is
@@ -150,8 +148,7 @@ blank_is l clue x k d within = (to, λ (j, jl, whole, sides). from j jl whole si
 
 -- with a filled cell goes what goes with the ends of the run that covers it
 abbrev IsBesideRun : List Cell → List ℕ → ℕ → ℕ → Bool → ℕ → Type 0
-IsBesideRun l clue j e d k =
-    EndWith l (behind 0 clue j) (get_or clue j 0) d e k ⊎ ((e + 1 < length l) × CanBeAfter l clue (j + 1) (e + 1) d k)
+IsBesideRun l clue j e d k = EndWith l (behind 0 clue j) (get_or clue j 0) d e k ⊎ ((e + 1 < length l) × CanBeAfter l clue (j + 1) (e + 1) d k)
 
 run_to : (l : List Cell) (clue : List ℕ) (x k : ℕ) (d : Bool) → GoesWith l clue x true d k
     → (j : ℕ) × (j < length clue) × (e : ℕ) × IsEndOver l clue x j e × IsBesideRun l clue j e d k
@@ -242,8 +239,7 @@ run_before_more l clue before after j x over part gaps old mid new told some jl 
     (λ i h. told_masks l _ i _ (told.before_is j i (omega arith) (gap_before_is l clue j x i some jl (are_gaps.to i h)))) rows))
     (λ d k. (to d k, from d k))
   where
-    to : (d : Bool) (k : ℕ) → (Has part k × (d ≡ true)) ⊎ ((i : ℕ) × Has gaps i × CanBeBefore l (behind 0 clue j) i d k)
-        → IsBeforeRun l clue x j d k
+    to : (d : Bool) (k : ℕ) → (Has part k × (d ≡ true)) ⊎ ((i : ℕ) × Has gaps i × CanBeBefore l (behind 0 clue j) i d k) → IsBeforeRun l clue x j d k
     to d k (inl (has_part, fill)) =
         let (z, zl, has_end) = parts.to k has_part in inl (fill, k + z, are.to (k + z) has_end, omega arith, omega arith)
     to d k (inr (i, has_gap, can)) = inr (i, are_gaps.to i has_gap, can)
@@ -334,8 +330,7 @@ gathered_filled l clue x near far new pos unknown a b both =
     gathered l clue x true near far new _ _ pos unknown a b both (λ d k. (to d k, from d k))
   where
     Sides : Bool → ℕ → Type 0
-    Sides d k = Below (length clue) (IsBeforeRun l clue x) d k
-        ⊎ ((k < length l) × Below (length clue) (IsAfterRun l clue x) d (length l - 1 - k))
+    Sides d k = Below (length clue) (IsBeforeRun l clue x) d k ⊎ ((k < length l) × Below (length clue) (IsAfterRun l clue x) d (length l - 1 - k))
 
     to : (d : Bool) (k : ℕ) → Sides d k → GoesWith l clue x true d k
     to d k (inl (j, jl, inl (fill, e, over, past, le))) = run_from l clue x k j e d pos jl over (inl (inl (fill, past, le)))

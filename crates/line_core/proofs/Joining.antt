@@ -58,8 +58,7 @@ drop_head (x ∷ xs) zero r q e = (cc, cc, omega arith)
 drop_head (x ∷ xs) (suc i) r q e = let t = drop_head xs i r q e in (t.0, t.1, omega (arith, t.2))
 
 -- a clue that is two parts: the numbers before some place, and those from there on
-pub onto_split : (p q clue : List ℕ) → onto p q ≡ clue
-    → (p ≡ behind 0 clue (length p)) × (q ≡ drop (length p) clue) × (length p ≤ length clue)
+pub onto_split : (p q clue : List ℕ) → onto p q ≡ clue → (p ≡ behind 0 clue (length p)) × (q ≡ drop (length p) clue) × (length p ≤ length clue)
 onto_split [] q clue e = (refl, e, omega arith)
 onto_split (r ∷ p) q clue e =
     let t = onto_split p (r ∷ q) clue e in
@@ -129,8 +128,7 @@ agrees_span l v (suc n) p q y e o h =
     (λ z b. let f : p + suc z ≡ suc p + z = omega arith in subst (MayBe l v) f (o (suc z) (omega arith))) h))
 
 -- what remains of a line after its cells at s
-drop_past : (l : List Cell) (s : ℕ) (b : Bool) (y : List Bool) → agrees (drop s l) (b ∷ y) ≡ true
-    → (MayBe l b s) × (agrees (drop (suc s) l) y ≡ true)
+drop_past : (l : List Cell) (s : ℕ) (b : Bool) (y : List Bool) → agrees (drop s l) (b ∷ y) ≡ true → (MayBe l b s) × (agrees (drop (suc s) l) y ≡ true)
 drop_past [] zero b y h = cc
 drop_past [] (suc s) b y h = cc
 drop_past (c ∷ l) zero b y h = ((omega arith, (and_parts (allows c b) (agrees l y) h).0), (and_parts (allows c b) (agrees l y) h).1)
@@ -210,8 +208,7 @@ blankable_from l clue i h (x, agree, is, at) =
 pub closed_none : (cs : List ℕ) → MayBeginBlank [] cs → length cs ≡ 0
 closed_none cs x = search rules
 
-pub closed_first : (c : Cell) (cells : List Cell) (cs : List ℕ) → MayBeginBlank (c ∷ cells) cs
-    → (allows c false ≡ true) × HasPlacing cells cs
+pub closed_first : (c : Cell) (cells : List Cell) (cs : List ℕ) → MayBeginBlank (c ∷ cells) cs → (allows c false ≡ true) × HasPlacing cells cs
 closed_first c cells cs x = search rules
 
 -- a placing goes on with a blank cell before it
@@ -262,5 +259,4 @@ pub closed_ahead_from : (l : List Cell) (clue : List ℕ) (j p : ℕ) → ((p �
     → MayBeginBlank (drop p l) (drop j clue)
 closed_ahead_from l clue j p (inl h) = search (rules, drop_of_length-le, none_closed)
 closed_ahead_from l clue j p (inr g) =
-    rw (drop-cons l p Unknown g.0.0)
-    (first_closed (get_or l p Unknown) (drop (suc p) l) (drop j clue) g.0.1 (rw (add-one p) at g.1))
+    rw (drop-cons l p Unknown g.0.0) (first_closed (get_or l p Unknown) (drop (suc p) l) (drop j clue) g.0.1 (rw (add-one p) at g.1))

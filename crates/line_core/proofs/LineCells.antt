@@ -41,6 +41,5 @@ pub written_more : (P : ℕ → ℕ → Type 0) (xs : List ℕ) (j v : ℕ) → 
 written_more P xs j v l here below k h = search rules
 
 -- a number of a clue is the length of a run
-pub length_at : (width : ℕ) (clue : List ℕ) (j : ℕ) → AreLengths width clue → j < length clue
-    → (0 < get_or clue j 0) × (get_or clue j 0 ≤ width)
+pub length_at : (width : ℕ) (clue : List ℕ) (j : ℕ) → AreLengths width clue → j < length clue → (0 < get_or clue j 0) × (get_or clue j 0 ≤ width)
 length_at width clue j are l = (search rules, search rules)

@@ -12,8 +12,7 @@ use Rattle.line_core.proofs.Painting.{laid, placing_of}
 abbrev LonePlacing : List Cell → List ℕ → ℕ → Type 0
 LonePlacing l clue s = (x : List Bool) × (agrees l x ≡ true) × (runs x ≡ clue) × (get_or (starts_from 0 false x) 0 0 ≡ s)
 
-lone_placing : (l : List Cell) (clue : List ℕ) (s : ℕ) → ArePositive clue → length clue ≡ 1 → IsLoneStart l (get_or clue 0 0) s
-    → LonePlacing l clue s
+lone_placing : (l : List Cell) (clue : List ℕ) (s : ℕ) → ArePositive clue → length clue ≡ 1 → IsLoneStart l (get_or clue 0 0) s → LonePlacing l clue s
 lone_placing l clue s pos one start =
     let p = placing_of l clue (s ∷ []) pos (record {
       count = sym one;
@@ -47,8 +46,7 @@ FillsFrom l number i = (s : ℕ) × IsLoneStart l number s × (s ≤ i) × (i < 
 abbrev LeavesFrom : List Cell → ℕ → ℕ → Type 0
 LeavesFrom l number i = (s : ℕ) × IsLoneStart l number s × ((i < s) ⊎ (s + number ≤ i))
 
-pub fills_to : (l : List Cell) (clue : List ℕ) (i : ℕ) → ArePositive clue → length clue ≡ 1 → IsFillable l clue i
-    → FillsFrom l (get_or clue 0 0) i
+pub fills_to : (l : List Cell) (clue : List ℕ) (i : ℕ) → ArePositive clue → length clue ≡ 1 → IsFillable l clue i → FillsFrom l (get_or clue 0 0) i
 fills_to l clue i pos one h =
     let x = fillable_to l clue i pos h in
     let r = of_run clue x.0 i one x.2 x.3 in
@@ -102,25 +100,21 @@ must_fill l free number s k f start h lacks = search rules
 
 -- no cell must be filled
 pub starts_anywhere : (l : List Cell) (number free room len line filled starts : ℕ) → len ≡ length l → IsMaskOf (MayBe l false) free
-    → IsMaskOf (MayBe l true) room
-    → IsMaskOf (λ i. i < len) line → IsMaskOf (λ i. Has line i × (has free i ≡ false)) filled → filled ≡ 0
+    → IsMaskOf (MayBe l true) room → IsMaskOf (λ i. i < len) line → IsMaskOf (λ i. Has line i × (has free i ≡ false)) filled → filled ≡ 0
     → IsMaskOf (AllFrom (Has room) number) starts → IsMaskOf (IsLoneStart l number) starts
 starts_anywhere l number free room len line filled starts e f r a p none w =
     mask_same _ _ starts w (λ i h. record {
       window = λ z b. r.to (i + z) (h z b);
-      blanks = λ k b out. free_unless l free filled k f (λ z c lacks. p.from z (a.from z (omega arith), lacks))
-          (λ h. none_has filled k none h) b;
-    })
-    (λ i s z b. r.from (i + z) (s.window z b))
+      blanks = λ k b out. free_unless l free filled k f (λ z c lacks. p.from z (a.from z (omega arith), lacks)) (λ h. none_has filled k none h) b;
+    }) (λ i s z b. r.from (i + z) (s.window z b))
 
 -- the run has the first and the last cell that must be filled
-pub starts_about : (l : List Cell) (w number free room len line filled starts first last before some all after m : ℕ) → len ≡ length l
-    → 0 < number → IsMaskOf (MayBe l false) free → IsMaskOf (MayBe l true) room
-    → IsMaskOf (λ i. i < len) line → IsMaskOf (λ i. Has line i × (has free i ≡ false)) filled → IsMaskOf (AllFrom (Has room) number) starts
-    → Has filled first → ((i : ℕ) → Has filled i → first ≤ i) → Has filled last → ((i : ℕ) → Has filled i → i ≤ last) → first < w
-    → IsMaskOf (λ i. i < first + 1) before → IsMaskOf (λ i. Has starts i × Has before i) some
-    → IsMaskOf (λ i. i < w) all → IsMaskOf (IsShifted w (Has all) (last + 1 - number)) after → IsMaskOf (λ i. Has some i × Has after i) m
-    → IsMaskOf (IsLoneStart l number) m
+pub starts_about : (l : List Cell) (w number free room len line filled starts first last before some all after m : ℕ) → len ≡ length l → 0 < number
+    → IsMaskOf (MayBe l false) free → IsMaskOf (MayBe l true) room → IsMaskOf (λ i. i < len) line
+    → IsMaskOf (λ i. Has line i × (has free i ≡ false)) filled → IsMaskOf (AllFrom (Has room) number) starts → Has filled first
+    → ((i : ℕ) → Has filled i → first ≤ i) → Has filled last → ((i : ℕ) → Has filled i → i ≤ last) → first < w → IsMaskOf (λ i. i < first + 1) before
+    → IsMaskOf (λ i. Has starts i × Has before i) some → IsMaskOf (λ i. i < w) all → IsMaskOf (IsShifted w (Has all) (last + 1 - number)) after
+    → IsMaskOf (λ i. Has some i × Has after i) m → IsMaskOf (IsLoneStart l number) m
 starts_about l w number free room len line filled starts first last before some all after m e pos f r a p s at_first least at_last greatest
     short b q c d t = mask_same _ _ m t to from
   where
@@ -152,8 +146,7 @@ starts_about l w number free room len line filled starts first last before some 
 pub lone_unfillable : (l : List Cell) (clue : List ℕ) (starts m : ℕ) → ArePositive clue → length clue ≡ 1
     → IsMaskOf (IsLoneStart l (get_or clue 0 0)) starts → starts ≡ 0 → m ≡ 0 → IsMaskOf (IsFillable l clue) m
 lone_unfillable l clue starts m pos one s none e =
-    none_is (IsFillable l clue) m e
-    (λ i h. let f = fills_to l clue i pos one h in none_has starts f.0 none (s.from f.0 f.1))
+    none_is (IsFillable l clue) m e (λ i h. let f = fills_to l clue i pos one h in none_has starts f.0 none (s.from f.0 f.1))
 
 -- no start, no blank cell in a placing
 pub lone_unblankable : (l : List Cell) (clue : List ℕ) (starts m : ℕ) → length clue ≡ 1 → IsMaskOf (IsLoneStart l (get_or clue 0 0)) starts
@@ -162,10 +155,9 @@ lone_unblankable l clue starts m one s none e =
     none_is (IsBlankable l clue) m e (λ i h. let f = leaves_to l clue i one h in none_has starts f.0 none (s.from f.0 f.1))
 
 -- each cell among as many from a start on
-pub lone_fillable : (l : List Cell) (clue : List ℕ) (w starts ends m : ℕ) → ArePositive clue → length clue ≡ 1 → 0 < get_or clue 0 0
-    → length l ≤ w → IsMaskOf (IsLoneStart l (get_or clue 0 0)) starts
-    → IsMaskOf (IsShifted w (Has starts) (get_or clue 0 0 - 1)) ends → IsMaskOf (SomeFrom (Has ends) (get_or clue 0 0)) m
-    → IsMaskOf (IsFillable l clue) m
+pub lone_fillable : (l : List Cell) (clue : List ℕ) (w starts ends m : ℕ) → ArePositive clue → length clue ≡ 1 → 0 < get_or clue 0 0 → length l ≤ w
+    → IsMaskOf (IsLoneStart l (get_or clue 0 0)) starts → IsMaskOf (IsShifted w (Has starts) (get_or clue 0 0 - 1)) ends
+    → IsMaskOf (SomeFrom (Has ends) (get_or clue 0 0)) m → IsMaskOf (IsFillable l clue) m
 lone_fillable l clue w starts ends m pos one some short s p q = mask_same _ _ m q to from
   where
     to : (i : ℕ) → SomeFrom (Has ends) (get_or clue 0 0) i → IsFillable l clue i
@@ -188,10 +180,9 @@ lone_fillable l clue w starts ends m pos one some short s p q = mask_same _ _ m 
 
 -- each cell but those that the run fills from each start
 pub lone_blankable : (l : List Cell) (clue : List ℕ) (w len line starts first last certain m : ℕ) → ArePositive clue → length clue ≡ 1
-    → len ≡ length l → length l ≤ w → IsMaskOf (IsLoneStart l (get_or clue 0 0)) starts
-    → Has starts first → ((i : ℕ) → Has starts i → first ≤ i) → Has starts last → ((i : ℕ) → Has starts i → i ≤ last)
-    → IsMaskOf (λ i. (i < w) × (last ≤ i) × (i < first + get_or clue 0 0)) certain → IsMaskOf (λ i. i < len) line
-    → IsMaskOf (λ i. Has line i × (has certain i ≡ false)) m → IsMaskOf (IsBlankable l clue) m
+    → len ≡ length l → length l ≤ w → IsMaskOf (IsLoneStart l (get_or clue 0 0)) starts → Has starts first → ((i : ℕ) → Has starts i → first ≤ i)
+    → Has starts last → ((i : ℕ) → Has starts i → i ≤ last) → IsMaskOf (λ i. (i < w) × (last ≤ i) × (i < first + get_or clue 0 0)) certain
+    → IsMaskOf (λ i. i < len) line → IsMaskOf (λ i. Has line i × (has certain i ≡ false)) m → IsMaskOf (IsBlankable l clue) m
 lone_blankable l clue w len line starts first last certain m pos one e short s at_first least at_last greatest c a p =
     mask_same _ _ m p to from
   where

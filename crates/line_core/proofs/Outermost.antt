@@ -15,10 +15,8 @@ witness_of l clue k e pos h w =
 
 -- ---- the definitions
 
-pointwise_from : (xs ys : List ℕ) → length xs ≡ length ys → ((j : ℕ) → j < length xs → get_or xs j 0 ≤ get_or ys j 0)
-    → pointwise nat_le xs ys ≡ true
-pointwise_from (x ∷ xs) (y ∷ ys) e h =
-    rw (le-leb x y (h 0 (omega arith)), pointwise_from xs ys (omega arith) (λ j l. h (suc j) (omega arith))) refl
+pointwise_from : (xs ys : List ℕ) → length xs ≡ length ys → ((j : ℕ) → j < length xs → get_or xs j 0 ≤ get_or ys j 0) → pointwise nat_le xs ys ≡ true
+pointwise_from (x ∷ xs) (y ∷ ys) e h = rw (le-leb x y (h 0 (omega arith)), pointwise_from xs ys (omega arith) (λ j l. h (suc j) (omega arith))) refl
 pointwise_from xs ys e h = search rules
 
 pointwise_to : (xs ys : List ℕ) → pointwise nat_le xs ys ≡ true → (length xs ≡ length ys) × ((j : ℕ) → get_or xs j 0 ≤ get_or ys j 0)
@@ -93,31 +91,26 @@ found_is l clue m p x q at pass only =
     (not_all l clue (placings l clue) listed (λ y. not (p (run_starts y))) x q (ap (λ (z : List ℕ). not (p z)) at ∙ ap not pass))
 
 -- starts that lay the clue are those of a placing
-pub placed : (l : List Cell) (clue m : List ℕ) → ArePositive clue → IsLaid l clue m
-    → (x : List Bool) × IsPlacing l clue x × (run_starts x ≡ m)
+pub placed : (l : List Cell) (clue m : List ℕ) → ArePositive clue → IsLaid l clue m → (x : List Bool) × IsPlacing l clue x × (run_starts x ≡ m)
 placed l clue m pos d =
     let x = placing_of l clue m pos d in
     (x.0, record { extends = agrees-Extends l x.0 x.1; runs_are = x.2 }, run_starts-from x.0 ∙ x.3)
 
 -- starts that are as far as those of every placing are those of one placing, the outermost
-pub outermost_of : (side : Side) (l : List Cell) (clue m : List ℕ) → ArePositive clue → AreFurthest side l clue m
-    → outermost side l clue ≡ Some m
+pub outermost_of : (side : Side) (l : List Cell) (clue m : List ℕ) → ArePositive clue → AreFurthest side l clue m → outermost side l clue ≡ Some m
 outermost_of side l clue m pos f =
     let x = placed l clue m pos (furthest_laid side l clue m f) in
     let test = λ (starts : List ℕ). list_all (all_as_far side starts) (all_starts l clue) in
-    let pass : test m ≡ true =
-    all_pass l clue (all_as_far side m)
+    let pass : test m ≡ true = all_pass l clue (all_as_far side m)
     (λ ss e. as_far_from side m ss (f.count ∙ sym e.count) (λ j h. f.furthest ss e j (omega (arith, f.count)))) in
-    outermost_found side l clue ∙ found_is l clue m test x.0 x.1 x.2 pass (λ y q t.
-    as_far_antisym side (run_starts y) m
+    outermost_found side l clue ∙ found_is l clue m test x.0 x.1 x.2 pass (λ y q t. as_far_antisym side (run_starts y) m
     (ap (all_as_far side (run_starts y)) (sym x.2) ∙ pass_all l clue (all_as_far side (run_starts y)) t x.0 x.1)
     (pass_all l clue (all_as_far side m) pass y q))
 
 -- ---- either side
 
 -- each run ends somewhere in whole placings, if there is one
-pub some_end : (l : List Cell) (clue : List ℕ) (j : ℕ) → ArePositive clue → HasPlacing l clue → j < length clue
-    → (e : ℕ) × IsWholeEnd l clue j e
+pub some_end : (l : List Cell) (clue : List ℕ) (j : ℕ) → ArePositive clue → HasPlacing l clue → j < length clue → (e : ℕ) × IsWholeEnd l clue j e
 some_end l clue j pos p h =
     let e = get_or (starts_from 0 false p.0) j 0 + get_or clue j 0 - 1 in
     (e, whole_of l clue p.0 j e p.1 p.2 h (omega (arith, positive_at clue pos j h)))
@@ -156,8 +149,7 @@ outermost_none side l clue none =
 
 -- one more run's start
 pub outer_more : (side : Side) (l : List Cell) (clue : List ℕ) (list : List ℕ) (j whole place start : ℕ) → j < length list
-    → IsMaskOf (IsWholeEnd l clue j) whole
-    → Has whole place → ((i : ℕ) → Has whole i → IsAsFar side place i) → start ≡ place + 1 - get_or clue j 0
+    → IsMaskOf (IsWholeEnd l clue j) whole → Has whole place → ((i : ℕ) → Has whole i → IsAsFar side place i) → start ≡ place + 1 - get_or clue j 0
     → ((k : ℕ) → k < j → IsOuterStart side l clue k (get_or list k 0)) → (k : ℕ) → k < j + 1
     → IsOuterStart side l clue k (get_or (set list j start) k 0)
 outer_more side l clue list j whole place start h mask in_mask far at below =
@@ -176,8 +168,7 @@ no_run_to l clue gap ahead m g a p h =
 
 -- and a clue with no run that has a placing leaves it blank
 pub no_run_from : (l : List Cell) (clue : List ℕ) (gap ahead m : ℕ) → length clue ≡ 0 → 0 < length l → IsMaskOf (IsGap l clue 0) gap
-    → IsMaskOf (IsGapAhead l clue 0) ahead
-    → IsMaskOf (λ i. Has gap i × Has ahead i) m → HasPlacing l clue → Has m 0
+    → IsMaskOf (IsGapAhead l clue 0) ahead → IsMaskOf (λ i. Has gap i × Has ahead i) m → HasPlacing l clue → Has m 0
 no_run_from l clue gap ahead m none some g a q p =
     let blank = false_from_ne_true (get_or p.0 0 false) (λ e. let c = covered p.0 clue 0 p.2 e in omega (arith, c.inside)) in
     let b = blankable_from l clue 0 some (p.0, p.1, p.2, blank) in
@@ -202,6 +193,5 @@ answered side l clue list true pos long h =
 answered side l clue list false pos long h = outermost_none side l clue h
 
 -- if a run ends somewhere in a whole placing, there is a placing
-pub some_placing : (l : List Cell) (clue : List ℕ) (j e : ℕ) → ArePositive clue → j < length clue → IsWholeEnd l clue j e
-    → HasPlacing l clue
+pub some_placing : (l : List Cell) (clue : List ℕ) (j e : ℕ) → ArePositive clue → j < length clue → IsWholeEnd l clue j e → HasPlacing l clue
 some_placing l clue j e pos h w = let x = placing_with l clue j e pos h w in (x.0, x.1, x.2)

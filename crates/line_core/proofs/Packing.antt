@@ -47,16 +47,14 @@ starts_within : (l : List Cell) (clue ss : List ℕ) (j : ℕ) → ArePositive c
 starts_within l clue ss j pos d h = at_most l clue ss (length clue - suc j) j pos d (omega arith)
 
 -- a clue that has a placing needs no more than there is
-pub fits : (l : List Cell) (clue : List ℕ) (x : List Bool) → ArePositive clue → agrees l x ≡ true → runs x ≡ clue
-    → needed clue ≤ length l + 1
+pub fits : (l : List Cell) (clue : List ℕ) (x : List Bool) → ArePositive clue → agrees l x ≡ true → runs x ≡ clue → needed clue ≤ length l + 1
 fits l [] x pos agree is = omega arith
 fits l (c ∷ clue) x pos agree is =
     omega (arith, starts_within l (c ∷ clue) (starts_from 0 false x) 0 pos (laid l (c ∷ clue) x agree is) (omega arith))
 
 -- an overlap is filled in each placing
 pub overlap_filled : (l : List Cell) (clue : List ℕ) (x : List Bool) (slack i : ℕ) → ArePositive clue → agrees l x ≡ true → runs x ≡ clue
-    → needed clue + slack ≡ length l + 1
-    → IsOverlap clue slack i → get_or x i false ≡ true
+    → needed clue + slack ≡ length l + 1 → IsOverlap clue slack i → get_or x i false ≡ true
 overlap_filled l clue x slack i pos agree is e (j, h, from, to) =
     let d = laid l clue x agree is in
     in_run x clue j i is h (omega (arith, starts_within l clue (starts_from 0 false x) j pos d h))
@@ -80,12 +78,10 @@ Shifted l clue shift = (x : List Bool) × (agrees l x ≡ true) × (runs x ≡ c
 abbrev shifted_starts : List ℕ → (ℕ → ℕ) → List ℕ
 shifted_starts clue shift = map (λ (j : ℕ). least_start clue j + shift j) (range_with_len 0 (length clue))
 
-shifted_at : (clue : List ℕ) (shift : ℕ → ℕ) (j : ℕ) → j < length clue
-    → get_or (shifted_starts clue shift) j 0 ≡ least_start clue j + shift j
+shifted_at : (clue : List ℕ) (shift : ℕ → ℕ) (j : ℕ) → j < length clue → get_or (shifted_starts clue shift) j 0 ≡ least_start clue j + shift j
 shifted_at clue shift j h = get_or-map-range_with_len (λ (j : ℕ). least_start clue j + shift j) 0 (length clue) j j 0 h (omega arith)
 
-pub shifted : (l : List Cell) (clue : List ℕ) (slack : ℕ) (shift : ℕ → ℕ) → AnyColour l → ArePositive clue
-    → needed clue + slack ≡ length l + 1
+pub shifted : (l : List Cell) (clue : List ℕ) (slack : ℕ) (shift : ℕ → ℕ) → AnyColour l → ArePositive clue → needed clue + slack ≡ length l + 1
     → ((j : ℕ) → shift j ≤ slack) → ((j : ℕ) → suc j < length clue → shift j ≤ shift (suc j)) → Shifted l clue shift
 shifted l clue slack shift any_cell pos e most up =
     let x = placing_of l clue (shifted_starts clue shift) pos (record {
@@ -123,8 +119,7 @@ can_be_blank l clue slack i any_cell pos e none =
 abbrev Reaches : List ℕ → ℕ → ℕ → Type 0
 Reaches clue slack i = (j : ℕ) × (j < length clue) × (least_start clue j ≤ i) × (i < least_start clue j + get_or clue j 0 + slack)
 
-reaches : (clue : List ℕ) (slack i j : ℕ) → 0 < slack → j < length clue → i < least_start clue j + get_or clue j 0 + slack
-    → Reaches clue slack i
+reaches : (clue : List ℕ) (slack i j : ℕ) → 0 < slack → j < length clue → i < least_start clue j + get_or clue j 0 + slack → Reaches clue slack i
 reaches clue slack i zero some h to = (0, h, omega arith, to)
 reaches clue slack i (suc j) some h to =
     let next = start_next clue j (omega arith) in
@@ -138,8 +133,7 @@ filled_by : (l : List Cell) (clue : List ℕ) (slack i : ℕ) → AnyColour l �
 filled_by l clue slack i any_cell pos e r =
     let some = positive_at clue pos r.0 r.1 in
     let by = i + 1 - (least_start clue r.0 + get_or clue r.0 0) in
-    let x = shifted l clue slack (λ j. cond (nat_lt j r.0) 0 by) any_cell pos e (λ j. grind (arith, nat_tests))
-    (λ j h. grind (arith, nat_tests)) in
+    let x = shifted l clue slack (λ j. cond (nat_lt j r.0) 0 by) any_cell pos e (λ j. grind (arith, nat_tests)) (λ j h. grind (arith, nat_tests)) in
     let shift : cond (nat_lt r.0 r.0) 0 by ≡ by = grind (arith, nat_tests) in
     let at = x.3 r.0 r.1 in
     (x.0, x.1, x.2, in_run x.0 clue r.0 i x.2 r.1 (omega (arith, r.2)) (omega (arith, r.2, r.3)))
@@ -156,13 +150,11 @@ can_be_filled l clue slack i any_cell pos e some any within =
 -- ---- the masks
 
 -- the cells of the line without the overlaps
-pub blankable_is : (l : List Cell) (clue : List ℕ) (slack certain line m : ℕ) → AnyColour l → ArePositive clue
-    → needed clue + slack ≡ length l + 1
+pub blankable_is : (l : List Cell) (clue : List ℕ) (slack certain line m : ℕ) → AnyColour l → ArePositive clue → needed clue + slack ≡ length l + 1
     → IsMaskOf (IsOverlap clue slack) certain → IsMaskOf (λ i. i < length l) line → IsMaskOf (λ i. Has line i × (has certain i ≡ false)) m
     → IsMaskOf (IsBlankable l clue) m
 blankable_is l clue slack certain line m any_cell pos e c a p =
-    mask_same _ _ m p
-    (λ i h. blankable_from l clue i (a.to i h.0)
+    mask_same _ _ m p (λ i h. blankable_from l clue i (a.to i h.0)
     (can_be_blank l clue slack i any_cell pos e (λ o. true≢false (sym (has_true certain i (c.from i o)) ∙ h.1))))
     (λ i h. let x = blankable_to l clue i h in
     (a.from i h.2.0.0, lacks certain i (λ o. true≢false (sym (overlap_filled l clue x.0 slack i pos x.1 x.2 e (c.to i o)) ∙ x.3))))
@@ -175,8 +167,7 @@ all_fillable l clue slack line any_cell pos e some any a =
     (λ i h. let x = fillable_to l clue i pos h in filled_agrees l x.0 i x.1 x.3)
 
 -- and else the overlaps alone
-pub overlaps_fillable : (l : List Cell) (clue : List ℕ) (slack certain : ℕ) → AnyColour l → ArePositive clue
-    → needed clue + slack ≡ length l + 1
+pub overlaps_fillable : (l : List Cell) (clue : List ℕ) (slack certain : ℕ) → AnyColour l → ArePositive clue → needed clue + slack ≡ length l + 1
     → (slack ≡ 0) ⊎ (length clue ≡ 0) → IsMaskOf (IsOverlap clue slack) certain → IsMaskOf (IsFillable l clue) certain
 overlaps_fillable l clue slack certain any_cell pos e still c = mask_same (IsOverlap clue slack) (IsFillable l clue) certain c to from
   where
@@ -204,9 +195,8 @@ overlaps_fillable l clue slack certain any_cell pos e still c = mask_same (IsOve
 
 -- one more run's overlap: the cells from its greatest start on that it fills from its least start
 pub overlap_more : (clue : List ℕ) (w slack j start old some shifted new : ℕ) → needed clue + slack ≤ w + 1 → j < length clue
-    → slack < get_or clue j 0 → start ≡ least_start clue j + slack
-    → IsMaskOf (IsOverlapBefore j clue slack) old → IsMaskOf (λ i. i < get_or clue j 0 - slack) some
-    → IsMaskOf (IsShifted w (Has some) start) shifted
+    → slack < get_or clue j 0 → start ≡ least_start clue j + slack → IsMaskOf (IsOverlapBefore j clue slack) old
+    → IsMaskOf (λ i. i < get_or clue j 0 - slack) some → IsMaskOf (IsShifted w (Has some) start) shifted
     → IsMaskOf (λ i. Has old i ⊎ Has shifted i) new → IsMaskOf (IsOverlapBefore (j + 1) clue slack) new
 overlap_more clue w slack j start old some shifted new within h long at o p q r = mask_same _ _ new r to from
   where
@@ -237,8 +227,7 @@ overlap_same clue slack j m short o = search rules
 -- ---- a clue that needs more than there is
 
 -- then no cell can be filled
-pub unfit_fillable : (l : List Cell) (clue : List ℕ) (m : ℕ) → ArePositive clue → length l + 1 < needed clue → m ≡ 0
-    → IsMaskOf (IsFillable l clue) m
+pub unfit_fillable : (l : List Cell) (clue : List ℕ) (m : ℕ) → ArePositive clue → length l + 1 < needed clue → m ≡ 0 → IsMaskOf (IsFillable l clue) m
 unfit_fillable l clue m pos long e =
     none_is (IsFillable l clue) m e (λ i h. let x = fillable_to l clue i pos h in omega (arith, fits l clue x.0 pos x.1 x.2))
 

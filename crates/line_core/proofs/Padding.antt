@@ -22,8 +22,7 @@ agree_blanks : (m : ℕ) (y : List Bool) → agrees (replicate m Blank) y ≡ tr
 agree_blanks (suc m) (false ∷ y) h = ap (λ (t : List Bool). false ∷ t) (agree_blanks m y h)
 agree_blanks m y h = search rules
 
-agrees_more : (l : List Cell) (x : List Bool) (m : ℕ) → agrees l x ≡ true
-    → agrees (l ++ replicate m Blank) (x ++ replicate m false) ≡ true
+agrees_more : (l : List Cell) (x : List Bool) (m : ℕ) → agrees l x ≡ true → agrees (l ++ replicate m Blank) (x ++ replicate m false) ≡ true
 agrees_more [] [] zero h = refl
 agrees_more [] [] (suc m) h = agrees_more [] [] m h
 agrees_more (c ∷ l) (b ∷ x) m h = search (rules, and_from, and_parts, agrees_more l x m)
@@ -80,10 +79,8 @@ module _ (l : List Cell) (clue : List ℕ) (m : ℕ) where
   pub blankable_alone : (b p n : ℕ) → IsMaskOf (IsBlankable longer clue) b → IsMaskOf (λ i. i < length l) p
       → IsMaskOf (λ i. Has b i × Has p i) n → IsMaskOf (IsBlankable l clue) n
   blankable_alone b p n are first both =
-      mask_same _ _ n both
-      (λ i h. let within = first.to i h.1 in
-      blankable_from l clue i within (without_blanks false i within (blankable_to longer clue i (are.to i h.0))))
-      (λ i h.
+      mask_same _ _ n both (λ i h. let within = first.to i h.1 in
+      blankable_from l clue i within (without_blanks false i within (blankable_to longer clue i (are.to i h.0)))) (λ i h.
       let within : i < length l = h.2.0.0 in (
         are.from i (blankable_from longer clue i (inside i within) (with_blanks false i within (blankable_to l clue i h))),
         first.from i within,

@@ -19,8 +19,7 @@ pub record IsLaid (l : List Cell) (clue ss : List ℕ) : Type 0 where
   pub apart : StandApart clue ss
   pub blanks : (i : ℕ) → i < length l → IsFree clue ss i → MayBe l false i
 
-pub agrees_at : (l : List Cell) (x : List Bool) (i : ℕ) → agrees l x ≡ true → i < length l
-    → allows (get_or l i Unknown) (get_or x i false) ≡ true
+pub agrees_at : (l : List Cell) (x : List Bool) (i : ℕ) → agrees l x ≡ true → i < length l → allows (get_or l i Unknown) (get_or x i false) ≡ true
 agrees_at (c ∷ l) (b ∷ x) zero a h = (and_parts (allows c b) (agrees l x) a).0
 agrees_at (c ∷ l) (b ∷ x) (suc i) a h = agrees_at l x i (and_parts (allows c b) (agrees l x) a).1 (omega arith)
 agrees_at l x i a h = search rules
@@ -80,8 +79,7 @@ record Painted (l : List Cell) (p : ℕ) (clue ss : List ℕ) : Type 0 where
   starts_are : starts_from p false full ≡ ss
   head : (0 < length clue → p < get_or ss 0 0) → get_or full 0 false ≡ false
 
-paint : (l : List Cell) (p : ℕ) (clue ss : List ℕ) → ArePositive clue → p ≤ length l → length ss ≡ length clue
-    → (0 < length clue → p ≤ get_or ss 0 0)
+paint : (l : List Cell) (p : ℕ) (clue ss : List ℕ) → ArePositive clue → p ≤ length l → length ss ≡ length clue → (0 < length clue → p ≤ get_or ss 0 0)
     → ((j : ℕ) → j < length clue → AllFrom (MayBe l true) (get_or clue j 0) (get_or ss j 0)) → StandApart clue ss
     → ((i : ℕ) → p ≤ i → i < length l → IsFree clue ss i → MayBe l false i) → Painted l p clue ss
 paint l p [] [] pos h e first windows apart blanks =
@@ -99,15 +97,12 @@ paint l p (c ∷ clue) (s ∷ ss) pos h e first windows apart blanks =
     let last = (window (c - 1) (omega arith)).0 in
     let next : 0 < length clue → s + c < get_or ss 0 0 = λ h. apart 0 (omega arith) in
     let rest = paint l (s + c) clue ss pos.1 (omega arith) (omega arith) (λ h. omega (arith, next h))
-    (λ j h. windows (suc j) (omega arith)) (λ j h. apart (suc j) (omega arith))
-    (λ i a h free. blanks i (omega arith) h (by i a free)) in
+    (λ j h. windows (suc j) (omega arith)) (λ j h. apart (suc j) (omega arith)) (λ i a h free. blanks i (omega arith) h (by i a free)) in
     let y = replicate c true ++ rest.full in
     let closed = rest.head next in record {
       full = replicate (s - p) false ++ y;
-      agree = agrees_span l false (s - p) p s y (omega arith)
-          (λ z b. blanks (p + z) (omega arith) (omega arith) (λ j h from to.
-          absurd (omega (arith, first_least (c ∷ clue) (s ∷ ss) apart j h))))
-          (agrees_span l true c s (s + c) rest.full refl window rest.agree);
+      agree = agrees_span l false (s - p) p s y (omega arith) (λ z b. blanks (p + z) (omega arith) (omega arith) (λ j h from to.
+          absurd (omega (arith, first_least (c ∷ clue) (s ∷ ss) apart j h)))) (agrees_span l true c s (s + c) rest.full refl window rest.agree);
       runs_are = runs_blanks (s - p) y ∙ runs_first c rest.full some closed ∙ ap (λ (z : List ℕ). c ∷ z) rest.runs_are;
       starts_are = starts_first (s - p) c p s rest.full ss (omega arith) some closed rest.starts_are;
       head = λ h. blank_head (s - p) y (λ k. omega (arith, h (omega arith)));
@@ -128,8 +123,7 @@ placing_of l clue ss pos d =
 -- ---- the least starts and the greatest
 
 -- each run ends before all later ones
-ends_before : (clue ss : List ℕ) → StandApart clue ss → (i j : ℕ) → i < j → j < length clue
-    → get_or ss i 0 + get_or clue i 0 < get_or ss j 0
+ends_before : (clue ss : List ℕ) → StandApart clue ss → (i j : ℕ) → i < j → j < length clue → get_or ss i 0 + get_or clue i 0 < get_or ss j 0
 ends_before clue ss apart i zero h k = absurd (omega arith)
 ends_before clue ss apart i (suc j) h k =
     elim (cases_lt i j) [

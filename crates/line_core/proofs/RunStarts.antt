@@ -43,8 +43,7 @@ starts_one : (p : ℕ) (v b : Bool) (w : List Bool) → starts_from p v (b ∷ w
 starts_one p v b w = search rules
 
 -- the starts of a line that is cut somewhere
-pub starts-onto : (a w : List Bool)
-    → starts_from 0 false (onto a w) ≡ starts_from 0 false (onto a []) ++ starts_from (length a) (get_or a 0 false) w
+pub starts-onto : (a w : List Bool) → starts_from 0 false (onto a w) ≡ starts_from 0 false (onto a []) ++ starts_from (length a) (get_or a 0 false) w
 starts-onto [] w = refl
 starts-onto (b ∷ a) w = search (rules, starts_one, append_assoc, onto, starts-onto a (b ∷ w), starts-onto a (b ∷ []))
 
@@ -136,8 +135,7 @@ run_at x clue s is filled first =
     let closed : get_or a 0 false ≡ false = head s first in
     let long : length a ≡ s = length_behind false x s in
     let whole : onto a (replicate v.count true ++ v.rest) ≡ x = ap (onto a) (sym v.whole) ∙ onto_behind false x s (omega arith) in
-    let parts =
-    onto_split (runs a) (v.count ∷ runs v.rest) clue (sym (runs_about a v.count v.rest some closed v.closed) ∙ ap runs whole ∙ is) in
+    let parts = onto_split (runs a) (v.count ∷ runs v.rest) clue (sym (runs_about a v.count v.rest some closed v.closed) ∙ ap runs whole ∙ is) in
     let j = length (runs a) in
     let cut = drop_head clue j v.count (runs v.rest) parts.1 in
     let at : get_or (starts_from 0 false x) j 0 ≡ s =

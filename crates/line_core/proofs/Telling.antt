@@ -27,9 +27,8 @@ told_cell : (x y : Bool) → cell_with (x && not y) (y && not x) ≡ certain_by 
 told_cell x y = search rules
 
 -- and the answer if it can have one
-pub told_some : (len f b m nf nb : ℕ) → IsMaskOf (λ i. Has f i ⊎ Has b i) m → has m 0 ≡ true
-    → IsMaskOf (λ i. Has f i × (has b i ≡ false)) nf → IsMaskOf (λ i. Has b i × (has f i ≡ false)) nb
-    → Some (line_cells len nf nb) ≡ told_by len f b
+pub told_some : (len f b m nf nb : ℕ) → IsMaskOf (λ i. Has f i ⊎ Has b i) m → has m 0 ≡ true → IsMaskOf (λ i. Has f i × (has b i ≡ false)) nf
+    → IsMaskOf (λ i. Has b i × (has f i ≡ false)) nb → Some (line_cells len nf nb) ≡ told_by len f b
 told_some len f b m nf nb p some pf pb =
     search (
       rules,

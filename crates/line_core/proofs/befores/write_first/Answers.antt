@@ -19,8 +19,7 @@ loop-left-preserved g c =
       fillable_is = none_is _ _ c.empty.ensures (λ k h. true≢false (first_to g.line place true k h).1);
       blankable_is = mask_same _ _ _ c.first_places.ensures (λ k h. first_from g.line place k gap (omega arith))
           (λ k h. omega (arith, (first_to g.line place false k h).0));
-    })
-    c.loop-left.invariant
+    }) c.loop-left.invariant
 
 pub returns-clause-row : goal.returns-clause-row
 returns-clause-row g c = walk_last _ _ _ _ _ (sym c.is_empty.ensures ∙ c.loop-left-test.false) c.loop-left.invariant

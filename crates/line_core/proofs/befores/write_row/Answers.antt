@@ -33,8 +33,7 @@ loop-run-preserved g c =
     (row_front g.line clue j c.args.rows.now size c.requires.1.1.1.1.1.1.1.0) in
     let inside : p < length c.loop-run.row =
     omega (arith, (c.requires.1.1.1.1.1.0.to p here).0.0.0, c.requires.1.1.1.1.1.1.1.1, c.split_at_mut-before.ensures.back_len) in
-    walk_more _ _ _ p _ _ _ _ _ inside c.from.ensures c.marked-left.ensures
-    (rw (add-one j) (c.colours_before-colours.ensures g.line (behind 0 clue j)
+    walk_more _ _ _ p _ _ _ _ _ inside c.from.ensures c.marked-left.ensures (rw (add-one j) (c.colours_before-colours.ensures g.line (behind 0 clue j)
     (ready_is g.line clue j _ _ _ _ _ p _ _ c.requires.1.1.1.0 number.0 (rw (add-one j) at c.requires.1.1.1.1.1.0) c.requires.1.1.1.1.1.1.0
     c.shifted_up-longer.ensures c.shifted_up-ended.ensures c.first_place-place.ensures.within here told
     (λ some h. rw (add-one j) at (c.loop-run.invariant.done (p - 1) h (λ l. omega (arith, some, c.first_place-place.ensures.least (p - 1) l)))))))
@@ -42,7 +41,6 @@ loop-run-preserved g c =
 
 pub returns-clause-row : goal.returns-clause-row
 returns-clause-row g c = λ i h.
-    let told = walk_last _ _ _ _ _ (sym c.is_empty.ensures ∙ c.loop-run-test.false) c.loop-run.invariant i
-    (c.requires.1.1.1.1.1.0.from i h) in
+    let told = walk_last _ _ _ _ _ (sym c.is_empty.ensures ∙ c.loop-run-test.false) c.loop-run.invariant i (c.requires.1.1.1.1.1.0.from i h) in
     let at = rw c.split_at_mut-before.ensures.front_len at (get_or-append-add c.split_at_mut-before.result.0.now c.loop-run.row i no_colours) in
     rw at told

@@ -41,8 +41,7 @@ whole_ends-last_whole-requires g c = λ κs within.
     let all : length clue ≡ last + 1 = omega arith in
     let e : c.loop-j.j ≡ last = (let test = c.loop-j-test.false in omega arith) in
     let ends = c.step-last_ends.ensures.ends g.line (behind 0 clue last) (rw e at c.loop-j.invariant.pass) in
-    let after = subst (λ n. IsMaskOf (IsGapAhead g.line clue n) (g.W.PlaceSet.number c.gap_ahead-after.result)) all
-    c.gap_ahead-after.ensures in
+    let after = subst (λ n. IsMaskOf (IsGapAhead g.line clue n) (g.W.PlaceSet.number c.gap_ahead-after.result)) all c.gap_ahead-after.ensures in
     (within.0, (within.1, (c.requires.1.1.1.0, (c.requires.1.1.1.1.0, (omega arith, (ends, after))))))
 
 pub returns-then-is_empty-clause-blank : goal.returns-then-is_empty-clause-blank
@@ -73,9 +72,7 @@ returns-clause-blank g c =
     let all : length clue ≡ last + 1 = omega arith in
     let e : c.loop-j.j ≡ last = (let test = c.loop-j-test.false in omega arith) in
     let passed = c.step-last_ends.ensures.passed g.line (behind 0 clue last) (rw e at c.loop-j.invariant.pass) in
-    let gap : IsMaskOf (IsGap g.line clue (last + 1)) (g.W.PlaceSet.number c.gap-2.result) =
-    rw (c.gap-2.ensures, add-one last) passed.gap_is in
-    let after = subst (λ n. IsMaskOf (IsGapAhead g.line clue n) (g.W.PlaceSet.number c.gap_ahead-after.result)) all
-    c.gap_ahead-after.ensures in
+    let gap : IsMaskOf (IsGap g.line clue (last + 1)) (g.W.PlaceSet.number c.gap-2.result) = rw (c.gap-2.ensures, add-one last) passed.gap_is in
+    let after = subst (λ n. IsMaskOf (IsGapAhead g.line clue n) (g.W.PlaceSet.number c.gap_ahead-after.result)) all c.gap_ahead-after.ensures in
     rw (all, IsBlankable) (blank_more g.line clue last _ _ _ _ _ gap after (rw e at c.loop-j.invariant.blank) c.intersection-2.ensures
     c.union-blankable-2.ensures)

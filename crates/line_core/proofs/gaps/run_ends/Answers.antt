@@ -3,12 +3,9 @@ use Rattle.line_core.proofs.Names.{rules, ℕ, ◌-◌, ◌⊎◌, Has, IsMaskOf
 use Rattle.line_core.proofs.gaps.run_ends.Goals as goal
 
 -- the ends of runs that begin behind a gap or at the opening, and that a window has room for
-run_ends_are : (w gap opening window by after starts some ends : ℕ)
-    → IsMaskOf (IsShifted w (Has gap) 1) after
-    → IsMaskOf (λ i. Has after i ⊎ Has opening i) some
-    → IsMaskOf (λ i. Has some i × Has window i) starts
-    → IsMaskOf (IsShifted w (Has starts) by) ends
-    → IsMaskOf (IsShifted w (λ s. (IsShifted w (Has gap) 1 s ⊎ Has opening s) × Has window s) by) ends
+run_ends_are : (w gap opening window by after starts some ends : ℕ) → IsMaskOf (IsShifted w (Has gap) 1) after
+    → IsMaskOf (λ i. Has after i ⊎ Has opening i) some → IsMaskOf (λ i. Has some i × Has window i) starts
+    → IsMaskOf (IsShifted w (Has starts) by) ends → IsMaskOf (IsShifted w (λ s. (IsShifted w (Has gap) 1 s ⊎ Has opening s) × Has window s) by) ends
 run_ends_are w gap opening window by after starts some ends p q r s =
     let either = join_of _ (Has opening) after opening some p (has_of opening) q in
     shifted_of w _ starts by ends (meet_of _ (Has window) some window starts either (has_of window) r) s
@@ -18,5 +15,4 @@ shifted_up-requires g c = search (rules, one_within)
 
 pub returns : goal.returns
 returns g c =
-    run_ends_are _ _ _ _ (c.args.length - 1) _ _ _ _ c.shifted_up.ensures c.union.ensures c.intersection-starts.ensures
-    c.shifted_up-2.ensures
+    run_ends_are _ _ _ _ (c.args.length - 1) _ _ _ _ c.shifted_up.ensures c.union.ensures c.intersection-starts.ensures c.shifted_up-2.ensures

@@ -4,5 +4,4 @@ use Rattle.line_core.proofs.gathers.both_sides.Goals as goal
 
 pub returns : goal.returns
 returns g c =
-    both_are _ _ _ _ _ _ _ _ _ c.near.view_is c.far.view_is c.reversed_within.ensures c.union.ensures c.reversed_within-2.ensures
-    c.union-2.ensures
+    both_are _ _ _ _ _ _ _ _ _ c.near.view_is c.far.view_is c.reversed_within.ensures c.union.ensures c.reversed_within-2.ensures c.union-2.ensures

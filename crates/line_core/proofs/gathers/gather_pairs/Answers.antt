@@ -30,6 +30,5 @@ loop-left-preserved g c =
     }
 
 pub returns-clause-pairs : goal.returns-clause-pairs
-returns-clause-pairs g c = λ x within unknown.
-    walk_last _ _ _ _ _ (sym c.is_empty.ensures ∙ c.loop-left-test.false) c.loop-left.invariant.written x
+returns-clause-pairs g c = λ x within unknown. walk_last _ _ _ _ _ (sym c.is_empty.ensures ∙ c.loop-left-test.false) c.loop-left.invariant.written x
     (c.loop-left.invariant.unknown.from x (record { inside = within; unknown = unknown }))

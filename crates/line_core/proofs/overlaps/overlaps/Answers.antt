@@ -24,8 +24,7 @@ loop-number-preserved g c =
     let j = c.loop-number.number-index in
     let slack = c.args.slack in
     let invariant = c.loop-number.invariant in
-    let next : least_start clue (j + 1) ≡ least_start clue j + get_or clue j 0 + 1 =
-    rw add-one (start_next clue j c.loop-number-test.true) in
+    let next : least_start clue (j + 1) ≡ least_start clue j + get_or clue j 0 + 1 = rw add-one (start_next clue j c.loop-number-test.true) in
     record {
       start = omega (arith, invariant.start);
       found = elim c.if-number-slack.branch [

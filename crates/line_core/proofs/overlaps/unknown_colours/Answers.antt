@@ -33,8 +33,7 @@ returns-clause-filled g c =
                 (let no = eqb-false (length clue) 0 (sym v.is_empty.ensures ∙ sym v.value-is ∙ w.if-is_empty.false) in
                 (omega (arith, v.if-slack-eq0.false), omega arith))
           ] in
-          rw w.fillable-is (all_fillable line clue slack _ (unknown_any len) pos fits moves.0 moves.1
-          (rw (sym long) at c.first_places-line.ensures)))
+          rw w.fillable-is (all_fillable line clue slack _ (unknown_any len) pos fits moves.0 moves.1 (rw (sym long) at c.first_places-line.ensures)))
     ]
 
 pub returns-clause-blank : goal.returns-clause-blank

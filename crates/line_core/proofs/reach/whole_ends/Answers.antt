@@ -14,8 +14,7 @@ returns g c =
     let size = c.requires.1.1.0.len_is in
     let clue = c.args.clue.now in
     let given = c.requires.1.1.1.1 in
-    let last : IsMaskOf (λ i. (i ≡ length g.line - 1) × (c.args.j + 1 ≡ length clue)) end =
-    mask_same _ _ end c.last_end-last.ensures
+    let last : IsMaskOf (λ i. (i ≡ length g.line - 1) × (c.args.j + 1 ≡ length clue)) end = mask_same _ _ end c.last_end-last.ensures
     (λ i h. let e : i ≡ c.args.span.now.len - 1 = h.0 in (omega arith, eqb-true (c.args.j + 1) (length clue) h.1))
     (λ i h. let e : i ≡ length g.line - 1 = h.0 in (omega arith, eq-eqb (c.args.j + 1) (length clue) h.1)) in
     whole_is g.line clue _ ends _ end _ given.0 (positive_at _ (recursion_from_All _ _ c.requires.1.1.1.0.positive) _ given.0)

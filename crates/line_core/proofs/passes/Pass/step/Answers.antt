@@ -4,8 +4,7 @@ use Rattle.line_core.proofs.Composing.{ends_are, gap_next_is}
 use Rattle.line_core.proofs.passes.Pass.step.Goals as goal
 
 pub returns-clause-ends : goal.returns-clause-ends
-returns-clause-ends g c = λ line runs h.
-    ends_are line runs _ c.args.number _ h.room _ _ _ h.short c.requires.0 h.gap_is h.opening_is h.room_is
+returns-clause-ends g c = λ line runs h. ends_are line runs _ c.args.number _ h.room _ _ _ h.short c.requires.0 h.gap_is h.opening_is h.room_is
     (c.window_starts-window.ensures h.room h.windows_are) c.run_ends-ends.ensures
 
 pub returns-clause-passed : goal.returns-clause-passed
@@ -21,6 +20,5 @@ returns-clause-passed g c = λ line runs h.
         to = λ i x. absurd (omega (arith, x, bit_at-zero i, ap (λ (m : ℕ). bit_at m i) c.empty-self.ensures));
         from = λ i x. absurd (omega (arith, x.1));
       };
-      gap_is =
-          gap_next_is line runs _ c.args.number _ _ _ h.short c.requires.0 h.free_is ends c.gap_after-self.ensures;
+      gap_is = gap_next_is line runs _ c.args.number _ _ _ h.short c.requires.0 h.free_is ends c.gap_after-self.ensures;
     }
