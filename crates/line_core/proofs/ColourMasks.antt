@@ -30,11 +30,11 @@ more_more P Q old mid new a b = masks_same _ _ new b (λ d k. search (rules, mas
 
 -- what the colours of a table tell at each of some places is added
 pub each_more : (places : ℕ) (table : List ColourMasks) (index : ℕ → ℕ) (P : ℕ → Bool → ℕ → Type 0) (old new : ColourMasks)
-    → ((i : ℕ) → Has places i → AreMasks (P i) (get_or table (index i) no_colours))
+    → ((i : ℕ) → Has places i → (d : Bool) (k : ℕ) → HasColour (get_or table (index i) no_colours) d k ↔ P i d k)
     → AreMore (λ d k. (i : ℕ) × Has places i × HasColour (get_or table (index i) no_colours) d k) old new
     → AreMore (λ d k. (i : ℕ) × Has places i × P i d k) old new
-each_more places table index P old new told more =
-    more_same _ _ old new more (λ d k. (λ h. (h.0, h.1, (masks_are _ _ (told h.0 h.1) d k).0 h.2), λ h. (h.0, h.1, (masks_are _ _ (told h.0 h.1) d k).1 h.2)))
+each_more places table index P old new told more = more_same _ _ old new more
+    (λ d k. (λ (i, here, h). (i, here, (told i here d k).0 h), λ (i, here, h). (i, here, (told i here d k).1 h)))
 
 -- the colours that are read from a table are those at a place of it
 pub read_more : (table : List ColourMasks) (i p : ℕ) (read old new : ColourMasks) → i ≡ p → i < length table → read ≡ get_or table i read

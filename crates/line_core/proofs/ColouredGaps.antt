@@ -1,5 +1,5 @@
 -- What can be on a line before a gap, once one of its cells is coloured: step by step along the line.
-use Rattle.line_core.proofs.Names.{rules, ◌≡◌, ◌≢◌, ℕ, zero, suc, ◌+◌, ◌-◌, ◌<◌, ◌≤◌, Bool, true, false, List, [], ◌∷◌, length, refl, sym, ap, ◌∙◌, subst, arith, add-one, ◌⊎◌, inl, inr, get_or, drop, cases_lt, and_from, and_parts, Cell, Unknown, allows, agrees, behind, MayBe, IsGapAfter, IsEndAfter, IsGap, IsGapAhead, IsWholeEnd, IsFlooded, AllFrom, Has, IsMaskOf, mask_same, length-set, get_or-set_other, get_or-set_same, replicate, ◌++◌, drop-cons, cases_eq, colour, ColourMasks, no_colours, coloured, CanBeBefore, IsWholeGap, IsReady}
+use Rattle.line_core.proofs.Names.{◌↔◌, HasColour, AreColoursBefore, rules, ◌≡◌, ◌≢◌, ℕ, zero, suc, ◌+◌, ◌-◌, ◌<◌, ◌≤◌, Bool, true, false, List, [], ◌∷◌, length, refl, sym, ap, ◌∙◌, subst, arith, add-one, ◌⊎◌, inl, inr, get_or, drop, cases_lt, and_from, and_parts, Cell, Unknown, allows, agrees, behind, MayBe, IsGapAfter, IsEndAfter, IsGap, IsGapAhead, IsWholeEnd, IsFlooded, AllFrom, Has, IsMaskOf, mask_same, length-set, get_or-set_other, get_or-set_same, replicate, ◌++◌, drop-cons, cases_eq, colour, ColourMasks, no_colours, coloured, CanBeBefore, IsWholeGap, IsReady}
 use Rattle.line_core.proofs.Joining.{closed_behind_to, closed_behind_from, closed_ahead_from, agrees_span, runs_first}
 use Rattle.line_core.proofs.Reaching.{gap_after_to, gap_after_from, first_gap_to, first_gap_from}
 
@@ -35,13 +35,12 @@ coloured_less l k v here w x m = (omega (arith, m.0, length-set l k (colour v)),
 -- full cells behind a place agree with the line if they do so with the coloured one
 agrees_less : (l : List Cell) (k : ℕ) (v : Bool) → MayBe l v k → (i : ℕ) (x : List Bool)
     → agrees (behind Unknown (coloured l k v) i) x ≡ true → agrees (behind Unknown l i) x ≡ true
-agrees_less l k v here zero x h = h
-agrees_less l k v here (suc i) [] h = cc
 agrees_less l k v here (suc i) (b ∷ x) h = search (rules, and_parts, and_from, coloured_allows, agrees_less l k v here i x)
+agrees_less l k v here i x h = search rules
 
 -- a gap of the coloured line is one of the line
 pub gap_less : (l : List Cell) (k : ℕ) (v : Bool) → MayBe l v k → (rs : List ℕ) (i : ℕ) → IsGapAfter (coloured l k v) rs i → IsGapAfter l rs i
-gap_less l k v here rs i g = (coloured_less l k v here false i g.0, (g.1.0, agrees_less l k v here i g.1.0 g.1.1, g.1.2))
+gap_less l k v here rs i g = search (rules, coloured_less, agrees_less)
 
 -- and so is an end
 pub end_less : (l : List Cell) (k : ℕ) (v : Bool) → MayBe l v k → (rs : List ℕ) (n e : ℕ) → IsEndAfter (coloured l k v) rs n e → IsEndAfter l rs n e
@@ -61,18 +60,12 @@ behind_coloured l k v (suc i) h = let ne : i ≢ k = omega arith in
 gap_step_to : (l : List Cell) (rs : List ℕ) (n i : ℕ) → 0 < n → IsGapAfter l (n ∷ rs) i
     → (1 ≤ i) × (IsGapAfter l (n ∷ rs) (i - 1) ⊎ IsEndAfter l rs n (i - 1))
 gap_step_to l rs n zero some g = absurd (omega (arith, (gap_after_from l rs n zero g).1))
-gap_step_to l rs n (suc i) some g =
-    let same : suc i - 1 ≡ i = omega arith in
-    let to = gap_after_to l rs n i some in
-    (omega arith, elim (gap_after_from l rs n (suc i) g) [ inl f ↦ inr f.2 | inr f ↦ inl (rw same (to f.1)) ])
+gap_step_to l rs n (suc i) some g = let step = gap_after_from l rs n (suc i) g in search (rules, gap_after_to l rs n i some)
 
 gap_step_from : (l : List Cell) (rs : List ℕ) (n i : ℕ) → 0 < n → MayBe l false i → 1 ≤ i
     → IsGapAfter l (n ∷ rs) (i - 1) ⊎ IsEndAfter l rs n (i - 1) → IsGapAfter l (n ∷ rs) i
+gap_step_from l rs n (suc i) some m h x = search (rules, gap_after_to l rs n (suc i) some, gap_after_from l rs n i)
 gap_step_from l rs n zero some m h x = absurd (omega arith)
-gap_step_from l rs n (suc i) some m h (inl g) =
-    let same : suc i - 1 ≡ i = omega arith in
-    gap_after_to l rs n (suc i) some (inr (m, gap_after_from l rs n i (rw same at g)))
-gap_step_from l rs n (suc i) some m h (inr e) = gap_after_to l rs n (suc i) some (inl (m, h, e))
 
 -- the same of a run's end on a coloured line: the colour is in the run, or before the gap before it
 abbrev pub EndWith : List Cell → List ℕ → ℕ → Bool → ℕ → ℕ → Type 0
@@ -81,38 +74,31 @@ EndWith l rs n v e k = ((v ≡ true) × (e + 1 - n ≤ k) × (k ≤ e)) ⊎ ((n 
 pub end_step_to : (l : List Cell) (rs : List ℕ) (n e k : ℕ) (v : Bool) → 0 < n → MayBe l v k → k ≤ e → IsEndAfter (coloured l k v) rs n e
     → EndWith l rs n v e k
 end_step_to l rs n e k v some here le x =
-    let enough : n ≤ e + 1 = x.0 in
-    let first : e + 1 - n + 0 < length (coloured l k v) = (x.1.1 0 some).0 in
+    let first = (x.1.1 0 some).0 in
     elim (cases_lt k (e + 1 - n)) [
       | inl low ↦
-          (let start : e + 1 - n - 1 ≡ e - n = omega arith in
-          elim (closed_behind_to (coloured l k v) rs (e + 1 - n) (omega (arith, length-set l k (colour v))) x.1.0) [
-            | inl none ↦ absurd (omega (arith, none.0))
-            | inr gap ↦ inr (omega arith, (omega arith, here, subst (IsGapAfter (coloured l k v) rs) start gap.1))
-          ])
+          (let gap = closed_behind_to (coloured l k v) rs (e + 1 - n) (omega (arith, length-set l k (colour v))) x.1.0 in
+          let start : e + 1 - n - 1 ≡ e - n = omega arith in
+          search rules)
       | inr high ↦
           (let at : e + 1 - n + (k - (e + 1 - n)) ≡ k = omega arith in
-          inl (coloured_one l k v true here.0 (subst (MayBe (coloured l k v) true) at (x.1.1 (k - (e + 1 - n)) (omega arith))), high, le))
+          inl (coloured_one l k v true here.0 (rw at at (x.1.1 (k - (e + 1 - n)) (omega arith))), high, le))
     ]
 
 pub end_step_from : (l : List Cell) (rs : List ℕ) (n e k : ℕ) (v : Bool) → IsEndAfter l rs n e → EndWith l rs n v e k
     → MayBe l v k × (k ≤ e) × IsEndAfter (coloured l k v) rs n e
 end_step_from l rs n e k v x (inl (true_is, from, to)) =
-    let enough : n ≤ e + 1 = x.0 in
-    let at : e + 1 - n + (k - (e + 1 - n)) ≡ k = omega arith in
-    let here : MayBe l true k = subst (MayBe l true) at (x.1.1 (k - (e + 1 - n)) (omega arith)) in
+    let at : e + 1 - n + (k - (e + 1 - n)) ≡ k = omega (arith, x.0) in
+    let here = rw at at (x.1.1 (k - (e + 1 - n)) (omega (arith, x.0))) in
     let cells : AllFrom (MayBe (coloured l k v) true) n (e + 1 - n) = λ z b. elim (cases_eq (e + 1 - n + z) k) [
       | inl same ↦ rw (same, true_is) (coloured_same l k true here.0)
       | inr ne ↦ coloured_other l k v true (e + 1 - n + z) ne (x.1.1 z b)
     ] in
-    (rw true_is here, to, (enough, (rw (behind_coloured l k v (e + 1 - n) from) x.1.0, cells)))
-end_step_from l rs n e k v x (inr (enough, before)) =
-    let low : k ≤ e - n = before.0 in
+    search (rules, behind_coloured)
+end_step_from l rs n e k v x (inr (enough, (low, may, gap))) =
     let start : e - n ≡ e + 1 - n - 1 = omega arith in
-    let gap = subst (IsGapAfter (coloured l k v) rs) start before.2 in
-    let behind = closed_behind_from (coloured l k v) rs (e + 1 - n) (inr (omega arith, gap)) in
-    let cells = λ (z : ℕ) (b : z < n). coloured_other l k v true (e + 1 - n + z) (omega arith) (x.1.1 z b) in
-    (before.1, omega arith, (omega arith, (behind, cells)))
+    let behind = closed_behind_from (coloured l k v) rs (e + 1 - n) (inr (omega arith, rw start at gap)) in
+    (may, omega arith, (omega arith, (behind, λ z b. coloured_other l k v true (e + 1 - n + z) (omega arith) (x.1.1 z b))))
 
 -- the gap's own cell can be blank, and a cell before it what it can be one cell before, if that is a gap too,
 -- or at the end of the run before, if that is an end of it
@@ -137,13 +123,10 @@ before_to l rs n i v k some h = elim (cases_eq k i) [
 
 pub before_from : (l : List Cell) (rs : List ℕ) (n i : ℕ) (v : Bool) (k : ℕ) → 0 < n → IsGapAfter l (n ∷ rs) i → Step l rs n i v k
     → CanBeBefore l (n ∷ rs) i v k
-before_from l rs n i v k some g (inl (at, blank)) =
-    (omega (arith, at), rw (at, blank) g.0, rw (behind_coloured l k v i (omega (arith, at)), at, blank) (coloured_same l i false g.0.0, g.1))
-before_from l rs n i v k some g (inr (h, inl x)) =
-    (omega (arith, x.0), x.1, gap_step_from (coloured l k v) rs n i some (coloured_other l k v false i (omega (arith, x.0)) g.0) h (inl x.2))
+before_from l rs n i v k some g (inl (at, blank)) = search (rules, at, blank, behind_coloured, coloured_same)
+before_from l rs n i v k some g (inr (h, inl x)) = search (rules, gap_step_from (coloured l k v) rs n i some, coloured_other)
 before_from l rs n i v k some g (inr (h, inr x)) =
-    let y = end_step_from l rs n (i - 1) k v x.0 x.1 in
-    (omega (arith, y.1), y.0, gap_step_from (coloured l k v) rs n i some (coloured_other l k v false i (omega (arith, y.1)) g.0) h (inr y.2))
+    let y = end_step_from l rs n (i - 1) k v x.0 x.1 in search (rules, gap_step_from (coloured l k v) rs n i some, coloured_other)
 
 -- ---- before the first run
 
@@ -153,11 +136,7 @@ FirstGap l = IsFlooded (λ x. (x ≡ 0) × MayBe l false x) (MayBe l false)
 
 blank_to : (l : List Cell) (i : ℕ) → FirstGap l i → (k : ℕ) → k ≤ i → MayBe l false k
 blank_to l zero f k le = let e : k ≡ 0 = omega arith in rw e f.1
-blank_to l (suc i) (inl f) k le = absurd (omega (arith, f.0))
-blank_to l (suc i) (inr f) k le = elim (cases_lt k (suc i)) [
-  | inl low ↦ blank_to l i f.1 k (omega arith)
-  | inr high ↦ (let e : k ≡ suc i = omega arith in rw e f.0)
-]
+blank_to l (suc i) f k le = search (rules, cases_lt k (suc i), blank_to l i)
 
 blank_from : (l : List Cell) (i : ℕ) → ((k : ℕ) → k ≤ i → MayBe l false k) → FirstGap l i
 blank_from l zero h = (refl, h 0 (omega arith))
@@ -169,21 +148,18 @@ first_to l i v k h = (h.0, coloured_one l k v false h.1.0 (blank_to (coloured l 
 pub first_from : (l : List Cell) (i k : ℕ) → IsGapAfter l [] i → k ≤ i → CanBeBefore l [] i false k
 first_from l i k g le =
     let cells = blank_to l i (first_gap_from l i g) in
-    let coloured_cells : (x : ℕ) → x ≤ i → MayBe (coloured l k false) false x = λ x b. elim (cases_eq x k) [
+    (le, cells k le, first_gap_to (coloured l k false) i (blank_from (coloured l k false) i (λ x b. elim (cases_eq x k) [
       | inl e ↦ rw e (coloured_same l k false (cells k le).0)
       | inr ne ↦ coloured_other l k false false x ne (cells x b)
-    ] in
-    (le, cells k le, first_gap_to (coloured l k false) i (blank_from (coloured l k false) i coloured_cells))
+    ])))
 
 -- ---- the gaps and ends of whole placings
 
 -- one cell before a gap of a whole placing is one too, if the cells before allow it
 pub whole_back : (l : List Cell) (clue : List ℕ) (j i : ℕ) → j ≤ length clue → 1 ≤ i → IsGapAhead l clue j i → IsGap l clue j (i - 1)
     → IsWholeGap l clue j (i - 1)
-whole_back l clue j i jl some a g =
-    let same : i - 1 + 1 ≡ i = omega arith in
-    let b = closed_ahead_from l clue j i (inr a) in
-    (g, (g.0, (b.0, rw same b.1, b.2)))
+whole_back l clue j zero jl some a g = absurd (omega arith)
+whole_back l clue j (suc i) jl some a g = let b = closed_ahead_from l clue j (suc i) (inr a) in search (rules, add-one)
 
 -- and so is the end of the run before
 pub whole_end_back : (l : List Cell) (clue : List ℕ) (j i : ℕ) → 1 ≤ i → IsGapAhead l clue (suc j) i
@@ -213,62 +189,55 @@ whole_before_end l clue j e jl some far w =
 
 -- ---- masks of what can be before a gap, from those further back
 
+pub before_are : (l : List Cell) (rs : List ℕ) (i : ℕ) (m : ColourMasks) → AreColoursBefore l rs i m → (v : Bool) (k : ℕ)
+    → HasColour m v k ↔ CanBeBefore l rs i v k
+before_are l rs i m a true k = (a.fillable_is.to k, a.fillable_is.from k)
+before_are l rs i m a false k = (a.blankable_is.to k, a.blankable_is.from k)
+
+-- as a step has it, from the masks at the gaps further back
+abbrev Told : ℕ → ℕ → ℕ → ℕ → List ColourMasks → List ColourMasks → Bool → ℕ → Type 0
+Told n i longer ended before row v k =
+    ((k ≡ i) × (v ≡ false)) ⊎ ((Has longer i × HasColour (get_or row (i - 1) no_colours) v k)
+    ⊎ (Has ended i × (((v ≡ true) × (i - n ≤ k) × (k < i)) ⊎ ((n < i) × HasColour (get_or before (i - n - 1) no_colours) v k))))
+
+told_is : (l : List Cell) (rs : List ℕ) (n i longer ended : ℕ) (before row : List ColourMasks) → 0 < n → (Has longer i → 1 ≤ i)
+    → IsReady l rs n i longer ended before row → (v : Bool) (k : ℕ) → Told n i longer ended before row v k ↔ CanBeBefore l (n ∷ rs) i v k
+told_is l rs n i longer ended before row some far r v k = (λ t. before_from l rs n i v k some r.gap (to t), λ h. from (before_to l rs n i v k some h))
+  where
+    in_row : Has longer i → HasColour (get_or row (i - 1) no_colours) v k ↔ CanBeBefore l (n ∷ rs) (i - 1) v k
+    in_row h = before_are l (n ∷ rs) (i - 1) _ (r.longer_to h) v k
+
+    in_before : Has ended i → n < i → HasColour (get_or before (i - n - 1) no_colours) v k ↔ CanBeBefore l rs (i - 1 - n) v k
+    in_before h a = before_are l rs (i - 1 - n) _ (r.before_to h a) v k
+
+    to : Told n i longer ended before row v k → Step l rs n i v k
+    to (inl at) = inl at
+    to (inr (inl (h, x))) = inr (far h, inl ((in_row h).0 x))
+    to (inr (inr (h, inl (f, a, b)))) = inr (omega arith, inr (r.ended_to h, inl (f, omega arith, omega arith)))
+    to (inr (inr (h, inr (a, x)))) = inr (omega arith, inr (r.ended_to h, inr (omega arith, (in_before h a).0 x)))
+
+    from : Step l rs n i v k → Told n i longer ended before row v k
+    from (inl at) = inl at
+    from (inr (h, inl y)) = let x = r.longer_from h (gap_less l k v y.1 (n ∷ rs) (i - 1) y.2) in inr (inl (x, (in_row x).1 y))
+    from (inr (h, inr (e, inl (f, a, b)))) = inr (inr (r.ended_from h e, inl (f, omega arith, omega arith)))
+    from (inr (h, inr (e, inr (a, y)))) = inr (inr (r.ended_from h e, inr (omega arith, (in_before (r.ended_from h e) (omega arith)).1 y)))
+
 -- the masks of what can be filled
-pub filled_is : (l : List Cell) (rs : List ℕ) (n i longer ended : ℕ) (before row : List ColourMasks) (m : ℕ) → 0 < n
-    → (Has longer i → 1 ≤ i) → (Has ended i → n ≤ i) → IsReady l rs n i longer ended before row
+pub filled_is : (l : List Cell) (rs : List ℕ) (n i longer ended : ℕ) (before row : List ColourMasks) (m : ℕ) → 0 < n → (Has longer i → 1 ≤ i)
+    → IsReady l rs n i longer ended before row
     → IsMaskOf (λ k. (Has longer i × Has (get_or row (i - 1) no_colours).fillable k)
     ⊎ (Has ended i × (((i - n ≤ k) × (k < i)) ⊎ ((n < i) × Has (get_or before (i - n - 1) no_colours).fillable k)))) m
     → IsMaskOf (CanBeBefore l (n ∷ rs) i true) m
-filled_is l rs n i longer ended before row m some far enough r p = mask_same _ _ m p to (λ k h. from k (before_to l rs n i true k some h))
-  where
-    Told : ℕ → Type 0
-    Told k = (Has longer i × Has (get_or row (i - 1) no_colours).fillable k)
-        ⊎ (Has ended i × (((i - n ≤ k) × (k < i)) ⊎ ((n < i) × Has (get_or before (i - n - 1) no_colours).fillable k)))
-
-    to : (k : ℕ) → Told k → CanBeBefore l (n ∷ rs) i true k
-    to k (inl (h, x)) = before_from l rs n i true k some r.gap (inr (far h, inl ((r.longer_to h).fillable_is.to k x)))
-    to k (inr (h, x)) =
-        let le = enough h in
-        before_from l rs n i true k some r.gap (inr (
-          omega arith,
-          inr (
-            r.ended_to h,
-            elim x [
-              | inl y ↦ inl (refl, omega (arith, y.0), omega (arith, y.1))
-              | inr y ↦ inr (omega (arith, y.0), (r.before_to h y.0).fillable_is.to k y.1)
-            ],
-          ),
-        ))
-
-    from : (k : ℕ) → Step l rs n i true k → Told k
-    from k (inl (e, f)) = cc
-    from k (inr (h, inl y)) =
-        let x = r.longer_from h (gap_less l k true y.1 (n ∷ rs) (i - 1) y.2) in
-        inl (x, (r.longer_to x).fillable_is.from k y)
-    from k (inr (h, inr (e, inl (f, a, b)))) = search rules
-    from k (inr (h, inr (e, inr (a, y)))) = search rules
+filled_is l rs n i longer ended before row m some far r p =
+    let told = told_is l rs n i longer ended before row some far r true in
+    mask_same _ _ m p (λ k h. (told k).0 (search rules)) (λ k h. let t = (told k).1 h in search rules)
 
 -- and of what can be blank
-pub blank_is : (l : List Cell) (rs : List ℕ) (n i longer ended : ℕ) (before row : List ColourMasks) (m : ℕ) → 0 < n
-    → (Has longer i → 1 ≤ i) → IsReady l rs n i longer ended before row
+pub blank_is : (l : List Cell) (rs : List ℕ) (n i longer ended : ℕ) (before row : List ColourMasks) (m : ℕ) → 0 < n → (Has longer i → 1 ≤ i)
+    → IsReady l rs n i longer ended before row
     → IsMaskOf (λ k. ((k ≡ i) ⊎ (Has longer i × Has (get_or row (i - 1) no_colours).blankable k))
-    ⊎ (Has ended i × (n < i) × Has (get_or before (i - n - 1) no_colours).blankable k)) m → IsMaskOf (CanBeBefore l (n ∷ rs) i false) m
-blank_is l rs n i longer ended before row m some far r p = mask_same _ _ m p to (λ k h. from k (before_to l rs n i false k some h))
-  where
-    Told : ℕ → Type 0
-    Told k = ((k ≡ i) ⊎ (Has longer i × Has (get_or row (i - 1) no_colours).blankable k))
-        ⊎ (Has ended i × (n < i) × Has (get_or before (i - n - 1) no_colours).blankable k)
-
-    to : (k : ℕ) → Told k → CanBeBefore l (n ∷ rs) i false k
-    to k (inl (inl e)) = before_from l rs n i false k some r.gap (inl (e, refl))
-    to k (inl (inr (h, x))) = before_from l rs n i false k some r.gap (inr (far h, inl ((r.longer_to h).blankable_is.to k x)))
-    to k (inr (h, a, x)) =
-        before_from l rs n i false k some r.gap (inr (omega arith, inr (r.ended_to h, inr (omega arith, (r.before_to h a).blankable_is.to k x))))
-
-    from : (k : ℕ) → Step l rs n i false k → Told k
-    from k (inl (e, f)) = inl (inl e)
-    from k (inr (h, inl y)) =
-        let x = r.longer_from h (gap_less l k false y.1 (n ∷ rs) (i - 1) y.2) in
-        inl (inr (x, (r.longer_to x).blankable_is.from k y))
-    from k (inr (h, inr (e, inl (f, a, b)))) = cc
-    from k (inr (h, inr (e, inr (a, y)))) = search rules
+    ⊎ (Has ended i × (n < i) × Has (get_or before (i - n - 1) no_colours).blankable k)) m
+    → IsMaskOf (CanBeBefore l (n ∷ rs) i false) m
+blank_is l rs n i longer ended before row m some far r p =
+    let told = told_is l rs n i longer ended before row some far r false in
+    mask_same _ _ m p (λ k h. (told k).0 (search rules)) (λ k h. let t = (told k).1 h in search rules)

@@ -63,8 +63,7 @@ ends_are l runs w n gap room opening window m short some g f a v p = mask_same _
 pub ahead_is : (l : List Cell) (clue : List ℕ) (j gap m : ℕ) → j ≤ length clue → IsMaskOf (IsGap (reverse l) (reverse clue) (length clue - j)) gap
     → IsMaskOf (λ i. (i < length l) × Has gap (length l - 1 - i)) m → IsMaskOf (IsGapAhead l clue j) m
 ahead_is l clue j gap m jl g p =
-    mask_same _ _ m p (λ i h. (reversed_gap l clue j i jl h.0).0 (g.to (length l - 1 - i) h.1))
-    (λ i h. let within : i < length l = h.0.0 in (within, g.from (length l - 1 - i) ((reversed_gap l clue j i jl within).1 h)))
+    mask_same _ _ m p (λ i h. search (rules, reversed_gap l clue j i, g.to)) (λ i h. search (rules, reversed_gap l clue j i, g.from))
 
 -- the mask of the ends of a run in whole placings
 pub whole_is : (l : List Cell) (clue : List ℕ) (j ends ahead last m : ℕ) → j < length clue → 0 < get_or clue j 0 → IsMaskOf (IsEnd l clue j) ends
@@ -92,13 +91,8 @@ whole_is l clue j ends ahead last m jl cp e a z p =
 
     from : (i : ℕ) → IsWholeEnd l clue j i → Has ends i × (Has ahead (i + 1) ⊎ Has last i)
     from i h =
-        let within : i < length l = inside i h.0 in (
-          e.from i h.0,
-          elim (closed_ahead_to l clue (j + 1) (i + 1) (omega arith) (omega arith) h.1) [
-            | inl x ↦ (let k : i + 1 ≡ length l = x.0 in inr (z.from i (omega arith, x.1)))
-            | inr x ↦ inl (a.from (i + 1) x)
-          ],
-        )
+        let within = inside i h.0 in
+        let after = closed_ahead_to l clue (j + 1) (i + 1) (omega arith) (omega arith) h.1 in search (rules, e.from, a.from, z.from)
 
 -- one more run's cells
 pub fill_more : (l : List Cell) (clue : List ℕ) (top j whole : ℕ) (old new : List ℕ) → IsMaskOf (IsWholeEnd l clue j) whole
@@ -130,13 +124,8 @@ pub blank_more : (l : List Cell) (clue : List ℕ) (j gap ahead blank part m : �
     → IsMaskOf (λ i. Has gap i × Has ahead i) part → IsMaskOf (λ i. Has blank i ⊎ Has part i) m
     → IsMaskOf (λ i. (q : ℕ) × (q ≤ j + 1) × IsGap l clue q i × IsGapAhead l clue q i) m
 blank_more l clue j gap ahead blank part m g a b p r =
-    mask_same _ _ m (join_of _ _ blank part m b (meet_of _ _ gap ahead part g a p) r) to from
+    mask_same _ _ m (join_of _ _ blank part m b (meet_of _ _ gap ahead part g a p) r) (λ i h. search rules) from
   where
-    to : (i : ℕ) → ((q : ℕ) × (q ≤ j) × IsGap l clue q i × IsGapAhead l clue q i) ⊎ (IsGap l clue (j + 1) i × IsGapAhead l clue (j + 1) i)
-        → (q : ℕ) × (q ≤ j + 1) × IsGap l clue q i × IsGapAhead l clue q i
-    to i (inl x) = (x.0, omega (arith, x.1), x.2, x.3)
-    to i (inr x) = (j + 1, omega arith, x.0, x.1)
-
     from : (i : ℕ) → (q : ℕ) × (q ≤ j + 1) × IsGap l clue q i × IsGapAhead l clue q i
         → ((q : ℕ) × (q ≤ j) × IsGap l clue q i × IsGapAhead l clue q i) ⊎ (IsGap l clue (j + 1) i × IsGapAhead l clue (j + 1) i)
     from i (q, h, g, a) = elim (cases_lt q (j + 1)) [

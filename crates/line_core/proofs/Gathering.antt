@@ -1,7 +1,7 @@
 -- What can be on a line with a cell coloured, told by what can be before and after that cell, or the run that covers it.
 use Rattle.line_core.proofs.Names.{rules, ◌≡◌, ℕ, zero, suc, ◌+◌, ◌-◌, ◌<◌, ◌≤◌, Bool, true, false, List, ◌∷◌, length, map, get_or, set, drop, reverse, refl, ◌∙◌, subst, arith, add-one, ◌⊎◌, inl, inr, ◌↔◌, cases_lt, and_from, and_parts, length-set, mask_same, ext_get_or, get_or-reverse, Has, IsMaskOf, IsShifted, Cell, Unknown, agrees, runs, SomeFrom, behind, MayBe, IsGap, IsGapAhead, IsWholeEnd, ArePositive, ◌*◌, get_or-set_other, get_or-set_at, get_or_default, length-reverse, reverse-reverse, drop-set-lt, colour, ColourMasks, no_colours, coloured, AreWholeEnds, AreColours, AreColoursBefore, CanBeBefore, IsWholeGap, IsUnknownAt, AreMasks, AreMore, AreToldOf, AreBothSides, HasColour, AreLengths, number_at, length_at}
 use Rattle.line_core.proofs.ColourMasks.{Below, masks_are, masks_same, more_same, more_more, each_more}
-use Rattle.line_core.proofs.ColouredGaps.{EndWith, colour_allows, colour_same, coloured_less, coloured_other, behind_coloured, gap_less, end_less, end_step_to, end_step_from, whole_before_end}
+use Rattle.line_core.proofs.ColouredGaps.{before_are, EndWith, colour_allows, colour_same, coloured_less, coloured_other, behind_coloured, gap_less, end_less, end_step_to, end_step_from, whole_before_end}
 use Rattle.line_core.proofs.Certain.{CanBe}
 use Rattle.line_core.proofs.Joining.{closed_ahead_to, closed_ahead_from, filled_agrees, blankable_to, blankable_from, reversed_gap}
 use Rattle.line_core.proofs.WholeEnds.{fillable_to, fillable_from}
@@ -182,13 +182,10 @@ run_from l clue x k j e d pos jl (from, to, whole) beside =
 
 -- ---- what the tables tell
 
-told_masks : (line : List Cell) (runs : List ℕ) (i : ℕ) (m : ColourMasks) → AreColoursBefore line runs i m → AreMasks (CanBeBefore line runs i) m
-told_masks line runs i m a = record { fillable_is = a.fillable_is; blankable_is = a.blankable_is }
-
 -- what is told before a gap is added
 pub told_more : (line : List Cell) (runs : List ℕ) (i : ℕ) (P : Type 0) (m old new : ColourMasks) → P → AreColoursBefore line runs i m
     → AreMore (HasColour m) old new → AreMore (λ d k. P × CanBeBefore line runs i d k) old new
-told_more line runs i P m old new holds told more = more_same _ _ old new more (λ d k. search (rules, masks_are _ m (told_masks line runs i m told) d k))
+told_more line runs i P m old new holds told more = more_same _ _ old new more (λ d k. search (rules, before_are line runs i m told d k))
 
 -- after an end of a run in whole placings that is not at the line's end there is a gap of whole placings
 gap_after_end : (l : List Cell) (clue : List ℕ) (j e : ℕ) → 0 < get_or clue j 0 → j < length clue → e + 1 < length l → IsWholeEnd l clue j e
@@ -236,7 +233,7 @@ pub run_before_more : (l : List Cell) (clue : List ℕ) (before after : List Col
     → AreMore (IsBeforeRun l clue x j) old new
 run_before_more l clue before after j x over part gaps old mid new told some jl are are_gaps parts run rows =
     more_same _ _ old new (more_more _ _ old mid new run (each_more gaps before (λ i. 128 * j + i) (CanBeBefore l (behind 0 clue j)) mid new
-    (λ i h. told_masks l _ i _ (told.before_is j i (omega arith) (gap_before_is l clue j x i some jl (are_gaps.to i h)))) rows))
+    (λ i h. before_are l _ i _ (told.before_is j i (omega arith) (gap_before_is l clue j x i some jl (are_gaps.to i h)))) rows))
     (λ d k. (to d k, from d k))
   where
     to : (d : Bool) (k : ℕ) → (Has part k × (d ≡ true)) ⊎ ((i : ℕ) × Has gaps i × CanBeBefore l (behind 0 clue j) i d k) → IsBeforeRun l clue x j d k
@@ -271,12 +268,13 @@ run_after_more l clue before after w j x over up cells gaps old new told some jl
         let inside : i < length l = are_cells.to i both.1 in
         (omega arith, omega arith, are.to (i - 1) has_end)
 
-    row : (i : ℕ) → Has gaps i → AreMasks (After i) (get_or after (128 * (length clue - 1 - j) + (length l - 1 - i)) no_colours)
+    row : (i : ℕ) → Has gaps i → (d : Bool) (k : ℕ)
+        → HasColour (get_or after (128 * (length clue - 1 - j) + (length l - 1 - i)) no_colours) d k ↔ After i d k
     row i h =
         let (same, next, end) = end_of i h in
         let runs_left : length clue - 1 - j ≡ length clue - (j + 1) = omega arith in
         let gap = whole_turned l clue (j + 1) (i - 1 + 1) (omega arith) next (gap_after_end l clue j (i - 1) some jl next end.2) in
-        rw runs_left (told_masks (reverse l) _ _ _ (told.after_is (length clue - (j + 1)) (length l - 1 - i) (omega (arith, length-reverse clue))
+        rw runs_left (before_are (reverse l) _ _ _ (told.after_is (length clue - (j + 1)) (length l - 1 - i) (omega (arith, length-reverse clue))
         (rw same at gap)))
 
     to : (d : Bool) (k : ℕ) → (i : ℕ) × Has gaps i × After i d k → IsAfterRun l clue x j d k

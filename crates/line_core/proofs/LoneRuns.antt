@@ -26,17 +26,12 @@ lone_start : (l : List Cell) (clue : List ℕ) (x : List Bool) → length clue �
     → IsLoneStart l (get_or clue 0 0) (get_or (starts_from 0 false x) 0 0)
 lone_start l clue x one agree is =
     let d = laid l clue x agree is in
-    record {
-      window = d.windows 0 (omega arith);
-      blanks = λ i h free. d.blanks i h (λ j k low high. let e : j ≡ 0 = omega arith in free (rw e at low) (rw e at high));
-    }
+    record { window = d.windows 0 (omega arith); blanks = λ i h free. d.blanks i h (λ j k low high. search (rules, free)) }
 
 -- each filled cell is in the placing's run
 of_run : (clue : List ℕ) (x : List Bool) (i : ℕ) → length clue ≡ 1 → runs x ≡ clue → get_or x i false ≡ true
     → (get_or (starts_from 0 false x) 0 0 ≤ i) × (i < get_or (starts_from 0 false x) 0 0 + get_or clue 0 0)
-of_run clue x i one is filled =
-    let c = covered x clue i is filled in
-    let e : c.index ≡ 0 = omega (arith, c.inside) in (rw e at c.from, rw e at c.to)
+of_run clue x i one is filled = let c = covered x clue i is filled in let e : c.index ≡ 0 = omega (arith, c.inside) in search (rules, e)
 
 -- a start from which the run fills the cell
 abbrev FillsFrom : List Cell → ℕ → ℕ → Type 0
@@ -55,37 +50,19 @@ fills_to l clue i pos one h =
 pub fills_from : (l : List Cell) (clue : List ℕ) (i s : ℕ) → ArePositive clue → length clue ≡ 1 → IsLoneStart l (get_or clue 0 0) s → s ≤ i
     → i < s + get_or clue 0 0 → IsFillable l clue i
 fills_from l clue i s pos one start low high =
-    let p = lone_placing l clue s pos one start in
-    let at = p.3 in
-    fillable_from l clue i (p.0, p.1, p.2, in_run p.0 clue 0 i p.2 (omega arith) (omega arith) (omega arith))
+    let p = lone_placing l clue s pos one start in search (rules, fillable_from, in_run p.0 clue 0 i)
 
 pub leaves_to : (l : List Cell) (clue : List ℕ) (i : ℕ) → length clue ≡ 1 → IsBlankable l clue i → LeavesFrom l (get_or clue 0 0) i
 leaves_to l clue i one h =
     let x = blankable_to l clue i h in
-    let s = get_or (starts_from 0 false x.0) 0 0 in (
-      s,
-      lone_start l clue x.0 one x.1 x.2,
-      elim (cases_lt i s) [
-        | inl before ↦ inl before
-        | inr from ↦ elim (cases_lt i (s + get_or clue 0 0)) [
-          | inl inside ↦ (let e = in_run x.0 clue 0 i x.2 (omega arith) from inside in let no = x.3 in cc)
-          | inr after ↦ inr after
-        ]
-      ],
-    )
+    let filled = in_run x.0 clue 0 i x.2 (omega arith) in
+    (get_or (starts_from 0 false x.0) 0 0, lone_start l clue x.0 one x.1 x.2, grind (arith, filled))
 
 pub leaves_from : (l : List Cell) (clue : List ℕ) (i s : ℕ) → ArePositive clue → length clue ≡ 1 → i < length l
     → IsLoneStart l (get_or clue 0 0) s → (i < s) ⊎ (s + get_or clue 0 0 ≤ i) → IsBlankable l clue i
 leaves_from l clue i s pos one within start out =
-    let p = lone_placing l clue s pos one start in
-    blankable_from l clue i within (
-      p.0,
-      p.1,
-      p.2,
-      false_from_ne_true (get_or p.0 i false) (λ e.
-          let r = of_run clue p.0 i one p.2 e in
-          elim out [ inl x ↦ omega (arith, r.0, r.1, p.3) | inr y ↦ omega (arith, r.0, r.1, p.3) ]),
-    )
+    let (y, agree, is, at) = lone_placing l clue s pos one start in
+    blankable_from l clue i within (y, agree, is, false_from_ne_true (get_or y i false) (λ e. let r = of_run clue y i one is e in search rules))
 
 -- ---- the masks
 
@@ -170,13 +147,11 @@ lone_fillable l clue w starts ends m pos one some short s p q = mask_same _ _ m 
 
     from : (i : ℕ) → IsFillable l clue i → SomeFrom (Has ends) (get_or clue 0 0) i
     from i h =
-        let f = fills_to l clue i pos one h in
-        let low = f.2 in
-        let high = f.3 in
-        let last : f.0 + (get_or clue 0 0 - 1) < length l = (f.1.window (get_or clue 0 0 - 1) (omega arith)).0 in
-        let z = f.0 + (get_or clue 0 0 - 1) - i in
-        let back : i + z - (get_or clue 0 0 - 1) ≡ f.0 = omega arith in
-        (z, omega arith, p.from (i + z) (omega arith, omega arith, subst (Has starts) (sym back) (s.from f.0 f.1)))
+        let (at, start, low, high) = fills_to l clue i pos one h in
+        let last = (start.window (get_or clue 0 0 - 1) (omega arith)).0 in
+        let z = at + (get_or clue 0 0 - 1) - i in
+        let back : i + z - (get_or clue 0 0 - 1) ≡ at = omega arith in
+        (z, omega arith, p.from (i + z) (omega arith, omega arith, rw back (s.from at start)))
 
 -- each cell but those that the run fills from each start
 pub lone_blankable : (l : List Cell) (clue : List ℕ) (w len line starts first last certain m : ℕ) → ArePositive clue → length clue ≡ 1
@@ -188,13 +163,10 @@ lone_blankable l clue w len line starts first last certain m pos one e short s a
   where
     to : (i : ℕ) → Has line i × (has certain i ≡ false) → IsBlankable l clue i
     to i h =
-        let within : i < len = a.to i h.0 in
+        let within = a.to i h.0 in
         elim (cases_lt i last) [
           | inl before ↦ leaves_from l clue i last pos one (omega arith) (s.to last at_last) (inl before)
-          | inr from ↦ elim (cases_lt i (first + get_or clue 0 0)) [
-            | inl inside ↦ absurd (true≢false (sym (has_true certain i (c.from i (omega arith, from, inside))) ∙ h.1))
-            | inr after ↦ leaves_from l clue i first pos one (omega arith) (s.to first at_first) (inr after)
-          ]
+          | inr from ↦ leaves_from l clue i first pos one (omega arith) (s.to first at_first) (inr (grind (arith, c.from i, has_true)))
         ]
 
     out : (i : ℕ) → LeavesFrom l (get_or clue 0 0) i → Has certain i → ⊥

@@ -25,18 +25,12 @@ first_cell c cells cs (true ∷ y, agree, is) =
 -- the first gaps: from the first cell on, as long as all may be blank
 pub first_gap_to : (l : List Cell) (i : ℕ) → IsFlooded (λ k. (k ≡ 0) × MayBe l false k) (MayBe l false) i → IsGapAfter l [] i
 first_gap_to l zero f = (f.1, ([], refl, refl))
-first_gap_to l (suc i) (inl f) = absurd (omega (arith, f.0))
-first_gap_to l (suc i) (inr f) =
-    let before = first_gap_to l i f.1 in
-    (f.0, blank_before (get_or l i Unknown) (behind Unknown l i) [] before.0.1 before.1)
+first_gap_to l (suc i) f = search (rules, first_gap_to l i, blank_before)
 
 -- and back
 pub first_gap_from : (l : List Cell) (i : ℕ) → IsGapAfter l [] i → IsFlooded (λ k. (k ≡ 0) × MayBe l false k) (MayBe l false) i
 first_gap_from l zero g = (refl, g.0)
-first_gap_from l (suc i) g = elim (first_cell (get_or l i Unknown) (behind Unknown l i) [] g.1) [
-  | inl b ↦ (let within : suc i < length l = g.0.0 in inr (g.0, first_gap_from l i ((omega arith, b.0), b.1)))
-  | inr r ↦ (let bad = r.4 in cc)
-]
+first_gap_from l (suc i) g = search (rules, first_cell (get_or l i Unknown) (behind Unknown l i) [] g.1, first_gap_from l i)
 
 -- the cell may be filled
 abbrev MayFill : List Cell → ℕ → Type 0
@@ -45,21 +39,16 @@ MayFill l k = allows (get_or l k Unknown) true ≡ true
 -- a run that goes back from place `p` over `m` cells that may be filled, with `rest` before it
 open_run : (l : List Cell) (m p : ℕ) (rest : List Bool) → agrees (behind Unknown l p) (replicate m true ++ rest) ≡ true
     → (q : ℕ) × (q + m ≡ p) × AllFrom (MayFill l) m q × (agrees (behind Unknown l q) rest ≡ true)
-open_run l zero p rest h = (p, omega arith, (λ z b. absurd (omega arith)), h)
-open_run l (suc m) zero rest h = cc
 open_run l (suc m) (suc p) rest h =
     let parts = and_parts (allows (get_or l p Unknown) true) (agrees (behind Unknown l p) (replicate m true ++ rest)) h in
-    let r = open_run l m p rest parts.1 in
-    (r.0, omega (arith, r.1), (λ z b. below_more (λ z. MayFill l (r.0 + z)) m r.2 (rw r.1 parts.0) z (omega arith)), r.3)
+    let r = open_run l m p rest parts.1 in search (rules, below_more, r)
+open_run l m p rest h = search rules
 
 run_open : (l : List Cell) (m p q : ℕ) (rest : List Bool) → q + m ≡ p → AllFrom (MayFill l) m q
     → agrees (behind Unknown l q) rest ≡ true → agrees (behind Unknown l p) (replicate m true ++ rest) ≡ true
 run_open l zero p q rest e cells h = let same : p ≡ q = omega arith in rw same h
 run_open l (suc m) zero q rest e cells h = absurd (omega arith)
-run_open l (suc m) (suc p) q rest e cells h =
-    let at : p ≡ q + m = omega arith in
-    and_from (allows (get_or l p Unknown) true) (agrees (behind Unknown l p) (replicate m true ++ rest)) (rw at (cells m (omega arith)))
-    (run_open l m p q rest (omega arith) (λ z b. cells z (omega arith)) h)
+run_open l (suc m) (suc p) q rest e cells h = let at : p ≡ q + m = omega arith in search (rules, at, and_from, run_open l m p q rest)
 
 -- a run of `n` cells that goes back from the next cell, with a blank one or none before it, ends here
 end_from_run : (l : List Cell) (cs : List ℕ) (n i q : ℕ) (rest : List Bool) → i < length l → q + n ≡ suc i → AllFrom (MayFill l) n q
@@ -68,9 +57,8 @@ end_from_run l cs n i q rest within e cells h is closed = search rules
 
 pub run_from_end : (l : List Cell) (cs : List ℕ) (n i : ℕ) → 0 < n → IsEndAfter l cs n i → HasPlacing (behind Unknown l (suc i)) (n ∷ cs)
 run_from_end l cs n i some x =
-    let y = x.1.0 in
-    let agree = run_open l n (suc i) (i + 1 - n) y.0 (omega (arith, x.0)) (λ z b. (x.1.1 z b).1) y.1 in
-    (replicate n true ++ y.0, agree, runs_about [] n y.0 some refl y.3 ∙ ap (λ (rs : List ℕ). n ∷ rs) y.2)
+    let agree = run_open l n (suc i) (i + 1 - n) x.1.0.0 (omega (arith, x.0)) (λ z b. (x.1.1 z b).1) x.1.0.1 in
+    search (rules, runs_about [] n x.1.0.0 some)
 
 -- the gaps after a run: from the cell after an end of it on, as long as all may be blank
 abbrev pub After : List Cell → ℕ → List ℕ → ℕ → Type 0
@@ -82,16 +70,12 @@ gap_after_to l cs n zero some f = absurd (omega (arith, f.1))
 gap_after_to l cs n (suc i) some (inl f) =
     let e : suc i - 1 ≡ i = omega arith in
     (f.0, run_from_end l cs n i some (subst (IsEndAfter l cs n) e f.2))
-gap_after_to l cs n (suc i) some (inr f) =
-    let before = gap_after_to l cs n i some f.1 in
-    (f.0, blank_before (get_or l i Unknown) (behind Unknown l i) (n ∷ cs) before.0.1 before.1)
+gap_after_to l cs n (suc i) some (inr f) = search (rules, gap_after_to l cs n i some, blank_before)
 
 -- and back
 pub gap_after_from : (l : List Cell) (cs : List ℕ) (n i : ℕ) → IsGapAfter l (n ∷ cs) i → IsFlooded (After l n cs) (MayBe l false) i
-gap_after_from l cs n zero (may, ([], agree, is)) = cc
-gap_after_from l cs n zero (may, (b ∷ y, agree, is)) = cc
 gap_after_from l cs n (suc i) g = elim (first_cell (get_or l i Unknown) (behind Unknown l i) (n ∷ cs) g.1) [
-  | inl b ↦ (let within : suc i < length l = g.0.0 in inr (g.0, gap_after_from l cs n i ((omega arith, b.0), b.1)))
+  | inl b ↦ search (rules, gap_after_from l cs n i)
   | inr r ↦
       (let within : suc i < length l = g.0.0 in
       let is = r.4 in
@@ -101,3 +85,4 @@ gap_after_from l cs n (suc i) g = elim (first_cell (get_or l i Unknown) (behind 
       let e : suc i - 1 ≡ i = omega arith in
       inl (g.0, omega arith, rw (e, sym same) (end_from_run l cs r.0 i o.0 r.1 (omega arith) o.1 o.2 o.3 others r.5)))
 ]
+gap_after_from l cs n zero g = search rules
