@@ -147,11 +147,14 @@ first_to l i v k h = (h.0, coloured_one l k v false h.1.0 (blank_to (coloured l 
 
 pub first_from : (l : List Cell) (i k : ℕ) → IsGapAfter l [] i → k ≤ i → CanBeBefore l [] i false k
 first_from l i k g le =
-    let cells = blank_to l i (first_gap_from l i g) in
-    (le, cells k le, first_gap_to (coloured l k false) i (blank_from (coloured l k false) i (λ x b. elim (cases_eq x k) [
-      | inl e ↦ rw e (coloured_same l k false (cells k le).0)
-      | inr ne ↦ coloured_other l k false false x ne (cells x b)
-    ])))
+    let cells = blank_to l i (first_gap_from l i g) in (
+      le,
+      cells k le,
+      first_gap_to (coloured l k false) i (blank_from (coloured l k false) i (λ x b. elim (cases_eq x k) [
+        | inl e ↦ rw e (coloured_same l k false (cells k le).0)
+        | inr ne ↦ coloured_other l k false false x ne (cells x b)
+      ])),
+    )
 
 -- ---- the gaps and ends of whole placings
 

@@ -55,16 +55,14 @@ pub record IsWalked (cells : List Bool) (clue : List ℕ) (j least left : ℕ) :
 -- runs after blank cells
 past_blanks : (least n : ℕ) (y : List Bool) → least ≤ n → ((i : ℕ) → i < n → get_or y i false ≡ false) → runs_past least y ≡ Some (runs (drop n y))
 past_blanks zero (suc n) [] h blank = refl
-past_blanks least (suc n) (true ∷ y) h blank = absurd (true≢false (blank 0 (omega arith)))
-past_blanks zero (suc n) (false ∷ y) h blank = past_blanks zero n y (omega arith) (λ i b. blank (suc i) (omega arith))
-past_blanks (suc least) (suc n) (false ∷ y) h blank = past_blanks least n y (omega arith) (λ i b. blank (suc i) (omega arith))
+past_blanks zero (suc n) (b ∷ y) h blank = search (rules, blank 0, past_blanks zero n y (omega arith) (λ i b. blank (suc i) (omega arith)))
+past_blanks (suc least) (suc n) (b ∷ y) h blank = search (rules, blank 0, past_blanks least n y (omega arith) (λ i b. blank (suc i) (omega arith)))
 past_blanks least n y h blank = search rules
 
 -- none of which is filled
 past_filled : (least i : ℕ) (y : List Bool) → i < least → get_or y i false ≡ true → runs_past least y ≡ None
-past_filled zero i y h f = absurd (omega arith)
 past_filled (suc least) (suc i) (false ∷ y) h f = past_filled least i y (omega arith) f
-past_filled (suc least) i y h f = search rules
+past_filled least i y h f = search rules
 
 past_runs : (least : ℕ) (y : List Bool) (ns : List ℕ) → runs_past least y ≡ Some ns → runs y ≡ ns
 past_runs (suc least) (false ∷ y) ns e = past_runs least y ns e
@@ -87,8 +85,7 @@ crossed (suc n) (b ∷ y) = not b ∷ crossed n y
 
 crossed_at : (n i : ℕ) (y : List Bool) (low : Bool) → (low ≡ true → i < n) → (low ≡ false → n ≤ i)
     → get_or (crossed n y) i false ≡ cond low (not (get_or y i false)) (get_or y i false)
-crossed_at (suc n) (suc i) [] low a b = crossed_at n i [] low (λ e. omega (arith, a e)) (λ e. omega (arith, b e))
-crossed_at (suc n) (suc i) (c ∷ y) low a b = crossed_at n i y low (λ e. omega (arith, a e)) (λ e. omega (arith, b e))
+crossed_at (suc n) (suc i) y low a b = search (rules, crossed_at n i [] low, crossed_at n i)
 crossed_at n i y low a b = grind arith
 
 crossed_is : (n : ℕ) (y : List Bool) (filled ones next : ℕ) → IsMaskOf (IsFilled y) filled → IsMaskOf (λ i. i < n) ones
@@ -101,12 +98,8 @@ crossed_is n y filled ones next p q r =
     other s low = search rules
 
     at : (i : ℕ) → get_or (crossed n y) i false ≡ cond (has ones i) (not (has filled i)) (has filled i)
-    at i =
-        let same : has filled i ≡ get_or y i false = has_by filled i (get_or y i false) (p.to i) (p.from i) in
-        rw same (crossed_at n i y (has ones i) (λ e. q.to i (true_has ones i e)) (λ e. elim (cases_lt i n) [
-          | inl low ↦ absurd (true≢false (sym (has_true ones i (q.from i low)) ∙ e))
-          | inr high ↦ high
-        ]))
+    at i = rw (has_by filled i (get_or y i false) (p.to i) (p.from i))
+        (crossed_at n i y (has ones i) (λ e. q.to i (true_has ones i e)) (λ e. grind (arith, has_true, q.from i)))
 
 -- a run that goes on is longer
 longer : (m k : ℕ) (y : List Bool) (ns : List ℕ) → runs_after (suc m) y ≡ k ∷ ns → m < k

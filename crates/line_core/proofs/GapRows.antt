@@ -1,5 +1,5 @@
 -- Rows of what can be before the gaps of whole placings, written gap by gap.
-use Rattle.line_core.proofs.Names.{eqb-true, none_has, true, ◌≡◌, ◌≢◌, ◌∙◌, ℕ, zero, suc, ◌+◌, ◌-◌, ◌<◌, ◌≤◌, List, ◌++◌, length, false, refl, sym, subst, arith, zero-add, inl, inr, get_or, set, take, map, Cell, Has, IsMaskOf, IsShifted, IsGapAfter, IsWholeEnd, behind, nat_eq, ◌*◌, ◌/◌, get_or-set_other, get_or-set_same, true≢false, drop, [], length-drop, drop_of_length-le, append-nil, get_or-take, get_or-drop, get_or-append-add, get_or_append_left, length-take-le, take_all, cases_eq, cases_lt, bit_at, IsMarked, number_at, ColourMasks, no_colours, AreColoursBefore, IsWholeGap, IsReady, IsRow}
+use Rattle.line_core.proofs.Names.{rules, eqb-true, none_has, true, ◌≡◌, ◌≢◌, ◌∙◌, ℕ, zero, suc, ◌+◌, ◌-◌, ◌<◌, ◌≤◌, List, ◌++◌, length, false, refl, sym, subst, arith, zero-add, inl, inr, get_or, set, take, map, Cell, Has, IsMaskOf, IsShifted, IsGapAfter, IsWholeEnd, behind, nat_eq, ◌*◌, ◌/◌, get_or-set_other, get_or-set_same, true≢false, drop, [], length-drop, drop_of_length-le, append-nil, get_or-take, get_or-drop, get_or-append-add, get_or_append_left, length-take-le, take_all, cases_eq, cases_lt, bit_at, IsMarked, number_at, ColourMasks, no_colours, AreColoursBefore, IsWholeGap, IsReady, IsRow}
 use Rattle.std.proofs.lemmas.Nat.Bits.{bit_at-suc, bit_at_lowest, bit_at-lt, same_from_bits}
 use Rattle.line_core.proofs.ColouredGaps.{whole_back, whole_end_back, whole_before_end}
 
@@ -68,12 +68,12 @@ ready_is l clue j w gaps ends longer ended p before row jl some gs es lm em with
     record {
       gap = whole.0;
       longer_to = λ h. let x = lm.to p h in last x.1 x.2;
-      longer_from = λ first g. lm.from p (within, first, gs.from (p - 1) (whole_back l clue (suc j) p (omega arith) first whole.1 g));
+      longer_from = λ first g. search (rules, lm.from, gs.from, whole_back);
       ended_to = λ h. (es.to (p - 1) (em.to p h).2).0;
       before_to = λ h far.
           let e : p - 1 - c ≡ p - c - 1 = omega arith in
           rw (sym e) (rw zero-add at (told (p - 1 - c) (whole_before_end l clue j (p - 1) jl some (omega arith) (es.to (p - 1) (em.to p h).2))));
-      ended_from = λ first e. em.from p (within, first, es.from (p - 1) (whole_end_back l clue j p first whole.1 e));
+      ended_from = λ first e. search (rules, em.from, es.from, whole_end_back);
     }
 
 -- a mask that is taken from a list
@@ -87,9 +87,8 @@ AreRowsTo l clue j table = (q : ℕ) → q ≤ j → IsRow l clue q (128 * q) ta
 
 pub rows_none : (l : List Cell) (clue : List ℕ) (table : List ColourMasks)
     → ((i : ℕ) → IsWholeGap l clue 0 i → AreColoursBefore l [] i (get_or table i no_colours)) → AreRowsTo l clue 0 table
-rows_none l clue table told q h i whole =
-    let e : q ≡ 0 = omega arith in
-    rw (e, zero-add i) (told i (rw e at whole))
+rows_none l clue table told zero h i whole = rw zero-add (told i whole)
+rows_none l clue table told (suc q) h i whole = absurd (omega arith)
 
 -- a part of a list up to its end is what is left of it, and is put back behind the first part
 pub part_is : (a : ℕ) (xs : List ColourMasks) → take (length xs - a) (drop a xs) ≡ drop a xs

@@ -44,8 +44,8 @@ all_as_far Right = λ xs ys. pointwise nat_le ys xs
 
 as_far_from : (side : Side) (xs ys : List ℕ) → length xs ≡ length ys →
     ((j : ℕ) → j < length xs → IsAsFar side (get_or xs j 0) (get_or ys j 0)) → all_as_far side xs ys ≡ true
-as_far_from Left xs ys e h = pointwise_from xs ys e h
-as_far_from Right xs ys e h = pointwise_from ys xs (sym e) (λ j l. h j (omega (arith, e)))
+as_far_from Left xs ys e h = search (rules, pointwise_from)
+as_far_from Right xs ys e h = search (rules, pointwise_from)
 
 as_far_antisym : (side : Side) (xs ys : List ℕ) → all_as_far side xs ys ≡ true → all_as_far side ys xs ≡ true → xs ≡ ys
 as_far_antisym Left xs ys h k = pointwise_antisym xs ys h k
@@ -118,9 +118,8 @@ some_end l clue j pos p h =
 laid_end : (l : List Cell) (clue ss : List ℕ) (j : ℕ) → ArePositive clue → IsLaid l clue ss → j < length clue
     → IsWholeEnd l clue j (get_or ss j 0 + get_or clue j 0 - 1)
 laid_end l clue ss j pos d h =
-    let x = placing_of l clue ss pos d in
-    let same : get_or (starts_from 0 false x.0) j 0 ≡ get_or ss j 0 = rw x.3 refl in
-    whole_of l clue x.0 j (get_or ss j 0 + get_or clue j 0 - 1) x.1 x.2 h (omega (arith, positive_at clue pos j h))
+    let (x, agree, is, starts) = placing_of l clue ss pos d in
+    whole_of l clue x j (get_or ss j 0 + get_or clue j 0 - 1) agree is h (rw starts (omega (arith, positive_at clue pos j h)))
 
 as_far_start : (side : Side) (some end other start : ℕ) → 0 < some → start ≡ end + 1 - some → IsAsFar side end (other + some - 1)
     → IsAsFar side start other
@@ -162,19 +161,17 @@ outer_more side l clue list j whole place start h mask in_mask far at below =
 pub no_run_to : (l : List Cell) (clue : List ℕ) (gap ahead m : ℕ) → IsMaskOf (IsGap l clue 0) gap → IsMaskOf (IsGapAhead l clue 0) ahead
     → IsMaskOf (λ i. Has gap i × Has ahead i) m → Has m 0 → HasPlacing l clue
 no_run_to l clue gap ahead m g a p h =
-    let b = (meet_of (IsGap l clue 0) (IsGapAhead l clue 0) gap ahead m g a p).to 0 h in
-    let can = blankable_to l clue 0 (0, omega arith, b.0, b.1) in
-    (can.0, can.1, can.2)
+    let both = p.to 0 h in
+    let can = blankable_to l clue 0 (0, omega arith, g.to 0 both.0, a.to 0 both.1) in (can.0, can.1, can.2)
 
 -- and a clue with no run that has a placing leaves it blank
 pub no_run_from : (l : List Cell) (clue : List ℕ) (gap ahead m : ℕ) → length clue ≡ 0 → 0 < length l → IsMaskOf (IsGap l clue 0) gap
     → IsMaskOf (IsGapAhead l clue 0) ahead → IsMaskOf (λ i. Has gap i × Has ahead i) m → HasPlacing l clue → Has m 0
-no_run_from l clue gap ahead m none some g a q p =
-    let blank = false_from_ne_true (get_or p.0 0 false) (λ e. let c = covered p.0 clue 0 p.2 e in omega (arith, c.inside)) in
-    let b = blankable_from l clue 0 some (p.0, p.1, p.2, blank) in
-    let first : b.0 ≡ 0 = omega (arith, b.1) in
-    (meet_of (IsGap l clue 0) (IsGapAhead l clue 0) gap ahead m g a q).from 0
-    (subst (λ (k : ℕ). IsGap l clue k 0 × IsGapAhead l clue k 0) first (b.2, b.3))
+no_run_from l clue gap ahead m none some g a q (x, agree, is) =
+    let blank = false_from_ne_true (get_or x 0 false) (λ e. let c = covered x clue 0 is e in omega (arith, c.inside)) in
+    let (j, jl, before, after) = blankable_from l clue 0 some (x, agree, is, blank) in
+    let first : j ≡ 0 = omega arith in
+    q.from 0 (g.from 0 (rw first at before), a.from 0 (rw first at after))
 
 -- ---- what the two searches answer
 

@@ -36,10 +36,9 @@ pub at_most : (l : List Cell) (clue ss : List ℕ) (later j : ℕ) → ArePositi
     → get_or ss j 0 + needed clue ≤ length l + 1 + least_start clue j
 at_most l clue ss zero j pos d e =
     let h : j < length clue = omega arith in
-    let some : 0 < get_or clue j 0 = positive_at clue pos j h in
+    let some = positive_at clue pos j h in
     let end : suc j ≡ length clue = omega arith in
-    let all : least_start clue (suc j) ≡ needed clue = ap (least_start clue) end ∙ start_last clue in
-    omega (arith, start_next clue j h, (d.windows j h (get_or clue j 0 - 1) (omega arith)).0)
+    omega (arith, start_next clue j h, ap (least_start clue) end, start_last clue, (d.windows j h (get_or clue j 0 - 1) (omega arith)).0)
 at_most l clue ss (suc later) j pos d e = search (rules, start_next, at_most l clue ss later (suc j) pos d (omega arith))
 
 starts_within : (l : List Cell) (clue ss : List ℕ) (j : ℕ) → ArePositive clue → IsLaid l clue ss → j < length clue
@@ -121,12 +120,10 @@ Reaches clue slack i = (j : ℕ) × (j < length clue) × (least_start clue j ≤
 
 reaches : (clue : List ℕ) (slack i j : ℕ) → 0 < slack → j < length clue → i < least_start clue j + get_or clue j 0 + slack → Reaches clue slack i
 reaches clue slack i zero some h to = (0, h, omega arith, to)
-reaches clue slack i (suc j) some h to =
-    let next = start_next clue j (omega arith) in
-    elim (cases_lt i (least_start clue (suc j))) [
-      | inl low ↦ reaches clue slack i j some (omega arith) (omega arith)
-      | inr high ↦ (suc j, h, high, to)
-    ]
+reaches clue slack i (suc j) some h to = elim (cases_lt i (least_start clue (suc j))) [
+  | inl low ↦ reaches clue slack i j some (omega arith) (omega (arith, start_next clue j (omega arith)))
+  | inr high ↦ (suc j, h, high, to)
+]
 
 filled_by : (l : List Cell) (clue : List ℕ) (slack i : ℕ) → AnyColour l → ArePositive clue → needed clue + slack ≡ length l + 1
     → Reaches clue slack i → CanBe l clue true i
@@ -201,23 +198,18 @@ pub overlap_more : (clue : List ℕ) (w slack j start old some shifted new : ℕ
 overlap_more clue w slack j start old some shifted new within h long at o p q r = mask_same _ _ new r to from
   where
     to : (i : ℕ) → Has old i ⊎ Has shifted i → IsOverlapBefore (j + 1) clue slack i
-    to i (inl x) = let y = o.to i x in (y.0, omega (arith, y.1), y.2, y.3)
-    to i (inr x) =
-        let y = q.to i x in
-        let low : start ≤ i = y.1 in
-        let few : i - start < get_or clue j 0 - slack = p.to (i - start) y.2 in
-        (j, omega arith, omega arith, omega arith)
+    to i (inl x) = search (rules, o.to i x)
+    to i (inr x) = let y = q.to i x in let few = p.to (i - start) y.2 in (j, omega arith, omega arith, omega arith)
 
     from : (i : ℕ) → IsOverlapBefore (j + 1) clue slack i → Has old i ⊎ Has shifted i
-    from i x =
-        elim (cases_lt x.0 j) [
-          | inl low ↦ inl (o.from i (x.0, low, x.2, x.3))
-          | inr high ↦
-              (let e : x.0 ≡ j = omega (arith, x.1) in
-              let low : least_start clue j + slack ≤ i = rw e at x.2 in
-              let end : i < least_start clue j + get_or clue j 0 = rw e at x.3 in
-              inr (q.from i (omega (arith, start_next clue j h, start_within clue (suc j)), omega arith, p.from (i - start) (omega arith))))
-        ]
+    from i (k, kl, low, high) = elim (cases_lt k j) [
+      | inl before ↦ inl (o.from i (k, before, low, high))
+      | inr last ↦
+          (let e : k ≡ j = omega arith in
+          let from = rw e at low in
+          let to = rw e at high in
+          inr (q.from i (omega (arith, start_next clue j h, start_within clue (suc j)), omega arith, p.from (i - start) (omega arith))))
+    ]
 
 -- a run that isn't longer than the slack has none
 pub overlap_same : (clue : List ℕ) (slack j m : ℕ) → get_or clue j 0 ≤ slack → IsMaskOf (IsOverlapBefore j clue slack) m

@@ -20,8 +20,7 @@ pub record IsLaid (l : List Cell) (clue ss : List ℕ) : Type 0 where
   pub blanks : (i : ℕ) → i < length l → IsFree clue ss i → MayBe l false i
 
 pub agrees_at : (l : List Cell) (x : List Bool) (i : ℕ) → agrees l x ≡ true → i < length l → allows (get_or l i Unknown) (get_or x i false) ≡ true
-agrees_at (c ∷ l) (b ∷ x) zero a h = (and_parts (allows c b) (agrees l x) a).0
-agrees_at (c ∷ l) (b ∷ x) (suc i) a h = agrees_at l x i (and_parts (allows c b) (agrees l x) a).1 (omega arith)
+agrees_at (c ∷ l) (b ∷ x) i a h = let both = and_parts (allows c b) (agrees l x) a in search (rules, agrees_at l x)
 agrees_at l x i a h = search rules
 
 -- the starts of a placing lay the clue
@@ -38,7 +37,7 @@ laid l clue x agree is = record {
   where
     by : (i : ℕ) → i < length l → IsFree clue (starts_from 0 false x) i → (v : Bool) → get_or x i false ≡ v → MayBe l false i
     by i h free true e = let c = covered x clue i is e in absurd (free c.index c.inside c.from c.to)
-    by i h free false e = (h, subst (λ (v : Bool). allows (get_or l i Unknown) v ≡ true) e (agrees_at l x i agree h))
+    by i h free false e = search (rules, agrees_at, sym e)
 
 -- ---- and back: a line painted by starts
 
@@ -125,11 +124,7 @@ placing_of l clue ss pos d =
 -- each run ends before all later ones
 ends_before : (clue ss : List ℕ) → StandApart clue ss → (i j : ℕ) → i < j → j < length clue → get_or ss i 0 + get_or clue i 0 < get_or ss j 0
 ends_before clue ss apart i zero h k = absurd (omega arith)
-ends_before clue ss apart i (suc j) h k =
-    elim (cases_lt i j) [
-      | inl low ↦ omega (arith, apart j k, ends_before clue ss apart i j low (omega arith))
-      | inr high ↦ (let e : i ≡ j = omega arith in rw e (apart j k))
-    ]
+ends_before clue ss apart i (suc j) h k = grind (arith, apart j, ends_before clue ss apart i j)
 
 -- some starts that lay the clue, with a given start of one run
 pub record Witness (l : List Cell) (clue : List ℕ) (j s : ℕ) : Type 0 where
@@ -159,18 +154,9 @@ cut_of clue ss i zero apart free h later = (0, h, ((λ q a. absurd (omega arith)
 cut_of clue ss i (suc n) apart free h later =
     elim (cases_lt i (get_or ss n 0)) [
       | inl low ↦ search (rules, apart, from_more, cut_of clue ss i n apart free (omega arith))
-      | inr high ↦ elim (cases_lt i (get_or ss n 0 + get_or clue n 0)) [
-        | inl inside ↦ absurd (free n (omega arith) high inside)
-        | inr past ↦ (
-          suc n,
-          h,
-          (
-            (λ q a. below_more (λ z. get_or ss z 0 + get_or clue z 0 ≤ i) n (λ z b.
-                let gap = ends_before clue ss apart z n b (omega arith) in omega arith) past q (omega arith)),
-            later,
-          ),
-        )
-      ]
+      | inr high ↦
+          (let past : get_or ss n 0 + get_or clue n 0 ≤ i = grind (arith, free n) in
+          (suc n, h, ((λ q a. grind (arith, ends_before clue ss apart q n)), later)))
     ]
 
 -- and such a cell may be blank
@@ -189,8 +175,7 @@ furthest_blank Left l clue m i (suc n) f h k (before, after) =
     let at : get_or w.starts n 0 ≡ get_or m n 0 = w.at in
     let end = before n (omega arith) in
     blank_at l clue w.starts i (suc n) w.laid_so h (
-      (λ q a. below_more (λ z. get_or w.starts z 0 + get_or clue z 0 ≤ i) n
-          (λ z b. let gap = ends_before clue w.starts w.laid_so.apart z n b (omega arith) in omega arith) (omega arith) q (omega arith)),
+      (λ q a. grind (arith, ends_before clue w.starts w.laid_so.apart q n)),
       λ q a b. let start = after q a b in let low = f.furthest w.starts w.laid_so q b in omega arith,
     )
 furthest_blank Right l clue m i n f h k (before, after) = elim (cases_lt n (length clue)) [

@@ -73,11 +73,10 @@ starts_before (true ∷ a) h = cc
 starts_before (false ∷ a) h = search (rules, length-run_starts, onto, runs_cut, length-onto, add-zero)
 
 pub starts_at_least : (x : List Bool) (p k : ℕ) (after : Bool) → k < length (starts_from p after x) → p ≤ get_or (starts_from p after x) k 0
-starts_at_least [] p k after h = absurd (omega arith)
-starts_at_least (true ∷ x) p k true h = let rest = starts_at_least x (suc p) k true h in omega arith
-starts_at_least (true ∷ x) p zero false h = omega arith
-starts_at_least (true ∷ x) p (suc k) false h = let rest = starts_at_least x (suc p) k true (omega arith) in omega arith
-starts_at_least (false ∷ x) p k after h = let rest = starts_at_least x (suc p) k false h in omega arith
+starts_at_least (true ∷ x) p k true h = search (rules, starts_at_least x (suc p) k true)
+starts_at_least (true ∷ x) p (suc k) false h = search (rules, starts_at_least x (suc p) k true (omega arith))
+starts_at_least (false ∷ x) p k after h = search (rules, starts_at_least x (suc p) k false h)
+starts_at_least x p k after h = search rules
 
 pub starts_increase : (x : List Bool) (p i j : ℕ) (after : Bool) → i < j → j < length (starts_from p after x)
     → get_or (starts_from p after x) i 0 < get_or (starts_from p after x) j 0
