@@ -1,5 +1,5 @@
 -- What the layers above cite of placings and of the deduced line.
-use Rattle.line_core.proofs.Names.{common_steps, ◌≡◌, ℕ, zero, suc, ◌<◌, Bool, true, false, not, cond, List, [], ◌∷◌, length, get_or, map, filter, Option, Some, None, refl, sym, ap, ◌∙◌, arith, true≢false, bytes_eq, zero-add, rules, All, list_all, range_with_len, and_parts, both_ways, false_from_ne_true, not-true, All-weaker, filter_passes, list_all-from_AllPass, length-map-range_with_len, get_or-map-range_with_len, length-map, Cell, Unknown, Filled, Blank, CellExtends, Extends, agrees, colour, allows, runs, shared, shared_at, deduced}
+use Rattle.line_core.proofs.Names.{common_steps, ◌≡◌, ℕ, zero, suc, ◌<◌, Bool, true, false, not, cond, List, [], ◌∷◌, length, get_or, map, filter, Option, Some, None, refl, sym, ap, ◌∙◌, arith, true≢false, zero-add, rules, All, list_all, range_with_len, and_parts, both_ways, false_from_ne_true, not-true, All-weaker, filter_passes, list_all-from_AllPass, length-map-range_with_len, get_or-map-range_with_len, length-map, Cell, Unknown, Filled, Blank, CellExtends, Extends, agrees, colour, allows, runs, shared, shared_at, deduced}
 use Rattle.std.proofs.lemmas.List.Folds.{list_all-append, list_all-map}
 use Rattle.std.proofs.lemmas.Slice.Eq.{bytes_eq-Decides}
 use Rattle.line_core.specs.Placings.{full_lines, is_placing, placings}
@@ -57,10 +57,7 @@ length-IsPlacing l clue x p = sym (length-map x colour) ∙ sym (length-Extends 
 
 -- a full line that passes the test is a placing
 pub test_IsPlacing : (l : List Cell) (clue : List ℕ) (x : List Bool) → is_placing l clue x ≡ true → IsPlacing l clue x
-test_IsPlacing l clue x h = record {
-  extends = agrees-Extends l x ((and_parts (agrees l x) (bytes_eq (runs x) clue) h).0);
-  runs_are = (bytes_eq-Decides (runs x) clue).0 ((and_parts (agrees l x) (bytes_eq (runs x) clue) h).1);
-}
+test_IsPlacing l clue x h = search (rules, agrees-Extends, and_parts, bytes_eq-Decides)
 
 -- a placing passes the test
 pub IsPlacing_test : (l : List Cell) (clue : List ℕ) (x : List Bool) → IsPlacing l clue x → is_placing l clue x ≡ true
@@ -121,8 +118,7 @@ Extends-from_places a b e h = search rules
 
 -- a line that extends another does so at each place
 pub Extends-at : (a b : List Cell) (k : ℕ) → Extends a b → CellExtends (get_or a k Unknown) (get_or b k Unknown)
-Extends-at (c ∷ a) (d ∷ b) zero h = h.0
-Extends-at (c ∷ a) (d ∷ b) (suc k) h = Extends-at a b k h.1
+Extends-at (c ∷ a) (d ∷ b) k h = search (rules, Extends-at a b)
 Extends-at a b k h = search rules
 
 -- whether a full line is filled at a place
@@ -153,9 +149,8 @@ get_or-shared n ps k h = get_or-map-range_with_len (shared_at ps) 0 n k k Unknow
 -- a cell that each placing has
 greatest_at : (l : List Cell) (clue : List ℕ) (ps : List (List Bool)) (k : ℕ) → ListsPlacings l clue ps → (y : List Bool) → IsPlacing l clue y
     → (c : Cell) → ((x : List Bool) → IsPlacing l clue x → CellExtends c (colour (get_or x k false))) → CellExtends c (shared_at ps k)
-greatest_at l clue ps k listed y p Unknown h = tt
 greatest_at l clue ps k listed y p Filled h = rw (listed.every (filled_at k) (λ x q. filled_of (get_or x k false) (h x q))) tt
-greatest_at l clue ps k listed y p Blank h = search rules
+greatest_at l clue ps k listed y p c h = search rules
 
 greatest_listed : (l : List Cell) (clue : List ℕ) (ps : List (List Bool)) → ListsPlacings l clue ps → (o : Option (List Cell))
     → ((x : List Bool) → IsPlacing l clue x → AtMost o (Some (map colour x))) → AtMost o (shared (length l) ps)
@@ -191,9 +186,7 @@ deduced-below l clue x p = by (placings l clue) (placings_listed l clue)
         Extends-from_places (map (shared_at ps) (range_with_len 0 n)) (map colour x)
         (length-shared n ps ∙ sym long ∙ sym (length-map x colour)) (λ k h.
         let within : k < n = omega (arith, length-shared n ps) in
-        rw (get_or-shared n ps k within, get_or-map_colour x k (omega arith))
-        (below_cell (colour (get_or x k false)) (list_all (filled_at k) ps) (list_all (blank_at k) ps)
-        (λ e. ap colour (listed.each (filled_at k) e x p)) (λ e. ap colour (not-true (get_or x k false) (listed.each (blank_at k) e x p)))))
+        search (rules, get_or-shared, get_or-map_colour, below_cell, not-true, listed.each (filled_at k), listed.each (blank_at k)))
 
 -- if more is known, no less is deduced
 pub deduced-monotone : (l m : List Cell) (clue : List ℕ) → Extends l m → AtMost (deduced l clue) (deduced m clue)

@@ -1,5 +1,5 @@
 -- A line whose cells are all known: one full line agrees with it, whose runs a walk compares with the clue.
-use Rattle.line_core.proofs.Names.{rules, ◌≡◌, ◌≢◌, ◌↔◌, ℕ, zero, suc, ◌+◌, ◌<◌, ◌≤◌, Bool, true, false, not, cond, List, [], ◌∷◌, length, map, Option, Some, None, refl, sym, ap, ◌∙◌, subst, arith, add-one, zero-add, true≢false, drop, get_or, drop-cons, drop_of_length-le, ext_get_or, inl, inr, cases_lt, false_from_ne_true, Cell, Unknown, Filled, Blank, allows, agrees, is_filled, runs, has_by, runs_after, Has, has, IsMaskOf, has_true, true_has, mask_same, MayBe, runs_after-zero, runs_after-true, runs_after-close, runs_after-nil, none_has, none_in, add_comm, get_or-drop}
+use Rattle.line_core.proofs.Names.{rules, ◌≡◌, ◌≢◌, ◌↔◌, ℕ, zero, suc, ◌+◌, ◌<◌, ◌≤◌, Bool, true, false, not, cond, List, [], ◌∷◌, length, map, Option, Some, None, refl, sym, ap, ◌∙◌, subst, arith, add-one, zero-add, drop, get_or, drop-cons, drop_of_length-le, ext_get_or, false_from_ne_true, Cell, Unknown, Filled, Blank, allows, agrees, is_filled, runs, has_by, runs_after, Has, has, IsMaskOf, has_true, true_has, mask_same, MayBe, runs_after-zero, runs_after-true, runs_after-close, runs_after-nil, none_has, none_in, add_comm, get_or-drop}
 use Rattle.line_core.specs.steps.Full.{IsFull, IsFilled}
 use Rattle.line_core.proofs.Certain.{CanBe}
 use Rattle.line_core.proofs.Joining.{length-agrees}

@@ -45,9 +45,7 @@ agrees_onto s t a b h k = search rules
 pub onto_agrees : (s t : List Cell) (a b : List Bool) → length s ≡ length a → agrees (onto s t) (onto a b) ≡ true
     → (agrees s a ≡ true) × (agrees t b ≡ true)
 onto_agrees [] t [] b e h = (refl, h)
-onto_agrees (c ∷ s) t (x ∷ a) b e h =
-    let r = onto_agrees s (c ∷ t) a (x ∷ b) (omega arith) h in
-    (and_from (allows c x) (agrees s a) (and_parts (allows c x) (agrees t b) r.1).0 r.0, (and_parts (allows c x) (agrees t b) r.1).1)
+onto_agrees (c ∷ s) t (x ∷ a) b e h = let r = onto_agrees s (c ∷ t) a (x ∷ b) (omega arith) h in search (rules, and_from, and_parts)
 onto_agrees s t a b e h = search rules
 
 -- the first of the elements that are left
@@ -63,7 +61,7 @@ onto_split [] q clue e = (refl, e, omega arith)
 onto_split (r ∷ p) q clue e =
     let t = onto_split p (r ∷ q) clue e in
     let h = drop_head clue (length p) r q t.1 in
-    (ap (λ (z : ℕ). z ∷ p) (sym h.0) ∙ ap (λ (z : List ℕ). get_or clue (length p) 0 ∷ z) t.0, h.1, omega (arith, h.2))
+    (cc, h.1, omega arith)
 
 -- ---- the runs of a line that is cut at a blank cell
 
@@ -78,8 +76,7 @@ runs_run n y = sym (runs_after-zero (replicate n true ++ y)) ∙ runs_after-more
 -- a run, if it doesn't go on after its cells
 pub runs_closed : (n : ℕ) (b : List Bool) → get_or b 0 false ≡ false → runs_after (suc n) b ≡ suc n ∷ runs b
 runs_closed n [] h = runs_after-nil n
-runs_closed n (true ∷ b) h = cc
-runs_closed n (false ∷ b) h = runs_after-close n b ∙ ap (λ (rs : List ℕ). suc n ∷ rs) (runs_after-zero b)
+runs_closed n (c ∷ b) h = search (rules, runs_after-close, runs_after-zero)
 
 -- the runs of a line that begins with one
 pub runs_first : (c : ℕ) (b : List Bool) → 0 < c → get_or b 0 false ≡ false → runs (replicate c true ++ b) ≡ c ∷ runs b
@@ -103,16 +100,14 @@ runs_cut a b = runs_onto a 0 b ∙ ap (λ (p : List ℕ). onto p (runs b)) (runs
 pub runs_about : (a : List Bool) (c : ℕ) (b : List Bool) → 0 < c → get_or a 0 false ≡ false → get_or b 0 false ≡ false
     → runs (onto a (replicate c true ++ b)) ≡ onto (runs a) (c ∷ runs b)
 runs_about [] c b p h k = runs_first c b p k
-runs_about (true ∷ a) c b p h k = cc
-runs_about (false ∷ a) c b p h k = runs_cut a (replicate c true ++ b) ∙ ap (onto (runs a)) (runs_first c b p k)
+runs_about (x ∷ a) c b p h k = search (rules, runs_cut, runs_first)
 
 -- ---- parts of a clue
 
 -- each number of a clue is positive
 pub positive_at : (clue : List ℕ) → ArePositive clue → (j : ℕ) → j < length clue → 0 < get_or clue j 0
 positive_at [] p j h = absurd (omega arith)
-positive_at (c ∷ clue) p zero h = p.0
-positive_at (c ∷ clue) p (suc j) h = positive_at clue p.1 j (omega arith)
+positive_at (c ∷ clue) p j h = search (rules, positive_at clue p.1)
 
 -- ---- a run on the line
 
@@ -121,11 +116,9 @@ pub agrees_span : (l : List Cell) (v : Bool) (n p q : ℕ) (y : List Bool) → p
     → agrees (drop q l) y ≡ true → agrees (drop p l) (replicate n v ++ y) ≡ true
 agrees_span l v zero p q y e o h = let same : p ≡ q = omega arith in rw same h
 agrees_span l v (suc n) p q y e o h =
-    let zeroth : p + 0 ≡ p = omega arith in
-    let first : MayBe l v p = subst (MayBe l v) zeroth (o 0 (omega arith)) in
-    rw (drop-cons l p Unknown first.0) (and_from (allows (get_or l p Unknown) v) (agrees (drop (suc p) l) (replicate n v ++ y)) first.1
-    (agrees_span l v n (suc p) q y (omega arith)
-    (λ z b. let f : p + suc z ≡ suc p + z = omega arith in subst (MayBe l v) f (o (suc z) (omega arith))) h))
+    let first = rw add-zero at (o 0 (omega arith)) in
+    let rest = agrees_span l v n (suc p) q y (omega arith) (λ z b. let f : p + suc z ≡ suc p + z = omega arith in rw f at (o (suc z) (omega arith))) h in
+    rw (drop-cons l p Unknown first.0) (search (rules, and_from))
 
 -- what remains of a line after its cells at s
 drop_past : (l : List Cell) (s : ℕ) (b : Bool) (y : List Bool) → agrees (drop s l) (b ∷ y) ≡ true → (MayBe l b s) × (agrees (drop (suc s) l) y ≡ true)
@@ -246,12 +239,10 @@ reversed_gap l clue j i jl il = search (rules, get_or-reverse, behind_reversed, 
 pub closed_ahead_to : (l : List Cell) (clue : List ℕ) (j p : ℕ) → j ≤ length clue → p ≤ length l → MayBeginBlank (drop p l) (drop j clue)
     → ((p ≡ length l) × (j ≡ length clue)) ⊎ IsGapAhead l clue j p
 closed_ahead_to l clue j p jl pl h = elim (cases_lt p (length l)) [
-  | inr past ↦
-      (let none : length (drop j clue) ≡ 0 = closed_none (drop j clue) (rw (drop_of_length-le l {i = p} past) at h) in
-      inl (omega arith, omega (arith, length-drop j clue)))
+  | inr past ↦ (let none = closed_none (drop j clue) (rw (drop_of_length-le l {i = p} past) at h) in search (rules, length-drop j clue))
   | inl within ↦
       (let first = closed_first (get_or l p Unknown) (drop (suc p) l) (drop j clue) (rw (drop-cons l p Unknown within) at h) in
-      inr ((within, first.0), rw (add-one p) first.1))
+      search (rules, add-one p))
 ]
 
 -- and back

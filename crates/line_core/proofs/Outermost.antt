@@ -1,5 +1,5 @@
 -- The placing whose starts are all least, and the one whose starts are all greatest.
-use Rattle.line_core.proofs.Names.{inl, inr, false_from_ne_true, rules, ◌≡◌, ℕ, zero, suc, ◌+◌, ◌-◌, ◌<◌, ◌≤◌, Bool, true, false, not, List, [], ◌∷◌, length, map, Some, None, refl, sym, ap, ◌∙◌, subst, arith, get_or, ext_get_or, nat_le, set, take, MatchBool, All, list_all, find, All-head, All-tail, All-weaker, and_parts, leb-true, le-leb, list_all-map, length-take-le, get_or-take, Cell, placings, run_starts, all_starts, Side, Left, Right, outermost, IsAsFar, IsOuterStart, Has, IsMaskOf, meet_of, written_more, IsWholeEnd, IsGap, IsGapAhead, HasPlacing, ArePositive, cases_Bool}
+use Rattle.line_core.proofs.Names.{inl, inr, false_from_ne_true, rules, ◌≡◌, ℕ, suc, ◌+◌, ◌-◌, ◌<◌, ◌≤◌, Bool, true, false, not, List, [], ◌∷◌, length, map, Some, None, refl, sym, ap, ◌∙◌, subst, arith, get_or, ext_get_or, nat_le, set, take, MatchBool, All, list_all, find, All-head, All-tail, All-weaker, and_parts, leb-true, le-leb, list_all-map, length-take-le, get_or-take, Cell, placings, run_starts, all_starts, Side, Left, Right, outermost, IsAsFar, IsOuterStart, Has, IsMaskOf, written_more, IsWholeEnd, IsGap, IsGapAhead, HasPlacing, ArePositive, cases_Bool}
 use lib.Pointwise.{pointwise}
 use Rattle.line_core.proofs.Joining.{positive_at, blankable_to, blankable_from}
 use Rattle.line_core.proofs.WholeEnds.{whole_of, placing_with}
@@ -22,13 +22,11 @@ pointwise_from xs ys e h = search rules
 pointwise_to : (xs ys : List ℕ) → pointwise nat_le xs ys ≡ true → (length xs ≡ length ys) × ((j : ℕ) → get_or xs j 0 ≤ get_or ys j 0)
 pointwise_to [] [] h = (refl, λ j. omega arith)
 pointwise_to (x ∷ xs) (y ∷ ys) h =
-    let t = and_parts (nat_le x y) (pointwise nat_le xs ys) h in
-    let rest = pointwise_to xs ys t.1 in
-    (ap suc rest.0, by (leb-true x y t.0) rest.1)
+    let (head, tail) = and_parts (nat_le x y) (pointwise nat_le xs ys) h in
+    (ap suc (pointwise_to xs ys tail).0, by (leb-true x y head) (pointwise_to xs ys tail).1)
   where
     by : x ≤ y → ((j : ℕ) → get_or xs j 0 ≤ get_or ys j 0) → (j : ℕ) → get_or (x ∷ xs) j 0 ≤ get_or (y ∷ ys) j 0
-    by a b zero = a
-    by a b (suc j) = b j
+    by a b j = search rules
 pointwise_to xs ys h = search rules
 
 pub pointwise_antisym : (xs ys : List ℕ) → pointwise nat_le xs ys ≡ true → pointwise nat_le ys xs ≡ true → xs ≡ ys

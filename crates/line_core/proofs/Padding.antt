@@ -34,8 +34,7 @@ agrees_cut [] y m h = ([], agree_blanks m y h, refl)
 agrees_cut (c ∷ l) [] m h = cc
 agrees_cut (c ∷ l) (b ∷ y) m h =
     let parts = and_parts (allows c b) (agrees (l ++ replicate m Blank) y) h in
-    let rest = agrees_cut l y m parts.1 in
-    (b ∷ rest.0, ap (λ (t : List Bool). b ∷ t) rest.1, and_from (allows c b) (agrees l rest.0) parts.0 rest.2)
+    let (x, same, agree) = agrees_cut l y m parts.1 in (b ∷ x, cc, search (rules, and_from))
 
 blank_at : (m k : ℕ) → get_or (replicate m false) k false ≡ false
 blank_at m k = grind (arith, common_steps)
@@ -53,12 +52,8 @@ module _ (l : List Cell) (clue : List ℕ) (m : ℕ) where
   -- what a cell of the line can be
   with_blanks : (c : Bool) (k : ℕ) → k < length l → CanBe l clue c k → CanBe longer clue c k
   with_blanks c k within (x, agree, is, at) =
-      let long : k < length x = omega (arith, length-agrees l x agree, within) in (
-        x ++ replicate m false,
-        agrees_more l x m agree,
-        runs-blanks x m ∙ is,
-        get_or_append_left x (replicate m false) false k long ∙ at,
-      )
+      let long : k < length x = omega (arith, length-agrees l x agree) in
+      (x ++ replicate m false, agrees_more l x m agree, runs-blanks x m ∙ is, get_or_append_left x (replicate m false) false k long ∙ at)
 
   without_blanks : (c : Bool) (k : ℕ) → k < length l → CanBe longer clue c k → CanBe l clue c k
   without_blanks c k within (y, agree, is, at) = search (rules, agrees_cut, length-agrees, runs-blanks, get_or_append_left)
@@ -70,10 +65,8 @@ module _ (l : List Cell) (clue : List ℕ) (m : ℕ) where
   -- so the same cells are filled in a placing
   pub fillable_alone : (f : ℕ) → ArePositive clue → IsMaskOf (IsFillable longer clue) f → IsMaskOf (IsFillable l clue) f
   fillable_alone f pos are =
-      mask_same _ _ f are
-      (λ i h. let can = fillable_to longer clue i pos h in fillable_from l clue i (without_blanks true i (filled_before i can) can))
-      (λ i h. let can = fillable_to l clue i pos h in
-      fillable_from longer clue i (with_blanks true i (filled_agrees l can.0 i can.1 can.3) can))
+      mask_same _ _ f are (λ i h. let can = fillable_to longer clue i pos h in search (rules, fillable_from, without_blanks, filled_before))
+      (λ i h. let can = fillable_to l clue i pos h in search (rules, fillable_from, with_blanks, filled_agrees))
 
   -- and of the line's cells the same are blank in one
   pub blankable_alone : (b p n : ℕ) → IsMaskOf (IsBlankable longer clue) b → IsMaskOf (λ i. i < length l) p

@@ -1,5 +1,5 @@
 -- Full lines made of starts.
-use Rattle.line_core.proofs.Names.{◌≡◌, ℕ, zero, suc, ◌+◌, ◌-◌, ◌<◌, ◌≤◌, Bool, true, false, List, [], ◌∷◌, ◌++◌, length, replicate, refl, sym, ap, ◌∙◌, subst, arith, inl, inr, add-zero, below_more, drop, get_or, drop_of_length-le, rules, cases_lt, and_parts, Cell, Unknown, allows, agrees, runs, AllFrom, Side, Left, Right, IsAsFar, MayBe, ArePositive}
+use Rattle.line_core.proofs.Names.{◌≡◌, ℕ, zero, suc, ◌+◌, ◌-◌, ◌<◌, ◌≤◌, Bool, true, false, List, [], ◌∷◌, ◌++◌, length, replicate, refl, sym, ap, ◌∙◌, subst, arith, inl, inr, add-zero, drop, get_or, drop_of_length-le, rules, cases_lt, and_parts, Cell, Unknown, allows, agrees, runs, AllFrom, Side, Left, Right, IsAsFar, MayBe, ArePositive}
 use Rattle.line_core.proofs.Joining.{filled_agrees, agrees_span, runs_first}
 use Rattle.line_core.proofs.RunStarts.{starts_from, length-run_starts, run_of, filled_in_run, runs_apart, covered}
 

@@ -1,5 +1,5 @@
 -- What masks of the cells that can be filled, and of those that can be blank, tell of a line.
-use Rattle.line_core.proofs.Names.{rules, ◌≡◌, ℕ, ◌<◌, ◌⊎◌, inl, inr, Bool, true, false, not, cond, ◌&&◌, List, length, get_or, map, Some, None, refl, sym, ◌∙◌, arith, true≢false, zero-add, ext_get_or, range_with_len, length-map-range_with_len, get_or-map-range_with_len, Cell, Unknown, Has, has, IsMaskOf, has_true, true_has, deduced, certain_by, IsFillable, IsBlankable, ArePositive, has_by, ◌||◌, cases_Bool, or_cases, or_left, or_right, cell_at, length_line}
+use Rattle.line_core.proofs.Names.{rules, ◌≡◌, ℕ, ◌<◌, ◌⊎◌, inl, inr, Bool, true, false, not, cond, ◌&&◌, List, length, get_or, map, Some, None, refl, sym, ◌∙◌, arith, true≢false, zero-add, ext_get_or, range_with_len, length-map-range_with_len, get_or-map-range_with_len, Cell, Unknown, Has, has, IsMaskOf, has_true, true_has, deduced, certain_by, IsFillable, IsBlankable, ArePositive, has_by, ◌||◌, cases_Bool, cell_at, length_line}
 use Rattle.grid_core.specs.Lines.{cell_with}
 use Rattle.grid_core.specs.Lines.{line_cells}
 use Rattle.line_core.specs.Told.{told_by}
@@ -9,11 +9,7 @@ use Rattle.line_core.proofs.WholeEnds.{fillable_to, fillable_from}
 use Rattle.line_core.proofs.Certain.{CanBe, Tells, deduced-told, dead-told}
 
 either_first : (f b m : ℕ) → IsMaskOf (λ i. Has f i ⊎ Has b i) m → (has f 0 || has b 0) ≡ has m 0
-either_first f b m p =
-    sym (has_by m 0 (has f 0 || has b 0) (λ h. elim (p.to 0 h) [
-      | inl x ↦ or_left (has f 0) (has b 0) (has_true f 0 x)
-      | inr x ↦ or_right (has f 0) (has b 0) (has_true b 0 x)
-    ]) (λ e. p.from 0 (elim (or_cases (has f 0) (has b 0) e) [ inl x ↦ inl (true_has f 0 x) | inr x ↦ inr (true_has b 0 x) ])))
+either_first f b m p = grind (arith, p.to 0, p.from 0, has_true, true_has, has_by)
 
 -- the answer if the first cell can have no colour
 pub told_dead : (len f b m : ℕ) → IsMaskOf (λ i. Has f i ⊎ Has b i) m → has m 0 ≡ false → None ≡ told_by len f b
@@ -51,16 +47,10 @@ pub told-deduced : (l : List Cell) (clue : List ℕ) (len f b : ℕ) → ArePosi
 told-deduced l clue len f b pos some long fill blank = by (has f 0) (has b 0) refl refl
   where
     filled_tells : (k : ℕ) → k < length l → Tells (CanBe l clue true k) (has f k)
-    filled_tells k h = record {
-      to = λ e. fillable_to l clue k pos (fill.to k (true_has f k e));
-      from = λ x. has_true f k (fill.from k (fillable_from l clue k x));
-    }
+    filled_tells k h = record { to = λ e. search (rules, fillable_to, true_has, fill.to); from = λ x. search (rules, has_true, fill.from, fillable_from) }
 
     blank_tells : (k : ℕ) → k < length l → Tells (CanBe l clue false k) (has b k)
-    blank_tells k h = record {
-      to = λ e. blankable_to l clue k (blank.to k (true_has b k e));
-      from = λ x. has_true b k (blank.from k (blankable_from l clue k h x));
-    }
+    blank_tells k h = record { to = λ e. search (rules, blankable_to, true_has, blank.to); from = λ x. search (rules, has_true, blank.from, blankable_from) }
 
     found : (c : Bool) → CanBe l clue c 0 → Some (map (λ (i : ℕ). certain_by (has f i) (has b i)) (range_with_len 0 len)) ≡ deduced l clue
     found c x =
