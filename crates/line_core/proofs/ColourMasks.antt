@@ -92,9 +92,6 @@ pub record AreAdded (places left : ℕ) (P : ℕ → Bool → ℕ → Type 0) (o
   pub kept : (d : Bool) (k : ℕ) → HasColour old d k → HasColour new d k
   pub added : (i : ℕ) (d : Bool) (k : ℕ) → Has places i → P i d k → Has left i ⊎ HasColour new d k
 
-pub added_none : (places : ℕ) (P : ℕ → Bool → ℕ → Type 0) (old : ColourMasks) → AreAdded places places P old old
-added_none places P old = record { within = λ i h. h; to = λ d k h. inl h; kept = λ d k h. h; added = λ i d k h x. inl h }
-
 pub added_more : (places left next p : ℕ) (P : ℕ → Bool → ℕ → Type 0) (old sum new : ColourMasks) → AreAdded places left P old sum → Has left p
     → IsMaskOf (IsMarked (Has left) p false) next → AreMore (P p) sum new → AreAdded places next P old new
 added_more places left next p P old sum new a here marked more = record {

@@ -227,8 +227,7 @@ told_is l rs n i longer ended before row some far r v k = (λ t. before_from l r
 
 -- the masks of what can be filled
 pub filled_is : (l : List Cell) (rs : List ℕ) (n i longer ended : ℕ) (before row : List ColourMasks) (m : ℕ) → 0 < n → (Has longer i → 1 ≤ i)
-    → IsReady l rs n i longer ended before row
-    → IsMaskOf (λ k. (Has longer i × Has (get_or row (i - 1) no_colours).fillable k)
+    → IsReady l rs n i longer ended before row → IsMaskOf (λ k. (Has longer i × Has (get_or row (i - 1) no_colours).fillable k)
     ⊎ (Has ended i × (((i - n ≤ k) × (k < i)) ⊎ ((n < i) × Has (get_or before (i - n - 1) no_colours).fillable k)))) m
     → IsMaskOf (CanBeBefore l (n ∷ rs) i true) m
 filled_is l rs n i longer ended before row m some far r p =
@@ -237,10 +236,8 @@ filled_is l rs n i longer ended before row m some far r p =
 
 -- and of what can be blank
 pub blank_is : (l : List Cell) (rs : List ℕ) (n i longer ended : ℕ) (before row : List ColourMasks) (m : ℕ) → 0 < n → (Has longer i → 1 ≤ i)
-    → IsReady l rs n i longer ended before row
-    → IsMaskOf (λ k. ((k ≡ i) ⊎ (Has longer i × Has (get_or row (i - 1) no_colours).blankable k))
-    ⊎ (Has ended i × (n < i) × Has (get_or before (i - n - 1) no_colours).blankable k)) m
-    → IsMaskOf (CanBeBefore l (n ∷ rs) i false) m
+    → IsReady l rs n i longer ended before row → IsMaskOf (λ k. ((k ≡ i) ⊎ (Has longer i × Has (get_or row (i - 1) no_colours).blankable k))
+    ⊎ (Has ended i × (n < i) × Has (get_or before (i - n - 1) no_colours).blankable k)) m → IsMaskOf (CanBeBefore l (n ∷ rs) i false) m
 blank_is l rs n i longer ended before row m some far r p =
     let told = told_is l rs n i longer ended before row some far r false in
     mask_same _ _ m p (λ k h. (told k).0 (search rules)) (λ k h. let t = (told k).1 h in search rules)

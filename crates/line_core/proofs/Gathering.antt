@@ -28,11 +28,14 @@ IsBeforeRun line clue x j filled k =
     ((filled ≡ true) × (e : ℕ) × IsEndOver line clue x j e × (e + 1 - get_or clue j 0 ≤ k) × (k ≤ e))
     ⊎ ((i : ℕ) × IsEndOver line clue x j (i + get_or clue j 0) × CanBeBefore line (behind 0 clue j) i filled k)
 
+-- the cell before a place is an end of run j with which it covers x
+abbrev pub IsPastEnd : List Cell → List ℕ → ℕ → ℕ → ℕ → Type 0
+IsPastEnd line clue x j i = (1 ≤ i) × (i < length line) × IsEndOver line clue x j (i - 1)
+
 -- and after it, seen from the other end
 abbrev pub IsAfterRun : List Cell → List ℕ → ℕ → ℕ → Bool → ℕ → Type 0
 IsAfterRun line clue x j filled k =
-    (e : ℕ) × IsEndOver line clue x j e × (e + 1 < length line)
-    × CanBeBefore (reverse line) (behind 0 (reverse clue) (length clue - (j + 1))) (length line - 1 - (e + 1)) filled k
+    (i : ℕ) × IsPastEnd line clue x j i × CanBeBefore (reverse line) (behind 0 (reverse clue) (length clue - (j + 1))) (length line - 1 - i) filled k
 
 -- ---- a line with a cell coloured
 
@@ -162,10 +165,8 @@ run_to l clue x k d (may, can) =
         let size = length-set l k (colour d) in
         elim (cases_lt e k) [
           | inr inside ↦ inl (end_step_to l (behind 0 clue j) (get_or clue j 0) e k d some may inside end)
-          | inl past ↦ elim (closed_ahead_to (coloured l k d) clue (j + 1) (e + 1) (omega arith) (omega (arith, end.0)) back) [
-            | inl none ↦ absurd (omega (arith, none.0, may.0))
-            | inr gap ↦ inr (omega (arith, may.0), (omega arith, may, gap))
-          ]
+          | inl past ↦
+              (let after = closed_ahead_to (coloured l k d) clue (j + 1) (e + 1) (omega arith) (omega (arith, end.0)) back in search rules)
         ]
 
 run_from : (l : List Cell) (clue : List ℕ) (x k j e : ℕ) (d : Bool) → ArePositive clue → j < length clue → IsEndOver l clue x j e
@@ -212,11 +213,17 @@ end_over_is number l clue kept default x j w ends over lengths wholes short jl f
 pub gaps_before_are : (l : List Cell) (clue : List ℕ) (j x over low gaps : ℕ) → 0 < get_or clue j 0 → IsMaskOf (IsEndOver l clue x j) over
     → IsMaskOf (λ i. Has over (i + (get_or clue j 0 - 1))) low → IsMaskOf (λ i. Has low (i + 1)) gaps
     → IsMaskOf (λ i. IsEndOver l clue x j (i + get_or clue j 0)) gaps
-gaps_before_are l clue j x over low gaps some are lows are_gaps = mask_same _ _ gaps are_gaps
-    (λ i h. rw (e i) at (are.to _ (lows.to (i + 1) h))) (λ i h. lows.from (i + 1) (rw (e i) (are.from _ h)))
-  where
-    e : (i : ℕ) → i + 1 + (get_or clue j 0 - 1) ≡ i + get_or clue j 0
-    e i = omega arith
+gaps_before_are l clue j x over low gaps some are lows are_gaps =
+    let e : (i : ℕ) → i + 1 + (get_or clue j 0 - 1) ≡ i + get_or clue j 0 = λ i. omega arith in
+    mask_same _ _ gaps are_gaps (λ i h. rw (e i) at (are.to _ (lows.to (i + 1) h))) (λ i h. lows.from (i + 1) (rw (e i) (are.from _ h)))
+
+-- and those after them
+pub gaps_after_are : (l : List Cell) (clue : List ℕ) (w j x over up cells gaps : ℕ) → length l ≤ w → IsMaskOf (IsEndOver l clue x j) over
+    → IsMaskOf (IsShifted w (Has over) 1) up → IsMaskOf (λ i. i < length l) cells → IsMaskOf (λ i. Has up i × Has cells i) gaps
+    → IsMaskOf (IsPastEnd l clue x j) gaps
+gaps_after_are l clue w j x over up cells gaps short are ups are_cells are_gaps =
+    mask_same _ _ gaps are_gaps (λ i h. let u = ups.to i h.0 in (u.1, are_cells.to i h.1, are.to (i - 1) u.2))
+    (λ i h. (ups.from i (omega (arith, h.1), h.0, are.from (i - 1) h.2), are_cells.from i h.1))
 
 pub gap_before_is : (l : List Cell) (clue : List ℕ) (j x i : ℕ) → 0 < get_or clue j 0 → j < length clue
     → IsEndOver l clue x j (i + get_or clue j 0) → IsWholeGap l clue j i
@@ -249,42 +256,25 @@ run_before_more l clue before after j x over part gaps old mid new told some jl 
     from d k (inr (i, end, can)) = inr (i, are_gaps.from i end, can)
 
 -- and what is after it
-pub run_after_more : (l : List Cell) (clue : List ℕ) (before after : List ColourMasks) (w j x over up cells gaps : ℕ) (old new : ColourMasks)
-    → AreToldOf l clue before after → 0 < get_or clue j 0 → j < length clue → length l ≤ w → IsMaskOf (IsEndOver l clue x j) over
-    → IsMaskOf (IsShifted w (Has over) 1) up → IsMaskOf (λ i. i < length l) cells → IsMaskOf (λ i. Has up i × Has cells i) gaps
+pub run_after_more : (l : List Cell) (clue : List ℕ) (before after : List ColourMasks) (j x gaps : ℕ) (old new : ColourMasks)
+    → AreToldOf l clue before after → 0 < get_or clue j 0 → j < length clue → IsMaskOf (IsPastEnd l clue x j) gaps
     → AreMore (λ d k. (i : ℕ) × Has gaps i × HasColour (get_or after (128 * (length clue - 1 - j) + (length l - 1 - i)) no_colours) d k) old new
     → AreMore (IsAfterRun l clue x j) old new
-run_after_more l clue before after w j x over up cells gaps old new told some jl short are ups are_cells are_gaps rows =
+run_after_more l clue before after j x gaps old new told some jl are rows =
     more_same _ _ old new (each_more gaps after (λ i. 128 * (length clue - 1 - j) + (length l - 1 - i)) After old new row rows)
-    (λ d k. (to d k, from d k))
+    (λ d k. (λ (i, here, can). (i, are.to i here, can), λ (i, past, can). (i, are.from i past, can)))
   where
     After : ℕ → Bool → ℕ → Type 0
     After i = CanBeBefore (reverse l) (behind 0 (reverse clue) (length clue - (j + 1))) (length l - 1 - i)
 
-    end_of : (i : ℕ) → Has gaps i → (i - 1 + 1 ≡ i) × (i - 1 + 1 < length l) × IsEndOver l clue x j (i - 1)
-    end_of i h =
-        let both = are_gaps.to i h in
-        let (within, above, has_end) = ups.to i both.0 in
-        let inside : i < length l = are_cells.to i both.1 in
-        (omega arith, omega arith, are.to (i - 1) has_end)
-
     row : (i : ℕ) → Has gaps i → (d : Bool) (k : ℕ)
         → HasColour (get_or after (128 * (length clue - 1 - j) + (length l - 1 - i)) no_colours) d k ↔ After i d k
     row i h =
-        let (same, next, end) = end_of i h in
+        let (first, inside, end) = are.to i h in
+        let back : i - 1 + 1 ≡ i = omega arith in
         let runs_left : length clue - 1 - j ≡ length clue - (j + 1) = omega arith in
-        let gap = whole_turned l clue (j + 1) (i - 1 + 1) (omega arith) next (gap_after_end l clue j (i - 1) some jl next end.2) in
-        rw runs_left (before_are (reverse l) _ _ _ (told.after_is (length clue - (j + 1)) (length l - 1 - i) (omega (arith, length-reverse clue))
-        (rw same at gap)))
-
-    to : (d : Bool) (k : ℕ) → (i : ℕ) × Has gaps i × After i d k → IsAfterRun l clue x j d k
-    to d k (i, has_gap, can) = let (same, next, end) = end_of i has_gap in (i - 1, end, next, rw same can)
-
-    from : (d : Bool) (k : ℕ) → IsAfterRun l clue x j d k → (i : ℕ) × Has gaps i × After i d k
-    from d k (e, end, next, can) =
-        let same : e + 1 - 1 ≡ e = omega arith in
-        let above = ups.from (e + 1) (omega arith, omega arith, rw same (are.from e end)) in
-        (e + 1, are_gaps.from (e + 1) (above, are_cells.from (e + 1) next), can)
+        let gap = whole_turned l clue (j + 1) i (omega arith) inside (rw back at (gap_after_end l clue j (i - 1) some jl (omega arith) end.2)) in
+        rw runs_left (before_are (reverse l) _ _ _ (told.after_is (length clue - (j + 1)) (length l - 1 - i) (omega (arith, length-reverse clue)) gap))
 
 -- ---- the masks
 
@@ -335,8 +325,9 @@ gathered_filled l clue x near far new pos unknown a b both =
     to d k (inl (j, jl, inr (i, over, can))) =
         let same : i + get_or clue j 0 - get_or clue j 0 ≡ i = omega arith in
         run_from l clue x k j (i + get_or clue j 0) d pos jl over (inl (inr (omega arith, rw same can)))
-    to d k (inr (kl, (j, jl, (e, over, next, can)))) =
-        run_from l clue x k j e d pos jl over (inr (next, (after_turned l clue (j + 1) (e + 1) k d (omega arith) next kl).0 can))
+    to d k (inr (kl, (j, jl, (i, (first, inside, over), can)))) =
+        let back : i - 1 + 1 ≡ i = omega arith in
+        run_from l clue x k j (i - 1) d pos jl over (inr (rw back (inside, (after_turned l clue (j + 1) i k d (omega arith) inside kl).0 can)))
 
     from : (d : Bool) (k : ℕ) → GoesWith l clue x true d k → Sides d k
     from d k goes =
@@ -345,5 +336,8 @@ gathered_filled l clue x near far new pos unknown a b both =
           | inl (inl (fill, past, le)) ↦ inl (j, jl, inl (fill, e, over, past, le))
           | inl (inr (far, can)) ↦ (let same : e - get_or clue j 0 + get_or clue j 0 ≡ e = omega arith in
               inl (j, jl, inr (e - get_or clue j 0, rw same over, can)))
-          | inr (next, y) ↦ inr (goes.0.0, (j, jl, (e, over, next, (after_turned l clue (j + 1) (e + 1) k d (omega arith) next goes.0.0).1 y)))
+          | inr (next, y) ↦
+              (let back : e + 1 - 1 ≡ e = omega arith in
+              let turned = (after_turned l clue (j + 1) (e + 1) k d (omega arith) next goes.0.0).1 y in
+              inr (goes.0.0, (j, jl, (e + 1, (omega arith, next, rw back over), turned))))
         ]

@@ -112,9 +112,7 @@ starts_about l w number free room len line filled starts first last before some 
     from : (i : ℕ) → IsLoneStart l number i → Has some i × Has after i
     from i start =
         let x = must i first start at_first in
-        let y = must i last start at_last in
-        let low : i ≤ first = x.0 in
-        let high : last < i + number = y.1 in (
+        let y = must i last start at_last in (
           q.from i (s.from i (λ z b. r.from (i + z) (start.window z b)), b.from i (omega arith)),
           d.from i (omega arith, omega arith, c.from (i - (last + 1 - number)) (omega arith)),
         )
@@ -138,12 +136,9 @@ pub lone_fillable : (l : List Cell) (clue : List ℕ) (w starts ends m : ℕ) �
 lone_fillable l clue w starts ends m pos one some short s p q = mask_same _ _ m q to from
   where
     to : (i : ℕ) → SomeFrom (Has ends) (get_or clue 0 0) i → IsFillable l clue i
-    to i h =
-        let z = h.0 in
-        let below : z < get_or clue 0 0 = h.1 in
-        let e = p.to (i + z) h.2 in
-        let enough : get_or clue 0 0 - 1 ≤ i + z = e.1 in
-        fills_from l clue i (i + z - (get_or clue 0 0 - 1)) pos one (s.to (i + z - (get_or clue 0 0 - 1)) e.2) (omega arith) (omega arith)
+    to i (z, below, has_end) =
+        let (within, enough, start) = p.to (i + z) has_end in
+        fills_from l clue i (i + z - (get_or clue 0 0 - 1)) pos one (s.to (i + z - (get_or clue 0 0 - 1)) start) (omega arith) (omega arith)
 
     from : (i : ℕ) → IsFillable l clue i → SomeFrom (Has ends) (get_or clue 0 0) i
     from i h =
@@ -170,11 +165,7 @@ lone_blankable l clue w len line starts first last certain m pos one e short s a
         ]
 
     out : (i : ℕ) → LeavesFrom l (get_or clue 0 0) i → Has certain i → ⊥
-    out i f h =
-        let x = c.to i h in
-        let most = greatest f.0 (s.from f.0 f.1) in
-        let few = least f.0 (s.from f.0 f.1) in
-        elim f.2 [ inl y ↦ omega (arith, x.1, x.2) | inr y ↦ omega (arith, x.1, x.2) ]
+    out i f h = grind (arith, c.to i h, greatest f.0 (s.from f.0 f.1), least f.0 (s.from f.0 f.1))
 
     from : (i : ℕ) → IsBlankable l clue i → Has line i × (has certain i ≡ false)
     from i h =

@@ -100,17 +100,17 @@ away_from clue slack i j = cond (nat_le (least_start clue j + slack) i) 0 slack
 pub can_be_blank : (l : List Cell) (clue : List ℕ) (slack i : ℕ) → AnyColour l → ArePositive clue → needed clue + slack ≡ length l + 1
     → (IsOverlap clue slack i → ⊥) → CanBe l clue false i
 can_be_blank l clue slack i any_cell pos e none =
-    let x = shifted l clue slack (away_from clue slack i) any_cell pos e (λ j. grind (arith, nat_tests))
-    (λ j h. let next = start_next clue j (omega arith) in grind (arith, nat_tests)) in
-    (x.0, x.1, x.2, false_from_ne_true (get_or x.0 i false) (by x))
-  where
-    by : (x : Shifted l clue (away_from clue slack i)) → get_or x.0 i false ≡ true → ⊥
-    by x f =
-        let c = covered x.0 clue i x.2 f in
-        let at = x.3 c.index c.inside in
-        let from = c.from in
-        let to = c.to in
-        none (c.index, c.inside, grind (arith, nat_tests), grind (arith, nat_tests))
+    let (y, agree, is, starts) = shifted l clue slack (away_from clue slack i) any_cell pos e (λ j. grind (arith, nat_tests))
+    (λ j h. let next = start_next clue j (omega arith) in grind (arith, nat_tests)) in (
+      y,
+      agree,
+      is,
+      false_from_ne_true (get_or y i false) (λ f.
+          let c = covered y clue i is f in
+          let at = starts c.index c.inside in
+          let from = c.from in
+          let to = c.to in none (c.index, c.inside, grind (arith, nat_tests), grind (arith, nat_tests))),
+    )
 
 -- ---- if there is a run that can move, each cell can be filled
 
@@ -127,22 +127,21 @@ reaches clue slack i (suc j) some h to = elim (cases_lt i (least_start clue (suc
 
 filled_by : (l : List Cell) (clue : List ℕ) (slack i : ℕ) → AnyColour l → ArePositive clue → needed clue + slack ≡ length l + 1
     → Reaches clue slack i → CanBe l clue true i
-filled_by l clue slack i any_cell pos e r =
-    let some = positive_at clue pos r.0 r.1 in
-    let by = i + 1 - (least_start clue r.0 + get_or clue r.0 0) in
-    let x = shifted l clue slack (λ j. cond (nat_lt j r.0) 0 by) any_cell pos e (λ j. grind (arith, nat_tests)) (λ j h. grind (arith, nat_tests)) in
-    let shift : cond (nat_lt r.0 r.0) 0 by ≡ by = grind (arith, nat_tests) in
-    let at = x.3 r.0 r.1 in
-    (x.0, x.1, x.2, in_run x.0 clue r.0 i x.2 r.1 (omega (arith, r.2)) (omega (arith, r.2, r.3)))
+filled_by l clue slack i any_cell pos e (j, jl, low, high) =
+    let some = positive_at clue pos j jl in
+    let by = i + 1 - (least_start clue j + get_or clue j 0) in
+    let (y, agree, is, starts) =
+    shifted l clue slack (λ k. cond (nat_lt k j) 0 by) any_cell pos e (λ j. grind (arith, nat_tests)) (λ j h. grind (arith, nat_tests)) in
+    let at : get_or (starts_from 0 false y) j 0 ≡ least_start clue j + by = grind (arith, nat_tests, starts j jl) in
+    (y, agree, is, in_run y clue j i is jl (omega arith) (omega arith))
 
 pub can_be_filled : (l : List Cell) (clue : List ℕ) (slack i : ℕ) → AnyColour l → ArePositive clue → needed clue + slack ≡ length l + 1
     → 0 < slack → 0 < length clue → i < length l → CanBe l clue true i
 can_be_filled l clue slack i any_cell pos e some any within =
     let last = length clue - 1 in
-    let next = start_next clue last (omega arith) in
     let end : suc last ≡ length clue = omega arith in
-    let all : least_start clue (suc last) ≡ needed clue = ap (least_start clue) end ∙ start_last clue in
-    filled_by l clue slack i any_cell pos e (reaches clue slack i last some (omega arith) (omega arith))
+    filled_by l clue slack i any_cell pos e (reaches clue slack i last some (omega arith)
+    (omega (arith, start_next clue last (omega arith), ap (least_start clue) end, start_last clue)))
 
 -- ---- the masks
 
@@ -159,34 +158,21 @@ blankable_is l clue slack certain line m any_cell pos e c a p =
 -- each cell of the line, if there is a run that can move
 pub all_fillable : (l : List Cell) (clue : List ℕ) (slack line : ℕ) → AnyColour l → ArePositive clue → needed clue + slack ≡ length l + 1
     → 0 < slack → 0 < length clue → IsMaskOf (λ i. i < length l) line → IsMaskOf (IsFillable l clue) line
-all_fillable l clue slack line any_cell pos e some any a =
-    mask_same _ _ line a (λ i h. fillable_from l clue i (can_be_filled l clue slack i any_cell pos e some any h))
-    (λ i h. let x = fillable_to l clue i pos h in filled_agrees l x.0 i x.1 x.3)
+all_fillable l clue slack line any_cell pos e some any a = mask_same _ _ line a
+    (λ i h. search (rules, fillable_from, can_be_filled)) (λ i h. let x = fillable_to l clue i pos h in search (rules, filled_agrees))
 
 -- and else the overlaps alone
 pub overlaps_fillable : (l : List Cell) (clue : List ℕ) (slack certain : ℕ) → AnyColour l → ArePositive clue → needed clue + slack ≡ length l + 1
     → (slack ≡ 0) ⊎ (length clue ≡ 0) → IsMaskOf (IsOverlap clue slack) certain → IsMaskOf (IsFillable l clue) certain
-overlaps_fillable l clue slack certain any_cell pos e still c = mask_same (IsOverlap clue slack) (IsFillable l clue) certain c to from
-  where
-    to : (i : ℕ) → IsOverlap clue slack i → IsFillable l clue i
-    to i o =
-        let x = shifted l clue slack (λ j. 0) any_cell pos e (λ j. omega arith) (λ j h. omega arith) in
-        fillable_from l clue i (x.0, x.1, x.2, overlap_filled l clue x.0 slack i pos x.1 x.2 e o)
-
-    from : (i : ℕ) → IsFillable l clue i → IsOverlap clue slack i
-    from i h =
-        let x = fillable_to l clue i pos h in
-        let d = laid l clue x.0 x.1 x.2 in
-        let at = covered x.0 clue i x.2 x.3 in
-        let low = at_least l clue (starts_from 0 false x.0) at.index d at.inside in
-        let high = starts_within l clue (starts_from 0 false x.0) at.index pos d at.inside in
-        let inside = at.inside in
-        let begins = at.from in
-        let ends = at.to in
-        elim still [
-          | inl none ↦ (at.index, inside, omega arith, omega arith)
-          | inr none ↦ absurd (omega arith)
-        ]
+overlaps_fillable l clue slack certain any_cell pos e still c = mask_same (IsOverlap clue slack) (IsFillable l clue) certain c
+    (λ i o. let x = shifted l clue slack (λ j. 0) any_cell pos e (λ j. omega arith) (λ j h. omega arith) in search (rules, fillable_from, overlap_filled))
+    (λ i h.
+    let (y, agree, is, filled) = fillable_to l clue i pos h in
+    let d = laid l clue y agree is in
+    let at = covered y clue i is filled in
+    let low = at_least l clue (starts_from 0 false y) at.index d at.inside in
+    let high = starts_within l clue (starts_from 0 false y) at.index pos d at.inside in
+    let none : slack ≡ 0 = grind (arith, at.inside) in (at.index, at.inside, omega (arith, at.from), omega (arith, at.to)))
 
 -- ---- the overlaps, run by run
 

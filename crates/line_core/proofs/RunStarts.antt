@@ -164,9 +164,8 @@ pub run_of : (x : List Bool) (clue : List ℕ) (k : ℕ) → runs x ≡ clue →
 run_of x clue k is h =
     let count : length (starts_from 0 false x) ≡ length clue = length-run_starts x ∙ ap length is in
     let s = start_is x 0 k false (omega arith) in
-    let r = run_at x clue s.0 is s.2 s.3 in
-    let same : r.0 ≡ k = same_index x r.0 k (omega (arith, r.1)) (omega arith) (r.2 ∙ sym (s.1 ∙ zero-add s.0)) in
-    subst (Run x clue) same r.3
+    let (j, jl, at, run) = run_at x clue s.0 is s.2 s.3 in
+    let same : j ≡ k = same_index x j k (omega arith) (omega arith) (at ∙ sym (s.1 ∙ zero-add s.0)) in rw (sym same) run
 
 -- the cells of a run are filled
 pub filled_in_run : (x : List Bool) (clue : List ℕ) (k : ℕ) → Run x clue k → (z : ℕ) → z < get_or clue k 0
@@ -197,12 +196,11 @@ runs_apart x clue k is h =
     let count : length (starts_from 0 false x) ≡ length clue = length-run_starts x ∙ ap length is in
     let s = get_or (starts_from 0 false x) k 0 in
     let r = run_of x clue k is (omega arith) in
-    let t = start_is x 0 (suc k) false (omega arith) in
-    let value : get_or (starts_from 0 false x) (suc k) 0 ≡ t.0 = t.1 ∙ zero-add t.0 in
-    let more : s < t.0 = omega (arith, starts_increase x 0 k (suc k) false (omega arith) (omega arith)) in
-    elim (cases_lt (s + get_or clue k 0) t.0) [
+    let (t, value, filled, first) = start_is x 0 (suc k) false (omega arith) in
+    let more : s < t = omega (arith, starts_increase x 0 k (suc k) false (omega arith) (omega arith)) in
+    elim (cases_lt (s + get_or clue k 0) t) [
       | inl far ↦ omega arith
-      | inr near ↦ absurd (close s t.0 (get_or clue k 0) more near t.2 t.3 (filled_in_run x clue k r) (blank_after_run x clue k r))
+      | inr near ↦ absurd (close s t (get_or clue k 0) more near filled first (filled_in_run x clue k r) (blank_after_run x clue k r))
     ]
   where
     close : (s t c : ℕ) → s < t → t ≤ s + c → get_or x t false ≡ true → before false x t ≡ false

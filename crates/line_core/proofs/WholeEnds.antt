@@ -28,24 +28,20 @@ whole_of l clue x k e agree is h at =
 -- and each such end is one in a placing
 pub placing_with : (l : List Cell) (clue : List ℕ) (k e : ℕ) → ArePositive clue → k < length clue → IsWholeEnd l clue k e
     → (x : List Bool) × (agrees l x ≡ true) × (runs x ≡ clue) × (get_or (starts_from 0 false x) k 0 ≡ e + 1 - get_or clue k 0)
-placing_with l clue k e pos h w =
+placing_with l clue k e pos h ((enough, ((a, agree_a, runs_a, closed_a), cells)), (b, agree_b, runs_b, closed_b)) =
     let c = get_or clue k 0 in
     let some : 0 < c = positive_at clue pos k h in
     let s = e + 1 - c in
-    let enough : c ≤ e + 1 = w.0.0 in
-    let cells : AllFrom (MayBe l true) c s = w.0.1.1 in
-    let first : s + 0 < length l = (cells 0 some).0 in
-    let a = w.0.1.0 in
-    let b = w.1 in
-    let here = agrees_span l true c s (e + 1) b.0 (omega arith) cells b.1 in
-    let long : length a.0 ≡ s = length-agrees (behind Unknown l s) a.0 a.1 ∙ length_behind Unknown l s in
-    let y = replicate c true ++ b.0 in
+    let first = (cells 0 some).0 in
+    let here = agrees_span l true c s (e + 1) b (omega arith) cells agree_b in
+    let long : length a ≡ s = length-agrees (behind Unknown l s) a agree_a ∙ length_behind Unknown l s in
+    let y = replicate c true ++ b in
     let clue_at : c ∷ drop (k + 1) clue ≡ drop k clue = rw add-one (sym (drop-cons clue k 0 h)) in
-    let index : length (runs a.0) ≡ k = ap length a.2 ∙ length_behind 0 clue k in (
-      onto a.0 y,
-      rw (onto_behind Unknown l s (omega arith)) at (agrees_onto (behind Unknown l s) (drop s l) a.0 y a.1 here),
-      runs_about a.0 c b.0 some a.3 b.3 ∙ rw (a.2, b.2, clue_at) (onto_behind 0 clue k (omega arith)),
-      ap (λ (n : ℕ). get_or (starts_from 0 false (onto a.0 y)) n 0) (sym index) ∙ start_of_cut a.0 c b.0 some a.3 ∙ long,
+    let index : length (runs a) ≡ k = ap length runs_a ∙ length_behind 0 clue k in (
+      onto a y,
+      rw (onto_behind Unknown l s (omega arith)) at (agrees_onto (behind Unknown l s) (drop s l) a y agree_a here),
+      runs_about a c b some closed_a closed_b ∙ rw (runs_a, runs_b, clue_at) (onto_behind 0 clue k (omega arith)),
+      ap (λ (n : ℕ). get_or (starts_from 0 false (onto a y)) n 0) (sym index) ∙ start_of_cut a c b some closed_a ∙ long,
     )
 
 -- a cell that the masks tell filled is filled in a placing

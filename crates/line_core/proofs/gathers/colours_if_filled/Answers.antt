@@ -1,7 +1,7 @@
 -- `colours_if_filled`: one more run, with its ends that cover the cell, and at last both sides together.
-use Rattle.line_core.proofs.Names.{◌≡◌, ℕ, length, sym, ◌∙◌, arith, inl, inr, recursion_from_All, none_has, one_within, eqb-true, length_at}
+use Rattle.line_core.proofs.Names.{◌-◌, ◌≡◌, ℕ, length, sym, ◌∙◌, arith, inl, inr, recursion_from_All, none_has, one_within, eqb-true, length_at}
 use Rattle.line_core.proofs.ColourMasks.{one_below, none_more}
-use Rattle.line_core.proofs.Gathering.{IsEndOver, gathered_filled, end_over_is, gaps_before_are, gap_before_is, run_before_more, run_after_more}
+use Rattle.line_core.proofs.Gathering.{IsEndOver, gathered_filled, end_over_is, gaps_before_are, gaps_after_are, gap_before_is, run_before_more, run_after_more}
 use Rattle.line_core.proofs.gathers.colours_if_filled.Goals.{then-not-is_empty, else-not-is_empty}
 use Rattle.line_core.proofs.gathers.colours_if_filled.Goals as goal
 
@@ -41,14 +41,14 @@ loop-j-preserved g c =
         near = rw w.near-is (one_below _ j _ _ c.loop-j.invariant.near (run_before_more g.line clue _ _ j x _ _ _ _ _ _ told number.0
             c.loop-j-test.true over (gaps_before_are g.line clue j x _ _ _ number.0 over w.shifted_down.ensures w.shifted_down-gaps_before.ensures)
             w.spread.ensures w.add_filled.ensures w.add_each.ensures));
-        far = rw w.far-is (one_below _ j _ _ c.loop-j.invariant.far (run_after_more g.line clue _ _ g.W.PlaceSet.WIDTH j x _ _ _ _ _ _ told number.0
-            c.loop-j-test.true (omega arith) over w.shifted_up.ensures (rw given.0.len_is at c.first_places-cells.ensures)
-            w.intersection-gaps_after.ensures (rw given.0.len_is at w.add_each_turned.ensures)));
+        far = rw w.far-is (one_below _ j _ _ c.loop-j.invariant.far (run_after_more g.line clue _ _ j x _ _ _ told number.0 c.loop-j-test.true
+            (gaps_after_are g.line clue _ j x _ _ _ _ (omega arith) over w.shifted_up.ensures (rw given.0.len_is at c.first_places-cells.ensures)
+            w.intersection-gaps_after.ensures) (rw given.0.len_is at w.add_each_turned.ensures)));
       }
       | else-not-is_empty w ↦
           (let none = λ (e : ℕ) (h : IsEndOver g.line clue x j e). none_has _ e (eqb-true _ 0 (sym c.is_empty.ensures ∙ w.if-not-is_empty.false)) (over.from e h) in record {
             near = rw w.near-is (one_below _ j _ _ c.loop-j.invariant.near (none_more _ _ (λ d k h. elim h [ inl y ↦ none y.1 y.2 | inr y ↦ none _ y.1 ])));
-            far = rw w.far-is (one_below _ j _ _ c.loop-j.invariant.far (none_more _ _ (λ d k h. none h.0 h.1)));
+            far = rw w.far-is (one_below _ j _ _ c.loop-j.invariant.far (none_more _ _ (λ d k h. none (h.0 - 1) h.1.2)));
           })
     ]
 
