@@ -1,8 +1,6 @@
 -- What the layers above cite of placings and of the deduced line.
-use Rattle.line_core.proofs.Names.{common_steps, ◌≡◌, ℕ, zero, suc, ◌<◌, Bool, true, false, not, cond, List, [], ◌∷◌, length, get_or, map, filter, Option, Some, None, refl, sym, ap, ◌∙◌, arith, true≢false, zero-add, rules, All, list_all, range_with_len, and_parts, both_ways, false_from_ne_true, not-true, All-weaker, filter_passes, list_all-from_AllPass, length-map-range_with_len, get_or-map-range_with_len, length-map, Cell, Unknown, Filled, Blank, CellExtends, Extends, agrees, colour, allows, runs, shared, shared_at, deduced}
-use Rattle.std.proofs.lemmas.List.Folds.{list_all-append, list_all-map}
+use Rattle.line_core.proofs.Names.{common_steps, ◌≡◌, ℕ, zero, suc, ◌<◌, Bool, true, false, not, cond, List, [], ◌∷◌, length, get_or, map, filter, Option, Some, None, refl, sym, ap, ◌∙◌, arith, true≢false, zero-add, rules, All, list_all, range_with_len, and_parts, both_ways, false_from_ne_true, not-true, All-weaker, filter_passes, list_all-from_AllPass, length-map-range_with_len, get_or-map-range_with_len, length-map, Cell, Unknown, Filled, Blank, CellExtends, Extends, agrees, colour, allows, runs, shared, shared_at, deduced, list_all-append, list_all-map, full_lines, is_placing, placings}
 use Rattle.std.proofs.lemmas.Slice.Eq.{bytes_eq-Decides}
-use Rattle.line_core.specs.Placings.{full_lines, is_placing, placings}
 pub use Rattle.line_core.specs.Order.{AtMost}
 
 -- ---- the order of what is known

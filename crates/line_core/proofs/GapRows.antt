@@ -1,6 +1,5 @@
 -- Rows of what can be before the gaps of whole placings, written gap by gap.
-use Rattle.line_core.proofs.Names.{rules, eqb-true, none_has, true, ◌≡◌, ◌≢◌, ◌∙◌, ℕ, zero, suc, ◌+◌, ◌-◌, ◌<◌, ◌≤◌, List, ◌++◌, length, false, refl, sym, subst, arith, zero-add, inl, inr, get_or, set, take, map, Cell, Has, IsMaskOf, IsShifted, IsGapAfter, IsWholeEnd, behind, nat_eq, ◌*◌, ◌/◌, get_or-set_other, get_or-set_same, true≢false, drop, [], length-drop, drop_of_length-le, append-nil, get_or-take, get_or-drop, get_or-append-add, get_or_append_left, length-take-le, take_all, cases_eq, cases_lt, bit_at, IsMarked, number_at, ColourMasks, no_colours, AreColoursBefore, IsWholeGap, IsReady, IsRow}
-use Rattle.std.proofs.lemmas.Nat.Bits.{bit_at-suc, bit_at_lowest, bit_at-lt, same_from_bits}
+use Rattle.line_core.proofs.Names.{rules, eqb-true, none_has, true, ◌≡◌, ◌≢◌, ◌∙◌, ℕ, zero, suc, ◌+◌, ◌-◌, ◌<◌, ◌≤◌, List, ◌++◌, length, false, refl, sym, subst, arith, zero-add, inl, inr, get_or, set, take, map, Cell, Has, IsMaskOf, IsShifted, IsGapAfter, IsWholeEnd, behind, nat_eq, ◌*◌, ◌/◌, get_or-set_other, get_or-set_same, true≢false, drop, [], length-drop, drop_of_length-le, append-nil, get_or-take, get_or-drop, get_or-append-add, get_or_append_left, length-take-le, take_all, cases_eq, cases_lt, bit_at, IsMarked, number_at, ColourMasks, no_colours, AreColoursBefore, IsWholeGap, IsReady, IsRow, bit_at-suc, bit_at_lowest, bit_at-lt, same_from_bits}
 use Rattle.line_core.proofs.ColouredGaps.{whole_back, whole_end_back, whole_before_end}
 
 -- a number with one bit less is less

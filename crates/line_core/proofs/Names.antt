@@ -4,11 +4,11 @@ pub use Rattle.std.proofs.Math.ListN.{length-set}
 pub use Rattle.std.proofs.lemmas.Bool.{and_from, and_parts, both_ways, cases_Bool, cases_eq, cases_lt, eq-eqb, eqb-false, eqb-true, false_from_ne_true, le-leb, leb-true, not-true, or_cases, or_left, or_right, true_from_ne_false}
 pub use Rattle.std.proofs.lemmas.List.{drop-set-lt, get_or-append-add, get_or-drop, get_or-replicate, get_or-reverse, get_or-take, get_or_append_left, get_or_default, get_or_read, length-map, length-replicate, length-reverse, length-take-le, map-append, map-set, reverse-reverse, take-map, take_all}
 pub use Rattle.std.proofs.lemmas.List.Elements.{All-head, All-more, All-tail, All-weaker, filter_passes, recursion_from_All}
-pub use Rattle.std.proofs.lemmas.List.Folds.{list_all-map}
+pub use Rattle.std.proofs.lemmas.List.Folds.{list_all-append, list_all-map}
 pub use Rattle.std.proofs.lemmas.List.FromFn.{get_or-map-range_with_len, length-map-range_with_len}
-pub use Rattle.std.proofs.lemmas.Nat.Bits.{bit_at-zero}
+pub use Rattle.std.proofs.lemmas.Nat.Bits.{bit_at-lt, bit_at-suc, bit_at-zero, bit_at_lowest, same_from_bits}
 pub use Rattle.std.specs.List.{All, find, list_all, range_with_len}
-pub use Rattle.place_sets.proofs.Doubling.{one_within}
+pub use Rattle.place_sets.proofs.Doubling.{one_within, width_most}
 pub use Rattle.place_sets.proofs.HasLemmas.{has_true, true_has}
 pub use Rattle.place_sets.proofs.Steps.{mask_same}
 pub use Rattle.place_sets.proofs.Uses.{flood_from, flood_same, has_of, join_of, meet_of, shifted_of}
@@ -23,14 +23,14 @@ pub use Rattle.line_core.proofs.LineCells.{lacks, length_at, none_has, none_in, 
 pub use Rattle.line_core.proofs.RunLaws.{ArePositive, runs_after-close, runs_after-false, runs_after-nil, runs_after-true, runs_after-zero}
 pub use Rattle.line_core.specs.Deduction.{deduced, shared, shared_at}
 pub use Rattle.line_core.specs.Ends.{AreStarts, all_starts, run_starts, starts_run}
-pub use Rattle.line_core.specs.Placings.{placings}
+pub use Rattle.line_core.specs.Placings.{full_lines, is_placing, placings}
 pub use Rattle.line_core.specs.declared.starts.Side.{Side}
 pub use Rattle.line_core.specs.declared.starts.Side.TheVariants.{Left, Right}
 pub use Rattle.line_core.specs.steps.Outermost.{IsAsFar, IsOuterStart, outermost}
-pub use Rattle.line_core.specs.steps.Overlaps.{IsOverlapBefore, least_start, needed}
-pub use Rattle.line_core.specs.steps.Passes.{IsPassOver}
+pub use Rattle.line_core.specs.steps.Overlaps.{IsOverlap, IsOverlapBefore, least_start, needed}
+pub use Rattle.line_core.specs.steps.Passes.{IsPassOver, padded}
 pub use Rattle.line_core.specs.steps.Reach.{AreLengths, HasPlacing, IsBlankable, IsEnd, IsEndAfter, IsFillable, IsGap, IsGapAfter, IsGapAhead, IsStartAfter, IsWholeEnd, MayBe, MayBeginBlank, behind}
-pub use Rattle.line_core.specs.Told.{certain_by}
+pub use Rattle.line_core.specs.Told.{certain_by, told_by}
 pub use Rattle.std.proofs.lemmas.Grind.{common_steps, get_or-set_at}
 pub use Rattle.line_core.specs.Pairs.{ColourMasks, coloured, no_colours, no_pair}
 pub use Rattle.line_core.specs.steps.Pairs.{AreColours, AreColoursBefore, AreWholeEnds, CanBeBefore, IsPairAt, IsWholeGap}

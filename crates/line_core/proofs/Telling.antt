@@ -1,8 +1,6 @@
 -- What masks of the cells that can be filled, and of those that can be blank, tell of a line.
-use Rattle.line_core.proofs.Names.{rules, ◌≡◌, ℕ, ◌<◌, ◌⊎◌, inl, inr, Bool, true, false, not, cond, ◌&&◌, List, length, get_or, map, Some, None, refl, sym, ◌∙◌, arith, true≢false, zero-add, ext_get_or, range_with_len, length-map-range_with_len, get_or-map-range_with_len, Cell, Unknown, Has, has, IsMaskOf, has_true, true_has, deduced, certain_by, IsFillable, IsBlankable, ArePositive, has_by, ◌||◌, cases_Bool, cell_at, length_line}
-use Rattle.grid_core.specs.Lines.{cell_with}
-use Rattle.grid_core.specs.Lines.{line_cells}
-use Rattle.line_core.specs.Told.{told_by}
+use Rattle.line_core.proofs.Names.{rules, ◌≡◌, ℕ, ◌<◌, ◌⊎◌, inl, inr, Bool, true, false, not, cond, ◌&&◌, List, length, get_or, map, Some, None, refl, sym, ◌∙◌, arith, true≢false, zero-add, ext_get_or, range_with_len, length-map-range_with_len, get_or-map-range_with_len, Cell, Unknown, Has, has, IsMaskOf, has_true, true_has, deduced, certain_by, IsFillable, IsBlankable, ArePositive, has_by, ◌||◌, cases_Bool, cell_at, length_line, told_by}
+use Rattle.grid_core.specs.Lines.{cell_with, line_cells}
 use Rattle.line_core.proofs.DeductionLaws.{IsPlacing, agrees-Extends, Extends-agrees}
 use Rattle.line_core.proofs.Joining.{blankable_to, blankable_from}
 use Rattle.line_core.proofs.WholeEnds.{fillable_to, fillable_from}

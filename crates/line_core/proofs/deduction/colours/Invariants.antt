@@ -1,5 +1,5 @@
 -- The line that `colours` is about, as it is told to the functions that it calls: padded where it is.
-use Rattle.line_core.specs.steps.Passes.{padded}
+use Rattle.line_core.proofs.Names.{padded}
 use Rattle.line_core.proofs.deduction.colours.Given as goal
 
 abbrev pub ghost-is_unknown : goal.ghost-is_unknown

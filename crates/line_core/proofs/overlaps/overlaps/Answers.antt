@@ -1,6 +1,5 @@
 -- `overlaps`: a run that is longer than the slack fills its overlap, and no other run has one.
-use Rattle.line_core.proofs.Names.{rules, ◌≡◌, ◌+◌, suc, get_or, add-one, arith, least_start}
-use Rattle.place_sets.proofs.Doubling.{width_most}
+use Rattle.line_core.proofs.Names.{rules, ◌≡◌, ◌+◌, suc, get_or, add-one, arith, least_start, width_most}
 use Rattle.line_core.proofs.Packing.{start_next, start_within, overlap_more, overlap_same}
 use Rattle.line_core.proofs.overlaps.overlaps.Goals as goal
 use Rattle.line_core.proofs.overlaps.overlaps.Goals.{then-number-slack, else-number-slack}
