@@ -1,5 +1,5 @@
 -- A line that is another one but for one cell, and what a table tells of it.
-use Rattle.line_core.proofs.Names.{rules, false, true, subst, Filled, Blank, ArePositive, ◌≡◌, ℕ, ◌<◌, ◌∙◌, Bool, inl, inr, List, Option, None, Some, deduced, length, get_or, set, sym, arith, refl, ap, ext_get_or, length-set, Cell, Unknown, IsMaskOf}
+use Rattle.line_core.proofs.Names.{rules, false, true, subst, Filled, Blank, ArePositive, ◌≡◌, ℕ, ◌<◌, ◌∙◌, Bool, inl, inr, List, None, Some, deduced, length, get_or, set, sym, arith, refl, ap, ext_get_or, length-set, Cell, Unknown, IsMaskOf}
 use Rattle.std.proofs.lemmas.List.{get_or-set_same, get_or-set_other, get_or_default}
 use Rattle.std.proofs.lemmas.Bool.{cases_eq}
 use Rattle.grid_core.proofs.Changing.{same_cells}

@@ -1,5 +1,5 @@
 -- At which places the runs of a full line start.
-use Rattle.line_core.proofs.Names.{rules, ◌≡◌, ℕ, zero, suc, ◌+◌, ◌-◌, ◌<◌, ◌≤◌, Bool, true, false, not, ◌&&◌, List, [], ◌∷◌, ◌++◌, length, replicate, filter, refl, sym, ap, ◌∙◌, subst, arith, add-zero, zero-add, add-one, true≢false, inl, inr, drop, get_or, drop-cons, append_assoc, cases_lt, range_with_len, runs, starts_run, run_starts, behind, runs_after, runs_after-zero, runs_after-true, runs_after-false, runs_after-close, runs_after-nil}
+use Rattle.line_core.proofs.Names.{rules, ◌≡◌, ℕ, zero, suc, ◌+◌, ◌-◌, ◌<◌, ◌≤◌, Bool, true, false, not, ◌&&◌, List, [], ◌∷◌, ◌++◌, length, replicate, filter, refl, sym, ap, ◌∙◌, arith, add-zero, zero-add, add-one, true≢false, inl, inr, drop, get_or, drop-cons, append_assoc, cases_lt, range_with_len, runs, starts_run, run_starts, behind, runs_after, runs_after-zero, runs_after-true, runs_after-false, runs_after-close, runs_after-nil}
 use Rattle.std.proofs.Math.Seq.{get_or-append_seam}
 use Rattle.line_core.proofs.Joining.{filled_within, onto, length_behind, onto_behind, get_or-onto, onto_split, drop_head, runs_cut, runs_about, get_or-run, begins, begins_some}
 

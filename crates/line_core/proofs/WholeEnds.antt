@@ -1,5 +1,5 @@
 -- The ends of a run in whole placings, and the placings that have them.
-use Rattle.line_core.proofs.Names.{◌≡◌, ℕ, ◌+◌, ◌-◌, ◌<◌, ◌≤◌, Bool, true, false, List, ◌∷◌, ◌++◌, length, replicate, sym, ap, ◌∙◌, subst, arith, add-one, drop, get_or, drop-cons, Cell, Unknown, agrees, runs, AllFrom, behind, MayBe, MayBeginBlank, IsStartAfter, IsWholeEnd, IsFillable, ArePositive}
+use Rattle.line_core.proofs.Names.{◌≡◌, ℕ, ◌+◌, ◌-◌, ◌<◌, Bool, true, false, List, ◌∷◌, ◌++◌, length, replicate, sym, ap, ◌∙◌, subst, arith, add-one, drop, get_or, drop-cons, Cell, Unknown, agrees, runs, behind, MayBeginBlank, IsStartAfter, IsWholeEnd, IsFillable, ArePositive}
 use Rattle.line_core.proofs.Certain.{CanBe}
 use Rattle.line_core.proofs.Joining.{onto, length-agrees, length_behind, onto_behind, onto_agrees, agrees_onto, run_agrees, agrees_span, positive_at, runs_about}
 use Rattle.line_core.proofs.RunStarts.{starts_from, start_of_cut, length-onto, run_of, in_run, covered}
