@@ -1,6 +1,5 @@
 -- Windows of 1, 2, 4 and so on places: how a table of them grows, and which level stands for a length.
-use Rattle.std.proofs.Common.{◌≡◌, ℕ, ◌+◌, ◌*◌, ◌^◌, ◌%◌, ◌<◌, ◌≤◌, List, length, get_or, set, map, arith, get_or-set_same, get_or-set_other, inl, inr}
-use Rattle.std.proofs.lemmas.Bool.{cases_lt}
+use Rattle.std.proofs.Common.{◌≡◌, ℕ, ◌+◌, ◌*◌, ◌^◌, ◌%◌, ◌<◌, ◌≤◌, List, length, get_or, set, map, arith, get_or-set_same, get_or-set_other}
 use Rattle.std.proofs.lemmas.List.{get_or-map, map-set, length-map}
 use Rattle.std.proofs.lemmas.Nat.{pow-add, pow_below, one_shl}
 use Rattle.std.proofs.Math.Pow.{pow_mono}
@@ -17,22 +16,14 @@ pub windows_more : {A : Type 0} (number : A → ℕ) (mask : ℕ) (xs : List A) 
     → ((k : ℕ) → k ≤ level → IsMaskOf (AllFrom (Has mask) (2 ^ k)) (get_or (map number xs) k 0))
     → (k : ℕ) → k ≤ level + 1 → IsMaskOf (AllFrom (Has mask) (2 ^ k)) (get_or (map number (set xs (level + 1) y)) k 0)
 windows_more number mask xs level by d y l e h inv k b =
-    let old = map number xs in
-    let there : level + 1 < length old = omega (arith, length-map xs number) in
     let was = get_or-map number xs level d 0 (omega arith) in
-    let now = pow_next level in
-    rw (map-set number xs (level + 1) y) (elim (cases_lt k (level + 1)) [
-      | inl low ↦ rw (get_or-set_other old (level + 1) k (number y) 0 (omega arith)) (inv k (omega arith))
-      | inr high ↦
-          (let same : k ≡ level + 1 = omega arith in
-          rw (same, get_or-set_same old (level + 1) (number y) 0 there)
-          (widen (Has mask) _ (2 ^ level) by _ _ (omega arith) (omega arith) (rw was at (inv level (omega arith))) h))
-    ])
+    let now : IsMaskOf (AllFrom (Has mask) (2 ^ (level + 1))) (number y) =
+    widen _ _ _ _ _ _ (rw was at (inv level (omega arith))) h (omega arith) (omega (arith, pow_next level)) in
+    rw (map-set number xs (level + 1) y) (grind (arith, inv k, now, get_or-set_same, get_or-set_other, length-map))
 
 -- a level that a number up to a power of two has is no greater than that power's
 pub level_within : (level n width top : ℕ) → 2 ^ level ≤ n → n ≤ width → width ≡ 2 ^ top → level ≤ top
-level_within level n width top h b e =
-    elim (cases_lt top level) [ inl l ↦ absurd (omega (arith, pow_below top level l)) | inr l ↦ l ]
+level_within level n width top h b e = grind (arith, pow_below)
 
 -- a step of the level below the width
 pub step_within : (level width top : ℕ) → level < top → top ≤ 8 → width ≡ 2 ^ top → 1 * 2 ^ level % 65536 < width

@@ -1,14 +1,13 @@
 -- Masks in two halves: the low places in one, those from some place on in the other.
-use Rattle.std.proofs.Common.{◌≡◌, ℕ, zero, suc, ◌+◌, ◌-◌, ◌^◌, ◌<◌, ◌≤◌, ◌⊎◌, ◌↔◌, inl, inr, nat_eq, sym, ap, ◌∙◌, arith, subst}
+use Rattle.std.proofs.Common.{◌≡◌, ℕ, zero, suc, ◌+◌, ◌-◌, ◌^◌, ◌<◌, ◌≤◌, ◌⊎◌, ◌↔◌, nat_eq, arith}
 use Rattle.std.specs.Int.{bit_at}
 use Rattle.std.specs.Int.RustNames.{bit_or}
 use Rattle.std.proofs.lemmas.Nat.{le_or_l, le_or_r}
 use Rattle.place_sets.proofs.WordSteps.{full_64}
 use Rattle.std.specs.Int.Bits.{or_zero_l, or_zero_r}
 use Rattle.std.proofs.lemmas.Bool.Decides.{nat_tests}
-use Rattle.place_sets.proofs.Uses.{flooded_within}
 use Rattle.std.proofs.lemmas.Nat.Bits.{bit_at-zero, bit_at_and, bit_at-lt, bit_at_cat_low, bit_at_cat_high, bit_at_above}
-use Rattle.place_sets.specs.Masks.{Has, IsMaskOf, IsFlooded, joined}
+use Rattle.place_sets.specs.Masks.{Has, IsMaskOf, IsFlooded, IsShifted, joined}
 
 abbrev Fits : ℕ → Type 0
 Fits n = n < 2 ^ 128
@@ -36,38 +35,46 @@ pub ruleset wholes = (bit_low, at_high, above, bit_at-zero)
 pub ruleset parts = (bit_low, above, bit_at_and, bit_at-lt, full_64)
 
 -- a mask of two halves has what its halves have
-pub halves : (P : ℕ → Type 0) (low high : ℕ) → Fits low → IsMaskOf (λ i. (i < 128) × P i) low → IsMaskOf (λ i. P (i + 128)) high
-    → IsMaskOf P (joined low high)
-halves P low high f p q = grind (arith, bit_low, at_high)
+pub halves : (P Q R : ℕ → Type 0) (low high : ℕ) → Fits low → IsMaskOf Q low → ((i : ℕ) → i < 128 → P i ↔ Q i) → IsMaskOf R high
+    → ((i : ℕ) → P (i + 128) ↔ R i) → IsMaskOf P (joined low high)
+halves P Q R low high f p q r s = grind (arith, wholes)
 
 -- one of the low places
 pub low_at : (low high i j : ℕ) → i < 128 → j ≡ i → bit_at (joined low high) j ≡ bit_at low i
-low_at low high i j l e = rw e (bit_low low high i l)
+low_at low high i j l e = grind (arith, bit_low)
 
 -- one of the high places
 pub high_at : (low high : ℕ) → Fits low → (i j : ℕ) → j ≡ i + 128 → bit_at (joined low high) j ≡ bit_at high i
-high_at low high f i j e = let same : j - 128 ≡ i = omega arith in at_high low high j f (omega arith) ∙ ap (bit_at high) same
+high_at low high f i j e = grind (arith, at_high)
 
 -- a flood over both halves: within the low one it is a flood of that half
 pub flood_low : (sl sh fl fh i : ℕ) → i < 128 → IsFlooded (Has (joined sl sh)) (Has (joined fl fh)) i ↔ IsFlooded (Has sl) (Has fl) i
-flood_low sl sh fl fh i l =
-    let S = Has (joined sl sh) in
-    let F = Has (joined fl fh) in
-    let s : (k : ℕ) → k ≤ i → bit_at (joined sl sh) k ≡ bit_at sl k = λ k b. bit_low sl sh k (omega arith) in
-    let f : (k : ℕ) → k ≤ i → bit_at (joined fl fh) k ≡ bit_at fl k = λ k b. bit_low fl fh k (omega arith) in (
-      flooded_within S F (Has sl) (Has fl) i (λ k b h. sym (s k b) ∙ h) (λ k b h. sym (f k b) ∙ h),
-      flooded_within (Has sl) (Has fl) S F i (λ k b h. s k b ∙ h) (λ k b h. f k b ∙ h),
-    )
+flood_low sl sh fl fh zero l = grind (arith, bit_low)
+flood_low sl sh fl fh (suc i) l = grind (arith, bit_low, flood_low sl sh fl fh i)
+
+-- the high places of two halves are those of the high half
+pub high_has : (low high : ℕ) → Fits low → (i : ℕ) → Has (joined low high) (i + 128) ↔ Has high i
+high_has low high f i = grind (arith, high_at low high f i)
+
+-- what floods the high half: its own sources, and the last place of the low half at the first one
+pub over_is : (Low : ℕ → Type 0) (sh fh low last over all : ℕ) → Fits low → IsMaskOf Low low → IsMaskOf (λ i. Has low (i + 127)) last
+    → IsMaskOf (λ i. Has last i × Has fh i) over → IsMaskOf (λ i. Has sh i ⊎ Has over i) all → (i : ℕ)
+    → Has all i ↔ (Has sh i ⊎ ((i ≡ 0) × Low 127 × Has fh i))
+over_is Low sh fh low last over all f m p q r i = grind (arith, above low (i + 127))
 
 -- from the half on: what floods the last place of the low half goes on in the high one
-pub flood_high : (P Q R S : ℕ → Type 0) → (P 128 ⊎ (Q 128 × IsFlooded P Q 127)) ↔ R 0 → ((k : ℕ) → P (suc k + 128) ↔ R (suc k))
-    → ((k : ℕ) → Q (suc k + 128) ↔ S (suc k)) → (i : ℕ) → IsFlooded P Q (i + 128) ↔ IsFlooded R S i
-flood_high P Q R S a b c zero = a
-flood_high P Q R S a b c (suc i) =
-    let e : suc i + 128 ≡ suc (i + 128) = omega arith in
-    let p = subst (λ (k : ℕ). P k ↔ R (suc i)) e (b i) in
-    let q = subst (λ (k : ℕ). Q k ↔ S (suc i)) e (c i) in
-    rw e (
-      λ x. elim x [ inl y ↦ inl (p.0 y) | inr y ↦ inr (q.0 y.0, (flood_high P Q R S a b c i).0 y.1) ],
-      λ x. elim x [ inl y ↦ inl (p.1 y) | inr y ↦ inr (q.1 y.0, (flood_high P Q R S a b c i).1 y.1) ],
-    )
+pub flood_high : (P Q R S T : ℕ → Type 0) (Last : Type 0) (n : ℕ) → ((i : ℕ) → P (i + suc n) ↔ R i) → ((i : ℕ) → Q (i + suc n) ↔ S i)
+    → IsFlooded P Q n ↔ Last → ((i : ℕ) → T i ↔ (R i ⊎ ((i ≡ 0) × Last × S i))) → (i : ℕ) → IsFlooded P Q (i + suc n) ↔ IsFlooded T S i
+flood_high P Q R S T Last n s f last r zero = let e : zero + suc n ≡ suc n = omega arith in rw e (grind (arith, s 0, f 0, r 0))
+flood_high P Q R S T Last n s f last r (suc i) =
+    let e : suc i + suc n ≡ suc (i + suc n) = omega arith in rw e (grind (arith, flood_high P Q R S T Last n s f last r i))
+
+-- a place of the low half of two halves shifted down by less than a half
+pub down_low : (low high by i : ℕ) → by < 128 → Fits low → i < 128
+    → Has (joined low high) (i + by) ↔ (Has low (i + by) ⊎ IsShifted 128 (Has high) (128 - by) i)
+down_low low high by i b f l = grind (arith, wholes, high_at low high f (i - (128 - by)))
+
+-- a place of the high half of two halves shifted up by less than a half
+pub up_high : (low high by i : ℕ) → by < 128 → Fits low
+    → IsShifted 256 (Has (joined low high)) by (i + 128) ↔ (IsShifted 128 (Has high) by i ⊎ Has low (i + (128 - by)))
+up_high low high by i b f = grind (arith, low_at low high (i + (128 - by)), high_at low high f (i - by), above low (i + (128 - by)))

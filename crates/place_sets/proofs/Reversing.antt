@@ -1,7 +1,7 @@
 -- A mask seen from its other end.
-use Rattle.std.proofs.Common.{◌≡◌, ℕ, zero, suc, ◌+◌, ◌-◌, ◌*◌, ◌^◌, ◌<◌, ◌≤◌, ◌⊎◌, inl, inr, ◌∙◌, sym, arith, subst, Bool, true}
+use Rattle.std.proofs.Common.{◌≡◌, ℕ, zero, suc, ◌+◌, ◌-◌, ◌*◌, ◌^◌, ◌<◌, ◌≤◌, ◌⊎◌, arith, Bool, true}
 use Rattle.std.specs.Int.{bit_at}
-use Rattle.std.proofs.lemmas.Bool.{cases_lt, and_parts}
+use Rattle.std.proofs.lemmas.Bool.{and_parts}
 use Rattle.std.proofs.lemmas.Bool.Decides.{nat_tests}
 use Rattle.std.proofs.lemmas.Nat.Bits.{bit_at-lt, bit_at_cat_low, bit_at_cat_high}
 use Rattle.place_sets.specs.Masks.{Has, IsMaskOf, IsReversed}
@@ -9,11 +9,7 @@ use Rattle.place_sets.specs.steps.Masks.{all_below, swapped_place, is_pairing_at
 
 pub below_all : (n : ℕ) (p : ℕ → Bool) → all_below n p ≡ true → (i : ℕ) → i < n → p i ≡ true
 below_all zero p h i l = absurd (omega arith)
-below_all (suc n) p h i l =
-    elim (cases_lt i n) [
-      | inl low ↦ below_all n p (and_parts (p n) (all_below n p) h).1 i low
-      | inr high ↦ (let e : n ≡ i = omega arith in subst (λ (k : ℕ). p k ≡ true) e (and_parts (p n) (all_below n p) h).0)
-    ]
+below_all (suc n) p h i l = grind (arith, nat_tests, and_parts (p n) (all_below n p), below_all n p)
 
 -- where a place comes from: one of a low half from the high half of its pair, any other from the low half
 pub record Pairing (low by i : ℕ) : Type 0 where
@@ -38,37 +34,14 @@ step x r s f low by h p q = record {
 -- places reversed in their word end with the word: shifted down they are the first ones reversed
 pub within_first : (w len n r m : ℕ) → 0 < len → len ≤ w → IsMaskOf (IsReversed w (Has n)) r → IsMaskOf (λ i. Has r (i + (w - len))) m
     → IsMaskOf (λ i. (i < len) × Has n (len - 1 - i)) m
-within_first w len n r m some fits p q = record {
-  to = λ i h.
-      let a = p.to _ (q.to i h) in
-      let e : w - 1 - (i + (w - len)) ≡ len - 1 - i = omega (arith, a.0) in (omega (arith, a.0), subst (Has n) e a.1);
-  from = λ i h.
-      let e : len - 1 - i ≡ w - 1 - (i + (w - len)) = omega (arith, h.0) in
-      q.from i (p.from _ (omega (arith, h.0), subst (Has n) e h.1));
-}
+within_first w len n r m some fits p q =
+    let e : (i : ℕ) → w - 1 - (i + (w - len)) ≡ len - 1 - i = λ i. omega arith in
+    record {
+      to = λ i h. let a = p.to _ (q.to i h) in (omega (arith, a.0), rw (e i) at a.1);
+      from = λ i h. q.from i (p.from _ (omega (arith, h.0), rw (e i) h.1));
+    }
 
 -- of two words of `n` places both are reversed, and exchanged
 pub words_reversed : (n low high rl rh : ℕ) → low < 2 ^ n → rh < 2 ^ n → IsMaskOf (IsReversed n (Has low)) rl
     → IsMaskOf (IsReversed n (Has high)) rh → IsMaskOf (IsReversed (n + n) (Has (high * 2 ^ n + low))) (rl * 2 ^ n + rh)
-words_reversed n low high rl rh fl fr of_low of_high = record {
-  to = λ i h. elim (cases_lt i n) [
-    | inl l ↦
-        (let a = of_high.to i (sym (bit_at_cat_low rl n rh i l) ∙ h) in
-        let e : n - 1 - i ≡ n + n - 1 - i - n = omega (arith, l) in
-        (omega (arith, l), bit_at_cat_high high n low (n + n - 1 - i) fl (omega (arith, l)) ∙ subst (Has high) e a.1))
-    | inr l ↦
-        (let a = of_low.to (i - n) (sym (bit_at_cat_high rl n rh i fr l) ∙ h) in
-        let e : n - 1 - (i - n) ≡ n + n - 1 - i = omega (arith, a.0) in
-        (omega (arith, a.0), bit_at_cat_low high n low (n + n - 1 - i) (omega (arith, a.0, l)) ∙ subst (Has low) e a.1))
-  ];
-  from = λ i h. elim (cases_lt i n) [
-    | inl l ↦
-        (let e : n + n - 1 - i - n ≡ n - 1 - i = omega (arith, l) in
-        let a = sym (bit_at_cat_high high n low (n + n - 1 - i) fl (omega (arith, l))) ∙ h.1 in
-        bit_at_cat_low rl n rh i l ∙ of_high.from i (l, subst (Has high) e a))
-    | inr l ↦
-        (let e : n + n - 1 - i ≡ n - 1 - (i - n) = omega (arith, h.0) in
-        let a = sym (bit_at_cat_low high n low (n + n - 1 - i) (omega (arith, h.0, l))) ∙ h.1 in
-        bit_at_cat_high rl n rh i fr l ∙ of_low.from (i - n) (omega (arith, h.0), subst (Has low) e a))
-  ];
-}
+words_reversed n low high rl rh fl fr of_low of_high = grind (arith, bit_at_cat_low, bit_at_cat_high)

@@ -1,22 +1,20 @@
 -- What a few steps on words come to: floods, parts shared and joined, shifted and reversed places.
-use Rattle.std.proofs.Common.{ℕ, zero, suc, ◌≤◌, ◌⊎◌, inl, inr, arith}
+use Rattle.std.proofs.Common.{rules, ℕ, zero, suc, ◌≤◌, ◌⊎◌, arith}
 use Rattle.place_sets.specs.Masks.{Has, IsMaskOf, IsShifted, IsFlooded}
 use Rattle.place_sets.proofs.Steps.{mask_same}
 
 -- a flood goes by the places up to its own
 pub flooded_within : (P Q R S : ℕ → Type 0) (i : ℕ) → ((k : ℕ) → k ≤ i → P k → R k) → ((k : ℕ) → k ≤ i → Q k → S k) → IsFlooded P Q i
     → IsFlooded R S i
-flooded_within P Q R S zero f g h = f 0 (omega arith) h
-flooded_within P Q R S (suc i) f g (inl h) = inl (f (suc i) (omega arith) h)
-flooded_within P Q R S (suc i) f g (inr h) =
-    inr (g (suc i) (omega arith) h.0, flooded_within P Q R S i (λ k b. f k (omega arith)) (λ k b. g k (omega arith)) h.1)
+flooded_within P Q R S zero f g h = grind arith
+flooded_within P Q R S (suc i) f g h = grind (arith, flooded_within P Q R S i)
 
 -- a flood of what amounts to the same
 pub flood_same : (P Q R S : ℕ → Type 0) (m : ℕ) → ((i : ℕ) → P i → R i) → ((i : ℕ) → R i → P i) → ((i : ℕ) → Q i → S i)
     → ((i : ℕ) → S i → Q i)
     → IsMaskOf (IsFlooded P Q) m → IsMaskOf (IsFlooded R S) m
 flood_same P Q R S m a b c d p =
-    mask_same _ _ m p (λ i. flooded_within P Q R S i (λ k l. a k) (λ k l. c k)) (λ i. flooded_within R S P Q i (λ k l. b k) (λ k l. d k))
+    search (rules, mask_same, flooded_within)
 
 -- a flood from the sources that a mask has
 pub flood_from : (P Free : ℕ → Type 0) (sources m : ℕ) → IsMaskOf P sources → IsMaskOf (IsFlooded (Has sources) Free) m
@@ -38,4 +36,4 @@ shifted_of w P a by m p q = grind arith
 
 -- a mask has the places that it has
 pub has_of : (a : ℕ) → IsMaskOf (Has a) a
-has_of a = record { to = λ i h. h; from = λ i h. h }
+has_of a = grind arith

@@ -8,7 +8,6 @@ use Rattle.std.proofs.lemmas.Bool.Decides.{nat_tests}
 use Rattle.std.proofs.lemmas.Nat.Bits.{bit_at_and, bit_at_or, bit_at_above, bit_at_xor, bit_at_not, bit_at-lt, bit_at-zero, bit_at_ones, bit_at_ones_above, bit_at-pow_same, bit_at-pow_other, bit_at_lowest, bit_at-suc, bit_at-trailing_zeros}
 use Rattle.std.proofs.lemmas.Nat.{pow-add, one_shl}
 use Rattle.place_sets.specs.Masks.{Has, IsMaskOf}
-use Rattle.place_sets.proofs.Steps.{mask_same}
 
 -- a word of `n` ones has the first `n` places
 pub low_ones : (n : ℕ) → IsMaskOf (λ i. i < n) (2 ^ n - 1)
@@ -16,10 +15,10 @@ low_ones n = grind (arith, bit_at_ones, bit_at_ones_above)
 
 -- the word 1 has the first place alone
 pub one_is : IsMaskOf (λ i. i ≡ 0) 1
-one_is = mask_same _ _ 1 (low_ones 1) (λ i h. omega arith) (λ i h. omega arith)
+one_is = grind (arith, low_ones 1)
 
 pub none_is : (P : ℕ → Type 0) → ((i : ℕ) → P i → ⊥) → IsMaskOf P 0
-none_is P f = record { to = λ i h. absurd (omega (arith, bit_at-zero i)); from = λ i h. absurd (f i h) }
+none_is P f = grind (arith, bit_at-zero)
 
 -- the places in both
 pub meet_is : (a b : ℕ) → IsMaskOf (λ i. Has a i × Has b i) (bit_and a b)
@@ -31,7 +30,7 @@ join_is a b = grind (arith, bit_at_or, bit_at-lt)
 
 -- no place is above that of the greatest power of two
 pub none_above : (m r : ℕ) → 2 ^ r ≤ m → m < 2 * 2 ^ r → (i : ℕ) → Has m i → i ≤ r
-none_above m r a b i h = let twice = pow-add 2 r 1 in let none = bit_at_above m (r + 1) i in grind arith
+none_above m r a b i h = grind (arith, pow-add 2 r 1, bit_at_above m (r + 1) i)
 
 place_in : (n m : ℕ) → m ≤ n → 0 < m → (i : ℕ) × Has m i
 place_in zero m b p = absurd (omega arith)

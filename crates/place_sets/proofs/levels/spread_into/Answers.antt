@@ -1,10 +1,9 @@
 -- `spread_into`: a level spread by half of its places is what the level below holds of it.
-use Rattle.std.proofs.Common.{ℕ, ◌≡◌, ◌+◌, ◌^◌, ◌↔◌, map, get_or, inl, inr, arith}
+use Rattle.std.proofs.Common.{◌≡◌, ◌+◌, ◌^◌, inl, inr, arith}
 use Rattle.std.proofs.lemmas.Bool.{cases_lt}
 use Rattle.std.proofs.lemmas.Nat.{one_shl}
-use Rattle.place_sets.specs.Masks.{Has, SomeFrom}
 use Rattle.place_sets.proofs.Doubling.{step_within, pow_next}
-use Rattle.place_sets.proofs.LevelSteps.{level_set, spread_before, number_at}
+use Rattle.place_sets.proofs.LevelSteps.{level_set, number_at}
 use Rattle.place_sets.proofs.levels.spread_into.Goals as goal
 
 pub either-requires : goal.either-requires
@@ -17,17 +16,15 @@ returns g c =
     let levels = c.args.levels.now in
     let level = c.args.level in
     let most = g.met.W.PlaceSet.top_is.1 in
+    let word = number_at number levels (level + 1) c.index-levels-level-2.result (omega (arith, c.told-levels, c.requires, most)) in
     let one = one_shl level 16 (omega (arith, c.requires, most)) in
-    let twice = pow_next level in
-    let set = level_set number levels level level _ _ _ (omega arith) (omega (arith, c.told-levels, c.requires, most)) c.union.ensures in
-    let at = number_at number levels (level + 1) c.index-levels-level-2.result (omega (arith, c.told-levels, c.requires, most)) in
-    let above = Has (get_or (map number levels) (level + 1) 0) in
-    let more : (i : ℕ) → SomeFrom (Has (number c.either.result)) (2 ^ level) i ↔ SomeFrom above (2 ^ (level + 1)) i =
-    λ i. rw (← at) (spread_before _ _ _ _ _ i (omega arith) (omega arith) c.either.ensures) in
+    let set =
+    level_set number levels level level _ _ _ _ _ (2 ^ (level + 1)) (omega arith) (omega (arith, c.told-levels, c.requires, most))
+    (omega arith) (omega (arith, pow_next level)) c.either.ensures c.union.ensures in
     record {
-      to = λ i x. elim ((set i).0 x) [ inl y ↦ (y.0, omega (arith, y.1), y.2) | inr y ↦ (level + 1, omega arith, (more i).0 y) ];
+      to = λ i x. elim ((set i).0 x) [ inl y ↦ (y.0, omega (arith, y.1), y.2) | inr y ↦ (level + 1, omega arith, rw word at y) ];
       from = λ i x. (set i).1 (elim (cases_lt x.0 (level + 1)) [
         | inl low ↦ inl (x.0, omega arith, x.2)
-        | inr high ↦ (let same : x.0 ≡ level + 1 = omega (arith, x.1) in inr ((more i).1 (rw same at x.2)))
+        | inr high ↦ (let same : x.0 ≡ level + 1 = omega (arith, x.1) in inr (rw word (rw same at x.2)))
       ]);
     }

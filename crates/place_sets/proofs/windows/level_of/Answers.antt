@@ -1,37 +1,22 @@
 -- `level_of`: the logarithm of a length, made odd so that it isn't 0, is the length's own level.
-use Rattle.std.proofs.Common.{◌≡◌, ℕ, zero, suc, ◌+◌, ◌-◌, ◌*◌, ◌/◌, ◌^◌, ◌%◌, ◌<◌, ◌≤◌, refl, arith, bit_or, bit_xor}
-use Rattle.std.proofs.lemmas.Nat.{one_shl, pow_pos, xor_block, or_block, or_lt, le_or_r}
+use Rattle.std.proofs.Common.{◌≡◌, ℕ, ◌+◌, ◌-◌, ◌*◌, ◌/◌, ◌^◌, ◌%◌, ◌<◌, ◌≤◌, arith, bit_or, bit_xor}
+use Rattle.std.proofs.lemmas.Nat.{one_shl, pow-add, pow_below, pow_pos, xor_block, or_block, or_lt, le_or_r}
 use Rattle.std.specs.Int.Bits.{xor_zero_r, or_zero_r}
-use Rattle.place_sets.proofs.Doubling.{level_within, pow_next}
 use Rattle.place_sets.proofs.windows.level_of.Goals as goal
 
 -- a number with its lowest bit
 with_lowest : (n : ℕ) → bit_or n 1 ≡ n / 2 * 2 + 1
-with_lowest n =
-    let e : n / 2 * 2 ^ 1 + n % 2 ≡ n = omega arith in
-    let block = rw (e, or_zero_r) at (or_block 1 (n / 2) 0 (n % 2) 1 (omega arith) (omega arith)) in
-    omega (arith, or_lt 1 (n % 2) 1 (omega arith) (omega arith), le_or_r (n % 2) 1)
-
--- the lowest bit leaves the level of a number as it is
-level_at_least : (level n : ℕ) → 0 < n → 2 ^ level ≤ bit_or n 1 → 2 ^ level ≤ n
-level_at_least zero n some h = omega arith
-level_at_least (suc k) n some h = let twice = pow_next k in omega (arith, with_lowest n)
+with_lowest n = grind (arith, or_block 1 (n / 2) 0 (n % 2) 1, or_zero_r, or_lt 1 (n % 2) 1, le_or_r (n % 2) 1)
 
 -- what is left of a number without its greatest power of two
 rest_of : (level n : ℕ) → 2 ^ level ≤ n → n < 2 * 2 ^ level → bit_xor n (2 ^ level) ≡ n - 2 ^ level
-rest_of level n low high =
-    let e : 1 * 2 ^ level + (n - 2 ^ level) ≡ n = omega arith in
-    let z : 1 * 2 ^ level + 0 ≡ 2 ^ level = omega arith in
-    let block = rw (e, z, xor_zero_r) at (xor_block level 1 1 (n - 2 ^ level) 0 (omega arith) (pow_pos level)) in
-    omega arith
+rest_of level n low high = grind (arith, xor_block level 1 1 (n - 2 ^ level) 0, pow_pos level, xor_zero_r)
 
+-- the lowest bit leaves the level of a number as it is
 is_level : (level length odd : ℕ) → odd ≡ bit_or length 1 → 0 < length → length ≤ 256 → 2 ^ level ≤ odd → odd < 2 * 2 ^ level
     → (2 ^ level ≤ length) × (length < 2 * 2 ^ level) × (level ≤ 8) × (bit_xor length (1 * 2 ^ level % 65536) ≡ length - 2 ^ level)
 is_level level length odd e some short l h =
-    let low : 2 ^ level ≤ length = level_at_least level length some (omega arith) in
-    let high : length < 2 * 2 ^ level = omega (arith, with_lowest length) in
-    let within = level_within level length 256 8 low short refl in
-    (low, high, within, rw (one_shl level 16 (omega arith)) (rest_of level length low high))
+    grind (arith, with_lowest length, pow-add 2 (level - 1) 1, pow_below 8 level, rest_of level length, one_shl level 16)
 
 pub ilog2-level-requires : goal.ilog2-level-requires
 ilog2-level-requires c = omega (arith, with_lowest c.args.length, c.from.ensures)

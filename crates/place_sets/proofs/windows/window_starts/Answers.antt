@@ -1,7 +1,6 @@
 -- `window_starts`: two windows of the length's level, the second shifted to the end, make the window.
-use Rattle.std.proofs.Common.{◌≤◌, ◌^◌, arith}
+use Rattle.std.proofs.Common.{◌≤◌, arith}
 use Rattle.std.proofs.lemmas.List.{get_or-map}
-use Rattle.place_sets.specs.Masks.{Has}
 use Rattle.place_sets.proofs.Doubling.{level_within}
 use Rattle.place_sets.proofs.Steps.{widen}
 use Rattle.place_sets.proofs.windows.window_starts.Goals as goal
@@ -14,4 +13,4 @@ returns g c = λ mask are.
     level_within level c.args.length g.W.PlaceSet.WIDTH g.W.PlaceSet.TOP
     (omega (arith, of.length)) c.requires.1 g.met.W.PlaceSet.width_is in
     let was = get_or-map g.W.PlaceSet.number c.args.windows.now level _ 0 (omega (arith, c.told-windows, of.level)) in
-    widen (Has mask) _ (2 ^ level) _ _ _ (omega (arith, of.rest)) of.length (rw was at (are.each level low)) c.both.ensures
+    widen _ _ _ _ _ _ (rw was at (are.each level low)) c.both.ensures (omega (arith, of.rest)) of.length
