@@ -12,24 +12,16 @@ pub changed_is : (len f b more g d x y z all m : ℕ) (l other : List Cell) → 
     → IsMaskOf (λ i. Has z i × Has all i) m → IsMaskOf (IsChanged l other) m
 changed_is len f b more g d x y z all m l other e o same apart far px py pz pa pm =
     let long = length_seen len f b l e in
+    let at = λ (i : ℕ). seen_at len f b i l e in
+    let far_at = λ (i : ℕ). seen_at more g d i other o in
     record {
-      to = λ i h.
-          let within : i < length l = grind (arith, pm.to i h, pa.to i) in
-          let at = seen_at len f b i l e within in
-          let at' = seen_at more g d i other o (omega arith) in
-          (within, λ q. grind (arith, nat_tests, pm.to i h, pz.to i, px.to i, py.to i, apart i, far i));
-      from = λ i h.
-          let at = seen_at len f b i l e h.0 in
-          let at' = seen_at more g d i other o (omega (arith, h.0)) in
-          grind (arith, nat_tests, pm.from i, pa.from i, pz.from i, px.from i, py.from i);
+      to = λ i h. grind (arith, nat_tests, at i, far_at i, pm.to i, pa.to i, pz.to i, px.to i, py.to i, apart i, far i);
+      from = λ i h. grind (arith, nat_tests, at i, far_at i, pm.from i, pa.from i, pz.from i, px.from i, py.from i);
     }
 
 -- two cells that can't differ are the same
 pub same_cells : (c d : Cell) → (d ≢ c → ⊥) → d ≡ c
-same_cells Unknown Unknown n = refl
-same_cells Filled Filled n = refl
-same_cells Blank Blank n = refl
-same_cells c d n = absurd (n (λ e. cc))
+same_cells c d n = grind arith
 
 -- lines of one length with no change between them are the same, and others aren't
 pub same_without_change : (line other : List Cell) (m : ℕ) → length other ≡ length line → IsMaskOf (IsChanged line other) m

@@ -1,7 +1,7 @@
 -- The first unknown cell of a list.
-use Rattle.grid_core.proofs.Names.{◌≡◌, ℕ, ◌+◌, ◌-◌, ◌*◌, ◌/◌, ◌%◌, ◌<◌, ◌≤◌, true, false, List, [], ◌∷◌, length, get_or, Option, Some, None, is_some, inl, inr, not, ◌⊎◌, refl, ap, arith, list_all, position, position_or_len, nat_tests, rows, Cell, Unknown, is_known, is_unknown, IsUnknownFrom, PartialGrid, row_of}
+use Rattle.grid_core.proofs.Names.{◌≡◌, ℕ, ◌+◌, ◌-◌, ◌*◌, ◌/◌, ◌%◌, ◌<◌, ◌≤◌, true, false, List, [], ◌∷◌, length, get_or, Option, Some, None, is_some, inl, not, ◌⊎◌, refl, arith, list_all, position, position_or_len, nat_tests, rows, Cell, Unknown, is_known, is_unknown, IsUnknownFrom, PartialGrid, row_of}
 use Rattle.std.specs.Option.{option_map}
-use Rattle.std.proofs.lemmas.Bool.{cases_lt, lt-ltb, le-ltb}
+use Rattle.std.proofs.lemmas.Bool.{lt-ltb, le-ltb}
 use Rattle.std.proofs.lemmas.List.Sums.{position_or_len_is}
 use Rattle.grid_core.proofs.LineLaws.{place-within}
 use Rattle.grid_core.proofs.RowLists.{get_or-row_of, length-row_of}
@@ -9,22 +9,16 @@ use Rattle.grid_core.proofs.RowLists.{get_or-row_of, length-row_of}
 -- a cell is the first unknown one if it is unknown and none before it is
 pub position_some : (xs : List Cell) (i : ℕ) → i < length xs → get_or xs i Unknown ≡ Unknown →
     ((k : ℕ) → k < i → is_unknown (get_or xs k Unknown) ≡ false) → position is_unknown xs ≡ Some i
-position_some xs i h here before =
-    rw (position_or_len_is is_unknown xs i Unknown (omega arith) before (λ l. ap is_unknown here), lt-ltb i (length xs) h) refl
+position_some xs i h here before = grind (arith, position_or_len_is is_unknown xs i Unknown, lt-ltb)
 
 -- if no cell is unknown, there is no first unknown one
 pub position_none : (xs : List Cell) → ((k : ℕ) → k < length xs → is_unknown (get_or xs k Unknown) ≡ false) → position is_unknown xs ≡ None
-position_none xs known =
-    rw (
-      position_or_len_is is_unknown xs (length xs) Unknown (omega arith) known (λ l. absurd (omega arith)),
-      le-ltb (length xs) (length xs) (omega arith),
-    ) refl
+position_none xs known = grind (arith, position_or_len_is is_unknown xs (length xs) Unknown, le-ltb)
 
 -- a place is the first unknown one's, or all cells are known
 first_or_all : (xs : List Cell) → (position_or_len is_unknown xs ≡ length xs) × (list_all is_known xs ≡ true)
     ⊎ (position_or_len is_unknown xs < length xs) × (list_all is_known xs ≡ false)
 first_or_all [] = inl (refl, refl)
-first_or_all (Unknown ∷ xs) = inr (omega arith, refl)
 first_or_all (cell ∷ xs) = grind (arith, first_or_all xs)
 
 -- there is a first unknown cell exactly if not all are known
@@ -38,19 +32,13 @@ unknown_or_all f found xs e = rw e (grind (arith, nat_tests, first_or_all xs))
 known-more : (g : PartialGrid) (y x : ℕ) → x ≤ g.width → ((k : ℕ) → k < y * g.width → is_unknown (get_or g.cells k Unknown) ≡ false)
     → ((k : ℕ) → k < x → is_unknown (get_or (row_of g y) k Unknown) ≡ false) → (k : ℕ) → k < y * g.width + x →
     is_unknown (get_or g.cells k Unknown) ≡ false
-known-more g y x h above here k l = elim (cases_lt k (y * g.width)) [
-  | inl low ↦ above k low
-  | inr from ↦
-      (let at : y * g.width + (k - y * g.width) ≡ k = omega arith in
-      rw (get_or-row_of g (k - y * g.width) y (omega arith), at) at (here (k - y * g.width) (omega arith)))
-]
+known-more g y x h above here k l = grind (arith, above k, here (k - y * g.width), get_or-row_of g (k - y * g.width) y)
 
 -- if a row has no unknown cell, none is unknown up to its end
 pub known-row : (g : PartialGrid) (y : ℕ) (row : List Cell) → row ≡ row_of g y → IsUnknownFrom row 0 None
     → ((k : ℕ) → k < y * g.width → is_unknown (get_or g.cells k Unknown) ≡ false) → (k : ℕ) → k < (y + 1) * g.width
     → is_unknown (get_or g.cells k Unknown) ≡ false
-known-row g y row e none above k l =
-    known-more g y g.width (omega arith) above (λ x h. rw (← e) (none x (omega arith) (rw (e, length-row_of) h))) k (omega arith)
+known-row g y row e none above k l = known-more g y g.width (omega arith) above (grind (arith, length-row_of)) k (omega arith)
 
 -- the first unknown cell of a row is that of the grid, if no cell of the rows above is unknown
 pub first_in_row : (g : PartialGrid) (y x : ℕ) (row : List Cell) → row ≡ row_of g y → y < g.height → length g.cells ≡ g.width * g.height
@@ -59,8 +47,6 @@ pub first_in_row : (g : PartialGrid) (y x : ℕ) (row : List Cell) → row ≡ r
 first_in_row g y x row e ly count above found =
     let lx : x < g.width = rw (e, length-row_of) at found.1 in
     let here = rw (e, get_or-row_of g x y lx) at found.2 in
-    let column : (y * g.width + x) % g.width ≡ x = grind (arith, rows) in
-    let line : (y * g.width + x) / g.width ≡ y = grind (arith, rows) in
-    let first = position_some g.cells (y * g.width + x) (omega (arith, place-within g.width g.height x y lx ly)) here
-    (known-more g y x (omega arith) above (λ k l. rw (← e) (found.3 k (omega arith) l))) in
-    rw first (λ i. Some (column i, line i))
+    let before = known-more g y x (omega arith) above (grind arith) in
+    let first = position_some g.cells (y * g.width + x) (omega (arith, place-within g.width g.height x y lx ly)) here before in
+    rw first (grind (arith, rows))

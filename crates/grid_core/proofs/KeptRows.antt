@@ -1,5 +1,5 @@
 -- The rows that a grid keeps.
-use Rattle.grid_core.proofs.Names.{◌≡◌, ℕ, ◌+◌, ◌-◌, ◌*◌, ◌<◌, ◌≤◌, List, [], length, replicate, get_or, set, refl, sym, ◌∙◌, arith, length-set, ext_get_or, length-map, get_or-map, length-append, length-replicate, get_or_append_left, get_or-append_right, get_or-replicate, append_assoc, append-nil, map-set, replicate-append-replicate, set-append_left, Cell, Unknown, Row, AreRowsOf, all_rows, row_cells, rows_cells, unknown_row, PartialGrid, cells_of_rows, row_of, with_row}
+use Rattle.grid_core.proofs.Names.{◌≡◌, ℕ, ◌+◌, ◌-◌, ◌*◌, ◌<◌, ◌≤◌, List, [], length, replicate, get_or, set, refl, arith, length-set, ext_get_or, length-map, get_or-map, length-append, length-replicate, get_or_append_left, get_or-append_right, get_or-replicate, append_assoc, append-nil, map-set, replicate-append-replicate, set-append_left, Cell, Unknown, Row, AreRowsOf, all_rows, row_cells, rows_cells, unknown_row, PartialGrid, cells_of_rows, row_of, with_row}
 use Rattle.grid_core.proofs.LineCells.{cells-none, length_line}
 use Rattle.grid_core.proofs.RowLists.{AreLong, cells-set_row, cells-unknown, length-rows, row_of-rows}
 
@@ -9,18 +9,16 @@ kept_grid w h rows = record { width = w; height = h; cells = cells_of_rows (rows
 
 -- each has as many cells as the grid is wide
 rows-long : (w : ℕ) (rows : List Row) → AreLong w (rows_cells w rows)
-rows-long w rows y l =
-    rw (get_or-map (row_cells w) rows y unknown_row [] (rw length-map at l)) (length_line w _ _)
+rows-long w rows y l = grind (arith, get_or-map (row_cells w) rows y unknown_row [], length-map, length_line)
 
 -- with those below the written ones there are `h` rows
 length-all : (h : ℕ) (rows : List Row) → length rows ≤ h → length (all_rows h rows) ≡ h
-length-all h rows l = rw (length-append, length-replicate) (omega arith)
+length-all h rows l = grind (arith, length-append, length-replicate)
 
 -- all rows together have as many cells as the grid is wide times their number
 pub count-cells : (w h : ℕ) (rows : List Row) → length rows ≤ h → length (cells_of_rows (rows_cells w (all_rows h rows))) ≡ w * h
 count-cells w h rows l =
-    let all = all_rows h rows in
-    rw (length-rows w (rows_cells w all) (rows-long w all), length-map, length-all h rows l) (omega arith)
+    let all = all_rows h rows in grind (arith, length-rows w (rows_cells w all) (rows-long w all), length-map, length-all h rows)
 
 -- the row of a grid is that one of all
 row-is : (w h : ℕ) (rows : List Row) (y : ℕ) (row : Row) → length rows ≤ h → y < h → get_or (all_rows h rows) y row ≡ row →
@@ -28,56 +26,36 @@ row-is : (w h : ℕ) (rows : List Row) (y : ℕ) (row : Row) → length rows ≤
 row-is w h rows y row few l is =
     let all = all_rows h rows in
     let within : y < length all = omega (arith, length-all h rows few) in
-    rw (get_or-map (row_cells w) all y row [] within, is) at
-    (row_of-rows (kept_grid w h rows) (rows_cells w all) y (rows-long w all) (rw length-map within) refl)
+    let at = row_of-rows (kept_grid w h rows) (rows_cells w all) y (rows-long w all) (rw length-map within) refl in
+    grind (arith, get_or-map (row_cells w) all y row [])
 
 -- a written row is one of the grid's
 pub row_written : (w h : ℕ) (rows : List Row) (y : ℕ) (row : Row) → length rows ≤ h → y < length rows → row ≡ get_or rows y row →
     row_cells w row ≡ row_of (kept_grid w h rows) y
-row_written w h rows y row few l is =
-    row-is w h rows y row few (omega arith) (get_or_append_left rows (replicate (h - length rows) unknown_row) row y l ∙ sym is)
+row_written w h rows y row few l is = grind (arith, row-is w h rows y row, get_or_append_left)
 
 -- and nothing is known of a row below the written ones
 pub row_unknown : (w h : ℕ) (rows : List Row) (y : ℕ) → length rows ≤ h → length rows ≤ y → y < h →
     replicate w Unknown ≡ row_of (kept_grid w h rows) y
-row_unknown w h rows y few from l =
-    sym (cells-none w) ∙ row-is w h rows y unknown_row few l
-    (get_or-append_right rows (replicate (h - length rows) unknown_row) (length rows) y unknown_row refl from
-    ∙ get_or-replicate (h - length rows) (y - length rows) unknown_row unknown_row (omega arith))
+row_unknown w h rows y few from l = grind (arith, row-is w h rows y unknown_row, cells-none, get_or-append_right, get_or-replicate)
 
 -- a grid with no row written is unknown
 pub none_written : (w h : ℕ) (rows : List Row) → rows ≡ [] →
     kept_grid w h rows ≡ record { width = w; height = h; cells = replicate (w * h) Unknown }
-none_written w h rows e =
-    let all : h - 0 ≡ h = omega arith in rw (e, all, cells-unknown (row_cells w) unknown_row w h (cells-none w)) refl
+none_written w h rows e = grind (arith, cells-unknown (row_cells w) unknown_row w h, cells-none)
 
 -- to write rows of which nothing is known changes none
 filled-up : (h n : ℕ) (rows : List Row) → n ≤ h → all_rows h (all_rows n rows) ≡ all_rows h rows
-filled-up h n rows l =
-    let k = length rows in
-    let left : n - k + (h - (k + (n - k))) ≡ h - k = omega arith in
-    rw (append_assoc, length-append, length-replicate, replicate-append-replicate, left) refl
+filled-up h n rows l = grind (arith, append_assoc, length-append, length-replicate, replicate-append-replicate)
 
 -- with one row written, the grid has a line's cells there
 pub one_written : (w h : ℕ) (rows filled : List Row) (y : ℕ) (row : Row) (line : List Cell) → length rows ≤ h → y < h →
     filled ≡ all_rows (y + 1) rows → row_cells w row ≡ line →
     kept_grid w h (set filled y row) ≡ with_row (kept_grid w h rows) y line
 one_written w h rows filled y row line few l is cells =
-    let within : y < length filled = rw (is, length-append, length-replicate) (omega arith) in
     let all : all_rows h (set filled y row) ≡ set (all_rows h rows) y row =
-    rw (
-      length-set,
-      ← set-append_left filled (replicate (h - length filled) unknown_row) y row within,
-      is,
-      filled-up h (y + 1) rows (omega arith),
-    ) refl in
-    rw (
-      all,
-      map-set,
-      cells,
-      cells-set_row w (rows_cells w (all_rows h rows)) y line (rows-long w (all_rows h rows))
-          (rw (length-map, length-all h rows few) l),
-    ) refl
+    grind (arith, length-set, set-append_left, length-append, length-replicate, filled-up h (y + 1) rows) in
+    grind (arith, all, map-set, cells-set_row w (rows_cells w (all_rows h rows)) y line, rows-long w, length-map, length-all)
 
 -- with a row for each line, the grid has the lines' cells
 pub all_written : (w h : ℕ) (rows : List Row) (lines : List (List Cell)) → length lines ≡ h → AreLong w lines
@@ -86,9 +64,7 @@ all_written w h rows lines tall wide are =
     let none : h - length rows ≡ 0 = omega (arith, are.count) in
     let same : rows_cells w rows ≡ lines =
     ext_get_or [] (rows_cells w rows) lines (rw length-map are.count) (λ y l.
-    let within : y < length rows = rw length-map at l in
-    rw (get_or-map (row_cells w) rows y unknown_row [] within)
-    (rw (wide y (omega (arith, are.count))) at (are.cells y within unknown_row))) in
-    rw (none, append-nil, same) refl
+    grind (arith, get_or-map (row_cells w) rows y unknown_row [], length-map, are.cells y, wide y)) in
+    grind (arith, append-nil)
 
 pub ruleset counted = (count-cells)

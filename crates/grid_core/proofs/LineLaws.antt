@@ -1,6 +1,6 @@
 -- The lines of a puzzle by number, and the cells along a line.
-use Rattle.grid_core.proofs.Names.{◌≡◌, refl, sym, ap, ℕ, zero, suc, ◌+◌, ◌*◌, ◌<◌, ◌≤◌, false, List, [], length, map, get_or, take, drop, arith, zero-add, ext_get_or, length-drop, get_or-drop, get_or-take, mul-le-mul_right, drop-append_seam, take-append_seam, get_or-map, length-map, length-take-le, length-enumerate_from, get_or-enumerate_from, All, enumerate_from, Rows, Columns, GridLine, Nonogram, cells_at, clues_on, crossing, line_on, lines_of, numbered_line, places_from, places_on}
-use Rattle.std.proofs.lemmas.List.Elements.{All-append, All-drop, All-from_get_or, All-get_or, All-map, All-take}
+use Rattle.grid_core.proofs.Names.{◌≡◌, refl, sym, ℕ, zero, suc, ◌+◌, ◌*◌, ◌<◌, ◌≤◌, false, List, [], length, map, get_or, take, drop, arith, ext_get_or, length-drop, get_or-drop, get_or-take, mul-le-mul_right, drop-append_seam, take-append_seam, get_or-map, length-map, length-take-le, length-enumerate_from, get_or-enumerate_from, All, enumerate_from, Rows, Columns, GridLine, Nonogram, cells_at, clues_on, crossing, line_on, lines_of, numbered_line, places_from, places_on}
+use Rattle.std.proofs.lemmas.List.Elements.{All-append, All-drop, All-get_or, All-take}
 use Rattle.grid_core.specs.declared.sides.Side.{Side}
 use Rattle.grid_core.specs.Reading.{RowIsRange}
 use Rattle.grid_core.specs.steps.Sides.{count_on, place_on}
@@ -8,13 +8,15 @@ use Rattle.grid_core.specs.steps.Sides.{count_on, place_on}
 abbrev lines_on : Side → Nonogram → List GridLine
 lines_on side p = map (numbered_line side p) (enumerate_from 0 (clues_on side p))
 
+-- line i of a side, in the list of its lines
+at : (side : Side) (p : Nonogram) (i : ℕ) (d : GridLine) → i < length (clues_on side p) → get_or (lines_on side p) i d ≡ line_on side p i
+at side p i d l =
+    let numbered = enumerate_from 0 (clues_on side p) in
+    grind (arith, length-enumerate_from, get_or-map (numbered_line side p) numbered i (0, []), get_or-enumerate_from)
+
 all_on : (P : GridLine → Type 0) (p : Nonogram) (side : Side) → ((i : ℕ) → i < length (clues_on side p) → P (line_on side p i))
     → All P (lines_on side p)
-all_on P p side each =
-    let numbered = enumerate_from 0 (clues_on side p) in
-    All-map P (numbered_line side p) numbered (All-from_get_or (λ n. P (numbered_line side p n)) numbered (0, []) (λ i h.
-    let within = rw length-enumerate_from at h in
-    rw (get_or-enumerate_from 0 (clues_on side p) i (0, []) within, zero-add i) (each i within)))
+all_on P p side each i d h = let within = rw (length-map, length-enumerate_from) at h in rw (at side p i d within) (each i within)
 
 -- what holds of each row and of each column holds of each line
 pub all_lines : (P : GridLine → Type 0) (p : Nonogram) → ((y : ℕ) → y < length p.rows → P (line_on Rows p y)) →
@@ -25,14 +27,8 @@ all_lines P p r c = All-append P (lines_on Rows p) (lines_on Columns p) (all_on 
 pub each_line : (P : GridLine → Type 0) (p : Nonogram) → All P (lines_of p) → (side : Side) (i : ℕ) → i < length (clues_on side p) →
     P (line_on side p i)
 each_line P p h side i l =
-    let numbered = enumerate_from 0 (clues_on side p) in
-    let within : i < length numbered = rw length-enumerate_from l in
-    rw (
-      get_or-map (numbered_line side p) numbered i (0, []) (line_on side p i) within,
-      get_or-enumerate_from 0 (clues_on side p) i (0, []) l,
-      zero-add i,
-    ) at
-    (All-get_or P (lines_on side p) i (line_on side p i) (rw length-map within) (part side))
+    let d = line_on side p i in
+    rw (at side p i d l) at (All-get_or P (lines_on side p) i d (rw (length-map, length-enumerate_from) l) (part side))
   where
     part : (s : Side) → All P (lines_on s p)
     part Rows = rw take-append_seam at (All-take P (length (lines_on Rows p)) (lines_of p) h)
@@ -40,7 +36,7 @@ each_line P p h side i l =
 
 pub length-places_from : (first step n : ℕ) → length (places_from first step n) ≡ n
 length-places_from first step zero = refl
-length-places_from first step (suc n) = ap suc (length-places_from (first + step) step n)
+length-places_from first step (suc n) = grind (arith, length-places_from (first + step) step n)
 
 pub get_or-places_from : (first step n i : ℕ) → i < n → get_or (places_from first step n) i 0 ≡ first + i * step
 get_or-places_from first step zero i h = absurd (omega arith)
@@ -55,8 +51,8 @@ length-places_on Columns w h i = length-places_from i w h
 -- the place of cell k of a line
 pub get_or-places_on : (side : Side) (w h i k : ℕ) → k < count_on (crossing side) w h →
     get_or (places_on side w h i) k 0 ≡ place_on side w i k
-get_or-places_on Rows w h i k l = omega (arith, get_or-places_from (i * w) 1 w k l)
-get_or-places_on Columns w h i k l = omega (arith, get_or-places_from i w h k l)
+get_or-places_on Rows w h i k l = grind (arith, get_or-places_from)
+get_or-places_on Columns w h i k l = grind (arith, get_or-places_from)
 
 pub length-cells_at : {X : Type 0} (d : X) (cells : List X) (places : List ℕ) → length (cells_at d cells places) ≡ length places
 length-cells_at d cells places = length-map places (λ k. get_or cells k d)
@@ -69,11 +65,8 @@ get_or-cells_at d cells places i h = get_or-map (λ k. get_or cells k d) places 
 pub cells-along : {X : Type 0} (d : X) (cells line : List X) (first step count : ℕ) → length line ≡ count
     → ((k : ℕ) → k < count → get_or line k d ≡ get_or cells (first + k * step) d) → line ≡ cells_at d cells (places_from first step count)
 cells-along d cells line first step count e h =
-    let places = places_from first step count in
-    ext_get_or d line (cells_at d cells places) (rw (length-cells_at, length-places_from) e) (λ k l.
-    let within : k < count = rw e at l in
-    rw (get_or-cells_at d cells places k (rw length-places_from within), get_or-places_from first step count k within)
-    (h k within))
+    ext_get_or d line (cells_at d cells (places_from first step count)) (grind (arith, length-cells_at, length-places_from)) (λ k l.
+    grind (arith, get_or-cells_at, length-places_from, get_or-places_from, h k))
 
 -- row y ends within a grid of w columns and h rows, if y < h
 pub row-within : (w h y : ℕ) → y < h → y * w + w ≤ w * h
@@ -87,9 +80,9 @@ place-within w h x y k l = omega (arith, row-within w h y l)
 pub row-is_range : (p : Nonogram) → RowIsRange p
 row-is_range p full y long l =
     let fits = row-within p.width p.height y l in
-    sym (cells-along false full (take p.width (drop (y * p.width) full)) (y * p.width) 1 p.width
-    (length-take-le p.width (drop (y * p.width) full) (omega (arith, length-drop (y * p.width) full)))
-    (λ k h. let one : k * 1 ≡ k = omega arith in rw (get_or-take, get_or-drop, one) refl))
+    let row = take p.width (drop (y * p.width) full) in
+    sym (cells-along false full row (y * p.width) 1 p.width (grind (arith, length-take-le, length-drop)) (λ k h.
+    grind (arith, get_or-take, get_or-drop)))
 
 -- and the cells of a column are every w-th cell
 pub ruleset lines_lie = (row-is_range, length-cells_at, length-places_from, get_or-cells_at, get_or-places_from, place-within)

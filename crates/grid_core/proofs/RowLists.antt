@@ -8,20 +8,16 @@ AreLong w rows = (y : ℕ) → y < length rows → length (get_or rows y []) ≡
 -- if each row has `w` cells, all rows together have `w` cells times the number of rows
 pub length-rows : (w : ℕ) (rows : List (List Cell)) → AreLong w rows → length (cells_of_rows rows) ≡ length rows * w
 length-rows w [] h = omega arith
-length-rows w (row ∷ rows) h =
-    rw (length-append, h 0 (omega arith), length-rows w rows (λ y l. h (suc y) (omega arith))) (omega arith)
+length-rows w (row ∷ rows) h = grind (arith, length-append, h 0, length-rows w rows (λ y l. h (suc y) (omega arith)))
 
 -- each cell of a row is among the cells
 pub get_or-rows : (w : ℕ) (rows : List (List Cell)) (y x : ℕ) → AreLong w rows → y < length rows → x < w
     → get_or (cells_of_rows rows) (y * w + x) Unknown ≡ get_or (get_or rows y []) x Unknown
 get_or-rows w [] y x h l m = absurd (omega arith)
-get_or-rows w (row ∷ rows) zero x h l m =
-    let at : 0 * w + x ≡ x = omega arith in
-    rw (at, get_or_append_left row (cells_of_rows rows) Unknown x (omega (arith, h 0 (omega arith)))) refl
+get_or-rows w (row ∷ rows) zero x h l m = grind (arith, get_or_append_left row (cells_of_rows rows) Unknown x, h 0)
 get_or-rows w (row ∷ rows) (suc y) x h l m =
-    let next : suc y * w + x - w ≡ y * w + x = omega arith in
-    rw (get_or-append_right row (cells_of_rows rows) w (suc y * w + x) Unknown (h 0 (omega arith)) (omega arith), next)
-    (get_or-rows w rows y x (λ k n. h (suc k) (omega arith)) (omega arith) m)
+    let next = get_or-rows w rows y x (λ k n. h (suc k) (omega arith)) (omega arith) m in
+    grind (arith, get_or-append_right row (cells_of_rows rows) w (suc y * w + x) Unknown, h 0)
 
 -- with another row, the cells are those before it, its own, and those after it
 pub cells-set_row : (w : ℕ) (rows : List (List Cell)) (y : ℕ) (row : List Cell) → AreLong w rows → y < length rows →
@@ -29,30 +25,19 @@ pub cells-set_row : (w : ℕ) (rows : List (List Cell)) (y : ℕ) (row : List Ce
 cells-set_row w [] y row h l = absurd (omega arith)
 cells-set_row w (r ∷ rows) zero row h l =
     let none : 0 * w ≡ 0 = omega arith in
-    let past : 0 * w + w ≡ length r + 0 = omega (arith, h 0 (omega arith)) in
-    rw (past, none, drop-append-add) refl
+    let past : 0 * w + w ≡ length r + 0 = omega (arith, h 0 (omega arith)) in rw (past, none, drop-append-add) refl
 cells-set_row w (r ∷ rows) (suc y) row h l =
     let long : length r ≡ w = h 0 (omega arith) in
     let before : suc y * w ≡ length r + y * w = omega arith in
     let past : suc y * w + w ≡ length r + (y * w + w) = omega arith in
-    rw (
-      past,
-      before,
-      take-append-add,
-      drop-append-add,
-      append_assoc r (take (y * w) (cells_of_rows rows)) row,
-      append_assoc,
-      cells-set_row w rows y row (λ k n. h (suc k) (omega arith)) (omega arith),
-      append_assoc,
-    ) refl
+    let next = cells-set_row w rows y row (λ k n. h (suc k) (omega arith)) (omega arith) in
+    rw (past, before, take-append-add, drop-append-add, next) (simp append_assoc)
 
 -- the cells of rows of which nothing is known
 pub cells-unknown : {X : Type 0} (cells : X → List Cell) (row : X) (w h : ℕ) → cells row ≡ replicate w Unknown →
     cells_of_rows (map cells (replicate h row)) ≡ replicate (w * h) Unknown
-cells-unknown cells row w zero e = let none : w * 0 ≡ 0 = omega arith in rw none refl
-cells-unknown cells row w (suc h) e =
-    let sum : w + w * h ≡ w * suc h = omega arith in
-    rw (e, cells-unknown cells row w h e, replicate-append-replicate, sum) refl
+cells-unknown cells row w zero e = grind arith
+cells-unknown cells row w (suc h) e = grind (arith, cells-unknown cells row w h e, replicate-append-replicate)
 
 -- a row of a grid has as many cells as the grid is wide
 pub length-row_of : (g : PartialGrid) (y : ℕ) → length (row_of g y) ≡ g.width
@@ -68,9 +53,8 @@ pub ruleset rows_read = (length-row_of, get_or-row_of, length-set)
 pub row_of-rows : (g : PartialGrid) (rows : List (List Cell)) (y : ℕ) → AreLong g.width rows → y < length rows →
     g.cells ≡ cells_of_rows rows → get_or rows y [] ≡ row_of g y
 row_of-rows g rows y long l same =
-    ext_get_or Unknown (get_or rows y []) (row_of g y) (long y l ∙ sym (length-row_of g y)) (λ x h.
-    let lx : x < g.width = rw (long y l) at h in
-    rw (get_or-row_of g x y lx, same) (sym (get_or-rows g.width rows y x long l lx)))
+    ext_get_or Unknown (get_or rows y []) (row_of g y) (grind (arith, length-row_of, long y)) (λ x h.
+    grind (arith, get_or-row_of g x y, get_or-rows g.width rows y x long, long y))
 
 -- ---- a row with another cell
 
@@ -78,11 +62,9 @@ row_of-rows g rows y long l same =
 row_of-part : (g : PartialGrid) (y : ℕ) → y * g.width + g.width ≤ length g.cells
     → row_of g y ≡ take g.width (drop (y * g.width) g.cells)
 row_of-part g y fits =
-    let from = drop (y * g.width) g.cells in
-    let long = length-take-le g.width from (omega (arith, length-drop (y * g.width) g.cells)) in
-    ext_get_or Unknown (row_of g y) (take g.width from) (length-row_of g y ∙ sym long) (λ x h.
-    let within : x < g.width = rw length-row_of at h in
-    rw (get_or-row_of g x y within, get_or-take, get_or-drop) refl)
+    let row = take g.width (drop (y * g.width) g.cells) in
+    ext_get_or Unknown (row_of g y) row (grind (arith, length-row_of, length-take-le, length-drop)) (λ x h.
+    grind (arith, get_or-row_of g x y, length-row_of, get_or-take, get_or-drop))
 
 -- a grid whose row has another cell
 pub row-set : (g : PartialGrid) (x y : ℕ) (c : Cell) → x < g.width → y * g.width + g.width ≤ length g.cells →
@@ -91,12 +73,7 @@ row-set g x y c l fits =
     let a = y * g.width in
     let front = take a g.cells in
     let rest = drop (a + g.width) g.cells in
-    let long : length front ≡ a = length-take-le a g.cells (omega arith) in
-    let wide : x < length (row_of g y) = rw length-row_of l in
-    let at : a + x - a ≡ x = omega arith in
     let whole : front ++ (row_of g y ++ rest) ≡ g.cells =
     rw (row_of-part g y fits, ← drop-drop g.width a g.cells, take-append-drop, take-append-drop) refl in
-    let cells : set g.cells (a + x) c ≡ front ++ set (row_of g y) x c ++ rest =
-    ap (λ (cells : List Cell). set cells (a + x) c) (sym whole)
-    ∙ rw (set-append_right front (row_of g y ++ rest) a (a + x) c long (omega arith), at, set-append_left, append_assoc) refl in
-    λ i. record { width = g.width; height = g.height; cells = sym cells i }
+    let past = set-append_right front (row_of g y ++ rest) a (a + x) c in
+    grind (arith, length-take-le, length-row_of, set-append_left (row_of g y) rest x c, append_assoc)

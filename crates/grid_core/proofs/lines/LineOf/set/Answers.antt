@@ -1,10 +1,11 @@
 -- `LineOf::set`: the cell is written into both masks, which stay apart.
-use Rattle.std.proofs.Common.{arith}
-use Rattle.grid_core.proofs.LineCells.{length_seen, cells-set}
+use Rattle.grid_core.proofs.Names.{arith, nat_tests}
+use Rattle.grid_core.proofs.LineCells.{cell_itself, cells-set}
 use Rattle.grid_core.proofs.lines.LineOf.set.Goals as goal
 
 pub returns : goal.returns
 returns g c =
-    let long = length_seen _ _ _ _ c.self.view_is in
-    rw (← c.self.view_is) (cells-set _ _ _ _ _ c.args.i c.args.cell (omega arith)
-    (rw c.is_filled.ensures at c.marked-self-inside.ensures) (rw c.is_blank.ensures at c.marked-self-inside-2.ensures))
+    let filled = c.marked-self-inside.ensures in
+    let blank = c.marked-self-inside-2.ensures in
+    cells-set _ _ _ _ _ c.args.i c.args.cell _ c.self.view_is c.requires (λ i l.
+    grind (arith, nat_tests, cell_itself, c.is_filled.ensures, c.is_blank.ensures, filled.to i, filled.from i, blank.to i, blank.from i))

@@ -6,12 +6,7 @@ use Rattle.grid_core.proofs.lines.LineOf.unknown_cells.Goals as goal
 -- the mask of what neither mask has is that of the unknown cells
 unknown_is : (len f b n m : ℕ) → IsMaskOf (λ i. Has f i ⊎ Has b i) n → IsMaskOf (λ i. (i < len) × (has n i ≡ false)) m
     → IsMaskOf (IsUnknownCell (line_cells len f b)) m
-unknown_is len f b n m either rest =
-    let long = length_line len f b in
-    record {
-      to = λ i x. grind (arith, nat_tests, cell_at len f b i, rest.to i x, either.from i);
-      from = λ i x. grind (arith, nat_tests, cell_at len f b i, rest.from i, either.to i);
-    }
+unknown_is len f b n m either rest = grind (arith, nat_tests, cell_at len f b, length_line len f b)
 
 pub returns-clause-cells : goal.returns-clause-cells
 returns-clause-cells g c = rw (← c.self.view_is) (unknown_is _ _ _ _ _ c.union.ensures c.complement_within.ensures)
