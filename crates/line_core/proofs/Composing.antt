@@ -1,14 +1,13 @@
 -- The masks of gaps and of ends, each made of those before it.
-use Rattle.line_core.proofs.Names.{rules, ◌≡◌, ℕ, ◌+◌, ◌-◌, ◌<◌, ◌≤◌, true, false, List, [], ◌∷◌, length, get_or, reverse, subst, arith, ◌⊎◌, inl, inr, cases_lt, Cell, Has, IsMaskOf, IsShifted, IsFlooded, AllFrom, SomeFrom, SomeLevel, AreLevelsOf, mask_same, meet_of, join_of, MayBe, IsGapAfter, IsStartAfter, IsEndAfter, IsGap, IsGapAhead, IsWholeEnd, flood_same, IsEnd}
+use Rattle.line_core.proofs.Names.{rules, ◌≡◌, ℕ, ◌+◌, ◌-◌, ◌<◌, ◌≤◌, true, false, List, [], ◌∷◌, length, get_or, reverse, arith, ◌⊎◌, inl, inr, cases_lt, Cell, Has, IsMaskOf, IsShifted, IsFlooded, AllFrom, SomeFrom, SomeLevel, AreLevelsOf, mask_same, meet_of, join_of, MayBe, IsGapAfter, IsStartAfter, IsEndAfter, IsGap, IsGapAhead, IsWholeEnd, flood_same, IsEnd, common_steps}
 use Rattle.line_core.proofs.Reaching.{After, first_gap_to, first_gap_from, gap_after_to, gap_after_from}
 use Rattle.line_core.proofs.Joining.{closed_behind_to, closed_behind_from, closed_ahead_to, closed_ahead_from, reversed_gap}
 
 -- the mask of the first gaps
 pub gap_none_is : (l : List Cell) (free m : ℕ) → IsMaskOf (MayBe l false) free
     → IsMaskOf (IsFlooded (λ k. Has free k × (k ≡ 0)) (Has free)) m → IsMaskOf (IsGapAfter l []) m
-gap_none_is l free m f p =
-    mask_same _ _ m (flood_same (λ k. Has free k × (k ≡ 0)) (Has free) (λ k. (k ≡ 0) × MayBe l false k) (MayBe l false) m (λ i h. (h.1, f.to i h.0))
-    (λ i h. (f.from i h.1, h.0)) f.to f.from p) (first_gap_to l) (first_gap_from l)
+gap_none_is l free m f p = mask_same _ _ m (flood_same (λ k. Has free k × (k ≡ 0)) (Has free) (λ k. (k ≡ 0) × MayBe l false k) (MayBe l false) m
+    (λ i h. search (rules, f.to)) (λ i h. search (rules, f.from)) f.to f.from p) (first_gap_to l) (first_gap_from l)
 
 -- the mask of the gaps after a run, from that of its ends
 pub gap_next_is : (l : List Cell) (runs : List ℕ) (w n free ends m : ℕ) → length l ≤ w → 0 < n → IsMaskOf (MayBe l false) free
@@ -16,8 +15,7 @@ pub gap_next_is : (l : List Cell) (runs : List ℕ) (w n free ends m : ℕ) → 
     → IsMaskOf (IsFlooded (λ k. IsShifted w (Has ends) 1 k × Has free k) (Has free)) m → IsMaskOf (IsGapAfter l (n ∷ runs)) m
 gap_next_is l runs w n free ends m short pos f e p =
     mask_same _ _ m (flood_same (λ k. IsShifted w (Has ends) 1 k × Has free k) (Has free) (After l n runs) (MayBe l false) m
-    (λ i h. (f.to i h.1, h.0.1, e.to (i - 1) h.0.2))
-    (λ i h. let within : i < length l = h.0.0 in ((omega arith, h.1, e.from (i - 1) h.2), f.from i h.0)) f.to f.from p)
+    (λ i h. search (rules, f.to, e.to)) (λ i h. search (rules, f.from, e.from)) f.to f.from p)
     (λ i h. gap_after_to l runs n i pos h) (gap_after_from l runs n)
 
 -- the ends of runs of `n` cells that start after a gap or at an opening, and within a window
@@ -31,39 +29,23 @@ pub ends_are : (l : List Cell) (runs : List ℕ) (w n gap room opening window m 
 ends_are l runs w n gap room opening window m short some g f a v p = mask_same _ _ m p to from
   where
     start_to : (s : ℕ) → (IsShifted w (Has gap) 1 s ⊎ Has opening s) × Has window s → IsStartAfter l runs n s
-    start_to s h = (
-      closed_behind_from l runs s (elim h.0 [ inl x ↦ inr (x.1, g.to (s - 1) x.2) | inr x ↦ inl (f.to s x) ]),
-      λ z b. a.to (s + z) (v.to s h.1 z b),
-    )
+    start_to s h = (closed_behind_from l runs s (search (rules, g.to (s - 1), f.to s)), λ z b. a.to (s + z) (v.to s h.1 z b))
 
     start_from : (s : ℕ) → IsStartAfter l runs n s → (IsShifted w (Has gap) 1 s ⊎ Has opening s) × Has window s
     start_from s h =
-        let here : s + 0 < length l = (h.1 0 some).0 in (
-          elim (closed_behind_to l runs s (omega arith) h.0) [
-            | inl x ↦ inr (f.from s x)
-            | inr x ↦ inl (omega arith, x.0, g.from (s - 1) x.1)
-          ],
-          v.from s (λ z b. a.from (s + z) (h.1 z b)),
-        )
+        let here : s + 0 < length l = (h.1 0 some).0 in
+        (grind (arith, common_steps, closed_behind_to), v.from s (λ z b. a.from (s + z) (h.1 z b)))
 
     to : (e : ℕ) → EndsAt w gap opening window n e → IsEndAfter l runs n e
     to e h =
         let far : n - 1 ≤ e = h.1 in
-        let same : e - (n - 1) ≡ e + 1 - n = omega arith in
-        (omega arith, subst (IsStartAfter l runs n) same (start_to (e - (n - 1)) h.2))
+        let same : e - (n - 1) ≡ e + 1 - n = omega arith in (omega arith, rw same at (start_to (e - (n - 1)) h.2))
 
     from : (e : ℕ) → IsEndAfter l runs n e → EndsAt w gap opening window n e
     from e h =
         let enough : n ≤ e + 1 = h.0 in
         let same : e + 1 - n ≡ e - (n - 1) = omega arith in
-        let last : e + 1 - n + (n - 1) < length l = (h.1.1 (n - 1) (omega arith)).0 in
-        (omega arith, omega arith, start_from (e - (n - 1)) (subst (IsStartAfter l runs n) same h.1))
-
--- the mask of the gaps ahead of a run, from that of the reversed line
-pub ahead_is : (l : List Cell) (clue : List ℕ) (j gap m : ℕ) → j ≤ length clue → IsMaskOf (IsGap (reverse l) (reverse clue) (length clue - j)) gap
-    → IsMaskOf (λ i. (i < length l) × Has gap (length l - 1 - i)) m → IsMaskOf (IsGapAhead l clue j) m
-ahead_is l clue j gap m jl g p =
-    mask_same _ _ m p (λ i h. search (rules, reversed_gap l clue j i, g.to)) (λ i h. search (rules, reversed_gap l clue j i, g.from))
+        let last = (h.1.1 (n - 1) (omega arith)).0 in (omega arith, omega arith, start_from (e - (n - 1)) (rw same at h.1))
 
 -- the mask of the ends of a run in whole placings
 pub whole_is : (l : List Cell) (clue : List ℕ) (j ends ahead last m : ℕ) → j < length clue → 0 < get_or clue j 0 → IsMaskOf (IsEnd l clue j) ends
@@ -73,21 +55,13 @@ whole_is l clue j ends ahead last m jl cp e a z p =
     mask_same (λ i. Has ends i × (Has ahead (i + 1) ⊎ Has last i)) (IsWholeEnd l clue j) m p to from
   where
     inside : (i : ℕ) → IsEnd l clue j i → i < length l
-    inside i h =
-        let enough : get_or clue j 0 ≤ i + 1 = h.0 in
-        let far : i + 1 - get_or clue j 0 + (get_or clue j 0 - 1) < length l = (h.1.1 (get_or clue j 0 - 1) (omega arith)).0 in
-        omega arith
+    inside i h = let far = (h.1.1 (get_or clue j 0 - 1) (omega arith)).0 in omega (arith, h.0)
 
     to : (i : ℕ) → Has ends i × (Has ahead (i + 1) ⊎ Has last i) → IsWholeEnd l clue j i
     to i h =
         let end = e.to i h.0 in
-        let within : i < length l = inside i end in (
-          end,
-          closed_ahead_from l clue (j + 1) (i + 1) (elim h.1 [
-            | inl x ↦ inr (a.to (i + 1) x)
-            | inr x ↦ (let y = z.to i x in let k : i ≡ length l - 1 = y.0 in inl (omega arith, y.1))
-          ]),
-        )
+        let within : i < length l = inside i end in
+        (end, closed_ahead_from l clue (j + 1) (i + 1) (grind (arith, common_steps)))
 
     from : (i : ℕ) → IsWholeEnd l clue j i → Has ends i × (Has ahead (i + 1) ⊎ Has last i)
     from i h =
@@ -128,10 +102,7 @@ blank_more l clue j gap ahead blank part m g a b p r =
   where
     from : (i : ℕ) → (q : ℕ) × (q ≤ j + 1) × IsGap l clue q i × IsGapAhead l clue q i
         → ((q : ℕ) × (q ≤ j) × IsGap l clue q i × IsGapAhead l clue q i) ⊎ (IsGap l clue (j + 1) i × IsGapAhead l clue (j + 1) i)
-    from i (q, h, g, a) = elim (cases_lt q (j + 1)) [
-      | inl low ↦ inl (q, omega arith, g, a)
-      | inr high ↦ (let e : q ≡ j + 1 = omega arith in inr (rw e at g, rw e at a))
-    ]
+    from i (q, h, g, a) = search (rules, cases_lt q (j + 1))
 
 -- the gaps ahead, from the reversed line's gaps
 pub ahead_of : (l : List Cell) (clue : List ℕ) (j p : ℕ) (reversed : List ℕ) (len m : ℕ) → length l ≡ len → p + j ≡ length clue → j ≤ length clue
@@ -139,4 +110,6 @@ pub ahead_of : (l : List Cell) (clue : List ℕ) (j p : ℕ) (reversed : List �
     → IsMaskOf (λ i. (i < len) × Has (get_or reversed p 0) (len - 1 - i)) m → IsMaskOf (IsGapAhead l clue j) m
 ahead_of l clue j p reversed len m e s jl g h =
     let same : length clue - j ≡ p = omega arith in
-    ahead_is l clue j (get_or reversed p 0) m jl (rw same (g p (omega arith))) (rw e h)
+    let gap : IsMaskOf (IsGap (reverse l) (reverse clue) (length clue - j)) (get_or reversed p 0) = rw same (g p (omega arith)) in
+    mask_same (λ i. (i < length l) × Has (get_or reversed p 0) (length l - 1 - i)) _ m (rw e h)
+    (λ i x. (reversed_gap l clue j i jl x.0).0 (gap.to _ x.1)) (λ i x. (x.0.0, gap.from _ ((reversed_gap l clue j i jl x.0.0).1 x)))

@@ -27,7 +27,7 @@ AtMost-trans a b c h k = search rules
 
 -- two lines that extend each other are the same
 pub Extends-antisym : (a b : List Cell) → Extends a b → Extends b a → a ≡ b
-Extends-antisym (x ∷ a) (y ∷ b) h k = let same : x ≡ y = search rules in λ i. same i ∷ Extends-antisym a b h.1 k.1 i
+Extends-antisym (x ∷ a) (y ∷ b) h k = search (rules, Extends-antisym a b)
 Extends-antisym a b h k = search rules
 
 -- ---- placings
@@ -81,14 +81,11 @@ list_all-filter p q (x ∷ xs) = search (rules, list_all-filter p q xs)
 pub placings_listed : (l : List Cell) (clue : List ℕ) → ListsPlacings l clue (placings l clue)
 placings_listed l clue =
     let p = is_placing l clue in
-    let members : All (IsPlacing l clue) (placings l clue) =
-    All-weaker (λ (x : List Bool). p x ≡ true) (IsPlacing l clue) (test_IsPlacing l clue) (placings l clue)
-    (filter_passes p (full_lines (length l))) in
+    let members : All (IsPlacing l clue) (placings l clue) = search (rules, All-weaker, test_IsPlacing, filter_passes) in
     record {
       each = λ q h x placing.
-          let all : list_all (λ y. cond (p y) (q y) true) (full_lines (length l)) ≡ true = sym (list_all-filter p q (full_lines (length l))) ∙ h in
-          let at : cond (p x) (q x) true ≡ true = each_full (length l) (λ y. cond (p y) (q y) true) all x (length-IsPlacing l clue x placing) in
-          rw (IsPlacing_test l clue x placing) at at;
+          let all = sym (list_all-filter p q (full_lines (length l))) ∙ h in
+          rw (IsPlacing_test l clue x placing) at (each_full (length l) (λ y. cond (p y) (q y) true) all x (length-IsPlacing l clue x placing));
       every = search (rules, list_all-from_AllPass, members);
       members = members;
     }
@@ -181,16 +178,12 @@ deduced-below l clue x p = by (placings l clue) (placings_listed l clue)
         let ps = y ∷ ys in
         let n = length l in
         let long : length x ≡ n = length-IsPlacing l clue x p in
-        Extends-from_places (map (shared_at ps) (range_with_len 0 n)) (map colour x)
-        (length-shared n ps ∙ sym long ∙ sym (length-map x colour)) (λ k h.
-        let within : k < n = omega (arith, length-shared n ps) in
-        search (rules, get_or-shared, get_or-map_colour, below_cell, not-true, listed.each (filled_at k), listed.each (blank_at k)))
+        search (rules, Extends-from_places, length-shared, length-map, get_or-shared, get_or-map_colour, below_cell, not-true)
 
 -- if more is known, no less is deduced
 pub deduced-monotone : (l m : List Cell) (clue : List ℕ) → Extends l m → AtMost (deduced l clue) (deduced m clue)
 deduced-monotone l m clue h =
-    deduced-greatest m clue (deduced l clue) (λ x p.
-    deduced-below l clue x (record { extends = Extends-trans l m (map colour x) h p.extends; runs_are = p.runs_are }))
+    deduced-greatest m clue (deduced l clue) (grind (arith, common_steps, deduced-below, Extends-trans))
 
 full_same : (x y : List Bool) → Extends (map colour x) (map colour y) → y ≡ x
 full_same [] [] h = refl

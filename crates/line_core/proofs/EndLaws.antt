@@ -1,5 +1,5 @@
 -- What the leftmost and the rightmost starts are.
-use Rattle.line_core.proofs.Names.{rules, ◌≡◌, ℕ, zero, suc, ◌<◌, Bool, true, List, [], ◌∷◌, length, map, Some, refl, sym, ap, ◌∙◌, subst, arith, inl, inr, ◌⊎◌, get_or, nat_le, filter, All-head, All-tail, All, list_all, find, range_with_len, cases_lt, leb-true, le-leb, length-map-range_with_len, get_or-map-range_with_len, Cell, runs, is_positive, stretches, placings, run_starts, all_starts, ArePositive, Side, Left, Right, outermost, IsAsFar, cases_Bool, AreStarts}
+use Rattle.line_core.proofs.Names.{rules, ◌≡◌, ℕ, ◌<◌, Bool, true, List, [], ◌∷◌, length, map, Some, refl, sym, ◌∙◌, arith, inl, inr, ◌⊎◌, get_or, nat_le, filter, All-head, All-tail, All, list_all, find, range_with_len, cases_lt, leb-true, le-leb, length-map-range_with_len, get_or-map-range_with_len, Cell, runs, is_positive, placings, run_starts, all_starts, ArePositive, Side, Left, Right, outermost, IsAsFar, cases_Bool, AreStarts, common_steps}
 use Rattle.line_core.proofs.DeductionLaws.{IsPlacing, placings_listed, test_IsPlacing, IsPlacing_test}
 use Rattle.line_core.proofs.Outermost.{all_as_far, laid_placing, outermost_found, outermost_of, placed, pass_all}
 
@@ -8,10 +8,7 @@ found : (P : List Bool → Type 0) (p : List ℕ → Bool) (m : List ℕ) (ps : 
     → find p (map run_starts ps) ≡ Some m → (p m ≡ true) × ((x : List Bool) × P x × (run_starts x ≡ m))
 found P p m [] all e = cc
 found P p m (x ∷ ps) all e = elim (cases_Bool (p (run_starts x))) [
-  | inl t ↦
-      (let here : Some (run_starts x) ≡ Some m = rw t at e in
-      let same : run_starts x ≡ m = cc in
-      (rw same at t, (x, All-head P x ps all, same)))
+  | inl t ↦ grind (arith, common_steps, All-head)
   | inr t ↦ found P p m ps (All-tail P x ps all) (rw t at e)
 ]
 
@@ -20,20 +17,17 @@ pub outermost-furthest : (side : Side) (l : List Cell) (clue m : List ℕ) → o
     → AreStarts l clue m × ((other : List ℕ) → AreStarts l clue other → all_as_far side m other ≡ true)
 outermost-furthest side l clue m e =
     let f = found (IsPlacing l clue) (λ starts. list_all (all_as_far side starts) (all_starts l clue)) m (placings l clue)
-    (placings_listed l clue).members (sym (outermost_found side l clue) ∙ e) in (
-      (f.1.0, IsPlacing_test l clue f.1.0 f.1.1, f.1.2),
-      λ other s. ap (all_as_far side m) (sym s.2) ∙ pass_all l clue (all_as_far side m) f.0 s.0 (test_IsPlacing l clue s.0 s.1),
-    )
+    (placings_listed l clue).members (sym (outermost_found side l clue) ∙ e) in
+    search (rules, IsPlacing_test, pass_all, test_IsPlacing)
 
 -- ---- there are such starts
 
 kept_positive : (ns : List ℕ) → ArePositive (filter is_positive ns)
 kept_positive [] = tt
-kept_positive (zero ∷ ns) = kept_positive ns
-kept_positive (suc n ∷ ns) = (omega arith, kept_positive ns)
+kept_positive (n ∷ ns) = search (rules, kept_positive ns)
 
 positive_runs : (x : List Bool) (clue : List ℕ) → runs x ≡ clue → ArePositive clue
-positive_runs x clue e = subst ArePositive e (kept_positive (stretches x))
+positive_runs x clue e = search (rules, kept_positive)
 
 abbrev as_far : Side → ℕ → ℕ → Bool
 as_far Left = nat_le
@@ -49,8 +43,7 @@ far_then : (side : Side) (i j k : ℕ) → IsAsFar side i j → IsAsFar side j k
 far_then side i j k a b = search rules
 
 either_far : (side : Side) (i j : ℕ) → IsAsFar side i j ⊎ IsAsFar side j i
-either_far Left i j = elim (cases_lt i j) [ inl low ↦ inl (omega arith) | inr high ↦ inr (omega arith) ]
-either_far Right i j = elim (cases_lt i j) [ inl low ↦ inr (omega arith) | inr high ↦ inl (omega arith) ]
+either_far side i j = search (rules, cases_lt)
 
 -- a member at which a number is furthest to a side
 outer_member : (side : Side) (P : List Bool → Type 0) (f : List Bool → ℕ) (x : List Bool) (ps : List (List Bool)) → P x →
@@ -58,12 +51,10 @@ outer_member : (side : Side) (P : List Bool → Type 0) (f : List Bool → ℕ) 
 outer_member side P f x [] p all = (x, p, search rules, refl)
 outer_member side P f x (y ∷ ps) p all =
     elim (either_far side (f x) (f y)) [
-      | inl far ↦
-          (let r = outer_member side P f x ps p (All-tail P y ps all) in
-          (r.0, r.1, r.2, rw (far_is side (f r.0) (f y) (far_then side (f r.0) (f x) (f y) r.2 far)) r.3))
+      | inl far ↦ search (rules, All-tail, far_is, far_then, outer_member side P f x ps p)
       | inr far ↦
           (let r = outer_member side P f y ps (All-head P y ps all) (All-tail P y ps all) in
-          (r.0, r.1, far_then side (f r.0) (f y) (f x) r.2 far, rw (far_is side (f r.0) (f y) r.2) r.3))
+          search (rules, far_is, far_then, r))
     ]
 
 -- the furthest start of a run among all placings
@@ -71,9 +62,9 @@ outer_at : (side : Side) (l : List Cell) (clue : List ℕ) (x : List Bool) (j : 
     (z : List Bool) × IsPlacing l clue z
     × ((y : List Bool) → IsPlacing l clue y → IsAsFar side (get_or (run_starts z) j 0) (get_or (run_starts y) j 0))
 outer_at side l clue x j p =
-    let f = λ (y : List Bool). get_or (run_starts y) j 0 in
-    let r = outer_member side (IsPlacing l clue) f x (placings l clue) p (placings_listed l clue).members in
-    (r.0, r.1, λ y q. is_far side (f r.0) (f y) ((placings_listed l clue).each (λ y. as_far side (f r.0) (f y)) r.3 y q))
+    let start = λ (y : List Bool). get_or (run_starts y) j 0 in
+    let r = outer_member side (IsPlacing l clue) start x (placings l clue) p (placings_listed l clue).members in
+    (r.0, r.1, search (rules, is_far, placings_listed))
 
 -- if there is a placing, there are outermost starts
 pub outermost-exists : (side : Side) (l : List Cell) (clue : List ℕ) (x : List Bool) → IsPlacing l clue x →
@@ -84,12 +75,9 @@ outermost-exists side l clue x p = (
     count = length-map-range_with_len at 0 (length clue);
     some = run_starts x;
     some_laid = laid_placing l clue x p;
-    each = λ j h.
-        let z = outer_at side l clue x j p in
-        record { starts = run_starts z.0; laid_so = laid_placing l clue z.0 z.1; at = sym (value j h) };
+    each = λ j h. search (rules, laid_placing, value, outer_at side l clue x j p);
     furthest = λ ss d j h.
-        let y = placed l clue ss (positive_runs x clue p.runs_are) d in
-        rw (value j h, sym (ap (λ (t : List ℕ). get_or t j 0) y.2)) ((outer_at side l clue x j p).2 y.0 y.1);
+        let y = placed l clue ss (positive_runs x clue p.runs_are) d in grind (arith, common_steps, value, (outer_at side l clue x j p).2 y.0);
   }),
 )
   where

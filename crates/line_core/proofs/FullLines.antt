@@ -1,5 +1,5 @@
 -- A line whose cells are all known: one full line agrees with it, whose runs a walk compares with the clue.
-use Rattle.line_core.proofs.Names.{rules, ◌≡◌, ◌≢◌, ◌↔◌, ℕ, zero, suc, ◌+◌, ◌<◌, ◌≤◌, Bool, true, false, not, cond, List, [], ◌∷◌, length, map, Option, Some, None, refl, sym, ap, ◌∙◌, subst, arith, add-one, zero-add, drop, get_or, drop-cons, drop_of_length-le, ext_get_or, false_from_ne_true, Cell, Unknown, Filled, Blank, allows, agrees, is_filled, runs, has_by, runs_after, Has, has, IsMaskOf, has_true, true_has, mask_same, MayBe, runs_after-zero, runs_after-true, runs_after-close, runs_after-nil, none_has, none_in, add_comm, get_or-drop}
+use Rattle.line_core.proofs.Names.{rules, ◌≡◌, ◌≢◌, ◌↔◌, ℕ, zero, suc, ◌+◌, ◌<◌, ◌≤◌, Bool, true, false, not, cond, List, [], ◌∷◌, length, map, Option, Some, None, refl, sym, ap, ◌∙◌, subst, arith, add-one, drop, get_or, drop-cons, drop_of_length-le, ext_get_or, false_from_ne_true, Cell, Unknown, allows, agrees, is_filled, runs, has_by, runs_after, Has, has, IsMaskOf, has_true, true_has, mask_same, MayBe, runs_after-zero, runs_after-true, runs_after-close, runs_after-nil, none_has, none_in, add_comm, get_or-drop, common_steps}
 use Rattle.line_core.specs.steps.Full.{IsFull, IsFilled}
 use Rattle.line_core.proofs.Certain.{CanBe}
 use Rattle.line_core.proofs.Joining.{length-agrees}
@@ -19,9 +19,7 @@ only_be l x v i full agree m = search (rules, may_be)
 -- the line's filled cells, as a full line
 agrees_filled : (l : List Cell) → agrees l (map is_filled l) ≡ true
 agrees_filled [] = refl
-agrees_filled (Unknown ∷ l) = agrees_filled l
-agrees_filled (Filled ∷ l) = agrees_filled l
-agrees_filled (Blank ∷ l) = agrees_filled l
+agrees_filled (c ∷ l) = search (rules, agrees_filled l)
 
 -- if its runs are the clue, each cell can be what it may be
 pub can_be : (l : List Cell) (clue : List ℕ) (v : Bool) (i : ℕ) → IsFull l → runs (map is_filled l) ≡ clue → MayBe l v i → CanBe l clue v i
@@ -69,9 +67,7 @@ past_runs (suc least) (false ∷ y) ns e = past_runs least y ns e
 past_runs least y ns e = search rules
 
 past_none : (least left : ℕ) (y : List Bool) → IsMaskOf (IsFilled y) left → left ≡ 0 → runs_past least y ≡ Some []
-past_none least left y p e =
-    past_blanks least (least + length y) y (omega arith) (λ i h. false_from_ne_true (get_or y i false) (λ f. none_has left i e (p.from i f)))
-    ∙ ap (λ (t : List Bool). Some (runs t)) (drop_of_length-le y {i = least + length y} (omega arith))
+past_none least left y p e = search (rules, past_blanks least (least + length y) y, false_from_ne_true, none_has, drop_of_length-le)
 
 -- cells further on
 dropped_at : (n i : ℕ) (y : List Bool) → get_or (drop n y) i false ≡ get_or y (i + n) false
@@ -91,26 +87,21 @@ crossed_at n i y low a b = grind arith
 crossed_is : (n : ℕ) (y : List Bool) (filled ones next : ℕ) → IsMaskOf (IsFilled y) filled → IsMaskOf (λ i. i < n) ones
     → IsMaskOf (λ i. has filled i ≢ has ones i) next → IsMaskOf (IsFilled (crossed n y)) next
 crossed_is n y filled ones next p q r =
-    mask_same _ _ next r (λ i differ. at i ∙ (other (has filled i) (has ones i)).0 differ)
-    (λ i e. (other (has filled i) (has ones i)).1 (sym (at i) ∙ e))
+    mask_same _ _ next r (λ i differ. grind (arith, at i)) (λ i e. grind (arith, at i))
   where
-    other : (s low : Bool) → (s ≢ low) ↔ (cond low (not s) s ≡ true)
-    other s low = search rules
-
     at : (i : ℕ) → get_or (crossed n y) i false ≡ cond (has ones i) (not (has filled i)) (has filled i)
-    at i = rw (has_by filled i (get_or y i false) (p.to i) (p.from i))
-        (crossed_at n i y (has ones i) (λ e. q.to i (true_has ones i e)) (λ e. grind (arith, has_true, q.from i)))
+    at i = search (rules, has_by, crossed_at, true_has, has_true)
 
 -- a run that goes on is longer
 longer : (m k : ℕ) (y : List Bool) (ns : List ℕ) → runs_after (suc m) y ≡ k ∷ ns → m < k
-longer m k [] ns e = let h : suc m ∷ [] ≡ k ∷ ns = sym (runs_after-nil m) ∙ e in let same : suc m ≡ k = cc in omega arith
+longer m k [] ns e = grind (arith, common_steps, runs_after-nil)
 longer m k (true ∷ y) ns e = let h = longer (suc m) k y ns (sym (runs_after-true (suc m) y) ∙ e) in omega arith
 longer m k (false ∷ y) ns e = search (rules, runs_after, runs_after-close)
 
 -- a run has a length exactly if as many cells in the other colour, and the next one, are blank
 cross : (m n k : ℕ) (y : List Bool) (ns : List ℕ) → suc m + n ≡ k → (runs_after (suc m) y ≡ k ∷ ns) ↔ (runs_past (suc n) (crossed n y) ≡ Some ns)
 cross m zero k [] ns e = grind (arith, runs_after-nil m)
-cross m zero k (true ∷ y) ns e = ((λ h. absurd (omega (arith, longer (suc m) k y ns (sym (runs_after-true (suc m) y) ∙ h)))), λ h. cc)
+cross m zero k (true ∷ y) ns e = grind (arith, common_steps, longer, runs_after-true)
 cross m zero k (false ∷ y) ns e = grind (arith, runs_after-close m y, runs_after-zero y)
 cross m (suc n) k [] ns e = grind (arith, runs_after-nil m)
 cross m (suc n) k (true ∷ y) ns e = rw runs_after-true (cross (suc m) n k y ns (omega arith))
@@ -123,44 +114,38 @@ cross_first (suc n) (true ∷ y) ns h first =
     rw (add-one, sym (runs_after-zero (true ∷ y)) ∙ runs_after-true 0 y) (cross 0 n (suc n) y ns (omega arith))
 cross_first n y ns h first = search rules
 
--- the walk goes on
-pub walk_more : (cells : List Bool) (clue : List ℕ) (j least left start shifted ones next : ℕ) → j < length clue → 0 < get_or clue j 0
-    → Has left start → ((i : ℕ) → Has left i → start ≤ i) → least ≤ start → IsMaskOf (λ i. Has left (i + start)) shifted
-    → IsMaskOf (λ i. i < get_or clue j 0) ones → IsMaskOf (λ i. has shifted i ≢ has ones i) next
-    → IsWalked cells clue j least left → IsWalked cells clue (j + 1) (get_or clue j 0 + 1) next
-walk_more cells clue j least left start shifted ones next h some at first far s o x p =
-    let n = get_or clue j 0 in
-    let y = drop start p.rest in
-    let skip = past_blanks least start p.rest far
-    (λ i b. false_from_ne_true (get_or p.rest i false) (λ f. let low = first i (p.rest_is.from i f) in absurd (omega arith))) in
-    let filled : get_or y 0 false ≡ true = dropped_at start 0 p.rest ∙ ap (λ (k : ℕ). get_or p.rest k false) (zero-add start) ∙ p.rest_is.to start at in
-    let next_is : drop j clue ≡ n ∷ drop (j + 1) clue = rw add-one (drop-cons clue j 0 h) in
-    let both = cross_first n y (drop (j + 1) clue) some filled in record {
-      rest = crossed n y;
-      rest_is = crossed_is n y shifted ones next (mask_same _ _ shifted s
-          (λ i b. dropped_at start i p.rest ∙ p.rest_is.to (i + start) b) (λ i f. p.rest_is.from (i + start) (sym (dropped_at start i p.rest) ∙ f))) o x;
-      to = λ is. both.0 (let same : Some (runs y) ≡ Some (drop j clue) = sym skip ∙ p.to is in cc);
-      from = λ e. p.from (skip ∙ ap (λ (ns : List ℕ). Some ns) (both.1 e ∙ sym next_is));
-    }
+module _ (cells : List Bool) (clue : List ℕ) (j least left : ℕ) (p : IsWalked cells clue j least left) where
+  -- the walk goes on
+  pub walk_more : (start shifted ones next : ℕ) → j < length clue → 0 < get_or clue j 0 → Has left start → ((i : ℕ) → Has left i → start ≤ i)
+      → least ≤ start → IsMaskOf (λ i. Has left (i + start)) shifted → IsMaskOf (λ i. i < get_or clue j 0) ones
+      → IsMaskOf (λ i. has shifted i ≢ has ones i) next → IsWalked cells clue (j + 1) (get_or clue j 0 + 1) next
+  walk_more start shifted ones next h some at first far s o x =
+      let n = get_or clue j 0 in
+      let y = drop start p.rest in
+      let skip = past_blanks least start p.rest far (λ i b. grind (arith, common_steps, false_from_ne_true)) in
+      let filled : get_or y 0 false ≡ true = grind (arith, common_steps, dropped_at) in
+      let next_is : drop j clue ≡ n ∷ drop (j + 1) clue = rw add-one (drop-cons clue j 0 h) in
+      let both = cross_first n y (drop (j + 1) clue) some filled in record {
+        rest = crossed n y;
+        rest_is = crossed_is n y shifted ones next (search (rules, mask_same, dropped_at)) o x;
+        to = λ is. both.0 (let same : Some (runs y) ≡ Some (drop j clue) = sym skip ∙ p.to is in cc);
+        from = λ e. p.from (skip ∙ ap (λ (ns : List ℕ). Some ns) (both.1 e ∙ sym next_is));
+      }
 
--- it ends where a cell is left among the first
-pub walk_near : (cells : List Bool) (clue : List ℕ) (j least left start : ℕ) → start < least → Has left start → IsWalked cells clue j least left
-    → runs cells ≡ clue → ⊥
-walk_near cells clue j least left start h at p is = search (rules, past_filled)
+  -- it ends where a cell is left among the first
+  pub walk_near : (start : ℕ) → start < least → Has left start → runs cells ≡ clue → ⊥
+  walk_near start h at is = search (rules, past_filled)
 
--- and where none is left for a further number
-pub walk_none : (cells : List Bool) (clue : List ℕ) (j least left : ℕ) → j < length clue → left ≡ 0 → IsWalked cells clue j least left
-    → runs cells ≡ clue → ⊥
-walk_none cells clue j least left h e p is =
-    let none = past_none least left p.rest p.rest_is e in let some = p.to is in let next = drop-cons clue j 0 h in cc
+  -- and where none is left for a further number
+  pub walk_none : j < length clue → left ≡ 0 → runs cells ≡ clue → ⊥
+  walk_none h e is = let none = past_none least left p.rest p.rest_is e in let some = p.to is in let next = drop-cons clue j 0 h in cc
 
--- at the end none is left exactly if all runs were the clue's
-pub walk_last : (cells : List Bool) (clue : List ℕ) (j least left : ℕ) → length clue ≤ j → IsWalked cells clue j least left
-    → (left ≡ 0) ↔ (runs cells ≡ clue)
-walk_last cells clue j least left h p =
-    let all = drop_of_length-le clue {i = j} h in (
-      (λ e. p.from (past_none least left p.rest p.rest_is e ∙ ap (λ (ns : List ℕ). Some ns) (sym all))),
-      (λ is. none_in _ left p.rest_is (λ i f.
-          let c = covered p.rest [] i (past_runs least p.rest [] (p.to is ∙ ap (λ (ns : List ℕ). Some ns) all)) f in
-          absurd (omega (arith, c.inside)))),
-    )
+  -- at the end none is left exactly if all runs were the clue's
+  pub walk_last : length clue ≤ j → (left ≡ 0) ↔ (runs cells ≡ clue)
+  walk_last h =
+      let all = drop_of_length-le clue {i = j} h in (
+        (λ e. p.from (past_none least left p.rest p.rest_is e ∙ ap (λ (ns : List ℕ). Some ns) (sym all))),
+        (λ is. none_in _ left p.rest_is (λ i f.
+            let c = covered p.rest [] i (past_runs least p.rest [] (p.to is ∙ ap (λ (ns : List ℕ). Some ns) all)) f in
+            absurd (omega (arith, c.inside)))),
+      )

@@ -1,5 +1,5 @@
 -- A line cut at a cell: placings of both parts make one of the whole, and a placing falls into two.
-use Rattle.line_core.proofs.Names.{common_steps, rules, ◌≡◌, ◌↔◌, ℕ, zero, suc, ◌+◌, ◌-◌, ◌<◌, ◌≤◌, Bool, true, false, List, [], ◌∷◌, ◌++◌, length, replicate, refl, sym, ap, ◌∙◌, subst, arith, add-zero, zero-add, ◌⊎◌, inl, inr, drop, get_or, drop-cons, add-one, drop_of_length-le, length-drop, reverse, runs_after, get_or-reverse, length-reverse, cases_lt, and_from, and_parts, Cell, Unknown, allows, agrees, runs, AllFrom, behind, HasPlacing, MayBeginBlank, MayBe, IsGapAfter, IsGap, IsGapAhead, IsBlankable, ArePositive, runs_after-zero, runs_after-true, runs_after-close, runs_after-nil}
+use Rattle.line_core.proofs.Names.{common_steps, rules, ◌≡◌, ◌↔◌, ℕ, zero, suc, ◌+◌, ◌-◌, ◌<◌, ◌≤◌, Bool, true, false, List, [], ◌∷◌, ◌++◌, length, replicate, refl, sym, ap, ◌∙◌, arith, add-zero, ◌⊎◌, inl, inr, drop, get_or, drop-cons, add-one, drop_of_length-le, length-drop, reverse, runs_after, get_or-reverse, length-reverse, cases_lt, and_from, and_parts, Cell, Unknown, allows, agrees, runs, AllFrom, behind, HasPlacing, MayBeginBlank, MayBe, IsGapAfter, IsGap, IsGapAhead, IsBlankable, ArePositive, runs_after-zero, runs_after-true, runs_after-close, runs_after-nil}
 use Rattle.line_core.proofs.Certain.{CanBe}
 
 -- a full line that agrees with a line is as long
@@ -58,20 +58,13 @@ drop_head (x ∷ xs) (suc i) r q e = let t = drop_head xs i r q e in (t.0, t.1, 
 -- a clue that is two parts: the numbers before some place, and those from there on
 pub onto_split : (p q clue : List ℕ) → onto p q ≡ clue → (p ≡ behind 0 clue (length p)) × (q ≡ drop (length p) clue) × (length p ≤ length clue)
 onto_split [] q clue e = (refl, e, omega arith)
-onto_split (r ∷ p) q clue e =
-    let t = onto_split p (r ∷ q) clue e in
-    let h = drop_head clue (length p) r q t.1 in
-    (cc, h.1, omega arith)
+onto_split (r ∷ p) q clue e = search (rules, drop_head, onto_split p (r ∷ q) clue e)
 
 -- ---- the runs of a line that is cut at a blank cell
 
 runs_after-more : (m n : ℕ) (y : List Bool) → runs_after m (replicate n true ++ y) ≡ runs_after (m + n) y
-runs_after-more m zero y = ap (λ (k : ℕ). runs_after k y) (sym (add-zero m))
+runs_after-more m zero y = search rules
 runs_after-more m (suc n) y = search (rules, runs_after-true, runs_after, runs_after-more (suc m) n y)
-
--- the runs of a line that begins with a run
-pub runs_run : (n : ℕ) (y : List Bool) → runs (replicate n true ++ y) ≡ runs_after n y
-runs_run n y = sym (runs_after-zero (replicate n true ++ y)) ∙ runs_after-more 0 n y ∙ ap (λ (k : ℕ). runs_after k y) (zero-add n)
 
 -- a run, if it doesn't go on after its cells
 pub runs_closed : (n : ℕ) (b : List Bool) → get_or b 0 false ≡ false → runs_after (suc n) b ≡ suc n ∷ runs b
@@ -81,16 +74,12 @@ runs_closed n (c ∷ b) h = search (rules, runs_after-close, runs_after-zero)
 -- the runs of a line that begins with one
 pub runs_first : (c : ℕ) (b : List Bool) → 0 < c → get_or b 0 false ≡ false → runs (replicate c true ++ b) ≡ c ∷ runs b
 runs_first zero b p k = absurd (omega arith)
-runs_first (suc n) b p k = runs_run (suc n) b ∙ runs_closed n b k
+runs_first (suc n) b p k = grind (arith, runs_after-zero, runs_after-more 0 (suc n) b, runs_closed n b)
 
 runs_onto : (a : List Bool) (n : ℕ) (b : List Bool) → runs (onto a (replicate n true ++ (false ∷ b))) ≡ onto (runs_after n a) (runs b)
-runs_onto [] zero b = refl
-runs_onto [] (suc n) b = rw (runs_after-nil n) (runs_first (suc n) (false ∷ b) (omega arith) refl)
+runs_onto [] n b = search (rules, runs_after-nil, runs_after-zero, runs_first)
 runs_onto (true ∷ a) n b = rw (runs_after-true n a) (runs_onto a (suc n) b)
-runs_onto (false ∷ a) zero b = runs_onto a 0 (false ∷ b) ∙ ap (λ (p : List ℕ). onto p (runs b)) (runs_after-zero a)
-runs_onto (false ∷ a) (suc n) b =
-    runs_onto a 0 (replicate (suc n) true ++ (false ∷ b)) ∙ ap (onto (runs_after 0 a)) (runs_first (suc n) (false ∷ b) (omega arith) refl)
-    ∙ rw (runs_after-close n a) refl
+runs_onto (false ∷ a) n b = search (rules, runs_after-zero, runs_after-close, runs_first, runs_onto a 0)
 
 -- the runs of a line that is cut at a blank cell are those of both parts
 pub runs_cut : (a b : List Bool) → runs (onto a (false ∷ b)) ≡ onto (runs a) (runs b)
@@ -117,29 +106,23 @@ pub agrees_span : (l : List Cell) (v : Bool) (n p q : ℕ) (y : List Bool) → p
 agrees_span l v zero p q y e o h = let same : p ≡ q = omega arith in rw same h
 agrees_span l v (suc n) p q y e o h =
     let first = rw add-zero at (o 0 (omega arith)) in
-    let rest = agrees_span l v n (suc p) q y (omega arith) (λ z b. let f : p + suc z ≡ suc p + z = omega arith in rw f at (o (suc z) (omega arith))) h in
+    let rest = agrees_span l v n (suc p) q y (omega arith) (λ z b. grind (arith, o (suc z))) h in
     rw (drop-cons l p Unknown first.0) (search (rules, and_from))
 
 -- what remains of a line after its cells at s
 drop_past : (l : List Cell) (s : ℕ) (b : Bool) (y : List Bool) → agrees (drop s l) (b ∷ y) ≡ true → (MayBe l b s) × (agrees (drop (suc s) l) y ≡ true)
 drop_past [] zero b y h = cc
 drop_past [] (suc s) b y h = cc
-drop_past (c ∷ l) zero b y h = ((omega arith, (and_parts (allows c b) (agrees l y) h).0), (and_parts (allows c b) (agrees l y) h).1)
+drop_past (c ∷ l) zero b y h = search (rules, and_parts)
 drop_past (c ∷ l) (suc s) b y h = let r = drop_past l s b y h in ((omega (arith, r.0.0), r.0.1), r.1)
 
 -- and cells that agree with a run may be filled
 pub run_agrees : (l : List Cell) (n s : ℕ) (y : List Bool) → agrees (drop s l) (replicate n true ++ y) ≡ true
     → AllFrom (MayBe l true) n s × (agrees (drop (s + n) l) y ≡ true)
-run_agrees l zero s y h = (λ z b. absurd (omega arith), rw (add-zero s) h)
+run_agrees l zero s y h = search rules
 run_agrees l (suc n) s y h =
     let first = drop_past l s true (replicate n true ++ y) h in
-    let rest = run_agrees l n (suc s) y first.1 in
-    let e : s + suc n ≡ suc s + n = omega arith in
-    (λ z b. by first.0 rest.0 z b, rw e rest.1)
-  where
-    by : MayBe l true s → AllFrom (MayBe l true) n (suc s) → (z : ℕ) → z < suc n → MayBe l true (s + z)
-    by here later zero b = let f : s ≡ s + 0 = omega arith in subst (MayBe l true) f here
-    by here later (suc z) b = let f : suc s + z ≡ s + suc z = omega arith in subst (MayBe l true) f (later z (omega arith))
+    let rest = run_agrees l n (suc s) y first.1 in (λ z b. grind (arith, first.0, rest.0 (z - 1)), search rules)
 
 -- the cells of a run are filled
 pub get_or-run : (n : ℕ) (y : List Bool) (z : ℕ) → z < n → get_or (replicate n true ++ y) z false ≡ true
@@ -154,8 +137,7 @@ pub record Begins (y : List Bool) : Type 0 where
 
 -- each line begins so
 pub begins : (y : List Bool) → Begins y
-begins (true ∷ y) =
-    let b = begins y in record { count = suc b.count; rest = b.rest; whole = ap (λ (t : List Bool). true ∷ t) b.whole; closed = b.closed }
+begins (true ∷ y) = let b = begins y in record { count = suc b.count; rest = b.rest; whole = cc; closed = b.closed }
 begins y = record { count = 0; rest = y; whole = refl; closed = search rules }
 
 -- a line whose first cell is filled begins with a run
@@ -171,15 +153,10 @@ blankable_to l clue i (j, jl, gap, ahead) =
     let b = ahead.1 in
     let within : i < length l = gap.0.0 in
     let long : length a.0 ≡ i = length-agrees (behind Unknown l i) a.0 a.1 ∙ length_behind Unknown l i in
-    let here : agrees (drop i l) (false ∷ b.0) ≡ true = rw (drop-cons l i Unknown within)
-    (and_from (allows (get_or l i Unknown) false) (agrees (drop (suc i) l) b.0) gap.0.1 (rw (add-one i) at b.1)) in
-    let at : length a.0 + 0 ≡ i = omega arith in (
-      onto a.0 (false ∷ b.0),
-      subst (λ (t : List Cell). agrees t (onto a.0 (false ∷ b.0)) ≡ true) (onto_behind Unknown l i (omega arith))
-          (agrees_onto (behind Unknown l i) (drop i l) a.0 (false ∷ b.0) a.1 here),
-      runs_cut a.0 b.0 ∙ ap (λ (p : List ℕ). onto p (runs b.0)) a.2 ∙ ap (onto (behind 0 clue j)) b.2 ∙ onto_behind 0 clue j jl,
-      ap (λ (k : ℕ). get_or (onto a.0 (false ∷ b.0)) k false) (sym at) ∙ get_or-onto false a.0 (false ∷ b.0) 0,
-    )
+    let here : agrees (drop i l) (false ∷ b.0) ≡ true = search (rules, drop-cons, and_from, add-one) in
+    let at : length a.0 + 0 ≡ i = omega arith in
+    let whole = agrees_onto (behind Unknown l i) (drop i l) a.0 (false ∷ b.0) a.1 here in
+    (onto a.0 (false ∷ b.0), search (rules, onto_behind), search (rules, runs_cut, onto_behind), search (rules, get_or-onto))
 
 -- and a cell that is blank in a placing is told so
 pub blankable_from : (l : List Cell) (clue : List ℕ) (i : ℕ) → i < length l → CanBe l clue false i → IsBlankable l clue i
@@ -187,13 +164,10 @@ blankable_from l clue i h (x, agree, is, at) =
     let long : length x ≡ length l = length-agrees l x agree in
     let a = behind false x i in
     let b = drop (suc i) x in
-    let split : drop i x ≡ false ∷ b = drop-cons x i false (omega arith) ∙ ap (λ (v : Bool). v ∷ b) at in
-    let whole : onto a (false ∷ b) ≡ x = ap (onto a) (sym split) ∙ onto_behind false x i (omega arith) in
+    let whole : onto a (false ∷ b) ≡ x = grind (arith, common_steps, onto_behind, drop-cons) in
     let parts = onto_split (runs a) (runs b) clue (sym (runs_cut a b) ∙ ap runs whole ∙ is) in
-    let cut = onto_agrees (behind Unknown l i) (drop i l) a (false ∷ b) (length_behind Unknown l i ∙ sym (length_behind false x i))
-    (rw (onto_behind Unknown l i (omega arith), whole) agree) in
-    let here = drop_past l i false b cut.1 in
-    (length (runs a), parts.2, (here.0, (a, cut.0, parts.0)), (here.0, (b, rw (add-one i) here.1, parts.1)))
+    let cut = onto_agrees (behind Unknown l i) (drop i l) a (false ∷ b) in
+    grind (arith, common_steps, drop_past, add-one, cut, length_behind, onto_behind)
 
 -- ---- no run at an end: the end of the line, or a gap
 
@@ -215,8 +189,7 @@ none_closed (c ∷ cs) h = absurd (omega arith)
 -- no run touches a place from behind: it is the first place, or one after a gap
 pub closed_behind_to : (l : List Cell) (runs : List ℕ) (s : ℕ) → s ≤ length l → MayBeginBlank (behind Unknown l s) runs
     → ((s ≡ 0) × (length runs ≡ 0)) ⊎ ((1 ≤ s) × IsGapAfter l runs (s - 1))
-closed_behind_to l runs zero sl h = inl (refl, closed_none runs h)
-closed_behind_to l runs (suc s) sl h = search rules
+closed_behind_to l runs s sl h = search rules
 
 -- and back
 pub closed_behind_from : (l : List Cell) (runs : List ℕ) (s : ℕ) → ((s ≡ 0) × (length runs ≡ 0)) ⊎ ((1 ≤ s) × IsGapAfter l runs (s - 1))
@@ -240,9 +213,7 @@ pub closed_ahead_to : (l : List Cell) (clue : List ℕ) (j p : ℕ) → j ≤ le
     → ((p ≡ length l) × (j ≡ length clue)) ⊎ IsGapAhead l clue j p
 closed_ahead_to l clue j p jl pl h = elim (cases_lt p (length l)) [
   | inr past ↦ (let none = closed_none (drop j clue) (rw (drop_of_length-le l {i = p} past) at h) in search (rules, length-drop j clue))
-  | inl within ↦
-      (let first = closed_first (get_or l p Unknown) (drop (suc p) l) (drop j clue) (rw (drop-cons l p Unknown within) at h) in
-      search (rules, add-one p))
+  | inl within ↦ grind (arith, common_steps, closed_first, drop-cons, add-one)
 ]
 
 -- and back

@@ -1,8 +1,8 @@
 -- The names that most proofs cite, passed on from one place. Declares nothing.
-pub use Rattle.std.proofs.Common.{Bool, List, MatchBool, None, Option, Some, [], add-one, add-zero, add_comm, ap, append-nil, append_assoc, arith, below_more, bytes_eq, cond, drop, drop-cons, drop_of_length-le, ext_get_or, false, filter, get_or, get_or-set_other, get_or-set_same, inl, inr, length, length-append, length-drop, map, nat_eq, nat_le, nat_lt, not, refl, replicate, reverse, rules, set, subst, suc, sym, take, true, true≢false, zero, zero-add, ℕ, ◌&&◌, ◌*◌, ◌++◌, ◌+◌, ◌-◌, ◌/◌, ◌<◌, ◌||◌, ◌↔◌, ◌∙◌, ◌∷◌, ◌≡◌, ◌≢◌, ◌≤◌, ◌⊎◌}
+pub use Rattle.std.proofs.Common.{Bool, List, MatchBool, None, Option, Some, [], add-one, add-zero, add_comm, ap, append-nil, append_assoc, arith, cond, drop, drop-cons, drop_of_length-le, ext_get_or, false, filter, get_or, get_or-set_other, get_or-set_same, inl, inr, length, length-append, length-drop, map, nat_eq, nat_le, nat_lt, not, refl, replicate, reverse, rules, set, subst, suc, sym, take, true, true≢false, zero, zero-add, ℕ, ◌&&◌, ◌*◌, ◌++◌, ◌+◌, ◌-◌, ◌/◌, ◌<◌, ◌||◌, ◌↔◌, ◌∙◌, ◌∷◌, ◌≡◌, ◌≢◌, ◌≤◌, ◌⊎◌}
 pub use Rattle.std.proofs.Math.ListN.{length-set}
-pub use Rattle.std.proofs.lemmas.Bool.{and_from, and_parts, both_ways, cases_Bool, cases_eq, cases_lt, eq-eqb, eqb-false, eqb-true, false_from_ne_true, le-leb, leb-true, not-true, or_cases, or_left, or_right, true_from_ne_false}
-pub use Rattle.std.proofs.lemmas.List.{drop-set-lt, get_or-append-add, get_or-drop, get_or-replicate, get_or-reverse, get_or-take, get_or_append_left, get_or_default, get_or_read, length-map, length-replicate, length-reverse, length-take-le, map-append, map-set, reverse-reverse, take-map, take_all}
+pub use Rattle.std.proofs.lemmas.Bool.{and_from, and_parts, both_ways, cases_Bool, cases_eq, cases_lt, eq-eqb, eqb-false, eqb-true, false_from_ne_true, le-leb, leb-true, not-true, or_left, or_right, true_from_ne_false}
+pub use Rattle.std.proofs.lemmas.List.{drop-set-lt, get_or-append-add, get_or-drop, get_or-reverse, get_or-take, get_or_append_left, get_or_default, get_or_read, length-map, length-replicate, length-reverse, length-take-le, map-append, map-set, reverse-reverse, take-map, take_all}
 pub use Rattle.std.proofs.lemmas.List.Elements.{All-head, All-more, All-tail, All-weaker, filter_passes, recursion_from_All}
 pub use Rattle.std.proofs.lemmas.List.Folds.{list_all-append, list_all-map}
 pub use Rattle.std.proofs.lemmas.List.FromFn.{get_or-map-range_with_len, length-map-range_with_len}
@@ -16,7 +16,7 @@ pub use Rattle.place_sets.specs.Masks.{AllFrom, AreLevelsOf, Has, IsFlooded, IsM
 pub use Rattle.grid_core.proofs.LineCells.{cell_at, has_by, length_line}
 pub use Rattle.grid_core.proofs.RunsLemmas.{runs_after}
 pub use Rattle.grid_core.specs.Cells.{CellExtends, Extends, agrees, allows, colour, is_filled}
-pub use Rattle.grid_core.specs.Runs.{is_positive, runs, stretches}
+pub use Rattle.grid_core.specs.Runs.{is_positive, runs}
 pub use Rattle.grid_core.specs.declared.cells.Cell.{Cell}
 pub use Rattle.grid_core.specs.declared.cells.Cell.TheVariants.{Blank, Filled, Unknown}
 pub use Rattle.line_core.proofs.LineCells.{lacks, length_at, none_has, none_in, none_is, written_more}

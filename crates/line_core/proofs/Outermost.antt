@@ -1,17 +1,11 @@
 -- The placing whose starts are all least, and the one whose starts are all greatest.
-use Rattle.line_core.proofs.Names.{inl, inr, false_from_ne_true, rules, ◌≡◌, ℕ, suc, ◌+◌, ◌-◌, ◌<◌, ◌≤◌, Bool, true, false, not, List, [], ◌∷◌, length, map, Some, None, refl, sym, ap, ◌∙◌, subst, arith, get_or, ext_get_or, nat_le, set, take, MatchBool, All, list_all, find, All-head, All-tail, All-weaker, and_parts, leb-true, le-leb, list_all-map, length-take-le, get_or-take, Cell, placings, run_starts, all_starts, Side, Left, Right, outermost, IsAsFar, IsOuterStart, Has, IsMaskOf, written_more, IsWholeEnd, IsGap, IsGapAhead, HasPlacing, ArePositive, cases_Bool}
+use Rattle.line_core.proofs.Names.{inl, inr, false_from_ne_true, rules, ◌≡◌, ℕ, suc, ◌+◌, ◌-◌, ◌<◌, ◌≤◌, Bool, true, false, not, List, [], ◌∷◌, length, map, Some, None, refl, sym, ap, ◌∙◌, arith, get_or, ext_get_or, nat_le, set, take, MatchBool, All, list_all, find, All-head, All-tail, All-weaker, and_parts, leb-true, le-leb, list_all-map, length-take-le, get_or-take, Cell, placings, run_starts, all_starts, Side, Left, Right, outermost, IsAsFar, IsOuterStart, Has, IsMaskOf, written_more, IsWholeEnd, IsGap, IsGapAhead, HasPlacing, ArePositive, cases_Bool, common_steps}
 use lib.Pointwise.{pointwise}
 use Rattle.line_core.proofs.Joining.{positive_at, blankable_to, blankable_from}
 use Rattle.line_core.proofs.WholeEnds.{whole_of, placing_with}
 use Rattle.line_core.proofs.DeductionLaws.{IsPlacing, placings_listed, none_listed, not_all, agrees-Extends, Extends-agrees}
 use Rattle.line_core.proofs.RunStarts.{starts_from, run_starts-from, covered}
-use Rattle.line_core.proofs.Painting.{IsLaid, Witness, AreFurthest, laid, placing_of, furthest_laid}
-
--- each end of a run in whole placings is one of a placing
-pub witness_of : (l : List Cell) (clue : List ℕ) (k e : ℕ) → ArePositive clue → k < length clue → IsWholeEnd l clue k e
-    → Witness l clue k (e + 1 - get_or clue k 0)
-witness_of l clue k e pos h w =
-    let x = placing_with l clue k e pos h w in record { starts = starts_from 0 false x.0; laid_so = laid l clue x.0 x.1 x.2; at = x.3 }
+use Rattle.line_core.proofs.Painting.{IsLaid, AreFurthest, laid, placing_of, furthest_laid}
 
 -- ---- the definitions
 
@@ -21,12 +15,7 @@ pointwise_from xs ys e h = search rules
 
 pointwise_to : (xs ys : List ℕ) → pointwise nat_le xs ys ≡ true → (length xs ≡ length ys) × ((j : ℕ) → get_or xs j 0 ≤ get_or ys j 0)
 pointwise_to [] [] h = (refl, λ j. omega arith)
-pointwise_to (x ∷ xs) (y ∷ ys) h =
-    let (head, tail) = and_parts (nat_le x y) (pointwise nat_le xs ys) h in
-    (ap suc (pointwise_to xs ys tail).0, by (leb-true x y head) (pointwise_to xs ys tail).1)
-  where
-    by : x ≤ y → ((j : ℕ) → get_or xs j 0 ≤ get_or ys j 0) → (j : ℕ) → get_or (x ∷ xs) j 0 ≤ get_or (y ∷ ys) j 0
-    by a b j = search rules
+pointwise_to (x ∷ xs) (y ∷ ys) h = search (rules, and_parts, leb-true, pointwise_to xs ys)
 pointwise_to xs ys h = search rules
 
 pub pointwise_antisym : (xs ys : List ℕ) → pointwise nat_le xs ys ≡ true → pointwise nat_le ys xs ≡ true → xs ≡ ys
@@ -42,151 +31,137 @@ all_as_far Right = λ xs ys. pointwise nat_le ys xs
 
 as_far_from : (side : Side) (xs ys : List ℕ) → length xs ≡ length ys →
     ((j : ℕ) → j < length xs → IsAsFar side (get_or xs j 0) (get_or ys j 0)) → all_as_far side xs ys ≡ true
-as_far_from Left xs ys e h = search (rules, pointwise_from)
-as_far_from Right xs ys e h = search (rules, pointwise_from)
+as_far_from side xs ys e h = search (rules, pointwise_from)
 
 as_far_antisym : (side : Side) (xs ys : List ℕ) → all_as_far side xs ys ≡ true → all_as_far side ys xs ≡ true → xs ≡ ys
-as_far_antisym Left xs ys h k = pointwise_antisym xs ys h k
-as_far_antisym Right xs ys h k = pointwise_antisym xs ys k h
-
--- the outermost starts are the first that are as far as all
-pub outermost_found : (side : Side) (l : List Cell) (clue : List ℕ) →
-    outermost side l clue ≡ find (λ starts. list_all (all_as_far side starts) (all_starts l clue)) (all_starts l clue)
-outermost_found side l clue = search rules
+as_far_antisym side xs ys h k = search (rules, pointwise_antisym)
 
 -- the first that passes is the only one that does
 find_only : (p : List ℕ → Bool) (m : List ℕ) (ps : List (List Bool)) → All (λ x. p (run_starts x) ≡ true → run_starts x ≡ m) ps
     → list_all (λ x. not (p (run_starts x))) ps ≡ false → find p (map run_starts ps) ≡ Some m
 find_only p m [] only h = cc
-find_only p m (x ∷ ps) only h =
-    let P = λ (y : List Bool). p (run_starts y) ≡ true → run_starts y ≡ m in elim (cases_Bool (p (run_starts x))) [
-      | inl e ↦ rw e (ap (λ (z : List ℕ). Some z) (All-head P x ps only e))
-      | inr e ↦ rw e (find_only p m ps (All-tail P x ps only) (rw e at h))
-    ]
-
--- the starts of a placing lay the clue
-pub laid_placing : (l : List Cell) (clue : List ℕ) (x : List Bool) → IsPlacing l clue x → IsLaid l clue (run_starts x)
-laid_placing l clue x p = subst (IsLaid l clue) (sym (run_starts-from x)) (laid l clue x (Extends-agrees l x p.extends) p.runs_are)
-
--- a test that passes for the starts of all placings
-all_pass : (l : List Cell) (clue : List ℕ) (p : List ℕ → Bool) → ((ss : List ℕ) → IsLaid l clue ss → p ss ≡ true)
-    → list_all p (all_starts l clue) ≡ true
-all_pass l clue p h =
-    list_all-map p run_starts (placings l clue)
-    ∙ (placings_listed l clue).every (λ x. p (run_starts x)) (λ x q. h (run_starts x) (laid_placing l clue x q))
-
--- and what passes for all passes for each
-pub pass_all : (l : List Cell) (clue : List ℕ) (p : List ℕ → Bool) → list_all p (all_starts l clue) ≡ true → (x : List Bool)
-    → IsPlacing l clue x → p (run_starts x) ≡ true
-pass_all l clue p h x q = (placings_listed l clue).each (λ x. p (run_starts x)) (sym (list_all-map p run_starts (placings l clue)) ∙ h) x q
-
-found_is : (l : List Cell) (clue m : List ℕ) (p : List ℕ → Bool) (x : List Bool) → IsPlacing l clue x → run_starts x ≡ m → p m ≡ true
-    → ((y : List Bool) → IsPlacing l clue y → p (run_starts y) ≡ true → run_starts y ≡ m) → find p (all_starts l clue) ≡ Some m
-found_is l clue m p x q at pass only =
-    let listed = placings_listed l clue in
-    find_only p m (placings l clue)
-    (All-weaker (IsPlacing l clue) (λ y. p (run_starts y) ≡ true → run_starts y ≡ m) only (placings l clue) listed.members)
-    (not_all l clue (placings l clue) listed (λ y. not (p (run_starts y))) x q (ap (λ (z : List ℕ). not (p z)) at ∙ ap not pass))
-
--- starts that lay the clue are those of a placing
-pub placed : (l : List Cell) (clue m : List ℕ) → ArePositive clue → IsLaid l clue m → (x : List Bool) × IsPlacing l clue x × (run_starts x ≡ m)
-placed l clue m pos d =
-    let x = placing_of l clue m pos d in
-    (x.0, record { extends = agrees-Extends l x.0 x.1; runs_are = x.2 }, run_starts-from x.0 ∙ x.3)
-
--- starts that are as far as those of every placing are those of one placing, the outermost
-pub outermost_of : (side : Side) (l : List Cell) (clue m : List ℕ) → ArePositive clue → AreFurthest side l clue m → outermost side l clue ≡ Some m
-outermost_of side l clue m pos f =
-    let x = placed l clue m pos (furthest_laid side l clue m f) in
-    let test = λ (starts : List ℕ). list_all (all_as_far side starts) (all_starts l clue) in
-    let pass : test m ≡ true = all_pass l clue (all_as_far side m)
-    (λ ss e. as_far_from side m ss (f.count ∙ sym e.count) (λ j h. f.furthest ss e j (omega (arith, f.count)))) in
-    outermost_found side l clue ∙ found_is l clue m test x.0 x.1 x.2 pass (λ y q t. as_far_antisym side (run_starts y) m
-    (ap (all_as_far side (run_starts y)) (sym x.2) ∙ pass_all l clue (all_as_far side (run_starts y)) t x.0 x.1)
-    (pass_all l clue (all_as_far side m) pass y q))
-
--- ---- either side
-
--- each run ends somewhere in whole placings, if there is one
-pub some_end : (l : List Cell) (clue : List ℕ) (j : ℕ) → ArePositive clue → HasPlacing l clue → j < length clue → (e : ℕ) × IsWholeEnd l clue j e
-some_end l clue j pos p h =
-    let e = get_or (starts_from 0 false p.0) j 0 + get_or clue j 0 - 1 in
-    (e, whole_of l clue p.0 j e p.1 p.2 h (omega (arith, positive_at clue pos j h)))
-
-laid_end : (l : List Cell) (clue ss : List ℕ) (j : ℕ) → ArePositive clue → IsLaid l clue ss → j < length clue
-    → IsWholeEnd l clue j (get_or ss j 0 + get_or clue j 0 - 1)
-laid_end l clue ss j pos d h =
-    let (x, agree, is, starts) = placing_of l clue ss pos d in
-    whole_of l clue x j (get_or ss j 0 + get_or clue j 0 - 1) agree is h (rw starts (omega (arith, positive_at clue pos j h)))
+find_only p m (x ∷ ps) only h = elim (cases_Bool (p (run_starts x))) [
+  | inl e ↦ grind (arith, common_steps, All-head)
+  | inr e ↦ rw e (find_only p m ps (All-tail (λ y. p (run_starts y) ≡ true → run_starts y ≡ m) x ps only) (rw e at h))
+]
 
 as_far_start : (side : Side) (some end other start : ℕ) → 0 < some → start ≡ end + 1 - some → IsAsFar side end (other + some - 1)
     → IsAsFar side start other
 as_far_start side some end other start s at far = search rules
-
--- the starts that are furthest to a side are those of one placing, which is the outermost
-pub outermost_is : (side : Side) (l : List Cell) (clue m : List ℕ) → ArePositive clue → HasPlacing l clue → length m ≡ length clue
-    → ((j : ℕ) → j < length clue → IsOuterStart side l clue j (get_or m j 0)) → outermost side l clue ≡ Some m
-outermost_is side l clue m pos p count each =
-    outermost_of side l clue m pos (record {
-      count = count;
-      some = starts_from 0 false p.0;
-      some_laid = laid l clue p.0 p.1 p.2;
-      each = λ j h. let o = each j h in subst (Witness l clue j) (sym o.start_is) (witness_of l clue j o.end pos h o.whole);
-      furthest = λ ss d j h.
-          let o = each j h in
-          as_far_start side (get_or clue j 0) o.end (get_or ss j 0) (get_or m j 0) (positive_at clue pos j h) o.start_is
-          (o.outermost_so (get_or ss j 0 + get_or clue j 0 - 1) (laid_end l clue ss j pos d h));
-    })
-
-pub outermost_none : (side : Side) (l : List Cell) (clue : List ℕ) → (HasPlacing l clue → ⊥) → outermost side l clue ≡ None
-outermost_none side l clue none =
-    outermost_found side l clue ∙
-    ap (λ (ps : List (List Bool)). find (λ starts. list_all (all_as_far side starts) (map run_starts ps)) (map run_starts ps))
-    (none_listed l clue (placings l clue) (placings_listed l clue) (λ x p. none (x, Extends-agrees l x p.extends, p.runs_are)))
-
--- one more run's start
-pub outer_more : (side : Side) (l : List Cell) (clue : List ℕ) (list : List ℕ) (j whole place start : ℕ) → j < length list
-    → IsMaskOf (IsWholeEnd l clue j) whole → Has whole place → ((i : ℕ) → Has whole i → IsAsFar side place i) → start ≡ place + 1 - get_or clue j 0
-    → ((k : ℕ) → k < j → IsOuterStart side l clue k (get_or list k 0)) → (k : ℕ) → k < j + 1
-    → IsOuterStart side l clue k (get_or (set list j start) k 0)
-outer_more side l clue list j whole place start h mask in_mask far at below =
-    written_more (IsOuterStart side l clue) list j start h
-    (record { end = place; whole = mask.to place in_mask; start_is = at; outermost_so = λ e w. far e (mask.from e w) }) below
-
--- ---- a line with no run
-
--- its first cell is blank in each placing
-pub no_run_to : (l : List Cell) (clue : List ℕ) (gap ahead m : ℕ) → IsMaskOf (IsGap l clue 0) gap → IsMaskOf (IsGapAhead l clue 0) ahead
-    → IsMaskOf (λ i. Has gap i × Has ahead i) m → Has m 0 → HasPlacing l clue
-no_run_to l clue gap ahead m g a p h =
-    let both = p.to 0 h in
-    let can = blankable_to l clue 0 (0, omega arith, g.to 0 both.0, a.to 0 both.1) in (can.0, can.1, can.2)
-
--- and a clue with no run that has a placing leaves it blank
-pub no_run_from : (l : List Cell) (clue : List ℕ) (gap ahead m : ℕ) → length clue ≡ 0 → 0 < length l → IsMaskOf (IsGap l clue 0) gap
-    → IsMaskOf (IsGapAhead l clue 0) ahead → IsMaskOf (λ i. Has gap i × Has ahead i) m → HasPlacing l clue → Has m 0
-no_run_from l clue gap ahead m none some g a q (x, agree, is) =
-    let blank = false_from_ne_true (get_or x 0 false) (λ e. let c = covered x clue 0 is e in omega (arith, c.inside)) in
-    let (j, jl, before, after) = blankable_from l clue 0 some (x, agree, is, blank) in
-    let first : j ≡ 0 = omega arith in
-    q.from 0 (g.from 0 (rw first at before), a.from 0 (rw first at after))
-
--- ---- what the two searches answer
 
 -- what follows of either answer
 pub match_more : (b : Bool) (P Q R S : Type 0) → (P → R) → (Q → S) → MatchBool b P Q → MatchBool b R S
 match_more true P Q R S f g h = f h
 match_more false P Q R S f g h = g h
 
--- the starts of a search are the outermost ones, or there are none
-pub answered : (side : Side) (l : List Cell) (clue list : List ℕ) (b : Bool) → ArePositive clue → length clue ≤ length list
-    → MatchBool b (HasPlacing l clue × ((j : ℕ) → j < length clue → IsOuterStart side l clue j (get_or list j 0))) (HasPlacing l clue → ⊥)
-    → MatchBool b (outermost side l clue ≡ Some (take (length clue) list)) (outermost side l clue ≡ None)
-answered side l clue list true pos long h =
-    outermost_is side l clue (take (length clue) list) pos h.0 (length-take-le (length clue) list long)
-    (λ j k. subst (IsOuterStart side l clue j) (sym (get_or-take (length clue) list j 0 k)) (h.1 j k))
-answered side l clue list false pos long h = outermost_none side l clue h
+module _ (l : List Cell) (clue : List ℕ) where
+  -- the starts of a placing lay the clue
+  pub laid_placing : (x : List Bool) → IsPlacing l clue x → IsLaid l clue (run_starts x)
+  laid_placing x p = search (rules, run_starts-from, laid, Extends-agrees)
 
--- if a run ends somewhere in a whole placing, there is a placing
-pub some_placing : (l : List Cell) (clue : List ℕ) (j e : ℕ) → ArePositive clue → j < length clue → IsWholeEnd l clue j e → HasPlacing l clue
-some_placing l clue j e pos h w = let x = placing_with l clue j e pos h w in (x.0, x.1, x.2)
+  -- a test that passes for the starts of all placings
+  all_pass : (p : List ℕ → Bool) → ((ss : List ℕ) → IsLaid l clue ss → p ss ≡ true) → list_all p (all_starts l clue) ≡ true
+  all_pass p h =
+      list_all-map p run_starts (placings l clue)
+      ∙ (placings_listed l clue).every (λ x. p (run_starts x)) (λ x q. h (run_starts x) (laid_placing x q))
+
+  -- and what passes for all passes for each
+  pub pass_all : (p : List ℕ → Bool) → list_all p (all_starts l clue) ≡ true → (x : List Bool) → IsPlacing l clue x → p (run_starts x) ≡ true
+  pass_all p h x q = (placings_listed l clue).each (λ x. p (run_starts x)) (sym (list_all-map p run_starts (placings l clue)) ∙ h) x q
+
+  found_is : (m : List ℕ) (p : List ℕ → Bool) (x : List Bool) → IsPlacing l clue x → run_starts x ≡ m → p m ≡ true
+      → ((y : List Bool) → IsPlacing l clue y → p (run_starts y) ≡ true → run_starts y ≡ m) → find p (all_starts l clue) ≡ Some m
+  found_is m p x q at pass only =
+      let listed = placings_listed l clue in
+      find_only p m (placings l clue) (grind (arith, common_steps, All-weaker, listed.members)) (grind (arith, common_steps, not_all, listed))
+
+  -- starts that lay the clue are those of a placing
+  pub placed : (m : List ℕ) → ArePositive clue → IsLaid l clue m → (x : List Bool) × IsPlacing l clue x × (run_starts x ≡ m)
+  placed m pos d = let x = placing_of l clue m pos d in search (rules, agrees-Extends, run_starts-from, x)
+
+  -- each run ends somewhere in whole placings, if there is one
+  pub some_end : (j : ℕ) → ArePositive clue → HasPlacing l clue → j < length clue → (e : ℕ) × IsWholeEnd l clue j e
+  some_end j pos p h =
+      let e = get_or (starts_from 0 false p.0) j 0 + get_or clue j 0 - 1 in
+      (e, whole_of l clue p.0 j e p.1 p.2 h (omega (arith, positive_at clue pos j h)))
+
+  laid_end : (ss : List ℕ) (j : ℕ) → ArePositive clue → IsLaid l clue ss → j < length clue → IsWholeEnd l clue j (get_or ss j 0 + get_or clue j 0 - 1)
+  laid_end ss j pos d h =
+      let (x, agree, is, starts) = placing_of l clue ss pos d in
+      whole_of l clue x j (get_or ss j 0 + get_or clue j 0 - 1) agree is h (rw starts (omega (arith, positive_at clue pos j h)))
+
+  -- if a run ends somewhere in a whole placing, there is a placing
+  pub some_placing : (j e : ℕ) → ArePositive clue → j < length clue → IsWholeEnd l clue j e → HasPlacing l clue
+  some_placing j e pos h w = let x = placing_with l clue j e pos h w in (x.0, x.1, x.2)
+
+  -- ---- a line with no run
+
+  -- its first cell is blank in each placing
+  pub no_run_to : (gap ahead m : ℕ) → IsMaskOf (IsGap l clue 0) gap → IsMaskOf (IsGapAhead l clue 0) ahead
+      → IsMaskOf (λ i. Has gap i × Has ahead i) m → Has m 0 → HasPlacing l clue
+  no_run_to gap ahead m g a p h =
+      let both = p.to 0 h in let can = blankable_to l clue 0 (0, omega arith, g.to 0 both.0, a.to 0 both.1) in search (rules, can)
+
+  -- and a clue with no run that has a placing leaves it blank
+  pub no_run_from : (gap ahead m : ℕ) → length clue ≡ 0 → 0 < length l → IsMaskOf (IsGap l clue 0) gap
+      → IsMaskOf (IsGapAhead l clue 0) ahead → IsMaskOf (λ i. Has gap i × Has ahead i) m → HasPlacing l clue → Has m 0
+  no_run_from gap ahead m none some g a q (x, agree, is) =
+      let blank = false_from_ne_true (get_or x 0 false) (λ e. let c = covered x clue 0 is e in omega (arith, c.inside)) in
+      let (j, jl, before, after) = blankable_from l clue 0 some (x, agree, is, blank) in
+      let first : j ≡ 0 = omega arith in
+      q.from 0 (g.from 0 (rw first at before), a.from 0 (rw first at after))
+
+-- ---- either side
+
+module _ (side : Side) (l : List Cell) (clue : List ℕ) where
+  -- the outermost starts are the first that are as far as all
+  pub outermost_found : outermost side l clue ≡ find (λ starts. list_all (all_as_far side starts) (all_starts l clue)) (all_starts l clue)
+  outermost_found = search rules
+
+  -- starts that are as far as those of every placing are those of one placing, the outermost
+  pub outermost_of : (m : List ℕ) → ArePositive clue → AreFurthest side l clue m → outermost side l clue ≡ Some m
+  outermost_of m pos f =
+      let x = placed l clue m pos (furthest_laid side l clue m f) in
+      let test = λ (starts : List ℕ). list_all (all_as_far side starts) (all_starts l clue) in
+      let pass : test m ≡ true = grind (arith, common_steps, all_pass, as_far_from) in
+      outermost_found ∙ found_is l clue m test x.0 x.1 x.2 pass (λ y q t. grind (arith, common_steps, as_far_antisym, pass_all))
+
+  -- the starts that are furthest to a side are those of one placing, which is the outermost
+  outermost_is : (m : List ℕ) → ArePositive clue → HasPlacing l clue → length m ≡ length clue
+      → ((j : ℕ) → j < length clue → IsOuterStart side l clue j (get_or m j 0)) → outermost side l clue ≡ Some m
+  outermost_is m pos p count each =
+      outermost_of m pos (record {
+        count = count;
+        some = starts_from 0 false p.0;
+        some_laid = laid l clue p.0 p.1 p.2;
+        each = λ j h.
+            let o = each j h in
+            let x = placing_with l clue j o.end pos h o.whole in
+            record { starts = starts_from 0 false x.0; laid_so = laid l clue x.0 x.1 x.2; at = x.3 ∙ sym o.start_is };
+        furthest = λ ss d j h.
+            let o = each j h in
+            let far = o.outermost_so _ (laid_end l clue ss j pos d h) in search (rules, as_far_start, positive_at, o.start_is);
+      })
+
+  outermost_none : (HasPlacing l clue → ⊥) → outermost side l clue ≡ None
+  outermost_none none =
+      outermost_found
+      ∙ ap (λ (ps : List (List Bool)). find (λ starts. list_all (all_as_far side starts) (map run_starts ps)) (map run_starts ps))
+      (none_listed l clue (placings l clue) (placings_listed l clue) (λ x p. none (x, Extends-agrees l x p.extends, p.runs_are)))
+
+  -- one more run's start
+  pub outer_more : (list : List ℕ) (j whole place start : ℕ) → j < length list → IsMaskOf (IsWholeEnd l clue j) whole → Has whole place
+      → ((i : ℕ) → Has whole i → IsAsFar side place i) → start ≡ place + 1 - get_or clue j 0
+      → ((k : ℕ) → k < j → IsOuterStart side l clue k (get_or list k 0)) → (k : ℕ) → k < j + 1
+      → IsOuterStart side l clue k (get_or (set list j start) k 0)
+  outer_more list j whole place start h mask in_mask far at below =
+      written_more (IsOuterStart side l clue) list j start h
+      (record { end = place; whole = mask.to place in_mask; start_is = at; outermost_so = λ e w. far e (mask.from e w) }) below
+
+  -- the starts of a search are the outermost ones, or there are none
+  pub answered : (list : List ℕ) (b : Bool) → ArePositive clue → length clue ≤ length list
+      → MatchBool b (HasPlacing l clue × ((j : ℕ) → j < length clue → IsOuterStart side l clue j (get_or list j 0))) (HasPlacing l clue → ⊥)
+      → MatchBool b (outermost side l clue ≡ Some (take (length clue) list)) (outermost side l clue ≡ None)
+  answered list true pos long h =
+      outermost_is (take (length clue) list) pos h.0 (length-take-le (length clue) list long) (λ j k. search (rules, get_or-take, h.1 j))
+  answered list false pos long h = outermost_none h

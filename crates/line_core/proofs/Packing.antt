@@ -1,5 +1,5 @@
 -- Placings on a line of which nothing is known: the runs packed to the left, and from one on moved right.
-use Rattle.line_core.proofs.Names.{common_steps, rules, ◌≡◌, ℕ, zero, suc, ◌+◌, ◌-◌, ◌*◌, ◌<◌, ◌≤◌, ◌≢◌, Bool, true, false, cond, List, [], ◌∷◌, length, replicate, map, nat_le, nat_lt, refl, sym, ap, ◌∙◌, subst, arith, add-one, true≢false, ◌⊎◌, inl, inr, get_or, ext_get_or, range_with_len, false_from_ne_true, cases_lt, take_all, length-replicate, get_or-replicate, length-map-range_with_len, get_or-map-range_with_len, sum_by_more, sum_by-take-le, Cell, Unknown, agrees, runs, Has, has, IsMaskOf, IsShifted, has_true, true_has, mask_same, AreLengths, MayBe, IsFillable, IsBlankable, has_by, ArePositive, length_at, lacks, none_has, none_in, none_is, needed, least_start, IsOverlapBefore, IsOverlap}
+use Rattle.line_core.proofs.Names.{common_steps, rules, ◌≡◌, ℕ, zero, suc, ◌+◌, ◌-◌, ◌*◌, ◌<◌, ◌≤◌, ◌≢◌, Bool, true, false, cond, List, length, replicate, map, nat_le, nat_lt, sym, ap, ◌∙◌, arith, add-one, true≢false, ◌⊎◌, inl, inr, get_or, ext_get_or, range_with_len, false_from_ne_true, cases_lt, take_all, length-replicate, length-map-range_with_len, get_or-map-range_with_len, sum_by_more, sum_by-take-le, Cell, Unknown, agrees, runs, Has, has, IsMaskOf, IsShifted, has_true, true_has, mask_same, AreLengths, MayBe, IsFillable, IsBlankable, has_by, ArePositive, length_at, lacks, none_has, none_in, none_is, needed, least_start, IsOverlapBefore, IsOverlap}
 use Rattle.std.proofs.lemmas.Bool.Decides.{nat_tests}
 use Rattle.line_core.proofs.Joining.{positive_at, filled_agrees, blankable_to, blankable_from}
 use Rattle.line_core.proofs.WholeEnds.{fillable_to, fillable_from}
@@ -27,36 +27,44 @@ start_few clue (suc j) are h = search (rules, length_at, start_next, start_few c
 
 -- ---- at which places the runs of any placing start
 
-pub at_least : (l : List Cell) (clue ss : List ℕ) (j : ℕ) → IsLaid l clue ss → j < length clue → least_start clue j ≤ get_or ss j 0
-at_least l clue ss zero d h = omega arith
-at_least l clue ss (suc j) d h = omega (arith, at_least l clue ss j d (omega arith), start_next clue j (omega arith), d.apart j h)
+module _ (l : List Cell) (clue : List ℕ) (pos : ArePositive clue) where
+  at_least : (ss : List ℕ) (j : ℕ) → IsLaid l clue ss → j < length clue → least_start clue j ≤ get_or ss j 0
+  at_least ss zero d h = omega arith
+  at_least ss (suc j) d h = omega (arith, at_least ss j d (omega arith), start_next clue j (omega arith), d.apart j h)
 
-pub at_most : (l : List Cell) (clue ss : List ℕ) (later j : ℕ) → ArePositive clue → IsLaid l clue ss → j + suc later ≡ length clue
-    → get_or ss j 0 + needed clue ≤ length l + 1 + least_start clue j
-at_most l clue ss zero j pos d e =
-    let h : j < length clue = omega arith in
-    let some = positive_at clue pos j h in
-    let end : suc j ≡ length clue = omega arith in
-    omega (arith, start_next clue j h, ap (least_start clue) end, start_last clue, (d.windows j h (get_or clue j 0 - 1) (omega arith)).0)
-at_most l clue ss (suc later) j pos d e = search (rules, start_next, at_most l clue ss later (suc j) pos d (omega arith))
+  at_most : (ss : List ℕ) (later j : ℕ) → IsLaid l clue ss → j + suc later ≡ length clue
+      → get_or ss j 0 + needed clue ≤ length l + 1 + least_start clue j
+  at_most ss zero j d e =
+      let some = positive_at clue pos j (omega arith) in
+      let end : suc j ≡ length clue = omega arith in
+      let last = (d.windows j (omega arith) (get_or clue j 0 - 1) (omega arith)).0 in
+      omega (arith, start_next clue j (omega arith), ap (least_start clue) end, start_last clue)
+  at_most ss (suc later) j d e = search (rules, start_next, at_most ss later (suc j) d (omega arith))
 
-starts_within : (l : List Cell) (clue ss : List ℕ) (j : ℕ) → ArePositive clue → IsLaid l clue ss → j < length clue
-    → get_or ss j 0 + needed clue ≤ length l + 1 + least_start clue j
-starts_within l clue ss j pos d h = at_most l clue ss (length clue - suc j) j pos d (omega arith)
+  starts_within : (ss : List ℕ) (j : ℕ) → IsLaid l clue ss → j < length clue → get_or ss j 0 + needed clue ≤ length l + 1 + least_start clue j
+  starts_within ss j d h = at_most ss (length clue - suc j) j d (omega arith)
 
--- a clue that has a placing needs no more than there is
-pub fits : (l : List Cell) (clue : List ℕ) (x : List Bool) → ArePositive clue → agrees l x ≡ true → runs x ≡ clue → needed clue ≤ length l + 1
-fits l [] x pos agree is = omega arith
-fits l (c ∷ clue) x pos agree is =
-    omega (arith, starts_within l (c ∷ clue) (starts_from 0 false x) 0 pos (laid l (c ∷ clue) x agree is) (omega arith))
+  -- an overlap is filled in each placing
+  overlap_filled : (x : List Bool) (slack i : ℕ) → agrees l x ≡ true → runs x ≡ clue → needed clue + slack ≡ length l + 1
+      → IsOverlap clue slack i → get_or x i false ≡ true
+  overlap_filled x slack i agree is e (j, h, from, to) =
+      let d = laid l clue x agree is in
+      in_run x clue j i is h (omega (arith, starts_within (starts_from 0 false x) j d h)) (omega (arith, at_least (starts_from 0 false x) j d h))
 
--- an overlap is filled in each placing
-pub overlap_filled : (l : List Cell) (clue : List ℕ) (x : List Bool) (slack i : ℕ) → ArePositive clue → agrees l x ≡ true → runs x ≡ clue
-    → needed clue + slack ≡ length l + 1 → IsOverlap clue slack i → get_or x i false ≡ true
-overlap_filled l clue x slack i pos agree is e (j, h, from, to) =
-    let d = laid l clue x agree is in
-    in_run x clue j i is h (omega (arith, starts_within l clue (starts_from 0 false x) j pos d h))
-    (omega (arith, at_least l clue (starts_from 0 false x) j d h))
+  -- a clue that has a placing needs no more than there is
+  fits : (x : List Bool) → agrees l x ≡ true → runs x ≡ clue → needed clue ≤ length l + 1
+  fits x agree is = elim (cases_lt 0 (length clue)) [
+    | inl some ↦ omega (arith, starts_within (starts_from 0 false x) 0 (laid l clue x agree is) some)
+    | inr none ↦ (let e : length clue ≡ 0 = omega arith in omega (arith, rw e at (start_last clue)))
+  ]
+
+  -- if it needs more, no cell can be filled
+  pub unfit_fillable : (m : ℕ) → length l + 1 < needed clue → m ≡ 0 → IsMaskOf (IsFillable l clue) m
+  unfit_fillable m long e = none_is (IsFillable l clue) m e (λ i h. let x = fillable_to l clue i pos h in omega (arith, fits x.0 x.1 x.2))
+
+  -- nor blank
+  pub unfit_blankable : (m : ℕ) → length l + 1 < needed clue → m ≡ 0 → IsMaskOf (IsBlankable l clue) m
+  unfit_blankable m long e = none_is (IsBlankable l clue) m e (λ i h. let x = blankable_to l clue i h in omega (arith, fits x.0 x.1 x.2))
 
 -- ---- placings on a line of which nothing is known
 
@@ -68,50 +76,9 @@ AnyColour l = (v : Bool) (i : ℕ) → i < length l → MayBe l v i
 pub unknown_any : (len : ℕ) → AnyColour (replicate len Unknown)
 unknown_any len v i h = grind (arith, common_steps)
 
--- a placing whose runs start after their least starts by what `shift` tells
-abbrev Shifted : List Cell → List ℕ → (ℕ → ℕ) → Type 0
-Shifted l clue shift = (x : List Bool) × (agrees l x ≡ true) × (runs x ≡ clue)
-    × ((j : ℕ) → j < length clue → get_or (starts_from 0 false x) j 0 ≡ least_start clue j + shift j)
-
-abbrev shifted_starts : List ℕ → (ℕ → ℕ) → List ℕ
-shifted_starts clue shift = map (λ (j : ℕ). least_start clue j + shift j) (range_with_len 0 (length clue))
-
-shifted_at : (clue : List ℕ) (shift : ℕ → ℕ) (j : ℕ) → j < length clue → get_or (shifted_starts clue shift) j 0 ≡ least_start clue j + shift j
-shifted_at clue shift j h = get_or-map-range_with_len (λ (j : ℕ). least_start clue j + shift j) 0 (length clue) j j 0 h (omega arith)
-
-pub shifted : (l : List Cell) (clue : List ℕ) (slack : ℕ) (shift : ℕ → ℕ) → AnyColour l → ArePositive clue → needed clue + slack ≡ length l + 1
-    → ((j : ℕ) → shift j ≤ slack) → ((j : ℕ) → suc j < length clue → shift j ≤ shift (suc j)) → Shifted l clue shift
-shifted l clue slack shift any_cell pos e most up =
-    let x = placing_of l clue (shifted_starts clue shift) pos (record {
-      count = length-map-range_with_len (λ (j : ℕ). least_start clue j + shift j) 0 (length clue);
-      windows = λ j h z b. any_cell true (get_or (shifted_starts clue shift) j 0 + z)
-          (omega (arith, shifted_at clue shift j h, start_next clue j h, start_within clue (suc j), most j));
-      apart = search (rules, shifted_at, start_next);
-      blanks = λ i h free. any_cell false i h;
-    }) in (x.0, x.1, x.2, λ j h. ap (λ (z : List ℕ). get_or z j 0) x.3 ∙ shifted_at clue shift j h)
-
--- ---- a cell that is no overlap can be blank
-
 -- a run keeps to its least start if its greatest one is no further than the cell
 abbrev away_from : List ℕ → ℕ → ℕ → ℕ → ℕ
 away_from clue slack i j = cond (nat_le (least_start clue j + slack) i) 0 slack
-
-pub can_be_blank : (l : List Cell) (clue : List ℕ) (slack i : ℕ) → AnyColour l → ArePositive clue → needed clue + slack ≡ length l + 1
-    → (IsOverlap clue slack i → ⊥) → CanBe l clue false i
-can_be_blank l clue slack i any_cell pos e none =
-    let (y, agree, is, starts) = shifted l clue slack (away_from clue slack i) any_cell pos e (λ j. grind (arith, nat_tests))
-    (λ j h. let next = start_next clue j (omega arith) in grind (arith, nat_tests)) in (
-      y,
-      agree,
-      is,
-      false_from_ne_true (get_or y i false) (λ f.
-          let c = covered y clue i is f in
-          let at = starts c.index c.inside in
-          let from = c.from in
-          let to = c.to in none (c.index, c.inside, grind (arith, nat_tests), grind (arith, nat_tests))),
-    )
-
--- ---- if there is a run that can move, each cell can be filled
 
 -- a run that fills the cell from one of its starts
 abbrev Reaches : List ℕ → ℕ → ℕ → Type 0
@@ -119,59 +86,77 @@ Reaches clue slack i = (j : ℕ) × (j < length clue) × (least_start clue j ≤
 
 reaches : (clue : List ℕ) (slack i j : ℕ) → 0 < slack → j < length clue → i < least_start clue j + get_or clue j 0 + slack → Reaches clue slack i
 reaches clue slack i zero some h to = (0, h, omega arith, to)
-reaches clue slack i (suc j) some h to = elim (cases_lt i (least_start clue (suc j))) [
-  | inl low ↦ reaches clue slack i j some (omega arith) (omega (arith, start_next clue j (omega arith)))
-  | inr high ↦ (suc j, h, high, to)
-]
+reaches clue slack i (suc j) some h to = search (rules, cases_lt, start_next, reaches clue slack i j some)
 
-filled_by : (l : List Cell) (clue : List ℕ) (slack i : ℕ) → AnyColour l → ArePositive clue → needed clue + slack ≡ length l + 1
-    → Reaches clue slack i → CanBe l clue true i
-filled_by l clue slack i any_cell pos e (j, jl, low, high) =
-    let some = positive_at clue pos j jl in
-    let by = i + 1 - (least_start clue j + get_or clue j 0) in
-    let (y, agree, is, starts) =
-    shifted l clue slack (λ k. cond (nat_lt k j) 0 by) any_cell pos e (λ j. grind (arith, nat_tests)) (λ j h. grind (arith, nat_tests)) in
-    let at : get_or (starts_from 0 false y) j 0 ≡ least_start clue j + by = grind (arith, nat_tests, starts j jl) in
-    (y, agree, is, in_run y clue j i is jl (omega arith) (omega arith))
+module _ (l : List Cell) (clue : List ℕ) (slack : ℕ) (any_cell : AnyColour l) (pos : ArePositive clue) (e : needed clue + slack ≡ length l + 1) where
+  -- a placing whose runs start after their least starts by what `shift` tells
+  abbrev Shifted : (ℕ → ℕ) → Type 0
+  Shifted shift = (x : List Bool) × (agrees l x ≡ true) × (runs x ≡ clue)
+      × ((j : ℕ) → j < length clue → get_or (starts_from 0 false x) j 0 ≡ least_start clue j + shift j)
 
-pub can_be_filled : (l : List Cell) (clue : List ℕ) (slack i : ℕ) → AnyColour l → ArePositive clue → needed clue + slack ≡ length l + 1
-    → 0 < slack → 0 < length clue → i < length l → CanBe l clue true i
-can_be_filled l clue slack i any_cell pos e some any within =
-    let last = length clue - 1 in
-    let end : suc last ≡ length clue = omega arith in
-    filled_by l clue slack i any_cell pos e (reaches clue slack i last some (omega arith)
-    (omega (arith, start_next clue last (omega arith), ap (least_start clue) end, start_last clue)))
+  shifted : (shift : ℕ → ℕ) → ((j : ℕ) → shift j ≤ slack) → ((j : ℕ) → suc j < length clue → shift j ≤ shift (suc j)) → Shifted shift
+  shifted shift most up =
+      let start = λ (j : ℕ). least_start clue j + shift j in
+      let at = λ (j : ℕ) (h : j < length clue). get_or-map-range_with_len start 0 (length clue) j j 0 h (omega arith) in
+      let x = placing_of l clue (map start (range_with_len 0 (length clue))) pos
+      (grind (arith, common_steps, length-map-range_with_len, start_next, start_within)) in
+      (x.0, x.1, x.2, λ j h. ap (λ (z : List ℕ). get_or z j 0) x.3 ∙ at j h)
 
--- ---- the masks
+  -- a cell that is no overlap can be blank
+  can_be_blank : (i : ℕ) → (IsOverlap clue slack i → ⊥) → CanBe l clue false i
+  can_be_blank i none =
+      let (y, agree, is, starts) = shifted (away_from clue slack i) (λ j. grind (arith, nat_tests))
+      (λ j h. let next = start_next clue j (omega arith) in grind (arith, nat_tests)) in (
+        y,
+        agree,
+        is,
+        false_from_ne_true (get_or y i false) (λ f.
+            let c = covered y clue i is f in
+            let at = starts c.index c.inside in
+            none (c.index, c.inside, grind (arith, nat_tests, c.from), grind (arith, nat_tests, c.to))),
+      )
 
--- the cells of the line without the overlaps
-pub blankable_is : (l : List Cell) (clue : List ℕ) (slack certain line m : ℕ) → AnyColour l → ArePositive clue → needed clue + slack ≡ length l + 1
-    → IsMaskOf (IsOverlap clue slack) certain → IsMaskOf (λ i. i < length l) line → IsMaskOf (λ i. Has line i × (has certain i ≡ false)) m
-    → IsMaskOf (IsBlankable l clue) m
-blankable_is l clue slack certain line m any_cell pos e c a p =
-    mask_same _ _ m p (λ i h. blankable_from l clue i (a.to i h.0)
-    (can_be_blank l clue slack i any_cell pos e (λ o. true≢false (sym (has_true certain i (c.from i o)) ∙ h.1))))
-    (λ i h. let x = blankable_to l clue i h in
-    (a.from i h.2.0.0, lacks certain i (λ o. true≢false (sym (overlap_filled l clue x.0 slack i pos x.1 x.2 e (c.to i o)) ∙ x.3))))
+  -- if there is a run that can move, each cell can be filled
+  filled_by : (i : ℕ) → Reaches clue slack i → CanBe l clue true i
+  filled_by i (j, jl, low, high) =
+      let some = positive_at clue pos j jl in
+      let by = i + 1 - (least_start clue j + get_or clue j 0) in
+      let (y, agree, is, starts) = shifted (λ k. cond (nat_lt k j) 0 by) (λ j. grind (arith, nat_tests)) (λ j h. grind (arith, nat_tests)) in
+      grind (arith, common_steps, nat_tests, in_run)
 
--- each cell of the line, if there is a run that can move
-pub all_fillable : (l : List Cell) (clue : List ℕ) (slack line : ℕ) → AnyColour l → ArePositive clue → needed clue + slack ≡ length l + 1
-    → 0 < slack → 0 < length clue → IsMaskOf (λ i. i < length l) line → IsMaskOf (IsFillable l clue) line
-all_fillable l clue slack line any_cell pos e some any a = mask_same _ _ line a
-    (λ i h. search (rules, fillable_from, can_be_filled)) (λ i h. let x = fillable_to l clue i pos h in search (rules, filled_agrees))
+  can_be_filled : (i : ℕ) → 0 < slack → 0 < length clue → i < length l → CanBe l clue true i
+  can_be_filled i some any within =
+      let last = length clue - 1 in
+      let end : suc last ≡ length clue = omega arith in
+      filled_by i (reaches clue slack i last some (omega arith)
+      (omega (arith, start_next clue last (omega arith), ap (least_start clue) end, start_last clue)))
 
--- and else the overlaps alone
-pub overlaps_fillable : (l : List Cell) (clue : List ℕ) (slack certain : ℕ) → AnyColour l → ArePositive clue → needed clue + slack ≡ length l + 1
-    → (slack ≡ 0) ⊎ (length clue ≡ 0) → IsMaskOf (IsOverlap clue slack) certain → IsMaskOf (IsFillable l clue) certain
-overlaps_fillable l clue slack certain any_cell pos e still c = mask_same (IsOverlap clue slack) (IsFillable l clue) certain c
-    (λ i o. let x = shifted l clue slack (λ j. 0) any_cell pos e (λ j. omega arith) (λ j h. omega arith) in search (rules, fillable_from, overlap_filled))
-    (λ i h.
-    let (y, agree, is, filled) = fillable_to l clue i pos h in
-    let d = laid l clue y agree is in
-    let at = covered y clue i is filled in
-    let low = at_least l clue (starts_from 0 false y) at.index d at.inside in
-    let high = starts_within l clue (starts_from 0 false y) at.index pos d at.inside in
-    let none : slack ≡ 0 = grind (arith, at.inside) in (at.index, at.inside, omega (arith, at.from), omega (arith, at.to)))
+  -- ---- the masks
+
+  -- the cells of the line without the overlaps
+  pub blankable_is : (certain line m : ℕ) → IsMaskOf (IsOverlap clue slack) certain → IsMaskOf (λ i. i < length l) line
+      → IsMaskOf (λ i. Has line i × (has certain i ≡ false)) m → IsMaskOf (IsBlankable l clue) m
+  blankable_is certain line m c a p = mask_same _ _ m p
+      (λ i h. blankable_from l clue i (a.to i h.0) (can_be_blank i (λ o. true≢false (sym (has_true certain i (c.from i o)) ∙ h.1))))
+      (λ i h. let x = blankable_to l clue i h in
+      (a.from i h.2.0.0, lacks certain i (λ o. true≢false (sym (overlap_filled l clue pos x.0 slack i x.1 x.2 e (c.to i o)) ∙ x.3))))
+
+  -- each cell of the line, if there is a run that can move
+  pub all_fillable : (line : ℕ) → 0 < slack → 0 < length clue → IsMaskOf (λ i. i < length l) line → IsMaskOf (IsFillable l clue) line
+  all_fillable line some any a = mask_same _ _ line a
+      (λ i h. search (rules, fillable_from, can_be_filled)) (λ i h. let x = fillable_to l clue i pos h in search (rules, filled_agrees))
+
+  -- and else the overlaps alone
+  pub overlaps_fillable : (certain : ℕ) → (slack ≡ 0) ⊎ (length clue ≡ 0) → IsMaskOf (IsOverlap clue slack) certain
+      → IsMaskOf (IsFillable l clue) certain
+  overlaps_fillable certain still c = mask_same (IsOverlap clue slack) (IsFillable l clue) certain c
+      (λ i o. let x = shifted (λ j. 0) (λ j. omega arith) (λ j h. omega arith) in search (rules, fillable_from, overlap_filled))
+      (λ i h.
+      let (y, agree, is, filled) = fillable_to l clue i pos h in
+      let at = covered y clue i is filled in
+      let low = at_least l clue pos (starts_from 0 false y) at.index (laid l clue y agree is) at.inside in
+      let high = starts_within l clue pos (starts_from 0 false y) at.index (laid l clue y agree is) at.inside in
+      let none : slack ≡ 0 = grind (arith, at.inside) in search (rules, at))
 
 -- ---- the overlaps, run by run
 
@@ -184,35 +169,18 @@ overlap_more clue w slack j start old some shifted new within h long at o p q r 
   where
     to : (i : ℕ) → Has old i ⊎ Has shifted i → IsOverlapBefore (j + 1) clue slack i
     to i (inl x) = search (rules, o.to i x)
-    to i (inr x) = let y = q.to i x in let few = p.to (i - start) y.2 in (j, omega arith, omega arith, omega arith)
+    to i (inr x) = search (rules, q.to i x, p.to (i - start))
 
     from : (i : ℕ) → IsOverlapBefore (j + 1) clue slack i → Has old i ⊎ Has shifted i
     from i (k, kl, low, high) = elim (cases_lt k j) [
       | inl before ↦ inl (o.from i (k, before, low, high))
-      | inr last ↦
-          (let e : k ≡ j = omega arith in
-          let from = rw e at low in
-          let to = rw e at high in
-          inr (q.from i (omega (arith, start_next clue j h, start_within clue (suc j)), omega arith, p.from (i - start) (omega arith))))
+      | inr last ↦ grind (arith, common_steps, start_next, start_within)
     ]
 
 -- a run that isn't longer than the slack has none
 pub overlap_same : (clue : List ℕ) (slack j m : ℕ) → get_or clue j 0 ≤ slack → IsMaskOf (IsOverlapBefore j clue slack) m
     → IsMaskOf (IsOverlapBefore (j + 1) clue slack) m
 overlap_same clue slack j m short o = search rules
-
--- ---- a clue that needs more than there is
-
--- then no cell can be filled
-pub unfit_fillable : (l : List Cell) (clue : List ℕ) (m : ℕ) → ArePositive clue → length l + 1 < needed clue → m ≡ 0 → IsMaskOf (IsFillable l clue) m
-unfit_fillable l clue m pos long e =
-    none_is (IsFillable l clue) m e (λ i h. let x = fillable_to l clue i pos h in omega (arith, fits l clue x.0 pos x.1 x.2))
-
--- nor blank
-pub unfit_blankable : (l : List Cell) (clue : List ℕ) (m : ℕ) → ArePositive clue → length l + 1 < needed clue → m ≡ 0
-    → IsMaskOf (IsBlankable l clue) m
-unfit_blankable l clue m pos long e =
-    none_is (IsBlankable l clue) m e (λ i h. let x = blankable_to l clue i h in omega (arith, fits l clue x.0 pos x.1 x.2))
 
 -- ---- a line of which nothing is known
 
@@ -221,17 +189,9 @@ pub unknown_to : (l : List Cell) (len free room known : ℕ) → len ≡ length 
     → IsMaskOf (λ i. has free i ≢ has room i) known → known ≡ 0 → l ≡ replicate len Unknown
 unknown_to l len free room known long f r p e =
     ext_get_or Unknown l (replicate len Unknown) (sym long ∙ sym (length-replicate len Unknown))
-    (λ i h. by i h (get_or l i Unknown) refl ∙ sym (get_or-replicate len i Unknown Unknown (omega arith)))
-  where
-    by : (i : ℕ) → i < length l → (c : Cell) → get_or l i Unknown ≡ c → c ≡ Unknown
-    by i h c at = grind (arith, none_has known i e, p.from i, f.to i, r.to i, f.from i, r.from i, has_true, true_has, has_by)
+    (λ i h. grind (arith, common_steps, none_has known i e, p.from i, f.to i, r.to i, f.from i, r.from i, has_true, true_has, has_by))
 
 -- and if nothing is known, they are the same
 pub unknown_from : (l : List Cell) (len free room known : ℕ) → IsMaskOf (MayBe l false) free → IsMaskOf (MayBe l true) room
     → IsMaskOf (λ i. has free i ≢ has room i) known → l ≡ replicate len Unknown → known ≡ 0
-unknown_from l len free room known f r p e = none_in _ known p (λ i differ. differ
-    (has_by free i (has room i) (λ h. has_true room i (r.from i (any_cell true i (f.to i h).0)))
-    (λ h. f.from i (any_cell false i (r.to i (true_has room i h)).0))))
-  where
-    any_cell : (v : Bool) (i : ℕ) → i < length l → MayBe l v i
-    any_cell = subst AnyColour (sym e) (unknown_any len)
+unknown_from l len free room known f r p e = search (rules, none_in, has_by, has_true, true_has, unknown_any)

@@ -8,11 +8,8 @@ use Rattle.line_core.proofs.WholeEnds.{fillable_to, fillable_from}
 
 runs_after-blanks : (x : List Bool) (n m : ℕ) → runs_after n (x ++ replicate m false) ≡ runs_after n x
 runs_after-blanks [] n zero = refl
-runs_after-blanks [] zero (suc m) = runs_after-false (replicate m false) ∙ runs_after-blanks [] zero m
-runs_after-blanks [] (suc n) (suc m) = grind (arith, runs_after-close, runs_after-blanks [] zero m, runs_after-zero, runs_after-nil)
-runs_after-blanks (true ∷ x) n m = grind (arith, runs_after-true, runs_after-blanks x (suc n) m)
-runs_after-blanks (false ∷ x) zero m = grind (arith, runs_after-false, runs_after-blanks x zero m)
-runs_after-blanks (false ∷ x) (suc n) m = grind (arith, runs_after-close, runs_after-blanks x zero m)
+runs_after-blanks [] n (suc m) = grind (arith, runs_after-close, runs_after-false, runs_after-blanks [] zero m, runs_after-zero, runs_after-nil)
+runs_after-blanks (b ∷ x) n m = grind (arith, runs_after-true, runs_after-false, runs_after-close, runs_after-blanks x)
 
 -- blank cells behind a full line are no run
 runs-blanks : (x : List Bool) (m : ℕ) → runs (x ++ replicate m false) ≡ runs x
@@ -36,11 +33,8 @@ agrees_cut (c ∷ l) (b ∷ y) m h =
     let parts = and_parts (allows c b) (agrees (l ++ replicate m Blank) y) h in
     let (x, same, agree) = agrees_cut l y m parts.1 in (b ∷ x, cc, search (rules, and_from))
 
-blank_at : (m k : ℕ) → get_or (replicate m false) k false ≡ false
-blank_at m k = grind (arith, common_steps)
-
 filled_within : (x : List Bool) (m k : ℕ) → get_or (x ++ replicate m false) k false ≡ true → k < length x
-filled_within x m k e = grind (arith, common_steps, blank_at)
+filled_within x m k e = grind (arith, common_steps)
 
 module _ (l : List Cell) (clue : List ℕ) (m : ℕ) where
   abbrev longer : List Cell
@@ -52,8 +46,7 @@ module _ (l : List Cell) (clue : List ℕ) (m : ℕ) where
   -- what a cell of the line can be
   with_blanks : (c : Bool) (k : ℕ) → k < length l → CanBe l clue c k → CanBe longer clue c k
   with_blanks c k within (x, agree, is, at) =
-      let long : k < length x = omega (arith, length-agrees l x agree) in
-      (x ++ replicate m false, agrees_more l x m agree, runs-blanks x m ∙ is, get_or_append_left x (replicate m false) false k long ∙ at)
+      let long : k < length x = omega (arith, length-agrees l x agree) in search (rules, agrees_more l x m, runs-blanks x m, get_or_append_left)
 
   without_blanks : (c : Bool) (k : ℕ) → k < length l → CanBe longer clue c k → CanBe l clue c k
   without_blanks c k within (y, agree, is, at) = search (rules, agrees_cut, length-agrees, runs-blanks, get_or_append_left)

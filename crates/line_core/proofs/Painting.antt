@@ -1,5 +1,5 @@
 -- Full lines made of starts.
-use Rattle.line_core.proofs.Names.{◌≡◌, ℕ, zero, suc, ◌+◌, ◌-◌, ◌<◌, ◌≤◌, Bool, true, false, List, [], ◌∷◌, ◌++◌, length, replicate, refl, sym, ap, ◌∙◌, subst, arith, inl, inr, add-zero, drop, get_or, drop_of_length-le, rules, cases_lt, and_parts, Cell, Unknown, allows, agrees, runs, AllFrom, Side, Left, Right, IsAsFar, MayBe, ArePositive}
+use Rattle.line_core.proofs.Names.{◌≡◌, ℕ, zero, suc, ◌+◌, ◌-◌, ◌<◌, ◌≤◌, Bool, true, false, List, [], ◌∷◌, ◌++◌, length, replicate, refl, sym, ap, ◌∙◌, arith, inl, inr, add-zero, drop, get_or, drop_of_length-le, rules, cases_lt, and_parts, Cell, Unknown, allows, agrees, runs, AllFrom, Side, Left, Right, IsAsFar, MayBe, ArePositive, common_steps, cases_Bool}
 use Rattle.line_core.proofs.Joining.{filled_agrees, agrees_span, runs_first}
 use Rattle.line_core.proofs.RunStarts.{starts_from, length-run_starts, run_of, filled_in_run, runs_apart, covered}
 
@@ -20,24 +20,20 @@ pub record IsLaid (l : List Cell) (clue ss : List ℕ) : Type 0 where
   pub blanks : (i : ℕ) → i < length l → IsFree clue ss i → MayBe l false i
 
 pub agrees_at : (l : List Cell) (x : List Bool) (i : ℕ) → agrees l x ≡ true → i < length l → allows (get_or l i Unknown) (get_or x i false) ≡ true
-agrees_at (c ∷ l) (b ∷ x) i a h = let both = and_parts (allows c b) (agrees l x) a in search (rules, agrees_at l x)
+agrees_at (c ∷ l) (b ∷ x) i a h = search (rules, and_parts, agrees_at l x)
 agrees_at l x i a h = search rules
 
 -- the starts of a placing lay the clue
 pub laid : (l : List Cell) (clue : List ℕ) (x : List Bool) → agrees l x ≡ true → runs x ≡ clue → IsLaid l clue (starts_from 0 false x)
 laid l clue x agree is = record {
   count = length-run_starts x ∙ ap length is;
-  windows = λ j h z b.
-      let filled = filled_in_run x clue j (run_of x clue j is h) z b in
-      let within = filled_agrees l x (get_or (starts_from 0 false x) j 0 + z) agree filled in
-      (within, rw filled at (agrees_at l x (get_or (starts_from 0 false x) j 0 + z) agree within));
+  windows = λ j h z b. let filled = filled_in_run x clue j (run_of x clue j is h) z b in grind (arith, common_steps, filled_agrees, agrees_at);
   apart = λ j h. runs_apart x clue j is h;
-  blanks = λ i h free. by i h free (get_or x i false) refl;
+  blanks = λ i h free. elim (cases_Bool (get_or x i false)) [
+    | inl e ↦ (let c = covered x clue i is e in absurd (free c.index c.inside c.from c.to))
+    | inr e ↦ search (rules, agrees_at, sym e)
+  ];
 }
-  where
-    by : (i : ℕ) → i < length l → IsFree clue (starts_from 0 false x) i → (v : Bool) → get_or x i false ≡ v → MayBe l false i
-    by i h free true e = let c = covered x clue i is e in absurd (free c.index c.inside c.from c.to)
-    by i h free false e = search (rules, agrees_at, sym e)
 
 -- ---- and back: a line painted by starts
 
@@ -51,24 +47,12 @@ runs_blanks (suc m) y = runs_blanks m y
 
 starts_past : (v : Bool) (m p q : ℕ) (y : List Bool) → p + m ≡ q → starts_from p v (replicate m v ++ y) ≡ starts_from q v y
 starts_past v zero p q y e = ap (λ (k : ℕ). starts_from k v y) (sym (add-zero p) ∙ e)
-starts_past true (suc m) p q y e = starts_past true m (suc p) q y (omega arith)
-starts_past false (suc m) p q y e = starts_past false m (suc p) q y (omega arith)
+starts_past v (suc m) p q y e = search (rules, starts_past v m (suc p) q y)
 
 starts_first : (m c p s : ℕ) (y : List Bool) (ss : List ℕ) → p + m ≡ s → 0 < c → get_or y 0 false ≡ false
     → starts_from (s + c) false y ≡ ss → starts_from p false (replicate m false ++ (replicate c true ++ y)) ≡ s ∷ ss
 starts_first m zero p s y ss e h k r = absurd (omega arith)
-starts_first m (suc n) p s y ss e h k r =
-    starts_past false m p s (replicate (suc n) true ++ y) e
-    ∙ ap (λ (z : List ℕ). s ∷ z) (starts_past true n (suc s) (s + suc n) y (omega arith) ∙ closed (s + suc n) y k ∙ r)
-  where
-    closed : (p : ℕ) (y : List Bool) → get_or y 0 false ≡ false → starts_from p true y ≡ starts_from p false y
-    closed p [] h = refl
-    closed p (b ∷ y) h = search rules
-
-blank_head : (m : ℕ) (y : List Bool) → (0 < length y → 0 < m) → get_or (replicate m false ++ y) 0 false ≡ false
-blank_head zero [] h = refl
-blank_head zero (b ∷ y) h = absurd (omega (arith, h (omega arith)))
-blank_head (suc m) y h = refl
+starts_first m (suc n) p s y ss e h k r = grind (arith, common_steps, starts_past)
 
 -- the cells from place `p` on of a line with runs at the starts
 record Painted (l : List Cell) (p : ℕ) (clue ss : List ℕ) : Type 0 where
@@ -87,29 +71,24 @@ paint l p [] [] pos h e first windows apart blanks =
       agree = search (rules, agrees_span, blanks, drop_of_length-le);
       runs_are = runs_blanks m [];
       starts_are = starts_past false m p (length l) [] (omega arith);
-      head = λ h. blank_head m [] (λ k. absurd (omega arith));
+      head = λ h. grind (arith, common_steps);
     }
 paint l p (c ∷ clue) (s ∷ ss) pos h e first windows apart blanks =
-    let some : 0 < c = pos.0 in
     let start : p ≤ s = first (omega arith) in
     let window : AllFrom (MayBe l true) c s = windows 0 (omega arith) in
     let last = (window (c - 1) (omega arith)).0 in
     let next : 0 < length clue → s + c < get_or ss 0 0 = λ h. apart 0 (omega arith) in
-    let rest = paint l (s + c) clue ss pos.1 (omega arith) (omega arith) (λ h. omega (arith, next h))
-    (λ j h. windows (suc j) (omega arith)) (λ j h. apart (suc j) (omega arith)) (λ i a h free. blanks i (omega arith) h (by i a free)) in
+    let rest = paint l (s + c) clue ss pos.1 (omega arith) (omega arith) (λ h. omega (arith, next h)) (λ j h. windows (suc j) (omega arith))
+    (λ j h. apart (suc j) (omega arith)) (λ i a h free. blanks i (omega arith) h (λ j. grind (arith, free (j - 1)))) in
     let y = replicate c true ++ rest.full in
     let closed = rest.head next in record {
       full = replicate (s - p) false ++ y;
-      agree = agrees_span l false (s - p) p s y (omega arith) (λ z b. blanks (p + z) (omega arith) (omega arith) (λ j h from to.
-          absurd (omega (arith, first_least (c ∷ clue) (s ∷ ss) apart j h)))) (agrees_span l true c s (s + c) rest.full refl window rest.agree);
-      runs_are = runs_blanks (s - p) y ∙ runs_first c rest.full some closed ∙ ap (λ (z : List ℕ). c ∷ z) rest.runs_are;
-      starts_are = starts_first (s - p) c p s rest.full ss (omega arith) some closed rest.starts_are;
-      head = λ h. blank_head (s - p) y (λ k. omega (arith, h (omega arith)));
+      agree = agrees_span l false (s - p) p s y (omega arith) (λ z b. search (rules, blanks (p + z), first_least))
+          (agrees_span l true c s (s + c) rest.full refl window rest.agree);
+      runs_are = grind (arith, common_steps, runs_blanks, runs_first);
+      starts_are = starts_first (s - p) c p s rest.full ss (omega arith) pos.0 closed rest.starts_are;
+      head = λ h. grind (arith, common_steps);
     }
-  where
-    by : (i : ℕ) → s + c ≤ i → IsFree clue ss i → IsFree (c ∷ clue) (s ∷ ss) i
-    by i a free zero h from to = absurd (omega arith)
-    by i a free (suc j) h from to = free j (omega arith) from to
 paint l p clue ss pos h e first windows apart blanks = absurd (omega arith)
 
 -- starts that lay a clue are those of a placing
@@ -150,13 +129,11 @@ Cut clue ss i n = ((q : ℕ) → q < n → get_or ss q 0 + get_or clue q 0 ≤ i
 -- which is so of each cell that is in no run
 cut_of : (clue ss : List ℕ) (i n : ℕ) → StandApart clue ss → IsFree clue ss i → n ≤ length clue
     → ((q : ℕ) → n ≤ q → q < length clue → i < get_or ss q 0) → (k : ℕ) × (k ≤ length clue) × Cut clue ss i k
-cut_of clue ss i zero apart free h later = (0, h, ((λ q a. absurd (omega arith)), later))
+cut_of clue ss i zero apart free h later = search rules
 cut_of clue ss i (suc n) apart free h later =
     elim (cases_lt i (get_or ss n 0)) [
       | inl low ↦ search (rules, apart, from_more, cut_of clue ss i n apart free (omega arith))
-      | inr high ↦
-          (let past : get_or ss n 0 + get_or clue n 0 ≤ i = grind (arith, free n) in
-          (suc n, h, ((λ q a. grind (arith, ends_before clue ss apart q n)), later)))
+      | inr high ↦ (suc n, h, ((λ q a. grind (arith, free n, ends_before clue ss apart q n)), later))
     ]
 
 -- and such a cell may be blank
@@ -164,29 +141,23 @@ blank_at : (l : List Cell) (clue ss : List ℕ) (i n : ℕ) → IsLaid l clue ss
 blank_at l clue ss i n d h (before, after) = search rules
 
 furthest_apart : (side : Side) (l : List Cell) (clue m : List ℕ) → AreFurthest side l clue m → StandApart clue m
-furthest_apart Left l clue m f j h = search rules
-furthest_apart Right l clue m f j h = search rules
+furthest_apart side l clue m f j h = search rules
 
 furthest_blank : (side : Side) (l : List Cell) (clue m : List ℕ) (i n : ℕ) → AreFurthest side l clue m → i < length l → n ≤ length clue
     → Cut clue m i n → MayBe l false i
 furthest_blank Left l clue m i zero f h k (before, after) = search rules
 furthest_blank Left l clue m i (suc n) f h k (before, after) =
     let w = f.each n (omega arith) in
-    let at : get_or w.starts n 0 ≡ get_or m n 0 = w.at in
-    let end = before n (omega arith) in
     blank_at l clue w.starts i (suc n) w.laid_so h (
-      (λ q a. grind (arith, ends_before clue w.starts w.laid_so.apart q n)),
-      λ q a b. let start = after q a b in let low = f.furthest w.starts w.laid_so q b in omega arith,
+      (λ q a. grind (arith, before n, ends_before clue w.starts w.laid_so.apart q n)),
+      λ q a b. grind (arith, after q, f.furthest w.starts w.laid_so q),
     )
 furthest_blank Right l clue m i n f h k (before, after) = elim (cases_lt n (length clue)) [
   | inl more ↦
       (let w = f.each n more in
-      let at : get_or w.starts n 0 ≡ get_or m n 0 = w.at in
-      let start = after n (omega arith) more in
       blank_at l clue w.starts i n w.laid_so h (
-        (λ q a. let end = before q a in let high = f.furthest w.starts w.laid_so q (omega arith) in omega arith),
-        from_more (λ q. q < length clue → i < get_or w.starts q 0) n (λ b. omega arith)
-            (λ q a b. let gap = ends_before clue w.starts w.laid_so.apart n q a b in omega arith),
+        (λ q a. grind (arith, before q, f.furthest w.starts w.laid_so q)),
+        λ q a b. grind (arith, after n, ends_before clue w.starts w.laid_so.apart n q),
       ))
   | inr all ↦ search rules
 ]
@@ -197,9 +168,8 @@ furthest_laid side l clue m f =
     let apart = furthest_apart side l clue m f in
     record {
       count = f.count;
-      windows = λ j h. let w = f.each j h in subst (AllFrom (MayBe l true) (get_or clue j 0)) w.at (w.laid_so.windows j h);
+      windows = λ j h. let w = f.each j h in rw w.at at (w.laid_so.windows j h);
       apart = apart;
       blanks = λ i h free.
-          let cut = cut_of clue m i (length clue) apart free (omega arith) (λ q a b. absurd (omega arith)) in
-          furthest_blank side l clue m i cut.0 f h cut.1 cut.2;
+          let cut = cut_of clue m i (length clue) apart free (omega arith) (λ q a b. absurd (omega arith)) in search (rules, furthest_blank);
     }

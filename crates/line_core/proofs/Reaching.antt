@@ -1,5 +1,5 @@
 -- How far the runs reach: gaps and ends as floods tell them, and as placings of the cells before do.
-use Rattle.line_core.proofs.Names.{rules, below_more, ◌≡◌, ℕ, zero, suc, ◌+◌, ◌-◌, ◌<◌, ◌≤◌, Bool, true, false, List, [], ◌∷◌, ◌++◌, length, replicate, refl, sym, ap, ◌∙◌, subst, arith, ◌⊎◌, inl, inr, get_or, and_from, and_parts, Cell, Unknown, allows, agrees, runs, IsFlooded, AllFrom, behind, HasPlacing, MayBe, IsGapAfter, IsEndAfter}
+use Rattle.line_core.proofs.Names.{rules, ◌≡◌, ℕ, zero, suc, ◌+◌, ◌-◌, ◌<◌, ◌≤◌, Bool, true, false, List, [], ◌∷◌, ◌++◌, length, replicate, refl, sym, subst, arith, ◌⊎◌, inl, inr, get_or, and_from, and_parts, Cell, Unknown, allows, agrees, runs, IsFlooded, AllFrom, behind, HasPlacing, MayBe, IsGapAfter, IsEndAfter}
 use Rattle.line_core.proofs.Joining.{begins, begins_some, runs_about, first_closed}
 
 -- one more blank cell before a placing
@@ -17,10 +17,7 @@ first_cell c cells cs ([], agree, is) = cc
 first_cell c cells cs (false ∷ y, agree, is) = search (rules, and_parts)
 first_cell c cells cs (true ∷ y, agree, is) =
     let b = begins (true ∷ y) in
-    let some : 0 < b.count = begins_some (true ∷ y) b refl in
-    let same = subst (λ (t : List Bool). agrees (c ∷ cells) t ≡ true) b.whole agree in
-    let runs_are = sym (runs_about [] b.count b.rest some refl b.closed) ∙ ap runs (sym b.whole) ∙ is in
-    inr (b.count, b.rest, some, same, runs_are, b.closed)
+    let runs_are = runs_about [] b.count b.rest (begins_some (true ∷ y) b refl) refl b.closed in search (rules, begins_some, runs_are, b)
 
 -- the first gaps: from the first cell on, as long as all may be blank
 pub first_gap_to : (l : List Cell) (i : ℕ) → IsFlooded (λ k. (k ≡ 0) × MayBe l false k) (MayBe l false) i → IsGapAfter l [] i
@@ -39,9 +36,7 @@ MayFill l k = allows (get_or l k Unknown) true ≡ true
 -- a run that goes back from place `p` over `m` cells that may be filled, with `rest` before it
 open_run : (l : List Cell) (m p : ℕ) (rest : List Bool) → agrees (behind Unknown l p) (replicate m true ++ rest) ≡ true
     → (q : ℕ) × (q + m ≡ p) × AllFrom (MayFill l) m q × (agrees (behind Unknown l q) rest ≡ true)
-open_run l (suc m) (suc p) rest h =
-    let parts = and_parts (allows (get_or l p Unknown) true) (agrees (behind Unknown l p) (replicate m true ++ rest)) h in
-    let r = open_run l m p rest parts.1 in search (rules, below_more, r)
+open_run l (suc m) (suc p) rest h = search (rules, and_parts, open_run l m p rest)
 open_run l m p rest h = search rules
 
 run_open : (l : List Cell) (m p q : ℕ) (rest : List Bool) → q + m ≡ p → AllFrom (MayFill l) m q
@@ -77,12 +72,11 @@ pub gap_after_from : (l : List Cell) (cs : List ℕ) (n i : ℕ) → IsGapAfter 
 gap_after_from l cs n (suc i) g = elim (first_cell (get_or l i Unknown) (behind Unknown l i) (n ∷ cs) g.1) [
   | inl b ↦ search (rules, gap_after_from l cs n i)
   | inr r ↦
-      (let within : suc i < length l = g.0.0 in
+      (let o = open_run l r.0 (suc i) r.1 r.3 in
       let is = r.4 in
       let same : r.0 ≡ n = cc in
       let others : runs r.1 ≡ cs = cc in
-      let o = open_run l r.0 (suc i) r.1 r.3 in
       let e : suc i - 1 ≡ i = omega arith in
-      inl (g.0, omega arith, rw (e, sym same) (end_from_run l cs r.0 i o.0 r.1 (omega arith) o.1 o.2 o.3 others r.5)))
+      inl (g.0, omega arith, rw (e, sym same) (end_from_run l cs r.0 i o.0 r.1 (omega (arith, g.0.0)) o.1 o.2 o.3 others r.5)))
 ]
 gap_after_from l cs n zero g = search rules

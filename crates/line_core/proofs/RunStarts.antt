@@ -1,5 +1,5 @@
 -- At which places the runs of a full line start.
-use Rattle.line_core.proofs.Names.{rules, ◌≡◌, ℕ, zero, suc, ◌+◌, ◌-◌, ◌<◌, ◌≤◌, Bool, true, false, not, ◌&&◌, List, [], ◌∷◌, ◌++◌, length, replicate, filter, refl, sym, ap, ◌∙◌, arith, add-zero, zero-add, add-one, true≢false, inl, inr, drop, get_or, drop-cons, append_assoc, cases_lt, range_with_len, runs, starts_run, run_starts, behind, runs_after, runs_after-zero, runs_after-true, runs_after-false, runs_after-close, runs_after-nil}
+use Rattle.line_core.proofs.Names.{rules, ◌≡◌, ℕ, zero, suc, ◌+◌, ◌-◌, ◌<◌, ◌≤◌, Bool, true, false, not, ◌&&◌, List, [], ◌∷◌, ◌++◌, length, replicate, filter, refl, sym, ap, ◌∙◌, arith, add-zero, zero-add, add-one, true≢false, inl, inr, drop, get_or, drop-cons, append_assoc, cases_lt, range_with_len, runs, starts_run, run_starts, behind, runs_after, runs_after-zero, runs_after-true, runs_after-false, runs_after-close, runs_after-nil, common_steps, cases_Bool}
 use Rattle.std.proofs.Math.Seq.{get_or-append_seam}
 use Rattle.line_core.proofs.Joining.{filled_within, onto, length_behind, onto_behind, get_or-onto, onto_split, drop_head, runs_cut, runs_about, get_or-run, begins, begins_some}
 
@@ -23,19 +23,11 @@ starts-filter : (whole rest : List Bool) (p : ℕ) (after : Bool) → ((k : ℕ)
 starts-filter whole [] p after h = refl
 starts-filter whole (b ∷ rest) p after h =
     let here : starts_run whole p ≡ (b && not after) = ap (starts_run whole) (sym (add-zero p)) ∙ h 0 in
-    rw (add-one p, here, starts-filter whole rest (suc p) b next) (search rules)
-  where
-    next : (k : ℕ) → starts_run whole (suc p + k) ≡ starts_at b rest k
-    next zero = let e : suc p + 0 ≡ p + 1 = omega arith in ap (starts_run whole) e ∙ h 1
-    next (suc k) = let e : suc p + suc k ≡ p + suc (suc k) = omega arith in ap (starts_run whole) e ∙ h (suc (suc k))
+    rw (add-one p, here, starts-filter whole rest (suc p) b (λ k. grind (arith, h 1, h (suc k)))) (search rules)
 
 -- the starts of the definition, from the first place on
 pub run_starts-from : (x : List Bool) → run_starts x ≡ starts_from 0 false x
-run_starts-from x = starts-filter x x 0 false (λ k. ap (starts_run x) (zero-add k) ∙ by k)
-  where
-    by : (k : ℕ) → starts_run x k ≡ starts_at false x k
-    by zero = search rules
-    by (suc k) = refl
+run_starts-from x = search (rules, starts-filter)
 
 -- ---- how many there are, and their order
 
@@ -60,7 +52,7 @@ mutual
 
 -- there are as many starts as runs
 pub length-run_starts : (x : List Bool) → length (starts_from 0 false x) ≡ length (runs x)
-length-run_starts x = length-starts 0 x ∙ ap length (runs_after-zero x)
+length-run_starts x = search (rules, length-starts, runs_after-zero)
 
 pub length-onto : {A : Type 0} (a b : List A) → length (onto a b) ≡ length a + length b
 length-onto [] b = omega arith
@@ -68,22 +60,17 @@ length-onto (x ∷ a) b = omega (arith, length-onto a (x ∷ b))
 
 -- as many starts come before a blank cell as runs
 starts_before : (a : List Bool) → get_or a 0 false ≡ false → length (starts_from 0 false (onto a [])) ≡ length (runs a)
+starts_before (b ∷ a) h = search (rules, length-run_starts, onto, runs_cut, length-onto, add-zero)
 starts_before [] h = refl
-starts_before (true ∷ a) h = cc
-starts_before (false ∷ a) h = search (rules, length-run_starts, onto, runs_cut, length-onto, add-zero)
 
 pub starts_at_least : (x : List Bool) (p k : ℕ) (after : Bool) → k < length (starts_from p after x) → p ≤ get_or (starts_from p after x) k 0
-starts_at_least (true ∷ x) p k true h = search (rules, starts_at_least x (suc p) k true)
-starts_at_least (true ∷ x) p (suc k) false h = search (rules, starts_at_least x (suc p) k true (omega arith))
-starts_at_least (false ∷ x) p k after h = search (rules, starts_at_least x (suc p) k false h)
-starts_at_least x p k after h = search rules
+starts_at_least (b ∷ x) p k after h = search (rules, starts_at_least x (suc p))
+starts_at_least [] p k after h = search rules
 
 pub starts_increase : (x : List Bool) (p i j : ℕ) (after : Bool) → i < j → j < length (starts_from p after x)
     → get_or (starts_from p after x) i 0 < get_or (starts_from p after x) j 0
-starts_increase (true ∷ x) p i j true l h = starts_increase x (suc p) i j true l h
-starts_increase (true ∷ x) p zero (suc j) false l h = let rest = starts_at_least x (suc p) j true (omega arith) in omega arith
-starts_increase (true ∷ x) p (suc i) (suc j) false l h = starts_increase x (suc p) i j true (omega arith) (omega arith)
-starts_increase (false ∷ x) p i j after l h = starts_increase x (suc p) i j false l h
+starts_increase (true ∷ x) p zero (suc j) false l h = search (rules, starts_at_least)
+starts_increase (b ∷ x) p i j after l h = grind (arith, common_steps, starts_increase x (suc p))
 starts_increase x p i j after l h = absurd (omega arith)
 
 before_more : (after b : Bool) (x : List Bool) (i : ℕ) → before b x i ≡ false → before after (b ∷ x) (suc i) ≡ false
@@ -93,13 +80,11 @@ before_more after b x i e = search rules
 start_is : (x : List Bool) (p k : ℕ) (after : Bool) → k < length (starts_from p after x)
     → (i : ℕ) × (get_or (starts_from p after x) k 0 ≡ p + i) × (get_or x i false ≡ true) × (before after x i ≡ false)
 start_is [] p k after h = absurd (omega arith)
-start_is (true ∷ x) p k true h =
-    let r = start_is x (suc p) k true h in (suc r.0, omega (arith, r.1), r.2, before_more true true x r.0 r.3)
 start_is (true ∷ x) p zero false h = (0, omega arith, refl, refl)
 start_is (true ∷ x) p (suc k) false h =
-    let r = start_is x (suc p) k true (omega arith) in (suc r.0, omega (arith, r.1), r.2, before_more false true x r.0 r.3)
-start_is (false ∷ x) p k after h =
-    let r = start_is x (suc p) k false h in (suc r.0, omega (arith, r.1), r.2, before_more after false x r.0 r.3)
+    let r = start_is x (suc p) k true (omega arith) in (suc r.0, omega (arith, r.1), r.2, search (rules, before_more))
+start_is (true ∷ x) p k true h = let r = start_is x (suc p) k true h in (suc r.0, omega (arith, r.1), r.2, search (rules, before_more))
+start_is (false ∷ x) p k after h = let r = start_is x (suc p) k false h in (suc r.0, omega (arith, r.1), r.2, search (rules, before_more))
 
 -- ---- a line cut round a run
 
@@ -120,123 +105,89 @@ pub record Run (x : List Bool) (clue : List ℕ) (k : ℕ) : Type 0 where
   pub front_runs : runs front ≡ behind 0 clue k
   pub back_runs : runs back ≡ drop (suc k) clue
 
--- the run that starts at a place
-abbrev RunAt : List Bool → List ℕ → ℕ → Type 0
-RunAt x clue s = (j : ℕ) × (j < length clue) × (get_or (starts_from 0 false x) j 0 ≡ s) × Run x clue j
-
-run_at : (x : List Bool) (clue : List ℕ) (s : ℕ) → runs x ≡ clue → get_or x s false ≡ true → before false x s ≡ false → RunAt x clue s
-run_at x clue s is filled first =
-    let within : s < length x = filled_within x s filled in
-    let a = behind false x s in
-    let v = begins (drop s x) in
-    let ahead : drop s x ≡ get_or x s false ∷ drop (suc s) x = drop-cons x s false within in
-    let some : 0 < v.count = begins_some (drop s x) v (ap (λ (t : List Bool). get_or t 0 false) ahead ∙ filled) in
-    let closed : get_or a 0 false ≡ false = head s first in
-    let long : length a ≡ s = length_behind false x s in
-    let whole : onto a (replicate v.count true ++ v.rest) ≡ x = ap (onto a) (sym v.whole) ∙ onto_behind false x s (omega arith) in
-    let parts = onto_split (runs a) (v.count ∷ runs v.rest) clue (sym (runs_about a v.count v.rest some closed v.closed) ∙ ap runs whole ∙ is) in
-    let j = length (runs a) in
-    let cut = drop_head clue j v.count (runs v.rest) parts.1 in
-    let at : get_or (starts_from 0 false x) j 0 ≡ s =
-    ap (λ (y : List Bool). get_or (starts_from 0 false y) j 0) (sym whole) ∙ start_of_cut a v.count v.rest some closed ∙ long in
-    let run : Run x clue j = record {
-      front = a;
-      back = v.rest;
-      whole = ap (λ (n : ℕ). onto a (replicate n true ++ v.rest)) cut.0 ∙ whole;
-      front_closed = closed;
-      back_closed = v.closed;
-      start = long ∙ sym at;
-      front_runs = parts.0;
-      back_runs = cut.1;
-    } in
-    (j, cut.2, at, run)
-  where
-    head : (s : ℕ) → before false x s ≡ false → get_or (behind false x s) 0 false ≡ false
-    head zero h = refl
-    head (suc s) h = h
-
 same_index : (x : List Bool) (i j : ℕ) → i < length (starts_from 0 false x) → j < length (starts_from 0 false x)
     → get_or (starts_from 0 false x) i 0 ≡ get_or (starts_from 0 false x) j 0 → i ≡ j
 same_index x i j hi hj e = grind (arith, starts_increase x 0 i j false, starts_increase x 0 j i false)
 
--- each run of a line
-pub run_of : (x : List Bool) (clue : List ℕ) (k : ℕ) → runs x ≡ clue → k < length clue → Run x clue k
-run_of x clue k is h =
-    let count : length (starts_from 0 false x) ≡ length clue = length-run_starts x ∙ ap length is in
-    let s = start_is x 0 k false (omega arith) in
-    let (j, jl, at, run) = run_at x clue s.0 is s.2 s.3 in
-    let same : j ≡ k = same_index x j k (omega arith) (omega arith) (at ∙ sym (s.1 ∙ zero-add s.0)) in rw (sym same) run
+-- cells that are filled from a place on, with no filled cell right before it
+abbrev Stretch : List Bool → ℕ → Type 0
+Stretch x i = (k : ℕ) × (k ≤ i) × ((z : ℕ) → k ≤ z → z ≤ i → get_or x z false ≡ true) × (before false x k ≡ false)
 
--- the cells of a run are filled
-pub filled_in_run : (x : List Bool) (clue : List ℕ) (k : ℕ) → Run x clue k → (z : ℕ) → z < get_or clue k 0
-    → get_or x (get_or (starts_from 0 false x) k 0 + z) false ≡ true
-filled_in_run x clue k r z h = search (rules, get_or-onto, get_or-run)
+stretch_of : (x : List Bool) (i : ℕ) → get_or x i false ≡ true → Stretch x i
+stretch_of x zero h = (0, omega arith, (λ z a b. let e : z ≡ 0 = omega arith in rw e h), refl)
+stretch_of x (suc i) h = elim (cases_Bool (get_or x i false)) [
+  | inl e ↦ (let s = stretch_of x i e in search rules)
+  | inr e ↦ (suc i, omega arith, (λ z a b. let same : z ≡ suc i = omega arith in rw same h), e)
+]
 
-pub in_run : (x : List Bool) (clue : List ℕ) (k i : ℕ) → runs x ≡ clue → k < length clue → get_or (starts_from 0 false x) k 0 ≤ i
-    → i < get_or (starts_from 0 false x) k 0 + get_or clue k 0 → get_or x i false ≡ true
-in_run x clue k i is h low high =
-    let e : get_or (starts_from 0 false x) k 0 + (i - get_or (starts_from 0 false x) k 0) ≡ i = omega arith in
-    rw e at (filled_in_run x clue k (run_of x clue k is h) (i - get_or (starts_from 0 false x) k 0) (omega arith))
-
--- the cell after it isn't
-pub blank_after_run : (x : List Bool) (clue : List ℕ) (k : ℕ) → Run x clue k
-    → get_or x (get_or (starts_from 0 false x) k 0 + get_or clue k 0) false ≡ false
-blank_after_run x clue k r =
-    let at = get_or-onto false r.front (replicate (get_or clue k 0) true ++ r.back) (get_or clue k 0) in
-    rw (r.whole, r.start) at (at ∙ past (get_or clue k 0) r.back ∙ r.back_closed)
-  where
-    past : (n : ℕ) (w : List Bool) → get_or (replicate n true ++ w) n false ≡ get_or w 0 false
-    past zero w = refl
-    past (suc n) w = past n w
-
--- runs stand apart
-pub runs_apart : (x : List Bool) (clue : List ℕ) (k : ℕ) → runs x ≡ clue → suc k < length clue
-    → get_or (starts_from 0 false x) k 0 + get_or clue k 0 < get_or (starts_from 0 false x) (suc k) 0
-runs_apart x clue k is h =
-    let count : length (starts_from 0 false x) ≡ length clue = length-run_starts x ∙ ap length is in
-    let s = get_or (starts_from 0 false x) k 0 in
-    let r = run_of x clue k is (omega arith) in
-    let (t, value, filled, first) = start_is x 0 (suc k) false (omega arith) in
-    let more : s < t = omega (arith, starts_increase x 0 k (suc k) false (omega arith) (omega arith)) in
-    elim (cases_lt (s + get_or clue k 0) t) [
-      | inl far ↦ omega arith
-      | inr near ↦ absurd (close s t (get_or clue k 0) more near filled first (filled_in_run x clue k r) (blank_after_run x clue k r))
-    ]
-  where
-    close : (s t c : ℕ) → s < t → t ≤ s + c → get_or x t false ≡ true → before false x t ≡ false
-        → ((z : ℕ) → z < c → get_or x (s + z) false ≡ true) → get_or x (s + c) false ≡ false → ⊥
-    close s zero c more near filled first run after = absurd (omega arith)
-    close s (suc t) c more near filled first run after =
-        let e : s + (t - s) ≡ t = omega arith in grind (arith, cases_lt (suc t) (s + c), run (t - s))
-
--- each filled cell is in a run
+-- a filled cell is in a run
 pub record Covered (x : List Bool) (clue : List ℕ) (i : ℕ) : Type 0 where
   pub index : ℕ
   pub inside : index < length clue
   pub from : get_or (starts_from 0 false x) index 0 ≤ i
   pub to : i < get_or (starts_from 0 false x) index 0 + get_or clue index 0
 
-abbrev Stretch : List Bool → ℕ → Type 0
-Stretch x i = (k : ℕ) × (k ≤ i) × ((z : ℕ) → k ≤ z → z ≤ i → get_or x z false ≡ true) × (before false x k ≡ false)
+module _ (x : List Bool) (clue : List ℕ) where
+  -- where run k starts
+  abbrev run_start : ℕ → ℕ
+  run_start k = get_or (starts_from 0 false x) k 0
 
-stretch_of : (x : List Bool) (i : ℕ) → get_or x i false ≡ true → Stretch x i
-stretch_of x zero h = (0, omega arith, (λ z a b. let e : z ≡ 0 = omega arith in rw e h), refl)
-stretch_of x (suc i) h = by (get_or x i false) refl (stretch_of x i)
-  where
-    by : (b : Bool) → get_or x i false ≡ b → (get_or x i false ≡ true → Stretch x i) → Stretch x (suc i)
-    by false e below = (suc i, omega arith, (λ z a b. let e : z ≡ suc i = omega arith in rw e h), e)
-    by true e below = search rules
+  -- the run that starts at a place
+  run_at : (s : ℕ) → runs x ≡ clue → get_or x s false ≡ true → before false x s ≡ false
+      → (j : ℕ) × (j < length clue) × (run_start j ≡ s) × Run x clue j
+  run_at s is filled first =
+      let within : s < length x = filled_within x s filled in
+      let a = behind false x s in
+      let v = begins (drop s x) in
+      let some : 0 < v.count = begins_some (drop s x) v (grind (arith, common_steps, drop-cons)) in
+      let closed : get_or a 0 false ≡ false = head s first in
+      let long : length a ≡ s = length_behind false x s in
+      let whole : onto a (replicate v.count true ++ v.rest) ≡ x = ap (onto a) (sym v.whole) ∙ onto_behind false x s (omega arith) in
+      let parts = onto_split (runs a) (v.count ∷ runs v.rest) clue
+      (sym (runs_about a v.count v.rest some closed v.closed) ∙ ap runs whole ∙ is) in
+      let cut = drop_head clue (length (runs a)) v.count (runs v.rest) parts.1 in grind (arith, common_steps, start_of_cut)
+    where
+      head : (s : ℕ) → before false x s ≡ false → get_or (behind false x s) 0 false ≡ false
+      head zero h = refl
+      head (suc s) h = h
 
--- each filled cell is in one
-pub covered : (x : List Bool) (clue : List ℕ) (i : ℕ) → runs x ≡ clue → get_or x i false ≡ true → Covered x clue i
-covered x clue i is h =
-    let t = stretch_of x i h in
-    let from : t.0 ≤ i = t.1 in
-    let r = run_at x clue t.0 is (t.2 t.0 (omega arith) from) t.3 in
-    let start : get_or (starts_from 0 false x) r.0 0 ≡ t.0 = r.2 in
-    record {
-      index = r.0;
-      inside = r.1;
-      from = omega arith;
-      to = grind (arith, true≢false, t.2 (get_or (starts_from 0 false x) r.0 0 + get_or clue r.0 0), blank_after_run x clue r.0 r.3);
-    }
+  -- each run of a line
+  pub run_of : (k : ℕ) → runs x ≡ clue → k < length clue → Run x clue k
+  run_of k is h =
+      let count : length (starts_from 0 false x) ≡ length clue = length-run_starts x ∙ ap length is in
+      let s = start_is x 0 k false (omega arith) in
+      let (j, jl, at, run) = run_at s.0 is s.2 s.3 in
+      let same : j ≡ k = same_index x j k (omega arith) (omega arith) (at ∙ sym (s.1 ∙ zero-add s.0)) in rw (sym same) run
+
+  -- the cells of a run are filled
+  pub filled_in_run : (k : ℕ) → Run x clue k → (z : ℕ) → z < get_or clue k 0 → get_or x (run_start k + z) false ≡ true
+  filled_in_run k r z h = search (rules, get_or-onto, get_or-run)
+
+  pub in_run : (k i : ℕ) → runs x ≡ clue → k < length clue → run_start k ≤ i → i < run_start k + get_or clue k 0 → get_or x i false ≡ true
+  in_run k i is h low high = grind (arith, filled_in_run k (run_of k is h) (i - run_start k))
+
+  -- the cell after it isn't
+  blank_after_run : (k : ℕ) → Run x clue k → get_or x (run_start k + get_or clue k 0) false ≡ false
+  blank_after_run k r = grind (arith, common_steps, get_or-onto)
+
+  -- runs stand apart
+  pub runs_apart : (k : ℕ) → runs x ≡ clue → suc k < length clue → run_start k + get_or clue k 0 < run_start (suc k)
+  runs_apart k is h =
+      let count : length (starts_from 0 false x) ≡ length clue = length-run_starts x ∙ ap length is in
+      let (t, value, filled, first) = start_is x 0 (suc k) false (omega arith) in
+      let more : run_start k < t = omega (arith, starts_increase x 0 k (suc k) false (omega arith) (omega arith)) in
+      elim (cases_lt (run_start k + get_or clue k 0) t) [ inl far ↦ omega arith | inr near ↦ absurd (close t more near first) ]
+    where
+      close : (t : ℕ) → run_start k < t → t ≤ run_start k + get_or clue k 0 → before false x t ≡ false → ⊥
+      close zero more near first = absurd (omega arith)
+      close (suc t) more near first = true≢false (sym (in_run k t is (omega arith) (omega arith) (omega arith)) ∙ first)
+
+  -- each filled cell is in one
+  pub covered : (i : ℕ) → runs x ≡ clue → get_or x i false ≡ true → Covered x clue i
+  covered i is h =
+      let (k, from, filled, first) = stretch_of x i h in
+      let r = run_at k is (filled k (omega arith) from) first in
+      let start : run_start r.0 ≡ k = r.2 in
+      let to : i < run_start r.0 + get_or clue r.0 0 =
+      grind (arith, true≢false, filled (run_start r.0 + get_or clue r.0 0), blank_after_run r.0 r.3) in
+      record { index = r.0; inside = r.1; from = omega arith; to = to }

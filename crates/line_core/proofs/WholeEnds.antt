@@ -1,5 +1,5 @@
 -- The ends of a run in whole placings, and the placings that have them.
-use Rattle.line_core.proofs.Names.{◌≡◌, ℕ, ◌+◌, ◌-◌, ◌<◌, Bool, true, false, List, ◌∷◌, ◌++◌, length, replicate, sym, ap, ◌∙◌, subst, arith, add-one, drop, get_or, drop-cons, Cell, Unknown, agrees, runs, behind, MayBeginBlank, IsStartAfter, IsWholeEnd, IsFillable, ArePositive}
+use Rattle.line_core.proofs.Names.{◌≡◌, ℕ, ◌+◌, ◌-◌, ◌<◌, Bool, true, false, List, ◌∷◌, ◌++◌, length, replicate, sym, ap, ◌∙◌, arith, add-one, drop, get_or, drop-cons, Cell, Unknown, agrees, runs, behind, IsWholeEnd, IsFillable, ArePositive, rules}
 use Rattle.line_core.proofs.Certain.{CanBe}
 use Rattle.line_core.proofs.Joining.{onto, length-agrees, length_behind, onto_behind, onto_agrees, agrees_onto, run_agrees, agrees_span, positive_at, runs_about}
 use Rattle.line_core.proofs.RunStarts.{starts_from, start_of_cut, length-onto, run_of, in_run, covered}
@@ -12,18 +12,11 @@ whole_of l clue x k e agree is h at =
     let r = run_of x clue k is h in
     let s = get_or (starts_from 0 false x) k 0 in
     let y = replicate c true ++ r.back in
-    let long : length r.front ≡ s = r.start in
     let size : length r.front + length y ≡ length l = sym (length-onto r.front y) ∙ ap length r.whole ∙ length-agrees l x agree in
-    let cut = onto_agrees (behind Unknown l s) (drop s l) r.front y (length_behind Unknown l s ∙ sym long)
-    (rw (onto_behind Unknown l s (omega arith), r.whole) agree) in
+    let cut = onto_agrees (behind Unknown l s) (drop s l) r.front y (length_behind Unknown l s ∙ sym r.start)
+    (rw (onto_behind Unknown l s (omega (arith, r.start)), r.whole) agree) in
     let run = run_agrees l c s r.back cut.1 in
-    let before : MayBeginBlank (behind Unknown l s) (behind 0 clue k) = (r.front, cut.0, r.front_runs, r.front_closed) in
-    let rest_is : runs r.back ≡ drop (k + 1) clue = r.back_runs ∙ ap (λ (n : ℕ). drop n clue) (sym (add-one k)) in
-    let after : MayBeginBlank (drop (s + c) l) (drop (k + 1) clue) = (r.back, run.1, rest_is, r.back_closed) in
-    let start : s ≡ e + 1 - c = omega arith in (
-      (omega arith, subst (IsStartAfter l (behind 0 clue k) c) start (before, run.0)),
-      subst (λ (n : ℕ). MayBeginBlank (drop n l) (drop (k + 1) clue)) (sym at) after,
-    )
+    search (rules, add-one)
 
 -- and each such end is one in a placing
 pub placing_with : (l : List Cell) (clue : List ℕ) (k e : ℕ) → ArePositive clue → k < length clue → IsWholeEnd l clue k e
@@ -35,25 +28,19 @@ placing_with l clue k e pos h ((enough, ((a, agree_a, runs_a, closed_a), cells))
     let first = (cells 0 some).0 in
     let here = agrees_span l true c s (e + 1) b (omega arith) cells agree_b in
     let long : length a ≡ s = length-agrees (behind Unknown l s) a agree_a ∙ length_behind Unknown l s in
-    let y = replicate c true ++ b in
-    let clue_at : c ∷ drop (k + 1) clue ≡ drop k clue = rw add-one (sym (drop-cons clue k 0 h)) in
-    let index : length (runs a) ≡ k = ap length runs_a ∙ length_behind 0 clue k in (
-      onto a y,
-      rw (onto_behind Unknown l s (omega arith)) at (agrees_onto (behind Unknown l s) (drop s l) a y agree_a here),
-      runs_about a c b some closed_a closed_b ∙ rw (runs_a, runs_b, clue_at) (onto_behind 0 clue k (omega arith)),
-      ap (λ (n : ℕ). get_or (starts_from 0 false (onto a y)) n 0) (sym index) ∙ start_of_cut a c b some closed_a ∙ long,
-    )
+    let clue_at : c ∷ drop (k + 1) clue ≡ drop k clue = search (rules, add-one, drop-cons) in
+    let index : length (runs a) ≡ k = search (rules, length_behind) in
+    let whole = agrees_onto (behind Unknown l s) (drop s l) a (replicate c true ++ b) agree_a here in
+    (onto a (replicate c true ++ b), search (rules, onto_behind), search (rules, runs_about, onto_behind), search (rules, start_of_cut))
 
 -- a cell that the masks tell filled is filled in a placing
 pub fillable_to : (l : List Cell) (clue : List ℕ) (i : ℕ) → ArePositive clue → IsFillable l clue i → CanBe l clue true i
 fillable_to l clue i pos (j, jl, (z, zb, w)) =
-    let x = placing_with l clue j (i + z) pos jl w in
-    (x.0, x.1, x.2, in_run x.0 clue j i x.2 jl (omega (arith, x.3, w.0.0)) (omega (arith, x.3, w.0.0)))
+    let x = placing_with l clue j (i + z) pos jl w in (x.0, x.1, x.2, grind (arith, in_run x.0 clue j i x.2 jl, w.0.0))
 
 -- and a cell that is filled in a placing is told so
 pub fillable_from : (l : List Cell) (clue : List ℕ) (i : ℕ) → CanBe l clue true i → IsFillable l clue i
 fillable_from l clue i (x, agree, is, at) =
     let c = covered x clue i is at in
     let z = get_or (starts_from 0 false x) c.index 0 + get_or clue c.index 0 - 1 - i in
-    let end = whole_of l clue x c.index (i + z) agree is c.inside (omega (arith, c.from, c.to)) in
-    (c.index, c.inside, (z, omega (arith, c.from, c.to), end))
+    (c.index, c.inside, (z, omega (arith, c.from, c.to), whole_of l clue x c.index (i + z) agree is c.inside (omega (arith, c.from, c.to))))

@@ -2,7 +2,7 @@
 
 ghost use Rattle.std.specs.Prelude.{◌≡◌, ◌+◌, ◌-◌, ◌*◌, ◌<◌, ◌≤◌, ◌⊎◌, ℕ, List, [], ◌∷◌, length, map, slice_index_or};
 ghost use Rattle.grid_core.specs.declared.cells.Cell.{Cell};
-ghost use Rattle.place_sets.specs.Masks.{Has, IsMaskOf};
+ghost use Rattle.place_sets.specs.Masks.{Has, IsMaskOf, IsShifted};
 ghost use Rattle.line_core.specs.steps.Passes.{IsSpanOf};
 ghost use Rattle.line_core.specs.steps.Reach.{AreLengths, IsGapAfter, IsWholeEnd};
 ghost use Rattle.line_core.specs.Pairs.{no_colours};
@@ -74,8 +74,30 @@ fn colours_in_gap<W: PlaceSet>(place: u16, longer: W, row: &[Colours<W>]) -> Col
     }
 }
 
-/// The colours before a gap, as far as a run gives them that ends right before it: its own cells are filled,
-/// and the others can be what they can before the gap before it.
+/// The colours with a run that starts at a place: its own cells are filled, and the others can be what they can
+/// before the gap before it.
+fn run_and_before<W: PlaceSet>(start: u16, run: W, before: &[Colours<W>]) -> Colours<W>
+    requires start { start < W.WIDTH }
+    requires before { start ≤ length before.now }
+    ensures fillable { IsMaskOf (λ k. IsShifted W.WIDTH (Has (W.number run)) start k
+        ⊎ ((0 < start) × Has (slice_index_or before.now (start - 1) no_colours).fillable k)) result.fillable }
+    ensures blankable { IsMaskOf (λ k. (0 < start) × Has (slice_index_or before.now (start - 1) no_colours).blankable k) result.blankable }
+{
+    let own = run.shifted_up(start);
+    if start == 0 {
+        return Colours {
+            fillable: own,
+            blankable: W::empty(),
+        };
+    }
+    let colours = &before[usize::from(start - 1)];
+    Colours {
+        fillable: own.union(colours.fillable),
+        blankable: colours.blankable,
+    }
+}
+
+/// The colours before a gap, as far as a run gives them that ends right before it.
 fn colours_to_run<W: PlaceSet>(
     place: u16,
     number: u16,
@@ -92,24 +114,10 @@ fn colours_to_run<W: PlaceSet>(
     ensures blankable { IsMaskOf (λ k. Has (W.number ended) place
         × (number < place) × Has (slice_index_or before.now (place - number - 1) no_colours).blankable k) result.blankable }
 {
-    if !ended.contains(place) {
-        return Colours {
-            fillable: W::empty(),
-            blankable: W::empty(),
-        };
-    }
-    let start = place - number;
-    let own = run.shifted_up(start);
-    if start == 0 {
-        return Colours {
-            fillable: own,
-            blankable: W::empty(),
-        };
-    }
-    let colours = &before[usize::from(start - 1)];
-    Colours {
-        fillable: colours.fillable.union(own),
-        blankable: colours.blankable,
+    if ended.contains(place) {
+        run_and_before(place - number, run, before)
+    } else {
+        Colours::none()
     }
 }
 

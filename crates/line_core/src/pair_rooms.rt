@@ -1,6 +1,6 @@
 //! All pairs of a line, in room that is made once.
 
-ghost use Rattle.std.specs.Prelude.{◌≡◌, ◌+◌, ◌*◌, ◌<◌, ◌≤◌, List, Some, length, map, reverse, vec_capacity, vec_len};
+ghost use Rattle.std.specs.Prelude.{◌≡◌, ◌+◌, ◌*◌, ◌<◌, ◌≤◌, List, Some, length, map, reverse, vec_capacity, vec_len, IfOk};
 ghost use Rattle.grid_core.specs.declared.cells.Cell.{Cell};
 ghost use Rattle.line_core.specs.Pairs.{IsTableOf};
 ghost use Rattle.grid_core.specs.declared.limits.TheConstants.{MOST_RUNS};
@@ -143,6 +143,7 @@ impl<W: PlaceSet> PairRoom<W> {
     /// Makes the room, for clues of at most `most_runs` runs, 0 to 128.
     pub fn new(alloc: Global, most_runs: usize) -> Result<PairRoom<W>, NoMemory>
         requires { most_runs ≤ MOST_RUNS }
+        ensures { IfOk result (λ room. room.most_runs ≡ most_runs) }
     {
         let entries = ROW * (most_runs + 1);
         Ok(PairRoom {

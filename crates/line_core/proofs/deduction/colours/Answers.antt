@@ -1,5 +1,5 @@
 -- `colours`: of the padded line the cells of the line alone count.
-use Rattle.line_core.proofs.Names.{rules, ◌-◌, length, recursion_from_All}
+use Rattle.line_core.proofs.Names.{rules, recursion_from_All}
 use Rattle.line_core.proofs.Padding.{blankable_alone, fillable_alone}
 use Rattle.line_core.proofs.deduction.colours.Goals as goal
 
@@ -8,5 +8,4 @@ returns-clause-filled g c = search (rules, recursion_from_All, fillable_alone)
 
 pub returns-clause-blank : goal.returns-clause-blank
 returns-clause-blank g c =
-    blankable_alone g.line c.args.clue.now (g.W.PlaceSet.WIDTH - length g.line) _ _ _ c.known_colours-fillable.ensures.blank
-    (rw c.requires.1.1.1.0.len_is at c.first_places.ensures) c.intersection.ensures
+    let first = rw c.requires.1.1.1.0.len_is at c.first_places.ensures in search (rules, blankable_alone, first)

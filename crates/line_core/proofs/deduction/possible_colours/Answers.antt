@@ -1,5 +1,5 @@
 -- `possible_colours`: run by run the pass goes on, and each run and the gap after it join the masks.
-use Rattle.line_core.proofs.Names.{IsBlankable, add-one, ◌-◌, ◌∙◌, ◌≡◌, ◌+◌, ◌<◌, length, arith, sym, subst, eqb-true, eqb-false, IsMaskOf, behind, IsGap, IsGapAhead, mask_same, levels_none, none_at}
+use Rattle.line_core.proofs.Names.{IsBlankable, add-one, ◌-◌, ◌∙◌, ◌≡◌, ◌+◌, ◌<◌, length, arith, sym, eqb-true, eqb-false, IsMaskOf, behind, IsGap, mask_same, levels_none, none_at}
 use Rattle.line_core.proofs.Composing.{blank_first, blank_more, fill_more}
 use Rattle.line_core.proofs.deduction.possible_colours.Goals as goal
 
@@ -37,42 +37,37 @@ pub whole_ends-last_whole-requires : goal.whole_ends-last_whole-requires
 whole_ends-last_whole-requires g c = λ κs within.
     let clue = c.args.clue.now in
     let last = length clue - 1 in
-    let some = eqb-false (length clue) 0 (sym c.is_empty.ensures ∙ c.if-is_empty.false) in
-    let all : length clue ≡ last + 1 = omega arith in
-    let e : c.loop-j.j ≡ last = (let test = c.loop-j-test.false in omega arith) in
+    let all : length clue ≡ last + 1 = grind (arith, eqb-false) in
+    let e : c.loop-j.j ≡ last = omega (arith, c.loop-j-test.false) in
     let ends = c.step-last_ends.ensures.ends g.line (behind 0 clue last) (rw e at c.loop-j.invariant.pass) in
-    let after = subst (λ n. IsMaskOf (IsGapAhead g.line clue n) (g.W.PlaceSet.number c.gap_ahead-after.result)) all c.gap_ahead-after.ensures in
+    let after = rw all at c.gap_ahead-after.ensures in
     (within.0, (within.1, (c.requires.1.1.1.0, (c.requires.1.1.1.1.0, (omega arith, (ends, after))))))
 
 pub returns-then-is_empty-clause-blank : goal.returns-then-is_empty-clause-blank
 returns-then-is_empty-clause-blank g c =
-    let clue = c.args.clue.now in
-    let none : length clue ≡ 0 = eqb-true (length clue) 0 (sym c.is_empty.ensures ∙ c.if-is_empty.true) in
+    let none : length c.args.clue.now ≡ 0 = eqb-true _ 0 (sym c.is_empty.ensures ∙ c.if-is_empty.true) in
     let pass = c.new-pass.ensures g.line _ c.requires.1.1.1.0 c.windows_within-windows.ensures in
-    let gap : IsMaskOf (IsGap g.line clue 0) (g.W.PlaceSet.number c.gap.result) = rw c.gap.ensures pass.gap_is in
-    rw (none, IsBlankable) (blank_first g.line clue _ _ _ gap c.gap_ahead.ensures c.intersection-blankable.ensures)
+    rw (none, IsBlankable) (blank_first g.line c.args.clue.now _ _ _ (rw c.gap.ensures pass.gap_is) c.gap_ahead.ensures
+    c.intersection-blankable.ensures)
 
 pub returns-clause-filled : goal.returns-clause-filled
 returns-clause-filled g c =
     let clue = c.args.clue.now in
     let last = length clue - 1 in
-    let some = eqb-false (length clue) 0 (sym c.is_empty.ensures ∙ c.if-is_empty.false) in
-    let all : length clue ≡ last + 1 = omega arith in
-    let e : c.loop-j.j ≡ last = (let test = c.loop-j-test.false in omega arith) in
+    let all : length clue ≡ last + 1 = grind (arith, eqb-false) in
+    let e : c.loop-j.j ≡ last = omega (arith, c.loop-j-test.false) in
     let filled = fill_more g.line clue g.W.PlaceSet.TOP last _ _ _ c.whole_ends-last_whole.ensures c.add_spread-2.ensures
     (rw e at c.loop-j.invariant.filled) in
-    mask_same _ _ _ c.spread_levels.ensures (λ i x. let h = filled.to i x in let b : h.0 < last + 1 = h.1 in (h.0, omega arith, h.2))
-    (λ i h. let b : h.0 < length clue = h.1 in filled.from i (h.0, omega arith, h.2))
+    mask_same _ _ _ c.spread_levels.ensures (λ i x. let h = filled.to i x in (h.0, omega (arith, h.1), h.2))
+    (λ i h. filled.from i (h.0, omega (arith, h.1), h.2))
 
 pub returns-clause-blank : goal.returns-clause-blank
 returns-clause-blank g c =
     let clue = c.args.clue.now in
     let last = length clue - 1 in
-    let some = eqb-false (length clue) 0 (sym c.is_empty.ensures ∙ c.if-is_empty.false) in
-    let all : length clue ≡ last + 1 = omega arith in
-    let e : c.loop-j.j ≡ last = (let test = c.loop-j-test.false in omega arith) in
+    let all : length clue ≡ last + 1 = grind (arith, eqb-false) in
+    let e : c.loop-j.j ≡ last = omega (arith, c.loop-j-test.false) in
     let passed = c.step-last_ends.ensures.passed g.line (behind 0 clue last) (rw e at c.loop-j.invariant.pass) in
     let gap : IsMaskOf (IsGap g.line clue (last + 1)) (g.W.PlaceSet.number c.gap-2.result) = rw (c.gap-2.ensures, add-one last) passed.gap_is in
-    let after = subst (λ n. IsMaskOf (IsGapAhead g.line clue n) (g.W.PlaceSet.number c.gap_ahead-after.result)) all c.gap_ahead-after.ensures in
-    rw (all, IsBlankable) (blank_more g.line clue last _ _ _ _ _ gap after (rw e at c.loop-j.invariant.blank) c.intersection-2.ensures
-    c.union-blankable-2.ensures)
+    rw (all, IsBlankable) (blank_more g.line clue last _ _ _ _ _ gap (rw all at c.gap_ahead-after.ensures) (rw e at c.loop-j.invariant.blank)
+    c.intersection-2.ensures c.union-blankable-2.ensures)

@@ -14,7 +14,7 @@ pub returns-clause-filled : goal.returns-clause-filled
 returns-clause-filled g c =
     let one = c.requires.1.1.1.1 in
     let pos : ArePositive c.args.clue.now = recursion_from_All _ _ c.requires.1.1.1.0.positive in
-    lone_fillable g.line _ _ _ _ _ pos one (positive_at _ pos 0 (omega arith)) c.requires.1.1.0.short c.lone_starts-starts.ensures
+    lone_fillable g.line _ one _ c.lone_starts-starts.ensures _ _ _ pos (positive_at _ pos 0 (omega arith)) c.requires.1.1.0.short
     c.shifted_up.ensures c.spread-fillable.ensures
 
 pub returns-clause-blank : goal.returns-clause-blank
@@ -22,6 +22,6 @@ returns-clause-blank g c =
     let span = c.requires.1.1.0 in
     let first = c.first_place.ensures in
     let last = c.last_place.ensures in
-    lone_blankable g.line _ _ _ _ _ _ _ _ _ (recursion_from_All _ _ c.requires.1.1.1.0.positive) c.requires.1.1.1.1 span.len_is
-    span.short c.lone_starts-starts.ensures first.in_mask first.least last.in_mask last.greatest c.lone_overlap-certain.ensures
-    c.first_places.ensures c.difference.ensures
+    lone_blankable g.line _ c.requires.1.1.1.1 _ c.lone_starts-starts.ensures _ _ _ _ _ _ _
+    (recursion_from_All _ _ c.requires.1.1.1.0.positive) span.len_is span.short
+    first.in_mask first.least last.in_mask last.greatest c.lone_overlap-certain.ensures c.first_places.ensures c.difference.ensures

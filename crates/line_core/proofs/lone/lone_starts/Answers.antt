@@ -8,15 +8,15 @@ pub returns-then-is_empty : goal.returns-then-is_empty
 returns-then-is_empty g c =
     let is = c.requires.1.1.0 in
     starts_anywhere g.line _ _ _ _ _ _ _ is.len_is is.free_is is.room_is c.first_places.ensures c.difference-filled.ensures
-    (eqb-true _ 0 (sym c.is_empty.ensures ∙ c.if-is_empty.true)) c.starts_within-starts.ensures
+    c.starts_within-starts.ensures (eqb-true _ 0 (sym c.is_empty.ensures ∙ c.if-is_empty.true))
 
 pub returns : goal.returns
 returns g c =
     let is = c.requires.1.1.0 in
     let first = c.first_place-greatest in
     let last = c.last_place in
-    starts_about g.line _ _ _ _ _ _ _ _ _ _ _ _ _ _ _ is.len_is c.requires.1.1.1.0 is.free_is is.room_is c.first_places.ensures
-    c.difference-filled.ensures c.starts_within-starts.ensures
+    starts_about g.line _ _ _ _ _ _ _ is.len_is is.free_is is.room_is c.first_places.ensures c.difference-filled.ensures
+    c.starts_within-starts.ensures _ _ _ _ _ _ _ _ c.requires.1.1.1.0
     first.ensures.in_mask first.ensures.least last.ensures.in_mask last.ensures.greatest first.ensures.within
     c.first_places-2.ensures c.intersection.ensures c.full.ensures
     (rw c.saturating_sub-least.ensures at c.shifted_up.ensures) c.intersection-2.ensures

@@ -5,8 +5,8 @@ use Rattle.line_core.proofs.overlaps.is_unknown.Goals as goal
 
 pub returns : goal.returns
 returns g c =
-    let are = c.requires.1.1 in (
-      (λ t. unknown_to g.line _ _ _ _ are.len_is are.free_is are.room_is
-          c.symmetric_difference.ensures (eqb-true _ 0 (sym c.is_empty.ensures ∙ t))),
-      (λ e. c.is_empty.ensures ∙ eq-eqb _ 0 (unknown_from g.line _ _ _ _ are.free_is are.room_is c.symmetric_difference.ensures e)),
+    let are = c.requires.1.1 in
+    let known = c.symmetric_difference.ensures in (
+      (λ t. unknown_to g.line _ _ _ _ are.len_is are.free_is are.room_is known (eqb-true _ 0 (sym c.is_empty.ensures ∙ t))),
+      λ e. c.is_empty.ensures ∙ eq-eqb _ 0 (unknown_from g.line _ _ _ _ are.free_is are.room_is known e),
     )

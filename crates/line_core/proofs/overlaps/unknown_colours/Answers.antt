@@ -1,5 +1,5 @@
 -- `unknown_colours`: a cell that is no overlap can be blank; each can be filled if a run can move.
-use Rattle.line_core.proofs.Names.{rules, ◌≡◌, ◌+◌, ◌-◌, ◌<◌, ◌∙◌, ◌⊎◌, inl, inr, length, replicate, arith, sym, true≢false, eqb-true, eqb-false, eq-eqb, length-replicate, recursion_from_All, Unknown, IsMaskOf, needed, ArePositive}
+use Rattle.line_core.proofs.Names.{rules, ◌≡◌, ◌+◌, ◌-◌, ◌<◌, ◌⊎◌, length, replicate, arith, sym, true≢false, eqb-true, eqb-false, eq-eqb, length-replicate, recursion_from_All, Unknown, needed, ArePositive}
 use Rattle.line_core.proofs.Packing.{unknown_any, unfit_fillable, unfit_blankable, blankable_is, all_fillable, overlaps_fillable}
 use Rattle.line_core.proofs.overlaps.unknown_colours.Goals as goal
 use Rattle.line_core.proofs.overlaps.unknown_colours.Goals.{then-is_empty, else-is_empty, then-slack-eq0, else-slack-eq0}
@@ -21,27 +21,19 @@ returns-clause-filled g c =
     let fits : needed clue + slack ≡ length line + 1 = omega (arith, c.cells_needed-needed.ensures) in
     elim c.if-is_empty.branch [
       | then-is_empty w ↦
-          (let still : (slack ≡ 0) ⊎ (length clue ≡ 0) = elim c.if-slack-eq0.branch [
-            | then-slack-eq0 v ↦ inl (omega (arith, v.if-slack-eq0.true))
-            | else-slack-eq0 v ↦ inr (eqb-true (length clue) 0 (sym v.is_empty.ensures ∙ sym v.value-is ∙ w.if-is_empty.true))
-          ] in
-          rw w.fillable-is (overlaps_fillable line clue slack _ (unknown_any len) pos fits still c.overlaps-certain.ensures))
+          (let still : (slack ≡ 0) ⊎ (length clue ≡ 0) =
+          elim c.if-slack-eq0.branch [ then-slack-eq0 v ↦ search rules | else-slack-eq0 v ↦ search (rules, eqb-true) ] in
+          rw w.fillable-is (overlaps_fillable line clue slack (unknown_any len) pos fits _ still c.overlaps-certain.ensures))
       | else-is_empty w ↦
-          (let moves : (0 < slack) × (0 < length clue) = elim c.if-slack-eq0.branch [
-            | then-slack-eq0 v ↦ absurd (true≢false (sym (eq-eqb slack 0 v.if-slack-eq0.true) ∙ sym v.value-is ∙ w.if-is_empty.false))
-            | else-slack-eq0 v ↦
-                (let no = eqb-false (length clue) 0 (sym v.is_empty.ensures ∙ sym v.value-is ∙ w.if-is_empty.false) in
-                (omega (arith, v.if-slack-eq0.false), omega arith))
-          ] in
-          rw w.fillable-is (all_fillable line clue slack _ (unknown_any len) pos fits moves.0 moves.1 (rw (sym long) at c.first_places-line.ensures)))
+          (let moves : (0 < slack) × (0 < length clue) =
+          elim c.if-slack-eq0.branch [ then-slack-eq0 v ↦ search (rules, true≢false, eq-eqb) | else-slack-eq0 v ↦ search (rules, eqb-false) ] in
+          rw w.fillable-is (all_fillable line clue slack (unknown_any len) pos fits _ moves.0 moves.1 (rw (sym long) at c.first_places-line.ensures)))
     ]
 
 pub returns-clause-blank : goal.returns-clause-blank
 returns-clause-blank g c =
-    let len = c.args.len in
-    let line = replicate len Unknown in
-    let long = length-replicate len Unknown in
-    let cells : IsMaskOf (λ i. i < length line) (g.W.PlaceSet.number c.first_places-line.result) = rw long c.first_places-line.ensures in
-    blankable_is line c.args.clue.now (len + 1 - c.cells_needed-needed.result) _ _ _ (unknown_any len)
-    (recursion_from_All _ _ c.requires.clue.positive) (omega (arith, c.cells_needed-needed.ensures)) c.overlaps-certain.ensures
+    let long = length-replicate c.args.len Unknown in
+    let cells = rw (sym long) at c.first_places-line.ensures in
+    blankable_is (replicate c.args.len Unknown) c.args.clue.now (c.args.len + 1 - c.cells_needed-needed.result) (unknown_any c.args.len)
+    (recursion_from_All _ _ c.requires.clue.positive) (omega (arith, c.cells_needed-needed.ensures)) _ _ _ c.overlaps-certain.ensures
     cells c.difference.ensures

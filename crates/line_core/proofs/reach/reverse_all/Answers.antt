@@ -8,13 +8,12 @@ loop-i-preserved g c =
     let old = map number c.args.masks.now in
     let masks = c.loop-i.masks in
     let i = c.loop-i.i in
-    let len = c.args.len in
     let before = c.loop-i.invariant in
     let there : i < length masks = omega (arith, before.size, c.loop-i-test.true) in
     let e = ap number c.index-masks-i.is ∙ number_at number masks i _ there ∙ before.left i (omega arith) in
     record {
       size = length-set masks i _ ∙ before.size;
-      reversed = λ k h. rw map-set (written_more (λ k m. IsMaskOf (λ z. (z < len) × Has (get_or old k 0) (len - 1 - z)) m)
+      reversed = λ k h. rw map-set (written_more (λ k m. IsMaskOf (λ z. (z < c.args.len) × Has (get_or old k 0) (c.args.len - 1 - z)) m)
           (map number masks) i _ (omega (arith, length-map masks number)) (rw e at c.reversed_kept.ensures) before.reversed k h);
       left = λ k h. rw map-set (get_or-set_other (map number masks) i k _ 0 (omega arith) ∙ before.left k (omega arith));
     }

@@ -12,7 +12,7 @@ returns-else-is_empty-clause-found g c =
     let pos : ArePositive clue = recursion_from_All _ clue c.requires.1.1.1.1.0.positive in
     let few = c.requires.1.1.1.1.1.0 in
     let some : 0 < length clue = (let ne = eqb-false (length clue) 0 (sym c.is_empty.ensures ∙ c.if-is_empty.false) in omega arith) in
-    let Each = (j : ℕ) → j < length clue → IsOuterStart c.args.side g.cells clue j (get_or c.write_starts.new.list.starts j 0) in
     answered c.args.side g.cells clue _ _ pos (omega (arith, c.write_starts.ensures.len))
-    (match_more _ Each (HasPlacing g.cells clue → ⊥) (HasPlacing g.cells clue × Each) (HasPlacing g.cells clue → ⊥)
-    (λ each. let o = each 0 some in (some_placing g.cells clue 0 o.end pos some o.whole, each)) (λ n. n) c.write_starts.ensures.starts)
+    (match_more _ ((j : ℕ) → j < length clue → IsOuterStart c.args.side g.cells clue j (get_or c.write_starts.new.list.starts j 0))
+    (HasPlacing g.cells clue → ⊥) _ _ (λ each. let o = each 0 some in (some_placing g.cells clue 0 o.end pos some o.whole, each))
+    (λ n. n) c.write_starts.ensures.starts)

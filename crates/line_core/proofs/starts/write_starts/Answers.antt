@@ -11,17 +11,15 @@ whole_ends-whole-requires g c = λ κs within.
 pub loop-j-preserved : goal.loop-j-preserved
 loop-j-preserved g c =
     let j = c.loop-j.j in
-    let invariant = c.loop-j.invariant in
     let place = c.outermost_place in
     let count = c.requires.1.1.1.1.1.0.1 in record {
-      pass = rw (add-one j) (c.step-ends.ensures.passed g.line (behind 0 c.args.clue.now j) invariant.pass);
+      pass = rw (add-one j) (c.step-ends.ensures.passed g.line (behind 0 c.args.clue.now j) c.loop-j.invariant.pass);
       starts = outer_more c.args.side g.line _ _ j _ place.result _ (omega arith)
-          c.whole_ends-whole.ensures place.ensures.in_mask place.ensures.outermost refl invariant.starts;
-      len = length-set c.loop-j.list.starts j _ ∙ invariant.len;
+          c.whole_ends-whole.ensures place.ensures.in_mask place.ensures.outermost refl c.loop-j.invariant.starts;
+      len = length-set c.loop-j.list.starts j _ ∙ c.loop-j.invariant.len;
     }
 
 pub returns-then-is_empty-clause-starts : goal.returns-then-is_empty-clause-starts
 returns-then-is_empty-clause-starts g c = λ p.
-    let pos = recursion_from_All _ _ c.requires.1.1.1.1.0.positive in
-    let e = some_end g.line c.args.clue.now c.loop-j.j pos p c.loop-j-test.true in
+    let e = some_end g.line c.args.clue.now c.loop-j.j (recursion_from_All _ _ c.requires.1.1.1.1.0.positive) p c.loop-j-test.true in
     absurd (none_has _ e.0 (eqb-true _ 0 (sym c.is_empty.ensures ∙ c.if-is_empty.true)) (c.whole_ends-whole.ensures.from e.0 e.1))

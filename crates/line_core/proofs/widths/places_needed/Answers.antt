@@ -5,15 +5,12 @@ use Rattle.line_core.proofs.widths.places_needed.Goals as goal
 pub loop-number-preserved : goal.loop-number-preserved
 loop-number-preserved c =
     let i = c.loop-number.number-index in
-    let clue = c.args.clue.now in
-    let old = c.loop-number.needed in
-    let new = c.max-needed.result in
     let most = c.max-needed.ensures in
-    let grown : old ≤ new = omega (arith, most) in
     record {
-      line = omega (arith, c.loop-number.invariant.line);
+      line = omega (arith, most, c.loop-number.invariant.line);
       least = λ m a b. omega (arith, most, c.loop-number.invariant.least m a b, b i 0 (omega arith));
-      passed = All-more (λ n. n ≤ new) clue i 0 (omega arith) (λ k d h. omega (arith, c.loop-number.invariant.passed k d h)) (omega (arith, most));
+      passed = All-more (λ n. n ≤ c.max-needed.result) c.args.clue.now i 0 (omega arith)
+          (λ k d h. omega (arith, most, c.loop-number.invariant.passed k d h)) (omega (arith, most));
     }
 
 pub returns-clause-clue : goal.returns-clause-clue

@@ -1,5 +1,5 @@
 -- `Pass::step`: the ends of the run, from the gap before it, and the gap after it, from its ends.
-use Rattle.line_core.proofs.Names.{ℕ, ap, arith, bit_at-zero, bit_at}
+use Rattle.line_core.proofs.Names.{arith, bit_at-zero}
 use Rattle.line_core.proofs.Composing.{ends_are, gap_next_is}
 use Rattle.line_core.proofs.passes.Pass.step.Goals as goal
 
@@ -10,15 +10,5 @@ returns-clause-ends g c = λ line runs h. ends_are line runs _ c.args.number _ h
 pub returns-clause-passed : goal.returns-clause-passed
 returns-clause-passed g c = λ line runs h.
     let ends = returns-clause-ends g c line runs h in
-    record {
-      room = h.room;
-      short = h.short;
-      free_is = h.free_is;
-      room_is = h.room_is;
-      windows_are = h.windows_are;
-      opening_is = record {
-        to = λ i x. absurd (omega (arith, x, bit_at-zero i, ap (λ (m : ℕ). bit_at m i) c.empty-self.ensures));
-        from = λ i x. absurd (omega (arith, x.1));
-      };
-      gap_is = gap_next_is line runs _ c.args.number _ _ _ h.short c.requires.0 h.free_is ends c.gap_after-self.ensures;
-    }
+    let gap = gap_next_is line runs _ c.args.number _ _ _ h.short c.requires.0 h.free_is ends c.gap_after-self.ensures in
+    grind (arith, bit_at-zero, gap)
