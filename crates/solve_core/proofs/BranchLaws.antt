@@ -1,5 +1,5 @@
 -- The branches of a search: what settled cells, a filled guess and a blank one make of them.
-use Rattle.solve_core.proofs.Names.{◌≡◌, ℕ, zero, suc, ◌+◌, ◌<◌, ◌≤◌, List, [], ◌∷◌, ◌++◌, length, set, take, drop, refl, sym, ap, ◌∙◌, arith, length-append, append-nil, append_assoc, Option, Some, None, AllByRecursion, drop-length, drop-append-le, length-take-le, take-append-drop, Cell, Unknown, Filled, Blank, GridLine, Branch, Guess, events, TrailedGrid, unknown_count, cleared, IsTrailed, cells_before, IsNext, IsBranch, AreInOrder, AreBefore, AreOlder, IsWork, pending, open_events, ready_events, rules}
+use Rattle.solve_core.proofs.Names.{◌≡◌, ℕ, zero, suc, ◌+◌, ◌<◌, ◌≤◌, List, [], ◌∷◌, ◌++◌, length, set, take, drop, refl, sym, ap, ◌∙◌, arith, length-append, append-nil, append_assoc, Option, Some, AllByRecursion, drop-length, drop-append-le, length-take-le, take-append-drop, Cell, Unknown, Filled, Blank, GridLine, Branch, Guess, events, TrailedGrid, unknown_count, cleared, IsTrailed, cells_before, IsNext, IsBranch, AreInOrder, AreBefore, IsWork, pending, open_events, ready_events, rules}
 use Rattle.solve_core.proofs.TrailSteps.{cleared-append, all_append}
 
 -- each place that is cleared leaves at most one more unknown
@@ -16,11 +16,6 @@ drop_take (suc m) zero xs h = absurd (omega arith)
 drop_take (suc m) (suc n) [] h = refl
 drop_take (suc m) (suc n) (x ∷ xs) h = drop_take m n xs (omega arith)
 
--- the cells before a mark stay the same if undoing what the trail gained gives the old cells
-pub before-longer : (cells now : List Cell) (trail added : List ℕ) (mark : ℕ) → cleared now added ≡ cells → mark ≤ length trail
-    → cells_before now (trail ++ added) mark ≡ cells_before cells trail mark
-before-longer cells now trail added mark e h = search (rules, drop-append-le, cleared-append)
-
 -- going back to a mark leaves what was before each earlier one
 pub before-back : (cells : List Cell) (trail : List ℕ) (earlier mark : ℕ) → earlier ≤ mark
     → cells_before (cells_before cells trail mark) (take mark trail) earlier ≡ cells_before cells trail earlier
@@ -31,17 +26,9 @@ before-back cells trail earlier mark h =
 before-now : (cells : List Cell) (trail : List ℕ) → cells_before cells trail (length trail) ≡ cells
 before-now cells trail = ap (cleared cells) (drop-length trail)
 
-before-more : (limit more : ℕ) (branches : List Branch) → limit ≤ more → AreBefore limit branches → AreBefore more branches
+pub before-more : (limit more : ℕ) (branches : List Branch) → limit ≤ more → AreBefore limit branches → AreBefore more branches
 before-more limit more [] l h = tt
 before-more limit more (b ∷ branches) l h = (omega (arith, h.0), before-more limit more branches l h.1)
-
--- what each branch was made in is the same after more was settled
-trailed-before : (old new : TrailedGrid) → IsTrailed old new → (mark : ℕ) → mark < length old.trail + 1 →
-    cells_before new.cells new.trail mark ≡ cells_before old.cells old.trail mark
-trailed-before old new t mark h = search (rules, before-longer)
-
-trailed-length : (old new : TrailedGrid) (t : IsTrailed old new) → length new.trail ≡ length old.trail + length t.added
-trailed-length old new t = ap length t.kept ∙ length-append old.trail t.added
 
 -- what holds of all items of a list holds of the last one, and of all before it
 pub all_split : {X : Type 0} (P : X → Type 0) (xs : List X) (x : X) → AllByRecursion P (xs ++ (x ∷ [])) → P x × AllByRecursion P xs
@@ -60,8 +47,7 @@ order-last (b ∷ branches) last h =
 order-more : (branches : List Branch) (last : Branch) → AreInOrder branches → AreBefore last.mark branches →
     AreInOrder (branches ++ (last ∷ []))
 order-more [] last h k = (tt, tt)
-order-more (b ∷ branches) last h k =
-    (all_append (λ (later : Branch). b.mark < later.mark) branches (last ∷ []) h.0 (k.0, tt), order-more branches last h.1 k.1)
+order-more (b ∷ branches) last h k = search (rules, all_append, (order-more branches last h.1 k.1))
 
 -- branches in order are no more than the places before which they were made
 order-count : (limit first : ℕ) (branches : List Branch) → AreInOrder branches → AreBefore limit branches →
@@ -91,23 +77,13 @@ module _ (pick : List Cell → Option ℕ) (lines : List GridLine) where
   -- what is settled and put on the trail leaves the work in order
   pub trailed-work : (old new : TrailedGrid) (branches : List Branch) → IsTrailed old new →
       IsWork pick lines old.cells old.trail branches → IsWork pick lines new.cells new.trail branches
-  trailed-work old new branches t w = record {
-    before = before-more (length old.trail + 1) (length new.trail + 1) branches (omega (arith, trailed-length old new t)) w.before;
-    order = w.order;
-    made = branches-same old.cells new.cells old.trail new.trail (length old.trail + 1) (trailed-before old new t) branches w.before w.made;
-  }
+  trailed-work old new branches t w = search (rules, before-more, length-append, branches-same, drop-append-le, cleared-append)
 
   -- what is settled and put on the trail changes nothing of what happens from the branches
   pub trailed-pending : (old new : TrailedGrid) (branches : List Branch) → IsTrailed old new →
       IsWork pick lines old.cells old.trail branches →
       pending pick lines new.cells new.trail branches ≡ pending pick lines old.cells old.trail branches
-  trailed-pending old new branches t w = search (rules, pending-same, trailed-before)
-
-  -- if fewer cells are unknown than before, something was settled since each branch was made
-  pub trailed-older : (old new : TrailedGrid) (branches : List Branch) (next : Option ℕ) → IsTrailed old new →
-      unknown_count new.cells < unknown_count old.cells → IsWork pick lines old.cells old.trail branches → AreOlder new.trail branches next
-  trailed-older old new branches None t l w = tt
-  trailed-older old new branches (Some k) t l w = search (rules, before-more, trailed-length)
+  trailed-pending old new branches t w = search (rules, pending-same, drop-append-le, cleared-append)
 
   pending-last : (cells : List Cell) (trail : List ℕ) (branches : List Branch) (b : Branch) →
       pending pick lines cells trail (branches ++ (b ∷ [])) ≡ Guess ∷
@@ -150,7 +126,3 @@ module _ (pick : List Cell → Option ℕ) (lines : List GridLine) where
     -- in the cells as they were when the last branch was made, its cell is the one to guess next
     pub back-ready : IsNext pick lines now b.place
     back-ready = rw f made.0
-
-  -- at the start there is no branch
-  pub start-work : (cells : List Cell) (trail : List ℕ) (branches : List Branch) → branches ≡ [] → IsWork pick lines cells trail branches
-  start-work cells trail branches h = rw h (record { before = tt; order = tt; made = tt })

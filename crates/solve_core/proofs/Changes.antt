@@ -1,5 +1,5 @@
 -- A line that is written cell by cell, at the places where it changes.
-use Rattle.solve_core.proofs.Names.{◌≡◌, ◌≢◌, ℕ, zero, suc, ◌<◌, ◌⊎◌, inl, inr, List, [], ◌∷◌, length, get_or, ap, arith, bit_at, bit_at-zero, cases_eq, Has}
+use Rattle.solve_core.proofs.Names.{◌≡◌, ◌≢◌, ℕ, suc, ◌<◌, ◌⊎◌, inl, inr, List, [], ◌∷◌, length, get_or, ap, arith, bit_at, bit_at-zero, cases_eq, Has}
 
 -- no place is in a mask that is 0
 pub none_in : (m : ℕ) → m ≡ 0 → (k : ℕ) → Has m k → ⊥
@@ -7,8 +7,7 @@ none_in m e k h = absurd (omega (arith, h, bit_at-zero k, ap (λ (n : ℕ). bit_
 
 none_of : (q p : ℕ) (ps : List ℕ) → q ≢ p → ((k : ℕ) → k < length ps → get_or ps k 0 ≢ p) →
     (k : ℕ) → k < length (q ∷ ps) → get_or (q ∷ ps) k 0 ≢ p
-none_of q p ps other none zero l = other
-none_of q p ps other none (suc k) l = none k (omega arith)
+none_of q p ps h l k m = grind arith
 
 -- a place is among some or not
 pub is_among : (places : List ℕ) (p : ℕ) →

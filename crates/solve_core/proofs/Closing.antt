@@ -15,8 +15,7 @@ and_then-above h a g (Some z) k = AtMost-trans (Some g) (Some z) (h z) k (a z)
 -- if a step from each grid below `z` stays below `z`, so does one from what is at most `z`
 pub and_then-below : (h : List Cell → Option (List Cell)) (z : List Cell) → ((g : List Cell) → Extends g z → AtMost (h g) (Some z)) →
     (o : Option (List Cell)) → AtMost o (Some z) → AtMost (option_and_then h o) (Some z)
-and_then-below h z b None k = absurd k
-and_then-below h z b (Some g) k = b g k
+and_then-below h z k o l = search rules
 
 -- a step that only adds, repeated, stays above the grid that it starts from
 pub repeat-above : (f : List Cell → Option (List Cell)) → ((g : List Cell) → AtMost (Some g) (f g)) → (n : ℕ) (g : List Cell) →
@@ -59,8 +58,7 @@ fewer_unknown _ _ h = absurd h
 closed_after : (f : List Cell → Option (List Cell)) (n : ℕ) (g c : List Cell) (o : Option (List Cell)) → f g ≡ o → AtMost (Some g) o →
     option_and_then (repeat f n) o ≡ Some c
     → ((g' : List Cell) → unknown_count g' < unknown_count g → repeat f n g' ≡ Some c → f c ≡ Some c) → f c ≡ Some c
-closed_after f n g c None is k e next = cc
-closed_after f n g c (Some g') is k e next = search (rules, fewer_unknown, repeat-fixed)
+closed_after f n g c o h k l m = search (rules, fewer_unknown, repeat-fixed)
 
 -- with more steps than unknown cells, the result is closed
 pub repeat-closed : (f : List Cell → Option (List Cell)) → ((g : List Cell) → AtMost (Some g) (f g)) → (n : ℕ) (g c : List Cell) →

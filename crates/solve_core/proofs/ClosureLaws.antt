@@ -1,5 +1,5 @@
 -- The closure is the least line-closed grid, and loses no solution.
-use Rattle.solve_core.proofs.Names.{◌≡◌, ℕ, zero, suc, ◌+◌, ◌<◌, Bool, false, List, [], ◌∷◌, length, get_or, set, map, Option, Some, None, refl, sym, ap, ◌∙◌, arith, length-set, option_map, AllByRecursion, get_or-map, set-get_or, Cell, Unknown, Blank, CellExtends, Extends, colour, runs, GridLine, cells_at, deduced, with_cells, deduce_line, round, repeat, closure, AtMost, AtMost-trans, Extends-refl, Extends-trans, Extends-antisym, IsLeastClosed, deduced-below, deduced-monotone, deduced-full, get_or-map_colour, rules}
+use Rattle.solve_core.proofs.Names.{◌≡◌, ℕ, zero, suc, ◌+◌, ◌<◌, Bool, false, List, [], ◌∷◌, length, get_or, set, map, Option, Some, None, refl, ap, ◌∙◌, arith, length-set, option_map, AllByRecursion, get_or-map, set-get_or, Cell, Unknown, Blank, CellExtends, Extends, colour, runs, GridLine, cells_at, deduced, with_cells, deduce_line, round, repeat, closure, AtMost, AtMost-trans, Extends-trans, Extends-antisym, IsLeastClosed, deduced-below, deduced-monotone, deduced-full, get_or-map_colour, rules}
 use Rattle.solve_core.proofs.Order.{HasLength, join_all-above, join_all-least, below_each}
 use Rattle.solve_core.proofs.Closing.{IsDeduction, repeat-above, repeat-below, repeat-least, repeat-closed, unknown_count-le}
 
@@ -37,9 +37,7 @@ with_cells-monotone g z _ _ _ h e = h
 
 written-monotone : (g z : List Cell) (places : List ℕ) (o p : Option (List Cell)) → Extends g z → AtMost o p →
     AtMost (option_map (with_cells g places) o) (option_map (with_cells z places) p)
-written-monotone g z places o None h e = tt
-written-monotone g z places None (Some ds) h e = absurd e
-written-monotone g z places (Some cs) (Some ds) h e = with_cells-monotone g z places cs ds h e
+written-monotone g z places o p h k = search (rules, with_cells-monotone)
 
 -- if a grid knows more, no less is deduced from a line
 pub deduce_line-monotone : (line : GridLine) (g z : List Cell) → Extends g z → AtMost (deduce_line g line) (deduce_line z line)
@@ -52,8 +50,7 @@ length-with_cells g (k ∷ places) [] = refl
 length-with_cells g (k ∷ places) (c ∷ cs) = length-with_cells (set g k c) places cs ∙ length-set g k c
 
 length-written : (g : List Cell) (places : List ℕ) (o : Option (List Cell)) → HasLength (length g) (option_map (with_cells g places) o)
-length-written g places None = tt
-length-written g places (Some cs) = length-with_cells g places cs
+length-written g places o = search (rules, length-with_cells)
 
 -- what each line deduces from a grid is as long as the grid, or dead
 lengths : (g : List Cell) (lines : List GridLine) → AllByRecursion (HasLength (length g)) (map (deduce_line g) lines)
@@ -103,8 +100,7 @@ pub IsLeastClosed-unique : (f : List Cell → Option (List Cell)) (g : List Cell
 IsLeastClosed-unique f g None None h k = refl
 IsLeastClosed-unique f g None (Some y) h k = absurd (h.least y (k.closed y refl) k.above)
 IsLeastClosed-unique f g (Some x) None h k = absurd (k.least x (h.closed x refl) h.above)
-IsLeastClosed-unique f g (Some x) (Some y) h k =
-    ap (λ (r : List Cell). Some r) (Extends-antisym x y (h.least y (k.closed y refl) k.above) (k.least x (h.closed x refl) h.above))
+IsLeastClosed-unique f g (Some x) (Some y) h k = search (rules, Extends-antisym)
 
 -- along each line the runs of a full grid are the clue
 abbrev pub MeetsLines : List GridLine → List Bool → Type 0
@@ -143,13 +139,6 @@ pub same_at_most : (z : List Cell) (o : Option (List Cell)) → AtMost (Some z) 
 same_at_most z None h k = absurd k
 same_at_most z (Some w) h k = ap (λ (r : List Cell). Some r) (Extends-antisym w z k h)
 
--- a solution is line-closed
-pub round-solution : (lines : List GridLine) (full : List Bool) → MeetsLines lines full →
-    round lines (map colour full) ≡ Some (map colour full)
-round-solution lines full m =
-    let z = map colour full in
-    same_at_most z (round lines z) (round-above lines z) (round-below lines full m z (Extends-refl z))
-
 -- the places of each line are in the grid
 abbrev pub AreInRange : ℕ → List GridLine → Type 0
 AreInRange n lines = AllByRecursion (λ line. AllByRecursion (λ k. k < n) line.places) lines
@@ -159,21 +148,10 @@ cells_at-colour : (full : List Bool) (places : List ℕ) → AllByRecursion (λ 
 cells_at-colour full [] h = refl
 cells_at-colour full (k ∷ places) h = λ i. get_or-map_colour full k h.0 i ∷ cells_at-colour full places h.1 i
 
-written_some : (f : List Cell → List Cell) (o : Option (List Cell)) (w : List Cell) → AtMost (option_map f o) (Some w) →
-    (d : List Cell) × (o ≡ Some d)
-written_some f None w h = absurd h
-written_some f (Some d) w h = (d, refl)
-
 meets_each : (lines : List GridLine) (full : List Bool) (w : List Cell) → AreInRange (length full) lines →
     AllByRecursion (λ o. AtMost o (Some w)) (map (deduce_line (map colour full)) lines) → MeetsLines lines full
 meets_each [] full w r h = tt
-meets_each (line ∷ lines) full w r h =
-    let z = map colour full in
-    let some = written_some (with_cells z line.places) (deduced (cells_at Unknown z line.places) line.clue) w h.0 in
-    let same = cells_at-colour full line.places r.0 in (
-      deduced-full (cells_at false full line.places) line.clue some.0 (ap (λ (l : List Cell). deduced l line.clue) (sym same) ∙ some.1),
-      meets_each lines full w r.1 h.1,
-    )
+meets_each (line ∷ lines) full w r h = search (rules, cells_at-colour, deduced-full, (meets_each lines full w r.1 h.1))
 
 -- a full grid that a round doesn't find dead is a solution
 pub full-meets : (lines : List GridLine) (full : List Bool) (w : List Cell) → AreInRange (length full) lines →

@@ -1,26 +1,17 @@
 -- In how many sets a place is, and what that says of a row's neighbours.
-use Rattle.solve_core.proofs.Names.{◌≡◌, ℕ, ◌+◌, ◌-◌, ◌<◌, ◌≤◌, ◌⊎◌, inl, inr, Bool, true, false, nat_eq, List, length, get_or, Option, Some, None, IfSome, IfNone, refl, sym, ◌∙◌, arith, true≢false, cases_eq, cases_lt, eqb-true, eq-eqb, or_cases, Cell, Unknown, is_known, Has, has, IsMaskOf, IsShifted, IsUnknownCell, AreCounts, IsKnownCell, IsMostInRow, row_score, two_of, is_sure, rules}
+use Rattle.solve_core.proofs.Names.{◌≡◌, ℕ, ◌+◌, ◌-◌, ◌<◌, ◌≤◌, ◌⊎◌, inl, inr, Bool, true, nat_eq, List, length, get_or, Option, IfSome, IfNone, arith, true≢false, cases_eq, cases_lt, eqb-true, eq-eqb, or_cases, Cell, Unknown, is_known, Has, has, IsMaskOf, IsShifted, IsUnknownCell, AreCounts, IsKnownCell, IsMostInRow, row_score, two_of, is_sure, rules}
 use Rattle.place_sets.proofs.HasLemmas.{true_has, has_true}
 use Rattle.grid_core.proofs.LineCells.{has_by}
 
-lacking : (m i : ℕ) → has m i ≡ false → Has m i → ⊥
-lacking m i e h = true≢false (sym (has_true m i h) ∙ e)
-
 -- a count is told by the two sets
 pub counts_by : (f : ℕ → ℕ) (e b : ℕ) → AreCounts f e b → (i : ℕ) → two_of (has e i) (has b i) ≡ f i
-counts_by f e b c i = search (rules, true_has, cases_lt, lacking)
-
-sure_by : (outside : Bool) (c : Cell) → (outside ≡ true) ⊎ (is_known c ≡ true) → is_sure outside c ≡ true
-sure_by true c h = refl
-sure_by false c (inl e) = absurd (true≢false (sym e))
-sure_by false c (inr e) = e
+counts_by f e b c i = search (rules, true_has, cases_lt, true≢false, has_true)
 
 -- the cells with a known cell to their left, and the first one
 pub left_is : (row : List Cell) (w known up first left : ℕ) → length row ≤ w → IsMaskOf (IsKnownCell row) known →
     IsMaskOf (IsShifted w (Has known) 1) up → IsMaskOf (λ i. i ≡ 0) first → IsMaskOf (λ i. Has up i ⊎ Has first i) left → (x : ℕ) →
     x < length row → has left x ≡ is_sure (nat_eq x 0) (get_or row (x - 1) Unknown)
-left_is row w known up first left fits k u f l x h =
-    grind (arith, has_by, nat_eq, sure_by, eq-eqb, or_cases, eqb-true, cases_eq)
+left_is row w known up first left fits k u f l x h = grind (arith, has_by, true≢false, eq-eqb, or_cases, eqb-true, cases_eq)
 
 -- the cells with a known cell to their right, and the last one
 pub right_is : (row : List Cell) (w known down first last right : ℕ) → length row ≤ w → 1 ≤ length row →
@@ -31,7 +22,7 @@ right_is row w known down first last right fits some k d f m r x h =
     has_by right x (is_sure (nat_eq (x + 1) (length row)) (get_or row (x + 1) Unknown)) to from
   where
     to : Has right x → is_sure (nat_eq (x + 1) (length row)) (get_or row (x + 1) Unknown) ≡ true
-    to y = search (rules, sure_by, nat_eq, eq-eqb)
+    to y = search (rules, true≢false, nat_eq, eq-eqb)
 
     from : is_sure (nat_eq (x + 1) (length row)) (get_or row (x + 1) Unknown) ≡ true → Has right x
     from e = elim (or_cases (nat_eq (x + 1) (length row)) (is_known (get_or row (x + 1) Unknown)) e) [
@@ -49,5 +40,4 @@ pub most_by : (row : List Cell) (above below : ℕ → Bool) (least cells : ℕ)
     IfSome result (λ found. Has cells found.1 × (found.0 ≡ f found.1 + g found.1) × (least ≤ found.0)) →
     IfSome result (λ found. (i : ℕ) → Has cells i → f i + g i ≤ found.0) →
     IfSome result (λ found. (i : ℕ) → Has cells i → i < found.1 → f i + g i < found.0) → IsMostInRow row above below least result
-most_by row above below least cells f g None m score none found most earliest = search (rules)
-most_by row above below least cells f g (Some (n, k)) m score none found most earliest = grind (arith)
+most_by row above below least cells f g result h k l m n o = grind arith

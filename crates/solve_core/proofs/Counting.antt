@@ -1,16 +1,14 @@
 -- How many cells are known.
-use Rattle.solve_core.proofs.Names.{take, ◌≤◌, ◌≡◌, ℕ, zero, suc, ◌+◌, ◌<◌, true, false, List, [], ◌∷◌, length, get_or, cond, nat_eq, refl, sym, ap, ◌∙◌, arith, true≢false, list_all, cases_Bool, eq-eqb, ne_eqb, count_by_more_yes, sum_by-cons, Cell, Unknown, is_known, is_unknown, GridLine, unknown_count, IsTried, count_by, AllPass-from_list_all, rules}
+use Rattle.solve_core.proofs.Names.{take, ◌≤◌, ◌≡◌, ℕ, zero, suc, ◌+◌, ◌<◌, true, false, List, [], ◌∷◌, length, get_or, cond, refl, sym, ap, ◌∙◌, arith, true≢false, list_all, count_by_more_yes, sum_by-cons, Cell, Unknown, is_known, is_unknown, GridLine, unknown_count, IsTried, count_by, AllPass-from_list_all, rules}
 
 -- each cell is known or unknown
 pub known-and-unknown : (cells : List Cell) → count_by is_known cells + unknown_count cells ≡ length cells
 known-and-unknown [] = refl
-known-and-unknown (Unknown ∷ cells) =
-    omega (arith, sum_by-cons (λ (c : Cell). cond (is_known c) 1 0) Unknown cells, known-and-unknown cells)
+known-and-unknown (Unknown ∷ cells) = search (rules, sum_by-cons, (known-and-unknown cells))
 known-and-unknown (c ∷ cells) = omega (arith, sum_by-cons (λ (c : Cell). cond (is_known c) 1 0) c cells, known-and-unknown cells)
 
 known-if : (c : Cell) → is_unknown c ≡ false → is_known c ≡ true
-known-if Unknown h = absurd (true≢false h)
-known-if _ h = refl
+known-if c h = search (rules, true≢false)
 
 -- each of the n cells before one is known
 pub count-run : (cells : List Cell) (n from to : ℕ) → from + n ≡ to → to ≤ length cells →
@@ -24,19 +22,15 @@ count-run cells (suc n) from to e l h =
     (known-if (get_or cells (from + n) Unknown) (h (from + n) (omega arith) (omega (arith, last)))) in
     ap (λ (m : ℕ). count_by is_known (take m cells)) last ∙ omega (arith, more, before)
 
-none-unknown : (cells : List Cell) → list_all is_known cells ≡ true → unknown_count cells ≡ 0
+pub none-unknown : (cells : List Cell) → list_all is_known cells ≡ true → unknown_count cells ≡ 0
 none-unknown [] h = refl
 none-unknown (Unknown ∷ cells) h = absurd (true≢false (sym h))
 none-unknown (_ ∷ cells) h = none-unknown cells h
 
-all-of-none : (cells : List Cell) → unknown_count cells ≡ 0 → list_all is_known cells ≡ true
+pub all-of-none : (cells : List Cell) → unknown_count cells ≡ 0 → list_all is_known cells ≡ true
 all-of-none [] h = refl
 all-of-none (Unknown ∷ cells) h = absurd (omega (arith, h))
 all-of-none (_ ∷ cells) h = all-of-none cells h
-
--- all cells are known exactly if as many are known as there are
-pub all-known : (cells : List Cell) → nat_eq (count_by is_known cells) (length cells) ≡ list_all is_known cells
-all-known cells = search (rules, cases_Bool, eq-eqb, count_by, known-and-unknown, none-unknown, ne_eqb, true≢false, all-of-none)
 
 -- if all cells are known, there is none to try
 pub full-tried : (lines : List GridLine) (cells : List Cell) → list_all is_known cells ≡ true → (k : ℕ) → k < length cells →

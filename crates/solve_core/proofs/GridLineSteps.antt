@@ -1,7 +1,7 @@
 -- A grid as its rows and its columns: its cells, and what changing one of them does.
-use Rattle.solve_core.proofs.Names.{◌≡◌, ℕ, ◌+◌, ◌-◌, ◌*◌, ◌/◌, ◌%◌, ◌<◌, ◌≤◌, inl, inr, false, Some, None, List, [], ◌∷◌, length, get_or, set, refl, sym, ap, ◌∙◌, arith, below_more, length-set, get_or-set_same, get_or-set_other, replicate, ext_get_or, get_or_default, get_or-replicate, length-replicate, div_below, Cell, Unknown, is_unknown, PartialGrid, IsSize, Side, Rows, Columns, places_from, cells_at, crossing, places_on, count_on, place_on, length-places_from, get_or-places_from, length-places_on, get_or-places_on, length-cells_at, get_or-cells_at, IsUnknownFrom, AreLinesOf, cells_of_rows, row_of, get_or-row_of, get_or-rows, length-row_of, length-rows, cases_eq, rules}
-use Rattle.solve_core.proofs.SideLines.{along, distinct_places, same_place, row_within}
-use Rattle.solve_core.proofs.LineSteps.{AreDistinct, cells_at-same, distinct_same, get_or-replicated}
+use Rattle.solve_core.proofs.Names.{◌≡◌, ℕ, ◌+◌, ◌-◌, ◌*◌, ◌/◌, ◌%◌, ◌<◌, ◌≤◌, false, Some, None, List, [], ◌∷◌, length, get_or, set, refl, sym, ap, ◌∙◌, arith, length-set, get_or-set_same, get_or-set_other, replicate, ext_get_or, get_or_default, get_or-replicate, length-replicate, div_below, Cell, Unknown, is_unknown, PartialGrid, IsSize, Side, Rows, Columns, places_from, cells_at, crossing, places_on, count_on, place_on, length-places_from, get_or-places_from, length-cells_at, get_or-cells_at, IsUnknownFrom, AreLinesOf, cells_of_rows, row_of, get_or-row_of, get_or-rows, length-row_of, length-rows, cases_eq, rules}
+use Rattle.solve_core.proofs.SideLines.{along, line-set, same_place, row_within}
+use Rattle.solve_core.proofs.LineSteps.{cells_at-same, get_or-replicated}
 
 length-along : (cells : List Cell) (first step n : ℕ) → length (cells_at Unknown cells (places_from first step n)) ≡ n
 length-along cells first step n = length-cells_at Unknown cells (places_from first step n) ∙ length-places_from first step n
@@ -10,27 +10,13 @@ get_or-along : (cells : List Cell) (first step n i k : ℕ) → i < n → first 
     get_or (cells_at Unknown cells (places_from first step n)) i Unknown ≡ get_or cells k Unknown
 get_or-along cells first step n i k h e = search (rules, get_or-cells_at, length-places_from, get_or-places_from)
 
--- a written cell is written in a line at the number of its place, if no place is there twice
-along-set : (cells : List Cell) (places : List ℕ) (k at : ℕ) (c : Cell) → AreDistinct places → k < length places →
-    at ≡ get_or places k 0 → at < length cells → cells_at Unknown (set cells at c) places ≡ set (cells_at Unknown cells places) k c
-along-set cells places k at c distinct lk e l =
-    let old = cells_at Unknown cells places in
-    let long = length-cells_at Unknown cells places in
-    let new_long = length-cells_at Unknown (set cells at c) places in
-    ext_get_or Unknown (cells_at Unknown (set cells at c) places) (set old k c) (new_long ∙ sym (length-set old k c ∙ long)) (λ j below.
-    let lj : j < length places = omega (arith, new_long) in
-    get_or-cells_at Unknown (set cells at c) places j lj ∙ elim (cases_eq j k) [
-      | inl same ↦ rw (same, ← e) (get_or-set_same cells at c Unknown l ∙ sym (get_or-set_same old k c Unknown (omega (arith, long))))
-      | inr other ↦ search (rules, get_or-set_other, distinct_same, get_or-cells_at)
-    ])
-
 -- the lines of a side after cell k of line i was written
 line-written : (side : Side) (w h i k j at : ℕ) (cells line : List Cell) (lines : List (List Cell)) (c : Cell) → 0 < w →
-    length lines ≡ count_on side w h → i < length lines → k < count_on (crossing side) w h → at ≡ place_on side w i k → at < length cells →
-    ((m : ℕ) → m < length lines → get_or lines m [] ≡ cells_at Unknown cells (places_on side w h m)) → line ≡ set (get_or lines i []) k c →
-    j < length lines → get_or (set lines i line) j [] ≡ cells_at Unknown (set cells at c) (places_on side w h j)
+    length lines ≡ count_on side w h → i < length lines → k < count_on (crossing side) w h → at ≡ place_on side w i k →
+    length cells ≡ w * h → ((m : ℕ) → m < length lines → get_or lines m [] ≡ cells_at Unknown cells (places_on side w h m)) →
+    line ≡ set (get_or lines i []) k c → j < length lines → get_or (set lines i line) j [] ≡ cells_at Unknown (set cells at c) (places_on side w h j)
 line-written side w h i k j at cells line lines c positive count li lk e l are is lj =
-    grind (arith, cases_eq, get_or-set_same, along-set, distinct_places, length-places_on, get_or-places_on, get_or-set_other, cells_at-same, along, same_place)
+    grind (arith, cases_eq, get_or-set_same, line-set, get_or-set_other, cells_at-same, along, same_place)
 
 -- the column and the row of a place
 pub place_in : (cells : List Cell) (rows columns : List (List Cell)) (k : ℕ) → AreLinesOf cells rows columns → k < length cells
@@ -43,27 +29,6 @@ pub cell_in : (cells : List Cell) (rows columns : List (List Cell)) (x y : ℕ) 
     y < length rows → y * length columns + x < length cells
 cell_in cells rows columns x y a lx ly = omega (arith, row_within (length columns) (length rows) y x ly lx, a.count)
 
--- the lines after a cell was written in its row and its column
-pub lines-written : (cells : List Cell) (rows columns : List (List Cell)) (row column : List Cell) (x y : ℕ) (c : Cell) →
-    AreLinesOf cells rows columns → x < length columns → y < length rows → row ≡ set (get_or rows y []) x c →
-    column ≡ set (get_or columns x []) y c → AreLinesOf (set cells (y * length columns + x) c) (set rows y row) (set columns x column)
-lines-written cells rows columns row column x y c a lx ly er ec =
-    let w = length columns in
-    let h = length rows in
-    let k : ℕ = y * w + x in
-    let positive : 0 < w = omega (arith, lx) in
-    let l : k < length cells = cell_in cells rows columns x y a lx ly in
-    let lw : length (set columns x column) ≡ w = length-set columns x column in
-    let lh : length (set rows y row) ≡ h = length-set rows y row in
-    record {
-      size = rw (lw, lh) a.size;
-      count = rw (lw, lh) (length-set cells k c ∙ a.count);
-      rows_are = λ j below. rw lw (line-written Rows w h y x j k cells row rows c positive refl ly lx refl l a.rows_are er
-          (omega (arith, below, lh)));
-      columns_are = λ j below. rw (lw, lh) (line-written Columns w h x y j k cells column columns c positive refl lx ly refl l
-          a.columns_are ec (omega (arith, below, lw)));
-    }
-
 -- the line that is read at an index, whatever stands for one outside
 pub line_read : (lines : List (List Cell)) (i : ℕ) (line : List Cell) → i < length lines → get_or lines i line ≡ get_or lines i []
 line_read lines i line h = get_or_default lines i line [] h
@@ -74,15 +39,6 @@ line_read lines i line h = get_or_default lines i line [] h
 pub record IsWrittenTo (old : List (List Cell)) (new : ℕ → List Cell) (n : ℕ) (lines : List (List Cell)) : Type 0 where
   pub written : (k : ℕ) → k < n → get_or lines k [] ≡ new k
   pub left : (k : ℕ) → n ≤ k → get_or lines k [] ≡ get_or old k []
-
-pub one-written : (old : List (List Cell)) (new : ℕ → List Cell) (n : ℕ) (lines : List (List Cell)) (line : List Cell) → n < length lines →
-    line ≡ new n → IsWrittenTo old new n lines → IsWrittenTo old new (n + 1) (set lines n line)
-one-written old new n lines line l e is = search (rules, below_more, get_or-set_other, get_or-set_same)
-
--- the columns have the cells of the rows above row y
-pub record HaveAcross (columns rows : List (List Cell)) (y : ℕ) : Type 0 where
-  pub cells : (x k : ℕ) → x < length columns → k < y → get_or (get_or columns x []) k Unknown ≡ get_or (get_or rows k []) x Unknown
-  pub lengths : (x : ℕ) → x < length columns → length (get_or columns x []) ≡ length rows
 
 -- ---- the cells of rows
 
@@ -130,11 +86,24 @@ pub cell-changed : (rows columns : List (List Cell)) (row new_row column new_col
     × (grid_of_lines (set rows y new_row) (set columns x new_column)
     ≡ record (grid_of_lines rows columns) { cells = set (cells_of_rows rows) (y * length columns + x) c })
 cell-changed rows columns row new_row column new_column x y c a lx ly is_row er is_column ec =
-    let after = lines-written (cells_of_rows rows) rows columns new_row new_column x y c a lx ly
-    (er ∙ ap (λ (line : List Cell). set line x c) (is_row ∙ line_read rows y row ly))
-    (ec ∙ ap (λ (line : List Cell). set line y c) (is_column ∙ line_read columns x column lx)) in
-    let same = lines-cells (set (cells_of_rows rows) (y * length columns + x) c) (set rows y new_row) (set columns x new_column) after in
-    (rw same after, λ i. record { width = length-set columns x new_column i; height = length-set rows y new_row i; cells = same i })
+    let w = length columns in
+    let h = length rows in
+    let k : ℕ = y * w + x in
+    let some : 0 < w = omega (arith, lx) in
+    let cells = cells_of_rows rows in
+    let lw : length (set columns x new_column) ≡ w = length-set columns x new_column in
+    let lh : length (set rows y new_row) ≡ h = length-set rows y new_row in
+    let after : AreLinesOf (set cells k c) (set rows y new_row) (set columns x new_column) = record {
+      size = rw (lw, lh) a.size;
+      count = rw (lw, lh) (length-set cells k c ∙ a.count);
+      rows_are = λ j below. rw lw (line-written Rows w h y x j k cells new_row rows c some refl ly lx refl a.count a.rows_are
+          (er ∙ ap (λ (line : List Cell). set line x c) (is_row ∙ line_read rows y row ly)) (omega (arith, below, lh)));
+      columns_are = λ j below. rw (lw, lh) (line-written Columns w h x y j k cells new_column columns c some refl lx ly refl a.count
+          a.columns_are (ec ∙ ap (λ (line : List Cell). set line y c) (is_column ∙ line_read columns x column lx))
+          (omega (arith, below, lw)));
+    } in
+    let same = lines-cells (set cells k c) (set rows y new_row) (set columns x new_column) after in
+    (rw same after, λ i. record { width = lw i; height = lh i; cells = same i })
 
 -- of no place of them anything is known
 read-unknown : (n : ℕ) (places : List ℕ) → cells_at Unknown (replicate n Unknown) places ≡ replicate (length places) Unknown
@@ -150,12 +119,7 @@ lines-unknown w h rows columns size er el =
     let high : length rows ≡ h = ap length er ∙ length-replicate h (replicate w Unknown) in
     let along = λ (first step n : ℕ). read-unknown (w * h) (places_from first step n) ∙
     ap (λ (k : ℕ). replicate k Unknown) (length-places_from first step n) in
-    let are : AreLinesOf (replicate (w * h) Unknown) rows columns = record {
-      size = rw (wide, high) size;
-      count = rw (wide, high) (length-replicate (w * h) Unknown);
-      rows_are = λ y l. rw (wide, along (y * w) 1 w, er) (get_or-replicate h y (replicate w Unknown) [] (omega (arith, high)));
-      columns_are = λ x l. rw (wide, high, along x w h, el) (get_or-replicate w x (replicate h Unknown) [] (omega (arith, wide)));
-    } in
+    let are : AreLinesOf (replicate (w * h) Unknown) rows columns = search (rules, length-replicate, along, get_or-replicate) in
     let same = lines-cells (replicate (w * h) Unknown) rows columns are in
     (same, rw same are)
 

@@ -48,20 +48,11 @@ marks-after p cells new marks middle after side i r m l taken other learned chan
       settled = by_side (λ s. (j : ℕ) → j < count_on s p.width p.height → (IsMarkedOn after s j → ⊥) → IsDeduced new (line_on s p j)) side
           (λ j lj n. elim (cases_eq j i) [
             | inl same ↦ rw same own
-            | inr ne ↦ settled-same cells new (line_on side p j)
-                (m.settled side j lj (λ x. n (rw changes.own (taken.from j (inl (x, ne)))))) (λ b lb.
-                let there = along side p.width p.height j b lb in
-                elsewhere (get_or (places_on side p.width p.height j) b 0) (λ k lk meet.
-                let here = along side p.width p.height i k lk in
-                absurd (ne (sym (same_place side p.width p.height i k j b l here.0 lj there.0 (sym here.1 ∙ meet ∙ there.1)).0))))
+            | inr ne ↦ settled-same cells new (line_on side p j) (search (rules, m.settled, changes.own, taken.from))
+                (search (rules, along, same_place, elsewhere))
           ])
-          (λ j lj n. settled-same cells new (line_on (crossing side) p j)
-          (m.settled (crossing side) j lj (λ x. n (changes.kept j (rw other x)))) (λ b lb.
-          let there = across side p.width p.height j b lb in
-          elsewhere (get_or (places_on (crossing side) p.width p.height j) b 0) (λ k lk meet.
-          let here = along side p.width p.height i k lk in
-          let same = (same_place side p.width p.height i k b j l here.0 there.0 lj (sym here.1 ∙ meet ∙ there.1)).1 in
-          rw (sym meet ∙ here.1 ∙ ap (place_on side p.width i) same) (changes.same j lj n))));
+          (λ j lj n. settled-same cells new (line_on (crossing side) p j) (search (rules, m.settled, changes.kept, other))
+          (λ b lb. elsewhere _ (λ k lk meet. grind (arith, across, along, same_place, changes.same))));
     }
 
     by : (r : Progress) → IsLearned r (line_on side p i) cells new → MarksAfter r p after new
@@ -95,9 +86,7 @@ unmarked_closed p marks cells m unmarked = settled_closed p cells m.puzzle (λ s
 -- a step that isn't dead keeps f of the cells
 pub progress-keeps : (f : List Cell → Option (List Cell)) (r : Progress) (old new : List Cell) → r ≢ Dead → Progresses f r old new →
     f new ≡ f old
-progress-keeps f Dead old new n h = absurd (n refl)
-progress-keeps f Same old new n h = ap f h
-progress-keeps f Changed old new n h = h.0
+progress-keeps f r old new h k = search rules
 
 -- if no line is marked after steps that keep the closure, the cells are the closure of the first ones
 pub closed_after : (p : Nonogram) (marks : LineMarks) (first cells middle new : List Cell) (r : Progress) → r ≢ Dead →

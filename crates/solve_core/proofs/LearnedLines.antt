@@ -1,9 +1,10 @@
 -- The lines of a grid after one of them was written whole, and each that crosses it where it changes.
-use Rattle.solve_core.proofs.Names.{◌≡◌, ◌≢◌, ◌∙◌, refl, ℕ, ◌*◌, ◌<◌, ◌≤◌, inl, inr, List, [], length, get_or, set, sym, ap, arith, length-set, get_or-set_same, get_or-set_other, bit_at, cases_eq, set-get_or, Cell, Unknown, Side, Rows, Columns, Extends, IsChanged, cells_at, crossing, places_on, IsSize, PartialGrid, cells_of_rows, count_on, place_on, same_cells, get_or-cells_at, length-cells_at, length-places_on, get_or-places_on, Extends-at, Has, IsMaskOf, with_cells, AreLinesOf, CanLearn, IsLearning, TrailedGrid, length-Extends, ext_get_or, rules}
+use Rattle.solve_core.proofs.Names.{◌≡◌, ◌∙◌, refl, ℕ, ◌*◌, ◌<◌, ◌≤◌, inl, inr, List, [], length, get_or, set, sym, ap, arith, length-set, get_or-set_same, get_or-set_other, bit_at, cases_eq, set-get_or, Cell, Unknown, Side, Rows, Columns, Extends, IsChanged, cells_at, crossing, places_on, IsSize, PartialGrid, cells_of_rows, count_on, place_on, same_cells, get_or-cells_at, length-cells_at, length-places_on, get_or-places_on, Extends-at, Has, IsMaskOf, with_cells, AreLinesOf, CanLearn, IsLearning, TrailedGrid, length-Extends, ext_get_or, rules}
 use Rattle.solve_core.proofs.ClosureLaws.{length-with_cells}
 use Rattle.solve_core.proofs.GridLineSteps.{grid_of_lines, lines-cells}
 use Rattle.solve_core.proofs.LineSteps.{cells_at-same, cells_at-with_cells, get_or-with_cells, learned_cell}
-use Rattle.solve_core.proofs.SideLines.{across, along, below_places, cell_within, column_within, row_within, crossing_twice, distinct_places, longest_sides_fit, same_place}
+use Rattle.solve_core.proofs.SideLines.{across, along, below_places, cell_within, column_within, row_within, crossing_twice, distinct_places, same_place}
+use Rattle.std.proofs.Math.Nat.{mul-le-mul_left}
 
 -- line i of a side gets these cells, of which some change
 pub record Learns (side : Side) (w h i m : ℕ) (cells new : List Cell) : Type 0 where
@@ -47,23 +48,17 @@ at_own side w h i k cells l = search (rules, get_or-cells_at, length-places_on, 
 at_across : (side : Side) (w h k t : ℕ) (cells : List Cell) → k < count_on (crossing side) w h → t < count_on side w h →
     (t < length (cells_at Unknown cells (places_on (crossing side) w h k))) ×
     (get_or (cells_at Unknown cells (places_on (crossing side) w h k)) t Unknown ≡ get_or cells (place_on side w t k) Unknown)
-at_across side w h k t cells lk lt =
-    search (rules, length-places_on, crossing_twice, length-cells_at, get_or-cells_at, across)
+at_across side w h k t cells lk lt = search (rules, length-places_on, crossing_twice, length-cells_at, get_or-cells_at, across)
 
 module _ (side : Side) (w h i m : ℕ) (cells new : List Cell) (is : Learns side w h i m cells new) where
   -- the cells of the line are the new ones
   own_read : cells_at Unknown (after side w h i cells new) (places_on side w h i) ≡ new
   own_read = search (rules, cells_at-with_cells, distinct_places, below_places, length-Extends, length-cells_at)
 
-  -- a cell of another line of the side stays
-  at_other : (j k : ℕ) → j ≢ i → j < count_on side w h → k < count_on (crossing side) w h →
-      get_or (after side w h i cells new) (place_on side w j k) Unknown ≡ get_or cells (place_on side w j k) Unknown
-  at_other j k other lj lk = search (rules, get_or-with_cells, along, same_place)
-
   -- the lines of its side
   own_learned : (own : List (List Cell)) → AreOn side w h cells own → AreOn side w h (after side w h i cells new) (set own i new)
   own_learned own are =
-      grind (arith, length-set, cases_eq, get_or-set_same, own_read, get_or-set_other, cells_at-same, along, at_other)
+      grind (arith, length-set, cases_eq, get_or-set_same, own_read, get_or-set_other, cells_at-same, along, get_or-with_cells, same_place)
 
   -- where a cell of the line changes
   change_in : (k : ℕ) → Has m k → k < count_on (crossing side) w h
@@ -80,11 +75,7 @@ module _ (side : Side) (w h i m : ℕ) (cells new : List Cell) (is : Learns side
       let learned = learned_cell (get_or old k Unknown) (get_or new k Unknown) (Extends-at old new k is.more) at.1 in
       let read = at_across side w h k i cells here is.line in
       record {
-        ready = record {
-          line = line;
-          within = rw (are.1 k line) read.0;
-          unknown = rw (are.1 k line) (read.1 ∙ sym (at_own side w h i k cells here) ∙ learned.0);
-        };
+        ready = search (rules, at_own);
         cell = omega (arith, at.0, length-Extends old new is.more);
         known = learned.1;
       }
@@ -102,7 +93,7 @@ module _ (side : Side) (w h i m : ℕ) (cells new : List Cell) (is : Learns side
       let inner : t < count_on side w h = rw (long, length-places_on (crossing side) w h k, crossing_twice side) at lt in
       (at_across side w h k t now lk inner).1 ∙ elim (cases_eq t i) [
         | inl same ↦ search (rules, at_own, own_read, get_or-set_same, at_across)
-        | inr other ↦ search (rules, at_other, at_across, get_or-set_other)
+        | inr other ↦ search (rules, get_or-with_cells, along, same_place, at_across, get_or-set_other)
       ])
 
   -- the lines that cross
@@ -167,12 +158,7 @@ learned_columns i m new rows columns lines more a is e long changed others =
     (across_learned Columns w h i m cells new is lines more (ap length e, rw e a.rows_are) long changed others)
     (own_learned Columns w h i m cells new is columns (refl, a.columns_are))
 
--- the line has as many cells as before
-pub long_line : (side : Side) (w h i m : ℕ) (cells new : List Cell) (own : List (List Cell)) → Learns side w h i m cells new →
-    AreOn side w h cells own → length new ≡ length (get_or own i [])
-long_line side w h i m cells new own is are = search (rules, length-Extends)
-
 -- the place of a change fits 16 bits
 pub place_fits : (side : Side) (w h i m : ℕ) (cells new : List Cell) → IsSize w h → Learns side w h i m cells new → (k : ℕ) → Has m k →
     place_on side w i k ≤ 65535
-place_fits side w h i m cells new size is k has = search (rules, cell_within, change_in, longest_sides_fit)
+place_fits side w h i m cells new size is k has = search (rules, cell_within, change_in, mul-le-mul_left)

@@ -17,12 +17,10 @@ pub mod BoardSteps
 pub mod TrialSteps
 pub mod WitnessLaws
 pub mod SearchLaws
-pub mod EndingLaws
 pub mod ReportLaws
 pub mod AnswerLaws
 pub mod BranchLaws
 pub mod SearchSteps
-pub mod Fitting
 pub mod Changes
 pub mod Counting
 pub mod PickLaws

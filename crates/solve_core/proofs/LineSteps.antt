@@ -1,8 +1,8 @@
 -- Writing a line into a grid: which cells change, and what the closure is afterwards.
-use Rattle.solve_core.proofs.Names.{◌≡◌, ◌≢◌, ℕ, zero, suc, ◌+◌, ◌*◌, ◌<◌, true, List, [], ◌∷◌, length, get_or, set, Option, Some, None, option_map, refl, sym, ap, ◌∙◌, arith, length-set, get_or-set_same, replicate, AllByRecursion, Cell, Unknown, Filled, Blank, CellExtends, Extends, is_known, GridLine, places_from, cells_at, deduced, length-places_from, get_or-places_from, length-cells_at, get_or-cells_at, with_cells, deduce_line, round, closure, IsDeduced, IsWritten, unknown_count, AtMost, Extends-refl, Extends-trans, Extends-antisym, length-Extends, deduced-above, deduced-settled, IsLeastClosed, rules}
+use Rattle.solve_core.proofs.Names.{◌≡◌, ◌≢◌, ℕ, zero, suc, ◌+◌, ◌*◌, ◌<◌, true, List, [], ◌∷◌, length, get_or, set, Option, Some, None, option_map, refl, sym, ap, ◌∙◌, arith, length-set, get_or-set_same, replicate, AllByRecursion, Cell, Unknown, CellExtends, Extends, is_known, GridLine, places_from, cells_at, deduced, length-places_from, get_or-places_from, length-cells_at, get_or-cells_at, with_cells, deduce_line, round, closure, IsDeduced, IsWritten, unknown_count, AtMost, Extends-refl, Extends-trans, Extends-antisym, length-Extends, deduced-above, deduced-settled, IsLeastClosed, rules}
 use Rattle.solve_core.proofs.Closing.{fewer_unknown}
 use Rattle.solve_core.proofs.ClosureLaws.{IsLeastClosed-unique, closure-IsLeastClosed, with_cells-monotone, with_cells-read}
-use Rattle.solve_core.proofs.StepLaws.{IsOneOf, closed_line, step_within, dead_within}
+use Rattle.solve_core.proofs.StepLaws.{IsOneOf, closed_line, step_within}
 
 set_elsewhere : (g : List Cell) (p : ℕ) (c : Cell) (k : ℕ) → (p ≡ k → c ≡ get_or g k Unknown) →
     get_or (set g p c) k Unknown ≡ get_or g k Unknown
@@ -42,22 +42,13 @@ pub cells_at-with_cells : (g : List Cell) (places : List ℕ) (d : List Cell) �
     length d ≡ length places → cells_at Unknown (with_cells g places d) places ≡ d
 cells_at-with_cells g [] [] a b e = refl
 cells_at-with_cells g (p ∷ ps) (c ∷ d) a b e =
-    let within : p < length g = b.0 in
-    let first : get_or (with_cells (set g p c) ps d) p Unknown ≡ c =
-    get_or-with_cells (set g p c) ps d p (λ i l s. absurd (a.0 i l s)) ∙ get_or-set_same g p c Unknown within in
-    let rest : cells_at Unknown (with_cells (set g p c) ps d) ps ≡ d =
-    cells_at-with_cells (set g p c) ps d a.1 (rw length-set b.1) (omega arith) in
-    λ i. first i ∷ rest i
+    search (rules, get_or-with_cells, get_or-set_same, length-set, (cells_at-with_cells (set g p c) ps d a.1 (rw length-set b.1)))
 cells_at-with_cells g _ _ a b e = absurd (omega arith)
 
 -- places that are a step apart are distinct, if the step is positive
 pub distinct_from : (first step n : ℕ) → 0 < step → AreDistinct (places_from first step n)
 distinct_from first step zero h = tt
-distinct_from first step (suc n) h = (
-  λ i l e. (let within : i < n = omega (arith, length-places_from (first + step) step n) in
-      absurd (omega (arith, get_or-places_from (first + step) step n i within, e))),
-  distinct_from (first + step) step n h,
-)
+distinct_from first step (suc n) h = search (rules, length-places_from, get_or-places_from, (distinct_from (first + step) step n h))
 
 -- places that are a step apart are below a size, if each is by its number among them
 pub below_from : (first step n size : ℕ) → ((i : ℕ) → i < n → first + i * step < size) → AreBelow size (places_from first step n)
@@ -81,14 +72,8 @@ cells_at-same a b (p ∷ ps) h =
 pub cells_at-set : (g : List Cell) (places : List ℕ) (b : ℕ) (c : Cell) → AreDistinct places → AreBelow (length g) places → b < length places →
     cells_at Unknown (set g (get_or places b 0) c) places ≡ set (cells_at Unknown g places) b c
 cells_at-set g [] b c distinct below l = absurd (omega arith)
-cells_at-set g (p ∷ ps) zero c distinct below l =
-    let first = get_or-set_same g p c Unknown below.0 in
-    let rest = cells_at-same (set g p c) g ps (λ i li. set_elsewhere g p c (get_or ps i 0) (λ e. absurd (distinct.0 i li (sym e)))) in
-    λ i. first i ∷ rest i
-cells_at-set g (p ∷ ps) (suc b) c distinct below l =
-    let first = set_elsewhere g (get_or ps b 0) c p (λ e. absurd (distinct.0 b (omega arith) e)) in
-    let rest = cells_at-set g ps b c distinct.1 below.1 (omega arith) in
-    λ i. first i ∷ rest i
+cells_at-set g (p ∷ ps) zero c distinct below l = search (rules, get_or-set_same, cells_at-same, set_elsewhere)
+cells_at-set g (p ∷ ps) (suc b) c distinct below l = search (rules, set_elsewhere, (cells_at-set g ps b c distinct.1 below.1 (omega arith)))
 
 -- a settled line gives nothing
 pub settled_line : (g : List Cell) (line : GridLine) → IsDeduced g line → deduce_line g line ≡ Some g
@@ -145,7 +130,7 @@ line_keeps lines g new line m h e =
 -- if one of the lines is dead, so is the closure
 pub line_dead : (lines : List GridLine) (g : List Cell) (line : GridLine) → IsOneOf line lines →
     deduced (cells_at Unknown g line.places) line.clue ≡ None → closure lines g ≡ None
-line_dead lines g line m e = search (rules, dead_within, closure-IsLeastClosed, option_map)
+line_dead lines g line m e = search (rules, step_within, closure-IsLeastClosed, option_map)
 
 -- each place of a list is a different one
 pub distinct_same : (places : List ℕ) (k i : ℕ) → AreDistinct places → k < length places → i < length places →
@@ -158,11 +143,7 @@ distinct_same (p ∷ ps) (suc k) (suc i) d l m e = ap suc (distinct_same ps k i 
 
 -- a cell that learned something was unknown
 pub learned_cell : (old new : Cell) → CellExtends old new → new ≢ old → (old ≡ Unknown) × (is_known new ≡ true)
-learned_cell Unknown Unknown h n = absurd (n refl)
-learned_cell Unknown _ h n = (refl, refl)
-learned_cell Filled Filled h n = absurd (n refl)
-learned_cell Blank Blank h n = absurd (n refl)
-learned_cell _ _ h n = absurd h
+learned_cell old new h k = search rules
 
 -- a line stays settled if a cell that isn't its own is written
 pub settled-elsewhere : (g : List Cell) (k : ℕ) (c : Cell) (line : GridLine) → IsDeduced g line →

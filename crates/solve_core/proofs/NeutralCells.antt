@@ -1,25 +1,14 @@
 -- A cell with a colour by which nothing else is certain.
-use Rattle.solve_core.proofs.Names.{◌≡◌, ◌∙◌, ℕ, ◌/◌, ◌%◌, ◌<◌, inl, inr, List, length, set, Some, arith, cases_eq, Cell, Unknown, Nonogram, IsNonogram, Side, Rows, Columns, lines_of, line_on, crossing, places_on, count_on, place_on, cells_at, cells_along, closure, get_or-cells_at, get_or-places_on, length-cells_at, length-places_on, IsBoardOf, IsDeduced, IsAtRest, Closing, TrailedGrid, sym}
+use Rattle.solve_core.proofs.Names.{◌≡◌, ℕ, ◌/◌, ◌%◌, ◌<◌, List, length, set, Some, arith, cases_eq, Cell, Nonogram, IsNonogram, Side, Rows, Columns, lines_of, line_on, crossing, count_on, place_on, cells_along, closure, get_or-cells_at, get_or-places_on, length-cells_at, length-places_on, IsBoardOf, IsDeduced, IsAtRest, Closing, TrailedGrid, sym}
 use Rattle.solve_core.proofs.GridSteps.{apart_settled, place_split, seen, settled_closed}
-use Rattle.solve_core.proofs.LineSteps.{cells_at-set}
-use Rattle.solve_core.proofs.SideLines.{below_places, distinct_places}
+use Rattle.solve_core.proofs.SideLines.{line-set}
 use Rattle.solve_core.specs.steps.Deductions.{IsNeutral}
 use Rattle.solve_core.specs.steps.Trails.{CanSettle}
 
 -- a cell that can be settled can be settled along its line
 settles : (p : Nonogram) (g : TrailedGrid) (line : List Cell) (side : Side) (i b k : ℕ) (c : Cell) → b < count_on (crossing side) p.width p.height →
     k ≡ place_on side p.width i b → IsBoardOf p g → line ≡ cells_along g side i → CanSettle g.cells k c → CanSettle line b c
-settles p g line side i b k c lb at size is can = rw (is ∙ seen p g side i size) (record {
-  within = rw (length-cells_at Unknown g.cells places, long) lb;
-  unknown = get_or-cells_at Unknown g.cells places b (rw long lb) ∙ rw (get_or-places_on side p.width p.height i b lb, ← at) can.unknown;
-  known = can.known;
-})
-  where
-    places : List ℕ
-    places = places_on side p.width p.height i
-
-    long : length places ≡ count_on (crossing side) p.width p.height
-    long = length-places_on side p.width p.height i
+settles p g line side i b k c lb at size is can = grind (arith, seen, length-cells_at, get_or-cells_at, get_or-places_on, length-places_on)
 
 pub settles_row : (p : Nonogram) (g : TrailedGrid) (row : List Cell) (w k : ℕ) (c : Cell) → w ≡ p.width → IsNonogram p → IsBoardOf p g →
     row ≡ cells_along g Rows (k / w) → CanSettle g.cells k c → CanSettle row (k % w) c
@@ -37,16 +26,7 @@ settles_column p g column w k c e is size column_is can =
 settled : (p : Nonogram) (g : TrailedGrid) (line : List Cell) (side : Side) (i b k : ℕ) (c : Cell) → 0 < p.width →
     i < count_on side p.width p.height → b < count_on (crossing side) p.width p.height → k ≡ place_on side p.width i b → IsBoardOf p g →
     line ≡ cells_along g side i → IsNeutral (line_on side p i).clue line b c → IsDeduced (set g.cells k c) (line_on side p i)
-settled p g line side i b k c some li lb at size is neutral =
-    rw (written) (rw (is ∙ seen p g side i size) at neutral.nothing_else)
-  where
-    places : List ℕ
-    places = places_on side p.width p.height i
-
-    written : cells_at Unknown (set g.cells k c) places ≡ set (cells_at Unknown g.cells places) b c
-    written =
-        rw (at, sym (get_or-places_on side p.width p.height i b lb)) (cells_at-set g.cells places b c (distinct_places side p.width p.height i some)
-        (rw size.2 (below_places side p.width p.height i li)) (rw (length-places_on side p.width p.height i) lb))
+settled p g line side i b k c some li lb at size is neutral = grind (arith, seen, line-set)
 
 -- if nothing else is certain of its row and of its column once a cell of a board at rest has a colour, the cells with it are closed
 pub neutral_closed : (p : Nonogram) (closing : Closing) (g : TrailedGrid) (row column : List Cell) (w k : ℕ) (c : Cell) → w ≡ p.width →
@@ -66,7 +46,4 @@ neutral_closed p closing g row column w k c e rest size inside row_is column_is 
     each : (side : Side) (i b : ℕ) → i < count_on side p.width p.height → b < count_on (crossing side) p.width p.height →
         k ≡ place_on side p.width i b → IsDeduced (set g.cells k c) (line_on side p i) →
         (j : ℕ) → j < count_on side p.width p.height → IsDeduced (set g.cells k c) (line_on side p j)
-    each side i b li lb at own j lj = elim (cases_eq j i) [
-      | inl same ↦ rw same own
-      | inr ne ↦ apart_settled p g.cells side i b k j c li lb at lj ne (rest.marks.settled side j lj (rest.idle.unmarked side j))
-    ]
+    each side i b li lb at own j lj = grind (arith, cases_eq, apart_settled, settled)

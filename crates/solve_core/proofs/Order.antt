@@ -1,5 +1,5 @@
 -- What grids know together, in the order of what is known.
-use Rattle.solve_core.proofs.Names.{◌≡◌, ℕ, zero, suc, List, [], ◌∷◌, length, get_or, set, Option, Some, None, refl, sym, arith, option_and_then, AllByRecursion, Cell, Unknown, Filled, Blank, CellExtends, Extends, join_cells, join, join_all, option_cons, AtMost, Extends-refl, length-Extends, AtMost-trans}
+use Rattle.solve_core.proofs.Names.{◌≡◌, ℕ, zero, suc, List, [], ◌∷◌, length, get_or, set, Option, Some, None, refl, sym, arith, option_and_then, AllByRecursion, Cell, Unknown, CellExtends, Extends, join_cells, join, join_all, option_cons, AtMost, Extends-refl, length-Extends, AtMost-trans}
 
 -- at one cell
 abbrev pub CellAtMost : Cell → Option Cell → Type 0
@@ -7,30 +7,18 @@ CellAtMost c None = Unit {0}
 CellAtMost c (Some d) = CellExtends c d
 
 join_cells-left : (c d : Cell) → CellAtMost c (join_cells c d)
-join_cells-left Filled Filled = tt
-join_cells-left Blank Blank = tt
-join_cells-left _ _ = tt
+join_cells-left c d = grind arith
 
 join_cells-right : (c d : Cell) → CellAtMost d (join_cells c d)
-join_cells-right Unknown d = (Extends-refl (d ∷ [])).0
-join_cells-right Filled Filled = tt
-join_cells-right Blank Blank = tt
-join_cells-right _ _ = tt
+join_cells-right c d = grind (arith, Extends-refl)
 
 -- a cell above two cells is above what they know together
 join_cells-least : (c d z : Cell) → CellExtends c z → CellExtends d z → (j : Cell) × (join_cells c d ≡ Some j) × CellExtends j z
-join_cells-least Unknown d z h k = (d, refl, k)
-join_cells-least c Unknown z h k = (c, refl, h)
-join_cells-least Filled Filled z h k = (Filled, refl, h)
-join_cells-least Blank Blank z h k = (Blank, refl, h)
-join_cells-least Filled Blank Filled h k = absurd k
-join_cells-least Blank Filled Blank h k = absurd k
-join_cells-least _ _ _ h k = absurd h
+join_cells-least c d z h k = grind arith
 
 pub cons_at_most : (c : Cell) (g : List Cell) (o : Option Cell) (os : Option (List Cell)) → CellAtMost c o → AtMost (Some g) os →
     AtMost (Some (c ∷ g)) (option_cons o os)
-cons_at_most c g (Some d) (Some new) h k = (h, k)
-cons_at_most c g _ _ h k = tt
+cons_at_most c g o os h k = grind arith
 
 pub join-left : (a b : List Cell) → length a ≡ length b → AtMost (Some a) (join a b)
 join-left [] b h = tt
@@ -88,13 +76,7 @@ join_all-above g (Some d ∷ os) h =
 
 -- what is below each grid that an outcome may be is below the outcome
 pub below_each : (x o : Option (List Cell)) → ((w : List Cell) → o ≡ Some w → AtMost x (Some w)) → AtMost x o
-below_each x None h = tt
-below_each x (Some w) h = h w refl
-
--- only a dead grid is above a dead one
-pub none_only : (o : Option (List Cell)) → AtMost None o → o ≡ None
-none_only None h = refl
-none_only (Some z) h = absurd h
+below_each x o h = grind arith
 
 -- a grid with a cell that another one has is below that one
 pub set_within : (a b : List Cell) (i : ℕ) (d : Cell) → Extends a b → CellExtends d (get_or b i Unknown) → Extends (set a i d) b

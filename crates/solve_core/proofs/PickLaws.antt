@@ -1,5 +1,5 @@
 -- What the rule of most known neighbours picks.
-use Rattle.solve_core.proofs.Names.{◌≡◌, ℕ, zero, suc, ◌<◌, ◌≤◌, Bool, true, false, List, length, get_or, Option, Some, None, ap, arith, true≢false, cases_eq, cases_lt, le-ltb, lt-ltb, Cell, Unknown, is_unknown, better, first_most, most_known, picked, sure_neighbours, IsPick, rules}
+use Rattle.solve_core.proofs.Names.{◌≡◌, ℕ, zero, suc, ◌<◌, ◌≤◌, Bool, true, false, List, length, get_or, Option, Some, None, ap, arith, true≢false, cases_eq, cases_lt, le-ltb, lt-ltb, Cell, Unknown, is_unknown, first_most, most_known, picked, sure_neighbours, IsPick, rules}
 use Rattle.solve_core.specs.declared.picks.Pick.{Pick}
 use Rattle.solve_core.specs.declared.picks.Pick.TheVariants.{First, Most}
 use Rattle.solve_core.specs.MostKnown.{IsMostKnown}
@@ -17,8 +17,7 @@ IsFirstMost score passes n (Some k) =
 -- the first place with the highest score is that, or no place passes
 pub first_most-is : (score : ℕ → ℕ) (passes : ℕ → Bool) (n : ℕ) → IsFirstMost score passes n (first_most score passes n)
 first_most-is score passes zero = λ j l. absurd (omega arith)
-first_most-is score passes (suc n) =
-    search (rules, first_most, cases_eq, better, true≢false, cases_lt, lt-ltb, le-ltb, (first_most-is score passes n))
+first_most-is score passes (suc n) = search (rules, cases_eq, true≢false, cases_lt, lt-ltb, le-ltb, (first_most-is score passes n))
 
 picked-most : (width : ℕ) (grid : List Cell) (best : Option ℕ) → most_known width grid ≡ best
     → IsFirstMost (sure_neighbours width grid) (λ j. is_unknown (get_or grid j Unknown)) (length grid) best
@@ -28,11 +27,7 @@ picked-most width grid best e = search (rules, first_most-is)
 pub most_known-is : (width : ℕ) (grid : List Cell) (k : ℕ) → most_known width grid ≡ Some k → IsMostKnown width grid k
 most_known-is width grid k e =
     let most = picked-most width grid (Some k) e in
-    record {
-      unknown = (most.0, unknown_is (get_or grid k Unknown) most.1);
-      most = λ j u. most.2 j u.0 (ap is_unknown u.1);
-      earliest = λ j l u. most.3 j l (ap is_unknown u.1);
-    }
+    search (rules, most, unknown_is)
 
 -- the rule picks an unknown cell wherever there is one
 pub most_known-IsPick : (width : ℕ) → IsPick (most_known width)

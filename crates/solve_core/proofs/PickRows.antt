@@ -1,17 +1,8 @@
 -- The cell to guess, found row by row.
-use Rattle.solve_core.proofs.Names.{◌≡◌, ◌≢◌, ℕ, zero, suc, ◌+◌, ◌-◌, ◌*◌, ◌<◌, ◌≤◌, Bool, true, false, nat_eq, nat_lt, nat_le, inl, inr, List, [], length, get_or, Option, Some, None, refl, sym, ap, ◌∙◌, arith, true≢false, add-one, add-zero, cases_Bool, cases_eq, cases_lt, eq-eqb, ne_eqb, eqb-false, lt-ltb, le-ltb, le-leb, lt-leb, mod-mul-add, Cell, Unknown, is_unknown, IsUnknownCell, IsMostInRow, row_score, two_of, is_sure, AreLinesOf, cells_of_rows, first_most, is_left_sure, is_right_sure, is_above_sure, is_below_sure, sure_neighbours, rules}
+use Rattle.solve_core.proofs.Names.{◌≡◌, ℕ, zero, suc, ◌+◌, ◌-◌, ◌*◌, ◌<◌, ◌≤◌, Bool, true, nat_eq, nat_lt, nat_le, inl, inr, List, [], length, get_or, Option, Some, None, refl, sym, ap, ◌∙◌, arith, true≢false, add-one, add-zero, cases_Bool, cases_eq, cases_lt, eq-eqb, ne_eqb, eqb-false, lt-ltb, le-ltb, le-leb, lt-leb, mod-mul-add, Cell, Unknown, is_unknown, IsMostInRow, row_score, two_of, is_sure, AreLinesOf, cells_of_rows, first_most, is_left_sure, is_right_sure, is_above_sure, is_below_sure, sure_neighbours, rules}
 use Rattle.solve_core.proofs.GridLineSteps.{cell-read, lines-long}
 use Rattle.solve_core.proofs.SideLines.{row_within}
 use Rattle.solve_core.proofs.SearchLaws.{unknown_is}
-
-sure_same : (o p : Bool) (c d : Cell) → o ≡ p → (o ≡ false → c ≡ d) → is_sure o c ≡ is_sure p d
-sure_same true true c d e h = refl
-sure_same false false c d e h = ap (is_sure false) (h refl)
-sure_same _ _ c d e h = cc
-
-top_is : (w y x : ℕ) → x < w → nat_eq y 0 ≡ nat_lt (y * w + x) w
-top_is w zero x l = sym (lt-ltb (zero * w + x) w (omega arith))
-top_is w (suc y) x l = ne_eqb (suc y) 0 (λ e. cc) ∙ sym (le-ltb (suc y * w + x) w (omega arith))
 
 bottom_is : (w h y x : ℕ) → y < h → x < w → nat_eq (y + 1) h ≡ nat_le (w * h) (y * w + x + w)
 bottom_is w h y x ly lx = elim (cases_eq (y + 1) h) [
@@ -19,10 +10,6 @@ bottom_is w h y x ly lx = elim (cases_eq (y + 1) h) [
   | inr other ↦ ne_eqb (y + 1) h other ∙
       sym (lt-leb (w * h) (y * w + x + w) (omega (arith, row_within w h (y + 1) x (omega (arith, ly, other)) lx)))
 ]
-
-row_back : (w z x : ℕ) → z ≢ 0 → (z - 1) * w + x ≡ z * w + x - w
-row_back w zero x n = absurd (n refl)
-row_back w (suc z) x n = let less : suc z - 1 ≡ z = omega arith in rw less (omega arith)
 
 -- the count of a row's cell is that of the grid's
 pub score-is : (rows columns : List (List Cell)) (y x : ℕ) (above below : ℕ → Bool) → AreLinesOf (cells_of_rows rows) rows columns →
@@ -32,40 +19,44 @@ pub score-is : (rows columns : List (List Cell)) (y x : ℕ) (above below : ℕ 
 score-is rows columns y x above below a ly lx up down =
     (λ i. two_of (left i) (right i) + two_of ((up ∙ over) i) ((down ∙ under) i)) ∙ omega arith
   where
-    w : ℕ
-    w = length columns
-
     k : ℕ
-    k = y * w + x
+    k = y * length columns + x
 
-    cells : List Cell
-    cells = cells_of_rows rows
-
-    row : List Cell
-    row = get_or rows y []
-
-    long : length row ≡ w
+    long : length (get_or rows y []) ≡ length columns
     long = (lines-long rows columns x y a lx ly).0
 
-    there : (z v q : ℕ) → z < w → v < length rows → v * w + z ≡ q → get_or (get_or rows v []) z Unknown ≡ get_or cells q Unknown
+    there : (z v q : ℕ) → z < length columns → v < length rows → v * length columns + z ≡ q →
+        get_or (get_or rows v []) z Unknown ≡ get_or (cells_of_rows rows) q Unknown
     there z v q lz lv e = rw e at ((cell-read rows columns z v a lz lv).0)
 
-    left : is_sure (nat_eq x 0) (get_or row (x - 1) Unknown) ≡ is_left_sure w cells k
-    left = search (rules, sure_same, nat_eq, k, w, row, cells, mod-mul-add, eqb-false, there)
+    left : is_sure (nat_eq x 0) (get_or (get_or rows y []) (x - 1) Unknown) ≡ is_left_sure (length columns) (cells_of_rows rows) k
+    left = search (rules, nat_eq, k, mod-mul-add, eqb-false, there)
 
-    right : is_sure (nat_eq (x + 1) (length row)) (get_or row (x + 1) Unknown) ≡ is_right_sure w cells k
-    right = search (rules, sure_same, nat_eq, row, k, w, cells, mod-mul-add, long, eqb-false, there)
+    right : is_sure (nat_eq (x + 1) (length (get_or rows y []))) (get_or (get_or rows y []) (x + 1) Unknown)
+        ≡ is_right_sure (length columns) (cells_of_rows rows) k
+    right = search (rules, nat_eq, k, mod-mul-add, long, eqb-false, there)
 
-    over : is_sure (nat_eq y 0) (get_or (get_or rows (y - 1) []) x Unknown) ≡ is_above_sure w cells k
-    over = search (rules, sure_same, nat_eq, nat_lt, k, w, cells, top_is, there, row_back, eqb-false)
+    over : is_sure (nat_eq y 0) (get_or (get_or rows (y - 1) []) x Unknown) ≡ is_above_sure (length columns) (cells_of_rows rows) k
+    over = search (rules, nat_eq, nat_lt, k, lt-ltb, ne_eqb, le-ltb, there, eqb-false)
 
-    under : is_sure (nat_eq (y + 1) (length rows)) (get_or (get_or rows (y + 1) []) x Unknown) ≡ is_below_sure w cells k
-    under = search (rules, sure_same, nat_eq, nat_le, cells, k, w, bottom_is, eqb-false, there)
+    under : is_sure (nat_eq (y + 1) (length rows)) (get_or (get_or rows (y + 1) []) x Unknown)
+        ≡ is_below_sure (length columns) (cells_of_rows rows) k
+    under = search (rules, nat_eq, nat_le, k, bottom_is, eqb-false, there)
 
 -- how much has to count for a later place to be better
 abbrev pub least_after : (ℕ → ℕ) → Option ℕ → ℕ
 least_after score None = 0
 least_after score (Some k) = score k + 1
+
+-- the best place after one more row
+abbrev pub best_after : ℕ → Option ℕ → Option (ℕ × ℕ) → Option ℕ
+best_after first best None = best
+best_after first best (Some found) = Some (first + found.1)
+
+-- how much has to count for a place after one more row to be better
+abbrev pub least_then : ℕ → Option (ℕ × ℕ) → ℕ
+least_then least None = least
+least_then least (Some found) = found.0 + 1
 
 module _ (score : ℕ → ℕ) (passes : ℕ → Bool) where
   -- a place that doesn't pass, or for which not enough counts, changes nothing
@@ -94,14 +85,7 @@ module _ (score : ℕ → ℕ) (passes : ℕ → Bool) where
       let next : s + w + 1 ≡ s + suc w = omega arith in
       let now = first_most score passes (s + w) in
       let before = row-low s w most best e low (λ x l. few x (omega arith)) in
-      rw (← next)
-      (elim (cases_lt (score (s + w)) (least_after score now)) [
-        | inl less ↦ rw (← cell-none (s + w) now refl (λ o. less)) before
-        | inr enough ↦ elim (cases_Bool (passes (s + w))) [
-          | inl o ↦ rw (← cell-some (s + w) now refl o enough) (let less = few w (omega arith) o in omega (arith, less))
-          | inr other ↦ rw (← cell-none (s + w) now refl (λ o. absurd (true≢false (sym o ∙ other)))) before
-        ]
-      ])
+      search (rules, next, now, before, cases_lt, cell-none, cases_Bool, cell-some, true≢false)
 
   -- if enough counts for a place of a row, the first of those for which the most counts is the best
   row-some : (s w x : ℕ) (best : Option ℕ) → best ≡ first_most score passes s → x < w → passes (s + x) ≡ true →
@@ -114,15 +98,15 @@ module _ (score : ℕ → ℕ) (passes : ℕ → Bool) where
       (λ z l p. (let at : s + x + 1 + z ≡ s + (x + 1 + z) = omega arith in
       let less = most (x + 1 + z) (omega (arith, l, lx)) (rw at at p) in rw at (omega (arith, less)))))
 
--- the best place after one more row
-abbrev pub best_after : ℕ → Option ℕ → Option (ℕ × ℕ) → Option ℕ
-best_after first best None = best
-best_after first best (Some found) = Some (first + found.1)
-
--- how much has to count for a place after one more row to be better
-abbrev pub least_then : ℕ → Option (ℕ × ℕ) → ℕ
-least_then least None = least
-least_then least (Some found) = found.0 + 1
+  -- one more row looked at, by how much counts for its cells
+  row-next : (s : ℕ) (row : List Cell) (above below : ℕ → Bool) (best : Option ℕ) (least : ℕ) (found : Option (ℕ × ℕ)) →
+      ((x : ℕ) → x < length row → row_score row above below x ≡ score (s + x)) →
+      ((x : ℕ) → x < length row → is_unknown (get_or row x Unknown) ≡ passes (s + x)) → best ≡ first_most score passes s →
+      least ≡ least_after score best → IsMostInRow row above below least found →
+      (best_after s best found ≡ first_most score passes (s + length row)) ×
+      (least_then least found ≡ least_after score (best_after s best found))
+  row-next s row above below best least None same here e low none = search (rules, row-none, unknown_is)
+  row-next s row above below best least (Some (n, x)) same here e low some = grind (arith, row-some, unknown_is)
 
 -- one more row looked at
 pub row-step : (rows columns : List (List Cell)) (y width : ℕ) (cells row : List Cell) (above below : ℕ → Bool) (best : Option ℕ)
@@ -135,58 +119,12 @@ pub row-step : (rows columns : List (List Cell)) (y width : ℕ) (cells row : Li
     (best_after (y * width) best found ≡ first_most (sure_neighbours width cells) (λ k. is_unknown (get_or cells k Unknown)) ((y + 1) * width))
     × (least_then least found ≡ least_after (sure_neighbours width cells) (best_after (y * width) best found))
 row-step rows columns y width cells row above below best least found a ly wide seen is up down first l m =
-    rw (wide, ← seen) (by found (rw is at m))
-  where
-    w : ℕ
-    w = length columns
-
-    grid : List Cell
-    grid = cells_of_rows rows
-
-    score : ℕ → ℕ
-    score = sure_neighbours w grid
-
-    passes : ℕ → Bool
-    passes k = is_unknown (get_or grid k Unknown)
-
-    line : List Cell
-    line = get_or rows y []
-
-    old : best ≡ first_most score passes (y * w)
-    old = rw (wide, ← seen) at first
-
-    low : least ≡ least_after score best
-    low = rw (wide, ← seen) at l
-
-    long : length line ≡ w
-    long = (lines-long rows columns 0 y a a.size.width_from ly).0
-
-    same : (x : ℕ) → x < w → row_score line above below x ≡ score (y * w + x)
-    same x lx = score-is rows columns y x above below a ly lx (up x lx) (down x lx)
-
-    here : (x : ℕ) → x < w → passes (y * w + x) ≡ true → IsUnknownCell line x
-    here x lx p = (omega (arith, lx, long), (cell-read rows columns x y a lx ly).0 ∙ unknown_is (get_or grid (y * w + x) Unknown) p)
-
-    next : y * w + w ≡ (y + 1) * w
-    next = omega arith
-
-    by : (f : Option (ℕ × ℕ)) → IsMostInRow line above below least f
-        → (best_after (y * w) best f ≡ first_most score passes ((y + 1) * w)) ×
-        (least_then least f ≡ least_after score (best_after (y * w) best f))
-    by None none = (
-      rw next at (row-none score passes (y * w) w best old
-          (λ x lx p. (let few = none x (here x lx p) in omega (arith, few, same x lx, low)))),
-      low,
-    )
-    by (Some (n, x)) some =
-        let lx : x < w = omega (arith, some.0.0, long) in
-        let counted : n ≡ score (y * w + x) = some.1 ∙ same x lx in (
-          rw next at
-              (row-some score passes (y * w) w x best old lx
-              (ap is_unknown (sym (cell-read rows columns x y a lx ly).0 ∙ some.0.1))
-              (omega (arith, low, some.2, counted))
-              (λ z lz p. (let few = some.3 z (here z lz p) in omega (arith, few, same z lz, counted)))
-              (λ z lz p. (let within : z < w = omega (arith, lz, lx) in let few = some.4 z lz (here z within p) in
-              omega (arith, few, same z within, counted)))),
-          omega (arith, counted),
-        )
+    let w = length columns in
+    let grid = cells_of_rows rows in
+    let long : length (get_or rows y []) ≡ w = (lines-long rows columns 0 y a a.size.width_from ly).0 in
+    let next : y * w + w ≡ (y + 1) * w = omega arith in
+    let here = λ (x : ℕ) (h : x < length (get_or rows y [])). rw long at h in
+    rw (wide, ← seen)
+    (rw (long, next) at (row-next (sure_neighbours w grid) (λ k. is_unknown (get_or grid k Unknown)) (y * w) (get_or rows y []) above below
+    best least found (λ x h. score-is rows columns y x above below a ly (here x h) (up x (here x h)) (down x (here x h)))
+    (λ x h. ap is_unknown (cell-read rows columns x y a (here x h) ly).0) (rw (wide, ← seen) at first) (rw (wide, ← seen) at l) (rw is at m)))

@@ -1,8 +1,5 @@
 -- The report on a puzzle, by its two closures and by how its search ends.
-use Rattle.solve_core.proofs.Names.{◌≡◌, ℕ, zero, suc, ◌+◌, ◌≤◌, true, false, List, [], ◌∷◌, ◌++◌, length, map, Option, nat_lt, refl, sym, ap, ◌∙◌, arith, subst, true≢false, zero-add, add-zero, option_and_then, cases_lt, le-ltb, lt-ltb, closure, trials, Cell, PartialGrid, Nonogram, lines_of, Findings, Event, Guess, Solution, through_solution, within_guesses, solutions_in, guesses_in, verdict_by, grid_of, whole_search, events_from, guesses_of, unknown_grid, line_closure, trial_closure, is_decided, known_in, grade_by, report_of, IsFinal, Ending, ending, rules}
-
-nat_lt-more : (m n : ℕ) → nat_lt m n ≡ nat_lt (suc m) (suc n)
-nat_lt-more m n = search (rules, cases_lt, lt-ltb, le-ltb)
+use Rattle.solve_core.proofs.Names.{◌≡◌, ℕ, zero, suc, ◌+◌, ◌≤◌, true, false, List, [], ◌∷◌, ◌++◌, length, map, Option, nat_lt, refl, sym, ap, ◌∙◌, arith, subst, true≢false, zero-add, add-zero, option_and_then, cases_lt, le-ltb, lt-ltb, closure, trials, Cell, PartialGrid, Nonogram, lines_of, Findings, Event, Guess, Solution, through_solution, within_guesses, solutions_in, guesses_in, verdict_by, grid_of, whole_search, events_from, guesses_of, unknown_grid, line_closure, trial_closure, is_decided, known_in, grade_by, report_of, IsFinal, Ending, ending, rules, ◌-◌, add-one, ◌<◌}
 
 nat_lt-positive : (n : ℕ) → nat_lt 0 (suc n) ≡ true
 nat_lt-positive n = lt-ltb 0 (suc n) (omega arith)
@@ -20,19 +17,13 @@ ending-one : (p : Nonogram) (a : PartialGrid) (spent left : ℕ) (es : List Even
 ending-one p a spent left [] = rw add-zero refl
 ending-one p a spent left (Solution c ∷ es) = rw add-zero refl
 ending-one p a spent zero (Guess ∷ es) = rw (add-zero, nat_lt-positive (length (through_solution 1 es))) refl
-ending-one p a spent (suc left) (Guess ∷ es) =
-    let part = within_guesses left (through_solution 1 es) in
-    let e : suc spent + guesses_in part ≡ spent + suc (guesses_in part) = omega arith in
-    rw (ending-one p a (suc spent) left es, nat_lt-more (length part) (length (through_solution 1 es)), e) refl
+ending-one p a spent (suc left) (Guess ∷ es) = search (rules, cases_lt, lt-ltb, le-ltb, (ending-one p a (suc spent) left es))
 
 ending-none : (p : Nonogram) (spent left : ℕ) (es : List Event) → ending p [] spent left es ≡ defined p [] 2 spent left es
 ending-none p spent left [] = rw add-zero refl
-ending-none p spent left (Solution c ∷ es) = search (rules, ending-one, nat_lt-more)
+ending-none p spent left (Solution c ∷ es) = search (rules, ending-one, cases_lt, lt-ltb, le-ltb)
 ending-none p spent zero (Guess ∷ es) = rw (add-zero, nat_lt-positive (length (through_solution 2 es))) refl
-ending-none p spent (suc left) (Guess ∷ es) =
-    let part = within_guesses left (through_solution 2 es) in
-    let e : suc spent + guesses_in part ≡ spent + suc (guesses_in part) = omega arith in
-    rw (ending-none p (suc spent) left es, nat_lt-more (length part) (length (through_solution 2 es)), e) refl
+ending-none p spent (suc left) (Guess ∷ es) = search (rules, cases_lt, lt-ltb, le-ltb, (ending-none p (suc spent) left es))
 
 -- how the search of a puzzle ends, from what trials leave
 abbrev pub end_from : (List Cell → Option ℕ) → Nonogram → ℕ → Option (List Cell) → Ending
@@ -90,3 +81,16 @@ report-greater pick p limit greater l h =
     let same : report_by pick p greater (line_closure p) (trial_closure p) ≡ report_by pick p limit (line_closure p) (trial_closure p) =
     rw e refl in
     sym (report-is pick p greater) ∙ same ∙ report-is pick p limit
+
+-- a guess that the limit allows is spent
+ending-guess : (p : Nonogram) (found : List PartialGrid) (spent limit : ℕ) (es : List Event) → length found < 2 → spent < limit
+    → ending p found spent (limit - spent) (Guess ∷ es) ≡ ending p found (spent + 1) (limit - (spent + 1)) es
+ending-guess p found spent limit es l h = search (rules, add-one)
+
+-- one turn of a search: a guess is spent, and what happens below it is looked at
+pub ending-next : (p : Nonogram) (found more : List PartialGrid) (spent limit : ℕ) (whole : Ending) (before below after : List Event) →
+    before ≡ Guess ∷ below → length found < 2 → spent < limit → ending p found spent (limit - spent) before ≡ whole →
+    ((s l : ℕ) → ending p more s l after ≡ ending p found s l below) → ending p more (spent + 1) (limit - (spent + 1)) after ≡ whole
+ending-next p found more spent limit whole before below after e room less told h =
+    h (spent + 1) (limit - (spent + 1)) ∙ sym (ending-guess p found spent limit below room less) ∙
+    ap (ending p found spent (limit - spent)) (sym e) ∙ told

@@ -1,5 +1,5 @@
 -- What a search finds: every solution that extends the grid, nothing else, and none twice.
-use Rattle.solve_core.proofs.Names.{◌≡◌, ℕ, zero, suc, ◌+◌, ◌<◌, ◌≤◌, ◌⊎◌, inl, inr, Bool, true, false, List, [], ◌∷◌, ◌++◌, length, get_or, set, map, Option, Some, None, refl, sym, ap, ◌∙◌, arith, length-set, true≢false, add-one, take, position_or_len, cases_lt, lt-ltb, fails_before_first, position-Some, length-map, Cell, Unknown, Filled, Blank, CellExtends, Extends, colour, is_unknown, is_filled, GridLine, closure, Event, Guess, Solution, IsPick, first_unknown, guess_at, search_from, events_within, events, solutions_in, through_solution, Extends-refl, Extends-trans, length-Extends, Extends-antisym, unknown_count, Extends-at, Extends-from_places, get_or-map_colour, rules}
+use Rattle.solve_core.proofs.Names.{◌≡◌, ℕ, zero, suc, ◌+◌, ◌<◌, ◌≤◌, ◌⊎◌, inl, inr, Bool, true, false, List, [], ◌∷◌, ◌++◌, length, get_or, set, map, Option, Some, None, refl, sym, ap, ◌∙◌, arith, length-set, true≢false, add-one, take, cases_lt, lt-ltb, fails_before_first, position-Some, length-map, Cell, Unknown, Filled, Blank, CellExtends, Extends, colour, is_unknown, is_filled, GridLine, closure, Event, Guess, Solution, IsPick, first_unknown, guess_at, search_from, events_within, events, solutions_in, through_solution, Extends-refl, Extends-trans, length-Extends, Extends-antisym, unknown_count, Extends-at, Extends-from_places, get_or-map_colour, rules}
 use Rattle.solve_core.proofs.Order.{set_extends, set_within}
 use Rattle.solve_core.proofs.Closing.{unknown_count-le, fewer_unknown}
 use Rattle.solve_core.proofs.TrailSteps.{count-settled}
@@ -34,18 +34,11 @@ guess_solutions below c k = solutions_in-append (Guess ∷ below (set c k Filled
 
 -- a cell of which nothing is known is `Unknown`
 pub unknown_is : (c : Cell) → is_unknown c ≡ true → c ≡ Unknown
-unknown_is Unknown h = refl
-unknown_is _ h = cc
+unknown_is c h = search rules
 
 -- a known cell of a grid is the same in each grid that knows more
 pub same_known : (c d : Cell) → is_unknown c ≡ false → CellExtends c d → d ≡ c
-same_known Filled Filled e h = refl
-same_known Blank Blank e h = refl
-same_known Unknown d e h = cc
-same_known _ _ e h = absurd h
-
-none_is : (grid : List Cell) → first_unknown grid ≡ None → length grid ≤ position_or_len is_unknown grid
-none_is grid e = search (rules, cases_lt, lt-ltb)
+same_known c d h k = search rules
 
 -- a grid that knows no less has no more unknown cells
 pub unknown_count-more : (g z : List Cell) → Extends g z → unknown_count z ≤ unknown_count g
@@ -79,8 +72,7 @@ AreDistinct-append (x ∷ xs) ys h k apart = (
 )
 
 two_colours : (c : Cell) → CellExtends Filled c → CellExtends Blank c → ⊥
-two_colours Filled h k = k
-two_colours _ h k = h
+two_colours c h k = search rules
 
 not_both : (c s : List Cell) (k : ℕ) → k < length c → Extends (set c k Filled) s → Extends (set c k Blank) s → ⊥
 not_both [] s k l h e = absurd (omega arith)
@@ -208,4 +200,4 @@ solutions_through (suc n) (Solution s ∷ es) = λ i. s ∷ solutions_through n 
 
 -- the first unknown cell is a lawful pick
 pub first_unknown-IsPick : IsPick first_unknown
-first_unknown-IsPick = search (rules, position-Some, fails_before_first, none_is)
+first_unknown-IsPick = search (rules, position-Some, fails_before_first, cases_lt, lt-ltb)

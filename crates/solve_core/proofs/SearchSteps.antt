@@ -1,11 +1,10 @@
 -- What happens below a guess, and at which cell the next one is made.
-use Rattle.solve_core.proofs.Names.{◌≡◌, ◌≢◌, ℕ, ◌+◌, ◌<◌, ◌≤◌, List, [], ◌++◌, length, get_or, set, refl, sym, arith, subst, Option, Some, None, IfSome, true, false, get_or-set_other, cases_lt, position-Some, Cell, Unknown, Filled, is_unknown, is_known, Extends, GridLine, Branch, round, closure, Event, IsPick, search_from, events, first_unknown, unknown_count, AreKnownBefore, IsClosed, IsNext, IsOpen, IsWork, AreOlder, Extends-at, IsUnknownFrom, rules}
+use Rattle.solve_core.proofs.Names.{◌≡◌, ◌≢◌, ℕ, ◌+◌, ◌<◌, List, ◌++◌, length, get_or, set, refl, sym, arith, Option, Some, IfSome, true, false, get_or-set_other, cases_lt, position-Some, Cell, Unknown, Filled, is_unknown, is_known, Extends, GridLine, round, closure, Event, IsPick, search_from, events, first_unknown, unknown_count, AreKnownBefore, IsClosed, IsNext, IsOpen, Extends-at, IsUnknownFrom, rules}
 use Rattle.grid_core.proofs.FirstUnknown.{position_none, position_some}
 use Rattle.solve_core.proofs.Closing.{repeat-fixed}
 use Rattle.solve_core.proofs.ClosureLaws.{closure-IsLeastClosed}
 use Rattle.solve_core.proofs.SearchLaws.{events-unfold, same_known, unknown_is, unknown_count-more}
 use Rattle.solve_core.proofs.TrailSteps.{count-settled}
-use Rattle.solve_core.proofs.BranchLaws.{branch-count}
 
 -- below a guess the search goes on in the closed cells, and if closing refutes the guess, nothing happens
 pub closed-events : (pick : List Cell → Option ℕ) (lawful : IsPick pick) (lines : List GridLine) (g : List Cell) (o : Option (List Cell))
@@ -15,10 +14,6 @@ closed-events pick lawful lines g o rest closed = search (rules, events-unfold)
 -- closed cells are their own closure
 pub closed-closure : (lines : List GridLine) (cells : List Cell) → IsClosed lines cells → closure lines cells ≡ Some cells
 closed-closure lines cells h = repeat-fixed (round lines) (length cells + 1) cells h
-
--- the closure of a grid is closed
-pub closure-closed : (lines : List GridLine) (g now : List Cell) → Some now ≡ closure lines g → IsClosed lines now
-closure-closed lines g now e = (closure-IsLeastClosed lines g).closed now (sym e)
 
 -- the cell of the next guess is unknown
 pub next-unknown : (pick : List Cell → Option ℕ) (lawful : IsPick pick) (lines : List GridLine) (cells : List Cell) (k : ℕ) →
@@ -32,19 +27,7 @@ unknown_count-positive cells k l e = omega (arith, count-settled cells k Filled 
 -- a cell to guess is unknown
 pub open-unknown : (pick : List Cell → Option ℕ) (lawful : IsPick pick) (lines : List GridLine) (cells : List Cell) (next : Option ℕ) →
     IsOpen pick lines cells next → IfSome next (λ place. (place < length cells) × (get_or cells place Unknown ≡ Unknown))
-open-unknown pick lawful lines cells None h = tt
-open-unknown pick lawful lines cells (Some place) h = next-unknown pick lawful lines cells place h
-
--- if a cell is to be guessed, there are no more branches than settled cells
-pub open-older : (pick : List Cell → Option ℕ) (lines : List GridLine) (cells : List Cell) (trail : List ℕ) (branches : List Branch)
-    (next : Option ℕ) → IsWork pick lines cells trail branches → AreOlder trail branches next → next ≢ None → length branches ≤ length trail
-open-older pick lines cells trail branches None w o n = absurd (n refl)
-open-older pick lines cells trail branches (Some place) w o n = branch-count (length trail) branches w.order o
-
--- if there is no branch, all branches are older than what was settled last
-pub older-none : (trail : List ℕ) (branches : List Branch) (next : Option ℕ) → branches ≡ [] → AreOlder trail branches next
-older-none trail branches None e = tt
-older-none trail branches (Some k) e = subst (λ (bs : List Branch). AreOlder trail bs (Some k)) (sym e) tt
+open-unknown pick lawful lines cells next h = search (rules, next-unknown)
 
 -- closing with one more cell settled leaves fewer unknown
 pub alive-fewer : (lines : List GridLine) (cells now : List Cell) (k : ℕ) (c : Cell) → k < length cells → get_or cells k Unknown ≡ Unknown →

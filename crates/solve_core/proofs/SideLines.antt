@@ -1,12 +1,7 @@
 -- The lines of a grid by side and number.
-use Rattle.solve_core.proofs.Names.{◌≡◌, ℕ, zero, suc, ◌+◌, ◌*◌, ◌<◌, ◌≤◌, inl, inr, List, [], ◌∷◌, ◌/◌, ◌%◌, ◌∙◌, sym, length, get_or, refl, ap, arith, AllByRecursion, div-mul-add, mod-mul-add, recursion_from_All, Side, Rows, Columns, IsSize, Nonogram, IsNonogram, GridLine, lines_of, clues_on, crossing, line_on, places_on, column_on, count_on, place_on, row_on, all_lines, each_line, place-within, length-places_on, get_or-places_on, rules}
-use Rattle.std.proofs.Math.Nat.{mul-le-mul_left}
+use Rattle.solve_core.proofs.Names.{◌≡◌, ℕ, zero, suc, ◌+◌, ◌*◌, ◌<◌, inl, inr, List, [], ◌∷◌, ◌/◌, ◌%◌, ◌∙◌, sym, length, get_or, refl, ap, arith, AllByRecursion, div-mul-add, mod-mul-add, recursion_from_All, Side, Rows, Columns, Nonogram, IsNonogram, GridLine, lines_of, clues_on, crossing, line_on, places_on, column_on, count_on, place_on, row_on, all_lines, each_line, place-within, length-places_on, get_or-places_on, rules, Cell, Unknown, cells_at, set}
 use Rattle.solve_core.proofs.StepLaws.{IsOneOf}
-use Rattle.solve_core.proofs.LineSteps.{AreDistinct, AreBelow, distinct_from, below_from}
-
--- the places of a grid fit 16 bits
-pub longest_sides_fit : (w h : ℕ) → IsSize w h → w * h ≤ 65536
-longest_sides_fit w h size = search (rules, mul-le-mul_left)
+use Rattle.solve_core.proofs.LineSteps.{cells_at-set, AreDistinct, AreBelow, distinct_from, below_from}
 
 -- a place has only one row and only one column
 pub unique_place : (w y j a b : ℕ) → a < w → b < w → y * w + a ≡ j * w + b → (y ≡ j) × (a ≡ b)
@@ -25,10 +20,7 @@ column_within w h x i a b = omega (arith, place-within w h x i a b)
 
 -- what holds of a side and of the one that crosses it holds of each side
 pub by_side : (P : Side → Type 0) (side : Side) → P side → P (crossing side) → (s : Side) → P s
-by_side P Rows own cross Rows = own
-by_side P Rows own cross Columns = cross
-by_side P Columns own cross Rows = cross
-by_side P Columns own cross Columns = own
+by_side P side h k s = search rules
 
 -- a cell of a line is in the grid
 pub cell_within : (side : Side) (w h i k : ℕ) → i < count_on side w h → k < count_on (crossing side) w h → place_on side w i k < w * h
@@ -38,13 +30,11 @@ cell_within Columns w h i k l m = place-within w h i k l m
 -- its column and its row are those of the grid
 pub cell_in : (side : Side) (w h i k : ℕ) → i < count_on side w h → k < count_on (crossing side) w h →
     (column_on side i k < w) × (row_on side i k < h)
-cell_in Rows w h i k l m = (m, l)
-cell_in Columns w h i k l m = (l, m)
+cell_in side w h i k l m = search rules
 
 -- a side crosses those that cross it
 pub crossing_twice : (side : Side) → crossing (crossing side) ≡ side
-crossing_twice Rows = refl
-crossing_twice Columns = refl
+crossing_twice side = search rules
 
 -- a cell of the lines of a side is one of only one line, and only once
 pub same_place : (side : Side) (w h i k j m : ℕ) → i < count_on side w h → k < count_on (crossing side) w h → j < count_on side w h →
@@ -65,18 +55,24 @@ across Columns w h i k l = along Rows w h i k l
 
 -- no place of a line is there twice, if the grid has a column
 pub distinct_places : (side : Side) (w h i : ℕ) → 0 < w → AreDistinct (places_on side w h i)
-distinct_places Rows w h i l = distinct_from (i * w) 1 w (omega arith)
-distinct_places Columns w h i l = distinct_from i w h l
+distinct_places side w h i k = search (rules, distinct_from)
 
 -- each place of a line is in the grid
 pub below_places : (side : Side) (w h i : ℕ) → i < count_on side w h → AreBelow (w * h) (places_on side w h i)
 below_places Rows w h i l = below_from (i * w) 1 w (w * h) (λ k m. row_within w h i k l m)
 below_places Columns w h i l = below_from i w h (w * h) (λ k m. column_within w h i k l m)
 
+-- a cell that is written into a grid is written into its line
+pub line-set : (side : Side) (w h i k at : ℕ) (cells : List Cell) (c : Cell) → 0 < w → i < count_on side w h →
+    k < count_on (crossing side) w h → at ≡ place_on side w i k → length cells ≡ w * h →
+    cells_at Unknown (set cells at c) (places_on side w h i) ≡ set (cells_at Unknown cells (places_on side w h i)) k c
+line-set side w h i k at cells c some li lk e size =
+    rw (e, sym (get_or-places_on side w h i k lk)) (cells_at-set cells (places_on side w h i) k c (distinct_places side w h i some)
+    (rw size (below_places side w h i li)) (rw (length-places_on side w h i) lk))
+
 -- there is a clue for each line of a side
 pub count_clues : (side : Side) (p : Nonogram) → IsNonogram p → length (clues_on side p) ≡ count_on side p.width p.height
-count_clues Rows p is = is.clues.0
-count_clues Columns p is = is.clues.1
+count_clues side p h = search rules
 
 -- what holds of each line of each side holds of all lines
 pub all_sides : (P : GridLine → Type 0) (p : Nonogram) → IsNonogram p →

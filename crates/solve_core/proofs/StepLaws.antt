@@ -1,6 +1,6 @@
 -- Deducing one line after the other stays below the closure, and ends in it.
-use Rattle.solve_core.proofs.Names.{◌≡◌, ◌⊎◌, inl, inr, List, [], ◌∷◌, map, Option, Some, None, subst, AllByRecursion, Cell, Extends, GridLine, deduce_line, round, closure, AtMost, AtMost-trans, Extends-refl}
-use Rattle.solve_core.proofs.Order.{join_all-least, below_each, none_only}
+use Rattle.solve_core.proofs.Names.{◌≡◌, ◌⊎◌, inl, inr, List, [], ◌∷◌, map, Option, Some, subst, AllByRecursion, Cell, Extends, GridLine, deduce_line, round, closure, AtMost, AtMost-trans, Extends-refl}
+use Rattle.solve_core.proofs.Order.{join_all-least, below_each}
 use Rattle.solve_core.proofs.ClosureLaws.{closure-IsLeastClosed, deduce_line-monotone, round-above, same_at_most, round-above_each}
 
 -- a line is one of several
@@ -25,11 +25,6 @@ pub step_within : (lines : List GridLine) (first g : List Cell) (line : GridLine
 step_within lines first g line m h = below_each (deduce_line g line) (closure lines first) (λ c e.
     AtMost-trans (deduce_line g line) (deduce_line c line) (Some c) (deduce_line-monotone line g c (rw e at h))
     (closed_line lines c line ((closure-IsLeastClosed lines first).closed c e) m))
-
--- a line that dies on the way means that the closure is dead
-pub dead_within : (lines : List GridLine) (first g : List Cell) (line : GridLine) → IsOneOf line lines →
-    AtMost (Some g) (closure lines first) → deduce_line g line ≡ None → closure lines first ≡ None
-dead_within lines first g line m h e = none_only (closure lines first) (rw e at (step_within lines first g line m h))
 
 each_same : (g : List Cell) (lines : List GridLine) → AllByRecursion (λ line. deduce_line g line ≡ Some g) lines →
     AllByRecursion (λ o. AtMost o (Some g)) (map (deduce_line g) lines)

@@ -1,9 +1,8 @@
 -- Tables of lines as they are made, forgotten and written.
-use Rattle.solve_core.proofs.Names.{◌≡◌, ◌≢◌, ℕ, zero, suc, inl, inr, refl, arith, ◌<◌, ◌≤◌, List, length, [], ◌∷◌, ◌++◌, None, get_or}
+use Rattle.solve_core.proofs.Names.{◌≡◌, ◌≢◌, ℕ, zero, suc, refl, arith, ◌<◌, ◌≤◌, List, length, [], ◌∷◌, ◌++◌, None, get_or}
 use Rattle.std.proofs.lemmas.Bool.{cases_eq, cases_lt}
 use Rattle.std.proofs.Math.ListN.{get_or-eq_default}
 use Rattle.grid_core.specs.Nonogram.{Nonogram, line_on}
-use Rattle.grid_core.specs.declared.sides.Side.{Side}
 use Rattle.grid_core.specs.declared.sides.Side.TheVariants.{Rows, Columns}
 use Rattle.line_core.proofs.Pairing.{empty_table}
 use Rattle.line_core.specs.Pairs.{IsTableOf, Table, no_table}
@@ -25,37 +24,20 @@ one_more_empty xs y empty none = record { each = λ i. at xs i empty.each }
 
 -- no table has a line if none of them does
 pub all_empty : (xs : List Table) (n : ℕ) → length xs ≤ n → ((k : ℕ) → k < n → (get_or xs k no_table).line ≡ None) → AreEmpty xs
-all_empty xs n long none = record {
-  each = λ k. elim (cases_lt k n) [
-    | inl h ↦ none k h
-    | inr h ↦ rw (get_or-eq_default xs no_table {n = k} (omega (arith, long, h))) refl
-  ];
-}
+all_empty xs n long none = grind (arith, cases_lt, get_or-eq_default)
 
 -- tables without a line are those of any puzzle
 pub empty_tables : (p : Nonogram) (rows columns : List Table) → AreEmpty rows → AreEmpty columns
     → AreTablesOf p (record { rows = rows; columns = columns })
-empty_tables p rows columns r c = record { each = at }
-  where
-    at : (side : Side) (i : ℕ) → IsTableOf (line_on side p i).clue (table_on side i (record { rows = rows; columns = columns }))
-    at Rows i = empty_table _ _ (r.each i)
-    at Columns i = empty_table _ _ (c.each i)
+empty_tables p rows columns r c = grind (arith, table_on, empty_table)
 
 -- the table of a row is made
 pub row_written : (p : Nonogram) (old new : LineTables) (i : ℕ) → AreTablesOf p old → IsTableOf (line_on Rows p i).clue (table_on Rows i new)
     → ((k : ℕ) → k ≢ i → get_or new.rows k no_table ≡ get_or old.rows k no_table) → new.columns ≡ old.columns → AreTablesOf p new
-row_written p old new i tables table others same = record { each = at }
-  where
-    at : (side : Side) (k : ℕ) → IsTableOf (line_on side p k).clue (table_on side k new)
-    at Columns k = rw same (tables.each Columns k)
-    at Rows k = elim (cases_eq k i) [ inl e ↦ rw e table | inr n ↦ rw (others k n) (tables.each Rows k) ]
+row_written p old new i tables table others same = grind (arith, table_on, cases_eq)
 
 -- the table of a column is made
 pub column_written : (p : Nonogram) (old new : LineTables) (i : ℕ) → AreTablesOf p old
     → IsTableOf (line_on Columns p i).clue (table_on Columns i new)
     → ((k : ℕ) → k ≢ i → get_or new.columns k no_table ≡ get_or old.columns k no_table) → new.rows ≡ old.rows → AreTablesOf p new
-column_written p old new i tables table others same = record { each = at }
-  where
-    at : (side : Side) (k : ℕ) → IsTableOf (line_on side p k).clue (table_on side k new)
-    at Rows k = rw same (tables.each Rows k)
-    at Columns k = elim (cases_eq k i) [ inl e ↦ rw e table | inr n ↦ rw (others k n) (tables.each Columns k) ]
+column_written p old new i tables table others same = grind (arith, table_on, cases_eq)

@@ -1,8 +1,8 @@
 -- What a trial's outcome says of a cell, and what settling the cell leaves of the trials' end.
-use Rattle.solve_core.proofs.Names.{◌≡◌, ℕ, ◌+◌, ◌<◌, inl, inr, Bool, true, false, List, length, get_or, set, Option, Some, None, is_none, refl, ap, ◌∙◌, arith, zero-add, Cell, Unknown, Filled, Blank, CellExtends, Extends, is_known, GridLine, Changed, round, closure, is_refuted, left_over, tried, trial_round, trials, IsTried, Progresses, IsTrialOf, unknown_count, AtMost, Extends-refl, Extends-trans, length-Extends, rules}
+use Rattle.solve_core.proofs.Names.{◌≡◌, ℕ, ◌+◌, ◌<◌, inl, inr, Bool, true, false, List, length, get_or, set, Some, None, ap, ◌∙◌, arith, zero-add, Cell, Unknown, Filled, Blank, CellExtends, Extends, is_known, GridLine, Changed, round, closure, is_refuted, left_over, tried, trial_round, trials, IsTried, Progresses, IsTrialOf, unknown_count, AtMost, Extends-refl, Extends-trans, length-Extends, rules}
 use Rattle.solve_core.specs.declared.trials.Trial.{Trial}
-use Rattle.solve_core.specs.declared.trials.Trial.TheVariants.{Refuted, Open, Closed}
-use Rattle.solve_core.proofs.Order.{set_extends, set_within, below_each, none_only}
+use Rattle.solve_core.specs.declared.trials.Trial.TheVariants.{Refuted, Closed}
+use Rattle.solve_core.proofs.Order.{set_extends, set_within, below_each}
 use Rattle.solve_core.proofs.Closing.{repeat-fixed, fewer_unknown}
 use Rattle.solve_core.proofs.ClosureLaws.{closure-IsLeastClosed, same_at_most}
 use Rattle.solve_core.proofs.TrialLaws.{OptionBelow, tried_cells, tried_cells-above, all_below, each_below, tried-below, after_trials, trials-IsLeastClosed, left_blank_below, left_filled_below}
@@ -25,10 +25,6 @@ closure_below lines g = search (rules, below_each, trials-IsLeastClosed, closure
 -- trials from the closure of a grid end as they do from the grid
 pub closure_trials : (lines : List GridLine) (g new : List Cell) → closure lines g ≡ Some new → trials lines new ≡ trials lines g
 closure_trials lines g new e = search (rules, trials_between, closure-IsLeastClosed, closure_below)
-
--- if the closure of a grid is dead, its trials end dead
-pub closure_dead : (lines : List GridLine) (g : List Cell) → closure lines g ≡ None → trials lines g ≡ None
-closure_dead lines g e = none_only (trials lines g) (rw e at (closure_below lines g))
 
 -- what trials say of one cell is below where they all end
 tried_at_end : (lines : List GridLine) (g w : List Cell) (k : ℕ) → trial_round lines w ≡ Some w → Extends g w → k < length w →
@@ -54,22 +50,13 @@ pub filled_below : (lines : List GridLine) (g : List Cell) (k : ℕ) → k < len
     AtMost (Some (set g k Filled)) (trials lines g)
 filled_below lines g k l r = left_below lines g k Filled l (λ w h. left_filled_below (is_refuted lines g k Filled) w (rw r at h))
 
-tried_stays : (lines : List GridLine) (z : List Cell) (k : ℕ) (c : Cell) →
-    (c ≡ Unknown → (is_refuted lines z k Filled ≡ false) × (is_refuted lines z k Blank ≡ false)) → OptionBelow (tried lines z k c) c
-tried_stays lines z k Unknown h = search (rules)
-tried_stays lines z k Filled h = tt
-tried_stays lines z k Blank h = tt
-
 -- a line-closed grid in which no unknown cell has a refuted colour is trial-closed
 pub tried-closed : (lines : List GridLine) (z : List Cell) → round lines z ≡ Some z → ((k : ℕ) → k < length z → IsTried lines z k) →
     trial_round lines z ≡ Some z
-tried-closed lines z e h = search (rules, same_at_most, tried_cells-above, all_below, zero-add, tried_stays, repeat-fixed)
+tried-closed lines z e h = search (rules, same_at_most, tried_cells-above, all_below, zero-add, repeat-fixed)
 
 both_open : (a b : Bool) → OptionBelow (left_over a b) Unknown → (a ≡ false) × (b ≡ false)
-both_open true true h = absurd h
-both_open true false h = absurd h
-both_open false true h = absurd h
-both_open false false h = (refl, refl)
+both_open a b h = search rules
 
 -- in a trial-closed grid no unknown cell has a refuted colour
 pub closed-tried : (lines : List GridLine) (z : List Cell) → trial_round lines z ≡ Some z → (k : ℕ) → k < length z → IsTried lines z k
@@ -82,14 +69,10 @@ pub tried_ends : (lines : List GridLine) (z : List Cell) → round lines z ≡ S
     trials lines z ≡ Some z
 tried_ends lines z e h = repeat-fixed (trial_round lines) (length z + 1) z (tried-closed lines z e h)
 
-not_none : (o : Option (List Cell)) (z : List Cell) → AtMost o (Some z) → is_none o ≡ false
-not_none None z h = absurd h
-not_none (Some g) z h = refl
-
 -- the colour of a cell of a line-closed grid isn't refuted in a grid that knows no more
 pub met_open : (lines : List GridLine) (g z : List Cell) (k : ℕ) (d : Cell) → round lines z ≡ Some z → Extends g z →
     get_or z k Unknown ≡ d → is_refuted lines g k d ≡ false
-met_open lines g z k d closed h at = search (rules, set_within, not_none, closure-IsLeastClosed)
+met_open lines g z k d closed h at = search (rules, set_within, closure-IsLeastClosed)
 
 -- a grid that a cell was settled in and that was closed knows more
 pub settled-extends : (lines : List GridLine) (g z : List Cell) (k : ℕ) (c : Cell) → get_or g k Unknown ≡ Unknown →
@@ -113,18 +96,14 @@ settle-changed lines g new k c l unknown n below e =
 -- if settling a cell as trials do leads to a dead closure, the trials end dead
 pub settle-dead : (lines : List GridLine) (g : List Cell) (k : ℕ) (c : Cell) → get_or g k Unknown ≡ Unknown →
     AtMost (Some (set g k c)) (trials lines g) → closure lines (set g k c) ≡ None → trials lines g ≡ None
-settle-dead lines g k c unknown below e = search (rules, trials_between, set_extends, closure_dead)
+settle-dead lines g k c unknown below e = search (rules, trials_between, set_extends, closure_below)
 
 -- a trial that came to `Refuted` refutes its colour
 pub trial-refuted : (r : Trial) (lines : List GridLine) (g trial : List Cell) (k : ℕ) (c : Cell) → r ≡ Refuted →
     IsTrialOf r lines g k c trial → is_refuted lines g k c ≡ true
-trial-refuted Refuted lines g trial k c e h = ap is_none h
-trial-refuted Open lines g trial k c e h = cc
-trial-refuted Closed lines g trial k c e h = cc
+trial-refuted r lines g trial k c h l = search rules
 
 -- the grid of a trial that came to `Closed` is the closure of the cells with its colour
 pub trial-closed : (r : Trial) (lines : List GridLine) (g trial : List Cell) (k : ℕ) (c : Cell) → r ≡ Closed →
     IsTrialOf r lines g k c trial → closure lines (set g k c) ≡ Some trial
-trial-closed Refuted lines g trial k c e h = cc
-trial-closed Open lines g trial k c e h = cc
-trial-closed Closed lines g trial k c e h = h
+trial-closed r lines g trial k c h l = search rules

@@ -232,18 +232,6 @@ impl<W: LineSet> Closer<W> {
             .prepare(puzzle, side, i, board.lines().line(side, i));
     }
 
-    /// Makes the tables of the row and of the column of a cell.
-    fn prepare(&mut self, puzzle: &Puzzle, board: &Board<W>, place: usize)
-        requires rest { IsAtRest puzzle.now self.old board.now.cells }
-        requires size { IsBoardOf puzzle.now board.now }
-        requires place { place < length board.now.cells }
-        ensures rest { IsAtRest puzzle.now self.new board.now.cells }
-    {
-        let width = usize::from(puzzle.width());
-        self.prepare_line(puzzle, Side::Rows, (place / width) as u16, board);
-        self.prepare_line(puzzle, Side::Columns, (place % width) as u16, board);
-    }
-
     /// Takes away the tables of lines.
     pub fn forget_tables(&mut self)
         ensures memory { (p : Nonogram) → IsMemoryOf p self.old → IsMemoryOf p self.new }
@@ -329,9 +317,10 @@ impl<W: LineSet> Closer<W> {
         if self.calm < CALM {
             return false;
         }
-        self.prepare(puzzle, board, place);
         let width = usize::from(puzzle.width());
         let (x, y) = ((place % width) as u16, (place / width) as u16);
+        self.prepare_line(puzzle, Side::Rows, y, board);
+        self.prepare_line(puzzle, Side::Columns, x, board);
         let (row, column) = (board.line(Side::Rows, y), board.line(Side::Columns, x));
         self.deductions.is_neutral(Side::Rows, y, row, x, colour)
             && self

@@ -16,8 +16,7 @@ returns-in-Some-clause-work g c = λ rule lines w older n.
     (rw c.in-Some.is at older) (rw c.in-Some.is at n)
 
 pub returns-in-Some-pop-clause-events : goal.returns-in-Some-pop-clause-events
-returns-in-Some-pop-clause-events g c =
-    search (rules, c.in-None.is, back-events, c.in-Some-pop.branch, c.go_back.ensures)
+returns-in-Some-pop-clause-events g c = search (rules, back-events)
 
 pub returns-in-Some-pop-clause-work : goal.returns-in-Some-pop-clause-work
 returns-in-Some-pop-clause-work g c = λ rule lines w older n.

@@ -1,5 +1,5 @@
 -- `learn_line`: what is certain of a line is written, and the lines that cross where it changes are marked.
-use Rattle.solve_core.proofs.Names.{true≢false, ◌≡◌, ◌∙◌, ◌*◌, ◌<◌, ◌⊎◌, inl, inr, ℕ, sym, arith, ap, subst, length, get_or, refl, List, Cell, Unknown, Side, Nonogram, cells_at, crossing, line_on, places_on, count_on, place_on, IsSize, Has, IsMaskOf, deduced, IsChanged, same_cells, same_without_change, length-cells_at, get_or-cells_at, length-places_on, get_or-places_on, deduced-above, length-deduced, marks_on, with_cells, IsWritten, rules}
+use Rattle.solve_core.proofs.Names.{true≢false, ◌≡◌, ◌∙◌, ◌*◌, ◌<◌, ◌⊎◌, inl, inr, ℕ, sym, arith, ap, subst, length, get_or, refl, List, Cell, Unknown, Side, Nonogram, cells_at, crossing, line_on, count_on, place_on, IsSize, Has, IsMaskOf, deduced, IsChanged, same_cells, same_without_change, length-cells_at, get_or-cells_at, length-places_on, get_or-places_on, deduced-above, length-deduced, marks_on, IsWritten, rules}
 use Rattle.solve_core.proofs.ClosureLaws.{length-with_cells}
 use Rattle.solve_core.proofs.GridSteps.{seen}
 use Rattle.solve_core.proofs.LineSteps.{written-fewer, written-read}
@@ -7,16 +7,13 @@ use Rattle.solve_core.proofs.SideLines.{below_places, crossing_twice, distinct_p
 use Rattle.solve_core.proofs.closures.learn_line.Goals as goal
 
 pub changes-changes-requires : goal.changes-changes-requires
-changes-changes-requires g c = length-deduced c.line-old.result.now c.in-Some.new (line_on c.args.side c.args.puzzle.now c.args.i).clue
-    (sym c.in-Some.is ∙ c.deduce.ensures.answer)
+changes-changes-requires g c = search (rules, length-deduced)
 
 pub learn-requires-clause-fits : goal.learn-requires-clause-fits
-learn-requires-clause-fits g c =
-    search (rules, length-deduced, c.in-Some.is, c.deduce.ensures.answer, c.changes-changes.ensures.fits)
+learn-requires-clause-fits g c = search (rules, length-deduced)
 
 pub learn-requires-clause-more : goal.learn-requires-clause-more
-learn-requires-clause-more g c =
-    search (rules, c.line-old.ensures.cells, c.deduce.ensures.answer, c.in-Some.is, deduced-above)
+learn-requires-clause-more g c = search (rules, deduced-above)
 
 pub returns-then-is_empty-clause-learned : goal.returns-then-is_empty-clause-learned
 returns-then-is_empty-clause-learned g c = search (rules, seen, same_without_change, length-deduced)
@@ -55,8 +52,7 @@ returns g c =
     let w : IsWritten line b.cells new = record {
       certain = c.in-Some.new;
       is_certain = ap (λ (r : List Cell). deduced r line.clue) (sym read) ∙ sym c.deduce.ensures.answer ∙ c.in-Some.is;
-      written = c.learn.ensures.cells ∙ (λ j. with_cells b.cells
-          (places_on side (c.requires.board.0 j) (c.requires.board.1 j) i) c.in-Some.new);
+      written = search (rules);
     } in
     let size : IsSize p.width p.height = rw (← c.requires.board.0, ← c.requires.board.1) c.line-old.ensures.whole.0 in
     let same = same_without_change c.line-old.result.now c.in-Some.new m
@@ -75,8 +71,7 @@ returns g c =
             (rw c.requires.board.2 (below_places side p.width p.height i c.requires.i)),
       );
       marks = record {
-        own = subst (λ (s : Side). marks_on s after ≡ marks_on s before) (ap crossing c.crossing.ensures ∙ crossing_twice side)
-            c.add.ensures.other;
+        own = search (rules, crossing_twice);
         kept = λ k h. added.from k (inl h);
         crossing_it = λ k h. elim (added.to k h) [ inl old ↦ inl old | inr cell ↦ inr (within k cell) ];
         same = λ k l n. unchanged p b.cells new c.in-Some.new side i k m (omega (arith, size.width_from)) c.requires.i c.requires.board.2
@@ -84,11 +79,6 @@ returns g c =
       };
       same = search rules;
       trail = search rules;
-      size = (
-        c.learn.ensures.width ∙ c.requires.board.0,
-        c.learn.ensures.height ∙ c.requires.board.1,
-        ap length c.learn.ensures.cells ∙
-            length-with_cells b.cells (places_on side b.width b.height i) c.in-Some.new ∙ c.requires.board.2,
-      );
+      size = search (rules, length-with_cells);
       memory = search rules;
     }

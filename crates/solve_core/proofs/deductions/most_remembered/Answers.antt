@@ -1,10 +1,9 @@
 -- `most_remembered`: the quotient is at least 1, since sets have no more than 256 places.
-use Rattle.solve_core.proofs.Names.{◌≡◌, ℕ, zero, suc, ◌+◌, ◌*◌, ◌<◌, ◌≤◌, arith, one_within, width_most}
+use Rattle.solve_core.proofs.Names.{◌≡◌, ℕ, ◌+◌, ◌*◌, ◌<◌, ◌≤◌, arith, one_within, width_most}
 use Rattle.solve_core.proofs.deductions.most_remembered.Goals as goal
 
 positive : (q w r n : ℕ) → n ≡ q * w + r → r < w → w ≤ 256 → 256 ≤ n → 1 ≤ q
-positive zero w r n e l m h = absurd (omega (arith, e))
-positive (suc q) w r n e l m h = omega arith
+positive q w r n h k l m = grind arith
 
 pub returns : goal.returns
 returns g c = grind (arith, width_most, one_within, c.from.ensures, c.WIDTH.ensures, positive, c.min.ensures)

@@ -1,5 +1,5 @@
 -- `read_lines`: rows that are those of the grid, and columns with the cells of the rows, are its lines.
-use Rattle.solve_core.proofs.Names.{◌≡◌, ◌*◌, ◌∙◌, length, ap, sym, arith, IsSize, length-row_of}
+use Rattle.solve_core.proofs.Names.{◌≡◌, ◌*◌, ◌∙◌, length, sym, arith, IsSize, length-row_of}
 use Rattle.solve_core.proofs.GridLineSteps.{lines-long, lines-read}
 use Rattle.solve_core.proofs.grid_lines.read_lines.Goals as goal
 
@@ -8,8 +8,7 @@ read_rows-requires-clause-lengths g c = λ y l.
     (lines-long c.args.rows.now c.args.columns.now 0 y c.requires.lines c.requires.lines.size.width_from l).0 ∙ sym c.requires.width
 
 pub read_columns-requires-clause-rows : goal.read_columns-requires-clause-rows
-read_columns-requires-clause-rows g c = λ y l.
-    ap length (c.read_rows.ensures.rows y (omega (arith, l, c.read_rows.ensures.len))) ∙ length-row_of c.args.grid.now y ∙ c.requires.width
+read_columns-requires-clause-rows g c = grind (arith, length-row_of)
 
 pub read_columns-requires-clause-columns : goal.read_columns-requires-clause-columns
 read_columns-requires-clause-columns g c = λ x l.

@@ -1,5 +1,5 @@
 -- `count_known`: between two unknown cells, and behind the last one, all are known.
-use Rattle.solve_core.proofs.Names.{◌≡◌, ◌∙◌, ◌+◌, ◌-◌, arith, length, refl, ap, take, take_all, count_by, count_by_more_no, is_known, Unknown, PartialGrid}
+use Rattle.solve_core.proofs.Names.{◌≡◌, ◌∙◌, ◌+◌, ◌-◌, arith, length, refl, ap, take, take_all, count_by, count_by_more_no, is_known, Unknown, PartialGrid, rules}
 use Rattle.solve_core.proofs.Counting.{count-run}
 use Rattle.solve_core.proofs.reports.count_known.Goals as goal
 
@@ -12,10 +12,7 @@ loop-place-preserved g c =
     let run = count-run cells (place - from) from place (omega (arith, next.0)) (omega (arith, next.1)) next.3 in
     let here : count_by is_known (take (place + 1) cells) ≡ count_by is_known (take place cells) =
     count_by_more_no is_known cells place Unknown next.1 (ap is_known next.2) in
-    record {
-      counted = omega (arith, here, run, c.loop-place.invariant.counted, next.0);
-      within = omega (arith, next.1);
-    }
+    search (rules, next, run, here)
 
 pub returns : goal.returns
 returns g c =

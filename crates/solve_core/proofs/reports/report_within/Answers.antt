@@ -1,11 +1,8 @@
 -- `report_within`: the defined report's verdict holds of all grids, and it spends no more than `guesses`.
-use Rattle.solve_core.proofs.Names.{◌≤◌, sym, subst, Findings, picked, search_of, Holds}
+use Rattle.solve_core.proofs.Names.{sym, subst, Findings, picked, Holds, rules}
 use Rattle.solve_core.proofs.PickLaws.{picked-IsPick}
 use Rattle.solve_core.proofs.AnswerLaws.{verdict-Holds, guesses-within}
 use Rattle.solve_core.proofs.reports.report_within.Goals as goal
-
-pub returns-clause-findings : goal.returns-clause-findings
-returns-clause-findings g c = c.findings-findings.ensures
 
 pub returns-clause-holds : goal.returns-clause-holds
 returns-clause-holds g c =
@@ -16,7 +13,4 @@ returns-clause-holds g c =
     c.width-width.ensures.puzzle c.args.guesses)
 
 pub returns-clause-spent : goal.returns-clause-spent
-returns-clause-spent g c =
-    subst (λ (f : Findings). f.spent ≤ c.args.guesses)
-    (sym c.findings-findings.ensures)
-    (guesses-within c.args.guesses (search_of (picked c.args.pick c.args.puzzle.now.width) c.args.puzzle.now))
+returns-clause-spent g c = search (rules, guesses-within)

@@ -1,8 +1,9 @@
 -- `explore`: if the guess ends dead, the branches' events are left; else its closed cells' come before them.
-use Rattle.solve_core.proofs.Names.{◌≡◌, ◌++◌, length, set, ap, ◌∙◌, arith, lines_of, guess_at, events, ending, owed_by, picked, None, Some, rules}
+use Rattle.solve_core.proofs.Names.{◌≡◌, ◌++◌, length, set, ap, ◌∙◌, arith, lines_of, guess_at, events, ending, owed_by, picked, None, Some, rules, length-append}
 use Rattle.solve_core.proofs.PickLaws.{picked-IsPick}
-use Rattle.solve_core.proofs.BranchLaws.{trailed-work, trailed-pending, trailed-older}
-use Rattle.solve_core.proofs.SearchSteps.{closure-closed, next-unknown, alive-fewer, known-before, closed-events}
+use Rattle.solve_core.proofs.BranchLaws.{trailed-work, trailed-pending, before-more}
+use Rattle.solve_core.proofs.SearchSteps.{next-unknown, alive-fewer, known-before, closed-events}
+use Rattle.solve_core.proofs.ClosureLaws.{closure-IsLeastClosed}
 use Rattle.solve_core.proofs.search.explore.Goals as goal
 
 pub assign-requires-clause-cell : goal.assign-requires-clause-cell
@@ -51,10 +52,8 @@ returns-clause-goes_on g c =
     record {
       under_way = record {
         work = trailed-work rule lines old new branches c.assign.ensures.trail w;
-        older = trailed-older rule lines old new branches c.look_at.result c.assign.ensures.trail
-            (alive-fewer lines old.cells new.cells c.args.place c.args.colour at.0 at.1 c.requires.colour c.if-not-assign.ensures.closed) w;
-        next_open = (rw c.assign.ensures.size.0 at c.look_at.ensures.next) p
-            (closure-closed lines given new.cells c.if-not-assign.ensures.closed);
+        older = search (rules, before-more, length-append, alive-fewer);
+        next_open = search (rules, closure-IsLeastClosed);
       };
       ends = λ spent left. (rw c.assign.ensures.size.0 at c.look_at.ensures.ending) p c.requires.size spent left
           (owed_by rule p branches new) ∙ ap (ending p c.args.solutions.now.grids spent left) same;

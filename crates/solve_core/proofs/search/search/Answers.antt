@@ -1,9 +1,9 @@
 -- `search`: a guess and what is owed after it end as what was owed before, and fewer events are left.
 use Rattle.solve_core.proofs.Names.{append-nil, ◌≡◌, ◌+◌, ◌-◌, ◌≤◌, ◌++◌, [], refl, ap, sym, ◌∙◌, arith, length, slice_set, lines_of, events, ending, owed, owed_by, picked, Some, rules}
 use Rattle.solve_core.proofs.PickLaws.{picked-IsPick}
-use Rattle.solve_core.proofs.EndingLaws.{ending-next}
-use Rattle.solve_core.proofs.BranchLaws.{start-work}
-use Rattle.solve_core.proofs.SearchSteps.{closed-closure, open-unknown, open-older, older-none, closed-events}
+use Rattle.solve_core.proofs.ReportLaws.{ending-next}
+use Rattle.solve_core.proofs.BranchLaws.{branch-count}
+use Rattle.solve_core.proofs.SearchSteps.{closed-closure, open-unknown, closed-events}
 use Rattle.solve_core.proofs.GridSteps.{closed_rest, rest_closed}
 use Rattle.solve_core.proofs.search.search.Goals as goal
 
@@ -19,11 +19,7 @@ loop-pick-init g c =
     let all : limit - 0 ≡ limit = omega arith in
     let none : owed_by rule p branches board ≡ [] = ap (λ bs. owed_by rule p bs board) c.requires.branches in
     record {
-      under_way = record {
-        work = start-work rule lines board.cells board.trail branches c.requires.branches;
-        older = older-none board.trail branches c.look_at-next.result c.requires.branches;
-        next_open = (rw c.requires.board.0 at c.look_at-next.ensures.next) p closed;
-      };
+      under_way = search rules;
       ends = ap (λ n. ending p c.look_at-next.new.solutions.grids 0 n (owed rule p branches board c.look_at-next.result)) all
           ∙ (rw c.requires.board.0 at c.look_at-next.ensures.ending) p c.requires.size 0 limit (owed_by rule p branches board)
           ∙ ap (ending p c.args.solutions.now.grids 0 limit)
@@ -42,11 +38,10 @@ loop-pick-init g c =
     }
 
 pub take_guess-requires-clause-next : goal.take_guess-requires-clause-next
-take_guess-requires-clause-next g c =
-    search (rules, open-unknown, picked-IsPick, c.loop-pick.invariant.under_way.next_open)
+take_guess-requires-clause-next g c = search (rules, open-unknown, picked-IsPick)
 
 pub take_guess-requires-clause-older : goal.take_guess-requires-clause-older
-take_guess-requires-clause-older g c = search (rules, c.loop-pick.invariant.under_way, open-older)
+take_guess-requires-clause-older g c = search (rules, c.loop-pick.invariant.under_way, branch-count)
 
 pub explore-next-requires-clause-next : goal.explore-next-requires-clause-next
 explore-next-requires-clause-next g c = search (rules, c.loop-pick.invariant, c.in-Some.ensures.ready)

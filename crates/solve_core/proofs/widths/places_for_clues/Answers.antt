@@ -1,7 +1,11 @@
 -- `places_for_clues`: with one more clue the places are no fewer, and they have room for its numbers too.
-use Rattle.solve_core.proofs.Names.{◌≡◌, ◌∙◌, ◌≤◌, [], get_or, sym, take_all, subst, arith, All, get_or_default, All-more, LONGEST_SIDE, rules}
-use Rattle.solve_core.proofs.Fitting.{clue_short}
+use Rattle.solve_core.proofs.Names.{◌≡◌, ◌∙◌, ◌≤◌, [], get_or, sym, take_all, subst, arith, All, get_or_default, All-more, LONGEST_SIDE, rules, ℕ, List, true, leb, and_parts, leb-true, AllPass-from_list_all}
+use Rattle.grid_core.specs.Clues.{is_clue, is_run}
 use Rattle.solve_core.proofs.widths.places_for_clues.Goals as goal
+
+-- the numbers of a clue are no greater than its limit
+clue_short : (limit : ℕ) (clue : List ℕ) → is_clue limit clue ≡ true → All (λ n. n ≤ limit) clue
+clue_short limit clue h = search (rules, AllPass-from_list_all, is_run, and_parts, leb, leb-true)
 
 pub returns-clause-clues : goal.returns-clause-clues
 returns-clause-clues c = search (rules, take_all, c.loop-clue.invariant.passed)

@@ -2,30 +2,22 @@
 use Rattle.solve_core.proofs.Names.{◌≡◌, ◌≢◌, ◌∙◌, ℕ, zero, suc, ◌-◌, ◌/◌, ◌<◌, inl, inr, refl, sym, ap, arith, true≢false, bit_at, cases_eq, bit_at_and, bit_at-lt, bit_at_lowest, bit_at-suc, Has, rules}
 use Rattle.solve_core.proofs.words.without_first.Goals as goal
 
+half : (n : ℕ) → (Has n 0 → ⊥) → (n - 1) / 2 ≡ n / 2 - 1
+half n none =
+    elim (cases_eq (bit_at n 0) 1) [ inl low ↦ absurd (none low) | inr rest ↦ omega (arith, rest, bit_at-lt n 0, bit_at_lowest n) ]
+
 gone : (k n : ℕ) → Has n k → ((i : ℕ) → i < k → Has n i → ⊥) → bit_at (n - 1) k ≡ 0
-gone zero n h first =
-    let odd = sym (bit_at_lowest n) ∙ h in
-    bit_at_lowest (n - 1) ∙ omega (arith, odd)
+gone zero n h first = omega (arith, h, bit_at_lowest n, bit_at_lowest (n - 1))
 gone (suc k) n h first =
-    let even : bit_at n 0 ≡ 0 = lacks n 0 (first 0 (omega arith)) in
-    let half : (n - 1) / 2 ≡ n / 2 - 1 = omega (arith, sym (bit_at_lowest n) ∙ even) in
-    bit_at-suc (n - 1) k ∙ ap (λ (m : ℕ). bit_at m k) half ∙
+    bit_at-suc (n - 1) k ∙ ap (λ (m : ℕ). bit_at m k) (half n (first 0 (omega arith))) ∙
     gone k (n / 2) (sym (bit_at-suc n k) ∙ h) (λ i l a. first (suc i) (omega (arith, l)) (bit_at-suc n i ∙ a))
-  where
-    lacks : (n i : ℕ) → (Has n i → ⊥) → bit_at n i ≡ 0
-    lacks n i none = elim (cases_eq (bit_at n i) 1) [ inl has ↦ absurd (none has) | inr other ↦ omega (arith, other, bit_at-lt n i) ]
 
 same : (k j n : ℕ) → Has n k → ((i : ℕ) → i < k → Has n i → ⊥) → j ≢ k → Has n j → Has (n - 1) j
 same zero zero n h first other has = absurd (other refl)
 same zero (suc j) n h first other has = search (rules, bit_at_lowest, bit_at-suc)
 same (suc k) zero n h first other has = absurd (first 0 (omega arith) has)
 same (suc k) (suc j) n h first other has =
-    let even : bit_at n 0 ≡ 0 = elim (cases_eq (bit_at n 0) 1) [
-      | inl low ↦ absurd (first 0 (omega arith) low)
-      | inr rest ↦ omega (arith, rest, bit_at-lt n 0)
-    ] in
-    let half : (n - 1) / 2 ≡ n / 2 - 1 = omega (arith, sym (bit_at_lowest n) ∙ even) in
-    bit_at-suc (n - 1) j ∙ ap (λ (m : ℕ). bit_at m j) half ∙
+    bit_at-suc (n - 1) j ∙ ap (λ (m : ℕ). bit_at m j) (half n (first 0 (omega arith))) ∙
     same k j (n / 2) (sym (bit_at-suc n k) ∙ h) (λ i l a. first (suc i) (omega (arith, l)) (bit_at-suc n i ∙ a)) (λ e. other (ap suc e))
     (sym (bit_at-suc n j) ∙ has)
 

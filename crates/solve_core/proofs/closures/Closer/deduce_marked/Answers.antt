@@ -22,8 +22,7 @@ returns-in-Same-clause-closed g c =
     c.in-Same.ensures.work.marks (unmarked g c) c.loop-self.invariant.closed
 
 pub returns-then-is_dead-clause-trail : goal.returns-then-is_dead-clause-trail
-returns-then-is_dead-clause-trail g c =
-    search (rules, trailed-trans, c.loop-self.invariant.trail, c.deduce_side.ensures.trail)
+returns-then-is_dead-clause-trail g c = search (rules, trailed-trans)
 
 pub returns-in-Dead-clause-trail : goal.returns-in-Dead-clause-trail
 returns-in-Dead-clause-trail g c = search (rules, twice)

@@ -8,5 +8,4 @@ pub loop-i-preserved : goal.loop-i-preserved
 loop-i-preserved g c = grind (arith, trailed-trans, cases_lt, true≢false, in-Same, in-Changed)
 
 pub returns-in-Dead-clause-trail : goal.returns-in-Dead-clause-trail
-returns-in-Dead-clause-trail g c =
-    search (rules, trailed-trans, c.loop-i.invariant.trail, c.deduce_line.ensures.trail)
+returns-in-Dead-clause-trail g c = search (rules, trailed-trans)

@@ -1,17 +1,13 @@
 -- `Deductions::deduce`: what is remembered of a line is what is certain of it, and what is kept then is too.
-use Rattle.solve_core.proofs.Names.{arith, ◌∙◌, ap, refl}
-use Rattle.solve_core.specs.steps.Deductions.{KnownLine}
-use Rattle.solve_core.proofs.Fitting.{fits_line}
+use Rattle.solve_core.proofs.Names.{arith, ◌∙◌, cases_lt, get_or-eq_default}
 use Rattle.solve_core.proofs.Remembering.{kept_right, remembered}
 use Rattle.solve_core.proofs.deductions.Deductions.deduce.Goals as goal
 
 pub deduce-requires : goal.deduce-requires
-deduce-requires g c =
-    rw c.clue_of_line-clue.ensures (fits_line c.args.side g.W.PlaceSet.WIDTH c.args.puzzle.now c.args.i c.requires.memory.fits)
+deduce-requires g c = grind (arith, cases_lt, get_or-eq_default)
 
 pub deduce-answer-requires : goal.deduce-answer-requires
-deduce-answer-requires g c =
-    rw c.clue_of_line-clue.ensures (fits_line c.args.side g.W.PlaceSet.WIDTH c.args.puzzle.now c.args.i c.requires.memory.fits)
+deduce-answer-requires g c = grind (arith, cases_lt, get_or-eq_default)
 
 pub returns-in-Some-clause-answer : goal.returns-in-Some-clause-answer
 returns-in-Some-clause-answer g c =
@@ -20,10 +16,7 @@ returns-in-Some-clause-answer g c =
 pub returns-then-is_of-clause-answer : goal.returns-then-is_of-clause-answer
 returns-then-is_of-clause-answer g c =
     let right = rw (← c.self.view_is) at c.requires.memory.right in
-    c.copy_answer.ensures
-    ∙ ap (λ (d : KnownLine). d.answer) c.behind-self.view_is
-    ∙ remembered c.args.puzzle.now _ _ c.index-then-index-len.result.now c.index-then-is_of.result.now c.args.side c.args.i c.args.line.now right
-    (omega (arith, c.len-2.ensures, c.if-index-len.true)) c.index-then-index-len.ensures c.index-then-is_of.ensures (c.if-is_of.ensures refl)
+    grind (arith, right, remembered)
 
 pub returns-clause-memory : goal.returns-clause-memory
 returns-clause-memory g c = record {

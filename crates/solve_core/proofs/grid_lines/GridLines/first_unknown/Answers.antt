@@ -1,5 +1,5 @@
 -- `GridLines::first_unknown`: all cells passed are known, so a row's first unknown cell is the grid's.
-use Rattle.solve_core.proofs.Names.{◌≡◌, ◌∙◌, ◌+◌, ◌*◌, ◌<◌, ◌≤◌, inl, inr, length, ap, sym, arith, cases_lt, PartialGrid, cells_of_rows}
+use Rattle.solve_core.proofs.Names.{rules, ◌≡◌, ◌∙◌, ◌+◌, ◌*◌, ◌<◌, ◌≤◌, inl, inr, length, ap, sym, arith, cases_lt, PartialGrid, cells_of_rows}
 use Rattle.solve_core.proofs.GridLineSteps.{cell_in, cell-read, lines-long, row-known, row-unknown}
 use Rattle.solve_core.proofs.grid_lines.GridLines.first_unknown.Goals as goal
 
@@ -32,12 +32,8 @@ returns-in-Some g c =
     rw (c.from.ensures, wide, ← seen) (record {
       found = (omega (arith, start, found.0), (within, unknown));
       each = λ zero.
-          let at = row-unknown rows columns y column x c.self.invariant ly (rw c.deref.ensures.value at (c.in-Some.ensures.each zero)) in (
-            omega (arith, start, found.0),
-            within,
-            unknown,
-            λ k f t. elim (cases_lt k (y * w + column)) [ inl early ↦ known zero k f early | inr late ↦ at.2 k late t ],
-          );
+          let at = row-unknown rows columns y column x c.self.invariant ly (rw c.deref.ensures.value at (c.in-Some.ensures.each zero)) in
+          search (rules, at, known, within, unknown, start, found, cases_lt);
     })
 
 pub loop-y-preserved : goal.loop-y-preserved

@@ -1,7 +1,7 @@
 -- `GridLines::most_known`: with one more row, the best place is that of the rows above and of this one.
-use Rattle.solve_core.proofs.Names.{◌≡◌, ◌∙◌, ◌+◌, ◌-◌, ◌*◌, ◌<◌, [], Some, length, get_or, nat_eq, ap, sym, arith, Unknown, PartialGrid, has, is_sure, sure_neighbours}
+use Rattle.solve_core.proofs.Names.{◌≡◌, ◌∙◌, ◌+◌, ◌-◌, ◌*◌, ◌<◌, [], length, get_or, nat_eq, ap, sym, arith, Unknown, PartialGrid, has, is_sure}
 use Rattle.solve_core.proofs.GridLineSteps.{line_read, lines-long}
-use Rattle.solve_core.proofs.PickRows.{best_after, least_after, least_then, row-step}
+use Rattle.solve_core.proofs.PickRows.{row-step}
 use Rattle.solve_core.proofs.grid_lines.GridLines.most_known.Goals as goal
 use Rattle.solve_core.proofs.grid_lines.GridLines.most_known.Goals.{in-Some, in_default}
 
@@ -24,27 +24,7 @@ loop-y-preserved g c =
     ∙ (λ i. is_sure (nat_eq (y + 1) (length (c.deref-in-loop-y.ensures.value i)))
     (get_or (get_or (c.deref-in-loop-y.ensures.value i) (y + 1) []) x Unknown)))
     c.loop-y.invariant.best_is c.loop-y.invariant.least_is c.most_in_row.ensures in
-    elim c.match-most_in_row.branch [
-      | in-Some w ↦
-          (let same : best_after (y * c.len-width.result) c.loop-y.best c.most_in_row.result ≡ c.match-most_in_row.best =
-          ap (best_after (y * c.len-width.result) c.loop-y.best) w.in-Some.is ∙
-          (λ i. Some (y * c.len-width.result + sym w.from.ensures i)) ∙ sym w.best-is in
-          record {
-            within = omega (arith, c.loop-y-test.true);
-            best_is = sym same ∙ step.0;
-            least_is = w.least-is ∙ sym (ap (least_then c.loop-y.least) w.in-Some.is) ∙ step.1 ∙
-                ap (least_after (sure_neighbours c.len-width.result c.args.self.now.cells)) same;
-          })
-      | in_default w ↦
-          (let same : best_after (y * c.len-width.result) c.loop-y.best c.most_in_row.result ≡ c.match-most_in_row.best =
-          ap (best_after (y * c.len-width.result) c.loop-y.best) w.in_default.is ∙ sym w.best-is in
-          record {
-            within = omega (arith, c.loop-y-test.true);
-            best_is = sym same ∙ step.0;
-            least_is = w.least-is ∙ sym (ap (least_then c.loop-y.least) w.in_default.is) ∙ step.1 ∙
-                ap (least_after (sure_neighbours c.len-width.result c.args.self.now.cells)) same;
-          })
-    ]
+    grind (arith, step, in-Some, in_default)
 
 pub returns : goal.returns
 returns g c =

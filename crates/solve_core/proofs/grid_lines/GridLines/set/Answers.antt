@@ -4,12 +4,10 @@ use Rattle.solve_core.proofs.GridLineSteps.{cell-changed, column-at, row-at}
 use Rattle.solve_core.proofs.grid_lines.GridLines.set.Goals as goal
 
 pub set-requires : goal.set-requires
-set-requires g c = row-at _ _ _ c.args.x c.args.y c.self.invariant (rw (← c.self.view_is) at c.requires.column)
-    (rw (← c.self.view_is) at c.requires.row) c.index_mut.ensures.value
+set-requires g c = search (rules, row-at)
 
 pub set-requires-2 : goal.set-requires-2
-set-requires-2 g c = column-at _ _ _ c.args.x c.args.y c.self.invariant (rw (← c.self.view_is) at c.requires.column)
-    (rw (← c.self.view_is) at c.requires.row) c.index_mut-2.ensures.value
+set-requires-2 g c = search (rules, column-at)
 
 pub invariant_of-self : goal.invariant_of-self
 invariant_of-self g c =

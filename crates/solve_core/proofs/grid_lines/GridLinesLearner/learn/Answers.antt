@@ -1,7 +1,7 @@
 -- `learn` of `GridLines`: written whole, and into each line that crosses it at a change, the line is in the lines of one grid.
-use Rattle.solve_core.proofs.Names.{◌∙◌, ap, refl, with_items_is, Rows, Columns, PartialGrid, arith}
+use Rattle.solve_core.proofs.Names.{rules, ap, refl, with_items_is, Rows, Columns, PartialGrid, arith, length-Extends}
 use Rattle.solve_core.proofs.GridLineSteps.{line_read, grid_of_lines}
-use Rattle.solve_core.proofs.LearnedLines.{can_learn, learned_columns, learned_rows, long_line, learns_at}
+use Rattle.solve_core.proofs.LearnedLines.{can_learn, learned_columns, learned_rows, learns_at}
 use Rattle.solve_core.proofs.grid_lines.GridLinesLearner.learn.Goals as goal
 
 pub settle_across-requires-clause-changes : goal.settle_across-requires-clause-changes
@@ -16,8 +16,7 @@ invariant_of-self g c =
     c.self.invariant.size.width_from c.self.invariant.count c.self.view_is c.in-Rows.is c.requires.i c.requires.more c.requires.changes in
     let learned = learned_rows _ _ _ _ _ _ c.settle_across.new.lines c.self.invariant is c.deref_mut.ensures.value
     c.settle_across.ensures.len c.settle_across.ensures.changed c.settle_across.ensures.others in
-    let kept = with_items_is c.self.inside.columns c.settle_across.new.lines (c.settle_across.ensures.len ∙ c.deref_mut.ensures.len) in
-    rw (kept, c.from-place.ensures, c.copy_from.ensures) learned.1
+    search (rules, learned, with_items_is)
 
 pub returns-in-Rows-clause-cells : goal.returns-in-Rows-clause-cells
 returns-in-Rows-clause-cells g c =
@@ -28,7 +27,7 @@ returns-in-Rows-clause-cells g c =
     rw (← c.self.view_is, c.in-Rows.is, c.from-place.ensures, c.copy_from.ensures) (ap (λ (p : PartialGrid). p.cells) learned.0)
 
 pub copy_from-requires-in-Columns : goal.copy_from-requires-in-Columns
-copy_from-requires-in-Columns g c = grind (arith, learns_at, line_read, long_line)
+copy_from-requires-in-Columns g c = grind (arith, learns_at, line_read, length-Extends)
 
 pub settle_across-requires-in-Columns-clause-changes : goal.settle_across-requires-in-Columns-clause-changes
 settle_across-requires-in-Columns-clause-changes g c =
@@ -42,8 +41,7 @@ invariant_of-self-in-Columns g c =
     c.self.invariant.size.width_from c.self.invariant.count c.self.view_is c.in-Columns.is c.requires.i c.requires.more c.requires.changes in
     let learned = learned_columns _ _ _ _ _ _ c.settle_across-in-Columns.new.lines c.self.invariant is c.deref_mut-in-Columns.ensures.value
     c.settle_across-in-Columns.ensures.len c.settle_across-in-Columns.ensures.changed c.settle_across-in-Columns.ensures.others in
-    let kept = with_items_is c.self.inside.rows c.settle_across-in-Columns.new.lines (c.settle_across-in-Columns.ensures.len ∙ c.deref_mut-in-Columns.ensures.len) in
-    rw (kept, c.from-place.ensures, c.copy_from-in-Columns.ensures) learned.1
+    search (rules, learned, with_items_is)
 
 pub returns-in-Columns-clause-cells : goal.returns-in-Columns-clause-cells
 returns-in-Columns-clause-cells g c =
@@ -51,5 +49,4 @@ returns-in-Columns-clause-cells g c =
     c.self.invariant.size.width_from c.self.invariant.count c.self.view_is c.in-Columns.is c.requires.i c.requires.more c.requires.changes in
     let learned = learned_columns _ _ _ _ _ _ c.settle_across-in-Columns.new.lines c.self.invariant is c.deref_mut-in-Columns.ensures.value
     c.settle_across-in-Columns.ensures.len c.settle_across-in-Columns.ensures.changed c.settle_across-in-Columns.ensures.others in
-    let kept = with_items_is c.self.inside.rows c.settle_across-in-Columns.new.lines (c.settle_across-in-Columns.ensures.len ∙ c.deref_mut-in-Columns.ensures.len) in
-    rw (← c.self.view_is, c.in-Columns.is, kept) (ap (λ (p : PartialGrid). p.cells) learned.0)
+    search (rules, is, learned, with_items_is)

@@ -4,8 +4,7 @@ use Rattle.solve_core.proofs.TrialSteps.{settle-changed, settle-dead}
 use Rattle.solve_core.proofs.trials.Trials.keep_colour.Goals as goal
 
 pub returns-then-not-assign-clause-progress : goal.returns-then-not-assign-clause-progress
-returns-then-not-assign-clause-progress g c =
-    search (rules, settle-dead, c.requires.cell.unknown, c.requires.below, c.if-not-assign.ensures.closed)
+returns-then-not-assign-clause-progress g c = search (rules, settle-dead)
 
 pub returns-clause-progress : goal.returns-clause-progress
 returns-clause-progress g c =

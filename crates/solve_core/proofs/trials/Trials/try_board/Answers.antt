@@ -1,11 +1,10 @@
 -- `Trials::try_board`: trials of the board and of its closure end alike, and dead if the closure is dead.
 use Rattle.solve_core.proofs.Names.{rules}
-use Rattle.solve_core.proofs.TrialSteps.{closure_dead, closure_trials}
+use Rattle.solve_core.proofs.TrialSteps.{closure_trials, closure_below}
 use Rattle.solve_core.proofs.trials.Trials.try_board.Goals as goal
 
 pub returns-then-not-close-clause-tried : goal.returns-then-not-close-clause-tried
-returns-then-not-close-clause-tried g c = search (rules, closure_dead, c.if-not-close.ensures.closed)
+returns-then-not-close-clause-tried g c = search (rules, closure_below, c.if-not-close.ensures.closed)
 
 pub returns-clause-tried : goal.returns-clause-tried
-returns-clause-tried g c =
-    search (rules, c.try_at_rest.ensures.tried, closure_trials, c.if-not-close.ensures.closed)
+returns-clause-tried g c = search (rules, closure_trials)

@@ -1,5 +1,5 @@
 -- `Trials::try_until_same`: a board at rest of which no colour is refuted is what trials leave of it.
-use Rattle.solve_core.proofs.Names.{◌∙◌, sym, ap, refl, lines_of, trials}
+use Rattle.solve_core.proofs.Names.{lines_of, rules}
 use Rattle.solve_core.proofs.TrialSteps.{tried_ends}
 use Rattle.solve_core.proofs.GridSteps.{rest_closed}
 use Rattle.solve_core.proofs.trials.Trials.try_until_same.Goals as goal
@@ -10,5 +10,4 @@ returns-then-least-eq0-clause-tried g c =
     let first = c.args.board.now.cells in
     let new = c.try_each.new.board.cells in
     let closed = rest_closed c.args.puzzle.now c.try_each.new.self.closer new (c.in-Same.ensures.ready (λ e. cc)).rest in
-    sym (tried_ends lines new closed (c.in-Same.ensures.tried c.if-least-eq0.true refl)) ∙ ap (trials lines) c.in-Same.ensures.progress ∙
-    c.loop-least.invariant.same
+    search (rules, lines, new, closed, tried_ends)
