@@ -45,7 +45,7 @@ pub AreAnswersTo-front : (jobs more : List Job) (answers rest : List Answer) →
     AreAnswersTo jobs (answers ++ rest) → AreAnswersTo (take (length answers) (jobs ++ more)) answers
 AreAnswersTo-front jobs more [] rest h = tt
 AreAnswersTo-front (job ∷ jobs) more (answer ∷ answers) rest h = (h.0, AreAnswersTo-front jobs more answers rest h.1)
-AreAnswersTo-front [] more (answer ∷ answers) rest h = absurd h
+AreAnswersTo-front jobs more answers rest h = absurd h
 
 -- what an answer reports is the report of its own puzzle and limit
 pub found_is_report : (answer : Answer) (found : Findings) → answer.outcome ≡ Ok found

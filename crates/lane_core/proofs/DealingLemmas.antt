@@ -1,5 +1,5 @@
 -- Lemmas on one turn of a collector at a lane.
-use Rattle.lane_core.proofs.Names.{◌≡◌, ◌⊎◌, inl, inr, ℕ, List, [], ◌∷◌, ◌++◌, length, refl, ◌∙◌, append_assoc, length-append, arith, IsPrefix, jobs_of, has_finish, FrontLists, PutsMessage, MayRefuse, Deals, Grows, Job, Answer, Message, Work}
+use Rattle.lane_core.proofs.Names.{Finish, rules, ◌≡◌, ◌⊎◌, inl, inr, ℕ, List, [], ◌∷◌, ◌++◌, length, ◌∙◌, append_assoc, length-append, arith, IsPrefix, jobs_of, has_finish, FrontLists, PutsMessage, MayRefuse, Deals, Grows, Job, Answer, Message, Work}
 use Rattle.lane_core.specs.steps.Dealing.{Sends, Asks, Takes}
 use Rattle.lane_core.proofs.MessagesLemmas.{jobs_of-append, jobs_of-push_finish, has_finish-push_work, has_finish-push_finish}
 use Rattle.lane_core.proofs.LaneLemmas.{prefix_more}
@@ -15,15 +15,11 @@ pub record SentSoFar (old now : FrontLists) (waiting left : List Job) : Type 0 w
 pub SentSoFar-more : (old now new : FrontLists) (waiting all left : List Job) (job : Job) →
     SentSoFar old now waiting all → all ≡ job ∷ left → PutsMessage (Work job) now new
     → SentSoFar old new waiting left × Grows old new
-SentSoFar-more old now new waiting all left job s e p = (
-  record {
-    jobs = rw (p.sent, jobs_of-append, append_assoc) (rw e at s.jobs);
-    sent = rw p.sent (prefix_more old.sent now.sent _ s.sent);
-    received = p.received ∙ s.received;
-    finish = rw (p.sent, has_finish-push_work) s.finish;
-  },
-  rw (p.sent, p.received, s.received, ← s.sent.1) (omega (arith, length-append {A = Message})),
-)
+SentSoFar-more old now new waiting all left job s e p =
+    let sent = prefix_more old.sent now.sent (Work job ∷ []) s.sent in (
+      search (rules, p.sent, p.received, jobs_of-append, append_assoc, rw e at s.jobs, s.received, has_finish-push_work, s.finish),
+      rw (p.sent, p.received, s.received, ← s.sent.1) (omega (arith, length-append {A = Message})),
+    )
 
 -- answers received so far
 pub record TakenSoFar (old now : FrontLists) (got held : List Answer) (count : ℕ) : Type 0 where
@@ -42,20 +38,12 @@ pub Deals-made : (capacity capacity' : ℕ) (old mid asked new : FrontLists) (wa
 Deals-made capacity capacity' old mid asked new waiting left got got' same s (inl a) t =
     let sent = t.sent ∙ a.1.sent in
     let r = t.answers.1 in
-    record {
-      jobs = rw (sent, jobs_of-push_finish) s.jobs;
-      sent = rw sent (prefix_more old.sent mid.sent _ s.sent);
-      finish_last = λ _. inr a.0;
-      asked = inl (rw (sent, has_finish-push_finish) refl);
-      answers = (t.answers.0, record { received = rw (a.1.received, s.received) at r.received; kept = r.kept; few = r.few });
-    }
+    let more = prefix_more old.sent mid.sent (Finish ∷ []) s.sent in
+    let received = rw (a.1.received, s.received) at r.received in
+    search (rules, sent, jobs_of-push_finish, has_finish-push_finish, s.jobs, a.0, r, t.answers)
 Deals-made capacity capacity' old mid asked new waiting left got got' same s (inr a) t =
     let sent = rw a.0 at t.sent in
     let r = t.answers.1 in
-    record {
-      jobs = rw sent s.jobs;
-      sent = rw sent s.sent;
-      finish_last = λ h. inl (rw (sent, s.finish) at h);
-      asked = rw sent (refused_or_asked capacity mid left s.refused (λ none. rw (same, a.0) at (a.1 none)));
-      answers = (t.answers.0, record { received = rw (a.0, s.received) at r.received; kept = r.kept; few = r.few });
-    }
+    let asks = refused_or_asked capacity mid left s.refused (λ none. rw (same, a.0) at (a.1 none)) in
+    let received = rw (a.0, s.received) at r.received in
+    search (rules, sent, s.jobs, s.sent, s.finish, r, t.answers)

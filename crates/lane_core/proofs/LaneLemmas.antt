@@ -1,5 +1,5 @@
 -- Each event of a lane keeps that what was put and is held answers what was taken.
-use Rattle.lane_core.proofs.Names.{◌≡◌, inl, inr, ℕ, true, List, [], ◌∷◌, ◌++◌, refl, ap, sym, ◌∙◌, append_assoc, append-nil, Option, Some, None, option_to_list, IsPrefix, jobs_of, finish_is_last, IsAnswerTo, AreAnswersTo, BackLists, Lane, Event, Put_message, Take_message, Put_answer, Receive_answer, IsHeldFor, TakesMessage, Happens, Run, opening, IsAnswered, StepsBeforeFinish, Job, Answer, Message, Work, Finish, Step, Graded, Waiting}
+use Rattle.lane_core.proofs.Names.{arith, rules, ◌≡◌, inl, inr, ℕ, true, List, [], ◌∷◌, ◌++◌, refl, ap, sym, ◌∙◌, append_assoc, append-nil, Option, Some, None, option_to_list, IsPrefix, jobs_of, finish_is_last, IsAnswerTo, AreAnswersTo, BackLists, Lane, Event, Put_message, Take_message, Put_answer, Receive_answer, IsHeldFor, TakesMessage, Happens, Run, opening, IsAnswered, StepsBeforeFinish, Job, Answer, Message, Work, Step, Graded, Waiting}
 use Rattle.lane_core.specs.steps.Offer.{IsOffered}
 use Rattle.lane_core.proofs.MessagesLemmas.{jobs_of-append, jobs_of-push_finish, finish_is_last-push}
 use Rattle.lane_core.proofs.AnswersLemmas.{AreAnswersTo-push}
@@ -9,8 +9,7 @@ taken_is_answered : (message : Message) (taken : List Message) (put : List Answe
     → AreAnswersTo (jobs_of (taken ++ message ∷ [])) (put ++ option_to_list held)
 taken_is_answered (Work job) taken put (Some answer) h all =
     rw jobs_of-append (AreAnswersTo-push (jobs_of taken) put job answer (rw append-nil at all) h)
-taken_is_answered Finish taken put None h all = rw jobs_of-push_finish all
-taken_is_answered message taken put held h all = absurd h
+taken_is_answered message taken put held h all = grind (arith, jobs_of-push_finish)
 
 -- once a message is taken, what was put and is held answers what was taken
 TakesMessage-answered : (message : Message) (old new : BackLists) → TakesMessage message old new → IsAnswered old → IsAnswered new
@@ -29,30 +28,17 @@ pub prefix_more : {A : Type 0} (xs ys zs : List A) → IsPrefix xs ys → IsPref
 prefix_more xs ys zs h = (h.0 ++ zs, sym (append_assoc xs h.0 zs) ∙ ap (λ l. l ++ zs) h.1)
 
 IsLawful-happens : (event : Event) (old new : Lane) → IsLawful old → Happens event old new → IsLawful new
-IsLawful-happens (Put_message message) old new l h = record {
-  answered = rw h.3 l.answered;
-  taken = rw (h.3, h.2.sent) (prefix_more old.back.taken old.front.sent _ l.taken);
-  received = rw (h.3, h.2.received) l.received;
-  last = rw h.2.sent (finish_is_last-push old.front.sent message h.0);
-}
-IsLawful-happens (Take_message message) old new l h = record {
-  answered = TakesMessage-answered message old.back new.back h.1 l.answered;
-  taken = rw (h.2, h.1.taken) h.0;
-  received = rw (h.2, h.1.put) l.received;
-  last = rw h.2 l.last;
-}
-IsLawful-happens (Put_answer answer) old new l h = record {
-  answered = rw (h.1.taken, h.1.held, append-nil, h.1.put) (rw h.1.was_held at l.answered);
-  taken = rw (h.2, h.1.taken) l.taken;
-  received = rw (h.2, h.1.put) (prefix_more old.front.received old.back.put _ l.received);
-  last = rw h.2 l.last;
-}
-IsLawful-happens (Receive_answer answer) old new l h = record {
-  answered = rw h.2 l.answered;
-  taken = rw (h.2, h.1.sent) l.taken;
-  received = rw (h.2, h.1.received) h.0;
-  last = rw h.1.sent l.last;
-}
+IsLawful-happens (Put_message message) old new l h =
+    let taken = prefix_more old.back.taken old.front.sent (message ∷ []) l.taken in
+    search (rules, h.3, h.2.sent, h.2.received, finish_is_last-push, l.answered, l.received)
+IsLawful-happens (Take_message message) old new l h =
+    search (rules, h.2, h.1.taken, h.1.put, TakesMessage-answered, h.1, h.0, l.answered, l.received, l.last)
+IsLawful-happens (Put_answer answer) old new l h =
+    let answered = rw h.1.was_held at l.answered in
+    let received = prefix_more old.front.received old.back.put (answer ∷ []) l.received in
+    search (rules, h.2, h.1.taken, h.1.held, h.1.put, append-nil, l.taken, l.last)
+IsLawful-happens (Receive_answer answer) old new l h =
+    search (rules, h.2, h.1.sent, h.1.received, h.0, l.answered, l.taken, l.last)
 
 IsLawful-after : (events : List Event) (old new : Lane) → IsLawful old → Run old events new → IsLawful new
 IsLawful-after [] old new l r = rw r l
@@ -69,8 +55,7 @@ pub StepsBeforeFinish-offer_held : (capacity : ℕ) (answer : Answer) (result : 
     old.held ≡ Some answer → new.taken ≡ old.taken → IsOffered capacity answer result old.put new.put new.held
     → StepsBeforeFinish capacity result old new
 StepsBeforeFinish-offer_held capacity answer Graded old new h t o = inl (answer, record { was_held = h; taken = t; held = o.1; put = o.0 })
-StepsBeforeFinish-offer_held capacity answer Waiting old new h t o =
-    (inl (λ i. record { taken = t i; held = (o.1 ∙ sym h) i; put = o.0 i }), rw o.1 refl, rw o.0 o.2)
+StepsBeforeFinish-offer_held capacity answer Waiting old new h t o = search rules
 StepsBeforeFinish-offer_held capacity answer result old new h t o = absurd o
 
 -- the answer to a job that is taken is offered
@@ -84,15 +69,13 @@ StepsBeforeFinish-offer_taken capacity job answer Graded old new h t a o =
       (answer, record { was_held = refl; taken = refl; held = o.1; put = o.0 }),
     )
 StepsBeforeFinish-offer_taken capacity job answer Waiting old new h t a o =
-    (inr (Work job, record { free = h; taken = t; held = rw o.1 a; put = o.0 }), rw o.1 refl, rw o.0 o.2)
+    (inr (Work job, record { free = h; taken = t; held = rw o.1 a; put = o.0 }), grind arith, grind arith)
 StepsBeforeFinish-offer_taken capacity job answer result old new h t a o = absurd o
 
 -- whether it was put or is held, it comes last
 IsOffered-all : (capacity : ℕ) (answer : Answer) (result : Step) (old new : List Answer) (held : Option Answer) →
     IsOffered capacity answer result old new held → new ++ option_to_list held ≡ old ++ answer ∷ []
-IsOffered-all capacity answer Graded old new held o = rw (o.1, append-nil, o.0) refl
-IsOffered-all capacity answer Waiting old new held o = rw (o.1, o.0) refl
-IsOffered-all capacity answer result old new held o = absurd o
+IsOffered-all capacity answer result old new held o = grind (arith, append-nil)
 
 -- the answers of a back that offers the answer to a job that it has taken
 pub offered_is_answered : (capacity : ℕ) (job : Job) (answer : Answer) (result : Step) (old new : BackLists) →

@@ -1,11 +1,10 @@
 -- Lemmas on lists of messages.
-use Rattle.lane_core.proofs.Names.{◌≡◌, ◌∙◌, true, false, List, [], ◌∷◌, ◌++◌, refl, ap, rules, append-nil, jobs_of, has_finish, finish_is_last, Job, Message, Work, Finish}
+use Rattle.lane_core.proofs.Names.{arith, ◌≡◌, ◌∙◌, true, false, List, [], ◌∷◌, ◌++◌, refl, rules, append-nil, jobs_of, has_finish, finish_is_last, Job, Message, Work, Finish}
 
 -- the jobs of two lists of messages, one after the other
 pub jobs_of-append : (xs ys : List Message) → jobs_of (xs ++ ys) ≡ jobs_of xs ++ jobs_of ys
 jobs_of-append [] ys = refl
-jobs_of-append (Work job ∷ xs) ys = ap (λ jobs. job ∷ jobs) (jobs_of-append xs ys)
-jobs_of-append (Finish ∷ xs) ys = jobs_of-append xs ys
+jobs_of-append (message ∷ xs) ys = grind (arith, jobs_of-append xs ys)
 
 -- a finish is no job
 pub jobs_of-push_finish : (xs : List Message) → jobs_of (xs ++ Finish ∷ []) ≡ jobs_of xs
@@ -13,13 +12,11 @@ jobs_of-push_finish xs = jobs_of-append xs (Finish ∷ []) ∙ append-nil (jobs_
 
 pub has_finish-push_work : (xs : List Message) (job : Job) → has_finish (xs ++ Work job ∷ []) ≡ has_finish xs
 has_finish-push_work [] job = refl
-has_finish-push_work (Work other ∷ xs) job = has_finish-push_work xs job
-has_finish-push_work (Finish ∷ xs) job = refl
+has_finish-push_work (message ∷ xs) job = grind (arith, has_finish-push_work xs job)
 
 pub has_finish-push_finish : (xs : List Message) → has_finish (xs ++ Finish ∷ []) ≡ true
 has_finish-push_finish [] = refl
-has_finish-push_finish (Work other ∷ xs) = has_finish-push_finish xs
-has_finish-push_finish (Finish ∷ xs) = refl
+has_finish-push_finish (message ∷ xs) = grind (arith, has_finish-push_finish xs)
 
 -- one more message, while no finish is among them
 pub finish_is_last-push : (xs : List Message) (message : Message) → has_finish xs ≡ false → finish_is_last (xs ++ message ∷ []) ≡ true

@@ -1,5 +1,5 @@
 -- What is known with both ends of a lane in hand.
-use Rattle.lane_core.proofs.Names.{◌≡◌, true, ◌++◌, length, take, refl, append_assoc, append-nil, nil_from_length, Option, Some, None, option_to_list, is_none, IsPrefix, jobs_of, has_finish, finish_is_last, AreAnswersTo, FrontLists, BackLists, IsAnswered, IsDrained, Answer}
+use Rattle.lane_core.proofs.Names.{arith, ◌≡◌, true, ◌++◌, length, take, refl, append_assoc, append-nil, nil_from_length, Option, None, option_to_list, is_none, IsPrefix, jobs_of, has_finish, finish_is_last, AreAnswersTo, FrontLists, BackLists, IsAnswered, IsDrained, Answer}
 use Rattle.lane_core.proofs.MessagesLemmas.{jobs_of-append, nothing_follows}
 use Rattle.lane_core.proofs.AnswersLemmas.{AreAnswersTo-front}
 use Rattle.lane_core.proofs.LaneLemmas.{IsLawful-run}
@@ -12,8 +12,7 @@ first_are_answered front back m a h =
     (AreAnswersTo-front (jobs_of back.taken) (jobs_of m.0) front.received (a.0 ++ option_to_list back.held) (rw (← a.1, append_assoc) at h))
 
 none_of : (held : Option Answer) → is_none held ≡ true → held ≡ None
-none_of None h = refl
-none_of (Some answer) h = cc
+none_of held h = grind arith
 
 -- a lane whose finish was taken, and in whose ring no answer lies
 pub finished_is_drained : (front : FrontLists) (back : BackLists) (m : IsPrefix back.taken front.sent)

@@ -1,13 +1,12 @@
 -- Lemmas on a batch lane's work.
-use Rattle.lane_core.proofs.Names.{◌≡◌, ◌≢◌, ◌<◌, ◌↔◌, inl, inr, ℕ, List, [], ◌∷◌, ◌++◌, length, refl, length-append, arith, append-nil, nil_from_length, None, FrontLists, BackLists, IsFinished, Steps, StepRun, Works, IsWorkDone, work_left, Message, Step, Idle, Graded, Waiting, Done}
+use Rattle.lane_core.proofs.Names.{◌≡◌, ◌≢◌, ◌<◌, ◌↔◌, inl, inr, ℕ, List, [], ◌∷◌, ◌++◌, length, refl, length-append, arith, append-nil, nil_from_length, None, FrontLists, BackLists, IsFinished, Steps, StepRun, Works, IsWorkDone, work_left, Message, Step, Idle, Graded, Done}
 
 graded_less : (capacity : ℕ) (front : FrontLists) (old new : BackLists) (known : List Message) →
     Steps capacity Graded old new → old.taken ++ known ≡ front.sent → (old.held ≡ None → 0 < length known)
     → work_left front new < work_left front old
-graded_less capacity front old new known (inl f) fifo waits = absurd (let no = f.1 in cc)
-graded_less capacity front old new known (inr (_, inl p)) fifo waits = rw (p.1.taken, p.1.held, p.1.was_held) (omega arith)
-graded_less capacity front old new known (inr (_, inr t)) fifo waits =
-    rw (← fifo, t.2.1.taken, t.1.1.taken, t.2.1.held, t.1.1.free) (omega (arith, length-append {A = Message}, waits t.1.1.free))
+graded_less capacity front old new known (inl f) fifo waits = grind arith
+graded_less capacity front old new known (inr (_, inl p)) fifo waits = grind arith
+graded_less capacity front old new known (inr (_, inr t)) fifo waits = grind (arith, length-append {A = Message}, waits t.1.1.free)
 
 -- a step that puts an answer leaves less work, in the words from before the look
 pub graded_more : (capacity : ℕ) (front : FrontLists) (old old' new : BackLists) (known : List Message) →
@@ -22,11 +21,8 @@ work_ends : (capacity : ℕ) (result : Step) (front : FrontLists) (old new : Bac
     → ((result ≡ Done) ↔ IsFinished new) → result ≢ Graded →
     IsWorkDone capacity front new
 work_ends capacity result front old new known (inl f) fifo idle done other = inl (done.0 f.1)
-work_ends capacity Idle front old new known (inr s) fifo idle done other =
-    inr (inl (rw (← fifo, nil_from_length known (idle refl), append-nil, s.1.0) refl, s.1.1))
-work_ends capacity Graded front old new known (inr s) fifo idle done other = absurd (other refl)
-work_ends capacity Waiting front old new known (inr s) fifo idle done other = inr (inr (s.1.1, s.1.2))
-work_ends capacity Done front old new known (inr s) fifo idle done other = inl (done.0 refl)
+work_ends capacity Idle front old new known (inr s) fifo idle done other = grind (arith, nil_from_length, append-nil)
+work_ends capacity result front old new known (inr s) fifo idle done other = grind arith
 
 -- one step is work
 pub Works-one : (capacity : ℕ) (result : Step) (old new : BackLists) → Steps capacity result old new → Works capacity old new
