@@ -12,24 +12,12 @@
 #     and ends with status 0; or `WORD:told_..`, that line and then the fault's word, and ends with status 1.
 #   - It prints `-`, nothing; or one of the texts that make_texts makes; or `TEXT:K`, its first K bytes.
 # A case fails too if the program ends by a signal or runs for ten seconds.
-# shellcheck disable=SC2016,SC2046,SC2086 # A shell within expands its words; `words` and `lines` are some.
-set -u
-program=$(realpath "${1:-$(dirname "$0")/../crates/nonograde/out/nonograde}")
-cd "$(dirname "$0")/.." || exit
-top=$PWD
-room=$(mktemp -d)
-trap 'rm -rf "$room"' EXIT
-passed=0 failed=0
-
-# Counts a result, and tells it if it is bad: its name, and what is wrong with it.
-count() {
-    if [ -z "$2" ]; then
-        passed=$((passed + 1))
-    else
-        failed=$((failed + 1))
-        echo "FAILED $1: $2"
-    fi
-}
+# shellcheck disable=SC2016,SC2046,SC2086,SC2317 # A shell within expands its words; `words` and `lines` are some; `try` calls what runs.
+# shellcheck source-path=SCRIPTDIR source=common.sh
+. "$(dirname "$0")/common.sh"
+[ $# = 0 ] || program=$(realpath "$1")
+top=$(realpath "$tools/..")
+open_room
 
 # Prints a line a number of times: COUNT LINE.
 lines() {
@@ -485,5 +473,4 @@ try_little_room 10000 written_ones convert --to non ones.non
 try_little_room 100000 survey survey
 try_little_room 100000 shown_full survey --show full.non full.non full.non
 
-echo "$passed passed, $failed failed"
-[ $failed = 0 ] && [ $passed -gt 0 ]
+finish

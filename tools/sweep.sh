@@ -8,22 +8,11 @@
 # ends well. A command line passes if each run prints the usual bytes and ends with status 0, or prints
 # nothing, says `nonograde: NoMemory` (of a survey also `nonograde: Thread`) and ends with status 1. Both fail
 # if fewer growths were refused than expected: then the tool wasn't loaded, or the call is another one.
-set -u
-cd "$(dirname "$0")/.." || exit
+# shellcheck source-path=SCRIPTDIR source=common.sh
+. "$(dirname "$0")/common.sh"
+cd "$tools/.." || exit
 top=$PWD
-room=$(mktemp -d)
-trap 'rm -r "$room"' EXIT
-passed=0 failed=0
-
-# Counts a result, and tells it if it is bad: its name, and what is wrong with it.
-count() {
-    if [ -z "$2" ]; then
-        passed=$((passed + 1))
-    else
-        failed=$((failed + 1))
-        echo "FAILED $1: $2"
-    fi
-}
+open_room
 
 # Sweeps a test.
 sweep_test() {
@@ -60,7 +49,7 @@ wrong_with() {
 
 # Sweeps a command line of the program.
 sweep_program() {
-    local least=$1 command=$2 program=$top/crates/nonograde/out/nonograde growth=0 wrong status
+    local least=$1 command=$2 growth=0 wrong status
     shift
     "$program" "$@" <"$input" >"$room/usual" 2>"$room/said" || {
         count "$*" "status $? with ample memory"
@@ -112,5 +101,4 @@ for tests in crates/*/out/*_tests; do
         grep -q "^$crate $name " tools/sweep.txt || count "$crate $name" "tools/sweep.txt doesn't name it"
     done
 done
-echo "$passed passed, $failed failed"
-[ $failed = 0 ] && [ $passed -gt 0 ]
+finish
