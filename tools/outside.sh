@@ -12,7 +12,8 @@
 #     and ends with status 0; or `WORD:told_..`, that line and then the fault's word, and ends with status 1.
 #   - It prints `-`, nothing; or one of the texts that make_texts makes; or `TEXT:K`, its first K bytes.
 # A case fails too if the program ends by a signal or runs for ten seconds.
-# shellcheck disable=SC2016,SC2046,SC2086,SC2317 # A shell within expands its words; `words` and `lines` are some; `try` calls what runs.
+# shellcheck disable=SC2016,SC2046,SC2086 # A shell within expands its words; `words` and `lines` are some.
+# shellcheck disable=SC2317 # `try` calls what runs.
 # shellcheck source-path=SCRIPTDIR source=common.sh
 . "$(dirname "$0")/common.sh"
 [ $# = 0 ] || program=$(realpath "$1")
