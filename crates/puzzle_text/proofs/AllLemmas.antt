@@ -1,5 +1,9 @@
--- What holds of each element of a list, and what a filter keeps of it then.
-use Rattle.puzzle_text.proofs.Names.{◌≡◌, Bool, true, false, List, [], ◌∷◌, ◌++◌, filter, map, refl, ap, flat_map, list_all, AllByRecursion, and_parts, rules}
+-- What holds of each element of a list, what a filter keeps of it, and what comes of a step for each.
+use Rattle.std.proofs.Common.{◌≡◌, Bool, List, Ok, Option, Result, [], ap, drop, false, filter, map, option_map, refl, rules, true, ◌++◌, ◌∷◌}
+use Rattle.std.proofs.lemmas.Bool.{and_parts}
+use Rattle.std.specs.List.{AllByRecursion, flat_map, list_all}
+use Rattle.puzzle_text.specs.Answers.{each, ◌>>=◌}
+use Rattle.puzzle_text.specs.declared.faults.TextFault.{TextFault}
 
 module _ {X : Type 0} (P : X → Type 0) where
   -- what holds of the elements of two lists holds of those of both together
@@ -37,3 +41,23 @@ module _ {X : Type 0} (p : X → Bool) where
   pub filter_none : (xs : List X) → AllByRecursion (λ x. p x ≡ false) xs → filter p xs ≡ []
   filter_none [] h = refl
   filter_none (x ∷ xs) h = rw h.0 (filter_none xs h.1)
+
+-- ---- a step for each element, as a loop makes it
+
+-- what comes of all elements, if `front` came of the first ones
+abbrev pub with_front : {Y : Type 0} → List Y → Result (List Y) TextFault → Result (List Y) TextFault
+with_front front rest = rest >>= λ ys. Ok (front ++ ys)
+
+-- the same of options
+abbrev pub some_with_front : {Y : Type 0} → List Y → Option (List Y) → Option (List Y)
+some_with_front front rest = option_map (λ ys. front ++ ys) rest
+
+pub each-map : {A X Y : Type 0} (step : X → Result Y TextFault) (view : A → X) (xs : List A)
+    → each step (map view xs) ≡ each (λ a. step (view a)) xs
+each-map step view [] = refl
+each-map step view (x ∷ xs) = ap (λ others. step (view x) >>= λ y. others >>= λ ys. Ok (y ∷ ys)) (each-map step view xs)
+
+-- with no element passed, what is to come is what comes of all
+pub each_begins : {A X Y : Type 0} (step : X → Result Y TextFault) (view : A → X) (xs : List A)
+    → with_front [] (each (λ a. step (view a)) (drop 0 xs)) ≡ each step (map view xs)
+each_begins step view xs = search (rules, each-map)

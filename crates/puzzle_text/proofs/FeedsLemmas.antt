@@ -1,8 +1,5 @@
 -- What holds of a line holds of the text of a field: no line has a line feed in it, so nor has the text; and a short line has a short text.
-use Rattle.std.proofs.lemmas.List.Elements.{All-cons, All-nil}
-use Rattle.puzzle_text.proofs.Names.{rules, ◌≡◌, ℕ, ◌+◌, ◌-◌, ◌≤◌, Bool, true, false, cond, not, eqb, leb, ltb, List, [], ◌∷◌, length, take, drop, get_or, reverse, All, refl, arith, Option, Some, None, IfSome, Ok, map, option_and_then, slice_get, unwrap_or, filter, list_all, onto_first, AllByRecursion, option_map, cond_both, and_from, and_parts, le-leb, leb-true, ltb-false, get_or-reverse, length-drop, length-reverse, All-take, All-drop, All-filter, All-from_recursion, recursion_from_All, AllPass-from_list_all, list_all-from_AllPass, IsDescription, LONGEST_TEXT, text_lines, Line, numbered_from, raw_lines, strip_last, trim, trim_start, without_ending, after_quote, first_with, quoted_text, shown_keyword, bad_line, least, least_of, number_of_line, texts_of}
-use Rattle.puzzle_text.specs.declared.keyword_line.KeywordLine.{KeywordLine}
-use Rattle.puzzle_text.specs.steps.Lines.{HaveNoFeed, has_no_feed}
+use Rattle.puzzle_text.proofs.Names.{All-cons, All-nil, rules, ◌≡◌, ℕ, ◌+◌, ◌-◌, ◌≤◌, Bool, true, false, cond, not, eqb, leb, ltb, List, [], ◌∷◌, length, drop, reverse, All, refl, arith, Option, Some, None, IfSome, Ok, map, option_and_then, slice_get, unwrap_or, filter, list_all, onto_first, AllByRecursion, option_map, cond_both, and_from, and_parts, le-leb, leb-true, ltb-false, get_or-reverse, length-drop, length-reverse, All-take, All-drop, All-filter, All-from_recursion, recursion_from_All, AllPass-from_list_all, list_all-from_AllPass, IsDescription, LONGEST_TEXT, text_lines, Line, numbered_from, raw_lines, strip_last, trim, trim_start, after_quote, first_with, quoted_text, shown_keyword, bad_line, least, least_of, number_of_line, texts_of, KeywordLine, HaveNoFeed, has_no_feed}
 
 abbrev IsOther : ℕ → Type 0
 IsOther byte = not (eqb byte 10) ≡ true
@@ -41,9 +38,7 @@ clean_reverse : (bytes : List ℕ) → IsClean bytes → IsClean (reverse bytes)
 clean_reverse bytes h k d lt = search (rules, length-reverse, get_or-reverse)
 
 clean_strip : (byte : ℕ) (bytes : List ℕ) → IsClean bytes → IsClean (strip_last byte bytes)
-clean_strip byte bytes h =
-    cond_both (eqb (get_or bytes (length bytes - 1) 0) byte) (take (length bytes - 1) bytes) bytes IsClean
-    (λ _. All-take IsOther (length bytes - 1) bytes h) (λ _. h)
+clean_strip byte bytes h = cond_both _ _ _ IsClean (λ _. All-take IsOther (length bytes - 1) bytes h) (λ _. h)
 
 clean_text : (line : Line) → has_no_feed line.text ≡ true → has_no_feed (quoted_text line) ≡ true
 clean_text line h = search (rules, list_all-from_AllPass, of_text IsClean (All-drop IsOther) clean_reverse, AllPass-from_list_all)
@@ -65,8 +60,7 @@ all_raw (byte ∷ bytes) = search (rules, all_raw bytes, all_raw bytes, cond_bot
 clean_lines : (number : ℕ) (raws : List (List ℕ)) → AllByRecursion IsRaw raws → HaveNoFeed (numbered_from number raws)
 clean_lines number [] h = tt
 clean_lines number (raw ∷ raws) h =
-    let others = clean_lines (number + 1) raws h.1 in
-    (list_all-from_AllPass _ _ (of_trim IsClean (All-drop IsOther) clean_reverse (without_ending raw) (clean_strip 13 _ h.0)), others)
+    search (rules, list_all-from_AllPass, of_trim IsClean (All-drop IsOther) clean_reverse, clean_strip, clean_lines (number + 1) raws)
 
 -- no line of a text that isn't too long has a line feed
 pub lines_have_no_feed : (bytes : List ℕ) (text : List Line) → text_lines bytes ≡ Ok text → HaveNoFeed text

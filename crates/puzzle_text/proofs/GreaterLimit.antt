@@ -1,5 +1,5 @@
 -- A greater limit keeps what a text says.
-use Rattle.puzzle_text.proofs.Names.{rules, ◌≡◌, ℕ, ◌≤◌, Bool, true, false, List, [], ◌∷◌, refl, Option, Some, Result, option_and_then, list_all, and_parts, le-leb, leb-true, TextFault, BadNumber, is_run, Line, number_within, pieces, ◌>>=◌, or_fault, each, each_some, clue_of_numbers, clue_of, clues_of, size_of, two_sizes, size_line, read_nin, read_mk, sizes_of, both_clues, read_non}
+use Rattle.puzzle_text.proofs.Names.{rules, ◌≡◌, ℕ, ◌≤◌, Bool, true, false, List, [], ◌∷◌, refl, Option, Some, Result, option_and_then, list_all, and_parts, le-leb, leb-true, TextFault, is_run, Line, number_within, pieces, ◌>>=◌, each, each_some, clue_of, clues_of, size_of, two_sizes, size_line, both_clues}
 use Rattle.puzzle_text.specs.Laws.{GreaterLimitKeeps, KeepsAnswer}
 
 -- ---- options
@@ -31,10 +31,6 @@ keeps-each : {X Y : Type 0} (f g : X → Result Y TextFault) (xs : List X) → (
 keeps-each f g [] next = λ _ _. refl
 keeps-each f g (x ∷ xs) next = search (keeps-bind, keeps-same, next x, keeps-each f g xs next)
 
-keeps-number : {A : Type 0} (n : ℕ) (old new : Option A) → KeepsSome old new
-    → KeepsAnswer (or_fault (BadNumber n) old) (or_fault (BadNumber n) new)
-keeps-number n old new kept = search rules
-
 -- ---- numbers, sizes and clues
 
 module _ (a b : ℕ) (le : a ≤ b) where
@@ -48,14 +44,11 @@ module _ (a b : ℕ) (le : a ≤ b) where
   runs_keep [] h = refl
   runs_keep (n ∷ ns) h = search (rules, runs_keep ns, and_parts, leb-true, le-leb)
 
-  numbers_keep : (ns : List ℕ) → KeepsSome (clue_of_numbers a ns) (clue_of_numbers b ns)
-  numbers_keep ns = search (rules, and_parts, runs_keep)
-
   clue_keeps : (text : List ℕ) → KeepsSome (clue_of a text) (clue_of b text)
-  clue_keeps text = some-bind _ _ _ _ (some-each _ _ (pieces text) number_keeps) numbers_keep
+  clue_keeps text = some-bind _ _ _ _ (some-each _ _ (pieces text) number_keeps) (λ ns. search (rules, and_parts, runs_keep))
 
   clues_keep : (section : List Line) → KeepsAnswer (clues_of a section) (clues_of b section)
-  clues_keep section = keeps-each _ _ section (λ line. keeps-number line.number _ _ (clue_keeps line.text))
+  clues_keep section = keeps-each _ _ section (λ line. search (rules, clue_keeps))
 
   two_keep : (parts : List (List ℕ)) → KeepsAnswer (two_sizes a parts) (two_sizes b parts)
   two_keep (m ∷ n ∷ []) = search (keeps-bind, keeps-same, size_keeps)
@@ -68,20 +61,10 @@ module _ (a b : ℕ) (le : a ≤ b) where
   both_keep true p q = search (keeps-bind, keeps-same, clues_keep)
   both_keep false p q = search (keeps-bind, keeps-same, clues_keep)
 
-  -- ---- the readers keep their answers
-
-  nin_keeps : (bytes : List ℕ) → KeepsAnswer (read_nin a bytes) (read_nin b bytes)
-  nin_keeps bytes = search (keeps-bind, keeps-same, line_keeps, clues_keep)
-
-  mk_keeps : (bytes : List ℕ) → KeepsAnswer (read_mk a bytes) (read_mk b bytes)
-  mk_keeps bytes = search (keeps-bind, keeps-same, line_keeps, clues_keep) depth 8
-
-  sizes_keep : (text : List Line) → KeepsAnswer (sizes_of a text) (sizes_of b text)
-  sizes_keep text = search (keeps-bind, keeps-same, size_keeps)
-
-  non_keeps : (bytes : List ℕ) → KeepsAnswer (read_non a bytes) (read_non b bytes)
-  non_keeps bytes = search (keeps-bind, keeps-same, sizes_keep, both_keep) depth 8
-
--- a greater limit keeps what a text says, in each format
-pub keeps : (a b : ℕ) → a ≤ b → GreaterLimitKeeps a b
-keeps a b le = λ bytes. (non_keeps a b le bytes, mk_keeps a b le bytes, nin_keeps a b le bytes)
+  -- a greater limit keeps what a text says, in each format
+  pub keeps : GreaterLimitKeeps a b
+  keeps = λ bytes. (
+    search (keeps-bind, keeps-same, size_keeps, both_keep) depth 8,
+    search (keeps-bind, keeps-same, line_keeps, clues_keep) depth 8,
+    search (keeps-bind, keeps-same, line_keeps, clues_keep),
+  )

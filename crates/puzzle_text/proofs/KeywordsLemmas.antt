@@ -2,8 +2,6 @@
 use Rattle.puzzle_text.proofs.Names.{rules, ◌≡◌, ℕ, Bool, true, not, List, [], ◌∷◌, refl, filter, bytes_eq, Line, is_empty, is_keyword_line, Sections, puzzle_said}
 use Rattle.std.proofs.lemmas.Slice.Eq.{bytes_eq-Decides}
 
--- ---- the keyword lines alone
-
 -- what passes a second test, if all that passes it passes the first
 filter_twice : {X : Type 0} (p q : X → Bool) → ((x : X) → p x ≡ true → q x ≡ true) → (xs : List X) → filter p (filter q xs) ≡ filter p xs
 filter_twice p q le [] = refl

@@ -3,18 +3,13 @@ pub mod Names
 pub mod AllLemmas
 pub mod LinesLemmas
 pub mod NumbersLemmas
-pub mod EachLemmas
 pub mod FittingLemmas
 pub mod SectionsLemmas
 pub mod MkLemmas
 pub mod KeywordsLemmas
-pub mod WritingLemmas
 pub mod SaidLines
-pub mod PlacedWalk
 pub mod SectionsWalk
 pub mod ReadBack
-pub mod ReadClue
-pub mod ReadClues
 pub mod ReadMk
 pub mod ReadNin
 pub mod GreaterLimit
@@ -25,4 +20,3 @@ pub mod FeedsLemmas
 pub mod StrayWalk
 pub mod UsualLines
 pub mod UsualParts
-pub mod UsualReads

@@ -1,16 +1,10 @@
 -- Lemmas on lines.
-use Rattle.puzzle_text.proofs.Names.{rules, ◌≡◌, ℕ, ◌+◌, ◌<◌, true, false, eqb, List, [], ◌∷◌, length, take, drop, get_or, refl, arith, inl, inr, Option, Some, None, position_or_len, position, cases_Bool, false_from_ne_true, le-ltb, lt-ltb, ltb-true, ltb-false, take_all, drop_all, get_or-take, length-take-le, take-take, fails_before_first, position_or_len_is, cond_some, numbered_from, raw_lines, strip_last, trim}
-use Rattle.std.proofs.lemmas.List.Quantifiers.{position-Some}
+use Rattle.puzzle_text.proofs.Names.{rules, ◌≡◌, ℕ, ◌+◌, ◌<◌, true, eqb, List, [], ◌∷◌, length, take, drop, get_or, refl, arith, inl, inr, Option, Some, None, position_or_len, position, cases_Bool, false_from_ne_true, le-ltb, lt-ltb, ltb-true, ltb-false, take_all, drop_all, get_or-take, length-take-le, take-take, fails_before_first, position_or_len_is, cond_some, numbered_from, raw_lines, strip_last, trim, position-Some}
 use Rattle.memchr.specs.Find.{IsFirstByte, is_byte}
 
-abbrev pub first_end : List ℕ → ℕ
-first_end bytes = position_or_len (λ byte. eqb byte 10) bytes
-
--- the first line is the first n bytes
-abbrev CutsAt : List ℕ → ℕ → Type 0
-CutsAt bytes n = raw_lines bytes ≡ take n bytes ∷ raw_lines (drop n bytes)
-
-cut_at : (bytes : List ℕ) → 0 < length bytes → CutsAt bytes (first_end bytes + 1)
+-- the first line is the bytes up to the first line feed
+cut_at : (bytes : List ℕ) → 0 < length bytes → raw_lines bytes ≡ take (position_or_len (λ byte. eqb byte 10) bytes + 1) bytes
+    ∷ raw_lines (drop (position_or_len (λ byte. eqb byte 10) bytes + 1) bytes)
 cut_at [] h = absurd (omega arith)
 cut_at (byte ∷ []) h = elim (cases_Bool (eqb byte 10)) [ inl feed ↦ rw feed refl | inr other ↦ rw other refl ]
 cut_at (byte ∷ next ∷ bytes) h = search (rules, cut_at (next ∷ bytes) (omega arith), cases_Bool)
@@ -26,19 +20,10 @@ cut_at_end bytes h e = search (rules, ltb-false, cut_at, take_all, drop_all)
 
 -- ---- the first line feed
 
-abbrev NoFeedBefore : List ℕ → ℕ → Type 0
-NoFeedBefore bytes i = (k : ℕ) → k < i → eqb (get_or bytes k 0) 10 ≡ false
-
--- without a line feed there is no first one
-no_feed : (bytes : List ℕ) → NoFeedBefore bytes (length bytes) → position (λ byte. eqb byte 10) bytes ≡ None
-no_feed bytes before =
-    let end : first_end bytes ≡ length bytes =
-    position_or_len_is (λ byte. eqb byte 10) bytes (length bytes) 0 (omega arith) before (λ h. absurd (omega arith)) in
-    rw (end, le-ltb (length bytes) (length bytes) (omega arith)) refl
-
 -- what a search for a line feed gives
 pub feed_found : (bytes : List ℕ) (found : Option ℕ) → IsFirstByte (is_byte 10) bytes found → found ≡ position (λ byte. eqb byte 10) bytes
-feed_found bytes found none = search (rules, no_feed, false_from_ne_true, position_or_len_is, lt-ltb)
+feed_found bytes found none =
+    search (rules, position_or_len_is (λ byte. eqb byte 10) bytes (length bytes) 0, le-ltb, false_from_ne_true, position_or_len_is, lt-ltb)
 
 -- ---- the first line without its ending
 
@@ -48,9 +33,8 @@ strip_feed bytes end h at = search (rules, length-take-le, get_or-take, take-tak
 
 -- the lines of a text are the first one, up to the first line feed, and those of the rest
 pub line_at_feed : (number : ℕ) (bytes : List ℕ) (end : ℕ) → position (λ byte. eqb byte 10) bytes ≡ Some end
-    → numbered_from number (raw_lines bytes)
-    ≡ record { number = number; text = trim (strip_last 13 (take end bytes)) } ∷ numbered_from (number + 1)
-    (raw_lines (drop (end + 1) bytes))
+    → numbered_from number (raw_lines bytes) ≡ record { number = number; text = trim (strip_last 13 (take end bytes)) }
+    ∷ numbered_from (number + 1) (raw_lines (drop (end + 1) bytes))
 line_at_feed number bytes end e =
     let found = position-Some (λ byte. eqb byte 10) bytes end 0 e in
     rw (cut_at_feed bytes end e, strip_feed bytes end found.0 found.1) refl

@@ -1,6 +1,5 @@
 -- Lemmas on the lines round a line that begins with #, and on the clues of both sections.
-use Rattle.puzzle_text.proofs.EachLemmas.{with_front}
-use Rattle.puzzle_text.proofs.Names.{rules, ◌≡◌, ℕ, ◌+◌, ◌-◌, Bool, cond, List, [], ◌∷◌, ◌++◌, length, take, drop, map, true, refl, ap, Option, Some, None, Result, Ok, position, prefix_len, ltb-false, cond_some, take-map, drop-map, length-map, take_all, take_rest, take-append_seam, drop-append_seam, Nonogram, plain, TextFault, ◌>>=◌, each, Line, is_hash, at_hash, before_hash, puzzle_of, both_clues, reading}
+use Rattle.puzzle_text.proofs.Names.{with_front, rules, ◌≡◌, ℕ, ◌+◌, ◌-◌, Bool, cond, List, [], ◌∷◌, ◌++◌, length, take, drop, map, true, refl, ap, Option, Some, None, Result, Ok, position, prefix_len, ltb-false, cond_some, take-map, drop-map, length-map, take_all, take_rest, take-append_seam, drop-append_seam, plain, TextFault, ◌>>=◌, each, Line, is_hash, at_hash, before_hash, puzzle_of, both_clues, reading}
 
 pub prefix_len-map : {X Y : Type 0} (p : Y → Bool) (view : X → Y) (xs : List X)
     → prefix_len p (map view xs) ≡ prefix_len (λ x. p (view x)) xs
@@ -30,21 +29,14 @@ module _ {X : Type 0} (view : X → Line) where
 
 -- ---- the clues of both sections
 
--- the puzzle of sizes and clues
-abbrev pub with_clues : ℕ → ℕ → List (List ℕ) × List (List ℕ) → Result Nonogram TextFault
-with_clues width height clues = Ok (reading width height (clues.0 ++ clues.1))
-
--- what two checks give, one after the other
-abbrev joined : {Y : Type 0} → Result (List Y) TextFault → Result (List Y) TextFault → Result (List Y) TextFault
-joined a b = a >>= λ xs. with_front xs b
-
-each-append : {X Y : Type 0} (step : X → Result Y TextFault) (xs ys : List X) → each step (xs ++ ys) ≡ joined (each step xs) (each step ys)
+each-append : {X Y : Type 0} (step : X → Result Y TextFault) (xs ys : List X)
+    → each step (xs ++ ys) ≡ (each step xs >>= λ found. with_front found (each step ys))
 each-append step [] ys = search rules
 each-append {X} {Y} step (x ∷ xs) ys = search (rules, each-append step xs ys)
 
 -- the puzzle of the clue lines of both sections
 pub puzzle_of_parts : (limit width height : ℕ) (xs ys : List Line)
-    → puzzle_of limit width height (xs ++ ys) ≡ both_clues limit true xs ys >>= with_clues width height
+    → puzzle_of limit width height (xs ++ ys) ≡ (both_clues limit true xs ys >>= λ clues. Ok (reading width height (clues.0 ++ clues.1)))
 puzzle_of_parts limit width height xs ys = search (rules, each-append)
 
 pub puzzle_of_both : (limit width height : ℕ) (xs ys : List Line) (rows columns : List (List ℕ))

@@ -1,13 +1,8 @@
 -- The text of a puzzle in .non as lines.
-use Rattle.puzzle_text.proofs.Names.{rules, ◌≡◌, drop, reverse, ℕ, ◌*◌, ◌<◌, ◌≤◌, ◌^◌, Bool, true, false, not, eqb, leb, List, [], ◌∷◌, ◌++◌, length, get_or, map, codes, refl, sym, ap, ◌∙◌, append_assoc, arith, Option, Some, None, decimal, flat_map, list_all, AllByRecursion, not-true, and_parts, leb-true, eqb-true, reverse-append, reverse-reverse, append-nil, get_or_at, length-append, length-map, flat_map-append, length-decimal-le, prefix_len, is_ascii_alphabetic, is_empty, trim, trim_end, trim_start, Nonogram, IsNonogramWithin, is_goal, Description, IsDescription, is_field, text_of, lines, all_fields, field_word, clue_text, quoted_line, goal_byte, goal_lines, text_non}
+use Rattle.puzzle_text.proofs.Names.{rules, ◌≡◌, drop, reverse, ℕ, ◌*◌, ◌<◌, ◌≤◌, ◌^◌, Bool, true, false, not, eqb, leb, List, [], ◌∷◌, ◌++◌, length, get_or, map, codes, refl, sym, ap, ◌∙◌, append_assoc, arith, Option, Some, None, decimal, flat_map, list_all, AllByRecursion, not-true, and_parts, leb-true, eqb-true, reverse-append, reverse-reverse, append-nil, get_or_at, length-append, length-map, flat_map-append, length-decimal-le, prefix_len, is_ascii_alphabetic, is_empty, trim, trim_end, trim_start, Nonogram, IsNonogramWithin, is_goal, Description, IsDescription, is_field, text_of, all_fields, field_word, clue_text, quoted_line, goal_byte, goal_lines, text_non, Field, Catalogue, all-append, all-flat_map, all-weaker, all_pass}
 use Rattle.std.proofs.lemmas.Nat.{mul-le}
 use Rattle.puzzle_text.proofs.SectionsWalk.{word_at}
-use Rattle.grid_core.specs.declared.fields.Field.{Field}
-use Rattle.grid_core.specs.declared.fields.Field.TheVariants.{Catalogue}
-use Rattle.puzzle_text.proofs.ReadBack.{IsTidy, IsKept, kept_tidy, tidy_word, kept_edged, with_feed, numbered, lines_kept}
-use Rattle.puzzle_text.proofs.ReadClue.{space, comma}
-use Rattle.puzzle_text.proofs.AllLemmas.{all-append, all-flat_map, all-weaker, all_pass}
-use Rattle.puzzle_text.proofs.ReadClues.{tidy-join, tidy_decimal, tidy_clues, fed_clues, length_lines}
+use Rattle.puzzle_text.proofs.ReadBack.{IsTidy, IsKept, kept_tidy, tidy_word, kept_edged, with_feed, space, comma, tidy-join, tidy_decimal, tidy_clues, fed_clues, length_lines}
 
 -- ---- the lines
 
@@ -68,33 +63,25 @@ texts_non p = fields p.texts ++ after_fields p
 
 -- ---- the text is these lines
 
-fed_fields : (ts : Description) (fs : List Field)
-    → flat_map with_feed (flat_map (part ts) fs) ≡ flat_map (λ f. quoted_line (field_word f) (text_of ts f)) fs
-fed_fields ts [] = refl
-fed_fields ts (f ∷ fs) = search (rules, fed_fields ts fs, flat_map-append, append_assoc, append-nil)
+fed_one : (word : List ℕ) (o : Option (List ℕ)) → flat_map with_feed (one word o) ≡ quoted_line word o
+fed_one word o = search (rules, append_assoc, append-nil)
 
-fed_goal : (o : Option (List Bool)) → flat_map with_feed (goal_gap o ++ one (codes "goal") (goal_text o)) ≡ goal_lines o
+fed_goal : (o : Option (List Bool)) → flat_map with_feed (goal_gap o) ++ quoted_line (codes "goal") (goal_text o) ≡ goal_lines o
 fed_goal o = search (rules, append_assoc, append-nil)
 
 pub non_is : (p : Nonogram) → flat_map with_feed (texts_non p) ≡ text_non p
 non_is p =
-    let fed = λ (xs ys : List (List ℕ)). flat_map-append with_feed xs ys in
-    rw (fed (fields p.texts) (after_fields p), fed_fields p.texts all_fields, fed (row_part p) (after_rows p))
-    (rw (fed (map (clue_text 44) p.rows) ([] ∷ []), fed_clues 44 p.rows, append_assoc (map (clue_text 44) p.columns) (goal_gap p.goal))
-    (rw (fed (map (clue_text 44) p.columns) (goal_gap p.goal ++ goal_part p), fed_clues 44 p.columns, fed_goal p.goal)
-    (rw (append_assoc (decimal p.width) (10 ∷ []), append_assoc (decimal p.height) (10 ∷ [])) (simp append_assoc))))
+    simp (flat_map-append, fed_one, fed_clues, fed_goal, append_assoc)
+    (rw (append_assoc (decimal p.width) (10 ∷ []), append_assoc (decimal p.height) (10 ∷ [])) refl)
 
 -- ---- no line is cut or trimmed
-
-no_feeds : (text : List ℕ) → list_all (λ byte. not (eqb byte 10)) text ≡ true → AllByRecursion (λ byte. eqb byte 10 ≡ false) text
-no_feeds text h = search (all_pass, not-true)
 
 kept_field : (word text : List ℕ) → list_all (λ byte. not (eqb byte 10)) word ≡ true → list_all (λ byte. not (eqb byte 10)) text ≡ true
     → 33 ≤ get_or (field_line word text) 0 0 → IsKept (field_line word text)
 kept_field word text name clean first =
     let whole = append_assoc word (32 ∷ 34 ∷ text) (34 ∷ []) in
-    rw whole at (kept_edged ((word ++ 32 ∷ 34 ∷ text) ++ 34 ∷ []) (rw whole (search (rules, all-append, no_feeds))) (rw whole first)
-    (search (rules, get_or_at, length-append)))
+    rw whole at (kept_edged ((word ++ 32 ∷ 34 ∷ text) ++ 34 ∷ []) (rw whole (search (rules, all-append, all_pass, not-true)))
+    (rw whole first) (search (rules, get_or_at, length-append)))
 
 kept_one : (word : List ℕ) (o : Option (List ℕ)) → list_all (λ byte. not (eqb byte 10)) word ≡ true → is_field o ≡ true
     → ((text : List ℕ) → 33 ≤ get_or (field_line word text) 0 0) → AllByRecursion IsKept (one word o)
@@ -143,27 +130,17 @@ facts f = record { clean = refl; short = omega arith; inked = λ _. omega arith;
 kept_size : (word : List ℕ) (n : ℕ) → list_all (leb 33) word ≡ true → 0 < length word → n < 2 ^ 64 → IsKept (size_text word n)
 kept_size word n high some wide = search (kept_tidy, tidy-join, space, tidy_word, tidy_decimal)
 
-kept_non : (limit : ℕ) (p : Nonogram) → limit < 2 ^ 64 → IsNonogramWithin limit p → AllByRecursion IsKept (texts_non p)
+pub kept_non : (limit : ℕ) (p : Nonogram) → limit < 2 ^ 64 → IsNonogramWithin limit p → AllByRecursion IsKept (texts_non p)
 kept_non limit p wide lawful =
     let width = kept_size (codes "width") p.width refl (omega arith) (omega (arith, lawful.size.width_to)) in
     let height = kept_size (codes "height") p.height refl (omega arith) (omega (arith, lawful.size.height_to)) in
-    let rows = all-weaker IsTidy IsKept kept_tidy (map (clue_text 44) p.rows) (tidy_clues 44 limit p.rows comma wide lawful.rows) in
-    let columns =
-    all-weaker IsTidy IsKept kept_tidy (map (clue_text 44) p.columns) (tidy_clues 44 limit p.columns comma wide lawful.columns) in
-    let after =
-    all-append IsKept (column_part p) (goal_part p)
-    (all-append IsKept (map (clue_text 44) p.columns) (goal_gap p.goal) columns (all_gap IsKept kept_blank p.goal)) (kept_goal p.goal) in
-    let behind =
-    all-append IsKept (row_part p) (after_rows p) (all-append IsKept (map (clue_text 44) p.rows) ([] ∷ []) rows (kept_blank, tt))
-    (kept_tidy (codes "columns") (tidy_word (codes "columns") refl (omega arith)), after) in
-    all-append IsKept (fields p.texts) (after_fields p) (all-flat_map IsKept (part p.texts)
-    (λ f. kept_one (field_word f) (text_of p.texts f) (facts f).clean (lawful_field p.texts lawful.texts f) (facts f).inked)
-    all_fields)
-    (width, (height, (kept_blank, (kept_tidy (codes "rows") (tidy_word (codes "rows") refl (omega arith)), behind))))
-
--- the lines of the text
-pub lines_non : (limit : ℕ) (p : Nonogram) → limit < 2 ^ 64 → IsNonogramWithin limit p → lines (text_non p) ≡ numbered 1 (texts_non p)
-lines_non limit p wide lawful = ap lines (sym (non_is p)) ∙ lines_kept 1 (texts_non p) (kept_non limit p wide lawful)
+    let keep = all-weaker IsTidy IsKept kept_tidy in
+    let rows : AllByRecursion IsKept (row_part p) = search (all-append, keep, tidy_clues, comma, kept_blank) in
+    let columns : AllByRecursion IsKept (column_part p) = search (all-append, all_gap, keep, tidy_clues, comma, kept_blank) in
+    let after = all-append IsKept (column_part p) (goal_part p) columns (kept_goal p.goal) in
+    let behind = all-append IsKept (row_part p) (after_rows p) rows (search rules, after) in
+    let texts = all-flat_map IsKept (part p.texts) (λ f. search (kept_one, facts f, lawful_field p.texts lawful.texts f)) all_fields in
+    all-append IsKept (fields p.texts) (after_fields p) texts (width, (height, (kept_blank, (search rules, behind))))
 
 -- ---- how long the text is
 
@@ -178,11 +155,5 @@ length_goal w h o wide high lawful = search (rules, eqb-true, mul-le, length-map
 -- the text is short enough to be read
 pub length_non : (limit : ℕ) (p : Nonogram) → limit ≤ 256 → IsNonogramWithin limit p → length (text_non p) ≤ 1048576
 length_non limit p wide lawful =
-    let width : p.width ≤ 256 = omega (arith, lawful.size.width_to) in
-    let height : p.height ≤ 256 = omega (arith, lawful.size.height_to) in
-    let goal = length_goal p.width p.height p.goal width height lawful.goal in
-    let wide_text = length-decimal-le 3 p.width (omega arith) (omega arith) (omega arith) in
-    let high_text = length-decimal-le 3 p.height (omega arith) (omega arith) (omega arith) in
-    let rows = length_lines 44 limit p.rows (omega arith) lawful.rows in
-    let columns = length_lines 44 limit p.columns (omega arith) lawful.columns in
-    omega (arith, length-append {A = ℕ}, length_fields p.texts lawful.texts all_fields)
+    let fields = length_fields p.texts lawful.texts all_fields in
+    search (rules, length-append, length-decimal-le 3, length_lines 44 limit, length_goal p.width p.height, fields)

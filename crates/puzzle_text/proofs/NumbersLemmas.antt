@@ -1,8 +1,5 @@
 -- Lemmas on numbers in a line.
-use Rattle.std.proofs.lemmas.Option.{cond_some}
-use Rattle.std.proofs.lemmas.List.Splits.{slice_split_first}
-use Rattle.puzzle_text.proofs.Names.{rules, ◌≡◌, ℕ, zero, suc, ◌+◌, ◌-◌, ◌*◌, ◌<◌, ◌≤◌, true, false, not, ltb, List, [], ◌∷◌, length, take, drop, get_or, refl, arith, inl, inr, Option, Some, None, option_and_then, option_map, list_all, position, position_or_len, is_ascii_digit, digits_value, and-false, cases_Bool, le-leb, lt-leb, lt-ltb, ltb-true, ltb-false, ne_eqb, nat_tests, get_or-take, get_or_default, length-take-le, take_all, drop_all, take-take, slice_split_none, AllPass-from_list_all, fails_before_first, position_or_len_is, prefix_len-le-length, list_all_at, list_all_more, digits_value-take-le, numbers_within, is_empty, is_separator, number_within, pieces}
-use Rattle.std.proofs.lemmas.List.Quantifiers.{position-Some}
+use Rattle.puzzle_text.proofs.Names.{cond_some, slice_split_first, rules, ◌≡◌, ℕ, zero, suc, ◌+◌, ◌-◌, ◌*◌, ◌<◌, ◌≤◌, true, false, not, List, [], ◌∷◌, length, take, drop, get_or, refl, arith, Option, Some, None, option_and_then, option_map, list_all, position, position_or_len, is_ascii_digit, digits_value, and-false, cases_Bool, le-leb, lt-leb, ltb-true, ltb-false, ne_eqb, nat_tests, get_or-take, get_or_default, length-take-le, take_all, drop_all, take-take, slice_split_none, AllPass-from_list_all, fails_before_first, position_or_len_is, prefix_len-le-length, list_all_at, list_all_more, digits_value-take-le, numbers_within, is_separator, number_within, pieces, position-Some, prefix_len_stops}
 use borrow.Author.Count.{below_more}
 use Rattle.std.proofs.lemmas.Int.Digits.{digits_value_more}
 
@@ -40,43 +37,26 @@ pub cut : (text : List ℕ) → 0 < length text → is_separator (get_or text 0 
     → pieces text ≡ take (end_of text) text ∷ pieces (drop (end_of text + 1) text)
 cut text some first = search (rules, cases_Bool, first_piece, ltb-false, take_all, drop_all, only_piece)
 
-end_within : (text : List ℕ) → end_of text ≤ length text
-end_within text = prefix_len-le-length (λ byte. not (is_separator byte)) text
+clear_within : (text : List ℕ) (i : ℕ) → i ≤ length text → ((k : ℕ) → k < i → is_separator (get_or text k 0) ≡ false) → i ≤ end_of text
+clear_within text i within clear = grind (arith, prefix_len_stops (λ byte. not (is_separator byte)) text 0, clear (end_of text))
 
--- no separator up to a place
-abbrev Clear : List ℕ → ℕ → Type 0
-Clear text i = (k : ℕ) → k < i → is_separator (get_or text k 0) ≡ false
-
-clear_within : (text : List ℕ) (i : ℕ) → i ≤ length text → Clear text i → i ≤ end_of text
-clear_within text i within clear = elim (cases_Bool (ltb (end_of text) i)) [
-  | inl before ↦
-      let low : end_of text < i = ltb-true _ _ before in
-      let found = position-Some is_separator text (end_of text) 0 in let other = clear (end_of text) low in search (rules, found, lt-ltb)
-  | inr at ↦ omega (arith, ltb-false _ _ at)
-]
-
-digits_clear : (text : List ℕ) (i : ℕ) → i ≤ length text → list_all is_ascii_digit (take i text) ≡ true → Clear text i
+digits_clear : (text : List ℕ) (i : ℕ) → i ≤ length text → list_all is_ascii_digit (take i text) ≡ true → (k : ℕ) → k < i
+    → is_separator (get_or text k 0) ≡ false
 digits_clear text i within digits k low = search (rules, length-take-le, get_or-take, AllPass-from_list_all, nat_tests)
 
 pub number_is : (limit : ℕ) (piece : List ℕ) → 0 < length piece → list_all is_ascii_digit piece ≡ true → digits_value 10 piece ≤ limit
     → number_within limit piece ≡ Some (digits_value 10 piece)
 number_is limit piece some digits low = search (rules, ne_eqb, le-leb)
 
-no_number : (limit : ℕ) (piece : List ℕ) (i : ℕ) → i < length piece → is_ascii_digit (get_or piece i 0) ≡ false
-    → number_within limit piece ≡ None
-no_number limit piece i h other = rw (list_all_at is_ascii_digit piece i 0 h other, and-false (not (is_empty piece))) refl
-
 module _ (limit : ℕ) (text : List ℕ) (some : 0 < length text) (first : is_separator (get_or text 0 0) ≡ false) where
   -- the numbers of all pieces, by that of the first
-  by_first : (number : Option ℕ) → number_within limit (take (end_of text) text) ≡ number
-      → numbers_within limit (pieces text)
+  by_first : (number : Option ℕ) → number_within limit (take (end_of text) text) ≡ number → numbers_within limit (pieces text)
       ≡ option_and_then (λ n. option_map (λ others. n ∷ others) (numbers_within limit (pieces (drop (end_of text + 1) text)))) number
   by_first number e = rw (cut text some first, e) refl
 
   -- a piece of digits ends at a separator or with the line
   pub number_ends : (i : ℕ) → i ≤ length text → list_all is_ascii_digit (take i text) ≡ true → digits_value 10 (take i text) ≤ limit
-      → (i < length text → is_separator (get_or text i 0) ≡ true)
-      → numbers_within limit (pieces text)
+      → (i < length text → is_separator (get_or text i 0) ≡ true) → numbers_within limit (pieces text)
       ≡ option_map (λ others. digits_value 10 (take i text) ∷ others) (numbers_within limit (pieces (drop (i + 1) text)))
   number_ends zero within digits low stop = search (rules, stop)
   number_ends (suc k) within digits low stop =
@@ -88,7 +68,7 @@ module _ (limit : ℕ) (text : List ℕ) (some : 0 < length text) (first : is_se
       → is_ascii_digit (get_or text i 0) ≡ false → numbers_within limit (pieces text) ≡ None
   number_refused i h digits inside other =
       let within = clear_within text (i + 1) (omega arith) (below_more _ i (digits_clear text i (omega arith) digits) inside) in
-      by_first None (search (rules, no_number, length-take-le, end_within, get_or-take))
+      by_first None (search (rules, list_all_at, and-false, length-take-le, prefix_len-le-length, get_or-take))
 
   -- digits that are past the limit already
   pub number_past : (i : ℕ) → i ≤ length text → list_all is_ascii_digit (take i text) ≡ true → limit < digits_value 10 (take i text)

@@ -1,6 +1,6 @@
--- What is written is read again: lines.
-use Rattle.puzzle_text.proofs.Names.{rules, ◌≡◌, true, leb, ℕ, ◌+◌, ◌-◌, ◌<◌, ◌≤◌, false, eqb, List, [], ◌∷◌, ◌++◌, length, get_or, refl, append_assoc, arith, list_all, flat_map, AllByRecursion, leb-true, cond-false, ne_eqb, eq-eqb, take_at, get_or_at, get_or-reverse, length-append, reverse-reverse, nat_tests, All-from_recursion, All-get_or, Line, raw_lines, numbered_from, trim, trim_start, strip_last, without_ending, is_blank}
-use Rattle.puzzle_text.proofs.AllLemmas.{all-weaker, all_pass}
+-- What is written is read again: lines, numbers, clues and the lines of clues.
+use Rattle.puzzle_text.proofs.Names.{rules, ◌≡◌, true, leb, ℕ, ◌+◌, ◌-◌, ◌<◌, ◌≤◌, false, eqb, List, [], ◌∷◌, ◌++◌, length, get_or, refl, append_assoc, arith, list_all, flat_map, AllByRecursion, leb-true, cond-false, ne_eqb, eq-eqb, take_at, get_or_at, get_or-reverse, length-append, reverse-reverse, nat_tests, All-from_recursion, All-get_or, Line, raw_lines, numbered_from, trim, trim_start, strip_last, without_ending, is_blank, ◌^◌, not, map, All, ap, Some, decimal, slice_split, is_ascii_digit, AllDigits, and_parts, le-leb, append-nil, get_or_default, slice_split_none, slice_split_at, digit_at, digit_from_value, decimal_is_IsNumeral, decimal_nonempty, is_run, is_clue, is_empty, is_separator, pieces, numbers_within, clue_of_numbers, clue_of, clue_text, suc, ◌*◌, Ok, flat_map-map, get_or_append_left, get_or-append_right, length-decimal-le, size_of, two_sizes, clue_line, clue_lines, two_numbers, all-weaker, all_pass, all-map, filter_all, all-append}
+use Rattle.puzzle_text.proofs.SaidLines.{SayAll}
 
 -- a line's text as it is written: no byte below a space, and no blank at either end
 pub record IsTidy (text : List ℕ) : Type 0 where
@@ -26,12 +26,9 @@ raw_lines-feed (byte ∷ bytes) rest inked = rw (inked.0, raw_lines-feed bytes r
 pub strip_last_is : (byte : ℕ) (text : List ℕ) → strip_last byte (text ++ byte ∷ []) ≡ text
 strip_last_is byte text = search (rules, length-append, get_or_at, eq-eqb, take_at)
 
-is_blank_false : (byte : ℕ) → 33 ≤ byte → is_blank byte ≡ false
-is_blank_false byte h = grind (arith, nat_tests)
-
 trim_start_is : (text : List ℕ) → 33 ≤ get_or text 0 0 → trim_start text ≡ text
 trim_start_is [] h = refl
-trim_start_is (byte ∷ bytes) h = cond-false (is_blank byte) (trim_start bytes) (byte ∷ bytes) (is_blank_false byte h)
+trim_start_is (byte ∷ bytes) h = cond-false (is_blank byte) (trim_start bytes) (byte ∷ bytes) (grind (arith, nat_tests))
 
 -- a text that begins with another byte than a blank is not empty
 pub some_byte : (text : List ℕ) → 33 ≤ get_or text 0 0 → 0 < length text
@@ -45,9 +42,7 @@ kept_edged text no_feed first last = search (rules, trim_start_is, some_byte, ge
 
 -- a text as it is written is the whole line
 pub kept_tidy : (text : List ℕ) → IsTidy text → IsKept text
-kept_tidy text tidy =
-    kept_edged text (all-weaker (λ byte. 32 ≤ byte) _ (λ byte h. ne_eqb byte 10 (λ e. omega arith)) text tidy.inked) tidy.first
-    tidy.last
+kept_tidy text tidy = kept_edged text (all-weaker _ _ (λ byte h. ne_eqb byte 10 (λ e. omega arith)) text tidy.inked) tidy.first tidy.last
 
 pub line_kept : (text : List ℕ) → IsKept text → trim (without_ending (with_feed text)) ≡ text
 line_kept text kept = search (rules, strip_last_is)
@@ -71,7 +66,168 @@ pub lines_kept : (number : ℕ) (texts : List (List ℕ)) → AllByRecursion IsK
 lines_kept number [] kept = refl
 lines_kept number (text ∷ texts) kept = search (rules, lines_kept (number + 1) texts kept.1, append_assoc, raw_lines-feed, line_kept)
 
--- what is written as tidy lines is those lines
-pub lines_are : (number : ℕ) (texts : List (List ℕ)) → AllByRecursion IsTidy texts
-    → numbered_from number (raw_lines (flat_map with_feed texts)) ≡ numbered number texts
-lines_are number texts tidy = lines_kept number texts (all-weaker IsTidy IsKept kept_tidy texts tidy)
+-- ---- numbers and clues
+
+-- what decimal can write
+abbrev pub IsWord : ℕ → Type 0
+IsWord n = n < 2 ^ 64
+
+no_separator : (n : ℕ) → IsWord n → All (λ byte. is_separator byte ≡ false) (decimal n)
+no_separator n h k d lt =
+    grind (arith, nat_tests, digit_at (decimal n) k (decimal_is_IsNumeral n h).0.1 lt, get_or_default (decimal n) k d 0 lt)
+
+-- a byte that may stand between the numbers of a clue
+pub record IsSpacing (separator : ℕ) : Type 0 where
+  pub cuts : is_separator separator ≡ true
+  pub high : 32 ≤ separator
+
+-- a space may stand between numbers
+pub space : IsSpacing 32
+space = record { cuts = refl; high = omega arith }
+
+-- a comma may stand between numbers
+pub comma : IsSpacing 44
+comma = record { cuts = refl; high = omega arith }
+
+split_clue : (s n : ℕ) (ns : List ℕ) → IsSpacing s → AllByRecursion IsWord (n ∷ ns)
+    → slice_split is_separator (clue_text s (n ∷ ns)) ≡ map decimal (n ∷ ns)
+split_clue s n [] spacing h = rw append-nil (slice_split_none is_separator (decimal n) (no_separator n h.0))
+split_clue s n (m ∷ ns) by h = search (rules, split_clue s m ns by h.1, append-nil, slice_split_none, no_separator, slice_split_at)
+
+pub filled : (n : ℕ) → IsWord n → not (is_empty (decimal n)) ≡ true
+filled n h = ap not (ne_eqb (length (decimal n)) 0 (λ e. omega (arith, decimal_nonempty n h)))
+
+-- the pieces of a written clue are its numbers
+pub pieces_of_clue : (s n : ℕ) (ns : List ℕ) → IsSpacing s → AllByRecursion IsWord (n ∷ ns)
+    → pieces (clue_text s (n ∷ ns)) ≡ map decimal (n ∷ ns)
+pieces_of_clue s n ns spacing h =
+    let full = λ (piece : List ℕ). not (is_empty piece) in
+    search (rules, split_clue s n ns spacing h, filter_all full (map decimal (n ∷ ns)), all-map IsWord (λ piece. full piece ≡ true), filled)
+
+pub all_digits : (ds : List ℕ) → AllDigits 10 ds → list_all is_ascii_digit ds ≡ true
+all_digits [] h = refl
+all_digits (c ∷ cs) h = search (rules, all_digits cs h.1, digit_from_value, nat_tests)
+
+pub numbers_again : (limit : ℕ) (ns : List ℕ) → limit < 2 ^ 64 → AllByRecursion (λ n. n ≤ limit) ns
+    → numbers_within limit (map decimal ns) ≡ Some ns
+numbers_again limit [] wide h = refl
+numbers_again limit (n ∷ ns) wide h = search (rules, numbers_again limit ns wide h.1, le-leb, decimal_is_IsNumeral, filled, all_digits)
+
+-- the numbers of a clue are no more than the limit
+pub runs : (limit : ℕ) (ns : List ℕ) → list_all (is_run limit) ns ≡ true → AllByRecursion (λ n. n ≤ limit) ns
+runs limit ns h = all_pass (is_run limit) (λ n. n ≤ limit) (λ n run. leb-true n limit (and_parts _ _ run).1) ns h
+
+-- numbers within a limit can be written
+pub words : (limit : ℕ) (ns : List ℕ) → limit < 2 ^ 64 → AllByRecursion (λ n. n ≤ limit) ns → AllByRecursion IsWord ns
+words limit ns wide h = all-weaker (λ n. n ≤ limit) IsWord (λ n low. omega arith) ns h
+
+pub clue_is : (limit : ℕ) (ns : List ℕ) → is_clue limit ns ≡ true → clue_of_numbers limit ns ≡ Some ns
+clue_is limit ns h = search rules
+
+-- a clue that is written is read again
+pub clue_again : (s limit : ℕ) (clue : List ℕ) → IsSpacing s → limit < 2 ^ 64 → is_clue limit clue ≡ true
+    → clue_of limit (clue_text s clue) ≡ Some clue
+clue_again s limit [] spacing wide h = rw (le-leb 0 limit (omega arith)) refl
+clue_again s limit (n ∷ ns) spacing wide h =
+    let within = runs limit (n ∷ ns) (and_parts _ _ h).1 in
+    search (rules, pieces_of_clue s n ns spacing (words limit (n ∷ ns) wide within), numbers_again limit (n ∷ ns) wide within, clue_is)
+
+-- the texts of clues with their line feeds are the lines of clues
+pub fed_clues : (s : ℕ) (clues : List (List ℕ)) → flat_map with_feed (map (clue_text s) clues) ≡ clue_lines s clues
+fed_clues s clues = flat_map-map with_feed (clue_text s) clues
+
+-- ---- tidy lines
+
+-- two tidy texts with a byte between them are a tidy text
+pub tidy-join : (s : ℕ) (a b : List ℕ) → IsSpacing s → IsTidy a → IsTidy b → IsTidy (a ++ s ∷ b)
+tidy-join s a b spacing p q = search (rules, some_byte, all-append, get_or_append_left, get_or-append_right, length-append)
+
+digits_inked : (ds : List ℕ) → AllDigits 10 ds → AllByRecursion (λ byte. 33 ≤ byte) ds
+digits_inked [] h = tt
+digits_inked (c ∷ cs) h = let r = digit_from_value c h.0 in (omega (arith, r.0), digits_inked cs h.1)
+
+-- a number is a tidy text
+pub tidy_decimal : (n : ℕ) → IsWord n → IsTidy (decimal n)
+tidy_decimal n h = let numeral = (decimal_is_IsNumeral n h).0 in tidy_solid (decimal n) numeral.0 (digits_inked (decimal n) numeral.1)
+
+-- a clue is a tidy text
+pub tidy_clue : (s : ℕ) (numbers : List ℕ) → IsSpacing s → AllByRecursion IsWord numbers → IsTidy (clue_text s numbers)
+tidy_clue s [] spacing h = record { inked = (omega arith, tt); first = omega arith; last = omega arith }
+tidy_clue s (n ∷ []) spacing h = rw append-nil (tidy_decimal n h.0)
+tidy_clue s (n ∷ m ∷ ns) spacing h = search (rules, tidy_clue s (m ∷ ns) spacing h.1, append-nil, tidy_decimal, tidy-join)
+
+-- the numbers go on from one list of lines to the next
+pub numbered-append : (k : ℕ) (xs ys : List (List ℕ)) → numbered k (xs ++ ys) ≡ numbered k xs ++ numbered (k + length xs) ys
+numbered-append k [] ys = ap (λ (n : ℕ). numbered n ys) (omega arith)
+numbered-append k (x ∷ xs) ys = search (rules, numbered-append (k + 1) xs ys)
+
+-- ---- the lines of clues
+
+-- the numbers of a clue can be written
+pub word_clue : (limit : ℕ) (clue : List ℕ) → limit < 2 ^ 64 → is_clue limit clue ≡ true → AllByRecursion IsWord clue
+word_clue limit clue wide h = words limit clue wide (runs limit clue (and_parts _ _ h).1)
+
+-- what the line of a clue begins with
+pub first_digit : (s : ℕ) (clue : List ℕ) → AllByRecursion IsWord clue
+    → (48 ≤ get_or (clue_text s clue) 0 0) × (get_or (clue_text s clue) 0 0 ≤ 57)
+first_digit s clue h = search (rules, decimal_is_IsNumeral, digit_at, get_or_append_left)
+
+pub some_text : (text : List ℕ) → 48 ≤ get_or text 0 0 → not (is_empty text) ≡ true
+some_text [] h = absurd (omega arith)
+some_text (byte ∷ bytes) h = ap not (ne_eqb (suc (length bytes)) 0 (λ e. omega arith))
+
+-- the lines of clues say these clues
+pub say_clues : (s limit k : ℕ) (clues : List (List ℕ)) → IsSpacing s → limit < 2 ^ 64
+    → AllByRecursion (λ clue. is_clue limit clue ≡ true) clues → SayAll limit (numbered k (map (clue_text s) clues)) clues
+say_clues s limit k [] spacing wide h = record { full = tt; hash = tt; count = refl; said = refl }
+say_clues s limit k (clue ∷ clues) spacing wide h =
+    search (rules, say_clues s limit (k + 1) clues spacing wide h.1, first_digit, word_clue, some_text, ne_eqb, clue_again)
+
+-- the lines of clues are tidy
+pub tidy_clues : (s limit : ℕ) (clues : List (List ℕ)) → IsSpacing s → limit < 2 ^ 64
+    → AllByRecursion (λ clue. is_clue limit clue ≡ true) clues → AllByRecursion IsTidy (map (clue_text s) clues)
+tidy_clues s limit clues spacing wide h = search (all-map, tidy_clue, word_clue)
+
+-- a size that is written is read again
+pub size_again : (limit n : ℕ) → limit < 2 ^ 64 → 1 ≤ n → n ≤ limit → size_of limit (decimal n) ≡ Ok n
+size_again limit n wide low high = search (rules, le-leb, decimal_is_IsNumeral, filled, all_digits)
+
+-- ---- how long the text is
+
+length_numbers : (s : ℕ) (ns : List ℕ) → AllByRecursion (λ n. n < 1000) ns
+    → length (flat_map (λ other. s ∷ decimal other) ns) ≤ 4 * length ns
+length_numbers s [] h = omega arith
+length_numbers s (n ∷ ns) h = search (rules, length_numbers s ns h.1, length-decimal-le 3 n, length-append)
+
+length_clue : (s : ℕ) (clue : List ℕ) → AllByRecursion (λ n. n < 1000) clue → length clue ≤ 128 → length (clue_line s clue) ≤ 514
+length_clue s clue h few = search (rules, length_numbers, length-decimal-le 3, length-append)
+
+-- a clue's line has at most 514 bytes
+pub length_lines : (s limit : ℕ) (clues : List (List ℕ)) → limit < 1000 → AllByRecursion (λ clue. is_clue limit clue ≡ true) clues
+    → length (clue_lines s clues) ≤ 514 * length clues
+length_lines s limit [] wide h = omega arith
+length_lines s limit (clue ∷ clues) wide h =
+    let parts = and_parts (leb (length clue) 128) _ h.0 in
+    let small = all-weaker _ (λ n. n < 1000) (λ n low. omega arith) clue (runs limit clue parts.1) in
+    omega (arith, length-append {A = ℕ}, length_lines s limit clues wide h.1, length_clue s clue small (leb-true (length clue) 128 parts.0))
+
+module _ (limit a b : ℕ) (wide : limit < 2 ^ 64) (first : (1 ≤ a) × (a ≤ limit)) (second : (1 ≤ b) × (b ≤ limit)) where
+  size_words : AllByRecursion IsWord (a ∷ b ∷ [])
+  size_words = (omega (arith, first.1), (omega (arith, second.1), tt))
+
+  -- sizes are a tidy text, which isn't blank
+  pub tidy_sizes : IsTidy (clue_text 32 (a ∷ b ∷ []))
+  tidy_sizes = tidy_clue 32 (a ∷ b ∷ []) space size_words
+
+  pub some_sizes : not (is_empty (clue_text 32 (a ∷ b ∷ []))) ≡ true
+  some_sizes = some_text (clue_text 32 (a ∷ b ∷ [])) (first_digit 32 (a ∷ b ∷ []) size_words).0
+
+  -- sizes that are written are read again
+  pub sizes_are : two_sizes limit (pieces (clue_text 32 (a ∷ b ∷ []))) ≡ Ok (a, b)
+  sizes_are = search (pieces_of_clue, space, size_words, size_again)
+
+-- a text in .mk or .nin is short enough to be read
+pub length_within : (limit a b : ℕ) (rows columns : List (List ℕ)) → limit ≤ 256 → a ≤ limit → b ≤ limit
+    → AllByRecursion (λ clue. is_clue limit clue ≡ true) rows → AllByRecursion (λ clue. is_clue limit clue ≡ true) columns
+    → length rows + length columns ≤ 512 → length (two_numbers a b) + length (clue_lines 32 rows) + length (clue_lines 32 columns) ≤ 263176
+length_within limit a b rows columns wide low high p q many = search (rules, length-append, length-decimal-le 3, length_lines)

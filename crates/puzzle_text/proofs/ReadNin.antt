@@ -1,11 +1,8 @@
 -- What is written in .nin is read again.
-use Rattle.puzzle_text.proofs.Names.{rules, ◌≡◌, ℕ, ◌≤◌, true, false, List, ◌∷◌, ◌++◌, [], length, map, ap, ◌∙◌, append_assoc, arith, Ok, flat_map, AllByRecursion, eqb-true, append-nil, length-append, flat_map-append, is_clue, Nonogram, plain, IsNonogramWithin, reading, likelier, nin_of, read_nin, clue_text, clue_line, text_nin, is_ambiguous, take-append_seam, drop-append_seam}
-use Rattle.puzzle_text.proofs.AllLemmas.{all-append}
+use Rattle.puzzle_text.proofs.Names.{rules, ◌≡◌, ℕ, ◌≤◌, true, false, List, ◌∷◌, ◌++◌, [], length, map, ◌∙◌, append_assoc, arith, Ok, flat_map, AllByRecursion, eqb-true, append-nil, length-append, flat_map-append, is_clue, Nonogram, plain, IsNonogramWithin, reading, likelier, nin_of, read_nin, clue_text, clue_line, text_nin, is_ambiguous, take-append_seam, drop-append_seam, all-append, all-weaker}
 use Rattle.puzzle_text.proofs.SaidLines.{nin_lines, short_lines}
-use Rattle.puzzle_text.proofs.ReadBack.{IsTidy, with_feed, numbered, lines_are}
-use Rattle.puzzle_text.proofs.ReadClue.{space}
+use Rattle.puzzle_text.proofs.ReadBack.{IsTidy, with_feed, numbered, lines_kept, IsKept, kept_tidy, space, tidy_clues, fed_clues, say_clues, some_sizes, tidy_sizes, sizes_are, length_within}
 use Rattle.puzzle_text.proofs.ReadMk.{across, high}
-use Rattle.puzzle_text.proofs.ReadClues.{tidy_clues, fed_clues, say_clues, some_sizes, tidy_sizes, sizes_are, length_within}
 
 -- the lines of the text
 abbrev pub texts_nin : Nonogram → List (List ℕ)
@@ -20,25 +17,15 @@ module _ (limit : ℕ) (p : Nonogram) (wide : limit ≤ 256) (lawful : IsNonogra
   abbrev clues : List (List ℕ)
   clues = p.rows ++ p.columns
 
-  abbrev swapped : Nonogram
-  swapped = reading p.height p.width clues
-
-  likelier_is : is_ambiguous p ≡ false → likelier p.width p.height clues ≡ plain p.width p.height p.rows p.columns
-  likelier_is clear = search (rules, eqb-true, take-append_seam, drop-append_seam)
-
-  likelier_other : is_ambiguous p ≡ true → likelier p.width p.height clues ≡ swapped
-  likelier_other ambiguous = search (rules, take-append_seam, drop-append_seam)
-
   -- ---- the whole text
 
   all_lawful : AllByRecursion (λ clue. is_clue limit clue ≡ true) clues
   all_lawful = all-append (λ clue. is_clue limit clue ≡ true) p.rows p.columns lawful.rows lawful.columns
 
   tidy_nin : AllByRecursion IsTidy (texts_nin p)
-  tidy_nin = (
-    tidy_sizes limit _ _ (omega arith) (across limit p wide lawful) (high limit p wide lawful),
-    tidy_clues 32 limit _ space (omega arith) all_lawful,
-  )
+  tidy_nin =
+      let sizes = tidy_sizes limit _ _ (omega arith) (across limit p wide lawful) (high limit p wide lawful) in
+      (sizes, tidy_clues 32 limit _ space (omega arith) all_lawful)
 
   -- the lines of a written puzzle say the likelier reading of its clues
   nin_again : nin_of limit (numbered 1 (texts_nin p)) ≡ Ok (likelier p.width p.height clues)
@@ -51,18 +38,18 @@ module _ (limit : ℕ) (p : Nonogram) (wide : limit ≤ 256) (lawful : IsNonogra
 
   -- the text is short enough to be read
   pub length_nin : length (text_nin p) ≤ 1048576
-  length_nin =
-      let whole = length_within limit p.width p.height p.rows p.columns wide lawful.size.width_to lawful.size.height_to lawful.rows in
-      omega (arith, length-append {A = ℕ}, whole lawful.columns (omega arith))
+  length_nin = search (rules, length-append, length_within limit p.width p.height p.rows p.columns)
 
   -- the text is read as the likelier reading of the clues
   likelier_read : read_nin limit (text_nin p) ≡ Ok (likelier p.width p.height clues)
-  likelier_read = rw (short_lines (text_nin p) length_nin, ← nin_is p, lines_are 1 (texts_nin p) tidy_nin) nin_again
+  likelier_read =
+      let kept = all-weaker IsTidy IsKept kept_tidy (texts_nin p) tidy_nin in
+      rw (short_lines (text_nin p) length_nin, ← nin_is p, lines_kept 1 (texts_nin p) kept) nin_again
 
   -- a written puzzle that isn't ambiguous is read again, without its texts and its goal
   pub nin_read_again : is_ambiguous p ≡ false → read_nin limit (text_nin p) ≡ Ok (plain p.width p.height p.rows p.columns)
-  nin_read_again clear = likelier_read ∙ ap Ok (likelier_is clear)
+  nin_read_again clear = likelier_read ∙ search (rules, eqb-true, take-append_seam, drop-append_seam)
 
   -- the text of an ambiguous puzzle is read with its sizes exchanged
   pub nin_read_otherwise : is_ambiguous p ≡ true → read_nin limit (text_nin p) ≡ Ok (reading p.height p.width (p.rows ++ p.columns))
-  nin_read_otherwise ambiguous = likelier_read ∙ ap Ok (likelier_other ambiguous)
+  nin_read_otherwise ambiguous = likelier_read ∙ search (rules, take-append_seam, drop-append_seam)

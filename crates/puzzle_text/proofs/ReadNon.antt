@@ -1,14 +1,9 @@
 -- What is written in .non is read again.
-use Rattle.puzzle_text.proofs.Names.{rules, ◌≡◌, ℕ, ◌+◌, ◌*◌, ◌<◌, ◌≤◌, ◌^◌, Bool, true, false, cond, not, ltb, List, [], ◌∷◌, ◌++◌, length, map, codes, refl, sym, ap, ◌∙◌, arith, Option, Some, None, Ok, decimal, filter, AllByRecursion, bytes_eq, eq-eqb, eqb-true, append-nil, reverse-append, reverse-reverse, length-map, filter-append, flat_map, is_clue, Nonogram, IsNonogramWithin, is_goal, text_of, Description, is_field, Line, lines, is_full, is_empty, trim, each_some, with_keyword, first_with, all_fields, field_word, quoted_text, placed, sections_of, number_of_line, long_text, cell_of, goal_cells, goal_of, field_text, texts_of, sizes_of, rows_first, check_lines, outline_of, non_of, read_non, clue_text, goal_byte, text_non, Sections, puzzle_said, Rows, Columns}
-use Rattle.grid_core.specs.declared.fields.Field.{Field}
-use Rattle.grid_core.specs.declared.fields.Field.TheVariants.{Catalogue, Title, By, Copyright, License}
-use Rattle.puzzle_text.proofs.AllLemmas.{all-append, all-flat_map, all-map, all-weaker, filter_all, filter_none}
+use Rattle.puzzle_text.proofs.Names.{rules, ◌≡◌, ℕ, ◌+◌, ◌*◌, ◌<◌, ◌≤◌, ◌^◌, Bool, true, false, cond, not, ltb, List, [], ◌∷◌, ◌++◌, length, map, codes, refl, sym, ap, ◌∙◌, arith, Option, Some, None, Ok, decimal, filter, AllByRecursion, bytes_eq, eq-eqb, eqb-true, append-nil, reverse-append, reverse-reverse, length-map, filter-append, flat_map, is_clue, Nonogram, IsNonogramWithin, is_goal, text_of, Description, is_field, Line, lines, is_full, is_empty, trim, each_some, with_keyword, first_with, all_fields, field_word, quoted_text, placed, sections_of, number_of_line, long_text, cell_of, goal_cells, goal_of, texts_of, sizes_of, check_lines, outline_of, non_of, read_non, clue_text, goal_byte, text_non, Sections, puzzle_said, Rows, Columns, Field, Catalogue, Title, By, Copyright, License, all-append, all-flat_map, all-map, all-weaker, filter_all, filter_none, nil_from_length}
 use Rattle.puzzle_text.proofs.SaidLines.{SayAll, non_lines, short_lines}
-use Rattle.puzzle_text.proofs.SectionsWalk.{IsContent, below, below_keyword, content_digit, join, join_content, nothing_above, with_columns, with_lines, with_rows, word_at}
-use Rattle.puzzle_text.proofs.ReadBack.{numbered, kept_tidy}
-use Rattle.puzzle_text.proofs.ReadClue.{comma}
-use Rattle.puzzle_text.proofs.ReadClues.{numbered-append, say_clues, word_clue, size_again, tidy_decimal, first_digit}
-use Rattle.puzzle_text.proofs.NonText.{facts, field_line, lawful_field, one, size_text, goal_text, goal_gap, part, fields, row_part, column_part, goal_part, after_rows, after_fields, texts_non, lines_non, length_non, quote_kept, rest_of, all_gap}
+use Rattle.puzzle_text.proofs.SectionsWalk.{no_lines, IsContent, below, below_keyword, content_digit, join_content, nothing_above, with_columns, with_lines, with_rows, word_at}
+use Rattle.puzzle_text.proofs.ReadBack.{lines_kept, numbered, kept_tidy, comma, numbered-append, say_clues, word_clue, size_again, tidy_decimal, first_digit}
+use Rattle.puzzle_text.proofs.NonText.{facts, field_line, lawful_field, one, size_text, goal_text, goal_gap, part, fields, row_part, column_part, goal_part, after_rows, after_fields, texts_non, kept_non, non_is, length_non, quote_kept, rest_of, all_gap}
 
 abbrev texts_with : List ℕ → List (List ℕ) → List (List ℕ)
 texts_with word texts = filter (λ text. bytes_eq (word_at text) word) texts
@@ -18,8 +13,7 @@ texts_with word texts = filter (λ text. bytes_eq (word_at text) word) texts
 content_clues : (limit : ℕ) (clues : List (List ℕ)) → limit < 2 ^ 64 → AllByRecursion (λ clue. is_clue limit clue ≡ true) clues
     → AllByRecursion IsContent (map (clue_text 44) clues)
 content_clues limit clues wide h =
-    all-map (λ clue. is_clue limit clue ≡ true) IsContent (clue_text 44)
-    (λ clue is. let digit = first_digit 44 clue (word_clue limit clue wide is) in content_digit (clue_text 44 clue) digit.0 digit.1) clues h
+    all-map _ IsContent (clue_text 44) (λ clue is. search (first_digit 44 clue (word_clue limit clue wide is), content_digit)) clues h
 
 -- ---- the lines with a keyword
 
@@ -43,43 +37,12 @@ with-parts word ts (f ∷ fs) =
     rw (filter-append (λ text. bytes_eq (word_at text) word) (part ts f) (flat_map (part ts) fs), here, with-parts word ts fs)
     (search rules)
 
-module _ (limit : ℕ) (p : Nonogram) (wide : limit < 2 ^ 64) (lawful : IsNonogramWithin limit p) where
-  content_rows : AllByRecursion IsContent (row_part p)
-  content_rows = search (all-append, content_clues)
-
-  content_columns : AllByRecursion IsContent (column_part p)
-  content_columns = search (all-append, content_clues, all_gap)
-
-  -- the lines with a keyword: those of its fields, of the sizes, of the sections and of the goal
-  pub whole : (word : List ℕ) (goal : Bool) → bytes_eq [] word ≡ false
-      → ((text : List ℕ) → bytes_eq (word_at (field_line (codes "goal") text)) word ≡ goal)
-      → texts_with word (texts_non p)
-      ≡ flat_map (part p.texts) (fields_with word all_fields)
-      ++ (texts_with word (size_text (codes "width") p.width ∷ size_text (codes "height") p.height ∷ [] ∷ codes "rows" ∷ [])
-      ++ (texts_with word (codes "columns" ∷ []) ++ cond goal (goal_part p) []))
-  whole word goal some in_goal =
-      let has = λ (text : List ℕ). bytes_eq (word_at text) word in
-      let head = size_text (codes "width") p.width ∷ size_text (codes "height") p.height ∷ [] ∷ codes "rows" ∷ [] in
-      rw (filter-append has (fields p.texts) (after_fields p), with-parts word p.texts all_fields)
-      (rw (filter-append has head (row_part p ++ after_rows p), filter-append has (row_part p) (after_rows p))
-      (rw (with-content word (row_part p) some content_rows, filter-append has (codes "columns" ∷ []) (column_part p ++ goal_part p))
-      (rw (filter-append has (column_part p) (goal_part p), with-content word (column_part p) some content_columns)
-      (rw (with-one word (codes "goal") (goal_text p.goal) goal in_goal) refl))))
-
-  field_only : (f : Field) → texts_with (field_word f) (texts_non p) ≡ part p.texts f
-  field_only Catalogue = whole (codes "catalogue") false refl (λ text. refl) ∙ search append-nil
-  field_only f = whole (field_word f) false refl (λ text. refl) ∙ search append-nil
-
 -- ---- from texts to lines
 
 lines_with : (word : List ℕ) (k : ℕ) (texts : List (List ℕ))
     → map (λ (line : Line). line.text) (with_keyword word (numbered k texts)) ≡ texts_with word texts
 lines_with word k [] = refl
 lines_with word k (text ∷ texts) = let others = lines_with word (k + 1) texts in search rules
-
-none_seen : (xs : List Line) → map (λ (line : Line). line.text) xs ≡ [] → xs ≡ []
-none_seen [] e = refl
-none_seen (x ∷ xs) e = absurd cc
 
 -- one line stands there, with this text
 abbrev IsOne : List Line → List ℕ → Type 0
@@ -99,7 +62,7 @@ FieldIs word lines (Some text) = (line : Line) × (with_keyword word lines ≡ l
 field_is : (word : List ℕ) (o : Option (List ℕ)) (k : ℕ) (texts : List (List ℕ))
     → ((text : List ℕ) → rest_of (field_line word text) ≡ 34 ∷ (text ++ 34 ∷ [])) → texts_with word texts ≡ one word o
     → FieldIs word (numbered k texts) o
-field_is word None k texts after e = search (rules, none_seen, lines_with)
+field_is word None k texts after e = nil_from_length _ (sym (length-map _ _) ∙ ap length (lines_with word k texts ∙ e))
 field_is word (Some text) k texts after e =
     let found = one_seen (with_keyword word (numbered k texts)) (field_line word text) (lines_with word k texts ∙ e) in
     (found.0, found.1, search (rules, after, reverse-append, reverse-reverse))
@@ -114,12 +77,7 @@ long_none word lines o is lawful = search rules
 below_keywords : (under : List ℕ) (k : ℕ) (xs ys : List (List ℕ)) → AllByRecursion (λ text. is_empty (word_at text) ≡ false) xs
     → (last : List ℕ) × (m : ℕ) × (below under (numbered k (xs ++ ys)) ≡ below last (numbered m ys))
 below_keywords under k [] ys h = (under, k, refl)
-below_keywords under k (x ∷ xs) ys h =
-    let later = below_keywords (word_at x) (k + 1) xs ys h.1 in
-    (later.0, later.1, below_keyword under (record { number = k; text = x }) (numbered (k + 1) (xs ++ ys)) h.0 ∙ later.2)
-
-one_word : (f : Field) (o : Option (List ℕ)) → AllByRecursion (λ text. is_empty (word_at text) ≡ false) (one (field_word f) o)
-one_word f o = search (rules, facts)
+below_keywords under k (x ∷ xs) ys h = search (rules, below_keywords (word_at x) (k + 1) xs ys h.1, below_keyword)
 
 -- texts as lines are as they are as texts
 numbered_all : (P : List ℕ → Type 0) (k : ℕ) (texts : List (List ℕ)) → AllByRecursion P texts
@@ -127,41 +85,9 @@ numbered_all : (P : List ℕ → Type 0) (k : ℕ) (texts : List (List ℕ)) →
 numbered_all P k [] h = tt
 numbered_all P k (text ∷ texts) h = (h.0, numbered_all P (k + 1) texts h.1)
 
-abbrev no_lines : Sections
-no_lines = record { rows = []; columns = []; stray = None }
-
-below_goal : (o : Option (List Bool)) (k : ℕ) → below (codes "columns") (numbered k (one (codes "goal") (goal_text o))) ≡ no_lines
-below_goal o k = search rules
-
 -- the clue lines of each section and the blank lines below them, from these numbers on
 abbrev these : Nonogram → ℕ → ℕ → Sections
 these p k m = record { rows = numbered k (row_part p); columns = numbered m (column_part p); stray = None }
-
--- these are the sections, and no line is stray
-laid_out : (limit : ℕ) (p : Nonogram) → limit < 2 ^ 64 → IsNonogramWithin limit p
-    → (k : ℕ) × (m : ℕ) × (sections_of (placed (numbered 1 (texts_non p))) ≡ these p k m)
-laid_out limit p wide lawful =
-    let words = all-flat_map (λ text. is_empty (word_at text) ≡ false) (part p.texts) (λ f. one_word f (text_of p.texts f)) all_fields in
-    let start = below_keywords [] 1 (fields p.texts) (after_fields p) words in
-    let m = start.1 + 1 + 1 + 1 + 1 in
-    let row_lines = numbered m (row_part p) in
-    let n = m + length (row_part p) in
-    let column_lines = numbered (n + 1) (column_part p) in
-    let in_rows : Sections = with_lines Rows no_lines row_lines in (
-      m,
-      n + 1,
-      sym (nothing_above [] [] (numbered 1 (texts_non p)) refl refl)
-          ∙ ap (join no_lines) start.2
-          ∙ ap (λ (lines : List Line). join no_lines (below (codes "rows") lines)) (numbered-append m (row_part p) (after_rows p))
-          ∙ join_content Rows (codes "rows") no_lines row_lines (numbered n (after_rows p)) refl
-          (numbered_all IsContent m (row_part p) (content_rows limit p wide lawful))
-          ∙ ap (λ (lines : List Line). join in_rows (below (codes "columns") lines)) (numbered-append (n + 1) (column_part p) (goal_part p))
-          ∙ join_content Columns (codes "columns") in_rows column_lines (numbered (n + 1 + length (column_part p)) (goal_part p)) refl
-          (numbered_all IsContent (n + 1) (column_part p) (content_columns limit p wide lawful))
-          ∙ ap (join (with_lines Columns in_rows column_lines)) (below_goal p.goal (n + 1 + length (column_part p)))
-          ∙ rw (with_rows no_lines row_lines, with_columns _ column_lines, append-nil row_lines, append-nil column_lines)
-          refl,
-    )
 
 -- the lines of a section that aren't blank say its clues
 part_again : (limit k : ℕ) (clues gap : List (List ℕ)) → limit < 2 ^ 64 → AllByRecursion (λ clue. is_clue limit clue ≡ true) clues
@@ -169,10 +95,9 @@ part_again : (limit k : ℕ) (clues gap : List (List ℕ)) → limit < 2 ^ 64 �
     → SayAll limit (filter is_full (numbered k (map (clue_text 44) clues ++ gap))) clues
 part_again limit k clues gap wide lawful blank =
     let said = say_clues 44 limit k clues comma wide lawful in
-    let texts = map (clue_text 44) clues in
-    let after = numbered (k + length texts) gap in
-    rw (numbered-append k texts gap, filter-append is_full (numbered k texts) after, filter_all is_full (numbered k texts) said.full)
-    (rw (filter_none is_full after (numbered_all (λ text. not (is_empty text) ≡ false) (k + length texts) gap blank), append-nil) said)
+    let none = numbered_all (λ text. not (is_empty text) ≡ false) (k + length (map (clue_text 44) clues)) gap blank in
+    rw (numbered-append k (map (clue_text 44) clues) gap)
+    (search (rules, filter-append, filter_all is_full _ said.full, filter_none is_full _ none, append-nil, said))
 
 -- ---- the goal
 
@@ -190,33 +115,53 @@ goal_again count o lines is lawful = search (rules, cells_again)
 -- ---- the whole text
 
 module _ (limit : ℕ) (p : Nonogram) (wide : limit < 2 ^ 64) (lawful : IsNonogramWithin limit p) where
+  content_rows : AllByRecursion IsContent (row_part p)
+  content_rows = search (all-append, content_clues)
+
+  content_columns : AllByRecursion IsContent (column_part p)
+  content_columns = search (all-append, content_clues, all_gap)
+
+  -- the lines with a keyword: those of its fields, of the sizes, of the sections and of the goal
+  whole : (word : List ℕ) (goal : Bool) → bytes_eq [] word ≡ false
+      → ((text : List ℕ) → bytes_eq (word_at (field_line (codes "goal") text)) word ≡ goal) → texts_with word (texts_non p)
+      ≡ flat_map (part p.texts) (fields_with word all_fields)
+      ++ (texts_with word (size_text (codes "width") p.width ∷ size_text (codes "height") p.height ∷ [] ∷ codes "rows" ∷ [])
+      ++ (texts_with word (codes "columns" ∷ []) ++ cond goal (goal_part p) []))
+  whole word goal some in_goal =
+      let has = λ (text : List ℕ). bytes_eq (word_at text) word in
+      let head = size_text (codes "width") p.width ∷ size_text (codes "height") p.height ∷ [] ∷ codes "rows" ∷ [] in
+      rw (filter-append has (fields p.texts) (after_fields p), with-parts word p.texts all_fields)
+      (rw (filter-append has head (row_part p ++ after_rows p), filter-append has (row_part p) (after_rows p))
+      (rw (with-content word (row_part p) some content_rows, filter-append has (codes "columns" ∷ []) (column_part p ++ goal_part p))
+      (rw (filter-append has (column_part p) (goal_part p), with-content word (column_part p) some content_columns)
+      (rw (with-one word (codes "goal") (goal_text p.goal) goal in_goal) refl))))
+
+  field_only : (f : Field) → texts_with (field_word f) (texts_non p) ≡ part p.texts f
+  field_only Catalogue = whole (codes "catalogue") false refl (λ text. refl) ∙ search append-nil
+  field_only f = whole (field_word f) false refl (λ text. refl) ∙ search append-nil
+
+  -- ---- its lines
+
   abbrev all_lines : List Line
   all_lines = numbered 1 (texts_non p)
 
-  abbrev OneLine : List ℕ → List ℕ → Type 0
-  OneLine word text = IsOne (with_keyword word all_lines) text
+  width_line : IsOne (with_keyword (codes "width") all_lines) (size_text (codes "width") p.width)
+  width_line = one_seen _ _ (lines_with (codes "width") 1 (texts_non p) ∙ whole (codes "width") false refl (λ _. refl))
 
-  width_line : OneLine (codes "width") (size_text (codes "width") p.width)
-  width_line = one_seen _ _ (lines_with (codes "width") 1 (texts_non p) ∙ whole limit p wide lawful (codes "width") false refl (λ _. refl))
+  height_line : IsOne (with_keyword (codes "height") all_lines) (size_text (codes "height") p.height)
+  height_line = one_seen _ _ (lines_with _ 1 (texts_non p) ∙ whole (codes "height") false refl (λ _. refl))
 
-  height_line : OneLine (codes "height") (size_text (codes "height") p.height)
-  height_line =
-      one_seen _ _ (lines_with (codes "height") 1 (texts_non p) ∙ whole limit p wide lawful (codes "height") false refl (λ _. refl))
+  rows_line : IsOne (with_keyword (codes "rows") all_lines) (codes "rows")
+  rows_line = one_seen _ _ (lines_with (codes "rows") 1 (texts_non p) ∙ whole (codes "rows") false refl (λ _. refl))
 
-  rows_line : OneLine (codes "rows") (codes "rows")
-  rows_line = one_seen _ _ (lines_with (codes "rows") 1 (texts_non p) ∙ whole limit p wide lawful (codes "rows") false refl (λ _. refl))
-
-  columns_line : OneLine (codes "columns") (codes "columns")
-  columns_line =
-      one_seen _ _ (lines_with (codes "columns") 1 (texts_non p) ∙ whole limit p wide lawful (codes "columns") false refl (λ _. refl))
+  columns_line : IsOne (with_keyword (codes "columns") all_lines) (codes "columns")
+  columns_line = one_seen _ _ (lines_with _ 1 (texts_non p) ∙ whole (codes "columns") false refl (λ _. refl))
 
   goal_field : FieldIs (codes "goal") all_lines (goal_text p.goal)
-  goal_field =
-      field_is (codes "goal") (goal_text p.goal) 1 (texts_non p) quote_kept
-      (whole limit p wide lawful (codes "goal") true refl (λ text. refl))
+  goal_field = field_is _ _ 1 (texts_non p) quote_kept (whole (codes "goal") true refl (λ text. refl))
 
   field_at : (f : Field) → FieldIs (field_word f) all_lines (text_of p.texts f)
-  field_at f = field_is (field_word f) (text_of p.texts f) 1 (texts_non p) (facts f).rest (field_only limit p wide lawful f)
+  field_at f = field_is (field_word f) (text_of p.texts f) 1 (texts_non p) (facts f).rest (field_only f)
 
   long_at : (f : Field) → number_of_line (long_text all_lines (field_word f)) ≡ None
   long_at f = long_none (field_word f) all_lines (text_of p.texts f) (field_at f) (lawful_field p.texts lawful.texts f)
@@ -232,28 +177,41 @@ module _ (limit : ℕ) (p : Nonogram) (wide : limit < 2 ^ 64) (lawful : IsNonogr
       rw (long_at Catalogue, long_at Title, long_at By, long_at Copyright, long_at License)
       (rw (width_line.1, height_line.1, rows_line.1, columns_line.1) refl)
 
-  field_read : (f : Field) → field_text (field_word f) all_lines ≡ text_of p.texts f
-  field_read f = search (rules, field_at)
-
   texts_read : texts_of all_lines ≡ p.texts
-  texts_read = rw (field_read Catalogue, field_read Title, field_read By, field_read Copyright, field_read License) refl
+  texts_read = search (rules, field_at Catalogue, field_at Title, field_at By, field_at Copyright, field_at License)
+
+  -- its sections are these, and no line is stray
+  laid_out : (k : ℕ) × (m : ℕ) × (sections_of (placed all_lines) ≡ these p k m)
+  laid_out =
+      let words = all-flat_map (λ text. is_empty (word_at text) ≡ false) (part p.texts) (λ f. search (rules, facts)) all_fields in
+      let start = below_keywords [] 1 (fields p.texts) (after_fields p) words in
+      let m = start.1 + 1 + 1 + 1 + 1 in
+      let rows = numbered m (row_part p) in
+      let content = numbered_all IsContent m (row_part p) content_rows in
+      let n = m + length (row_part p) in
+      let columns = numbered (n + 1) (column_part p) in
+      let all : sections_of (placed all_lines) ≡ these p m (n + 1) =
+      rw (← nothing_above [] [] all_lines refl refl, start.2, numbered-append m (row_part p) (after_rows p))
+      (rw (join_content Rows (codes "rows") no_lines rows (numbered n (after_rows p)) refl content)
+      (rw (numbered-append (n + 1) (column_part p) (goal_part p))
+      (rw (join_content Columns (codes "columns") (with_lines Rows no_lines rows) columns
+      (numbered (n + 1 + length (column_part p)) (goal_part p)) refl (numbered_all IsContent (n + 1) (column_part p) content_columns))
+      (search (p.goal, rules, with_rows, with_columns, append-nil))))) in
+      (m, n + 1, all)
 
   -- the lines of a written puzzle say that puzzle
   non_again : non_of limit all_lines ≡ Ok p
   non_again =
-      let laid = laid_out limit p wide lawful in
-      let order = ltb rows_line.0.number columns_line.0.number in
-      let order_read : rows_first all_lines ≡ Ok order = rw (rows_line.1, columns_line.1) refl in
-      let outline : outline_of limit None all_lines ≡ Ok ((p.width, p.height), order) = rw (sizes_read, order_read, lines_checked) refl in
-      let goal_read = goal_again (p.width * p.height) p.goal all_lines goal_field lawful.goal in
-      ap (λ (sections : Sections). puzzle_said limit sections all_lines) laid.2
-      ∙ non_lines limit (these p laid.0 laid.1) all_lines p.width p.height order p.rows p.columns p refl
-      (part_again limit laid.0 p.rows ([] ∷ []) wide lawful.rows (refl, tt))
-      (part_again limit laid.1 p.columns (goal_gap p.goal) wide lawful.columns (all_gap _ refl p.goal)) outline
-      lawful.clues.0 lawful.clues.1 (rw (goal_read, texts_read) refl)
+      let outline : outline_of limit None all_lines ≡ Ok ((p.width, p.height), ltb rows_line.0.number columns_line.0.number) =
+      rw (sizes_read, lines_checked, rows_line.1, columns_line.1) refl in
+      ap (λ (sections : Sections). puzzle_said limit sections all_lines) laid_out.2
+      ∙ non_lines limit (these p laid_out.0 laid_out.1) all_lines p.width p.height _ p.rows p.columns p refl
+      (part_again limit laid_out.0 p.rows ([] ∷ []) wide lawful.rows (refl, tt))
+      (part_again limit laid_out.1 p.columns (goal_gap p.goal) wide lawful.columns (all_gap _ refl p.goal)) outline
+      lawful.clues.0 lawful.clues.1 (rw (goal_again (p.width * p.height) p.goal all_lines goal_field lawful.goal, texts_read) refl)
 
 -- a written puzzle is read again, texts and goal included
 pub non_read_again : (limit : ℕ) (p : Nonogram) → limit ≤ 256 → IsNonogramWithin limit p → read_non limit (text_non p) ≡ Ok p
 non_read_again limit p wide lawful =
-    rw (short_lines (text_non p) (length_non limit p wide lawful), lines_non limit p (omega arith) lawful)
-    (non_again limit p (omega arith) lawful)
+    rw (short_lines (text_non p) (length_non limit p wide lawful), ← non_is p)
+    (rw (lines_kept 1 (texts_non p) (kept_non limit p (omega arith) lawful)) (non_again limit p (omega arith) lawful))

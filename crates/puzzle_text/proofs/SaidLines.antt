@@ -1,7 +1,5 @@
 -- What the lines of a text say, if some of them say its sizes and others its clues.
-use Rattle.puzzle_text.proofs.Names.{rules, ◌≡◌, ℕ, ◌+◌, ◌≤◌, Bool, true, false, ltb, List, [], ◌∷◌, ◌++◌, length, filter, refl, append_assoc, arith, Some, None, Ok, Err, position_or_len, AllByRecursion, cond-false, eq-eqb, le-ltb, lt-ltb, take_all, take_at, drop_at, length-append, Nonogram, plain, TooLong, Line, is_full, is_hash, lines, pieces, clues_of, text_lines, two_sizes, at_hash, before_hash, mk_of, nin_of, likelier, Sections, both_clues, outline_of, puzzle_of_clues, puzzle_said}
-use Rattle.puzzle_text.specs.Sections.{choice}
-use Rattle.puzzle_text.proofs.AllLemmas.{filter_all}
+use Rattle.puzzle_text.proofs.Names.{rules, ◌≡◌, ℕ, ◌+◌, ◌≤◌, Bool, true, false, ltb, List, [], ◌∷◌, ◌++◌, length, filter, refl, append_assoc, arith, Some, None, Ok, Err, position_or_len, AllByRecursion, cond-false, eq-eqb, le-ltb, lt-ltb, take_all, take_at, drop_at, length-append, Nonogram, plain, TooLong, Line, is_full, is_hash, lines, pieces, clues_of, text_lines, two_sizes, at_hash, before_hash, mk_of, nin_of, likelier, Sections, both_clues, outline_of, puzzle_of_clues, puzzle_said, choice, filter_all}
 use Rattle.puzzle_text.proofs.MkLemmas.{puzzle_of_both}
 
 -- the lines of a text that isn't too long
@@ -24,9 +22,7 @@ no_place p (x ∷ xs) none = rw none.0 (omega (arith, no_place p xs none.1))
 at_hash_is : (rows : List Line) (hash : Line) (after : List Line) → AllByRecursion (λ line. is_hash line ≡ false) rows
     → is_hash hash ≡ true → at_hash (rows ++ hash ∷ after) ≡ Some (rows, after)
 at_hash_is rows hash after none here =
-    let place = first_place is_hash rows hash after none here in
-    let behind = drop_at (rows ++ hash ∷ []) after (length rows + 1) (length-append rows (hash ∷ [])) in
-    search (rules, place, behind, lt-ltb, length-append, append_assoc, take_at)
+    search (rules, first_place is_hash rows hash after, drop_at (rows ++ hash ∷ []) after, lt-ltb, length-append, append_assoc, take_at)
 
 -- no line is left out if none begins with #
 before_hash_is : (rows : List Line) → AllByRecursion (λ line. is_hash line ≡ false) rows → before_hash rows ≡ rows
@@ -59,13 +55,11 @@ pub mk_lines : (limit width height : ℕ) (first cut : Line) (row_lines column_l
     → mk_of limit (first ∷ (row_lines ++ cut ∷ column_lines)) ≡ Ok (plain width height rows columns)
 mk_lines limit width height first cut row_lines column_lines rows columns sizes full here p q high wide =
     rw (full, sizes, at_hash_is row_lines cut column_lines p.hash here, before_hash_is column_lines q.hash)
-    (rw (all_chosen limit height row_lines rows p high, all_chosen limit width column_lines columns q wide)
-    (search (rules, puzzle_of_both, both_said)))
+    (search (rules, all_chosen limit, puzzle_of_both, both_said))
 
 -- in .nin: a size line and clues
 pub nin_lines : (limit a b : ℕ) (first : Line) (found : List Line) (clues : List (List ℕ)) → two_sizes limit (pieces first.text) ≡ Ok (a, b)
-    → is_full first ≡ true → SayAll limit found clues → length clues ≡ a + b
-    → nin_of limit (first ∷ found) ≡ Ok (likelier a b clues)
+    → is_full first ≡ true → SayAll limit found clues → length clues ≡ a + b → nin_of limit (first ∷ found) ≡ Ok (likelier a b clues)
 nin_lines limit a b first found clues sizes full all many = rw (full, sizes, all_chosen limit (a + b) found clues all many, all.said) refl
 
 -- in .non: keyword lines, and the lines of both sections
@@ -74,4 +68,4 @@ pub non_lines : (limit : ℕ) (sections : Sections) (kept : List Line) (width he
     → SayAll limit (filter is_full sections.columns) columns → outline_of limit None kept ≡ Ok ((width, height), order)
     → length rows ≡ height → length columns ≡ width → puzzle_of_clues (width, height) (rows, columns) kept ≡ Ok p
     → puzzle_said limit sections kept ≡ Ok p
-non_lines limit sections kept width height order rows columns p stray in_rows in_columns outline high wide said = search (rules, both_said, eq-eqb)
+non_lines limit sections kept width height order rows columns p stray one two outline high wide said = search (rules, both_said, eq-eqb)

@@ -1,7 +1,5 @@
 -- Lemmas on the choice of clue lines.
-use Rattle.puzzle_text.proofs.Names.{rules, ◌≡◌, ℕ, append-nil, ◌≤◌, Bool, true, false, cond, not, List, [], ◌∷◌, length, take, drop, map, refl, ap, ◌∙◌, Some, None, count_by, filter, list_all, ne_eqb, eq-eqb, le-leb, take-map, drop-map, length-map, length-take-le, take-append-drop, filter-append, list_all-map, count_by-le-length, length-filter, Line, is_full, is_blank_line, lines, section}
-use Rattle.puzzle_text.proofs.AllLemmas.{all_pass, filter_none}
-use Rattle.puzzle_text.specs.Sections.{choice}
+use Rattle.puzzle_text.proofs.Names.{rules, ◌≡◌, ℕ, append-nil, ◌≤◌, Bool, true, cond, List, [], ◌∷◌, length, take, drop, map, refl, Some, None, count_by, filter, list_all, ne_eqb, eq-eqb, le-leb, take-map, drop-map, length-map, length-take-le, take-append-drop, filter-append, list_all-map, count_by-le-length, length-filter, Line, is_full, is_blank_line, lines, section, all_pass, filter_none, choice}
 use Rattle.puzzle_text.specs.steps.Sections.{front}
 
 -- what a filter keeps of a list seen by a view
@@ -11,24 +9,15 @@ filter-map p view [] = refl
 filter-map p view (x ∷ xs) = rw (filter-map p view xs) (search rules)
 
 module _ {X : Type 0} (view : X → Line) where
-  -- the lines of a section that aren't blank
-  abbrev full_of : List X → List X
-  full_of section = filter (λ x. is_full (view x)) section
-
-  -- there are as many lines that aren't blank as are counted
-  pub length_full : (section full : List X) → full ≡ full_of section → length (map view full) ≡ count_by (λ x. is_full (view x)) section
-  length_full section full e = search (rules, length-map, length-filter)
-
   -- the lines that aren't blank are the clue lines if they are `count`
-  pub choice_full : (count : ℕ) (section full : List X) → full ≡ full_of section → count_by (λ x. is_full (view x)) section ≡ count
-      → choice count (map view section) ≡ Some (map view full)
+  pub choice_full : (count : ℕ) (section full : List X) → full ≡ filter (λ x. is_full (view x)) section
+      → count_by (λ x. is_full (view x)) section ≡ count → choice count (map view section) ≡ Some (map view full)
   choice_full count section full e n = search (rules, eq-eqb, filter-map, length-map, length-filter)
 
   -- ---- the first lines
 
   -- the first lines are the clue lines if all after them are blank
-  pub front_is : (count : ℕ) (section : List X) → count ≤ length section
-      → front count (map view section)
+  pub front_is : (count : ℕ) (section : List X) → count ≤ length section → front count (map view section)
       ≡ cond (list_all (λ x. is_blank_line (view x)) (drop count section)) (Some (map view (take count section))) None
   front_is count section long = search (rules, le-leb, length-map, drop-map, list_all-map, take-map)
 
@@ -44,15 +33,10 @@ all_kept : (lines : List Line) → length (filter is_full lines) ≡ length line
 all_kept [] e = refl
 all_kept (line ∷ lines) e = search (rules, all_kept lines, length-filter, count_by-le-length)
 
-none_kept : (lines : List Line) → list_all is_blank_line lines ≡ true → filter is_full lines ≡ []
-none_kept lines blank = filter_none is_full lines (all_pass is_blank_line (λ line. is_full line ≡ false) (λ line e. ap not e) lines blank)
-
 front_kept : (count : ℕ) (lines : List Line) → count ≤ length lines → list_all is_blank_line (drop count lines) ≡ true
     → length (filter is_full lines) ≡ count → filter is_full lines ≡ take count lines
 front_kept count lines within blank enough =
-    let first = take count lines in
-    let whole : filter is_full lines ≡ filter is_full first = search (rules, take-append-drop count lines, filter-append, none_kept, append-nil) in
-    whole ∙ all_kept first (search (rules, length-take-le))
+    search (rules, take-append-drop count lines, filter-append, filter_none, all_pass, append-nil, all_kept, length-take-le)
 
 -- the first lines are the choice, if all after them are blank
 pub front_chosen : (count : ℕ) (lines found : List Line) → front count lines ≡ Some found → choice count lines ≡ Some found

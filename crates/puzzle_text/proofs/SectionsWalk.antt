@@ -1,7 +1,37 @@
--- The sections of a text, put together on one walk from the top.
-use Rattle.puzzle_text.proofs.Names.{rules, ◌≡◌, ℕ, ◌≤◌, ◌+◌, ◌<◌, drop, get_or, length, Bool, true, false, eqb, List, [], ◌∷◌, ◌++◌, refl, sym, ap, ◌∙◌, append_assoc, Option, None, map, take_while, AllByRecursion, ne_eqb, nat_tests, is_ascii_alphabetic, to_ascii_lowercase, str_to_ascii_lowercase, and-false, append-nil, drop_more, length-map, Under, Rows, Columns, Line, is_empty, is_hash, keyword, or_else, Sections, placed, sections_of, IsUnder, with_line, shown_line}
+-- The sections of a text, and the last keyword line above each line, found on one walk from the top.
+use Rattle.puzzle_text.proofs.Names.{rules, ◌≡◌, ℕ, ◌+◌, cond, List, [], ◌∷◌, ◌++◌, length, map, take, refl, ap, append_assoc, append-nil, Option, Some, enumerate_from, filter, last_or, take-append_seam, length-append, filter-append, Line, is_empty, keyword, is_content, last_keyword, placed, ◌≤◌, ◌<◌, drop, get_or, Bool, true, false, eqb, sym, ◌∙◌, None, take_while, AllByRecursion, ne_eqb, nat_tests, is_ascii_alphabetic, to_ascii_lowercase, str_to_ascii_lowercase, and-false, drop_more, length-map, Under, Rows, Columns, is_hash, or_else, Sections, sections_of, IsUnder, with_line, shown_line}
 use Rattle.puzzle_text.specs.declared.lines.Line.{Line as KeptLine}
-use Rattle.puzzle_text.proofs.PlacedWalk.{walked, walked-placed}
+
+-- each content line, beside the nearest keyword before it; under is the keyword before all
+abbrev pub walked : List ℕ → List Line → List (List ℕ × Line)
+walked under [] = []
+walked under (line ∷ lines) =
+    let others = walked (cond (is_empty (keyword line)) under (keyword line)) lines in
+    cond (is_content line) ((under, line) ∷ others) others
+
+last_of_more : {X : Type 0} (start : Option X) (xs : List X) (x : X) → last_or start (xs ++ x ∷ []) ≡ Some x
+last_of_more start [] x = refl
+last_of_more start (y ∷ xs) x = last_of_more (Some y) xs x
+
+last_keyword-more : (front : List Line) (line : Line)
+    → last_keyword (front ++ line ∷ []) ≡ cond (is_empty (keyword line)) (last_keyword front) (keyword line)
+last_keyword-more front line = search (rules, filter-append, append-nil, last_of_more)
+
+-- the walk below some lines, from their last keyword on
+walk_below : (front lines : List Line)
+    → walked (last_keyword front) lines ≡ map (λ one. (last_keyword (take one.0 (front ++ lines)), one.1))
+    (filter (λ one. is_content one.1) (enumerate_from (length front) lines))
+walk_below front [] = refl
+walk_below front (line ∷ lines) =
+    let next =
+    rw (last_keyword-more front line, append_assoc front (line ∷ []) lines, length-append front (line ∷ []))
+    at (walk_below (front ++ line ∷ []) lines) in
+    search (rules, next, take-append_seam front (line ∷ lines))
+
+-- ---- the sections
+
+abbrev pub no_lines : Sections
+no_lines = record { rows = []; columns = []; stray = None }
 
 -- sections, and then those of lines below them
 abbrev pub join : Sections → Sections → Sections
@@ -11,9 +41,6 @@ join above below =
 -- the sections of lines below a keyword
 abbrev pub below : List ℕ → List Line → Sections
 below word lines = sections_of (walked word lines)
-
-abbrev of_parts : List Line → List Line → Option ℕ → Sections
-of_parts rows columns stray = record { rows = rows; columns = columns; stray = stray }
 
 -- ---- the three kinds of lines
 
@@ -67,8 +94,8 @@ with_columns above (line ∷ found) = search (rules, with_columns (with_line abo
 
 -- at the top there is nothing yet in the sections
 pub nothing_above : (rows columns lines : List Line) → rows ≡ [] → columns ≡ []
-    → join (of_parts rows columns None) (below [] lines) ≡ sections_of (placed lines)
-nothing_above rows columns lines p q = rw (p, q) (ap sections_of (walked-placed lines))
+    → join (record { rows = rows; columns = columns; stray = None }) (below [] lines) ≡ sections_of (placed lines)
+nothing_above rows columns lines p q = rw (p, q) (ap sections_of (walk_below [] lines))
 
 -- whether a keyword has no letters is told by the letters as they stand
 pub none_is : (own word : List ℕ) (b : Bool) → str_to_ascii_lowercase own ≡ word → eqb (length own) 0 ≡ b → is_empty word ≡ b

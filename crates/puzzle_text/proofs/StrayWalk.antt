@@ -10,13 +10,9 @@ stray_from number inside (raw ∷ raws) =
     cond (is_marker raw) (cond (is_empty (name_of raw)) (Some number) later)
     (cond (inside || is_empty (trim (without_ending raw))) later (Some number))
 
--- whether a numbered line is stray in a text
-abbrev stray_in : List (List ℕ) → ℕ × List ℕ → Bool
-stray_in whole numbered = is_stray (take numbered.0 whole) numbered.1
-
 -- the number of the first of these lines that is stray in a text
 abbrev stray_number : List (List ℕ) → List (ℕ × List ℕ) → Option ℕ
-stray_number whole numbered = option_map (λ one. one.0 + 1) (find (stray_in whole) numbered)
+stray_number whole numbered = option_map (λ one. one.0 + 1) (find (λ one. is_stray (take one.0 whole) one.1) numbered)
 
 -- the same at one line, by what is told of it
 at_line : (marker nameless blank inside : Bool) (place : ℕ) (raw : List ℕ) (found : Option (ℕ × List ℕ)) (later : Option ℕ)
@@ -30,8 +26,7 @@ walk_below : (front raws : List (List ℕ))
     → stray_from (length front + 1) (list_any is_marker front) raws ≡ stray_number (front ++ raws) (enumerate_from (length front) raws)
 walk_below front [] = refl
 walk_below front (raw ∷ raws) =
-    let next = walk_below (front ++ raw ∷ []) raws in
-    search (rules, next, append_assoc, length-append, list_any-append, or-false, take-append_seam, at_line)
+    search (rules, walk_below (front ++ raw ∷ []) raws, append_assoc, length-append, list_any-append, or-false, take-append_seam, at_line)
 
 -- the walk from the top finds the first stray line
 pub first_stray_found : (raws : List (List ℕ)) → stray_from 1 false raws ≡ first_stray raws
@@ -44,10 +39,6 @@ none_below : (number : ℕ) (raws : List (List ℕ)) → are_named (entries_of r
 none_below number [] named = refl
 none_below number (raw ∷ raws) named = search (rules, none_below (number + 1) raws)
 
-from_first : (number : ℕ) (raws : List (List ℕ)) → begins_with_marker raws ≡ true → are_named (entries_of raws) ≡ true
-    → stray_from number false raws ≡ None
-from_first number raws marker named = search (rules, none_below)
-
 -- and none at all, if the first line is one
 pub none_stray : (raws : List (List ℕ)) → begins_with_marker raws ≡ true → are_named (entries_of raws) ≡ true → first_stray raws ≡ None
-none_stray raws marker named = sym (first_stray_found raws) ∙ from_first 1 raws marker named
+none_stray raws marker named = sym (first_stray_found raws) ∙ search (raws, rules, none_below)

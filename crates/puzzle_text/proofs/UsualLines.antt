@@ -1,10 +1,7 @@
 -- Lines in their usual form: digits, separators and endings.
-use Rattle.puzzle_text.proofs.Names.{rules, ◌≡◌, ℕ, ◌-◌, ◌<◌, ◌≤◌, true, false, drop, eqb, List, [], ◌∷◌, ◌++◌, length, take, get_or, refl, sym, append_assoc, arith, Some, Ok, list_all, AllByRecursion, is_ascii_digit, digits_value, le-leb, nat_tests, get_or_append_left, take_all, slice_split_at, slice_split_none, AllPass-from_list_all, LONGEST_SIDE, is_clue, numbers_within, pieces, size_of, BeginsWith, BeginsWithNumber, EndsLine, IsNumeral, IsSeparator, SaysClue, SaysSizes, ne_eqb}
+use Rattle.puzzle_text.proofs.Names.{rules, ◌≡◌, ℕ, ◌-◌, ◌<◌, ◌≤◌, true, false, drop, eqb, List, [], ◌∷◌, ◌++◌, length, take, get_or, refl, append_assoc, arith, Some, Ok, list_all, AllByRecursion, is_ascii_digit, digits_value, le-leb, nat_tests, get_or_append_left, take_all, slice_split_at, slice_split_none, AllPass-from_list_all, LONGEST_SIDE, is_clue, numbers_within, pieces, size_of, BeginsWith, BeginsWithNumber, EndsLine, IsNumeral, IsSeparator, SaysClue, SaysSizes, ne_eqb, all-append, all_pass, two_sizes}
 use Rattle.puzzle_text.proofs.NumbersLemmas.{number_is}
-use Rattle.puzzle_text.proofs.ReadBack.{IsKept, IsTidy, kept_tidy, line_kept, tidy_solid, raw_lines-feed, strip_last_is}
-use Rattle.puzzle_text.proofs.ReadClue.{IsSpacing, clue_is, comma, space}
-use Rattle.puzzle_text.proofs.AllLemmas.{all-append, all_pass}
-use Rattle.puzzle_text.proofs.ReadClues.{tidy-join}
+use Rattle.puzzle_text.proofs.ReadBack.{IsKept, IsTidy, kept_tidy, line_kept, tidy_solid, raw_lines-feed, strip_last_is, IsSpacing, clue_is, comma, space, tidy-join}
 
 pub digit_range : (c : ℕ) → is_ascii_digit c ≡ true → (48 ≤ c) × (c ≤ 57)
 digit_range c h = grind (arith, nat_tests)
@@ -59,32 +56,26 @@ spaced s e = search (rules, comma, space)
 -- one number more, and a separator
 pub number_and_more : (text rest others numbers more : List ℕ) (n s : ℕ) → PassesNumbers text rest numbers
     → BeginsWithNumber rest n (s ∷ others) → IsSeparator s → more ≡ numbers ++ n ∷ [] → PassesNumbers text others more
-number_and_more text rest others numbers more n s passed begins separated is = (
-  passed.0 ++ (begins.0 ++ s ∷ []),
-  search (rules, append_assoc),
-  λ line ns said. rw is (simp append_assoc (passed.2 _ (n ∷ ns) (number_before begins.0 n begins.2 s line ns (spaced s separated) said))),
-)
+number_and_more text rest others numbers more n s passed begins separated is =
+    let joined = λ (line ns : List ℕ) (said : SaysNumbers line ns).
+    passed.2 _ (n ∷ ns) (number_before _ n begins.2 s line ns (spaced s separated) said) in
+    (passed.0 ++ (begins.0 ++ s ∷ []), search (rules, append_assoc), λ line ns said. rw is (simp append_assoc (joined line ns said)))
 
 -- ---- the end of a line
 
-module _ (front rest : List ℕ) (tidy : IsTidy front) where
-  abbrev kept : IsKept front
-  kept = kept_tidy front tidy
-
+module _ (front rest : List ℕ) (kept : IsKept front) where
   at_feed : BeginsWith (front ++ 10 ∷ rest) front rest
   at_feed number = rw (raw_lines-feed front rest kept.no_feed, line_kept front kept) refl
 
   at_return : BeginsWith (front ++ 13 ∷ 10 ∷ rest) front rest
   at_return number =
-      let text = front ++ 13 ∷ [] in
-      let none : AllByRecursion (λ byte. eqb byte 10 ≡ false) text =
-      all-append (λ byte. eqb byte 10 ≡ false) front (13 ∷ []) kept.no_feed (refl, tt) in
-      rw (← append_assoc front (13 ∷ []) (10 ∷ rest), raw_lines-feed text rest none, strip_last_is 10 text)
+      let none = all-append (λ byte. eqb byte 10 ≡ false) front (13 ∷ []) kept.no_feed (refl, tt) in
+      rw (← append_assoc front (13 ∷ []) (10 ∷ rest), raw_lines-feed (front ++ 13 ∷ []) rest none, strip_last_is 10 (front ++ 13 ∷ []))
       (rw (strip_last_is 13 front, kept.trimmed) refl)
 
 -- a tidy text before the end of a line is that line
 pub line_ends : (front bytes rest : List ℕ) → IsTidy front → EndsLine bytes rest → BeginsWith (front ++ bytes) front rest
-line_ends front bytes rest tidy e = search (rules, at_feed, at_return)
+line_ends front bytes rest tidy e = search (rules, kept_tidy, at_feed, at_return)
 
 -- ---- what the first line says
 
@@ -111,12 +102,7 @@ zero_ends text after next clue whole ends none =
 pub sizes_end : (text second next rest : List ℕ) (a s b : ℕ) → BeginsWithNumber text a (s ∷ second) → IsSeparator s
     → BeginsWithNumber second b next → EndsLine next rest → SaysSizes text (a, b) rest
 sizes_end text second next rest a s b one separated two ends =
-    let by = spaced s separated in
     let line = one.0 ++ s ∷ two.0 in
-    let said = number_before one.0 a one.2 s two.0 (b ∷ []) by (number_alone two.0 b two.2) in
-    let whole : text ≡ line ++ next = rw (one.1, two.1) (sym (append_assoc one.0 (s ∷ two.0) next)) in (
-      line,
-      rw whole (line_ends line next rest said.tidy ends),
-      rw (pieces_more one.0 a one.2 s two.0 by, pieces_alone two.0 b two.2, size_said one.0 a one.2, size_said two.0 b two.2) refl,
-      said.digit,
-    )
+    let said = number_before one.0 a one.2 s two.0 (b ∷ []) (spaced s separated) (number_alone two.0 b two.2) in
+    let sizes : two_sizes LONGEST_SIDE (pieces line) ≡ Ok (a, b) = search (rules, pieces_more, spaced, pieces_alone, size_said) in
+    (line, search (rules, append_assoc, line_ends line next rest said.tidy ends), sizes, said.digit)

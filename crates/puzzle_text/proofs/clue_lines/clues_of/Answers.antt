@@ -1,6 +1,5 @@
 -- `clues_of`: with no line passed, what is to come is what comes of all.
-use Rattle.puzzle_text.proofs.Names.{shown_line}
-use Rattle.puzzle_text.proofs.EachLemmas.{each_begins}
+use Rattle.puzzle_text.proofs.Names.{shown_line, each_begins}
 use Rattle.puzzle_text.proofs.clue_lines.clues_of.Goals as goal
 
 pub loop-line-init : goal.loop-line-init

@@ -1,6 +1,5 @@
 -- What the loop of `read_numbers` keeps: the numbers so far, and then those of the rest, are those of the line.
-use Rattle.puzzle_text.proofs.Names.{◌≡◌, ◌<◌, false, get_or, length, LONGEST_SIDE, is_separator, pieces, numbers_within}
-use Rattle.puzzle_text.proofs.EachLemmas.{some_with_front}
+use Rattle.puzzle_text.proofs.Names.{◌≡◌, ◌<◌, false, get_or, length, LONGEST_SIDE, is_separator, pieces, numbers_within, some_with_front}
 use Rattle.puzzle_text.proofs.clue_lines.read_numbers.Given as goal
 
 abbrev pub invariant-pieces : goal.invariant-pieces

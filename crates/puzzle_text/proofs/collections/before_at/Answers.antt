@@ -4,8 +4,7 @@ use Rattle.puzzle_text.proofs.PlainLines.{no_at_before}
 use Rattle.puzzle_text.proofs.collections.before_at.Goals as goal
 
 pub returns-in-Some-clause-other : goal.returns-in-Some-clause-other
-returns-in-Some-clause-other c =
-    no_at_before c.args.bytes.now c.in-Some.place (omega (arith, c.in-Some.ensures.0.high)) c.in-Some.ensures.0.before
+returns-in-Some-clause-other c = no_at_before _ c.in-Some.place (omega (arith, c.in-Some.ensures.0.high)) c.in-Some.ensures.0.before
 
 pub returns-in-None-clause-other : goal.returns-in-None-clause-other
 returns-in-None-clause-other c = no_at_before c.args.bytes.now (length c.args.bytes.now) (omega arith) c.in-None.ensures

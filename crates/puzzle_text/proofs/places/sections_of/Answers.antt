@@ -2,7 +2,6 @@
 use Rattle.puzzle_text.proofs.Names.{rules, ◌+◌, drop, ap, map, sym, ◌∙◌, str_to_ascii_lowercase, Sections, shown_line, shown_sections}
 use Rattle.puzzle_text.proofs.SectionsWalk.{below, join, next_comment, next_content, next_keyword, nothing_above}
 use Rattle.puzzle_text.proofs.places.sections_of.Goals as goal
-use Rattle.puzzle_text.proofs.places.sections_of.Goals.{then-not-is_empty, else-not-is_empty+then-not-is_hash+in_ok-put, else-not-is_empty+else-not-is_hash}
 
 pub loop-line-init : goal.loop-line-init
 loop-line-init c = search (rules, nothing_above)
@@ -15,13 +14,10 @@ loop-line-preserved c =
     let so_far = c.loop-line.invariant.2 in
     let same = c.keyword-word.ensures in
     elim c.if-not-is_empty.branch [
-      | then-not-is_empty w ↦ (
-        str_to_ascii_lowercase own,
-        rw w.place-is w.opened_by-place.ensures,
-        rw w.sections-is
-            (next_keyword _ i _ word own _ _ c.loop-line-test.true so_far same (sym c.is_empty.ensures ∙ w.if-not-is_empty.true)),
-      )
-      | else-not-is_empty+then-not-is_hash+in_ok-put w ↦ (
+      | goal.then-not-is_empty w ↦
+          let next = next_keyword _ i _ word own _ _ c.loop-line-test.true so_far same (sym c.is_empty.ensures ∙ w.if-not-is_empty.true) in
+          (str_to_ascii_lowercase own, rw w.place-is w.opened_by-place.ensures, rw w.sections-is next)
+      | goal.else-not-is_empty+then-not-is_hash+in_ok-put w ↦ (
         word,
         rw w.place-is c.loop-line.invariant.1,
         ap (λ (sections : Sections). join sections (below word (map shown_line (drop (i + 1) c.args.lines.now))))
@@ -29,10 +25,9 @@ loop-line-preserved c =
             ∙ next_content _ i _ word own _ _ c.loop-line-test.true so_far same c.loop-line.place c.loop-line.invariant.1
             (sym c.is_empty.ensures ∙ w.if-not-is_empty.false) (sym w.is_hash.ensures ∙ w.if-not-is_hash.true),
       )
-      | else-not-is_empty+else-not-is_hash w ↦ (
-        word,
-        rw w.place-is c.loop-line.invariant.1,
-        rw w.sections-is (next_comment _ i _ word own _ _ c.loop-line-test.true so_far same
-            (sym c.is_empty.ensures ∙ w.if-not-is_empty.false) (sym w.is_hash.ensures ∙ w.if-not-is_hash.false)),
-      )
+      | goal.else-not-is_empty+else-not-is_hash w ↦
+          let none = sym c.is_empty.ensures ∙ w.if-not-is_empty.false in
+          let hash = sym w.is_hash.ensures ∙ w.if-not-is_hash.false in
+          let next = next_comment _ i _ word own _ _ c.loop-line-test.true so_far same none hash in
+          (word, rw w.place-is c.loop-line.invariant.1, rw w.sections-is next)
     ]

@@ -1,13 +1,11 @@
 -- `quick_mk`: what the size line, the rows, the line `#` and the columns say, the text says.
-use Rattle.puzzle_text.proofs.Names.{Ok, ap, arith, rules, sym, ◌∙◌, Nonogram}
-use Rattle.puzzle_text.proofs.UsualReads.{mk_said}
+use Rattle.puzzle_text.proofs.Names.{arith, rules}
+use Rattle.puzzle_text.proofs.UsualParts.{mk_said}
 use Rattle.puzzle_text.proofs.quick.quick_mk.Goals as goal
 
 pub returns-clause-answer : goal.returns-clause-answer
 returns-clause-answer c =
-    let said =
-    mk_said c.args.bytes.now c.in_ok-height.after.now c.in_ok-rows.middle.now c.in_ok-hash_line.field-0.now c.in_ok-columns.rest.now
-    c.in_ok-height.width c.in_ok-height.height c.in_ok-rows.rows.items c.in_ok-columns.columns.items (omega arith) c.in_ok-height.ensures
-    c.in_ok-rows.ensures.clues c.in_ok-hash_line.ensures c.in_ok-columns.ensures.clues (search rules) c.in_ok-rows.ensures.count
-    c.in_ok-columns.ensures.count in
-    said ∙ ap (λ (p : Nonogram). Ok p) (sym (rw c.none.ensures at c.puzzle_from_parts.ensures))
+    rw (rw c.none.ensures at c.puzzle_from_parts.ensures)
+    (mk_said c.args.bytes.now c.in_ok-height.after.now c.in_ok-rows.middle.now c.in_ok-hash_line.field-0.now c.in_ok-columns.rest.now _ _ _
+    _ (omega arith) c.in_ok-height.ensures c.in_ok-rows.ensures.clues c.in_ok-hash_line.ensures c.in_ok-columns.ensures.clues (search rules)
+    c.in_ok-rows.ensures.count c.in_ok-columns.ensures.count)

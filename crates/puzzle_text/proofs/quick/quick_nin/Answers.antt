@@ -1,12 +1,10 @@
 -- `quick_nin`: what the size line and the clues say, the text says.
-use Rattle.puzzle_text.proofs.Names.{Ok, arith, rules, ◌≡◌, LONGEST_SIDE, read_nin, likelier}
-use Rattle.puzzle_text.proofs.UsualReads.{nin_said, some_of_ok}
+use Rattle.puzzle_text.proofs.Names.{arith, rules, ◌≡◌}
+use Rattle.puzzle_text.proofs.UsualParts.{nin_said, some_of_ok}
 use Rattle.puzzle_text.proofs.quick.quick_nin.Goals as goal
 
 pub returns-clause-answer : goal.returns-clause-answer
 returns-clause-answer c =
-    let puzzle = likelier c.in_ok-a.a c.in_ok-a.b c.in_ok-clues.clues.items in
-    let said : read_nin LONGEST_SIDE c.args.bytes.now ≡ Ok puzzle =
-    nin_said c.args.bytes.now c.in_ok-a.after.now c.in_ok-clues.rest.now c.in_ok-a.a c.in_ok-a.b c.in_ok-clues.clues.items (omega arith)
-    c.in_ok-a.ensures c.in_ok-clues.ensures.clues (search rules) c.in_ok-clues.ensures.count in
-    rw c.ok.ensures.value (some_of_ok (λ p. p ≡ puzzle) _ c.likelier.result c.likelier.ensures (λ p e. rw e said))
+    let said = nin_said c.args.bytes.now c.in_ok-a.after.now c.in_ok-clues.rest.now c.in_ok-a.a c.in_ok-a.b c.in_ok-clues.clues.items
+    (omega arith) c.in_ok-a.ensures c.in_ok-clues.ensures.clues (search rules) c.in_ok-clues.ensures.count in
+    rw c.ok.ensures.value (some_of_ok (λ p. p ≡ _) _ _ c.likelier.ensures (λ p e. rw e said))

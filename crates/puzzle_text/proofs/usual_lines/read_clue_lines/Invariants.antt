@@ -6,7 +6,6 @@ abbrev pub invariant-lines : goal.invariant-lines
 invariant-lines l = record {
   said : SayClues l.text l.clues.items l.rest;
   capacity : vec_capacity l.clues ≡ l.count;
-  count : vec_len l.clues ≤ l.count;
   room : length l.clues.items + length l.rest ≤ length l.text;
 }
 

@@ -1,11 +1,15 @@
 -- `push_clue`: the first number, and then each other with the separator before it.
-use Rattle.puzzle_text.proofs.Names.{ℕ, ◌++◌, ◌∙◌, ap, arith, decimal}
-use Rattle.puzzle_text.proofs.WritingLemmas.{clue_is_written}
+use Rattle.puzzle_text.proofs.Names.{ℕ, ◌++◌, arith, decimal, ◌≡◌, ◌-◌, ◌<◌, ◌≤◌, List, ◌∷◌, length, take, drop, get_or, append_assoc, flat_map, take_all, take_rest, clue_text, rules}
 use Rattle.puzzle_text.proofs.writing.push_clue.Goals as goal
+
+-- what a loop over all numbers but the first has written
+clue_is_written : (separator : ℕ) (numbers before first after : List ℕ) (i : ℕ) → 0 < length numbers
+    → first ≡ before ++ decimal (get_or numbers 0 0)
+    → after ≡ first ++ flat_map (λ other. separator ∷ decimal other) (take i (take (length numbers - 1) (drop 1 numbers)))
+    → length (take (length numbers - 1) (drop 1 numbers)) ≤ i → after ≡ before ++ clue_text separator numbers
+clue_is_written separator numbers before first after i some e g all = search (rules, take_all, take_rest, append_assoc)
 
 pub returns-after-loop-number : goal.returns-after-loop-number
 returns-after-loop-number c =
-    clue_is_written c.args.separator c.args.numbers.now c.args.out.now.items c.push_number.new.text.items c.loop-number.out.items
-    c.loop-number.number-index (omega (arith, c.in-len1-up.len_at_least))
-    (c.in_ok-push_number-in-len1-up.ensures.ok ∙ ap (λ (n : ℕ). c.args.out.now.items ++ decimal n) c.from.ensures) c.loop-number.invariant
-    c.loop-number-test.false
+    clue_is_written _ _ c.args.out.now.items _ _ c.loop-number.number-index (omega (arith, c.in-len1-up.len_at_least))
+    (rw c.from.ensures at c.in_ok-push_number-in-len1-up.ensures.ok) c.loop-number.invariant c.loop-number-test.false
